@@ -1,0 +1,2 @@
+pub mod SeriesLaw
+pub mod SeriesRules

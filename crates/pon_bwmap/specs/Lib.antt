@@ -1,0 +1,3 @@
+pub mod MapBytes
+pub mod MapRules
+pub mod Structure

@@ -1,0 +1,159 @@
+use std::marker::Model;
+
+/// An allocation structure of a bandwidth map (ITU-T G.987.3): what one Alloc-ID is granted.
+#[derive(Clone, Copy, Debug, PartialEq, Eq)]
+pub struct Alloc {
+    id: u16,
+    dbru: bool,
+    ploam: bool,
+    start: Option<u16>,
+    grant: u16,
+    fwi: bool,
+    profile: u8,
+}
+
+impl Model for Alloc {
+    ghost use Rattle.std.specs.Prelude.{◌≤◌};
+    ghost use Rattle.pon_bwmap.specs.Structure.{Structure};
+
+    ghost Value = { Structure };
+
+    ghost view = { λ a. record {
+      id = a.id;
+      dbru = a.dbru;
+      ploam = a.ploam;
+      start = a.start;
+      grant = a.grant;
+      fwi = a.fwi;
+      profile = a.profile;
+    } };
+
+    ghost invariant = { λ a. (a.id ≤ 16383) × (a.profile ≤ 3) };
+
+    ghost inverse = { λ v. record {
+      id = v.id;
+      dbru = v.dbru;
+      ploam = v.ploam;
+      start = v.start;
+      grant = v.grant;
+      fwi = v.fwi;
+      profile = v.profile;
+    } };
+}
+
+impl Alloc {
+    ghost use Rattle.std.specs.Prelude.{◌≡◌, ◌≤◌, true, false};
+    ghost use Rattle.std.specs.Option.{SomeIff};
+
+    /// The structure with these fields; `None` exactly where the Alloc-ID is above 16,383 or the
+    /// profile above 3.
+    pub fn new(
+        id: u16,
+        dbru: bool,
+        ploam: bool,
+        start: Option<u16>,
+        grant: u16,
+        fwi: bool,
+        profile: u8,
+    ) -> Option<Self>
+        ensures { SomeIff result ((id ≤ 16383) × (profile ≤ 3)) record {
+          id = id;
+          dbru = dbru;
+          ploam = ploam;
+          start = start;
+          grant = grant;
+          fwi = fwi;
+          profile = profile;
+        } }
+    {
+        if id > 16383 || profile > 3 {
+            return None;
+        }
+        Some(Alloc {
+            id,
+            dbru,
+            ploam,
+            start,
+            grant,
+            fwi,
+            profile,
+        })
+    }
+
+    /// A structure that asks for a report and for no message.
+    pub fn polled(id: u16, start: Option<u16>, grant: u16, profile: u8) -> Self
+        requires id { id ≤ 16383 }
+        requires profile { profile ≤ 3 }
+        ensures { result ≡ record {
+          id = id;
+          dbru = true;
+          ploam = false;
+          start = start;
+          grant = grant;
+          fwi = false;
+          profile = profile;
+        } }
+    {
+        Alloc {
+            id,
+            dbru: true,
+            ploam: false,
+            start,
+            grant,
+            fwi: false,
+            profile,
+        }
+    }
+
+    /// The Alloc-ID, at most 16,383.
+    pub fn id(&self) -> u16
+        ensures value { result ≡ self.now.id }
+        ensures range { result ≤ 16383 }
+    {
+        self.id
+    }
+
+    /// Whether a report of the occupancy (DBRu) is asked for.
+    pub fn dbru(&self) -> bool
+        ensures { result ≡ self.now.dbru }
+    {
+        self.dbru
+    }
+
+    /// Whether an upstream message (PLOAMu) is asked for.
+    pub fn ploam(&self) -> bool
+        ensures { result ≡ self.now.ploam }
+    {
+        self.ploam
+    }
+
+    /// The first word of the burst, in words of 4 bytes from the beginning of the frame; `None` where
+    /// the structure continues the series before it.
+    pub fn start(&self) -> Option<u16>
+        ensures { result ≡ self.now.start }
+    {
+        self.start
+    }
+
+    /// The words of 4 bytes that are granted, a report's word among them.
+    pub fn grant(&self) -> u16
+        ensures { result ≡ self.now.grant }
+    {
+        self.grant
+    }
+
+    /// Whether a forced wake-up is indicated (FWI).
+    pub fn fwi(&self) -> bool
+        ensures { result ≡ self.now.fwi }
+    {
+        self.fwi
+    }
+
+    /// The burst profile, at most 3.
+    pub fn profile(&self) -> u8
+        ensures value { result ≡ self.now.profile }
+        ensures range { result ≤ 3 }
+    {
+        self.profile
+    }
+}

@@ -1,0 +1,87 @@
+ghost use Rattle.std.specs.Prelude.{◌≡◌, ◌<◌, ◌≤◌, ◌^◌, IfOk};
+ghost use Rattle.pon_bwmap.specs.MapBytes.{map_bytes, structure_bytes, structure_payload};
+
+use crate::alloc::Alloc;
+use crate::map::Map;
+use pon_hec::seal64;
+use pon_xgtc::HLend;
+use std::alloc::{AllocError, Global};
+
+/// The bytes of the map: its head with N structures and no messages, then 8 bytes a structure.
+/// `AllocError` where memory is refused; it is asked for once.
+#[tactic(auto, unfolding(crate::specs::MapBytes::map_bytes))]
+pub fn encode_map(alloc: Global, map: &Map) -> Result<Vec<u8>, AllocError>
+    ensures { IfOk result (λ bytes. bytes.items ≡ map_bytes map.now) }
+{
+    let rows = map.rows();
+    let mut bytes = Vec::with_capacity(alloc, 4 + 8 * rows.len())?;
+    bytes.extend_from_slice(&head(rows.len()).encode())?;
+    for row in rows {
+        bytes.extend_from_slice(&structure(row))?;
+    }
+    Ok(bytes)
+}
+
+fn head(count: usize) -> HLend
+    requires { count ≤ 512 }
+    ensures { result ≡ record { n = count; p = 0 } }
+{
+    HLend::new(count as u16, 0).unwrap()
+}
+
+fn structure(row: &Alloc) -> [u8; 8]
+    ensures { result ≡ structure_bytes row.now }
+{
+    seal64(payload(row)).to_be_bytes()
+}
+
+fn payload(row: &Alloc) -> u64
+    ensures value { result ≡ structure_payload row.now }
+    ensures fits { result < 2 ^ 51 }
+{
+    let start = row.start().unwrap_or(NO_START);
+    (u64::from(row.id()) << 37)
+        + (u64::from(row.dbru()) << 36)
+        + (u64::from(row.ploam()) << 35)
+        + (u64::from(start) << 19)
+        + (u64::from(row.grant()) << 3)
+        + (u64::from(row.fwi()) << 2)
+        + u64::from(row.profile())
+}
+
+const NO_START: u16 = 0xffff;
+
+#[cfg(test)]
+mod tests {
+    use super::*;
+    use std::test::Fail;
+
+    fn first() -> Alloc {
+        Alloc::polled(1024, Some(16), 11, 0)
+    }
+
+    #[test]
+    fn maps_as_bytes(rt: HostRuntime) -> Result<(), Fail> {
+        let one = [
+            0x00, 0x20, 0x13, 0xac, 0x10, 0x02, 0x00, 0x10, 0x00, 0x0b, 0x13, 0xcb,
+        ];
+        let two = [
+            0x00, 0x40, 0x0d, 0x2b, 0x10, 0x02, 0x00, 0x10, 0x00, 0x0b, 0x13, 0xcb, 0x10, 0x06,
+            0xff, 0xff, 0x00, 0x02, 0x17, 0x6f,
+        ];
+        let second = Alloc::polled(1025, None, 2, 0);
+        let alloc = rt.alloc();
+        let none = vec![in alloc]?;
+        assert_eq!(rt; written(&rt, none)?.as_slice(), [0, 0, 0, 0].as_slice());
+        let rows = vec![in alloc; first()]?;
+        assert_eq!(rt; written(&rt, rows)?.as_slice(), one.as_slice());
+        let rows = vec![in alloc; first(), second]?;
+        assert_eq!(rt; written(&rt, rows)?.as_slice(), two.as_slice());
+        Ok(())
+    }
+
+    fn written(rt: &HostRuntime, rows: Vec<Alloc>) -> Result<Vec<u8>, Fail> {
+        let map = Map::from_rows(rows).map_err(|_| "a map")?;
+        Ok(encode_map(rt.alloc(), &map)?)
+    }
+}

@@ -1,0 +1,17 @@
+//! Bandwidth maps of XG-PON (ITU-T G.987.3): what grants the upstream frame to the ONUs' Alloc-IDs.
+//! A map is a list of allocation structures that keeps the rules of series; it is written as its head
+//! and 8 bytes a structure, each a codeword of the header code. Who is granted what is for the
+//! crates above.
+#![tactic(auto)]
+
+mod alloc;
+mod encode;
+mod fault;
+pub mod laws;
+mod map;
+mod rules;
+
+pub use alloc::Alloc;
+pub use encode::encode_map;
+pub use fault::MapFault;
+pub use map::Map;

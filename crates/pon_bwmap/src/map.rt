@@ -1,0 +1,63 @@
+use crate::alloc::Alloc;
+use crate::fault::MapFault;
+use crate::rules::rows_fault;
+use std::alloc::{AllocError, Global};
+use std::marker::Model;
+
+/// A bandwidth map: at most 512 allocation structures, of which the first has a start, each start is at
+/// most 9,719, and no series (a structure with a start and those after it that have none) is longer than 16.
+#[derive(Debug, Drop)]
+pub struct Map {
+    rows: Vec<Alloc>,
+}
+
+impl Model for Map {
+    ghost use Rattle.std.specs.Prelude.{List};
+    ghost use Rattle.pon_bwmap.specs.Structure.{Structure};
+    ghost use Rattle.pon_bwmap.specs.MapRules.{IsMap};
+
+    ghost Value = { List Structure };
+
+    ghost view = { λ m. m.rows.items };
+
+    ghost invariant = { λ m. IsMap m.rows.items };
+}
+
+impl Map {
+    ghost use Rattle.std.specs.Prelude.{◌≡◌, ◌↔◌, IsOk, IfOk, IfErr};
+    ghost use Rattle.pon_bwmap.specs.MapRules.{IsMap, IsRowsFault};
+
+    /// The map of these structures. An `Err` hands them back with the first thing that is wrong:
+    /// `TooMany`, or of the first structure that breaks a rule `SeriesStart`, `StartRange` or
+    /// `SeriesLong`; a start of 65,535 is a `StartRange`. It takes no memory.
+    pub fn from_rows(rows: Vec<Alloc>) -> Result<Map, (Vec<Alloc>, MapFault)>
+        ensures made { IsOk result ↔ IsMap rows.items }
+        ensures ok { IfOk result (λ map. map ≡ rows.items) }
+        ensures handed_back { IfErr result (λ e. e.0.items ≡ rows.items) }
+        ensures first_fault { IfErr result (λ e. IsRowsFault rows.items e.1) }
+    {
+        match rows_fault(&rows) {
+            None => Ok(Map { rows }),
+            Some(fault) => Err((rows, fault)),
+        }
+    }
+
+    /// Its structures, in order.
+    pub fn rows(&self) -> &[Alloc]
+        ensures rows { result.now ≡ self.now }
+        ensures map { IsMap result.now }
+    {
+        self.rows.as_slice()
+    }
+
+    /// An equal map; `AllocError` where memory is refused.
+    pub fn try_copy(&self, alloc: Global) -> Result<Map, AllocError>
+        ensures { IfOk result (λ copy. copy ≡ self.now) }
+    {
+        let rows = Vec::from_slice(alloc, &self.rows)?;
+        Ok(Map { rows })
+    }
+}
+
+#[cfg(test)]
+mod tests;

@@ -1,0 +1,58 @@
+ghost use Rattle.std.specs.Prelude.{◌≡◌, ◌+◌, ◌<◌, ◌↔◌, IsNone, IsSome, IfSome};
+ghost use Rattle.pon_bwmap.specs.MapRules.{IsMap, IsRowsFault, start_fault};
+
+use crate::alloc::Alloc;
+use crate::fault::MapFault;
+
+const MOST_ROWS: usize = 512;
+
+const LAST_START: u16 = 9719;
+
+const LONGEST_SERIES: usize = 16;
+
+// The first thing that is wrong with the structures.
+pub(crate) fn rows_fault(rows: &[Alloc]) -> Option<MapFault>
+    ensures none { IsNone result ↔ IsMap rows.now }
+    ensures fault { IfSome result (IsRowsFault rows.now) }
+{
+    if rows.len() > MOST_ROWS {
+        return Some(MapFault::TooMany);
+    }
+    let mut place = 0;
+    for (k, row) in rows.iter().enumerate() {
+        let start = row.start();
+        place = next_place(k, start, place);
+        let fault = start_fault(k, start, place);
+        if fault.is_some() {
+            return fault;
+        }
+    }
+    None
+}
+
+// The place in its series of structure k, after one at the place `before`.
+fn next_place(k: usize, start: Option<u16>, before: usize) -> usize
+    requires { before < 16 }
+    ensures first { k ≡ 0 → result ≡ 0 }
+    ensures starts { IsSome start → result ≡ 0 }
+    ensures continues { 0 < k → IsNone start → result ≡ before + 1 }
+{
+    if k > 0 && start.is_none() {
+        before + 1
+    } else {
+        0
+    }
+}
+
+// What is wrong with a structure at this place in its series.
+fn start_fault(k: usize, start: Option<u16>, place: usize) -> Option<MapFault>
+    ensures { result ≡ start_fault k start place }
+{
+    match start {
+        Some(start) if start > LAST_START => Some(MapFault::StartRange { k }),
+        Some(_) => None,
+        None if k == 0 => Some(MapFault::SeriesStart { k }),
+        None if place >= LONGEST_SERIES => Some(MapFault::SeriesLong { k }),
+        None => None,
+    }
+}

@@ -1,0 +1,7 @@
+pub mod ByteTable
+pub mod HeaderLaws
+pub mod Patterns
+pub mod Sealing
+pub mod Rows
+pub mod Syndromes
+pub mod Unique

@@ -1,0 +1,11 @@
+//! The header error control of XG-PON transmission convergence (ITU-T G.987.3): each header word ends
+//! with 12 check bits and a parity bit, so that a reader can correct two wrong bits.
+//! The check bits are what is left of the payload, as a polynomial, after division by the generator:
+//! a table of 256 remainders gives them a byte at a time. What a payload means is for the crates above.
+#![tactic(auto)]
+
+pub mod laws;
+mod seal;
+mod table;
+
+pub use seal::{seal32, seal64};

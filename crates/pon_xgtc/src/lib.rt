@@ -1,0 +1,8 @@
+//! The headers of 4 bytes of XG-PON transmission convergence (ITU-T G.987.3), as values and as bytes.
+//! Each is a payload of 19 bits in a codeword of the header code. What follows a header is for the
+//! crates above.
+#![tactic(auto)]
+
+mod hlend;
+
+pub use hlend::HLend;
