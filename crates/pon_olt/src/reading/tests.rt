@@ -1,0 +1,119 @@
+use super::*;
+
+fn fault_of(line: &[u8]) -> Option<LineFault> {
+    match read_line(2, line) {
+        Reading::Refused(fault) => Some(fault),
+        Reading::Nothing | Reading::Asks { .. } => None,
+    }
+}
+
+fn asks_nothing(line: &[u8]) -> bool {
+    matches!(read_line(2, line), Reading::Nothing)
+}
+
+fn port_of_map(line: &[u8]) -> Option<usize> {
+    match read_line(2, line) {
+        Reading::Asks {
+            port,
+            event: Event::MakeMap,
+        } => Some(port),
+        _ => None,
+    }
+}
+
+fn port_of_admit(line: &[u8]) -> Option<usize> {
+    match read_line(2, line) {
+        Reading::Asks {
+            port,
+            event: Event::Admit { .. },
+        } => Some(port),
+        _ => None,
+    }
+}
+
+// Most of these lines break two checks, and the earlier one is told.
+#[test]
+fn tells_the_first_check_that_fails(rt: HostRuntime) {
+    for (line, fault) in [
+        (b"x map \x80".as_slice(), LineFault::NotText),
+        (b"0 map\r\r".as_slice(), LineFault::NotText),
+        (b"x".as_slice(), LineFault::BadField),
+        (b"18446744073709551616 map".as_slice(), LineFault::BadField),
+        (b"000000000000000000000 map".as_slice(), LineFault::BadField),
+        (
+            b"18446744073709551615 map".as_slice(),
+            LineFault::NoSuchPort,
+        ),
+        (b"2".as_slice(), LineFault::NoSuchPort),
+        (b"0 ".as_slice(), LineFault::WordCount),
+        (b"0 maps x".as_slice(), LineFault::UnknownCommand),
+        (b"0 map x".as_slice(), LineFault::WordCount),
+        (b"0 admit x 1024 0 0 0".as_slice(), LineFault::WordCount),
+        (b"0 admit 5 1023 x 0 0 none".as_slice(), LineFault::BadField),
+        (b"0 admit 5 1023 0 1 0 none".as_slice(), LineFault::BadField),
+        (b"0 admit 5 1023 0 0 0 na".as_slice(), LineFault::BadField),
+    ] {
+        assert_eq!(rt; fault_of(line), Some(fault), "at {line:?}");
+    }
+}
+
+#[test]
+fn tells_what_the_port_would_refuse_of_the_numbers(rt: HostRuntime) {
+    for (line, refusal) in [
+        (
+            b"0 admit 1023 1023 2488321 0 0 none".as_slice(),
+            Refusal::AllocRange,
+        ),
+        (
+            b"0 admit 5 16384 0 0 0 none".as_slice(),
+            Refusal::AllocRange,
+        ),
+        (
+            b"0 admit 1023 1024 2488321 0 0 none".as_slice(),
+            Refusal::OnuRange,
+        ),
+        (
+            b"0 admit 5 1024 2488321 0 0 none".as_slice(),
+            Refusal::RateRange,
+        ),
+        (
+            b"0 admit 5 1024 2560 0 2559 none".as_slice(),
+            Refusal::MaxBelowGuaranteed,
+        ),
+    ] {
+        assert_eq!(rt;
+            fault_of(line),
+            Some(LineFault::Port(refusal)),
+            "at {line:?}"
+        );
+    }
+}
+
+#[test]
+fn gives_no_reply_to_blank_lines_and_comments(rt: HostRuntime) {
+    for line in [
+        b"".as_slice(),
+        b" \t".as_slice(),
+        b"\r".as_slice(),
+        b" # \x80".as_slice(),
+    ] {
+        assert!(rt; asks_nothing(line), "at {line:?}");
+    }
+}
+
+#[test]
+fn counts_the_bytes_of_a_line_with_its_carriage_return(rt: HostRuntime) {
+    let mut line = [b'#'; 4097];
+    assert!(rt; asks_nothing(&line[..4096]));
+    assert_eq!(rt; fault_of(&line), Some(LineFault::LineLong));
+    line[4096] = b'\r';
+    assert_eq!(rt; fault_of(&line), Some(LineFault::LineLong));
+}
+
+#[test]
+fn reads_an_admit_and_a_map(rt: HostRuntime) {
+    assert_eq!(rt; port_of_admit(b"0 admit 5 1024 2560 0 2560 none"), Some(0));
+    for (line, port) in [(b"00 map".as_slice(), 0), (b"\t 1 \t map \r".as_slice(), 1)] {
+        assert_eq!(rt; port_of_map(line), Some(port), "at {line:?}");
+    }
+}

@@ -1,0 +1,9 @@
+pub mod Lists
+pub mod Parts
+pub mod Windows
+pub mod Loads
+pub mod Legality
+pub mod Cutting
+pub mod Steps
+pub mod Bursts
+pub mod Kept

@@ -1,0 +1,100 @@
+-- Chapters of a port's history: an opening and the entries that were taken from it.
+use Rattle.std.specs.Prelude.{ℕ, ◌≡◌, ◌+◌, ◌<◌, ◌≤◌, ◌==◌, List, [], ◌∷◌, length, All, Contains, filter, take, slice_get, Option, Some, None, IfSome, nat_lt, true}
+use Rattle.std.specs.List.{list_any}
+use Rattle.pon_port.specs.Roster.{Row, IsAdmitted, Rule, rule_in_force, has_alloc}
+use Rattle.pon_port.specs.Book.{Account, Counted, alloc_ids}
+use Rattle.pon_port.specs.Window.{WindowMap, Granted, LeadsTo, polled}
+use Rattle.pon_port.specs.State.{State}
+use Rattle.pon_port.specs.Loads.{replay}
+use Rattle.pon_port.specs.Legal.{MayFollow}
+use Rattle.pon_port.specs.declared.reply.Entry.{Entry}
+
+-- the number of a chapter, the state that it opens with, and its entries
+pub record Chapter : Type 0 where
+  pub number : ℕ
+  pub opening : State
+  pub entries : List Entry
+
+-- the state before the k-th entry, and the present one
+abbrev pub state_before : Chapter → ℕ → State
+state_before c k = replay c.opening (take k c.entries)
+
+abbrev pub present_state : Chapter → State
+present_state c = replay c.opening c.entries
+
+-- each k-th entry may follow there
+abbrev pub IsLegal : Chapter → Type 0
+IsLegal c = (k : ℕ) (e : Entry) → slice_get c.entries k ≡ Some e → MayFollow k (state_before c k) e
+
+-- Lawful openings.
+
+-- the Alloc-IDs of a report book: in rising number, and those of the roster
+abbrev pub AreRising : List ℕ → Type 0
+AreRising [] = Unit {0}
+AreRising (i ∷ ids) = All (λ j. i < j) ids × AreRising ids
+
+abbrev pub AccountsFor : List Row → List Account → Type 0
+AccountsFor rows book = AreRising (alloc_ids book) × ((i : ℕ) → list_any (λ j. j == i) (alloc_ids book) ≡ has_alloc i rows)
+
+-- grants in rising order of ONU and Alloc-ID
+abbrev pub ComesBefore : Granted → Granted → Type 0
+ComesBefore g h = (g.onu ≤ h.onu) × (g.onu ≡ h.onu → g.alloc_id < h.alloc_id)
+
+abbrev pub AreGrantsRising : List Granted → Type 0
+AreGrantsRising [] = Unit {0}
+AreGrantsRising (g ∷ gs) = All (ComesBefore g) gs × AreGrantsRising gs
+
+-- the ONUs that reported are some of those that the map polls, in its order
+pub record IsLawfulMap (m : WindowMap) : Type 0 where
+  pub rising : AreGrantsRising m.grants
+  pub reported : m.reported ≡ filter (λ u. list_any (λ v. v == u) m.reported) (polled m)
+
+-- an ONU owns the Alloc-ID
+abbrev pub Owns : List Row → ℕ → ℕ → Type 0
+Owns rows i u = All (λ r. r.alloc_id ≡ i → r.onu ≡ u) rows
+
+-- a report that counts is of a frame from since on, below the next; where its map is in the window its ONU reported there
+pub record CountedIsLawful (s : State) (a : Account) (c : Counted) : Type 0 where
+  pub not_early : a.since ≤ c.frame
+  pub not_late : c.frame < s.next
+  pub reported : All (λ m. m.frame ≡ c.frame → All (λ r. r.alloc_id ≡ a.alloc_id → Contains m.reported r.onu) s.roster) s.window
+
+-- from since on the maps of the window hold an Alloc-ID under its own ONU
+pub record AccountIsLawful (s : State) (a : Account) : Type 0 where
+  pub since : a.since ≤ s.next
+  pub counted : IfSome a.counted (CountedIsLawful s a)
+  pub owner : All (λ m. a.since ≤ m.frame → All (λ g. g.alloc_id ≡ a.alloc_id → Owns s.roster g.alloc_id g.onu) m.grants) s.window
+
+-- a failed port has no window and no reports that count
+abbrev pub IsSilent : State → Type 0
+IsSilent s = (s.window ≡ []) × All (λ a. a.counted ≡ None) s.book
+
+-- a port just opened: no rows, no window, not failed, nothing taken before
+abbrev pub just_opened : ℕ → ℕ → ℕ → State
+just_opened gap profile first = record { gap = gap; profile = profile; next = first; cause = None; taken_before = 0; roster = []; book = []; window = [] }
+
+abbrev pub IsJustOpened : State → Type 0
+IsJustOpened s = (gap profile first : ℕ) × (s ≡ just_opened gap profile first)
+
+-- chapter 0 opens with a port just opened
+abbrev pub OpensFirst : ℕ → State → Type 0
+OpensFirst number s = number ≡ 0 → IsJustOpened s
+
+pub record IsLawfulOpening (number : ℕ) (s : State) : Type 0 where
+  pub first : OpensFirst number s
+  pub admitted : IsAdmitted rule_in_force s.gap s.roster
+  pub book : AccountsFor s.roster s.book
+  pub accounts : All (AccountIsLawful s) s.book
+  pub few_maps : length s.window ≤ 64
+  pub frames : LeadsTo s.next s.window
+  pub maps : All IsLawfulMap s.window
+  pub failed : IfSome s.cause (λ cause. IsSilent s)
+
+-- a lawful opening and a legal list of entries
+pub record IsLawfulChapter (c : Chapter) : Type 0 where
+  pub opening : IsLawfulOpening c.number c.opening
+  pub legal : IsLegal c
+
+-- for any two chapters of one port whose numbers follow each other, the later opens with the end of the earlier
+abbrev pub Follows : Chapter → Chapter → Type 0
+Follows c d = d.number ≡ c.number + 1 → d.opening ≡ present_state c

@@ -1,0 +1,37 @@
+-- Which entry may follow in a history.
+use Rattle.std.specs.Prelude.{ℕ, ◌≡◌, Option, None}
+use Rattle.pon_port.specs.State.{State}
+use Rattle.pon_port.specs.Descriptor.{IsLawful}
+use Rattle.pon_port.specs.Roster.{IsInRange}
+use Rattle.pon_port.specs.Rates.{no_surplus}
+use Rattle.pon_port.specs.Maps.{map_of}
+use Rattle.pon_port.specs.Checks.{first_refusal}
+use Rattle.pon_port.specs.declared.event.Event.{Event}
+use Rattle.pon_port.specs.declared.event.Event.TheVariants.{Admit, Change, MakeMap}
+use Rattle.pon_port.specs.declared.reply.Reply.{Reply}
+use Rattle.pon_port.specs.declared.reply.Reply.TheVariants.{Taken, Map}
+use Rattle.pon_port.specs.declared.reply.MadeMap.{MadeMap}
+use Rattle.pon_port.specs.declared.reply.Entry.{Entry}
+
+-- the map that a state makes, under its next frame
+pub record IsMade (s : State) (made : MadeMap) : Type 0 where
+  pub frame : made.frame ≡ s.next
+  pub map : made.map ≡ map_of s no_surplus
+
+-- the replies that a state may give to an event that it takes
+abbrev pub IsReply : State → Event → Reply → Type 0
+IsReply s MakeMap (Map made) = IsMade s made
+IsReply s MakeMap Taken = ⊥
+IsReply s event reply = reply ≡ Taken
+
+-- the numbers of an event are in range
+abbrev pub IsEvent : Event → Type 0
+IsEvent (Admit onu alloc_id descriptor) = IsInRange (record { onu = onu; alloc_id = alloc_id; descriptor = descriptor })
+IsEvent (Change alloc_id descriptor not_yet) = IsLawful descriptor
+IsEvent _ = Unit {0}
+
+-- an entry that may follow in a state, after so many entries of its chapter: its numbers are in range, no check refuses it, and its reply is one of the state's
+pub record MayFollow (kept : ℕ) (s : State) (e : Entry) : Type 0 where
+  pub event : IsEvent e.event
+  pub accepted : first_refusal kept s e.event ≡ None
+  pub reply : IsReply s e.event e.reply

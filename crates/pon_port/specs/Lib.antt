@@ -1,0 +1,16 @@
+pub mod Refusal
+pub mod Descriptor
+pub mod Roster
+pub mod Book
+pub mod Window
+pub mod State
+pub mod Replay
+pub mod Loads
+pub mod Rates
+pub mod Maps
+pub mod Bursts
+pub mod Checks
+pub mod Legal
+pub mod Chapters
+pub mod Taking
+pub mod After

@@ -1,0 +1,122 @@
+-- What a port's history leaves: each part of the state as a function of the opening and the entries.
+use Rattle.std.specs.Prelude.{ℕ, ◌≡◌, ◌+◌, ◌-◌, ◌==◌, ◌||◌, ◌&&◌, nat_le, Bool, true, false, if◌then◌else◌, List, [], ◌∷◌, ◌++◌, map, filter, length, drop, sum_by, count_by, Option, Some, None}
+use Rattle.std.specs.List.{list_any}
+use Rattle.pon_bwmap.specs.Structure.{Structure}
+use Rattle.pon_port.specs.Roster.{Row, with_row, with_descriptor, without}
+use Rattle.pon_port.specs.Book.{with_alloc, without_alloc}
+use Rattle.pon_port.specs.Window.{WindowMap, Granted, polled}
+use Rattle.pon_port.specs.State.{State}
+use Rattle.pon_port.specs.declared.event.Event.{Event}
+use Rattle.pon_port.specs.declared.event.Event.TheVariants.{Admit, Change, Remove, Report, MakeMap, Fail, Restore}
+use Rattle.pon_port.specs.declared.reply.Reply.{Reply}
+use Rattle.pon_port.specs.declared.reply.Reply.TheVariants.{Taken, Map}
+use Rattle.pon_port.specs.declared.reply.Entry.{Entry}
+
+-- Kinds of event.
+
+abbrev pub makes_map : Event → Bool
+makes_map MakeMap = true
+makes_map _ = false
+
+-- Fail and Restore forget the reports and the window
+abbrev pub forgets : Event → Bool
+forgets (Fail cause not_yet) = true
+forgets (Restore not_yet) = true
+forgets _ = false
+
+abbrev pub admits : ℕ → Event → Bool
+admits i (Admit onu alloc_id descriptor) = alloc_id == i
+admits i _ = false
+
+abbrev pub reports : ℕ → ℕ → Event → Bool
+reports frame u (Report of_frame onu occ not_yet) = of_frame == frame && onu == u
+reports frame u _ = false
+
+-- an entry after which an Alloc-ID's reports count afresh
+abbrev pub begins : ℕ → Entry → Bool
+begins i e = admits i e.event || forgets e.event
+
+-- The plain parts.
+
+-- the next frame
+abbrev pub next_of : ℕ → List Entry → ℕ
+next_of first es = first + count_by (λ e. makes_map e.event) es
+
+-- the cause of the last Fail, none after a Restore
+abbrev pub cause_after : Option ℕ → Event → Option ℕ
+cause_after cause (Fail c not_yet) = Some c
+cause_after cause (Restore not_yet) = None
+cause_after cause _ = cause
+
+abbrev pub cause_of : Option ℕ → List Entry → Option ℕ
+cause_of cause [] = cause
+cause_of cause (e ∷ es) = cause_of (cause_after cause e.event) es
+
+-- the roster after what was admitted, changed and removed
+abbrev pub roster_after : List Row → Event → List Row
+roster_after rows (Admit onu alloc_id descriptor) = with_row (record { onu = onu; alloc_id = alloc_id; descriptor = descriptor }) rows
+roster_after rows (Change alloc_id descriptor not_yet) = with_descriptor alloc_id descriptor rows
+roster_after rows (Remove alloc_id not_yet) = without alloc_id rows
+roster_after rows _ = rows
+
+abbrev pub roster_of : List Row → List Entry → List Row
+roster_of rows [] = rows
+roster_of rows (e ∷ es) = roster_of (roster_after rows e.event) es
+
+-- the Alloc-IDs of the report book
+abbrev pub allocs_after : List ℕ → Event → List ℕ
+allocs_after ids (Admit onu alloc_id descriptor) = with_alloc alloc_id ids
+allocs_after ids (Remove alloc_id not_yet) = without_alloc alloc_id ids
+allocs_after ids _ = ids
+
+abbrev pub allocs_of : List ℕ → List Entry → List ℕ
+allocs_of ids [] = ids
+allocs_of ids (e ∷ es) = allocs_of (allocs_after ids e.event) es
+
+-- the next frame at the last entry that passes a test, or start where none does
+abbrev pub frame_at_last : (Entry → Bool) → ℕ → ℕ → List Entry → ℕ
+frame_at_last test start next [] = start
+frame_at_last test start next (e ∷ es) = frame_at_last test (if test e then next else start) (next_of next (e ∷ [])) es
+
+-- The maps of a list, and their reports.
+
+-- the structures of a map with the ONUs that own them
+abbrev pub grants_of : List Row → List Structure → List Granted
+grants_of (r ∷ rows) (a ∷ more) = record { onu = r.onu; alloc_id = r.alloc_id; words = a.grant - 1 } ∷ grants_of rows more
+grants_of [] more = []
+grants_of (r ∷ rows) [] = []
+
+-- a map, with the ONUs that later entries report for
+abbrev pub with_reports : List Entry → WindowMap → WindowMap
+with_reports es m = record {
+  frame = m.frame;
+  grants = m.grants;
+  reported = filter (λ u. list_any (λ v. v == u) m.reported || list_any (λ e. reports m.frame u e.event) es) (polled m)
+}
+
+abbrev pub structures : Reply → List Structure
+structures Taken = []
+structures (Map made) = made.map
+
+abbrev pub new_map : List Row → ℕ → Reply → WindowMap
+new_map rows next reply = record { frame = next; grants = grants_of rows (structures reply); reported = [] }
+
+-- the map of an entry that makes one
+abbrev pub map_made : List Row → ℕ → Entry → List WindowMap
+map_made rows next e = if makes_map e.event then new_map rows next e.reply ∷ [] else []
+
+-- the maps that the entries made, each with its reports so far
+abbrev pub maps_of : List Row → ℕ → List Entry → List WindowMap
+maps_of rows next [] = []
+maps_of rows next (e ∷ es) = map (with_reports es) (map_made rows next e) ++ maps_of (roster_after rows e.event) (next_of next (e ∷ [])) es
+
+-- all maps that are known
+abbrev pub all_maps : State → List Entry → List WindowMap
+all_maps o es = map (with_reports es) o.window ++ maps_of o.roster o.next es
+
+abbrev pub last_64 : {T : Type 0} → List T → List T
+last_64 xs = drop (length xs - 64) xs
+
+-- the last 64 maps after the last Fail or Restore
+abbrev pub window_of : State → List Entry → List WindowMap
+window_of o es = last_64 (filter (λ m. nat_le (frame_at_last (λ e. forgets e.event) 0 o.next es) m.frame) (all_maps o es))

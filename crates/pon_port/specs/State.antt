@@ -1,0 +1,15 @@
+-- The state of a port.
+use Rattle.std.specs.Prelude.{ℕ, List, Option}
+use Rattle.pon_port.specs.Roster.{Row}
+use Rattle.pon_port.specs.Book.{Account}
+use Rattle.pon_port.specs.Window.{WindowMap}
+
+pub record State : Type 0 where
+  pub gap : ℕ
+  pub profile : ℕ
+  pub next : ℕ               -- the next frame
+  pub cause : Option ℕ       -- why the port is failed, where it is
+  pub taken_before : ℕ       -- entries taken before this state
+  pub roster : List Row
+  pub book : List Account
+  pub window : List WindowMap

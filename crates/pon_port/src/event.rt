@@ -1,0 +1,66 @@
+ghost use Rattle.std.specs.Prelude.{◌≡◌};
+
+use crate::cause::Cause;
+use crate::descriptor::Descriptor;
+use arrayvec::ArrayVec;
+use pon_units::{AllocId, BufOcc, FrameNo, OnuId};
+use std::marker::Model;
+
+/// The occupancies of a report, in words, for the ONU's structures in order; a garbled one is `None`.
+#[derive(Drop)]
+pub struct Occupancies {
+    items: ArrayVec<Option<BufOcc>, 16>,
+}
+
+impl Model for Occupancies {
+    ghost use Rattle.std.specs.Prelude.{ℕ, List, Option};
+
+    ghost Value = { List (Option ℕ) };
+
+    ghost view = { λ a. a.items.items };
+}
+
+impl Occupancies {
+    /// These occupancies.
+    pub fn new(items: ArrayVec<Option<BufOcc>, 16>) -> Occupancies
+        ensures { result ≡ items.items }
+    {
+        Occupancies { items }
+    }
+}
+
+/// What is not taken yet: no value of it exists.
+#[derive(Clone, Copy, Debug, PartialEq, Eq)]
+pub enum NotYet {}
+
+/// What may happen at a port. So far `Admit` and `MakeMap` can be made; the others wait for their parts.
+#[derive(Drop)]
+pub enum Event {
+    /// An Alloc-ID of an ONU is admitted with a descriptor.
+    Admit {
+        onu: OnuId,
+        alloc_id: AllocId,
+        descriptor: Descriptor,
+    },
+    /// An Alloc-ID gets another descriptor.
+    Change {
+        alloc_id: AllocId,
+        descriptor: Descriptor,
+        not_yet: NotYet,
+    },
+    /// An Alloc-ID is taken out.
+    Remove { alloc_id: AllocId, not_yet: NotYet },
+    /// An ONU reports its buffers in answer to the map of a frame.
+    Report {
+        frame: FrameNo,
+        onu: OnuId,
+        occ: Occupancies,
+        not_yet: NotYet,
+    },
+    /// The map of the next frame is made.
+    MakeMap,
+    /// The line has failed.
+    Fail { cause: Cause, not_yet: NotYet },
+    /// The line is back.
+    Restore { not_yet: NotYet },
+}

@@ -1,0 +1,31 @@
+//! The core of one port of an XG-PON optical line terminal (upstream bandwidth assignment, ITU-T G.987.3).
+//!
+//! A [`Port`] takes events and keeps them with their replies. Its state is the replay of that history:
+//! no map rests on anything else. The crate has no clock, no device and no thread.
+#![tactic(auto)]
+
+mod advance;
+mod book;
+mod cause;
+mod checks;
+mod descriptor;
+mod event;
+pub mod laws;
+mod making;
+mod port;
+mod refusal;
+mod reply;
+mod roster;
+mod state;
+mod window;
+
+pub use book::{Account, Counted};
+pub use cause::Cause;
+pub use descriptor::{Class, Descriptor};
+pub use event::{Event, NotYet, Occupancies};
+pub use port::Port;
+pub use refusal::Refusal;
+pub use reply::{Entry, MadeMap, Reply};
+pub use roster::Row;
+pub use state::{PortCfg, PortState};
+pub use window::{Granted, WindowMap};

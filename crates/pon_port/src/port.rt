@@ -1,0 +1,175 @@
+ghost use Rattle.std.specs.Prelude.{◌≡◌};
+ghost use Rattle.pon_port.specs.Chapters.{just_opened};
+
+use crate::advance::{add_first, add_map};
+use crate::checks::{admit_refusal, map_refusal};
+use crate::event::Event;
+use crate::making::next_map;
+use crate::refusal::Refusal;
+use crate::reply::{Entry, MadeMap, Reply};
+use crate::roster::Row;
+use crate::state::{PortCfg, PortState};
+use pon_units::FrameNo;
+use std::alloc::{AllocError, Global};
+use std::marker::Model;
+
+/// A port: the chapter of its history that it keeps, and the state that the chapter leaves.
+///
+/// Contracts see a port as that chapter: its number, its opening and its entries. The type keeps that the chapter is
+/// lawful and that the state is its replay.
+#[derive(Drop)]
+pub struct Port {
+    opening: PortState,
+    state: PortState,
+    entries: Vec<Entry>,
+}
+
+impl Model for Port {
+    ghost use Rattle.pon_port.specs.Chapters.{Chapter};
+    ghost use Rattle.pon_port.specs.Taking.{IsKept};
+
+    ghost Value = { Chapter };
+
+    ghost view = { λ p. record { number = 0; opening = p.opening; entries = p.entries.items } };
+
+    ghost invariant = { λ p. IsKept (record { number = 0; opening = p.opening; entries = p.entries.items }) p.state };
+}
+
+// The state of a port just opened.
+fn opened(alloc: Global, cfg: &PortCfg, first: FrameNo) -> PortState
+    ensures { result ≡ just_opened cfg.now.gap cfg.now.profile first }
+{
+    PortState {
+        cfg: *cfg,
+        next: first,
+        cause: None,
+        taken_before: 0,
+        roster: Vec::new(alloc),
+        book: Vec::new(alloc),
+        window: Vec::new(alloc),
+    }
+}
+
+impl Port {
+    ghost use Rattle.std.specs.Prelude.{[], ◌+◌, length, IfOk, IfErr, OnOk, OnErr};
+    ghost use Rattle.pon_port.specs.Roster.{IsInRange};
+    ghost use Rattle.pon_port.specs.Bursts.{AreSound};
+    ghost use Rattle.pon_port.specs.Chapters.{present_state};
+    ghost use Rattle.pon_port.specs.Taking.{Takes, TellsSoundBursts, refusal_of, IsTold};
+
+    /// A port just opened: no Alloc-ID, the line up, and `first` as its next frame. `Err` only for want of memory.
+    pub fn open(alloc: Global, cfg: PortCfg, first: FrameNo) -> Result<Port, AllocError>
+        ensures number { IfOk result (λ port. port.number ≡ 0) }
+        ensures opening { IfOk result (λ port. port.opening ≡ just_opened cfg.gap cfg.profile first) }
+        ensures entries { IfOk result (λ port. port.entries ≡ []) }
+    {
+        Ok(Port {
+            opening: opened(alloc, &cfg, first),
+            state: opened(alloc, &cfg, first),
+            entries: Vec::new(alloc),
+        })
+    }
+
+    /// The kept entries, oldest first.
+    pub fn history(&self) -> &[Entry]
+        ensures { result.now ≡ self.now.entries }
+    {
+        self.entries.as_slice()
+    }
+
+    /// How many entries were taken since the port was opened.
+    pub fn taken(&self) -> u64
+        ensures { result ≡ self.now.opening.taken_before + length self.now.entries }
+    {
+        self.state.taken_before
+    }
+
+    /// The present state: the replay of the kept entries.
+    pub fn state(&self) -> &PortState
+        ensures { result.now ≡ present_state self.now }
+    {
+        &self.state
+    }
+
+    fn admit(&mut self, row: Row) -> Result<(), Refusal>
+        requires { IsInRange row }
+        ensures ok { OnOk result (Takes self.old (Event.Admit row.onu row.alloc_id row.descriptor) Reply.Taken self.new) }
+        ensures refused { IfErr result (λ told. IsTold (refusal_of self.old (Event.Admit row.onu row.alloc_id row.descriptor)) told) }
+        ensures err { OnErr result (self.new ≡ self.old) }
+    {
+        if let Some(refusal) = admit_refusal(&self.state, self.entries.len(), &row) {
+            return Err(refusal);
+        }
+        if self.entries.reserve(1).is_err() || add_first(&mut self.state, &row).is_err() {
+            return Err(Refusal::OutOfMemory);
+        }
+        let Row {
+            onu,
+            alloc_id,
+            descriptor,
+        } = row;
+        let event = Event::Admit {
+            onu,
+            alloc_id,
+            descriptor,
+        };
+        let reply = Reply::Taken;
+        self.entries.push(Entry { event, reply }).unwrap();
+        Ok(())
+    }
+
+    fn make_map(&mut self) -> Result<MadeMap, Refusal>
+        ensures ok { IfOk result (λ made. Takes self.old Event.MakeMap (Reply.Map made) self.new) }
+        ensures sound { IfOk result (λ made. AreSound self.old.opening.gap made.map) }
+        ensures refused { IfErr result (λ told. IsTold (refusal_of self.old Event.MakeMap) told) }
+        ensures err { OnErr result (self.new ≡ self.old) }
+    {
+        if let Some(refusal) = map_refusal(&self.state, self.entries.len()) {
+            return Err(refusal);
+        }
+        let alloc = *self.entries.allocator();
+        let (made, window) = match next_map(alloc, &self.state) {
+            Ok(next) => next,
+            Err(_) => return Err(Refusal::OutOfMemory),
+        };
+        let kept = match made.try_copy(alloc) {
+            Ok(kept) => kept,
+            Err(_) => return Err(Refusal::OutOfMemory),
+        };
+        if self.entries.reserve(1).is_err() || add_map(&mut self.state, window).is_err() {
+            return Err(Refusal::OutOfMemory);
+        }
+        let event = Event::MakeMap;
+        let reply = Reply::Map(kept);
+        self.entries.push(Entry { event, reply }).unwrap();
+        Ok(made)
+    }
+
+    /// Takes an event and keeps it with its reply, or tells the first check that refuses it.
+    ///
+    /// `Admit` is refused by `AllocTaken`, `TooManyAllocs`, `Capacity`, `ChapterFull`, `OutOfMemory`; `MakeMap` by
+    /// `FrameLimit`, `ChapterFull`, `OutOfMemory`; in these orders. Want of memory comes only where no check refuses.
+    /// A refusal changes neither the state nor the history.
+    pub fn take(&mut self, event: Event) -> Result<Reply, Refusal>
+        ensures ok { IfOk result (λ reply. Takes self.old event reply self.new) }
+        // The bursts of a map lie in the frame, and no two overlap.
+        ensures sound { IfOk result (λ reply. TellsSoundBursts self.old.opening.gap reply) }
+        ensures refused { IfErr result (λ told. IsTold (refusal_of self.old event) told) }
+        ensures err { OnErr result (self.new ≡ self.old) }
+    {
+        match event {
+            Event::Admit {
+                onu,
+                alloc_id,
+                descriptor,
+            } => {
+                self.admit(Row::new(onu, alloc_id, descriptor))?;
+                Ok(Reply::Taken)
+            }
+            Event::MakeMap => {
+                let made = self.make_map()?;
+                Ok(Reply::Map(made))
+            }
+        }
+    }
+}

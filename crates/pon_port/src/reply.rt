@@ -1,0 +1,39 @@
+ghost use Rattle.std.specs.Prelude.{◌≡◌, IfOk};
+
+use crate::event::Event;
+use pon_bwmap::Map;
+use pon_units::FrameNo;
+use std::alloc::{AllocError, Global};
+
+/// A map that was made, and the frame that it is for.
+#[derive(Drop)]
+pub struct MadeMap {
+    pub frame: FrameNo,
+    pub map: Map,
+}
+
+impl MadeMap {
+    /// An equal map, or want of memory.
+    pub fn try_copy(&self, alloc: Global) -> Result<MadeMap, AllocError>
+        ensures { IfOk result (λ made. made ≡ self.now) }
+    {
+        Ok(MadeMap {
+            frame: self.frame,
+            map: self.map.try_copy(alloc)?,
+        })
+    }
+}
+
+/// What a port answers to an event that it takes.
+#[derive(Drop)]
+pub enum Reply {
+    Taken,
+    Map(MadeMap),
+}
+
+/// An event that was taken, and its reply.
+#[derive(Drop)]
+pub struct Entry {
+    pub event: Event,
+    pub reply: Reply,
+}

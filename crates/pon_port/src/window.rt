@@ -1,0 +1,26 @@
+use pon_units::{AllocId, FrameNo, OnuId, Words};
+use std::marker::Model;
+
+/// What a map granted to an Alloc-ID, in payload words.
+#[derive(Clone, Copy, Debug, PartialEq, Eq)]
+pub struct Granted {
+    pub onu: OnuId,
+    pub alloc_id: AllocId,
+    pub words: Words,
+}
+
+/// A map whose reports may still come, and the ONUs that reported.
+#[derive(Drop)]
+pub struct WindowMap {
+    pub(crate) frame: FrameNo,
+    pub(crate) grants: Vec<Granted>,
+    pub(crate) reported: Vec<OnuId>,
+}
+
+impl Model for WindowMap {
+    ghost use Rattle.pon_port.specs.Window.{WindowMap};
+
+    ghost Value = { WindowMap };
+
+    ghost view = { λ a. record { frame = a.frame; grants = a.grants.items; reported = a.reported.items } };
+}
