@@ -100,6 +100,7 @@ reading (Err fault) asked = Refused fault
 reading (Ok port) (Err fault) = Refused fault
 reading (Ok port) (Ok event) = Asks port event
 
+-- no words ask nothing; else the first is the port, and the others are its command
 abbrev pub read_words : ℕ → List (List ℕ) → Reading
 read_words ports [] = Nothing
 read_words ports (w ∷ ws) = reading (port_of ports w) (event_of ws)

@@ -13,6 +13,9 @@ use pon_units::dev::{DevRead, DevWrite, Failed, write_all};
 use std::alloc::Global;
 use thiserror::Error;
 
+#[cfg(test)]
+mod tests;
+
 /// The input ended, and all of its text is written.
 #[derive(Clone, Copy, Debug, PartialEq, Eq)]
 pub struct PlanEnd;

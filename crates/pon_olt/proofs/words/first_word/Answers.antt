@@ -1,4 +1,4 @@
-use Rattle.std.proofs.Common.{arith, rules}
+use Rattle.std.proofs.Common.{rules}
 use Rattle.pon_olt.proofs.Splitting.{words_of-none, words_of-some}
 use Rattle.pon_olt.proofs.words.first_word.Goals as goal
 

@@ -1,4 +1,4 @@
-use Rattle.std.proofs.Common.{arith, rules, ◌≡◌, ◌<◌, ◌∙◌, ◌^◌, ◌+◌, ◌*◌, ap}
+use Rattle.std.proofs.Common.{arith, rules, ◌≡◌, ◌∙◌, ◌+◌, ◌*◌, ap}
 use Rattle.std.specs.Str.Parse.{digits_value}
 use Rattle.pon_olt.proofs.Numbers.{digit_in, value_more, value_too_large}
 use Rattle.pon_olt.proofs.LongLines.{take_all}

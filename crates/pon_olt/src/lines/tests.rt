@@ -1,0 +1,146 @@
+ghost use Rattle.std.specs.Prelude.{◌<◌};
+
+use super::*;
+use pon_units::dev::{MemRead, MemWrite};
+use pon_units::{Gap, Profile};
+use std::test::Fail;
+
+const FIRST_MAP: &[u8] = b"0 admit 5 1024 2560 0 2560 none\n0 map\n";
+const FIRST_TEXT: &[u8] = b"ok 0\nmap 0 002013ac10020010000b13cb\n";
+
+// What a run gave, and what its writer holds.
+#[derive(Drop)]
+struct Answered {
+    result: Result<PlanEnd, PlanFault>,
+    text: Vec<u8>,
+}
+
+fn port() -> Option<(PortCfg, FrameNo)> {
+    let gap = Gap::new(16)?;
+    let profile = Profile::new(0)?;
+    Some((PortCfg { gap, profile }, FrameNo::new(0)))
+}
+
+// Answers the input over devices that give and take at most `most` bytes a call, and fail in the given calls. `None`
+// where memory is refused to the test itself.
+fn run(alloc: Global, input: &[u8], most: usize, reads: &[u64], writes: &[u64]) -> Option<Answered>
+    requires { 0 < most }
+{
+    let ports = [port()?];
+    let bytes = input.to_vec(alloc).ok()?;
+    let mut reader = MemRead::new(bytes, most, reads.to_vec(alloc).ok()?);
+    let mut writer = MemWrite::new(alloc, most, writes.to_vec(alloc).ok()?);
+    let result = plan(&(), alloc, &ports, Vec::new(alloc), &mut reader, &mut writer);
+    let text = writer.bytes().to_vec(alloc).ok()?;
+    Some(Answered { result, text })
+}
+
+static WORKED: [(&[u8], &[u8]); 13] = [
+    (FIRST_MAP, FIRST_TEXT),
+    (b"0 map", b"map 0 00000000\n"),
+    (b"", b""),
+    (b"0 admit 5 1023 0 0 0 none\n", b"err E03 AllocRange\n"),
+    (b"7 map\n", b"err L4 NoSuchPort\n"),
+    (b"0 admit 5 1024 2560 0 2559 none\n", b"err E06 MaxBelowGuaranteed\n"),
+    (b"0 admit 5 1024 2488321 0 0 none\n", b"err E05 RateRange\n"),
+    (b"0 admit 5 1024 2483457 0 2483457 none\n", b"err E12 Capacity\n"),
+    (b"0 admit 5 1024 2483456 0 2483456 none\n", b"ok 0\n"),
+    (
+        b"0 admit 5 1024 0 0 0 none\n0 admit 6 1024 0 0 0 none\n0 admit 6 1025 0 0 0 none\n",
+        b"ok 0\nerr E02 AllocTaken\nerr E09 TooManyAllocs\n",
+    ),
+    (b"# a comment \xff\r\n \t\n0 map\r\n\r", b"map 0 00000000\n"),
+    (b"0 map 1\n0 cert\n0\nx map\n0 m\xc3p\n", b"err L2 WordCount\nerr L1 UnknownCommand\nerr L2 WordCount\nerr L3 BadField\nerr L7 NotText\n"),
+    (b"0 map\n0 map\n00\t map", b"map 0 00000000\nmap 1 00000000\nmap 2 00000000\n"),
+];
+
+#[test]
+fn worked_lines_in_pieces(rt: HostRuntime) -> Result<(), Fail> {
+    for most in [1usize, 5, 4096] {
+        for (input, text) in WORKED.iter() {
+            let run = run(rt.alloc(), input, most.max(1), &[], &[]).ok_or("memory")?;
+            assert_eq!(rt; run.result, Ok(PlanEnd));
+            assert_eq!(rt; run.text.as_slice(), *text);
+        }
+    }
+    Ok(())
+}
+
+// A line of so many bytes, a comment but for its length, and then a map.
+fn long_line(alloc: Global, bytes: usize) -> Result<Vec<u8>, Fail> {
+    let mut input = vec![in alloc; b'#'; bytes]?;
+    input.extend_from_slice(b"\n0 map\n")?;
+    Ok(input)
+}
+
+#[test]
+fn long_lines_are_skipped(rt: HostRuntime) -> Result<(), Fail> {
+    let longest = long_line(rt.alloc(), 4096)?;
+    let run_longest = run(rt.alloc(), &longest, 4096, &[], &[]).ok_or("memory")?;
+    assert_eq!(rt; run_longest.text.as_slice(), b"map 0 00000000\n".as_slice());
+    for bytes in [4097usize, 5000, 20_000] {
+        let input = long_line(rt.alloc(), bytes)?;
+        let run = run(rt.alloc(), &input, 4096, &[], &[]).ok_or("memory")?;
+        assert_eq!(rt; run.text.as_slice(), b"err L6 LineLong\nmap 0 00000000\n".as_slice());
+    }
+    Ok(())
+}
+
+// The reader gives one byte a call: call k fails behind k bytes.
+#[test]
+fn a_failed_read_leaves_the_whole_lines(rt: HostRuntime) -> Result<(), Fail> {
+    for call in 0..39u64 {
+        let run = run(rt.alloc(), FIRST_MAP, 5, &[call], &[]).ok_or("memory")?;
+        let text: &[u8] = if call < 32 {
+            b""
+        } else if call < 38 {
+            b"ok 0\n"
+        } else {
+            FIRST_TEXT
+        };
+        assert_eq!(rt; run.result, Err(PlanFault::Read));
+        assert_eq!(rt; run.text.as_slice(), text);
+    }
+    Ok(())
+}
+
+// The writer takes one byte a call: call b fails behind b bytes, and call 36 is the flush.
+#[test]
+fn a_failed_write_leaves_a_beginning(rt: HostRuntime) -> Result<(), Fail> {
+    assert_eq!(rt; FIRST_TEXT.len(), 36);
+    for call in 0..37u64 {
+        let run = run(rt.alloc(), FIRST_MAP, 1, &[], &[call]).ok_or("memory")?;
+        assert_eq!(rt; run.result, Err(PlanFault::Write));
+        assert_eq!(rt; run.text.len() as u64, call);
+        assert!(rt; FIRST_TEXT.starts_with(run.text.as_slice()));
+    }
+    Ok(())
+}
+
+// With each allocation refused in turn a beginning of the text is written, and no refusal is printed for it.
+#[test]
+fn refused_memory_leaves_a_beginning(rt: HostRuntime) -> Result<(), Fail> {
+    let Some(run) = run(rt.alloc(), FIRST_MAP, 4096, &[], &[]) else {
+        return Ok(());
+    };
+    match run.result {
+        Ok(PlanEnd) => assert_eq!(rt; run.text.as_slice(), FIRST_TEXT),
+        Err(PlanFault::Read) => assert!(rt; false, "no read failed"),
+        Err(_) => assert!(rt; FIRST_TEXT.starts_with(run.text.as_slice())),
+    }
+    Ok(())
+}
+
+// A full port refuses, and stays as it is.
+#[test]
+fn a_full_chapter_is_told(rt: HostRuntime) -> Result<(), Fail> {
+    let maps = 65_537usize;
+    let mut input = Vec::new(rt.alloc());
+    for _ in 0..maps {
+        input.extend_from_slice(b"0 map\n")?;
+    }
+    let run = run(rt.alloc(), &input, 4096, &[], &[]).ok_or("memory")?;
+    assert_eq!(rt; run.result, Ok(PlanEnd));
+    assert!(rt; run.text.ends_with(b"map 65535 00000000\nerr E20 ChapterFull\n"));
+    Ok(())
+}
