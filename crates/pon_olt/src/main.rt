@@ -64,7 +64,7 @@ fn fail(rt: &impl Eprint, fault: PlanFault) -> ExitCode {
 
 fn main(rt: HostRuntime) -> ExitCode {
     let Ok(args) = std::env::args(&rt) else {
-        return fail(&rt, PlanFault::Read);
+        return fail(&rt, PlanFault::Memory);
     };
     match args.collect::<Vec<String>>(rt.alloc()) {
         Ok(words) => run(&rt, words.as_slice()),

@@ -1,8 +1,8 @@
 -- What a port keeps, one entry further.
-use Rattle.std.proofs.Common.{◌≡◌, ℕ, zero, suc, ◌+◌, ◌-◌, ◌*◌, ◌<◌, ◌≤◌, ◌^◌, Bool, true, false, cond, not, ◌||◌, ◌&&◌, List, [], ◌∷◌, ◌++◌, map, length, drop, refl, ap, sym, ◌∙◌, subst, arith}
-use Rattle.std.specs.Prelude.{◌==◌, nat_le, nat_lt, if◌then◌else◌, filter, All, Option, Some, None, option_to_list, option_map}
+use Rattle.std.proofs.Common.{◌≡◌, ℕ, ◌+◌, ◌<◌, ◌≤◌, true, false, cond, not, ◌||◌, List, [], ◌∷◌, ◌++◌, map, length, refl, ap, sym, ◌∙◌, subst, arith}
+use Rattle.std.specs.Prelude.{◌==◌, nat_le, All, Option, Some, None, option_to_list, option_map}
 use Rattle.std.specs.List.{list_any}
-use Rattle.std.proofs.lemmas.Bool.{eq-eqb, eqb-true, ne_eqb, leb-false, le-leb, or_parts, or_left, lt-ltb, le-ltb}
+use Rattle.std.proofs.lemmas.Bool.{eq-eqb, eqb-true, ne_eqb, not-false, leb-false, or_left}
 use Rattle.std.proofs.lemmas.List.Elements.{All-nil, All-cons, All-head, All-tail}
 use Rattle.pon_port.specs.declared.event.Event.{Event}
 use Rattle.pon_port.specs.declared.event.Event.TheVariants.{Admit, MakeMap}
@@ -12,129 +12,40 @@ use Rattle.pon_port.specs.declared.reply.MadeMap.{MadeMap}
 use Rattle.pon_port.specs.declared.reply.Entry.{Entry}
 use Rattle.pon_port.specs.declared.refusal.Refusal.{Refusal}
 use Rattle.pon_port.specs.declared.refusal.Refusal.TheVariants.{TooManyAllocs, Capacity}
-use Rattle.pon_port.proofs.Lists.{length-drop, map-map}
+use Rattle.pon_port.proofs.Lists.{map-map}
+use Rattle.pon_port.proofs.AdmittedSets.{admit_keeps, passes}
 use Rattle.pon_port.proofs.Legality.{IsLegalAfter, after_from_legal, legal_from_after, legal_push}
 use Rattle.pon_port.proofs.Cutting.{replay-append, or_else_none, when_none}
 use Rattle.pon_port.proofs.Steps.{window_of-map, window_of-quiet, last_64-window, since_begins, since_keeps, counted_forgotten, counted_of-map}
 use Rattle.pon_port.specs.Descriptor.{first_of}
-use Rattle.pon_port.specs.Roster.{IsAdmitted, IsInRange, Row, admit_checks, capacity, comes_before, fits, has_alloc, overhead, owned, promised_sum, refuses_admit, rule_in_force, with_row}
+use Rattle.pon_port.specs.Roster.{IsAdmitted, IsInRange, Row, admit_checks, comes_before, fits, has_alloc, owned, refuses_admit, rule_in_force, with_row}
 use Rattle.pon_port.specs.Book.{Account, Counted, account_of, alloc_ids, with_alloc}
 use Rattle.pon_port.specs.Window.{WindowMap}
 use Rattle.pon_port.specs.State.{State}
-use Rattle.pon_port.specs.Replay.{all_maps, forgets, frame_at_last, last_64, new_map, reports, window_of}
-use Rattle.pon_port.specs.Loads.{account_after, counted_of, counted_of_account, later, latest, replay, since_of, since_of_account, words_in}
-use Rattle.pon_port.specs.Checks.{first_refusal, refuses, when_down, when_full}
+use Rattle.pon_port.specs.Replay.{last_64, new_map, window_of}
+use Rattle.pon_port.specs.Loads.{account_after, counted_of, counted_of_account, latest, replay, since_of, since_of_account, words_in}
+use Rattle.pon_port.specs.Checks.{first_refusal, when_full}
 use Rattle.pon_port.specs.Legal.{IsMade, MayFollow}
-use Rattle.pon_port.specs.Chapters.{AccountIsLawful, AccountsFor, AreRising, Chapter, IsLawfulMap, just_opened}
+use Rattle.pon_port.specs.Chapters.{AccountsFor, AreRising, Chapter}
 use Rattle.pon_port.specs.Taking.{IsKept, Takes, with_entry}
 use Rattle.pon_port.specs.After.{after_first, after_map, less, lessened}
 
--- A port just opened.
-
-both : {a b : Bool} → a ≡ true → b ≡ true → (a && b) ≡ true
-both {a} {b} p q = (λ i. p i && b) ∙ q
-
-empty_set : (gap : ℕ) → gap ≤ 256 → IsAdmitted rule_in_force gap []
-empty_set gap l = record {
-  in_map_order = tt;
-  apart = tt;
-  in_range = All-nil IsInRange;
-  few_allocs = omega arith;
-  few_onus = omega arith;
-  short_series = λ u. omega arith;
-  fitting = both (le-leb (overhead rule_in_force gap []) 9720 (omega arith)) (le-leb (promised_sum []) (256 * capacity rule_in_force gap []) (omega arith));
-}
-
-pub kept_open : (gap profile first : ℕ) → gap ≤ 256 → IsKept (record { number = 0; opening = just_opened gap profile first; entries = [] }) (just_opened gap profile first)
-kept_open gap profile first l = record {
-  lawful = record {
-    opening = record {
-      first = λ e. (gap, profile, first, refl);
-      admitted = empty_set gap l;
-      book = (tt, λ i. refl);
-      accounts = All-nil (AccountIsLawful (just_opened gap profile first));
-      few_maps = omega arith;
-      frames = tt;
-      maps = All-nil IsLawfulMap;
-      failed = tt;
-    };
-    legal = legal_from_after (just_opened gap profile first) [] 0 tt;
-  };
-  replayed = (λ i. record {
-    gap = gap; profile = profile; next = plus_zero i; cause = None; taken_before = 0; roster = []; book = []; window = [];
-  });
-  admitted = empty_set gap l;
-  book = (tt, λ i. refl);
-}
-  where
-    plus_zero : first ≡ first + 0
-    plus_zero = omega arith
-
--- no window has more than 64 maps
-pub kept_short : (c : Chapter) (s : State) → IsKept c s → length s.window ≤ 64
-kept_short c s k =
-    let f : ℕ = frame_at_last (λ e. forgets e.event) 0 c.opening.next c.entries in
-    let kept : List WindowMap = filter (λ m. nat_le f m.frame) (all_maps c.opening c.entries) in
-    subst (λ s. length s.window ≤ 64) (sym k.replayed) (let b : length (drop (length kept - 64) kept) ≤ 64 = omega (arith, length-drop (length kept - 64) kept) in b)
-
--- Room to count an event that is not refused.
-
-count_room : (kept : ℕ) (taken : ℕ) → when_full kept taken ≡ None → taken + 1 < 2 ^ 64
-count_room kept taken h =
-    let full : nat_le (2 ^ 64 - 1) taken ≡ false = (or_parts (nat_le 65536 kept) (nat_le (2 ^ 64 - 1) taken) (when_none (nat_le 65536 kept || nat_le (2 ^ 64 - 1) taken) _ h)).1 in
-    omega (arith, leb-false (2 ^ 64 - 1) taken full)
-
-pub map_room : (kept : ℕ) (s : State) → first_refusal kept s MakeMap ≡ None → (s.next + 1 < 2 ^ 64) × (s.taken_before + 1 < 2 ^ 64)
-map_room kept s h =
-    let two : (refuses s MakeMap ≡ None) × (when_full kept s.taken_before ≡ None) = or_else_none (refuses s MakeMap) (when_full kept s.taken_before) h in
-    let frame : nat_le (2 ^ 64 - 1) s.next ≡ false = when_none (nat_le (2 ^ 64 - 1) s.next) _ (or_else_none (when_down s.cause) _ two.0).1 in
-    (omega (arith, leb-false (2 ^ 64 - 1) s.next frame), count_room kept s.taken_before two.1)
-
--- no check of a list refuses
-abbrev AreNone : List (Option Refusal) → Type 0
-AreNone [] = Unit {0}
-AreNone (r ∷ rs) = (r ≡ None) × AreNone rs
-
-first_of_none : (rs : List (Option Refusal)) → first_of rs ≡ None → AreNone rs
-first_of_none [] h = tt
-first_of_none (r ∷ rs) h = let two : (r ≡ None) × (first_of rs ≡ None) = or_else_none r (first_of rs) h in (two.0, first_of_none rs two.1)
-
 -- What an accepted admission says of the roster.
 module _ (kept : ℕ) (s : State) (r : Row) (h : first_refusal kept s (Admit r.onu r.alloc_id r.descriptor) ≡ None) where
-  passed : AreNone (admit_checks rule_in_force s.gap s.roster r)
-  passed = first_of_none (admit_checks rule_in_force s.gap s.roster r) (or_else_none (refuses_admit rule_in_force s.gap s.roster r) (when_full kept s.taken_before) h).0
+  own : refuses_admit rule_in_force s.gap s.roster r ≡ None
+  own = (or_else_none (refuses_admit rule_in_force s.gap s.roster r) (when_full kept s.taken_before) h).0
 
+  -- there was no row
   pub no_row : s.roster ≡ []
-  no_row = empty s.roster (leb-false 1 (length s.roster) (when_none (nat_le 1 (length s.roster)) TooManyAllocs passed.1.0))
+  no_row = empty s.roster (passes rule_in_force s.gap s.roster r own).few_allocs
     where
       empty : (xs : List Row) → length xs < 1 → xs ≡ []
       empty [] l = refl
       empty (x ∷ xs) l = absurd (omega arith)
 
-  row_fits : fits rule_in_force s.gap (with_row r s.roster) ≡ true
-  row_fits = not_false (fits rule_in_force s.gap (with_row r s.roster)) (when_none (not (fits rule_in_force s.gap (with_row r s.roster))) Capacity passed.1.1.1.1.0)
-    where
-      not_false : (b : Bool) → not b ≡ false → b ≡ true
-      not_false true e = refl
-      not_false false e = absurd cc
-
-  pub admit_room : s.taken_before + 1 < 2 ^ 64
-  admit_room = count_room kept s.taken_before (or_else_none (refuses_admit rule_in_force s.gap s.roster r) (when_full kept s.taken_before) h).1
-
   -- the set with the row is an admitted one
-  pub one_admitted : IsInRange r → IsAdmitted rule_in_force s.gap (r ∷ [])
-  one_admitted i = record {
-    in_map_order = (All-nil (λ q. comes_before r q ≡ true), tt);
-    apart = (refl, tt);
-    in_range = All-cons IsInRange r [] i (All-nil IsInRange);
-    few_allocs = omega arith;
-    few_onus = omega arith;
-    short_series = series;
-    fitting = subst (λ rows. fits rule_in_force s.gap (with_row r rows) ≡ true) no_row row_fits;
-  }
-    where
-      series : (u : ℕ) → owned u (r ∷ []) ≤ 16
-      series u = elim (r.onu == u) as (λ b. 0 + cond b 1 0 ≤ 16) [ true ↦ omega arith | false ↦ omega arith ]
+  pub one_admitted : IsInRange r → IsAdmitted rule_in_force s.gap s.roster → IsAdmitted rule_in_force s.gap (r ∷ [])
+  one_admitted i k = subst (λ rows. IsAdmitted rule_in_force s.gap (with_row r rows)) no_row (admit_keeps rule_in_force s.gap s.roster r own i k)
 
 -- a book of no rows is empty
 pub no_account : (book : List Account) → AccountsFor [] book → book ≡ []
@@ -149,8 +60,9 @@ one_account r since = ((All-nil (λ j. r.alloc_id < j), tt), λ i. refl)
 account_later : (book : List Account) (i j : ℕ) (a : Account) → All (λ k. j < k) (alloc_ids book) → account_of book i ≡ Some a → j < i
 account_later [] i j a l e = absurd cc
 account_later (x ∷ book) i j a l e = (elim (x.alloc_id == i) as (λ b. (x.alloc_id == i) ≡ b → cond b (Some x) (account_of book i) ≡ Some a → j < i) [
-    true ↦ λ t e. subst (λ n. j < n) (eqb-true x.alloc_id i t) (All-head (λ k. j < k) x.alloc_id (alloc_ids book) l)
-  | false ↦ λ t e. account_later book i j a (All-tail (λ k. j < k) x.alloc_id (alloc_ids book) l) e ]) refl e
+  | true ↦ λ t e. subst (λ n. j < n) (eqb-true x.alloc_id i t) (All-head (λ k. j < k) x.alloc_id (alloc_ids book) l)
+  | false ↦ λ t e. account_later book i j a (All-tail (λ k. j < k) x.alloc_id (alloc_ids book) l) e
+]) refl e
 
 each_account : (f : Account → Account) (g : ℕ → Account) (whole book : List Account) → AreRising (alloc_ids book) →
     ((i : ℕ) (a : Account) → account_of book i ≡ Some a → account_of whole i ≡ Some a) →
@@ -159,7 +71,7 @@ each_account f g whole [] rising found same = refl
 each_account f g whole (x ∷ book) rising found same =
     let here : account_of (x ∷ book) x.alloc_id ≡ Some x = ap (λ b. cond b (Some x) (account_of book x.alloc_id)) (eq-eqb x.alloc_id x.alloc_id refl) in
     let later : (i : ℕ) (a : Account) → account_of book i ≡ Some a → account_of whole i ≡ Some a = λ i a e.
-        found i a (ap (λ b. cond b (Some x) (account_of book i)) (ne_eqb x.alloc_id i (λ q. omega (arith, q, account_later book i x.alloc_id a rising.0 e))) ∙ e) in
+    found i a (ap (λ b. cond b (Some x) (account_of book i)) (ne_eqb x.alloc_id i (λ q. omega (arith, q, account_later book i x.alloc_id a rising.0 e))) ∙ e) in
     (λ j. same x (found x.alloc_id x here) j ∷ each_account f g whole book rising.1 later same j)
 
 -- The step of a map.
@@ -170,18 +82,21 @@ book_map s reply rising = each_account (lessened new) (account_after s (entry �
   where
     entry : Entry
     entry = record { event = MakeMap; reply = reply }
+
     new : WindowMap
     new = new_map s.roster s.next reply
+
     lone : (w : ℕ) (c : Option Counted) → latest (map (less w) (option_to_list c)) ≡ option_map (less w) c
     lone w None = refl
     lone w (Some c) = refl
+
     one : (a : Account) → account_of s.book a.alloc_id ≡ Some a → lessened new a ≡ account_after s (entry ∷ []) a.alloc_id
     one a found =
         let i : ℕ = a.alloc_id in
         let since : a.since ≡ since_of s (entry ∷ []) i = sym (since_keeps s i entry refl ∙ ap since_of_account found) in
         let w : ℕ = words_in i new in
         let counted : option_map (less w) a.counted ≡ counted_of s (entry ∷ []) i
-            = sym (counted_of-map s i reply ∙ ap (λ o. latest (map (less w) (counted_of_account o))) found ∙ lone w a.counted) in
+        = sym (counted_of-map s i reply ∙ ap (λ o. latest (map (less w) (counted_of_account o))) found ∙ lone w a.counted) in
         (λ j. record { alloc_id = i; since = since j; counted = counted j })
 
 map_step : (o : State) (es : List Entry) (reply : Reply) → AreRising (alloc_ids (replay o es).book) →
@@ -190,7 +105,11 @@ map_step o es reply rising =
     let s : State = replay o es in
     let window : last_64 (window_of o es ++ new_map s.roster s.next reply ∷ []) ≡ window_of s (record { event = MakeMap; reply = reply } ∷ []) = sym (window_of-map o es reply) in
     (λ i. record {
-      gap = s.gap; profile = s.profile; next = s.next + 1; cause = s.cause; taken_before = s.taken_before + 1;
+      gap = s.gap;
+      profile = s.profile;
+      next = s.next + 1;
+      cause = s.cause;
+      taken_before = s.taken_before + 1;
       roster = s.roster;
       book = book_map s reply rising i;
       window = window i;
@@ -211,7 +130,11 @@ first_step o es r none empty =
     let account : record { alloc_id = i; since = s.next; counted = None } ≡ account_after s (e ∷ []) i = (λ j. record { alloc_id = i; since = since j; counted = counted j }) in
     let window : window_of o es ≡ window_of s (e ∷ []) = sym (window_of-quiet o es e (λ frame onu. refl) refl refl (last_64-window o es)) in
     (λ j. record {
-      gap = s.gap; profile = s.profile; next = next j; cause = s.cause; taken_before = s.taken_before + 1;
+      gap = s.gap;
+      profile = s.profile;
+      next = next j;
+      cause = s.cause;
+      taken_before = s.taken_before + 1;
       roster = with_row r (sym none j);
       book = (ap (λ a. a ∷ []) account ∙ ap (λ book. map (account_after s (e ∷ [])) (with_alloc i (alloc_ids book))) (sym empty)) j;
       window = window j;
@@ -225,7 +148,7 @@ next_chapter : (c : Chapter) (s t : State) (event : Event) (reply : Reply) → I
 next_chapter c s t event reply k follows step admitted book =
     let e : Entry = record { event = event; reply = reply } in
     let legal : IsLegalAfter c.opening [] (c.entries ++ e ∷ []) = legal_push c.opening [] c.entries e (after_from_legal c.opening c.entries c.number k.lawful.legal)
-        (subst (λ s. MayFollow (length c.entries) s e) k.replayed follows) in
+    (subst (λ s. MayFollow (length c.entries) s e) k.replayed follows) in
     record {
       lawful = record { opening = k.lawful.opening; legal = legal_from_after c.opening (c.entries ++ e ∷ []) c.number legal };
       replayed = step (sym k.replayed) ∙ ap (λ s. replay s (e ∷ [])) k.replayed ∙ sym (replay-append c.opening c.entries (e ∷ []) k.lawful.opening.frames legal);
@@ -238,14 +161,14 @@ pub mapped : (c d : Chapter) (s t : State) (made : MadeMap) → IsKept c s → f
     d ≡ with_entry c MakeMap (Map made) → t ≡ after_map s (new_map s.roster s.next (Map made)) → IsKept d t
 mapped c d s t made k accepted is_made more after =
     rw (more, after) (next_chapter c s (after_map s (new_map s.roster s.next (Map made))) MakeMap (Map made) k
-      (record { event = tt; accepted = accepted; reply = is_made })
-      (λ e. elim_state e)
-      k.admitted
-      (subst (λ ids. AreRising ids × ((i : ℕ) → list_any (λ j. j == i) ids ≡ has_alloc i s.roster)) (sym (map-map (λ a. a.alloc_id) (lessened (new_map s.roster s.next (Map made))) s.book)) k.book))
+    (record { event = tt; accepted = accepted; reply = is_made })
+    (λ e. elim_state e)
+    k.admitted
+    (subst (λ ids. AreRising ids × ((i : ℕ) → list_any (λ j. j == i) ids ≡ has_alloc i s.roster)) (sym (map-map (λ a. a.alloc_id) (lessened (new_map s.roster s.next (Map made))) s.book)) k.book))
   where
     elim_state : replay c.opening c.entries ≡ s → after_map s (new_map s.roster s.next (Map made)) ≡ replay s (record { event = MakeMap; reply = Map made } ∷ [])
     elim_state e = subst (λ s. after_map s (new_map s.roster s.next (Map made)) ≡ replay s (record { event = MakeMap; reply = Map made } ∷ [])) e
-      (map_step c.opening c.entries (Map made) (subst (λ s. AreRising (alloc_ids s.book)) (sym e) k.book.0))
+        (map_step c.opening c.entries (Map made) (subst (λ s. AreRising (alloc_ids s.book)) (sym e) k.book.0))
 
 -- the first row is kept
 pub admitted : (c d : Chapter) (s t : State) (r : Row) → IsKept c s → IsInRange r → first_refusal (length c.entries) s (Admit r.onu r.alloc_id r.descriptor) ≡ None →
@@ -254,11 +177,11 @@ admitted c d s t r k in_range accepted more after =
     let none : s.roster ≡ [] = no_row (length c.entries) s r accepted in
     let empty : s.book ≡ [] = no_account s.book (subst (λ rows. AccountsFor rows s.book) none k.book) in
     rw (more, after) (next_chapter c s (after_first s r) (Admit r.onu r.alloc_id r.descriptor) Taken k
-      (record { event = in_range; accepted = accepted; reply = refl })
-      (λ e. subst (λ s. after_first s r ≡ replay s (record { event = Admit r.onu r.alloc_id r.descriptor; reply = Taken } ∷ [])) e
-        (first_step c.opening c.entries r (ap (λ s. s.roster) e ∙ none) (ap (λ s. s.book) e ∙ empty)))
-      (one_admitted (length c.entries) s r accepted in_range)
-      (one_account r s.next))
+    (record { event = in_range; accepted = accepted; reply = refl })
+    (λ e. subst (λ s. after_first s r ≡ replay s (record { event = Admit r.onu r.alloc_id r.descriptor; reply = Taken } ∷ [])) e
+    (first_step c.opening c.entries r (ap (λ s. s.roster) e ∙ none) (ap (λ s. s.book) e ∙ empty)))
+    (one_admitted (length c.entries) s r accepted in_range k.admitted)
+    (one_account r s.next))
 
 -- the map that is told is the one that is kept
 pub map_taken : (c d : Chapter) (s : State) (made kept : MadeMap) → IsKept c s → first_refusal (length c.entries) s MakeMap ≡ None → IsMade s made → kept ≡ made →

@@ -1,6 +1,6 @@
 -- A legal list of entries, entry by entry: the form that inductions take.
-use Rattle.std.proofs.Common.{◌≡◌, ℕ, zero, suc, ◌+◌, ◌-◌, ◌<◌, ◌≤◌, List, [], ◌∷◌, ◌++◌, length, take, refl, ap, sym, ◌∙◌, subst, arith, append_assoc, add-one, zero-add, slice_get}
-use Rattle.std.specs.Prelude.{Option, Some, None}
+use Rattle.std.proofs.Common.{◌≡◌, ℕ, zero, suc, ◌+◌, List, [], ◌∷◌, ◌++◌, length, take, refl, sym, subst, arith, append_assoc, zero-add, slice_get}
+use Rattle.std.specs.Prelude.{Some}
 use Rattle.std.proofs.lemmas.List.{append-nil, length-append}
 use Rattle.pon_port.specs.declared.reply.Entry.{Entry}
 use Rattle.pon_port.specs.State.{State}
@@ -19,23 +19,24 @@ EachFollows o done es = (k : ℕ) (e : Entry) → slice_get es k ≡ Some e → 
 
 pub after_from_each : (o : State) (done es : List Entry) → EachFollows o done es → IsLegalAfter o done es
 after_from_each o done [] h = tt
-after_from_each o done (e ∷ es) h =
-    ( subst (λ t. MayFollow (length done) (replay o t) e) (append-nil done)
-        (subst (λ n. MayFollow n (replay o (done ++ [])) e) (let z : length done + 0 ≡ length done = omega arith in z) (h 0 e refl))
-    , after_from_each o (done ++ e ∷ []) es (λ k f there.
-        subst (λ t. MayFollow (length (done ++ e ∷ []) + k) (replay o t) f) (sym (append_assoc done (e ∷ []) (take k es)))
-          (subst (λ n. MayFollow n (replay o (done ++ e ∷ take k es)) f) (let z : length done + suc k ≡ length (done ++ e ∷ []) + k = omega (arith, length-append done (e ∷ [])) in z) (h (suc k) f there))) )
+after_from_each o done (e ∷ es) h = (
+  subst (λ t. MayFollow (length done) (replay o t) e) (append-nil done)
+      (subst (λ n. MayFollow n (replay o (done ++ [])) e) (let z : length done + 0 ≡ length done = omega arith in z) (h 0 e refl)),
+  after_from_each o (done ++ e ∷ []) es (λ k f there.
+      subst (λ t. MayFollow (length (done ++ e ∷ []) + k) (replay o t) f) (sym (append_assoc done (e ∷ []) (take k es)))
+      (subst (λ n. MayFollow n (replay o (done ++ e ∷ take k es)) f) (let z : length done + suc k ≡ length (done ++ e ∷ []) + k = omega (arith, length-append done (e ∷ [])) in z) (h (suc k) f there))),
+)
 
 pub each_from_after : (o : State) (done es : List Entry) → IsLegalAfter o done es → EachFollows o done es
 each_from_after o done [] l k e there = absurd cc
 each_from_after o done (x ∷ es) l zero e there =
     subst (λ t. MayFollow (length done + 0) (replay o t) e) (sym (append-nil done))
-      (subst (λ n. MayFollow n (replay o done) e) (let z : length done ≡ length done + 0 = omega arith in z)
-        (let same : x ≡ e = cc in subst (λ x. MayFollow (length done) (replay o done) x) same l.0))
+    (subst (λ n. MayFollow n (replay o done) e) (let z : length done ≡ length done + 0 = omega arith in z)
+    (let same : x ≡ e = cc in subst (λ x. MayFollow (length done) (replay o done) x) same l.0))
 each_from_after o done (x ∷ es) l (suc k) e there =
     subst (λ t. MayFollow (length done + suc k) (replay o t) e) (append_assoc done (x ∷ []) (take k es))
-      (subst (λ n. MayFollow n (replay o ((done ++ x ∷ []) ++ take k es)) e) (let z : length (done ++ x ∷ []) + k ≡ length done + suc k = omega (arith, length-append done (x ∷ [])) in z)
-        (each_from_after o (done ++ x ∷ []) es l.1 k e there))
+    (subst (λ n. MayFollow n (replay o ((done ++ x ∷ []) ++ take k es)) e) (let z : length (done ++ x ∷ []) + k ≡ length done + suc k = omega (arith, length-append done (x ∷ [])) in z)
+    (each_from_after o (done ++ x ∷ []) es l.1 k e there))
 
 legal_of : (o : State) (es : List Entry) (n : ℕ) → IsLegal (record { number = n; opening = o; entries = es }) → EachFollows o [] es
 legal_of o es n h k e there = subst (λ j. MayFollow j (replay o (take k es)) e) (sym (zero-add k)) (h k e there)

@@ -5,5 +5,9 @@ pub mod Loads
 pub mod Legality
 pub mod Cutting
 pub mod Steps
-pub mod Bursts
+pub mod Distinct
+pub mod AdmittedSets
+pub mod LawfulChapters
+pub mod Laid
+pub mod SoundMaps
 pub mod Kept

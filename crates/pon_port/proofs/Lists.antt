@@ -1,9 +1,9 @@
 -- Lists that the laws of a history use.
-use Rattle.std.proofs.Common.{◌≡◌, ℕ, zero, suc, ◌+◌, ◌-◌, ◌<◌, ◌≤◌, Bool, true, false, cond, not, ◌||◌, ◌&&◌, eqb, leb, ltb, List, [], ◌∷◌, ◌++◌, map, length, drop, refl, ap, sym, ◌∙◌, subst, arith, add-one, zero-add, append_assoc, inl, inr}
-use Rattle.std.specs.Prelude.{◌==◌, nat_le, nat_lt, filter, flat_map, sum_by, count_by, find, Option, Some, None}
+use Rattle.std.proofs.Common.{◌≡◌, ℕ, ◌+◌, Bool, true, false, cond, ◌||◌, ◌&&◌, List, [], ◌∷◌, ◌++◌, map, refl, ap, sym, ◌∙◌, inl, inr}
+use Rattle.std.specs.Prelude.{◌==◌, filter, sum_by, count_by}
 use Rattle.std.specs.List.{list_any}
-pub use Rattle.std.proofs.lemmas.List.{drop-drop, drop_all, length-drop, length-append, append-nil, map-append, length-map}
-pub use Rattle.std.proofs.lemmas.List.Elements.{filter-append}
+pub use Rattle.std.proofs.lemmas.List.{drop-drop, drop-map, drop-append-le, length-drop, length-append, append-nil, map-append, length-map}
+pub use Rattle.std.proofs.lemmas.List.Elements.{filter-append, filter_agree}
 pub use Rattle.std.proofs.lemmas.List.Folds.{flat_map-map}
 pub use Rattle.std.proofs.lemmas.Grind.{flat_map-append}
 pub use Rattle.std.proofs.lemmas.Simd.{map-map}
@@ -14,10 +14,6 @@ use Rattle.std.proofs.lemmas.Bool.Decides.{eqb_tells}
 -- a count over a list in two parts
 pub count_by-append : {X : Type 0} (p : X → Bool) (xs ys : List X) → count_by p (xs ++ ys) ≡ count_by p xs + count_by p ys
 count_by-append p xs ys = sum_by-append (λ x. cond (p x) 1 0) xs ys
-
-pub or-true : (b : Bool) → (b || true) ≡ true
-or-true true = refl
-or-true false = refl
 
 pub or-false : (b : Bool) → (b || false) ≡ b
 or-false true = refl
@@ -31,44 +27,33 @@ pub map_same : {A B : Type 0} (f g : A → B) → ((x : A) → f x ≡ g x) → 
 map_same f g h [] = refl
 map_same f g h (x ∷ xs) = (λ i. h x i ∷ map_same f g h xs i)
 
-pub map-drop : {A B : Type 0} (f : A → B) (n : ℕ) (xs : List A) → map f (drop n xs) ≡ drop n (map f xs)
-map-drop f zero xs = refl
-map-drop f (suc n) [] = refl
-map-drop f (suc n) (x ∷ xs) = map-drop f n xs
-
--- dropping from two lists in a row
-pub drop-append : {A : Type 0} (n : ℕ) (xs ys : List A) → drop n (xs ++ ys) ≡ drop n xs ++ drop (n - length xs) ys
-drop-append zero xs ys = ap (λ k. xs ++ drop k ys) (let e : 0 ≡ 0 - length xs = omega arith in e)
-drop-append (suc n) [] ys = ap (λ k. drop k ys) (let e : suc n ≡ suc n - 0 = omega arith in e)
-drop-append (suc n) (x ∷ xs) ys = drop-append n xs ys ∙ ap (λ k. drop n xs ++ drop k ys) (let e : n - length xs ≡ suc n - length (x ∷ xs) = omega arith in e)
-
-pub filter_same : {A : Type 0} (p q : A → Bool) → ((x : A) → p x ≡ q x) → (xs : List A) → filter p xs ≡ filter q xs
-filter_same p q h [] = refl
-filter_same p q h (x ∷ xs) = (λ i. cond (h x i) (x ∷ filter_same p q h xs i) (filter_same p q h xs i))
-
 pub filter-filter : {A : Type 0} (p q : A → Bool) (xs : List A) → filter p (filter q xs) ≡ filter (λ x. q x && p x) xs
 filter-filter p q [] = refl
 filter-filter p q (x ∷ xs) = elim (q x) as (λ b. filter p (cond b (x ∷ filter q xs) (filter q xs)) ≡ cond (b && p x) (x ∷ filter (λ x. q x && p x) xs) (filter (λ x. q x && p x) xs)) [
-    true ↦ ap (λ t. cond (p x) (x ∷ t) t) (filter-filter p q xs)
-  | false ↦ filter-filter p q xs ]
+  | true ↦ ap (λ t. cond (p x) (x ∷ t) t) (filter-filter p q xs)
+  | false ↦ filter-filter p q xs
+]
 
 pub map_filter : {A B : Type 0} (f : A → B) (p : B → Bool) (xs : List A) → filter p (map f xs) ≡ map f (filter (λ x. p (f x)) xs)
 map_filter f p [] = refl
 map_filter f p (x ∷ xs) = elim (p (f x)) as (λ b. cond b (f x ∷ filter p (map f xs)) (filter p (map f xs)) ≡ map f (cond b (x ∷ filter (λ x. p (f x)) xs) (filter (λ x. p (f x)) xs))) [
-    true ↦ ap (λ t. f x ∷ t) (map_filter f p xs)
-  | false ↦ map_filter f p xs ]
+  | true ↦ ap (λ t. f x ∷ t) (map_filter f p xs)
+  | false ↦ map_filter f p xs
+]
 
 -- a number is found in a list that keeps it
 pub any_eq-filter : (p : ℕ → Bool) (u : ℕ) (xs : List ℕ) → list_any (λ v. v == u) (filter p xs) ≡ (p u && list_any (λ v. v == u) xs)
 any_eq-filter p u [] = elim (p u) as (λ b. false ≡ (b && false)) [ true ↦ refl | false ↦ refl ]
 any_eq-filter p u (x ∷ xs) =
     elim (eqb_tells x u) [
-      inl e ↦ rw (e.0, e.1) ((elim (p u) as (λ b. p u ≡ b → list_any (λ v. v == u) (cond b (u ∷ filter p xs) (filter p xs)) ≡ (b && true)) [
-          true ↦ λ _. ap (λ b. b || list_any (λ v. v == u) (filter p xs)) (eq-eqb u u refl)
-        | false ↦ λ k. any_eq-filter p u xs ∙ ap (λ b. b && list_any (λ v. v == u) xs) k ]) refl)
-    | inr e ↦ rw e.0 (elim (p x) as (λ b. list_any (λ v. v == u) (cond b (x ∷ filter p xs) (filter p xs)) ≡ (p u && list_any (λ v. v == u) xs)) [
-          true ↦ rw e.0 (any_eq-filter p u xs)
-        | false ↦ any_eq-filter p u xs ])
+      | inl e ↦ rw (e.0, e.1) ((elim (p u) as (λ b. p u ≡ b → list_any (λ v. v == u) (cond b (u ∷ filter p xs) (filter p xs)) ≡ (b && true)) [
+        | true ↦ λ _. ap (λ b. b || list_any (λ v. v == u) (filter p xs)) (eq-eqb u u refl)
+        | false ↦ λ k. any_eq-filter p u xs ∙ ap (λ b. b && list_any (λ v. v == u) xs) k
+      ]) refl)
+      | inr e ↦ rw e.0 (elim (p x) as (λ b. list_any (λ v. v == u) (cond b (x ∷ filter p xs) (filter p xs)) ≡ (p u && list_any (λ v. v == u) xs)) [
+        | true ↦ rw e.0 (any_eq-filter p u xs)
+        | false ↦ any_eq-filter p u xs
+      ])
     ]
 
 -- two tests that agree on a list's numbers keep the same of them
@@ -79,10 +64,10 @@ filter_same_in p q (x ∷ xs) h =
     let rest : filter p xs ≡ filter q xs = filter_same_in p q xs (λ u k. h u (or_right (x == u) (list_any (λ v. v == u) xs) k)) in
     (λ i. cond (head i) (x ∷ rest i) (rest i))
 
-pub sum_by_same : {X : Type 0} (f g : X → ℕ) → ((x : X) → f x ≡ g x) → (xs : List X) → sum_by f xs ≡ sum_by g xs
-sum_by_same f g h [] = refl
-sum_by_same f g h (x ∷ xs) = sum_by-cons f x xs ∙ (λ i. h x i + sum_by_same f g h xs i) ∙ sym (sum_by-cons g x xs)
-
 pub sum_by-map : {X Y : Type 0} (f : Y → ℕ) (g : X → Y) (xs : List X) → sum_by f (map g xs) ≡ sum_by (λ x. f (g x)) xs
 sum_by-map f g [] = refl
 sum_by-map f g (x ∷ xs) = sum_by-cons f (g x) (map g xs) ∙ ap (λ n. f (g x) + n) (sum_by-map f g xs) ∙ sym (sum_by-cons (λ y. f (g y)) x xs)
+
+pub sum_by_same : {X : Type 0} (f g : X → ℕ) → ((x : X) → f x ≡ g x) → (xs : List X) → sum_by f xs ≡ sum_by g xs
+sum_by_same f g h [] = refl
+sum_by_same f g h (x ∷ xs) = sum_by-cons f x xs ∙ (λ i. h x i + sum_by_same f g h xs i) ∙ sym (sum_by-cons g x xs)

@@ -1,24 +1,22 @@
 -- Loads over a list that is cut in two.
-use Rattle.std.proofs.Common.{◌≡◌, ℕ, zero, suc, ◌+◌, ◌-◌, ◌<◌, ◌≤◌, Bool, true, false, cond, not, ◌||◌, ◌&&◌, List, [], ◌∷◌, ◌++◌, map, length, drop, refl, ap, sym, ◌∙◌, subst, arith, append_assoc, add_assoc, inl, inr}
-use Rattle.std.specs.Prelude.{◌==◌, ◌⊎◌, nat_le, nat_lt, if◌then◌else◌, filter, flat_map, find, sum_by, count_by, Option, Some, None, option_to_list, option_map}
+use Rattle.std.proofs.Common.{◌≡◌, ℕ, zero, suc, ◌+◌, ◌-◌, ◌<◌, ◌≤◌, Bool, true, false, cond, not, ◌||◌, ◌&&◌, List, [], ◌∷◌, ◌++◌, map, length, drop, refl, ap, sym, ◌∙◌, arith, inl, inr}
+use Rattle.std.specs.Prelude.{◌==◌, ◌⊎◌, nat_le, nat_lt, if◌then◌else◌, filter, flat_map, sum_by, Option, Some, None, option_to_list, option_map}
 use Rattle.std.specs.List.{list_any}
 use Rattle.std.proofs.lemmas.List.Folds.{list_any-append}
 use Rattle.std.proofs.lemmas.List.Sums.{sum_by-append, sum_by-cons}
-use Rattle.std.proofs.lemmas.Bool.{le-leb, lt-leb, leb-true, eqb-true, eq-eqb, ne_eqb, or_left, or_right, or_cases, or_parts, cases_Bool, cases_lt, lt-ltb, le-ltb}
-use Rattle.std.proofs.lemmas.Bool.Decides.{leb_tells, eqb_tells, nat_tests}
+use Rattle.std.proofs.lemmas.Bool.{lt-leb, eqb-true, ne_eqb, or_left, or_right, or_cases, or_parts, cases_lt, lt-ltb, le-ltb}
+use Rattle.std.proofs.lemmas.Bool.Decides.{leb_tells, nat_tests}
 use Rattle.pon_port.specs.Book.{Counted, account_of}
 use Rattle.pon_port.specs.Window.{LeadsTo, WindowMap, grants_at}
 use Rattle.pon_port.specs.State.{State}
-use Rattle.pon_port.specs.Replay.{allocs_after, allocs_of, begins, last_64, reports, with_reports}
-use Rattle.pon_port.specs.Loads.{account_after, candidates, candidates_in, counted_of, counted_of_account, later, latest, occupancies, since_of, since_of_account, words_from, words_in}
-use Rattle.pon_port.specs.Maps.{grant}
+use Rattle.pon_port.specs.Replay.{allocs_after, allocs_of, begins, last_64, with_reports}
+use Rattle.pon_port.specs.Loads.{account_after, candidates_in, counted_of, counted_of_account, later, latest, occupancies, since_of, since_of_account, words_from, words_in}
 use Rattle.pon_port.specs.After.{less}
 use Rattle.pon_port.specs.declared.event.Event.{Event}
 use Rattle.pon_port.specs.declared.event.Event.TheVariants.{Admit, Change, Remove, Report, MakeMap, Fail, Restore}
 use Rattle.pon_port.specs.declared.reply.Entry.{Entry}
-use Rattle.pon_port.proofs.Lists.{or_assoc, or-false, map-map, map_same, map-drop, drop-append, drop-drop, length-drop, length-append, append-nil, filter-append, filter-filter, filter_same, map_filter, map-append, length-map, sum_by_same, sum_by-map, flat_map-append, flat_map-map}
-use Rattle.pon_port.proofs.Parts.{next_of-append, next_of_grows, roster_of-append, frame_at_last-append, frame_at_last_any, frame_at_last_none, frame_at_last_late, frame_at_last_below}
-use Rattle.pon_port.proofs.Windows.{all_maps-append, all_maps_lead, maps_of-append, maps_lead, length-maps_of, leads-map, leads-filter, leads-drop, filter_low, filter_high}
+use Rattle.pon_port.proofs.Lists.{map-map, map_same, length-drop, append-nil, filter-append, filter-filter, filter_agree, map_filter, map-append, sum_by-map, flat_map-map}
+use Rattle.pon_port.proofs.Windows.{leads-filter, filter_high}
 
 -- the maps of a frame or later
 abbrev pub from : ℕ → List WindowMap → List WindowMap
@@ -31,12 +29,13 @@ words_from_is i f (m ∷ ms) =
     sum_by-cons (λ m. if nat_le f m.frame then words_in i m else 0) m ms
     ∙ ap (λ n. (if nat_le f m.frame then words_in i m else 0) + n) (words_from_is i f ms)
     ∙ elim (nat_le f m.frame) as (λ b. (if b then words_in i m else 0) + sum_by (words_in i) (from f ms) ≡ sum_by (words_in i) (cond b (m ∷ from f ms) (from f ms))) [
-        true ↦ sym (sum_by-cons (words_in i) m (from f ms))
-      | false ↦ omega arith ]
+      | true ↦ sym (sum_by-cons (words_in i) m (from f ms))
+      | false ↦ omega arith
+    ]
 
 -- and so do the grants of the frame
 grants_at_is : (f u : ℕ) (ms : List WindowMap) → grants_at f u ms ≡ grants_at f u (from f ms)
-grants_at_is f u ms = ap (λ ms. filter (λ g. g.onu == u) (flat_map (λ m. m.grants) ms)) (sym (filter-filter (λ m. m.frame == f) (λ m. nat_le f m.frame) ms ∙ filter_same _ _ (λ m. at m.frame) ms))
+grants_at_is f u ms = ap (λ ms. filter (λ g. g.onu == u) (flat_map (λ m. m.grants) ms)) (sym (filter-filter (λ m. m.frame == f) (λ m. nat_le f m.frame) ms ∙ filter_agree _ _ (λ m. at m.frame) ms))
   where
     at : (k : ℕ) → (nat_le f k && (k == f)) ≡ (k == f)
     at k = grind (arith, nat_tests)
@@ -48,7 +47,7 @@ pub grants_at_agree : (f u : ℕ) (ms ns : List WindowMap) → from f ms ≡ fro
 grants_at_agree f u ms ns e = grants_at_is f u ms ∙ ap (λ t. grants_at f u t) e ∙ sym (grants_at_is f u ns)
 
 from-from : (c f : ℕ) (ms : List WindowMap) → c ≤ f → from f (filter (λ m. nat_le c m.frame) ms) ≡ from f ms
-from-from c f ms l = filter-filter (λ m. nat_le f m.frame) (λ m. nat_le c m.frame) ms ∙ filter_same _ _ (λ m. both m.frame) ms
+from-from c f ms l = filter-filter (λ m. nat_le f m.frame) (λ m. nat_le c m.frame) ms ∙ filter_agree _ _ (λ m. both m.frame) ms
   where
     both : (k : ℕ) → (nat_le c k && nat_le f k) ≡ nat_le f k
     both k = grind (arith, nat_tests, l)
@@ -63,8 +62,9 @@ filter_short : (n c : ℕ) (ms : List WindowMap) → LeadsTo n ms → c ≤ n �
 filter_short n c [] h l = omega arith
 filter_short n c (m ∷ ms) h l =
     elim (leb_tells c m.frame) [
-      inl e ↦ rw (e.0, filter_high n c ms h.1 (omega (arith, h.0, e.1))) (omega (arith, h.0, e.1))
-    | inr e ↦ rw e.0 (filter_short n c ms h.1 l) ]
+      | inl e ↦ rw (e.0, filter_high n c ms h.1 (omega (arith, h.0, e.1))) (omega (arith, h.0, e.1))
+      | inr e ↦ rw e.0 (filter_short n c ms h.1 l)
+    ]
 
 -- from a frame of the window on, the window has all maps
 pub from_window : (n c f : ℕ) (ms : List WindowMap) → LeadsTo n ms → c ≤ n → n ≤ f + length (last_64 (filter (λ m. nat_le c m.frame) ms)) →
@@ -166,24 +166,25 @@ candidates_less nx n ys ms bs lead q since i (e ∷ es) w =
     one : (v : Event) → EventBelow nx v → candidates_in (map (with_reports ys) ms ++ bs) since i v ≡ map (less (words_from i 0 bs)) (candidates_in ms since i v)
     one (Report frame onu occ not_yet) w =
         let granted : words_from i frame (map (with_reports ys) ms ++ bs) ≡ words_from i frame ms + words_from i 0 bs
-            = sum_by-append (λ m. if nat_le frame m.frame then words_in i m else 0) (map (with_reports ys) ms) bs
-            ∙ (λ j. words_from-map i frame ys ms j + words_from_all n i frame bs lead (let l : frame + length bs ≤ n = omega arith in l) j) in
+        = sum_by-append (λ m. if nat_le frame m.frame then words_in i m else 0) (map (with_reports ys) ms) bs
+        ∙ (λ j. words_from-map i frame ys ms j + words_from_all n i frame bs lead (let l : frame + length bs ≤ n = omega arith in l) j) in
         let polls : grants_at frame onu (map (with_reports ys) ms ++ bs) ≡ grants_at frame onu ms
-            = ap (λ t. filter (λ g. g.onu == onu) (flat_map (λ m. m.grants) t)) (filter-append (λ m. m.frame == frame) (map (with_reports ys) ms) bs)
-            ∙ ap (λ t. filter (λ g. g.onu == onu) (flat_map (λ m. m.grants) (filter (λ m. m.frame == frame) (map (with_reports ys) ms) ++ t))) (frame_absent n frame bs lead (omega arith))
-            ∙ ap (λ t. filter (λ g. g.onu == onu) (flat_map (λ m. m.grants) t)) (append-nil (filter (λ m. m.frame == frame) (map (with_reports ys) ms)))
-            ∙ grants_at-map frame onu ys ms in
+        = ap (λ t. filter (λ g. g.onu == onu) (flat_map (λ m. m.grants) t)) (filter-append (λ m. m.frame == frame) (map (with_reports ys) ms) bs)
+        ∙ ap (λ t. filter (λ g. g.onu == onu) (flat_map (λ m. m.grants) (filter (λ m. m.frame == frame) (map (with_reports ys) ms) ++ t))) (frame_absent n frame bs lead (omega arith))
+        ∙ ap (λ t. filter (λ g. g.onu == onu) (flat_map (λ m. m.grants) t)) (append-nil (filter (λ m. m.frame == frame) (map (with_reports ys) ms)))
+        ∙ grants_at-map frame onu ys ms in
         elim (nat_le since frame) as (λ b.
-            (if b then map (λ c. record { frame = frame; words = c - words_from i frame (map (with_reports ys) ms ++ bs) }) (occupancies i (grants_at frame onu (map (with_reports ys) ms ++ bs)) occ) else [])
-            ≡ map (less (words_from i 0 bs)) (if b then map (λ c. record { frame = frame; words = c - words_from i frame ms }) (occupancies i (grants_at frame onu ms) occ) else [])) [
-          true ↦
-            let occs : List ℕ = occupancies i (grants_at frame onu ms) occ in
-            let plain : ℕ → Counted = λ c. record { frame = frame; words = c - words_from i frame ms } in
-            let both : ℕ → Counted = λ c. record { frame = frame; words = c - (words_from i frame ms + words_from i 0 bs) } in
-            (λ j. map (λ c. record { frame = frame; words = c - granted j }) (occupancies i (polls j) occ))
-            ∙ map_same both (λ c. less (words_from i 0 bs) (plain c)) (λ c. (λ j. record { frame = frame; words = sub_sub c (words_from i frame ms) (words_from i 0 bs) j })) occs
-            ∙ sym (map-map (less (words_from i 0 bs)) plain occs)
-        | false ↦ refl ]
+        (if b then map (λ c. record { frame = frame; words = c - words_from i frame (map (with_reports ys) ms ++ bs) }) (occupancies i (grants_at frame onu (map (with_reports ys) ms ++ bs)) occ) else [])
+        ≡ map (less (words_from i 0 bs)) (if b then map (λ c. record { frame = frame; words = c - words_from i frame ms }) (occupancies i (grants_at frame onu ms) occ) else [])) [
+          | true ↦
+              let occs : List ℕ = occupancies i (grants_at frame onu ms) occ in
+              let plain : ℕ → Counted = λ c. record { frame = frame; words = c - words_from i frame ms } in
+              let both : ℕ → Counted = λ c. record { frame = frame; words = c - (words_from i frame ms + words_from i 0 bs) } in
+              (λ j. map (λ c. record { frame = frame; words = c - granted j }) (occupancies i (polls j) occ))
+              ∙ map_same both (λ c. less (words_from i 0 bs) (plain c)) (λ c. (λ j. record { frame = frame; words = sub_sub c (words_from i frame ms) (words_from i 0 bs) j })) occs
+              ∙ sym (map-map (less (words_from i 0 bs)) plain occs)
+          | false ↦ refl
+        ]
     one (Admit onu alloc_id descriptor) w = refl
     one (Change alloc_id descriptor not_yet) w = refl
     one (Remove alloc_id not_yet) w = refl
@@ -205,12 +206,14 @@ later_later : (c d : Counted) (r : Option Counted) → later c (later d r) ≡ (
 later_later c d None = refl
 later_later c d (Some e) =
     elim (ltb_tells e.frame d.frame) [
-      inl p ↦ elim (ltb_tells d.frame c.frame) [
-          inl q ↦ let r : nat_lt e.frame c.frame ≡ true = lt-ltb e.frame c.frame (omega (arith, p.1, q.1)) in rw (p.0, q.0, r) refl
-        | inr q ↦ rw (p.0, q.0) refl ]
-    | inr p ↦ elim (ltb_tells d.frame c.frame) [
-          inl q ↦ rw (p.0, q.0) refl
-        | inr q ↦ let r : nat_lt e.frame c.frame ≡ false = le-ltb e.frame c.frame (omega (arith, p.1, q.1)) in rw (p.0, q.0, r) refl ]
+      | inl p ↦ elim (ltb_tells d.frame c.frame) [
+        | inl q ↦ let r : nat_lt e.frame c.frame ≡ true = lt-ltb e.frame c.frame (omega (arith, p.1, q.1)) in rw (p.0, q.0, r) refl
+        | inr q ↦ rw (p.0, q.0) refl
+      ]
+      | inr p ↦ elim (ltb_tells d.frame c.frame) [
+        | inl q ↦ rw (p.0, q.0) refl
+        | inr q ↦ let r : nat_lt e.frame c.frame ≡ false = le-ltb e.frame c.frame (omega (arith, p.1, q.1)) in rw (p.0, q.0, r) refl
+      ]
     ]
   where
     ltb_tells : (a b : ℕ) → ((nat_lt a b ≡ true) × (a < b)) ⊎ ((nat_lt a b ≡ false) × (b ≤ a))
@@ -242,8 +245,9 @@ or_false false b h k = h
 any_filter : {X : Type 0} (p q : X → Bool) (xs : List X) → list_any p (filter q xs) ≡ true → list_any p xs ≡ true
 any_filter p q [] h = h
 any_filter p q (x ∷ xs) h = (elim (q x) as (λ b. list_any p (cond b (x ∷ filter q xs) (filter q xs)) ≡ true → (p x || list_any p xs) ≡ true) [
-    true ↦ λ k. elim (or_cases (p x) (list_any p (filter q xs)) k) [ inl a ↦ or_left (p x) (list_any p xs) a | inr a ↦ or_right (p x) (list_any p xs) (any_filter p q xs a) ]
-  | false ↦ λ k. or_right (p x) (list_any p xs) (any_filter p q xs k) ]) h
+  | true ↦ λ k. elim (or_cases (p x) (list_any p (filter q xs)) k) [ inl a ↦ or_left (p x) (list_any p xs) a | inr a ↦ or_right (p x) (list_any p xs) (any_filter p q xs a) ]
+  | false ↦ λ k. or_right (p x) (list_any p xs) (any_filter p q xs k)
+]) h
 
 -- an Alloc-ID that is there and was not admitted was there before
 had_alloc : (i : ℕ) (ids : List ℕ) (e : Entry) → begins i e ≡ false → has_id i (allocs_after ids e.event) ≡ true → has_id i ids ≡ true
@@ -255,8 +259,9 @@ had_alloc i ids e b h = step e.event b h
         let upper : List ℕ = filter (λ j. not (nat_lt j alloc_id)) ids in
         let other : (alloc_id == i) ≡ false = (or_parts (alloc_id == i) false b).0 in
         elim (or_cases (has_id i lower) ((alloc_id == i) || has_id i upper) (sym (list_any-append (λ j. j == i) lower (alloc_id ∷ upper)) ∙ h)) [
-          inl a ↦ any_filter (λ j. j == i) (λ j. nat_lt j alloc_id) ids a
-        | inr a ↦ any_filter (λ j. j == i) (λ j. not (nat_lt j alloc_id)) ids (or_false (alloc_id == i) (has_id i upper) a other) ]
+          | inl a ↦ any_filter (λ j. j == i) (λ j. nat_lt j alloc_id) ids a
+          | inr a ↦ any_filter (λ j. j == i) (λ j. not (nat_lt j alloc_id)) ids (or_false (alloc_id == i) (has_id i upper) a other)
+        ]
     step (Change alloc_id descriptor not_yet) b h = h
     step (Remove alloc_id not_yet) b h = any_filter (λ j. j == i) (λ j. not (j == alloc_id)) ids h
     step (Report frame onu occ not_yet) b h = h
@@ -275,14 +280,16 @@ pub found_since : (o : State) (xs : List Entry) (i : ℕ) (ids : List ℕ) → h
     since_of_account (account_of (map (account_after o xs) ids) i) ≡ since_of o xs i
 found_since o xs i [] h = absurd cc
 found_since o xs i (j ∷ ids) h = (elim (j == i) as (λ b. (j == i) ≡ b → (b || has_id i ids) ≡ true →
-        since_of_account (cond b (Some (account_after o xs j)) (account_of (map (account_after o xs) ids) i)) ≡ since_of o xs i) [
-    true ↦ λ e k. ap (λ i. since_of o xs i) (eqb-true j i e)
-  | false ↦ λ e k. found_since o xs i ids k ]) refl h
+    since_of_account (cond b (Some (account_after o xs j)) (account_of (map (account_after o xs) ids) i)) ≡ since_of o xs i) [
+      | true ↦ λ e k. ap (λ i. since_of o xs i) (eqb-true j i e)
+      | false ↦ λ e k. found_since o xs i ids k
+    ]) refl h
 
 pub found_counted : (o : State) (xs : List Entry) (i : ℕ) (ids : List ℕ) → has_id i ids ≡ true →
     counted_of_account (account_of (map (account_after o xs) ids) i) ≡ option_to_list (counted_of o xs i)
 found_counted o xs i [] h = absurd cc
 found_counted o xs i (j ∷ ids) h = (elim (j == i) as (λ b. (j == i) ≡ b → (b || has_id i ids) ≡ true →
-        counted_of_account (cond b (Some (account_after o xs j)) (account_of (map (account_after o xs) ids) i)) ≡ option_to_list (counted_of o xs i)) [
-    true ↦ λ e k. ap (λ i. option_to_list (counted_of o xs i)) (eqb-true j i e)
-  | false ↦ λ e k. found_counted o xs i ids k ]) refl h
+    counted_of_account (cond b (Some (account_after o xs j)) (account_of (map (account_after o xs) ids) i)) ≡ option_to_list (counted_of o xs i)) [
+      | true ↦ λ e k. ap (λ i. option_to_list (counted_of o xs i)) (eqb-true j i e)
+      | false ↦ λ e k. found_counted o xs i ids k
+    ]) refl h

@@ -1,11 +1,9 @@
 -- The parts of a replay over a list that is cut in two.
-use Rattle.std.proofs.Common.{◌≡◌, ℕ, zero, suc, ◌+◌, ◌-◌, ◌<◌, ◌≤◌, Bool, true, false, cond, not, ◌||◌, ◌&&◌, List, [], ◌∷◌, ◌++◌, map, length, refl, ap, sym, ◌∙◌, subst, arith, append_assoc, add_assoc}
-use Rattle.std.specs.Prelude.{◌==◌, nat_le, nat_lt, if◌then◌else◌, filter, sum_by, count_by, Option, Some, None}
+use Rattle.std.proofs.Common.{◌≡◌, ℕ, ◌+◌, ◌≤◌, Bool, true, false, ◌||◌, List, [], ◌∷◌, ◌++◌, refl, ap, sym, ◌∙◌, subst, arith, add_assoc}
+use Rattle.std.specs.Prelude.{if◌then◌else◌, Option}
 use Rattle.std.specs.List.{list_any}
-use Rattle.std.proofs.lemmas.List.Folds.{list_any-append}
 use Rattle.pon_port.specs.Roster.{Row}
 use Rattle.pon_port.specs.Replay.{allocs_after, allocs_of, cause_after, cause_of, frame_at_last, makes_map, next_of, roster_after, roster_of}
-use Rattle.pon_port.specs.Loads.{replay}
 use Rattle.pon_port.specs.declared.reply.Entry.{Entry}
 use Rattle.pon_port.proofs.Lists.{count_by-append}
 
@@ -37,15 +35,17 @@ frame_at_last-append t s n (x ∷ xs) ys =
 pub frame_at_last_any : (t : Entry → Bool) (s r n : ℕ) (xs : List Entry) → list_any t xs ≡ true → frame_at_last t s n xs ≡ frame_at_last t r n xs
 frame_at_last_any t s r n [] h = absurd cc
 frame_at_last_any t s r n (x ∷ xs) h = (elim (t x) as (λ b. (b || list_any t xs) ≡ true → frame_at_last t (if b then n else s) (next_of n (x ∷ [])) xs ≡ frame_at_last t (if b then n else r) (next_of n (x ∷ [])) xs) [
-    true ↦ λ _. refl
-  | false ↦ λ k. frame_at_last_any t s r (next_of n (x ∷ [])) xs k ]) h
+  | true ↦ λ _. refl
+  | false ↦ λ k. frame_at_last_any t s r (next_of n (x ∷ [])) xs k
+]) h
 
 -- where none does it is the start
 pub frame_at_last_none : (t : Entry → Bool) (s n : ℕ) (xs : List Entry) → list_any t xs ≡ false → frame_at_last t s n xs ≡ s
 frame_at_last_none t s n [] h = refl
 frame_at_last_none t s n (x ∷ xs) h = (elim (t x) as (λ b. (b || list_any t xs) ≡ false → frame_at_last t (if b then n else s) (next_of n (x ∷ [])) xs ≡ s) [
-    true ↦ λ k. absurd cc
-  | false ↦ λ k. frame_at_last_none t s (next_of n (x ∷ [])) xs k ]) h
+  | true ↦ λ k. absurd cc
+  | false ↦ λ k. frame_at_last_none t s (next_of n (x ∷ [])) xs k
+]) h
 
 -- the next frame doesn't fall
 pub next_of_grows : (n : ℕ) (xs : List Entry) → n ≤ next_of n xs
@@ -55,8 +55,9 @@ next_of_grows n xs = omega arith
 pub frame_at_last_late : (t : Entry → Bool) (s n : ℕ) (xs : List Entry) → list_any t xs ≡ true → n ≤ frame_at_last t s n xs
 frame_at_last_late t s n [] h = absurd cc
 frame_at_last_late t s n (x ∷ xs) h = (elim (t x) as (λ b. (b || list_any t xs) ≡ true → n ≤ frame_at_last t (if b then n else s) (next_of n (x ∷ [])) xs) [
-    true ↦ λ _. frame_at_last_keeps t n n (next_of n (x ∷ [])) xs (omega arith) (next_of_grows n (x ∷ []))
-  | false ↦ λ k. omega (arith, frame_at_last_late t s (next_of n (x ∷ [])) xs k, next_of_grows n (x ∷ [])) ]) h
+  | true ↦ λ _. frame_at_last_keeps t n n (next_of n (x ∷ [])) xs (omega arith) (next_of_grows n (x ∷ []))
+  | false ↦ λ k. omega (arith, frame_at_last_late t s (next_of n (x ∷ [])) xs k, next_of_grows n (x ∷ []))
+]) h
   where
     frame_at_last_keeps : (t : Entry → Bool) (low s n : ℕ) (xs : List Entry) → low ≤ s → low ≤ n → low ≤ frame_at_last t s n xs
     frame_at_last_keeps t low s n [] a b = a
@@ -68,7 +69,7 @@ pub frame_at_last_below : (t : Entry → Bool) (s n : ℕ) (xs : List Entry) →
 frame_at_last_below t s n [] h = omega arith
 frame_at_last_below t s n (x ∷ xs) h = subst (λ k. frame_at_last t (if t x then n else s) (next_of n (x ∷ [])) xs ≤ k) (next_of-cons n x xs)
     (frame_at_last_below t (if t x then n else s) (next_of n (x ∷ [])) xs
-        (elim (t x) as (λ c. (if c then n else s) ≤ next_of n (x ∷ [])) [ true ↦ next_of_grows n (x ∷ []) | false ↦ omega (arith, next_of_grows n (x ∷ [])) ]))
+    (elim (t x) as (λ c. (if c then n else s) ≤ next_of n (x ∷ [])) [ true ↦ next_of_grows n (x ∷ []) | false ↦ omega (arith, next_of_grows n (x ∷ [])) ]))
 
 -- the Alloc-IDs of the book
 pub allocs_of-append : (ids : List ℕ) (xs ys : List Entry) → allocs_of ids (xs ++ ys) ≡ allocs_of (allocs_of ids xs) ys

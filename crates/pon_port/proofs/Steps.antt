@@ -1,6 +1,6 @@
 -- One more entry, part by part.
-use Rattle.std.proofs.Common.{◌≡◌, ℕ, zero, suc, ◌+◌, ◌-◌, ◌<◌, ◌≤◌, Bool, true, false, cond, not, ◌||◌, ◌&&◌, List, [], ◌∷◌, ◌++◌, map, length, drop, refl, ap, sym, ◌∙◌, subst, arith, append_assoc}
-use Rattle.std.specs.Prelude.{◌==◌, nat_le, nat_lt, if◌then◌else◌, filter, flat_map, find, Option, Some, None, option_to_list, option_map}
+use Rattle.std.proofs.Common.{◌≡◌, ℕ, ◌+◌, ◌-◌, ◌≤◌, true, false, ◌||◌, List, [], ◌∷◌, ◌++◌, map, length, drop, refl, ap, sym, ◌∙◌, arith}
+use Rattle.std.specs.Prelude.{◌==◌, nat_le, if◌then◌else◌, filter, None}
 use Rattle.std.specs.List.{list_any}
 use Rattle.std.proofs.lemmas.List.Folds.{list_any-append}
 use Rattle.std.proofs.lemmas.List.Sums.{sum_by-cons}
@@ -10,15 +10,15 @@ use Rattle.pon_port.specs.Book.{Counted, account_of}
 use Rattle.pon_port.specs.Window.{LeadsTo, WindowMap, polled}
 use Rattle.pon_port.specs.State.{State}
 use Rattle.pon_port.specs.Replay.{all_maps, begins, forgets, frame_at_last, last_64, makes_map, map_made, maps_of, new_map, next_of, reports, roster_after, window_of, with_reports}
-use Rattle.pon_port.specs.Loads.{candidates_in, counted_of, counted_of_account, later, latest, replay, since_of, since_of_account, words_from, words_in}
+use Rattle.pon_port.specs.Loads.{candidates_in, counted_of, counted_of_account, latest, replay, since_of, since_of_account, words_from, words_in}
 use Rattle.pon_port.specs.After.{less}
 use Rattle.pon_port.specs.declared.event.Event.{Event}
-use Rattle.pon_port.specs.declared.event.Event.TheVariants.{Admit, Change, Remove, Report, MakeMap, Fail, Restore}
+use Rattle.pon_port.specs.declared.event.Event.TheVariants.{MakeMap}
 use Rattle.pon_port.specs.declared.reply.Reply.{Reply}
 use Rattle.pon_port.specs.declared.reply.Entry.{Entry}
-use Rattle.pon_port.proofs.Lists.{or-false, map-map, map_same, map-drop, map_filter, map-append, length-map, append-nil, filter_same_in, length-drop}
+use Rattle.pon_port.proofs.Lists.{or-false, map-map, map_same, drop-map, map_filter, map-append, append-nil, filter_same_in, length-drop}
 use Rattle.pon_port.proofs.Windows.{with_reports-append, filter_zero, filter_low, leads-map}
-use Rattle.pon_port.proofs.Cutting.{replay-append, window_leads}
+use Rattle.pon_port.proofs.Cutting.{window_leads}
 
 -- an event that is no report
 abbrev pub IsQuiet : Event → Type 0
@@ -26,13 +26,14 @@ IsQuiet v = (frame onu : ℕ) → reports frame onu v ≡ false
 
 quiet_map : (e : Entry) → IsQuiet e.event → (xs : List Entry) (m : WindowMap) → with_reports (e ∷ []) (with_reports xs m) ≡ with_reports xs m
 quiet_map e q xs m = with_reports-append xs (e ∷ []) m ∙ (λ i. record {
-    frame = m.frame;
-    grants = m.grants;
-    reported = filter_same_in
-        (λ u. list_any (λ v. v == u) m.reported || list_any (λ e. reports m.frame u e.event) (xs ++ e ∷ []))
-        (λ u. list_any (λ v. v == u) m.reported || list_any (λ e. reports m.frame u e.event) xs)
-        (polled m)
-        (λ u _. ap (λ b. list_any (λ v. v == u) m.reported || b) (list_any-append (λ e. reports m.frame u e.event) xs (e ∷ []) ∙ ap (λ b. list_any (λ e. reports m.frame u e.event) xs || (b || false)) (q m.frame u) ∙ or-false (list_any (λ e. reports m.frame u e.event) xs))) i })
+  frame = m.frame;
+  grants = m.grants;
+  reported = filter_same_in
+      (λ u. list_any (λ v. v == u) m.reported || list_any (λ e. reports m.frame u e.event) (xs ++ e ∷ []))
+      (λ u. list_any (λ v. v == u) m.reported || list_any (λ e. reports m.frame u e.event) xs)
+      (polled m)
+      (λ u _. ap (λ b. list_any (λ v. v == u) m.reported || b) (list_any-append (λ e. reports m.frame u e.event) xs (e ∷ []) ∙ ap (λ b. list_any (λ e. reports m.frame u e.event) xs || (b || false)) (q m.frame u) ∙ or-false (list_any (λ e. reports m.frame u e.event) xs))) i;
+})
 
 quiet_maps : (e : Entry) → IsQuiet e.event → (xs : List Entry) (ms : List WindowMap) → map (with_reports (e ∷ [])) (map (with_reports xs) ms) ≡ map (with_reports xs) ms
 quiet_maps e q xs ms = map-map (with_reports (e ∷ [])) (with_reports xs) ms ∙ map_same _ _ (quiet_map e q xs) ms
@@ -48,11 +49,11 @@ quiet_window e q o es =
     let c : ℕ = frame_at_last (λ e. forgets e.event) 0 o.next es in
     let kept : List WindowMap = filter (λ m. nat_le c m.frame) (all_maps o es) in
     let all : map (with_reports (e ∷ [])) (all_maps o es) ≡ all_maps o es
-        = map-append (with_reports (e ∷ [])) (map (with_reports es) o.window) (maps_of o.roster o.next es)
-        ∙ (λ i. quiet_maps e q es o.window i ++ quiet_maps_of e q o.roster o.next es i) in
+    = map-append (with_reports (e ∷ [])) (map (with_reports es) o.window) (maps_of o.roster o.next es)
+    ∙ (λ i. quiet_maps e q es o.window i ++ quiet_maps_of e q o.roster o.next es i) in
     let same : map (with_reports (e ∷ [])) kept ≡ kept
-        = sym (map_filter (with_reports (e ∷ [])) (λ m. nat_le c m.frame) (all_maps o es)) ∙ ap (λ t. filter (λ m. nat_le c m.frame) t) all in
-    map-drop (with_reports (e ∷ [])) (length kept - 64) kept ∙ ap (λ t. drop (length kept - 64) t) same
+    = sym (map_filter (with_reports (e ∷ [])) (λ m. nat_le c m.frame) (all_maps o es)) ∙ ap (λ t. filter (λ m. nat_le c m.frame) t) all in
+    sym (drop-map (with_reports (e ∷ [])) (length kept - 64) kept) ∙ ap (λ t. drop (length kept - 64) t) same
 
 -- a map that was just made has no reports
 fresh_map : (rs : List Row) (n : ℕ) (reply : Reply) → with_reports [] (new_map rs n reply) ≡ new_map rs n reply
@@ -68,7 +69,7 @@ pub window_of-map : (o : State) (es : List Entry) (reply : Reply) → let e : En
 window_of-map o es reply =
     let e : Entry = record { event = MakeMap; reply = reply } in
     ap last_64 (filter_zero (all_maps (replay o es) (e ∷ []))
-        ∙ (λ i. quiet_window e (λ frame onu. refl) o es i ++ fresh_map ((replay o es).roster) (next_of o.next es) reply i ∷ []))
+    ∙ (λ i. quiet_window e (λ frame onu. refl) o es i ++ fresh_map ((replay o es).roster) (next_of o.next es) reply i ∷ []))
 
 -- any other event that forgets nothing leaves the window
 pub window_of-quiet : (o : State) (es : List Entry) (e : Entry) → IsQuiet e.event → makes_map e.event ≡ false → forgets e.event ≡ false →
@@ -110,7 +111,7 @@ module _ (s : State) (i : ℕ) where
   pub counted_forgotten : (e : Entry) → begins i e ≡ true → ((ms : List WindowMap) (since : ℕ) → candidates_in ms since i e.event ≡ []) → counted_of s (e ∷ []) i ≡ None
   counted_forgotten e h none =
       (λ j. latest ((if h j || false then [] else map (less (words_from i 0 (maps_of s.roster s.next (e ∷ [])))) (counted_of_account (account_of s.book i)))
-          ++ (none (all_maps s (e ∷ [])) (since_of s (e ∷ []) i) j ++ [])))
+      ++ (none (all_maps s (e ∷ [])) (since_of s (e ∷ []) i) j ++ [])))
 
   -- a map lessens the report by what it grants
   pub counted_of-map : (reply : Reply) → let e : Entry = record { event = MakeMap; reply = reply } in
@@ -119,11 +120,11 @@ module _ (s : State) (i : ℕ) where
       let e : Entry = record { event = MakeMap; reply = reply } in
       let new : WindowMap = new_map s.roster s.next reply in
       let granted : words_from i 0 (maps_of s.roster s.next (e ∷ [])) ≡ words_in i new
-          = sum_by-cons (λ m. if nat_le 0 m.frame then words_in i m else 0) (with_reports [] new) []
-          ∙ ap (λ b. (if b then words_in i new else 0) + 0) (le-leb 0 s.next (omega arith))
-          ∙ (let z : words_in i new + 0 ≡ words_in i new = omega arith in z) in
+      = sum_by-cons (λ m. if nat_le 0 m.frame then words_in i m else 0) (with_reports [] new) []
+      ∙ ap (λ b. (if b then words_in i new else 0) + 0) (le-leb 0 s.next (omega arith))
+      ∙ (let z : words_in i new + 0 ≡ words_in i new = omega arith in z) in
       ap latest (append-nil (map (less (words_from i 0 (maps_of s.roster s.next (e ∷ [])))) (counted_of_account (account_of s.book i)))
-          ∙ ap (λ w. map (less w) (counted_of_account (account_of s.book i))) granted)
+      ∙ ap (λ w. map (less w) (counted_of_account (account_of s.book i))) granted)
 
   -- a report counts where no later one does
   pub counted_of-report : (e : Entry) → makes_map e.event ≡ false → begins i e ≡ false →

@@ -1,9 +1,9 @@
 -- The window over a list that is cut in two.
-use Rattle.std.proofs.Common.{◌≡◌, ℕ, zero, suc, ◌+◌, ◌-◌, ◌<◌, ◌≤◌, Bool, true, false, cond, not, ◌||◌, ◌&&◌, List, [], ◌∷◌, ◌++◌, map, length, drop, refl, ap, sym, ◌∙◌, subst, arith, append_assoc, add_assoc, inl, inr}
-use Rattle.std.specs.Prelude.{◌==◌, nat_le, nat_lt, if◌then◌else◌, filter, sum_by, count_by, Option, Some, None}
+use Rattle.std.proofs.Common.{◌≡◌, ℕ, zero, suc, ◌+◌, ◌-◌, ◌≤◌, Bool, true, false, cond, ◌||◌, ◌&&◌, List, [], ◌∷◌, ◌++◌, map, length, drop, refl, ap, sym, ◌∙◌, subst, arith, append_assoc, inl, inr}
+use Rattle.std.specs.Prelude.{◌==◌, nat_le, if◌then◌else◌, filter}
 use Rattle.std.specs.List.{list_any}
 use Rattle.std.proofs.lemmas.List.Folds.{list_any-append}
-use Rattle.std.proofs.lemmas.Bool.{le-leb, lt-leb, cases_Bool}
+use Rattle.std.proofs.lemmas.Bool.{le-leb, lt-leb}
 use Rattle.std.proofs.lemmas.Bool.Decides.{leb_tells}
 use Rattle.pon_port.specs.Roster.{Row}
 use Rattle.pon_port.specs.Window.{LeadsTo, WindowMap, polled}
@@ -11,8 +11,8 @@ use Rattle.pon_port.specs.State.{State}
 use Rattle.pon_port.specs.Replay.{all_maps, forgets, frame_at_last, last_64, makes_map, map_made, maps_of, new_map, next_of, reports, roster_after, roster_of, window_of, with_reports}
 use Rattle.pon_port.specs.Loads.{replay}
 use Rattle.pon_port.specs.declared.reply.Entry.{Entry}
-use Rattle.pon_port.proofs.Lists.{or_assoc, or-false, map-map, map_same, map-drop, drop-append, drop-drop, length-drop, length-append, append-nil, filter-append, map_filter, any_eq-filter, filter_same_in, map-append, length-map}
-use Rattle.pon_port.proofs.Parts.{next_of-append, next_of-cons, next_of_grows, roster_of-append, frame_at_last-append, frame_at_last_any, frame_at_last_none, frame_at_last_late, frame_at_last_below}
+use Rattle.pon_port.proofs.Lists.{or_assoc, map-map, map_same, drop-map, drop-append-le, drop-drop, length-drop, length-append, filter-append, map_filter, any_eq-filter, filter_same_in, map-append, length-map}
+use Rattle.pon_port.proofs.Parts.{next_of-cons, frame_at_last-append, frame_at_last_any, frame_at_last_none, frame_at_last_late, frame_at_last_below}
 
 has_report : ℕ → List Entry → ℕ → Bool
 has_report f es u = list_any (λ e. reports f u e.event) es
@@ -22,11 +22,11 @@ pub with_reports-append : (xs ys : List Entry) (m : WindowMap) → with_reports 
 with_reports-append xs ys m =
     let said : ℕ → Bool = λ u. list_any (λ v. v == u) m.reported || list_any (λ e. reports m.frame u e.event) xs in
     let same : filter (λ u. list_any (λ v. v == u) (filter said (polled m)) || list_any (λ e. reports m.frame u e.event) ys) (polled m)
-             ≡ filter (λ u. list_any (λ v. v == u) m.reported || list_any (λ e. reports m.frame u e.event) (xs ++ ys)) (polled m)
-        = filter_same_in _ _ (polled m) (λ u k.
-            ap (λ b. b || list_any (λ e. reports m.frame u e.event) ys) (any_eq-filter said u (polled m) ∙ ap (λ b. said u && b) k ∙ and-true (said u))
-            ∙ or_assoc (list_any (λ v. v == u) m.reported) (list_any (λ e. reports m.frame u e.event) xs) (list_any (λ e. reports m.frame u e.event) ys)
-            ∙ ap (λ b. list_any (λ v. v == u) m.reported || b) (sym (list_any-append (λ e. reports m.frame u e.event) xs ys))) in
+    ≡ filter (λ u. list_any (λ v. v == u) m.reported || list_any (λ e. reports m.frame u e.event) (xs ++ ys)) (polled m)
+    = filter_same_in _ _ (polled m) (λ u k.
+    ap (λ b. b || list_any (λ e. reports m.frame u e.event) ys) (any_eq-filter said u (polled m) ∙ ap (λ b. said u && b) k ∙ and-true (said u))
+    ∙ or_assoc (list_any (λ v. v == u) m.reported) (list_any (λ e. reports m.frame u e.event) xs) (list_any (λ e. reports m.frame u e.event) ys)
+    ∙ ap (λ b. list_any (λ v. v == u) m.reported || b) (sym (list_any-append (λ e. reports m.frame u e.event) xs ys))) in
     (λ i. record { frame = m.frame; grants = m.grants; reported = same i })
   where
     and-true : (b : Bool) → (b && true) ≡ b
@@ -80,35 +80,42 @@ pub leads-filter : (n c : ℕ) (ms : List WindowMap) → LeadsTo n ms → LeadsT
 leads-filter n c [] h = tt
 leads-filter n c (m ∷ ms) h =
     elim (leb_tells c m.frame) [
-      inl e ↦ rw (e.0, filter_high n c ms h.1 (omega (arith, h.0, e.1))) h
-    | inr e ↦ rw e.0 (leads-filter n c ms h.1) ]
+      | inl e ↦ rw (e.0, filter_high n c ms h.1 (omega (arith, h.0, e.1))) h
+      | inr e ↦ rw e.0 (leads-filter n c ms h.1)
+    ]
 
 made_length : (rs : List Row) (n : ℕ) (e : Entry) → n + length (map_made rs n e) ≡ next_of n (e ∷ [])
 made_length rs n e = elim (makes_map e.event) as (λ b. n + length (if b then new_map rs n e.reply ∷ [] else []) ≡ n + (0 + cond b 1 0)) [
-    true ↦ omega arith
-  | false ↦ omega arith ]
+  | true ↦ omega arith
+  | false ↦ omega arith
+]
 
 made_leads : (rs : List Row) (n : ℕ) (e : Entry) → LeadsTo (next_of n (e ∷ [])) (map_made rs n e)
 made_leads rs n e = elim (makes_map e.event) as (λ b. LeadsTo (n + (0 + cond b 1 0)) (if b then new_map rs n e.reply ∷ [] else [])) [
-    true ↦ (omega arith, tt)
-  | false ↦ tt ]
+  | true ↦ (omega arith, tt)
+  | false ↦ tt
+]
 
 -- as many maps as the next frame rose
 pub length-maps_of : (rs : List Row) (n : ℕ) (es : List Entry) → n + length (maps_of rs n es) ≡ next_of n es
 length-maps_of rs n [] = refl
-length-maps_of rs n (e ∷ es) = omega (arith,
-    length-append (map (with_reports es) (map_made rs n e)) (maps_of (roster_after rs e.event) (next_of n (e ∷ [])) es),
-    length-map (map_made rs n e) (with_reports es), made_length rs n e,
-    length-maps_of (roster_after rs e.event) (next_of n (e ∷ [])) es, next_of-cons n e es)
+length-maps_of rs n (e ∷ es) = omega (
+  arith,
+  length-append (map (with_reports es) (map_made rs n e)) (maps_of (roster_after rs e.event) (next_of n (e ∷ [])) es),
+  length-map (map_made rs n e) (with_reports es),
+  made_length rs n e,
+  length-maps_of (roster_after rs e.event) (next_of n (e ∷ [])) es,
+  next_of-cons n e es,
+)
 
 pub maps_lead : (rs : List Row) (n : ℕ) (es : List Entry) → LeadsTo (next_of n es) (maps_of rs n es)
 maps_lead rs n [] = tt
 maps_lead rs n (e ∷ es) =
     let rest : List WindowMap = maps_of (roster_after rs e.event) (next_of n (e ∷ [])) es in
     leads-append (next_of n (e ∷ [])) (next_of n (e ∷ es)) (map (with_reports es) (map_made rs n e)) rest
-        (leads-map es (next_of n (e ∷ [])) (map_made rs n e) (made_leads rs n e))
-        (subst (λ k. LeadsTo k rest) (next_of-cons n e es) (maps_lead (roster_after rs e.event) (next_of n (e ∷ [])) es))
-        (length-maps_of (roster_after rs e.event) (next_of n (e ∷ [])) es ∙ next_of-cons n e es)
+    (leads-map es (next_of n (e ∷ [])) (map_made rs n e) (made_leads rs n e))
+    (subst (λ k. LeadsTo k rest) (next_of-cons n e es) (maps_lead (roster_after rs e.event) (next_of n (e ∷ [])) es))
+    (length-maps_of (roster_after rs e.event) (next_of n (e ∷ [])) es ∙ next_of-cons n e es)
 
 pub all_maps_lead : (o : State) (es : List Entry) → LeadsTo o.next o.window → LeadsTo (next_of o.next es) (all_maps o es)
 all_maps_lead o es h = leads-append o.next (next_of o.next es) (map (with_reports es) o.window) (maps_of o.roster o.next es) (leads-map es o.next o.window h) (maps_lead o.roster o.next es) (length-maps_of o.roster o.next es)
@@ -117,7 +124,7 @@ all_maps_lead o es h = leads-append o.next (next_of o.next es) (map (with_report
 pub last_64-last_64 : {A : Type 0} (xs ys : List A) → last_64 (last_64 xs ++ ys) ≡ last_64 (xs ++ ys)
 last_64-last_64 xs ys =
     let k : ℕ = length xs - 64 in
-    let front : drop k xs ++ ys ≡ drop k (xs ++ ys) = ap (λ j. drop k xs ++ drop j ys) (let e : 0 ≡ k - length xs = omega arith in e) ∙ sym (drop-append k xs ys) in
+    let front : drop k xs ++ ys ≡ drop k (xs ++ ys) = sym (drop-append-le k xs ys (let l : k ≤ length xs = omega arith in l)) in
     ap (λ t. drop (length t - 64) t) front
     ∙ drop-drop (length (drop k (xs ++ ys)) - 64) k (xs ++ ys)
     ∙ ap (λ j. drop j (xs ++ ys)) (let e : k + (length (drop k (xs ++ ys)) - 64) ≡ length (xs ++ ys) - 64 = omega (arith, length-drop k (xs ++ ys), length-append xs ys) in e)
@@ -133,10 +140,10 @@ keeps_all : (nx n c : ℕ) (ys : List Entry) (ms bs : List WindowMap) → LeadsT
 keeps_all nx n c ys ms bs lead e l =
     let kept : List WindowMap = filter (λ m. nat_le c m.frame) ms in
     let left : filter (λ m. nat_le c m.frame) (map (with_reports ys) ms ++ bs) ≡ map (with_reports ys) kept ++ bs
-        = filter-append (λ m. nat_le c m.frame) (map (with_reports ys) ms) bs
-        ∙ (λ i. map_filter (with_reports ys) (λ m. nat_le c m.frame) ms i ++ filter_high n c bs lead (let low : c + length bs ≤ n = omega arith in low) i) in
+    = filter-append (λ m. nat_le c m.frame) (map (with_reports ys) ms) bs
+    ∙ (λ i. map_filter (with_reports ys) (λ m. nat_le c m.frame) ms i ++ filter_high n c bs lead (let low : c + length bs ≤ n = omega arith in low) i) in
     let cut : map (with_reports ys) (last_64 kept) ≡ last_64 (map (with_reports ys) kept)
-        = map-drop (with_reports ys) (length kept - 64) kept ∙ ap (λ k. drop (k - 64) (map (with_reports ys) kept)) (sym (length-map kept (with_reports ys))) in
+    = sym (drop-map (with_reports ys) (length kept - 64) kept) ∙ ap (λ k. drop (k - 64) (map (with_reports ys) kept)) (sym (length-map kept (with_reports ys))) in
     ap (λ t. last_64 t) left
     ∙ sym (ap (λ t. last_64 t) (filter_zero (map (with_reports ys) (last_64 kept) ++ bs)) ∙ ap (λ t. last_64 (t ++ bs)) cut ∙ last_64-last_64 (map (with_reports ys) kept) bs)
 
@@ -159,20 +166,21 @@ window_of-append o xs ys h =
     let kept : List WindowMap = filter (λ m. nat_le at_xs m.frame) before in
     let window_leads : LeadsTo nx (last_64 kept) = leads-drop nx (length kept - 64) kept (leads-filter nx at_xs before leads) in
     let seen : window_of o (xs ++ ys) ≡ last_64 (filter (λ m. nat_le (frame_at_last cut at_xs nx ys) m.frame) (map (with_reports ys) before ++ after))
-        = (λ i. last_64 (filter (λ m. nat_le (frame_at_last-append cut 0 o.next xs ys i) m.frame) (all_maps-append o xs ys i))) in
+    = (λ i. last_64 (filter (λ m. nat_le (frame_at_last-append cut 0 o.next xs ys i) m.frame) (all_maps-append o xs ys i))) in
     let middle : (b : Bool) → list_any cut ys ≡ b →
-            last_64 (filter (λ m. nat_le (frame_at_last cut at_xs nx ys) m.frame) (map (with_reports ys) before ++ after))
-            ≡ last_64 (filter (λ m. nat_le (frame_at_last cut 0 nx ys) m.frame) (map (with_reports ys) (last_64 kept) ++ after))
-        = λ b. elim b as (λ b. list_any cut ys ≡ b →
-            last_64 (filter (λ m. nat_le (frame_at_last cut at_xs nx ys) m.frame) (map (with_reports ys) before ++ after))
-            ≡ last_64 (filter (λ m. nat_le (frame_at_last cut 0 nx ys) m.frame) (map (with_reports ys) (last_64 kept) ++ after))) [
-          true ↦ λ k.
-            let late : nx ≤ frame_at_last cut 0 nx ys = frame_at_last_late cut 0 nx ys k in
-            ap (λ c. last_64 (filter (λ m. nat_le c m.frame) (map (with_reports ys) before ++ after))) (frame_at_last_any cut at_xs 0 nx ys k)
-            ∙ ap (λ t. last_64 t) (keeps_new nx (frame_at_last cut 0 nx ys) ys before after leads late
-                ∙ sym (keeps_new nx (frame_at_last cut 0 nx ys) ys (last_64 kept) after window_leads late))
-        | false ↦ λ k.
-            ap (λ c. last_64 (filter (λ m. nat_le c m.frame) (map (with_reports ys) before ++ after))) (frame_at_last_none cut at_xs nx ys k)
-            ∙ keeps_all nx (next_of nx ys) at_xs ys before after (maps_lead (roster_of o.roster xs) nx ys) (length-maps_of (roster_of o.roster xs) nx ys) (frame_at_last_below cut 0 o.next xs (omega arith))
-            ∙ ap (λ c. last_64 (filter (λ m. nat_le c m.frame) (map (with_reports ys) (last_64 kept) ++ after))) (sym (frame_at_last_none cut 0 nx ys k)) ] in
+    last_64 (filter (λ m. nat_le (frame_at_last cut at_xs nx ys) m.frame) (map (with_reports ys) before ++ after))
+    ≡ last_64 (filter (λ m. nat_le (frame_at_last cut 0 nx ys) m.frame) (map (with_reports ys) (last_64 kept) ++ after))
+    = λ b. elim b as (λ b. list_any cut ys ≡ b →
+    last_64 (filter (λ m. nat_le (frame_at_last cut at_xs nx ys) m.frame) (map (with_reports ys) before ++ after))
+    ≡ last_64 (filter (λ m. nat_le (frame_at_last cut 0 nx ys) m.frame) (map (with_reports ys) (last_64 kept) ++ after))) [
+      | true ↦ λ k.
+          let late : nx ≤ frame_at_last cut 0 nx ys = frame_at_last_late cut 0 nx ys k in
+          ap (λ c. last_64 (filter (λ m. nat_le c m.frame) (map (with_reports ys) before ++ after))) (frame_at_last_any cut at_xs 0 nx ys k)
+          ∙ ap (λ t. last_64 t) (keeps_new nx (frame_at_last cut 0 nx ys) ys before after leads late
+          ∙ sym (keeps_new nx (frame_at_last cut 0 nx ys) ys (last_64 kept) after window_leads late))
+      | false ↦ λ k.
+          ap (λ c. last_64 (filter (λ m. nat_le c m.frame) (map (with_reports ys) before ++ after))) (frame_at_last_none cut at_xs nx ys k)
+          ∙ keeps_all nx (next_of nx ys) at_xs ys before after (maps_lead (roster_of o.roster xs) nx ys) (length-maps_of (roster_of o.roster xs) nx ys) (frame_at_last_below cut 0 o.next xs (omega arith))
+          ∙ ap (λ c. last_64 (filter (λ m. nat_le c m.frame) (map (with_reports ys) (last_64 kept) ++ after))) (sym (frame_at_last_none cut 0 nx ys k))
+    ] in
     seen ∙ middle (list_any cut ys) refl

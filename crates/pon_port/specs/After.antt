@@ -1,5 +1,5 @@
 -- The running state, one entry further.
-use Rattle.std.specs.Prelude.{ℕ, ◌+◌, ◌-◌, List, [], ◌∷◌, ◌++◌, map, Option, None, option_map}
+use Rattle.std.specs.Prelude.{ℕ, ◌+◌, ◌-◌, [], ◌∷◌, ◌++◌, map, None, option_map}
 use Rattle.pon_port.specs.Roster.{Row}
 use Rattle.pon_port.specs.Book.{Account, Counted}
 use Rattle.pon_port.specs.Window.{WindowMap}

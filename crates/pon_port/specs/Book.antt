@@ -1,5 +1,5 @@
 -- The report book of a port: for each admitted Alloc-ID the report that counts, in rising Alloc-ID.
-use Rattle.std.specs.Prelude.{ℕ, ◌≡◌, ◌*◌, ◌==◌, nat_lt, not, List, [], ◌∷◌, ◌++◌, map, filter, find, Option, Some, None}
+use Rattle.std.specs.Prelude.{ℕ, ◌*◌, ◌==◌, nat_lt, not, List, ◌∷◌, ◌++◌, map, filter, find, Option, Some, None}
 pub use Rattle.pon_port.specs.declared.book.Counted.{Counted}
 pub use Rattle.pon_port.specs.declared.book.Account.{Account}
 

@@ -1,7 +1,7 @@
 -- Chapters of a port's history: an opening and the entries that were taken from it.
-use Rattle.std.specs.Prelude.{ℕ, ◌≡◌, ◌+◌, ◌<◌, ◌≤◌, ◌==◌, List, [], ◌∷◌, length, All, Contains, filter, take, slice_get, Option, Some, None, IfSome, nat_lt, true}
+use Rattle.std.specs.Prelude.{ℕ, ◌≡◌, ◌+◌, ◌<◌, ◌≤◌, ◌==◌, List, [], ◌∷◌, length, All, Contains, filter, take, slice_get, Some, None, IfSome}
 use Rattle.std.specs.List.{list_any}
-use Rattle.pon_port.specs.Roster.{Row, IsAdmitted, Rule, rule_in_force, has_alloc}
+use Rattle.pon_port.specs.Roster.{Row, IsAdmitted, rule_in_force, has_alloc}
 use Rattle.pon_port.specs.Book.{Account, Counted, alloc_ids}
 use Rattle.pon_port.specs.Window.{WindowMap, Granted, LeadsTo, polled}
 use Rattle.pon_port.specs.State.{State}

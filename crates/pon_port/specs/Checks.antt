@@ -1,5 +1,5 @@
 -- The first check that refuses an event.
-use Rattle.std.specs.Prelude.{ℕ, ◌+◌, ◌-◌, ◌^◌, ◌==◌, ◌||◌, ◌&&◌, not, nat_le, Bool, true, false, List, [], ◌∷◌, length, Option, Some, None}
+use Rattle.std.specs.Prelude.{ℕ, ◌-◌, ◌^◌, ◌==◌, ◌||◌, ◌&&◌, not, nat_le, Bool, List, [], ◌∷◌, length, Option, Some, None}
 use Rattle.std.specs.List.{list_any}
 use Rattle.pon_port.specs.Descriptor.{when, or_else, first_of}
 use Rattle.pon_port.specs.Roster.{rule_in_force, refuses_admit, refuses_change, refuses_remove}

@@ -1,5 +1,5 @@
 -- Descriptors of the rate-proportional reference model of dynamic bandwidth assignment (ITU-T G.987.3).
-use Rattle.std.specs.Prelude.{ℕ, ◌≡◌, ◌+◌, ◌-◌, ◌<◌, ◌≤◌, ◌==◌, ◌||◌, nat_lt, min, max, Bool, true, false, List, [], ◌∷◌, Option, Some, None}
+use Rattle.std.specs.Prelude.{ℕ, ◌+◌, ◌-◌, ◌<◌, ◌≤◌, ◌==◌, ◌||◌, nat_lt, min, max, Bool, true, false, List, [], ◌∷◌, Option, Some, None}
 use Rattle.pon_port.specs.declared.descriptor.Class.{Class}
 use Rattle.pon_port.specs.declared.descriptor.Class.TheVariants.{Plain, NonAssured, BestEffort}
 use Rattle.pon_port.specs.declared.refusal.Refusal.{Refusal}

@@ -1,5 +1,5 @@
 -- Which entry may follow in a history.
-use Rattle.std.specs.Prelude.{ℕ, ◌≡◌, Option, None}
+use Rattle.std.specs.Prelude.{ℕ, ◌≡◌, None}
 use Rattle.pon_port.specs.State.{State}
 use Rattle.pon_port.specs.Descriptor.{IsLawful}
 use Rattle.pon_port.specs.Roster.{IsInRange}

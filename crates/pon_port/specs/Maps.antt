@@ -1,5 +1,5 @@
 -- The map that a state makes, given the surplus rate of each Alloc-ID.
-use Rattle.std.specs.Prelude.{ℕ, ◌≡◌, ◌+◌, ◌*◌, ◌==◌, ◌&&◌, nat_lt, Bool, true, false, if◌then◌else◌, List, map, filter, length, sum_by, Option, Some, None}
+use Rattle.std.specs.Prelude.{ℕ, ◌+◌, ◌*◌, ◌==◌, ◌&&◌, nat_lt, Bool, true, false, if◌then◌else◌, List, map, filter, length, sum_by, Some, None}
 use Rattle.std.specs.List.{list_any}
 use Rattle.pon_bwmap.specs.Structure.{Structure}
 use Rattle.pon_port.specs.Roster.{Row, onus_of}

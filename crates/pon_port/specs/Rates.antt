@@ -1,5 +1,5 @@
 -- The rates of an Alloc-ID in a map, and its payload words.
-use Rattle.std.specs.Prelude.{ℕ, ◌+◌, ◌*◌, ◌/◌}
+use Rattle.std.specs.Prelude.{ℕ, ◌+◌, ◌/◌}
 use Rattle.pon_port.specs.Roster.{Row}
 use Rattle.pon_port.specs.Book.{load_of}
 use Rattle.pon_port.specs.State.{State}

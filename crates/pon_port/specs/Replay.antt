@@ -1,5 +1,5 @@
 -- What a port's history leaves: each part of the state as a function of the opening and the entries.
-use Rattle.std.specs.Prelude.{ℕ, ◌≡◌, ◌+◌, ◌-◌, ◌==◌, ◌||◌, ◌&&◌, nat_le, Bool, true, false, if◌then◌else◌, List, [], ◌∷◌, ◌++◌, map, filter, length, drop, sum_by, count_by, Option, Some, None}
+use Rattle.std.specs.Prelude.{ℕ, ◌+◌, ◌-◌, ◌==◌, ◌||◌, ◌&&◌, nat_le, Bool, true, false, if◌then◌else◌, List, [], ◌∷◌, ◌++◌, map, filter, length, drop, count_by, Option, Some, None}
 use Rattle.std.specs.List.{list_any}
 use Rattle.pon_bwmap.specs.Structure.{Structure}
 use Rattle.pon_port.specs.Roster.{Row, with_row, with_descriptor, without}
@@ -91,7 +91,7 @@ abbrev pub with_reports : List Entry → WindowMap → WindowMap
 with_reports es m = record {
   frame = m.frame;
   grants = m.grants;
-  reported = filter (λ u. list_any (λ v. v == u) m.reported || list_any (λ e. reports m.frame u e.event) es) (polled m)
+  reported = filter (λ u. list_any (λ v. v == u) m.reported || list_any (λ e. reports m.frame u e.event) es) (polled m);
 }
 
 abbrev pub structures : Reply → List Structure

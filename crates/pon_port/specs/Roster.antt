@@ -1,5 +1,5 @@
 -- The roster of a port: its admitted Alloc-IDs in map order, and which sets of them are admitted.
-use Rattle.std.specs.Prelude.{ℕ, ◌≡◌, ◌+◌, ◌-◌, ◌*◌, ◌<◌, ◌≤◌, Bool, true, false, not, ◌&&◌, ◌||◌, ◌==◌, nat_lt, nat_le, if◌then◌else◌, List, [], ◌∷◌, ◌++◌, map, length, filter, All, sum_by, count_by, Option, None}
+use Rattle.std.specs.Prelude.{ℕ, ◌≡◌, ◌+◌, ◌-◌, ◌*◌, ◌≤◌, Bool, true, false, not, ◌&&◌, ◌||◌, ◌==◌, nat_lt, nat_le, if◌then◌else◌, List, [], ◌∷◌, ◌++◌, map, length, filter, All, sum_by, count_by, Option}
 use Rattle.std.specs.List.{list_any}
 pub use Rattle.pon_port.specs.declared.roster.Row.{Row}
 use Rattle.pon_port.specs.Descriptor.{Descriptor, IsLawful, promised, when, first_of}

@@ -7,9 +7,9 @@ use Rattle.pon_port.specs.Window.{WindowMap}
 pub record State : Type 0 where
   pub gap : ℕ
   pub profile : ℕ
-  pub next : ℕ               -- the next frame
-  pub cause : Option ℕ       -- why the port is failed, where it is
-  pub taken_before : ℕ       -- entries taken before this state
+  pub next : ℕ  -- the next frame
+  pub cause : Option ℕ  -- why the port is failed, where it is
+  pub taken_before : ℕ  -- entries taken before this state
   pub roster : List Row
   pub book : List Account
   pub window : List WindowMap

@@ -1,8 +1,7 @@
 -- What a port's calls do to its chapter.
-use Rattle.std.specs.Prelude.{ℕ, ◌≡◌, ◌+◌, List, [], ◌∷◌, ◌++◌, length, Option, Some, None}
+use Rattle.std.specs.Prelude.{ℕ, ◌≡◌, [], ◌∷◌, ◌++◌, length, Option, Some, None}
 use Rattle.pon_port.specs.State.{State}
 use Rattle.pon_port.specs.Roster.{IsAdmitted, rule_in_force}
-use Rattle.pon_port.specs.Loads.{replay}
 use Rattle.pon_port.specs.Checks.{first_refusal}
 use Rattle.pon_port.specs.Legal.{MayFollow}
 use Rattle.pon_port.specs.Bursts.{AreSound}
@@ -10,7 +9,6 @@ use Rattle.pon_port.specs.Chapters.{Chapter, present_state, IsLawfulChapter, Acc
 use Rattle.pon_port.specs.declared.event.Event.{Event}
 use Rattle.pon_port.specs.declared.reply.Reply.{Reply}
 use Rattle.pon_port.specs.declared.reply.Reply.TheVariants.{Taken, Map}
-use Rattle.pon_port.specs.declared.reply.Entry.{Entry}
 use Rattle.pon_port.specs.declared.refusal.Refusal.{Refusal}
 use Rattle.pon_port.specs.declared.refusal.Refusal.TheVariants.{OutOfMemory}
 

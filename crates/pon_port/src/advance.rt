@@ -3,7 +3,7 @@
 ghost use Rattle.std.specs.Prelude.{◌≡◌, ◌+◌, ◌<◌, ◌≤◌, ◌^◌, ◌++◌, [], ◌∷◌, length, map, OnOk, OnErr, vec_len, vec_capacity};
 ghost use Rattle.pon_port.specs.Loads.{words_in};
 ghost use Rattle.pon_port.specs.Replay.{last_64};
-ghost use Rattle.pon_port.specs.After.{lessened, after_map, after_first};
+ghost use Rattle.pon_port.specs.After.{less, lessened, after_map, after_first};
 
 use crate::book::{Account, Counted};
 use crate::roster::Row;
@@ -23,6 +23,24 @@ fn words_granted(map: &WindowMap, alloc_id: AllocId) -> u32
     }
 }
 
+// A report that counts, less what a map grants its Alloc-ID.
+fn lessened_report(map: &WindowMap, alloc_id: AllocId, report: Counted) -> Counted
+    requires { length map.now.grants ≤ 1 }
+    ensures { result ≡ less (words_in alloc_id map.now) report }
+{
+    let left = report
+        .words
+        .get()
+        .saturating_sub(words_granted(map, alloc_id));
+    match BufOcc::new(left) {
+        None => unreachable!(),
+        Some(words) => Counted {
+            frame: report.frame,
+            words,
+        },
+    }
+}
+
 // An account after a map.
 fn lessened_account(map: &WindowMap, account: Account) -> Account
     requires { length map.now.grants ≤ 1 }
@@ -35,16 +53,7 @@ fn lessened_account(map: &WindowMap, account: Account) -> Account
     } = account;
     let counted = match counted {
         None => None,
-        Some(counted) => {
-            let left = counted.words.get().saturating_sub(words_granted(map, alloc_id));
-            match BufOcc::new(left) {
-                None => unreachable!(),
-                Some(words) => Some(Counted {
-                    frame: counted.frame,
-                    words,
-                }),
-            }
-        }
+        Some(report) => Some(lessened_report(map, alloc_id, report)),
     };
     Account {
         alloc_id,

@@ -23,6 +23,7 @@ fn roster_refusal(state: &PortState, row: &Row) -> Option<Refusal>
             }
         }
         None => {
+            // The gap, and a word each for header, trailer and report.
             let overhead = u32::from(state.cfg.gap.get()) + 3;
             if row.descriptor.promised() <= 256 * (9720 - overhead) {
                 None

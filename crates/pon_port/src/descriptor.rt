@@ -88,3 +88,43 @@ impl Descriptor {
         }
     }
 }
+
+#[cfg(test)]
+mod tests {
+    use super::*;
+
+    #[test]
+    fn tells_the_first_refusal(rt: HostRuntime) {
+        for (fixed, assured, max, class, wanted) in [
+            (0, 0, 0, Class::Plain, None),
+            (2_488_320, 0, 2_488_320, Class::Plain, None),
+            (0, 1, 2, Class::NonAssured, None),
+            (0, 0, 1, Class::BestEffort, None),
+            (
+                2_488_321,
+                0,
+                2_488_320,
+                Class::Plain,
+                Some(Refusal::RateRange),
+            ),
+            (0, 2_488_321, 0, Class::NonAssured, Some(Refusal::RateRange)),
+            (0, 0, 2_488_321, Class::Plain, Some(Refusal::RateRange)),
+            (u64::MAX, 1, 0, Class::BestEffort, Some(Refusal::RateRange)),
+            (1, 1, 1, Class::Plain, Some(Refusal::MaxBelowGuaranteed)),
+            (
+                2,
+                0,
+                1,
+                Class::BestEffort,
+                Some(Refusal::MaxBelowGuaranteed),
+            ),
+            (0, 0, 1, Class::NonAssured, Some(Refusal::NeedsGuarantee)),
+            (0, 0, 0, Class::NonAssured, Some(Refusal::NeedsGuarantee)),
+            (1, 1, 2, Class::NonAssured, Some(Refusal::NoSurplusRoom)),
+            (0, 0, 0, Class::BestEffort, Some(Refusal::NoSurplusRoom)),
+        ] {
+            let told = Descriptor::new(fixed, assured, max, class).err();
+            assert_eq!(rt; told, wanted, "{fixed} {assured} {max} {class:?}");
+        }
+    }
+}

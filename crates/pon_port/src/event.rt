@@ -49,7 +49,10 @@ pub enum Event {
         not_yet: NotYet,
     },
     /// An Alloc-ID is taken out.
-    Remove { alloc_id: AllocId, not_yet: NotYet },
+    Remove {
+        alloc_id: AllocId,
+        not_yet: NotYet,
+    },
     /// An ONU reports its buffers in answer to the map of a frame.
     Report {
         frame: FrameNo,
@@ -60,7 +63,28 @@ pub enum Event {
     /// The map of the next frame is made.
     MakeMap,
     /// The line has failed.
-    Fail { cause: Cause, not_yet: NotYet },
+    Fail {
+        cause: Cause,
+        not_yet: NotYet,
+    },
     /// The line is back.
-    Restore { not_yet: NotYet },
+    Restore {
+        not_yet: NotYet,
+    },
+}
+
+#[cfg(test)]
+mod tests {
+    use super::*;
+
+    #[test]
+    fn keeps_the_occupancies(rt: HostRuntime) {
+        let mut items = ArrayVec::new();
+        items.push(BufOcc::new(16_777_215));
+        items.push(None);
+        let occupancies = Occupancies::new(items);
+        assert_eq!(rt; occupancies.items.len(), 2);
+        let wanted = [BufOcc::new(16_777_215), None];
+        assert_eq!(rt; occupancies.items.as_slice(), wanted.as_slice());
+    }
 }

@@ -1,15 +1,46 @@
 //! Laws of histories, over the definitions alone.
 
-ghost use Rattle.std.specs.Prelude.{◌≡◌, ◌++◌, List};
+ghost use Rattle.std.specs.Prelude.{◌≡◌, ◌+◌, ◌++◌, ◌≤◌, ℕ, List, None};
+ghost use Rattle.pon_port.specs.Descriptor.{Descriptor, IsLawful};
+ghost use Rattle.pon_port.specs.Roster.{IsAdmitted, IsInRange, Row, Rule, refuses_admit, refuses_change, rule_in_force, with_descriptor, with_row, without};
 ghost use Rattle.pon_port.specs.State.{State};
 ghost use Rattle.pon_port.specs.Loads.{replay};
 ghost use Rattle.pon_port.specs.Window.{LeadsTo};
-ghost use Rattle.pon_port.specs.Chapters.{IsLegal};
+ghost use Rattle.pon_port.specs.Rates.{no_surplus};
+ghost use Rattle.pon_port.specs.Maps.{map_of};
+ghost use Rattle.pon_port.specs.Bursts.{AreSound};
+ghost use Rattle.pon_port.specs.Chapters.{Chapter, IsLawfulChapter, IsLegal, present_state, state_before};
 ghost use Rattle.pon_port.specs.declared.reply.Entry.{Entry};
 
-/// A legal history may be cut anywhere: the second part, opened with the replay of the first, leaves the same state.
+/// A legal history may be cut anywhere: the second part, opened with the replay of the first, leaves the same state, and
+/// is legal as the next chapter.
 pub fn cutting()
-    ensures { (o : State) (xs ys : List Entry) → LeadsTo o.next o.window →
+    ensures state { (o : State) (xs ys : List Entry) → LeadsTo o.next o.window →
         IsLegal (record { number = 0; opening = o; entries = xs ++ ys }) → replay o (xs ++ ys) ≡ replay (replay o xs) ys }
-{
-}
+    ensures rest { (n : ℕ) (o : State) (xs ys : List Entry) → LeadsTo o.next o.window →
+        IsLegal (record { number = n; opening = o; entries = xs ++ ys }) →
+        IsLegal (record { number = n + 1; opening = replay o xs; entries = ys }) }
+{}
+
+/// An admitted set stays admitted: with one row more that no check refuses, with a new descriptor that no check refuses, and with an Alloc-ID removed.
+/// This holds for any overhead words of an Alloc-ID, any most of Alloc-IDs and any gap.
+pub fn checks_keep_admitted_sets()
+    ensures admit { (rule : Rule) (gap : ℕ) (rows : List Row) (r : Row) →
+        refuses_admit rule gap rows r ≡ None → IsInRange r → IsAdmitted rule gap rows → IsAdmitted rule gap (with_row r rows) }
+    ensures change { (rule : Rule) (gap : ℕ) (rows : List Row) (i : ℕ) (d : Descriptor) →
+        refuses_change rule gap rows i d ≡ None → IsLawful d → IsAdmitted rule gap rows → IsAdmitted rule gap (with_descriptor i d rows) }
+    ensures remove { (rule : Rule) (gap : ℕ) (rows : List Row) (i : ℕ) →
+        IsAdmitted rule gap rows → IsAdmitted rule gap (without i rows) }
+{}
+
+/// Before each entry of a lawful chapter, and after all of them, the roster is an admitted set.
+pub fn lawful_chapters_hold_admitted_sets()
+    ensures before { (c : Chapter) → IsLawfulChapter c → (k : ℕ) → IsAdmitted rule_in_force (state_before c k).gap (state_before c k).roster }
+    ensures present { (c : Chapter) → IsLawfulChapter c → IsAdmitted rule_in_force (present_state c).gap (present_state c).roster }
+{}
+
+/// The map of a state whose roster is an admitted set has sound bursts, for any number of ONUs and Alloc-IDs: each lies in the frame and no two overlap.
+/// The rule sets aside one word for each Alloc-ID at least, for its report.
+pub fn maps_of_admitted_sets_are_sound()
+    ensures { (s : State) (rule : Rule) → 1 ≤ rule.overhead_words → IsAdmitted rule s.gap s.roster → AreSound s.gap (map_of s no_surplus) }
+{}

@@ -52,16 +52,16 @@ fn opened(alloc: Global, cfg: &PortCfg, first: FrameNo) -> PortState
 
 impl Port {
     ghost use Rattle.std.specs.Prelude.{[], ◌+◌, length, IfOk, IfErr, OnOk, OnErr};
-    ghost use Rattle.pon_port.specs.Roster.{IsInRange};
+    ghost use Rattle.pon_port.specs.Roster.{IsAdmitted, IsInRange, rule_in_force};
     ghost use Rattle.pon_port.specs.Bursts.{AreSound};
-    ghost use Rattle.pon_port.specs.Chapters.{present_state};
+    ghost use Rattle.pon_port.specs.Chapters.{IsLawfulChapter, present_state};
     ghost use Rattle.pon_port.specs.Taking.{Takes, TellsSoundBursts, refusal_of, IsTold};
 
     /// A port just opened: no Alloc-ID, the line up, and `first` as its next frame. `Err` only for want of memory.
     pub fn open(alloc: Global, cfg: PortCfg, first: FrameNo) -> Result<Port, AllocError>
-        ensures number { IfOk result (λ port. port.number ≡ 0) }
         ensures opening { IfOk result (λ port. port.opening ≡ just_opened cfg.gap cfg.profile first) }
         ensures entries { IfOk result (λ port. port.entries ≡ []) }
+        ensures number { IfOk result (λ port. port.number ≡ 0) }
     {
         Ok(Port {
             opening: opened(alloc, &cfg, first),
@@ -72,7 +72,8 @@ impl Port {
 
     /// The kept entries, oldest first.
     pub fn history(&self) -> &[Entry]
-        ensures { result.now ≡ self.now.entries }
+        ensures entries { result.now ≡ self.now.entries }
+        ensures lawful { IsLawfulChapter self.now }
     {
         self.entries.as_slice()
     }
@@ -86,7 +87,8 @@ impl Port {
 
     /// The present state: the replay of the kept entries.
     pub fn state(&self) -> &PortState
-        ensures { result.now ≡ present_state self.now }
+        ensures replayed { result.now ≡ present_state self.now }
+        ensures admitted { IsAdmitted rule_in_force result.now.gap result.now.roster }
     {
         &self.state
     }
@@ -173,3 +175,6 @@ impl Port {
         }
     }
 }
+
+#[cfg(test)]
+mod tests;

@@ -80,3 +80,41 @@ impl fmt::Display for Refusal {
         }
     }
 }
+
+#[cfg(test)]
+mod tests {
+    use super::*;
+    use std::test::Fail;
+
+    #[test]
+    fn prints_number_and_name(rt: HostRuntime) -> Result<(), Fail> {
+        let cause = Cause::new(4).ok_or("a cause")?;
+        for (refusal, wanted) in [
+            (Refusal::NoSuchAlloc, "E01 NoSuchAlloc"),
+            (Refusal::AllocTaken, "E02 AllocTaken"),
+            (Refusal::AllocRange, "E03 AllocRange"),
+            (Refusal::OnuRange, "E04 OnuRange"),
+            (Refusal::RateRange, "E05 RateRange"),
+            (Refusal::MaxBelowGuaranteed, "E06 MaxBelowGuaranteed"),
+            (Refusal::NeedsGuarantee, "E07 NeedsGuarantee"),
+            (Refusal::NoSurplusRoom, "E08 NoSurplusRoom"),
+            (Refusal::TooManyAllocs, "E09 TooManyAllocs"),
+            (Refusal::TooManyOnus, "E10 TooManyOnus"),
+            (Refusal::SeriesFull, "E11 SeriesFull"),
+            (Refusal::Capacity, "E12 Capacity"),
+            (Refusal::StaleFrame, "E13 StaleFrame"),
+            (Refusal::NotPolled, "E14 NotPolled"),
+            (Refusal::ReportCount, "E15 ReportCount"),
+            (Refusal::AlreadyReported, "E16 AlreadyReported"),
+            (Refusal::PortDown { cause }, "E17 PortDown 4"),
+            (Refusal::PortUp, "E18 PortUp"),
+            (Refusal::FrameLimit, "E19 FrameLimit"),
+            (Refusal::ChapterFull, "E20 ChapterFull"),
+            (Refusal::OutOfMemory, "E21 OutOfMemory"),
+        ] {
+            let text = format!(in rt.alloc(); "{refusal}")?;
+            assert_eq!(rt; text.as_str(), wanted);
+        }
+        Ok(())
+    }
+}

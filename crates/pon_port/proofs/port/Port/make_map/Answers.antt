@@ -15,4 +15,4 @@ returns-clause-ok c =
     let old : Chapter = record { number = 0; opening = c.self.inside.opening; entries = c.self.inside.entries.items } in
     let new : Chapter = record { number = 0; opening = c.self.inside.opening; entries = c.push.new.self.items } in
     subst (λ old. Takes old MakeMap (Map c.in-Ok.next.0) new) c.self.view_is
-        (map_taken old new c.self.inside.state c.in-Ok.next.0 c.in-Ok-try_copy.kept c.self.invariant (search rules) (search rules) (search rules) (search rules))
+    (map_taken old new c.self.inside.state c.in-Ok.next.0 c.in-Ok-try_copy.kept c.self.invariant (search rules) (search rules) (search rules) (search rules))

@@ -1,0 +1,53 @@
+-- The rosters of lawful chapters are admitted sets.
+use Rattle.std.proofs.Common.{◌≡◌, ℕ, List, [], ◌∷◌, ◌++◌, length, take, drop, refl, sym, subst, append_assoc}
+use Rattle.std.specs.Prelude.{None}
+use Rattle.std.proofs.lemmas.List.{append-nil, take-append-drop}
+use Rattle.pon_port.specs.Roster.{IsAdmitted, refuses_admit, refuses_change, rule_in_force}
+use Rattle.pon_port.specs.State.{State}
+use Rattle.pon_port.specs.Replay.{roster_after}
+use Rattle.pon_port.specs.Loads.{replay}
+use Rattle.pon_port.specs.Checks.{first_refusal, when_full}
+use Rattle.pon_port.specs.Legal.{IsEvent}
+use Rattle.pon_port.specs.Chapters.{Chapter, IsLawfulChapter, present_state, state_before}
+use Rattle.pon_port.specs.declared.event.Event.{Event}
+use Rattle.pon_port.specs.declared.event.Event.TheVariants.{Admit, Change, Remove, Report, MakeMap, Fail, Restore}
+use Rattle.pon_port.specs.declared.reply.Entry.{Entry}
+use Rattle.pon_port.proofs.Parts.{roster_of-append}
+use Rattle.pon_port.proofs.Legality.{IsLegalAfter, after_from_legal, legal_split}
+use Rattle.pon_port.proofs.Cutting.{or_else_none}
+use Rattle.pon_port.proofs.AdmittedSets.{admit_keeps, change_keeps, remove_keeps}
+
+-- an event that no check refuses keeps the set admitted
+pub event_keeps : (kept : ℕ) (s : State) (v : Event) → IsEvent v → first_refusal kept s v ≡ None → IsAdmitted rule_in_force s.gap s.roster → IsAdmitted rule_in_force s.gap (roster_after s.roster v)
+event_keeps kept s (Admit onu alloc_id descriptor) i h k =
+    admit_keeps rule_in_force s.gap s.roster (record { onu = onu; alloc_id = alloc_id; descriptor = descriptor })
+    (or_else_none (refuses_admit rule_in_force s.gap s.roster (record { onu = onu; alloc_id = alloc_id; descriptor = descriptor })) (when_full kept s.taken_before) h).0 i k
+event_keeps kept s (Change alloc_id descriptor not_yet) i h k =
+    change_keeps rule_in_force s.gap s.roster alloc_id descriptor
+    (or_else_none (refuses_change rule_in_force s.gap s.roster alloc_id descriptor) (when_full kept s.taken_before) h).0 i k
+event_keeps kept s (Remove alloc_id not_yet) i h k = remove_keeps rule_in_force s.gap s.roster alloc_id k
+event_keeps kept s (Report frame onu occ not_yet) i h k = k
+event_keeps kept s MakeMap i h k = k
+event_keeps kept s (Fail cause not_yet) i h k = k
+event_keeps kept s (Restore not_yet) i h k = k
+
+-- so does a legal list of entries
+pub entries_keep : (o : State) (done es : List Entry) → IsLegalAfter o done es → IsAdmitted rule_in_force o.gap (replay o done).roster → IsAdmitted rule_in_force o.gap (replay o (done ++ es)).roster
+entries_keep o done [] l k = subst (λ t. IsAdmitted rule_in_force o.gap (replay o t).roster) (sym (append-nil done)) k
+entries_keep o done (e ∷ es) l k =
+    subst (λ t. IsAdmitted rule_in_force o.gap (replay o t).roster) (append_assoc done (e ∷ []) es)
+    (entries_keep o (done ++ e ∷ []) es l.1
+    (subst (IsAdmitted rule_in_force o.gap) (sym (roster_of-append o.roster done (e ∷ [])))
+    (event_keeps (length done) (replay o done) e.event l.0.event l.0.accepted k)))
+
+-- before each entry of a lawful chapter
+pub admitted_before : (c : Chapter) → IsLawfulChapter c → (k : ℕ) → IsAdmitted rule_in_force (state_before c k).gap (state_before c k).roster
+admitted_before c l k =
+    entries_keep c.opening [] (take k c.entries)
+    (legal_split c.opening [] (take k c.entries) (drop k c.entries)
+    (subst (IsLegalAfter c.opening []) (sym (take-append-drop k c.entries)) (after_from_legal c.opening c.entries c.number l.legal))).0
+    l.opening.admitted
+
+-- and at its end
+pub admitted_at_present : (c : Chapter) → IsLawfulChapter c → IsAdmitted rule_in_force (present_state c).gap (present_state c).roster
+admitted_at_present c l = entries_keep c.opening [] c.entries (after_from_legal c.opening c.entries c.number l.legal) l.opening.admitted
