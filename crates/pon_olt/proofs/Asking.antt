@@ -1,15 +1,14 @@
 -- A line asks only ports that are there.
-use Rattle.std.proofs.Common.{◌≡◌, ℕ, ◌<◌, Bool, true, false, cond, List, [], ◌∷◌, length, refl}
-use Rattle.std.specs.Prelude.{nat_lt, nat_le, not, if◌then◌else◌, Option, Some, None, Result, Ok, Err}
+use Rattle.std.proofs.Common.{◌≡◌, ℕ, ◌<◌, true, false, List, [], ◌∷◌, length, refl}
+use Rattle.std.specs.Prelude.{nat_lt, not, if◌then◌else◌, Result, Ok, Err}
 use Rattle.std.specs.List.{list_all}
 use Rattle.std.proofs.lemmas.Bool.{ltb-true}
 use Rattle.pon_port.specs.declared.event.Event.{Event}
-use Rattle.pon_olt.specs.Lines.{words_of, number_of, without_return}
+use Rattle.pon_olt.specs.Lines.{words_of, without_return}
 use Rattle.pon_olt.specs.Reading.{read_line, read_words, reading, port_of, event_of, number_field, is_comment, is_text, ◌>>=◌}
 use Rattle.pon_olt.specs.Text.{AsksWithin}
 use Rattle.pon_olt.specs.declared.reading.LineFault.{LineFault}
 use Rattle.pon_olt.specs.declared.reading.LineFault.TheVariants.{LineLong, NotText, NoSuchPort}
-use Rattle.pon_olt.specs.declared.reading.Reading.{Reading}
 use Rattle.pon_olt.specs.declared.reading.Reading.TheVariants.{Nothing, Refused}
 
 -- a port that a word names is there
@@ -24,8 +23,9 @@ port_there ports w = by_number (number_field w)
     by_number : (r : Result ℕ LineFault) → IsThere ports (r >>= λ n. if nat_lt n ports then Ok n else Err NoSuchPort)
     by_number (Err fault) = tt
     by_number (Ok n) = (elim (nat_lt n ports) as (λ b. nat_lt n ports ≡ b → IsThere ports (if b then Ok n else Err NoSuchPort)) [
-        true ↦ λ t. ltb-true n ports t
-      | false ↦ λ t. tt ]) refl
+      | true ↦ λ t. ltb-true n ports t
+      | false ↦ λ t. tt
+    ]) refl
 
 reading_within : (ports : ℕ) (r : Result ℕ LineFault) (asked : Result Event LineFault) → IsThere ports r → AsksWithin ports (reading r asked)
 unfolding IsThere
@@ -42,9 +42,12 @@ unfolding read_line
 read_line-within ports line =
     let ws : List (List ℕ) = words_of (without_return line) in
     elim (nat_lt 4096 (length line)) as (λ b. AsksWithin ports (if b then Refused LineLong else (if is_comment ws then Nothing else (if not (list_all is_text (without_return line)) then Refused NotText else read_words ports ws)))) [
-      true ↦ tt
-    | false ↦ elim (is_comment ws) as (λ b. AsksWithin ports (if b then Nothing else (if not (list_all is_text (without_return line)) then Refused NotText else read_words ports ws))) [
-        true ↦ tt
-      | false ↦ elim (not (list_all is_text (without_return line))) as (λ b. AsksWithin ports (if b then Refused NotText else read_words ports ws)) [
-          true ↦ tt
-        | false ↦ words_within ports ws ] ] ]
+      | true ↦ tt
+      | false ↦ elim (is_comment ws) as (λ b. AsksWithin ports (if b then Nothing else (if not (list_all is_text (without_return line)) then Refused NotText else read_words ports ws))) [
+        | true ↦ tt
+        | false ↦ elim (not (list_all is_text (without_return line))) as (λ b. AsksWithin ports (if b then Refused NotText else read_words ports ws)) [
+          | true ↦ tt
+          | false ↦ words_within ports ws
+        ]
+      ]
+    ]

@@ -1,18 +1,18 @@
 -- One input has one output text.
-use Rattle.std.proofs.Common.{◌≡◌, ℕ, List, [], ◌∷◌, ◌++◌, refl, ap, sym, ◌∙◌, subst}
+use Rattle.std.proofs.Common.{◌≡◌, ℕ, List, [], ◌∷◌, ◌++◌, ap, sym, ◌∙◌, subst}
 use Rattle.std.specs.Prelude.{Option, Some, None, slice_get, slice_set, length}
 use Rattle.pon_port.specs.Chapters.{Chapter, present_state}
 use Rattle.pon_port.specs.Legal.{IsReply}
 use Rattle.pon_port.specs.State.{State}
-use Rattle.pon_port.specs.Taking.{Takes, refusal_of, with_entry}
+use Rattle.pon_port.specs.Taking.{refusal_of, with_entry}
 use Rattle.pon_port.specs.declared.event.Event.{Event}
 use Rattle.pon_port.specs.declared.event.Event.TheVariants.{Admit, Change, Remove, Report, MakeMap, Fail, Restore}
 use Rattle.pon_port.specs.declared.reply.Reply.{Reply}
 use Rattle.pon_port.specs.declared.reply.Reply.TheVariants.{Taken, Map}
 use Rattle.pon_port.specs.declared.refusal.Refusal.{Refusal}
 use Rattle.pon_olt.specs.Lines.{lines_of}
-use Rattle.pon_olt.specs.Reading.{read_line, fault_text}
-use Rattle.pon_olt.specs.Text.{reply_line, Answers, AsksPort, Posts, Gives, GivesLines, IsOutput}
+use Rattle.pon_olt.specs.Reading.{read_line}
+use Rattle.pon_olt.specs.Text.{reply_line, Answers, AsksPort, Posts, GivesLines, IsOutput}
 use Rattle.pon_olt.specs.declared.reading.Reading.{Reading}
 use Rattle.pon_olt.specs.declared.reading.Reading.TheVariants.{Nothing, Refused, Asks}
 

@@ -1,5 +1,5 @@
 -- How many reads were made, counted round 2 ^ 64.
-use Rattle.std.proofs.Common.{◌≡◌, ℕ, zero, suc, ◌+◌, ◌%◌, ◌^◌, arith, sym, ap, ◌∙◌, add-one, subst}
+use Rattle.std.proofs.Common.{◌≡◌, ℕ, zero, suc, ◌+◌, ◌%◌, ◌^◌, arith, sym, ap, ◌∙◌, add-one}
 use Rattle.std.proofs.Math.Nat.{add-mod, mod-mod}
 
 -- after n reads; of a count that was not read yet nothing is known but that it is as it was

@@ -1,13 +1,13 @@
 -- Text that is read byte by byte, and answered line by line.
-use Rattle.std.proofs.Common.{◌≡◌, ℕ, zero, suc, ◌+◌, ◌-◌, ◌<◌, ◌≤◌, Bool, true, false, cond, not, ◌||◌, ◌&&◌, List, [], ◌∷◌, ◌++◌, length, take, refl, ap, sym, ◌∙◌, subst, arith, append_assoc, inl, inr}
+use Rattle.std.proofs.Common.{◌≡◌, ℕ, ◌<◌, ◌≤◌, Bool, true, false, ◌||◌, List, [], ◌∷◌, ◌++◌, length, take, refl, ap, sym, ◌∙◌, subst, arith, append_assoc, inl, inr}
 use Rattle.std.proofs.lemmas.List.{append-nil, length-take, length-append, take-append-le}
 use Rattle.std.proofs.lemmas.List.Folds.{list_any-append}
-use Rattle.std.specs.Prelude.{◌==◌, nat_lt, ◌≢◌, if◌then◌else◌, Option, Some, None, Result, Ok, Err}
+use Rattle.std.specs.Prelude.{◌==◌, ◌≢◌, Option, Some, None, Result, Ok, Err}
 use Rattle.std.specs.List.{list_any}
 use Rattle.std.proofs.lemmas.Bool.{or_parts, or_right}
 use Rattle.pon_port.specs.Chapters.{Chapter}
 use Rattle.pon_units.specs.Device.{Appends, Consumes, Keeps}
-use Rattle.pon_olt.specs.Planning.{Planned, IsText, IsBeginning, BeginsNext, BeginsOutput, PrintsLine}
+use Rattle.pon_olt.specs.Planning.{Planned, IsText, BeginsNext, BeginsOutput, PrintsLine}
 use Rattle.pon_olt.specs.declared.lines.PlanFault.{PlanFault}
 use Rattle.pon_olt.specs.declared.lines.PlanFault.TheVariants.{Read, Write, Memory}
 use Rattle.pon_olt.specs.Lines.{lines_of, whole_lines, onto}
@@ -83,7 +83,10 @@ appends_none (Some xs) = sym (append-nil xs)
 
 pub begin : (first : List Chapter) (left held : Option (List ℕ)) → Progress first left left held held first []
 begin first left held = record {
-  done = []; cur = []; lines = []; written = [];
+  done = [];
+  cur = [];
+  lines = [];
+  written = [];
   read = consumes_none left;
   wrote = appends_none held;
   open_line = refl;
@@ -123,12 +126,14 @@ keeps_itself (Some x) = refl
 
 -- Where the reading has come to.
 module _ (first : List Chapter) (l0 l m h0 h : Option (List ℕ)) (ports : List Chapter) (line : List ℕ) (p : Progress first l0 l h0 h ports line) where
-
   -- one byte more of a line
   pub push_kept : (b : ℕ) → Consumes l m (b ∷ []) → (b == 10) ≡ false → (new : List ℕ) → ((cur : List ℕ) → line ≡ take 4097 cur → new ≡ take 4097 (cur ++ b ∷ [])) →
       Progress first l0 m h0 h ports new
   push_kept b c no_feed new e = record {
-    done = p.done; cur = p.cur ++ b ∷ []; lines = p.lines; written = p.written;
+    done = p.done;
+    cur = p.cur ++ b ∷ [];
+    lines = p.lines;
+    written = p.written;
     read = subst (λ t. Consumes l0 m t) (append_assoc p.done p.cur (b ∷ [])) (consumes_more l0 l m (p.done ++ p.cur) (b ∷ []) p.read c);
     wrote = p.wrote;
     open_line = list_any-append (λ b. b == 10) p.cur (b ∷ []) ∙ (λ i. p.open_line i || (no_feed i || false));
@@ -141,7 +146,10 @@ module _ (first : List Chapter) (l0 l m h0 h : Option (List ℕ)) (ports : List 
   -- a line was answered, and the next is empty
   pub printed_line : (k : Option (List ℕ)) (after : List Chapter) (done : Unit {0}) (new : List ℕ) → Consumes l m (10 ∷ []) → PrintsLine ports after line h k (Ok done) → new ≡ [] → Progress first l0 m h0 k after new
   printed_line k after done new c w e = record {
-    done = p.done ++ p.cur ++ 10 ∷ []; cur = []; lines = p.lines ++ p.cur ∷ []; written = p.written ++ w.0;
+    done = p.done ++ p.cur ++ 10 ∷ [];
+    cur = [];
+    lines = p.lines ++ p.cur ∷ [];
+    written = p.written ++ w.0;
     read = subst (λ t. Consumes l0 m t) (sym (append-nil (p.done ++ p.cur ++ 10 ∷ []))) (consumes_more l0 l m (p.done ++ p.cur) (10 ∷ []) p.read c);
     wrote = appends_more h0 h k p.written w.0 p.wrote w.2;
     open_line = refl;
@@ -157,7 +165,8 @@ module _ (first : List Chapter) (l0 l m h0 h : Option (List ℕ)) (ports : List 
   -- the reader failed
   pub read_failed : {T : Type 0} → Keeps l m → Planned {T = T} first l0 m h0 h (Err Read)
   read_failed kept = record {
-    input = p.done ++ p.cur; written = p.written;
+    input = p.done ++ p.cur;
+    written = p.written;
     read = consumes_kept l0 l m (p.done ++ p.cur) p.read kept;
     wrote = p.wrote;
     text = (ports, subst (λ ls. GivesLines first ls p.written ports) (sym all_whole) p.gave);
@@ -170,11 +179,16 @@ module _ (first : List Chapter) (l0 l m h0 h : Option (List ℕ)) (ports : List 
   begun : {T : Type 0} (k : Option (List ℕ)) (more sent : List ℕ) (next : List (List ℕ)) → Consumes l m more → Appends h k sent → lines_of (p.cur ++ more) ≡ next → BeginsNext ports next sent →
       (f : PlanFault) → (BeginsOutput first ((p.done ++ p.cur) ++ more) (p.written ++ sent) → IsText {T = T} first ((p.done ++ p.cur) ++ more) (p.written ++ sent) (Err f)) → Planned {T = T} first l0 m h0 k (Err f)
   begun k more sent next c w e b f tells = record {
-    input = (p.done ++ p.cur) ++ more; written = p.written ++ sent;
+    input = (p.done ++ p.cur) ++ more;
+    written = p.written ++ sent;
     read = consumes_more l0 l m (p.done ++ p.cur) more p.read c;
     wrote = appends_more h0 h k p.written sent p.wrote w;
     text = tells (record {
-      answered = p.lines; more = next; text = p.written; part = sent; after = ports;
+      answered = p.lines;
+      more = next;
+      text = p.written;
+      part = sent;
+      after = ports;
       lines = ap lines_of (append_assoc p.done p.cur more) ∙ p.split (p.cur ++ more) ∙ ap (λ ls. p.lines ++ ls) e;
       gives = p.gave;
       begins = b;
@@ -202,11 +216,15 @@ module _ (first : List Chapter) (l0 l m h0 h : Option (List ℕ)) (ports : List 
   -- the input ended behind a line without its feed
   pub ended : {T : Type 0} (k : Option (List ℕ)) (after : List Chapter) (done : Unit {0}) (end : T) → Consumes l m [] → line ≢ [] → PrintsLine ports after line h k (Ok done) → Planned {T = T} first l0 m h0 k (Ok end)
   ended k after done end c n w = record {
-    input = (p.done ++ p.cur) ++ []; written = p.written ++ w.0;
+    input = (p.done ++ p.cur) ++ [];
+    written = p.written ++ w.0;
     read = consumes_more l0 l m (p.done ++ p.cur) [] p.read c;
     wrote = appends_more h0 h k p.written w.0 p.wrote w.2;
-    text = (after, subst (λ ls. GivesLines first ls (p.written ++ w.0) after) (sym all)
-        (gives_more first ports after p.lines p.cur p.written w.0 p.gave (gives_kept ports after line p.cur w.0 p.kept w.1)));
+    text = (
+      after,
+      subst (λ ls. GivesLines first ls (p.written ++ w.0) after) (sym all)
+          (gives_more first ports after p.lines p.cur p.written w.0 p.gave (gives_kept ports after line p.cur w.0 p.kept w.1)),
+    );
   }
     where
       all : lines_of ((p.done ++ p.cur) ++ []) ≡ p.lines ++ p.cur ∷ []
@@ -215,7 +233,8 @@ module _ (first : List Chapter) (l0 l m h0 h : Option (List ℕ)) (ports : List 
   -- the input ended behind a line feed, or at its start
   pub ended_empty : {T : Type 0} (end : T) → Consumes l m [] → line ≡ [] → Planned {T = T} first l0 m h0 h (Ok end)
   ended_empty end c n = record {
-    input = (p.done ++ p.cur) ++ []; written = p.written;
+    input = (p.done ++ p.cur) ++ [];
+    written = p.written;
     read = consumes_more l0 l m (p.done ++ p.cur) [] p.read c;
     wrote = p.wrote;
     text = (ports, subst (λ ls. GivesLines first ls p.written ports) (sym all) p.gave);
@@ -224,17 +243,23 @@ module _ (first : List Chapter) (l0 l m h0 h : Option (List ℕ)) (ports : List 
       nothing : (cur : List ℕ) → take 4097 cur ≡ [] → cur ≡ []
       nothing [] e = refl
       nothing (b ∷ cur) e = absurd (omega (arith, ap (λ t. length t) e, length-take 4097 (b ∷ cur)))
+
       all : lines_of ((p.done ++ p.cur) ++ []) ≡ p.lines
       all = ap lines_of (append_assoc p.done p.cur []) ∙ p.split (p.cur ++ []) ∙ ap (λ c. p.lines ++ lines_of (c ++ [])) (nothing p.cur (sym p.kept ∙ n)) ∙ append-nil p.lines
 
   -- memory was refused for a byte
   pub no_room : {T : Type 0} (b : ℕ) → Consumes l m (b ∷ []) → Planned {T = T} first l0 m h0 h (Err Memory)
   no_room b c = record {
-    input = (p.done ++ p.cur) ++ b ∷ []; written = p.written;
+    input = (p.done ++ p.cur) ++ b ∷ [];
+    written = p.written;
     read = consumes_more l0 l m (p.done ++ p.cur) (b ∷ []) p.read c;
     wrote = p.wrote;
     text = record {
-      answered = p.lines; more = lines_of (p.cur ++ b ∷ []); text = p.written; part = []; after = ports;
+      answered = p.lines;
+      more = lines_of (p.cur ++ b ∷ []);
+      text = p.written;
+      part = [];
+      after = ports;
       lines = ap lines_of (append_assoc p.done p.cur (b ∷ [])) ∙ p.split (p.cur ++ b ∷ []);
       gives = p.gave;
       begins = nothing_of (lines_of (p.cur ++ b ∷ []));
@@ -270,7 +295,8 @@ push_long line new b l e cur k =
 -- nothing was read and nothing written
 pub nothing_done : {T : Type 0} (first : List Chapter) (l h : Option (List ℕ)) → Planned {T = T} first l l h h (Err Memory)
 nothing_done first l h = record {
-  input = []; written = [];
+  input = [];
+  written = [];
   read = consumes_none l;
   wrote = appends_none h;
   text = record { answered = []; more = []; text = []; part = []; after = first; lines = refl; gives = (refl, refl); begins = refl; is = refl };
@@ -279,18 +305,27 @@ nothing_done first l h = record {
 -- all was written, and the flush failed
 pub not_flushed : {S T : Type 0} (first : List Chapter) (l0 l h0 h k : Option (List ℕ)) (done : S) → Planned {T = S} first l0 l h0 h (Ok done) → Keeps h k → Planned {T = T} first l0 l h0 k (Err Write)
 not_flushed first l0 l h0 h k done p kept = record {
-  input = p.input; written = p.written;
+  input = p.input;
+  written = p.written;
   read = p.read;
   wrote = appends_kept h0 h k p.written p.wrote kept;
   text = record {
-    answered = lines_of p.input; more = []; text = p.written; part = []; after = p.text.0;
-    lines = sym (append-nil (lines_of p.input)); gives = p.text.1; begins = refl; is = sym (append-nil p.written);
+    answered = lines_of p.input;
+    more = [];
+    text = p.written;
+    part = [];
+    after = p.text.0;
+    lines = sym (append-nil (lines_of p.input));
+    gives = p.text.1;
+    begins = refl;
+    is = sym (append-nil p.written);
   };
 }
 
 pub flushed : {S T : Type 0} (first : List Chapter) (l0 l h0 h k : Option (List ℕ)) (done : S) (end : T) → Planned {T = S} first l0 l h0 h (Ok done) → Keeps h k → Planned {T = T} first l0 l h0 k (Ok end)
 flushed first l0 l h0 h k done end p kept = record {
-  input = p.input; written = p.written;
+  input = p.input;
+  written = p.written;
   read = p.read;
   wrote = appends_kept h0 h k p.written p.wrote kept;
   text = p.text;

@@ -7,5 +7,4 @@ ghost use Rattle.pon_olt.specs.Text.{IsOutput};
 /// The output text is a relation between what is read and what is written; one input has one output text at most.
 pub fn one_output()
     ensures { (ports : List Chapter) (input text other : List ℕ) → IsOutput ports input text → IsOutput ports input other → text ≡ other }
-{
-}
+{}

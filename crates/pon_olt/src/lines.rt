@@ -45,13 +45,7 @@ fn next_byte<R: DevRead>(reader: &mut R) -> Result<Option<u8>, Failed>
 {
     let mut byte = [0u8; 1];
     match reader.read(&mut byte) {
-        Ok(n) => {
-            if n == 0 {
-                Ok(None)
-            } else {
-                Ok(Some(byte[0]))
-            }
-        }
+        Ok(n) => { if n == 0 { Ok(None) } else { Ok(Some(byte[0])) } }
         Err(failed) => Err(failed),
     }
 }

@@ -13,17 +13,16 @@ mod step;
 pub mod task;
 mod words;
 
-pub use reading::{LineFault, Reading, long_lines, read_line};
-pub use step::Step;
-
 use arguments::job;
 use lines::{PlanEnd, PlanFault, plan};
 use pon_port::PortCfg;
 use pon_units::dev::{StdRead, StdWrite};
 use pon_units::{FrameNo, Gap, Profile};
+pub use reading::{LineFault, Reading, long_lines, read_line};
 use std::alloc::Global;
 use std::io::{self, BufReader};
 use std::process::ExitCode;
+pub use step::Step;
 use task::Job;
 
 // The port that is opened without settings: gap 16, profile 0, first frame 0.

@@ -1,21 +1,20 @@
 -- Admitted sets stay admitted where no check refuses a change, and where one is removed.
-use Rattle.std.proofs.Common.{◌≡◌, ℕ, zero, suc, ◌+◌, ◌-◌, ◌*◌, ◌<◌, ◌≤◌, Bool, true, false, cond, not, ◌||◌, ◌&&◌, List, [], ◌∷◌, ◌++◌, map, length, refl, ap, sym, ◌∙◌, subst, arith, inl, inr}
-use Rattle.std.specs.Prelude.{◌==◌, ◌⊎◌, nat_lt, nat_le, if◌then◌else◌, filter, sum_by, count_by, All, Option, Some, None}
-use Rattle.std.specs.List.{list_any}
+use Rattle.std.proofs.Common.{◌≡◌, ℕ, suc, ◌+◌, ◌*◌, ◌<◌, ◌≤◌, Bool, true, false, cond, not, ◌||◌, ◌&&◌, List, [], ◌∷◌, ◌++◌, map, length, refl, ap, sym, ◌∙◌, subst, arith, inl, inr}
+use Rattle.std.specs.Prelude.{◌==◌, ◌⊎◌, nat_lt, nat_le, if◌then◌else◌, filter, sum_by, All, Option, None}
 use Rattle.std.proofs.Math.Nat.{mul-le-mul_left}
 use Rattle.std.proofs.lemmas.Bool.{and_parts, and_from, and_cases, or_cases, or_parts, or_from, or_left, or_right, ltb-true, lt-ltb, le-leb, leb-true, leb-false, eqb-true, eq-eqb, ne_eqb, not-true, not-false, false_from_ne_true, cases_Bool, cases_order}
 use Rattle.std.proofs.lemmas.List.{length-append, length-map, map-append}
-use Rattle.std.proofs.lemmas.List.Elements.{All-nil, All-cons, All-head, All-tail, All-append, All-filter, All-weaker, All-map, filter_passes}
+use Rattle.std.proofs.lemmas.List.Elements.{All-nil, All-cons, All-head, All-tail, All-filter, All-weaker, All-map, filter_passes}
 use Rattle.std.proofs.lemmas.List.Filters.{sum_by-filter_both, length-filter_both}
 use Rattle.std.proofs.lemmas.List.Folds.{list_any-append}
-use Rattle.std.proofs.lemmas.List.Sums.{sum_by-append, sum_by-cons}
-use Rattle.pon_port.specs.Descriptor.{Descriptor, IsLawful, promised, or_else, first_of, when}
+use Rattle.std.proofs.lemmas.List.Sums.{sum_by-cons}
+use Rattle.pon_port.specs.Descriptor.{Descriptor, IsLawful, promised, first_of}
 use Rattle.pon_port.specs.Roster.{IsAdmitted, IsDistinct, IsInMapOrder, IsInRange, Row, Rule, admit_checks, capacity, change_checks, comes_before, distinct, fits, has_alloc, has_onu, longest_series, most_onus, onus_of, overhead, owned, promised_sum, refuses_admit, refuses_change, with_descriptor, with_row, without}
 use Rattle.pon_port.specs.declared.refusal.Refusal.{Refusal}
 use Rattle.pon_port.specs.declared.refusal.Refusal.TheVariants.{AllocTaken, TooManyAllocs, TooManyOnus, SeriesFull, Capacity}
 use Rattle.pon_port.proofs.Cutting.{or_else_none, when_none}
 use Rattle.pon_port.proofs.Lists.{count_by-append, sum_by_same, sum_by-map, map-map, map_same}
-use Rattle.pon_port.proofs.Distinct.{bit, count_once, count_once-append, count_once_known, count_once_le, count_once_split, count_once_without, length-onus_of, occurs}
+use Rattle.pon_port.proofs.Distinct.{bit, count_once, count_once-append, count_once_known, count_once_split, count_once_without, length-onus_of, occurs}
 
 -- Map order.
 

@@ -1,24 +1,21 @@
 -- What a port keeps, one entry further.
-use Rattle.std.proofs.Common.{◌≡◌, ℕ, ◌+◌, ◌<◌, ◌≤◌, true, false, cond, not, ◌||◌, List, [], ◌∷◌, ◌++◌, map, length, refl, ap, sym, ◌∙◌, subst, arith}
-use Rattle.std.specs.Prelude.{◌==◌, nat_le, All, Option, Some, None, option_to_list, option_map}
+use Rattle.std.proofs.Common.{◌≡◌, ℕ, ◌+◌, ◌<◌, true, false, cond, ◌||◌, List, [], ◌∷◌, ◌++◌, map, length, refl, ap, sym, ◌∙◌, subst, arith}
+use Rattle.std.specs.Prelude.{◌==◌, All, Option, Some, None, option_to_list, option_map}
 use Rattle.std.specs.List.{list_any}
-use Rattle.std.proofs.lemmas.Bool.{eq-eqb, eqb-true, ne_eqb, not-false, leb-false, or_left}
-use Rattle.std.proofs.lemmas.List.Elements.{All-nil, All-cons, All-head, All-tail}
+use Rattle.std.proofs.lemmas.Bool.{eq-eqb, eqb-true, ne_eqb, or_left}
+use Rattle.std.proofs.lemmas.List.Elements.{All-nil, All-head, All-tail}
 use Rattle.pon_port.specs.declared.event.Event.{Event}
 use Rattle.pon_port.specs.declared.event.Event.TheVariants.{Admit, MakeMap}
 use Rattle.pon_port.specs.declared.reply.Reply.{Reply}
 use Rattle.pon_port.specs.declared.reply.Reply.TheVariants.{Taken, Map}
 use Rattle.pon_port.specs.declared.reply.MadeMap.{MadeMap}
 use Rattle.pon_port.specs.declared.reply.Entry.{Entry}
-use Rattle.pon_port.specs.declared.refusal.Refusal.{Refusal}
-use Rattle.pon_port.specs.declared.refusal.Refusal.TheVariants.{TooManyAllocs, Capacity}
 use Rattle.pon_port.proofs.Lists.{map-map}
 use Rattle.pon_port.proofs.AdmittedSets.{admit_keeps, passes}
 use Rattle.pon_port.proofs.Legality.{IsLegalAfter, after_from_legal, legal_from_after, legal_push}
-use Rattle.pon_port.proofs.Cutting.{replay-append, or_else_none, when_none}
+use Rattle.pon_port.proofs.Cutting.{replay-append, or_else_none}
 use Rattle.pon_port.proofs.Steps.{window_of-map, window_of-quiet, last_64-window, since_begins, since_keeps, counted_forgotten, counted_of-map}
-use Rattle.pon_port.specs.Descriptor.{first_of}
-use Rattle.pon_port.specs.Roster.{IsAdmitted, IsInRange, Row, admit_checks, comes_before, fits, has_alloc, owned, refuses_admit, rule_in_force, with_row}
+use Rattle.pon_port.specs.Roster.{IsAdmitted, IsInRange, Row, has_alloc, refuses_admit, rule_in_force, with_row}
 use Rattle.pon_port.specs.Book.{Account, Counted, account_of, alloc_ids, with_alloc}
 use Rattle.pon_port.specs.Window.{WindowMap}
 use Rattle.pon_port.specs.State.{State}

@@ -1,5 +1,5 @@
 -- The rosters of lawful chapters are admitted sets.
-use Rattle.std.proofs.Common.{◌≡◌, ℕ, List, [], ◌∷◌, ◌++◌, length, take, drop, refl, sym, subst, append_assoc}
+use Rattle.std.proofs.Common.{◌≡◌, ℕ, List, [], ◌∷◌, ◌++◌, length, take, drop, sym, subst, append_assoc}
 use Rattle.std.specs.Prelude.{None}
 use Rattle.std.proofs.lemmas.List.{append-nil, take-append-drop}
 use Rattle.pon_port.specs.Roster.{IsAdmitted, refuses_admit, refuses_change, rule_in_force}

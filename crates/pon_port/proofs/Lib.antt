@@ -11,3 +11,6 @@ pub mod LawfulChapters
 pub mod Laid
 pub mod SoundMaps
 pub mod Kept
+pub mod Steady
+pub mod LawfulStates
+pub mod CutChapters

@@ -1,6 +1,6 @@
 -- The map of an admitted set has sound bursts.
-use Rattle.std.proofs.Common.{◌≡◌, ℕ, zero, suc, ◌+◌, ◌-◌, ◌*◌, ◌/◌, ◌<◌, ◌≤◌, Bool, true, false, cond, not, ◌||◌, ◌&&◌, List, [], ◌∷◌, ◌++◌, map, length, refl, ap, sym, ◌∙◌, subst, append_assoc, arith, inl, inr}
-use Rattle.std.specs.Prelude.{◌==◌, ◌⊎◌, nat_lt, nat_le, if◌then◌else◌, filter, sum_by, All, Option, Some, None, min, max}
+use Rattle.std.proofs.Common.{◌≡◌, ℕ, ◌+◌, ◌*◌, ◌<◌, ◌≤◌, Bool, true, false, not, ◌||◌, ◌&&◌, List, [], ◌∷◌, ◌++◌, map, length, refl, ap, sym, ◌∙◌, subst, append_assoc, arith, inl, inr}
+use Rattle.std.specs.Prelude.{◌==◌, nat_lt, if◌then◌else◌, filter, sum_by, All, Some, None}
 use Rattle.std.specs.List.{list_any}
 use Rattle.std.proofs.Math.Nat.{mul-le-mul_left}
 use Rattle.std.proofs.lemmas.Bool.{and_parts, and_right, or_parts, ltb-true, lt-ltb, le-ltb, eqb-true, eq-eqb, ne_eqb, false_from_ne_true}
@@ -8,7 +8,6 @@ use Rattle.std.proofs.lemmas.List.{append-nil, map-append}
 use Rattle.std.proofs.lemmas.List.Elements.{All-nil, All-cons, All-head, All-tail, All-map, All-weaker}
 use Rattle.std.proofs.lemmas.List.Folds.{list_any-append, list_any_none}
 use Rattle.std.proofs.lemmas.List.Sums.{sum_by-append, sum_by-cons, sum_by-le, sum_by_push}
-use Rattle.pon_bwmap.specs.Structure.{Structure}
 use Rattle.pon_port.specs.Descriptor.{promised}
 use Rattle.pon_port.specs.Roster.{IsAdmitted, IsInMapOrder, Row, Rule, capacity, comes_before, has_onu, onus_of, overhead, promised_sum}
 use Rattle.pon_port.specs.State.{State}
@@ -17,7 +16,7 @@ use Rattle.pon_port.specs.Maps.{continues, grant, map_of, start_of, structure_of
 use Rattle.pon_port.specs.Bursts.{AreSound}
 use Rattle.pon_port.proofs.Lists.{or-false}
 use Rattle.pon_port.proofs.Distinct.{bit, count_once, count_once-append, count_once_agree, count_once_none, count_once_push, length-filter_distinct, length-onus_of, occurs}
-use Rattle.pon_port.proofs.AdmittedSets.{Precedes, fits_parts, occurs-onus, onus, precedes}
+use Rattle.pon_port.proofs.AdmittedSets.{fits_parts, occurs-onus, onus, precedes}
 use Rattle.pon_port.proofs.Laid.{AreLaid, BeginsAt, behind, end_of, laid_sound}
 
 -- Lists that two functions agree on.

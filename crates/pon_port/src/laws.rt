@@ -1,6 +1,6 @@
 //! Laws of histories, over the definitions alone.
 
-ghost use Rattle.std.specs.Prelude.{◌≡◌, ◌+◌, ◌++◌, ◌≤◌, ℕ, List, None};
+ghost use Rattle.std.specs.Prelude.{List, None, drop, take, ℕ, ◌++◌, ◌+◌, ◌<◌, ◌≡◌, ◌≤◌};
 ghost use Rattle.pon_port.specs.Descriptor.{Descriptor, IsLawful};
 ghost use Rattle.pon_port.specs.Roster.{IsAdmitted, IsInRange, Row, Rule, refuses_admit, refuses_change, rule_in_force, with_descriptor, with_row, without};
 ghost use Rattle.pon_port.specs.State.{State};
@@ -9,7 +9,7 @@ ghost use Rattle.pon_port.specs.Window.{LeadsTo};
 ghost use Rattle.pon_port.specs.Rates.{no_surplus};
 ghost use Rattle.pon_port.specs.Maps.{map_of};
 ghost use Rattle.pon_port.specs.Bursts.{AreSound};
-ghost use Rattle.pon_port.specs.Chapters.{Chapter, IsLawfulChapter, IsLegal, present_state, state_before};
+ghost use Rattle.pon_port.specs.Chapters.{Chapter, IsLawfulChapter, IsLawfulOpening, IsLegal, present_state, state_before};
 ghost use Rattle.pon_port.specs.declared.reply.Entry.{Entry};
 
 /// A legal history may be cut anywhere: the second part, opened with the replay of the first, leaves the same state, and
@@ -43,4 +43,20 @@ pub fn lawful_chapters_hold_admitted_sets()
 /// The rule sets aside one word for each Alloc-ID at least, for its report.
 pub fn maps_of_admitted_sets_are_sound()
     ensures { (s : State) (rule : Rule) → 1 ≤ rule.overhead_words → IsAdmitted rule s.gap s.roster → AreSound s.gap (map_of s no_surplus) }
+{}
+
+/// The state before any entry of a lawful chapter, and the state after all of them, may open a later chapter.
+pub fn lawful_chapters_open_later_ones()
+    ensures before { (c : Chapter) → IsLawfulChapter c → (n k : ℕ) → 0 < n → IsLawfulOpening n (state_before c k) }
+    ensures present { (c : Chapter) → IsLawfulChapter c → (n : ℕ) → 0 < n → IsLawfulOpening n (present_state c) }
+{}
+
+/// A lawful chapter that is cut anywhere gives two lawful chapters: the entries before the cut under its own number and opening, and the entries behind it under a later number, opened with the state at the cut. The second leaves the state that the whole leaves.
+pub fn cuts_of_lawful_chapters_are_lawful()
+    ensures front { (c : Chapter) → IsLawfulChapter c → (k : ℕ) →
+        IsLawfulChapter (record { number = c.number; opening = c.opening; entries = take k c.entries }) }
+    ensures rest { (c : Chapter) → IsLawfulChapter c → (k n : ℕ) → 0 < n →
+        IsLawfulChapter (record { number = n; opening = state_before c k; entries = drop k c.entries }) }
+    ensures same_end { (c : Chapter) → IsLawfulChapter c → (k n : ℕ) →
+        present_state (record { number = n; opening = state_before c k; entries = drop k c.entries }) ≡ present_state c }
 {}

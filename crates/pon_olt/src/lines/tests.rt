@@ -6,6 +6,7 @@ use pon_units::{Gap, Profile};
 use std::test::Fail;
 
 const FIRST_MAP: &[u8] = b"0 admit 5 1024 2560 0 2560 none\n0 map\n";
+
 const FIRST_TEXT: &[u8] = b"ok 0\nmap 0 002013ac10020010000b13cb\n";
 
 // What a run gave, and what its writer holds.
@@ -30,7 +31,14 @@ fn run(alloc: Global, input: &[u8], most: usize, reads: &[u64], writes: &[u64]) 
     let bytes = input.to_vec(alloc).ok()?;
     let mut reader = MemRead::new(bytes, most, reads.to_vec(alloc).ok()?);
     let mut writer = MemWrite::new(alloc, most, writes.to_vec(alloc).ok()?);
-    let result = plan(&(), alloc, &ports, Vec::new(alloc), &mut reader, &mut writer);
+    let result = plan(
+        &(),
+        alloc,
+        &ports,
+        Vec::new(alloc),
+        &mut reader,
+        &mut writer,
+    );
     let text = writer.bytes().to_vec(alloc).ok()?;
     Some(Answered { result, text })
 }
@@ -41,17 +49,29 @@ static WORKED: [(&[u8], &[u8]); 13] = [
     (b"", b""),
     (b"0 admit 5 1023 0 0 0 none\n", b"err E03 AllocRange\n"),
     (b"7 map\n", b"err L4 NoSuchPort\n"),
-    (b"0 admit 5 1024 2560 0 2559 none\n", b"err E06 MaxBelowGuaranteed\n"),
+    (
+        b"0 admit 5 1024 2560 0 2559 none\n",
+        b"err E06 MaxBelowGuaranteed\n",
+    ),
     (b"0 admit 5 1024 2488321 0 0 none\n", b"err E05 RateRange\n"),
-    (b"0 admit 5 1024 2483457 0 2483457 none\n", b"err E12 Capacity\n"),
+    (
+        b"0 admit 5 1024 2483457 0 2483457 none\n",
+        b"err E12 Capacity\n",
+    ),
     (b"0 admit 5 1024 2483456 0 2483456 none\n", b"ok 0\n"),
     (
         b"0 admit 5 1024 0 0 0 none\n0 admit 6 1024 0 0 0 none\n0 admit 6 1025 0 0 0 none\n",
         b"ok 0\nerr E02 AllocTaken\nerr E09 TooManyAllocs\n",
     ),
     (b"# a comment \xff\r\n \t\n0 map\r\n\r", b"map 0 00000000\n"),
-    (b"0 map 1\n0 cert\n0\nx map\n0 m\xc3p\n", b"err L2 WordCount\nerr L1 UnknownCommand\nerr L2 WordCount\nerr L3 BadField\nerr L7 NotText\n"),
-    (b"0 map\n0 map\n00\t map", b"map 0 00000000\nmap 1 00000000\nmap 2 00000000\n"),
+    (
+        b"0 map 1\n0 cert\n0\nx map\n0 m\xc3p\n",
+        b"err L2 WordCount\nerr L1 UnknownCommand\nerr L2 WordCount\nerr L3 BadField\nerr L7 NotText\n",
+    ),
+    (
+        b"0 map\n0 map\n00\t map",
+        b"map 0 00000000\nmap 1 00000000\nmap 2 00000000\n",
+    ),
 ];
 
 #[test]
@@ -81,7 +101,10 @@ fn long_lines_are_skipped(rt: HostRuntime) -> Result<(), Fail> {
     for bytes in [4097usize, 5000, 20_000] {
         let input = long_line(rt.alloc(), bytes)?;
         let run = run(rt.alloc(), &input, 4096, &[], &[]).ok_or("memory")?;
-        assert_eq!(rt; run.text.as_slice(), b"err L6 LineLong\nmap 0 00000000\n".as_slice());
+        assert_eq!(rt;
+            run.text.as_slice(),
+            b"err L6 LineLong\nmap 0 00000000\n".as_slice()
+        );
     }
     Ok(())
 }
@@ -141,6 +164,9 @@ fn a_full_chapter_is_told(rt: HostRuntime) -> Result<(), Fail> {
     }
     let run = run(rt.alloc(), &input, 4096, &[], &[]).ok_or("memory")?;
     assert_eq!(rt; run.result, Ok(PlanEnd));
-    assert!(rt; run.text.ends_with(b"map 65535 00000000\nerr E20 ChapterFull\n"));
+    assert!(rt;
+        run.text
+            .ends_with(b"map 65535 00000000\nerr E20 ChapterFull\n")
+    );
     Ok(())
 }

@@ -9,5 +9,5 @@ returns-in-Err-clause-text g c = nothing_done (opened_port c.args.port.now ∷ [
 pub returns-in-Ok-answer_lines-clause-text : goal.returns-in-Ok-answer_lines-clause-text
 returns-in-Ok-answer_lines-clause-text g c =
     not_flushed (opened_port c.args.port.now ∷ []) _ _ _ _ _ tt
-        (one_port c.in-Ok.opened (opened_port c.args.port.now) _ _ _ _ (Ok tt) c.in-Ok.ensures.number c.in-Ok.ensures.opening c.in-Ok.ensures.entries c.in-Ok-answer_lines.ensures.text)
-        c.in-Err-flush.ensures.bytes
+    (one_port c.in-Ok.opened (opened_port c.args.port.now) _ _ _ _ (Ok tt) c.in-Ok.ensures.number c.in-Ok.ensures.opening c.in-Ok.ensures.entries c.in-Ok-answer_lines.ensures.text)
+    c.in-Err-flush.ensures.bytes

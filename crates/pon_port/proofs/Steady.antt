@@ -1,0 +1,272 @@
+-- What every state of a lawful chapter keeps, but for the accounts of its reports.
+use Rattle.std.proofs.Common.{◌≡◌, ℕ, ◌-◌, ◌<◌, ◌≤◌, Bool, true, false, cond, not, ◌||◌, ◌&&◌, List, [], ◌∷◌, ◌++◌, map, length, refl, ap, sym, ◌∙◌, subst, arith, inl, inr, get_or}
+use Rattle.std.specs.Prelude.{◌==◌, nat_le, nat_lt, if◌then◌else◌, filter, All, Option, Some, None, IfSome, option_to_list}
+use Rattle.std.specs.List.{list_any}
+use Rattle.std.proofs.lemmas.Bool.{ltb-true, ltb-false, eq-eqb, not-true, or_parts, or_right, cases_Bool, cases_order}
+use Rattle.std.proofs.lemmas.Option.{IfSome_then}
+use Rattle.std.proofs.lemmas.List.Elements.{All-nil, All-cons, All-head, All-tail, All-append, All-drop, All-filter, All-map, All-weaker, filter_passes}
+use Rattle.std.proofs.lemmas.List.Folds.{list_any-append}
+use Rattle.pon_bwmap.specs.Structure.{Structure}
+use Rattle.pon_port.specs.Descriptor.{or_else}
+use Rattle.pon_port.specs.Roster.{IsAdmitted, IsInMapOrder, Row, comes_before, has_alloc, refuses_admit, rule_in_force, without}
+use Rattle.pon_port.specs.Book.{Account, account_of, alloc_ids, with_alloc}
+use Rattle.pon_port.specs.Window.{Granted, LeadsTo, WindowMap, polled}
+use Rattle.pon_port.specs.State.{State}
+use Rattle.pon_port.specs.Replay.{admits, all_maps, allocs_after, begins, cause_after, forgets, frame_at_last, grants_of, last_64, makes_map, maps_of, new_map, reports, roster_after, structures, window_of, with_reports}
+use Rattle.pon_port.specs.Loads.{account_after, candidates_in, counted_of, counted_of_account, latest, replay, since_of_account}
+use Rattle.pon_port.specs.Checks.{at_limit, first_refusal, refuses_report, when_down, when_full}
+use Rattle.pon_port.specs.Legal.{MayFollow}
+use Rattle.pon_port.specs.Chapters.{AccountsFor, AreGrantsRising, AreRising, ComesBefore, IsLawfulMap, IsSilent}
+use Rattle.pon_port.specs.declared.event.Event.{Event}
+use Rattle.pon_port.specs.declared.event.Event.TheVariants.{Admit, Change, Remove, Report, MakeMap, Fail, Restore}
+use Rattle.pon_port.specs.declared.reply.Entry.{Entry}
+use Rattle.pon_port.proofs.Lists.{any_eq-filter, append-nil, filter_same_in, length-drop, map_filter, or_assoc}
+use Rattle.pon_port.proofs.Windows.{filter_low, leads-map}
+use Rattle.pon_port.proofs.Cutting.{alloc_ids-replay, or_else_none, window_leads}
+use Rattle.pon_port.proofs.Steps.{counted_forgotten, counted_of-report}
+use Rattle.pon_port.proofs.AdmittedSets.{Passes, has_alloc-changed, passes, precedes}
+use Rattle.pon_port.proofs.LawfulChapters.{event_keeps}
+
+-- the parts of a lawful opening that speak of no account
+pub record IsSteady (s : State) : Type 0 where
+  pub admitted : IsAdmitted rule_in_force s.gap s.roster
+  pub book : AccountsFor s.roster s.book
+  pub few_maps : length s.window ≤ 64
+  pub frames : LeadsTo s.next s.window
+  pub maps : All IsLawfulMap s.window
+  pub failed : IfSome s.cause (λ cause. IsSilent s)
+
+-- The window.
+
+pub short_window : (s : State) (es : List Entry) → length (window_of s es) ≤ 64
+short_window s es =
+    let kept : List WindowMap = filter (λ m. nat_le (frame_at_last (λ e. forgets e.event) 0 s.next es) m.frame) (all_maps s es) in
+    omega (arith, length-drop (length kept - 64) kept)
+
+-- what holds of each map of the window, after the entry, and of the map that the entry makes
+pub window_all : (P : WindowMap → Type 0) (s : State) (e : Entry) → All (λ m. P (with_reports (e ∷ []) m)) s.window →
+    (makes_map e.event ≡ true → P (with_reports [] (new_map s.roster s.next e.reply))) → All P (window_of s (e ∷ []))
+window_all P s e old new =
+    let kept : List WindowMap = filter (λ m. nat_le (frame_at_last (λ e. forgets e.event) 0 s.next (e ∷ [])) m.frame) (all_maps s (e ∷ [])) in
+    All-drop P (length kept - 64) kept
+    (All-filter (λ m. nat_le (frame_at_last (λ e. forgets e.event) 0 s.next (e ∷ [])) m.frame) P (all_maps s (e ∷ []))
+    (All-append P (map (with_reports (e ∷ [])) s.window) (maps_of s.roster s.next (e ∷ [])) (All-map P (with_reports (e ∷ [])) s.window old)
+    ((elim (makes_map e.event) as (λ b. makes_map e.event ≡ b → All P (map (with_reports []) (if b then new_map s.roster s.next e.reply ∷ [] else []) ++ [])) [
+      | true ↦ λ t. All-cons P (with_reports [] (new_map s.roster s.next e.reply)) [] (new t) (All-nil P)
+      | false ↦ λ _. All-nil P
+    ]) refl)))
+
+-- Lawful maps.
+
+pub reported_lawful : (es : List Entry) (m : WindowMap) → AreGrantsRising m.grants → IsLawfulMap (with_reports es m)
+reported_lawful es m h =
+    let said : ℕ → Bool = λ u. list_any (λ v. v == u) m.reported || list_any (λ e. reports m.frame u e.event) es in
+    record {
+      rising = h;
+      reported = filter_same_in said (λ u. list_any (λ v. v == u) (filter said (polled m))) (polled m)
+          (λ u k. sym (any_eq-filter said u (polled m) ∙ ap (λ b. said u && b) k ∙ and_true (said u)));
+    }
+  where
+    and_true : (b : Bool) → (b && true) ≡ b
+    and_true true = refl
+    and_true false = refl
+
+-- what holds of each row's grant
+pub grants_all : (P : Granted → Type 0) (rows : List Row) (more : List Structure) → All (λ r. (w : ℕ) → P (record { onu = r.onu; alloc_id = r.alloc_id; words = w })) rows → All P (grants_of rows more)
+grants_all P [] more h = All-nil P
+grants_all P (r ∷ rows) [] h = All-nil P
+grants_all P (r ∷ rows) (a ∷ more) h =
+    All-cons P (record { onu = r.onu; alloc_id = r.alloc_id; words = a.grant - 1 }) (grants_of rows more)
+    (All-head (λ r. (w : ℕ) → P (record { onu = r.onu; alloc_id = r.alloc_id; words = w })) r rows h (a.grant - 1))
+    (grants_all P rows more (All-tail (λ r. (w : ℕ) → P (record { onu = r.onu; alloc_id = r.alloc_id; words = w })) r rows h))
+
+grants_rise : (rows : List Row) (more : List Structure) → IsInMapOrder rows → AreGrantsRising (grants_of rows more)
+grants_rise [] more h = tt
+grants_rise (r ∷ rows) [] h = tt
+grants_rise (r ∷ rows) (a ∷ more) h = (
+  grants_all (ComesBefore (record { onu = r.onu; alloc_id = r.alloc_id; words = a.grant - 1 })) rows more
+      (All-weaker (λ q. comes_before r q ≡ true) (λ q. (w : ℕ) → ComesBefore (record { onu = r.onu; alloc_id = r.alloc_id; words = a.grant - 1 }) (record { onu = q.onu; alloc_id = q.alloc_id; words = w }))
+      (λ q k w. elim (precedes r q k) [
+        | inl b ↦ (omega (arith, b), λ e. absurd (omega (arith, b, e)))
+        | inr b ↦ (omega (arith, b.0), λ e. b.1)
+      ]) rows h.0),
+  grants_rise rows more h.1,
+)
+
+maps_step : (s : State) (e : Entry) → IsSteady s → All IsLawfulMap (window_of s (e ∷ []))
+maps_step s e k = window_all IsLawfulMap s e
+    (All-weaker IsLawfulMap (λ m. IsLawfulMap (with_reports (e ∷ []) m)) (λ m l. reported_lawful (e ∷ []) m l.rising) s.window k.maps)
+    (λ _. reported_lawful [] (new_map s.roster s.next e.reply) (grants_rise s.roster (structures e.reply) k.admitted.in_map_order))
+
+-- The Alloc-IDs of the book.
+
+rising_filter : (t : ℕ → Bool) (ids : List ℕ) → AreRising ids → AreRising (filter t ids)
+rising_filter t [] h = tt
+rising_filter t (i ∷ ids) h = elim (t i) as (λ b. AreRising (cond b (i ∷ filter t ids) (filter t ids))) [
+  | true ↦ (All-filter t (λ j. i < j) ids h.0, rising_filter t ids h.1)
+  | false ↦ rising_filter t ids h.1
+]
+
+rising_join : (i : ℕ) (xs ys : List ℕ) → AreRising xs → All (λ j. j < i) xs → All (λ j. i < j) ys → AreRising ys → AreRising (xs ++ i ∷ ys)
+rising_join i [] ys h l g k = (g, k)
+rising_join i (x ∷ xs) ys h l g k =
+    let first : x < i = All-head (λ j. j < i) x xs l in (
+      All-append (λ j. x < j) xs (i ∷ ys) h.0 (All-cons (λ j. x < j) i ys first (All-weaker (λ j. i < j) (λ j. x < j) (λ j q. omega (arith, first, q)) ys g)),
+      rising_join i xs ys h.1 (All-tail (λ j. j < i) x xs l) g k,
+    )
+
+pub none_any : {X : Type 0} (p : X → Bool) (xs : List X) → list_any p xs ≡ false → All (λ x. p x ≡ false) xs
+none_any p [] h = All-nil (λ x. p x ≡ false)
+none_any p (x ∷ xs) h =
+    let two : (p x ≡ false) × (list_any p xs ≡ false) = or_parts (p x) (list_any p xs) h in
+    All-cons (λ x. p x ≡ false) x xs two.0 (none_any p xs two.1)
+
+rising_with : (i : ℕ) (ids : List ℕ) → AreRising ids → list_any (λ j. j == i) ids ≡ false → AreRising (with_alloc i ids)
+rising_with i ids h n =
+    let upper : List ℕ = filter (λ j. not (nat_lt j i)) ids in
+    let other : All (λ j. (j == i) ≡ false) upper = All-filter (λ j. not (nat_lt j i)) (λ j. (j == i) ≡ false) ids (none_any (λ j. j == i) ids n) in
+    let not_below : All (λ j. not (nat_lt j i) ≡ true) upper = filter_passes (λ j. not (nat_lt j i)) ids in
+    rising_join i (filter (λ j. nat_lt j i) ids) upper (rising_filter (λ j. nat_lt j i) ids h)
+    (All-weaker (λ j. nat_lt j i ≡ true) (λ j. j < i) (λ j q. ltb-true j i q) (filter (λ j. nat_lt j i) ids) (filter_passes (λ j. nat_lt j i) ids))
+    (λ k d l. above (get_or upper k d) (other k d l) (not_below k d l))
+    (rising_filter (λ j. not (nat_lt j i)) ids h)
+  where
+    above : (j : ℕ) → (j == i) ≡ false → not (nat_lt j i) ≡ true → i < j
+    above j d l =
+        let least : i ≤ j = ltb-false j i (not-true (nat_lt j i) l) in
+        elim (cases_order i j) [
+          | inl e ↦ absurd (let t : true ≡ false = sym (eq-eqb j i (sym e)) ∙ d in cc)
+          | inr e ↦ omega (arith, e, least)
+        ]
+
+-- one more in its place, the others kept
+pub any_around : {X : Type 0} (p q : X → Bool) (x : X) (xs : List X) → list_any p (filter q xs ++ x ∷ filter (λ y. not (q y)) xs) ≡ (p x || list_any p xs)
+any_around p q x xs = list_any-append p (filter q xs) (x ∷ filter (λ y. not (q y)) xs)
+    ∙ or_swap (list_any p (filter q xs)) (p x) (list_any p (filter (λ y. not (q y)) xs))
+    ∙ ap (λ b. p x || b) (both p q xs)
+  where
+    or_swap : (a b c : Bool) → (a || (b || c)) ≡ (b || (a || c))
+    or_swap true true c = refl
+    or_swap true false c = refl
+    or_swap false b c = refl
+
+    both : {X : Type 0} (p q : X → Bool) (xs : List X) → (list_any p (filter q xs) || list_any p (filter (λ y. not (q y)) xs)) ≡ list_any p xs
+    both p q [] = refl
+    both p q (y ∷ xs) = elim (q y) as (λ b. (list_any p (cond b (y ∷ filter q xs) (filter q xs)) || list_any p (cond (not b) (y ∷ filter (λ y. not (q y)) xs) (filter (λ y. not (q y)) xs))) ≡ (p y || list_any p xs)) [
+      | true ↦ or_assoc (p y) (list_any p (filter q xs)) (list_any p (filter (λ y. not (q y)) xs)) ∙ ap (λ b. p y || b) (both p q xs)
+      | false ↦ or_swap (list_any p (filter q xs)) (p y) (list_any p (filter (λ y. not (q y)) xs)) ∙ ap (λ b. p y || b) (both p q xs)
+    ]
+
+has_alloc-is : (j : ℕ) (rows : List Row) → has_alloc j rows ≡ list_any (λ i. i == j) (map (λ r. r.alloc_id) rows)
+has_alloc-is j [] = refl
+has_alloc-is j (r ∷ rows) = ap (λ b. (r.alloc_id == j) || b) (has_alloc-is j rows)
+
+has_alloc-without : (i j : ℕ) (rows : List Row) → has_alloc j (without i rows) ≡ (not (j == i) && has_alloc j rows)
+has_alloc-without i j rows =
+    has_alloc-is j (without i rows)
+    ∙ ap (list_any (λ k. k == j)) (sym (map_filter (λ r. r.alloc_id) (λ k. not (k == i)) rows))
+    ∙ any_eq-filter (λ k. not (k == i)) j (map (λ r. r.alloc_id) rows)
+    ∙ ap (λ b. not (j == i) && b) (sym (has_alloc-is j rows))
+
+-- the Alloc-IDs after an event are those of the roster after it
+ids_step : (kept : ℕ) (s : State) (v : Event) → first_refusal kept s v ≡ None → AccountsFor s.roster s.book →
+    AreRising (allocs_after (alloc_ids s.book) v) × ((i : ℕ) → list_any (λ j. j == i) (allocs_after (alloc_ids s.book) v) ≡ has_alloc i (roster_after s.roster v))
+ids_step kept s (Admit onu alloc_id descriptor) h k =
+    let r : Row = record { onu = onu; alloc_id = alloc_id; descriptor = descriptor } in
+    let p : Passes rule_in_force s.gap s.roster r = passes rule_in_force s.gap s.roster r (or_else_none (refuses_admit rule_in_force s.gap s.roster r) (when_full kept s.taken_before) h).0 in (
+      rising_with alloc_id (alloc_ids s.book) k.0 (k.1 alloc_id ∙ p.free),
+      λ i. any_around (λ j. j == i) (λ j. nat_lt j alloc_id) alloc_id (alloc_ids s.book)
+          ∙ ap (λ b. (alloc_id == i) || b) (k.1 i)
+          ∙ sym (any_around (λ q. q.alloc_id == i) (λ q. comes_before q r) r s.roster),
+    )
+ids_step kept s (Change alloc_id descriptor not_yet) h k = (k.0, λ i. k.1 i ∙ sym (has_alloc-changed alloc_id descriptor i s.roster))
+ids_step kept s (Remove alloc_id not_yet) h k = (
+  rising_filter (λ j. not (j == alloc_id)) (alloc_ids s.book) k.0,
+  λ i. any_eq-filter (λ j. not (j == alloc_id)) i (alloc_ids s.book) ∙ ap (λ b. not (i == alloc_id) && b) (k.1 i) ∙ sym (has_alloc-without alloc_id i s.roster),
+)
+ids_step kept s (Report frame onu occ not_yet) h k = k
+ids_step kept s MakeMap h k = k
+ids_step kept s (Fail cause not_yet) h k = k
+ids_step kept s (Restore not_yet) h k = k
+
+-- A failed port.
+
+none_counted : (book : List Account) (i : ℕ) → All (λ a. a.counted ≡ None) book → counted_of_account (account_of book i) ≡ []
+none_counted [] i h = refl
+none_counted (a ∷ book) i h = elim (a.alloc_id == i) as (λ b. counted_of_account (cond b (Some a) (account_of book i)) ≡ []) [
+  | true ↦ ap (λ c. option_to_list c) (All-head (λ a. a.counted ≡ None) a book h)
+  | false ↦ none_counted book i (All-tail (λ a. a.counted ≡ None) a book h)
+]
+
+-- what changes the roster alone leaves it silent
+silent_stays : (s : State) (e : Entry) → IsSilent s → makes_map e.event ≡ false → ((ms : List WindowMap) (since i : ℕ) → candidates_in ms since i e.event ≡ []) → IsSilent (replay s (e ∷ []))
+silent_stays s e k m none = (
+  empty,
+  All-map (λ a. a.counted ≡ None) (account_after s (e ∷ [])) (allocs_after (alloc_ids s.book) e.event) (λ n d l. uncounted (get_or (allocs_after (alloc_ids s.book) e.event) n d)),
+)
+  where
+    test : WindowMap → Bool
+    test = λ w. nat_le (frame_at_last (λ e. forgets e.event) 0 s.next (e ∷ [])) w.frame
+
+    empty : window_of s (e ∷ []) ≡ []
+    empty = (λ i. last_64 (filter (λ w. nat_le (frame_at_last (λ e. forgets e.event) 0 s.next (e ∷ [])) w.frame)
+        (map (with_reports (e ∷ [])) (k.0 i) ++ (map (with_reports []) (if m i then new_map s.roster s.next e.reply ∷ [] else []) ++ []))))
+
+    uncounted : (i : ℕ) → counted_of s (e ∷ []) i ≡ None
+    uncounted i = elim (cases_Bool (begins i e)) [
+      | inl b ↦ counted_forgotten s i e b (λ ms since. none ms since i)
+      | inr b ↦ counted_of-report s i e m b
+          ∙ (λ j. latest (none_counted s.book i k.1 j ++ none (map (with_reports (e ∷ [])) s.window) (since_of_account (account_of s.book i)) i j))
+    ]
+
+pub not_down : (c : Option ℕ) → when_down c ≡ None → c ≡ None
+not_down None h = refl
+not_down (Some c) h = absurd cc
+
+-- a fault empties the window and forgets the reports
+cut_silent : (s : State) (e : Entry) → LeadsTo s.next s.window → makes_map e.event ≡ false → forgets e.event ≡ true → ((ms : List WindowMap) (since i : ℕ) → candidates_in ms since i e.event ≡ []) → IsSilent (replay s (e ∷ []))
+cut_silent s e leads m c none = (
+  empty,
+  All-map (λ a. a.counted ≡ None) (account_after s (e ∷ [])) (allocs_after (alloc_ids s.book) e.event)
+      (λ n d l. counted_forgotten s (get_or (allocs_after (alloc_ids s.book) e.event) n d) e
+      (or_right (admits (get_or (allocs_after (alloc_ids s.book) e.event) n d) e.event) (forgets e.event) c)
+      (λ ms since. none ms since (get_or (allocs_after (alloc_ids s.book) e.event) n d))),
+)
+  where
+    empty : window_of s (e ∷ []) ≡ []
+    empty =
+        let seen : List WindowMap = map (with_reports (e ∷ [])) s.window in
+        (λ i. last_64 (filter (λ w. nat_le (if c i then s.next else 0) w.frame) (seen ++ (map (with_reports []) (if m i then new_map s.roster s.next e.reply ∷ [] else []) ++ []))))
+        ∙ ap last_64 (ap (filter (λ w. nat_le s.next w.frame)) (append-nil seen) ∙ filter_low s.next s.next seen (leads-map (e ∷ []) s.next s.window leads) (omega arith))
+
+failed_step : (kept : ℕ) (s : State) (e : Entry) → first_refusal kept s e.event ≡ None → IsSteady s → IfSome (cause_after s.cause e.event) (λ cause. IsSilent (replay s (e ∷ [])))
+failed_step kept s e h k = one e.event refl h
+  where
+    same : (v : Event) → e.event ≡ v → makes_map v ≡ false → ((ms : List WindowMap) (since i : ℕ) → candidates_in ms since i v ≡ []) → IfSome s.cause (λ cause. IsSilent (replay s (e ∷ [])))
+    same v q m none = IfSome_then s.cause k.failed (λ cause l. silent_stays s e l (ap makes_map q ∙ m) (λ ms since i. ap (candidates_in ms since i) q ∙ none ms since i))
+
+    up : (v : Event) → s.cause ≡ None → IfSome s.cause (λ cause. IsSilent (replay s (e ∷ [])))
+    up v q = subst (λ c. IfSome c (λ cause. IsSilent (replay s (e ∷ [])))) (sym q) tt
+
+    one : (v : Event) → e.event ≡ v → first_refusal kept s v ≡ None → IfSome (cause_after s.cause v) (λ cause. IsSilent (replay s (e ∷ [])))
+    one (Admit onu alloc_id descriptor) q h = same (Admit onu alloc_id descriptor) q refl (λ ms since i. refl)
+    one (Change alloc_id descriptor not_yet) q h = same (Change alloc_id descriptor not_yet) q refl (λ ms since i. refl)
+    one (Remove alloc_id not_yet) q h = same (Remove alloc_id not_yet) q refl (λ ms since i. refl)
+    one (Report frame onu occ not_yet) q h =
+        up (Report frame onu occ not_yet) (not_down s.cause (or_else_none (when_down s.cause) (refuses_report s.window frame onu (length occ)) (or_else_none (or_else (when_down s.cause) (refuses_report s.window frame onu (length occ))) (when_full kept s.taken_before) h).0).0)
+    one MakeMap q h = up MakeMap (not_down s.cause (or_else_none (when_down s.cause) (at_limit s.next) (or_else_none (or_else (when_down s.cause) (at_limit s.next)) (when_full kept s.taken_before) h).0).0)
+    one (Fail cause not_yet) q h = cut_silent s e k.frames (ap makes_map q) (ap forgets q) (λ ms since i. ap (candidates_in ms since i) q)
+    one (Restore not_yet) q h = tt
+
+-- One entry further, and all of a legal list.
+
+pub steady_step : (kept : ℕ) (s : State) (e : Entry) → MayFollow kept s e → IsSteady s → IsSteady (replay s (e ∷ []))
+steady_step kept s e f k = record {
+  admitted = event_keeps kept s e.event f.event f.accepted k.admitted;
+  book = subst (λ ids. AreRising ids × ((i : ℕ) → list_any (λ j. j == i) ids ≡ has_alloc i (roster_after s.roster e.event))) (sym (alloc_ids-replay s (e ∷ [])))
+      (ids_step kept s e.event f.accepted k.book);
+  few_maps = short_window s (e ∷ []);
+  frames = window_leads s (e ∷ []) k.frames;
+  maps = maps_step s e k;
+  failed = failed_step kept s e f.accepted k;
+}
