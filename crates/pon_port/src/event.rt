@@ -30,7 +30,7 @@ impl Occupancies {
 }
 
 /// What is not taken yet: no value of it exists.
-#[derive(Clone, Copy, Debug, PartialEq, Eq)]
+#[derive(Clone, Copy)]
 pub enum NotYet {}
 
 /// What may happen at a port. So far `Admit` and `MakeMap` can be made; the others wait for their parts.
