@@ -1,0 +1,34 @@
+/* Preloaded into the program: refuses the allocation of the number in REFUSE_AT, counted from 1, and no other. */
+#include <errno.h>
+#include <stddef.h>
+#include <stdlib.h>
+
+extern void *__libc_malloc(size_t);
+extern void *__libc_calloc(size_t, size_t);
+extern void *__libc_realloc(void *, size_t);
+extern void *__libc_memalign(size_t, size_t);
+
+static int is_refused(void) {
+    static long made = 0;
+    static long refused = -1;
+    if (refused < 0) {
+        const char *text = getenv("REFUSE_AT");
+        refused = text ? atol(text) : 0;
+    }
+    made += 1;
+    return made == refused;
+}
+
+void *malloc(size_t size) { return is_refused() ? NULL : __libc_malloc(size); }
+
+void *calloc(size_t count, size_t size) { return is_refused() ? NULL : __libc_calloc(count, size); }
+
+void *realloc(void *old, size_t size) { return is_refused() ? NULL : __libc_realloc(old, size); }
+
+void *aligned_alloc(size_t align, size_t size) { return is_refused() ? NULL : __libc_memalign(align, size); }
+
+int posix_memalign(void **out, size_t align, size_t size) {
+    if (is_refused()) return ENOMEM;
+    *out = __libc_memalign(align, size);
+    return *out ? 0 : ENOMEM;
+}
