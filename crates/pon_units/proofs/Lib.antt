@@ -1,2 +1,4 @@
 mod Pieces
+pub mod Distinct
+pub mod Lists
 pub mod PolynomialLaws

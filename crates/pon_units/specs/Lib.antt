@@ -1,5 +1,7 @@
 pub mod Counts
 pub mod Device
+pub mod Distinct
 pub mod Fraction
+pub mod Granted
 pub mod Memory
 pub mod Polynomial

@@ -8,7 +8,7 @@ use std::marker::Model;
 /// so the greatest rate is that of the greatest occupancy, 16,777,215 words, sent in every frame.
 #[derive(Clone, Copy, Debug, PartialEq, Eq, PartialOrd, Ord)]
 pub struct Kbps {
-    number: u32,
+    rate: u32,
 }
 
 impl Model for Kbps {
@@ -16,11 +16,11 @@ impl Model for Kbps {
 
     ghost Value = { ℕ };
 
-    ghost view = { λ a. a.number };
+    ghost view = { λ a. a.rate };
 
-    ghost invariant = { λ a. a.number ≤ 4_294_967_040 };
+    ghost invariant = { λ a. a.rate ≤ 4_294_967_040 };
 
-    ghost inverse = { λ n. record { number = n } };
+    ghost inverse = { λ n. record { rate = n } };
 }
 
 impl Kbps {
@@ -32,7 +32,7 @@ impl Kbps {
         ensures { SomeIff result (n ≤ 4_294_967_040) n }
     {
         if n <= Self::MAX {
-            Some(Kbps { number: n })
+            Some(Kbps { rate: n })
         } else {
             None
         }
@@ -43,7 +43,7 @@ impl Kbps {
         ensures value { result ≡ self }
         ensures range { self ≤ 4_294_967_040 }
     {
-        self.number
+        self.rate
     }
 }
 
@@ -51,7 +51,7 @@ impl Kbps {
 /// bytes (ITU-T G.987.3, upstream frame).
 #[derive(Clone, Copy, Debug, PartialEq, Eq, PartialOrd, Ord)]
 pub struct Words {
-    number: u16,
+    words: u16,
 }
 
 impl Model for Words {
@@ -59,11 +59,11 @@ impl Model for Words {
 
     ghost Value = { ℕ };
 
-    ghost view = { λ a. a.number };
+    ghost view = { λ a. a.words };
 
-    ghost invariant = { λ a. a.number ≤ 9720 };
+    ghost invariant = { λ a. a.words ≤ 9720 };
 
-    ghost inverse = { λ n. record { number = n } };
+    ghost inverse = { λ n. record { words = n } };
 }
 
 impl Words {
@@ -75,7 +75,7 @@ impl Words {
         ensures { SomeIff result (n ≤ 9720) n }
     {
         if n <= Self::MAX {
-            Some(Words { number: n })
+            Some(Words { words: n })
         } else {
             None
         }
@@ -86,7 +86,7 @@ impl Words {
         ensures value { result ≡ self }
         ensures range { self ≤ 9720 }
     {
-        self.number
+        self.words
     }
 }
 
@@ -94,7 +94,7 @@ impl Words {
 /// them in 24 bits (ITU-T G.987.3, BufOcc of the dynamic bandwidth report).
 #[derive(Clone, Copy, Debug, PartialEq, Eq, PartialOrd, Ord)]
 pub struct BufOcc {
-    number: u32,
+    occupancy: u32,
 }
 
 impl Model for BufOcc {
@@ -102,11 +102,11 @@ impl Model for BufOcc {
 
     ghost Value = { ℕ };
 
-    ghost view = { λ a. a.number };
+    ghost view = { λ a. a.occupancy };
 
-    ghost invariant = { λ a. a.number ≤ 16_777_215 };
+    ghost invariant = { λ a. a.occupancy ≤ 16_777_215 };
 
-    ghost inverse = { λ n. record { number = n } };
+    ghost inverse = { λ n. record { occupancy = n } };
 }
 
 impl BufOcc {
@@ -118,7 +118,7 @@ impl BufOcc {
         ensures { SomeIff result (n ≤ 16_777_215) n }
     {
         if n <= Self::MAX {
-            Some(BufOcc { number: n })
+            Some(BufOcc { occupancy: n })
         } else {
             None
         }
@@ -129,6 +129,6 @@ impl BufOcc {
         ensures value { result ≡ self }
         ensures range { self ≤ 16_777_215 }
     {
-        self.number
+        self.occupancy
     }
 }

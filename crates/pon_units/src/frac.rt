@@ -10,8 +10,8 @@ use std::marker::Model;
 /// `==` compares the numbers as they are written, so 90/3 is not 30/1. [`cmp_frac`] compares the values.
 #[derive(Clone, Copy, Debug, PartialEq, Eq)]
 pub struct Frac {
-    num: u64,
-    den: u64,
+    numerator: u64,
+    denominator: u64,
 }
 
 impl Model for Frac {
@@ -20,11 +20,11 @@ impl Model for Frac {
 
     ghost Value = { Fraction };
 
-    ghost view = { λ f. record { num = f.num; den = f.den } };
+    ghost view = { λ f. record { num = f.numerator; den = f.denominator } };
 
-    ghost invariant = { λ f. 0 < f.den };
+    ghost invariant = { λ f. 0 < f.denominator };
 
-    ghost inverse = { λ v. record { num = v.num; den = v.den } };
+    ghost inverse = { λ v. record { numerator = v.num; denominator = v.den } };
 }
 
 impl Frac {
@@ -33,14 +33,17 @@ impl Frac {
         requires { 0 < den }
         ensures { result ≡ record { num = num; den = den } }
     {
-        Frac { num, den }
+        Frac {
+            numerator: num,
+            denominator: den,
+        }
     }
 
     /// The numerator.
     pub fn num(self) -> u64
         ensures { result ≡ self.num }
     {
-        self.num
+        self.numerator
     }
 
     /// The denominator.
@@ -48,7 +51,7 @@ impl Frac {
         ensures value { result ≡ self.den }
         ensures positive { 0 < result }
     {
-        self.den
+        self.denominator
     }
 }
 
@@ -57,8 +60,8 @@ impl Frac {
 pub fn cmp_frac(a: Frac, b: Frac) -> Ordering
     ensures { result ≡ nat_cmp (a.num * b.den) (b.num * a.den) }
 {
-    let left = u128::from(a.num) * u128::from(b.den);
-    let right = u128::from(b.num) * u128::from(a.den);
+    let left = u128::from(a.numerator) * u128::from(b.denominator);
+    let right = u128::from(b.numerator) * u128::from(a.denominator);
     left.cmp(&right)
 }
 

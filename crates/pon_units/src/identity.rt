@@ -7,7 +7,7 @@ use std::marker::Model;
 /// An ONU-ID, 0 to 1022: the number of an optical network unit on its line (ITU-T G.987.3, ONU-ID).
 #[derive(Clone, Copy, Debug, PartialEq, Eq, PartialOrd, Ord)]
 pub struct OnuId {
-    number: u16,
+    onu: u16,
 }
 
 impl Model for OnuId {
@@ -15,11 +15,11 @@ impl Model for OnuId {
 
     ghost Value = { ℕ };
 
-    ghost view = { λ a. a.number };
+    ghost view = { λ a. a.onu };
 
-    ghost invariant = { λ a. a.number ≤ 1022 };
+    ghost invariant = { λ a. a.onu ≤ 1022 };
 
-    ghost inverse = { λ n. record { number = n } };
+    ghost inverse = { λ n. record { onu = n } };
 }
 
 impl OnuId {
@@ -31,7 +31,7 @@ impl OnuId {
         ensures { SomeIff result (n ≤ 1022) n }
     {
         if n <= Self::MAX {
-            Some(OnuId { number: n })
+            Some(OnuId { onu: n })
         } else {
             None
         }
@@ -42,7 +42,7 @@ impl OnuId {
         ensures value { result ≡ self }
         ensures range { self ≤ 1022 }
     {
-        self.number
+        self.onu
     }
 }
 
@@ -50,7 +50,7 @@ impl OnuId {
 /// Alloc-ID). The default Alloc-IDs below 1024, which equal ONU-IDs, are none of these.
 #[derive(Clone, Copy, Debug, PartialEq, Eq, PartialOrd, Ord)]
 pub struct AllocId {
-    number: u16,
+    alloc_id: u16,
 }
 
 impl Model for AllocId {
@@ -58,11 +58,11 @@ impl Model for AllocId {
 
     ghost Value = { ℕ };
 
-    ghost view = { λ a. a.number };
+    ghost view = { λ a. a.alloc_id };
 
-    ghost invariant = { λ a. (1024 ≤ a.number) × (a.number ≤ 16383) };
+    ghost invariant = { λ a. (1024 ≤ a.alloc_id) × (a.alloc_id ≤ 16383) };
 
-    ghost inverse = { λ n. record { number = n } };
+    ghost inverse = { λ n. record { alloc_id = n } };
 }
 
 impl AllocId {
@@ -77,7 +77,7 @@ impl AllocId {
         ensures { SomeIff result ((1024 ≤ n) × (n ≤ 16383)) n }
     {
         if n >= Self::MIN && n <= Self::MAX {
-            Some(AllocId { number: n })
+            Some(AllocId { alloc_id: n })
         } else {
             None
         }
@@ -88,14 +88,14 @@ impl AllocId {
         ensures value { result ≡ self }
         ensures range { (1024 ≤ self) × (self ≤ 16383) }
     {
-        self.number
+        self.alloc_id
     }
 }
 
 /// The number of a port of the line terminal, 0 to 63.
 #[derive(Clone, Copy, Debug, PartialEq, Eq, PartialOrd, Ord)]
 pub struct PortNo {
-    number: u8,
+    port: u8,
 }
 
 impl Model for PortNo {
@@ -103,11 +103,11 @@ impl Model for PortNo {
 
     ghost Value = { ℕ };
 
-    ghost view = { λ a. a.number };
+    ghost view = { λ a. a.port };
 
-    ghost invariant = { λ a. a.number ≤ 63 };
+    ghost invariant = { λ a. a.port ≤ 63 };
 
-    ghost inverse = { λ n. record { number = n } };
+    ghost inverse = { λ n. record { port = n } };
 }
 
 impl PortNo {
@@ -119,7 +119,7 @@ impl PortNo {
         ensures { SomeIff result (n ≤ 63) n }
     {
         if n <= Self::MAX {
-            Some(PortNo { number: n })
+            Some(PortNo { port: n })
         } else {
             None
         }
@@ -130,6 +130,6 @@ impl PortNo {
         ensures value { result ≡ self }
         ensures range { self ≤ 63 }
     {
-        self.number
+        self.port
     }
 }

@@ -8,7 +8,7 @@ use std::marker::Model;
 /// delimiter (ITU-T G.987.3, PSBu).
 #[derive(Clone, Copy, Debug, PartialEq, Eq, PartialOrd, Ord)]
 pub struct Gap {
-    number: u16,
+    gap: u16,
 }
 
 impl Model for Gap {
@@ -16,11 +16,11 @@ impl Model for Gap {
 
     ghost Value = { ℕ };
 
-    ghost view = { λ a. a.number };
+    ghost view = { λ a. a.gap };
 
-    ghost invariant = { λ a. (1 ≤ a.number) × (a.number ≤ 256) };
+    ghost invariant = { λ a. (1 ≤ a.gap) × (a.gap ≤ 256) };
 
-    ghost inverse = { λ n. record { number = n } };
+    ghost inverse = { λ n. record { gap = n } };
 }
 
 impl Gap {
@@ -35,7 +35,7 @@ impl Gap {
         ensures { SomeIff result ((1 ≤ n) × (n ≤ 256)) n }
     {
         if n >= Self::MIN && n <= Self::MAX {
-            Some(Gap { number: n })
+            Some(Gap { gap: n })
         } else {
             None
         }
@@ -46,14 +46,14 @@ impl Gap {
         ensures value { result ≡ self }
         ensures range { (1 ≤ self) × (self ≤ 256) }
     {
-        self.number
+        self.gap
     }
 }
 
 /// The index of a burst profile, 0 to 3 (ITU-T G.987.3, BurstProfile).
 #[derive(Clone, Copy, Debug, PartialEq, Eq, PartialOrd, Ord)]
 pub struct Profile {
-    number: u8,
+    profile: u8,
 }
 
 impl Model for Profile {
@@ -61,11 +61,11 @@ impl Model for Profile {
 
     ghost Value = { ℕ };
 
-    ghost view = { λ a. a.number };
+    ghost view = { λ a. a.profile };
 
-    ghost invariant = { λ a. a.number ≤ 3 };
+    ghost invariant = { λ a. a.profile ≤ 3 };
 
-    ghost inverse = { λ n. record { number = n } };
+    ghost inverse = { λ n. record { profile = n } };
 }
 
 impl Profile {
@@ -77,7 +77,7 @@ impl Profile {
         ensures { SomeIff result (n ≤ 3) n }
     {
         if n <= Self::MAX {
-            Some(Profile { number: n })
+            Some(Profile { profile: n })
         } else {
             None
         }
@@ -88,14 +88,14 @@ impl Profile {
         ensures value { result ≡ self }
         ensures range { self ≤ 3 }
     {
-        self.number
+        self.profile
     }
 }
 
 /// The number of a frame of 125 µs, counted from any start: each `u64` is one.
 #[derive(Clone, Copy, Debug, PartialEq, Eq, PartialOrd, Ord)]
 pub struct FrameNo {
-    number: u64,
+    frame: u64,
 }
 
 impl Model for FrameNo {
@@ -103,9 +103,9 @@ impl Model for FrameNo {
 
     ghost Value = { ℕ };
 
-    ghost view = { λ a. a.number };
+    ghost view = { λ a. a.frame };
 
-    ghost inverse = { λ n. record { number = n } };
+    ghost inverse = { λ n. record { frame = n } };
 }
 
 impl FrameNo {
@@ -113,13 +113,13 @@ impl FrameNo {
     pub fn new(n: u64) -> Self
         ensures { result ≡ n }
     {
-        FrameNo { number: n }
+        FrameNo { frame: n }
     }
 
     /// The number.
     pub fn get(self) -> u64
         ensures { result ≡ self }
     {
-        self.number
+        self.frame
     }
 }

@@ -1,0 +1,73 @@
+-- Lists: counts, sums, filters and tests over them.
+use Rattle.std.proofs.Common.{◌≡◌, ℕ, ◌+◌, Bool, true, false, cond, ◌||◌, ◌&&◌, List, [], ◌∷◌, ◌++◌, map, refl, ap, sym, ◌∙◌, inl, inr}
+use Rattle.std.specs.Prelude.{◌==◌, filter, sum_by, count_by}
+use Rattle.std.specs.List.{list_any}
+pub use Rattle.std.proofs.lemmas.List.{drop-drop, drop-map, drop-append-le, length-drop, length-append, append-nil, map-append, length-map}
+pub use Rattle.std.proofs.lemmas.List.Elements.{filter-append, filter_agree}
+pub use Rattle.std.proofs.lemmas.List.Folds.{flat_map-map}
+pub use Rattle.std.proofs.lemmas.Grind.{flat_map-append}
+pub use Rattle.std.proofs.lemmas.Simd.{map-map}
+use Rattle.std.proofs.lemmas.List.Sums.{sum_by-append, sum_by-cons}
+use Rattle.std.proofs.lemmas.Bool.{eq-eqb, or_left, or_right}
+use Rattle.std.proofs.lemmas.Bool.Decides.{eqb_tells}
+
+-- a count over a list in two parts
+pub count_by-append : {X : Type 0} (p : X → Bool) (xs ys : List X) → count_by p (xs ++ ys) ≡ count_by p xs + count_by p ys
+count_by-append p xs ys = sum_by-append (λ x. cond (p x) 1 0) xs ys
+
+pub or-false : (b : Bool) → (b || false) ≡ b
+or-false true = refl
+or-false false = refl
+
+pub or_assoc : (a b c : Bool) → ((a || b) || c) ≡ (a || (b || c))
+or_assoc true b c = refl
+or_assoc false b c = refl
+
+pub map_same : {A B : Type 0} (f g : A → B) → ((x : A) → f x ≡ g x) → (xs : List A) → map f xs ≡ map g xs
+map_same f g h [] = refl
+map_same f g h (x ∷ xs) = (λ i. h x i ∷ map_same f g h xs i)
+
+pub filter-filter : {A : Type 0} (p q : A → Bool) (xs : List A) → filter p (filter q xs) ≡ filter (λ x. q x && p x) xs
+filter-filter p q [] = refl
+filter-filter p q (x ∷ xs) = elim (q x) as (λ b. filter p (cond b (x ∷ filter q xs) (filter q xs)) ≡ cond (b && p x) (x ∷ filter (λ x. q x && p x) xs) (filter (λ x. q x && p x) xs)) [
+  | true ↦ ap (λ t. cond (p x) (x ∷ t) t) (filter-filter p q xs)
+  | false ↦ filter-filter p q xs
+]
+
+pub map_filter : {A B : Type 0} (f : A → B) (p : B → Bool) (xs : List A) → filter p (map f xs) ≡ map f (filter (λ x. p (f x)) xs)
+map_filter f p [] = refl
+map_filter f p (x ∷ xs) = elim (p (f x)) as (λ b. cond b (f x ∷ filter p (map f xs)) (filter p (map f xs)) ≡ map f (cond b (x ∷ filter (λ x. p (f x)) xs) (filter (λ x. p (f x)) xs))) [
+  | true ↦ ap (λ t. f x ∷ t) (map_filter f p xs)
+  | false ↦ map_filter f p xs
+]
+
+-- a number is found in a list that keeps it
+pub any_eq-filter : (p : ℕ → Bool) (u : ℕ) (xs : List ℕ) → list_any (λ v. v == u) (filter p xs) ≡ (p u && list_any (λ v. v == u) xs)
+any_eq-filter p u [] = elim (p u) as (λ b. false ≡ (b && false)) [ true ↦ refl | false ↦ refl ]
+any_eq-filter p u (x ∷ xs) =
+    elim (eqb_tells x u) [
+      | inl e ↦ rw (e.0, e.1) ((elim (p u) as (λ b. p u ≡ b → list_any (λ v. v == u) (cond b (u ∷ filter p xs) (filter p xs)) ≡ (b && true)) [
+        | true ↦ λ _. ap (λ b. b || list_any (λ v. v == u) (filter p xs)) (eq-eqb u u refl)
+        | false ↦ λ k. any_eq-filter p u xs ∙ ap (λ b. b && list_any (λ v. v == u) xs) k
+      ]) refl)
+      | inr e ↦ rw e.0 (elim (p x) as (λ b. list_any (λ v. v == u) (cond b (x ∷ filter p xs) (filter p xs)) ≡ (p u && list_any (λ v. v == u) xs)) [
+        | true ↦ rw e.0 (any_eq-filter p u xs)
+        | false ↦ any_eq-filter p u xs
+      ])
+    ]
+
+-- two tests that agree on a list's numbers keep the same of them
+pub filter_same_in : (p q : ℕ → Bool) (xs : List ℕ) → ((u : ℕ) → list_any (λ v. v == u) xs ≡ true → p u ≡ q u) → filter p xs ≡ filter q xs
+filter_same_in p q [] h = refl
+filter_same_in p q (x ∷ xs) h =
+    let head : p x ≡ q x = h x (or_left (x == x) (list_any (λ v. v == x) xs) (eq-eqb x x refl)) in
+    let rest : filter p xs ≡ filter q xs = filter_same_in p q xs (λ u k. h u (or_right (x == u) (list_any (λ v. v == u) xs) k)) in
+    (λ i. cond (head i) (x ∷ rest i) (rest i))
+
+pub sum_by-map : {X Y : Type 0} (f : Y → ℕ) (g : X → Y) (xs : List X) → sum_by f (map g xs) ≡ sum_by (λ x. f (g x)) xs
+sum_by-map f g [] = refl
+sum_by-map f g (x ∷ xs) = sum_by-cons f (g x) (map g xs) ∙ ap (λ n. f (g x) + n) (sum_by-map f g xs) ∙ sym (sum_by-cons (λ y. f (g y)) x xs)
+
+pub sum_by_same : {X : Type 0} (f g : X → ℕ) → ((x : X) → f x ≡ g x) → (xs : List X) → sum_by f xs ≡ sum_by g xs
+sum_by_same f g h [] = refl
+sum_by_same f g h (x ∷ xs) = sum_by-cons f x xs ∙ (λ i. h x i + sum_by_same f g h xs i) ∙ sym (sum_by-cons g x xs)

@@ -1,0 +1,17 @@
+-- What a map grants, and the order in which it does (ITU-T G.987.3: the allocation structures of a bandwidth map).
+use Rattle.std.specs.Prelude.{ℕ, ◌≡◌, ◌<◌, ◌≤◌, List, [], ◌∷◌, map, All}
+pub use Rattle.pon_units.specs.declared.granted.Granted.{Granted}
+use Rattle.pon_units.specs.Distinct.{distinct}
+
+-- the ONUs that are granted something, each once
+abbrev pub onus_granted : List Granted → List ℕ
+onus_granted gs = distinct (map (λ g. g.onu) gs)
+
+-- of a lesser ONU-ID, or of the same ONU and a lesser Alloc-ID
+abbrev pub ComesBefore : Granted → Granted → Type 0
+ComesBefore g h = (g.onu ≤ h.onu) × (g.onu ≡ h.onu → g.alloc_id < h.alloc_id)
+
+-- map order: each grant comes before all later ones
+abbrev pub AreInMapOrder : List Granted → Type 0
+AreInMapOrder [] = Unit {0}
+AreInMapOrder (g ∷ gs) = All (ComesBefore g) gs × AreInMapOrder gs
