@@ -2,12 +2,13 @@
 use Rattle.std.proofs.Common.{◌≡◌, ℕ, List, [], ◌∷◌, refl, subst, sym}
 use Rattle.std.specs.Prelude.{Option, Some, None, Result, Ok, Err, IfOk, ◌≢◌}
 use Rattle.pon_port.specs.Chapters.{Chapter}
-use Rattle.pon_port.specs.Taking.{IsTold, refusal_of}
+use Rattle.pon_descr.specs.Checks.{IsTold}
+use Rattle.pon_port.specs.Taking.{refusal_of}
 use Rattle.pon_port.specs.declared.event.Event.{Event}
-use Rattle.pon_port.specs.declared.refusal.Refusal.{Refusal}
-use Rattle.pon_port.specs.declared.refusal.Refusal.TheVariants.{OutOfMemory}
+use Rattle.pon_descr.specs.declared.refusal.Refusal.{Refusal}
+use Rattle.pon_descr.specs.declared.refusal.Refusal.TheVariants.{OutOfMemory}
 use Rattle.pon_olt.specs.Text.{Answers, Posts, refusal_line}
-use Rattle.pon_olt.specs.declared.reading.LineFault.TheVariants.{Port}
+use Rattle.pon_olt.specs.declared.fault.LineFault.TheVariants.{Port}
 use Rattle.pon_olt.specs.declared.reading.Reading.TheVariants.{Asks}
 
 -- a refusal that is told, and is no want of memory, is the first check's

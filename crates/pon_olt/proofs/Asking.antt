@@ -5,10 +5,12 @@ use Rattle.std.specs.List.{list_all}
 use Rattle.std.proofs.lemmas.Bool.{ltb-true}
 use Rattle.pon_port.specs.declared.event.Event.{Event}
 use Rattle.pon_olt.specs.Lines.{words_of, without_return}
-use Rattle.pon_olt.specs.Reading.{read_line, read_words, reading, port_of, event_of, number_field, is_comment, is_text, ◌>>=◌}
+use Rattle.pon_olt.specs.Fields.{◌>>=◌, number_field}
+use Rattle.pon_olt.specs.Commands.{event_of}
+use Rattle.pon_olt.specs.Reading.{read_line, read_words, reading, port_of, is_comment, is_text}
 use Rattle.pon_olt.specs.Text.{AsksWithin}
-use Rattle.pon_olt.specs.declared.reading.LineFault.{LineFault}
-use Rattle.pon_olt.specs.declared.reading.LineFault.TheVariants.{LineLong, NotText, NoSuchPort}
+use Rattle.pon_olt.specs.declared.fault.LineFault.{LineFault}
+use Rattle.pon_olt.specs.declared.fault.LineFault.TheVariants.{LineLong, NotText, NoSuchPort}
 use Rattle.pon_olt.specs.declared.reading.Reading.TheVariants.{Nothing, Refused}
 
 -- a port that a word names is there

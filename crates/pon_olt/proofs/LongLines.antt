@@ -4,7 +4,7 @@ use Rattle.std.specs.Prelude.{nat_lt}
 use Rattle.std.proofs.lemmas.Bool.{cases_lt, lt-ltb}
 use Rattle.std.proofs.lemmas.List.{length-take}
 use Rattle.pon_olt.specs.Reading.{read_line}
-use Rattle.pon_olt.specs.declared.reading.LineFault.TheVariants.{LineLong}
+use Rattle.pon_olt.specs.declared.fault.LineFault.TheVariants.{LineLong}
 use Rattle.pon_olt.specs.declared.reading.Reading.TheVariants.{Refused}
 
 -- all of a list that is short enough

@@ -9,7 +9,7 @@ use Rattle.pon_port.specs.declared.event.Event.{Event}
 use Rattle.pon_port.specs.declared.event.Event.TheVariants.{Admit, Change, Remove, Report, MakeMap, Fail, Restore}
 use Rattle.pon_port.specs.declared.reply.Reply.{Reply}
 use Rattle.pon_port.specs.declared.reply.Reply.TheVariants.{Taken, Map}
-use Rattle.pon_port.specs.declared.refusal.Refusal.{Refusal}
+use Rattle.pon_descr.specs.declared.refusal.Refusal.{Refusal}
 use Rattle.pon_olt.specs.Lines.{lines_of}
 use Rattle.pon_olt.specs.Reading.{read_line}
 use Rattle.pon_olt.specs.Text.{reply_line, Answers, AsksPort, Posts, GivesLines, IsOutput}
@@ -22,8 +22,8 @@ one_reply s MakeMap (Map a) (Map b) p q = (λ i. Map (record { frame = (p.frame 
 one_reply s MakeMap (Map a) Taken p q = absurd q
 one_reply s MakeMap Taken b p q = absurd p
 one_reply s (Admit onu alloc_id descriptor) a b p q = p ∙ sym q
-one_reply s (Change alloc_id descriptor not_yet) a b p q = p ∙ sym q
-one_reply s (Remove alloc_id not_yet) a b p q = p ∙ sym q
+one_reply s (Change alloc_id descriptor) a b p q = p ∙ sym q
+one_reply s (Remove alloc_id) a b p q = p ∙ sym q
 one_reply s (Report frame onu occ not_yet) a b p q = p ∙ sym q
 one_reply s (Fail cause not_yet) a b p q = p ∙ sym q
 one_reply s (Restore not_yet) a b p q = p ∙ sym q

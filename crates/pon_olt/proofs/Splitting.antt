@@ -12,25 +12,6 @@ word_end t = position_or_len is_blank t
 abbrev pub blanks_end : List ℕ → ℕ
 blanks_end t = position_or_len (λ b. not (is_blank b)) t
 
--- the place that `position` tells
-pub position-Some_or_len : (p : ℕ → Bool) (t : List ℕ) (r : Option ℕ) (n : ℕ) → r ≡ position p t → r ≡ Some n → n ≡ position_or_len p t
-position-Some_or_len p t r n e s = go (ltb (position_or_len p t) (length t)) (sym e ∙ s)
-  where
-    go : (v : Bool) → cond v (Some (position_or_len p t)) None ≡ Some n → n ≡ position_or_len p t
-    go true h = cc
-    go false h = absurd (cc)
-
-pub position-None_or_len : (p : ℕ → Bool) (t : List ℕ) (r : Option ℕ) → r ≡ position p t → r ≡ None → length t ≡ position_or_len p t
-position-None_or_len p t r e s = go (ltb (position_or_len p t) (length t)) refl (sym e ∙ s)
-  where
-    go : (v : Bool) → ltb (position_or_len p t) (length t) ≡ v → cond v (Some (position_or_len p t)) None ≡ None → length t ≡ position_or_len p t
-    go true k h = absurd (cc)
-    go false k h = omega (arith, ltb-false (position_or_len p t) (length t) k, prefix_len-le-length (λ b. not (p b)) t)
-
-pub position-Some_within : (p : ℕ → Bool) (t : List ℕ) (r : Option ℕ) (n : ℕ) → r ≡ position p t → r ≡ Some n → n ≤ length t
-position-Some_within p t r n e s =
-    omega (arith, position-Some_or_len p t r n e s, prefix_len-le-length (λ b. not (p b)) t)
-
 -- u begins with the first word of t
 abbrev BeginsWithFirst : List ℕ → List ℕ → Type 0
 BeginsWithFirst t u = words_of t ≡ take (word_end u) u ∷ words_of (drop (word_end u) u)

@@ -7,11 +7,12 @@ use Rattle.pon_port.specs.Taking.{Takes, refusal_of}
 use Rattle.pon_port.specs.declared.event.Event.{Event}
 use Rattle.pon_port.specs.declared.reply.Reply.{Reply}
 use Rattle.pon_port.specs.declared.reply.Reply.TheVariants.{Taken, Map}
-use Rattle.pon_port.specs.declared.refusal.Refusal.{Refusal}
+use Rattle.pon_descr.specs.declared.refusal.Refusal.{Refusal}
 use Rattle.pon_olt.specs.Lines.{lines_of}
-use Rattle.pon_olt.specs.Reading.{read_line, fault_text}
-use Rattle.pon_olt.specs.declared.reading.LineFault.{LineFault}
-use Rattle.pon_olt.specs.declared.reading.LineFault.TheVariants.{Port}
+use Rattle.pon_olt.specs.Faults.{fault_text}
+use Rattle.pon_olt.specs.Reading.{read_line}
+use Rattle.pon_olt.specs.declared.fault.LineFault.{LineFault}
+use Rattle.pon_olt.specs.declared.fault.LineFault.TheVariants.{Port}
 use Rattle.pon_olt.specs.declared.reading.Reading.{Reading}
 use Rattle.pon_olt.specs.declared.reading.Reading.TheVariants.{Nothing, Refused, Asks}
 

@@ -5,9 +5,11 @@ ghost use Rattle.hex.specs.Hex.{encode_lower};
 ghost use Rattle.pon_bwmap.specs.MapBytes.{map_bytes};
 ghost use Rattle.pon_olt.specs.Text.{Answers, AsksWithin, refusal_line, reply_line};
 
-use crate::reading::{LineFault, Reading};
+use crate::fault::LineFault;
+use crate::reading::Reading;
 use pon_bwmap::{Map, encode_map};
-use pon_port::{Event, MadeMap, Port, Refusal, Reply};
+use pon_descr::Refusal;
+use pon_port::{Event, MadeMap, Port, Reply};
 use std::alloc::{AllocError, Global};
 
 fn refusal_text_line(alloc: Global, fault: LineFault) -> Result<String, AllocError>

@@ -6,6 +6,9 @@
 
 mod answer;
 pub mod arguments;
+mod command;
+mod fault;
+mod fields;
 pub mod laws;
 pub mod lines;
 mod reading;
@@ -18,7 +21,8 @@ use lines::{PlanEnd, PlanFault, plan};
 use pon_port::PortCfg;
 use pon_units::dev::{StdRead, StdWrite};
 use pon_units::{FrameNo, Gap, Profile};
-pub use reading::{LineFault, Reading, long_lines, read_line};
+pub use fault::LineFault;
+pub use reading::{Reading, long_lines, read_line};
 use std::alloc::Global;
 use std::io::{self, BufReader};
 use std::process::ExitCode;

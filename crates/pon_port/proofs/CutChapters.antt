@@ -3,7 +3,7 @@ use Rattle.std.proofs.Common.{◌≡◌, ℕ, ◌-◌, ◌^◌, ◌<◌, ◌≤�
 use Rattle.std.specs.Prelude.{nat_le, None}
 use Rattle.std.proofs.lemmas.Bool.{leb-false, lt-leb, or_from, or_parts}
 use Rattle.std.proofs.lemmas.List.{length-append, take-append-drop}
-use Rattle.pon_port.specs.Descriptor.{or_else, when}
+use Rattle.pon_descr.specs.Checks.{or_else, when}
 use Rattle.pon_port.specs.Window.{LeadsTo}
 use Rattle.pon_port.specs.State.{State}
 use Rattle.pon_port.specs.Loads.{replay}
@@ -11,9 +11,10 @@ use Rattle.pon_port.specs.Checks.{refuses, when_full}
 use Rattle.pon_port.specs.Legal.{MayFollow}
 use Rattle.pon_port.specs.Chapters.{Chapter, IsLawfulChapter, present_state, state_before}
 use Rattle.pon_port.specs.declared.reply.Entry.{Entry}
-use Rattle.pon_port.specs.declared.refusal.Refusal.TheVariants.{ChapterFull}
+use Rattle.pon_descr.specs.declared.refusal.Refusal.TheVariants.{ChapterFull}
 use Rattle.pon_port.proofs.Legality.{IsLegalAfter, after_from_legal, legal_from_after, legal_push, legal_split}
-use Rattle.pon_port.proofs.Cutting.{or_else_none, replay-append, when_none}
+use Rattle.pon_descr.proofs.Checks.{or_else_none, when_none}
+use Rattle.pon_port.proofs.Cutting.{replay-append}
 use Rattle.pon_port.proofs.LawfulStates.{opens_before}
 
 -- a shorter chapter is no fuller

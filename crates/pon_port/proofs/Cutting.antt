@@ -6,7 +6,7 @@ use Rattle.std.proofs.lemmas.List.{map-id}
 use Rattle.std.proofs.lemmas.List.Folds.{list_any-append}
 use Rattle.std.proofs.lemmas.List.Sums.{sum_by-append, length-filter, count_by-le-length}
 use Rattle.std.proofs.lemmas.Bool.{eqb-true, eq-eqb, leb-false, lt-leb, not-false, or_left, or_parts, or_right}
-use Rattle.pon_port.specs.Descriptor.{or_else, when}
+use Rattle.pon_descr.specs.Checks.{or_else, when}
 use Rattle.pon_port.specs.Book.{Account, Counted, account_of, alloc_ids}
 use Rattle.pon_port.specs.Window.{LeadsTo, WindowMap}
 use Rattle.pon_port.specs.State.{State}
@@ -19,10 +19,10 @@ use Rattle.pon_port.specs.After.{less}
 use Rattle.pon_port.specs.declared.event.Event.{Event}
 use Rattle.pon_port.specs.declared.event.Event.TheVariants.{Admit, Change, Remove, Report, MakeMap, Fail, Restore}
 use Rattle.pon_port.specs.declared.reply.Entry.{Entry}
-use Rattle.pon_port.specs.declared.refusal.Refusal.{Refusal}
-use Rattle.pon_port.specs.declared.refusal.Refusal.TheVariants.{ChapterFull}
+use Rattle.pon_descr.specs.declared.refusal.Refusal.{Refusal}
+use Rattle.pon_descr.specs.declared.refusal.Refusal.TheVariants.{ChapterFull}
 use Rattle.pon_port.proofs.Legality.{IsLegalAfter, after_from_legal, legal_from_after, legal_push, legal_split}
-use Rattle.pon_port.proofs.Lists.{or-false, map-map, map_same, length-drop, length-append, append-nil, length-map, map-append, flat_map-append}
+use Rattle.pon_units.proofs.Lists.{or-false, map-map, map_same, length-drop, length-append, append-nil, length-map, map-append, flat_map-append}
 use Rattle.pon_port.proofs.Parts.{next_of-append, next_of_grows, roster_of-append, allocs_of-append, cause_of-append, frame_at_last-append, frame_at_last_any, frame_at_last_none, frame_at_last_late, frame_at_last_below}
 use Rattle.pon_port.proofs.Windows.{all_maps-append, all_maps_lead, maps_of-append, maps_lead, length-maps_of, leads-filter, leads-drop, window_of-append}
 use Rattle.pon_port.proofs.Loads.{from, from_window, agree, AreBelow, EventBelow, AreWithin, EventWithin, sub_sub, words_from-map, candidates_agree, candidates_late, candidates_less, latest_less, latest-append, has_id, had_alloc_all, found_since, found_counted}
@@ -68,8 +68,8 @@ legal_below o done (e ∷ es) n h l b = (one e.event l.0.accepted, legal_below o
         let in_window : (frame < next_of o.next done) × (next_of o.next done ≤ frame + length (window_of o done)) = frame_within (next_of o.next done) frame (window_of o done) (window_leads o done h) (report_in_window (length done) (replay o done) frame onu (length occ) a) in
         omega (arith, in_window.0, b, next_of-append o.next done (e ∷ es), next_of_grows (next_of o.next done) (e ∷ es))
     one (Admit onu alloc_id descriptor) a = tt
-    one (Change alloc_id descriptor not_yet) a = tt
-    one (Remove alloc_id not_yet) a = tt
+    one (Change alloc_id descriptor) a = tt
+    one (Remove alloc_id) a = tt
     one MakeMap a = tt
     one (Fail cause not_yet) a = tt
     one (Restore not_yet) a = tt
@@ -106,8 +106,8 @@ legal_within o xs done (e ∷ es) h l = (one e.event l.0.accepted, legal_within 
           length-maps_of ((replay o xs).roster) (next_of o.next xs) done,
         )
     one (Admit onu alloc_id descriptor) a = tt
-    one (Change alloc_id descriptor not_yet) a = tt
-    one (Remove alloc_id not_yet) a = tt
+    one (Change alloc_id descriptor) a = tt
+    one (Remove alloc_id) a = tt
     one MakeMap a = tt
     one (Fail cause not_yet) a = tt
     one (Restore not_yet) a = tt

@@ -1,81 +1,44 @@
 -- What a port keeps, one entry further.
-use Rattle.std.proofs.Common.{◌≡◌, ℕ, ◌+◌, ◌<◌, true, false, cond, ◌||◌, List, [], ◌∷◌, ◌++◌, map, length, refl, ap, sym, ◌∙◌, subst, arith}
-use Rattle.std.specs.Prelude.{◌==◌, All, Option, Some, None, option_to_list, option_map}
+use Rattle.std.proofs.Common.{◌≡◌, ℕ, ◌+◌, true, false, cond, not, ◌||◌, List, [], ◌∷◌, ◌++◌, map, length, refl, ap, sym, ◌∙◌, subst, arith, get_or}
+use Rattle.std.specs.Prelude.{◌==◌, nat_lt, filter, count_by, All, Option, Some, None, option_to_list, option_map}
 use Rattle.std.specs.List.{list_any}
-use Rattle.std.proofs.lemmas.Bool.{eq-eqb, eqb-true, ne_eqb, or_left}
-use Rattle.std.proofs.lemmas.List.Elements.{All-nil, All-head, All-tail}
+use Rattle.std.proofs.lemmas.Bool.{eq-eqb, ne_eqb, or_left}
+use Rattle.std.proofs.lemmas.List.{map-append}
+use Rattle.std.proofs.lemmas.List.Elements.{All-head, All-tail, All-weaker}
+use Rattle.std.proofs.lemmas.List.Sums.{sum_by-cons}
+use Rattle.pon_descr.specs.Descriptor.{Descriptor, IsLawful}
+use Rattle.pon_descr.proofs.Checks.{or_else_none}
+use Rattle.pon_admit.specs.declared.row.Row.{Row}
+use Rattle.pon_admit.specs.Roster.{IsInRange, refuses_admit, rule_in_force}
+use Rattle.pon_admit.proofs.AdmittedSets.{passes}
 use Rattle.pon_port.specs.declared.event.Event.{Event}
-use Rattle.pon_port.specs.declared.event.Event.TheVariants.{Admit, MakeMap}
+use Rattle.pon_port.specs.declared.event.Event.TheVariants.{Admit, Change, Remove, MakeMap}
 use Rattle.pon_port.specs.declared.reply.Reply.{Reply}
 use Rattle.pon_port.specs.declared.reply.Reply.TheVariants.{Taken, Map}
 use Rattle.pon_port.specs.declared.reply.MadeMap.{MadeMap}
 use Rattle.pon_port.specs.declared.reply.Entry.{Entry}
-use Rattle.pon_port.proofs.Lists.{map-map}
-use Rattle.pon_port.proofs.AdmittedSets.{admit_keeps, passes}
-use Rattle.pon_port.proofs.Legality.{IsLegalAfter, after_from_legal, legal_from_after, legal_push}
-use Rattle.pon_port.proofs.Cutting.{replay-append, or_else_none}
-use Rattle.pon_port.proofs.Steps.{window_of-map, window_of-quiet, last_64-window, since_begins, since_keeps, counted_forgotten, counted_of-map}
-use Rattle.pon_port.specs.Roster.{IsAdmitted, IsInRange, Row, has_alloc, refuses_admit, rule_in_force, with_row}
-use Rattle.pon_port.specs.Book.{Account, Counted, account_of, alloc_ids, with_alloc}
+use Rattle.pon_port.specs.Book.{Account, AreRising, Counted, account_of, alloc_ids}
 use Rattle.pon_port.specs.Window.{WindowMap}
 use Rattle.pon_port.specs.State.{State}
-use Rattle.pon_port.specs.Replay.{last_64, new_map, window_of}
-use Rattle.pon_port.specs.Loads.{account_after, counted_of, counted_of_account, latest, replay, since_of, since_of_account, words_in}
+use Rattle.pon_port.specs.Replay.{allocs_after, begins, cause_after, forgets, last_64, makes_map, new_map, next_of, reports, roster_after, window_of, with_reports}
+use Rattle.pon_port.specs.Loads.{account_after, candidates_in, counted_of, counted_of_account, latest, replay, since_of, since_of_account, words_in}
 use Rattle.pon_port.specs.Checks.{first_refusal, when_full}
 use Rattle.pon_port.specs.Legal.{IsMade, MayFollow}
-use Rattle.pon_port.specs.Chapters.{AccountsFor, AreRising, Chapter}
+use Rattle.pon_port.specs.Chapters.{Chapter, IsLawfulChapter, present_state}
 use Rattle.pon_port.specs.Taking.{IsKept, Takes, with_entry}
-use Rattle.pon_port.specs.After.{after_first, after_map, less, lessened}
-
--- What an accepted admission says of the roster.
-module _ (kept : ℕ) (s : State) (r : Row) (h : first_refusal kept s (Admit r.onu r.alloc_id r.descriptor) ≡ None) where
-  own : refuses_admit rule_in_force s.gap s.roster r ≡ None
-  own = (or_else_none (refuses_admit rule_in_force s.gap s.roster r) (when_full kept s.taken_before) h).0
-
-  -- there was no row
-  pub no_row : s.roster ≡ []
-  no_row = empty s.roster (passes rule_in_force s.gap s.roster r own).few_allocs
-    where
-      empty : (xs : List Row) → length xs < 1 → xs ≡ []
-      empty [] l = refl
-      empty (x ∷ xs) l = absurd (omega arith)
-
-  -- the set with the row is an admitted one
-  pub one_admitted : IsInRange r → IsAdmitted rule_in_force s.gap s.roster → IsAdmitted rule_in_force s.gap (r ∷ [])
-  one_admitted i k = subst (λ rows. IsAdmitted rule_in_force s.gap (with_row r rows)) no_row (admit_keeps rule_in_force s.gap s.roster r own i k)
-
--- a book of no rows is empty
-pub no_account : (book : List Account) → AccountsFor [] book → book ≡ []
-no_account [] a = refl
-no_account (x ∷ book) a = absurd (let t : true ≡ false = sym (or_left (x.alloc_id == x.alloc_id) (list_any (λ j. j == x.alloc_id) (alloc_ids book)) (eq-eqb x.alloc_id x.alloc_id refl)) ∙ a.1 x.alloc_id in cc)
-
-one_account : (r : Row) (since : ℕ) → AccountsFor (r ∷ []) (record { alloc_id = r.alloc_id; since = since; counted = None } ∷ [])
-one_account r since = ((All-nil (λ j. r.alloc_id < j), tt), λ i. refl)
-
--- Each account of a rising book is found under its Alloc-ID.
-
-account_later : (book : List Account) (i j : ℕ) (a : Account) → All (λ k. j < k) (alloc_ids book) → account_of book i ≡ Some a → j < i
-account_later [] i j a l e = absurd cc
-account_later (x ∷ book) i j a l e = (elim (x.alloc_id == i) as (λ b. (x.alloc_id == i) ≡ b → cond b (Some x) (account_of book i) ≡ Some a → j < i) [
-  | true ↦ λ t e. subst (λ n. j < n) (eqb-true x.alloc_id i t) (All-head (λ k. j < k) x.alloc_id (alloc_ids book) l)
-  | false ↦ λ t e. account_later book i j a (All-tail (λ k. j < k) x.alloc_id (alloc_ids book) l) e
-]) refl e
-
-each_account : (f : Account → Account) (g : ℕ → Account) (whole book : List Account) → AreRising (alloc_ids book) →
-    ((i : ℕ) (a : Account) → account_of book i ≡ Some a → account_of whole i ≡ Some a) →
-    ((a : Account) → account_of whole a.alloc_id ≡ Some a → f a ≡ g a.alloc_id) → map f book ≡ map g (alloc_ids book)
-each_account f g whole [] rising found same = refl
-each_account f g whole (x ∷ book) rising found same =
-    let here : account_of (x ∷ book) x.alloc_id ≡ Some x = ap (λ b. cond b (Some x) (account_of book x.alloc_id)) (eq-eqb x.alloc_id x.alloc_id refl) in
-    let later : (i : ℕ) (a : Account) → account_of book i ≡ Some a → account_of whole i ≡ Some a = λ i a e.
-    found i a (ap (λ b. cond b (Some x) (account_of book i)) (ne_eqb x.alloc_id i (λ q. omega (arith, q, account_later book i x.alloc_id a rising.0 e))) ∙ e) in
-    (λ j. same x (found x.alloc_id x here) j ∷ each_account f g whole book rising.1 later same j)
+use Rattle.pon_port.specs.After.{after_admit, after_change, after_map, after_remove, after_roster, less, lessened, with_account, without_account}
+use Rattle.pon_port.proofs.Accounts.{accounts_all, accounts_kept, found_each, unmap}
+use Rattle.pon_port.proofs.Legality.{IsLegalAfter, after_from_legal, legal_from_after, legal_push}
+use Rattle.pon_port.proofs.Cutting.{replay-append}
+use Rattle.pon_port.proofs.Steps.{counted_forgotten, counted_of-map, counted_of-report, last_64-window, since_begins, since_keeps, window_of-map, window_of-quiet}
+use Rattle.pon_port.proofs.Steady.{IsSteady, none_any, steady_step}
+use Rattle.pon_port.proofs.LawfulStates.{IsLawfulState, from_opening, legal_state}
 
 -- The step of a map.
 
 book_map : (s : State) (reply : Reply) → AreRising (alloc_ids s.book) →
     map (lessened (new_map s.roster s.next reply)) s.book ≡ map (account_after s (record { event = MakeMap; reply = reply } ∷ [])) (alloc_ids s.book)
-book_map s reply rising = each_account (lessened new) (account_after s (entry ∷ [])) s.book s.book rising (λ i a e. e) one
+book_map s reply rising = each s.book (found_each s.book rising)
   where
     entry : Entry
     entry = record { event = MakeMap; reply = reply }
@@ -96,6 +59,10 @@ book_map s reply rising = each_account (lessened new) (account_after s (entry �
         = sym (counted_of-map s i reply ∙ ap (λ o. latest (map (less w) (counted_of_account o))) found ∙ lone w a.counted) in
         (λ j. record { alloc_id = i; since = since j; counted = counted j })
 
+    each : (book : List Account) → All (λ a. account_of s.book a.alloc_id ≡ Some a) book → map (lessened new) book ≡ map (account_after s (entry ∷ [])) (alloc_ids book)
+    each [] h = refl
+    each (x ∷ book) h = (λ j. one x (All-head (λ a. account_of s.book a.alloc_id ≡ Some a) x book h) j ∷ each book (All-tail (λ a. account_of s.book a.alloc_id ≡ Some a) x book h) j)
+
 map_step : (o : State) (es : List Entry) (reply : Reply) → AreRising (alloc_ids (replay o es).book) →
     after_map (replay o es) (new_map (replay o es).roster (replay o es).next reply) ≡ replay (replay o es) (record { event = MakeMap; reply = reply } ∷ [])
 map_step o es reply rising =
@@ -112,45 +79,108 @@ map_step o es reply rising =
       window = window i;
     })
 
--- The step of the first admission: reports of the Alloc-ID count from the next frame on, and none does yet.
+-- The step of an event that changes the roster alone: it makes no map, forgets nothing and reports nothing.
 
-first_step : (o : State) (es : List Entry) (r : Row) → (replay o es).roster ≡ [] → (replay o es).book ≡ [] →
-    after_first (replay o es) r ≡ replay (replay o es) (record { event = Admit r.onu r.alloc_id r.descriptor; reply = Taken } ∷ [])
-first_step o es r none empty =
+module _ (s : State) (e : Entry) (m : makes_map e.event ≡ false) (none : (ms : List WindowMap) (since i : ℕ) → candidates_in ms since i e.event ≡ []) where
+  -- an account stays as it is where its Alloc-ID is not admitted anew
+  same_account : (a : Account) → begins a.alloc_id e ≡ false → account_of s.book a.alloc_id ≡ Some a → account_after s (e ∷ []) a.alloc_id ≡ a
+  same_account a b found =
+      let i : ℕ = a.alloc_id in
+      let since : since_of s (e ∷ []) i ≡ a.since = since_keeps s i e b ∙ ap since_of_account found in
+      let counted : counted_of s (e ∷ []) i ≡ a.counted
+      = counted_of-report s i e m b
+      ∙ (λ j. latest (counted_of_account (found j) ++ none (map (with_reports (e ∷ [])) s.window) (since_of_account (account_of s.book i)) i j)) ∙ lone a.counted in
+      (λ j. record { alloc_id = i; since = since j; counted = counted j })
+    where
+      lone : (c : Option Counted) → latest (option_to_list c ++ []) ≡ c
+      lone None = refl
+      lone (Some c) = refl
+
+  same_accounts : AreRising (alloc_ids s.book) → All (λ i. begins i e ≡ false) (alloc_ids s.book) → All (λ a. account_after s (e ∷ []) a.alloc_id ≡ a) s.book
+  same_accounts rising b = λ n d l. same_account (get_or s.book n d) (unmap (λ i. begins i e ≡ false) (λ a. a.alloc_id) s.book b n d l) (found_each s.book rising n d l)
+
+-- the entry of an event whose reply is that it was taken
+abbrev taken_entry : Event → Entry
+taken_entry v = record { event = v; reply = Taken }
+
+roster_step : (o : State) (es : List Entry) (v : Event) (book : List Account) → ((frame onu : ℕ) → reports frame onu v ≡ false) → makes_map v ≡ false → forgets v ≡ false →
+    ((cause : Option ℕ) → cause_after cause v ≡ cause) → map (account_after (replay o es) (taken_entry v ∷ [])) (allocs_after (alloc_ids (replay o es).book) v) ≡ book →
+    after_roster (replay o es) (roster_after (replay o es).roster v) book ≡ replay (replay o es) (taken_entry v ∷ [])
+roster_step o es v book quiet m f up same =
     let s : State = replay o es in
-    let i : ℕ = r.alloc_id in
-    let e : Entry = record { event = Admit r.onu i r.descriptor; reply = Taken } in
-    let next : s.next ≡ s.next + 0 = omega arith in
-    let begun : ((i == i) || false) ≡ true = or_left (i == i) false (eq-eqb i i refl) in
-    let since : s.next ≡ since_of s (e ∷ []) i = sym (since_begins s i e begun) in
-    let counted : None ≡ counted_of s (e ∷ []) i = sym (counted_forgotten s i e begun (λ ms since. refl)) in
-    let account : record { alloc_id = i; since = s.next; counted = None } ≡ account_after s (e ∷ []) i = (λ j. record { alloc_id = i; since = since j; counted = counted j }) in
-    let window : window_of o es ≡ window_of s (e ∷ []) = sym (window_of-quiet o es e (λ frame onu. refl) refl refl (last_64-window o es)) in
+    let e : Entry = taken_entry v in
+    let maps : count_by (λ e. makes_map e.event) (e ∷ []) ≡ 0 = sum_by-cons (λ e. cond (makes_map e.event) 1 0) e [] ∙ ap (λ b. cond b 1 0 + 0) m in
+    let next : s.next ≡ next_of s.next (e ∷ []) = omega (arith, maps) in
+    let window : window_of o es ≡ window_of s (e ∷ []) = sym (window_of-quiet o es e quiet m f (last_64-window o es)) in
     (λ j. record {
       gap = s.gap;
       profile = s.profile;
       next = next j;
-      cause = s.cause;
+      cause = sym (up s.cause) j;
       taken_before = s.taken_before + 1;
-      roster = with_row r (sym none j);
-      book = (ap (λ a. a ∷ []) account ∙ ap (λ book. map (account_after s (e ∷ [])) (with_alloc i (alloc_ids book))) (sym empty)) j;
+      roster = roster_after s.roster v;
+      book = sym same j;
       window = window j;
     })
 
+none_begins : (i : ℕ) (ids : List ℕ) (v : Event) → ((j : ℕ) → (j == i) ≡ false → begins j (taken_entry v) ≡ false) → list_any (λ j. j == i) ids ≡ false → All (λ j. begins j (taken_entry v) ≡ false) ids
+none_begins i ids v other h = All-weaker (λ j. (j == i) ≡ false) (λ j. begins j (taken_entry v) ≡ false) other ids (none_any (λ j. j == i) ids h)
+
+-- reports of an Alloc-ID just admitted count from the next frame on, and none does yet
+admit_step : (o : State) (es : List Entry) (r : Row) → AreRising (alloc_ids (replay o es).book) → list_any (λ j. j == r.alloc_id) (alloc_ids (replay o es).book) ≡ false →
+    after_admit (replay o es) r ≡ replay (replay o es) (taken_entry (Admit r.onu r.alloc_id r.descriptor) ∷ [])
+admit_step o es r rising free =
+    let s : State = replay o es in
+    let i : ℕ = r.alloc_id in
+    let v : Event = Admit r.onu i r.descriptor in
+    let e : Entry = taken_entry v in
+    let begun : begins i e ≡ true = or_left (i == i) false (eq-eqb i i refl) in
+    let since : since_of s (e ∷ []) i ≡ s.next = since_begins s i e begun in
+    let counted : counted_of s (e ∷ []) i ≡ None = counted_forgotten s i e begun (λ ms since. refl) in
+    let new : account_after s (e ∷ []) i ≡ record { alloc_id = i; since = s.next; counted = None } = (λ j. record { alloc_id = i; since = since j; counted = counted j }) in
+    let others : (j : ℕ) → (j == i) ≡ false → begins j e ≡ false
+    = λ j h. ap (λ b. b || false) (ne_eqb i j (λ q. let t : true ≡ false = sym (eq-eqb j i (sym q)) ∙ h in cc)) in
+    let same : All (λ a. account_after s (e ∷ []) a.alloc_id ≡ a) s.book = same_accounts s e refl (λ ms since i. refl) rising (none_begins i (alloc_ids s.book) v others free) in
+    let g : ℕ → Account = account_after s (e ∷ []) in
+    roster_step o es v (with_account (record { alloc_id = i; since = s.next; counted = None }) s.book) (λ frame onu. refl) refl refl (λ cause. refl)
+    (map-append g (filter (λ j. nat_lt j i) (alloc_ids s.book)) (i ∷ filter (λ j. not (nat_lt j i)) (alloc_ids s.book))
+    ∙ (λ j. accounts_kept g (λ j. nat_lt j i) s.book same j ++ new j ∷ accounts_kept g (λ j. not (nat_lt j i)) s.book same j))
+
+change_step : (o : State) (es : List Entry) (i : ℕ) (d : Descriptor) → AreRising (alloc_ids (replay o es).book) →
+    after_change (replay o es) i d ≡ replay (replay o es) (taken_entry (Change i d) ∷ [])
+change_step o es i d rising =
+    let s : State = replay o es in
+    let e : Entry = taken_entry (Change i d) in
+    roster_step o es (Change i d) s.book (λ frame onu. refl) refl refl (λ cause. refl)
+    (accounts_all (account_after s (e ∷ [])) s.book (same_accounts s e refl (λ ms since i. refl) rising (λ n d l. refl)))
+
+remove_step : (o : State) (es : List Entry) (i : ℕ) → AreRising (alloc_ids (replay o es).book) →
+    after_remove (replay o es) i ≡ replay (replay o es) (taken_entry (Remove i) ∷ [])
+remove_step o es i rising =
+    let s : State = replay o es in
+    let e : Entry = taken_entry (Remove i) in
+    roster_step o es (Remove i) (without_account i s.book) (λ frame onu. refl) refl refl (λ cause. refl)
+    (accounts_kept (account_after s (e ∷ [])) (λ j. not (j == i)) s.book (same_accounts s e refl (λ ms since i. refl) rising (λ n d l. refl)))
+
 -- One entry more.
 
+-- the present state of a lawful chapter is a lawful one
+present_lawful : (c : Chapter) → IsLawfulChapter c → IsLawfulState (present_state c)
+present_lawful c l = legal_state c.opening c.entries (from_opening c.number c.opening l.opening) (after_from_legal c.opening c.entries c.number l.legal)
+
 next_chapter : (c : Chapter) (s t : State) (event : Event) (reply : Reply) → IsKept c s → MayFollow (length c.entries) s (record { event = event; reply = reply }) →
-    (replay c.opening c.entries ≡ s → t ≡ replay s (record { event = event; reply = reply } ∷ [])) →
-    IsAdmitted rule_in_force t.gap t.roster → AccountsFor t.roster t.book → IsKept (with_entry c event reply) t
-next_chapter c s t event reply k follows step admitted book =
+    (replay c.opening c.entries ≡ s → t ≡ replay s (record { event = event; reply = reply } ∷ [])) → IsKept (with_entry c event reply) t
+next_chapter c s t event reply k follows step =
     let e : Entry = record { event = event; reply = reply } in
-    let legal : IsLegalAfter c.opening [] (c.entries ++ e ∷ []) = legal_push c.opening [] c.entries e (after_from_legal c.opening c.entries c.number k.lawful.legal)
-    (subst (λ s. MayFollow (length c.entries) s e) k.replayed follows) in
+    let here : MayFollow (length c.entries) (present_state c) e = subst (λ s. MayFollow (length c.entries) s e) k.replayed follows in
+    let legal : IsLegalAfter c.opening [] (c.entries ++ e ∷ []) = legal_push c.opening [] c.entries e (after_from_legal c.opening c.entries c.number k.lawful.legal) here in
+    let after : t ≡ replay (present_state c) (e ∷ []) = step (sym k.replayed) ∙ ap (λ s. replay s (e ∷ [])) k.replayed in
+    let steady : IsSteady t = subst IsSteady (sym after) (steady_step (length c.entries) (present_state c) e here (present_lawful c k.lawful).steady) in
     record {
       lawful = record { opening = k.lawful.opening; legal = legal_from_after c.opening (c.entries ++ e ∷ []) c.number legal };
-      replayed = step (sym k.replayed) ∙ ap (λ s. replay s (e ∷ [])) k.replayed ∙ sym (replay-append c.opening c.entries (e ∷ []) k.lawful.opening.frames legal);
-      admitted = admitted;
-      book = book;
+      replayed = after ∙ sym (replay-append c.opening c.entries (e ∷ []) k.lawful.opening.frames legal);
+      admitted = steady.admitted;
+      book = steady.book;
     }
 
 -- a map is kept
@@ -159,26 +189,37 @@ pub mapped : (c d : Chapter) (s t : State) (made : MadeMap) → IsKept c s → f
 mapped c d s t made k accepted is_made more after =
     rw (more, after) (next_chapter c s (after_map s (new_map s.roster s.next (Map made))) MakeMap (Map made) k
     (record { event = tt; accepted = accepted; reply = is_made })
-    (λ e. elim_state e)
-    k.admitted
-    (subst (λ ids. AreRising ids × ((i : ℕ) → list_any (λ j. j == i) ids ≡ has_alloc i s.roster)) (sym (map-map (λ a. a.alloc_id) (lessened (new_map s.roster s.next (Map made))) s.book)) k.book))
-  where
-    elim_state : replay c.opening c.entries ≡ s → after_map s (new_map s.roster s.next (Map made)) ≡ replay s (record { event = MakeMap; reply = Map made } ∷ [])
-    elim_state e = subst (λ s. after_map s (new_map s.roster s.next (Map made)) ≡ replay s (record { event = MakeMap; reply = Map made } ∷ [])) e
-        (map_step c.opening c.entries (Map made) (subst (λ s. AreRising (alloc_ids s.book)) (sym e) k.book.0))
+    (λ e. subst (λ s. after_map s (new_map s.roster s.next (Map made)) ≡ replay s (record { event = MakeMap; reply = Map made } ∷ [])) e
+    (map_step c.opening c.entries (Map made) (subst (λ s. AreRising (alloc_ids s.book)) (sym e) k.book.0))))
 
--- the first row is kept
+-- a row is kept
 pub admitted : (c d : Chapter) (s t : State) (r : Row) → IsKept c s → IsInRange r → first_refusal (length c.entries) s (Admit r.onu r.alloc_id r.descriptor) ≡ None →
-    d ≡ with_entry c (Admit r.onu r.alloc_id r.descriptor) Taken → t ≡ after_first s r → IsKept d t
+    d ≡ with_entry c (Admit r.onu r.alloc_id r.descriptor) Taken → t ≡ after_admit s r → IsKept d t
 admitted c d s t r k in_range accepted more after =
-    let none : s.roster ≡ [] = no_row (length c.entries) s r accepted in
-    let empty : s.book ≡ [] = no_account s.book (subst (λ rows. AccountsFor rows s.book) none k.book) in
-    rw (more, after) (next_chapter c s (after_first s r) (Admit r.onu r.alloc_id r.descriptor) Taken k
+    let own : refuses_admit rule_in_force s.gap s.roster r ≡ None = (or_else_none (refuses_admit rule_in_force s.gap s.roster r) (when_full (length c.entries) s.taken_before) accepted).0 in
+    let free : list_any (λ j. j == r.alloc_id) (alloc_ids s.book) ≡ false = k.book.1 r.alloc_id ∙ (passes rule_in_force s.gap s.roster r own).free in
+    rw (more, after) (next_chapter c s (after_admit s r) (Admit r.onu r.alloc_id r.descriptor) Taken k
     (record { event = in_range; accepted = accepted; reply = refl })
-    (λ e. subst (λ s. after_first s r ≡ replay s (record { event = Admit r.onu r.alloc_id r.descriptor; reply = Taken } ∷ [])) e
-    (first_step c.opening c.entries r (ap (λ s. s.roster) e ∙ none) (ap (λ s. s.book) e ∙ empty)))
-    (one_admitted (length c.entries) s r accepted in_range k.admitted)
-    (one_account r s.next))
+    (λ e. subst (λ s. after_admit s r ≡ replay s (taken_entry (Admit r.onu r.alloc_id r.descriptor) ∷ [])) e
+    (admit_step c.opening c.entries r (subst (λ s. AreRising (alloc_ids s.book)) (sym e) k.book.0) (subst (λ s. list_any (λ j. j == r.alloc_id) (alloc_ids s.book) ≡ false) (sym e) free))))
+
+-- a change is kept
+pub changed : (c d : Chapter) (s t : State) (i : ℕ) (t2 : Descriptor) → IsKept c s → IsLawful t2 → first_refusal (length c.entries) s (Change i t2) ≡ None →
+    d ≡ with_entry c (Change i t2) Taken → t ≡ after_change s i t2 → IsKept d t
+changed c d s t i t2 k lawful accepted more after =
+    rw (more, after) (next_chapter c s (after_change s i t2) (Change i t2) Taken k
+    (record { event = lawful; accepted = accepted; reply = refl })
+    (λ e. subst (λ s. after_change s i t2 ≡ replay s (taken_entry (Change i t2) ∷ [])) e
+    (change_step c.opening c.entries i t2 (subst (λ s. AreRising (alloc_ids s.book)) (sym e) k.book.0))))
+
+-- a removal is kept
+pub removed : (c d : Chapter) (s t : State) (i : ℕ) → IsKept c s → first_refusal (length c.entries) s (Remove i) ≡ None →
+    d ≡ with_entry c (Remove i) Taken → t ≡ after_remove s i → IsKept d t
+removed c d s t i k accepted more after =
+    rw (more, after) (next_chapter c s (after_remove s i) (Remove i) Taken k
+    (record { event = tt; accepted = accepted; reply = refl })
+    (λ e. subst (λ s. after_remove s i ≡ replay s (taken_entry (Remove i) ∷ [])) e
+    (remove_step c.opening c.entries i (subst (λ s. AreRising (alloc_ids s.book)) (sym e) k.book.0))))
 
 -- the map that is told is the one that is kept
 pub map_taken : (c d : Chapter) (s : State) (made kept : MadeMap) → IsKept c s → first_refusal (length c.entries) s MakeMap ≡ None → IsMade s made → kept ≡ made →

@@ -2,7 +2,7 @@
 use Rattle.std.proofs.Common.{◌≡◌, ℕ, List, [], ◌∷◌, ◌++◌, length, take, drop, sym, subst, append_assoc}
 use Rattle.std.specs.Prelude.{None}
 use Rattle.std.proofs.lemmas.List.{append-nil, take-append-drop}
-use Rattle.pon_port.specs.Roster.{IsAdmitted, refuses_admit, refuses_change, rule_in_force}
+use Rattle.pon_admit.specs.Roster.{IsAdmitted, refuses_admit, refuses_change, rule_in_force}
 use Rattle.pon_port.specs.State.{State}
 use Rattle.pon_port.specs.Replay.{roster_after}
 use Rattle.pon_port.specs.Loads.{replay}
@@ -14,18 +14,18 @@ use Rattle.pon_port.specs.declared.event.Event.TheVariants.{Admit, Change, Remov
 use Rattle.pon_port.specs.declared.reply.Entry.{Entry}
 use Rattle.pon_port.proofs.Parts.{roster_of-append}
 use Rattle.pon_port.proofs.Legality.{IsLegalAfter, after_from_legal, legal_split}
-use Rattle.pon_port.proofs.Cutting.{or_else_none}
-use Rattle.pon_port.proofs.AdmittedSets.{admit_keeps, change_keeps, remove_keeps}
+use Rattle.pon_descr.proofs.Checks.{or_else_none}
+use Rattle.pon_admit.proofs.AdmittedSets.{admit_keeps, change_keeps, remove_keeps}
 
 -- an event that no check refuses keeps the set admitted
 pub event_keeps : (kept : ℕ) (s : State) (v : Event) → IsEvent v → first_refusal kept s v ≡ None → IsAdmitted rule_in_force s.gap s.roster → IsAdmitted rule_in_force s.gap (roster_after s.roster v)
 event_keeps kept s (Admit onu alloc_id descriptor) i h k =
     admit_keeps rule_in_force s.gap s.roster (record { onu = onu; alloc_id = alloc_id; descriptor = descriptor })
     (or_else_none (refuses_admit rule_in_force s.gap s.roster (record { onu = onu; alloc_id = alloc_id; descriptor = descriptor })) (when_full kept s.taken_before) h).0 i k
-event_keeps kept s (Change alloc_id descriptor not_yet) i h k =
+event_keeps kept s (Change alloc_id descriptor) i h k =
     change_keeps rule_in_force s.gap s.roster alloc_id descriptor
     (or_else_none (refuses_change rule_in_force s.gap s.roster alloc_id descriptor) (when_full kept s.taken_before) h).0 i k
-event_keeps kept s (Remove alloc_id not_yet) i h k = remove_keeps rule_in_force s.gap s.roster alloc_id k
+event_keeps kept s (Remove alloc_id) i h k = remove_keeps rule_in_force s.gap s.roster alloc_id k
 event_keeps kept s (Report frame onu occ not_yet) i h k = k
 event_keeps kept s MakeMap i h k = k
 event_keeps kept s (Fail cause not_yet) i h k = k

@@ -7,8 +7,10 @@ use Rattle.std.proofs.lemmas.Bool.Decides.{eqb_tells}
 use Rattle.std.proofs.lemmas.List.{append-nil, take-append-drop}
 use Rattle.std.proofs.lemmas.List.Elements.{All-nil, All-cons, All-head, All-tail, All-append, All-filter, All-map, All-weaker}
 use Rattle.std.proofs.lemmas.List.Folds.{list_any_at, map_fixed}
-use Rattle.pon_port.specs.Descriptor.{or_else, when}
-use Rattle.pon_port.specs.Roster.{IsDistinct, Row, comes_before, distinct}
+use Rattle.pon_descr.specs.Checks.{or_else, when}
+use Rattle.pon_admit.specs.Roster.{IsDistinct, comes_before}
+use Rattle.pon_admit.specs.declared.row.Row.{Row}
+use Rattle.pon_units.specs.Distinct.{distinct}
 use Rattle.pon_port.specs.Book.{Account, Counted, account_of, alloc_ids}
 use Rattle.pon_port.specs.Window.{Granted, LeadsTo, WindowMap, grants_at, polled}
 use Rattle.pon_port.specs.State.{State}
@@ -16,28 +18,26 @@ use Rattle.pon_port.specs.Replay.{admits, allocs_after, begins, forgets, last_64
 use Rattle.pon_port.specs.Loads.{account_after, candidates_in, counted_of, counted_of_account, later, latest, occupancies, replay, since_of, since_of_account, words_from, words_in}
 use Rattle.pon_port.specs.Checks.{first_refusal, is_of, refuses_report, when_down, when_full}
 use Rattle.pon_port.specs.Legal.{MayFollow}
-use Rattle.pon_port.specs.Chapters.{AccountIsLawful, AreRising, Chapter, CountedIsLawful, IsLawfulChapter, IsLawfulMap, IsLawfulOpening, Owns, present_state, state_before}
+use Rattle.pon_port.specs.Chapters.{AccountIsLawful, Chapter, CountedIsLawful, IsLawfulChapter, IsLawfulMap, IsLawfulOpening, Owns, present_state, state_before}
 use Rattle.pon_port.specs.After.{less}
 use Rattle.pon_port.specs.declared.event.Event.{Event}
 use Rattle.pon_port.specs.declared.event.Event.TheVariants.{Admit, Change, Remove, Report, MakeMap, Fail, Restore}
 use Rattle.pon_port.specs.declared.reply.Reply.{Reply}
 use Rattle.pon_port.specs.declared.reply.Entry.{Entry}
-use Rattle.pon_port.specs.declared.refusal.Refusal.TheVariants.{StaleFrame}
-use Rattle.pon_port.proofs.Lists.{any_eq-filter, filter_agree, map-map, or-false}
+use Rattle.pon_descr.specs.declared.refusal.Refusal.TheVariants.{StaleFrame}
+use Rattle.pon_units.proofs.Lists.{any_eq-filter, filter_agree, map-map, or-false}
 use Rattle.pon_port.proofs.Windows.{filter_zero, leads-map}
 use Rattle.pon_port.proofs.Loads.{had_alloc_all, has_id}
+use Rattle.pon_port.proofs.Accounts.{found_each, unmap}
 use Rattle.pon_port.proofs.Legality.{IsLegalAfter, after_from_legal, legal_push, legal_split}
-use Rattle.pon_port.proofs.Cutting.{or_else_none, replay-append, when_none}
+use Rattle.pon_descr.proofs.Checks.{or_else_none, when_none}
+use Rattle.pon_port.proofs.Cutting.{replay-append}
 use Rattle.pon_port.proofs.Steps.{counted_forgotten, counted_of-map, counted_of-report, since_begins, since_keeps}
-use Rattle.pon_port.proofs.Distinct.{occurs}
-use Rattle.pon_port.proofs.AdmittedSets.{changed, changed_alloc, changed_onu}
+use Rattle.pon_units.proofs.Distinct.{occurs}
+use Rattle.pon_admit.proofs.AdmittedSets.{changed, changed_alloc, changed_onu}
 use Rattle.pon_port.proofs.Steady.{IsSteady, grants_all, none_any, steady_step, window_all}
 
 -- Lists.
-
-unmap : {X Y : Type 0} (P : Y → Type 0) (f : X → Y) (xs : List X) → All P (map f xs) → All (λ x. P (f x)) xs
-unmap P f [] h = All-nil (λ x. P (f x))
-unmap P f (x ∷ xs) h = All-cons (λ x. P (f x)) x xs (All-head P (f x) (map f xs) h) (unmap P f xs (All-tail P (f x) (map f xs) h))
 
 contains_any : (u : ℕ) (xs : List ℕ) → Contains xs u → occurs u xs ≡ true
 contains_any u xs c = list_any_at (λ v. v == u) xs c.0 u c.1 (eq-eqb (get_or xs c.0 u) u c.2)
@@ -78,15 +78,6 @@ each_has (j ∷ ids) = All-cons (λ i. has_id i (j ∷ ids) ≡ true) j ids (or_
     (All-weaker (λ i. has_id i ids ≡ true) (λ i. has_id i (j ∷ ids) ≡ true) (λ i h. or_right (j == i) (has_id i ids) h) ids (each_has ids))
 
 -- The replay of no entries.
-
-found_each : (book : List Account) → AreRising (alloc_ids book) → All (λ a. account_of book a.alloc_id ≡ Some a) book
-found_each [] h = All-nil (λ a. account_of [] a.alloc_id ≡ Some a)
-found_each (x ∷ book) h = All-cons (λ a. account_of (x ∷ book) a.alloc_id ≡ Some a) x book
-    (ap (λ b. cond b (Some x) (account_of book x.alloc_id)) (eq-eqb x.alloc_id x.alloc_id refl))
-    (λ n d l. past (get_or book n d) (unmap (λ j. x.alloc_id < j) (λ a. a.alloc_id) book h.0 n d l) (found_each book h.1 n d l))
-  where
-    past : (a : Account) → x.alloc_id < a.alloc_id → account_of book a.alloc_id ≡ Some a → account_of (x ∷ book) a.alloc_id ≡ Some a
-    past a l e = ap (λ b. cond b (Some x) (account_of book a.alloc_id)) (ne_eqb x.alloc_id a.alloc_id (λ q. omega (arith, q, l))) ∙ e
 
 map_as_it_was : (m : WindowMap) → IsLawfulMap m → with_reports [] m ≡ m
 map_as_it_was m l = (λ i. record {
@@ -151,11 +142,11 @@ rows_kept Q i (Admit onu alloc_id descriptor) rows n h =
     (All-cons (λ r. r.alloc_id ≡ i → Q r.onu) r (filter (λ q. not (comes_before q r)) rows)
     (λ e. absurd (let t : true ≡ false = sym (eq-eqb alloc_id i e) ∙ n in cc))
     (All-filter (λ q. not (comes_before q r)) (λ r. r.alloc_id ≡ i → Q r.onu) rows h))
-rows_kept Q i (Change alloc_id descriptor not_yet) rows n h =
+rows_kept Q i (Change alloc_id descriptor) rows n h =
     All-map (λ r. r.alloc_id ≡ i → Q r.onu) (changed alloc_id descriptor) rows
     (All-weaker (λ r. r.alloc_id ≡ i → Q r.onu) (λ r. (changed alloc_id descriptor r).alloc_id ≡ i → Q (changed alloc_id descriptor r).onu)
     (λ r k e. subst Q (sym (changed_onu alloc_id descriptor r)) (k (sym (changed_alloc alloc_id descriptor r) ∙ e))) rows h)
-rows_kept Q i (Remove alloc_id not_yet) rows n h = All-filter (λ r. not (r.alloc_id == alloc_id)) (λ r. r.alloc_id ≡ i → Q r.onu) rows h
+rows_kept Q i (Remove alloc_id) rows n h = All-filter (λ r. not (r.alloc_id == alloc_id)) (λ r. r.alloc_id ≡ i → Q r.onu) rows h
 rows_kept Q i (Report frame onu occ not_yet) rows n h = h
 rows_kept Q i MakeMap rows n h = h
 rows_kept Q i (Fail cause not_yet) rows n h = h
@@ -206,8 +197,8 @@ one_of_frame n f (x ∷ ms) h = All-cons (λ m. m.frame ≡ f → filter (λ m. 
 
 begins_none : (i : ℕ) (v : Event) → (admits i v || forgets v) ≡ true → (ms : List WindowMap) (since : ℕ) → candidates_in ms since i v ≡ []
 begins_none i (Admit onu alloc_id descriptor) h ms since = refl
-begins_none i (Change alloc_id descriptor not_yet) h ms since = refl
-begins_none i (Remove alloc_id not_yet) h ms since = refl
+begins_none i (Change alloc_id descriptor) h ms since = refl
+begins_none i (Remove alloc_id) h ms since = refl
 begins_none i (Report frame onu occ not_yet) h ms since = absurd cc
 begins_none i MakeMap h ms since = refl
 begins_none i (Fail cause not_yet) h ms since = refl
@@ -215,8 +206,8 @@ begins_none i (Restore not_yet) h ms since = refl
 
 begins_no_map : (i : ℕ) (v : Event) → (admits i v || forgets v) ≡ true → makes_map v ≡ true → ⊥
 begins_no_map i (Admit onu alloc_id descriptor) h k = absurd cc
-begins_no_map i (Change alloc_id descriptor not_yet) h k = absurd cc
-begins_no_map i (Remove alloc_id not_yet) h k = absurd cc
+begins_no_map i (Change alloc_id descriptor) h k = absurd cc
+begins_no_map i (Remove alloc_id) h k = absurd cc
 begins_no_map i (Report frame onu occ not_yet) h k = absurd cc
 begins_no_map i MakeMap h k = absurd cc
 begins_no_map i (Fail cause not_yet) h k = absurd cc
@@ -224,8 +215,8 @@ begins_no_map i (Restore not_yet) h k = absurd cc
 
 map_keeps_roster : (v : Event) (rows : List Row) → makes_map v ≡ true → roster_after rows v ≡ rows
 map_keeps_roster (Admit onu alloc_id descriptor) rows h = absurd cc
-map_keeps_roster (Change alloc_id descriptor not_yet) rows h = absurd cc
-map_keeps_roster (Remove alloc_id not_yet) rows h = absurd cc
+map_keeps_roster (Change alloc_id descriptor) rows h = absurd cc
+map_keeps_roster (Remove alloc_id) rows h = absurd cc
 map_keeps_roster (Report frame onu occ not_yet) rows h = refl
 map_keeps_roster MakeMap rows h = refl
 map_keeps_roster (Fail cause not_yet) rows h = refl
@@ -440,11 +431,11 @@ module _ (kept : ℕ) (s : State) (k : IsSteady s) (i : ℕ) (a : Account) (foun
   counted_step (Admit onu alloc_id descriptor) reply h b =
       let e : Entry = record { event = Admit onu alloc_id descriptor; reply = reply } in
       with_candidates s e k i b a found same lawful refl (All-nil (CountedIsLawful (replay s (e ∷ [])) (account_after s (e ∷ []) i)))
-  counted_step (Change alloc_id descriptor not_yet) reply h b =
-      let e : Entry = record { event = Change alloc_id descriptor not_yet; reply = reply } in
+  counted_step (Change alloc_id descriptor) reply h b =
+      let e : Entry = record { event = Change alloc_id descriptor; reply = reply } in
       with_candidates s e k i b a found same lawful refl (All-nil (CountedIsLawful (replay s (e ∷ [])) (account_after s (e ∷ []) i)))
-  counted_step (Remove alloc_id not_yet) reply h b =
-      let e : Entry = record { event = Remove alloc_id not_yet; reply = reply } in
+  counted_step (Remove alloc_id) reply h b =
+      let e : Entry = record { event = Remove alloc_id; reply = reply } in
       with_candidates s e k i b a found same lawful refl (All-nil (CountedIsLawful (replay s (e ∷ [])) (account_after s (e ∷ []) i)))
   counted_step (Report frame onu occ not_yet) reply h b =
       let e : Entry = record { event = Report frame onu occ not_yet; reply = reply } in
@@ -493,7 +484,7 @@ lawful_step kept s e f l = record {
       (account_step kept s e f.accepted l.steady l.accounts) (allocs_after (alloc_ids s.book) e.event) (each_has (allocs_after (alloc_ids s.book) e.event)));
 }
 
-from_opening : (n : ℕ) (s : State) → IsLawfulOpening n s → IsLawfulState s
+pub from_opening : (n : ℕ) (s : State) → IsLawfulOpening n s → IsLawfulState s
 from_opening n s o = record {
   steady = record { admitted = o.admitted; book = o.book; few_maps = o.few_maps; frames = o.frames; maps = o.maps; failed = o.failed };
   accounts = o.accounts;
@@ -512,7 +503,7 @@ opens_later n s l k = record {
 }
 
 -- a legal list leaves a lawful state of one
-legal_state : (o : State) (es : List Entry) → IsLawfulState o → IsLegalAfter o [] es → IsLawfulState (replay o es)
+pub legal_state : (o : State) (es : List Entry) → IsLawfulState o → IsLegalAfter o [] es → IsLawfulState (replay o es)
 legal_state o es k l = entries_carry IsLawfulState lawful_step o [] es k.steady.frames tt l (subst IsLawfulState (sym (replay_none o k.steady)) k)
 
 -- a later chapter may open with the state before any entry of a lawful one

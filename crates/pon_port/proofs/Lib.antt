@@ -1,16 +1,14 @@
-pub mod Lists
-pub mod Parts
-pub mod Windows
-pub mod Loads
-pub mod Legality
-pub mod Cutting
-pub mod Steps
-pub mod Distinct
-pub mod AdmittedSets
-pub mod LawfulChapters
-pub mod Laid
-pub mod SoundMaps
-pub mod Kept
-pub mod Steady
-pub mod LawfulStates
+pub mod Accounts
 pub mod CutChapters
+pub mod Cutting
+mod Gathering
+pub mod Kept
+pub mod LawfulChapters
+pub mod LawfulStates
+pub mod Legality
+pub mod Loads
+pub mod Parts
+mod RosterMaps
+pub mod Steady
+pub mod Steps
+pub mod Windows

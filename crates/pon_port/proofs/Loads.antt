@@ -15,7 +15,7 @@ use Rattle.pon_port.specs.After.{less}
 use Rattle.pon_port.specs.declared.event.Event.{Event}
 use Rattle.pon_port.specs.declared.event.Event.TheVariants.{Admit, Change, Remove, Report, MakeMap, Fail, Restore}
 use Rattle.pon_port.specs.declared.reply.Entry.{Entry}
-use Rattle.pon_port.proofs.Lists.{map-map, map_same, length-drop, append-nil, filter-append, filter-filter, filter_agree, map_filter, map-append, sum_by-map, flat_map-map}
+use Rattle.pon_units.proofs.Lists.{map-map, map_same, length-drop, append-nil, filter-append, filter-filter, filter_agree, map_filter, map-append, sum_by-map, flat_map-map}
 use Rattle.pon_port.proofs.Windows.{leads-filter, filter_high}
 
 -- the maps of a frame or later
@@ -114,8 +114,8 @@ candidates_agree n k ms ns h since i (e ∷ es) w = (λ j. one e.event w.0 j ++ 
         then map (λ c. record { frame = frame; words = c - words_from_agree i frame ms ns (h frame w) j }) (occupancies i (grants_at_agree frame onu ms ns (h frame w) j) occ)
         else [])
     one (Admit onu alloc_id descriptor) w = refl
-    one (Change alloc_id descriptor not_yet) w = refl
-    one (Remove alloc_id not_yet) w = refl
+    one (Change alloc_id descriptor) w = refl
+    one (Remove alloc_id) w = refl
     one MakeMap w = refl
     one (Fail cause not_yet) w = refl
     one (Restore not_yet) w = refl
@@ -129,8 +129,8 @@ candidates_late n ms since i (e ∷ es) l w = (λ j. one e.event w.0 j ++ candid
     one : (v : Event) → EventBelow n v → candidates_in ms since i v ≡ []
     one (Report frame onu occ not_yet) w = rw (lt-leb since frame (omega arith)) refl
     one (Admit onu alloc_id descriptor) w = refl
-    one (Change alloc_id descriptor not_yet) w = refl
-    one (Remove alloc_id not_yet) w = refl
+    one (Change alloc_id descriptor) w = refl
+    one (Remove alloc_id) w = refl
     one MakeMap w = refl
     one (Fail cause not_yet) w = refl
     one (Restore not_yet) w = refl
@@ -186,8 +186,8 @@ candidates_less nx n ys ms bs lead q since i (e ∷ es) w =
           | false ↦ refl
         ]
     one (Admit onu alloc_id descriptor) w = refl
-    one (Change alloc_id descriptor not_yet) w = refl
-    one (Remove alloc_id not_yet) w = refl
+    one (Change alloc_id descriptor) w = refl
+    one (Remove alloc_id) w = refl
     one MakeMap w = refl
     one (Fail cause not_yet) w = refl
     one (Restore not_yet) w = refl
@@ -262,8 +262,8 @@ had_alloc i ids e b h = step e.event b h
           | inl a ↦ any_filter (λ j. j == i) (λ j. nat_lt j alloc_id) ids a
           | inr a ↦ any_filter (λ j. j == i) (λ j. not (nat_lt j alloc_id)) ids (or_false (alloc_id == i) (has_id i upper) a other)
         ]
-    step (Change alloc_id descriptor not_yet) b h = h
-    step (Remove alloc_id not_yet) b h = any_filter (λ j. j == i) (λ j. not (j == alloc_id)) ids h
+    step (Change alloc_id descriptor) b h = h
+    step (Remove alloc_id) b h = any_filter (λ j. j == i) (λ j. not (j == alloc_id)) ids h
     step (Report frame onu occ not_yet) b h = h
     step MakeMap b h = h
     step (Fail cause not_yet) b h = h

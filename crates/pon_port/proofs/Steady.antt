@@ -7,24 +7,27 @@ use Rattle.std.proofs.lemmas.Option.{IfSome_then}
 use Rattle.std.proofs.lemmas.List.Elements.{All-nil, All-cons, All-head, All-tail, All-append, All-drop, All-filter, All-map, All-weaker, filter_passes}
 use Rattle.std.proofs.lemmas.List.Folds.{list_any-append}
 use Rattle.pon_bwmap.specs.Structure.{Structure}
-use Rattle.pon_port.specs.Descriptor.{or_else}
-use Rattle.pon_port.specs.Roster.{IsAdmitted, IsInMapOrder, Row, comes_before, has_alloc, refuses_admit, rule_in_force, without}
-use Rattle.pon_port.specs.Book.{Account, account_of, alloc_ids, with_alloc}
+use Rattle.pon_descr.specs.Checks.{or_else}
+use Rattle.pon_admit.specs.Roster.{IsAdmitted, IsInMapOrder, comes_before, has_alloc, refuses_admit, rule_in_force, without}
+use Rattle.pon_admit.specs.declared.row.Row.{Row}
+use Rattle.pon_port.specs.Book.{Account, AreRising, account_of, alloc_ids, with_alloc}
 use Rattle.pon_port.specs.Window.{Granted, LeadsTo, WindowMap, polled}
 use Rattle.pon_port.specs.State.{State}
 use Rattle.pon_port.specs.Replay.{admits, all_maps, allocs_after, begins, cause_after, forgets, frame_at_last, grants_of, last_64, makes_map, maps_of, new_map, reports, roster_after, structures, window_of, with_reports}
 use Rattle.pon_port.specs.Loads.{account_after, candidates_in, counted_of, counted_of_account, latest, replay, since_of_account}
 use Rattle.pon_port.specs.Checks.{at_limit, first_refusal, refuses_report, when_down, when_full}
 use Rattle.pon_port.specs.Legal.{MayFollow}
-use Rattle.pon_port.specs.Chapters.{AccountsFor, AreGrantsRising, AreRising, ComesBefore, IsLawfulMap, IsSilent}
+use Rattle.pon_port.specs.Chapters.{AccountsFor, IsLawfulMap, IsSilent}
+use Rattle.pon_units.specs.Granted.{AreInMapOrder, ComesBefore}
 use Rattle.pon_port.specs.declared.event.Event.{Event}
 use Rattle.pon_port.specs.declared.event.Event.TheVariants.{Admit, Change, Remove, Report, MakeMap, Fail, Restore}
 use Rattle.pon_port.specs.declared.reply.Entry.{Entry}
-use Rattle.pon_port.proofs.Lists.{any_eq-filter, append-nil, filter_same_in, length-drop, map_filter, or_assoc}
+use Rattle.pon_units.proofs.Lists.{any_eq-filter, append-nil, filter_same_in, length-drop, map_filter, or_assoc}
 use Rattle.pon_port.proofs.Windows.{filter_low, leads-map}
-use Rattle.pon_port.proofs.Cutting.{alloc_ids-replay, or_else_none, window_leads}
+use Rattle.pon_port.proofs.Cutting.{alloc_ids-replay, window_leads}
+use Rattle.pon_descr.proofs.Checks.{or_else_none}
 use Rattle.pon_port.proofs.Steps.{counted_forgotten, counted_of-report}
-use Rattle.pon_port.proofs.AdmittedSets.{Passes, has_alloc-changed, passes, precedes}
+use Rattle.pon_admit.proofs.AdmittedSets.{Passes, has_alloc-changed, passes, precedes}
 use Rattle.pon_port.proofs.LawfulChapters.{event_keeps}
 
 -- the parts of a lawful opening that speak of no account
@@ -58,7 +61,7 @@ window_all P s e old new =
 
 -- Lawful maps.
 
-pub reported_lawful : (es : List Entry) (m : WindowMap) → AreGrantsRising m.grants → IsLawfulMap (with_reports es m)
+pub reported_lawful : (es : List Entry) (m : WindowMap) → AreInMapOrder m.grants → IsLawfulMap (with_reports es m)
 reported_lawful es m h =
     let said : ℕ → Bool = λ u. list_any (λ v. v == u) m.reported || list_any (λ e. reports m.frame u e.event) es in
     record {
@@ -80,7 +83,7 @@ grants_all P (r ∷ rows) (a ∷ more) h =
     (All-head (λ r. (w : ℕ) → P (record { onu = r.onu; alloc_id = r.alloc_id; words = w })) r rows h (a.grant - 1))
     (grants_all P rows more (All-tail (λ r. (w : ℕ) → P (record { onu = r.onu; alloc_id = r.alloc_id; words = w })) r rows h))
 
-grants_rise : (rows : List Row) (more : List Structure) → IsInMapOrder rows → AreGrantsRising (grants_of rows more)
+grants_rise : (rows : List Row) (more : List Structure) → IsInMapOrder rows → AreInMapOrder (grants_of rows more)
 grants_rise [] more h = tt
 grants_rise (r ∷ rows) [] h = tt
 grants_rise (r ∷ rows) (a ∷ more) h = (
@@ -179,8 +182,8 @@ ids_step kept s (Admit onu alloc_id descriptor) h k =
           ∙ ap (λ b. (alloc_id == i) || b) (k.1 i)
           ∙ sym (any_around (λ q. q.alloc_id == i) (λ q. comes_before q r) r s.roster),
     )
-ids_step kept s (Change alloc_id descriptor not_yet) h k = (k.0, λ i. k.1 i ∙ sym (has_alloc-changed alloc_id descriptor i s.roster))
-ids_step kept s (Remove alloc_id not_yet) h k = (
+ids_step kept s (Change alloc_id descriptor) h k = (k.0, λ i. k.1 i ∙ sym (has_alloc-changed alloc_id descriptor i s.roster))
+ids_step kept s (Remove alloc_id) h k = (
   rising_filter (λ j. not (j == alloc_id)) (alloc_ids s.book) k.0,
   λ i. any_eq-filter (λ j. not (j == alloc_id)) i (alloc_ids s.book) ∙ ap (λ b. not (i == alloc_id) && b) (k.1 i) ∙ sym (has_alloc-without alloc_id i s.roster),
 )
@@ -250,8 +253,8 @@ failed_step kept s e h k = one e.event refl h
 
     one : (v : Event) → e.event ≡ v → first_refusal kept s v ≡ None → IfSome (cause_after s.cause v) (λ cause. IsSilent (replay s (e ∷ [])))
     one (Admit onu alloc_id descriptor) q h = same (Admit onu alloc_id descriptor) q refl (λ ms since i. refl)
-    one (Change alloc_id descriptor not_yet) q h = same (Change alloc_id descriptor not_yet) q refl (λ ms since i. refl)
-    one (Remove alloc_id not_yet) q h = same (Remove alloc_id not_yet) q refl (λ ms since i. refl)
+    one (Change alloc_id descriptor) q h = same (Change alloc_id descriptor) q refl (λ ms since i. refl)
+    one (Remove alloc_id) q h = same (Remove alloc_id) q refl (λ ms since i. refl)
     one (Report frame onu occ not_yet) q h =
         up (Report frame onu occ not_yet) (not_down s.cause (or_else_none (when_down s.cause) (refuses_report s.window frame onu (length occ)) (or_else_none (or_else (when_down s.cause) (refuses_report s.window frame onu (length occ))) (when_full kept s.taken_before) h).0).0)
     one MakeMap q h = up MakeMap (not_down s.cause (or_else_none (when_down s.cause) (at_limit s.next) (or_else_none (or_else (when_down s.cause) (at_limit s.next)) (when_full kept s.taken_before) h).0).0)

@@ -5,7 +5,7 @@ use Rattle.std.specs.List.{list_any}
 use Rattle.std.proofs.lemmas.List.Folds.{list_any-append}
 use Rattle.std.proofs.lemmas.List.Sums.{sum_by-cons}
 use Rattle.std.proofs.lemmas.Bool.{le-leb}
-use Rattle.pon_port.specs.Roster.{Row}
+use Rattle.pon_admit.specs.declared.row.Row.{Row}
 use Rattle.pon_port.specs.Book.{Counted, account_of}
 use Rattle.pon_port.specs.Window.{LeadsTo, WindowMap, polled}
 use Rattle.pon_port.specs.State.{State}
@@ -16,7 +16,7 @@ use Rattle.pon_port.specs.declared.event.Event.{Event}
 use Rattle.pon_port.specs.declared.event.Event.TheVariants.{MakeMap}
 use Rattle.pon_port.specs.declared.reply.Reply.{Reply}
 use Rattle.pon_port.specs.declared.reply.Entry.{Entry}
-use Rattle.pon_port.proofs.Lists.{or-false, map-map, map_same, drop-map, map_filter, map-append, append-nil, filter_same_in, length-drop}
+use Rattle.pon_units.proofs.Lists.{or-false, map-map, map_same, drop-map, map_filter, map-append, append-nil, filter_same_in, length-drop}
 use Rattle.pon_port.proofs.Windows.{with_reports-append, filter_zero, filter_low, leads-map}
 use Rattle.pon_port.proofs.Cutting.{window_leads}
 

@@ -1,5 +1,5 @@
 -- The report book of a port: for each admitted Alloc-ID the report that counts, in rising Alloc-ID.
-use Rattle.std.specs.Prelude.{ℕ, ◌*◌, ◌==◌, nat_lt, not, List, ◌∷◌, ◌++◌, map, filter, find, Option, Some, None}
+use Rattle.std.specs.Prelude.{ℕ, ◌*◌, ◌<◌, ◌==◌, nat_lt, not, All, List, [], ◌∷◌, ◌++◌, map, filter, find, Option, Some, None}
 pub use Rattle.pon_port.specs.declared.book.Counted.{Counted}
 pub use Rattle.pon_port.specs.declared.book.Account.{Account}
 
@@ -10,6 +10,10 @@ account_of book i = find (λ a. a.alloc_id == i) book
 -- the Alloc-IDs of a book
 abbrev pub alloc_ids : List Account → List ℕ
 alloc_ids book = map (λ a. a.alloc_id) book
+
+abbrev pub AreRising : List ℕ → Type 0
+AreRising [] = Unit {0}
+AreRising (i ∷ ids) = All (λ j. i < j) ids × AreRising ids
 
 -- Alloc-IDs with one more in its place, and with one taken out
 abbrev pub with_alloc : ℕ → List ℕ → List ℕ

@@ -1,9 +1,11 @@
 -- Chapters of a port's history: an opening and the entries that were taken from it.
-use Rattle.std.specs.Prelude.{ℕ, ◌≡◌, ◌+◌, ◌<◌, ◌≤◌, ◌==◌, List, [], ◌∷◌, length, All, Contains, filter, take, slice_get, Some, None, IfSome}
+use Rattle.std.specs.Prelude.{ℕ, ◌≡◌, ◌+◌, ◌<◌, ◌≤◌, ◌==◌, List, [], length, All, Contains, filter, take, slice_get, Some, None, IfSome}
 use Rattle.std.specs.List.{list_any}
-use Rattle.pon_port.specs.Roster.{Row, IsAdmitted, rule_in_force, has_alloc}
-use Rattle.pon_port.specs.Book.{Account, Counted, alloc_ids}
-use Rattle.pon_port.specs.Window.{WindowMap, Granted, LeadsTo, polled}
+use Rattle.pon_admit.specs.declared.row.Row.{Row}
+use Rattle.pon_admit.specs.Roster.{IsAdmitted, rule_in_force, has_alloc}
+use Rattle.pon_port.specs.Book.{Account, AreRising, Counted, alloc_ids}
+use Rattle.pon_units.specs.Granted.{AreInMapOrder}
+use Rattle.pon_port.specs.Window.{WindowMap, LeadsTo, polled}
 use Rattle.pon_port.specs.State.{State}
 use Rattle.pon_port.specs.Loads.{replay}
 use Rattle.pon_port.specs.Legal.{MayFollow}
@@ -29,24 +31,12 @@ IsLegal c = (k : ℕ) (e : Entry) → slice_get c.entries k ≡ Some e → MayFo
 -- Lawful openings.
 
 -- the Alloc-IDs of a report book: in rising number, and those of the roster
-abbrev pub AreRising : List ℕ → Type 0
-AreRising [] = Unit {0}
-AreRising (i ∷ ids) = All (λ j. i < j) ids × AreRising ids
-
 abbrev pub AccountsFor : List Row → List Account → Type 0
 AccountsFor rows book = AreRising (alloc_ids book) × ((i : ℕ) → list_any (λ j. j == i) (alloc_ids book) ≡ has_alloc i rows)
 
--- grants in rising order of ONU and Alloc-ID
-abbrev pub ComesBefore : Granted → Granted → Type 0
-ComesBefore g h = (g.onu ≤ h.onu) × (g.onu ≡ h.onu → g.alloc_id < h.alloc_id)
-
-abbrev pub AreGrantsRising : List Granted → Type 0
-AreGrantsRising [] = Unit {0}
-AreGrantsRising (g ∷ gs) = All (ComesBefore g) gs × AreGrantsRising gs
-
 -- the ONUs that reported are some of those that the map polls, in its order
 pub record IsLawfulMap (m : WindowMap) : Type 0 where
-  pub rising : AreGrantsRising m.grants
+  pub rising : AreInMapOrder m.grants
   pub reported : m.reported ≡ filter (λ u. list_any (λ v. v == u) m.reported) (polled m)
 
 -- an ONU owns the Alloc-ID

@@ -1,14 +1,14 @@
 -- The first check that refuses an event.
 use Rattle.std.specs.Prelude.{ℕ, ◌-◌, ◌^◌, ◌==◌, ◌||◌, ◌&&◌, not, nat_le, Bool, List, [], ◌∷◌, length, Option, Some, None}
 use Rattle.std.specs.List.{list_any}
-use Rattle.pon_port.specs.Descriptor.{when, or_else, first_of}
-use Rattle.pon_port.specs.Roster.{rule_in_force, refuses_admit, refuses_change, refuses_remove}
+use Rattle.pon_descr.specs.Checks.{when, or_else, first_of}
+use Rattle.pon_admit.specs.Roster.{rule_in_force, refuses_admit, refuses_change, refuses_remove}
 use Rattle.pon_port.specs.Window.{WindowMap, grants_at}
 use Rattle.pon_port.specs.State.{State}
 use Rattle.pon_port.specs.declared.event.Event.{Event}
 use Rattle.pon_port.specs.declared.event.Event.TheVariants.{Admit, Change, Remove, Report, MakeMap, Fail, Restore}
-use Rattle.pon_port.specs.declared.refusal.Refusal.{Refusal}
-use Rattle.pon_port.specs.declared.refusal.Refusal.TheVariants.{StaleFrame, NotPolled, ReportCount, AlreadyReported, PortDown, PortUp, FrameLimit, ChapterFull}
+use Rattle.pon_descr.specs.declared.refusal.Refusal.{Refusal}
+use Rattle.pon_descr.specs.declared.refusal.Refusal.TheVariants.{StaleFrame, NotPolled, ReportCount, AlreadyReported, PortDown, PortUp, FrameLimit, ChapterFull}
 
 abbrev pub when_down : Option ℕ → Option Refusal
 when_down None = None
@@ -42,8 +42,8 @@ when_full kept taken_before = when (nat_le 65536 kept || nat_le (2 ^ 64 - 1) (ta
 -- Each event's own checks, in order.
 abbrev pub refuses : State → Event → Option Refusal
 refuses s (Admit onu alloc_id descriptor) = refuses_admit rule_in_force s.gap s.roster (record { onu = onu; alloc_id = alloc_id; descriptor = descriptor })
-refuses s (Change alloc_id descriptor not_yet) = refuses_change rule_in_force s.gap s.roster alloc_id descriptor
-refuses s (Remove alloc_id not_yet) = refuses_remove s.roster alloc_id
+refuses s (Change alloc_id descriptor) = refuses_change rule_in_force s.gap s.roster alloc_id descriptor
+refuses s (Remove alloc_id) = refuses_remove s.roster alloc_id
 refuses s (Report frame onu occ not_yet) = or_else (when_down s.cause) (refuses_report s.window frame onu (length occ))
 refuses s MakeMap = or_else (when_down s.cause) (at_limit s.next)
 refuses s (Fail cause not_yet) = when_down s.cause

@@ -1,8 +1,8 @@
 -- Which entry may follow in a history.
 use Rattle.std.specs.Prelude.{ℕ, ◌≡◌, None}
 use Rattle.pon_port.specs.State.{State}
-use Rattle.pon_port.specs.Descriptor.{IsLawful}
-use Rattle.pon_port.specs.Roster.{IsInRange}
+use Rattle.pon_descr.specs.Descriptor.{IsLawful}
+use Rattle.pon_admit.specs.Roster.{IsInRange}
 use Rattle.pon_port.specs.Rates.{no_surplus}
 use Rattle.pon_port.specs.Maps.{map_of}
 use Rattle.pon_port.specs.Checks.{first_refusal}
@@ -27,7 +27,7 @@ IsReply s event reply = reply ≡ Taken
 -- the numbers of an event are in range
 abbrev pub IsEvent : Event → Type 0
 IsEvent (Admit onu alloc_id descriptor) = IsInRange (record { onu = onu; alloc_id = alloc_id; descriptor = descriptor })
-IsEvent (Change alloc_id descriptor not_yet) = IsLawful descriptor
+IsEvent (Change alloc_id descriptor) = IsLawful descriptor
 IsEvent _ = Unit {0}
 
 -- an entry that may follow in a state, after so many entries of its chapter: its numbers are in range, no check refuses it, and its reply is one of the state's

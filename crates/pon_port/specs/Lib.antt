@@ -1,6 +1,3 @@
-pub mod Refusal
-pub mod Descriptor
-pub mod Roster
 pub mod Book
 pub mod Window
 pub mod State
@@ -8,7 +5,7 @@ pub mod Replay
 pub mod Loads
 pub mod Rates
 pub mod Maps
-pub mod Bursts
+pub mod Packing
 pub mod Checks
 pub mod Legal
 pub mod Chapters

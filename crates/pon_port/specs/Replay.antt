@@ -2,7 +2,8 @@
 use Rattle.std.specs.Prelude.{ℕ, ◌+◌, ◌-◌, ◌==◌, ◌||◌, ◌&&◌, nat_le, Bool, true, false, if◌then◌else◌, List, [], ◌∷◌, ◌++◌, map, filter, length, drop, count_by, Option, Some, None}
 use Rattle.std.specs.List.{list_any}
 use Rattle.pon_bwmap.specs.Structure.{Structure}
-use Rattle.pon_port.specs.Roster.{Row, with_row, with_descriptor, without}
+use Rattle.pon_admit.specs.declared.row.Row.{Row}
+use Rattle.pon_admit.specs.Roster.{with_row, with_descriptor, without}
 use Rattle.pon_port.specs.Book.{with_alloc, without_alloc}
 use Rattle.pon_port.specs.Window.{WindowMap, Granted, polled}
 use Rattle.pon_port.specs.State.{State}
@@ -55,8 +56,8 @@ cause_of cause (e ∷ es) = cause_of (cause_after cause e.event) es
 -- the roster after what was admitted, changed and removed
 abbrev pub roster_after : List Row → Event → List Row
 roster_after rows (Admit onu alloc_id descriptor) = with_row (record { onu = onu; alloc_id = alloc_id; descriptor = descriptor }) rows
-roster_after rows (Change alloc_id descriptor not_yet) = with_descriptor alloc_id descriptor rows
-roster_after rows (Remove alloc_id not_yet) = without alloc_id rows
+roster_after rows (Change alloc_id descriptor) = with_descriptor alloc_id descriptor rows
+roster_after rows (Remove alloc_id) = without alloc_id rows
 roster_after rows _ = rows
 
 abbrev pub roster_of : List Row → List Entry → List Row
@@ -66,7 +67,7 @@ roster_of rows (e ∷ es) = roster_of (roster_after rows e.event) es
 -- the Alloc-IDs of the report book
 abbrev pub allocs_after : List ℕ → Event → List ℕ
 allocs_after ids (Admit onu alloc_id descriptor) = with_alloc alloc_id ids
-allocs_after ids (Remove alloc_id not_yet) = without_alloc alloc_id ids
+allocs_after ids (Remove alloc_id) = without_alloc alloc_id ids
 allocs_after ids _ = ids
 
 abbrev pub allocs_of : List ℕ → List Entry → List ℕ

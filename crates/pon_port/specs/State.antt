@@ -1,6 +1,6 @@
 -- The state of a port.
 use Rattle.std.specs.Prelude.{ℕ, List, Option}
-use Rattle.pon_port.specs.Roster.{Row}
+use Rattle.pon_admit.specs.declared.row.Row.{Row}
 use Rattle.pon_port.specs.Book.{Account}
 use Rattle.pon_port.specs.Window.{WindowMap}
 

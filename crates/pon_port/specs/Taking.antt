@@ -1,16 +1,15 @@
 -- What a port's calls do to its chapter.
-use Rattle.std.specs.Prelude.{ℕ, ◌≡◌, [], ◌∷◌, ◌++◌, length, Option, Some, None}
+use Rattle.std.specs.Prelude.{ℕ, ◌≡◌, [], ◌∷◌, ◌++◌, length, Option}
 use Rattle.pon_port.specs.State.{State}
-use Rattle.pon_port.specs.Roster.{IsAdmitted, rule_in_force}
+use Rattle.pon_admit.specs.Roster.{IsAdmitted, rule_in_force}
 use Rattle.pon_port.specs.Checks.{first_refusal}
 use Rattle.pon_port.specs.Legal.{MayFollow}
-use Rattle.pon_port.specs.Bursts.{AreSound}
+use Rattle.pon_burst.specs.Bursts.{AreSound}
 use Rattle.pon_port.specs.Chapters.{Chapter, present_state, IsLawfulChapter, AccountsFor}
 use Rattle.pon_port.specs.declared.event.Event.{Event}
 use Rattle.pon_port.specs.declared.reply.Reply.{Reply}
 use Rattle.pon_port.specs.declared.reply.Reply.TheVariants.{Taken, Map}
-use Rattle.pon_port.specs.declared.refusal.Refusal.{Refusal}
-use Rattle.pon_port.specs.declared.refusal.Refusal.TheVariants.{OutOfMemory}
+use Rattle.pon_descr.specs.declared.refusal.Refusal.{Refusal}
 
 -- the chapter, with one entry more
 abbrev pub with_entry : Chapter → Event → Reply → Chapter
@@ -29,11 +28,6 @@ TellsSoundBursts gap (Map made) = AreSound gap made.map
 -- the first check that refuses the event now
 abbrev pub refusal_of : Chapter → Event → Option Refusal
 refusal_of c event = first_refusal (length c.entries) (present_state c) event
-
--- that check is told, and want of memory only where none refuses
-abbrev pub IsTold : Option Refusal → Refusal → Type 0
-IsTold None told = told ≡ OutOfMemory
-IsTold (Some refusal) told = told ≡ refusal
 
 -- what a port keeps: a lawful chapter and its replay; what is admitted now is an admitted set, and the report book is of it
 pub record IsKept (c : Chapter) (state : State) : Type 0 where

@@ -1,7 +1,7 @@
 -- The window of a port: its last maps, for which reports may still come.
-use Rattle.std.specs.Prelude.{ℕ, ◌≡◌, ◌+◌, ◌==◌, List, [], ◌∷◌, map, filter, flat_map, length}
-use Rattle.pon_port.specs.Roster.{distinct}
-pub use Rattle.pon_port.specs.declared.window.Granted.{Granted}
+use Rattle.std.specs.Prelude.{ℕ, ◌≡◌, ◌+◌, ◌==◌, List, [], ◌∷◌, filter, flat_map, length}
+use Rattle.pon_units.specs.Granted.{onus_granted}
+pub use Rattle.pon_units.specs.declared.granted.Granted.{Granted}
 
 -- a map's frame, what it granted, and the ONUs that reported
 pub record WindowMap : Type 0 where
@@ -15,7 +15,7 @@ grants_at frame u window = filter (λ g. g.onu == u) (flat_map (λ m. m.grants) 
 
 -- the ONUs that a map polls, in its order
 abbrev pub polled : WindowMap → List ℕ
-polled m = distinct (map (λ g. g.onu) m.grants)
+polled m = onus_granted m.grants
 
 -- frames follow each other up to the next frame
 abbrev pub LeadsTo : ℕ → List WindowMap → Type 0

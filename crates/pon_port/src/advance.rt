@@ -1,31 +1,37 @@
 //! The running state, one entry further.
 
-ghost use Rattle.std.specs.Prelude.{◌≡◌, ◌+◌, ◌<◌, ◌≤◌, ◌^◌, ◌++◌, [], ◌∷◌, length, map, OnOk, OnErr, vec_len, vec_capacity};
+ghost use Rattle.std.specs.Prelude.{◌≡◌, ◌+◌, ◌<◌, ◌≤◌, ◌^◌, ◌++◌, None, [], ◌∷◌, length, map, OnOk, OnErr, vec_len, vec_capacity};
 ghost use Rattle.pon_port.specs.Loads.{words_in};
 ghost use Rattle.pon_port.specs.Replay.{last_64};
-ghost use Rattle.pon_port.specs.After.{less, lessened, after_map, after_first};
+ghost use Rattle.pon_admit.specs.Roster.{refuses_admit, refuses_change, refuses_remove, rule_in_force};
+ghost use Rattle.pon_port.specs.Book.{AreRising, alloc_ids};
+ghost use Rattle.pon_port.specs.After.{less, lessened, after_map, after_admit, after_change, after_remove};
 
-use crate::book::{Account, Counted};
-use crate::roster::Row;
+use crate::book::{Account, Counted, add_account, remove_account};
 use crate::state::PortState;
 use crate::window::WindowMap;
+use pon_admit::Row;
+use pon_descr::Descriptor;
 use pon_units::{AllocId, BufOcc, FrameNo};
 use std::alloc::AllocError;
 
-// The payload words of an Alloc-ID in a map of at most one structure.
+// The payload words of an Alloc-ID in a map.
 fn words_granted(map: &WindowMap, alloc_id: AllocId) -> u32
-    requires { length map.now.grants ≤ 1 }
+    requires few { length map.now.grants ≤ 512 }
     ensures { result ≡ words_in alloc_id map.now }
 {
-    match map.grants.first() {
-        Some(granted) if granted.alloc_id == alloc_id => u32::from(granted.words.get()),
-        _ => 0,
+    let mut words = 0;
+    for granted in &map.grants {
+        if granted.alloc_id == alloc_id {
+            words += u32::from(granted.words.get());
+        }
     }
+    words
 }
 
 // A report that counts, less what a map grants its Alloc-ID.
 fn lessened_report(map: &WindowMap, alloc_id: AllocId, report: Counted) -> Counted
-    requires { length map.now.grants ≤ 1 }
+    requires { length map.now.grants ≤ 512 }
     ensures { result ≡ less (words_in alloc_id map.now) report }
 {
     let left = report
@@ -43,7 +49,7 @@ fn lessened_report(map: &WindowMap, alloc_id: AllocId, report: Counted) -> Count
 
 // An account after a map.
 fn lessened_account(map: &WindowMap, account: Account) -> Account
-    requires { length map.now.grants ≤ 1 }
+    requires { length map.now.grants ≤ 512 }
     ensures { result ≡ lessened map.now account }
 {
     let Account {
@@ -64,7 +70,7 @@ fn lessened_account(map: &WindowMap, account: Account) -> Account
 
 // Lessens the reports that count by what a map grants.
 fn lessen(book: &mut [Account], granted: &WindowMap)
-    requires { length granted.now.grants ≤ 1 }
+    requires { length granted.now.grants ≤ 512 }
     ensures { book.new ≡ map (lessened granted.now) book.old }
 {
     for account in book.iter_mut() {
@@ -86,7 +92,7 @@ fn add_to_window(window: &mut Vec<WindowMap>, map: WindowMap)
 
 /// Takes a map into the state; `Err` where memory is refused, and then the state is as it was.
 pub(crate) fn add_map(state: &mut PortState, map: WindowMap) -> Result<(), AllocError>
-    requires few_grants { length map.grants ≤ 1 }
+    requires few_grants { length map.grants ≤ 512 }
     requires short { length state.old.window ≤ 64 }
     requires next { state.old.next + 1 < 2 ^ 64 }
     requires count { state.old.taken_before + 1 < 2 ^ 64 }
@@ -101,25 +107,55 @@ pub(crate) fn add_map(state: &mut PortState, map: WindowMap) -> Result<(), Alloc
     Ok(())
 }
 
-/// Admits the first row; `Err` where memory is refused, and then the state is as it was.
-pub(crate) fn add_first(state: &mut PortState, row: &Row) -> Result<(), AllocError>
-    requires no_row { state.old.roster ≡ [] }
-    requires no_account { state.old.book ≡ [] }
+/// Admits a row that no check refuses; `Err` where memory is refused, and then the state is as it was.
+pub(crate) fn admit_row(state: &mut PortState, row: &Row) -> Result<(), AllocError>
+    requires accepted { refuses_admit rule_in_force state.old.gap state.old.roster row.now ≡ None }
+    requires book { AreRising (alloc_ids state.old.book) }
     requires count { state.old.taken_before + 1 < 2 ^ 64 }
-    ensures ok { OnOk result (state.new ≡ after_first state.old row.now) }
+    ensures ok { OnOk result (state.new ≡ after_admit state.old row.now) }
     ensures err { OnErr result (state.new ≡ state.old) }
 {
     state.book.reserve(1)?;
-    state.roster.push(*row)?;
-    let since = state.next;
-    state
-        .book
-        .push(Account {
-            alloc_id: row.alloc_id,
-            since,
-            counted: None,
-        })
-        .unwrap();
+    if state
+        .roster
+        .admit(row.onu, row.alloc_id, row.descriptor)
+        .is_err()
+    {
+        return Err(AllocError);
+    }
+    let account = Account {
+        alloc_id: row.alloc_id,
+        since: state.next,
+        counted: None,
+    };
+    add_account(&mut state.book, account);
     state.taken_before += 1;
     Ok(())
+}
+
+/// Gives an Alloc-ID another descriptor that no check refuses.
+pub(crate) fn change_row(state: &mut PortState, alloc_id: AllocId, descriptor: Descriptor)
+    requires accepted { refuses_change rule_in_force state.old.gap state.old.roster alloc_id descriptor ≡ None }
+    requires count { state.old.taken_before + 1 < 2 ^ 64 }
+    ensures { state.new ≡ after_change state.old alloc_id descriptor }
+{
+    match state.roster.change(alloc_id, descriptor) {
+        Ok(()) => state.taken_before += 1,
+        Err(_) => unreachable!(),
+    }
+}
+
+/// Takes out an Alloc-ID that is there.
+pub(crate) fn remove_row(state: &mut PortState, alloc_id: AllocId)
+    requires accepted { refuses_remove state.old.roster alloc_id ≡ None }
+    requires count { state.old.taken_before + 1 < 2 ^ 64 }
+    ensures { state.new ≡ after_remove state.old alloc_id }
+{
+    match state.roster.remove(alloc_id) {
+        Ok(()) => {
+            remove_account(&mut state.book, alloc_id);
+            state.taken_before += 1;
+        }
+        Err(_) => unreachable!(),
+    }
 }

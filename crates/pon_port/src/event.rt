@@ -1,8 +1,7 @@
 ghost use Rattle.std.specs.Prelude.{◌≡◌};
 
-use crate::cause::Cause;
-use crate::descriptor::Descriptor;
 use arrayvec::ArrayVec;
+use pon_descr::{Cause, Descriptor};
 use pon_units::{AllocId, BufOcc, FrameNo, OnuId};
 use std::marker::Model;
 
@@ -33,7 +32,7 @@ impl Occupancies {
 #[derive(Clone, Copy)]
 pub enum NotYet {}
 
-/// What may happen at a port. So far `Admit` and `MakeMap` can be made; the others wait for their parts.
+/// What may happen at a port. So far `Admit`, `Change`, `Remove` and `MakeMap` can be made; the others wait for their parts.
 #[derive(Drop)]
 pub enum Event {
     /// An Alloc-ID of an ONU is admitted with a descriptor.
@@ -42,17 +41,13 @@ pub enum Event {
         alloc_id: AllocId,
         descriptor: Descriptor,
     },
-    /// An Alloc-ID gets another descriptor.
+    /// An admitted Alloc-ID gets another descriptor; it keeps its report.
     Change {
         alloc_id: AllocId,
         descriptor: Descriptor,
-        not_yet: NotYet,
     },
     /// An Alloc-ID is taken out.
-    Remove {
-        alloc_id: AllocId,
-        not_yet: NotYet,
-    },
+    Remove { alloc_id: AllocId },
     /// An ONU reports its buffers in answer to the map of a frame.
     Report {
         frame: FrameNo,

@@ -1,14 +1,15 @@
 //! Laws of histories, over the definitions alone.
 
 ghost use Rattle.std.specs.Prelude.{List, None, drop, take, ℕ, ◌++◌, ◌+◌, ◌<◌, ◌≡◌, ◌≤◌};
-ghost use Rattle.pon_port.specs.Descriptor.{Descriptor, IsLawful};
-ghost use Rattle.pon_port.specs.Roster.{IsAdmitted, IsInRange, Row, Rule, refuses_admit, refuses_change, rule_in_force, with_descriptor, with_row, without};
+ghost use Rattle.pon_descr.specs.Descriptor.{Descriptor, IsLawful};
+ghost use Rattle.pon_admit.specs.Roster.{IsAdmitted, IsInRange, Rule, refuses_admit, refuses_change, rule_in_force, with_descriptor, with_row, without};
+ghost use Rattle.pon_admit.specs.declared.row.Row.{Row};
 ghost use Rattle.pon_port.specs.State.{State};
 ghost use Rattle.pon_port.specs.Loads.{replay};
 ghost use Rattle.pon_port.specs.Window.{LeadsTo};
 ghost use Rattle.pon_port.specs.Rates.{no_surplus};
 ghost use Rattle.pon_port.specs.Maps.{map_of};
-ghost use Rattle.pon_port.specs.Bursts.{AreSound};
+ghost use Rattle.pon_burst.specs.Bursts.{AreSound};
 ghost use Rattle.pon_port.specs.Chapters.{Chapter, IsLawfulChapter, IsLawfulOpening, IsLegal, present_state, state_before};
 ghost use Rattle.pon_port.specs.declared.reply.Entry.{Entry};
 
@@ -20,17 +21,6 @@ pub fn cutting()
     ensures rest { (n : ℕ) (o : State) (xs ys : List Entry) → LeadsTo o.next o.window →
         IsLegal (record { number = n; opening = o; entries = xs ++ ys }) →
         IsLegal (record { number = n + 1; opening = replay o xs; entries = ys }) }
-{}
-
-/// An admitted set stays admitted: with one row more that no check refuses, with a new descriptor that no check refuses, and with an Alloc-ID removed.
-/// This holds for any overhead words of an Alloc-ID, any most of Alloc-IDs and any gap.
-pub fn checks_keep_admitted_sets()
-    ensures admit { (rule : Rule) (gap : ℕ) (rows : List Row) (r : Row) →
-        refuses_admit rule gap rows r ≡ None → IsInRange r → IsAdmitted rule gap rows → IsAdmitted rule gap (with_row r rows) }
-    ensures change { (rule : Rule) (gap : ℕ) (rows : List Row) (i : ℕ) (d : Descriptor) →
-        refuses_change rule gap rows i d ≡ None → IsLawful d → IsAdmitted rule gap rows → IsAdmitted rule gap (with_descriptor i d rows) }
-    ensures remove { (rule : Rule) (gap : ℕ) (rows : List Row) (i : ℕ) →
-        IsAdmitted rule gap rows → IsAdmitted rule gap (without i rows) }
 {}
 
 /// Before each entry of a lawful chapter, and after all of them, the roster is an admitted set.

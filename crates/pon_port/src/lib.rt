@@ -6,26 +6,19 @@
 
 mod advance;
 mod book;
-mod cause;
 mod checks;
-mod descriptor;
 mod event;
 pub mod laws;
 mod making;
 mod port;
-mod refusal;
 mod reply;
-mod roster;
+mod series;
 mod state;
 mod window;
 
 pub use book::{Account, Counted};
-pub use cause::Cause;
-pub use descriptor::{Class, Descriptor};
 pub use event::{Event, NotYet, Occupancies};
 pub use port::Port;
-pub use refusal::Refusal;
 pub use reply::{Entry, MadeMap, Reply};
-pub use roster::Row;
 pub use state::{PortCfg, PortState};
-pub use window::{Granted, WindowMap};
+pub use window::WindowMap;

@@ -2,80 +2,63 @@
 
 ghost use Rattle.std.specs.Prelude.{◌≡◌, ◌+◌, ◌≤◌, length, IfOk};
 ghost use Rattle.pon_bwmap.specs.MapRules.{IsMap};
-ghost use Rattle.pon_port.specs.Roster.{IsAdmitted, rule_in_force};
-ghost use Rattle.pon_port.specs.Book.{load_of, load_of_counted};
-ghost use Rattle.pon_port.specs.Rates.{payload, no_surplus};
-ghost use Rattle.pon_port.specs.Maps.{grant, map_of};
-ghost use Rattle.pon_port.specs.Bursts.{AreSound};
-ghost use Rattle.pon_port.specs.Replay.{grants_of, new_map};
+ghost use Rattle.pon_descr.specs.Descriptor.{promised};
+ghost use Rattle.pon_admit.specs.Roster.{IsAdmitted, rule_in_force};
+ghost use Rattle.pon_burst.specs.Bursts.{AreSound};
+ghost use Rattle.pon_burst.specs.Maps.{map_of};
+ghost use Rattle.pon_port.specs.Book.{AreRising, alloc_ids};
+ghost use Rattle.pon_port.specs.Rates.{granted, guaranteed, payload, no_surplus};
+ghost use Rattle.pon_port.specs.Packing.{AreOneMap};
+ghost use Rattle.pon_port.specs.Replay.{new_map};
 ghost use Rattle.pon_port.specs.Legal.{IsMade};
 
-use crate::book::{Account, Counted};
+use crate::book::load_of_alloc;
 use crate::reply::{MadeMap, Reply};
-use crate::roster::Row;
+use crate::series::gather;
 use crate::state::PortState;
-use crate::window::{Granted, WindowMap};
+use crate::window::WindowMap;
+use pon_admit::Row;
+use pon_burst::pack;
 use pon_bwmap::{Alloc, Map};
-use pon_units::{AllocId, Words};
+use pon_descr::Descriptor;
+use pon_units::{Granted, Words};
 use std::alloc::{AllocError, Global};
 
-// The load of a report, in kbit/s: its words that are not yet granted.
-fn load_of_report(counted: Option<Counted>) -> u64
-    ensures { result ≡ load_of_counted counted }
+// The guaranteed rate of a descriptor under a load, both in kbit/s.
+fn guaranteed(descriptor: &Descriptor, load: u64) -> u32
+    ensures rate { result ≡ guaranteed descriptor.now load }
+    ensures within { result ≤ promised descriptor.now }
+    ensures small { result ≤ 2488320 }
 {
-    match counted {
-        None => 0,
-        Some(counted) => 256 * u64::from(counted.words.get()),
+    let promised = descriptor.promised().get();
+    let wanted = load.max(u64::from(descriptor.fixed().get()));
+    if wanted < u64::from(promised) {
+        wanted as u32
+    } else {
+        promised
     }
-}
-
-// The offered load of an Alloc-ID in kbit/s.
-fn load_of_alloc(book: &[Account], alloc_id: AllocId) -> u64
-    ensures { result ≡ load_of book.now alloc_id }
-{
-    for account in book {
-        if account.alloc_id == alloc_id {
-            return load_of_report(account.counted);
-        }
-    }
-    0
 }
 
 // The payload words of an admitted Alloc-ID.
 fn payload_of(state: &PortState, row: &Row) -> Words
+    requires { AreRising (alloc_ids state.now.book) }
     ensures { result ≡ payload state.now no_surplus row.now }
 {
     let load = load_of_alloc(state.book.as_slice(), row.alloc_id);
-    let rate = row.descriptor.guaranteed(load);
+    let rate = guaranteed(&row.descriptor, load);
     match Words::new((rate / 256) as u16) {
         Some(words) => words,
         None => unreachable!(),
     }
 }
 
-// The structures of the next map.
-fn structures(alloc: Global, state: &PortState) -> Result<Vec<Alloc>, AllocError>
-    requires { IsAdmitted rule_in_force state.now.gap state.now.roster }
-    ensures structures { IfOk result (λ structures. structures.items ≡ map_of state.now no_surplus) }
-    ensures map { IfOk result (λ structures. IsMap structures.items) }
-{
-    let mut structures = Vec::new(alloc);
-    if let Some(row) = state.roster.first() {
-        let grant = 1 + payload_of(state, row).get();
-        let start = Some(state.cfg.gap.get());
-        structures.push(Alloc::polled(row.alloc_id.get(), start, grant, state.cfg.profile.get()))?;
-    }
-    Ok(structures)
-}
-
-// What the next map grants, as the window keeps it.
+// What the next map grants to each admitted Alloc-ID.
 fn grants(alloc: Global, state: &PortState) -> Result<Vec<Granted>, AllocError>
-    requires { IsAdmitted rule_in_force state.now.gap state.now.roster }
-    ensures grants { IfOk result (λ grants. grants.items ≡ grants_of state.now.roster (map_of state.now no_surplus)) }
-    ensures few { IfOk result (λ grants. length grants.items ≤ 1) }
+    requires { AreRising (alloc_ids state.now.book) }
+    ensures { IfOk result (λ grants. grants.items ≡ granted state.now no_surplus) }
 {
-    let mut grants = Vec::new(alloc);
-    if let Some(row) = state.roster.first() {
+    let mut grants = Vec::with_capacity(alloc, state.roster.rows().len())?;
+    for row in state.roster.rows() {
         grants.push(Granted {
             onu: row.onu,
             alloc_id: row.alloc_id,
@@ -83,6 +66,29 @@ fn grants(alloc: Global, state: &PortState) -> Result<Vec<Granted>, AllocError>
         })?;
     }
     Ok(grants)
+}
+
+// The structures that grant so many words.
+fn structures(
+    alloc: Global,
+    state: &PortState,
+    grants: &[Granted],
+) -> Result<Vec<Alloc>, AllocError>
+    requires { AreOneMap state.now.gap grants.now }
+    ensures structures { IfOk result (λ structures. structures.items ≡ map_of state.now.gap state.now.profile grants.now) }
+    ensures map { IfOk result (λ structures. IsMap structures.items) }
+    ensures sound { IfOk result (λ structures. AreSound state.now.gap structures.items) }
+{
+    let series = gather(alloc, state.roster.gap(), grants)?;
+    let blank = Alloc::polled(0, None, 0, 0);
+    let mut structures = Vec::from_elem(alloc, blank, grants.len())?;
+    pack(
+        state.roster.gap(),
+        state.profile,
+        series.as_slice(),
+        structures.as_mut_slice(),
+    );
+    Ok(structures)
 }
 
 // A map of the structures that a state has.
@@ -98,15 +104,16 @@ fn map_of_structures(structures: Vec<Alloc>) -> Map
 
 /// The next map under the state's next frame, and what the window keeps of it.
 pub(crate) fn next_map(alloc: Global, state: &PortState) -> Result<(MadeMap, WindowMap), AllocError>
-    requires { IsAdmitted rule_in_force state.now.gap state.now.roster }
+    requires admitted { IsAdmitted rule_in_force state.now.gap state.now.roster }
+    requires book { AreRising (alloc_ids state.now.book) }
     ensures made { IfOk result (λ next. IsMade state.now next.0) }
     ensures sound { IfOk result (λ next. AreSound state.now.gap next.0.map) }
-    ensures few { IfOk result (λ next. length next.1.grants ≤ 1) }
+    ensures few { IfOk result (λ next. length next.1.grants ≤ 512) }
     ensures window { IfOk result (λ next. next.1 ≡ new_map state.now.roster state.now.next (Reply.Map next.0)) }
 {
-    let map = map_of_structures(structures(alloc, state)?);
-    let frame = state.next;
     let grants = grants(alloc, state)?;
+    let map = map_of_structures(structures(alloc, state, grants.as_slice())?);
+    let frame = state.next;
     let window = WindowMap {
         frame,
         grants,

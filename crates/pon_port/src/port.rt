@@ -1,15 +1,15 @@
-ghost use Rattle.std.specs.Prelude.{◌≡◌};
+ghost use Rattle.std.specs.Prelude.{◌≡◌, IfOk};
 ghost use Rattle.pon_port.specs.Chapters.{just_opened};
 
-use crate::advance::{add_first, add_map};
-use crate::checks::{admit_refusal, map_refusal};
+use crate::advance::{add_map, admit_row, change_row, remove_row};
+use crate::checks::{admit_refusal, change_refusal, map_refusal, remove_refusal};
 use crate::event::Event;
 use crate::making::next_map;
-use crate::refusal::Refusal;
 use crate::reply::{Entry, MadeMap, Reply};
-use crate::roster::Row;
 use crate::state::{PortCfg, PortState};
-use pon_units::FrameNo;
+use pon_admit::{Roster, Row};
+use pon_descr::{Descriptor, Refusal};
+use pon_units::{AllocId, FrameNo};
 use std::alloc::{AllocError, Global};
 use std::marker::Model;
 
@@ -36,26 +36,28 @@ impl Model for Port {
 }
 
 // The state of a port just opened.
-fn opened(alloc: Global, cfg: &PortCfg, first: FrameNo) -> PortState
-    ensures { result ≡ just_opened cfg.now.gap cfg.now.profile first }
+fn opened(alloc: Global, cfg: &PortCfg, first: FrameNo) -> Result<PortState, AllocError>
+    ensures { IfOk result (λ state. state ≡ just_opened cfg.now.gap cfg.now.profile first) }
 {
-    PortState {
-        cfg: *cfg,
+    Ok(PortState {
+        profile: cfg.profile,
         next: first,
         cause: None,
         taken_before: 0,
-        roster: Vec::new(alloc),
+        roster: Roster::open(alloc, cfg.gap)?,
         book: Vec::new(alloc),
         window: Vec::new(alloc),
-    }
+    })
 }
 
 impl Port {
     ghost use Rattle.std.specs.Prelude.{[], ◌+◌, length, IfOk, IfErr, OnOk, OnErr};
-    ghost use Rattle.pon_port.specs.Roster.{IsAdmitted, IsInRange, rule_in_force};
-    ghost use Rattle.pon_port.specs.Bursts.{AreSound};
+    ghost use Rattle.pon_descr.specs.Descriptor.{IsLawful};
+    ghost use Rattle.pon_admit.specs.Roster.{IsAdmitted, IsInRange, rule_in_force};
+    ghost use Rattle.pon_burst.specs.Bursts.{AreSound};
     ghost use Rattle.pon_port.specs.Chapters.{IsLawfulChapter, present_state};
-    ghost use Rattle.pon_port.specs.Taking.{Takes, TellsSoundBursts, refusal_of, IsTold};
+    ghost use Rattle.pon_port.specs.Taking.{Takes, TellsSoundBursts, refusal_of};
+    ghost use Rattle.pon_descr.specs.Checks.{IsTold};
 
     /// A port just opened: no Alloc-ID, the line up, and `first` as its next frame. `Err` only for want of memory.
     pub fn open(alloc: Global, cfg: PortCfg, first: FrameNo) -> Result<Port, AllocError>
@@ -64,8 +66,8 @@ impl Port {
         ensures number { IfOk result (λ port. port.number ≡ 0) }
     {
         Ok(Port {
-            opening: opened(alloc, &cfg, first),
-            state: opened(alloc, &cfg, first),
+            opening: opened(alloc, &cfg, first)?,
+            state: opened(alloc, &cfg, first)?,
             entries: Vec::new(alloc),
         })
     }
@@ -102,7 +104,7 @@ impl Port {
         if let Some(refusal) = admit_refusal(&self.state, self.entries.len(), &row) {
             return Err(refusal);
         }
-        if self.entries.reserve(1).is_err() || add_first(&mut self.state, &row).is_err() {
+        if self.entries.reserve(1).is_err() || admit_row(&mut self.state, &row).is_err() {
             return Err(Refusal::OutOfMemory);
         }
         let Row {
@@ -115,6 +117,47 @@ impl Port {
             alloc_id,
             descriptor,
         };
+        let reply = Reply::Taken;
+        self.entries.push(Entry { event, reply }).unwrap();
+        Ok(())
+    }
+
+    fn change(&mut self, alloc_id: AllocId, descriptor: Descriptor) -> Result<(), Refusal>
+        requires { IsLawful descriptor }
+        ensures ok { OnOk result (Takes self.old (Event.Change alloc_id descriptor) Reply.Taken self.new) }
+        ensures refused { IfErr result (λ told. IsTold (refusal_of self.old (Event.Change alloc_id descriptor)) told) }
+        ensures err { OnErr result (self.new ≡ self.old) }
+    {
+        let kept = self.entries.len();
+        if let Some(refusal) = change_refusal(&self.state, kept, alloc_id, &descriptor) {
+            return Err(refusal);
+        }
+        if self.entries.reserve(1).is_err() {
+            return Err(Refusal::OutOfMemory);
+        }
+        change_row(&mut self.state, alloc_id, descriptor);
+        let event = Event::Change {
+            alloc_id,
+            descriptor,
+        };
+        let reply = Reply::Taken;
+        self.entries.push(Entry { event, reply }).unwrap();
+        Ok(())
+    }
+
+    fn remove(&mut self, alloc_id: AllocId) -> Result<(), Refusal>
+        ensures ok { OnOk result (Takes self.old (Event.Remove alloc_id) Reply.Taken self.new) }
+        ensures refused { IfErr result (λ told. IsTold (refusal_of self.old (Event.Remove alloc_id)) told) }
+        ensures err { OnErr result (self.new ≡ self.old) }
+    {
+        if let Some(refusal) = remove_refusal(&self.state, self.entries.len(), alloc_id) {
+            return Err(refusal);
+        }
+        if self.entries.reserve(1).is_err() {
+            return Err(Refusal::OutOfMemory);
+        }
+        remove_row(&mut self.state, alloc_id);
+        let event = Event::Remove { alloc_id };
         let reply = Reply::Taken;
         self.entries.push(Entry { event, reply }).unwrap();
         Ok(())
@@ -149,9 +192,10 @@ impl Port {
 
     /// Takes an event and keeps it with its reply, or tells the first check that refuses it.
     ///
-    /// `Admit` is refused by `AllocTaken`, `TooManyAllocs`, `Capacity`, `ChapterFull`, `OutOfMemory`; `MakeMap` by
-    /// `FrameLimit`, `ChapterFull`, `OutOfMemory`; in these orders. Want of memory comes only where no check refuses.
-    /// A refusal changes neither the state nor the history.
+    /// `Admit` is refused by `AllocTaken`, `TooManyAllocs`, `TooManyOnus`, `SeriesFull`, `Capacity`; `Change` by
+    /// `NoSuchAlloc`, `Capacity`; `Remove` by `NoSuchAlloc`; `MakeMap` by `FrameLimit`; each then by `ChapterFull` and
+    /// `OutOfMemory`; in these orders. Want of memory comes only where no check refuses. A refusal changes neither the
+    /// state nor the history.
     pub fn take(&mut self, event: Event) -> Result<Reply, Refusal>
         ensures ok { IfOk result (λ reply. Takes self.old event reply self.new) }
         // The bursts of a map lie in the frame, and no two overlap.
@@ -166,6 +210,17 @@ impl Port {
                 descriptor,
             } => {
                 self.admit(Row::new(onu, alloc_id, descriptor))?;
+                Ok(Reply::Taken)
+            }
+            Event::Change {
+                alloc_id,
+                descriptor,
+            } => {
+                self.change(alloc_id, descriptor)?;
+                Ok(Reply::Taken)
+            }
+            Event::Remove { alloc_id } => {
+                self.remove(alloc_id)?;
                 Ok(Reply::Taken)
             }
             Event::MakeMap => {

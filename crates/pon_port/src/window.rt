@@ -1,13 +1,5 @@
-use pon_units::{AllocId, FrameNo, OnuId, Words};
+use pon_units::{FrameNo, Granted, OnuId};
 use std::marker::Model;
-
-/// What a map granted to an Alloc-ID, in payload words.
-#[derive(Clone, Copy, Debug, PartialEq, Eq)]
-pub struct Granted {
-    pub onu: OnuId,
-    pub alloc_id: AllocId,
-    pub words: Words,
-}
 
 /// A map whose reports may still come, and the ONUs that reported.
 #[derive(Drop)]

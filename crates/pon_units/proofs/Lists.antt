@@ -1,7 +1,9 @@
 -- Lists: counts, sums, filters and tests over them.
-use Rattle.std.proofs.Common.{◌≡◌, ℕ, ◌+◌, Bool, true, false, cond, ◌||◌, ◌&&◌, List, [], ◌∷◌, ◌++◌, map, refl, ap, sym, ◌∙◌, inl, inr}
+use Rattle.std.proofs.Common.{◌≡◌, ℕ, ◌+◌, ◌≤◌, Bool, true, false, cond, not, ltb, ◌||◌, ◌&&◌, List, [], ◌∷◌, ◌++◌, map, length, refl, ap, sym, ◌∙◌, arith, inl, inr, Option, Some, None}
 use Rattle.std.specs.Prelude.{◌==◌, filter, sum_by, count_by}
-use Rattle.std.specs.List.{list_any}
+use Rattle.std.specs.List.{list_any, position, position_or_len}
+use Rattle.std.proofs.lemmas.Bool.{ltb-false}
+use Rattle.std.proofs.lemmas.List.Sums.{prefix_len-le-length}
 pub use Rattle.std.proofs.lemmas.List.{drop-drop, drop-map, drop-append-le, length-drop, length-append, append-nil, map-append, length-map}
 pub use Rattle.std.proofs.lemmas.List.Elements.{filter-append, filter_agree}
 pub use Rattle.std.proofs.lemmas.List.Folds.{flat_map-map}
@@ -71,3 +73,22 @@ sum_by-map f g (x ∷ xs) = sum_by-cons f (g x) (map g xs) ∙ ap (λ n. f (g x)
 pub sum_by_same : {X : Type 0} (f g : X → ℕ) → ((x : X) → f x ≡ g x) → (xs : List X) → sum_by f xs ≡ sum_by g xs
 sum_by_same f g h [] = refl
 sum_by_same f g h (x ∷ xs) = sum_by-cons f x xs ∙ (λ i. h x i + sum_by_same f g h xs i) ∙ sym (sum_by-cons g x xs)
+
+-- the place that `position` tells
+pub position-Some_or_len : {X : Type 0} (p : X → Bool) (t : List X) (r : Option ℕ) (n : ℕ) → r ≡ position p t → r ≡ Some n → n ≡ position_or_len p t
+position-Some_or_len p t r n e s = go (ltb (position_or_len p t) (length t)) (sym e ∙ s)
+  where
+    go : (v : Bool) → cond v (Some (position_or_len p t)) None ≡ Some n → n ≡ position_or_len p t
+    go true h = cc
+    go false h = absurd (cc)
+
+pub position-None_or_len : {X : Type 0} (p : X → Bool) (t : List X) (r : Option ℕ) → r ≡ position p t → r ≡ None → length t ≡ position_or_len p t
+position-None_or_len p t r e s = go (ltb (position_or_len p t) (length t)) refl (sym e ∙ s)
+  where
+    go : (v : Bool) → ltb (position_or_len p t) (length t) ≡ v → cond v (Some (position_or_len p t)) None ≡ None → length t ≡ position_or_len p t
+    go true k h = absurd (cc)
+    go false k h = omega (arith, ltb-false (position_or_len p t) (length t) k, prefix_len-le-length (λ b. not (p b)) t)
+
+pub position-Some_within : {X : Type 0} (p : X → Bool) (t : List X) (r : Option ℕ) (n : ℕ) → r ≡ position p t → r ≡ Some n → n ≤ length t
+position-Some_within p t r n e s =
+    omega (arith, position-Some_or_len p t r n e s, prefix_len-le-length (λ b. not (p b)) t)

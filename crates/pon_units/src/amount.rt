@@ -90,6 +90,17 @@ impl Words {
     }
 }
 
+/// No words.
+impl Default for Words {
+    ghost use Rattle.std.specs.Prelude.{◌≡◌};
+
+    ghost is_default = { λ w. w ≡ 0 };
+
+    fn default() -> Self {
+        Words { words: 0 }
+    }
+}
+
 /// A buffer occupancy, 0 to 16,777,215: the words of 4 bytes that wait at an allocation, as it reports
 /// them in 24 bits (ITU-T G.987.3, BufOcc of the dynamic bandwidth report).
 #[derive(Clone, Copy, Debug, PartialEq, Eq, PartialOrd, Ord)]

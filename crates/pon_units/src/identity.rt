@@ -92,6 +92,19 @@ impl AllocId {
     }
 }
 
+/// The least one.
+impl Default for AllocId {
+    ghost use Rattle.std.specs.Prelude.{◌≡◌};
+
+    ghost is_default = { λ a. a ≡ 1024 };
+
+    fn default() -> Self {
+        AllocId {
+            alloc_id: Self::MIN,
+        }
+    }
+}
+
 /// The number of a port of the line terminal, 0 to 63.
 #[derive(Clone, Copy, Debug, PartialEq, Eq, PartialOrd, Ord)]
 pub struct PortNo {

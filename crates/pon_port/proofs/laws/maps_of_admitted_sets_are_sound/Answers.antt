@@ -1,4 +1,4 @@
-use Rattle.pon_port.proofs.SoundMaps.{admitted_map_is_sound}
+use Rattle.pon_port.proofs.RosterMaps.{admitted_map_is_sound}
 use Rattle.pon_port.proofs.laws.maps_of_admitted_sets_are_sound.Goals as goal
 
 pub returns : goal.returns

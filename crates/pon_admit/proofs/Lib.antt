@@ -1,0 +1,4 @@
+pub mod AdmittedSets
+pub mod OneRow
+pub mod RefusedSets
+pub mod Refusals

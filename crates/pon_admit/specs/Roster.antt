@@ -1,0 +1,125 @@
+-- The roster of a port: its admitted Alloc-IDs in map order, and which sets of them are admitted.
+use Rattle.std.specs.Prelude.{ℕ, ◌≡◌, ◌+◌, ◌-◌, ◌*◌, ◌≤◌, Bool, true, false, not, ◌&&◌, ◌||◌, ◌==◌, nat_lt, nat_le, if◌then◌else◌, List, [], ◌∷◌, ◌++◌, map, length, filter, All, sum_by, count_by, Option}
+use Rattle.std.specs.List.{list_any}
+pub use Rattle.pon_admit.specs.declared.row.Row.{Row}
+use Rattle.pon_units.specs.Distinct.{distinct}
+use Rattle.pon_descr.specs.Checks.{when, first_of}
+use Rattle.pon_descr.specs.Descriptor.{Descriptor, IsLawful, promised}
+use Rattle.pon_descr.specs.declared.refusal.Refusal.{Refusal}
+use Rattle.pon_descr.specs.declared.refusal.Refusal.TheVariants.{NoSuchAlloc, AllocTaken, TooManyAllocs, TooManyOnus, SeriesFull, Capacity}
+
+-- the ONUs that own an Alloc-ID
+abbrev pub onus_of : List Row → List ℕ
+onus_of rows = distinct (map (λ r. r.onu) rows)
+
+abbrev pub has_alloc : ℕ → List Row → Bool
+has_alloc i rows = list_any (λ r. r.alloc_id == i) rows
+
+abbrev pub has_onu : ℕ → List Row → Bool
+has_onu u rows = list_any (λ r. r.onu == u) rows
+
+-- how many Alloc-IDs an ONU owns
+abbrev pub owned : ℕ → List Row → ℕ
+owned u rows = count_by (λ r. r.onu == u) rows
+
+-- a roster: the gap before each burst of its port, and its rows
+pub record Roster : Type 0 where
+  pub gap : ℕ
+  pub rows : List Row
+
+-- what a version of the product sets aside and allows: overhead words of each Alloc-ID, and the most Alloc-IDs of a port
+pub record Rule : Type 0 where
+  pub overhead_words : ℕ
+  pub most_allocs : ℕ
+
+abbrev pub rule_in_force : Rule
+rule_in_force = record { overhead_words = 1; most_allocs = 256 }
+
+abbrev pub most_onus : ℕ
+most_onus = 128
+
+abbrev pub longest_series : ℕ
+longest_series = 16
+
+-- the words of a frame that gaps, headers, trailers and reports take
+abbrev pub overhead : Rule → ℕ → List Row → ℕ
+overhead rule gap rows = (gap + 2) * length (onus_of rows) + rule.overhead_words * length rows
+
+-- the words of a frame that are left for payload
+abbrev pub capacity : Rule → ℕ → List Row → ℕ
+capacity rule gap rows = 9720 - overhead rule gap rows
+
+-- the promised rates, added up
+abbrev pub promised_sum : List Row → ℕ
+promised_sum rows = sum_by (λ r. promised r.descriptor) rows
+
+-- the overhead fits a frame, and the promised rates fit what is left, at 256 kbit/s a word
+abbrev pub fits : Rule → ℕ → List Row → Bool
+fits rule gap rows = nat_le (overhead rule gap rows) 9720 && nat_le (promised_sum rows) (256 * capacity rule gap rows)
+
+-- map order: ONUs in rising number, and the Alloc-IDs of an ONU in rising number
+abbrev pub comes_before : Row → Row → Bool
+comes_before r s = nat_lt r.onu s.onu || (r.onu == s.onu && nat_lt r.alloc_id s.alloc_id)
+
+-- the rows with one more in its place
+abbrev pub with_row : Row → List Row → List Row
+with_row r rows = filter (λ s. comes_before s r) rows ++ r ∷ filter (λ s. not (comes_before s r)) rows
+
+abbrev pub with_descriptor : ℕ → Descriptor → List Row → List Row
+with_descriptor i d rows = map (λ r. if r.alloc_id == i then record { onu = r.onu; alloc_id = r.alloc_id; descriptor = d } else r) rows
+
+abbrev pub without : ℕ → List Row → List Row
+without i rows = filter (λ r. not (r.alloc_id == i)) rows
+
+-- each row comes before all later ones
+abbrev pub IsInMapOrder : List Row → Type 0
+IsInMapOrder [] = Unit {0}
+IsInMapOrder (r ∷ rows) = All (λ s. comes_before r s ≡ true) rows × IsInMapOrder rows
+
+-- no Alloc-ID twice
+abbrev pub IsDistinct : List Row → Type 0
+IsDistinct [] = Unit {0}
+IsDistinct (r ∷ rows) = (has_alloc r.alloc_id rows ≡ false) × IsDistinct rows
+
+-- an ONU-ID, a managed Alloc-ID and a lawful descriptor
+pub record IsInRange (r : Row) : Type 0 where
+  pub onu : r.onu ≤ 1022
+  pub managed : 1024 ≤ r.alloc_id
+  pub alloc_id : r.alloc_id ≤ 16383
+  pub descriptor : IsLawful r.descriptor
+
+-- an admitted set
+pub record IsAdmitted (rule : Rule) (gap : ℕ) (rows : List Row) : Type 0 where
+  pub in_map_order : IsInMapOrder rows
+  pub apart : IsDistinct rows
+  pub in_range : All IsInRange rows
+  pub few_allocs : length rows ≤ rule.most_allocs
+  pub few_onus : length (onus_of rows) ≤ most_onus
+  pub short_series : (u : ℕ) → owned u rows ≤ longest_series
+  pub fitting : fits rule gap rows ≡ true
+
+-- The checks of a change of the set, in order, and the first that refuses.
+
+abbrev pub admit_checks : Rule → ℕ → List Row → Row → List (Option Refusal)
+admit_checks rule gap rows r =
+    when (has_alloc r.alloc_id rows) AllocTaken
+    ∷ when (nat_le rule.most_allocs (length rows)) TooManyAllocs
+    ∷ when (nat_le most_onus (length (onus_of rows)) && not (has_onu r.onu rows)) TooManyOnus
+    ∷ when (nat_le longest_series (owned r.onu rows)) SeriesFull
+    ∷ when (not (fits rule gap (with_row r rows))) Capacity
+    ∷ []
+
+abbrev pub change_checks : Rule → ℕ → List Row → ℕ → Descriptor → List (Option Refusal)
+change_checks rule gap rows i d =
+    when (not (has_alloc i rows)) NoSuchAlloc
+    ∷ when (not (fits rule gap (with_descriptor i d rows))) Capacity
+    ∷ []
+
+abbrev pub refuses_admit : Rule → ℕ → List Row → Row → Option Refusal
+refuses_admit rule gap rows r = first_of (admit_checks rule gap rows r)
+
+abbrev pub refuses_change : Rule → ℕ → List Row → ℕ → Descriptor → Option Refusal
+refuses_change rule gap rows i d = first_of (change_checks rule gap rows i d)
+
+abbrev pub refuses_remove : List Row → ℕ → Option Refusal
+refuses_remove rows i = when (not (has_alloc i rows)) NoSuchAlloc

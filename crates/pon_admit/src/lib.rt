@@ -1,0 +1,15 @@
+//! The roster of a port of an XG-PON optical line terminal: its admitted Alloc-IDs in map order (upstream bandwidth
+//! assignment, ITU-T G.987.3).
+//!
+//! A [`Roster`] holds, by its type, an admitted set: the overhead of all bursts fits a frame, and the promised rates fit
+//! the words that are left. The sums are kept, so a step costs one or two searches in at most 256 rows.
+#![tactic(auto)]
+
+pub mod laws;
+mod roster;
+mod row;
+mod search;
+mod sums;
+
+pub use roster::Roster;
+pub use row::Row;

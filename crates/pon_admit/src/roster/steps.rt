@@ -1,0 +1,186 @@
+// The steps of a roster: admissions, changes and removals, and what refuses them.
+ghost use Rattle.std.specs.Prelude.{◌≡◌, ◌<◌, ◌≤◌, ◌==◌, position, Some, None, length, IfOk, IfErr, OnOk, OnErr};
+ghost use Rattle.std.specs.List.{insert, remove};
+ghost use Rattle.pon_descr.specs.Checks.{IsTold};
+ghost use Rattle.pon_descr.specs.Descriptor.{IsLawful};
+ghost use Rattle.pon_admit.specs.Kept.{AreSums};
+ghost use Rattle.pon_admit.specs.Roster.{refuses_admit, refuses_change, refuses_remove, rule_in_force, with_descriptor, with_row, without};
+
+use super::{LONGEST_SERIES, MOST_ALLOCS, MOST_ONUS, Roster};
+use crate::row::Row;
+use crate::search::{count_owned, look_through, place_of};
+use crate::sums::{fits, rate};
+use pon_descr::{Descriptor, Refusal};
+use pon_units::{AllocId, Kbps, OnuId};
+
+// Where a change of the set takes place, and the sums afterwards.
+#[derive(Drop)]
+struct Step {
+    place: usize,
+    onus: usize,
+    promised: Kbps,
+}
+
+impl Roster {
+    // Where a row goes in, or the first check that refuses it.
+    fn admission(&self, row: &Row) -> Result<Step, Refusal>
+        ensures accepted { OnOk result (refuses_admit rule_in_force self.now.gap self.now.rows row.now ≡ None) }
+        ensures refused { IfErr result (λ told. refuses_admit rule_in_force self.now.gap self.now.rows row.now ≡ Some told) }
+        ensures room { IfOk result (λ step. step.place ≤ length self.now.rows) }
+        ensures place { IfOk result (λ step. insert self.now.rows step.place row.now ≡ with_row row.now self.now.rows) }
+        ensures sums { IfOk result (λ step. AreSums step.onus step.promised (with_row row.now self.now.rows)) }
+    {
+        let seen = look_through(&self.rows, row);
+        let allocs = self.rows.len();
+        if seen.taken {
+            return Err(Refusal::AllocTaken);
+        }
+        if allocs >= MOST_ALLOCS {
+            return Err(Refusal::TooManyAllocs);
+        }
+        let onus = self.onus + usize::from(seen.owned == 0);
+        if onus > MOST_ONUS {
+            return Err(Refusal::TooManyOnus);
+        }
+        if seen.owned >= LONGEST_SERIES {
+            return Err(Refusal::SeriesFull);
+        }
+        let promised = rate(self.promised.get() + row.descriptor.promised().get());
+        if !fits(self.gap, onus, allocs + 1, promised) {
+            return Err(Refusal::Capacity);
+        }
+        Ok(Step {
+            place: seen.place,
+            onus,
+            promised,
+        })
+    }
+
+    // Where a descriptor is replaced, or the first check that refuses it.
+    fn alteration(&self, alloc_id: AllocId, descriptor: &Descriptor) -> Result<Step, Refusal>
+        ensures accepted { OnOk result (refuses_change rule_in_force self.now.gap self.now.rows alloc_id descriptor.now ≡ None) }
+        ensures refused { IfErr result (λ told. refuses_change rule_in_force self.now.gap self.now.rows alloc_id descriptor.now ≡ Some told) }
+        ensures room { IfOk result (λ step. step.place < length self.now.rows) }
+        ensures place { IfOk result (λ step. position (λ r. r.alloc_id == alloc_id) self.now.rows ≡ Some step.place) }
+        ensures sums { IfOk result (λ step. AreSums step.onus step.promised (with_descriptor alloc_id descriptor.now self.now.rows)) }
+        ensures lawful { OnOk result (IsLawful descriptor.now) }
+    {
+        let Some(place) = place_of(&self.rows, alloc_id) else {
+            return Err(Refusal::NoSuchAlloc);
+        };
+        let former = self.rows[place].descriptor.promised();
+        let promised = rate(self.promised.get() - former.get() + descriptor.promised().get());
+        if !fits(self.gap, self.onus, self.rows.len(), promised) {
+            return Err(Refusal::Capacity);
+        }
+        Ok(Step {
+            place,
+            onus: self.onus,
+            promised,
+        })
+    }
+
+    // Where a row is taken out, or the check that refuses it.
+    fn removal(&self, alloc_id: AllocId) -> Result<Step, Refusal>
+        ensures accepted { OnOk result (refuses_remove self.now.rows alloc_id ≡ None) }
+        ensures refused { IfErr result (λ told. refuses_remove self.now.rows alloc_id ≡ Some told) }
+        ensures room { IfOk result (λ step. step.place < length self.now.rows) }
+        ensures place { IfOk result (λ step. remove self.now.rows step.place ≡ without alloc_id self.now.rows) }
+        ensures sums { IfOk result (λ step. AreSums step.onus step.promised (without alloc_id self.now.rows)) }
+    {
+        let Some(place) = place_of(&self.rows, alloc_id) else {
+            return Err(Refusal::NoSuchAlloc);
+        };
+        let row = &self.rows[place];
+        let alone = count_owned(&self.rows, row.onu) == 1;
+        Ok(Step {
+            place,
+            onus: self.onus - usize::from(alone),
+            promised: rate(self.promised.get() - row.descriptor.promised().get()),
+        })
+    }
+
+    /// What refuses the admission of a row, memory aside: the first of `AllocTaken` (the Alloc-ID is there, whatever its
+    /// ONU), `TooManyAllocs` (there are 256 rows), `TooManyOnus` (128 ONUs own rows, and this is none of them),
+    /// `SeriesFull` (the ONU owns 16 rows) and `Capacity` (the set with the row would not fit a frame).
+    pub fn admit_refusal(&self, row: &Row) -> Option<Refusal>
+        ensures { result ≡ refuses_admit rule_in_force self.now.gap self.now.rows row.now }
+    {
+        self.admission(row).err()
+    }
+
+    /// What refuses a new descriptor: the first of `NoSuchAlloc` (the Alloc-ID is not there) and `Capacity` (the set with
+    /// the descriptor would not fit a frame).
+    pub fn change_refusal(&self, alloc_id: AllocId, descriptor: &Descriptor) -> Option<Refusal>
+        ensures { result ≡ refuses_change rule_in_force self.now.gap self.now.rows alloc_id descriptor.now }
+    {
+        self.alteration(alloc_id, descriptor).err()
+    }
+
+    /// What refuses the removal of an Alloc-ID: `NoSuchAlloc`, where it is not there.
+    pub fn remove_refusal(&self, alloc_id: AllocId) -> Option<Refusal>
+        ensures { result ≡ refuses_remove self.now.rows alloc_id }
+    {
+        self.removal(alloc_id).err()
+    }
+
+    /// Puts a row in its place in map order.
+    ///
+    /// Refused as [`Roster::admit_refusal`] tells, and, where no check refuses, with `OutOfMemory` if the rows cannot
+    /// grow. What is refused leaves the roster as it was.
+    pub fn admit(
+        &mut self,
+        onu: OnuId,
+        alloc_id: AllocId,
+        descriptor: Descriptor,
+    ) -> Result<(), Refusal>
+        ensures ok { OnOk result (self.new ≡ record { gap = self.old.gap; rows = with_row (record { onu = onu; alloc_id = alloc_id; descriptor = descriptor }) self.old.rows }) }
+        ensures accepted { OnOk result (refuses_admit rule_in_force self.old.gap self.old.rows (record { onu = onu; alloc_id = alloc_id; descriptor = descriptor }) ≡ None) }
+        ensures refused { IfErr result (λ told. IsTold (refuses_admit rule_in_force self.old.gap self.old.rows (record { onu = onu; alloc_id = alloc_id; descriptor = descriptor })) told) }
+        ensures err { OnErr result (self.new ≡ self.old) }
+    {
+        let row = Row::new(onu, alloc_id, descriptor);
+        let step = match self.admission(&row) {
+            Ok(step) => step,
+            Err(refusal) => return Err(refusal),
+        };
+        if self.rows.insert(step.place, row).is_err() {
+            return Err(Refusal::OutOfMemory);
+        }
+        self.onus = step.onus;
+        self.promised = step.promised;
+        Ok(())
+    }
+
+    /// Gives an Alloc-ID a new descriptor. Its row keeps its place.
+    ///
+    /// Refused as [`Roster::change_refusal`] tells, and then the roster stays as it was. It takes no memory.
+    pub fn change(&mut self, alloc_id: AllocId, descriptor: Descriptor) -> Result<(), Refusal>
+        ensures ok { OnOk result (self.new ≡ record { gap = self.old.gap; rows = with_descriptor alloc_id descriptor self.old.rows }) }
+        ensures accepted { OnOk result (refuses_change rule_in_force self.old.gap self.old.rows alloc_id descriptor ≡ None) }
+        ensures refused { IfErr result (λ told. refuses_change rule_in_force self.old.gap self.old.rows alloc_id descriptor ≡ Some told) }
+        ensures err { OnErr result (self.new ≡ self.old) }
+    {
+        let step = self.alteration(alloc_id, &descriptor)?;
+        self.rows[step.place].descriptor = descriptor;
+        self.onus = step.onus;
+        self.promised = step.promised;
+        Ok(())
+    }
+
+    /// Takes an Alloc-ID out.
+    ///
+    /// Refused as [`Roster::remove_refusal`] tells, and then the roster stays as it was. It takes no memory.
+    pub fn remove(&mut self, alloc_id: AllocId) -> Result<(), Refusal>
+        ensures ok { OnOk result (self.new ≡ record { gap = self.old.gap; rows = without alloc_id self.old.rows }) }
+        ensures accepted { OnOk result (refuses_remove self.old.rows alloc_id ≡ None) }
+        ensures refused { IfErr result (λ told. refuses_remove self.old.rows alloc_id ≡ Some told) }
+        ensures err { OnErr result (self.new ≡ self.old) }
+    {
+        let step = self.removal(alloc_id)?;
+        self.rows.remove(step.place);
+        self.onus = step.onus;
+        self.promised = step.promised;
+        Ok(())
+    }
+}

@@ -1,0 +1,48 @@
+// The sums that decide whether a set fits a frame.
+ghost use Rattle.std.specs.Prelude.{◌≡◌, ◌≤◌};
+ghost use Rattle.pon_admit.specs.Kept.{overhead_of, sums_fit};
+
+use pon_units::{Gap, Kbps, Words};
+
+/// The words of a frame that gaps, headers, trailers and reports take: for each ONU the gap, a header and a trailer, and
+/// for each Alloc-ID a report.
+pub(crate) fn overhead(gap: Gap, onus: usize, allocs: usize) -> usize
+    requires onus { onus ≤ 257 }
+    requires allocs { allocs ≤ 257 }
+    ensures { result ≡ overhead_of gap onus allocs }
+{
+    (usize::from(gap.get()) + 2) * onus + allocs
+}
+
+/// Whether the overhead fits a frame, and the promised rates fit what is left, at 256 kbit/s a word.
+pub(crate) fn fits(gap: Gap, onus: usize, allocs: usize, promised: Kbps) -> bool
+    requires onus { onus ≤ 257 }
+    requires allocs { allocs ≤ 257 }
+    ensures { result ≡ sums_fit gap onus allocs promised }
+{
+    let frame = usize::from(Words::MAX);
+    let taken = overhead(gap, onus, allocs);
+    taken <= frame && promised.get() as usize <= 256 * (frame - taken)
+}
+
+/// The rate of this number of kbit/s.
+pub(crate) fn rate(n: u32) -> Kbps
+    requires { n ≤ 4294967040 }
+    ensures { result ≡ n }
+{
+    match Kbps::new(n) {
+        Some(rate) => rate,
+        None => unreachable!(),
+    }
+}
+
+/// This number of words of a frame.
+pub(crate) fn words(n: usize) -> Words
+    requires { n ≤ 9720 }
+    ensures { result ≡ n }
+{
+    match Words::new(n as u16) {
+        Some(words) => words,
+        None => unreachable!(),
+    }
+}

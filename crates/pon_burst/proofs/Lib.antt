@@ -1,0 +1,7 @@
+mod Laid
+pub mod MapRows
+pub mod MapRules
+mod SeriesMaps
+pub mod SeriesOrder
+pub mod SoundMaps
+mod Writing

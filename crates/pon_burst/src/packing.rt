@@ -1,0 +1,69 @@
+ghost use Rattle.std.specs.Prelude.{◌≡◌, ◌+◌, ◌≤◌, ◌++◌, length, take, drop, sum_by};
+ghost use Rattle.pon_bwmap.specs.MapRules.{IsMap};
+ghost use Rattle.pon_burst.specs.Bursts.{AreSound};
+ghost use Rattle.pon_burst.specs.Maps.{map_of};
+ghost use Rattle.pon_burst.specs.Series.{FitsFrame, burst_structures, granted};
+
+use arrayvec::ArrayVec;
+use pon_bwmap::Alloc;
+use pon_units::{AllocId, Gap, OnuId, Profile, Words};
+
+/// Writes the structures of the map that grants each Alloc-ID its payload words, 0 to 9,720 of 4 bytes, and
+/// one word for its report, to the front of `out`; how many there are. The bursts are the ONUs' in rising
+/// number, each behind its gap of 1 to 256 words. It always succeeds and takes no memory.
+///
+/// The caller's conditions: the ONU-IDs rise, and so do the Alloc-IDs of each ONU; no ONU is without an
+/// Alloc-ID; gap, header, trailer and grants of all ONUs are at most 9,720 words; and `out` has room for a
+/// structure for each Alloc-ID. No ONUs are fine, and have no structures.
+pub fn pack(
+    gap: Gap,
+    profile: Profile,
+    onus: &[(OnuId, ArrayVec<(AllocId, Words), 16>)],
+    out: &mut [Alloc],
+) -> usize
+    requires fit { FitsFrame gap onus.now }
+    requires room { length (granted onus.now) ≤ length out.old }
+    ensures count { result ≡ length (granted onus.now) }
+    ensures structures { take result out.new ≡ map_of gap profile (granted onus.now) }
+    ensures rest { drop result out.new ≡ drop result out.old }
+    ensures sound { AreSound gap (take result out.new) }
+    ensures map { result ≤ 512 → IsMap (take result out.new) }
+{
+    let gap_words = gap.get();
+    let mut start = gap_words;
+    let mut filled = 0;
+    for (_, allocs) in onus {
+        let grants = write_burst(profile, start, allocs, out, filled);
+        let count = allocs.len();
+        filled += count;
+        start += 1 + grants + 1 + gap_words;
+    }
+    filled
+}
+
+// Writes the structures of a burst at `from` and behind it; the words that they grant.
+fn write_burst(
+    profile: Profile,
+    start: u16,
+    allocs: &[(AllocId, Words)],
+    out: &mut [Alloc],
+    from: usize,
+) -> u16
+    requires fit { sum_by (λ a. 1 + a.1) allocs.now ≤ 9720 }
+    requires room { from + length allocs.now ≤ length out.old }
+    ensures grants { result ≡ sum_by (λ a. 1 + a.1) allocs.now }
+    ensures structures { take (from + length allocs.now) out.new ≡ take from out.old ++ burst_structures profile start allocs.now }
+    ensures rest { drop (from + length allocs.now) out.new ≡ drop (from + length allocs.now) out.old }
+{
+    let mut grants = 0;
+    for (k, alloc) in allocs.iter().enumerate() {
+        let first = if k == 0 { Some(start) } else { None };
+        let grant = 1 + alloc.1.get();
+        out[from + k] = Alloc::polled(alloc.0.get(), first, grant, profile.get());
+        grants += grant;
+    }
+    grants
+}
+
+#[cfg(test)]
+mod tests;

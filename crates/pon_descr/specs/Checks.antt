@@ -1,0 +1,23 @@
+-- Checks in order: the first that refuses is told.
+use Rattle.std.specs.Prelude.{◌≡◌, Bool, true, false, List, [], ◌∷◌, Option, Some, None}
+use Rattle.pon_descr.specs.declared.refusal.Refusal.{Refusal}
+use Rattle.pon_descr.specs.declared.refusal.Refusal.TheVariants.{OutOfMemory}
+
+-- a check that refuses where its test holds
+abbrev pub when : Bool → Refusal → Option Refusal
+when true r = Some r
+when false r = None
+
+-- the first that refuses
+abbrev pub or_else : Option Refusal → Option Refusal → Option Refusal
+or_else None r = r
+or_else (Some q) r = Some q
+
+abbrev pub first_of : List (Option Refusal) → Option Refusal
+first_of [] = None
+first_of (r ∷ rs) = or_else r (first_of rs)
+
+-- the check that refuses is told, and want of memory only where none does
+abbrev pub IsTold : Option Refusal → Refusal → Type 0
+IsTold None told = told ≡ OutOfMemory
+IsTold (Some refusal) told = told ≡ refusal

@@ -1,0 +1,48 @@
+-- Descriptors of the rate-proportional reference model of dynamic bandwidth assignment (ITU-T G.987.3).
+use Rattle.std.specs.Prelude.{ℕ, ◌+◌, ◌<◌, ◌≤◌, ◌==◌, ◌||◌, nat_lt, [], ◌∷◌, Option, None}
+use Rattle.pon_descr.specs.declared.class.Class.{Class}
+use Rattle.pon_descr.specs.declared.class.Class.TheVariants.{Plain, NonAssured, BestEffort}
+use Rattle.pon_descr.specs.Checks.{when, first_of}
+use Rattle.pon_descr.specs.declared.refusal.Refusal.{Refusal}
+use Rattle.pon_descr.specs.declared.refusal.Refusal.TheVariants.{RateRange, MaxBelowGuaranteed, NeedsGuarantee, NoSurplusRoom}
+
+-- fixed, assured and maximum rate in kbit/s, and how surplus is shared
+pub record Descriptor : Type 0 where
+  pub fixed : ℕ
+  pub assured : ℕ
+  pub max : ℕ
+  pub class : Class
+
+-- the greatest rate: 9,720 words a frame, at 256 kbit/s a word
+abbrev pub greatest_rate : ℕ
+greatest_rate = 2488320
+
+-- what is promised under load
+abbrev pub promised : Descriptor → ℕ
+promised d = d.fixed + d.assured
+
+-- a class that shares surplus leaves room above the promise; the non-assured class shares by the promise
+abbrev pub SuitsClass : Class → ℕ → ℕ → Type 0
+SuitsClass Plain promise most = Unit {0}
+SuitsClass NonAssured promise most = (0 < promise) × (promise < most)
+SuitsClass BestEffort promise most = promise < most
+
+-- rates in range, the maximum not below the promise
+pub record IsLawful (d : Descriptor) : Type 0 where
+  pub in_range : d.max ≤ greatest_rate
+  pub enough : promised d ≤ d.max
+  pub class : SuitsClass d.class (promised d) d.max
+
+-- what a class refuses of its promise and maximum
+abbrev pub class_refusal : Class → ℕ → ℕ → Option Refusal
+class_refusal Plain promise most = None
+class_refusal NonAssured promise most = first_of (when (promise == 0) NeedsGuarantee ∷ when (promise == most) NoSurplusRoom ∷ [])
+class_refusal BestEffort promise most = when (promise == most) NoSurplusRoom
+
+-- the first check that refuses the numbers of a descriptor
+abbrev pub descriptor_refusal : Descriptor → Option Refusal
+descriptor_refusal d = first_of (
+    when (nat_lt greatest_rate d.fixed || (nat_lt greatest_rate d.assured || nat_lt greatest_rate d.max)) RateRange
+    ∷ when (nat_lt d.max (promised d)) MaxBelowGuaranteed
+    ∷ class_refusal d.class (promised d) d.max
+    ∷ [])

@@ -1,0 +1,5 @@
+pub mod Checks
+pub mod Classes
+pub mod Descriptor
+pub mod Refusal
+pub mod Tables

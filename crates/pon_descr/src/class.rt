@@ -1,0 +1,46 @@
+ghost use Rattle.std.specs.Prelude.{◌≡◌};
+ghost use Rattle.pon_descr.specs.Classes.{class_of};
+
+/// How surplus is shared with an Alloc-ID: not at all, with the non-assured class, or with best effort.
+#[derive(Clone, Copy, Debug, PartialEq, Eq)]
+pub enum Class {
+    Plain,
+    NonAssured,
+    BestEffort,
+}
+
+impl Class {
+    /// The class of a word of settings and management lines: `none`, `na` or `be`. `None` for any other word.
+    pub fn of_word(word: &[u8]) -> Option<Class>
+        ensures { result ≡ class_of word.now }
+    {
+        if word == b"none".as_slice() {
+            Some(Class::Plain)
+        } else if word == b"na".as_slice() {
+            Some(Class::NonAssured)
+        } else if word == b"be".as_slice() {
+            Some(Class::BestEffort)
+        } else {
+            None
+        }
+    }
+}
+
+#[cfg(test)]
+mod tests {
+    use super::*;
+
+    #[test]
+    fn knows_three_words(rt: HostRuntime) {
+        for (word, wanted) in [
+            ("none", Some(Class::Plain)),
+            ("na", Some(Class::NonAssured)),
+            ("be", Some(Class::BestEffort)),
+            ("NA", None),
+            ("bee", None),
+            ("", None),
+        ] {
+            assert_eq!(rt; Class::of_word(word.as_bytes()), wanted, "{word}");
+        }
+    }
+}

@@ -1,0 +1,154 @@
+ghost use Rattle.std.specs.Prelude.{◌≡◌, ◌≤◌};
+
+use crate::class::Class;
+use crate::refusal::Refusal;
+use pon_units::Kbps;
+use std::marker::Model;
+
+/// The traffic descriptor of an Alloc-ID: fixed, assured and maximum rate, each 0 to 2,488,320 kbit/s, and its class.
+#[derive(Clone, Copy, Debug, PartialEq, Eq)]
+pub struct Descriptor {
+    fixed: Kbps,
+    assured: Kbps,
+    max: Kbps,
+    class: Class,
+}
+
+impl Model for Descriptor {
+    ghost use Rattle.pon_descr.specs.Descriptor.{Descriptor, IsLawful};
+
+    ghost Value = { Descriptor };
+
+    ghost view = { λ a. record { fixed = a.fixed; assured = a.assured; max = a.max; class = a.class } };
+
+    ghost invariant = { λ a. IsLawful (record { fixed = a.fixed; assured = a.assured; max = a.max; class = a.class }) };
+
+    ghost inverse = { λ t. record { fixed = t.fixed; assured = t.assured; max = t.max; class = t.class } };
+}
+
+// A rate of a descriptor in kbit/s.
+fn rate(n: u64) -> Kbps
+    requires { n ≤ 2488320 }
+    ensures { result ≡ n }
+{
+    match Kbps::new(n as u32) {
+        Some(rate) => rate,
+        None => unreachable!(),
+    }
+}
+
+impl Descriptor {
+    ghost use Rattle.std.specs.Prelude.{◌≡◌, ◌≤◌, ◌↔◌, IsOk, IfOk, IfErr, Some, None};
+    ghost use Rattle.pon_descr.specs.Descriptor.{Descriptor, IsLawful, descriptor_refusal, promised};
+
+    /// The descriptor of these rates in kbit/s.
+    ///
+    /// Refused, in this order: `RateRange` for a rate above 2,488,320, `MaxBelowGuaranteed` for a maximum below fixed
+    /// and assured rate together, `NeedsGuarantee` for the non-assured class without them, `NoSurplusRoom` for a class
+    /// that shares surplus with no room above them.
+    pub fn new(fixed: u64, assured: u64, max: u64, class: Class) -> Result<Self, Refusal>
+        ensures ok { IfOk result (λ d. d ≡ record { fixed = fixed; assured = assured; max = max; class = class }) }
+        ensures refused { IfErr result (λ why. descriptor_refusal (record { fixed = fixed; assured = assured; max = max; class = class }) ≡ Some why) }
+        ensures lawful { IsOk result ↔ IsLawful (record { fixed = fixed; assured = assured; max = max; class = class }) }
+    {
+        if fixed > 2_488_320 || assured > 2_488_320 || max > 2_488_320 {
+            return Err(Refusal::RateRange);
+        }
+        let promised = fixed + assured;
+        if max < promised {
+            return Err(Refusal::MaxBelowGuaranteed);
+        }
+        if class == Class::NonAssured && promised == 0 {
+            return Err(Refusal::NeedsGuarantee);
+        }
+        if class != Class::Plain && promised == max {
+            return Err(Refusal::NoSurplusRoom);
+        }
+        Ok(Descriptor {
+            fixed: rate(fixed),
+            assured: rate(assured),
+            max: rate(max),
+            class,
+        })
+    }
+
+    /// The fixed rate: it is granted whatever the load.
+    pub fn fixed(&self) -> Kbps
+        ensures value { result ≡ self.now.fixed }
+        ensures range { result ≤ 2488320 }
+    {
+        self.fixed
+    }
+
+    /// The assured rate: it is granted as far as the load asks for it.
+    pub fn assured(&self) -> Kbps
+        ensures value { result ≡ self.now.assured }
+        ensures range { result ≤ 2488320 }
+    {
+        self.assured
+    }
+
+    /// The maximum rate: nothing above it is granted.
+    pub fn max(&self) -> Kbps
+        ensures value { result ≡ self.now.max }
+        ensures range { result ≤ 2488320 }
+    {
+        self.max
+    }
+
+    /// How surplus is shared.
+    pub fn class(&self) -> Class
+        ensures { result ≡ self.now.class }
+    {
+        self.class
+    }
+
+    /// What is promised under load: fixed and assured rate together.
+    pub fn promised(&self) -> Kbps
+        ensures sum { result ≡ promised self.now }
+        ensures range { result ≤ 2488320 }
+        ensures lawful { IsLawful self.now }
+    {
+        rate(u64::from(self.fixed.get() + self.assured.get()))
+    }
+}
+
+#[cfg(test)]
+mod tests {
+    use super::*;
+
+    #[test]
+    fn tells_the_first_refusal(rt: HostRuntime) {
+        for (fixed, assured, max, class, wanted) in [
+            (0, 0, 0, Class::Plain, None),
+            (2_488_320, 0, 2_488_320, Class::Plain, None),
+            (0, 1, 2, Class::NonAssured, None),
+            (0, 0, 1, Class::BestEffort, None),
+            (
+                2_488_321,
+                0,
+                2_488_320,
+                Class::Plain,
+                Some(Refusal::RateRange),
+            ),
+            (0, 2_488_321, 0, Class::NonAssured, Some(Refusal::RateRange)),
+            (0, 0, 2_488_321, Class::Plain, Some(Refusal::RateRange)),
+            (u64::MAX, 1, 0, Class::BestEffort, Some(Refusal::RateRange)),
+            (1, 1, 1, Class::Plain, Some(Refusal::MaxBelowGuaranteed)),
+            (
+                2,
+                0,
+                1,
+                Class::BestEffort,
+                Some(Refusal::MaxBelowGuaranteed),
+            ),
+            (0, 0, 1, Class::NonAssured, Some(Refusal::NeedsGuarantee)),
+            (0, 0, 0, Class::NonAssured, Some(Refusal::NeedsGuarantee)),
+            (1, 1, 2, Class::NonAssured, Some(Refusal::NoSurplusRoom)),
+            (0, 0, 0, Class::BestEffort, Some(Refusal::NoSurplusRoom)),
+        ] {
+            let told = Descriptor::new(fixed, assured, max, class).err();
+            assert_eq!(rt; told, wanted, "{fixed} {assured} {max} {class:?}");
+        }
+    }
+}

@@ -1,0 +1,18 @@
+//! Traffic descriptors of the rate-proportional reference model of dynamic bandwidth assignment (ITU-T G.987.3), and
+//! the refusals that a descriptor or an event meets.
+//!
+//! A [`Descriptor`] holds, by its type, exactly the rates and the class that the model allows. A [`Refusal`] has a
+//! number and a name. Nothing here takes memory.
+#![tactic(auto)]
+
+mod cause;
+mod class;
+mod descriptor;
+mod refusal;
+mod table;
+
+pub use cause::Cause;
+pub use class::Class;
+pub use descriptor::Descriptor;
+pub use refusal::Refusal;
+pub use table::DescrFault;

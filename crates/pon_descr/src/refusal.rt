@@ -1,0 +1,120 @@
+use crate::cause::Cause;
+use std::fmt;
+
+/// Why a descriptor or an event is refused. Each has a number, E01 to E21, and the name that the lines print.
+#[derive(Clone, Copy, Debug, PartialEq, Eq)]
+pub enum Refusal {
+    /// E01: the Alloc-ID is not admitted here.
+    NoSuchAlloc,
+    /// E02: the Alloc-ID is admitted, to whatever ONU.
+    AllocTaken,
+    /// E03: the Alloc-ID is outside 1024 to 16383; told where the number is read.
+    AllocRange,
+    /// E04: the ONU-ID is outside 0 to 1022; told where the number is read.
+    OnuRange,
+    /// E05: a rate is above 2,488,320 kbit/s.
+    RateRange,
+    /// E06: the maximum is below fixed and assured rate together.
+    MaxBelowGuaranteed,
+    /// E07: a non-assured Alloc-ID has neither fixed nor assured rate.
+    NeedsGuarantee,
+    /// E08: an Alloc-ID that shares surplus has no room above fixed and assured rate.
+    NoSurplusRoom,
+    /// E09: the port has as many Alloc-IDs as it may.
+    TooManyAllocs,
+    /// E10: the port has 128 ONUs, and this ONU is new.
+    TooManyOnus,
+    /// E11: the ONU has 16 Alloc-IDs.
+    SeriesFull,
+    /// E12: the set afterwards would not fit the frame.
+    Capacity,
+    /// E13: the frame is none of the window's maps.
+    StaleFrame,
+    /// E14: that map has no structure of the ONU.
+    NotPolled,
+    /// E15: not one occupancy for each structure of the ONU in that map.
+    ReportCount,
+    /// E16: a report of that frame and ONU was accepted.
+    AlreadyReported,
+    /// E17: the port is failed.
+    PortDown { cause: Cause },
+    /// E18: the port is not failed.
+    PortUp,
+    /// E19: the next frame is 18,446,744,073,709,551,615.
+    FrameLimit,
+    /// E20: 65,536 entries are kept, or the count of entries is at its last value.
+    ChapterFull,
+    /// E21: a growth of memory was refused.
+    OutOfMemory,
+}
+
+impl fmt::Display for Refusal {
+    ghost use Rattle.std.specs.Prelude.{Some};
+    ghost use Rattle.pon_descr.specs.Refusal.{refusal_text};
+
+    ghost output = { λ r. Some (refusal_text r) };
+
+    fn fmt<W: fmt::Write>(&self, f: &mut fmt::Formatter<W>) -> fmt::Result {
+        match *self {
+            Refusal::NoSuchAlloc => write!(f, "E01 NoSuchAlloc"),
+            Refusal::AllocTaken => write!(f, "E02 AllocTaken"),
+            Refusal::AllocRange => write!(f, "E03 AllocRange"),
+            Refusal::OnuRange => write!(f, "E04 OnuRange"),
+            Refusal::RateRange => write!(f, "E05 RateRange"),
+            Refusal::MaxBelowGuaranteed => write!(f, "E06 MaxBelowGuaranteed"),
+            Refusal::NeedsGuarantee => write!(f, "E07 NeedsGuarantee"),
+            Refusal::NoSurplusRoom => write!(f, "E08 NoSurplusRoom"),
+            Refusal::TooManyAllocs => write!(f, "E09 TooManyAllocs"),
+            Refusal::TooManyOnus => write!(f, "E10 TooManyOnus"),
+            Refusal::SeriesFull => write!(f, "E11 SeriesFull"),
+            Refusal::Capacity => write!(f, "E12 Capacity"),
+            Refusal::StaleFrame => write!(f, "E13 StaleFrame"),
+            Refusal::NotPolled => write!(f, "E14 NotPolled"),
+            Refusal::ReportCount => write!(f, "E15 ReportCount"),
+            Refusal::AlreadyReported => write!(f, "E16 AlreadyReported"),
+            Refusal::PortDown { cause } => write!(f, "E17 PortDown {}", cause.get()),
+            Refusal::PortUp => write!(f, "E18 PortUp"),
+            Refusal::FrameLimit => write!(f, "E19 FrameLimit"),
+            Refusal::ChapterFull => write!(f, "E20 ChapterFull"),
+            Refusal::OutOfMemory => write!(f, "E21 OutOfMemory"),
+        }
+    }
+}
+
+#[cfg(test)]
+mod tests {
+    use super::*;
+    use std::test::Fail;
+
+    #[test]
+    fn prints_number_and_name(rt: HostRuntime) -> Result<(), Fail> {
+        let cause = Cause::new(4).ok_or("a cause")?;
+        for (refusal, wanted) in [
+            (Refusal::NoSuchAlloc, "E01 NoSuchAlloc"),
+            (Refusal::AllocTaken, "E02 AllocTaken"),
+            (Refusal::AllocRange, "E03 AllocRange"),
+            (Refusal::OnuRange, "E04 OnuRange"),
+            (Refusal::RateRange, "E05 RateRange"),
+            (Refusal::MaxBelowGuaranteed, "E06 MaxBelowGuaranteed"),
+            (Refusal::NeedsGuarantee, "E07 NeedsGuarantee"),
+            (Refusal::NoSurplusRoom, "E08 NoSurplusRoom"),
+            (Refusal::TooManyAllocs, "E09 TooManyAllocs"),
+            (Refusal::TooManyOnus, "E10 TooManyOnus"),
+            (Refusal::SeriesFull, "E11 SeriesFull"),
+            (Refusal::Capacity, "E12 Capacity"),
+            (Refusal::StaleFrame, "E13 StaleFrame"),
+            (Refusal::NotPolled, "E14 NotPolled"),
+            (Refusal::ReportCount, "E15 ReportCount"),
+            (Refusal::AlreadyReported, "E16 AlreadyReported"),
+            (Refusal::PortDown { cause }, "E17 PortDown 4"),
+            (Refusal::PortUp, "E18 PortUp"),
+            (Refusal::FrameLimit, "E19 FrameLimit"),
+            (Refusal::ChapterFull, "E20 ChapterFull"),
+            (Refusal::OutOfMemory, "E21 OutOfMemory"),
+        ] {
+            let text = format!(in rt.alloc(); "{refusal}")?;
+            assert_eq!(rt; text.as_str(), wanted);
+        }
+        Ok(())
+    }
+}

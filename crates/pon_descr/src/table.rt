@@ -1,0 +1,99 @@
+//! A descriptor that is read from a table of settings.
+
+ghost use Rattle.std.specs.Prelude.{◌≡◌, Some, IfOk, IfErr, option_and_then, option_map};
+ghost use Rattle.toml.specs.Data.{as_integer, as_str, get_member};
+ghost use Rattle.toml.specs.View.{table_view};
+ghost use Rattle.pon_descr.specs.Tables.{natural, rate_at, class_at, spelled, IsDescrFault};
+
+use crate::class::Class;
+use crate::descriptor::Descriptor;
+use crate::refusal::Refusal;
+use toml::Table;
+
+/// Why a table gives no descriptor.
+#[derive(Clone, Copy, Debug, PartialEq, Eq)]
+pub enum DescrFault {
+    /// `fixed`, `assured`, `max` or `class` is absent or of another type, a rate is negative, or the class is none of
+    /// `none`, `na` and `be`.
+    Field,
+    /// All four are there, and [`Descriptor::new`] refuses them.
+    Refused(Refusal),
+}
+
+// The whole number at a key.
+fn integer_at(table: &Table, key: &str) -> Option<i64>
+    ensures { result ≡ option_and_then as_integer (get_member key.now (table_view table.now)) }
+{
+    match table.get(key) {
+        Some(value) => value.as_integer(),
+        None => None,
+    }
+}
+
+// The text at a key.
+fn text_at<'a>(table: &'a Table, key: &str) -> Option<&'a str>
+    ensures { option_map (λ text. text.now) result ≡ option_and_then as_str (get_member key.now (table_view table.now)) }
+{
+    match table.get(key) {
+        Some(value) => value.as_str(),
+        None => None,
+    }
+}
+
+// A number that is not negative.
+fn natural(n: i64) -> Option<u64>
+    ensures { result ≡ natural n }
+{
+    if n < 0 { None } else { Some(n as u64) }
+}
+
+// The rate at a key, where it is a number that is not negative.
+fn rate_at(table: &Table, key: &str) -> Option<u64>
+    ensures { result ≡ rate_at key.now (table_view table.now) }
+{
+    match integer_at(table, key) {
+        Some(n) => natural(n),
+        None => None,
+    }
+}
+
+// The class that a table names.
+fn class_at(table: &Table) -> Option<Class>
+    ensures { result ≡ class_at (table_view table.now) }
+{
+    match text_at(table, "class") {
+        Some(word) => Class::of_word(word.as_bytes()),
+        None => None,
+    }
+}
+
+impl Descriptor {
+    /// The descriptor that a table spells with its keys `fixed`, `assured`, `max` (whole numbers, kbit/s) and `class`
+    /// (`none`, `na` or `be`). No other key is looked at.
+    ///
+    /// `Field` where one of the four is not there as it should be, then what [`Descriptor::new`] refuses.
+    pub fn from_toml(table: &Table) -> Result<Descriptor, DescrFault>
+        ensures ok { IfOk result (λ d. spelled (table_view table.now) ≡ Some d) }
+        ensures fault { IfErr result (IsDescrFault (spelled (table_view table.now))) }
+    {
+        let Some(fixed) = rate_at(table, "fixed") else {
+            return Err(DescrFault::Field);
+        };
+        let Some(assured) = rate_at(table, "assured") else {
+            return Err(DescrFault::Field);
+        };
+        let Some(max) = rate_at(table, "max") else {
+            return Err(DescrFault::Field);
+        };
+        let Some(class) = class_at(table) else {
+            return Err(DescrFault::Field);
+        };
+        match Descriptor::new(fixed, assured, max, class) {
+            Ok(descriptor) => Ok(descriptor),
+            Err(refusal) => Err(DescrFault::Refused(refusal)),
+        }
+    }
+}
+
+#[cfg(test)]
+mod tests;
