@@ -17,11 +17,11 @@ pub mod task;
 mod words;
 
 use arguments::job;
+pub use fault::LineFault;
 use lines::{PlanEnd, PlanFault, plan};
 use pon_port::PortCfg;
 use pon_units::dev::{StdRead, StdWrite};
 use pon_units::{FrameNo, Gap, Profile};
-pub use fault::LineFault;
 pub use reading::{Reading, long_lines, read_line};
 use std::alloc::Global;
 use std::io::{self, BufReader};

@@ -47,7 +47,9 @@ pub enum Event {
         descriptor: Descriptor,
     },
     /// An Alloc-ID is taken out.
-    Remove { alloc_id: AllocId },
+    Remove {
+        alloc_id: AllocId,
+    },
     /// An ONU reports its buffers in answer to the map of a frame.
     Report {
         frame: FrameNo,

@@ -1,4 +1,4 @@
-ghost use Rattle.std.specs.Prelude.{◌<◌};
+ghost use Rattle.std.specs.Prelude.{◌<◌, ◌≤◌};
 
 use super::*;
 use pon_units::dev::{MemRead, MemWrite};
@@ -16,8 +16,8 @@ struct Answered {
     text: Vec<u8>,
 }
 
-fn port() -> Option<(PortCfg, FrameNo)> {
-    let gap = Gap::new(16)?;
+fn port(gap: u16) -> Option<(PortCfg, FrameNo)> {
+    let gap = Gap::new(gap)?;
     let profile = Profile::new(0)?;
     Some((PortCfg { gap, profile }, FrameNo::new(0)))
 }
@@ -27,7 +27,21 @@ fn port() -> Option<(PortCfg, FrameNo)> {
 fn run(alloc: Global, input: &[u8], most: usize, reads: &[u64], writes: &[u64]) -> Option<Answered>
     requires { 0 < most }
 {
-    let ports = [port()?];
+    run_at(alloc, 16, input, most, reads, writes)
+}
+
+// The same at a port of this gap.
+fn run_at(
+    alloc: Global,
+    gap: u16,
+    input: &[u8],
+    most: usize,
+    reads: &[u64],
+    writes: &[u64],
+) -> Option<Answered>
+    requires { 0 < most }
+{
+    let ports = [port(gap)?];
     let bytes = input.to_vec(alloc).ok()?;
     let mut reader = MemRead::new(bytes, most, reads.to_vec(alloc).ok()?);
     let mut writer = MemWrite::new(alloc, most, writes.to_vec(alloc).ok()?);
@@ -43,7 +57,7 @@ fn run(alloc: Global, input: &[u8], most: usize, reads: &[u64], writes: &[u64]) 
     Some(Answered { result, text })
 }
 
-static WORKED: [(&[u8], &[u8]); 13] = [
+static WORKED: [(&[u8], &[u8]); 17] = [
     (FIRST_MAP, FIRST_TEXT),
     (b"0 map", b"map 0 00000000\n"),
     (b"", b""),
@@ -61,7 +75,20 @@ static WORKED: [(&[u8], &[u8]); 13] = [
     (b"0 admit 5 1024 2483456 0 2483456 none\n", b"ok 0\n"),
     (
         b"0 admit 5 1024 0 0 0 none\n0 admit 6 1024 0 0 0 none\n0 admit 6 1025 0 0 0 none\n",
-        b"ok 0\nerr E02 AllocTaken\nerr E09 TooManyAllocs\n",
+        b"ok 0\nerr E02 AllocTaken\nok 1\n",
+    ),
+    (
+        b"0 admit 5 1024 2560 0 2560 none\n0 admit 5 1025 256 0 256 none\n0 map\n0 change 1024 256 0 256 none\n0 remove 1024\n0 remove 1024\n0 admit 6 1025 0 0 0 none\n",
+        b"ok 0\nok 1\nmap 0 00400d2b10020010000b13cb1006ffff0002176f\nok 3\nok 4\nerr E01 NoSuchAlloc\nerr E02 AllocTaken\n",
+    ),
+    (b"0 admit 5 1024 0 2483456 2483456 none\n", b"ok 0\n"),
+    (
+        b"0 admit 5 1024 0 2483457 2483457 none\n",
+        b"err E12 Capacity\n",
+    ),
+    (
+        b"0 admit 5 1024 0 0 9 na\n0 change 1024 0 0 9 be\n0 remove 16384\n0 remove\n0 remove 1024 1\n0 change 1024 0 0 0\n",
+        b"err E07 NeedsGuarantee\nerr E01 NoSuchAlloc\nerr E03 AllocRange\nerr L2 WordCount\nerr L2 WordCount\nerr L2 WordCount\n",
     ),
     (b"# a comment \xff\r\n \t\n0 map\r\n\r", b"map 0 00000000\n"),
     (
@@ -82,6 +109,37 @@ fn worked_lines_in_pieces(rt: HostRuntime) -> Result<(), Fail> {
             assert_eq!(rt; run.result, Ok(PlanEnd));
             assert_eq!(rt; run.text.as_slice(), *text);
         }
+    }
+    Ok(())
+}
+
+// So many admissions of rate 0, each ONU with so many Alloc-IDs.
+fn admissions(alloc: Global, count: u16, of_an_onu: u16) -> Result<Vec<u8>, Fail>
+    requires some { 0 < of_an_onu }
+    requires few { count ≤ 256 }
+{
+    let mut input = Vec::new(alloc);
+    for k in 0..count {
+        let onu = k / of_an_onu;
+        let id = 1024 + k;
+        let line = format!(in alloc; "0 admit {onu} {id} 0 0 0 none\n")?;
+        input.extend_from_slice(line.as_bytes())?;
+    }
+    Ok(input)
+}
+
+// The last admission is the first that is refused.
+#[test]
+fn the_limits_of_a_port(rt: HostRuntime) -> Result<(), Fail> {
+    for (gap, count, of_an_onu, text) in [
+        (16, 17, 17u16, b"ok 15\nerr E11 SeriesFull\n".as_slice()),
+        (16, 129, 1, b"ok 127\nerr E10 TooManyOnus\n"),
+        (256, 38, 1, b"ok 36\nerr E12 Capacity\n"),
+    ] {
+        let input = admissions(rt.alloc(), count, of_an_onu)?;
+        let run = run_at(rt.alloc(), gap, &input, 4096, &[], &[]).ok_or("memory")?;
+        assert_eq!(rt; run.result, Ok(PlanEnd));
+        assert!(rt; run.text.ends_with(text));
     }
     Ok(())
 }

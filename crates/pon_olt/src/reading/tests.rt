@@ -1,4 +1,5 @@
 use super::*;
+use pon_descr::Refusal;
 
 fn fault_of(line: &[u8]) -> Option<LineFault> {
     match read_line(2, line) {
@@ -50,8 +51,11 @@ fn tells_the_first_check_that_fails(rt: HostRuntime) {
         (b"0 map x".as_slice(), LineFault::WordCount),
         (b"0 admit x 1024 0 0 0".as_slice(), LineFault::WordCount),
         (b"0 admit 5 1023 x 0 0 none".as_slice(), LineFault::BadField),
-        (b"0 admit 5 1023 0 1 0 none".as_slice(), LineFault::BadField),
-        (b"0 admit 5 1023 0 0 0 na".as_slice(), LineFault::BadField),
+        (b"0 admit 5 1023 0 0 0 NA".as_slice(), LineFault::BadField),
+        (b"0 change 1023 x 0 0".as_slice(), LineFault::WordCount),
+        (b"0 change 1023 0 0 x na".as_slice(), LineFault::BadField),
+        (b"0 remove x 1".as_slice(), LineFault::WordCount),
+        (b"0 remove x".as_slice(), LineFault::BadField),
     ] {
         assert_eq!(rt; fault_of(line), Some(fault), "at {line:?}");
     }
@@ -80,6 +84,16 @@ fn tells_what_the_port_would_refuse_of_the_numbers(rt: HostRuntime) {
             b"0 admit 5 1024 2560 0 2559 none".as_slice(),
             Refusal::MaxBelowGuaranteed,
         ),
+        (
+            b"0 admit 5 1024 0 0 9 na".as_slice(),
+            Refusal::NeedsGuarantee,
+        ),
+        (
+            b"0 change 1023 2488321 0 0 be".as_slice(),
+            Refusal::AllocRange,
+        ),
+        (b"0 change 1024 0 9 9 be".as_slice(), Refusal::NoSurplusRoom),
+        (b"0 remove 16384".as_slice(), Refusal::AllocRange),
     ] {
         assert_eq!(rt;
             fault_of(line),
@@ -111,8 +125,24 @@ fn counts_the_bytes_of_a_line_with_its_carriage_return(rt: HostRuntime) {
 }
 
 #[test]
-fn reads_an_admit_and_a_map(rt: HostRuntime) {
+fn reads_each_command(rt: HostRuntime) {
     assert_eq!(rt; port_of_admit(b"0 admit 5 1024 2560 0 2560 none"), Some(0));
+    let changes = matches!(
+        read_line(2, b"1 change 1024 0 0 1 be"),
+        Reading::Asks {
+            port: 1,
+            event: Event::Change { .. },
+        }
+    );
+    assert!(rt; changes);
+    let removes = matches!(
+        read_line(2, b"0 remove 16383"),
+        Reading::Asks {
+            port: 0,
+            event: Event::Remove { .. },
+        }
+    );
+    assert!(rt; removes);
     for (line, port) in [(b"00 map".as_slice(), 0), (b"\t 1 \t map \r".as_slice(), 1)] {
         assert_eq!(rt; port_of_map(line), Some(port), "at {line:?}");
     }
