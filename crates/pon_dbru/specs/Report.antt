@@ -1,0 +1,17 @@
+-- The buffer occupancy report of XG-PON (ITU-T G.987.3): how many words wait, in three bytes, and a check byte.
+use Rattle.std.specs.Prelude.{◌≡◌, ℕ, ◌+◌, ◌*◌, ◌^◌, ◌<◌, List}
+use Rattle.std.specs.Int.{w32, to_be_bytes}
+use Rattle.pon_units.specs.Polynomial.{IsMultiple}
+
+-- x^8 + x^2 + x + 1
+abbrev pub generator : ℕ
+generator = 0b1_0000_0111
+
+-- The four bytes report so many words: the check byte is what is left, by the generator, of the first
+-- three times x^8, so that all four are a multiple of it.
+pub record Reports (bytes : List ℕ) (words : ℕ) : Type 0 where
+  pub fits : words < 2 ^ 24
+  pub check : ℕ
+  pub check_fits : check < 2 ^ 8
+  pub spelled : bytes ≡ to_be_bytes w32 (words * 2 ^ 8 + check)
+  pub multiple : IsMultiple generator (words * 2 ^ 8 + check)

@@ -1,0 +1,70 @@
+ghost use Rattle.std.specs.Prelude.{◌≡◌, ◌^◌, ◌*◌, ◌<◌, ◌↔◌, ℕ, IfOk, IsErr};
+ghost use Rattle.pon_units.specs.Polynomial.{remainder};
+ghost use Rattle.pon_dbru.specs.Report.{generator, Reports};
+
+use pon_units::BufOcc;
+
+/// A report whose check byte is not that of its three other bytes.
+#[derive(Clone, Copy, Debug, PartialEq, Eq)]
+pub struct Garbled;
+
+/// The generator of the check byte: x^8 + x^2 + x + 1.
+const GENERATOR: u32 = 0b1_0000_0111;
+
+// What is left of 24 bits times x^8 by the generator.
+fn check_byte(words: u32) -> u8
+    requires { words < 2 ^ 24 }
+    ensures { result ≡ remainder generator 8 24 (words * 2 ^ 8) }
+{
+    let mut rest = words << 8;
+    for k in 0..24u32 {
+        let n = 23 - k;
+        if rest >= 1 << (8 + n) {
+            rest ^= GENERATOR << n;
+        }
+    }
+    rest as u8
+}
+
+// The four bytes that report so many words.
+fn report_of(words: u32) -> [u8; 4]
+    requires { words < 2 ^ 24 }
+    ensures { Reports result words }
+{
+    (words << 8 | u32::from(check_byte(words))).to_be_bytes()
+}
+
+// The occupancy of so many words.
+fn occupancy_of(words: u32) -> BufOcc
+    requires { words < 2 ^ 24 }
+    ensures { result ≡ words }
+{
+    match BufOcc::new(words) {
+        Some(occupancy) => occupancy,
+        None => unreachable!(),
+    }
+}
+
+/// The four bytes that report this occupancy, in words of 4 bytes: the number, most significant byte first, and the
+/// check byte.
+pub fn encode(occupancy: BufOcc) -> [u8; 4]
+    ensures { Reports result occupancy }
+{
+    report_of(occupancy.get())
+}
+
+/// The occupancy that four bytes report; 0xFFFFFF is an ordinary value. `Garbled` exactly where they report none.
+pub fn decode(bytes: [u8; 4]) -> Result<BufOcc, Garbled>
+    ensures ok { IfOk result (λ occupancy. Reports bytes occupancy) }
+    ensures garbled { IsErr result ↔ ((words : ℕ) → Reports bytes words → ⊥) }
+{
+    let words = u32::from_be_bytes(bytes) >> 8;
+    if report_of(words) == bytes {
+        Ok(occupancy_of(words))
+    } else {
+        Err(Garbled)
+    }
+}
+
+#[cfg(test)]
+mod tests;
