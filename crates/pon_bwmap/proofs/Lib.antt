@@ -1,2 +1,4 @@
+pub mod ReadsBack
+pub mod RowReading
 pub mod SeriesLaw
 pub mod SeriesRules

@@ -1,3 +1,5 @@
 pub mod MapBytes
+pub mod MapFaults
+pub mod MapReading
 pub mod MapRules
 pub mod Structure

@@ -49,7 +49,7 @@ fn payload(row: &Alloc) -> u64
         + u64::from(row.profile())
 }
 
-const NO_START: u16 = 0xffff;
+pub(crate) const NO_START: u16 = 0xffff;
 
 #[cfg(test)]
 mod tests {

@@ -42,6 +42,14 @@ impl Map {
         }
     }
 
+    // The map of structures that are known to make one.
+    pub(crate) fn of_rows(rows: Vec<Alloc>) -> Map
+        requires { IsMap rows.items }
+        ensures { result ≡ rows.items }
+    {
+        Map { rows }
+    }
+
     /// Its structures, in order.
     pub fn rows(&self) -> &[Alloc]
         ensures rows { result.now ≡ self.now }

@@ -4,7 +4,7 @@ ghost use Rattle.pon_bwmap.specs.MapRules.{IsMap, IsRowsFault, start_fault};
 use crate::alloc::Alloc;
 use crate::fault::MapFault;
 
-const MOST_ROWS: usize = 512;
+pub(crate) const MOST_ROWS: usize = 512;
 
 const LAST_START: u16 = 9719;
 
@@ -31,7 +31,7 @@ pub(crate) fn rows_fault(rows: &[Alloc]) -> Option<MapFault>
 }
 
 // The place in its series of structure k, after one at the place `before`.
-fn next_place(k: usize, start: Option<u16>, before: usize) -> usize
+pub(crate) fn next_place(k: usize, start: Option<u16>, before: usize) -> usize
     requires { before < 16 }
     ensures first { k ≡ 0 → result ≡ 0 }
     ensures starts { IsSome start → result ≡ 0 }
@@ -45,7 +45,7 @@ fn next_place(k: usize, start: Option<u16>, before: usize) -> usize
 }
 
 // What is wrong with a structure at this place in its series.
-fn start_fault(k: usize, start: Option<u16>, place: usize) -> Option<MapFault>
+pub(crate) fn start_fault(k: usize, start: Option<u16>, place: usize) -> Option<MapFault>
     ensures { result ≡ start_fault k start place }
 {
     match start {

@@ -15,4 +15,4 @@ pub use cause::Cause;
 pub use class::Class;
 pub use descriptor::Descriptor;
 pub use refusal::Refusal;
-pub use table::DescrFault;
+pub use table::{DescrFault, from_toml};

@@ -67,31 +67,29 @@ fn class_at(table: &Table) -> Option<Class>
     }
 }
 
-impl Descriptor {
-    /// The descriptor that a table spells with its keys `fixed`, `assured`, `max` (whole numbers, kbit/s) and `class`
-    /// (`none`, `na` or `be`). No other key is looked at.
-    ///
-    /// `Field` where one of the four is not there as it should be, then what [`Descriptor::new`] refuses.
-    pub fn from_toml(table: &Table) -> Result<Descriptor, DescrFault>
-        ensures ok { IfOk result (λ d. spelled (table_view table.now) ≡ Some d) }
-        ensures fault { IfErr result (IsDescrFault (spelled (table_view table.now))) }
-    {
-        let Some(fixed) = rate_at(table, "fixed") else {
-            return Err(DescrFault::Field);
-        };
-        let Some(assured) = rate_at(table, "assured") else {
-            return Err(DescrFault::Field);
-        };
-        let Some(max) = rate_at(table, "max") else {
-            return Err(DescrFault::Field);
-        };
-        let Some(class) = class_at(table) else {
-            return Err(DescrFault::Field);
-        };
-        match Descriptor::new(fixed, assured, max, class) {
-            Ok(descriptor) => Ok(descriptor),
-            Err(refusal) => Err(DescrFault::Refused(refusal)),
-        }
+/// The descriptor that a table spells with its keys `fixed`, `assured`, `max` (whole numbers, kbit/s) and `class`
+/// (`none`, `na` or `be`). No other key is looked at.
+///
+/// `Field` where one of the four is not there as it should be, then what [`Descriptor::new`] refuses.
+pub fn from_toml(table: &Table) -> Result<Descriptor, DescrFault>
+    ensures ok { IfOk result (λ d. spelled (table_view table.now) ≡ Some d) }
+    ensures fault { IfErr result (IsDescrFault (spelled (table_view table.now))) }
+{
+    let Some(fixed) = rate_at(table, "fixed") else {
+        return Err(DescrFault::Field);
+    };
+    let Some(assured) = rate_at(table, "assured") else {
+        return Err(DescrFault::Field);
+    };
+    let Some(max) = rate_at(table, "max") else {
+        return Err(DescrFault::Field);
+    };
+    let Some(class) = class_at(table) else {
+        return Err(DescrFault::Field);
+    };
+    match Descriptor::new(fixed, assured, max, class) {
+        Ok(descriptor) => Ok(descriptor),
+        Err(refusal) => Err(DescrFault::Refused(refusal)),
     }
 }
 

@@ -1,5 +1,6 @@
 pub mod ByteTable
 pub mod HeaderLaws
+pub mod Opening
 pub mod Patterns
 pub mod Sealing
 pub mod Rows

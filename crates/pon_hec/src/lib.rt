@@ -4,8 +4,12 @@
 //! a table of 256 remainders gives them a byte at a time. What a payload means is for the crates above.
 #![tactic(auto)]
 
+mod fault;
 pub mod laws;
+mod open;
 mod seal;
 mod table;
 
+pub use fault::HecFault;
+pub use open::{open32, open64};
 pub use seal::{seal32, seal64};

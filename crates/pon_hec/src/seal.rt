@@ -25,7 +25,7 @@ pub fn seal32(payload: u32) -> u32
 }
 
 // The codeword of a payload of so many bytes.
-fn seal(payload: u64, bytes: u32) -> u64
+pub(crate) fn seal(payload: u64, bytes: u32) -> u64
     requires payload { payload < 2 ^ 51 }
     requires bytes { payload < 2 ^ (8 * bytes) }
     requires most { bytes ≤ 7 }

@@ -1,16 +1,15 @@
 -- The states of a lawful chapter are lawful openings.
-use Rattle.std.proofs.Common.{◌≡◌, ℕ, suc, ◌+◌, ◌-◌, ◌<◌, ◌≤◌, Bool, true, false, cond, not, ◌||◌, ◌&&◌, List, [], ◌∷◌, ◌++◌, map, length, take, drop, get_or, refl, ap, sym, ◌∙◌, subst, append_assoc, arith, inl, inr}
+use Rattle.std.proofs.Common.{◌≡◌, ℕ, ◌+◌, ◌-◌, ◌<◌, ◌≤◌, Bool, true, false, cond, not, ◌||◌, ◌&&◌, List, [], ◌∷◌, ◌++◌, map, length, take, drop, get_or, refl, ap, sym, ◌∙◌, subst, append_assoc, arith, inl, inr}
 use Rattle.std.specs.Prelude.{◌==◌, nat_le, nat_lt, if◌then◌else◌, filter, flat_map, All, Contains, Option, Some, None, IfSome, option_to_list}
 use Rattle.std.specs.List.{list_any}
 use Rattle.std.proofs.lemmas.Bool.{eq-eqb, eqb-true, ne_eqb, leb-true, and_from, and_parts, or_left, or_right, or_parts, or_from, cases_Bool, not-false}
 use Rattle.std.proofs.lemmas.Bool.Decides.{eqb_tells}
 use Rattle.std.proofs.lemmas.List.{append-nil, take-append-drop}
 use Rattle.std.proofs.lemmas.List.Elements.{All-nil, All-cons, All-head, All-tail, All-append, All-filter, All-map, All-weaker}
-use Rattle.std.proofs.lemmas.List.Folds.{list_any_at, map_fixed}
+use Rattle.std.proofs.lemmas.List.Folds.{map_fixed}
 use Rattle.pon_descr.specs.Checks.{or_else, when}
 use Rattle.pon_admit.specs.Roster.{IsDistinct, comes_before}
 use Rattle.pon_admit.specs.declared.row.Row.{Row}
-use Rattle.pon_units.specs.Distinct.{distinct}
 use Rattle.pon_port.specs.Book.{Account, Counted, account_of, alloc_ids}
 use Rattle.pon_port.specs.Window.{Granted, LeadsTo, WindowMap, grants_at, polled}
 use Rattle.pon_port.specs.State.{State}
@@ -29,6 +28,7 @@ use Rattle.pon_units.proofs.Lists.{any_eq-filter, filter_agree, map-map, or-fals
 use Rattle.pon_port.proofs.Windows.{filter_zero, leads-map}
 use Rattle.pon_port.proofs.Loads.{had_alloc_all, has_id}
 use Rattle.pon_port.proofs.Accounts.{found_each, unmap}
+use Rattle.pon_port.proofs.Members.{any_contains, contains_any, each_has, occurs-distinct}
 use Rattle.pon_port.proofs.Legality.{IsLegalAfter, after_from_legal, legal_push, legal_split}
 use Rattle.pon_descr.proofs.Checks.{or_else_none, when_none}
 use Rattle.pon_port.proofs.Cutting.{replay-append}
@@ -38,26 +38,6 @@ use Rattle.pon_admit.proofs.AdmittedSets.{changed, changed_alloc, changed_onu}
 use Rattle.pon_port.proofs.Steady.{IsSteady, grants_all, none_any, steady_step, window_all}
 
 -- Lists.
-
-contains_any : (u : ℕ) (xs : List ℕ) → Contains xs u → occurs u xs ≡ true
-contains_any u xs c = list_any_at (λ v. v == u) xs c.0 u c.1 (eq-eqb (get_or xs c.0 u) u c.2)
-
-any_contains : (u : ℕ) (xs : List ℕ) → occurs u xs ≡ true → Contains xs u
-any_contains u [] h = absurd cc
-any_contains u (x ∷ xs) h = elim (eqb_tells x u) [
-  | inl e ↦ (0, omega arith, e.1)
-  | inr e ↦ (let r : Contains xs u = any_contains u xs (subst (λ b. (b || occurs u xs) ≡ true) e.0 h) in (suc r.0, omega (arith, r.1), r.2))
-]
-
--- each number kept once is still there
-occurs-distinct : (u : ℕ) (xs : List ℕ) → occurs u xs ≡ true → occurs u (distinct xs) ≡ true
-occurs-distinct u [] h = h
-occurs-distinct u (x ∷ xs) h = elim (eqb_tells x u) [
-  | inl e ↦ or_left (x == u) (occurs u (filter (λ y. not (y == x)) (distinct xs))) e.0
-  | inr e ↦ or_right (x == u) (occurs u (filter (λ y. not (y == x)) (distinct xs)))
-      (any_eq-filter (λ y. not (y == x)) u (distinct xs)
-      ∙ and_from (not (u == x)) (occurs u (distinct xs)) (ap not (ne_eqb u x (λ q. e.1 (sym q)))) (occurs-distinct u xs (subst (λ b. (b || occurs u xs) ≡ true) e.0 h)))
-]
 
 some_all : {X : Type 0} (P : X → Type 0) (o : Option X) → IfSome o P → All P (option_to_list o)
 some_all P None h = All-nil P
@@ -70,12 +50,6 @@ latest_all P (c ∷ cs) h = one (latest cs) (latest_all P cs (All-tail P c cs h)
     one : (o : Option Counted) → IfSome o P → IfSome (later c o) P
     one None k = All-head P c cs h
     one (Some d) k = elim (nat_lt d.frame c.frame) as (λ b. IfSome (if b then Some c else Some d) P) [ true ↦ All-head P c cs h | false ↦ k ]
-
--- each number of a list is in it
-each_has : (ids : List ℕ) → All (λ i. has_id i ids ≡ true) ids
-each_has [] = All-nil (λ i. has_id i [] ≡ true)
-each_has (j ∷ ids) = All-cons (λ i. has_id i (j ∷ ids) ≡ true) j ids (or_left (j == j) (has_id j ids) (eq-eqb j j refl))
-    (All-weaker (λ i. has_id i ids ≡ true) (λ i. has_id i (j ∷ ids) ≡ true) (λ i h. or_right (j == i) (has_id i ids) h) ids (each_has ids))
 
 -- The replay of no entries.
 

@@ -7,6 +7,7 @@ pub mod LawfulChapters
 pub mod LawfulStates
 pub mod Legality
 pub mod Loads
+pub mod Members
 pub mod Parts
 mod RosterMaps
 pub mod Steady

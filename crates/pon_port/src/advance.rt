@@ -78,6 +78,9 @@ fn lessen(book: &mut [Account], granted: &WindowMap)
     }
 }
 
+/// The most maps of a window.
+const MOST_MAPS: usize = 64;
+
 // Adds a map, and lets the oldest of more than 64 go.
 fn add_to_window(window: &mut Vec<WindowMap>, map: WindowMap)
     requires few { length window.old.items ≤ 64 }
@@ -85,7 +88,7 @@ fn add_to_window(window: &mut Vec<WindowMap>, map: WindowMap)
     ensures { window.new.items ≡ last_64 (window.old.items ++ map ∷ []) }
 {
     window.push(map).unwrap();
-    if window.len() > 64 {
+    if window.len() > MOST_MAPS {
         let _oldest = window.remove(0);
     }
 }

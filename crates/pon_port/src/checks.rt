@@ -9,11 +9,14 @@ use pon_admit::Row;
 use pon_descr::{Descriptor, Refusal};
 use pon_units::AllocId;
 
+/// The most entries that a chapter keeps.
+const MOST_ENTRIES: usize = 65_536;
+
 // The check of the chapter: so many entries are kept.
 fn chapter_refusal(kept: usize, taken_before: u64) -> Option<Refusal>
     ensures { result ≡ when_full kept taken_before }
 {
-    if kept >= 65_536 || taken_before == u64::MAX {
+    if kept >= MOST_ENTRIES || taken_before == u64::MAX {
         Some(Refusal::ChapterFull)
     } else {
         None

@@ -1,2 +1,3 @@
+pub mod BurstHead
 pub mod Header
 pub mod MapHead

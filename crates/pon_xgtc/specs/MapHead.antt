@@ -1,5 +1,6 @@
 -- The head of a bandwidth map, HLend of ITU-T G.987.3.
-use Rattle.std.specs.Prelude.{ℕ, ◌+◌, ◌*◌, ◌^◌}
+use Rattle.std.specs.Prelude.{ℕ, ◌+◌, ◌*◌, ◌^◌, ◌≤◌, List}
+use Rattle.pon_xgtc.specs.Header.{ReadsHeader}
 
 -- N, the number of allocation structures, and P, the number of messages, that a map has
 pub record MapHead : Type 0 where
@@ -9,3 +10,13 @@ pub record MapHead : Type 0 where
 -- its payload: N in 11 bits, then P in 8
 abbrev pub map_head_payload : MapHead → ℕ
 map_head_payload h = h.n * 2 ^ 8 + h.p
+
+-- the numbers that the 11 bits and the 8 can hold
+pub record FitsMapHead (h : MapHead) : Type 0 where
+  pub n : h.n ≤ 2047
+  pub p : h.p ≤ 255
+
+-- the bytes begin with this head of a map, with so many places corrected
+pub record ReadsMapHead (bytes : List ℕ) (h : MapHead) (places : ℕ) : Type 0 where
+  pub fits : FitsMapHead h
+  pub header : ReadsHeader bytes (map_head_payload h) places

@@ -1,3 +1,5 @@
+use crate::fault::HeadFault;
+use crate::header::open_header;
 use pon_hec::seal32;
 use std::marker::Model;
 
@@ -23,10 +25,10 @@ impl Model for HLend {
 }
 
 impl HLend {
-    ghost use Rattle.std.specs.Prelude.{◌≡◌, ◌≤◌, ◌<◌, ◌^◌};
+    ghost use Rattle.std.specs.Prelude.{◌≡◌, ◌≤◌, ◌<◌, ◌^◌, ℕ, List, ◌++◌, IfOk, IfErr};
     ghost use Rattle.std.specs.Option.{SomeIff};
-    ghost use Rattle.pon_xgtc.specs.MapHead.{map_head_payload};
-    ghost use Rattle.pon_xgtc.specs.Header.{header_bytes};
+    ghost use Rattle.pon_xgtc.specs.MapHead.{MapHead, FitsMapHead, ReadsMapHead, map_head_payload};
+    ghost use Rattle.pon_xgtc.specs.Header.{IsHeaderFault, header_bytes};
 
     /// The head of a map with N structures and P messages; `None` exactly where N is above 2,047.
     pub fn new(n: u16, p: u8) -> Option<Self>
@@ -63,6 +65,23 @@ impl HLend {
         seal32(self.payload()).to_be_bytes()
     }
 
+    /// The head that the bytes begin with, and how many wrong places were corrected, at most two.
+    /// `Short` exactly where there are fewer than 4 bytes, else `Hec` exactly where the first four are
+    /// more than two places away from every codeword. Later bytes are not looked at.
+    pub fn decode(bytes: &[u8]) -> Result<(Self, u8), HeadFault>
+        ensures ok { IfOk result (λ r. ReadsMapHead bytes.now r.0 r.1) }
+        ensures fault { IfErr result (λ f. IsHeaderFault bytes.now f) }
+        ensures written { (h : MapHead) (rest : List ℕ) → FitsMapHead h →
+            bytes.now ≡ header_bytes (map_head_payload h) ++ rest → result ≡ Ok record { 0 = h; 1 = 0 } }
+    {
+        let (payload, corrected) = open_header(bytes)?;
+        let head = HLend {
+            structures: (payload >> 8) as u16,
+            messages: (payload & 0xff) as u8,
+        };
+        Ok((head, corrected))
+    }
+
     fn payload(&self) -> u32
         ensures value { result ≡ map_head_payload self.now }
         ensures fits { result < 2 ^ 19 }
@@ -93,6 +112,21 @@ mod tests {
         assert_eq!(rt; HLend::new(2048, 0), None);
         let head = HLend::new(2047, 255).ok_or("in range")?;
         assert_eq!(rt; (head.n(), head.p()), (2047, 255));
+        Ok(())
+    }
+
+    #[test]
+    fn corrects_two_places(rt: HostRuntime) -> Result<(), Fail> {
+        let head = HLend::new(1, 0).ok_or("in range")?;
+        let wanted = [
+            ([0x00, 0x20, 0x13, 0xac], Ok((head, 0))),
+            ([0x80, 0x20, 0x13, 0xad], Ok((head, 2))),
+            ([0x80, 0x20, 0x13, 0xaf], Err(HeadFault::Hec)),
+        ];
+        for (bytes, read) in wanted {
+            assert_eq!(rt; HLend::decode(&bytes), read);
+        }
+        assert_eq!(rt; HLend::decode(&[0x00, 0x20, 0x13]), Err(HeadFault::Short));
         Ok(())
     }
 }

@@ -3,6 +3,11 @@
 //! crates above.
 #![tactic(auto)]
 
+mod burst_head;
+mod fault;
+mod header;
 mod hlend;
 
+pub use burst_head::BurstHead;
+pub use fault::HeadFault;
 pub use hlend::HLend;

@@ -1,0 +1,63 @@
+-- The first thing that is wrong with the bytes of a bandwidth map, from left to right.
+use Rattle.std.specs.Prelude.{◌≡◌, ℕ, ◌+◌, ◌*◌, ◌^◌, ◌<◌, ◌≤◌, ◌⊎◌, List, length, drop, Some}
+use Rattle.std.specs.Int.{w64, from_be_bytes}
+use Rattle.pon_hec.specs.HeaderCode.{Reads}
+use Rattle.pon_xgtc.specs.Header.{IsHeaderFault}
+use Rattle.pon_xgtc.specs.MapHead.{MapHead, ReadsMapHead}
+use Rattle.pon_xgtc.specs.declared.fault.HeadFault.TheVariants.{Hec}
+use Rattle.pon_bwmap.specs.Structure.{Structure}
+use Rattle.pon_bwmap.specs.MapRules.{FirstKeepRules, row_fault}
+use Rattle.pon_bwmap.specs.MapReading.{ReadsRows, ReadsMapRows, ReadsWholeHead, map_size}
+use Rattle.pon_bwmap.specs.declared.fault.MapFault.{MapFault}
+use Rattle.pon_bwmap.specs.declared.fault.MapFault.TheVariants.{Short, HeadHec, TooMany, StructHec, SeriesStart, StartRange, SeriesLong, Memory}
+
+-- the k structures that begin the bytes read and keep the rules, and the word of the next has no reading
+pub record LosesStructure (bytes : List ℕ) (k : ℕ) : Type 0 where
+  pub rows : List Structure
+  pub corrected : ℕ
+  pub counted : length rows ≡ k
+  pub reads : ReadsRows bytes rows corrected
+  pub keep : FirstKeepRules rows k
+  pub lost : (payload places : ℕ) → Reads (2 ^ 64) (from_be_bytes w64 (drop (8 * k) bytes)) payload places → ⊥
+
+-- the structures up to structure k read, and it is the first that breaks a rule, this one
+pub record BreaksRule (bytes : List ℕ) (k : ℕ) (fault : MapFault) : Type 0 where
+  pub rows : List Structure
+  pub corrected : ℕ
+  pub counted : length rows ≡ k + 1
+  pub reads : ReadsRows bytes rows corrected
+  pub keep : FirstKeepRules rows k
+  pub breaks : row_fault rows k ≡ Some fault
+
+-- this is first wrong with the so many structures that begin the bytes; memory is wanted where nothing else is wrong
+abbrev pub IsRowsFirstFault : List ℕ → ℕ → MapFault → Type 0
+IsRowsFirstFault bytes count (StructHec k) = (k < count) × LosesStructure bytes k
+IsRowsFirstFault bytes count (SeriesStart k) = (k < count) × BreaksRule bytes k (SeriesStart k)
+IsRowsFirstFault bytes count (StartRange k) = (k < count) × BreaksRule bytes k (StartRange k)
+IsRowsFirstFault bytes count (SeriesLong k) = (k < count) × BreaksRule bytes k (SeriesLong k)
+IsRowsFirstFault bytes count Memory = (rows : List Structure) × (corrected : ℕ) × ReadsMapRows bytes count rows corrected
+IsRowsFirstFault bytes count Short = ⊥
+IsRowsFirstFault bytes count HeadHec = ⊥
+IsRowsFirstFault bytes count TooMany = ⊥
+
+-- nothing is wrong with the head and the number of bytes, and this is first wrong with the structures
+pub record IsFaultOfRows (bytes : List ℕ) (fault : MapFault) : Type 0 where
+  pub head : MapHead
+  pub corrected : ℕ
+  pub reads_head : ReadsWholeHead bytes head corrected
+  pub in_rows : IsRowsFirstFault (drop 4 bytes) head.n fault
+
+-- fewer bytes than the head has, or than it announces
+abbrev pub IsShort : List ℕ → Type 0
+IsShort bytes = (length bytes < 4) ⊎ ((head : MapHead) × (corrected : ℕ) × ReadsMapHead bytes head corrected × (head.n ≤ 512) × (length bytes < map_size head))
+
+-- this is the first thing that is wrong
+abbrev pub IsFirstFault : List ℕ → MapFault → Type 0
+IsFirstFault bytes Short = IsShort bytes
+IsFirstFault bytes HeadHec = IsHeaderFault bytes Hec
+IsFirstFault bytes TooMany = (head : MapHead) × (corrected : ℕ) × ReadsMapHead bytes head corrected × (512 < head.n)
+IsFirstFault bytes (StructHec k) = IsFaultOfRows bytes (StructHec k)
+IsFirstFault bytes (SeriesStart k) = IsFaultOfRows bytes (SeriesStart k)
+IsFirstFault bytes (StartRange k) = IsFaultOfRows bytes (StartRange k)
+IsFirstFault bytes (SeriesLong k) = IsFaultOfRows bytes (SeriesLong k)
+IsFirstFault bytes Memory = IsFaultOfRows bytes Memory

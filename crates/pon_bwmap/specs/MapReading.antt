@@ -1,0 +1,52 @@
+-- What bytes read as a bandwidth map (ITU-T G.987.3): its head, N allocation structures of 8 bytes, P messages of 48.
+use Rattle.std.specs.Prelude.{◌≡◌, ℕ, ◌+◌, ◌*◌, ◌^◌, ◌<◌, ◌≤◌, List, [], ◌∷◌, length, drop, IfSome}
+use Rattle.std.specs.Int.{w64, from_be_bytes}
+use Rattle.pon_hec.specs.HeaderCode.{Reads}
+use Rattle.pon_xgtc.specs.MapHead.{MapHead, ReadsMapHead}
+use Rattle.pon_bwmap.specs.Structure.{Structure}
+use Rattle.pon_bwmap.specs.MapBytes.{structure_payload}
+use Rattle.pon_bwmap.specs.MapRules.{IsMap}
+
+-- what the fields of a structure can hold; a start of all ones stands for none
+pub record FitsStructure (a : Structure) : Type 0 where
+  pub id : a.id ≤ 16383
+  pub start : IfSome a.start (λ start. start < 0xffff)
+  pub grant : a.grant ≤ 65535
+  pub profile : a.profile ≤ 3
+
+-- the bytes begin with 8 that read as this structure, with so many places corrected
+pub record ReadsStructure (bytes : List ℕ) (a : Structure) (places : ℕ) : Type 0 where
+  pub fits : FitsStructure a
+  pub whole : 8 ≤ length bytes
+  pub word : Reads (2 ^ 64) (from_be_bytes w64 bytes) (structure_payload a) places
+
+-- the bytes begin with these structures, one after the other, with so many places corrected in all
+abbrev pub ReadsRows : List ℕ → List Structure → ℕ → Type 0
+ReadsRows bytes [] corrected = corrected ≡ 0
+ReadsRows bytes (a ∷ rows) corrected = (here later : ℕ) × ReadsStructure bytes a here × ReadsRows (drop 8 bytes) rows later × (corrected ≡ here + later)
+
+-- the bytes begin with so many structures, which make a map
+pub record ReadsMapRows (bytes : List ℕ) (count : ℕ) (rows : List Structure) (corrected : ℕ) : Type 0 where
+  pub counted : length rows ≡ count
+  pub reads : ReadsRows bytes rows corrected
+  pub is_map : IsMap rows
+
+-- the bytes that a map with this head uses, those of its messages among them
+abbrev pub map_size : MapHead → ℕ
+map_size head = 4 + 8 * head.n + 48 * head.p
+
+-- the bytes begin with this head of a map, which announces 512 structures at most, and all that it announces is there
+pub record ReadsWholeHead (bytes : List ℕ) (head : MapHead) (corrected : ℕ) : Type 0 where
+  pub reads : ReadsMapHead bytes head corrected
+  pub count : head.n ≤ 512
+  pub whole : map_size head ≤ length bytes
+
+-- the bytes begin with this map: so many places are corrected in its headers, and so many bytes are its own
+pub record ReadsMap (bytes : List ℕ) (rows : List Structure) (corrected used : ℕ) : Type 0 where
+  pub head : MapHead
+  pub in_head : ℕ
+  pub in_rows : ℕ
+  pub reads_head : ReadsWholeHead bytes head in_head
+  pub reads_rows : ReadsMapRows (drop 4 bytes) head.n rows in_rows
+  pub corrected_is : corrected ≡ in_head + in_rows
+  pub used_is : used ≡ map_size head

@@ -1,0 +1,133 @@
+ghost use Rattle.std.specs.Prelude.{◌≡◌, ◌+◌, ◌*◌, ◌<◌, ◌≤◌, ◌^◌, ℕ, List, [], ◌∷◌, ◌++◌, length, drop, IfOk, IfErr, IfSome};
+ghost use Rattle.std.specs.Int.{w64, from_be_bytes};
+ghost use Rattle.pon_hec.specs.HeaderCode.{Reads};
+ghost use Rattle.pon_bwmap.specs.Structure.{Structure};
+ghost use Rattle.pon_bwmap.specs.MapBytes.{structure_payload};
+ghost use Rattle.pon_bwmap.specs.MapReading.{FitsStructure, ReadsStructure, ReadsMapRows, ReadsWholeHead, ReadsMap, map_size};
+ghost use Rattle.pon_bwmap.specs.MapFaults.{IsRowsFirstFault, IsFirstFault};
+ghost use Rattle.pon_bwmap.specs.declared.fault.MapFault.{MapFault};
+
+use crate::alloc::Alloc;
+use crate::encode::NO_START;
+use crate::fault::MapFault;
+use crate::map::Map;
+use crate::rules::{MOST_ROWS, next_place, start_fault};
+use pon_hec::open64;
+use pon_xgtc::{HLend, HeadFault};
+use std::alloc::Global;
+
+/// The map that the bytes begin with, how many wrong places were corrected in all its headers, and
+/// how many bytes it uses: 4, then 8 for each structure, then 48 for each message that it announces.
+/// The messages are skipped, and later bytes are not looked at. An `Err` is the first fault: `Short`
+/// for fewer than 4 bytes, `HeadHec`, `TooMany`, `Short` for fewer bytes than the map uses, then of
+/// each structure in turn `StructHec`, `SeriesStart`, `StartRange` and `SeriesLong`. `Memory` comes
+/// last, where a map does stand in the bytes.
+pub fn decode_map(alloc: Global, bytes: &[u8]) -> Result<(Map, u32, usize), MapFault>
+    ensures ok { IfOk result (λ r. ReadsMap bytes.now r.0 r.1 r.2) }
+    ensures fault { IfErr result (λ f. IsFirstFault bytes.now f) }
+{
+    let (head, in_head) = read_head(bytes)?;
+    let (map, in_rows) = read_rows(alloc, &bytes[4..], usize::from(head.n()))?;
+    Ok((map, u32::from(in_head) + in_rows, size(&head)))
+}
+
+// The head, where all that it announces is there.
+fn read_head(bytes: &[u8]) -> Result<(HLend, u8), MapFault>
+    ensures ok { IfOk result (λ r. ReadsWholeHead bytes.now r.0 r.1) }
+    ensures fault { IfErr result (λ f. IsFirstFault bytes.now f) }
+{
+    let (head, corrected) = match HLend::decode(bytes) {
+        Ok(read) => read,
+        Err(HeadFault::Short) => return Err(MapFault::Short),
+        Err(HeadFault::Hec) => return Err(MapFault::HeadHec),
+    };
+    if usize::from(head.n()) > MOST_ROWS {
+        return Err(MapFault::TooMany);
+    }
+    if bytes.len() < size(&head) {
+        return Err(MapFault::Short);
+    }
+    Ok((head, corrected))
+}
+
+fn size(head: &HLend) -> usize
+    ensures { result ≡ map_size head.now }
+{
+    4 + 8 * usize::from(head.n()) + 48 * usize::from(head.p())
+}
+
+// The map of so many structures, and how many places were corrected in them. It goes through all of
+// them where memory is refused too, since a fault of theirs comes first.
+fn read_rows(alloc: Global, bytes: &[u8], count: usize) -> Result<(Map, u32), MapFault>
+    requires count { count ≤ 512 }
+    requires whole { 8 * count ≤ length bytes.now }
+    ensures ok { IfOk result (λ r. ReadsMapRows bytes.now count r.0 r.1) }
+    ensures small { IfOk result (λ r. r.1 ≤ 1024) }
+    ensures fault { IfErr result (λ f. IsRowsFirstFault bytes.now count f) }
+{
+    let mut rows = Vec::with_capacity(alloc, count).ok();
+    let mut corrected = 0;
+    let mut place = 0;
+    for k in 0..count {
+        let (row, in_row) = read_structure(bytes, k)?;
+        let start = row.start();
+        place = next_place(k, start, place);
+        if let Some(fault) = start_fault(k, start, place) {
+            return Err(fault);
+        }
+        corrected += u32::from(in_row);
+        rows = push_row(rows, row);
+    }
+    match rows {
+        Some(rows) => Ok((Map::of_rows(rows), corrected)),
+        None => Err(MapFault::Memory),
+    }
+}
+
+// The rows with one more; `None` where memory was refused, now or before.
+fn push_row(rows: Option<Vec<Alloc>>, row: Alloc) -> Option<Vec<Alloc>>
+    ensures { (before : List Structure) → IfSome rows (λ v. v.items ≡ before) →
+        IfSome result (λ v. v.items ≡ before ++ row ∷ []) }
+{
+    let mut rows = rows?;
+    match rows.push(row) {
+        Ok(()) => Some(rows),
+        Err(_) => None,
+    }
+}
+
+// Structure k, and how many places were corrected in it.
+fn read_structure(bytes: &[u8], k: usize) -> Result<(Alloc, u8), MapFault>
+    requires { 8 * k + 8 ≤ length bytes.now }
+    ensures ok { IfOk result (λ r. ReadsStructure (drop (8 * k) bytes.now) r.0 r.1) }
+    ensures fault { IfErr result (λ f. (f ≡ MapFault.StructHec k) ×
+        ((payload places : ℕ) → Reads (2 ^ 64) (from_be_bytes w64 (drop (8 * k) bytes.now)) payload places → ⊥)) }
+{
+    let word = bytes[8 * k..].first_chunk::<8>().unwrap();
+    match open64(u64::from_be_bytes(*word)) {
+        Ok((payload, corrected)) => Ok((structure(payload), corrected)),
+        Err(_) => Err(MapFault::StructHec { k }),
+    }
+}
+
+// The structure with this payload.
+fn structure(payload: u64) -> Alloc
+    requires { payload < 2 ^ 51 }
+    ensures fits { FitsStructure result }
+    ensures payload { structure_payload result ≡ payload }
+{
+    let start = ((payload >> 19) & 0xffff) as u16;
+    Alloc::new(
+        (payload >> 37) as u16,
+        (payload >> 36) & 1 == 1,
+        (payload >> 35) & 1 == 1,
+        if start == NO_START { None } else { Some(start) },
+        ((payload >> 3) & 0xffff) as u16,
+        (payload >> 2) & 1 == 1,
+        (payload & 3) as u8,
+    )
+    .unwrap()
+}
+
+#[cfg(test)]
+mod tests;

@@ -1,0 +1,119 @@
+use crate::fault::HeadFault;
+use crate::header::open_header;
+use pon_hec::seal32;
+use std::marker::Model;
+
+/// The header of an upstream burst (ITU-T G.987.3): which ONU sends it, and what it indicates.
+#[derive(Clone, Copy, Debug, PartialEq, Eq)]
+pub struct BurstHead {
+    onu: u16,
+    indications: u16,
+}
+
+impl Model for BurstHead {
+    ghost use Rattle.std.specs.Prelude.{◌≤◌};
+    ghost use Rattle.pon_xgtc.specs.BurstHead.{BurstHeader};
+
+    ghost Value = { BurstHeader };
+
+    ghost view = { λ h. record { onu_raw = h.onu; ind = h.indications } };
+
+    ghost invariant = { λ h. (h.onu ≤ 1023) × (h.indications ≤ 511) };
+
+    ghost inverse = { λ v. record { onu = v.onu_raw; indications = v.ind } };
+}
+
+impl BurstHead {
+    ghost use Rattle.std.specs.Prelude.{◌≡◌, ◌≤◌, ◌<◌, ◌^◌, ℕ, List, ◌++◌, IfOk, IfErr};
+    ghost use Rattle.std.specs.Option.{SomeIff};
+    ghost use Rattle.pon_xgtc.specs.BurstHead.{BurstHeader, FitsBurstHead, ReadsBurstHead, burst_head_payload};
+    ghost use Rattle.pon_xgtc.specs.Header.{IsHeaderFault, header_bytes};
+
+    /// The header of a burst of this ONU-ID with these indications (Ind); `None` exactly where the
+    /// ONU-ID is above 1,023 or the indications are above 511.
+    pub fn new(onu_raw: u16, ind: u16) -> Option<Self>
+        ensures { SomeIff result ((onu_raw ≤ 1023) × (ind ≤ 511)) record { onu_raw = onu_raw; ind = ind } }
+    {
+        if onu_raw > 1023 || ind > 511 {
+            return None;
+        }
+        Some(BurstHead {
+            onu: onu_raw,
+            indications: ind,
+        })
+    }
+
+    /// The ONU-ID as it stands on the line, at most 1,023; 1,023 is no ONU's.
+    pub fn onu_raw(&self) -> u16
+        ensures value { result ≡ self.now.onu_raw }
+        ensures range { result ≤ 1023 }
+    {
+        self.onu
+    }
+
+    /// The indications (Ind), at most 511.
+    pub fn ind(&self) -> u16
+        ensures value { result ≡ self.now.ind }
+        ensures range { result ≤ 511 }
+    {
+        self.indications
+    }
+
+    /// The four bytes of the header, the ONU-ID first.
+    pub fn encode(&self) -> [u8; 4]
+        ensures { result ≡ header_bytes (burst_head_payload self.now) }
+    {
+        seal32(self.payload()).to_be_bytes()
+    }
+
+    /// The burst header that the bytes begin with, and how many wrong places were corrected, at most
+    /// two. `Short` exactly where there are fewer than 4 bytes, else `Hec` exactly where the first four
+    /// are more than two places away from every codeword. Later bytes are not looked at.
+    pub fn decode(bytes: &[u8]) -> Result<(Self, u8), HeadFault>
+        ensures ok { IfOk result (λ r. ReadsBurstHead bytes.now r.0 r.1) }
+        ensures fault { IfErr result (λ f. IsHeaderFault bytes.now f) }
+        ensures written { (h : BurstHeader) (rest : List ℕ) → FitsBurstHead h →
+            bytes.now ≡ header_bytes (burst_head_payload h) ++ rest → result ≡ Ok record { 0 = h; 1 = 0 } }
+    {
+        let (payload, corrected) = open_header(bytes)?;
+        let head = BurstHead {
+            onu: (payload >> 9) as u16,
+            indications: (payload & 0x1ff) as u16,
+        };
+        Ok((head, corrected))
+    }
+
+    fn payload(&self) -> u32
+        ensures value { result ≡ burst_head_payload self.now }
+        ensures fits { result < 2 ^ 19 }
+    {
+        let BurstHead { onu, indications } = *self;
+        (u32::from(onu) << 9) + u32::from(indications)
+    }
+}
+
+#[cfg(test)]
+mod tests {
+    use super::*;
+    use std::test::Fail;
+
+    #[test]
+    fn onu_five(rt: HostRuntime) -> Result<(), Fail> {
+        let head = BurstHead::new(5, 0).ok_or("in range")?;
+        let bytes = [0x01, 0x40, 0x13, 0xf1];
+        assert_eq!(rt; head.encode(), bytes);
+        assert_eq!(rt; BurstHead::decode(&bytes), Ok((head, 0)));
+        assert_eq!(rt; BurstHead::decode(&bytes[..3]), Err(HeadFault::Short));
+        Ok(())
+    }
+
+    #[test]
+    fn ends_of_the_range(rt: HostRuntime) -> Result<(), Fail> {
+        assert_eq!(rt; BurstHead::new(1024, 0), None);
+        assert_eq!(rt; BurstHead::new(0, 512), None);
+        let head = BurstHead::new(1023, 511).ok_or("in range")?;
+        assert_eq!(rt; (head.onu_raw(), head.ind()), (1023, 511));
+        assert_eq!(rt; BurstHead::decode(&head.encode()), Ok((head, 0)));
+        Ok(())
+    }
+}
