@@ -1,3 +1,4 @@
+pub mod OneMap
 pub mod ReadsBack
 pub mod RowReading
 pub mod SeriesLaw

@@ -16,11 +16,11 @@ use Rattle.pon_bwmap.specs.MapBytes.{flag_bit, start_field, structure_payload, s
 use Rattle.pon_bwmap.specs.MapRules.{IsMap}
 use Rattle.pon_bwmap.specs.MapReading.{FitsStructure, ReadsStructure, ReadsRows, ReadsMap}
 
-flag_small : (b : Bool) → flag_bit b ≤ 1
+pub flag_small : (b : Bool) → flag_bit b ≤ 1
 flag_small true = omega arith
 flag_small false = omega arith
 
-start_small : (start : Option ℕ) → IfSome start (λ s. s < 0xffff) → start_field start ≤ 65535
+pub start_small : (start : Option ℕ) → IfSome start (λ s. s < 0xffff) → start_field start ≤ 65535
 start_small (Some s) lt = omega (arith, lt)
 start_small None lt = omega arith
 

@@ -32,7 +32,7 @@ place-append rows more (suc i) lt =
     ap (λ (o : Option Structure). if continues o then place_in_series (rows ++ more) i + 1 else 0) (slice_get-append rows more (suc i) lt)
     ∙ ap (λ (n : ℕ). if continues (slice_get rows (suc i)) then n + 1 else 0) (place-append rows more i (omega (arith, lt)))
 
-fault-append : (rows more : List Structure) (i : ℕ) → i < length rows → row_fault (rows ++ more) i ≡ row_fault rows i
+pub fault-append : (rows more : List Structure) (i : ℕ) → i < length rows → row_fault (rows ++ more) i ≡ row_fault rows i
 fault-append rows more i lt = rw (slice_get-append rows more i lt, place-append rows more i lt) refl
 
 -- ---- the structures read so far

@@ -1,10 +1,12 @@
 //! What holds of bandwidth maps.
 
-ghost use Rattle.std.specs.Prelude.{◌↔◌, ◌+◌, ◌*◌, ℕ, List, ◌++◌, length, All};
+ghost use Rattle.std.specs.Prelude.{◌≡◌, ◌↔◌, ◌+◌, ◌*◌, ◌<◌, ℕ, List, ◌++◌, length, All};
 ghost use Rattle.pon_bwmap.specs.Structure.{Structure};
 ghost use Rattle.pon_bwmap.specs.MapBytes.{map_bytes};
 ghost use Rattle.pon_bwmap.specs.MapReading.{FitsStructure, ReadsMap};
+ghost use Rattle.pon_bwmap.specs.MapFaults.{IsFirstFault};
 ghost use Rattle.pon_bwmap.specs.MapRules.{IsMap, KeepsSeriesRules};
+ghost use Rattle.pon_bwmap.specs.declared.fault.MapFault.{MapFault};
 
 /// Structures make a map exactly where they keep the rules of series.
 pub fn map_rules()
@@ -16,4 +18,18 @@ pub fn map_rules()
 pub fn reads_back()
     ensures { (rows : List Structure) (rest : List ℕ) → IsMap rows → All FitsStructure rows →
         ReadsMap (map_bytes rows ++ rest) rows 0 (4 + 8 * length rows) }
+{}
+
+/// Bytes read as one map at most, with one number of corrections and one of bytes used.
+pub fn one_map()
+    ensures { (bytes : List ℕ) (rows rows2 : List Structure) (corrected corrected2 used used2 : ℕ) →
+        All (λ b. b < 256) bytes → ReadsMap bytes rows corrected used → ReadsMap bytes rows2 corrected2 used2 →
+        (rows ≡ rows2) × (corrected ≡ corrected2) × (used ≡ used2) }
+{}
+
+/// Where bytes read as a map, nothing but memory can be wanting.
+pub fn only_memory_is_wanting()
+    ensures { (bytes : List ℕ) (rows : List Structure) (corrected used : ℕ) (fault : MapFault) →
+        All (λ b. b < 256) bytes → ReadsMap bytes rows corrected used → IsFirstFault bytes fault →
+        fault ≡ MapFault.Memory }
 {}
