@@ -4,6 +4,8 @@
 //! A wrong byte makes a report garbled: nothing is corrected. Nothing here takes memory.
 #![tactic(auto)]
 
+mod occupancies;
 mod report;
 
+pub use occupancies::Occupancies;
 pub use report::{Garbled, decode, encode};

@@ -1,32 +1,6 @@
-ghost use Rattle.std.specs.Prelude.{◌≡◌};
-
-use arrayvec::ArrayVec;
+use pon_dbru::Occupancies;
 use pon_descr::{Cause, Descriptor};
-use pon_units::{AllocId, BufOcc, FrameNo, OnuId};
-use std::marker::Model;
-
-/// The occupancies of a report, in words, for the ONU's structures in order; a garbled one is `None`.
-#[derive(Drop)]
-pub struct Occupancies {
-    items: ArrayVec<Option<BufOcc>, 16>,
-}
-
-impl Model for Occupancies {
-    ghost use Rattle.std.specs.Prelude.{ℕ, List, Option};
-
-    ghost Value = { List (Option ℕ) };
-
-    ghost view = { λ a. a.items.items };
-}
-
-impl Occupancies {
-    /// These occupancies.
-    pub fn new(items: ArrayVec<Option<BufOcc>, 16>) -> Occupancies
-        ensures { result ≡ items.items }
-    {
-        Occupancies { items }
-    }
-}
+use pon_units::{AllocId, FrameNo, OnuId};
 
 /// What is not taken yet: no value of it exists.
 #[derive(Clone, Copy)]
@@ -68,20 +42,4 @@ pub enum Event {
     Restore {
         not_yet: NotYet,
     },
-}
-
-#[cfg(test)]
-mod tests {
-    use super::*;
-
-    #[test]
-    fn keeps_the_occupancies(rt: HostRuntime) {
-        let mut items = ArrayVec::new();
-        items.push(BufOcc::new(16_777_215));
-        items.push(None);
-        let occupancies = Occupancies::new(items);
-        assert_eq!(rt; occupancies.items.len(), 2);
-        let wanted = [BufOcc::new(16_777_215), None];
-        assert_eq!(rt; occupancies.items.as_slice(), wanted.as_slice());
-    }
 }

@@ -17,7 +17,7 @@ mod state;
 mod window;
 
 pub use book::{Account, Counted};
-pub use event::{Event, NotYet, Occupancies};
+pub use event::{Event, NotYet};
 pub use port::Port;
 pub use reply::{Entry, MadeMap, Reply};
 pub use state::{PortCfg, PortState};

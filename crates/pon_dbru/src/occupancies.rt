@@ -1,0 +1,61 @@
+use arrayvec::ArrayVec;
+use pon_units::BufOcc;
+use std::marker::Model;
+
+/// The occupancies that an ONU reports in one burst, in words, for its structures in order: at most 16. A garbled report
+/// is `None`.
+#[derive(Drop)]
+pub struct Occupancies {
+    reports: ArrayVec<Option<BufOcc>, 16>,
+}
+
+impl Model for Occupancies {
+    ghost use Rattle.std.specs.Prelude.{ℕ, List, Option};
+
+    ghost Value = { List (Option ℕ) };
+
+    ghost view = { λ o. o.reports.items };
+}
+
+impl Occupancies {
+    ghost use Rattle.std.specs.Prelude.{◌≡◌, ◌<◌, ◌≤◌, [], ◌∷◌, ◌++◌, length};
+
+    /// No occupancies.
+    pub fn new() -> Self
+        ensures { result ≡ [] }
+    {
+        Occupancies {
+            reports: ArrayVec::new(),
+        }
+    }
+
+    /// Appends what the next report says, or `None` where it is garbled. There is room for 16.
+    pub fn push(&mut self, report: Option<BufOcc>)
+        requires { length self.old < 16 }
+        ensures { self.new ≡ self.old ++ report ∷ [] }
+    {
+        self.reports.push(report);
+    }
+
+    /// The occupancies, in order.
+    pub fn as_slice(&self) -> &[Option<BufOcc>]
+        ensures value { result.now ≡ self.now }
+        ensures range { length self.now ≤ 16 }
+    {
+        self.reports.as_slice()
+    }
+}
+
+#[cfg(test)]
+mod tests {
+    use super::*;
+
+    #[test]
+    fn keeps_the_occupancies(rt: HostRuntime) {
+        let mut occupancies = Occupancies::new();
+        occupancies.push(BufOcc::new(16_777_215));
+        occupancies.push(None);
+        let wanted = [BufOcc::new(16_777_215), None];
+        assert_eq!(rt; occupancies.as_slice(), wanted.as_slice());
+    }
+}

@@ -1,0 +1,14 @@
+ghost use Rattle.std.specs.Prelude.{◌≡◌, ◌+◌, ◌≤◌, ◌++◌, length};
+
+use arrayvec::ArrayVec;
+
+// Appends bytes that there is room for.
+pub(crate) fn append(bytes: &mut ArrayVec<u8, 78>, more: &[u8])
+    requires { length bytes.old.items + length more.now ≤ 78 }
+    ensures { bytes.new.items ≡ bytes.old.items ++ more.now }
+{
+    match bytes.try_extend_from_slice(more) {
+        Ok(()) => {}
+        Err(_) => unreachable!(),
+    }
+}

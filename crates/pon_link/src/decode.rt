@@ -1,0 +1,72 @@
+// A whole record's bytes as the record.
+ghost use Rattle.std.specs.Prelude.{◌≡◌, ◌*◌, ◌≤◌, length};
+ghost use Rattle.std.specs.Int.{w64, from_be_bytes};
+ghost use Rattle.pon_link.specs.UpRecords.{IsRecord, ReadsHead, ReadsReport, ReadsReports};
+ghost use Rattle.pon_link.specs.Reading.{IsWhole};
+
+use crate::record::UpRecord;
+use pon_dbru::{Garbled, Occupancies};
+use pon_units::{BufOcc, FrameNo};
+use pon_xgtc::BurstHead;
+
+// The record that the bytes are.
+pub(crate) fn decode_up(bytes: &[u8]) -> UpRecord
+    requires { IsWhole bytes.now }
+    ensures { IsRecord bytes.now result }
+{
+    UpRecord {
+        frame: frame_in(&bytes[1..9]),
+        head: head_in(&bytes[9..13]),
+        occ: occupancies_in(&bytes[14..], usize::from(bytes[13])),
+    }
+}
+
+// The frame of 8 bytes, the most significant first.
+fn frame_in(bytes: &[u8]) -> FrameNo
+    requires { length bytes.now ≡ 8 }
+    ensures { from_be_bytes w64 bytes.now ≡ result }
+{
+    let Some(number) = bytes.first_chunk::<8>() else {
+        unreachable!()
+    };
+    FrameNo::new(u64::from_be_bytes(*number))
+}
+
+// The burst header of 4 bytes, and `None` where its HEC is refused.
+fn head_in(bytes: &[u8]) -> Option<BurstHead>
+    requires { length bytes.now ≡ 4 }
+    ensures { ReadsHead bytes.now result }
+{
+    match BurstHead::decode(bytes) {
+        Ok((head, _)) => Some(head),
+        Err(_) => None,
+    }
+}
+
+// The occupancies of so many reports.
+fn occupancies_in(bytes: &[u8], count: usize) -> Occupancies
+    requires size { length bytes.now ≡ 4 * count }
+    requires limit { count ≤ 16 }
+    ensures count { length result ≡ count }
+    ensures reports { ReadsReports bytes.now result }
+{
+    let mut occupancies = Occupancies::new();
+    for i in 0..count {
+        occupancies.push(report_in(&bytes[4 * i..4 * i + 4]));
+    }
+    occupancies
+}
+
+// The occupancy that 4 bytes report, and `None` where they are garbled.
+fn report_in(bytes: &[u8]) -> Option<BufOcc>
+    requires { length bytes.now ≡ 4 }
+    ensures { ReadsReport bytes.now result }
+{
+    let Some(report) = bytes.first_chunk::<4>() else {
+        unreachable!()
+    };
+    match pon_dbru::decode(*report) {
+        Ok(occupancy) => Some(occupancy),
+        Err(Garbled) => None,
+    }
+}

@@ -1,0 +1,14 @@
+use pon_dbru::Occupancies;
+use pon_units::FrameNo;
+use pon_xgtc::BurstHead;
+
+/// What one upstream burst brought.
+#[derive(Drop)]
+pub struct UpRecord {
+    /// The frame that the burst came in.
+    pub frame: FrameNo,
+    /// The burst header, with wrong places corrected; `None` where its HEC was refused.
+    pub head: Option<BurstHead>,
+    /// The occupancies that the burst reported, in words.
+    pub occ: Occupancies,
+}
