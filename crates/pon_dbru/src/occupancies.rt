@@ -4,7 +4,7 @@ use std::marker::Model;
 
 /// The occupancies that an ONU reports in one burst, in words, for its structures in order: at most 16. A garbled report
 /// is `None`.
-#[derive(Drop)]
+#[derive(Debug, PartialEq, Eq, Drop)]
 pub struct Occupancies {
     reports: ArrayVec<Option<BufOcc>, 16>,
 }
@@ -15,6 +15,8 @@ impl Model for Occupancies {
     ghost Value = { List (Option ℕ) };
 
     ghost view = { λ o. o.reports.items };
+
+    ghost inverse = { λ v. record { reports = record { items = v } } };
 }
 
 impl Occupancies {

@@ -3,7 +3,7 @@ use pon_units::FrameNo;
 use pon_xgtc::BurstHead;
 
 /// What one upstream burst brought.
-#[derive(Drop)]
+#[derive(Debug, PartialEq, Eq, Drop)]
 pub struct UpRecord {
     /// The frame that the burst came in.
     pub frame: FrameNo,
