@@ -103,7 +103,7 @@ row_at bytes (a ∷ rows) corrected (suc k) r lt =
 
 -- ---- one map
 
-one_head : (bytes : List ℕ) (h g : MapHead) (k l : ℕ) → AreBytes bytes → ReadsMapHead bytes h k → ReadsMapHead bytes g l → (h.n ≡ g.n) × (h.p ≡ g.p) × (k ≡ l)
+pub one_head : (bytes : List ℕ) (h g : MapHead) (k l : ℕ) → AreBytes bytes → ReadsMapHead bytes h k → ReadsMapHead bytes g l → (h.n ≡ g.n) × (h.p ≡ g.p) × (k ≡ l)
 one_head bytes h g k l are r s =
     let one = one_header bytes (h.n * 2 ^ 8 + h.p) k (g.n * 2 ^ 8 + g.p) l (word_32 bytes are) r.header s.header in
     (omega (arith, one.0, r.fits.p, s.fits.p), omega (arith, one.0, r.fits.p, s.fits.p), one.1)

@@ -9,6 +9,7 @@ use Rattle.std.proofs.lemmas.List.Elements.{All-head, All-tail}
 use Rattle.pon_hec.specs.HeaderCode.{Reads, sealed}
 use Rattle.pon_hec.proofs.HeaderLaws.{sealed_codeword}
 use Rattle.pon_hec.proofs.Opening.{reads_none}
+use Rattle.pon_xgtc.specs.Header.{header_bytes}
 use Rattle.pon_xgtc.specs.MapHead.{MapHead, map_head_payload}
 use Rattle.pon_xgtc.proofs.HeaderReading.{header_reads}
 use Rattle.pon_bwmap.specs.Structure.{Structure}
@@ -46,6 +47,11 @@ rows_read (a ∷ rows) rest fits =
 rows_length : (rows : List Structure) → length (flat_map structure_bytes rows) ≡ 8 * length rows
 rows_length [] = refl
 rows_length (a ∷ rows) = ap (λ (bs : List ℕ). length bs) (flat_map-cons structure_bytes a rows) ∙ omega (arith, rows_length rows)
+
+-- how many bytes a map has
+pub map_length : (rows : List Structure) → length (map_bytes rows) ≡ 4 + 8 * length rows
+unfolding map_bytes
+map_length rows = omega (arith, length-append (header_bytes (map_head_payload (record { n = length rows; p = 0 }))) (flat_map structure_bytes rows), rows_length rows)
 
 pub reads_back : (rows : List Structure) (rest : List ℕ) → IsMap rows → All FitsStructure rows → ReadsMap (map_bytes rows ++ rest) rows 0 (4 + 8 * length rows)
 unfolding map_bytes

@@ -50,3 +50,7 @@ pub record ReadsMap (bytes : List ℕ) (rows : List Structure) (corrected used :
   pub reads_rows : ReadsMapRows (drop 4 bytes) head.n rows in_rows
   pub corrected_is : corrected ≡ in_head + in_rows
   pub used_is : used ≡ map_size head
+
+-- the bytes begin with a map
+abbrev pub BeginsWithMap : List ℕ → Type 0
+BeginsWithMap bytes = (rows : List Structure) × (corrected : ℕ) × (used : ℕ) × ReadsMap bytes rows corrected used

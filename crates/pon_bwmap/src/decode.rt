@@ -1,9 +1,9 @@
-ghost use Rattle.std.specs.Prelude.{◌≡◌, ◌+◌, ◌*◌, ◌<◌, ◌≤◌, ◌^◌, ℕ, List, [], ◌∷◌, ◌++◌, length, drop, IfOk, IfErr, IfSome};
+ghost use Rattle.std.specs.Prelude.{◌≡◌, ◌≢◌, ◌+◌, ◌*◌, ◌<◌, ◌≤◌, ◌^◌, ℕ, List, [], ◌∷◌, ◌++◌, length, drop, IfOk, IfErr, IfSome, IsNone};
 ghost use Rattle.std.specs.Int.{w64, from_be_bytes};
 ghost use Rattle.pon_hec.specs.HeaderCode.{Reads};
 ghost use Rattle.pon_bwmap.specs.Structure.{Structure};
 ghost use Rattle.pon_bwmap.specs.MapBytes.{structure_payload};
-ghost use Rattle.pon_bwmap.specs.MapReading.{FitsStructure, ReadsStructure, ReadsMapRows, ReadsWholeHead, ReadsMap, map_size};
+ghost use Rattle.pon_bwmap.specs.MapReading.{FitsStructure, ReadsStructure, ReadsMapRows, ReadsWholeHead, ReadsMap, BeginsWithMap, map_size};
 ghost use Rattle.pon_bwmap.specs.MapFaults.{IsRowsFirstFault, IsFirstFault};
 ghost use Rattle.pon_bwmap.specs.declared.fault.MapFault.{MapFault};
 
@@ -27,14 +27,33 @@ pub fn decode_map(alloc: Global, bytes: &[u8]) -> Result<(Map, u32, usize), MapF
     ensures fault { IfErr result (λ f. IsFirstFault bytes.now f) }
 {
     let (head, in_head) = read_head(bytes)?;
-    let (map, in_rows) = read_rows(alloc, &bytes[4..], usize::from(head.n()))?;
+    let count = usize::from(head.n());
+    let (map, in_rows) = read_rows(room_for(alloc, count), &bytes[4..], count)?;
     Ok((map, u32::from(in_head) + in_rows, size(&head)))
+}
+
+/// Why the bytes begin with no map: the first fault, as [`decode_map`] tells it, but for `Memory`, since this takes
+/// none. `None` exactly where a map does stand in the bytes.
+pub fn map_fault(bytes: &[u8]) -> Option<MapFault>
+    ensures none { IsNone result → BeginsWithMap bytes.now }
+    ensures fault { IfSome result (λ f. IsFirstFault bytes.now f × (f ≢ MapFault.Memory)) }
+{
+    let head = match read_head(bytes) {
+        Ok((head, _)) => head,
+        Err(fault) => return Some(fault),
+    };
+    match read_rows(None, &bytes[4..], usize::from(head.n())) {
+        Ok(_) => None,
+        Err(MapFault::Memory) => None,
+        Err(fault) => Some(fault),
+    }
 }
 
 // The head, where all that it announces is there.
 fn read_head(bytes: &[u8]) -> Result<(HLend, u8), MapFault>
     ensures ok { IfOk result (λ r. ReadsWholeHead bytes.now r.0 r.1) }
     ensures fault { IfErr result (λ f. IsFirstFault bytes.now f) }
+    ensures early { IfErr result (λ f. f ≢ MapFault.Memory) }
 {
     let (head, corrected) = match HLend::decode(bytes) {
         Ok(read) => read,
@@ -56,16 +75,24 @@ fn size(head: &HLend) -> usize
     4 + 8 * usize::from(head.n()) + 48 * usize::from(head.p())
 }
 
-// The map of so many structures, and how many places were corrected in them. It goes through all of
-// them where memory is refused too, since a fault of theirs comes first.
-fn read_rows(alloc: Global, bytes: &[u8], count: usize) -> Result<(Map, u32), MapFault>
+// Room for so many structures; `None` where memory is refused.
+fn room_for(alloc: Global, count: usize) -> Option<Vec<Alloc>>
+    ensures { IfSome result (λ v. v.items ≡ []) }
+{
+    Vec::with_capacity(alloc, count).ok()
+}
+
+// The map of so many structures, in this room, and how many places were corrected in them. It goes through all
+// of them where there is no room too, since a fault of theirs comes first.
+fn read_rows(room: Option<Vec<Alloc>>, bytes: &[u8], count: usize) -> Result<(Map, u32), MapFault>
+    requires room { IfSome room (λ v. v.items ≡ []) }
     requires count { count ≤ 512 }
     requires whole { 8 * count ≤ length bytes.now }
     ensures ok { IfOk result (λ r. ReadsMapRows bytes.now count r.0 r.1) }
     ensures small { IfOk result (λ r. r.1 ≤ 1024) }
     ensures fault { IfErr result (λ f. IsRowsFirstFault bytes.now count f) }
 {
-    let mut rows = Vec::with_capacity(alloc, count).ok();
+    let mut rows = room;
     let mut corrected = 0;
     let mut place = 0;
     for k in 0..count {

@@ -1,4 +1,4 @@
-ghost use Rattle.std.specs.Prelude.{◌≡◌, ◌<◌, ◌≤◌, ◌^◌, IfOk};
+ghost use Rattle.std.specs.Prelude.{◌≡◌, ◌+◌, ◌*◌, ◌<◌, ◌≤◌, ◌^◌, ◌++◌, length, take, drop, IfOk};
 ghost use Rattle.pon_bwmap.specs.MapBytes.{map_bytes, structure_bytes, structure_payload};
 
 use crate::alloc::Alloc;
@@ -9,17 +9,37 @@ use std::alloc::{AllocError, Global};
 
 /// The bytes of the map: its head with N structures and no messages, then 8 bytes a structure.
 /// `AllocError` where memory is refused; it is asked for once.
-#[tactic(auto, unfolding(crate::specs::MapBytes::map_bytes))]
 pub fn encode_map(alloc: Global, map: &Map) -> Result<Vec<u8>, AllocError>
     ensures { IfOk result (λ bytes. bytes.items ≡ map_bytes map.now) }
 {
-    let rows = map.rows();
-    let mut bytes = Vec::with_capacity(alloc, 4 + 8 * rows.len())?;
-    bytes.extend_from_slice(&head(rows.len()).encode())?;
-    for row in rows {
-        bytes.extend_from_slice(&structure(row))?;
-    }
+    let mut bytes = vec![in alloc; 0; 4 + 8 * map.rows().len()]?;
+    write_map(map, bytes.as_mut_slice());
     Ok(bytes)
+}
+
+/// Writes the bytes of the map, those of [`encode_map`], to the front of `room`, and tells how many they are: 4,
+/// and 8 for each structure. There is to be room for them; what stands behind them stays. It takes no memory.
+#[tactic(auto, unfolding(crate::specs::MapBytes::map_bytes))]
+pub fn write_map(map: &Map, room: &mut [u8]) -> usize
+    requires { 4 + 8 * length map.now ≤ length room.old }
+    ensures count { result ≡ 4 + 8 * length map.now }
+    ensures bytes { room.new ≡ map_bytes map.now ++ drop result room.old }
+{
+    let rows = map.rows();
+    put(room, 0, &head(rows.len()).encode());
+    for (k, row) in rows.iter().enumerate() {
+        put(room, 4 + 8 * k, &structure(row));
+    }
+    4 + 8 * rows.len()
+}
+
+// Writes the piece at this place.
+fn put(room: &mut [u8], at: usize, piece: &[u8])
+    requires { at + length piece.now ≤ length room.old }
+    ensures front { take (at + length piece.now) room.new ≡ take at room.old ++ piece.now }
+    ensures back { drop (at + length piece.now) room.new ≡ drop (at + length piece.now) room.old }
+{
+    room[at..at + piece.len()].copy_from_slice(piece);
 }
 
 fn head(count: usize) -> HLend
@@ -83,5 +103,18 @@ mod tests {
     fn written(rt: &HostRuntime, rows: Vec<Alloc>) -> Result<Vec<u8>, Fail> {
         let map = Map::from_rows(rows).map_err(|_| "a map")?;
         Ok(encode_map(rt.alloc(), &map)?)
+    }
+
+    #[test]
+    fn writes_into_room(rt: HostRuntime) -> Result<(), Fail> {
+        let rows = vec![in rt.alloc(); first()]?;
+        let map = Map::from_rows(rows).map_err(|_| "a map")?;
+        let mut room = [0xff; 14];
+        assert_eq!(rt; map.rows().len(), 1);
+        assert_eq!(rt; write_map(&map, &mut room), 12);
+        let bytes = encode_map(rt.alloc(), &map)?;
+        assert_eq!(rt; &room[..12], bytes.as_slice());
+        assert_eq!(rt; &room[12..], [0xff; 2].as_slice());
+        Ok(())
     }
 }

@@ -14,7 +14,7 @@ mod map;
 mod rules;
 
 pub use alloc::Alloc;
-pub use decode::decode_map;
-pub use encode::encode_map;
+pub use decode::{decode_map, map_fault};
+pub use encode::{encode_map, write_map};
 pub use fault::MapFault;
 pub use map::Map;

@@ -57,3 +57,15 @@ fn an_announced_message(rt: HostRuntime) -> Result<(), Fail> {
     assert_eq!(rt; fault(alloc, &bytes[..51]), Some(MapFault::Short));
     Ok(())
 }
+
+#[test]
+fn tells_the_same_faults_without_memory(rt: HostRuntime) {
+    let alloc = rt.alloc();
+    let mut wrong = ONE;
+    wrong[11] = 0xcc;
+    for size in 0..14 {
+        let (right, wrong) = (&ONE[..size], &wrong[..size]);
+        assert_eq!(rt; map_fault(right), fault(alloc, right), "{size}");
+        assert_eq!(rt; map_fault(wrong), fault(alloc, wrong), "{size}");
+    }
+}

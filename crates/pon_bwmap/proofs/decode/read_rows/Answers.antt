@@ -5,7 +5,7 @@ use Rattle.pon_bwmap.proofs.RowReading.{no_rows, one_more, first_break}
 use Rattle.pon_bwmap.proofs.decode.read_rows.Goals as goal
 
 pub loop-k-init : goal.loop-k-init
-loop-k-init c = (no_rows c.args.bytes.now, search (rules, c.with_capacity.ensures.items, c.ok-rows.ensures.value))
+loop-k-init c = (no_rows c.args.bytes.now, c.requires.room)
 
 pub returns-in-Some-clause-fault : goal.returns-in-Some-clause-fault
 returns-in-Some-clause-fault c =
