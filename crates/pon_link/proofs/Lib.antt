@@ -1,6 +1,11 @@
-pub mod Held
+pub mod Answering
+pub mod DownReading
+pub mod Growth
+pub mod Left
 pub mod OneReading
 pub mod Outcomes
 pub mod Reports
 pub mod RunLaws
+pub mod Sizes
+pub mod UnitSteps
 pub mod Written

@@ -1,8 +1,14 @@
--- What a reader of upstream records holds, and what a call of it does.
-use Rattle.std.specs.Prelude.{◌≡◌, ◌≢◌, ℕ, ◌+◌, ◌*◌, ◌^◌, ◌%◌, ◌<◌, ◌≤◌, ◌⊎◌, Bool, false, IsTrue, List, [], ◌++◌, length, slice_index, Option, Some, None, Result, Ok, Err}
+-- What a reader of a link's records holds, and what a call of it does, in either direction.
+use Rattle.std.specs.Prelude.{◌≡◌, ◌≢◌, ℕ, ◌+◌, ◌*◌, ◌^◌, ◌%◌, ◌<◌, ◌≤◌, ◌⊎◌, Bool, false, IsTrue, List, [], ◌++◌, length, drop, slice_index, Option, Some, None, Result, Ok, Err}
 use Rattle.pon_units.specs.Device.{Consumes, Keeps, IsAtEnd}
-use Rattle.pon_link.specs.UpRecords.{IsRecord, count_in}
-use Rattle.pon_link.specs.declared.record.UpRecord.{UpRecord}
+use Rattle.pon_xgtc.specs.MapHead.{MapHead, ReadsMapHead}
+use Rattle.pon_bwmap.specs.MapReading.{BeginsWithMap}
+use Rattle.pon_bwmap.specs.MapFaults.{IsFirstFault}
+use Rattle.pon_bwmap.specs.declared.fault.MapFault.{MapFault}
+use Rattle.pon_bwmap.specs.declared.fault.MapFault.TheVariants.{Memory}
+use Rattle.pon_link.specs.UpRecords.{count_in}
+use Rattle.pon_link.specs.declared.direction.Direction.{Direction}
+use Rattle.pon_link.specs.declared.direction.Direction.TheVariants.{Up, Down}
 use Rattle.pon_link.specs.declared.fault.LinkFault.{LinkFault}
 use Rattle.pon_link.specs.declared.fault.LinkFault.TheVariants.{BadTag, BadCount, BadMap, Truncated}
 use Rattle.pon_link.specs.declared.pull.Pulled.{Pulled}
@@ -10,69 +16,117 @@ use Rattle.pon_link.specs.declared.pull.Pulled.TheVariants.{Bytes, End}
 use Rattle.pon_link.specs.declared.pull.PullFault.{PullFault}
 use Rattle.pon_link.specs.declared.pull.PullFault.TheVariants.{Device, Link}
 
--- a reader: the bytes of the present record, and whether the input ended among them
+-- a reader: the direction of its records, the bytes of the present one, and whether the input ended among them
 pub record Reading : Type 0 where
+  pub direction : Direction
   pub held : List ℕ
   pub ended : Bool
 
--- The tag, if it is there, is that of an upstream record, and the count byte, if it is there, says 1 to 16.
-pub record KeepsForm (bytes : List ℕ) : Type 0 where
-  pub tag : 0 < length bytes → slice_index bytes 0 ≡ 0x55
-  pub some : 13 < length bytes → 1 ≤ count_in bytes
-  pub limit : 13 < length bytes → count_in bytes ≤ 16
+-- a reader that holds nothing
+abbrev pub empty : Direction → Reading
+empty d = record { direction = d; held = []; ended = false }
+
+-- the tag of a direction's records, their first byte
+abbrev pub tag_of : Direction → ℕ
+tag_of Up = 0x55
+tag_of Down = 0x44
+
+-- how many bytes of a record tell its size: those up to the count byte, or up to the end of the map's head
+abbrev pub telling : Direction → ℕ
+telling Up = 14
+telling Down = 13
+
+-- the bytes of a longest record: of 16 reports, or of a map of 512 structures
+abbrev pub longest : Direction → ℕ
+longest Up = 78
+longest Down = 4109
+
+-- These bytes of a map tell that a record has so many bytes in all: 512 structures at most, and no message.
+abbrev pub AnnouncesMap : List ℕ → ℕ → Type 0
+AnnouncesMap map n = (head : MapHead) × (corrected : ℕ) × ReadsMapHead map head corrected × (head.n ≤ 512) × (head.p ≡ 0) × (n ≡ 13 + 8 * head.n)
+
+-- Those bytes tell that the record has so many in all: its count byte says 1 to 16, or its map's head announces
+-- 512 structures at most and no message.
+abbrev pub Announces : Direction → List ℕ → ℕ → Type 0
+Announces Up bytes n = (1 ≤ count_in bytes) × (count_in bytes ≤ 16) × (n ≡ 14 + 4 * count_in bytes)
+Announces Down bytes n = AnnouncesMap (drop 9 bytes) n
+
+-- The tag, if it is there, is the direction's, and the bytes that tell a size, if they are there, tell one.
+pub record KeepsForm (d : Direction) (bytes : List ℕ) : Type 0 where
+  pub tag : 0 < length bytes → slice_index bytes 0 ≡ tag_of d
+  pub size : telling d ≤ length bytes → (n : ℕ) × Announces d bytes n
 
 -- The bytes may still become a record, and are none yet.
-pub record IsBeginning (bytes : List ℕ) : Type 0 where
-  pub form : KeepsForm bytes
-  pub more : 13 < length bytes → length bytes < 14 + 4 * count_in bytes
+pub record IsBeginning (d : Direction) (bytes : List ℕ) : Type 0 where
+  pub form : KeepsForm d bytes
+  pub more : telling d ≤ length bytes → (n : ℕ) × Announces d bytes n × (length bytes < n)
 
--- As many bytes as their count byte says, in a record's form.
-pub record IsWhole (bytes : List ℕ) : Type 0 where
-  pub form : KeepsForm bytes
-  pub counted : 13 < length bytes
-  pub size : length bytes ≡ 14 + 4 * count_in bytes
+-- As many bytes as they tell, in a record's form.
+pub record IsWhole (d : Direction) (bytes : List ℕ) : Type 0 where
+  pub form : KeepsForm d bytes
+  pub told : telling d ≤ length bytes
+  pub size : Announces d bytes (length bytes)
+
+-- the bytes that are to tell a size tell none
+abbrev pub HasBadSize : Direction → List ℕ → Type 0
+HasBadSize Up bytes = (count_in bytes ≡ 0) ⊎ (16 < count_in bytes)
+HasBadSize Down bytes = (n : ℕ) → Announces Down bytes n → ⊥
+
+-- the fault of a direction's bad size
+abbrev pub bad_size : Direction → LinkFault
+bad_size Up = BadCount
+bad_size Down = BadMap
 
 -- The first byte is there, and is not the tag.
-abbrev pub HasBadTag : List ℕ → Type 0
-HasBadTag bytes = (0 < length bytes) × (slice_index bytes 0 ≢ 0x55)
+abbrev pub HasBadTag : Direction → List ℕ → Type 0
+HasBadTag d bytes = (0 < length bytes) × (slice_index bytes 0 ≢ tag_of d)
 
--- The tag is right, and the count byte is there and says none or more than 16.
-abbrev pub HasBadCount : List ℕ → Type 0
-HasBadCount bytes = (13 < length bytes) × (slice_index bytes 0 ≡ 0x55) × ((count_in bytes ≡ 0) ⊎ (16 < count_in bytes))
+-- The tag is right, and the bytes that are to tell a size are there and tell none.
+abbrev pub HasBadForm : Direction → List ℕ → Type 0
+HasBadForm d bytes = (telling d ≤ length bytes) × (slice_index bytes 0 ≡ tag_of d) × HasBadSize d bytes
 
--- The bytes do not go past one record: not past the count byte where the form is not kept, and else not past
--- what the count byte says.
-pub record IsWithinRecord (bytes : List ℕ) : Type 0 where
-  pub form : 14 < length bytes → KeepsForm bytes
-  pub size : 14 < length bytes → length bytes ≤ 14 + 4 * count_in bytes
+-- All bytes of a downstream record are there, and the map in them is refused.
+abbrev pub HasRefusedMap : List ℕ → Type 0
+HasRefusedMap bytes = IsWhole Down bytes × ((fault : MapFault) × IsFirstFault (drop 9 bytes) fault × (fault ≢ Memory))
+
+-- A whole record waits: a downstream one is not refused.
+abbrev pub IsReady : Direction → List ℕ → Type 0
+IsReady Up bytes = IsWhole Up bytes
+IsReady Down bytes = IsWhole Down bytes × BeginsWithMap (drop 9 bytes)
+
+-- The bytes do not go past one record: not past those that tell its size where the form is not kept, and else not
+-- past the size that they tell.
+pub record IsWithinRecord (d : Direction) (bytes : List ℕ) : Type 0 where
+  pub form : telling d < length bytes → KeepsForm d bytes
+  pub size : telling d < length bytes → (n : ℕ) × Announces d bytes n × (length bytes ≤ n)
 
 -- The reader takes bytes: those of a record that is not whole, with no fault.
 pub record IsOpen (s : Reading) : Type 0 where
   pub unended : s.ended ≡ false
-  pub beginning : IsBeginning s.held
+  pub beginning : IsBeginning s.direction s.held
 
 -- This is the fault that a reader met.
 abbrev pub HasFault : Reading → LinkFault → Type 0
-HasFault s BadTag = HasBadTag s.held
-HasFault s BadCount = HasBadCount s.held
-HasFault s BadMap = ⊥
-HasFault s (Truncated left) = IsTrue s.ended × IsBeginning s.held × (0 < left) × (left ≡ length s.held)
+HasFault s BadTag = HasBadTag s.direction s.held
+HasFault s BadCount = (s.direction ≡ Up) × HasBadForm Up s.held
+HasFault s BadMap = (s.direction ≡ Down) × (HasBadForm Down s.held ⊎ HasRefusedMap s.held)
+HasFault s (Truncated left) = IsTrue s.ended × IsBeginning s.direction s.held × (0 < left) × (left ≡ length s.held)
 
 -- A reader with these bytes behind those that it held.
 abbrev pub holds_more : Reading → List ℕ → Reading
-holds_more s bytes = record { held = s.held ++ bytes; ended = s.ended }
+holds_more s bytes = record { direction = s.direction; held = s.held ++ bytes; ended = s.ended }
 
--- A reader gives the record that it held and holds nothing then; or it stays as it was, with the beginning of a record
--- or with a fault.
-abbrev pub Gives : Reading → Reading → Result (Option UpRecord) LinkFault → Type 0
-Gives old new (Ok (Some r)) = IsRecord old.held r × (new ≡ record { held = []; ended = false })
-Gives old new (Ok None) = IsOpen old × (new ≡ old)
-Gives old new (Err fault) = HasFault old fault × (new ≡ old)
+-- A reader of records that bytes are as `Is` says gives the one that it held and holds nothing then; or it stays as it
+-- was, with the beginning of a record or with a fault.
+abbrev pub Gives : {R : Type 0} → (List ℕ → R → Type 0) → Reading → Reading → Result (Option R) LinkFault → Type 0
+Gives Is old new (Ok (Some r)) = Is old.held r × (new ≡ empty old.direction)
+Gives Is old new (Ok None) = IsOpen old × (new ≡ old)
+Gives Is old new (Err fault) = HasFault old fault × (new ≡ old)
 
 -- A pull added bytes from the device, or none where a whole record waits; or it found the end between two records;
 -- or the device failed; or there was a fault, or the input ended inside a record.
 abbrev pub Pulls : Reading → Reading → Option (List ℕ) → Option (List ℕ) → Result Pulled PullFault → Type 0
-Pulls old new left rest (Ok (Bytes n)) = (bytes : List ℕ) × (length bytes ≡ n) × (new ≡ holds_more old bytes) × Consumes left rest bytes × ((IsWhole old.held × (n ≡ 0)) ⊎ (IsOpen old × (0 < n)))
+Pulls old new left rest (Ok (Bytes n)) = (bytes : List ℕ) × (length bytes ≡ n) × (new ≡ holds_more old bytes) × Consumes left rest bytes × ((IsReady old.direction old.held × (n ≡ 0)) ⊎ (IsOpen old × (0 < n)))
 Pulls old new left rest (Ok End) = (old.held ≡ []) × IsOpen old × (new ≡ old) × Keeps left rest × IsAtEnd rest
 Pulls old new left rest (Err Device) = IsOpen old × (new ≡ old) × Keeps left rest
 Pulls old new left rest (Err (Link fault)) = HasFault new fault × (new.held ≡ old.held) × Keeps left rest × ((HasFault old fault × (new ≡ old)) ⊎ (IsOpen old × IsAtEnd rest))

@@ -3,8 +3,8 @@ ghost use Rattle.std.specs.Prelude.{◌≡◌, ◌+◌, ◌≤◌, ◌++◌, len
 use arrayvec::ArrayVec;
 
 // Appends bytes that there is room for.
-pub(crate) fn append(bytes: &mut ArrayVec<u8, 78>, more: &[u8])
-    requires { length bytes.old.items + length more.now ≤ 78 }
+pub(crate) fn append<const N: usize>(bytes: &mut ArrayVec<u8, N>, more: &[u8])
+    requires { length bytes.old.items + length more.now ≤ N }
     ensures { bytes.new.items ≡ bytes.old.items ++ more.now }
 {
     match bytes.try_extend_from_slice(more) {

@@ -4,6 +4,7 @@ ghost use Rattle.std.specs.Int.{w64, from_be_bytes};
 ghost use Rattle.pon_link.specs.UpRecords.{IsRecord, ReadsHead, ReadsReport, ReadsReports};
 ghost use Rattle.pon_link.specs.Reading.{IsWhole};
 
+use crate::direction::Direction;
 use crate::record::UpRecord;
 use pon_dbru::{Garbled, Occupancies};
 use pon_units::{BufOcc, FrameNo};
@@ -11,7 +12,7 @@ use pon_xgtc::BurstHead;
 
 // The record that the bytes are.
 pub(crate) fn decode_up(bytes: &[u8]) -> UpRecord
-    requires { IsWhole bytes.now }
+    requires { IsWhole Direction.Up bytes.now }
     ensures { IsRecord bytes.now result }
 {
     UpRecord {
@@ -22,7 +23,7 @@ pub(crate) fn decode_up(bytes: &[u8]) -> UpRecord
 }
 
 // The frame of 8 bytes, the most significant first.
-fn frame_in(bytes: &[u8]) -> FrameNo
+pub(crate) fn frame_in(bytes: &[u8]) -> FrameNo
     requires { length bytes.now ≡ 8 }
     ensures { from_be_bytes w64 bytes.now ≡ result }
 {

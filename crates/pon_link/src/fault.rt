@@ -13,3 +13,12 @@ pub enum LinkFault {
         left: usize,
     },
 }
+
+/// Why a reader of downstream records gives none.
+#[derive(Clone, Copy, Debug, PartialEq, Eq)]
+pub enum DownFault {
+    /// The bytes are no records; every later call answers the same.
+    Link(LinkFault),
+    /// Memory was refused for the map of a whole record, which is still held.
+    Memory,
+}

@@ -1,41 +1,113 @@
 // What the bytes of the present record tell before it is whole.
-ghost use Rattle.std.specs.Prelude.{◌≡◌, ◌+◌, ◌*◌, ◌≤◌, ◌<◌, length, false, MatchOption};
-ghost use Rattle.pon_link.specs.UpRecords.{count_in};
-ghost use Rattle.pon_link.specs.Reading.{KeepsForm, HasFault, IsWithinRecord};
+ghost use Rattle.std.specs.Prelude.{◌≡◌, ◌+◌, ◌*◌, ◌≤◌, ◌<◌, ◌⊎◌, ℕ, length, false, MatchOption, OnSome};
+ghost use Rattle.pon_link.specs.Reading.{KeepsForm, HasFault, HasBadSize, IsBeginning, IsWithinRecord, Announces, AnnouncesMap, tag_of, telling as told_by, bad_size as fault_of};
 
+use crate::direction::Direction;
 use crate::fault::LinkFault;
+use pon_xgtc::HLend;
 
 /// The tag of an upstream record.
 pub(crate) const UP_TAG: u8 = 0x55;
 
-/// The number of a record's bytes up to its count byte, with it.
-pub(crate) const COUNTED: usize = 14;
+/// The tag of a downstream record.
+pub(crate) const DOWN_TAG: u8 = 0x44;
+
+/// The most structures that the map of a downstream record has.
+const MOST_ROWS: u16 = 512;
+
+fn tag(direction: Direction) -> u8
+    ensures { result ≡ tag_of direction }
+{
+    match direction {
+        Direction::Up => UP_TAG,
+        Direction::Down => DOWN_TAG,
+    }
+}
+
+// How many bytes tell the size of a record.
+fn telling(direction: Direction) -> usize
+    ensures value { result ≡ told_by direction }
+    ensures limit { result ≤ 14 }
+{
+    match direction {
+        Direction::Up => 14,
+        Direction::Down => 13,
+    }
+}
+
+// The size that the bytes tell.
+fn announced(direction: Direction, bytes: &[u8]) -> Option<usize>
+    requires { told_by direction ≤ length bytes.now }
+    ensures { MatchOption result (HasBadSize direction bytes.now) (Announces direction bytes.now) }
+{
+    match direction {
+        Direction::Up => up_size(bytes[13]),
+        Direction::Down => down_size(&bytes[9..]),
+    }
+}
+
+// The size of a record with this count byte.
+fn up_size(count: u8) -> Option<usize>
+    ensures { MatchOption result ((count ≡ 0) ⊎ (16 < count)) (λ n. (1 ≤ count) × (count ≤ 16) × (n ≡ 14 + 4 * count)) }
+{
+    if count == 0 || count > 16 {
+        return None;
+    }
+    Some(14 + 4 * usize::from(count))
+}
+
+// The size of a record with these bytes of a map.
+fn down_size(map: &[u8]) -> Option<usize>
+    requires { 4 ≤ length map.now }
+    ensures { MatchOption result ((n : ℕ) → AnnouncesMap map.now n → ⊥) (AnnouncesMap map.now) }
+{
+    let head = match HLend::decode(map) {
+        Ok((head, _)) => head,
+        Err(_) => return None,
+    };
+    if head.n() > MOST_ROWS || head.p() > 0 {
+        return None;
+    }
+    Some(13 + 8 * usize::from(head.n()))
+}
 
 // Why the bytes begin no record.
-pub(crate) fn form_fault(bytes: &[u8]) -> Option<LinkFault>
-    ensures { MatchOption result (KeepsForm bytes.now) (λ f. HasFault record { held = bytes.now; ended = false } f) }
+pub(crate) fn form_fault(direction: Direction, bytes: &[u8]) -> Option<LinkFault>
+    ensures value { MatchOption result (KeepsForm direction bytes.now) (λ f. HasFault record { direction = direction; held = bytes.now; ended = false } f) }
+    ensures closed { OnSome result (IsBeginning direction bytes.now → ⊥) }
 {
     if bytes.is_empty() {
         return None;
     }
-    if bytes[0] != UP_TAG {
+    if bytes[0] != tag(direction) {
         return Some(LinkFault::BadTag);
     }
-    if bytes.len() >= COUNTED && (bytes[13] == 0 || bytes[13] > 16) {
-        return Some(LinkFault::BadCount);
+    if bytes.len() >= telling(direction) && announced(direction, bytes).is_none() {
+        return Some(bad_size(direction));
     }
     None
 }
 
-// How many bytes the record surely still needs: those up to the count byte, and from there on all.
-pub(crate) fn needed(bytes: &[u8]) -> usize
-    requires form { KeepsForm bytes.now }
-    requires within { IsWithinRecord bytes.now }
-    ensures uncounted { length bytes.now < 14 → length bytes.now + result ≡ 14 }
-    ensures counted { 14 ≤ length bytes.now → length bytes.now + result ≡ 14 + 4 * count_in bytes.now }
+fn bad_size(direction: Direction) -> LinkFault
+    ensures { result ≡ fault_of direction }
 {
-    if bytes.len() < COUNTED {
-        return COUNTED - bytes.len();
+    match direction {
+        Direction::Up => LinkFault::BadCount,
+        Direction::Down => LinkFault::BadMap,
     }
-    COUNTED + 4 * usize::from(bytes[13]) - bytes.len()
+}
+
+// How many bytes the record surely still needs: those that tell its size, and from there on all.
+pub(crate) fn needed(direction: Direction, bytes: &[u8]) -> usize
+    requires form { KeepsForm direction bytes.now }
+    requires within { IsWithinRecord direction bytes.now }
+    ensures untold { length bytes.now < told_by direction → length bytes.now + result ≡ told_by direction }
+    ensures told { told_by direction ≤ length bytes.now → Announces direction bytes.now (length bytes.now + result) }
+    ensures more { IsBeginning direction bytes.now → 0 < result }
+{
+    let telling = telling(direction);
+    if bytes.len() < telling {
+        return telling - bytes.len();
+    }
+    announced(direction, bytes).unwrap() - bytes.len()
 }

@@ -1,25 +1,36 @@
-//! The records of a link between the ends of an XG-PON line: what an upstream burst brought (a frame, the burst
-//! header and the occupancies that were reported), as values and as bytes, and a reader that takes the bytes
-//! in pieces of any size, from memory or from a device.
+//! The records of a link between the ends of an XG-PON line, as values and as bytes: upstream what a burst brought (a
+//! frame, the burst header and the occupancies that were reported), downstream the map of a frame. Readers take the
+//! bytes in pieces of any size, from memory or from a device; a writer keeps what has not gone out; a simulated unit
+//! answers maps.
 //!
-//! The records are this project's own; a burst header and a report in them are those of ITU-T G.987.3.
-//! Nothing here takes memory.
+//! The records are this project's own; the map, the burst header and a report in them are those of ITU-T G.987.3.
+//! Nothing here takes memory but the reader that gives maps.
 #![tactic(auto)]
 
 mod buffer;
 mod decode;
+mod decode_down;
+mod direction;
+mod down_reader;
 mod encode;
 mod fault;
 mod form;
+mod held;
 pub mod laws;
 mod pull;
 mod reader;
 mod record;
 #[cfg(test)]
 mod tests;
+mod unit;
+mod writer;
 
+pub use direction::Direction;
+pub use down_reader::DownReader;
 pub use encode::encode_up;
-pub use fault::LinkFault;
+pub use fault::{DownFault, LinkFault};
 pub use pull::{PullFault, Pulled};
 pub use reader::UpReader;
-pub use record::UpRecord;
+pub use record::{DownRecord, UpRecord};
+pub use unit::Unit;
+pub use writer::{Busy, Device, DownWriter};

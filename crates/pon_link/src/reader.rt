@@ -1,42 +1,44 @@
-ghost use Rattle.std.specs.Prelude.{◌≡◌, ◌↔◌, ◌<◌, ◌≤◌, ◌+◌, ◌*◌, ℕ, IsTrue, false, [], ◌∷◌, ◌++◌, length, take, MatchOption};
-ghost use Rattle.pon_link.specs.UpRecords.{count_in};
-ghost use Rattle.pon_link.specs.Reading.{IsOpen, Gives, HasFault, KeepsForm, IsBeginning, IsWhole, IsWithinRecord, holds_more};
+ghost use Rattle.std.specs.Prelude.{◌≡◌, ◌<◌, ◌≤◌, ℕ, length, take};
+ghost use Rattle.pon_units.specs.Device.{CountsCall};
+ghost use Rattle.pon_link.specs.UpRecords.{IsRecord};
+ghost use Rattle.pon_link.specs.Reading.{empty, IsOpen, Gives, IsWithinRecord, Pulls, CountsDevice, holds_more};
 
-use crate::buffer::append;
 use crate::decode::decode_up;
+use crate::direction::Direction;
 use crate::fault::LinkFault;
-use crate::form::{form_fault, needed};
+use crate::held::Held;
+use crate::pull::{PullFault, Pulled};
 use crate::record::UpRecord;
-use arrayvec::ArrayVec;
+use pon_units::dev::DevRead;
 use std::marker::Model;
 
 /// A reader of upstream records, which takes their bytes in pieces of any size. It holds the bytes of the
 /// present record, at most 78.
 #[derive(Drop)]
 pub struct UpReader {
-    bytes: ArrayVec<u8, 78>,
-    ended: bool,
+    reading: Held<78>,
 }
 
 impl Model for UpReader {
-    ghost use Rattle.std.specs.Prelude.{◌<◌, IsTrue, length};
-    ghost use Rattle.pon_link.specs.Reading.{Reading, IsBeginning, IsWithinRecord};
+    ghost use Rattle.std.specs.Prelude.{◌≡◌};
+    ghost use Rattle.pon_link.specs.Reading.{Reading};
+    ghost use Rattle.pon_link.specs.declared.direction.Direction.{Direction};
+    ghost use Rattle.pon_link.specs.declared.direction.Direction.TheVariants.{Up};
 
     ghost Value = { Reading };
 
-    ghost view = { λ s. record { held = s.bytes.items; ended = s.ended } };
+    ghost view = { λ s. s.reading };
 
-    ghost invariant = { λ s. IsWithinRecord s.bytes.items × (IsTrue s.ended → IsBeginning s.bytes.items × (0 < length s.bytes.items)) };
+    ghost invariant = { λ s. s.reading.direction ≡ Up };
 }
 
 impl UpReader {
     /// A reader that holds no bytes.
     pub fn new() -> Self
-        ensures { result ≡ record { held = []; ended = false } }
+        ensures { result ≡ empty Direction.Up }
     {
         UpReader {
-            bytes: ArrayVec::new(),
-            ended: false,
+            reading: Held::new(Direction::Up),
         }
     }
 
@@ -48,12 +50,7 @@ impl UpReader {
         ensures while_open { (k : ℕ) → k < result → IsOpen (holds_more self.old (take k piece.now)) }
         ensures stops { result < length piece.now → IsOpen self.new → ⊥ }
     {
-        let mut taken = 0;
-        while taken < piece.len() && self.is_open() {
-            self.hold(piece[taken]);
-            taken += 1;
-        }
-        taken
+        self.reading.feed(piece)
     }
 
     /// The record, exactly where a whole one is held; it is then no longer held. `None` where the bytes that are
@@ -63,78 +60,34 @@ impl UpReader {
     /// and is not 1 to 16, `Truncated` where the input ended inside the record. Every later call answers the
     /// same fault.
     pub fn next(&mut self) -> Result<Option<UpRecord>, LinkFault>
-        ensures outcome { Gives self.old self.new result }
-        ensures within { IsWithinRecord self.old.held }
+        ensures outcome { Gives IsRecord self.old self.new result }
+        ensures within { IsWithinRecord self.old.direction self.old.held }
+        ensures up { self.old.direction ≡ Direction.Up }
     {
-        if let Some(fault) = self.fault() {
+        if let Some(fault) = self.reading.fault() {
             return Err(fault);
         }
-        if self.needed() > 0 {
+        if self.reading.needed() > 0 {
             return Ok(None);
         }
-        let record = decode_up(self.bytes.as_slice());
-        self.bytes.clear();
+        let record = decode_up(self.reading.bytes());
+        self.reading.clear();
         Ok(Some(record))
     }
 
-    // The fault that was met.
-    pub(crate) fn fault(&self) -> Option<LinkFault>
-        ensures within { IsWithinRecord self.now.held }
-        ensures value { MatchOption result (KeepsForm self.now.held × (self.now.ended ≡ false)) (λ f. HasFault self.now f) }
+    /// Reads once from the device, and never past the present record: at most up to its count byte, and then
+    /// at most its rest. It reads nothing while a whole record waits for [`UpReader::next`], and nothing after a
+    /// fault; each other pull that succeeds gives at least one byte.
+    ///
+    /// `Device` exactly where the device failed in this call. `Link` after a fault of [`UpReader::next`], and
+    /// where the input ended inside a record.
+    pub fn pull<R: DevRead>(&mut self, reader: &mut R) -> Result<Pulled, PullFault>
+        ensures value { Pulls self.old self.new (R.remaining reader.old) (R.remaining reader.new) result }
+        ensures failures { CountsDevice (R.failures reader.old) (R.failures reader.new) result }
+        ensures waits { (IsOpen self.old → ⊥) → reader.new ≡ reader.old }
+        ensures one_read { IsOpen self.old → CountsCall (R.calls reader.old) (R.calls reader.new) }
+        ensures within { IsWithinRecord self.new.direction self.new.held }
     {
-        if self.ended {
-            return Some(LinkFault::Truncated {
-                left: self.bytes.len(),
-            });
-        }
-        form_fault(self.bytes.as_slice())
-    }
-
-    // How many bytes the record surely still needs, none exactly where it is whole.
-    pub(crate) fn needed(&self) -> usize
-        requires { KeepsForm self.now.held }
-        ensures uncounted { length self.now.held < 14 → length self.now.held + result ≡ 14 }
-        ensures counted { 14 ≤ length self.now.held → length self.now.held + result ≡ 14 + 4 * count_in self.now.held }
-        ensures some { 0 < result → IsBeginning self.now.held }
-        ensures none { result ≡ 0 → IsWhole self.now.held }
-        ensures limit { result ≤ 64 }
-    {
-        needed(self.bytes.as_slice())
-    }
-
-    fn is_open(&self) -> bool
-        ensures { IsTrue result ↔ IsOpen self.now }
-    {
-        self.fault().is_none() && self.needed() > 0
-    }
-
-    fn hold(&mut self, byte: u8)
-        requires { IsOpen self.old }
-        ensures { self.new ≡ holds_more self.old (byte ∷ []) }
-    {
-        self.bytes.push(byte);
-    }
-
-    // Takes bytes that do not go past the present record.
-    pub(crate) fn hold_all(&mut self, piece: &[u8])
-        requires open { IsOpen self.old }
-        requires within { IsWithinRecord (self.old.held ++ piece.now) }
-        ensures held { self.new ≡ holds_more self.old piece.now }
-        ensures still_within { IsWithinRecord self.new.held }
-    {
-        append(&mut self.bytes, piece);
-    }
-
-    // The input ended here: the fault, where that is inside a record.
-    pub(crate) fn end(&mut self) -> Option<LinkFault>
-        requires { IsOpen self.old }
-        ensures { MatchOption result ((self.old.held ≡ []) × (self.new ≡ self.old))
-            (λ f. HasFault self.new f × (self.new.held ≡ self.old.held)) }
-    {
-        if self.bytes.is_empty() {
-            return None;
-        }
-        self.ended = true;
-        self.fault()
+        self.reading.pull(reader)
     }
 }

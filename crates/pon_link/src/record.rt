@@ -1,3 +1,4 @@
+use pon_bwmap::Map;
 use pon_dbru::Occupancies;
 use pon_units::FrameNo;
 use pon_xgtc::BurstHead;
@@ -11,4 +12,13 @@ pub struct UpRecord {
     pub head: Option<BurstHead>,
     /// The occupancies that the burst reported, in words.
     pub occ: Occupancies,
+}
+
+/// The map that was made for a frame.
+#[derive(Debug, Drop)]
+pub struct DownRecord {
+    /// The frame whose upstream bursts the map grants.
+    pub frame: FrameNo,
+    /// The map, with wrong places of its headers corrected.
+    pub map: Map,
 }

@@ -1,0 +1,7 @@
+use Rattle.std.proofs.Common.{arith, rules}
+use Rattle.pon_link.proofs.Sizes.{none_begun}
+use Rattle.pon_link.proofs.form.form_fault.Goals as goal
+
+pub returns-then-is_none-clause-closed : goal.returns-then-is_none-clause-closed
+returns-then-is_none-clause-closed c begun =
+    none_begun c.announced.result c.args.direction c.args.bytes.now (omega (arith, c.telling.ensures.value, c.if-bytes-telling.true)) (search rules) c.announced.ensures begun

@@ -1,0 +1,37 @@
+-- What a unit answers to a bandwidth map: its reports (DBRu, ITU-T G.987.3), and what then still waits in it.
+use Rattle.std.specs.Prelude.{ℕ, ◌-◌, ◌==◌, ◌&&◌, min, Bool, if◌then◌else◌, List, [], ◌∷◌, map, take, filter, Option, Some}
+use Rattle.std.specs.List.{list_any}
+use Rattle.pon_bwmap.specs.Structure.{Structure}
+
+-- a unit: its ONU-ID, and the words that wait for each Alloc-ID of its own
+pub record UnitState : Type 0 where
+  pub onu : ℕ
+  pub queues : List (ℕ × ℕ)
+
+-- a structure asks for a report of one of these queues
+abbrev pub asks : List (ℕ × ℕ) → Structure → Bool
+asks queues a = a.dbru && list_any (λ q. q.0 == a.id) queues
+
+-- the structures of a map that a unit with these queues answers: the first 16 that ask it
+abbrev pub answered : List (ℕ × ℕ) → List Structure → List Structure
+answered queues rows = take 16 (filter (asks queues) rows)
+
+-- the words that wait for an Alloc-ID
+abbrev pub waiting : List (ℕ × ℕ) → ℕ → ℕ
+waiting [] id = 0
+waiting (q ∷ queues) id = if q.0 == id then q.1 else waiting queues id
+
+-- A queue after a structure: if it is of the structure's Alloc-ID, the granted words are gone, but the one of the report.
+abbrev pub lessened : Structure → ℕ × ℕ → ℕ × ℕ
+lessened a q = if q.0 == a.id then (q.0, q.1 - (a.grant - 1)) else q
+
+-- the queues after these structures, one after the other
+abbrev pub served : List (ℕ × ℕ) → List Structure → List (ℕ × ℕ)
+served queues [] = queues
+served queues (a ∷ rows) = served (map (lessened a) queues) rows
+
+-- The reports for these structures, one after the other: the words that wait then, or the greatest number that a
+-- report can say.
+abbrev pub reports : List (ℕ × ℕ) → List Structure → List (Option ℕ)
+reports queues [] = []
+reports queues (a ∷ rows) = Some (min (waiting queues a.id) 16777215) ∷ reports (map (lessened a) queues) rows

@@ -1,0 +1,104 @@
+ghost use Rattle.std.specs.Prelude.{◌≡◌, ◌<◌, ◌≤◌, ℕ, length, take};
+ghost use Rattle.pon_units.specs.Device.{CountsCall};
+ghost use Rattle.pon_link.specs.DownRecords.{GivesDown};
+ghost use Rattle.pon_link.specs.Reading.{empty, IsOpen, IsWithinRecord, Pulls, CountsDevice, holds_more};
+
+use crate::decode_down::decode_down;
+use crate::direction::Direction;
+use crate::fault::DownFault;
+use crate::held::Held;
+use crate::pull::{PullFault, Pulled};
+use crate::record::DownRecord;
+use pon_units::dev::DevRead;
+use std::alloc::Global;
+use std::marker::Model;
+
+/// A reader of downstream records, which takes their bytes in pieces of any size. It holds the bytes of the
+/// present record, at most 4,109, and takes memory for the map that [`DownReader::next`] gives alone.
+#[derive(Drop)]
+pub struct DownReader {
+    reading: Held<4109>,
+    alloc: Global,
+}
+
+impl Model for DownReader {
+    ghost use Rattle.std.specs.Prelude.{◌≡◌};
+    ghost use Rattle.pon_link.specs.Reading.{Reading};
+    ghost use Rattle.pon_link.specs.declared.direction.Direction.{Direction};
+    ghost use Rattle.pon_link.specs.declared.direction.Direction.TheVariants.{Down};
+
+    ghost Value = { Reading };
+
+    ghost view = { λ s. s.reading };
+
+    ghost invariant = { λ s. s.reading.direction ≡ Down };
+}
+
+impl DownReader {
+    /// A reader that holds no bytes, and takes the memory of maps from `alloc`.
+    pub fn new(alloc: Global) -> Self
+        ensures { result ≡ empty Direction.Down }
+    {
+        DownReader {
+            reading: Held::new(Direction::Down),
+            alloc,
+        }
+    }
+
+    /// Takes bytes from the front of the piece until one record is whole, a fault is met or the piece ends, and
+    /// tells how many. It takes none while a whole record waits for [`DownReader::next`], and none after a fault.
+    pub fn feed(&mut self, piece: &[u8]) -> usize
+        ensures count { result ≤ length piece.now }
+        ensures held { self.new ≡ holds_more self.old (take result piece.now) }
+        ensures while_open { (k : ℕ) → k < result → IsOpen (holds_more self.old (take k piece.now)) }
+        ensures stops { result < length piece.now → IsOpen self.new → ⊥ }
+    {
+        self.reading.feed(piece)
+    }
+
+    /// The record, exactly where a whole one is held; it is then no longer held. `None` where the bytes that are
+    /// held are the beginning of one.
+    ///
+    /// `BadTag` as soon as the first byte is there and is no tag; `BadMap` as soon as the head of the map is there
+    /// and is refused, or announces messages or more than 512 structures, and where the whole map is refused;
+    /// `Truncated` where the input ended inside the record. Every later call answers the same fault. `Memory`
+    /// where memory is refused for the map of a whole record; it changes nothing, and the next call tries again.
+    pub fn next(&mut self) -> Result<Option<DownRecord>, DownFault>
+        ensures outcome { GivesDown self.old self.new result }
+        ensures within { IsWithinRecord self.old.direction self.old.held }
+        ensures down { self.old.direction ≡ Direction.Down }
+    {
+        if let Some(fault) = self.reading.fault() {
+            return Err(DownFault::Link(fault));
+        }
+        if self.reading.needed() > 0 {
+            return Ok(None);
+        }
+        match decode_down(self.alloc, self.reading.bytes()) {
+            Ok(record) => {
+                self.reading.clear();
+                Ok(Some(record))
+            }
+            Err(fault) => Err(fault),
+        }
+    }
+
+    /// Reads once from the device, and never past the present record: at most up to the end of its map's head, and
+    /// then at most its rest. It reads nothing while a whole record waits for [`DownReader::next`], and nothing
+    /// after a fault; each other pull that succeeds gives at least one byte.
+    ///
+    /// `Device` exactly where the device failed in this call. `Link` for a fault of [`DownReader::next`], and
+    /// where the input ended inside a record.
+    pub fn pull<R: DevRead>(&mut self, reader: &mut R) -> Result<Pulled, PullFault>
+        ensures value { Pulls self.old self.new (R.remaining reader.old) (R.remaining reader.new) result }
+        ensures failures { CountsDevice (R.failures reader.old) (R.failures reader.new) result }
+        ensures waits { (IsOpen self.old → ⊥) → reader.new ≡ reader.old }
+        ensures one_read { IsOpen self.old → CountsCall (R.calls reader.old) (R.calls reader.new) }
+        ensures within { IsWithinRecord self.new.direction self.new.held }
+    {
+        self.reading.pull(reader)
+    }
+}
+
+#[cfg(test)]
+mod tests;

@@ -1,0 +1,191 @@
+// The bytes of the present record of a link, in either direction, and how they grow.
+ghost use Rattle.std.specs.Prelude.{◌≡◌, ◌↔◌, ◌<◌, ◌≤◌, ◌+◌, ℕ, IsTrue, false, [], ◌∷◌, ◌++◌, length, take, MatchOption, OnSome};
+ghost use Rattle.pon_units.specs.Device.{CountsCall};
+ghost use Rattle.pon_link.specs.Reading.{Reading, empty, longest, telling, Announces, IsOpen, HasFault, KeepsForm, IsBeginning, IsWhole, IsReady, IsWithinRecord, Pulls, CountsDevice, holds_more};
+
+use crate::buffer::append;
+use crate::direction::Direction;
+use crate::fault::LinkFault;
+use crate::form::{form_fault, needed};
+use crate::pull::{PullFault, Pulled};
+use arrayvec::ArrayVec;
+use pon_bwmap::map_fault;
+use pon_units::dev::DevRead;
+use std::marker::Model;
+
+/// A reader of one direction, with room for `N` bytes.
+#[derive(Drop)]
+pub(crate) struct Held<const N: usize> {
+    direction: Direction,
+    bytes: ArrayVec<u8, N>,
+    ended: bool,
+}
+
+impl<const N: usize> Model for Held<N> {
+    ghost use Rattle.std.specs.Prelude.{◌<◌, ◌≤◌, IsTrue, length};
+    ghost use Rattle.pon_link.specs.Reading.{Reading, IsBeginning, IsWithinRecord, longest};
+
+    ghost Value = { Reading };
+
+    ghost view = { λ s. record { direction = s.direction; held = s.bytes.items; ended = s.ended } };
+
+    ghost invariant = { λ s. (longest s.direction ≤ N) × IsWithinRecord s.direction s.bytes.items
+        × (IsTrue s.ended → IsBeginning s.direction s.bytes.items × (0 < length s.bytes.items)) };
+}
+
+impl<const N: usize> Held<N> {
+    // A reader that holds no bytes.
+    pub(crate) fn new(direction: Direction) -> Self
+        requires { longest direction ≤ N }
+        ensures { result ≡ empty direction }
+    {
+        Held {
+            direction,
+            bytes: ArrayVec::new(),
+            ended: false,
+        }
+    }
+
+    // The bytes that are held.
+    pub(crate) fn bytes(&self) -> &[u8]
+        ensures { result.now ≡ self.now.held }
+    {
+        self.bytes.as_slice()
+    }
+
+    // Lets the bytes go.
+    pub(crate) fn clear(&mut self)
+        ensures { self.new ≡ empty self.old.direction }
+    {
+        self.bytes.clear();
+        self.ended = false;
+    }
+
+    // Takes bytes from the front of the piece until one record is whole, a fault is met or the piece ends, and
+    // tells how many.
+    pub(crate) fn feed(&mut self, piece: &[u8]) -> usize
+        ensures count { result ≤ length piece.now }
+        ensures held { self.new ≡ holds_more self.old (take result piece.now) }
+        ensures while_open { (k : ℕ) → k < result → IsOpen (holds_more self.old (take k piece.now)) }
+        ensures stops { result < length piece.now → IsOpen self.new → ⊥ }
+    {
+        let mut taken = 0;
+        while taken < piece.len() && self.is_open() {
+            self.hold(piece[taken]);
+            taken += 1;
+        }
+        taken
+    }
+
+    // The fault that was met, but for a map that is refused.
+    pub(crate) fn fault(&self) -> Option<LinkFault>
+        ensures within { IsWithinRecord self.now.direction self.now.held }
+        ensures value { MatchOption result (KeepsForm self.now.direction self.now.held × (self.now.ended ≡ false)) (λ f. HasFault self.now f) }
+        ensures closed { OnSome result (IsOpen self.now → ⊥) }
+    {
+        if self.ended {
+            return Some(LinkFault::Truncated {
+                left: self.bytes.len(),
+            });
+        }
+        form_fault(self.direction, self.bytes.as_slice())
+    }
+
+    // How many bytes the record surely still needs, none exactly where it is whole.
+    pub(crate) fn needed(&self) -> usize
+        requires { KeepsForm self.now.direction self.now.held }
+        ensures untold { length self.now.held < telling self.now.direction → length self.now.held + result ≡ telling self.now.direction }
+        ensures told { telling self.now.direction ≤ length self.now.held → Announces self.now.direction self.now.held (length self.now.held + result) }
+        ensures some { 0 < result → IsBeginning self.now.direction self.now.held }
+        ensures none { result ≡ 0 → IsWhole self.now.direction self.now.held }
+        ensures more { IsBeginning self.now.direction self.now.held → 0 < result }
+        ensures fits { length self.now.held + result ≤ N }
+    {
+        needed(self.direction, self.bytes.as_slice())
+    }
+
+    // The fault of a whole record, of which the map is refused.
+    fn refused(&self) -> Option<LinkFault>
+        requires { IsWhole self.now.direction self.now.held }
+        ensures { MatchOption result (IsReady self.now.direction self.now.held) (λ f. HasFault self.now f) }
+    {
+        match self.direction {
+            Direction::Up => None,
+            Direction::Down => match map_fault(&self.bytes.as_slice()[9..]) {
+                Some(_) => Some(LinkFault::BadMap),
+                None => None,
+            },
+        }
+    }
+
+    fn is_open(&self) -> bool
+        ensures { IsTrue result ↔ IsOpen self.now }
+    {
+        self.fault().is_none() && self.needed() > 0
+    }
+
+    fn hold(&mut self, byte: u8)
+        requires { IsOpen self.old }
+        ensures { self.new ≡ holds_more self.old (byte ∷ []) }
+    {
+        self.bytes.push(byte);
+    }
+
+    // Takes bytes that do not go past the present record.
+    fn hold_all(&mut self, piece: &[u8])
+        requires open { IsOpen self.old }
+        requires within { IsWithinRecord self.old.direction (self.old.held ++ piece.now) }
+        ensures held { self.new ≡ holds_more self.old piece.now }
+        ensures still_within { IsWithinRecord self.new.direction self.new.held }
+    {
+        append(&mut self.bytes, piece);
+    }
+
+    // The input ended here: the fault, where that is inside a record.
+    fn end(&mut self) -> Option<LinkFault>
+        requires { IsOpen self.old }
+        ensures value { MatchOption result ((self.old.held ≡ []) × (self.new ≡ self.old))
+            (λ f. HasFault self.new f × (self.new.held ≡ self.old.held)) }
+        ensures within { IsWithinRecord self.new.direction self.new.held }
+        ensures direction { self.new.direction ≡ self.old.direction }
+    {
+        if self.bytes.is_empty() {
+            return None;
+        }
+        self.ended = true;
+        self.fault()
+    }
+
+    // Reads once, up to what tells the record's size or up to its end.
+    pub(crate) fn pull<R: DevRead>(&mut self, reader: &mut R) -> Result<Pulled, PullFault>
+        ensures value { Pulls self.old self.new (R.remaining reader.old) (R.remaining reader.new) result }
+        ensures failures { CountsDevice (R.failures reader.old) (R.failures reader.new) result }
+        ensures waits { (IsOpen self.old → ⊥) → reader.new ≡ reader.old }
+        ensures one_read { IsOpen self.old → CountsCall (R.calls reader.old) (R.calls reader.new) }
+        ensures within { IsWithinRecord self.new.direction self.new.held }
+        ensures direction { self.new.direction ≡ self.old.direction }
+    {
+        if let Some(fault) = self.fault() {
+            return Err(PullFault::Link(fault));
+        }
+        let needed = self.needed();
+        if needed == 0 {
+            return match self.refused() {
+                Some(fault) => Err(PullFault::Link(fault)),
+                None => Ok(Pulled::Bytes(0)),
+            };
+        }
+        let mut piece = [0; N];
+        match reader.read(&mut piece[..needed]) {
+            Ok(0) => match self.end() {
+                Some(fault) => Err(PullFault::Link(fault)),
+                None => Ok(Pulled::End),
+            },
+            Ok(n) => {
+                self.hold_all(&piece[..n]);
+                Ok(Pulled::Bytes(n))
+            }
+            Err(_) => Err(PullFault::Device),
+        }
+    }
+}

@@ -1,0 +1,132 @@
+ghost use Rattle.std.specs.Prelude.{◌≡◌, ◌<◌, ◌==◌, ◌↔◌, ◌++◌, [], ◌∷◌, true, false, min, map, length, Some, IsNone, IfSome, MatchOption};
+ghost use Rattle.std.specs.List.{list_any};
+ghost use Rattle.pon_link.specs.Units.{asks, answered, waiting, lessened, served, reports};
+
+use crate::record::UpRecord;
+use arrayvec::ArrayVec;
+use pon_bwmap::{Alloc, Map};
+use pon_dbru::Occupancies;
+use pon_units::{AllocId, BufOcc, FrameNo, OnuId};
+use pon_xgtc::BurstHead;
+use std::marker::Model;
+
+/// A simulated unit: an ONU that has words waiting for each Alloc-ID of its own, and answers maps with reports of
+/// them. It takes no memory.
+#[derive(Drop)]
+pub struct Unit {
+    onu: OnuId,
+    queues: ArrayVec<(AllocId, u32), 16>,
+}
+
+impl Model for Unit {
+    ghost use Rattle.pon_link.specs.Units.{UnitState};
+
+    ghost Value = { UnitState };
+
+    ghost view = { λ s. record { onu = s.onu; queues = s.queues.items } };
+}
+
+impl Unit {
+    /// The unit of this ONU-ID, with so many words that wait for each Alloc-ID; of an Alloc-ID that stands there
+    /// twice the first number is reported.
+    pub fn open(onu: OnuId, queues: ArrayVec<(AllocId, u32), 16>) -> Self
+        ensures { result ≡ record { onu = onu; queues = queues.items } }
+    {
+        Unit { onu, queues }
+    }
+
+    /// The burst that answers the map of a frame: for each of the first 16 structures that ask for a report of an
+    /// Alloc-ID of its own, in order, the words that wait, at most 16,777,215. Of the words that wait then go as
+    /// many as the structure grants beside the report's one. The burst header has the unit's ONU-ID and no
+    /// indications.
+    ///
+    /// `None` exactly where there is no such structure.
+    pub fn answer(&mut self, frame: FrameNo, map: &Map) -> Option<UpRecord>
+        ensures none { IsNone result ↔ (answered self.old.queues map.now ≡ []) }
+        ensures burst { IfSome result (λ burst. burst ≡ record {
+          frame = frame;
+          head = Some (record { onu_raw = self.old.onu; ind = 0 });
+          occ = reports self.old.queues (answered self.old.queues map.now);
+        }) }
+        ensures queues { self.new ≡ record {
+          onu = self.old.onu;
+          queues = served self.old.queues (answered self.old.queues map.now);
+        } }
+    {
+        let occ = answer_all(self.queues.as_mut_slice(), map.rows());
+        if occ.as_slice().is_empty() {
+            return None;
+        }
+        let head = BurstHead::new(self.onu.get(), 0);
+        Some(UpRecord { frame, head, occ })
+    }
+}
+
+/// The most reports of a burst.
+const MOST_REPORTS: usize = 16;
+
+// Answers the first 16 structures that ask.
+fn answer_all(queues: &mut [(AllocId, u32)], rows: &[Alloc]) -> Occupancies
+    ensures reports { result ≡ reports queues.old (answered queues.old rows.now) }
+    ensures queues { queues.new ≡ served queues.old (answered queues.old rows.now) }
+{
+    let mut occ = Occupancies::new();
+    for row in rows {
+        if occ.as_slice().len() < MOST_REPORTS {
+            answer_one(queues, &mut occ, row);
+        }
+    }
+    occ
+}
+
+// Answers a structure, if it asks.
+fn answer_one(queues: &mut [(AllocId, u32)], occ: &mut Occupancies, row: &Alloc)
+    requires { length occ.old < 16 }
+    ensures asks { asks queues.old row.now ≡ true → (occ.new ≡ occ.old ++ Some (min (waiting queues.old row.now.id) 16777215) ∷ []) × (queues.new ≡ map (lessened row.now) queues.old) }
+    ensures others { asks queues.old row.now ≡ false → (occ.new ≡ occ.old) × (queues.new ≡ queues.old) }
+{
+    if !row.dbru() {
+        return;
+    }
+    if let Some(words) = words_waiting(queues, row.id()) {
+        occ.push(BufOcc::new(words.min(BufOcc::MAX)));
+        lessen(queues, row);
+    }
+}
+
+// The words that wait for the Alloc-ID, if it is one of these.
+fn words_waiting(queues: &[(AllocId, u32)], id: u16) -> Option<u32>
+    ensures { MatchOption result (list_any (λ q. q.0 == id) queues.now ≡ false)
+        (λ words. (list_any (λ q. q.0 == id) queues.now ≡ true) × (words ≡ waiting queues.now id)) }
+{
+    for (alloc_id, words) in queues {
+        if alloc_id.get() == id {
+            return Some(*words);
+        }
+    }
+    None
+}
+
+// Takes what the structure grants from the words that wait.
+fn lessen(queues: &mut [(AllocId, u32)], row: &Alloc)
+    ensures { queues.new ≡ map (lessened row.now) queues.old }
+{
+    for queue in queues.iter_mut() {
+        *queue = lessened_queue(*queue, row);
+    }
+}
+
+// The queue after the structure.
+fn lessened_queue(queue: (AllocId, u32), row: &Alloc) -> (AllocId, u32)
+    ensures { result ≡ lessened row.now queue }
+{
+    let (alloc_id, words) = queue;
+    if alloc_id.get() != row.id() {
+        return (alloc_id, words);
+    }
+    let payload = row.grant().saturating_sub(1);
+    (alloc_id, words.saturating_sub(u32::from(payload)))
+}
+
+#[cfg(test)]
+mod tests;

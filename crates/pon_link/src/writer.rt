@@ -1,0 +1,117 @@
+ghost use Rattle.std.specs.Prelude.{◌≡◌, ◌≢◌, ◌≤◌, ◌++◌, ℕ, List, [], length, take, drop, OnOk, OnErr};
+ghost use Rattle.pon_units.specs.Device.{Appends, CountsFailure};
+ghost use Rattle.pon_link.specs.DownRecords.{down_bytes};
+
+use crate::form::DOWN_TAG;
+use pon_bwmap::{Map, write_map};
+use pon_units::FrameNo;
+use pon_units::dev::DevWrite;
+use std::marker::Model;
+
+/// The bytes of the longest downstream record, one of 512 structures.
+const LONGEST: usize = 4109;
+
+/// The record before has not gone out whole.
+#[derive(Clone, Copy, Debug, PartialEq, Eq)]
+pub struct Busy;
+
+/// The device failed in this call.
+#[derive(Clone, Copy, Debug, PartialEq, Eq)]
+pub struct Device;
+
+/// A writer of downstream records: it holds what is left of one, at most 4,109 bytes, until a device has taken
+/// it. It takes no memory.
+#[derive(Drop)]
+pub struct DownWriter {
+    bytes: [u8; LONGEST],
+    begin: usize,
+    end: usize,
+}
+
+impl Model for DownWriter {
+    ghost use Rattle.std.specs.Prelude.{◌≤◌, ℕ, List, slice_range};
+
+    ghost Value = { List ℕ };
+
+    ghost view = { λ s. slice_range s.bytes s.begin s.end };
+
+    ghost invariant = { λ s. (s.begin ≤ s.end) × (s.end ≤ 4109) };
+}
+
+impl DownWriter {
+    /// A writer that has nothing to write.
+    pub fn new() -> Self
+        ensures { result ≡ [] }
+    {
+        DownWriter {
+            bytes: [0; LONGEST],
+            begin: 0,
+            end: 0,
+        }
+    }
+
+    /// Takes the record of the frame and its map, to be written next: a tag byte, the frame in 8 bytes, the most
+    /// significant first, and the bytes of the map.
+    ///
+    /// `Busy` exactly where something of the record before is left; it changes nothing.
+    pub fn put(&mut self, frame: FrameNo, map: &Map) -> Result<(), Busy>
+        ensures ok { OnOk result ((self.old ≡ []) × (self.new ≡ down_bytes frame map.now)) }
+        ensures busy { OnErr result ((self.old ≢ []) × (self.new ≡ self.old)) }
+    {
+        if self.begin < self.end {
+            return Err(Busy);
+        }
+        self.begin = 0;
+        self.end = write_record(frame, map, &mut self.bytes);
+        Ok(())
+    }
+
+    /// Writes what is left, in as many writes as the device wants.
+    ///
+    /// `Device` exactly where the device failed in this call; what it had not taken then is left, and may be
+    /// pushed again.
+    pub fn push<W: DevWrite>(&mut self, writer: &mut W) -> Result<(), Device>
+        ensures sent { (sent : List ℕ) × Appends (W.contents writer.old) (W.contents writer.new) sent × (sent ++ self.new ≡ self.old) }
+        ensures ok { OnOk result (self.new ≡ []) }
+        ensures failures { CountsFailure (W.failures writer.old) (W.failures writer.new) result }
+        ensures idle { self.old ≡ [] → writer.new ≡ writer.old }
+    {
+        while !self.left().is_empty() {
+            match writer.write(self.left()) {
+                Ok(n) => self.went_out(n),
+                Err(_) => return Err(Device),
+            }
+        }
+        Ok(())
+    }
+
+    /// The bytes that have not gone out, in order.
+    pub fn left(&self) -> &[u8]
+        ensures { result.now ≡ self.now }
+    {
+        &self.bytes[self.begin..self.end]
+    }
+
+    // So many of the bytes that were left have gone out.
+    fn went_out(&mut self, n: usize)
+        requires { n ≤ length self.old }
+        ensures { self.new ≡ drop n self.old }
+    {
+        self.begin += n;
+    }
+}
+
+// Writes the record to the front of the room, and tells how many bytes it has.
+fn write_record(frame: FrameNo, map: &Map, room: &mut [u8]) -> usize
+    requires { length room.old ≡ 4109 }
+    ensures count { result ≤ 4109 }
+    ensures bytes { take result room.new ≡ down_bytes frame map.now }
+{
+    prove!(map.rows().len() <= 512);
+    room[0] = DOWN_TAG;
+    room[1..9].copy_from_slice(&frame.get().to_be_bytes());
+    9 + write_map(map, &mut room[9..])
+}
+
+#[cfg(test)]
+mod tests;
