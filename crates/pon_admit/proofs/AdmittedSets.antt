@@ -225,7 +225,7 @@ module _ (t : Row → Bool) where
         | false ↦ no_alloc_filter j rows two.1
       ]
 
-  apart_filter : (rows : List Row) → IsDistinct rows → IsDistinct (filter t rows)
+  pub apart_filter : (rows : List Row) → IsDistinct rows → IsDistinct (filter t rows)
   apart_filter [] h = tt
   apart_filter (r ∷ rows) h = elim (t r) as (λ b. IsDistinct (cond b (r ∷ filter t rows) (filter t rows))) [
     | true ↦ (no_alloc_filter r.alloc_id rows h.0, apart_filter rows h.1)

@@ -1,0 +1,174 @@
+-- What a report book keeps, call by call.
+use Rattle.std.proofs.Common.{◌≡◌, ℕ, zero, suc, ◌+◌, ◌-◌, ◌<◌, ◌≤◌, ◌||◌, ◌&&◌, Bool, true, false, not, List, [], ◌∷◌, ◌++◌, map, length, drop, take, get_or, refl, ap, sym, ◌∙◌, subst, arith, inl, inr}
+use Rattle.std.specs.Prelude.{◌==◌, nat_le, nat_lt, if◌then◌else◌, filter, flat_map, sum_by, All, Option, Some, None}
+use Rattle.std.specs.List.{list_any}
+use Rattle.std.proofs.Math.Seq.{take-append_seam}
+use Rattle.std.proofs.lemmas.Bool.{cases_order, eq-eqb, le-leb, lt-leb, ltb-false, ltb-true, not-true, or_parts}
+use Rattle.std.proofs.lemmas.List.{length-map, length-drop, map-append}
+use Rattle.std.proofs.lemmas.List.Elements.{All-nil, All-cons, All-append, All-drop, All-filter, All-head, All-map, All-tail, All-weaker, filter_passes}
+use Rattle.std.proofs.lemmas.List.Sums.{sum_by-cons}
+use Rattle.pon_units.specs.Granted.{AreInMapOrder}
+use Rattle.pon_units.specs.declared.granted.Granted.{Granted}
+use Rattle.pon_units.proofs.Lists.{flat_map-map, map_filter, map-map, sum_by-map}
+use Rattle.pon_guar.specs.Book.{Account, AreRising, Counted, alloc_ids, with_alloc}
+use Rattle.pon_guar.specs.Window.{IsLawfulMap, IsPlaceOf, LeadsTo, WindowMap, frame_after, grants_at, is_of, last_64, polled, words_to, words_to_from}
+use Rattle.pon_guar.specs.Reports.{after_occupancies, counting, with_report}
+use Rattle.pon_guar.specs.Loads.{IsBook, afresh, lessened, with_account, with_map, without_account}
+use Rattle.pon_guar.proofs.Accounts.{rising_filter}
+use Rattle.pon_guar.proofs.LessByGrants.{lessened_rising}
+use Rattle.pon_guar.proofs.Frames.{frame_at, leads_above, leads_after, leads_drop, leads_mapped, leads_push, polled_there}
+use Rattle.pon_guar.proofs.Polls.{said_lawful}
+use Rattle.pon_guar.proofs.TakenReports.{counting_ids}
+
+-- Alloc-IDs with one more.
+
+rising_join : (i : ℕ) (xs ys : List ℕ) → AreRising xs → All (λ j. j < i) xs → All (λ j. i < j) ys → AreRising ys → AreRising (xs ++ i ∷ ys)
+rising_join i [] ys h l g k = (g, k)
+rising_join i (x ∷ xs) ys h l g k =
+    let first : x < i = All-head (λ j. j < i) x xs l in (
+      All-append (λ j. x < j) xs (i ∷ ys) h.0 (All-cons (λ j. x < j) i ys first (All-weaker (λ j. i < j) (λ j. x < j) (λ j q. omega (arith, first, q)) ys g)),
+      rising_join i xs ys h.1 (All-tail (λ j. j < i) x xs l) g k,
+    )
+
+pub none_any : {X : Type 0} (p : X → Bool) (xs : List X) → list_any p xs ≡ false → All (λ x. p x ≡ false) xs
+none_any p [] h = All-nil (λ x. p x ≡ false)
+none_any p (x ∷ xs) h =
+    let two : (p x ≡ false) × (list_any p xs ≡ false) = or_parts (p x) (list_any p xs) h in
+    All-cons (λ x. p x ≡ false) x xs two.0 (none_any p xs two.1)
+
+pub rising_with : (i : ℕ) (ids : List ℕ) → AreRising ids → list_any (λ j. j == i) ids ≡ false → AreRising (with_alloc i ids)
+rising_with i ids h n =
+    let upper : List ℕ = filter (λ j. not (nat_lt j i)) ids in
+    let other : All (λ j. (j == i) ≡ false) upper = All-filter (λ j. not (nat_lt j i)) (λ j. (j == i) ≡ false) ids (none_any (λ j. j == i) ids n) in
+    let not_below : All (λ j. not (nat_lt j i) ≡ true) upper = filter_passes (λ j. not (nat_lt j i)) ids in
+    rising_join i (filter (λ j. nat_lt j i) ids) upper (rising_filter (λ j. nat_lt j i) ids h)
+    (All-weaker (λ j. nat_lt j i ≡ true) (λ j. j < i) (λ j q. ltb-true j i q) (filter (λ j. nat_lt j i) ids) (filter_passes (λ j. nat_lt j i) ids))
+    (λ k d l. above (get_or upper k d) (other k d l) (not_below k d l))
+    (rising_filter (λ j. not (nat_lt j i)) ids h)
+  where
+    above : (j : ℕ) → (j == i) ≡ false → not (nat_lt j i) ≡ true → i < j
+    above j d l =
+        let least : i ≤ j = ltb-false j i (not-true (nat_lt j i) l) in
+        elim (cases_order i j) [
+          | inl e ↦ absurd (let t : true ≡ false = sym (eq-eqb j i (sym e)) ∙ d in cc)
+          | inr e ↦ omega (arith, e, least)
+        ]
+
+pub with_ids : (a : Account) (book : List Account) → alloc_ids (with_account a book) ≡ with_alloc a.alloc_id (alloc_ids book)
+with_ids a book =
+    map-append (λ b. b.alloc_id) (filter (λ b. nat_lt b.alloc_id a.alloc_id) book) (a ∷ filter (λ b. not (nat_lt b.alloc_id a.alloc_id)) book)
+    ∙ (λ j. sym (map_filter (λ b. b.alloc_id) (λ i. nat_lt i a.alloc_id) book) j ++ a.alloc_id ∷ sym (map_filter (λ b. b.alloc_id) (λ i. not (nat_lt i a.alloc_id)) book) j)
+
+-- taking in occupancies keeps the Alloc-IDs
+pub occupancies_ids : (granted : ℕ → ℕ) (frame : ℕ) (gs : List Granted) (ns : List (Option ℕ)) (book : List Account) → alloc_ids (after_occupancies granted frame gs ns book) ≡ alloc_ids book
+occupancies_ids granted frame [] ns book = refl
+occupancies_ids granted frame (g ∷ gs) [] book = refl
+occupancies_ids granted frame (g ∷ gs) (None ∷ ns) book = occupancies_ids granted frame gs ns book
+occupancies_ids granted frame (g ∷ gs) (Some n ∷ ns) book =
+    let c : Counted = record { frame = frame; words = n - granted g.alloc_id } in
+    occupancies_ids granted frame gs ns (counting g.alloc_id c book) ∙ counting_ids g.alloc_id c book
+
+pub occupancies_length : (granted : ℕ → ℕ) (frame : ℕ) (gs : List Granted) (ns : List (Option ℕ)) (book : List Account) → length (after_occupancies granted frame gs ns book) ≡ length book
+occupancies_length granted frame gs ns book =
+    sym (length-map (after_occupancies granted frame gs ns book) (λ a. a.alloc_id)) ∙ ap length (occupancies_ids granted frame gs ns book) ∙ length-map book (λ a. a.alloc_id)
+
+-- The book after each call.
+
+module _ (accounts : List Account) (window : List WindowMap) (k : IsBook accounts window) where
+  -- other accounts, in rising Alloc-ID
+  pub with_accounts : (others : List Account) → AreRising (alloc_ids others) → IsBook others window
+  with_accounts others h = record { rising = h; few_maps = k.few_maps; frames = k.frames; maps = k.maps }
+
+  pub admitted_book : (a : Account) → list_any (λ j. j == a.alloc_id) (alloc_ids accounts) ≡ false → IsBook (with_account a accounts) window
+  admitted_book a free = with_accounts (with_account a accounts) (subst AreRising (sym (with_ids a accounts)) (rising_with a.alloc_id (alloc_ids accounts) k.rising free))
+
+  pub removed_book : (i : ℕ) → IsBook (without_account i accounts) window
+  removed_book i = with_accounts (without_account i accounts)
+      (subst AreRising (map_filter (λ a. a.alloc_id) (λ j. not (j == i)) accounts) (rising_filter (λ j. not (j == i)) (alloc_ids accounts) k.rising))
+
+  pub mapped_book : (frame : ℕ) (gs : List Granted) → LeadsTo frame window → AreInMapOrder gs → IsBook (map (lessened gs) accounts) (with_map frame gs window)
+  mapped_book frame gs next order =
+      let new : WindowMap = record { frame = frame; grants = gs; reported = [] } in
+      let all : List WindowMap = window ++ new ∷ [] in
+      record {
+        rising = lessened_rising gs accounts k.rising;
+        few_maps = omega (arith, length-drop (length all - 64) all);
+        frames = leads_after (frame + 1) (last_64 all) (leads_drop (frame + 1) (length all - 64) all (leads_push frame window new next refl));
+        maps = All-drop IsLawfulMap (length all - 64) all (All-append IsLawfulMap window (new ∷ []) k.maps (All-cons IsLawfulMap new [] (record { rising = order; reported = sym (nobody (distinct_onus gs)) }) (All-nil IsLawfulMap)));
+      }
+    where
+      distinct_onus : List Granted → List ℕ
+      distinct_onus gs = polled (record { frame = frame; grants = gs; reported = [] })
+
+      nobody : (xs : List ℕ) → filter (λ u. list_any (λ v. v == u) []) xs ≡ []
+      nobody [] = refl
+      nobody (x ∷ xs) = nobody xs
+
+  pub cleared_book : (frame : ℕ) → IsBook (map (afresh frame) accounts) []
+  cleared_book frame = record {
+    rising = subst AreRising (sym (map-map (λ a. a.alloc_id) (afresh frame) accounts)) k.rising;
+    few_maps = omega arith;
+    frames = tt;
+    maps = All-nil IsLawfulMap;
+  }
+
+  pub noted_book : (f u : ℕ) → IsBook accounts (map (with_report f u) window)
+  noted_book f u = record {
+    rising = k.rising;
+    few_maps = omega (arith, k.few_maps, length-map window (with_report f u));
+    frames = leads_after (frame_after window) (map (with_report f u) window) (leads_mapped (with_report f u) (λ m. refl) (frame_after window) window k.frames);
+    maps = All-map IsLawfulMap (with_report f u) window (All-weaker IsLawfulMap (λ m. IsLawfulMap (with_report f u m))
+        (λ m l. said_lawful (λ v. list_any (λ w. w == v) m.reported || (f == m.frame && u == v)) m l.rising) window k.maps);
+  }
+
+  pub reported_book : (f u : ℕ) (ns : List (Option ℕ)) → IsBook (after_occupancies (λ i. words_to_from u i f window) f (grants_at f u window) ns accounts) (map (with_report f u) window)
+  reported_book f u ns =
+      let noted : IsBook accounts (map (with_report f u) window) = noted_book f u in
+      record {
+        rising = subst AreRising (sym (occupancies_ids (λ i. words_to_from u i f window) f (grants_at f u window) ns accounts)) k.rising;
+        few_maps = noted.few_maps;
+        frames = noted.frames;
+        maps = noted.maps;
+      }
+
+-- Words granted from a place of the window on.
+
+sum_by_agree : {X : Type 0} (f g : X → ℕ) (xs : List X) → All (λ x. f x ≡ g x) xs → sum_by f xs ≡ sum_by g xs
+sum_by_agree f g [] h = refl
+sum_by_agree f g (x ∷ xs) h = sum_by-cons f x xs ∙ (λ j. All-head (λ x. f x ≡ g x) x xs h j + sum_by_agree f g xs (All-tail (λ x. f x ≡ g x) x xs h) j) ∙ sym (sum_by-cons g x xs)
+
+pub words_at : (n u i f : ℕ) (ms : List WindowMap) → LeadsTo n ms → (k : ℕ) (d : WindowMap) → k < length ms → (get_or ms k d).frame ≡ f → sum_by (words_to u i) (drop k ms) ≡ words_to_from u i f ms
+words_at n u i f [] h k d l e = absurd (omega (arith, l))
+words_at n u i f (m ∷ ms) h zero d l e =
+    sum_by_agree (words_to u i) (λ m. if nat_le f m.frame then words_to u i m else 0) (m ∷ ms)
+    (All-weaker (λ q. n ≤ q.frame + length (m ∷ ms)) (λ q. words_to u i q ≡ (if nat_le f q.frame then words_to u i q else 0))
+    (λ q z. ap (λ b. if b then words_to u i q else 0) (sym (le-leb f q.frame (omega (arith, e, z, h.0))))) (m ∷ ms) (leads_above n (m ∷ ms) h))
+words_at n u i f (m ∷ ms) h (suc k) d l e =
+    let far : (get_or (m ∷ ms) (suc k) d).frame ≡ m.frame + suc k = frame_at n m ms h (suc k) d l in
+    let none : (if nat_le f m.frame then words_to u i m else 0) ≡ 0 = ap (λ b. if b then words_to u i m else 0) (lt-leb f m.frame (omega (arith, e, far))) in
+    let all : words_to_from u i f (m ∷ ms) ≡ (if nat_le f m.frame then words_to u i m else 0) + words_to_from u i f ms = sum_by-cons (λ m. if nat_le f m.frame then words_to u i m else 0) m ms in
+    words_at n u i f ms h.1 k d (omega (arith, l)) e ∙ (let same : words_to_from u i f ms ≡ words_to_from u i f (m ∷ ms) = omega (arith, all, none) in same)
+
+-- what a map and those after it in the window tell is what the window tells
+pub counted_in_window : (n f u : ℕ) (ms : List WindowMap) → LeadsTo n ms → (k : ℕ) → IsPlaceOf f ms k → (d m : WindowMap) (maps : List WindowMap) → m ≡ get_or ms k d → maps ≡ drop k ms → (ns : List (Option ℕ)) (book : List Account) →
+    after_occupancies (λ i. sum_by (words_to u i) maps) m.frame (filter (λ g. g.onu == u) m.grants) ns book ≡ after_occupancies (λ i. words_to_from u i f ms) f (grants_at f u ms) ns book
+counted_in_window n f u ms h k place d m maps there later ns book =
+    (λ j. after_occupancies (λ i. sum_by (words_to u i) (later j)) (there j).frame (filter (λ g. g.onu == u) (there j).grants) ns book)
+    ∙ (λ j. after_occupancies (λ i. words_at n u i f ms h k d place.within (place.is d) j) (place.is d j) (sym (polled_there n f u ms h k place d) j) ns book)
+
+-- after an ONU's report is noted, the same was granted, and the same is polled
+pub noted_same : (f u v : ℕ) (ms : List WindowMap) (ns : List (Option ℕ)) (book : List Account) →
+    after_occupancies (λ i. words_to_from u i f (map (with_report f v) ms)) f (grants_at f u (map (with_report f v) ms)) ns book ≡ after_occupancies (λ i. words_to_from u i f ms) f (grants_at f u ms) ns book
+noted_same f u v ms ns book = (λ j. after_occupancies (λ i. sum_by-map (λ m. if nat_le f m.frame then words_to u i m else 0) (with_report f v) ms j) f (same j) ns book)
+  where
+    same : grants_at f u (map (with_report f v) ms) ≡ grants_at f u ms
+    same = ap (λ t. filter (λ g. g.onu == u) t)
+        (ap (λ t. flat_map (λ m. m.grants) t) (map_filter (with_report f v) (λ m. m.frame == f) ms) ∙ flat_map-map (λ m. m.grants) (with_report f v) (filter (λ m. m.frame == f) ms))
+
+pub noted_there : (f u : ℕ) (ms : List WindowMap) → list_any (is_of f) (map (with_report f u) ms) ≡ list_any (is_of f) ms
+noted_there f u [] = refl
+noted_there f u (m ∷ ms) = ap (λ b. is_of f m || b) (noted_there f u ms)
+
+-- a slice of a vector that is written anew
+pub written : {X : Type 0} (xs ys : List X) (n : ℕ) → n ≡ length xs → length ys ≡ length xs → take n (ys ++ drop (length ys) xs) ≡ ys
+written xs ys n e q = ap (λ n. take n (ys ++ drop (length ys) xs)) (e ∙ sym q) ∙ take-append_seam ys (drop (length ys) xs)

@@ -1,0 +1,7 @@
+pub mod Accounts
+pub mod Series
+pub mod LessByGrants
+pub mod Frames
+pub mod Polls
+pub mod TakenReports
+pub mod Books

@@ -1,0 +1,14 @@
+use Rattle.std.proofs.Common.{◌≡◌}
+use Rattle.std.specs.Prelude.{◌==◌, filter, sum_by}
+use Rattle.pon_guar.specs.Book.{AreRising, alloc_ids}
+use Rattle.pon_guar.specs.Window.{words_to}
+use Rattle.pon_guar.specs.Reports.{after_occupancies}
+use Rattle.pon_guar.proofs.counting.count_occupancies.Given as goal
+
+-- what is left to take in, from the accounts now, is what all is from the accounts at first
+abbrev pub invariant-loop-granted : goal.invariant-loop-granted
+invariant-loop-granted l = record {
+  rising : AreRising (alloc_ids l.accounts);
+  rest : after_occupancies (λ i. sum_by (words_to l.onu i) l.maps) l.asked.frame l.granted-iterator.a.rest.now l.granted-iterator.b.rest.now l.accounts
+      ≡ after_occupancies (λ i. sum_by (words_to l.onu i) l.maps) l.asked.frame (filter (λ g. g.onu == l.onu) l.asked.grants) l.occupancies l.fn.accounts;
+}

@@ -1,0 +1,56 @@
+-- The accounts of a report book: for each admitted Alloc-ID the report that counts, in rising Alloc-ID.
+use Rattle.std.specs.Prelude.{◌≡◌, ℕ, ◌*◌, ◌<◌, ◌==◌, nat_lt, not, All, List, [], ◌∷◌, ◌++◌, map, filter, find, length, slice_get, Option, Some, None, option_to_list}
+pub use Rattle.pon_guar.specs.declared.account.Counted.{Counted}
+pub use Rattle.pon_guar.specs.declared.account.Account.{Account}
+
+-- the account of an Alloc-ID
+abbrev pub account_of : List Account → ℕ → Option Account
+account_of book i = find (λ a. a.alloc_id == i) book
+
+-- the account of an Alloc-ID stands at a place
+pub record StandsAt (book : List Account) (i place : ℕ) : Type 0 where
+  pub within : place < length book
+  pub is : slice_get book place ≡ account_of book i
+
+-- the Alloc-IDs of a book
+abbrev pub alloc_ids : List Account → List ℕ
+alloc_ids book = map (λ a. a.alloc_id) book
+
+abbrev pub AreRising : List ℕ → Type 0
+AreRising [] = Unit {0}
+AreRising (i ∷ ids) = All (λ j. i < j) ids × AreRising ids
+
+-- Alloc-IDs with one more in its place, and with one taken out
+abbrev pub with_alloc : ℕ → List ℕ → List ℕ
+with_alloc i ids = filter (λ j. nat_lt j i) ids ++ i ∷ filter (λ j. not (nat_lt j i)) ids
+
+abbrev pub without_alloc : ℕ → List ℕ → List ℕ
+without_alloc i ids = filter (λ j. not (j == i)) ids
+
+-- What an account tells, where there is one.
+
+abbrev pub since_of_account : Option Account → ℕ
+since_of_account None = 0
+since_of_account (Some a) = a.since
+
+abbrev pub counted_of_account : Option Account → List Counted
+counted_of_account None = []
+counted_of_account (Some a) = option_to_list a.counted
+
+-- the frame from which an Alloc-ID's reports count, and the report that counts
+abbrev pub known_since : Option Account → Option ℕ
+known_since None = None
+known_since (Some a) = Some a.since
+
+abbrev pub known_report : Option Account → Option Counted
+known_report None = None
+known_report (Some a) = a.counted
+
+-- the load that a report offers: its words not yet granted, at 256 kbit/s a word
+abbrev pub load_of_counted : Option Counted → ℕ
+load_of_counted None = 0
+load_of_counted (Some c) = 256 * c.words
+
+-- the offered load of an Alloc-ID in kbit/s, 0 where it is not there
+abbrev pub load_of : List Account → ℕ → ℕ
+load_of book i = load_of_counted (known_report (account_of book i))

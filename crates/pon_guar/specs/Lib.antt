@@ -1,0 +1,5 @@
+pub mod Rates
+pub mod Book
+pub mod Window
+pub mod Reports
+pub mod Loads

@@ -1,0 +1,73 @@
+//! The accounts of the report book: one for each admitted Alloc-ID, in rising number.
+
+ghost use Rattle.std.specs.Prelude.{◌≡◌, ◌<◌, ◌≤◌, ◌++◌, ◌∷◌, nat_lt, not, None, filter, take, drop, length, MatchOption, vec_len, vec_capacity};
+ghost use Rattle.pon_guar.specs.Book.{AreRising, StandsAt, account_of, alloc_ids};
+ghost use Rattle.pon_guar.specs.Loads.{with_account, without_account};
+
+use pon_units::{AllocId, BufOcc, FrameNo};
+
+/// A report that counts: the frame it was asked in, and its words of 4 bytes that were not granted since, 0 to 16,777,215.
+#[derive(Clone, Copy, Debug, PartialEq, Eq)]
+pub struct Counted {
+    pub frame: FrameNo,
+    pub words: BufOcc,
+}
+
+/// What the report book holds of an Alloc-ID: the frame from which its reports count, and the report that counts.
+#[derive(Clone, Copy, Debug, PartialEq, Eq)]
+pub struct Account {
+    pub alloc_id: AllocId,
+    pub since: FrameNo,
+    pub counted: Option<Counted>,
+}
+
+// How many accounts are of a lesser Alloc-ID.
+fn place_of(accounts: &[Account], alloc_id: AllocId) -> usize
+    requires { AreRising (alloc_ids accounts.now) }
+    ensures within { result ≤ length accounts.now }
+    ensures lesser { take result accounts.now ≡ filter (λ a. nat_lt a.alloc_id alloc_id) accounts.now }
+    ensures others { drop result accounts.now ≡ filter (λ a. not (nat_lt a.alloc_id alloc_id)) accounts.now }
+{
+    accounts.partition_point(|account| account.alloc_id.get() < alloc_id.get())
+}
+
+/// Where the account of an Alloc-ID stands, by a search by halves.
+pub(crate) fn index_of(accounts: &[Account], alloc_id: AllocId) -> Option<usize>
+    requires { AreRising (alloc_ids accounts.now) }
+    ensures { MatchOption result (account_of accounts.now alloc_id ≡ None) (StandsAt accounts.now alloc_id) }
+{
+    let place = place_of(accounts, alloc_id);
+    if place < accounts.len() && accounts[place].alloc_id == alloc_id {
+        Some(place)
+    } else {
+        None
+    }
+}
+
+/// The account of an Alloc-ID.
+pub(crate) fn account_of(accounts: &[Account], alloc_id: AllocId) -> Option<Account>
+    requires { AreRising (alloc_ids accounts.now) }
+    ensures { result ≡ account_of accounts.now alloc_id }
+{
+    match index_of(accounts, alloc_id) {
+        None => None,
+        Some(place) => Some(accounts[place]),
+    }
+}
+
+/// One account more, in its place.
+pub(crate) fn add_account(accounts: &mut Vec<Account>, account: Account)
+    requires rising { AreRising (alloc_ids accounts.old.items) }
+    requires room { vec_len accounts.old < vec_capacity accounts.old }
+    ensures { accounts.new.items ≡ with_account account accounts.old.items }
+{
+    let place = place_of(accounts.as_slice(), account.alloc_id);
+    accounts.insert(place, account).unwrap();
+}
+
+/// The accounts but that of an Alloc-ID.
+pub(crate) fn remove_account(accounts: &mut Vec<Account>, alloc_id: AllocId)
+    ensures { accounts.new.items ≡ without_account alloc_id accounts.old.items }
+{
+    accounts.retain(|account| account.alloc_id.get() != alloc_id.get());
+}

@@ -1,0 +1,18 @@
+//! The guaranteed stage of an XG-PON optical line terminal (upstream bandwidth assignment, ITU-T G.987.3): the loads that
+//! the buffer reports offer, and the rates that descriptors guarantee under them.
+//!
+//! [`Loads`] is the report book of a port. It keeps running numbers: a load costs one search, a map one pass over its
+//! grants, and a report one search in each map since its frame.
+#![tactic(auto)]
+
+mod account;
+mod counting;
+mod lessening;
+mod loads;
+mod rates;
+mod window;
+
+pub use account::{Account, Counted};
+pub use loads::Loads;
+pub use rates::{cap, guaranteed};
+pub use window::WindowMap;

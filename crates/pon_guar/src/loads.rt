@@ -1,0 +1,232 @@
+ghost use Rattle.std.specs.Prelude.{◌≡◌, IfOk};
+ghost use Rattle.pon_guar.specs.Book.{load_of_counted};
+
+use crate::account::{Account, Counted, account_of, add_account, remove_account};
+use crate::counting::{count_report, forget, note_report};
+use crate::lessening::{add_to_window, lessen};
+use crate::window::{WindowMap, report_refusal};
+use pon_descr::Refusal;
+use pon_units::{AllocId, BufOcc, FrameNo, Granted, Kbps, OnuId};
+use std::alloc::{AllocError, Global};
+use std::marker::Model;
+
+/// The report book of a port: what each admitted Alloc-ID last reported and was not granted since, and the window, which
+/// is the last 64 maps at most, for which reports may still come.
+///
+/// Contracts see its accounts in rising Alloc-ID, and its maps in rising frame.
+#[derive(Drop)]
+pub struct Loads {
+    accounts: Vec<Account>,
+    window: Vec<WindowMap>,
+}
+
+impl Model for Loads {
+    ghost use Rattle.pon_guar.specs.Loads.{IsBook, Loads};
+
+    ghost Value = { Loads };
+
+    ghost view = { λ l. record { accounts = l.accounts.items; window = l.window.items } };
+
+    ghost invariant = { λ l. IsBook l.accounts.items l.window.items };
+}
+
+// The load of a report, in kbit/s: its words that are not yet granted.
+fn load_of_report(counted: Option<Counted>) -> Kbps
+    ensures { result ≡ load_of_counted counted }
+{
+    let words = match counted {
+        None => 0,
+        Some(report) => report.words.get(),
+    };
+    match Kbps::new(256 * words) {
+        Some(load) => load,
+        None => unreachable!(),
+    }
+}
+
+// Equal maps, or want of memory.
+fn copied(alloc: Global, window: &[WindowMap]) -> Result<Vec<WindowMap>, AllocError>
+    ensures { IfOk result (λ copy. copy.items ≡ window.now) }
+{
+    let mut maps = Vec::with_capacity(alloc, window.len())?;
+    for map in window {
+        maps.push(map.try_copy(alloc)?)?;
+    }
+    Ok(maps)
+}
+
+impl Loads {
+    ghost use Rattle.std.specs.Prelude.{false, None, [], ◌==◌, length, IfErr, OnOk, OnErr, slice_get};
+    ghost use Rattle.std.specs.List.{list_any};
+    ghost use Rattle.std.specs.Option.{option_copied};
+    ghost use Rattle.pon_units.specs.Granted.{AreInMapOrder};
+    ghost use Rattle.pon_descr.specs.Checks.{IsTold};
+    ghost use Rattle.pon_guar.specs.Book.{account_of, alloc_ids, known_report, known_since, load_of};
+    ghost use Rattle.pon_guar.specs.Window.{LeadsTo};
+    ghost use Rattle.pon_guar.specs.Reports.{refuses_report};
+    ghost use Rattle.pon_guar.specs.Loads.{after_admitted, after_cleared, after_mapped, after_removed, after_reported};
+
+    /// A book with no accounts and an empty window. It takes no memory; what it holds later comes from this allocator.
+    pub fn open(alloc: Global) -> Loads
+        ensures { result ≡ record { accounts = []; window = [] } }
+    {
+        Loads {
+            accounts: Vec::new(alloc),
+            window: Vec::new(alloc),
+        }
+    }
+
+    /// An equal book. It takes the memory of its accounts and maps, and fails where that is refused.
+    pub fn try_copy(&self, alloc: Global) -> Result<Loads, AllocError>
+        ensures { IfOk result (λ loads. loads ≡ self.now) }
+    {
+        Ok(Loads {
+            accounts: Vec::from_slice(alloc, &self.accounts)?,
+            window: copied(alloc, &self.window)?,
+        })
+    }
+
+    /// The offered load of an Alloc-ID in kbit/s: 256 for each word that its counted report has and that was not granted
+    /// since. 0 where no report counts, or the Alloc-ID is not there.
+    pub fn load_of(&self, alloc_id: AllocId) -> Kbps
+        ensures { result ≡ load_of self.now.accounts alloc_id }
+    {
+        load_of_report(self.counted(alloc_id))
+    }
+
+    /// The frame from which reports of an Alloc-ID count; `None` where it is not there.
+    pub fn since(&self, alloc_id: AllocId) -> Option<FrameNo>
+        ensures { result ≡ known_since (account_of self.now.accounts alloc_id) }
+    {
+        match account_of(&self.accounts, alloc_id) {
+            None => None,
+            Some(account) => Some(account.since),
+        }
+    }
+
+    /// The report of an Alloc-ID that counts; `None` where none does, or the Alloc-ID is not there.
+    pub fn counted(&self, alloc_id: AllocId) -> Option<Counted>
+        ensures { result ≡ known_report (account_of self.now.accounts alloc_id) }
+    {
+        match account_of(&self.accounts, alloc_id) {
+            None => None,
+            Some(account) => account.counted,
+        }
+    }
+
+    /// How many maps the window has, at most 64.
+    pub fn window_len(&self) -> usize
+        ensures { result ≡ length self.now.window }
+    {
+        self.window.len()
+    }
+
+    /// The map of the window at an index, the oldest first; `None` past the newest.
+    pub fn window_at(&self, index: usize) -> Option<&WindowMap>
+        ensures { option_copied result ≡ slice_get self.now.window index }
+    {
+        self.window.get(index)
+    }
+
+    /// An account for an Alloc-ID that has none: its reports count from a frame on. `OutOfMemory` where a growth is
+    /// refused, and then nothing changes.
+    pub fn admitted(&mut self, alloc_id: AllocId, since: FrameNo) -> Result<(), Refusal>
+        requires { list_any (λ j. j == alloc_id) (alloc_ids self.old.accounts) ≡ false }
+        ensures ok { OnOk result (self.new ≡ after_admitted self.old alloc_id since) }
+        ensures refused { IfErr result (IsTold None) }
+        ensures err { OnErr result (self.new ≡ self.old) }
+    {
+        if self.accounts.reserve(1).is_err() {
+            return Err(Refusal::OutOfMemory);
+        }
+        let counted = None;
+        let account = Account {
+            alloc_id,
+            since,
+            counted,
+        };
+        add_account(&mut self.accounts, account);
+        Ok(())
+    }
+
+    /// Takes out the account of an Alloc-ID, with its report.
+    pub fn removed(&mut self, alloc_id: AllocId)
+        ensures { self.new ≡ after_removed self.old alloc_id }
+    {
+        remove_account(&mut self.accounts, alloc_id);
+    }
+
+    /// Takes a map of a frame into the window, and lets the oldest of more than 64 go; each report that counts is lessened by
+    /// what the map grants its Alloc-ID. The grants are in map order, and the frame is that of the last map plus 1, or
+    /// any where the window is empty. `OutOfMemory` where a growth is refused, and then nothing changes.
+    pub fn mapped(&mut self, frame: FrameNo, grants: &[Granted]) -> Result<(), Refusal>
+        requires next { LeadsTo frame self.old.window }
+        requires map_order { AreInMapOrder grants.now }
+        ensures ok { OnOk result (self.new ≡ after_mapped self.old frame grants.now) }
+        ensures refused { IfErr result (IsTold None) }
+        ensures err { OnErr result (self.new ≡ self.old) }
+    {
+        let alloc = *self.window.allocator();
+        let kept = match Vec::from_slice(alloc, grants) {
+            Ok(kept) => kept,
+            Err(_) => return Err(Refusal::OutOfMemory),
+        };
+        if self.window.reserve(1).is_err() {
+            return Err(Refusal::OutOfMemory);
+        }
+        let map = WindowMap {
+            frame,
+            grants: kept,
+            reported: Vec::new(alloc),
+        };
+        lessen(&mut self.accounts, grants);
+        add_to_window(&mut self.window, map);
+        Ok(())
+    }
+
+    /// The first check that refuses an ONU's report of so many occupancies for the map of a frame: `StaleFrame` where no map of
+    /// the window is of the frame, `NotPolled` where that map grants the ONU nothing, `ReportCount` where it has another
+    /// number of structures for it, `AlreadyReported` where a report for it was taken.
+    pub fn report_refusal(&self, frame: FrameNo, onu: OnuId, count: usize) -> Option<Refusal>
+        ensures { result ≡ refuses_report self.now.window frame onu count }
+    {
+        report_refusal(&self.window, frame, onu, count)
+    }
+
+    /// Takes an ONU's report for the map of a frame: one occupancy for each of its structures there, in order, in words of 4
+    /// bytes, `None` where it is garbled. An occupancy counts for its Alloc-ID from its since-frame on, where no report
+    /// of a later frame does, less what was granted from the report's frame on. The first check that refuses is told, then
+    /// `OutOfMemory` where a growth is refused; and then nothing changes.
+    pub fn reported(
+        &mut self,
+        frame: FrameNo,
+        onu: OnuId,
+        occupancies: &[Option<BufOcc>],
+    ) -> Result<(), Refusal>
+        ensures ok { OnOk result (self.new ≡ after_reported self.old frame onu occupancies.now) }
+        ensures accepted { OnOk result (refuses_report self.old.window frame onu (length occupancies.now) ≡ None) }
+        ensures refused { IfErr result (IsTold (refuses_report self.old.window frame onu (length occupancies.now))) }
+        ensures err { OnErr result (self.new ≡ self.old) }
+    {
+        let count = occupancies.len();
+        if let Some(refusal) = report_refusal(&self.window, frame, onu, count) {
+            return Err(refusal);
+        }
+        if note_report(&mut self.window, frame, onu).is_err() {
+            return Err(Refusal::OutOfMemory);
+        }
+        count_report(&mut self.accounts, &self.window, frame, onu, occupancies);
+        Ok(())
+    }
+
+    /// Forgets all reports and the window; reports count from a frame on.
+    pub fn cleared(&mut self, frame: FrameNo)
+        ensures { self.new ≡ after_cleared self.old frame }
+    {
+        forget(&mut self.accounts, frame);
+        self.window.clear();
+    }
+}
+
+#[cfg(test)]
+mod tests;

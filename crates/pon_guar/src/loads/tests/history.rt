@@ -1,0 +1,331 @@
+// The book beside a plain, slow computation of every load anew from the whole history, over a script of 700 calls.
+use super::*;
+
+// The Alloc-IDs of three ONUs, in map order. 1026 and 1027 belong to one ONU or another.
+const PLACES: [(u16, u16); 8] = [
+    (3, 1026),
+    (3, 1028),
+    (5, 1024),
+    (5, 1026),
+    (5, 1027),
+    (9, 1025),
+    (9, 1027),
+    (9, 1029),
+];
+
+// An Alloc-ID under an ONU, and its since-frame where it is admitted.
+#[derive(Drop)]
+struct Place {
+    onu: OnuId,
+    alloc_id: AllocId,
+    since: Option<u64>,
+}
+
+// An occupancy that was taken and was not garbled.
+#[derive(Drop)]
+struct Taken {
+    frame: u64,
+    alloc_id: AllocId,
+    words: u64,
+}
+
+// A book, the next frame, and all that was ever told to the book.
+#[derive(Drop)]
+struct Run {
+    loads: Loads,
+    seed: u64,
+    next: u64,
+    window: u64,
+    places: Vec<Place>,
+    grants: Vec<(u64, Granted)>,
+    reporters: Vec<(u64, OnuId)>,
+    taken: Vec<Taken>,
+}
+
+fn push<T: Drop>(rt: &impl Abort, items: &mut Vec<T>, item: T) {
+    assert!(rt; items.push(item).is_ok());
+}
+
+// The places; no Alloc-ID is admitted yet.
+fn places(rt: &impl Abort, alloc: Global) -> Vec<Place> {
+    let mut places = Vec::new(alloc);
+    for (owner, number) in PLACES {
+        let place = Place {
+            onu: onu(rt, owner),
+            alloc_id: id(rt, number),
+            since: None,
+        };
+        push(rt, &mut places, place);
+    }
+    places
+}
+
+fn open(rt: &impl Abort, alloc: Global) -> Run {
+    Run {
+        loads: Loads::open(alloc),
+        seed: 20_261,
+        next: 40,
+        window: 40,
+        places: places(rt, alloc),
+        grants: Vec::new(alloc),
+        reporters: Vec::new(alloc),
+        taken: Vec::new(alloc),
+    }
+}
+
+// The frame and words of the report that counts: of the greatest frame not below a since-frame.
+fn counted_report(run: &Run, alloc_id: AllocId, since: u64) -> Option<(u64, u64)> {
+    let mut counted = None;
+    for report in &run.taken {
+        let latest = match counted {
+            None => since,
+            Some((frame, _)) => frame,
+        };
+        if report.alloc_id == alloc_id && report.frame >= latest {
+            counted = Some((report.frame, report.words));
+        }
+    }
+    counted
+}
+
+// The load by its definition.
+fn slow_load(run: &Run, alloc_id: AllocId, since: u64) -> u64 {
+    let (frame, reported) = match counted_report(run, alloc_id, since) {
+        None => return 0,
+        Some(report) => report,
+    };
+    let mut left = reported;
+    for (at, granted) in &run.grants {
+        if *at >= frame && granted.alloc_id == alloc_id {
+            left = left.saturating_sub(u64::from(granted.words.get()));
+        }
+    }
+    left.saturating_mul(256)
+}
+
+// The grants of an ONU in the map of a frame.
+fn series(
+    rt: &impl Abort,
+    alloc: Global,
+    grants: &[(u64, Granted)],
+    frame: u64,
+    onu: OnuId,
+) -> Vec<Granted> {
+    let mut own = Vec::new(alloc);
+    for (at, granted) in grants {
+        if *at == frame && granted.onu == onu {
+            push(rt, &mut own, *granted);
+        }
+    }
+    own
+}
+
+// The refusal of a report by its definition.
+fn slow_refusal(run: &Run, frame: u64, onu: OnuId, count: usize, polled: usize) -> Option<Refusal> {
+    let oldest = run.window.max(run.next.saturating_sub(64));
+    if frame < oldest || frame >= run.next {
+        return Some(Refusal::StaleFrame);
+    }
+    if polled == 0 {
+        return Some(Refusal::NotPolled);
+    }
+    if count != polled {
+        return Some(Refusal::ReportCount);
+    }
+    if run
+        .reporters
+        .iter()
+        .any(|(at, reporter)| *at == frame && *reporter == onu)
+    {
+        return Some(Refusal::AlreadyReported);
+    }
+    None
+}
+
+// A number below a limit above 0, from a linear congruential generator.
+fn draw(run: &mut Run, limit: u64) -> u64 {
+    run.seed = (run.seed % 4_294_967_296) * 1_664_525 + 1_013_904_223;
+    ((run.seed % 4_294_967_296) / 65_536)
+        .checked_rem(limit)
+        .unwrap_or(0)
+}
+
+fn draw_place(rt: &impl Abort, run: &mut Run) -> usize {
+    usize::try_from(draw(run, 8)).expect(rt, "a place")
+}
+
+fn admit_one(rt: &impl Abort, run: &mut Run) {
+    let place = draw_place(rt, run);
+    let since = run.next;
+    let place = run.places.get_mut(place).expect(rt, "a place");
+    if run.loads.since(place.alloc_id).is_none() {
+        admit(rt, &mut run.loads, place.alloc_id.get(), since);
+        place.since = Some(since);
+    }
+}
+
+fn remove_one(rt: &impl Abort, run: &mut Run) {
+    let place = draw_place(rt, run);
+    let place = run.places.get_mut(place).expect(rt, "a place");
+    if place.since.is_some() {
+        run.loads.removed(place.alloc_id);
+        place.since = None;
+    }
+}
+
+fn clear(run: &mut Run) {
+    run.loads.cleared(FrameNo::new(run.next));
+    run.window = run.next;
+    for place in run.places.iter_mut() {
+        if place.since.is_some() {
+            place.since = Some(run.next);
+        }
+    }
+}
+
+// So many words to each admitted Alloc-ID.
+fn grants_of(rt: &impl Abort, alloc: Global, places: &[Place], words: Words) -> Vec<Granted> {
+    let mut grants = Vec::new(alloc);
+    for place in places {
+        if place.since.is_some() {
+            let onu = place.onu;
+            let alloc_id = place.alloc_id;
+            push(
+                rt,
+                &mut grants,
+                Granted {
+                    onu,
+                    alloc_id,
+                    words,
+                },
+            );
+        }
+    }
+    grants
+}
+
+// A map that grants some words to each admitted Alloc-ID.
+fn map_one(rt: &impl Abort, alloc: Global, run: &mut Run) {
+    let drawn = u16::try_from(draw(run, 90)).expect(rt, "words");
+    let words = Words::new(drawn).expect(rt, "words");
+    let grants = grants_of(rt, alloc, &run.places, words);
+    map(rt, &mut run.loads, run.next, &grants);
+    for granted in &grants {
+        push(rt, &mut run.grants, (run.next, *granted));
+    }
+    run.next = run.next.saturating_add(1);
+}
+
+// An occupancy, garbled once in five times.
+fn draw_occupancy(rt: &impl Abort, run: &mut Run) -> Option<BufOcc> {
+    let words = u32::try_from(draw(run, 3000)).expect(rt, "words");
+    if draw(run, 5) == 0 {
+        None
+    } else {
+        occupancy(rt, words)
+    }
+}
+
+// So many occupancies; now and then one too many.
+fn draw_occupancies(
+    rt: &impl Abort,
+    alloc: Global,
+    run: &mut Run,
+    polled: usize,
+) -> Vec<Option<BufOcc>> {
+    let mut occupancies = Vec::new(alloc);
+    for _ in 0..polled {
+        let drawn = draw_occupancy(rt, run);
+        push(rt, &mut occupancies, drawn);
+    }
+    if draw(run, 12) == 0 {
+        push(rt, &mut occupancies, None);
+    }
+    occupancies
+}
+
+// A frame of late, now and then of before the window or to come.
+fn draw_frame(run: &mut Run) -> u64 {
+    let past = if draw(run, 8) == 0 { 70 } else { 6 };
+    let back = draw(run, past);
+    run.next.saturating_sub(back)
+}
+
+// A report for a map of such a frame.
+fn report_one(rt: &impl Abort, alloc: Global, run: &mut Run) {
+    let frame = draw_frame(run);
+    let place = draw_place(rt, run);
+    let reporter = run.places.get(place).expect(rt, "a place").onu;
+    let own = series(rt, alloc, &run.grants, frame, reporter);
+    let occupancies = draw_occupancies(rt, alloc, run, own.len());
+    let wanted = slow_refusal(run, frame, reporter, occupancies.len(), own.len());
+    let told = run
+        .loads
+        .reported(FrameNo::new(frame), reporter, &occupancies)
+        .err();
+    assert_eq!(rt; told, wanted);
+    if told.is_none() {
+        push(rt, &mut run.reporters, (frame, reporter));
+        note_taken(rt, &mut run.taken, frame, &own, &occupancies);
+    }
+}
+
+fn note_taken(
+    rt: &impl Abort,
+    taken: &mut Vec<Taken>,
+    frame: u64,
+    own: &[Granted],
+    occupancies: &[Option<BufOcc>],
+) {
+    for (granted, occupancy) in own.iter().zip(occupancies.iter()) {
+        if let Some(words) = *occupancy {
+            let alloc_id = granted.alloc_id;
+            let words = u64::from(words.get());
+            push(
+                rt,
+                taken,
+                Taken {
+                    frame,
+                    alloc_id,
+                    words,
+                },
+            );
+        }
+    }
+}
+
+// Compares each load with the slow one, and tells how many are above 0.
+fn compare(rt: &impl Abort, run: &Run, call: u32) -> u32 {
+    let mut above: u32 = 0;
+    for place in &run.places {
+        if let Some(since) = place.since {
+            let load = u64::from(run.loads.load_of(place.alloc_id).get());
+            assert_eq!(rt; load, slow_load(run, place.alloc_id, since), "call {call}");
+            above = above.saturating_add(u32::from(load > 0));
+        }
+    }
+    above
+}
+
+// One call of the script.
+fn call_one(rt: &impl Abort, alloc: Global, run: &mut Run) {
+    match draw(run, 64) {
+        0..=23 => map_one(rt, alloc, run),
+        24..=54 => report_one(rt, alloc, run),
+        55..=59 => admit_one(rt, run),
+        60..=62 => remove_one(rt, run),
+        _ => clear(run),
+    }
+}
+
+#[test]
+fn loads_are_those_of_the_whole_history(rt: HostRuntime) {
+    let mut run = open(&rt, rt.alloc());
+    let mut above: u32 = 0;
+    for call in 0..700 {
+        call_one(&rt, rt.alloc(), &mut run);
+        above = above.saturating_add(compare(&rt, &run, call));
+    }
+    // The script has something to compare.
+    assert!(rt; above > 700);
+}

@@ -1,0 +1,34 @@
+ghost use Rattle.std.specs.Prelude.{◌≡◌, ◌≤◌};
+ghost use Rattle.pon_descr.specs.Descriptor.{promised};
+ghost use Rattle.pon_guar.specs.Rates.{cap, guaranteed};
+
+use pon_descr::Descriptor;
+use pon_units::Kbps;
+
+/// The guaranteed rate of a descriptor under a load, both in kbit/s: the fixed rate always, the assured rate as far as the
+/// load asks for it (ITU-T G.987.3, reference model). At most the promised rate.
+pub fn guaranteed(descriptor: &Descriptor, load: Kbps) -> Kbps
+    ensures rate { result ≡ guaranteed descriptor.now load }
+    ensures within { result ≤ promised descriptor.now }
+{
+    let wanted = load.max(descriptor.fixed());
+    wanted.min(descriptor.promised())
+}
+
+/// The most surplus, in kbit/s, that an Alloc-ID of this descriptor can use under a load: what load and fixed rate ask
+/// for up to the maximum rate, less the guaranteed rate.
+pub fn cap(descriptor: &Descriptor, load: Kbps) -> Kbps
+    ensures rate { result ≡ cap descriptor.now load }
+    ensures range { result ≤ 2488320 }
+{
+    prove!(descriptor.promised() <= descriptor.max());
+    let most = load.max(descriptor.fixed()).min(descriptor.max());
+    let rest = most.get() - guaranteed(descriptor, load).get();
+    match Kbps::new(rest) {
+        Some(rate) => rate,
+        None => unreachable!(),
+    }
+}
+
+#[cfg(test)]
+mod tests;
