@@ -1,0 +1,14 @@
+pub mod Counts
+pub mod Shares
+pub mod Fairness
+pub mod OneCertificate
+pub mod Rows
+pub mod Flags
+pub mod WholeReading
+pub mod SetText
+pub mod ReadsBack
+pub mod PartLaws
+pub mod MetLaws
+pub mod SetLaws
+pub mod ClassLaws
+pub mod OneText

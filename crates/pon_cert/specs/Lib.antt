@@ -1,0 +1,6 @@
+pub mod Problem
+pub mod Certificate
+pub mod Spelling
+pub mod Reading
+pub mod Texts
+pub mod Parts

@@ -1,0 +1,38 @@
+//! What a certificate shows, and that it reads back as it was written.
+
+ghost use Rattle.std.specs.Prelude.{◌≡◌, ◌<◌, ◌^◌, ℕ, List, ◌++◌, length};
+ghost use Rattle.std.specs.List.{AllByRecursion};
+ghost use Rattle.pon_cert.specs.declared.problem.Item.{Item};
+ghost use Rattle.pon_cert.specs.declared.cert.ClassCert.{ClassCert};
+ghost use Rattle.pon_cert.specs.Problem.{AreWeighted, IsFairest};
+ghost use Rattle.pon_cert.specs.declared.cert.MapCert.{MapCert};
+ghost use Rattle.pon_cert.specs.Certificate.{IsCertificate, spelled};
+ghost use Rattle.pon_cert.specs.Spelling.{cert_bytes};
+ghost use Rattle.pon_cert.specs.Reading.{ReadsCert};
+ghost use Rattle.pon_cert.specs.Texts.{FitsCert, AreNames, IsTextOf};
+
+/// What a certificate spells is feasible, no feasible assignment is better, and each other one is worse.
+pub fn certified_is_fairest()
+    ensures { (items : List Item) (surplus : ℕ) (cert : ClassCert) → AreWeighted items →
+        IsCertificate items surplus cert → IsFairest items surplus (spelled items cert) }
+{}
+
+/// A surplus has one certificate.
+pub fn one_certificate()
+    ensures { (items : List Item) (surplus : ℕ) (a b : ClassCert) → AreWeighted items →
+        IsCertificate items surplus a → IsCertificate items surplus b → a ≡ b }
+{}
+
+/// The bytes of a certificate, with any bytes behind them, read as that certificate, and the bytes behind are not its.
+pub fn reads_back()
+    ensures { (cert : MapCert) (rest : List ℕ) → FitsCert cert →
+        ReadsCert (cert_bytes cert ++ rest) cert (length (cert_bytes cert)) }
+{}
+
+/// With the same Alloc-IDs, one text has one certificate, so that a text that was written reads back as the very
+/// certificate.
+pub fn one_text()
+    ensures { (na be : List ℕ) (a b : MapCert) (text : List ℕ) → AreNames na → AreNames be →
+        AllByRecursion (λ n. n < 2 ^ 64) na → AllByRecursion (λ n. n < 2 ^ 64) be →
+        IsTextOf na be a text → IsTextOf na be b text → a ≡ b }
+{}

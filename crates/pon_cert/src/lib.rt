@@ -1,0 +1,21 @@
+//! Certificates of a fair share: how the surplus of an XG-PON upstream line (the reference model of ITU-T G.987.3) is
+//! shared in a class, as a level and the items that get their cap, and what that shows.
+//!
+//! A certificate spells one assignment, and no other is as fair. Its bytes and its text are the project's own. This crate
+//! makes no certificate and checks none.
+#![tactic(auto)]
+
+mod cert;
+mod decode;
+mod encode;
+pub mod laws;
+mod parse;
+mod print;
+mod problem;
+mod sat;
+#[cfg(test)]
+mod tests;
+
+pub use cert::{CertReadFault, ClassCert, Level, MapCert};
+pub use problem::Item;
+pub use sat::Sat;

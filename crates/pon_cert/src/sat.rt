@@ -1,0 +1,43 @@
+use std::alloc::{AllocError, Global};
+use std::marker::Model;
+
+/// Which items of a class are saturated, that is, get their cap: a truth value for each item, in order. Contracts see
+/// it as the list of its truth values.
+#[derive(Debug, Drop)]
+pub struct Sat {
+    flags: Vec<bool>,
+}
+
+impl Model for Sat {
+    ghost use Rattle.std.specs.Prelude.{List, Bool};
+
+    ghost Value = { List Bool };
+
+    ghost view = { λ s. s.flags.items };
+}
+
+impl Sat {
+    ghost use Rattle.std.specs.Prelude.{◌≡◌, IfOk};
+
+    /// Takes the truth values as they are. It takes no memory.
+    pub fn new(flags: Vec<bool>) -> Self
+        ensures { result ≡ flags.items }
+    {
+        Sat { flags }
+    }
+
+    /// The truth values, in order.
+    pub fn as_slice(&self) -> &[bool]
+        ensures { result.now ≡ self.now }
+    {
+        self.flags.as_slice()
+    }
+
+    /// Equal truth values; `AllocError` where memory is refused.
+    pub fn try_copy(&self, alloc: Global) -> Result<Self, AllocError>
+        ensures { IfOk result (λ copy. copy ≡ self.now) }
+    {
+        let flags = Vec::from_slice(alloc, &self.flags)?;
+        Ok(Sat { flags })
+    }
+}
