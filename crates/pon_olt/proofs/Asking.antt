@@ -3,10 +3,11 @@ use Rattle.std.proofs.Common.{◌≡◌, ℕ, ◌<◌, true, false, List, [], �
 use Rattle.std.specs.Prelude.{nat_lt, not, if◌then◌else◌, Result, Ok, Err}
 use Rattle.std.specs.List.{list_all}
 use Rattle.std.proofs.lemmas.Bool.{ltb-true}
-use Rattle.pon_port.specs.declared.event.Event.{Event}
+use Rattle.pon_olt.specs.declared.command.Command.{Command}
+use Rattle.pon_olt.specs.declared.command.Command.TheVariants.{Take, ShowCert}
 use Rattle.pon_olt.specs.Lines.{words_of, without_return}
 use Rattle.pon_olt.specs.Fields.{◌>>=◌, number_field}
-use Rattle.pon_olt.specs.Commands.{event_of}
+use Rattle.pon_olt.specs.Commands.{command_of}
 use Rattle.pon_olt.specs.Reading.{read_line, read_words, reading, port_of, is_comment, is_text}
 use Rattle.pon_olt.specs.Text.{AsksWithin}
 use Rattle.pon_olt.specs.declared.fault.LineFault.{LineFault}
@@ -29,15 +30,16 @@ port_there ports w = by_number (number_field w)
       | false ↦ λ t. tt
     ]) refl
 
-reading_within : (ports : ℕ) (r : Result ℕ LineFault) (asked : Result Event LineFault) → IsThere ports r → AsksWithin ports (reading r asked)
+reading_within : (ports : ℕ) (r : Result ℕ LineFault) (asked : Result Command LineFault) → IsThere ports r → AsksWithin ports (reading r asked)
 unfolding IsThere
 reading_within ports (Err fault) asked h = tt
 reading_within ports (Ok port) (Err fault) h = tt
-reading_within ports (Ok port) (Ok event) h = h
+reading_within ports (Ok port) (Ok (Take event)) h = h
+reading_within ports (Ok port) (Ok ShowCert) h = h
 
 words_within : (ports : ℕ) (ws : List (List ℕ)) → AsksWithin ports (read_words ports ws)
 words_within ports [] = tt
-words_within ports (w ∷ ws) = reading_within ports (port_of ports w) (event_of ws) (port_there ports w)
+words_within ports (w ∷ ws) = reading_within ports (port_of ports w) (command_of ws) (port_there ports w)
 
 pub read_line-within : (ports : ℕ) (line : List ℕ) → AsksWithin ports (read_line ports line)
 unfolding read_line

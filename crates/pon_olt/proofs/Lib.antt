@@ -5,4 +5,5 @@ pub mod Asking
 pub mod AnswerLaws
 pub mod ReadCounts
 pub mod Streaming
+pub mod FieldWords
 pub mod OneOutput

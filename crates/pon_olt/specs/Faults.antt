@@ -2,7 +2,7 @@
 use Rattle.std.specs.Prelude.{ℕ, List, codes}
 use Rattle.pon_descr.specs.Refusal.{refusal_text}
 use Rattle.pon_olt.specs.declared.fault.LineFault.{LineFault}
-use Rattle.pon_olt.specs.declared.fault.LineFault.TheVariants.{UnknownCommand, WordCount, BadField, NoSuchPort, LineLong, NotText, Port}
+use Rattle.pon_olt.specs.declared.fault.LineFault.TheVariants.{UnknownCommand, WordCount, BadField, NoSuchPort, NoMap, LineLong, NotText, Port}
 
 -- its number and its name; a refusal has its own
 abbrev pub fault_text : LineFault → List ℕ
@@ -10,6 +10,7 @@ fault_text UnknownCommand = codes "L1 UnknownCommand"
 fault_text WordCount = codes "L2 WordCount"
 fault_text BadField = codes "L3 BadField"
 fault_text NoSuchPort = codes "L4 NoSuchPort"
+fault_text NoMap = codes "L5 NoMap"
 fault_text LineLong = codes "L6 LineLong"
 fault_text NotText = codes "L7 NotText"
 fault_text (Port refusal) = refusal_text refusal

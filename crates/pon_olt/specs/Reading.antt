@@ -1,29 +1,31 @@
 -- What a management line asks.
 use Rattle.std.specs.Prelude.{ℕ, ◌==◌, ◌||◌, ◌&&◌, not, nat_le, nat_lt, Bool, true, false, if◌then◌else◌, List, [], ◌∷◌, length, Result, Ok, Err}
 use Rattle.std.specs.List.{list_all}
-use Rattle.pon_port.specs.declared.event.Event.{Event}
 use Rattle.pon_olt.specs.Lines.{words_of, without_return}
 use Rattle.pon_olt.specs.Fields.{◌>>=◌, number_field}
-use Rattle.pon_olt.specs.Commands.{event_of}
+use Rattle.pon_olt.specs.Commands.{command_of}
+use Rattle.pon_olt.specs.declared.command.Command.{Command}
+use Rattle.pon_olt.specs.declared.command.Command.TheVariants.{Take, ShowCert}
 use Rattle.pon_olt.specs.declared.fault.LineFault.{LineFault}
 use Rattle.pon_olt.specs.declared.fault.LineFault.TheVariants.{NoSuchPort, LineLong, NotText}
 use Rattle.pon_olt.specs.declared.reading.Reading.{Reading}
-use Rattle.pon_olt.specs.declared.reading.Reading.TheVariants.{Nothing, Refused, Asks}
+use Rattle.pon_olt.specs.declared.reading.Reading.TheVariants.{Nothing, Refused, Asks, AsksCert}
 
 -- the port that a word names, one of so many
 unfoldable pub port_of : ℕ → List ℕ → Result ℕ LineFault
 port_of ports w = number_field w >>= λ n. if nat_lt n ports then Ok n else Err NoSuchPort
 
 -- the port is read before the command
-abbrev pub reading : Result ℕ LineFault → Result Event LineFault → Reading
+abbrev pub reading : Result ℕ LineFault → Result Command LineFault → Reading
 reading (Err fault) asked = Refused fault
 reading (Ok port) (Err fault) = Refused fault
-reading (Ok port) (Ok event) = Asks port event
+reading (Ok port) (Ok (Take event)) = Asks port event
+reading (Ok port) (Ok ShowCert) = AsksCert port
 
 -- no words ask nothing; else the first is the port, and the others are its command
 abbrev pub read_words : ℕ → List (List ℕ) → Reading
 read_words ports [] = Nothing
-read_words ports (w ∷ ws) = reading (port_of ports w) (event_of ws)
+read_words ports (w ∷ ws) = reading (port_of ports w) (command_of ws)
 
 -- a tab, or a printable character of ASCII
 abbrev pub is_text : ℕ → Bool

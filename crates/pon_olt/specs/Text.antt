@@ -2,7 +2,9 @@
 use Rattle.std.specs.Prelude.{ℕ, ◌≡◌, ◌<◌, List, [], ◌∷◌, ◌++◌, length, codes, decimal, slice_get, slice_set, Option, Some, None}
 use Rattle.hex.specs.Hex.{encode_lower}
 use Rattle.pon_bwmap.specs.MapBytes.{map_bytes}
+use Rattle.pon_cert.specs.Spelling.{cert_text}
 use Rattle.pon_port.specs.Chapters.{Chapter}
+use Rattle.pon_port.specs.Last.{LastMap, last_map}
 use Rattle.pon_port.specs.Taking.{Takes, refusal_of}
 use Rattle.pon_port.specs.declared.event.Event.{Event}
 use Rattle.pon_port.specs.declared.reply.Reply.{Reply}
@@ -12,9 +14,9 @@ use Rattle.pon_olt.specs.Lines.{lines_of}
 use Rattle.pon_olt.specs.Faults.{fault_text}
 use Rattle.pon_olt.specs.Reading.{read_line}
 use Rattle.pon_olt.specs.declared.fault.LineFault.{LineFault}
-use Rattle.pon_olt.specs.declared.fault.LineFault.TheVariants.{Port}
+use Rattle.pon_olt.specs.declared.fault.LineFault.TheVariants.{NoMap, Port}
 use Rattle.pon_olt.specs.declared.reading.Reading.{Reading}
-use Rattle.pon_olt.specs.declared.reading.Reading.TheVariants.{Nothing, Refused, Asks}
+use Rattle.pon_olt.specs.declared.reading.Reading.TheVariants.{Nothing, Refused, Asks, AsksCert}
 
 -- a refusal line
 abbrev pub refusal_line : LineFault → List ℕ
@@ -35,17 +37,29 @@ abbrev pub AsksPort : List Chapter → ℕ → Option Chapter → Event → List
 AsksPort old port None event text new = ⊥
 AsksPort old port (Some c) event text new = Posts old port c event (refusal_of c event) text new
 
+-- the certificate of the last map of the kept chapter, where there is one
+abbrev pub cert_line : Option LastMap → List ℕ
+cert_line None = refusal_line NoMap
+cert_line (Some l) = codes "cert " ++ (decimal l.made.frame ++ (32 ∷ cert_text l.na l.be l.made.cert ++ 10 ∷ []))
+
+-- a port is asked for it, and stays as it is
+abbrev pub TellsCert : Option Chapter → List ℕ → Type 0
+TellsCert None text = ⊥
+TellsCert (Some c) text = text ≡ cert_line (last_map c)
+
 -- only ports that are there are asked
 abbrev pub AsksWithin : ℕ → Reading → Type 0
 AsksWithin ports Nothing = Unit {0}
 AsksWithin ports (Refused fault) = Unit {0}
 AsksWithin ports (Asks port event) = port < ports
+AsksWithin ports (AsksCert port) = port < ports
 
 -- what is asked gives a text, and leaves the ports' chapters so
 abbrev pub Answers : List Chapter → Reading → List ℕ → List Chapter → Type 0
 Answers old Nothing text new = (text ≡ []) × (new ≡ old)
 Answers old (Refused fault) text new = (text ≡ refusal_line fault) × (new ≡ old)
 Answers old (Asks port event) text new = AsksPort old port (slice_get old port) event text new
+Answers old (AsksCert port) text new = TellsCert (slice_get old port) text × (new ≡ old)
 
 -- a line gives a text
 abbrev pub Gives : List Chapter → List ℕ → List ℕ → List Chapter → Type 0

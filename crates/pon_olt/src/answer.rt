@@ -3,7 +3,8 @@
 ghost use Rattle.std.specs.Prelude.{◌≡◌, ◌∷◌, ◌++◌, [], IfOk, codes, decimal, string_bytes};
 ghost use Rattle.hex.specs.Hex.{encode_lower};
 ghost use Rattle.pon_bwmap.specs.MapBytes.{map_bytes};
-ghost use Rattle.pon_olt.specs.Text.{Answers, AsksWithin, refusal_line, reply_line};
+ghost use Rattle.pon_port.specs.Last.{last_map};
+ghost use Rattle.pon_olt.specs.Text.{Answers, AsksWithin, cert_line, refusal_line, reply_line};
 
 use crate::fault::LineFault;
 use crate::reading::Reading;
@@ -62,6 +63,25 @@ fn post(alloc: Global, port: &mut Port, event: Event) -> Result<String, AllocErr
     }
 }
 
+fn cert_text_line(alloc: Global, frame: u64, text: &String) -> Result<String, AllocError>
+    ensures { IfOk result (λ line. string_bytes line ≡ codes "cert " ++ (decimal frame ++ (32 ∷ string_bytes text.now ++ 10 ∷ []))) }
+{
+    format!(in alloc; "cert {frame} {text}\n")
+}
+
+// The certificate of the last map.
+fn show_cert(alloc: Global, port: &Port) -> Result<String, AllocError>
+    ensures { IfOk result (λ text. string_bytes text ≡ cert_line (last_map port.now)) }
+{
+    match port.last() {
+        None => refusal_text_line(alloc, LineFault::NoMap),
+        Some((made, na, be)) => {
+            let text = made.cert.to_text(alloc, na, be)?;
+            cert_text_line(alloc, made.frame.get(), &text)
+        }
+    }
+}
+
 /// The text that a reading gives at one port. After an `Err`, which comes only for want of memory, nothing is known of
 /// the port but that its history is lawful.
 pub(crate) fn answer(alloc: Global, port: &mut Port, reading: Reading) -> Result<String, AllocError>
@@ -72,5 +92,6 @@ pub(crate) fn answer(alloc: Global, port: &mut Port, reading: Reading) -> Result
         Reading::Nothing => Ok(String::new(alloc)),
         Reading::Refused(fault) => refusal_text_line(alloc, fault),
         Reading::Asks { event, .. } => post(alloc, port, event),
+        Reading::AsksCert { .. } => show_cert(alloc, port),
     }
 }

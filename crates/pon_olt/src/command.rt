@@ -2,16 +2,28 @@
 
 ghost use Rattle.std.specs.Prelude.{◌≡◌};
 ghost use Rattle.pon_olt.specs.Lines.{words_of};
-ghost use Rattle.pon_olt.specs.Commands.{admit, admit_of, change, change_of, remove, remove_of, map_of, event_of};
+ghost use Rattle.pon_olt.specs.Commands.{admit, admit_of, alone, change, change_of, command_of, event_of, fail_of, remove, remove_of, report, report_of};
 
 use crate::fault::LineFault;
 use crate::fields::{
-    Rates, alloc_id_of, descriptor_of, descriptor_words, next_word, number_field, onu_id_of,
-    rate_fields,
+    Rates, alloc_id_of, cause_of, descriptor_of, descriptor_words, next_word, number_field,
+    onu_id_of, rate_fields,
 };
+use crate::occupancies::{count_words, occupancy_fields};
 use crate::words::first_word;
+use pon_dbru::Occupancies;
 use pon_descr::Refusal;
 use pon_port::Event;
+use pon_units::FrameNo;
+
+/// What the words after the port ask.
+#[derive(Drop)]
+pub(crate) enum Command {
+    /// The port is to take the event.
+    Take(Event),
+    /// The certificate of the last map.
+    ShowCert,
+}
 
 // The event of an `admit`, by the checks of its numbers in order.
 #[tactic(auto, unfolding(crate::specs::Commands::admit))]
@@ -101,19 +113,63 @@ fn remove_of(text: &[u8]) -> Result<Event, LineFault>
     remove(alloc)
 }
 
-// What the words after `map` ask.
-fn map_of(text: &[u8]) -> Result<Event, LineFault>
-    ensures { result ≡ map_of (words_of text.now) }
+// The event of a `report`.
+#[tactic(auto, unfolding(crate::specs::Commands::report))]
+fn report(frame: u64, onu: u64, occ: Occupancies) -> Result<Event, LineFault>
+    ensures { result ≡ report frame onu occ }
+{
+    let frame = FrameNo::new(frame);
+    match onu_id_of(onu) {
+        Some(onu) => Ok(Event::Report { frame, onu, occ }),
+        None => Err(LineFault::Port(Refusal::OnuRange)),
+    }
+}
+
+// What the words after `report` ask.
+#[tactic(auto, unfolding(crate::specs::Commands::report_of))]
+fn report_of(text: &[u8]) -> Result<Event, LineFault>
+    ensures { result ≡ report_of (words_of text.now) }
+{
+    let frame = next_word(text)?;
+    let onu = next_word(frame.rest)?;
+    let count = count_words(onu.rest);
+    if count == 0 || count > 16 {
+        return Err(LineFault::WordCount);
+    }
+    let frame = number_field(frame.word)?;
+    let asked = number_field(onu.word)?;
+    let occ = occupancy_fields(onu.rest)?;
+    report(frame, asked, occ)
+}
+
+// What the words after `fail` ask.
+#[tactic(auto, unfolding(crate::specs::Commands::fail_of))]
+fn fail_of(text: &[u8]) -> Result<Event, LineFault>
+    ensures { result ≡ fail_of (words_of text.now) }
+{
+    let cause = next_word(text)?;
+    if first_word(cause.rest).is_some() {
+        return Err(LineFault::WordCount);
+    }
+    match cause_of(number_field(cause.word)?) {
+        Some(cause) => Ok(Event::Fail { cause }),
+        None => Err(LineFault::BadField),
+    }
+}
+
+// What a command asks that no word follows.
+fn alone<A: Drop>(text: &[u8], asked: A) -> Result<A, LineFault>
+    ensures { result ≡ alone asked (words_of text.now) }
 {
     match first_word(text) {
-        None => Ok(Event::MakeMap),
+        None => Ok(asked),
         Some(_) => Err(LineFault::WordCount),
     }
 }
 
-/// What the words after the port ask.
+// The event that the words after the port ask for.
 #[tactic(auto, unfolding(crate::specs::Commands::event_of))]
-pub(crate) fn event_of(text: &[u8]) -> Result<Event, LineFault>
+fn event_of(text: &[u8]) -> Result<Event, LineFault>
     ensures { result ≡ event_of (words_of text.now) }
 {
     let name = next_word(text)?;
@@ -123,9 +179,28 @@ pub(crate) fn event_of(text: &[u8]) -> Result<Event, LineFault>
         change_of(name.rest)
     } else if name.word == b"remove".as_slice() {
         remove_of(name.rest)
+    } else if name.word == b"report".as_slice() {
+        report_of(name.rest)
     } else if name.word == b"map".as_slice() {
-        map_of(name.rest)
+        alone(name.rest, Event::MakeMap)
+    } else if name.word == b"fail".as_slice() {
+        fail_of(name.rest)
+    } else if name.word == b"restore".as_slice() {
+        alone(name.rest, Event::Restore)
     } else {
         Err(LineFault::UnknownCommand)
+    }
+}
+
+/// What the words after the port ask.
+#[tactic(auto, unfolding(crate::specs::Commands::command_of))]
+pub(crate) fn command_of(text: &[u8]) -> Result<Command, LineFault>
+    ensures { result ≡ command_of (words_of text.now) }
+{
+    let name = next_word(text)?;
+    if name.word == b"cert".as_slice() {
+        alone(name.rest, Command::ShowCert)
+    } else {
+        Ok(Command::Take(event_of(text)?))
     }
 }

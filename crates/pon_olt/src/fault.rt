@@ -12,6 +12,8 @@ pub enum LineFault {
     BadField,
     /// L4: there is no port of that number.
     NoSuchPort,
+    /// L5: the certificate is asked for, and the kept chapter has no map yet.
+    NoMap,
     /// L6: the line has more than 4,096 bytes.
     LineLong,
     /// L7: a byte is neither a tab nor a printable character of ASCII.
@@ -32,6 +34,7 @@ impl fmt::Display for LineFault {
             LineFault::WordCount => write!(f, "L2 WordCount"),
             LineFault::BadField => write!(f, "L3 BadField"),
             LineFault::NoSuchPort => write!(f, "L4 NoSuchPort"),
+            LineFault::NoMap => write!(f, "L5 NoMap"),
             LineFault::LineLong => write!(f, "L6 LineLong"),
             LineFault::NotText => write!(f, "L7 NotText"),
             LineFault::Port(refusal) => write!(f, "{refusal}"),

@@ -8,7 +8,7 @@ ghost use Rattle.pon_olt.specs.Fields.{number_field, descriptor_words, written_r
 
 use crate::fault::LineFault;
 use crate::words::{Word, first_word, number_of};
-use pon_descr::{Class, Descriptor, Refusal};
+use pon_descr::{Cause, Class, Descriptor, Refusal};
 use pon_units::{AllocId, OnuId};
 
 /// The words of a descriptor.
@@ -118,20 +118,19 @@ pub(crate) fn descriptor_of(rates: &Rates) -> Result<Descriptor, Refusal>
 pub(crate) fn alloc_id_of(number: u64) -> Option<AllocId>
     ensures { SomeIff result ((1024 ≤ number) × (number ≤ 16383)) number }
 {
-    if number >= 1024 && number <= 16_383 {
-        AllocId::new(number as u16)
-    } else {
-        None
-    }
+    AllocId::new(u16::try_from(number).ok()?)
 }
 
 /// An ONU-ID, 0 to 1022.
 pub(crate) fn onu_id_of(number: u64) -> Option<OnuId>
     ensures { SomeIff result (number ≤ 1022) number }
 {
-    if number <= 1022 {
-        OnuId::new(number as u16)
-    } else {
-        None
-    }
+    OnuId::new(u16::try_from(number).ok()?)
+}
+
+/// The cause of a failure, 1 to 9.
+pub(crate) fn cause_of(number: u64) -> Option<Cause>
+    ensures { SomeIff result ((1 ≤ number) × (number ≤ 9)) number }
+{
+    Cause::new(u8::try_from(number).ok()?)
 }

@@ -11,6 +11,7 @@ mod fault;
 mod fields;
 pub mod laws;
 pub mod lines;
+mod occupancies;
 mod reading;
 mod step;
 pub mod task;

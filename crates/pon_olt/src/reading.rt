@@ -4,7 +4,7 @@ ghost use Rattle.std.specs.Prelude.{◌≡◌, ℕ, List, take};
 ghost use Rattle.std.specs.List.{list_all};
 ghost use Rattle.pon_olt.specs.Reading.{read_line, port_of, is_text};
 
-use crate::command::event_of;
+use crate::command::{Command, command_of};
 use crate::fault::LineFault;
 use crate::fields::number_field;
 use crate::words::{first_word, without_return};
@@ -25,6 +25,8 @@ pub enum Reading {
     Refused(LineFault),
     /// The port is to take the event.
     Asks { port: usize, event: Event },
+    /// The certificate of the port's last map is asked for.
+    AsksCert { port: usize },
 }
 
 // The port that a word names, one of so many.
@@ -50,14 +52,17 @@ fn is_text(line: &[u8]) -> bool
 /// What a line asks of so many ports. The line comes without its line feed; a carriage return at its end is dropped.
 ///
 /// `<port> admit <onu> <alloc> <fixed> <assured> <max> <class>` admits an Alloc-ID, `<port> change <alloc> <fixed>
-/// <assured> <max> <class>` gives it another descriptor, `<port> remove <alloc>` takes it out, and `<port> map` makes the
-/// next map. Words are parted by spaces and tabs; a number is 1 to 20 decimal digits with a value below 2^64; rates are
-/// in kbit/s; a class is `none`, `na` or `be`.
+/// <assured> <max> <class>` gives it another descriptor, `<port> remove <alloc>` takes it out, `<port> report <frame>
+/// <onu> <occ> ..` tells what waits at an ONU's structures in the map of a frame, `<port> map` makes the next map,
+/// `<port> cert` asks for the certificate of the last map, `<port> fail <cause>` says that the line has failed and `<port> restore` that it is back. Words are parted by spaces
+/// and tabs; a number is 1 to 20 decimal digits with a value below 2^64; rates are in kbit/s; a class is `none`, `na` or
+/// `be`; an occupancy is 0 to 16,777,215 words of 4 bytes, or `x` where it is garbled, 1 to 16 of them; a cause is 1 to 9.
 ///
 /// Refused, in this order: `LineLong` above 4,096 bytes, the carriage return counted; `NotText` for a byte that is no
 /// text, unless the line is blank or a comment, which begins with `#`; `BadField` where the first word is no number and
 /// `NoSuchPort` where no port has it; `WordCount` without a second word and `UnknownCommand` where it is no command;
-/// `WordCount` where the command takes more or fewer words; `BadField` at the first word that is no number or no class;
+/// `WordCount` where the command takes more or fewer words; `BadField` at the first word that is no number, no class, no
+/// occupancy or no cause;
 /// `AllocRange` outside 1024 to 16383, `OnuRange` above 1022, and what [`Descriptor::new`] refuses.
 #[tactic(auto, unfolding(crate::specs::Reading::read_line))]
 pub fn read_line(ports: usize, line: &[u8]) -> Reading
@@ -78,9 +83,10 @@ pub fn read_line(ports: usize, line: &[u8]) -> Reading
     }
     match port_of(ports, first.word) {
         Err(fault) => Reading::Refused(fault),
-        Ok(port) => match event_of(first.rest) {
+        Ok(port) => match command_of(first.rest) {
             Err(fault) => Reading::Refused(fault),
-            Ok(event) => Reading::Asks { port, event },
+            Ok(Command::Take(event)) => Reading::Asks { port, event },
+            Ok(Command::ShowCert) => Reading::AsksCert { port },
         },
     }
 }

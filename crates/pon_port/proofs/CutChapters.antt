@@ -4,7 +4,7 @@ use Rattle.std.specs.Prelude.{nat_le, None}
 use Rattle.std.proofs.lemmas.Bool.{leb-false, lt-leb, or_from, or_parts}
 use Rattle.std.proofs.lemmas.List.{length-append, take-append-drop}
 use Rattle.pon_descr.specs.Checks.{or_else, when}
-use Rattle.pon_port.specs.Window.{LeadsTo}
+use Rattle.pon_guar.specs.Window.{LeadsTo}
 use Rattle.pon_port.specs.State.{State}
 use Rattle.pon_port.specs.Loads.{replay}
 use Rattle.pon_port.specs.Checks.{refuses, when_full}

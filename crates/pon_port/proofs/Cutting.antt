@@ -7,15 +7,18 @@ use Rattle.std.proofs.lemmas.List.Folds.{list_any-append}
 use Rattle.std.proofs.lemmas.List.Sums.{sum_by-append, length-filter, count_by-le-length}
 use Rattle.std.proofs.lemmas.Bool.{eqb-true, eq-eqb, leb-false, lt-leb, not-false, or_left, or_parts, or_right}
 use Rattle.pon_descr.specs.Checks.{or_else, when}
-use Rattle.pon_port.specs.Book.{Account, Counted, account_of, alloc_ids}
-use Rattle.pon_port.specs.Window.{LeadsTo, WindowMap}
+use Rattle.pon_guar.specs.declared.account.Account.{Account}
+use Rattle.pon_guar.specs.declared.account.Counted.{Counted}
+use Rattle.pon_guar.specs.Book.{account_of, alloc_ids, counted_of_account, since_of_account}
+use Rattle.pon_guar.specs.Window.{LeadsTo, WindowMap, words_from, words_in, is_of}
+use Rattle.pon_guar.specs.Reports.{latest, refuses_report}
+use Rattle.pon_guar.specs.Loads.{less}
 use Rattle.pon_port.specs.State.{State}
 use Rattle.pon_port.specs.Legal.{MayFollow}
 use Rattle.pon_port.specs.Chapters.{IsLegal}
 use Rattle.pon_port.specs.Replay.{all_maps, allocs_of, begins, forgets, frame_at_last, maps_of, next_of, roster_of, window_of, with_reports}
-use Rattle.pon_port.specs.Loads.{account_after, candidates, candidates_in, counted_of, counted_of_account, latest, opening_candidates, replay, since_of, since_of_account, words_from, words_in}
-use Rattle.pon_port.specs.Checks.{first_refusal, is_of, refuses, refuses_report, when_down, when_full}
-use Rattle.pon_port.specs.After.{less}
+use Rattle.pon_port.specs.Loads.{account_after, candidates, candidates_in, counted_of, opening_candidates, replay, since_of}
+use Rattle.pon_port.specs.Checks.{first_refusal, refuses, when_down, when_full}
 use Rattle.pon_port.specs.declared.event.Event.{Event}
 use Rattle.pon_port.specs.declared.event.Event.TheVariants.{Admit, Change, Remove, Report, MakeMap, Fail, Restore}
 use Rattle.pon_port.specs.declared.reply.Entry.{Entry}
@@ -64,15 +67,15 @@ legal_below o done [] n h l b = tt
 legal_below o done (e ∷ es) n h l b = (one e.event l.0.accepted, legal_below o (done ++ e ∷ []) es n h l.1 (subst (λ t. next_of o.next t ≤ n) (sym (append_assoc done (e ∷ []) es)) b))
   where
     one : (v : Event) → first_refusal (length done) (replay o done) v ≡ None → EventBelow n v
-    one (Report frame onu occ not_yet) a =
+    one (Report frame onu occ) a =
         let in_window : (frame < next_of o.next done) × (next_of o.next done ≤ frame + length (window_of o done)) = frame_within (next_of o.next done) frame (window_of o done) (window_leads o done h) (report_in_window (length done) (replay o done) frame onu (length occ) a) in
         omega (arith, in_window.0, b, next_of-append o.next done (e ∷ es), next_of_grows (next_of o.next done) (e ∷ es))
     one (Admit onu alloc_id descriptor) a = tt
     one (Change alloc_id descriptor) a = tt
     one (Remove alloc_id) a = tt
     one MakeMap a = tt
-    one (Fail cause not_yet) a = tt
-    one (Restore not_yet) a = tt
+    one (Fail cause) a = tt
+    one Restore a = tt
 
 -- no window grows by more than the maps made
 length_window : (o : State) (ys : List Entry) → length (window_of o ys) ≤ length o.window + length (maps_of o.roster o.next ys)
@@ -94,7 +97,7 @@ legal_within o xs done [] h l = tt
 legal_within o xs done (e ∷ es) h l = (one e.event l.0.accepted, legal_within o xs (done ++ e ∷ []) es h (subst (λ t. IsLegalAfter o t es) (append_assoc xs done (e ∷ [])) l.1))
   where
     one : (v : Event) → first_refusal (length (xs ++ done)) (replay o (xs ++ done)) v ≡ None → EventWithin (next_of o.next xs) (length (window_of o xs)) v
-    one (Report frame onu occ not_yet) a =
+    one (Report frame onu occ) a =
         let all : List Entry = xs ++ done in
         let in_window : (frame < next_of o.next all) × (next_of o.next all ≤ frame + length (window_of o all)) = frame_within (next_of o.next all) frame (window_of o all) (window_leads o all h) (report_in_window (length all) (replay o all) frame onu (length occ) a) in
         omega (
@@ -109,8 +112,8 @@ legal_within o xs done (e ∷ es) h l = (one e.event l.0.accepted, legal_within 
     one (Change alloc_id descriptor) a = tt
     one (Remove alloc_id) a = tt
     one MakeMap a = tt
-    one (Fail cause not_yet) a = tt
-    one (Restore not_yet) a = tt
+    one (Fail cause) a = tt
+    one Restore a = tt
 
 -- Parts of the accounts.
 

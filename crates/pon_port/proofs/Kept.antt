@@ -2,7 +2,7 @@
 use Rattle.std.proofs.Common.{◌≡◌, ℕ, ◌+◌, true, false, cond, not, ◌||◌, List, [], ◌∷◌, ◌++◌, map, length, refl, ap, sym, ◌∙◌, subst, arith, get_or}
 use Rattle.std.specs.Prelude.{◌==◌, nat_lt, filter, count_by, All, Option, Some, None, option_to_list, option_map}
 use Rattle.std.specs.List.{list_any}
-use Rattle.std.proofs.lemmas.Bool.{eq-eqb, ne_eqb, or_left}
+use Rattle.std.proofs.lemmas.Bool.{eq-eqb, ne_eqb, or_left, or_right}
 use Rattle.std.proofs.lemmas.List.{map-append}
 use Rattle.std.proofs.lemmas.List.Elements.{All-head, All-tail, All-weaker}
 use Rattle.std.proofs.lemmas.List.Sums.{sum_by-cons}
@@ -12,32 +12,38 @@ use Rattle.pon_admit.specs.declared.row.Row.{Row}
 use Rattle.pon_admit.specs.Roster.{IsInRange, refuses_admit, rule_in_force}
 use Rattle.pon_admit.proofs.AdmittedSets.{passes}
 use Rattle.pon_port.specs.declared.event.Event.{Event}
-use Rattle.pon_port.specs.declared.event.Event.TheVariants.{Admit, Change, Remove, MakeMap}
+use Rattle.pon_port.specs.declared.event.Event.TheVariants.{Admit, Change, Fail, MakeMap, Remove, Report, Restore}
 use Rattle.pon_port.specs.declared.reply.Reply.{Reply}
 use Rattle.pon_port.specs.declared.reply.Reply.TheVariants.{Taken, Map}
 use Rattle.pon_port.specs.declared.reply.MadeMap.{MadeMap}
 use Rattle.pon_port.specs.declared.reply.Entry.{Entry}
-use Rattle.pon_port.specs.Book.{Account, AreRising, Counted, account_of, alloc_ids}
-use Rattle.pon_port.specs.Window.{WindowMap}
+use Rattle.pon_guar.specs.declared.account.Account.{Account}
+use Rattle.pon_guar.specs.Book.{AreRising, account_of, alloc_ids, counted_of_account, since_of_account}
+use Rattle.pon_guar.specs.declared.account.Counted.{Counted}
+use Rattle.pon_guar.specs.Window.{LeadsTo, WindowMap, last_64, words_in}
+use Rattle.pon_guar.specs.Reports.{latest}
+use Rattle.pon_guar.specs.Loads.{afresh, less, lessened, with_account, without_account}
 use Rattle.pon_port.specs.State.{State}
-use Rattle.pon_port.specs.Replay.{allocs_after, begins, cause_after, forgets, last_64, makes_map, new_map, next_of, reports, roster_after, window_of, with_reports}
-use Rattle.pon_port.specs.Loads.{account_after, candidates_in, counted_of, counted_of_account, latest, replay, since_of, since_of_account, words_in}
+use Rattle.pon_port.specs.Replay.{admits, allocs_after, begins, cause_after, forgets, grants_of, makes_map, new_map, next_of, reports, roster_after, structures, window_of, with_reports}
+use Rattle.pon_port.specs.Loads.{account_after, candidates_in, counted_of, replay, since_of}
 use Rattle.pon_port.specs.Checks.{first_refusal, when_full}
 use Rattle.pon_port.specs.Legal.{IsMade, MayFollow}
 use Rattle.pon_port.specs.Chapters.{Chapter, IsLawfulChapter, present_state}
 use Rattle.pon_port.specs.Taking.{IsKept, Takes, with_entry}
-use Rattle.pon_port.specs.After.{after_admit, after_change, after_map, after_remove, after_roster, less, lessened, with_account, without_account}
-use Rattle.pon_port.proofs.Accounts.{accounts_all, accounts_kept, found_each, unmap}
+use Rattle.pon_port.specs.After.{after_admit, after_change, after_cut, after_map, after_remove, after_report, with_parts}
+use Rattle.pon_guar.proofs.Accounts.{accounts_all, accounts_kept, found_each, unmap}
+use Rattle.pon_guar.proofs.Books.{none_any}
 use Rattle.pon_port.proofs.Legality.{IsLegalAfter, after_from_legal, legal_from_after, legal_push}
 use Rattle.pon_port.proofs.Cutting.{replay-append}
-use Rattle.pon_port.proofs.Steps.{counted_forgotten, counted_of-map, counted_of-report, last_64-window, since_begins, since_keeps, window_of-map, window_of-quiet}
-use Rattle.pon_port.proofs.Steady.{IsSteady, none_any, steady_step}
+use Rattle.pon_port.proofs.Steps.{counted_forgotten, counted_of-map, counted_of-report, last_64-window, since_begins, since_keeps, window_of-cut, window_of-map, window_of-quiet}
+use Rattle.pon_port.proofs.Steady.{IsSteady, steady_step}
+use Rattle.pon_port.proofs.ReportSteps.{report_step}
 use Rattle.pon_port.proofs.LawfulStates.{IsLawfulState, from_opening, legal_state}
 
 -- The step of a map.
 
 book_map : (s : State) (reply : Reply) → AreRising (alloc_ids s.book) →
-    map (lessened (new_map s.roster s.next reply)) s.book ≡ map (account_after s (record { event = MakeMap; reply = reply } ∷ [])) (alloc_ids s.book)
+    map (lessened (grants_of s.roster (structures reply))) s.book ≡ map (account_after s (record { event = MakeMap; reply = reply } ∷ [])) (alloc_ids s.book)
 book_map s reply rising = each s.book (found_each s.book rising)
   where
     entry : Entry
@@ -50,7 +56,7 @@ book_map s reply rising = each s.book (found_each s.book rising)
     lone w None = refl
     lone w (Some c) = refl
 
-    one : (a : Account) → account_of s.book a.alloc_id ≡ Some a → lessened new a ≡ account_after s (entry ∷ []) a.alloc_id
+    one : (a : Account) → account_of s.book a.alloc_id ≡ Some a → lessened new.grants a ≡ account_after s (entry ∷ []) a.alloc_id
     one a found =
         let i : ℕ = a.alloc_id in
         let since : a.since ≡ since_of s (entry ∷ []) i = sym (since_keeps s i entry refl ∙ ap since_of_account found) in
@@ -59,12 +65,12 @@ book_map s reply rising = each s.book (found_each s.book rising)
         = sym (counted_of-map s i reply ∙ ap (λ o. latest (map (less w) (counted_of_account o))) found ∙ lone w a.counted) in
         (λ j. record { alloc_id = i; since = since j; counted = counted j })
 
-    each : (book : List Account) → All (λ a. account_of s.book a.alloc_id ≡ Some a) book → map (lessened new) book ≡ map (account_after s (entry ∷ [])) (alloc_ids book)
+    each : (book : List Account) → All (λ a. account_of s.book a.alloc_id ≡ Some a) book → map (lessened new.grants) book ≡ map (account_after s (entry ∷ [])) (alloc_ids book)
     each [] h = refl
     each (x ∷ book) h = (λ j. one x (All-head (λ a. account_of s.book a.alloc_id ≡ Some a) x book h) j ∷ each book (All-tail (λ a. account_of s.book a.alloc_id ≡ Some a) x book h) j)
 
 map_step : (o : State) (es : List Entry) (reply : Reply) → AreRising (alloc_ids (replay o es).book) →
-    after_map (replay o es) (new_map (replay o es).roster (replay o es).next reply) ≡ replay (replay o es) (record { event = MakeMap; reply = reply } ∷ [])
+    after_map (replay o es) (grants_of (replay o es).roster (structures reply)) ≡ replay (replay o es) (record { event = MakeMap; reply = reply } ∷ [])
 map_step o es reply rising =
     let s : State = replay o es in
     let window : last_64 (window_of o es ++ new_map s.roster s.next reply ∷ []) ≡ window_of s (record { event = MakeMap; reply = reply } ∷ []) = sym (window_of-map o es reply) in
@@ -80,6 +86,10 @@ map_step o es reply rising =
     })
 
 -- The step of an event that changes the roster alone: it makes no map, forgets nothing and reports nothing.
+
+-- with other rows and accounts
+abbrev after_roster : State → List Row → List Account → State
+after_roster s rows book = with_parts s s.next s.cause rows (record { accounts = book; window = s.window })
 
 module _ (s : State) (e : Entry) (m : makes_map e.event ≡ false) (none : (ms : List WindowMap) (since i : ℕ) → candidates_in ms since i e.event ≡ []) where
   -- an account stays as it is where its Alloc-ID is not admitted anew
@@ -162,6 +172,35 @@ remove_step o es i rising =
     roster_step o es (Remove i) (without_account i s.book) (λ frame onu. refl) refl refl (λ cause. refl)
     (accounts_kept (account_after s (e ∷ [])) (λ j. not (j == i)) s.book (same_accounts s e refl (λ ms since i. refl) rising (λ n d l. refl)))
 
+-- The step of a fault, and of its end: the reports and the window are forgotten.
+
+cut_step : (o : State) (es : List Entry) (v : Event) (cause : Option ℕ) → LeadsTo o.next o.window → makes_map v ≡ false → forgets v ≡ true → ((ms : List WindowMap) (since i : ℕ) → candidates_in ms since i v ≡ []) →
+    roster_after (replay o es).roster v ≡ (replay o es).roster → allocs_after (alloc_ids (replay o es).book) v ≡ alloc_ids (replay o es).book → cause_after (replay o es).cause v ≡ cause →
+    after_cut (replay o es) cause ≡ replay (replay o es) (taken_entry v ∷ [])
+cut_step o es v cause leads m f none rows ids told =
+    let s : State = replay o es in
+    let e : Entry = taken_entry v in
+    let maps : count_by (λ e. makes_map e.event) (e ∷ []) ≡ 0 = sum_by-cons (λ e. cond (makes_map e.event) 1 0) e [] ∙ ap (λ b. cond b 1 0 + 0) m in
+    let next : s.next ≡ next_of s.next (e ∷ []) = omega (arith, maps) in
+    (λ j. record {
+      gap = s.gap;
+      profile = s.profile;
+      next = next j;
+      cause = sym told j;
+      taken_before = s.taken_before + 1;
+      roster = sym rows j;
+      book = (sym (afresh_all s e f none s.book) ∙ ap (map (account_after s (e ∷ []))) (sym ids)) j;
+      window = sym (window_of-cut o es e leads m f) j;
+    })
+  where
+    afresh_all : (s : State) (e : Entry) → forgets e.event ≡ true → ((ms : List WindowMap) (since i : ℕ) → candidates_in ms since i e.event ≡ []) → (book : List Account) → map (account_after s (e ∷ [])) (alloc_ids book) ≡ map (afresh s.next) book
+    afresh_all s e f none [] = refl
+    afresh_all s e f none (a ∷ book) =
+        let begun : begins a.alloc_id e ≡ true = or_right (admits a.alloc_id e.event) (forgets e.event) f in
+        let since : since_of s (e ∷ []) a.alloc_id ≡ s.next = since_begins s a.alloc_id e begun in
+        let counted : counted_of s (e ∷ []) a.alloc_id ≡ None = counted_forgotten s a.alloc_id e begun (λ ms since. none ms since a.alloc_id) in
+        (λ j. record { alloc_id = a.alloc_id; since = since j; counted = counted j } ∷ afresh_all s e f none book j)
+
 -- One entry more.
 
 -- the present state of a lawful chapter is a lawful one
@@ -183,13 +222,17 @@ next_chapter c s t event reply k follows step =
       book = steady.book;
     }
 
+-- the frames of its window lead to the next
+pub kept_frames : (c : Chapter) (s : State) → IsKept c s → LeadsTo s.next s.window
+kept_frames c s k = subst (λ s. LeadsTo s.next s.window) (sym k.replayed) (present_lawful c k.lawful).steady.frames
+
 -- a map is kept
 pub mapped : (c d : Chapter) (s t : State) (made : MadeMap) → IsKept c s → first_refusal (length c.entries) s MakeMap ≡ None → IsMade s made →
-    d ≡ with_entry c MakeMap (Map made) → t ≡ after_map s (new_map s.roster s.next (Map made)) → IsKept d t
+    d ≡ with_entry c MakeMap (Map made) → t ≡ after_map s (grants_of s.roster made.map) → IsKept d t
 mapped c d s t made k accepted is_made more after =
-    rw (more, after) (next_chapter c s (after_map s (new_map s.roster s.next (Map made))) MakeMap (Map made) k
+    rw (more, after) (next_chapter c s (after_map s (grants_of s.roster made.map)) MakeMap (Map made) k
     (record { event = tt; accepted = accepted; reply = is_made })
-    (λ e. subst (λ s. after_map s (new_map s.roster s.next (Map made)) ≡ replay s (record { event = MakeMap; reply = Map made } ∷ [])) e
+    (λ e. subst (λ s. after_map s (grants_of s.roster made.map) ≡ replay s (record { event = MakeMap; reply = Map made } ∷ [])) e
     (map_step c.opening c.entries (Map made) (subst (λ s. AreRising (alloc_ids s.book)) (sym e) k.book.0))))
 
 -- a row is kept
@@ -232,3 +275,28 @@ map_taken c d s made kept k accepted is_made same more = record {
   };
   kept = more ∙ ap (λ m. with_entry c MakeMap (Map m)) same;
 }
+
+-- a fault is kept, and its end
+module _ (c d : Chapter) (s t : State) (k : IsKept c s) where
+  pub failed : (cause : ℕ) → first_refusal (length c.entries) s (Fail cause) ≡ None → d ≡ with_entry c (Fail cause) Taken → t ≡ after_cut s (Some cause) → IsKept d t
+  failed cause accepted more after =
+      rw (more, after) (next_chapter c s (after_cut s (Some cause)) (Fail cause) Taken k
+      (record { event = tt; accepted = accepted; reply = refl })
+      (λ e. subst (λ s. after_cut s (Some cause) ≡ replay s (taken_entry (Fail cause) ∷ [])) e
+      (cut_step c.opening c.entries (Fail cause) (Some cause) k.lawful.opening.frames refl refl (λ ms since i. refl) refl refl refl)))
+
+  pub restored : first_refusal (length c.entries) s Restore ≡ None → d ≡ with_entry c Restore Taken → t ≡ after_cut s None → IsKept d t
+  restored accepted more after =
+      rw (more, after) (next_chapter c s (after_cut s None) Restore Taken k
+      (record { event = tt; accepted = accepted; reply = refl })
+      (λ e. subst (λ s. after_cut s None ≡ replay s (taken_entry Restore ∷ [])) e
+      (cut_step c.opening c.entries Restore None k.lawful.opening.frames refl refl (λ ms since i. refl) refl refl refl)))
+
+-- a report is kept
+pub reported : (c d : Chapter) (s t : State) (f u : ℕ) (ns : List (Option ℕ)) → IsKept c s → first_refusal (length c.entries) s (Report f u ns) ≡ None →
+    d ≡ with_entry c (Report f u ns) Taken → t ≡ after_report s f u ns → IsKept d t
+reported c d s t f u ns k accepted more after =
+    let lawful : IsLawfulState s = subst IsLawfulState (sym k.replayed) (present_lawful c k.lawful) in
+    rw (more, after) (next_chapter c s (after_report s f u ns) (Report f u ns) Taken k
+    (record { event = tt; accepted = accepted; reply = refl })
+    (λ e. report_step s lawful f u ns))

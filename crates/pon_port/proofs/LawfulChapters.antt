@@ -26,10 +26,10 @@ event_keeps kept s (Change alloc_id descriptor) i h k =
     change_keeps rule_in_force s.gap s.roster alloc_id descriptor
     (or_else_none (refuses_change rule_in_force s.gap s.roster alloc_id descriptor) (when_full kept s.taken_before) h).0 i k
 event_keeps kept s (Remove alloc_id) i h k = remove_keeps rule_in_force s.gap s.roster alloc_id k
-event_keeps kept s (Report frame onu occ not_yet) i h k = k
+event_keeps kept s (Report frame onu occ) i h k = k
 event_keeps kept s MakeMap i h k = k
-event_keeps kept s (Fail cause not_yet) i h k = k
-event_keeps kept s (Restore not_yet) i h k = k
+event_keeps kept s (Fail cause) i h k = k
+event_keeps kept s Restore i h k = k
 
 -- so does a legal list of entries
 pub entries_keep : (o : State) (done es : List Entry) → IsLegalAfter o done es → IsAdmitted rule_in_force o.gap (replay o done).roster → IsAdmitted rule_in_force o.gap (replay o (done ++ es)).roster

@@ -1,8 +1,8 @@
 -- The states of a lawful chapter are lawful openings.
 use Rattle.std.proofs.Common.{◌≡◌, ℕ, ◌+◌, ◌-◌, ◌<◌, ◌≤◌, Bool, true, false, cond, not, ◌||◌, ◌&&◌, List, [], ◌∷◌, ◌++◌, map, length, take, drop, get_or, refl, ap, sym, ◌∙◌, subst, append_assoc, arith, inl, inr}
-use Rattle.std.specs.Prelude.{◌==◌, nat_le, nat_lt, if◌then◌else◌, filter, flat_map, All, Contains, Option, Some, None, IfSome, option_to_list}
+use Rattle.std.specs.Prelude.{◌==◌, nat_le, nat_lt, if◌then◌else◌, filter, All, Contains, Option, Some, None, IfSome, option_to_list}
 use Rattle.std.specs.List.{list_any}
-use Rattle.std.proofs.lemmas.Bool.{eq-eqb, eqb-true, ne_eqb, leb-true, and_from, and_parts, or_left, or_right, or_parts, or_from, cases_Bool, not-false}
+use Rattle.std.proofs.lemmas.Bool.{eq-eqb, eqb-true, leb-true, and_from, and_parts, or_left, or_right, or_parts, or_from, cases_Bool, not-false}
 use Rattle.std.proofs.lemmas.Bool.Decides.{eqb_tells}
 use Rattle.std.proofs.lemmas.List.{append-nil, take-append-drop}
 use Rattle.std.proofs.lemmas.List.Elements.{All-nil, All-cons, All-head, All-tail, All-append, All-filter, All-map, All-weaker}
@@ -10,15 +10,19 @@ use Rattle.std.proofs.lemmas.List.Folds.{map_fixed}
 use Rattle.pon_descr.specs.Checks.{or_else, when}
 use Rattle.pon_admit.specs.Roster.{IsDistinct, comes_before}
 use Rattle.pon_admit.specs.declared.row.Row.{Row}
-use Rattle.pon_port.specs.Book.{Account, Counted, account_of, alloc_ids}
-use Rattle.pon_port.specs.Window.{Granted, LeadsTo, WindowMap, grants_at, polled}
+use Rattle.pon_guar.specs.declared.account.Account.{Account}
+use Rattle.pon_guar.specs.declared.account.Counted.{Counted}
+use Rattle.pon_guar.specs.Book.{account_of, alloc_ids, counted_of_account, since_of_account}
+use Rattle.pon_units.specs.declared.granted.Granted.{Granted}
+use Rattle.pon_guar.specs.Window.{LeadsTo, WindowMap, grants_at, polled, last_64, words_from, words_in, is_of, IsLawfulMap}
+use Rattle.pon_guar.specs.Reports.{later, latest, occupancies, refuses_report}
+use Rattle.pon_guar.specs.Loads.{less}
 use Rattle.pon_port.specs.State.{State}
-use Rattle.pon_port.specs.Replay.{admits, allocs_after, begins, forgets, last_64, makes_map, new_map, reports, roster_after, structures, window_of, with_reports}
-use Rattle.pon_port.specs.Loads.{account_after, candidates_in, counted_of, counted_of_account, later, latest, occupancies, replay, since_of, since_of_account, words_from, words_in}
-use Rattle.pon_port.specs.Checks.{first_refusal, is_of, refuses_report, when_down, when_full}
+use Rattle.pon_port.specs.Replay.{admits, allocs_after, begins, forgets, makes_map, new_map, reports, roster_after, structures, window_of, with_reports}
+use Rattle.pon_port.specs.Loads.{account_after, candidates_in, counted_of, replay, since_of}
+use Rattle.pon_port.specs.Checks.{first_refusal, when_down, when_full}
 use Rattle.pon_port.specs.Legal.{MayFollow}
-use Rattle.pon_port.specs.Chapters.{AccountIsLawful, Chapter, CountedIsLawful, IsLawfulChapter, IsLawfulMap, IsLawfulOpening, Owns, present_state, state_before}
-use Rattle.pon_port.specs.After.{less}
+use Rattle.pon_port.specs.Chapters.{AccountIsLawful, Chapter, CountedIsLawful, IsLawfulChapter, IsLawfulOpening, Owns, present_state, state_before}
 use Rattle.pon_port.specs.declared.event.Event.{Event}
 use Rattle.pon_port.specs.declared.event.Event.TheVariants.{Admit, Change, Remove, Report, MakeMap, Fail, Restore}
 use Rattle.pon_port.specs.declared.reply.Reply.{Reply}
@@ -27,15 +31,18 @@ use Rattle.pon_descr.specs.declared.refusal.Refusal.TheVariants.{StaleFrame}
 use Rattle.pon_units.proofs.Lists.{any_eq-filter, filter_agree, map-map, or-false}
 use Rattle.pon_port.proofs.Windows.{filter_zero, leads-map}
 use Rattle.pon_port.proofs.Loads.{had_alloc_all, has_id}
-use Rattle.pon_port.proofs.Accounts.{found_each, unmap}
-use Rattle.pon_port.proofs.Members.{any_contains, contains_any, each_has, occurs-distinct}
+use Rattle.pon_guar.proofs.Accounts.{found_each, unmap}
+use Rattle.pon_guar.proofs.Books.{none_any}
+use Rattle.pon_guar.proofs.Frames.{grants_of_one, leads_below, one_of_frame}
+use Rattle.pon_guar.proofs.Polls.{occurs-distinct}
+use Rattle.pon_port.proofs.Members.{any_contains, contains_any, each_has}
 use Rattle.pon_port.proofs.Legality.{IsLegalAfter, after_from_legal, legal_push, legal_split}
 use Rattle.pon_descr.proofs.Checks.{or_else_none, when_none}
 use Rattle.pon_port.proofs.Cutting.{replay-append}
 use Rattle.pon_port.proofs.Steps.{counted_forgotten, counted_of-map, counted_of-report, since_begins, since_keeps}
 use Rattle.pon_units.proofs.Distinct.{occurs}
 use Rattle.pon_admit.proofs.AdmittedSets.{changed, changed_alloc, changed_onu}
-use Rattle.pon_port.proofs.Steady.{IsSteady, grants_all, none_any, steady_step, window_all}
+use Rattle.pon_port.proofs.Steady.{IsSteady, grants_all, steady_step, window_all}
 
 -- Lists.
 
@@ -121,10 +128,10 @@ rows_kept Q i (Change alloc_id descriptor) rows n h =
     (All-weaker (λ r. r.alloc_id ≡ i → Q r.onu) (λ r. (changed alloc_id descriptor r).alloc_id ≡ i → Q (changed alloc_id descriptor r).onu)
     (λ r k e. subst Q (sym (changed_onu alloc_id descriptor r)) (k (sym (changed_alloc alloc_id descriptor r) ∙ e))) rows h)
 rows_kept Q i (Remove alloc_id) rows n h = All-filter (λ r. not (r.alloc_id == alloc_id)) (λ r. r.alloc_id ≡ i → Q r.onu) rows h
-rows_kept Q i (Report frame onu occ not_yet) rows n h = h
+rows_kept Q i (Report frame onu occ) rows n h = h
 rows_kept Q i MakeMap rows n h = h
-rows_kept Q i (Fail cause not_yet) rows n h = h
-rows_kept Q i (Restore not_yet) rows n h = h
+rows_kept Q i (Fail cause) rows n h = h
+rows_kept Q i Restore rows n h = h
 
 -- each row's ONU owns its Alloc-ID
 distinct_owns : (rows : List Row) → IsDistinct rows → All (λ r. Owns rows r.alloc_id r.onu) rows
@@ -141,63 +148,37 @@ distinct_owns (x ∷ rows) h =
     past r k o = All-cons (λ q. q.alloc_id ≡ r.alloc_id → q.onu ≡ r.onu) x rows
         (λ e. absurd (let t : true ≡ false = sym (eq-eqb r.alloc_id x.alloc_id (sym e)) ∙ k in cc)) o
 
--- Frames of a window.
-
-leads_below : (n : ℕ) (ms : List WindowMap) → LeadsTo n ms → All (λ m. m.frame < n) ms
-leads_below n [] h = All-nil (λ m. m.frame < n)
-leads_below n (m ∷ ms) h = All-cons (λ m. m.frame < n) m ms (omega (arith, h.0)) (leads_below n ms h.1)
-
-leads_above : (n : ℕ) (ms : List WindowMap) → LeadsTo n ms → All (λ m. n ≤ m.frame + length ms) ms
-leads_above n [] h = All-nil (λ m. n ≤ m.frame + 0)
-leads_above n (m ∷ ms) h = All-cons (λ q. n ≤ q.frame + length (m ∷ ms)) m ms (omega (arith, h.0))
-    (All-weaker (λ q. n ≤ q.frame + length ms) (λ q. n ≤ q.frame + length (m ∷ ms)) (λ q l. omega (arith, l)) ms (leads_above n ms h.1))
-
-no_frame : (f : ℕ) (ms : List WindowMap) → All (λ m. (m.frame == f) ≡ false) ms → filter (λ m. m.frame == f) ms ≡ []
-no_frame f [] h = refl
-no_frame f (m ∷ ms) h = (λ i. cond (All-head (λ m. (m.frame == f) ≡ false) m ms h i) (m ∷ filter (λ m. m.frame == f) ms) (filter (λ m. m.frame == f) ms)) ∙ no_frame f ms (All-tail (λ m. (m.frame == f) ≡ false) m ms h)
-
--- one map of a frame at most
-one_of_frame : (n f : ℕ) (ms : List WindowMap) → LeadsTo n ms → All (λ m. m.frame ≡ f → filter (λ m. m.frame == f) ms ≡ m ∷ []) ms
-one_of_frame n f [] h = All-nil (λ m. m.frame ≡ f → filter (λ m. m.frame == f) [] ≡ m ∷ [])
-one_of_frame n f (x ∷ ms) h = All-cons (λ m. m.frame ≡ f → filter (λ m. m.frame == f) (x ∷ ms) ≡ m ∷ []) x ms
-    (λ e. ap (λ b. cond b (x ∷ filter (λ m. m.frame == f) ms) (filter (λ m. m.frame == f) ms)) (eq-eqb x.frame f e)
-    ∙ ap (λ t. x ∷ t) (no_frame f ms (All-weaker (λ m. n ≤ m.frame + length ms) (λ m. (m.frame == f) ≡ false) (λ m l. ne_eqb m.frame f (λ q. omega (arith, l, q, e, h.0))) ms (leads_above n ms h.1))))
-    (λ k d l. past (get_or ms k d) (leads_above n ms h.1 k d l) (one_of_frame n f ms h.1 k d l))
-  where
-    past : (m : WindowMap) → n ≤ m.frame + length ms → (m.frame ≡ f → filter (λ m. m.frame == f) ms ≡ m ∷ []) → m.frame ≡ f → filter (λ m. m.frame == f) (x ∷ ms) ≡ m ∷ []
-    past m l k e = ap (λ b. cond b (x ∷ filter (λ m. m.frame == f) ms) (filter (λ m. m.frame == f) ms)) (ne_eqb x.frame f (λ q. omega (arith, l, q, e, h.0))) ∙ k e
-
 -- Kinds of event.
 
 begins_none : (i : ℕ) (v : Event) → (admits i v || forgets v) ≡ true → (ms : List WindowMap) (since : ℕ) → candidates_in ms since i v ≡ []
 begins_none i (Admit onu alloc_id descriptor) h ms since = refl
 begins_none i (Change alloc_id descriptor) h ms since = refl
 begins_none i (Remove alloc_id) h ms since = refl
-begins_none i (Report frame onu occ not_yet) h ms since = absurd cc
+begins_none i (Report frame onu occ) h ms since = absurd cc
 begins_none i MakeMap h ms since = refl
-begins_none i (Fail cause not_yet) h ms since = refl
-begins_none i (Restore not_yet) h ms since = refl
+begins_none i (Fail cause) h ms since = refl
+begins_none i Restore h ms since = refl
 
 begins_no_map : (i : ℕ) (v : Event) → (admits i v || forgets v) ≡ true → makes_map v ≡ true → ⊥
 begins_no_map i (Admit onu alloc_id descriptor) h k = absurd cc
 begins_no_map i (Change alloc_id descriptor) h k = absurd cc
 begins_no_map i (Remove alloc_id) h k = absurd cc
-begins_no_map i (Report frame onu occ not_yet) h k = absurd cc
+begins_no_map i (Report frame onu occ) h k = absurd cc
 begins_no_map i MakeMap h k = absurd cc
-begins_no_map i (Fail cause not_yet) h k = absurd cc
-begins_no_map i (Restore not_yet) h k = absurd cc
+begins_no_map i (Fail cause) h k = absurd cc
+begins_no_map i Restore h k = absurd cc
 
 map_keeps_roster : (v : Event) (rows : List Row) → makes_map v ≡ true → roster_after rows v ≡ rows
 map_keeps_roster (Admit onu alloc_id descriptor) rows h = absurd cc
 map_keeps_roster (Change alloc_id descriptor) rows h = absurd cc
 map_keeps_roster (Remove alloc_id) rows h = absurd cc
-map_keeps_roster (Report frame onu occ not_yet) rows h = refl
+map_keeps_roster (Report frame onu occ) rows h = refl
 map_keeps_roster MakeMap rows h = refl
-map_keeps_roster (Fail cause not_yet) rows h = refl
-map_keeps_roster (Restore not_yet) rows h = refl
+map_keeps_roster (Fail cause) rows h = refl
+map_keeps_roster Restore rows h = refl
 
 -- an account that is there, under its Alloc-ID
-pick_account : (P : Account → Type 0) (book : List Account) (i : ℕ) → has_id i (alloc_ids book) ≡ true → All P book → (a : Account) × (account_of book i ≡ Some a) × (a.alloc_id ≡ i) × P a
+pub pick_account : (P : Account → Type 0) (book : List Account) (i : ℕ) → has_id i (alloc_ids book) ≡ true → All P book → (a : Account) × (account_of book i ≡ Some a) × (a.alloc_id ≡ i) × P a
 pick_account P [] i h k = absurd cc
 pick_account P (x ∷ book) i h k = elim (eqb_tells x.alloc_id i) [
   | inl e ↦ (x, ap (λ b. cond b (Some x) (account_of book i)) e.0, e.1, All-head P x book k)
@@ -301,17 +282,13 @@ frame_below n f (m ∷ ms) h t = elim (eqb_tells m.frame f) [
   | inr e ↦ frame_below n f ms (All-tail (λ m. m.frame < n) m ms h) (subst (λ b. (b || list_any (is_of f) ms) ≡ true) e.0 t)
 ]
 
-no_occupancies : (i : ℕ) (gs : List Granted) (ns : List (Option ℕ)) → list_any (λ g. g.alloc_id == i) gs ≡ false → occupancies i gs ns ≡ []
+pub no_occupancies : (i : ℕ) (gs : List Granted) (ns : List (Option ℕ)) → list_any (λ g. g.alloc_id == i) gs ≡ false → occupancies i gs ns ≡ []
 no_occupancies i [] ns h = refl
 no_occupancies i (g ∷ gs) [] h = refl
 no_occupancies i (g ∷ gs) (None ∷ ns) h = no_occupancies i gs ns (or_parts (g.alloc_id == i) (list_any (λ g. g.alloc_id == i) gs) h).1
 no_occupancies i (g ∷ gs) (Some n ∷ ns) h =
     let two : ((g.alloc_id == i) ≡ false) × (list_any (λ g. g.alloc_id == i) gs ≡ false) = or_parts (g.alloc_id == i) (list_any (λ g. g.alloc_id == i) gs) h in
     (λ j. if two.0 j then n ∷ occupancies i gs ns else occupancies i gs ns) ∙ no_occupancies i gs ns two.1
-
--- the grants of a frame that has one map
-grants_of_one : (f u : ℕ) (ms : List WindowMap) (m : WindowMap) → filter (λ m. m.frame == f) ms ≡ m ∷ [] → grants_at f u ms ≡ filter (λ g. g.onu == u) m.grants
-grants_of_one f u ms m h = ap (λ ms. filter (λ g. g.onu == u) (flat_map (λ m. m.grants) ms)) h ∙ ap (filter (λ g. g.onu == u)) (append-nil m.grants)
 
 -- a polled ONU whose report is taken has reported
 reported_now : (e : Entry) (m : WindowMap) (u : ℕ) → reports m.frame u e.event ≡ true → occurs u (polled m) ≡ true → Contains (with_reports (e ∷ []) m).reported u
@@ -327,7 +304,7 @@ owner_reported rows reported j i v u owns of_it by_it there =
     (λ r w z. subst (Contains reported) (sym (w (z ∙ sym of_it) ∙ by_it)) there) rows owns
 
 -- a grant that passes two tests
-pick_grant : (P : Granted → Type 0) (p q : Granted → Bool) (gs : List Granted) → list_any p (filter q gs) ≡ true → All P gs → (g : Granted) × (p g ≡ true) × (q g ≡ true) × P g
+pub pick_grant : (P : Granted → Type 0) (p q : Granted → Bool) (gs : List Granted) → list_any p (filter q gs) ≡ true → All P gs → (g : Granted) × (p g ≡ true) × (q g ≡ true) × P g
 pick_grant P p q [] h k = absurd cc
 pick_grant P p q (g ∷ gs) h k =
     let later : list_any p (filter q gs) ≡ true → (g : Granted) × (p g ≡ true) × (q g ≡ true) × P g = λ h. pick_grant P p q gs h (All-tail P g gs k) in
@@ -411,8 +388,8 @@ module _ (kept : ℕ) (s : State) (k : IsSteady s) (i : ℕ) (a : Account) (foun
   counted_step (Remove alloc_id) reply h b =
       let e : Entry = record { event = Remove alloc_id; reply = reply } in
       with_candidates s e k i b a found same lawful refl (All-nil (CountedIsLawful (replay s (e ∷ [])) (account_after s (e ∷ []) i)))
-  counted_step (Report frame onu occ not_yet) reply h b =
-      let e : Entry = record { event = Report frame onu occ not_yet; reply = reply } in
+  counted_step (Report frame onu occ) reply h b =
+      let e : Entry = record { event = Report frame onu occ; reply = reply } in
       with_candidates s e k i b a found same lawful refl
       (new_reports s e k i b a found same lawful frame onu
       (and_from (frame == frame) (onu == onu) (eq-eqb frame frame refl) (eq-eqb onu onu refl)) refl refl
@@ -424,11 +401,11 @@ module _ (kept : ℕ) (s : State) (k : IsSteady s) (i : ℕ) (a : Account) (foun
       (sym (counted_of-map s i reply ∙ ap (λ o. latest (map (less w) (counted_of_account o))) found))
       (latest_all (CountedIsLawful (replay s (e ∷ [])) (account_after s (e ∷ []) i)) (map (less w) (option_to_list a.counted))
       (All-map (CountedIsLawful (replay s (e ∷ [])) (account_after s (e ∷ []) i)) (less w) (option_to_list a.counted) (all_carried s e k i b a found same lawful w)))
-  counted_step (Fail cause not_yet) reply h b =
-      let e : Entry = record { event = Fail cause not_yet; reply = reply } in
+  counted_step (Fail cause) reply h b =
+      let e : Entry = record { event = Fail cause; reply = reply } in
       with_candidates s e k i b a found same lawful refl (All-nil (CountedIsLawful (replay s (e ∷ [])) (account_after s (e ∷ []) i)))
-  counted_step (Restore not_yet) reply h b =
-      let e : Entry = record { event = Restore not_yet; reply = reply } in
+  counted_step Restore reply h b =
+      let e : Entry = record { event = Restore; reply = reply } in
       with_candidates s e k i b a found same lawful refl (All-nil (CountedIsLawful (replay s (e ∷ [])) (account_after s (e ∷ []) i)))
 
 account_step : (kept : ℕ) (s : State) (e : Entry) → first_refusal kept s e.event ≡ None → IsSteady s → All (AccountIsLawful s) s.book →

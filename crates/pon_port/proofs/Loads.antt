@@ -6,12 +6,14 @@ use Rattle.std.proofs.lemmas.List.Folds.{list_any-append}
 use Rattle.std.proofs.lemmas.List.Sums.{sum_by-append, sum_by-cons}
 use Rattle.std.proofs.lemmas.Bool.{lt-leb, eqb-true, ne_eqb, or_left, or_right, or_cases, or_parts, cases_lt, lt-ltb, le-ltb}
 use Rattle.std.proofs.lemmas.Bool.Decides.{leb_tells, nat_tests}
-use Rattle.pon_port.specs.Book.{Counted, account_of}
-use Rattle.pon_port.specs.Window.{LeadsTo, WindowMap, grants_at}
+use Rattle.pon_guar.specs.declared.account.Counted.{Counted}
+use Rattle.pon_guar.specs.Book.{account_of, counted_of_account, since_of_account}
+use Rattle.pon_guar.specs.Window.{LeadsTo, WindowMap, grants_at, last_64, words_from, words_in}
+use Rattle.pon_guar.specs.Reports.{later, latest, occupancies}
+use Rattle.pon_guar.specs.Loads.{less}
 use Rattle.pon_port.specs.State.{State}
-use Rattle.pon_port.specs.Replay.{allocs_after, allocs_of, begins, last_64, with_reports}
-use Rattle.pon_port.specs.Loads.{account_after, candidates_in, counted_of, counted_of_account, later, latest, occupancies, since_of, since_of_account, words_from, words_in}
-use Rattle.pon_port.specs.After.{less}
+use Rattle.pon_port.specs.Replay.{allocs_after, allocs_of, begins, with_reports}
+use Rattle.pon_port.specs.Loads.{account_after, candidates_in, counted_of, since_of}
 use Rattle.pon_port.specs.declared.event.Event.{Event}
 use Rattle.pon_port.specs.declared.event.Event.TheVariants.{Admit, Change, Remove, Report, MakeMap, Fail, Restore}
 use Rattle.pon_port.specs.declared.reply.Entry.{Entry}
@@ -86,7 +88,7 @@ agree f ys ms ns bs e =
 
 -- each report is of a frame below
 abbrev pub EventBelow : ℕ → Event → Type 0
-EventBelow n (Report frame onu occ not_yet) = frame < n
+EventBelow n (Report frame onu occ) = frame < n
 EventBelow n _ = Unit {0}
 
 abbrev pub AreBelow : ℕ → List Entry → Type 0
@@ -95,7 +97,7 @@ AreBelow n (e ∷ es) = EventBelow n e.event × AreBelow n es
 
 -- each report is of a frame so many before n at most
 abbrev pub EventWithin : ℕ → ℕ → Event → Type 0
-EventWithin n k (Report frame onu occ not_yet) = n ≤ frame + k
+EventWithin n k (Report frame onu occ) = n ≤ frame + k
 EventWithin n k _ = Unit {0}
 
 abbrev pub AreWithin : ℕ → ℕ → List Entry → Type 0
@@ -110,15 +112,15 @@ candidates_agree n k ms ns h since i [] w = refl
 candidates_agree n k ms ns h since i (e ∷ es) w = (λ j. one e.event w.0 j ++ candidates_agree n k ms ns h since i es w.1 j)
   where
     one : (v : Event) → EventWithin n k v → candidates_in ms since i v ≡ candidates_in ns since i v
-    one (Report frame onu occ not_yet) w = (λ j. if nat_le since frame
+    one (Report frame onu occ) w = (λ j. if nat_le since frame
         then map (λ c. record { frame = frame; words = c - words_from_agree i frame ms ns (h frame w) j }) (occupancies i (grants_at_agree frame onu ms ns (h frame w) j) occ)
         else [])
     one (Admit onu alloc_id descriptor) w = refl
     one (Change alloc_id descriptor) w = refl
     one (Remove alloc_id) w = refl
     one MakeMap w = refl
-    one (Fail cause not_yet) w = refl
-    one (Restore not_yet) w = refl
+    one (Fail cause) w = refl
+    one Restore w = refl
 
 -- where reports count only from later frames on, there is none
 pub candidates_late : (n : ℕ) (ms : List WindowMap) (since i : ℕ) (es : List Entry) → n ≤ since → AreBelow n es →
@@ -127,13 +129,13 @@ candidates_late n ms since i [] l w = refl
 candidates_late n ms since i (e ∷ es) l w = (λ j. one e.event w.0 j ++ candidates_late n ms since i es l w.1 j)
   where
     one : (v : Event) → EventBelow n v → candidates_in ms since i v ≡ []
-    one (Report frame onu occ not_yet) w = rw (lt-leb since frame (omega arith)) refl
+    one (Report frame onu occ) w = rw (lt-leb since frame (omega arith)) refl
     one (Admit onu alloc_id descriptor) w = refl
     one (Change alloc_id descriptor) w = refl
     one (Remove alloc_id) w = refl
     one MakeMap w = refl
-    one (Fail cause not_yet) w = refl
-    one (Restore not_yet) w = refl
+    one (Fail cause) w = refl
+    one Restore w = refl
 
 -- no map of a later list is of an earlier frame
 frame_absent : (n f : ℕ) (ms : List WindowMap) → LeadsTo n ms → f + length ms < n → filter (λ m. m.frame == f) ms ≡ []
@@ -146,7 +148,7 @@ words_from_all n i f ms h l = words_from_is i f ms ∙ ap (λ t. sum_by (words_i
 pub words_from-map : (i f : ℕ) (ys : List Entry) (ms : List WindowMap) → words_from i f (map (with_reports ys) ms) ≡ words_from i f ms
 words_from-map i f ys ms = sum_by-map (λ m. if nat_le f m.frame then words_in i m else 0) (with_reports ys) ms
 
-grants_at-map : (f u : ℕ) (ys : List Entry) (ms : List WindowMap) → grants_at f u (map (with_reports ys) ms) ≡ grants_at f u ms
+pub grants_at-map : (f u : ℕ) (ys : List Entry) (ms : List WindowMap) → grants_at f u (map (with_reports ys) ms) ≡ grants_at f u ms
 grants_at-map f u ys ms = ap (λ t. filter (λ g. g.onu == u) t)
     (ap (λ t. flat_map (λ m. m.grants) t) (map_filter (with_reports ys) (λ m. m.frame == f) ms) ∙ flat_map-map (λ m. m.grants) (with_reports ys) (filter (λ m. m.frame == f) ms))
 
@@ -164,7 +166,7 @@ candidates_less nx n ys ms bs lead q since i (e ∷ es) w =
     ∙ sym (map-append (less (words_from i 0 bs)) (candidates_in ms since i e.event) _)
   where
     one : (v : Event) → EventBelow nx v → candidates_in (map (with_reports ys) ms ++ bs) since i v ≡ map (less (words_from i 0 bs)) (candidates_in ms since i v)
-    one (Report frame onu occ not_yet) w =
+    one (Report frame onu occ) w =
         let granted : words_from i frame (map (with_reports ys) ms ++ bs) ≡ words_from i frame ms + words_from i 0 bs
         = sum_by-append (λ m. if nat_le frame m.frame then words_in i m else 0) (map (with_reports ys) ms) bs
         ∙ (λ j. words_from-map i frame ys ms j + words_from_all n i frame bs lead (let l : frame + length bs ≤ n = omega arith in l) j) in
@@ -189,8 +191,8 @@ candidates_less nx n ys ms bs lead q since i (e ∷ es) w =
     one (Change alloc_id descriptor) w = refl
     one (Remove alloc_id) w = refl
     one MakeMap w = refl
-    one (Fail cause not_yet) w = refl
-    one (Restore not_yet) w = refl
+    one (Fail cause) w = refl
+    one Restore w = refl
 
 -- The greatest frame.
 
@@ -264,10 +266,10 @@ had_alloc i ids e b h = step e.event b h
         ]
     step (Change alloc_id descriptor) b h = h
     step (Remove alloc_id) b h = any_filter (λ j. j == i) (λ j. not (j == alloc_id)) ids h
-    step (Report frame onu occ not_yet) b h = h
+    step (Report frame onu occ) b h = h
     step MakeMap b h = h
-    step (Fail cause not_yet) b h = h
-    step (Restore not_yet) b h = h
+    step (Fail cause) b h = h
+    step Restore b h = h
 
 pub had_alloc_all : (i : ℕ) (ids : List ℕ) (es : List Entry) → list_any (begins i) es ≡ false → has_id i (allocs_of ids es) ≡ true → has_id i ids ≡ true
 had_alloc_all i ids [] b h = h

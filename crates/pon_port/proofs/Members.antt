@@ -1,13 +1,11 @@
 -- Whether a number is in a list, by its place and by a test.
-use Rattle.std.proofs.Common.{◌≡◌, ℕ, suc, ◌||◌, not, true, List, [], ◌∷◌, refl, ap, sym, ◌∙◌, subst, arith, inl, inr, get_or}
-use Rattle.std.specs.Prelude.{◌==◌, filter, All, Contains}
-use Rattle.std.proofs.lemmas.Bool.{and_from, eq-eqb, ne_eqb, or_left, or_right}
+use Rattle.std.proofs.Common.{◌≡◌, ℕ, suc, ◌||◌, true, List, [], ◌∷◌, refl, subst, arith, inl, inr, get_or}
+use Rattle.std.specs.Prelude.{◌==◌, All, Contains}
+use Rattle.std.proofs.lemmas.Bool.{eq-eqb, or_left, or_right}
 use Rattle.std.proofs.lemmas.Bool.Decides.{eqb_tells}
 use Rattle.std.proofs.lemmas.List.Elements.{All-nil, All-cons, All-weaker}
 use Rattle.std.proofs.lemmas.List.Folds.{list_any_at}
-use Rattle.pon_units.specs.Distinct.{distinct}
 use Rattle.pon_units.proofs.Distinct.{occurs}
-use Rattle.pon_units.proofs.Lists.{any_eq-filter}
 use Rattle.pon_port.proofs.Loads.{has_id}
 
 pub contains_any : (u : ℕ) (xs : List ℕ) → Contains xs u → occurs u xs ≡ true
@@ -18,16 +16,6 @@ any_contains u [] h = absurd cc
 any_contains u (x ∷ xs) h = elim (eqb_tells x u) [
   | inl e ↦ (0, omega arith, e.1)
   | inr e ↦ (let r : Contains xs u = any_contains u xs (subst (λ b. (b || occurs u xs) ≡ true) e.0 h) in (suc r.0, omega (arith, r.1), r.2))
-]
-
--- each number kept once is still there
-pub occurs-distinct : (u : ℕ) (xs : List ℕ) → occurs u xs ≡ true → occurs u (distinct xs) ≡ true
-occurs-distinct u [] h = h
-occurs-distinct u (x ∷ xs) h = elim (eqb_tells x u) [
-  | inl e ↦ or_left (x == u) (occurs u (filter (λ y. not (y == x)) (distinct xs))) e.0
-  | inr e ↦ or_right (x == u) (occurs u (filter (λ y. not (y == x)) (distinct xs)))
-      (any_eq-filter (λ y. not (y == x)) u (distinct xs)
-      ∙ and_from (not (u == x)) (occurs u (distinct xs)) (ap not (ne_eqb u x (λ q. e.1 (sym q)))) (occurs-distinct u xs (subst (λ b. (b || occurs u xs) ≡ true) e.0 h)))
 ]
 
 -- each number of a list is in it

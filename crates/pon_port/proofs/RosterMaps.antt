@@ -1,5 +1,5 @@
 -- The grants of an admitted set make one map.
-use Rattle.std.proofs.Common.{◌≡◌, ℕ, ◌+◌, ◌-◌, ◌*◌, ◌≤◌, true, List, [], ◌∷◌, map, length, refl, ap, sym, ◌∙◌, subst, arith, inl, inr}
+use Rattle.std.proofs.Common.{◌≡◌, ℕ, ◌+◌, ◌-◌, ◌*◌, ◌/◌, ◌≤◌, true, List, [], ◌∷◌, map, length, refl, ap, sym, ◌∙◌, subst, arith, inl, inr}
 use Rattle.std.specs.Prelude.{◌==◌, sum_by, cond}
 use Rattle.std.proofs.Math.Nat.{mul-le-mul_left}
 use Rattle.std.proofs.lemmas.List.{length-map}
@@ -8,6 +8,7 @@ use Rattle.std.proofs.lemmas.List.Sums.{sum_by-cons}
 use Rattle.pon_units.specs.Granted.{AreInMapOrder, ComesBefore, onus_granted}
 use Rattle.pon_units.specs.declared.granted.Granted.{Granted}
 use Rattle.pon_units.specs.Distinct.{distinct}
+use Rattle.pon_units.specs.Fraction.{Fraction}
 use Rattle.pon_units.proofs.Lists.{map-map, sum_by-map}
 use Rattle.pon_burst.specs.Bursts.{AreSound}
 use Rattle.pon_bwmap.specs.Structure.{Structure}
@@ -17,21 +18,23 @@ use Rattle.pon_descr.specs.Descriptor.{promised}
 use Rattle.pon_admit.specs.Roster.{IsAdmitted, IsInMapOrder, Rule, capacity, comes_before, onus_of, overhead, promised_sum}
 use Rattle.pon_admit.specs.declared.row.Row.{Row}
 use Rattle.pon_admit.proofs.AdmittedSets.{fits_parts, precedes}
-use Rattle.pon_port.specs.Window.{WindowMap}
-use Rattle.pon_port.specs.declared.reply.Reply.TheVariants.{Map}
-use Rattle.pon_port.specs.declared.reply.MadeMap.{MadeMap}
 use Rattle.pon_port.specs.State.{State}
-use Rattle.pon_port.specs.Rates.{Rate, granted, guaranteed_rate, no_surplus, payload}
+use Rattle.pon_cert.specs.declared.cert.MapCert.{MapCert}
+use Rattle.pon_cert.specs.Certificate.{left_surplus}
+use Rattle.pon_descr.specs.declared.class.Class.TheVariants.{NonAssured, BestEffort}
+use Rattle.pon_port.specs.Rates.{granted, guaranteed_rate, payload}
+use Rattle.pon_port.specs.Sharing.{IsCertified, items, members, spelled_rate, surplus, surplus_rate}
+use Rattle.pon_port.proofs.Surplus.{by_class, shared, whole_share}
 use Rattle.pon_port.specs.Maps.{map_of}
 use Rattle.pon_port.specs.Packing.{AreOneMap}
-use Rattle.pon_port.specs.Replay.{grants_of, new_map}
+use Rattle.pon_port.specs.Replay.{grants_of}
 
-module _ (s : State) (surplus : ℕ → Rate) where
+module _ (s : State) (surplus : Row → Fraction) where
   -- what a row is granted
   abbrev pub granted_to_row : Row → Granted
   granted_to_row r = record { onu = r.onu; alloc_id = r.alloc_id; words = payload s surplus r }
 
-  in_order : (rows : List Row) → IsInMapOrder rows → AreInMapOrder (map granted_to_row rows)
+  pub in_order : (rows : List Row) → IsInMapOrder rows → AreInMapOrder (map granted_to_row rows)
   in_order [] h = tt
   in_order (r ∷ rows) h = (
     All-map (ComesBefore (granted_to_row r)) granted_to_row rows
@@ -82,33 +85,52 @@ module _ (s : State) (surplus : ℕ → Rate) where
   pub window_grants : grants_of s.roster (map_of s surplus) ≡ granted s surplus
   window_grants = grants_back (structure_of s.gap s.profile (granted s surplus)) (λ g. refl) s.roster
 
--- The payload of guaranteed rates.
+-- The payload of guaranteed and surplus rates.
 
-payload_promised : (s : State) (r : Row) → 256 * payload s no_surplus r ≤ promised r.descriptor
-payload_promised s r = let least : guaranteed_rate s r ≤ promised r.descriptor = omega arith in omega (arith, least)
+-- the whole words take no more than the rates
+payload_sum : (s : State) (surplus : Row → Fraction) (rows : List Row) →
+    256 * sum_by (payload s surplus) rows ≤ sum_by (guaranteed_rate s) rows + sum_by (λ r. (surplus r).num / (surplus r).den) rows
+payload_sum s surplus [] = omega arith
+payload_sum s surplus (r ∷ rows) =
+    let here : 256 * payload s surplus r ≤ guaranteed_rate s r + (surplus r).num / (surplus r).den = omega arith in
+    omega (arith, sum_by-cons (payload s surplus) r rows, sum_by-cons (guaranteed_rate s) r rows, sum_by-cons (λ r. (surplus r).num / (surplus r).den) r rows, here, payload_sum s surplus rows)
 
-payload_sum : (s : State) (rows : List Row) → 256 * sum_by (payload s no_surplus) rows ≤ promised_sum rows
-payload_sum s [] = omega arith
-payload_sum s (r ∷ rows) =
-    let here : 256 * payload s no_surplus r ≤ promised r.descriptor = payload_promised s r in
-    omega (arith, sum_by-cons (payload s no_surplus) r rows, sum_by-cons (λ r. promised r.descriptor) r rows, here, payload_sum s rows)
+pub guaranteed_promised : (s : State) (rows : List Row) → sum_by (guaranteed_rate s) rows ≤ promised_sum rows
+guaranteed_promised s [] = omega arith
+guaranteed_promised s (r ∷ rows) =
+    let least : guaranteed_rate s r ≤ promised r.descriptor = omega arith in
+    omega (arith, sum_by-cons (guaranteed_rate s) r rows, sum_by-cons (λ r. promised r.descriptor) r rows, least, guaranteed_promised s rows)
 
-payload_fits : (s : State) (rule : Rule) → IsAdmitted rule s.gap s.roster → sum_by (payload s no_surplus) s.roster ≤ capacity rule s.gap s.roster
-payload_fits s rule k =
+-- the guaranteed rates leave a surplus
+pub guaranteed_fits : (s : State) (rule : Rule) → IsAdmitted rule s.gap s.roster → sum_by (guaranteed_rate s) s.roster ≤ 256 * capacity rule s.gap s.roster
+guaranteed_fits s rule k =
     let held : promised_sum s.roster ≤ 256 * capacity rule s.gap s.roster = (fits_parts rule s.gap s.roster k.fitting).1 in
-    omega (arith, held, payload_sum s s.roster)
+    omega (arith, held, guaranteed_promised s s.roster)
 
--- guaranteed rates make one map
-pub one_map : (s : State) (rule : Rule) → 1 ≤ rule.overhead_words → rule.most_allocs ≤ 512 → IsAdmitted rule s.gap s.roster → AreOneMap s.gap (granted s no_surplus)
-one_map s rule one few k = one_map_with s no_surplus rule one few k (payload_fits s rule k)
+-- The map of a state, under an accepted certificate.
+module _ (s : State) (rule : Rule) (cert : MapCert) (k : IsAdmitted rule s.gap s.roster) (c : IsCertified rule s cert) where
+  -- the surplus rates take no more than the surplus
+  surplus_shared : sum_by (λ r. (surplus_rate s cert r).num / (surplus_rate s cert r).den) s.roster ≤ surplus rule s
+  surplus_shared =
+      let left : ℕ = left_surplus cert.na.level (items NonAssured s) (surplus rule s) in
+      let parts : sum_by (λ r. (surplus_rate s cert r).num / (surplus_rate s cert r).den) s.roster ≡ sum_by (whole_share s NonAssured cert.na (surplus rule s) k.apart c.non_assured) (members NonAssured s.roster) + sum_by (whole_share s BestEffort cert.be left k.apart c.best_effort) (members BestEffort s.roster)
+      = by_class (spelled_rate s NonAssured cert.na) (spelled_rate s BestEffort cert.be) s.roster in
+      let na = shared s NonAssured cert.na (surplus rule s) k.apart c.non_assured in
+      let be = shared s BestEffort cert.be left k.apart c.best_effort in
+      omega (arith, parts, na, be)
 
--- the bursts of the map of an admitted set are sound
-pub admitted_map_is_sound : (s : State) (rule : Rule) → 1 ≤ rule.overhead_words → IsAdmitted rule s.gap s.roster → AreSound s.gap (map_of s no_surplus)
-admitted_map_is_sound s rule one k =
-    sound_of_rising s.gap s.profile (granted s no_surplus) (in_order s no_surplus s.roster k.in_map_order) (fitting_with s no_surplus rule one k (payload_fits s rule k))
+  payload_fits : sum_by (payload s (surplus_rate s cert)) s.roster ≤ capacity rule s.gap s.roster
+  payload_fits = omega (arith, guaranteed_fits s rule k, payload_sum s (surplus_rate s cert) s.roster, surplus_shared)
+
+  -- they make one map
+  pub one_map : 1 ≤ rule.overhead_words → rule.most_allocs ≤ 512 → AreOneMap s.gap (granted s (surplus_rate s cert))
+  one_map one few = one_map_with s (surplus_rate s cert) rule one few k payload_fits
+
+  -- and its bursts are sound
+  pub admitted_map_is_sound : 1 ≤ rule.overhead_words → AreSound s.gap (map_of s (surplus_rate s cert))
+  admitted_map_is_sound one =
+      sound_of_rising s.gap s.profile (granted s (surplus_rate s cert)) (in_order s (surplus_rate s cert) s.roster k.in_map_order) (fitting_with s (surplus_rate s cert) rule one k payload_fits)
 
 -- what the window keeps of a map that grants so much
-pub kept_of_map : (s : State) (made : MadeMap) (m : WindowMap) → made.map ≡ map_of s no_surplus → m.frame ≡ s.next → m.grants ≡ granted s no_surplus → m.reported ≡ [] → m ≡ new_map s.roster s.next (Map made)
-kept_of_map s made m map frame grants reported =
-    let back : m.grants ≡ grants_of s.roster made.map = grants ∙ sym (window_grants s no_surplus) ∙ ap (grants_of s.roster) (sym map) in
-    (λ i. record { frame = frame i; grants = back i; reported = reported i })
+pub kept_of_map : (s : State) (surplus : Row → Fraction) (told : List Structure) (gs : List Granted) → told ≡ map_of s surplus → gs ≡ granted s surplus → gs ≡ grants_of s.roster told
+kept_of_map s surplus told gs same grants = grants ∙ sym (window_grants s surplus) ∙ ap (grants_of s.roster) (sym same)

@@ -1,33 +1,39 @@
 -- What every state of a lawful chapter keeps, but for the accounts of its reports.
-use Rattle.std.proofs.Common.{◌≡◌, ℕ, ◌-◌, ◌<◌, ◌≤◌, Bool, true, false, cond, not, ◌||◌, ◌&&◌, List, [], ◌∷◌, ◌++◌, map, length, refl, ap, sym, ◌∙◌, subst, arith, inl, inr, get_or}
+use Rattle.std.proofs.Common.{◌≡◌, ℕ, ◌-◌, ◌≤◌, Bool, true, false, cond, not, ◌||◌, ◌&&◌, List, [], ◌∷◌, ◌++◌, map, length, refl, ap, sym, ◌∙◌, subst, arith, inl, inr, get_or}
 use Rattle.std.specs.Prelude.{◌==◌, nat_le, nat_lt, if◌then◌else◌, filter, All, Option, Some, None, IfSome, option_to_list}
 use Rattle.std.specs.List.{list_any}
-use Rattle.std.proofs.lemmas.Bool.{ltb-true, ltb-false, eq-eqb, not-true, or_parts, or_right, cases_Bool, cases_order}
+use Rattle.std.proofs.lemmas.Bool.{or_right, cases_Bool}
 use Rattle.std.proofs.lemmas.Option.{IfSome_then}
-use Rattle.std.proofs.lemmas.List.Elements.{All-nil, All-cons, All-head, All-tail, All-append, All-drop, All-filter, All-map, All-weaker, filter_passes}
+use Rattle.std.proofs.lemmas.List.Elements.{All-nil, All-cons, All-head, All-tail, All-append, All-drop, All-filter, All-map, All-weaker}
 use Rattle.std.proofs.lemmas.List.Folds.{list_any-append}
 use Rattle.pon_bwmap.specs.Structure.{Structure}
 use Rattle.pon_descr.specs.Checks.{or_else}
 use Rattle.pon_admit.specs.Roster.{IsAdmitted, IsInMapOrder, comes_before, has_alloc, refuses_admit, rule_in_force, without}
 use Rattle.pon_admit.specs.declared.row.Row.{Row}
-use Rattle.pon_port.specs.Book.{Account, AreRising, account_of, alloc_ids, with_alloc}
-use Rattle.pon_port.specs.Window.{Granted, LeadsTo, WindowMap, polled}
+use Rattle.pon_guar.specs.declared.account.Account.{Account}
+use Rattle.pon_guar.specs.Book.{AreRising, account_of, alloc_ids, counted_of_account, since_of_account}
+use Rattle.pon_units.specs.declared.granted.Granted.{Granted}
+use Rattle.pon_guar.specs.Window.{LeadsTo, WindowMap, last_64, IsLawfulMap}
+use Rattle.pon_guar.specs.Reports.{latest, refuses_report}
 use Rattle.pon_port.specs.State.{State}
-use Rattle.pon_port.specs.Replay.{admits, all_maps, allocs_after, begins, cause_after, forgets, frame_at_last, grants_of, last_64, makes_map, maps_of, new_map, reports, roster_after, structures, window_of, with_reports}
-use Rattle.pon_port.specs.Loads.{account_after, candidates_in, counted_of, counted_of_account, latest, replay, since_of_account}
-use Rattle.pon_port.specs.Checks.{at_limit, first_refusal, refuses_report, when_down, when_full}
+use Rattle.pon_port.specs.Replay.{admits, all_maps, allocs_after, begins, cause_after, forgets, frame_at_last, grants_of, makes_map, maps_of, new_map, reports, roster_after, structures, window_of, with_reports}
+use Rattle.pon_port.specs.Loads.{account_after, candidates_in, counted_of, replay}
+use Rattle.pon_port.specs.Checks.{at_limit, first_refusal, when_down, when_full}
 use Rattle.pon_port.specs.Legal.{MayFollow}
-use Rattle.pon_port.specs.Chapters.{AccountsFor, IsLawfulMap, IsSilent}
+use Rattle.pon_port.specs.Chapters.{AccountsFor, IsSilent}
 use Rattle.pon_units.specs.Granted.{AreInMapOrder, ComesBefore}
 use Rattle.pon_port.specs.declared.event.Event.{Event}
 use Rattle.pon_port.specs.declared.event.Event.TheVariants.{Admit, Change, Remove, Report, MakeMap, Fail, Restore}
 use Rattle.pon_port.specs.declared.reply.Entry.{Entry}
-use Rattle.pon_units.proofs.Lists.{any_eq-filter, append-nil, filter_same_in, length-drop, map_filter, or_assoc}
+use Rattle.pon_units.proofs.Lists.{any_eq-filter, append-nil, length-drop, map_filter, or_assoc}
 use Rattle.pon_port.proofs.Windows.{filter_low, leads-map}
 use Rattle.pon_port.proofs.Cutting.{alloc_ids-replay, window_leads}
 use Rattle.pon_descr.proofs.Checks.{or_else_none}
 use Rattle.pon_port.proofs.Steps.{counted_forgotten, counted_of-report}
 use Rattle.pon_admit.proofs.AdmittedSets.{Passes, has_alloc-changed, passes, precedes}
+use Rattle.pon_guar.proofs.Accounts.{rising_filter}
+use Rattle.pon_guar.proofs.Books.{rising_with}
+use Rattle.pon_guar.proofs.Polls.{said_lawful}
 use Rattle.pon_port.proofs.LawfulChapters.{event_keeps}
 
 -- the parts of a lawful opening that speak of no account
@@ -62,17 +68,7 @@ window_all P s e old new =
 -- Lawful maps.
 
 pub reported_lawful : (es : List Entry) (m : WindowMap) → AreInMapOrder m.grants → IsLawfulMap (with_reports es m)
-reported_lawful es m h =
-    let said : ℕ → Bool = λ u. list_any (λ v. v == u) m.reported || list_any (λ e. reports m.frame u e.event) es in
-    record {
-      rising = h;
-      reported = filter_same_in said (λ u. list_any (λ v. v == u) (filter said (polled m))) (polled m)
-          (λ u k. sym (any_eq-filter said u (polled m) ∙ ap (λ b. said u && b) k ∙ and_true (said u)));
-    }
-  where
-    and_true : (b : Bool) → (b && true) ≡ b
-    and_true true = refl
-    and_true false = refl
+reported_lawful es m h = said_lawful (λ u. list_any (λ v. v == u) m.reported || list_any (λ e. reports m.frame u e.event) es) m h
 
 -- what holds of each row's grant
 pub grants_all : (P : Granted → Type 0) (rows : List Row) (more : List Structure) → All (λ r. (w : ℕ) → P (record { onu = r.onu; alloc_id = r.alloc_id; words = w })) rows → All P (grants_of rows more)
@@ -102,45 +98,6 @@ maps_step s e k = window_all IsLawfulMap s e
     (λ _. reported_lawful [] (new_map s.roster s.next e.reply) (grants_rise s.roster (structures e.reply) k.admitted.in_map_order))
 
 -- The Alloc-IDs of the book.
-
-rising_filter : (t : ℕ → Bool) (ids : List ℕ) → AreRising ids → AreRising (filter t ids)
-rising_filter t [] h = tt
-rising_filter t (i ∷ ids) h = elim (t i) as (λ b. AreRising (cond b (i ∷ filter t ids) (filter t ids))) [
-  | true ↦ (All-filter t (λ j. i < j) ids h.0, rising_filter t ids h.1)
-  | false ↦ rising_filter t ids h.1
-]
-
-rising_join : (i : ℕ) (xs ys : List ℕ) → AreRising xs → All (λ j. j < i) xs → All (λ j. i < j) ys → AreRising ys → AreRising (xs ++ i ∷ ys)
-rising_join i [] ys h l g k = (g, k)
-rising_join i (x ∷ xs) ys h l g k =
-    let first : x < i = All-head (λ j. j < i) x xs l in (
-      All-append (λ j. x < j) xs (i ∷ ys) h.0 (All-cons (λ j. x < j) i ys first (All-weaker (λ j. i < j) (λ j. x < j) (λ j q. omega (arith, first, q)) ys g)),
-      rising_join i xs ys h.1 (All-tail (λ j. j < i) x xs l) g k,
-    )
-
-pub none_any : {X : Type 0} (p : X → Bool) (xs : List X) → list_any p xs ≡ false → All (λ x. p x ≡ false) xs
-none_any p [] h = All-nil (λ x. p x ≡ false)
-none_any p (x ∷ xs) h =
-    let two : (p x ≡ false) × (list_any p xs ≡ false) = or_parts (p x) (list_any p xs) h in
-    All-cons (λ x. p x ≡ false) x xs two.0 (none_any p xs two.1)
-
-rising_with : (i : ℕ) (ids : List ℕ) → AreRising ids → list_any (λ j. j == i) ids ≡ false → AreRising (with_alloc i ids)
-rising_with i ids h n =
-    let upper : List ℕ = filter (λ j. not (nat_lt j i)) ids in
-    let other : All (λ j. (j == i) ≡ false) upper = All-filter (λ j. not (nat_lt j i)) (λ j. (j == i) ≡ false) ids (none_any (λ j. j == i) ids n) in
-    let not_below : All (λ j. not (nat_lt j i) ≡ true) upper = filter_passes (λ j. not (nat_lt j i)) ids in
-    rising_join i (filter (λ j. nat_lt j i) ids) upper (rising_filter (λ j. nat_lt j i) ids h)
-    (All-weaker (λ j. nat_lt j i ≡ true) (λ j. j < i) (λ j q. ltb-true j i q) (filter (λ j. nat_lt j i) ids) (filter_passes (λ j. nat_lt j i) ids))
-    (λ k d l. above (get_or upper k d) (other k d l) (not_below k d l))
-    (rising_filter (λ j. not (nat_lt j i)) ids h)
-  where
-    above : (j : ℕ) → (j == i) ≡ false → not (nat_lt j i) ≡ true → i < j
-    above j d l =
-        let least : i ≤ j = ltb-false j i (not-true (nat_lt j i) l) in
-        elim (cases_order i j) [
-          | inl e ↦ absurd (let t : true ≡ false = sym (eq-eqb j i (sym e)) ∙ d in cc)
-          | inr e ↦ omega (arith, e, least)
-        ]
 
 -- one more in its place, the others kept
 pub any_around : {X : Type 0} (p q : X → Bool) (x : X) (xs : List X) → list_any p (filter q xs ++ x ∷ filter (λ y. not (q y)) xs) ≡ (p x || list_any p xs)
@@ -187,10 +144,10 @@ ids_step kept s (Remove alloc_id) h k = (
   rising_filter (λ j. not (j == alloc_id)) (alloc_ids s.book) k.0,
   λ i. any_eq-filter (λ j. not (j == alloc_id)) i (alloc_ids s.book) ∙ ap (λ b. not (i == alloc_id) && b) (k.1 i) ∙ sym (has_alloc-without alloc_id i s.roster),
 )
-ids_step kept s (Report frame onu occ not_yet) h k = k
+ids_step kept s (Report frame onu occ) h k = k
 ids_step kept s MakeMap h k = k
-ids_step kept s (Fail cause not_yet) h k = k
-ids_step kept s (Restore not_yet) h k = k
+ids_step kept s (Fail cause) h k = k
+ids_step kept s Restore h k = k
 
 -- A failed port.
 
@@ -255,11 +212,11 @@ failed_step kept s e h k = one e.event refl h
     one (Admit onu alloc_id descriptor) q h = same (Admit onu alloc_id descriptor) q refl (λ ms since i. refl)
     one (Change alloc_id descriptor) q h = same (Change alloc_id descriptor) q refl (λ ms since i. refl)
     one (Remove alloc_id) q h = same (Remove alloc_id) q refl (λ ms since i. refl)
-    one (Report frame onu occ not_yet) q h =
-        up (Report frame onu occ not_yet) (not_down s.cause (or_else_none (when_down s.cause) (refuses_report s.window frame onu (length occ)) (or_else_none (or_else (when_down s.cause) (refuses_report s.window frame onu (length occ))) (when_full kept s.taken_before) h).0).0)
+    one (Report frame onu occ) q h =
+        up (Report frame onu occ) (not_down s.cause (or_else_none (when_down s.cause) (refuses_report s.window frame onu (length occ)) (or_else_none (or_else (when_down s.cause) (refuses_report s.window frame onu (length occ))) (when_full kept s.taken_before) h).0).0)
     one MakeMap q h = up MakeMap (not_down s.cause (or_else_none (when_down s.cause) (at_limit s.next) (or_else_none (or_else (when_down s.cause) (at_limit s.next)) (when_full kept s.taken_before) h).0).0)
-    one (Fail cause not_yet) q h = cut_silent s e k.frames (ap makes_map q) (ap forgets q) (λ ms since i. ap (candidates_in ms since i) q)
-    one (Restore not_yet) q h = tt
+    one (Fail cause) q h = cut_silent s e k.frames (ap makes_map q) (ap forgets q) (λ ms since i. ap (candidates_in ms since i) q)
+    one Restore q h = tt
 
 -- One entry further, and all of a legal list.
 

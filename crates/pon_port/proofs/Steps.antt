@@ -6,17 +6,19 @@ use Rattle.std.proofs.lemmas.List.Folds.{list_any-append}
 use Rattle.std.proofs.lemmas.List.Sums.{sum_by-cons}
 use Rattle.std.proofs.lemmas.Bool.{le-leb}
 use Rattle.pon_admit.specs.declared.row.Row.{Row}
-use Rattle.pon_port.specs.Book.{Counted, account_of}
-use Rattle.pon_port.specs.Window.{LeadsTo, WindowMap, polled}
+use Rattle.pon_guar.specs.declared.account.Counted.{Counted}
+use Rattle.pon_guar.specs.Book.{account_of, counted_of_account, since_of_account}
+use Rattle.pon_guar.specs.Window.{LeadsTo, WindowMap, polled, last_64, words_from, words_in}
+use Rattle.pon_guar.specs.Reports.{latest}
+use Rattle.pon_guar.specs.Loads.{less}
 use Rattle.pon_port.specs.State.{State}
-use Rattle.pon_port.specs.Replay.{all_maps, begins, forgets, frame_at_last, last_64, makes_map, map_made, maps_of, new_map, next_of, reports, roster_after, window_of, with_reports}
-use Rattle.pon_port.specs.Loads.{candidates_in, counted_of, counted_of_account, latest, replay, since_of, since_of_account, words_from, words_in}
-use Rattle.pon_port.specs.After.{less}
+use Rattle.pon_port.specs.Replay.{all_maps, begins, forgets, frame_at_last, makes_map, map_made, maps_of, new_map, next_of, reports, roster_after, window_of, with_reports}
+use Rattle.pon_port.specs.Loads.{candidates_in, counted_of, replay, since_of}
 use Rattle.pon_port.specs.declared.event.Event.{Event}
 use Rattle.pon_port.specs.declared.event.Event.TheVariants.{MakeMap}
 use Rattle.pon_port.specs.declared.reply.Reply.{Reply}
 use Rattle.pon_port.specs.declared.reply.Entry.{Entry}
-use Rattle.pon_units.proofs.Lists.{or-false, map-map, map_same, drop-map, map_filter, map-append, append-nil, filter_same_in, length-drop}
+use Rattle.pon_units.proofs.Lists.{or-false, map-map, map_same, drop-map, map_filter, map-append, append-nil, filter_same_in, length-drop, length-map}
 use Rattle.pon_port.proofs.Windows.{with_reports-append, filter_zero, filter_low, leads-map}
 use Rattle.pon_port.proofs.Cutting.{window_leads}
 
@@ -71,6 +73,18 @@ window_of-map o es reply =
     ap last_64 (filter_zero (all_maps (replay o es) (e ∷ []))
     ∙ (λ i. quiet_window e (λ frame onu. refl) o es i ++ fresh_map ((replay o es).roster) (next_of o.next es) reply i ∷ []))
 
+last_64-short : {A : Type 0} (xs : List A) → length xs ≤ 64 → last_64 xs ≡ xs
+last_64-short xs h = ap (λ n. drop n xs) (let e : length xs - 64 ≡ 0 = omega arith in e)
+
+-- an event that makes no map and forgets nothing leaves the maps, and counts its reports
+pub window_of-report : (s : State) (e : Entry) → makes_map e.event ≡ false → forgets e.event ≡ false → length s.window ≤ 64 → window_of s (e ∷ []) ≡ map (with_reports (e ∷ [])) s.window
+window_of-report s e m c few =
+    let seen : List WindowMap = map (with_reports (e ∷ [])) s.window in
+    let new : WindowMap = new_map s.roster s.next e.reply in
+    (λ i. last_64 (filter (λ w. nat_le (if c i then s.next else 0) w.frame) (seen ++ (map (with_reports []) (if m i then new ∷ [] else []) ++ []))))
+    ∙ ap last_64 (filter_zero (seen ++ []) ∙ append-nil seen)
+    ∙ last_64-short seen (omega (arith, few, length-map s.window (with_reports (e ∷ []))))
+
 -- any other event that forgets nothing leaves the window
 pub window_of-quiet : (o : State) (es : List Entry) (e : Entry) → IsQuiet e.event → makes_map e.event ≡ false → forgets e.event ≡ false →
     last_64 (window_of o es) ≡ window_of o es → window_of (replay o es) (e ∷ []) ≡ window_of o es
@@ -80,9 +94,6 @@ window_of-quiet o es e q m c l =
     (λ i. last_64 (filter (λ w. nat_le (if c i then nx else 0) w.frame) (quiet_window e q o es i ++ (map (with_reports []) (if m i then new ∷ [] else []) ++ []))))
     ∙ ap last_64 (filter_zero (window_of o es ++ []) ∙ append-nil (window_of o es))
     ∙ l
-
-last_64-short : {A : Type 0} (xs : List A) → length xs ≤ 64 → last_64 xs ≡ xs
-last_64-short xs h = ap (λ n. drop n xs) (let e : length xs - 64 ≡ 0 = omega arith in e)
 
 pub last_64-window : (o : State) (es : List Entry) → last_64 (window_of o es) ≡ window_of o es
 last_64-window o es =

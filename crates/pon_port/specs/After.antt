@@ -1,60 +1,45 @@
 -- The running state, one entry further.
-use Rattle.std.specs.Prelude.{ℕ, ◌+◌, ◌-◌, ◌==◌, nat_lt, not, List, [], ◌∷◌, ◌++◌, map, filter, None, option_map}
+use Rattle.std.specs.Prelude.{ℕ, ◌+◌, List, Option}
+use Rattle.pon_units.specs.declared.granted.Granted.{Granted}
 use Rattle.pon_descr.specs.Descriptor.{Descriptor}
 use Rattle.pon_admit.specs.declared.row.Row.{Row}
 use Rattle.pon_admit.specs.Roster.{with_row, with_descriptor, without}
-use Rattle.pon_port.specs.Book.{Account, Counted}
-use Rattle.pon_port.specs.Window.{WindowMap}
+use Rattle.pon_guar.specs.Loads.{Loads, after_admitted, after_cleared, after_mapped, after_removed, after_reported}
 use Rattle.pon_port.specs.State.{State}
-use Rattle.pon_port.specs.Replay.{last_64}
-use Rattle.pon_port.specs.Loads.{words_in}
 
--- a report with so many words less
-abbrev pub less : ℕ → Counted → Counted
-less w c = record { frame = c.frame; words = c.words - w }
+-- the report book of a state
+abbrev pub loads_of : State → Loads
+loads_of s = record { accounts = s.book; window = s.window }
 
--- an account after a map
-abbrev pub lessened : WindowMap → Account → Account
-lessened m a = record { alloc_id = a.alloc_id; since = a.since; counted = option_map (less (words_in a.alloc_id m)) a.counted }
-
-abbrev pub after_map : State → WindowMap → State
-after_map s m = record {
+-- the parts of a state after one more entry
+abbrev pub with_parts : State → ℕ → Option ℕ → List Row → Loads → State
+with_parts s next cause rows loads = record {
   gap = s.gap;
   profile = s.profile;
-  next = s.next + 1;
-  cause = s.cause;
-  taken_before = s.taken_before + 1;
-  roster = s.roster;
-  book = map (lessened m) s.book;
-  window = last_64 (s.window ++ m ∷ []);
-}
-
--- an account of an Alloc-ID just admitted, in its place
-abbrev pub with_account : Account → List Account → List Account
-with_account a book = filter (λ b. nat_lt b.alloc_id a.alloc_id) book ++ a ∷ filter (λ b. not (nat_lt b.alloc_id a.alloc_id)) book
-
-abbrev pub without_account : ℕ → List Account → List Account
-without_account i book = filter (λ a. not (a.alloc_id == i)) book
-
--- the roster and the report book after one more entry
-abbrev pub after_roster : State → List Row → List Account → State
-after_roster s rows book = record {
-  gap = s.gap;
-  profile = s.profile;
-  next = s.next;
-  cause = s.cause;
+  next = next;
+  cause = cause;
   taken_before = s.taken_before + 1;
   roster = rows;
-  book = book;
-  window = s.window;
+  book = loads.accounts;
+  window = loads.window;
 }
 
 -- reports of an Alloc-ID just admitted count from the next frame on, and none does yet
 abbrev pub after_admit : State → Row → State
-after_admit s r = after_roster s (with_row r s.roster) (with_account (record { alloc_id = r.alloc_id; since = s.next; counted = None }) s.book)
+after_admit s r = with_parts s s.next s.cause (with_row r s.roster) (after_admitted (loads_of s) r.alloc_id s.next)
 
 abbrev pub after_change : State → ℕ → Descriptor → State
-after_change s i d = after_roster s (with_descriptor i d s.roster) s.book
+after_change s i d = with_parts s s.next s.cause (with_descriptor i d s.roster) (loads_of s)
 
 abbrev pub after_remove : State → ℕ → State
-after_remove s i = after_roster s (without i s.roster) (without_account i s.book)
+after_remove s i = with_parts s s.next s.cause (without i s.roster) (after_removed (loads_of s) i)
+
+abbrev pub after_report : State → ℕ → ℕ → List (Option ℕ) → State
+after_report s frame u ns = with_parts s s.next s.cause s.roster (after_reported (loads_of s) frame u ns)
+
+abbrev pub after_map : State → List Granted → State
+after_map s gs = with_parts s (s.next + 1) s.cause s.roster (after_mapped (loads_of s) s.next gs)
+
+-- a fault and its end forget the reports and the window
+abbrev pub after_cut : State → Option ℕ → State
+after_cut s cause = with_parts s s.next cause s.roster (after_cleared (loads_of s) s.next)

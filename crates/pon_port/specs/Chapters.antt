@@ -1,11 +1,12 @@
 -- Chapters of a port's history: an opening and the entries that were taken from it.
-use Rattle.std.specs.Prelude.{ℕ, ◌≡◌, ◌+◌, ◌<◌, ◌≤◌, ◌==◌, List, [], length, All, Contains, filter, take, slice_get, Some, None, IfSome}
+use Rattle.std.specs.Prelude.{ℕ, ◌≡◌, ◌+◌, ◌<◌, ◌≤◌, ◌==◌, List, [], length, All, Contains, take, slice_get, Some, None, IfSome}
 use Rattle.std.specs.List.{list_any}
 use Rattle.pon_admit.specs.declared.row.Row.{Row}
 use Rattle.pon_admit.specs.Roster.{IsAdmitted, rule_in_force, has_alloc}
-use Rattle.pon_port.specs.Book.{Account, AreRising, Counted, alloc_ids}
-use Rattle.pon_units.specs.Granted.{AreInMapOrder}
-use Rattle.pon_port.specs.Window.{WindowMap, LeadsTo, polled}
+use Rattle.pon_guar.specs.declared.account.Account.{Account}
+use Rattle.pon_guar.specs.Book.{AreRising, alloc_ids}
+use Rattle.pon_guar.specs.declared.account.Counted.{Counted}
+use Rattle.pon_guar.specs.Window.{IsLawfulMap, LeadsTo}
 use Rattle.pon_port.specs.State.{State}
 use Rattle.pon_port.specs.Loads.{replay}
 use Rattle.pon_port.specs.Legal.{MayFollow}
@@ -33,11 +34,6 @@ IsLegal c = (k : ℕ) (e : Entry) → slice_get c.entries k ≡ Some e → MayFo
 -- the Alloc-IDs of a report book: in rising number, and those of the roster
 abbrev pub AccountsFor : List Row → List Account → Type 0
 AccountsFor rows book = AreRising (alloc_ids book) × ((i : ℕ) → list_any (λ j. j == i) (alloc_ids book) ≡ has_alloc i rows)
-
--- the ONUs that reported are some of those that the map polls, in its order
-pub record IsLawfulMap (m : WindowMap) : Type 0 where
-  pub rising : AreInMapOrder m.grants
-  pub reported : m.reported ≡ filter (λ u. list_any (λ v. v == u) m.reported) (polled m)
 
 -- an ONU owns the Alloc-ID
 abbrev pub Owns : List Row → ℕ → ℕ → Type 0

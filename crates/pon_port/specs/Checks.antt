@@ -1,14 +1,13 @@
 -- The first check that refuses an event.
-use Rattle.std.specs.Prelude.{ℕ, ◌-◌, ◌^◌, ◌==◌, ◌||◌, ◌&&◌, not, nat_le, Bool, List, [], ◌∷◌, length, Option, Some, None}
-use Rattle.std.specs.List.{list_any}
-use Rattle.pon_descr.specs.Checks.{when, or_else, first_of}
+use Rattle.std.specs.Prelude.{ℕ, ◌-◌, ◌^◌, ◌||◌, nat_le, length, Option, Some, None}
+use Rattle.pon_descr.specs.Checks.{when, or_else}
 use Rattle.pon_admit.specs.Roster.{rule_in_force, refuses_admit, refuses_change, refuses_remove}
-use Rattle.pon_port.specs.Window.{WindowMap, grants_at}
+use Rattle.pon_guar.specs.Reports.{refuses_report}
 use Rattle.pon_port.specs.State.{State}
 use Rattle.pon_port.specs.declared.event.Event.{Event}
 use Rattle.pon_port.specs.declared.event.Event.TheVariants.{Admit, Change, Remove, Report, MakeMap, Fail, Restore}
 use Rattle.pon_descr.specs.declared.refusal.Refusal.{Refusal}
-use Rattle.pon_descr.specs.declared.refusal.Refusal.TheVariants.{StaleFrame, NotPolled, ReportCount, AlreadyReported, PortDown, PortUp, FrameLimit, ChapterFull}
+use Rattle.pon_descr.specs.declared.refusal.Refusal.TheVariants.{PortDown, PortUp, FrameLimit, ChapterFull}
 
 abbrev pub when_down : Option ℕ → Option Refusal
 when_down None = None
@@ -17,19 +16,6 @@ when_down (Some cause) = Some (PortDown cause)
 abbrev pub when_up : Option ℕ → Option Refusal
 when_up None = Some PortUp
 when_up (Some cause) = None
-
--- Checks of a report.
-
-abbrev pub is_of : ℕ → WindowMap → Bool
-is_of frame m = m.frame == frame
-
-abbrev pub refuses_report : List WindowMap → ℕ → ℕ → ℕ → Option Refusal
-refuses_report window frame u count = first_of (
-    when (not (list_any (is_of frame) window)) StaleFrame
-    ∷ when (length (grants_at frame u window) == 0) NotPolled
-    ∷ when (not (count == length (grants_at frame u window))) ReportCount
-    ∷ when (list_any (λ m. is_of frame m && list_any (λ v. v == u) m.reported) window) AlreadyReported
-    ∷ [])
 
 -- the last frame has no successor
 abbrev pub at_limit : ℕ → Option Refusal
@@ -44,10 +30,10 @@ abbrev pub refuses : State → Event → Option Refusal
 refuses s (Admit onu alloc_id descriptor) = refuses_admit rule_in_force s.gap s.roster (record { onu = onu; alloc_id = alloc_id; descriptor = descriptor })
 refuses s (Change alloc_id descriptor) = refuses_change rule_in_force s.gap s.roster alloc_id descriptor
 refuses s (Remove alloc_id) = refuses_remove s.roster alloc_id
-refuses s (Report frame onu occ not_yet) = or_else (when_down s.cause) (refuses_report s.window frame onu (length occ))
+refuses s (Report frame onu occ) = or_else (when_down s.cause) (refuses_report s.window frame onu (length occ))
 refuses s MakeMap = or_else (when_down s.cause) (at_limit s.next)
-refuses s (Fail cause not_yet) = when_down s.cause
-refuses s (Restore not_yet) = when_up s.cause
+refuses s (Fail cause) = when_down s.cause
+refuses s Restore = when_up s.cause
 
 -- the first check that refuses an event, that of the chapter last, where so many entries are kept
 abbrev pub first_refusal : ℕ → State → Event → Option Refusal

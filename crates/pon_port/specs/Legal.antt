@@ -2,8 +2,8 @@
 use Rattle.std.specs.Prelude.{ℕ, ◌≡◌, None}
 use Rattle.pon_port.specs.State.{State}
 use Rattle.pon_descr.specs.Descriptor.{IsLawful}
-use Rattle.pon_admit.specs.Roster.{IsInRange}
-use Rattle.pon_port.specs.Rates.{no_surplus}
+use Rattle.pon_admit.specs.Roster.{IsInRange, rule_in_force}
+use Rattle.pon_port.specs.Sharing.{IsCertified, surplus_rate}
 use Rattle.pon_port.specs.Maps.{map_of}
 use Rattle.pon_port.specs.Checks.{first_refusal}
 use Rattle.pon_port.specs.declared.event.Event.{Event}
@@ -13,10 +13,11 @@ use Rattle.pon_port.specs.declared.reply.Reply.TheVariants.{Taken, Map}
 use Rattle.pon_port.specs.declared.reply.MadeMap.{MadeMap}
 use Rattle.pon_port.specs.declared.reply.Entry.{Entry}
 
--- the map that a state makes, under its next frame
+-- the map that a state makes, under its next frame, with the rates that its certificate spells
 pub record IsMade (s : State) (made : MadeMap) : Type 0 where
   pub frame : made.frame ≡ s.next
-  pub map : made.map ≡ map_of s no_surplus
+  pub certified : IsCertified rule_in_force s made.cert
+  pub map : made.map ≡ map_of s (surplus_rate s made.cert)
 
 -- the replies that a state may give to an event that it takes
 abbrev pub IsReply : State → Event → Reply → Type 0

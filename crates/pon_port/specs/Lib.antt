@@ -1,9 +1,10 @@
-pub mod Book
-pub mod Window
 pub mod State
 pub mod Replay
 pub mod Loads
 pub mod Rates
+pub mod Sharing
+pub mod Demands
+pub mod Last
 pub mod Maps
 pub mod Packing
 pub mod Checks

@@ -1,11 +1,12 @@
 -- What a port's history leaves: each part of the state as a function of the opening and the entries.
-use Rattle.std.specs.Prelude.{ℕ, ◌+◌, ◌-◌, ◌==◌, ◌||◌, ◌&&◌, nat_le, Bool, true, false, if◌then◌else◌, List, [], ◌∷◌, ◌++◌, map, filter, length, drop, count_by, Option, Some, None}
+use Rattle.std.specs.Prelude.{ℕ, ◌+◌, ◌-◌, ◌==◌, ◌||◌, ◌&&◌, nat_le, Bool, true, false, if◌then◌else◌, List, [], ◌∷◌, ◌++◌, map, filter, count_by, Option, Some, None}
 use Rattle.std.specs.List.{list_any}
 use Rattle.pon_bwmap.specs.Structure.{Structure}
 use Rattle.pon_admit.specs.declared.row.Row.{Row}
 use Rattle.pon_admit.specs.Roster.{with_row, with_descriptor, without}
-use Rattle.pon_port.specs.Book.{with_alloc, without_alloc}
-use Rattle.pon_port.specs.Window.{WindowMap, Granted, polled}
+use Rattle.pon_guar.specs.Book.{with_alloc, without_alloc}
+use Rattle.pon_guar.specs.Window.{WindowMap, last_64, polled}
+use Rattle.pon_units.specs.declared.granted.Granted.{Granted}
 use Rattle.pon_port.specs.State.{State}
 use Rattle.pon_port.specs.declared.event.Event.{Event}
 use Rattle.pon_port.specs.declared.event.Event.TheVariants.{Admit, Change, Remove, Report, MakeMap, Fail, Restore}
@@ -21,8 +22,8 @@ makes_map _ = false
 
 -- Fail and Restore forget the reports and the window
 abbrev pub forgets : Event → Bool
-forgets (Fail cause not_yet) = true
-forgets (Restore not_yet) = true
+forgets (Fail cause) = true
+forgets Restore = true
 forgets _ = false
 
 abbrev pub admits : ℕ → Event → Bool
@@ -30,7 +31,7 @@ admits i (Admit onu alloc_id descriptor) = alloc_id == i
 admits i _ = false
 
 abbrev pub reports : ℕ → ℕ → Event → Bool
-reports frame u (Report of_frame onu occ not_yet) = of_frame == frame && onu == u
+reports frame u (Report of_frame onu occ) = of_frame == frame && onu == u
 reports frame u _ = false
 
 -- an entry after which an Alloc-ID's reports count afresh
@@ -45,8 +46,8 @@ next_of first es = first + count_by (λ e. makes_map e.event) es
 
 -- the cause of the last Fail, none after a Restore
 abbrev pub cause_after : Option ℕ → Event → Option ℕ
-cause_after cause (Fail c not_yet) = Some c
-cause_after cause (Restore not_yet) = None
+cause_after cause (Fail c) = Some c
+cause_after cause Restore = None
 cause_after cause _ = cause
 
 abbrev pub cause_of : Option ℕ → List Entry → Option ℕ
@@ -114,9 +115,6 @@ maps_of rows next (e ∷ es) = map (with_reports es) (map_made rows next e) ++ m
 -- all maps that are known
 abbrev pub all_maps : State → List Entry → List WindowMap
 all_maps o es = map (with_reports es) o.window ++ maps_of o.roster o.next es
-
-abbrev pub last_64 : {T : Type 0} → List T → List T
-last_64 xs = drop (length xs - 64) xs
 
 -- the last 64 maps after the last Fail or Restore
 abbrev pub window_of : State → List Entry → List WindowMap

@@ -1,8 +1,8 @@
 -- The state of a port.
 use Rattle.std.specs.Prelude.{ℕ, List, Option}
 use Rattle.pon_admit.specs.declared.row.Row.{Row}
-use Rattle.pon_port.specs.Book.{Account}
-use Rattle.pon_port.specs.Window.{WindowMap}
+use Rattle.pon_guar.specs.declared.account.Account.{Account}
+use Rattle.pon_guar.specs.Window.{WindowMap}
 
 pub record State : Type 0 where
   pub gap : ℕ

@@ -1,11 +1,12 @@
 -- What a port's calls do to its chapter.
-use Rattle.std.specs.Prelude.{ℕ, ◌≡◌, [], ◌∷◌, ◌++◌, length, Option}
+use Rattle.std.specs.Prelude.{ℕ, ◌≡◌, List, [], ◌∷◌, ◌++◌, length, Option}
 use Rattle.pon_port.specs.State.{State}
 use Rattle.pon_admit.specs.Roster.{IsAdmitted, rule_in_force}
 use Rattle.pon_port.specs.Checks.{first_refusal}
 use Rattle.pon_port.specs.Legal.{MayFollow}
 use Rattle.pon_burst.specs.Bursts.{AreSound}
 use Rattle.pon_port.specs.Chapters.{Chapter, present_state, IsLawfulChapter, AccountsFor}
+use Rattle.pon_port.specs.Last.{KeepsLast}
 use Rattle.pon_port.specs.declared.event.Event.{Event}
 use Rattle.pon_port.specs.declared.reply.Reply.{Reply}
 use Rattle.pon_port.specs.declared.reply.Reply.TheVariants.{Taken, Map}
@@ -35,3 +36,8 @@ pub record IsKept (c : Chapter) (state : State) : Type 0 where
   pub replayed : state ≡ present_state c
   pub admitted : IsAdmitted rule_in_force state.gap state.roster
   pub book : AccountsFor state.roster state.book
+
+-- a port: what it keeps, and where its last map stands with the Alloc-IDs of the classes that shared surplus in it
+pub record IsPort (c : Chapter) (state : State) (last_place : Option ℕ) (na be : List ℕ) : Type 0 where
+  pub kept : IsKept c state
+  pub last : KeepsLast c last_place na be

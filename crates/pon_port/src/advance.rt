@@ -1,110 +1,33 @@
 //! The running state, one entry further.
 
-ghost use Rattle.std.specs.Prelude.{◌≡◌, ◌+◌, ◌<◌, ◌≤◌, ◌^◌, ◌++◌, None, [], ◌∷◌, length, map, OnOk, OnErr, vec_len, vec_capacity};
-ghost use Rattle.pon_port.specs.Loads.{words_in};
-ghost use Rattle.pon_port.specs.Replay.{last_64};
+ghost use Rattle.std.specs.Prelude.{◌≡◌, ◌==◌, ◌+◌, ◌<◌, ◌^◌, false, None, Some, length, OnOk, OnErr};
+ghost use Rattle.std.specs.List.{list_any};
+ghost use Rattle.pon_units.specs.Granted.{AreInMapOrder};
 ghost use Rattle.pon_admit.specs.Roster.{refuses_admit, refuses_change, refuses_remove, rule_in_force};
-ghost use Rattle.pon_port.specs.Book.{AreRising, alloc_ids};
-ghost use Rattle.pon_port.specs.After.{less, lessened, after_map, after_admit, after_change, after_remove};
+ghost use Rattle.pon_guar.specs.Book.{AreRising, alloc_ids};
+ghost use Rattle.pon_guar.specs.Window.{LeadsTo};
+ghost use Rattle.pon_guar.specs.Reports.{refuses_report};
+ghost use Rattle.pon_port.specs.After.{after_admit, after_change, after_cut, after_map, after_remove, after_report};
 
-use crate::book::{Account, Counted, add_account, remove_account};
 use crate::state::PortState;
-use crate::window::WindowMap;
 use pon_admit::Row;
-use pon_descr::Descriptor;
-use pon_units::{AllocId, BufOcc, FrameNo};
+use pon_dbru::Occupancies;
+use pon_descr::{Cause, Descriptor};
+use pon_units::{AllocId, FrameNo, Granted, OnuId};
 use std::alloc::AllocError;
 
-// The payload words of an Alloc-ID in a map.
-fn words_granted(map: &WindowMap, alloc_id: AllocId) -> u32
-    requires few { length map.now.grants ≤ 512 }
-    ensures { result ≡ words_in alloc_id map.now }
-{
-    let mut words = 0;
-    for granted in &map.grants {
-        if granted.alloc_id == alloc_id {
-            words += u32::from(granted.words.get());
-        }
-    }
-    words
-}
-
-// A report that counts, less what a map grants its Alloc-ID.
-fn lessened_report(map: &WindowMap, alloc_id: AllocId, report: Counted) -> Counted
-    requires { length map.now.grants ≤ 512 }
-    ensures { result ≡ less (words_in alloc_id map.now) report }
-{
-    let left = report
-        .words
-        .get()
-        .saturating_sub(words_granted(map, alloc_id));
-    match BufOcc::new(left) {
-        None => unreachable!(),
-        Some(words) => Counted {
-            frame: report.frame,
-            words,
-        },
-    }
-}
-
-// An account after a map.
-fn lessened_account(map: &WindowMap, account: Account) -> Account
-    requires { length map.now.grants ≤ 512 }
-    ensures { result ≡ lessened map.now account }
-{
-    let Account {
-        alloc_id,
-        since,
-        counted,
-    } = account;
-    let counted = match counted {
-        None => None,
-        Some(report) => Some(lessened_report(map, alloc_id, report)),
-    };
-    Account {
-        alloc_id,
-        since,
-        counted,
-    }
-}
-
-// Lessens the reports that count by what a map grants.
-fn lessen(book: &mut [Account], granted: &WindowMap)
-    requires { length granted.now.grants ≤ 512 }
-    ensures { book.new ≡ map (lessened granted.now) book.old }
-{
-    for account in book.iter_mut() {
-        *account = lessened_account(granted, *account);
-    }
-}
-
-/// The most maps of a window.
-const MOST_MAPS: usize = 64;
-
-// Adds a map, and lets the oldest of more than 64 go.
-fn add_to_window(window: &mut Vec<WindowMap>, map: WindowMap)
-    requires few { length window.old.items ≤ 64 }
-    requires room { vec_len window.old < vec_capacity window.old }
-    ensures { window.new.items ≡ last_64 (window.old.items ++ map ∷ []) }
-{
-    window.push(map).unwrap();
-    if window.len() > MOST_MAPS {
-        let _oldest = window.remove(0);
-    }
-}
-
-/// Takes a map into the state; `Err` where memory is refused, and then the state is as it was.
-pub(crate) fn add_map(state: &mut PortState, map: WindowMap) -> Result<(), AllocError>
-    requires few_grants { length map.grants ≤ 512 }
-    requires short { length state.old.window ≤ 64 }
+/// Takes a map of the next frame into the state; `Err` where memory is refused, and then the state is as it was.
+pub(crate) fn add_map(state: &mut PortState, grants: &[Granted]) -> Result<(), AllocError>
+    requires map_order { AreInMapOrder grants.now }
+    requires frames { LeadsTo state.old.next state.old.window }
     requires next { state.old.next + 1 < 2 ^ 64 }
     requires count { state.old.taken_before + 1 < 2 ^ 64 }
-    ensures ok { OnOk result (state.new ≡ after_map state.old map) }
+    ensures ok { OnOk result (state.new ≡ after_map state.old grants.now) }
     ensures err { OnErr result (state.new ≡ state.old) }
 {
-    state.window.reserve(1)?;
-    lessen(state.book.as_mut_slice(), &map);
-    add_to_window(&mut state.window, map);
+    if state.loads.mapped(state.next, grants).is_err() {
+        return Err(AllocError);
+    }
     state.next = FrameNo::new(state.next.get() + 1);
     state.taken_before += 1;
     Ok(())
@@ -113,25 +36,23 @@ pub(crate) fn add_map(state: &mut PortState, map: WindowMap) -> Result<(), Alloc
 /// Admits a row that no check refuses; `Err` where memory is refused, and then the state is as it was.
 pub(crate) fn admit_row(state: &mut PortState, row: &Row) -> Result<(), AllocError>
     requires accepted { refuses_admit rule_in_force state.old.gap state.old.roster row.now ≡ None }
-    requires book { AreRising (alloc_ids state.old.book) }
+    requires rising { AreRising (alloc_ids state.old.book) }
+    requires free { list_any (λ j. j == row.now.alloc_id) (alloc_ids state.old.book) ≡ false }
     requires count { state.old.taken_before + 1 < 2 ^ 64 }
     ensures ok { OnOk result (state.new ≡ after_admit state.old row.now) }
     ensures err { OnErr result (state.new ≡ state.old) }
 {
-    state.book.reserve(1)?;
+    if state.loads.admitted(row.alloc_id, state.next).is_err() {
+        return Err(AllocError);
+    }
     if state
         .roster
         .admit(row.onu, row.alloc_id, row.descriptor)
         .is_err()
     {
+        state.loads.removed(row.alloc_id);
         return Err(AllocError);
     }
-    let account = Account {
-        alloc_id: row.alloc_id,
-        since: state.next,
-        counted: None,
-    };
-    add_account(&mut state.book, account);
     state.taken_before += 1;
     Ok(())
 }
@@ -156,9 +77,38 @@ pub(crate) fn remove_row(state: &mut PortState, alloc_id: AllocId)
 {
     match state.roster.remove(alloc_id) {
         Ok(()) => {
-            remove_account(&mut state.book, alloc_id);
+            state.loads.removed(alloc_id);
             state.taken_before += 1;
         }
         Err(_) => unreachable!(),
     }
+}
+
+/// Takes an ONU's report that no check refuses; `Err` where memory is refused, and then the state is as it was.
+pub(crate) fn take_report(
+    state: &mut PortState,
+    frame: FrameNo,
+    onu: OnuId,
+    occ: &Occupancies,
+) -> Result<(), AllocError>
+    requires accepted { refuses_report state.old.window frame onu (length occ.now) ≡ None }
+    requires count { state.old.taken_before + 1 < 2 ^ 64 }
+    ensures ok { OnOk result (state.new ≡ after_report state.old frame onu occ.now) }
+    ensures err { OnErr result (state.new ≡ state.old) }
+{
+    if state.loads.reported(frame, onu, occ.as_slice()).is_err() {
+        return Err(AllocError);
+    }
+    state.taken_before += 1;
+    Ok(())
+}
+
+/// Forgets the reports and the window at a fault, told by its cause, or at its end.
+pub(crate) fn cut(state: &mut PortState, cause: Option<Cause>)
+    requires count { state.old.taken_before + 1 < 2 ^ 64 }
+    ensures { state.new ≡ after_cut state.old cause }
+{
+    state.loads.cleared(state.next);
+    state.cause = cause;
+    state.taken_before += 1;
 }

@@ -1,13 +1,14 @@
 //! The checks that refuse an event, each in its place of the order.
 
 ghost use Rattle.std.specs.Prelude.{◌≡◌};
-ghost use Rattle.pon_port.specs.Checks.{first_refusal, when_full};
+ghost use Rattle.pon_port.specs.Checks.{first_refusal, when_down, when_full};
 
 use crate::event::Event;
 use crate::state::PortState;
 use pon_admit::Row;
-use pon_descr::{Descriptor, Refusal};
-use pon_units::AllocId;
+use pon_dbru::Occupancies;
+use pon_descr::{Cause, Descriptor, Refusal};
+use pon_units::{AllocId, FrameNo, OnuId};
 
 /// The most entries that a chapter keeps.
 const MOST_ENTRIES: usize = 65_536;
@@ -20,6 +21,16 @@ fn chapter_refusal(kept: usize, taken_before: u64) -> Option<Refusal>
         Some(Refusal::ChapterFull)
     } else {
         None
+    }
+}
+
+// The check of the line: it is down.
+fn down_refusal(state: &PortState) -> Option<Refusal>
+    ensures { result ≡ when_down state.now.cause }
+{
+    match state.cause {
+        Some(cause) => Some(Refusal::PortDown { cause }),
+        None => None,
     }
 }
 
@@ -62,11 +73,49 @@ pub(crate) fn remove_refusal(state: &PortState, kept: usize, alloc_id: AllocId) 
 pub(crate) fn map_refusal(state: &PortState, kept: usize) -> Option<Refusal>
     ensures { result ≡ first_refusal kept state.now Event.MakeMap }
 {
-    if let Some(cause) = state.cause {
-        return Some(Refusal::PortDown { cause });
+    match down_refusal(state) {
+        None if state.next.get() == u64::MAX => Some(Refusal::FrameLimit),
+        None => chapter_refusal(kept, state.taken_before),
+        Some(refusal) => Some(refusal),
     }
-    if state.next.get() == u64::MAX {
-        return Some(Refusal::FrameLimit);
+}
+
+/// The first check that refuses an ONU's report, where so many entries are kept.
+pub(crate) fn report_refusal(
+    state: &PortState,
+    kept: usize,
+    frame: FrameNo,
+    onu: OnuId,
+    occ: &Occupancies,
+) -> Option<Refusal>
+    ensures { result ≡ first_refusal kept state.now (Event.Report frame onu occ.now) }
+{
+    if let Some(refusal) = down_refusal(state) {
+        return Some(refusal);
     }
-    chapter_refusal(kept, state.taken_before)
+    let count = occ.as_slice().len();
+    match state.loads.report_refusal(frame, onu, count) {
+        Some(refusal) => Some(refusal),
+        None => chapter_refusal(kept, state.taken_before),
+    }
+}
+
+/// The first check that refuses a fault, where so many entries are kept.
+pub(crate) fn fail_refusal(state: &PortState, kept: usize, cause: Cause) -> Option<Refusal>
+    ensures { result ≡ first_refusal kept state.now (Event.Fail cause) }
+{
+    match down_refusal(state) {
+        Some(refusal) => Some(refusal),
+        None => chapter_refusal(kept, state.taken_before),
+    }
+}
+
+/// The first check that refuses the end of a fault, where so many entries are kept.
+pub(crate) fn restore_refusal(state: &PortState, kept: usize) -> Option<Refusal>
+    ensures { result ≡ first_refusal kept state.now Event.Restore }
+{
+    match state.cause {
+        None => Some(Refusal::PortUp),
+        Some(_) => chapter_refusal(kept, state.taken_before),
+    }
 }

@@ -2,11 +2,7 @@ use pon_dbru::Occupancies;
 use pon_descr::{Cause, Descriptor};
 use pon_units::{AllocId, FrameNo, OnuId};
 
-/// What is not taken yet: no value of it exists.
-#[derive(Clone, Copy)]
-pub enum NotYet {}
-
-/// What may happen at a port. So far `Admit`, `Change`, `Remove` and `MakeMap` can be made; the others wait for their parts.
+/// What may happen at a port.
 #[derive(Drop)]
 pub enum Event {
     /// An Alloc-ID of an ONU is admitted with a descriptor.
@@ -24,22 +20,18 @@ pub enum Event {
     Remove {
         alloc_id: AllocId,
     },
-    /// An ONU reports its buffers in answer to the map of a frame.
+    /// An ONU reports its buffers in answer to the map of a frame: one occupancy for each of its structures there.
     Report {
         frame: FrameNo,
         onu: OnuId,
         occ: Occupancies,
-        not_yet: NotYet,
     },
     /// The map of the next frame is made.
     MakeMap,
-    /// The line has failed.
+    /// The line has failed: the window and the reports are forgotten, and no map is made until it is back.
     Fail {
         cause: Cause,
-        not_yet: NotYet,
     },
-    /// The line is back.
-    Restore {
-        not_yet: NotYet,
-    },
+    /// The line is back: reports count from the next frame on.
+    Restore,
 }

@@ -6,12 +6,16 @@ ghost use Rattle.pon_admit.specs.Roster.{IsAdmitted, IsInRange, Rule, refuses_ad
 ghost use Rattle.pon_admit.specs.declared.row.Row.{Row};
 ghost use Rattle.pon_port.specs.State.{State};
 ghost use Rattle.pon_port.specs.Loads.{replay};
-ghost use Rattle.pon_port.specs.Window.{LeadsTo};
-ghost use Rattle.pon_port.specs.Rates.{no_surplus};
+ghost use Rattle.pon_guar.specs.Window.{LeadsTo};
+ghost use Rattle.pon_cert.specs.declared.cert.MapCert.{MapCert};
+ghost use Rattle.pon_port.specs.Sharing.{IsCertified, surplus_rate};
 ghost use Rattle.pon_port.specs.Maps.{map_of};
 ghost use Rattle.pon_burst.specs.Bursts.{AreSound};
 ghost use Rattle.pon_port.specs.Chapters.{Chapter, IsLawfulChapter, IsLawfulOpening, IsLegal, present_state, state_before};
+ghost use Rattle.pon_port.specs.Taking.{Takes};
+ghost use Rattle.pon_port.specs.declared.event.Event.{Event};
 ghost use Rattle.pon_port.specs.declared.reply.Entry.{Entry};
+ghost use Rattle.pon_port.specs.declared.reply.Reply.{Reply};
 
 /// A legal history may be cut anywhere: the second part, opened with the replay of the first, leaves the same state, and
 /// is legal as the next chapter.
@@ -29,10 +33,11 @@ pub fn lawful_chapters_hold_admitted_sets()
     ensures present { (c : Chapter) → IsLawfulChapter c → IsAdmitted rule_in_force (present_state c).gap (present_state c).roster }
 {}
 
-/// The map of a state whose roster is an admitted set has sound bursts, for any number of ONUs and Alloc-IDs: each lies in the frame and no two overlap.
+/// The map of a state whose roster is an admitted set has sound bursts under each accepted certificate, for any number of ONUs and Alloc-IDs: each lies in the frame and no two overlap.
 /// The rule sets aside one word for each Alloc-ID at least, for its report.
 pub fn maps_of_admitted_sets_are_sound()
-    ensures { (s : State) (rule : Rule) → 1 ≤ rule.overhead_words → IsAdmitted rule s.gap s.roster → AreSound s.gap (map_of s no_surplus) }
+    ensures { (s : State) (rule : Rule) (cert : MapCert) → 1 ≤ rule.overhead_words → IsAdmitted rule s.gap s.roster → IsCertified rule s cert →
+        AreSound s.gap (map_of s (surplus_rate s cert)) }
 {}
 
 /// The state before any entry of a lawful chapter, and the state after all of them, may open a later chapter.
@@ -49,4 +54,10 @@ pub fn cuts_of_lawful_chapters_are_lawful()
         IsLawfulChapter (record { number = n; opening = state_before c k; entries = drop k c.entries }) }
     ensures same_end { (c : Chapter) → IsLawfulChapter c → (k n : ℕ) →
         present_state (record { number = n; opening = state_before c k; entries = drop k c.entries }) ≡ present_state c }
+{}
+
+/// A lawful chapter gives one reply to an event, with one certificate for a map, and is a lawful chapter with that entry.
+pub fn lawful_chapters_give_one_reply()
+    ensures one { (c d e : Chapter) → IsLawfulChapter c → (v : Event) (a b : Reply) → Takes c v a d → Takes c v b e → (a ≡ b) × (d ≡ e) }
+    ensures lawful { (c d : Chapter) → IsLawfulChapter c → (v : Event) (a : Reply) → Takes c v a d → IsLawfulChapter d }
 {}

@@ -5,20 +5,18 @@
 #![tactic(auto)]
 
 mod advance;
-mod book;
 mod checks;
+mod demand;
 mod event;
 pub mod laws;
 mod making;
 mod port;
 mod reply;
 mod series;
+mod sharing;
 mod state;
-mod window;
 
-pub use book::{Account, Counted};
-pub use event::{Event, NotYet};
+pub use event::Event;
 pub use port::Port;
 pub use reply::{Entry, MadeMap, Reply};
 pub use state::{PortCfg, PortState};
-pub use window::WindowMap;

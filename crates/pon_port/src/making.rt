@@ -1,69 +1,111 @@
 //! The map that a state makes.
 
-ghost use Rattle.std.specs.Prelude.{◌≡◌, ◌+◌, ◌≤◌, length, IfOk};
+ghost use Rattle.std.specs.Prelude.{◌≡◌, ◌+◌, ◌*◌, ◌/◌, ◌<◌, ◌≤◌, ◌∷◌, length, IfOk};
 ghost use Rattle.pon_bwmap.specs.MapRules.{IsMap};
-ghost use Rattle.pon_descr.specs.Descriptor.{promised};
 ghost use Rattle.pon_admit.specs.Roster.{IsAdmitted, rule_in_force};
 ghost use Rattle.pon_burst.specs.Bursts.{AreSound};
 ghost use Rattle.pon_burst.specs.Maps.{map_of};
-ghost use Rattle.pon_port.specs.Book.{AreRising, alloc_ids};
-ghost use Rattle.pon_port.specs.Rates.{granted, guaranteed, payload, no_surplus};
+ghost use Rattle.pon_units.specs.Granted.{AreInMapOrder};
+ghost use Rattle.pon_cert.specs.Problem.{IsItem};
+ghost use Rattle.pon_cert.specs.Certificate.{RuleHolds, amount, denominator};
+ghost use Rattle.pon_port.specs.Rates.{granted};
+ghost use Rattle.pon_descr.specs.declared.class.Class.TheVariants.{NonAssured, BestEffort};
+ghost use Rattle.pon_port.specs.Sharing.{IsCertified, member_ids, surplus_rate};
+ghost use Rattle.pon_port.specs.Demands.{demands_of};
 ghost use Rattle.pon_port.specs.Packing.{AreOneMap};
-ghost use Rattle.pon_port.specs.Replay.{new_map};
+ghost use Rattle.pon_port.specs.Replay.{grants_of};
 ghost use Rattle.pon_port.specs.Legal.{IsMade};
 
-use crate::book::load_of_alloc;
-use crate::reply::{MadeMap, Reply};
+use crate::demand::{Demand, demands};
+use crate::reply::MadeMap;
 use crate::series::gather;
+use crate::sharing::{class_ids, map_cert};
 use crate::state::PortState;
-use crate::window::WindowMap;
-use pon_admit::Row;
 use pon_burst::pack;
 use pon_bwmap::{Alloc, Map};
-use pon_descr::Descriptor;
-use pon_units::{Granted, Words};
+use pon_cert::{Item, Level, MapCert};
+use pon_descr::Class;
+use pon_units::{AllocId, Granted, Words, whole};
 use std::alloc::{AllocError, Global};
 
-// The guaranteed rate of a descriptor under a load, both in kbit/s.
-fn guaranteed(descriptor: &Descriptor, load: u64) -> u32
-    ensures rate { result ≡ guaranteed descriptor.now load }
-    ensures within { result ≤ promised descriptor.now }
-    ensures small { result ≤ 2488320 }
+// The whole kbit/s of the surplus rate that a level gives to an item.
+fn share(level: &Level, item: &Item, saturated: bool) -> u64
+    requires item { IsItem item.now }
+    requires rule { RuleHolds level.now item.now saturated }
+    requires denominator { denominator level.now ≤ 512 * 2488320 }
+    ensures value { result ≡ amount level.now item.now saturated / denominator level.now }
+    ensures within { result ≤ item.now.cap }
 {
-    let promised = descriptor.promised().get();
-    let wanted = load.max(u64::from(descriptor.fixed().get()));
-    if wanted < u64::from(promised) {
-        wanted as u32
-    } else {
-        promised
+    match level {
+        Level::All => item.cap,
+        Level::At(rate) => {
+            let over = rate.den();
+            if saturated {
+                item.cap
+            } else {
+                whole(item.weight * rate.num(), over)
+            }
+        }
     }
 }
 
-// The payload words of an admitted Alloc-ID.
-fn payload_of(state: &PortState, row: &Row) -> Words
-    requires { AreRising (alloc_ids state.now.book) }
-    ensures { result ≡ payload state.now no_surplus row.now }
+// What a demand is granted with so much surplus.
+fn grant(demand: &Demand, surplus: u64) -> Granted
+    requires { demand.now.guaranteed + surplus ≤ 2488320 }
+    ensures { result ≡ record { onu = demand.now.onu; alloc_id = demand.now.alloc_id; words = (demand.now.guaranteed + surplus) / 256 } }
 {
-    let load = load_of_alloc(state.book.as_slice(), row.alloc_id);
-    let rate = guaranteed(&row.descriptor, load);
+    let rate = u64::from(demand.guaranteed.get()) + surplus;
     match Words::new((rate / 256) as u16) {
-        Some(words) => words,
+        Some(words) => Granted {
+            onu: demand.onu,
+            alloc_id: demand.alloc_id,
+            words,
+        },
+        None => unreachable!(),
+    }
+}
+
+// The first of the truth values, and those after it.
+fn first_of(saturated: &[bool]) -> (bool, &[bool])
+    requires { 0 < length saturated.now }
+    ensures { saturated.now ≡ result.0 ∷ result.1.now }
+{
+    match saturated.split_first() {
+        Some((first, rest)) => (*first, rest),
         None => unreachable!(),
     }
 }
 
 // What the next map grants to each admitted Alloc-ID.
-fn grants(alloc: Global, state: &PortState) -> Result<Vec<Granted>, AllocError>
-    requires { AreRising (alloc_ids state.now.book) }
-    ensures { IfOk result (λ grants. grants.items ≡ granted state.now no_surplus) }
+fn grants(
+    alloc: Global,
+    state: &PortState,
+    demands: &[Demand],
+    cert: &MapCert,
+) -> Result<Vec<Granted>, AllocError>
+    requires admitted { IsAdmitted rule_in_force state.now.gap state.now.roster }
+    requires demands { demands.now ≡ demands_of state.now }
+    requires certified { IsCertified rule_in_force state.now cert.now }
+    ensures { IfOk result (λ grants. grants.items ≡ granted state.now (surplus_rate state.now cert.now)) }
 {
-    let mut grants = Vec::with_capacity(alloc, state.roster.rows().len())?;
-    for row in state.roster.rows() {
-        grants.push(Granted {
-            onu: row.onu,
-            alloc_id: row.alloc_id,
-            words: payload_of(state, row),
-        })?;
+    let mut grants = Vec::with_capacity(alloc, demands.len())?;
+    let mut na = cert.na.saturated.as_slice();
+    let mut be = cert.be.saturated.as_slice();
+    for demand in demands {
+        let surplus = match demand.class {
+            Class::Plain => 0,
+            Class::NonAssured => {
+                let (saturated, rest) = first_of(na);
+                na = rest;
+                share(&cert.na.level, &demand.item, saturated)
+            }
+            Class::BestEffort => {
+                let (saturated, rest) = first_of(be);
+                be = rest;
+                share(&cert.be.level, &demand.item, saturated)
+            }
+        };
+        grants.push(grant(demand, surplus))?;
     }
     Ok(grants)
 }
@@ -102,22 +144,35 @@ fn map_of_structures(structures: Vec<Alloc>) -> Map
     }
 }
 
-/// The next map under the state's next frame, and what the window keeps of it.
-pub(crate) fn next_map(alloc: Global, state: &PortState) -> Result<(MadeMap, WindowMap), AllocError>
+/// A map that is ready: what it is told with, what it grants, and the Alloc-IDs of the two classes that share surplus.
+#[derive(Drop)]
+pub(crate) struct ReadyMap {
+    pub made: MadeMap,
+    pub grants: Vec<Granted>,
+    pub na: Vec<AllocId>,
+    pub be: Vec<AllocId>,
+}
+
+/// The next map under the state's next frame, with its certificate.
+pub(crate) fn next_map(alloc: Global, state: &PortState) -> Result<ReadyMap, AllocError>
     requires admitted { IsAdmitted rule_in_force state.now.gap state.now.roster }
-    requires book { AreRising (alloc_ids state.now.book) }
-    ensures made { IfOk result (λ next. IsMade state.now next.0) }
-    ensures sound { IfOk result (λ next. AreSound state.now.gap next.0.map) }
-    ensures few { IfOk result (λ next. length next.1.grants ≤ 512) }
-    ensures window { IfOk result (λ next. next.1 ≡ new_map state.now.roster state.now.next (Reply.Map next.0)) }
+    ensures made { IfOk result (λ next. IsMade state.now next.made) }
+    ensures sound { IfOk result (λ next. AreSound state.now.gap next.made.map) }
+    ensures map_order { IfOk result (λ next. AreInMapOrder next.grants.items) }
+    ensures grants { IfOk result (λ next. next.grants.items ≡ grants_of state.now.roster next.made.map) }
+    ensures na { IfOk result (λ next. next.na.items ≡ member_ids NonAssured state.now.roster) }
+    ensures be { IfOk result (λ next. next.be.items ≡ member_ids BestEffort state.now.roster) }
 {
-    let grants = grants(alloc, state)?;
+    let demands = demands(alloc, state)?;
+    let cert = map_cert(alloc, state, demands.as_slice())?;
+    let grants = grants(alloc, state, demands.as_slice(), &cert)?;
     let map = map_of_structures(structures(alloc, state, grants.as_slice())?);
     let frame = state.next;
-    let window = WindowMap {
-        frame,
+    let made = MadeMap { frame, map, cert };
+    Ok(ReadyMap {
+        made,
         grants,
-        reported: Vec::new(alloc),
-    };
-    Ok((MadeMap { frame, map }, window))
+        na: class_ids(alloc, demands.as_slice(), Class::NonAssured)?,
+        be: class_ids(alloc, demands.as_slice(), Class::BestEffort)?,
+    })
 }

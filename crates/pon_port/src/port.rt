@@ -1,15 +1,20 @@
 ghost use Rattle.std.specs.Prelude.{◌≡◌, IfOk};
 ghost use Rattle.pon_port.specs.Chapters.{just_opened};
 
-use crate::advance::{add_map, admit_row, change_row, remove_row};
-use crate::checks::{admit_refusal, change_refusal, map_refusal, remove_refusal};
+use crate::advance::{add_map, admit_row, change_row, cut, remove_row, take_report};
+use crate::checks::{
+    admit_refusal, change_refusal, fail_refusal, map_refusal, remove_refusal, report_refusal,
+    restore_refusal,
+};
 use crate::event::Event;
 use crate::making::next_map;
 use crate::reply::{Entry, MadeMap, Reply};
 use crate::state::{PortCfg, PortState};
 use pon_admit::{Roster, Row};
-use pon_descr::{Descriptor, Refusal};
-use pon_units::{AllocId, FrameNo};
+use pon_dbru::Occupancies;
+use pon_descr::{Cause, Descriptor, Refusal};
+use pon_guar::Loads;
+use pon_units::{AllocId, FrameNo, OnuId};
 use std::alloc::{AllocError, Global};
 use std::marker::Model;
 
@@ -22,17 +27,21 @@ pub struct Port {
     opening: PortState,
     state: PortState,
     entries: Vec<Entry>,
+    // The entry of the last map, and the Alloc-IDs of the two classes that shared surplus in it.
+    last: Option<usize>,
+    na: Vec<AllocId>,
+    be: Vec<AllocId>,
 }
 
 impl Model for Port {
     ghost use Rattle.pon_port.specs.Chapters.{Chapter};
-    ghost use Rattle.pon_port.specs.Taking.{IsKept};
+    ghost use Rattle.pon_port.specs.Taking.{IsPort};
 
     ghost Value = { Chapter };
 
     ghost view = { λ p. record { number = 0; opening = p.opening; entries = p.entries.items } };
 
-    ghost invariant = { λ p. IsKept (record { number = 0; opening = p.opening; entries = p.entries.items }) p.state };
+    ghost invariant = { λ p. IsPort (record { number = 0; opening = p.opening; entries = p.entries.items }) p.state p.last p.na.items p.be.items };
 }
 
 // The state of a port just opened.
@@ -45,17 +54,17 @@ fn opened(alloc: Global, cfg: &PortCfg, first: FrameNo) -> Result<PortState, All
         cause: None,
         taken_before: 0,
         roster: Roster::open(alloc, cfg.gap)?,
-        book: Vec::new(alloc),
-        window: Vec::new(alloc),
+        loads: Loads::open(alloc),
     })
 }
 
 impl Port {
-    ghost use Rattle.std.specs.Prelude.{[], ◌+◌, length, IfOk, IfErr, OnOk, OnErr};
+    ghost use Rattle.std.specs.Prelude.{[], ◌+◌, length, IfOk, IfErr, IfSome, MatchOption, None, OnOk, OnErr, Some};
     ghost use Rattle.pon_descr.specs.Descriptor.{IsLawful};
     ghost use Rattle.pon_admit.specs.Roster.{IsAdmitted, IsInRange, rule_in_force};
     ghost use Rattle.pon_burst.specs.Bursts.{AreSound};
     ghost use Rattle.pon_port.specs.Chapters.{IsLawfulChapter, present_state};
+    ghost use Rattle.pon_port.specs.Last.{Suits, last_map};
     ghost use Rattle.pon_port.specs.Taking.{Takes, TellsSoundBursts, refusal_of};
     ghost use Rattle.pon_descr.specs.Checks.{IsTold};
 
@@ -69,6 +78,9 @@ impl Port {
             opening: opened(alloc, &cfg, first)?,
             state: opened(alloc, &cfg, first)?,
             entries: Vec::new(alloc),
+            last: None,
+            na: Vec::new(alloc),
+            be: Vec::new(alloc),
         })
     }
 
@@ -93,6 +105,18 @@ impl Port {
         ensures admitted { IsAdmitted rule_in_force result.now.gap result.now.roster }
     {
         &self.state
+    }
+
+    /// The last map of the kept chapter, with the Alloc-IDs of the non-assured and of the best-effort class as they were at
+    /// that map, in map order: those that its certificate speaks of. `None` before any map of the chapter.
+    pub fn last(&self) -> Option<(&MadeMap, &[AllocId], &[AllocId])>
+        ensures suits { IfSome result (λ l. Suits l.0.now.cert l.1.now l.2.now) }
+        ensures last { MatchOption result (last_map self.now ≡ None) (λ l. last_map self.now ≡ Some (record { made = l.0.now; na = l.1.now; be = l.2.now })) }
+    {
+        match &self.entries[self.last?].reply {
+            Reply::Map(made) => Some((made, self.na.as_slice(), self.be.as_slice())),
+            Reply::Taken => unreachable!(),
+        }
     }
 
     fn admit(&mut self, row: Row) -> Result<(), Refusal>
@@ -173,28 +197,87 @@ impl Port {
             return Err(refusal);
         }
         let alloc = *self.entries.allocator();
-        let (made, window) = match next_map(alloc, &self.state) {
+        let next = match next_map(alloc, &self.state) {
             Ok(next) => next,
             Err(_) => return Err(Refusal::OutOfMemory),
         };
-        let kept = match made.try_copy(alloc) {
+        let kept = match next.made.try_copy(alloc) {
             Ok(kept) => kept,
             Err(_) => return Err(Refusal::OutOfMemory),
         };
-        if self.entries.reserve(1).is_err() || add_map(&mut self.state, window).is_err() {
+        if self.entries.reserve(1).is_err() || add_map(&mut self.state, &next.grants).is_err() {
             return Err(Refusal::OutOfMemory);
         }
+        self.last = Some(self.entries.len());
+        self.na = next.na;
+        self.be = next.be;
         let event = Event::MakeMap;
         let reply = Reply::Map(kept);
         self.entries.push(Entry { event, reply }).unwrap();
-        Ok(made)
+        Ok(next.made)
+    }
+
+    fn report(&mut self, frame: FrameNo, onu: OnuId, occ: Occupancies) -> Result<(), Refusal>
+        ensures ok { OnOk result (Takes self.old (Event.Report frame onu occ) Reply.Taken self.new) }
+        ensures refused { IfErr result (λ told. IsTold (refusal_of self.old (Event.Report frame onu occ)) told) }
+        ensures err { OnErr result (self.new ≡ self.old) }
+    {
+        if let Some(refusal) = report_refusal(&self.state, self.entries.len(), frame, onu, &occ) {
+            return Err(refusal);
+        }
+        if self.entries.reserve(1).is_err()
+            || take_report(&mut self.state, frame, onu, &occ).is_err()
+        {
+            return Err(Refusal::OutOfMemory);
+        }
+        let event = Event::Report { frame, onu, occ };
+        let reply = Reply::Taken;
+        self.entries.push(Entry { event, reply }).unwrap();
+        Ok(())
+    }
+
+    fn fail(&mut self, cause: Cause) -> Result<(), Refusal>
+        ensures ok { OnOk result (Takes self.old (Event.Fail cause) Reply.Taken self.new) }
+        ensures refused { IfErr result (λ told. IsTold (refusal_of self.old (Event.Fail cause)) told) }
+        ensures err { OnErr result (self.new ≡ self.old) }
+    {
+        if let Some(refusal) = fail_refusal(&self.state, self.entries.len(), cause) {
+            return Err(refusal);
+        }
+        if self.entries.reserve(1).is_err() {
+            return Err(Refusal::OutOfMemory);
+        }
+        cut(&mut self.state, Some(cause));
+        let event = Event::Fail { cause };
+        let reply = Reply::Taken;
+        self.entries.push(Entry { event, reply }).unwrap();
+        Ok(())
+    }
+
+    fn restore(&mut self) -> Result<(), Refusal>
+        ensures ok { OnOk result (Takes self.old Event.Restore Reply.Taken self.new) }
+        ensures refused { IfErr result (λ told. IsTold (refusal_of self.old Event.Restore) told) }
+        ensures err { OnErr result (self.new ≡ self.old) }
+    {
+        if let Some(refusal) = restore_refusal(&self.state, self.entries.len()) {
+            return Err(refusal);
+        }
+        if self.entries.reserve(1).is_err() {
+            return Err(Refusal::OutOfMemory);
+        }
+        cut(&mut self.state, None);
+        let event = Event::Restore;
+        let reply = Reply::Taken;
+        self.entries.push(Entry { event, reply }).unwrap();
+        Ok(())
     }
 
     /// Takes an event and keeps it with its reply, or tells the first check that refuses it.
     ///
     /// `Admit` is refused by `AllocTaken`, `TooManyAllocs`, `TooManyOnus`, `SeriesFull`, `Capacity`; `Change` by
-    /// `NoSuchAlloc`, `Capacity`; `Remove` by `NoSuchAlloc`; `MakeMap` by `FrameLimit`; each then by `ChapterFull` and
-    /// `OutOfMemory`; in these orders. Want of memory comes only where no check refuses. A refusal changes neither the
+    /// `NoSuchAlloc`, `Capacity`; `Remove` by `NoSuchAlloc`; `Report` by `PortDown`, `StaleFrame`, `NotPolled`, `ReportCount`,
+    /// `AlreadyReported`; `MakeMap` by `PortDown`, `FrameLimit`; `Fail` by `PortDown`; `Restore` by `PortUp`; each then by
+    /// `ChapterFull` and `OutOfMemory`; in these orders. Want of memory comes only where no check refuses. A refusal changes neither the
     /// state nor the history.
     pub fn take(&mut self, event: Event) -> Result<Reply, Refusal>
         ensures ok { IfOk result (λ reply. Takes self.old event reply self.new) }
@@ -223,9 +306,21 @@ impl Port {
                 self.remove(alloc_id)?;
                 Ok(Reply::Taken)
             }
+            Event::Report { frame, onu, occ } => {
+                self.report(frame, onu, occ)?;
+                Ok(Reply::Taken)
+            }
             Event::MakeMap => {
                 let made = self.make_map()?;
                 Ok(Reply::Map(made))
+            }
+            Event::Fail { cause } => {
+                self.fail(cause)?;
+                Ok(Reply::Taken)
+            }
+            Event::Restore => {
+                self.restore()?;
+                Ok(Reply::Taken)
             }
         }
     }

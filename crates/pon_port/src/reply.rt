@@ -2,14 +2,16 @@ ghost use Rattle.std.specs.Prelude.{◌≡◌, IfOk};
 
 use crate::event::Event;
 use pon_bwmap::Map;
+use pon_cert::MapCert;
 use pon_units::FrameNo;
 use std::alloc::{AllocError, Global};
 
-/// A map that was made, and the frame that it is for.
+/// A map that was made, the frame that it is for, and the certificate of how it shares the surplus.
 #[derive(Drop)]
 pub struct MadeMap {
     pub frame: FrameNo,
     pub map: Map,
+    pub cert: MapCert,
 }
 
 impl MadeMap {
@@ -20,6 +22,7 @@ impl MadeMap {
         Ok(MadeMap {
             frame: self.frame,
             map: self.map.try_copy(alloc)?,
+            cert: self.cert.try_copy(alloc)?,
         })
     }
 }

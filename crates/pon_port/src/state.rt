@@ -1,9 +1,8 @@
 ghost use Rattle.std.specs.Prelude.{◌≡◌};
 
-use crate::book::Account;
-use crate::window::WindowMap;
 use pon_admit::Roster;
 use pon_descr::Cause;
+use pon_guar::Loads;
 use pon_units::{FrameNo, Gap, Profile};
 use std::marker::Model;
 
@@ -22,8 +21,7 @@ pub struct PortState {
     pub(crate) cause: Option<Cause>,
     pub(crate) taken_before: u64,
     pub(crate) roster: Roster,
-    pub(crate) book: Vec<Account>,
-    pub(crate) window: Vec<WindowMap>,
+    pub(crate) loads: Loads,
 }
 
 impl Model for PortState {
@@ -38,8 +36,8 @@ impl Model for PortState {
       cause = a.cause;
       taken_before = a.taken_before;
       roster = a.roster.rows;
-      book = a.book.items;
-      window = a.window.items;
+      book = a.loads.accounts;
+      window = a.loads.window;
     } };
 }
 
@@ -68,5 +66,27 @@ impl PortState {
         ensures { result ≡ self.now.next }
     {
         self.next
+    }
+
+    /// The report book: what each Alloc-ID reported and was not granted since, and the last maps.
+    pub fn loads(&self) -> &Loads
+        ensures accounts { result.now.accounts ≡ self.now.book }
+        ensures window { result.now.window ≡ self.now.window }
+    {
+        &self.loads
+    }
+
+    /// Why the line is down, where it is.
+    pub fn cause(&self) -> Option<Cause>
+        ensures { result ≡ self.now.cause }
+    {
+        self.cause
+    }
+
+    /// How many entries were taken before this state, over all chapters.
+    pub fn taken_before(&self) -> u64
+        ensures { result ≡ self.now.taken_before }
+    {
+        self.taken_before
     }
 }

@@ -57,7 +57,7 @@ fn run_at(
     Some(Answered { result, text })
 }
 
-static WORKED: [(&[u8], &[u8]); 17] = [
+static WORKED: [(&[u8], &[u8]); 31] = [
     (FIRST_MAP, FIRST_TEXT),
     (b"0 map", b"map 0 00000000\n"),
     (b"", b""),
@@ -90,9 +90,65 @@ static WORKED: [(&[u8], &[u8]); 17] = [
         b"0 admit 5 1024 0 0 9 na\n0 change 1024 0 0 9 be\n0 remove 16384\n0 remove\n0 remove 1024 1\n0 change 1024 0 0 0\n",
         b"err E07 NeedsGuarantee\nerr E01 NoSuchAlloc\nerr E03 AllocRange\nerr L2 WordCount\nerr L2 WordCount\nerr L2 WordCount\n",
     ),
+    (
+        b"0 admit 5 1024 2560 5120 7680 none\n0 map\n0 report 0 5 100\n0 map\n0 map\n0 map\n0 map\n",
+        b"ok 0\nmap 0 002013ac10020010000b13cb\nok 2\nmap 1 002013ac10020010001f07cd\nmap 2 002013ac10020010001f07cd\nmap 3 002013ac10020010001f07cd\nmap 4 002013ac10020010000b13cb\n",
+    ),
+    (
+        b"0 admit 5 1024 2560 5120 7680 none\n0 map\n0 map\n0 map\n0 report 2 5 50\n0 report 1 5 500\n0 map\n0 map\n",
+        b"ok 0\nmap 0 002013ac10020010000b13cb\nmap 1 002013ac10020010000b13cb\nmap 2 002013ac10020010000b13cb\nok 4\nok 5\nmap 3 002013ac10020010001f07cd\nmap 4 002013ac10020010000b13cb\n",
+    ),
+    (
+        b"0 admit 5 1024 2560 5120 7680 none\n0 map\n0 report 0 5 100\n0 remove 1024\n0 admit 5 1024 2560 5120 7680 none\n0 map\n",
+        b"ok 0\nmap 0 002013ac10020010000b13cb\nok 2\nok 3\nok 4\nmap 1 002013ac10020010000b13cb\n",
+    ),
+    (
+        b"0 admit 5 1024 2560 5120 7680 none\n0 map\n0 report 0 5 100\n0 fail 1\n0 restore\n0 map\n",
+        b"ok 0\nmap 0 002013ac10020010000b13cb\nok 2\nok 3\nok 4\nmap 1 002013ac10020010000b13cb\n",
+    ),
+    (
+        b"0 admit 5 1024 2560 5120 7680 none\n0 map\n0 report 0 5 100\n0 map\n0 report 1 5 x\n0 map\n",
+        b"ok 0\nmap 0 002013ac10020010000b13cb\nok 2\nmap 1 002013ac10020010001f07cd\nok 4\nmap 2 002013ac10020010001f07cd\n",
+    ),
+    (
+        b"0 admit 5 1024 2560 0 2560 none\n0 map\n0 report 0 5 7\n0 report 0 5 7\n0 report 0 5 7 7\n0 report 0 6 7\n0 report 1 5 7\n",
+        b"ok 0\nmap 0 002013ac10020010000b13cb\nok 2\nerr E16 AlreadyReported\nerr E15 ReportCount\nerr E14 NotPolled\nerr E13 StaleFrame\n",
+    ),
+    (
+        b"0 admit 5 1024 2560 0 2560 none\n0 fail 3\n0 map\n0 restore\n0 restore\n",
+        b"ok 0\nok 1\nerr E17 PortDown 3\nok 2\nerr E18 PortUp\n",
+    ),
+    (
+        b"0 report 0 5\n0 report 0 5 1 2 3 4 5 6 7 8 9 10 11 12 13 14 15 16 17\n0 report 0 5 16777216\n0 report 0 5 16777215\n0 report 0 1023 x\n0 report 0 5 X\n",
+        b"err L2 WordCount\nerr L2 WordCount\nerr L3 BadField\nerr E13 StaleFrame\nerr E04 OnuRange\nerr L3 BadField\n",
+    ),
+    (
+        b"0 fail\n0 fail 0\n0 fail 10\n0 fail 1 1\n0 restore 1\n0 fail 9\n",
+        b"err L2 WordCount\nerr L3 BadField\nerr L3 BadField\nerr L2 WordCount\nerr L2 WordCount\nok 0\n",
+    ),
+    (
+        b"0 admit 5 1024 2560 0 2560 none\n0 map\n0 cert\n",
+        b"ok 0\nmap 0 002013ac10020010000b13cb\ncert 0 na all - be all -\n",
+    ),
+    (
+        b"0 admit 5 1024 2560 0 25600 be\n0 map\n0 report 0 5 100\n0 map\n0 map\n0 cert\n0 change 1024 2560 0 2560 none\n0 cert\n",
+        b"ok 0\nmap 0 002013ac10020010000b13cb\nok 2\nmap 1 002013ac10020010005b1736\nmap 2 002013ac10020010000b13cb\ncert 2 na all - be all 1024\nok 5\ncert 2 na all - be all 1024\n",
+    ),
+    (
+        b"0 admit 1 1024 0 0 2488320 be\n0 admit 2 1025 0 0 1244160 be\n0 map\n0 report 0 1 16777215\n0 report 0 2 16777215\n0 map\n0 cert\n",
+        b"ok 0\nok 1\nmap 0 00400d2b1002001000010cf01006002300010ca7\nok 3\nok 4\nmap 1 00400d2b100200101937076c100619590c9c1b95\ncert 1 na all - be 2478592/3732480 -\n",
+    ),
+    (
+        b"0 admit 1 1024 0 256000 1280000 na\n0 admit 2 1025 0 512000 2048000 na\n0 admit 2 1026 0 0 256 be\n0 map\n0 report 0 1 16777215\n0 report 0 2 16777215 16777215\n0 map\n0 cert\n",
+        b"ok 0\nok 1\nok 2\nmap 0 00601e871002001000010cf01006002300010ca7100affff0001051b\nok 4\nok 5\nmap 1 00601e87100200100c9c1a0610060cbe19371cc6100affff0001051b\ncert 1 na 1710336/768000 - be 0/256 -\n",
+    ),
+    (
+        b"0 cert\n0 cert 1\n1 cert\n0 map\n0 fail 1\n0 cert\n",
+        b"err L5 NoMap\nerr L2 WordCount\nerr L4 NoSuchPort\nmap 0 00000000\nok 1\ncert 0 na all - be all -\n",
+    ),
     (b"# a comment \xff\r\n \t\n0 map\r\n\r", b"map 0 00000000\n"),
     (
-        b"0 map 1\n0 cert\n0\nx map\n0 m\xc3p\n",
+        b"0 map 1\n0 show\n0\nx map\n0 m\xc3p\n",
         b"err L2 WordCount\nerr L1 UnknownCommand\nerr L2 WordCount\nerr L3 BadField\nerr L7 NotText\n",
     ),
     (

@@ -4,7 +4,7 @@ use pon_descr::Refusal;
 fn fault_of(line: &[u8]) -> Option<LineFault> {
     match read_line(2, line) {
         Reading::Refused(fault) => Some(fault),
-        Reading::Nothing | Reading::Asks { .. } => None,
+        Reading::Nothing | Reading::Asks { .. } | Reading::AsksCert { .. } => None,
     }
 }
 
@@ -55,6 +55,8 @@ fn tells_the_first_check_that_fails(rt: HostRuntime) {
         (b"0 change 1023 x 0 0".as_slice(), LineFault::WordCount),
         (b"0 change 1023 0 0 x na".as_slice(), LineFault::BadField),
         (b"0 remove x 1".as_slice(), LineFault::WordCount),
+        (b"2 cert 1".as_slice(), LineFault::NoSuchPort),
+        (b"0 cert x".as_slice(), LineFault::WordCount),
         (b"0 remove x".as_slice(), LineFault::BadField),
     ] {
         assert_eq!(rt; fault_of(line), Some(fault), "at {line:?}");
@@ -143,6 +145,8 @@ fn reads_each_command(rt: HostRuntime) {
         }
     );
     assert!(rt; removes);
+    let shows = matches!(read_line(2, b"1 cert"), Reading::AsksCert { port: 1 });
+    assert!(rt; shows);
     for (line, port) in [(b"00 map".as_slice(), 0), (b"\t 1 \t map \r".as_slice(), 1)] {
         assert_eq!(rt; port_of_map(line), Some(port), "at {line:?}");
     }

@@ -2,4 +2,4 @@ use Rattle.pon_port.proofs.RosterMaps.{admitted_map_is_sound}
 use Rattle.pon_port.proofs.laws.maps_of_admitted_sets_are_sound.Goals as goal
 
 pub returns : goal.returns
-returns c = admitted_map_is_sound
+returns c = λ s rule cert one k certified. admitted_map_is_sound s rule cert k certified one

@@ -1,8 +1,5 @@
-use Rattle.std.proofs.Common.{◌≡◌, map, take}
-use Rattle.pon_port.specs.Rates.{no_surplus}
-use Rattle.pon_port.proofs.RosterMaps.{granted_to_row}
+use Rattle.pon_port.proofs.Dealing.{Dealt}
 use Rattle.pon_port.proofs.making.grants.Given as goal
 
--- the rows so far are granted their words
-abbrev pub invariant-loop-row : goal.invariant-loop-row
-invariant-loop-row l = l.grants.items ≡ map (granted_to_row l.state no_surplus) (take l.row-index l.row-items)
+abbrev pub invariant-loop-demand : goal.invariant-loop-demand
+invariant-loop-demand l = Dealt l.state l.cert l.demand-index l.grants.items l.na l.be

@@ -1,7 +1,15 @@
 use Rattle.std.proofs.Common.{rules}
+use Rattle.pon_port.specs.Chapters.{Chapter}
+use Rattle.pon_port.specs.declared.event.Event.TheVariants.{Admit}
 use Rattle.pon_port.proofs.Kept.{admitted}
+use Rattle.pon_port.proofs.LastMaps.{last_kept}
 use Rattle.pon_port.proofs.port.Port.admit.Goals as goal
 
 pub invariant_of-self-2 : goal.invariant_of-self-2
 invariant_of-self-2 c =
-    admitted _ _ c.self.inside.state _ c.args.row c.self.invariant c.requires (search rules) (search rules) (search rules)
+    let old : Chapter = record { number = 0; opening = c.self.inside.opening; entries = c.self.inside.entries.items } in
+    let new : Chapter = record { number = 0; opening = c.self.inside.opening; entries = c.push.new.self.items } in
+    record {
+      kept = admitted old new c.self.inside.state _ c.args.row c.self.invariant.kept c.requires (search rules) (search rules) (search rules);
+      last = last_kept old new (Admit c.args.row.onu c.args.row.alloc_id c.args.row.descriptor) c.self.inside.last c.self.inside.na.items c.self.inside.be.items (search rules) c.self.invariant.last;
+    }

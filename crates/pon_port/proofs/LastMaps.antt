@@ -1,0 +1,81 @@
+-- The last map of a chapter, one entry further.
+use Rattle.std.proofs.Common.{◌≡◌, ℕ, ◌<◌, List, [], ◌∷◌, ◌++◌, length, refl, ap, sym, ◌∙◌, subst, ◌≤◌, arith}
+use Rattle.std.specs.Prelude.{Option, Some, None, slice_get}
+use Rattle.std.proofs.lemmas.Option.{slice_get-get_or, slice_get_within, get_or_from_slice_get}
+use Rattle.std.proofs.lemmas.List.{get_or_append_left, length-append, length-map}
+use Rattle.std.proofs.lemmas.Slice.Zip.{AllZip-long}
+use Rattle.pon_descr.specs.declared.class.Class.{Class}
+use Rattle.pon_descr.specs.declared.class.Class.TheVariants.{NonAssured, BestEffort}
+use Rattle.pon_admit.specs.declared.row.Row.{Row}
+use Rattle.pon_port.specs.State.{State}
+use Rattle.pon_admit.specs.Roster.{IsAdmitted, rule_in_force}
+use Rattle.pon_cert.specs.declared.cert.ClassCert.{ClassCert}
+use Rattle.pon_cert.specs.Certificate.{IsCertificate, RuleHolds, left_surplus}
+use Rattle.pon_port.specs.Sharing.{item_of, items, member_ids, members, surplus}
+use Rattle.pon_port.specs.Legal.{IsMade}
+use Rattle.pon_port.specs.Replay.{roster_after, roster_of}
+use Rattle.pon_port.specs.Chapters.{Chapter}
+use Rattle.pon_port.specs.Last.{KeepsLast, LastMap, Suits, last_map, last_told, told_last}
+use Rattle.pon_port.specs.Taking.{IsKept, with_entry}
+use Rattle.pon_port.proofs.Dealing.{few_members}
+use Rattle.pon_port.specs.declared.event.Event.{Event}
+use Rattle.pon_port.specs.declared.event.Event.TheVariants.{MakeMap}
+use Rattle.pon_port.specs.declared.reply.Reply.TheVariants.{Taken, Map}
+use Rattle.pon_port.specs.declared.reply.MadeMap.{MadeMap}
+use Rattle.pon_port.specs.declared.reply.Entry.{Entry}
+
+last_push : (before : Option LastMap) (rows : List Row) (es : List Entry) (e : Entry) → last_told before rows (es ++ e ∷ []) ≡ told_last (last_told before rows es) (roster_of rows es) e.reply
+last_push before rows [] e = refl
+last_push before rows (x ∷ es) e = last_push (told_last before rows x.reply) (roster_after rows x.event) es e
+
+get_old : {X : Type 0} (xs : List X) (y : X) (k : ℕ) (x : X) → slice_get xs k ≡ Some x → slice_get (xs ++ y ∷ []) k ≡ Some x
+get_old xs y k x at =
+    let within : k < length xs = slice_get_within xs k x at in
+    slice_get-get_or (xs ++ y ∷ []) k x (omega (arith, within, length-append xs (y ∷ []))) ∙ ap Some (get_or_append_left xs (y ∷ []) x k within ∙ get_or_from_slice_get xs k x x at)
+
+get_new : {X : Type 0} (xs : List X) (y : X) → slice_get (xs ++ y ∷ []) (length xs) ≡ Some y
+get_new [] y = refl
+get_new (x ∷ xs) y = get_new xs y
+
+-- an event that is taken leaves the last map
+pub last_kept : (c d : Chapter) (v : Event) (place : Option ℕ) (na be : List ℕ) → d ≡ with_entry c v Taken → KeepsLast c place na be → KeepsLast d place na be
+last_kept c d v place na be more h = subst (λ d. KeepsLast d place na be) (sym more) (step place h)
+  where
+    e : Entry
+    e = record { event = v; reply = Taken }
+
+    same : last_map (with_entry c v Taken) ≡ last_map c
+    same = last_push None c.opening.roster c.entries e
+
+    step : (place : Option ℕ) → KeepsLast c place na be → KeepsLast (with_entry c v Taken) place na be
+    step None h = same ∙ h
+    step (Some k) h = (h.0, h.1, get_old c.entries e k h.1 h.2, h.3, same ∙ h.4, h.5)
+
+-- the certificate of a map has a truth value for each Alloc-ID of its class
+counted : (s : State) (class : Class) (cert : ClassCert) (surplus : ℕ) → IsCertificate (items class s) surplus cert → length cert.saturated ≡ length (member_ids class s.roster)
+counted s class cert surplus k =
+    AllZip-long (RuleHolds cert.level) (items class s) cert.saturated k.rules ∙ length-map (members class s.roster) (item_of s) ∙ sym (length-map (members class s.roster) (λ r. r.alloc_id))
+
+few_ids : (class : Class) (rows : List Row) → length rows ≤ 256 → length (member_ids class rows) ≤ 512
+few_ids class rows few = omega (arith, length-map (members class rows) (λ r. r.alloc_id), few_members class rows, few)
+
+suits_made : (s : State) (made : MadeMap) → IsAdmitted rule_in_force s.gap s.roster → IsMade s made → Suits made.cert (member_ids NonAssured s.roster) (member_ids BestEffort s.roster)
+suits_made s made a m = record {
+  non_assured = counted s NonAssured made.cert.na (surplus rule_in_force s) m.certified.non_assured;
+  best_effort = counted s BestEffort made.cert.be (left_surplus made.cert.na.level (items NonAssured s) (surplus rule_in_force s)) m.certified.best_effort;
+  few_non_assured = few_ids NonAssured s.roster a.few_allocs;
+  few_best_effort = few_ids BestEffort s.roster a.few_allocs;
+}
+
+-- a map is the last one
+pub last_made : (c d : Chapter) (s : State) (made : MadeMap) (place : ℕ) (na be : List ℕ) → IsKept c s → IsMade s made → d ≡ with_entry c MakeMap (Map made) →
+    place ≡ length c.entries → na ≡ member_ids NonAssured s.roster → be ≡ member_ids BestEffort s.roster → KeepsLast d (Some place) na be
+last_made c d s made place na be k m more here na_is be_is =
+    let e : Entry = record { event = MakeMap; reply = Map made } in
+    let rows : s.roster ≡ roster_of c.opening.roster c.entries = ap (λ s. s.roster) k.replayed in
+    let told : last_map (with_entry c MakeMap (Map made)) ≡ Some (record { made = made; na = na; be = be })
+    = last_push None c.opening.roster c.entries e
+    ∙ (λ i. Some (record { made = made; na = (ap (member_ids NonAssured) (sym rows) ∙ sym na_is) i; be = (ap (member_ids BestEffort) (sym rows) ∙ sym be_is) i })) in
+    let suits : Suits made.cert na be = rw (na_is, be_is) (suits_made s made k.admitted m) in
+    let at : slice_get (c.entries ++ e ∷ []) place ≡ Some e = ap (slice_get (c.entries ++ e ∷ [])) here ∙ get_new c.entries e in
+    subst (λ d. KeepsLast d (Some place) na be) (sym more) (made, e, at, refl, told, suits)

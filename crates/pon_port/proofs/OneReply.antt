@@ -1,0 +1,67 @@
+-- A state gives one reply to an event: the certificate of a map is the only one that is accepted.
+use Rattle.std.proofs.Common.{◌≡◌, false, [], ◌∷◌, ◌++◌, refl, ap, sym, ◌∙◌, subst}
+use Rattle.pon_descr.specs.declared.class.Class.{Class}
+use Rattle.pon_descr.specs.declared.class.Class.TheVariants.{Plain, NonAssured, BestEffort}
+use Rattle.pon_admit.specs.Roster.{IsAdmitted, rule_in_force}
+use Rattle.pon_cert.specs.declared.cert.MapCert.{MapCert}
+use Rattle.pon_cert.specs.Problem.{AreWeighted, IsProblem}
+use Rattle.pon_cert.specs.Certificate.{IsCertificate, left_surplus}
+use Rattle.pon_cert.proofs.OneCertificate.{one_certificate}
+use Rattle.pon_port.specs.State.{State}
+use Rattle.pon_port.specs.Sharing.{IsCertified, items, same_class, surplus, surplus_rate}
+use Rattle.pon_port.specs.Maps.{map_of}
+use Rattle.pon_port.specs.Legal.{IsMade, IsReply}
+use Rattle.pon_port.specs.Chapters.{Chapter, IsLawfulChapter, present_state}
+use Rattle.pon_port.specs.Taking.{Takes, with_entry}
+use Rattle.pon_port.specs.declared.event.Event.{Event}
+use Rattle.pon_port.specs.declared.event.Event.TheVariants.{Admit, Change, Remove, Report, MakeMap, Fail, Restore}
+use Rattle.pon_port.specs.declared.reply.Reply.{Reply}
+use Rattle.pon_port.specs.declared.reply.Reply.TheVariants.{Taken, Map}
+use Rattle.pon_port.specs.declared.reply.MadeMap.{MadeMap}
+use Rattle.pon_port.specs.declared.reply.Entry.{Entry}
+use Rattle.pon_port.proofs.Dealing.{problem_of, surplus_range}
+use Rattle.pon_port.proofs.Legality.{IsLegalAfter, after_from_legal, legal_from_after, legal_push}
+use Rattle.pon_port.proofs.LawfulChapters.{admitted_at_present}
+
+module _ (s : State) (k : IsAdmitted rule_in_force s.gap s.roster) where
+  weighted : (class : Class) → same_class class Plain ≡ false → AreWeighted (items class s)
+  weighted class shares =
+      let problem : IsProblem (items class s) (surplus rule_in_force s) = problem_of s class (surplus rule_in_force s) shares k.few_allocs k.in_range (surplus_range s) in
+      λ n d lt. (problem.each n d lt).has_weight
+
+  pub one_map_certificate : (a b : MapCert) → IsCertified rule_in_force s a → IsCertified rule_in_force s b → a ≡ b
+  one_map_certificate a b p q =
+      let na : a.na ≡ b.na = one_certificate (items NonAssured s) (surplus rule_in_force s) a.na b.na (weighted NonAssured refl) p.non_assured q.non_assured in
+      let same_left : IsCertificate (items BestEffort s) (left_surplus a.na.level (items NonAssured s) (surplus rule_in_force s)) b.be
+      = subst (λ c. IsCertificate (items BestEffort s) (left_surplus c.level (items NonAssured s) (surplus rule_in_force s)) b.be) (sym na) q.best_effort in
+      let be : a.be ≡ b.be = one_certificate (items BestEffort s) (left_surplus a.na.level (items NonAssured s) (surplus rule_in_force s)) a.be b.be (weighted BestEffort refl) p.best_effort same_left in
+      (λ i. record { na = na i; be = be i })
+
+  one_made : (a b : MadeMap) → IsMade s a → IsMade s b → a ≡ b
+  one_made a b p q =
+      let cert : a.cert ≡ b.cert = one_map_certificate a.cert b.cert p.certified q.certified in
+      let told : a.map ≡ b.map = p.map ∙ ap (λ c. map_of s (surplus_rate s c)) cert ∙ sym q.map in
+      (λ i. record { frame = (p.frame ∙ sym q.frame) i; map = told i; cert = cert i })
+
+  pub one_reply : (v : Event) (a b : Reply) → IsReply s v a → IsReply s v b → a ≡ b
+  one_reply MakeMap (Map a) (Map b) p q = ap Map (one_made a b p q)
+  one_reply MakeMap (Map a) Taken p q = absurd q
+  one_reply MakeMap Taken b p q = absurd p
+  one_reply (Admit onu alloc_id descriptor) a b p q = p ∙ sym q
+  one_reply (Change alloc_id descriptor) a b p q = p ∙ sym q
+  one_reply (Remove alloc_id) a b p q = p ∙ sym q
+  one_reply (Report frame onu occ) a b p q = p ∙ sym q
+  one_reply (Fail cause) a b p q = p ∙ sym q
+  one_reply Restore a b p q = p ∙ sym q
+
+-- a lawful chapter gives one reply, and stays lawful with it
+pub one_taken : (c d e : Chapter) (v : Event) (a b : Reply) → IsLawfulChapter c → Takes c v a d → Takes c v b e → (a ≡ b) × (d ≡ e)
+one_taken c d e v a b l p q =
+    let same : a ≡ b = one_reply (present_state c) (admitted_at_present c l) v a b p.follows.reply q.follows.reply in
+    (same, p.kept ∙ ap (with_entry c v) same ∙ sym q.kept)
+
+pub taken_lawful : (c d : Chapter) (v : Event) (a : Reply) → IsLawfulChapter c → Takes c v a d → IsLawfulChapter d
+taken_lawful c d v a l p =
+    let e : Entry = record { event = v; reply = a } in
+    let legal : IsLegalAfter c.opening [] (c.entries ++ e ∷ []) = legal_push c.opening [] c.entries e (after_from_legal c.opening c.entries c.number l.legal) p.follows in
+    subst IsLawfulChapter (sym p.kept) (record { opening = l.opening; legal = legal_from_after c.opening (c.entries ++ e ∷ []) c.number legal })

@@ -1,0 +1,15 @@
+use Rattle.std.proofs.Common.{rules}
+use Rattle.pon_port.specs.Chapters.{Chapter}
+use Rattle.pon_port.specs.declared.event.Event.TheVariants.{Report}
+use Rattle.pon_port.proofs.Kept.{reported}
+use Rattle.pon_port.proofs.LastMaps.{last_kept}
+use Rattle.pon_port.proofs.port.Port.report.Goals as goal
+
+pub invariant_of-self-2 : goal.invariant_of-self-2
+invariant_of-self-2 c =
+    let old : Chapter = record { number = 0; opening = c.self.inside.opening; entries = c.self.inside.entries.items } in
+    let new : Chapter = record { number = 0; opening = c.self.inside.opening; entries = c.push.new.self.items } in
+    record {
+      kept = reported old new c.self.inside.state _ c.args.frame c.args.onu c.args.occ c.self.invariant.kept (search rules) (search rules) (search rules);
+      last = last_kept old new (Report c.args.frame c.args.onu c.args.occ) c.self.inside.last c.self.inside.na.items c.self.inside.be.items (search rules) c.self.invariant.last;
+    }

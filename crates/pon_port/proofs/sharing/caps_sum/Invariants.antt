@@ -1,0 +1,9 @@
+use Rattle.std.proofs.Common.{◌≡◌, ◌*◌, ◌≤◌, take}
+use Rattle.std.specs.Prelude.{sum_by}
+use Rattle.pon_port.proofs.sharing.caps_sum.Given as goal
+
+abbrev pub invariant-loop-item : goal.invariant-loop-item
+invariant-loop-item l = record {
+  sum : l.sum ≡ sum_by (λ item. item.cap) (take l.item-index l.items);
+  small : l.sum ≤ l.item-index * 2488320;
+}

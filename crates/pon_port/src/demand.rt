@@ -1,0 +1,67 @@
+//! What the admitted Alloc-IDs ask of a map.
+
+ghost use Rattle.std.specs.Prelude.{◌≡◌, IfOk};
+ghost use Rattle.pon_descr.specs.Descriptor.{Descriptor};
+ghost use Rattle.pon_port.specs.Sharing.{weight_in};
+ghost use Rattle.pon_port.specs.Demands.{demand_of, demands_of};
+
+use crate::state::PortState;
+use pon_admit::Row;
+use pon_cert::Item;
+use pon_descr::{Class, Descriptor};
+use pon_guar::{cap, guaranteed};
+use pon_units::{AllocId, Kbps, OnuId};
+use std::alloc::{AllocError, Global};
+
+/// What an admitted Alloc-ID asks of a map: its guaranteed rate in kbit/s, its class, and the weight and cap with which
+/// it shares the surplus of the class.
+#[derive(Clone, Copy, Debug, PartialEq, Eq)]
+pub(crate) struct Demand {
+    pub onu: OnuId,
+    pub alloc_id: AllocId,
+    pub class: Class,
+    pub guaranteed: Kbps,
+    pub item: Item,
+}
+
+// The weight of a descriptor in its class, in kbit/s.
+fn weight(descriptor: &Descriptor) -> u64
+    ensures { result ≡ weight_in descriptor.now.class descriptor.now }
+{
+    let promised = descriptor.promised();
+    prove!(promised <= descriptor.max());
+    let weight = match descriptor.class() {
+        Class::BestEffort => descriptor.max().get() - promised.get(),
+        Class::Plain | Class::NonAssured => promised.get(),
+    };
+    u64::from(weight)
+}
+
+// What a row asks.
+fn demand_of(state: &PortState, row: &Row) -> Demand
+    ensures { result ≡ demand_of state.now row.now }
+{
+    let load = state.loads.load_of(row.alloc_id);
+    let item = Item {
+        weight: weight(&row.descriptor),
+        cap: u64::from(cap(&row.descriptor, load).get()),
+    };
+    Demand {
+        onu: row.onu,
+        alloc_id: row.alloc_id,
+        class: row.descriptor.class(),
+        guaranteed: guaranteed(&row.descriptor, load),
+        item,
+    }
+}
+
+/// What each admitted Alloc-ID asks, in map order; `Err` only for want of memory.
+pub(crate) fn demands(alloc: Global, state: &PortState) -> Result<Vec<Demand>, AllocError>
+    ensures { IfOk result (λ found. found.items ≡ demands_of state.now) }
+{
+    let mut found = Vec::with_capacity(alloc, state.roster.rows().len())?;
+    for row in state.roster.rows() {
+        found.push(demand_of(state, row))?;
+    }
+    Ok(found)
+}

@@ -1,0 +1,143 @@
+//! How the rate that is not guaranteed is shared, class by class.
+
+ghost use Rattle.std.specs.Prelude.{◌≡◌, ◌+◌, ◌*◌, ◌≤◌, All, IfOk, filter, length, map, sum_by};
+ghost use Rattle.pon_admit.specs.Roster.{IsAdmitted, rule_in_force};
+ghost use Rattle.pon_cert.specs.Problem.{IsItem, IsProblem};
+ghost use Rattle.pon_cert.specs.Certificate.{IsCertificate, left_surplus};
+ghost use Rattle.pon_port.specs.Sharing.{IsCertified, same_class, surplus};
+ghost use Rattle.pon_port.specs.Demands.{demands_of};
+
+use crate::demand::Demand;
+use crate::state::PortState;
+use pon_cert::{ClassCert, Item, Level, MapCert, Sat};
+use pon_descr::Class;
+use pon_fill::fill;
+use pon_units::AllocId;
+use std::alloc::{AllocError, Global};
+
+// The guaranteed rates, added up.
+fn guaranteed_sum(demands: &[Demand]) -> u64
+    requires { length demands.now ≤ 256 }
+    ensures { result ≡ sum_by (λ d. d.guaranteed) demands.now }
+{
+    let mut sum = 0;
+    for demand in demands {
+        sum += u64::from(demand.guaranteed.get());
+    }
+    sum
+}
+
+// What the guaranteed rates leave of the capacity, in kbit/s.
+fn surplus(state: &PortState, demands: &[Demand]) -> u64
+    requires admitted { IsAdmitted rule_in_force state.now.gap state.now.roster }
+    requires demands { demands.now ≡ demands_of state.now }
+    ensures { result ≡ surplus rule_in_force state.now }
+{
+    256 * u64::from(state.roster.capacity().get()) - guaranteed_sum(demands)
+}
+
+// Whether it has the class.
+fn is_of(demand: &Demand, class: Class) -> bool
+    ensures { result ≡ same_class demand.now.class class }
+{
+    match (demand.class, class) {
+        (Class::Plain, Class::Plain) => true,
+        (Class::NonAssured, Class::NonAssured) => true,
+        (Class::BestEffort, Class::BestEffort) => true,
+        _ => false,
+    }
+}
+
+// The items of a class, in map order.
+fn class_items(alloc: Global, demands: &[Demand], class: Class) -> Result<Vec<Item>, AllocError>
+    ensures { IfOk result (λ items. items.items ≡ map (λ d. d.item) (filter (λ d. same_class d.class class) demands.now)) }
+{
+    let mut items = Vec::new(alloc);
+    for demand in demands {
+        if is_of(demand, class) {
+            items.push(demand.item)?;
+        }
+    }
+    Ok(items)
+}
+
+/// The Alloc-IDs of a class, in map order; `Err` only for want of memory.
+pub(crate) fn class_ids(
+    alloc: Global,
+    demands: &[Demand],
+    class: Class,
+) -> Result<Vec<AllocId>, AllocError>
+    ensures { IfOk result (λ ids. ids.items ≡ map (λ d. d.alloc_id) (filter (λ d. same_class d.class class) demands.now)) }
+{
+    let mut ids = Vec::new(alloc);
+    for demand in demands {
+        if is_of(demand, class) {
+            ids.push(demand.alloc_id)?;
+        }
+    }
+    Ok(ids)
+}
+
+// The certificate of a class.
+fn class_cert(alloc: Global, items: &[Item], surplus: u64) -> Result<ClassCert, AllocError>
+    requires { IsProblem items.now surplus }
+    ensures { IfOk result (λ cert. IsCertificate items.now surplus cert) }
+{
+    let mut scratch = Vec::from_elem(alloc, 0, items.len())?;
+    let mut saturated = Vec::from_elem(alloc, false, items.len())?;
+    let level = fill(
+        items,
+        surplus,
+        scratch.as_mut_slice(),
+        saturated.as_mut_slice(),
+    );
+    Ok(ClassCert {
+        level,
+        saturated: Sat::new(saturated),
+    })
+}
+
+// The caps of the items, added up.
+fn caps_sum(items: &[Item]) -> u64
+    requires few { length items.now ≤ 512 }
+    requires each { All IsItem items.now }
+    ensures { result ≡ sum_by (λ item. item.cap) items.now }
+{
+    let mut sum = 0;
+    for item in items {
+        sum += item.cap;
+    }
+    sum
+}
+
+// What a class at this level leaves of its surplus.
+fn left_surplus(level: &Level, items: &[Item], surplus: u64) -> u64
+    requires { IsProblem items.now surplus }
+    ensures value { result ≡ left_surplus level.now items.now surplus }
+    ensures within { result ≤ surplus }
+{
+    match level {
+        Level::All => surplus.saturating_sub(caps_sum(items)),
+        Level::At(_) => 0,
+    }
+}
+
+/// The certificate of a state, which shares the surplus among the non-assured Alloc-IDs and what they leave among those of
+/// best effort; `Err` only for want of memory.
+pub(crate) fn map_cert(
+    alloc: Global,
+    state: &PortState,
+    demands: &[Demand],
+) -> Result<MapCert, AllocError>
+    requires admitted { IsAdmitted rule_in_force state.now.gap state.now.roster }
+    requires demands { demands.now ≡ demands_of state.now }
+    ensures { IfOk result (λ cert. IsCertified rule_in_force state.now cert) }
+{
+    let surplus = surplus(state, demands);
+    let items = class_items(alloc, demands, Class::NonAssured)?;
+    let na = class_cert(alloc, items.as_slice(), surplus)?;
+    let left = left_surplus(&na.level, items.as_slice(), surplus);
+    let items = class_items(alloc, demands, Class::BestEffort)?;
+    let be = class_cert(alloc, items.as_slice(), left)?;
+    Ok(MapCert { na, be })
+}
