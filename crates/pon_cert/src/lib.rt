@@ -9,6 +9,7 @@ mod cert;
 mod decode;
 mod encode;
 pub mod laws;
+mod left;
 mod parse;
 mod print;
 mod problem;
@@ -17,5 +18,6 @@ mod sat;
 mod tests;
 
 pub use cert::{CertReadFault, ClassCert, Level, MapCert};
+pub use left::left_surplus;
 pub use problem::Item;
 pub use sat::Sat;

@@ -1,15 +1,15 @@
 //! How the rate that is not guaranteed is shared, class by class.
 
-ghost use Rattle.std.specs.Prelude.{◌≡◌, ◌+◌, ◌*◌, ◌≤◌, All, IfOk, filter, length, map, sum_by};
+ghost use Rattle.std.specs.Prelude.{◌≡◌, ◌*◌, ◌≤◌, IfOk, filter, length, map, sum_by};
 ghost use Rattle.pon_admit.specs.Roster.{IsAdmitted, rule_in_force};
-ghost use Rattle.pon_cert.specs.Problem.{IsItem, IsProblem};
-ghost use Rattle.pon_cert.specs.Certificate.{IsCertificate, left_surplus};
+ghost use Rattle.pon_cert.specs.Problem.{IsProblem};
+ghost use Rattle.pon_cert.specs.Certificate.{IsCertificate};
 ghost use Rattle.pon_port.specs.Sharing.{IsCertified, same_class, surplus};
 ghost use Rattle.pon_port.specs.Demands.{demands_of};
 
 use crate::demand::Demand;
 use crate::state::PortState;
-use pon_cert::{ClassCert, Item, Level, MapCert, Sat};
+use pon_cert::{ClassCert, Item, MapCert, Sat, left_surplus};
 use pon_descr::Class;
 use pon_fill::fill;
 use pon_units::AllocId;
@@ -95,31 +95,6 @@ fn class_cert(alloc: Global, items: &[Item], surplus: u64) -> Result<ClassCert, 
         level,
         saturated: Sat::new(saturated),
     })
-}
-
-// The caps of the items, added up.
-fn caps_sum(items: &[Item]) -> u64
-    requires few { length items.now ≤ 512 }
-    requires each { All IsItem items.now }
-    ensures { result ≡ sum_by (λ item. item.cap) items.now }
-{
-    let mut sum = 0;
-    for item in items {
-        sum += item.cap;
-    }
-    sum
-}
-
-// What a class at this level leaves of its surplus.
-fn left_surplus(level: &Level, items: &[Item], surplus: u64) -> u64
-    requires { IsProblem items.now surplus }
-    ensures value { result ≡ left_surplus level.now items.now surplus }
-    ensures within { result ≤ surplus }
-{
-    match level {
-        Level::All => surplus.saturating_sub(caps_sum(items)),
-        Level::At(_) => 0,
-    }
 }
 
 /// The certificate of a state, which shares the surplus among the non-assured Alloc-IDs and what they leave among those of

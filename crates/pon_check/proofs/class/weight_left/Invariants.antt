@@ -1,0 +1,9 @@
+use Rattle.std.proofs.Common.{◌≡◌, ◌+◌, ◌*◌, ◌≤◌, drop}
+use Rattle.pon_cert.specs.Certificate.{unsaturated_weight}
+use Rattle.pon_check.proofs.class.weight_left.Given as goal
+
+abbrev pub invariant-loop-i : goal.invariant-loop-i
+invariant-loop-i l = record {
+  sum : l.total + unsaturated_weight (drop l.i l.items) (drop l.i l.saturated) ≡ unsaturated_weight l.items l.saturated;
+  small : l.total ≤ l.i * 2488320;
+}

@@ -1,0 +1,67 @@
+-- Why a certificate is refused: the first fault, by counts, denominator, items in order, and sum.
+use Rattle.std.specs.Prelude.{◌≡◌, ◌≢◌, ℕ, ◌*◌, ◌<◌, Bool, true, false, List, ◌++◌, length, take, sum, Some, slice_get, codes, decimal}
+use Rattle.std.specs.List.{AllZip}
+use Rattle.pon_cert.specs.declared.problem.Item.{Item}
+use Rattle.pon_cert.specs.declared.cert.Level.{Level}
+use Rattle.pon_cert.specs.declared.cert.Level.TheVariants as level
+use Rattle.pon_cert.specs.declared.cert.ClassCert.{ClassCert}
+use Rattle.pon_cert.specs.declared.cert.MapCert.{MapCert}
+use Rattle.pon_cert.specs.Certificate.{IsCertificate, RuleHolds, DenominatorHolds, denominator, left_surplus, spelled}
+use Rattle.pon_check.specs.declared.fault.CertFault.{CertFault}
+use Rattle.pon_check.specs.declared.fault.CertFault.TheVariants.{Length, Denominator, Saturated, Unsaturated, NotExhausted, Overspent}
+use Rattle.pon_check.specs.declared.fault.MapCertFault.{MapCertFault}
+use Rattle.pon_check.specs.declared.fault.MapCertFault.TheVariants.{NonAssured, BestEffort}
+
+-- as many flags as items, and the denominator is right
+pub record IsAligned (items : List Item) (cert : ClassCert) : Type 0 where
+  pub lengths : length items ≡ length cert.saturated
+  pub denominator : DenominatorHolds cert.level items cert.saturated
+
+-- item i, which is saturated or not, is the first whose rule fails
+pub record FailsFirst (level : Level) (items : List Item) (flags : List Bool) (i : ℕ) (saturated : Bool) : Type 0 where
+  pub item : Item
+  pub is_item : slice_get items i ≡ Some item
+  pub is_flag : slice_get flags i ≡ Some saturated
+  pub fails : RuleHolds level item saturated → ⊥
+  pub before : AllZip (RuleHolds level) (take i items) (take i flags)
+
+-- every item keeps its rule
+pub record KeepsRules (items : List Item) (cert : ClassCert) : Type 0 where
+  pub aligned : IsAligned items cert
+  pub rules : AllZip (RuleHolds cert.level) items cert.saturated
+
+abbrev pub IsFraction : Level → Type 0
+IsFraction level.All = ⊥
+IsFraction (level.At f) = Unit {0}
+
+-- the sum is not what the level asks for
+abbrev pub IsSumFault : Level → ℕ → ℕ → CertFault → Type 0
+IsSumFault l total surplus Overspent = denominator l * surplus < total
+IsSumFault l total surplus NotExhausted = IsFraction l × (total < denominator l * surplus)
+IsSumFault l total surplus Length = ⊥
+IsSumFault l total surplus Denominator = ⊥
+IsSumFault l total surplus (Saturated i) = ⊥
+IsSumFault l total surplus (Unsaturated i) = ⊥
+
+abbrev pub IsFirstFault : List Item → ℕ → ClassCert → CertFault → Type 0
+IsFirstFault items surplus cert Length = length items ≢ length cert.saturated
+IsFirstFault items surplus cert Denominator = (length items ≡ length cert.saturated) × (DenominatorHolds cert.level items cert.saturated → ⊥)
+IsFirstFault items surplus cert (Saturated i) = IsAligned items cert × FailsFirst cert.level items cert.saturated i true
+IsFirstFault items surplus cert (Unsaturated i) = IsAligned items cert × FailsFirst cert.level items cert.saturated i false
+IsFirstFault items surplus cert Overspent = KeepsRules items cert × IsSumFault cert.level (sum (spelled items cert).amounts) surplus Overspent
+IsFirstFault items surplus cert NotExhausted = KeepsRules items cert × IsSumFault cert.level (sum (spelled items cert).amounts) surplus NotExhausted
+
+-- of a map, the non-assured class is looked at first, and best effort against what that leaves
+abbrev pub IsFirstMapFault : List Item → List Item → ℕ → MapCert → MapCertFault → Type 0
+IsFirstMapFault na be surplus cert (NonAssured fault) = IsFirstFault na surplus cert.na fault
+IsFirstMapFault na be surplus cert (BestEffort fault) =
+    IsCertificate na surplus cert.na × IsFirstFault be (left_surplus cert.na.level na surplus) cert.be fault
+
+-- its name, and the item where it has one
+abbrev pub fault_text : CertFault → List ℕ
+fault_text Length = codes "Length"
+fault_text Denominator = codes "Denominator"
+fault_text (Saturated i) = codes "Saturated " ++ decimal i
+fault_text (Unsaturated i) = codes "Unsaturated " ++ decimal i
+fault_text NotExhausted = codes "NotExhausted"
+fault_text Overspent = codes "Overspent"

@@ -1,0 +1,45 @@
+use std::fmt;
+
+/// Why a class's certificate is refused. Of several faults the first is told: counts, denominator, items in order, sum.
+#[derive(Clone, Copy, Debug, PartialEq, Eq)]
+pub enum CertFault {
+    /// There are not as many truth values as items.
+    Length,
+    /// The denominator is not the weight of the unsaturated items.
+    Denominator,
+    /// Item `i`, from 0, is saturated, and its cap is above its share at the level; told by a level of all never.
+    Saturated { i: usize },
+    /// Item `i`, from 0, is not saturated, and its cap is not above its share at the level, or the level is all.
+    Unsaturated { i: usize },
+    /// The rates leave some of the surplus, and the level is a fraction.
+    NotExhausted,
+    /// The rates are more than the surplus.
+    Overspent,
+}
+
+impl fmt::Display for CertFault {
+    ghost use Rattle.std.specs.Prelude.{Some};
+    ghost use Rattle.pon_check.specs.Faults.{fault_text};
+
+    ghost output = { λ fault. Some (fault_text fault) };
+
+    fn fmt<W: fmt::Write>(&self, f: &mut fmt::Formatter<W>) -> fmt::Result {
+        match *self {
+            CertFault::Length => write!(f, "Length"),
+            CertFault::Denominator => write!(f, "Denominator"),
+            CertFault::Saturated { i } => write!(f, "Saturated {i}"),
+            CertFault::Unsaturated { i } => write!(f, "Unsaturated {i}"),
+            CertFault::NotExhausted => write!(f, "NotExhausted"),
+            CertFault::Overspent => write!(f, "Overspent"),
+        }
+    }
+}
+
+/// Why a map's certificate is refused: the class, and its first fault. The non-assured class is checked first.
+#[derive(Clone, Copy, Debug, PartialEq, Eq)]
+pub enum MapCertFault {
+    /// The non-assured class is refused.
+    NonAssured(CertFault),
+    /// The best-effort class is refused.
+    BestEffort(CertFault),
+}

@@ -1,0 +1,32 @@
+// Both classes of a map.
+ghost use Rattle.std.specs.Prelude.{◌↔◌, IsOk, IfErr, OnOk};
+ghost use Rattle.pon_cert.specs.Problem.{IsProblem, IsFairest};
+ghost use Rattle.pon_cert.specs.Certificate.{IsMapCertificate, left_surplus, spelled};
+ghost use Rattle.pon_check.specs.Faults.{IsFirstMapFault};
+
+use crate::class::check_class;
+use crate::fault::MapCertFault;
+use pon_cert::{Item, MapCert, left_surplus};
+
+/// Whether the certificate is that of a map with these items of the two classes and this surplus; else the first fault, the
+/// non-assured class first. The best-effort class is checked against what the non-assured one leaves: nothing where its
+/// level is a fraction, else the surplus less its caps.
+///
+/// The caller's conditions are those of [`check_class`] for each class. It takes no memory.
+pub fn check_map(na: &[Item], be: &[Item], surplus: u64, cert: &MapCert) -> Result<(), MapCertFault>
+    requires non_assured { IsProblem na.now surplus }
+    requires best_effort { IsProblem be.now surplus }
+    ensures accepted { IsOk result ↔ IsMapCertificate na.now be.now surplus cert.now }
+    ensures fault { IfErr result (IsFirstMapFault na.now be.now surplus cert.now) }
+    ensures fairest_non_assured { OnOk result (IsFairest na.now surplus (spelled na.now cert.now.na)) }
+    ensures fairest_best_effort { OnOk result (IsFairest be.now (left_surplus cert.now.na.level na.now surplus) (spelled be.now cert.now.be)) }
+{
+    if let Err(fault) = check_class(na, surplus, &cert.na) {
+        return Err(MapCertFault::NonAssured(fault));
+    }
+    let left = left_surplus(&cert.na.level, na, surplus);
+    if let Err(fault) = check_class(be, left, &cert.be) {
+        return Err(MapCertFault::BestEffort(fault));
+    }
+    Ok(())
+}
