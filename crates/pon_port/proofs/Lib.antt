@@ -1,6 +1,7 @@
 pub mod CutChapters
 pub mod Cutting
 pub mod Dealing
+pub mod FairMaps
 mod Gathering
 pub mod LastMaps
 pub mod Kept

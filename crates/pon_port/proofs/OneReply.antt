@@ -24,7 +24,7 @@ use Rattle.pon_port.proofs.Legality.{IsLegalAfter, after_from_legal, legal_from_
 use Rattle.pon_port.proofs.LawfulChapters.{admitted_at_present}
 
 module _ (s : State) (k : IsAdmitted rule_in_force s.gap s.roster) where
-  weighted : (class : Class) → same_class class Plain ≡ false → AreWeighted (items class s)
+  pub weighted : (class : Class) → same_class class Plain ≡ false → AreWeighted (items class s)
   weighted class shares =
       let problem : IsProblem (items class s) (surplus rule_in_force s) = problem_of s class (surplus rule_in_force s) shares k.few_allocs k.in_range (surplus_range s) in
       λ n d lt. (problem.each n d lt).has_weight

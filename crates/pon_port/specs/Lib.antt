@@ -4,6 +4,7 @@ pub mod Loads
 pub mod Rates
 pub mod Sharing
 pub mod Demands
+pub mod FairMaps
 pub mod Last
 pub mod Maps
 pub mod Packing

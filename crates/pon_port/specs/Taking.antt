@@ -4,12 +4,10 @@ use Rattle.pon_port.specs.State.{State}
 use Rattle.pon_admit.specs.Roster.{IsAdmitted, rule_in_force}
 use Rattle.pon_port.specs.Checks.{first_refusal}
 use Rattle.pon_port.specs.Legal.{MayFollow}
-use Rattle.pon_burst.specs.Bursts.{AreSound}
 use Rattle.pon_port.specs.Chapters.{Chapter, present_state, IsLawfulChapter, AccountsFor}
 use Rattle.pon_port.specs.Last.{KeepsLast}
 use Rattle.pon_port.specs.declared.event.Event.{Event}
 use Rattle.pon_port.specs.declared.reply.Reply.{Reply}
-use Rattle.pon_port.specs.declared.reply.Reply.TheVariants.{Taken, Map}
 use Rattle.pon_descr.specs.declared.refusal.Refusal.{Refusal}
 
 -- the chapter, with one entry more
@@ -20,11 +18,6 @@ with_entry c event reply = record { number = c.number; opening = c.opening; entr
 pub record Takes (old : Chapter) (event : Event) (reply : Reply) (new : Chapter) : Type 0 where
   pub follows : MayFollow (length old.entries) (present_state old) (record { event = event; reply = reply })
   pub kept : new ≡ with_entry old event reply
-
--- the bursts of a map that is told are sound
-abbrev pub TellsSoundBursts : ℕ → Reply → Type 0
-TellsSoundBursts gap Taken = Unit {0}
-TellsSoundBursts gap (Map made) = AreSound gap made.map
 
 -- the first check that refuses the event now
 abbrev pub refusal_of : Chapter → Event → Option Refusal

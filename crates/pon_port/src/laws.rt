@@ -1,6 +1,6 @@
 //! Laws of histories, over the definitions alone.
 
-ghost use Rattle.std.specs.Prelude.{List, None, drop, take, ℕ, ◌++◌, ◌+◌, ◌<◌, ◌≡◌, ◌≤◌};
+ghost use Rattle.std.specs.Prelude.{List, None, Some, drop, slice_get, take, ℕ, ◌++◌, ◌+◌, ◌<◌, ◌≡◌, ◌≤◌};
 ghost use Rattle.pon_descr.specs.Descriptor.{Descriptor, IsLawful};
 ghost use Rattle.pon_admit.specs.Roster.{IsAdmitted, IsInRange, Rule, refuses_admit, refuses_change, rule_in_force, with_descriptor, with_row, without};
 ghost use Rattle.pon_admit.specs.declared.row.Row.{Row};
@@ -12,6 +12,7 @@ ghost use Rattle.pon_port.specs.Sharing.{IsCertified, surplus_rate};
 ghost use Rattle.pon_port.specs.Maps.{map_of};
 ghost use Rattle.pon_burst.specs.Bursts.{AreSound};
 ghost use Rattle.pon_port.specs.Chapters.{Chapter, IsLawfulChapter, IsLawfulOpening, IsLegal, present_state, state_before};
+ghost use Rattle.pon_port.specs.FairMaps.{TellsFairMap};
 ghost use Rattle.pon_port.specs.Taking.{Takes};
 ghost use Rattle.pon_port.specs.declared.event.Event.{Event};
 ghost use Rattle.pon_port.specs.declared.reply.Entry.{Entry};
@@ -38,6 +39,11 @@ pub fn lawful_chapters_hold_admitted_sets()
 pub fn maps_of_admitted_sets_are_sound()
     ensures { (s : State) (rule : Rule) (cert : MapCert) → 1 ≤ rule.overhead_words → IsAdmitted rule s.gap s.roster → IsCertified rule s cert →
         AreSound s.gap (map_of s (surplus_rate s cert)) }
+{}
+
+/// Each map of a lawful chapter is certified, the fairest, in whole words and without overlap, for the state before it.
+pub fn maps_of_lawful_chapters_are_fair()
+    ensures { (c : Chapter) → IsLawfulChapter c → (k : ℕ) (e : Entry) → slice_get c.entries k ≡ Some e → TellsFairMap (state_before c k) e.reply }
 {}
 
 /// The state before any entry of a lawful chapter, and the state after all of them, may open a later chapter.

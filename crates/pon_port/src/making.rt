@@ -3,7 +3,6 @@
 ghost use Rattle.std.specs.Prelude.{◌≡◌, ◌+◌, ◌*◌, ◌/◌, ◌<◌, ◌≤◌, ◌∷◌, length, IfOk};
 ghost use Rattle.pon_bwmap.specs.MapRules.{IsMap};
 ghost use Rattle.pon_admit.specs.Roster.{IsAdmitted, rule_in_force};
-ghost use Rattle.pon_burst.specs.Bursts.{AreSound};
 ghost use Rattle.pon_burst.specs.Maps.{map_of};
 ghost use Rattle.pon_units.specs.Granted.{AreInMapOrder};
 ghost use Rattle.pon_cert.specs.Problem.{IsItem};
@@ -119,7 +118,6 @@ fn structures(
     requires { AreOneMap state.now.gap grants.now }
     ensures structures { IfOk result (λ structures. structures.items ≡ map_of state.now.gap state.now.profile grants.now) }
     ensures map { IfOk result (λ structures. IsMap structures.items) }
-    ensures sound { IfOk result (λ structures. AreSound state.now.gap structures.items) }
 {
     let series = gather(alloc, state.roster.gap(), grants)?;
     let blank = Alloc::polled(0, None, 0, 0);
@@ -157,7 +155,6 @@ pub(crate) struct ReadyMap {
 pub(crate) fn next_map(alloc: Global, state: &PortState) -> Result<ReadyMap, AllocError>
     requires admitted { IsAdmitted rule_in_force state.now.gap state.now.roster }
     ensures made { IfOk result (λ next. IsMade state.now next.made) }
-    ensures sound { IfOk result (λ next. AreSound state.now.gap next.made.map) }
     ensures map_order { IfOk result (λ next. AreInMapOrder next.grants.items) }
     ensures grants { IfOk result (λ next. next.grants.items ≡ grants_of state.now.roster next.made.map) }
     ensures na { IfOk result (λ next. next.na.items ≡ member_ids NonAssured state.now.roster) }

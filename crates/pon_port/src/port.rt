@@ -62,10 +62,10 @@ impl Port {
     ghost use Rattle.std.specs.Prelude.{[], ◌+◌, length, IfOk, IfErr, IfSome, MatchOption, None, OnOk, OnErr, Some};
     ghost use Rattle.pon_descr.specs.Descriptor.{IsLawful};
     ghost use Rattle.pon_admit.specs.Roster.{IsAdmitted, IsInRange, rule_in_force};
-    ghost use Rattle.pon_burst.specs.Bursts.{AreSound};
     ghost use Rattle.pon_port.specs.Chapters.{IsLawfulChapter, present_state};
     ghost use Rattle.pon_port.specs.Last.{Suits, last_map};
-    ghost use Rattle.pon_port.specs.Taking.{Takes, TellsSoundBursts, refusal_of};
+    ghost use Rattle.pon_port.specs.Taking.{Takes, refusal_of};
+    ghost use Rattle.pon_port.specs.FairMaps.{IsFairMap, TellsFairMap};
     ghost use Rattle.pon_descr.specs.Checks.{IsTold};
 
     /// A port just opened: no Alloc-ID, the line up, and `first` as its next frame. `Err` only for want of memory.
@@ -189,7 +189,7 @@ impl Port {
 
     fn make_map(&mut self) -> Result<MadeMap, Refusal>
         ensures ok { IfOk result (λ made. Takes self.old Event.MakeMap (Reply.Map made) self.new) }
-        ensures sound { IfOk result (λ made. AreSound self.old.opening.gap made.map) }
+        ensures fair { IfOk result (λ made. IsFairMap (present_state self.old) made) }
         ensures refused { IfErr result (λ told. IsTold (refusal_of self.old Event.MakeMap) told) }
         ensures err { OnErr result (self.new ≡ self.old) }
     {
@@ -281,8 +281,8 @@ impl Port {
     /// state nor the history.
     pub fn take(&mut self, event: Event) -> Result<Reply, Refusal>
         ensures ok { IfOk result (λ reply. Takes self.old event reply self.new) }
-        // The bursts of a map lie in the frame, and no two overlap.
-        ensures sound { IfOk result (λ reply. TellsSoundBursts self.old.opening.gap reply) }
+        // Each map is certified, the fairest, in whole words and without overlap.
+        ensures fair { IfOk result (λ reply. TellsFairMap (present_state self.old) reply) }
         ensures refused { IfErr result (λ told. IsTold (refusal_of self.old event) told) }
         ensures err { OnErr result (self.new ≡ self.old) }
     {

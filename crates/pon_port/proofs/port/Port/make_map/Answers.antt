@@ -1,10 +1,12 @@
 use Rattle.std.proofs.Common.{◌≡◌, rules, subst}
-use Rattle.pon_port.specs.Chapters.{Chapter}
+use Rattle.pon_port.specs.Chapters.{Chapter, present_state}
+use Rattle.pon_port.specs.FairMaps.{IsFairMap}
 use Rattle.pon_port.specs.Legal.{IsMade}
 use Rattle.pon_port.specs.Taking.{Takes, with_entry}
 use Rattle.pon_port.specs.declared.event.Event.TheVariants.{MakeMap}
 use Rattle.pon_port.specs.declared.reply.Reply.TheVariants.{Map}
 use Rattle.pon_port.proofs.Kept.{kept_frames, map_taken, mapped}
+use Rattle.pon_port.proofs.FairMaps.{fair_map}
 use Rattle.pon_port.proofs.LastMaps.{last_made}
 use Rattle.pon_port.proofs.port.Port.make_map.Goals as goal
 
@@ -28,3 +30,10 @@ returns-clause-ok c =
 
 pub add_map-requires-clause-frames : goal.add_map-requires-clause-frames
 add_map-requires-clause-frames c = kept_frames _ c.self.inside.state c.self.invariant.kept
+
+pub returns-clause-fair : goal.returns-clause-fair
+returns-clause-fair c =
+    let old : Chapter = record { number = 0; opening = c.self.inside.opening; entries = c.self.inside.entries.items } in
+    let made : IsMade c.self.inside.state c.in-Ok.next.made = search rules in
+    let fair : IsFairMap (present_state old) c.in-Ok.next.made = subst (λ s. IsFairMap s c.in-Ok.next.made) c.self.invariant.kept.replayed (fair_map c.self.inside.state c.self.invariant.kept.admitted c.in-Ok.next.made made) in
+    subst (λ old. IsFairMap (present_state old) c.in-Ok.next.made) c.self.view_is fair
