@@ -19,7 +19,7 @@ use Rattle.pon_cert.specs.declared.cert.Level.TheVariants as level
 use Rattle.pon_cert.specs.declared.cert.ClassCert.{ClassCert}
 use Rattle.pon_cert.specs.declared.cert.MapCert.{MapCert}
 use Rattle.pon_cert.specs.Problem.{IsItem, IsProblem}
-use Rattle.pon_cert.specs.Certificate.{IsCertificate, DenominatorHolds, RuleHolds, amount, denominator, left_surplus, unsaturated_weight}
+use Rattle.pon_cert.specs.Certificate.{IsCertificate, IsMapCertificate, DenominatorHolds, RuleHolds, amount, denominator, left_surplus, unsaturated_weight}
 use Rattle.pon_port.specs.State.{State}
 use Rattle.pon_port.specs.Rates.{granted, guaranteed_rate}
 use Rattle.pon_port.specs.Sharing.{IsCertified, is_saturated, item_of, items, member_ids, members, rate_in, same_class, spelled_rate, surplus, surplus_rate, weight_in}
@@ -298,3 +298,10 @@ guaranteed_demanded s ds e = ap (sum_by (λ d. d.guaranteed)) e ∙ sum_by-map (
 
 pub surplus_range : (s : State) → surplus rule_in_force s ≤ 2488320
 surplus_range s = let room : capacity rule_in_force s.gap s.roster ≤ 9720 = omega arith in omega (arith, room)
+
+-- what shares the surplus among the members of the two classes is a certificate of the state
+pub certified_of : (s : State) (ds es : List Demand) (na be : List Item) (n : ℕ) (cert : MapCert) → ds ≡ demands_of s → es ≡ demands_of s →
+    na ≡ map (λ d. d.item) (filter (λ d. same_class d.class NonAssured) ds) → be ≡ map (λ d. d.item) (filter (λ d. same_class d.class BestEffort) es) →
+    n ≡ surplus rule_in_force s → IsMapCertificate na be n cert → IsCertified rule_in_force s cert
+certified_of s ds es na be n cert d e a b m c =
+    rw (← items_demanded s NonAssured ds d, ← items_demanded s BestEffort es e, ← a, ← b, ← m) c

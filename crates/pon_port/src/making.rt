@@ -18,7 +18,7 @@ ghost use Rattle.pon_port.specs.Legal.{IsMade};
 use crate::demand::{Demand, demands};
 use crate::reply::MadeMap;
 use crate::series::gather;
-use crate::sharing::{class_ids, map_cert};
+use crate::sharing::{class_members, map_cert, surplus};
 use crate::state::PortState;
 use pon_burst::pack;
 use pon_bwmap::{Alloc, Map};
@@ -161,15 +161,17 @@ pub(crate) fn next_map(alloc: Global, state: &PortState) -> Result<ReadyMap, All
     ensures be { IfOk result (λ next. next.be.items ≡ member_ids BestEffort state.now.roster) }
 {
     let demands = demands(alloc, state)?;
-    let cert = map_cert(alloc, state, demands.as_slice())?;
+    let na = class_members(alloc, demands.as_slice(), Class::NonAssured)?;
+    let be = class_members(alloc, demands.as_slice(), Class::BestEffort)?;
+    let surplus = surplus(state, demands.as_slice());
+    let cert = map_cert(alloc, na.items.as_slice(), be.items.as_slice(), surplus)?;
     let grants = grants(alloc, state, demands.as_slice(), &cert)?;
     let map = map_of_structures(structures(alloc, state, grants.as_slice())?);
     let frame = state.next;
-    let made = MadeMap { frame, map, cert };
     Ok(ReadyMap {
-        made,
+        made: MadeMap { frame, map, cert },
         grants,
-        na: class_ids(alloc, demands.as_slice(), Class::NonAssured)?,
-        be: class_ids(alloc, demands.as_slice(), Class::BestEffort)?,
+        na: na.ids,
+        be: be.ids,
     })
 }

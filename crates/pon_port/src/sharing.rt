@@ -3,8 +3,8 @@
 ghost use Rattle.std.specs.Prelude.{◌≡◌, ◌*◌, ◌≤◌, IfOk, filter, length, map, sum_by};
 ghost use Rattle.pon_admit.specs.Roster.{IsAdmitted, rule_in_force};
 ghost use Rattle.pon_cert.specs.Problem.{IsProblem};
-ghost use Rattle.pon_cert.specs.Certificate.{IsCertificate};
-ghost use Rattle.pon_port.specs.Sharing.{IsCertified, same_class, surplus};
+ghost use Rattle.pon_cert.specs.Certificate.{IsCertificate, IsMapCertificate};
+ghost use Rattle.pon_port.specs.Sharing.{same_class, surplus};
 ghost use Rattle.pon_port.specs.Demands.{demands_of};
 
 use crate::demand::Demand;
@@ -27,8 +27,8 @@ fn guaranteed_sum(demands: &[Demand]) -> u64
     sum
 }
 
-// What the guaranteed rates leave of the capacity, in kbit/s.
-fn surplus(state: &PortState, demands: &[Demand]) -> u64
+/// What the guaranteed rates leave of the capacity, in kbit/s.
+pub(crate) fn surplus(state: &PortState, demands: &[Demand]) -> u64
     requires admitted { IsAdmitted rule_in_force state.now.gap state.now.roster }
     requires demands { demands.now ≡ demands_of state.now }
     ensures { result ≡ surplus rule_in_force state.now }
@@ -48,34 +48,31 @@ fn is_of(demand: &Demand, class: Class) -> bool
     }
 }
 
-// The items of a class, in map order.
-fn class_items(alloc: Global, demands: &[Demand], class: Class) -> Result<Vec<Item>, AllocError>
-    ensures { IfOk result (λ items. items.items ≡ map (λ d. d.item) (filter (λ d. same_class d.class class) demands.now)) }
-{
-    let mut items = Vec::new(alloc);
-    for demand in demands {
-        if is_of(demand, class) {
-            items.push(demand.item)?;
-        }
-    }
-    Ok(items)
+/// The Alloc-IDs of a class in map order, and with what each shares the surplus of the class.
+#[derive(Drop)]
+pub(crate) struct Members {
+    pub ids: Vec<AllocId>,
+    pub items: Vec<Item>,
 }
 
-/// The Alloc-IDs of a class, in map order; `Err` only for want of memory.
-pub(crate) fn class_ids(
+/// The members of a class; `Err` only for want of memory.
+pub(crate) fn class_members(
     alloc: Global,
     demands: &[Demand],
     class: Class,
-) -> Result<Vec<AllocId>, AllocError>
-    ensures { IfOk result (λ ids. ids.items ≡ map (λ d. d.alloc_id) (filter (λ d. same_class d.class class) demands.now)) }
+) -> Result<Members, AllocError>
+    ensures ids { IfOk result (λ members. members.ids.items ≡ map (λ d. d.alloc_id) (filter (λ d. same_class d.class class) demands.now)) }
+    ensures items { IfOk result (λ members. members.items.items ≡ map (λ d. d.item) (filter (λ d. same_class d.class class) demands.now)) }
 {
     let mut ids = Vec::new(alloc);
+    let mut items = Vec::new(alloc);
     for demand in demands {
         if is_of(demand, class) {
             ids.push(demand.alloc_id)?;
+            items.push(demand.item)?;
         }
     }
-    Ok(ids)
+    Ok(Members { ids, items })
 }
 
 // The certificate of a class.
@@ -97,22 +94,23 @@ fn class_cert(alloc: Global, items: &[Item], surplus: u64) -> Result<ClassCert, 
     })
 }
 
-/// The certificate of a state, which shares the surplus among the non-assured Alloc-IDs and what they leave among those of
-/// best effort; `Err` only for want of memory.
+/// The certificate of a map, which shares the surplus among the non-assured items and what they leave among those of best
+/// effort; `Err` only for want of memory.
 pub(crate) fn map_cert(
     alloc: Global,
-    state: &PortState,
-    demands: &[Demand],
+    na: &[Item],
+    be: &[Item],
+    surplus: u64,
 ) -> Result<MapCert, AllocError>
-    requires admitted { IsAdmitted rule_in_force state.now.gap state.now.roster }
-    requires demands { demands.now ≡ demands_of state.now }
-    ensures { IfOk result (λ cert. IsCertified rule_in_force state.now cert) }
+    requires non_assured { IsProblem na.now surplus }
+    requires best_effort { IsProblem be.now surplus }
+    ensures { IfOk result (λ cert. IsMapCertificate na.now be.now surplus cert) }
 {
-    let surplus = surplus(state, demands);
-    let items = class_items(alloc, demands, Class::NonAssured)?;
-    let na = class_cert(alloc, items.as_slice(), surplus)?;
-    let left = left_surplus(&na.level, items.as_slice(), surplus);
-    let items = class_items(alloc, demands, Class::BestEffort)?;
-    let be = class_cert(alloc, items.as_slice(), left)?;
-    Ok(MapCert { na, be })
+    let na_cert = class_cert(alloc, na, surplus)?;
+    let left = left_surplus(&na_cert.level, na, surplus);
+    let be_cert = class_cert(alloc, be, left)?;
+    Ok(MapCert {
+        na: na_cert,
+        be: be_cert,
+    })
 }

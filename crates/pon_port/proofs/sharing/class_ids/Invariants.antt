@@ -1,8 +1,0 @@
-use Rattle.std.proofs.Common.{◌≡◌, map, take}
-use Rattle.std.specs.Prelude.{filter}
-use Rattle.pon_port.specs.Sharing.{same_class}
-use Rattle.pon_port.proofs.sharing.class_ids.Given as goal
-
--- the Alloc-IDs of the demands so far
-abbrev pub invariant-loop-demand : goal.invariant-loop-demand
-invariant-loop-demand l = l.ids.items ≡ map (λ d. d.alloc_id) (filter (λ d. same_class d.class l.class) (take l.demand-index l.demands))

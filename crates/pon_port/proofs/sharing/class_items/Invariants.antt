@@ -1,8 +1,0 @@
-use Rattle.std.proofs.Common.{◌≡◌, map, take}
-use Rattle.std.specs.Prelude.{filter}
-use Rattle.pon_port.specs.Sharing.{same_class}
-use Rattle.pon_port.proofs.sharing.class_items.Given as goal
-
--- the items of the demands so far
-abbrev pub invariant-loop-demand : goal.invariant-loop-demand
-invariant-loop-demand l = l.items.items ≡ map (λ d. d.item) (filter (λ d. same_class d.class l.class) (take l.demand-index l.demands))
