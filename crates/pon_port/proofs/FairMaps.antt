@@ -14,6 +14,7 @@ use Rattle.pon_cert.specs.declared.cert.Level.TheVariants as level
 use Rattle.pon_cert.specs.declared.cert.ClassCert.{ClassCert}
 use Rattle.pon_cert.specs.Certificate.{IsCertificate, amount, denominator, left_surplus, spelled}
 use Rattle.pon_cert.proofs.Fairness.{is_fairest}
+use Rattle.pon_cert.proofs.OneCertificate.{one_certificate}
 use Rattle.pon_port.specs.State.{State}
 use Rattle.pon_port.specs.Sharing.{is_saturated, item_of, items, members, rate_in, same_class, spelled_rate, surplus, surplus_rate}
 use Rattle.pon_port.specs.Legal.{IsMade, IsReply}
@@ -28,7 +29,7 @@ use Rattle.pon_port.specs.declared.reply.MadeMap.{MadeMap}
 use Rattle.pon_port.specs.declared.reply.Entry.{Entry}
 use Rattle.pon_port.proofs.Dealing.{problem_of, surplus_range}
 use Rattle.pon_port.proofs.LawfulChapters.{admitted_before}
-use Rattle.pon_port.proofs.OneReply.{one_map_certificate, weighted}
+use Rattle.pon_port.proofs.OneReply.{weighted}
 use Rattle.pon_port.proofs.RosterMaps.{admitted_map_is_sound, window_grants}
 use Rattle.pon_port.proofs.Surplus.{flags_each}
 
@@ -83,7 +84,8 @@ module _ (s : State) (k : IsAdmitted rule_in_force s.gap s.roster) where
       record {
         frame = m.frame;
         certificate = m.certified;
-        only_certificate = λ other h. one_map_certificate s k other made.cert h m.certified;
+        only_non_assured = λ other h. one_certificate (items NonAssured s) (surplus rule_in_force s) other made.cert.na (weighted s k NonAssured refl) h m.certified.non_assured;
+        only_best_effort = λ other h. one_certificate (items BestEffort s) (best_effort_surplus s made.cert) other made.cert.be (weighted s k BestEffort refl) h m.certified.best_effort;
         fairest_non_assured = is_fairest (items NonAssured s) (surplus rule_in_force s) made.cert.na (weighted s k NonAssured refl) m.certified.non_assured;
         fairest_best_effort = is_fairest (items BestEffort s) (best_effort_surplus s made.cert) made.cert.be (weighted s k BestEffort refl) m.certified.best_effort;
         non_assured_rates =

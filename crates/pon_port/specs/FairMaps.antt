@@ -5,9 +5,10 @@ use Rattle.pon_units.specs.Fraction.{Fraction}
 use Rattle.pon_burst.specs.Bursts.{AreSound}
 use Rattle.pon_descr.specs.declared.class.Class.TheVariants.{NonAssured, BestEffort}
 use Rattle.pon_admit.specs.Roster.{rule_in_force}
+use Rattle.pon_cert.specs.declared.cert.ClassCert.{ClassCert}
 use Rattle.pon_cert.specs.declared.cert.MapCert.{MapCert}
 use Rattle.pon_cert.specs.Problem.{Assignment, IsFairest, IsProblem}
-use Rattle.pon_cert.specs.Certificate.{left_surplus, spelled}
+use Rattle.pon_cert.specs.Certificate.{IsCertificate, left_surplus, spelled}
 use Rattle.pon_port.specs.State.{State}
 use Rattle.pon_port.specs.Rates.{granted}
 use Rattle.pon_port.specs.Sharing.{IsCertified, items, members, surplus, surplus_rate}
@@ -41,8 +42,9 @@ pub record IsFairMap (s : State) (made : MadeMap) : Type 0 where
   pub frame : made.frame ≡ s.next
   -- level and saturated set are accepted for the problem of each class
   pub certificate : IsCertified rule_in_force s made.cert
-  -- and those of no other certificate are
-  pub only_certificate : (other : MapCert) → IsCertified rule_in_force s other → other ≡ made.cert
+  -- and neither problem has another certificate
+  pub only_non_assured : (other : ClassCert) → IsCertificate (items NonAssured s) (non_assured_surplus s) other → other ≡ made.cert.na
+  pub only_best_effort : (other : ClassCert) → IsCertificate (items BestEffort s) (best_effort_surplus s made.cert) other → other ≡ made.cert.be
   -- no assignment within capacity and demand has a better least-first list of weighted shares than the spelled one, and
   -- each other one has a worse
   pub fairest_non_assured : IsFairest (items NonAssured s) (non_assured_surplus s) (non_assured_share s made.cert)
