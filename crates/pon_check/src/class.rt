@@ -1,14 +1,18 @@
 // One class: a level and a set of saturated items, against items and surplus.
-ghost use Rattle.std.specs.Prelude.{◌≡◌, ◌≢◌, ◌+◌, ◌*◌, ◌^◌, ◌<◌, ◌≤◌, ◌↔◌, length, take, sum, map, Bool, All, IsTrue, IsOk, IfErr, OnOk, IfSome, IfNone, Some, slice_get};
-ghost use Rattle.std.specs.List.{AllZip, zip};
+ghost use Rattle.std.specs.Prelude.{◌≡◌, ◌<◌, ◌≤◌, ◌↔◌, All, Bool, if◌then◌else◌, length, IsTrue, IsOk, IfErr, OnOk, IfSome, IfNone};
+ghost use Rattle.std.specs.List.{AllZip};
+ghost use Rattle.pon_cert.specs.declared.cert.ClassCert.{ClassCert};
 ghost use Rattle.pon_cert.specs.Problem.{IsItem, IsProblem, IsFairest};
-ghost use Rattle.pon_cert.specs.Certificate.{IsCertificate, RuleHolds, DenominatorHolds, SumHolds, amount, spelled, unsaturated_weight};
+ghost use Rattle.pon_cert.specs.Certificate.{IsCertificate, RuleHolds, DenominatorHolds, SumHolds, spelled};
+ghost use Rattle.pon_check.specs.declared.fault.CertFault.TheVariants.{Saturated, Unsaturated};
 ghost use Rattle.pon_check.specs.Faults.{IsFirstFault, IsSumFault, FailsFirst};
 
 use crate::fault::CertFault;
+use crate::sums::{total_of, weight_left};
 use pon_cert::{ClassCert, Item, Level};
 
-// Whether an item keeps the rule of its side: at most its share at the level where it is saturated, above it elsewhere.
+// Whether an item keeps the rule of its side: its cap is at most its share at the level where it is saturated, above it
+// elsewhere.
 fn rule_holds(level: &Level, item: Item, saturated: bool) -> bool
     requires { IsItem item }
     ensures { IsTrue result ↔ RuleHolds level.now item saturated }
@@ -21,40 +25,6 @@ fn rule_holds(level: &Level, item: Item, saturated: bool) -> bool
             if saturated { cap <= share } else { share < cap }
         }
     }
-}
-
-// What the certificate spells for an item, times the denominator.
-fn amount_of(level: &Level, item: Item, saturated: bool) -> u128
-    requires { IsItem item }
-    ensures value { result ≡ amount level.now item saturated }
-    ensures small { result < 2 ^ 86 }
-{
-    match level {
-        Level::All => u128::from(item.cap),
-        Level::At(f) => {
-            if saturated {
-                u128::from(item.cap) * u128::from(f.den())
-            } else {
-                u128::from(item.weight) * u128::from(f.num())
-            }
-        }
-    }
-}
-
-// The weight of the items that are not saturated.
-fn weight_left(items: &[Item], saturated: &[bool]) -> u64
-    requires lengths { length items.now ≡ length saturated.now }
-    requires count { length items.now ≤ 512 }
-    requires each { All IsItem items.now }
-    ensures { result ≡ unsaturated_weight items.now saturated.now }
-{
-    let mut total = 0;
-    for i in 0..items.len() {
-        if !saturated[i] {
-            total += items[i].weight;
-        }
-    }
-    total
 }
 
 // The first item that breaks its rule.
@@ -72,20 +42,6 @@ fn first_failing(level: &Level, items: &[Item], saturated: &[bool]) -> Option<us
     None
 }
 
-// What the certificate spells in all, times the denominator.
-fn total_of(level: &Level, items: &[Item], saturated: &[bool]) -> u128
-    requires lengths { length items.now ≡ length saturated.now }
-    requires count { length items.now ≤ 512 }
-    requires each { All IsItem items.now }
-    ensures { result ≡ sum (map (λ p. amount level.now p.0 p.1) (zip items.now saturated.now)) }
-{
-    let mut total = 0;
-    for i in 0..items.len() {
-        total += amount_of(level, items[i], saturated[i]);
-    }
-    total
-}
-
 // Whether a fraction is over the weight of the unsaturated items.
 fn denominator_holds(level: &Level, items: &[Item], saturated: &[bool]) -> bool
     requires lengths { length items.now ≡ length saturated.now }
@@ -99,26 +55,31 @@ fn denominator_holds(level: &Level, items: &[Item], saturated: &[bool]) -> bool
     }
 }
 
+// The fault of an item that breaks its rule.
+fn item_fault(i: usize, saturated: bool) -> CertFault
+    ensures { result ≡ (if saturated then Saturated i else Unsaturated i) }
+{
+    if saturated {
+        CertFault::Saturated { i }
+    } else {
+        CertFault::Unsaturated { i }
+    }
+}
+
 // Whether the total is what the level asks for: within the surplus, or all of it.
 fn check_sum(level: &Level, total: u128, surplus: u64) -> Result<(), CertFault>
     ensures ok { IsOk result ↔ SumHolds level.now total surplus }
     ensures fault { IfErr result (IsSumFault level.now total surplus) }
 {
-    match level {
-        Level::All => {
-            if total > u128::from(surplus) {
-                return Err(CertFault::Overspent);
-            }
-        }
-        Level::At(f) => {
-            let whole = u128::from(f.den()) * u128::from(surplus);
-            if total > whole {
-                return Err(CertFault::Overspent);
-            }
-            if total < whole {
-                return Err(CertFault::NotExhausted);
-            }
-        }
+    let (whole, has_fraction) = match level {
+        Level::All => (u128::from(surplus), false),
+        Level::At(f) => (u128::from(f.den()) * u128::from(surplus), true),
+    };
+    if total > whole {
+        return Err(CertFault::Overspent);
+    }
+    if has_fraction && total < whole {
+        return Err(CertFault::NotExhausted);
     }
     Ok(())
 }
@@ -127,13 +88,14 @@ fn check_sum(level: &Level, total: u128, surplus: u64) -> Result<(), CertFault>
 ///
 /// The caller's conditions: at most 512 items, each weight 1 to 2,488,320, each cap and the surplus 0 to 2,488,320 kbit/s.
 /// None on the certificate, whose numbers may be any: products are of 128 bits. Where it answers `Ok`, what the certificate
-/// spells is within capacity and demand, no other such assignment is fairer, and each other one is less fair. It takes no
-/// memory.
+/// spells is within capacity and demand, no other such assignment is fairer, and each other one is less fair; and no other
+/// certificate is accepted for these items and this surplus. It takes no memory.
 pub fn check_class(items: &[Item], surplus: u64, cert: &ClassCert) -> Result<(), CertFault>
     requires { IsProblem items.now surplus }
     ensures accepted { IsOk result ↔ IsCertificate items.now surplus cert.now }
     ensures fault { IfErr result (IsFirstFault items.now surplus cert.now) }
     ensures fairest { OnOk result (IsFairest items.now surplus (spelled items.now cert.now)) }
+    ensures only { OnOk result ((other : ClassCert) → IsCertificate items.now surplus other → other ≡ cert.now) }
 {
     let saturated = cert.saturated.as_slice();
     if items.len() != saturated.len() {
@@ -143,10 +105,7 @@ pub fn check_class(items: &[Item], surplus: u64, cert: &ClassCert) -> Result<(),
         return Err(CertFault::Denominator);
     }
     if let Some(i) = first_failing(&cert.level, items, saturated) {
-        if saturated[i] {
-            return Err(CertFault::Saturated { i });
-        }
-        return Err(CertFault::Unsaturated { i });
+        return Err(item_fault(i, saturated[i]));
     }
     let total = total_of(&cert.level, items, saturated);
     check_sum(&cert.level, total, surplus)

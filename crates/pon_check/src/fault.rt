@@ -7,7 +7,7 @@ pub enum CertFault {
     Length,
     /// The denominator is not the weight of the unsaturated items.
     Denominator,
-    /// Item `i`, from 0, is saturated, and its cap is above its share at the level; told by a level of all never.
+    /// Item `i`, from 0, is saturated, and its cap is above its share at the level. Never told at a level of all.
     Saturated { i: usize },
     /// Item `i`, from 0, is not saturated, and its cap is not above its share at the level, or the level is all.
     Unsaturated { i: usize },

@@ -1,5 +1,6 @@
 // Both classes of a map.
-ghost use Rattle.std.specs.Prelude.{◌↔◌, IsOk, IfErr, OnOk};
+ghost use Rattle.std.specs.Prelude.{◌≡◌, ◌↔◌, IsOk, IfErr, OnOk};
+ghost use Rattle.pon_cert.specs.declared.cert.MapCert.{MapCert};
 ghost use Rattle.pon_cert.specs.Problem.{IsProblem, IsFairest};
 ghost use Rattle.pon_cert.specs.Certificate.{IsMapCertificate, left_surplus, spelled};
 ghost use Rattle.pon_check.specs.Faults.{IsFirstMapFault};
@@ -10,7 +11,8 @@ use pon_cert::{Item, MapCert, left_surplus};
 
 /// Whether the certificate is that of a map with these items of the two classes and this surplus; else the first fault, the
 /// non-assured class first. The best-effort class is checked against what the non-assured one leaves: nothing where its
-/// level is a fraction, else the surplus less its caps.
+/// level is a fraction, else the surplus less its caps. Where it answers `Ok`, both spell the fairest share, and no other
+/// certificate of a map is accepted for these items and this surplus.
 ///
 /// The caller's conditions are those of [`check_class`] for each class. It takes no memory.
 pub fn check_map(na: &[Item], be: &[Item], surplus: u64, cert: &MapCert) -> Result<(), MapCertFault>
@@ -20,6 +22,7 @@ pub fn check_map(na: &[Item], be: &[Item], surplus: u64, cert: &MapCert) -> Resu
     ensures fault { IfErr result (IsFirstMapFault na.now be.now surplus cert.now) }
     ensures fairest_non_assured { OnOk result (IsFairest na.now surplus (spelled na.now cert.now.na)) }
     ensures fairest_best_effort { OnOk result (IsFairest be.now (left_surplus cert.now.na.level na.now surplus) (spelled be.now cert.now.be)) }
+    ensures only { OnOk result ((other : MapCert) → IsMapCertificate na.now be.now surplus other → other ≡ cert.now) }
 {
     if let Err(fault) = check_class(na, surplus, &cert.na) {
         return Err(MapCertFault::NonAssured(fault));

@@ -1,6 +1,6 @@
 use Rattle.std.proofs.Common.{◌≡◌, ◌+◌, ◌*◌, ◌≤◌, drop}
 use Rattle.pon_cert.specs.Certificate.{unsaturated_weight}
-use Rattle.pon_check.proofs.class.weight_left.Given as goal
+use Rattle.pon_check.proofs.sums.weight_left.Given as goal
 
 abbrev pub invariant-loop-i : goal.invariant-loop-i
 invariant-loop-i l = record {

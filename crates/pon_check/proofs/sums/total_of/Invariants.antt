@@ -2,7 +2,7 @@ use Rattle.std.proofs.Common.{◌≡◌, ◌+◌, ◌*◌, ◌^◌, ◌≤◌, d
 use Rattle.std.specs.Prelude.{sum, map}
 use Rattle.std.specs.List.{zip}
 use Rattle.pon_cert.specs.Certificate.{amount}
-use Rattle.pon_check.proofs.class.total_of.Given as goal
+use Rattle.pon_check.proofs.sums.total_of.Given as goal
 
 abbrev pub invariant-loop-i : goal.invariant-loop-i
 invariant-loop-i l = record {
