@@ -1,7 +1,7 @@
 -- The bytes of a certificate read as that certificate.
 use Rattle.std.proofs.Common.{◌≡◌, ℕ, ◌<◌, ◌^◌, Bool, true, false, List, [], ◌∷◌, ◌++◌, length, take, drop, refl, sym, ap, ◌∙◌, arith, append_assoc, length-append, lit<}
 use Rattle.std.specs.Prelude.{map, Ok, Result, nat_lt}
-use Rattle.std.specs.Int.{Width, w8, w16, w64, to_be_bytes, from_be_bytes, byte_len}
+use Rattle.std.specs.Int.{Width, w16, w64, to_be_bytes, from_be_bytes, byte_len}
 use Rattle.std.proofs.lemmas.Bool.{lt-ltb, le-ltb}
 use Rattle.std.proofs.lemmas.Nat.{from_be_bytes-to_be_bytes_2, from_be_bytes-to_be_bytes_8}
 use Rattle.std.proofs.Math.Seq.{take-append_seam, drop-append_seam}

@@ -43,6 +43,14 @@ fn same(rt: &impl Abort, a: &MapCert, b: &MapCert) {
     assert_eq!(rt; a.be.saturated.as_slice(), b.be.saturated.as_slice());
 }
 
+// Want of memory by its own name.
+fn refused(fault: CertReadFault) -> Fail {
+    match fault {
+        CertReadFault::Memory => AllocError.into(),
+        _ => "a certificate".into(),
+    }
+}
+
 fn fault(alloc: Global, bytes: &[u8]) -> Option<CertReadFault> {
     MapCert::from_bytes(alloc, bytes).err()
 }
@@ -74,7 +82,7 @@ fn bytes_read_back(rt: HostRuntime) -> Result<(), Fail> {
     let alloc = rt.alloc();
     let wanted = first_of_three(alloc)?;
     let bytes = with_rest(alloc, &[0x02, 0xff])?;
-    let (cert, used) = MapCert::from_bytes(alloc, &bytes).map_err(|_| "a certificate")?;
+    let (cert, used) = MapCert::from_bytes(alloc, &bytes).map_err(refused)?;
     assert_eq!(rt; used, 41);
     same(&rt, &cert, &wanted);
     same(&rt, &cert.try_copy(alloc)?, &wanted);
@@ -196,7 +204,7 @@ fn read_and_written(alloc: Global, names: &[AllocId], text: &str) -> Result<Stri
 {
     match MapCert::from_text(alloc, names, names, text) {
         Ok(cert) => Ok(cert.to_text(alloc, names, names)?),
-        Err(_) => Err("a certificate".into()),
+        Err(fault) => Err(refused(fault)),
     }
 }
 
@@ -226,7 +234,7 @@ fn flags_read_from_a_text(rt: HostRuntime) -> Result<(), Fail> {
         be: class(alloc, Level::All, &[false, false])?,
     };
     let text = "na 90/3 1025 be all -";
-    let cert = MapCert::from_text(alloc, &names, &names, text).map_err(|_| "a certificate")?;
+    let cert = MapCert::from_text(alloc, &names, &names, text).map_err(refused)?;
     same(&rt, &cert, &wanted);
     Ok(())
 }
