@@ -1,3 +1,8 @@
+pub mod Subcommands
+pub mod FileAnswers
+pub mod ItemRows
+pub mod Naming
+pub mod Cutting
 pub mod Splitting
 pub mod Numbers
 pub mod LongLines

@@ -73,7 +73,7 @@ pub record Progress (first : List Chapter) (left_first left held_first held : Op
   pub gave : GivesLines first lines written ports
   pub kept : line ≡ take 4097 cur
 
-consumes_none : (l : Option (List ℕ)) → Consumes l l []
+pub consumes_none : (l : Option (List ℕ)) → Consumes l l []
 consumes_none None = tt
 consumes_none (Some xs) = refl
 
@@ -96,7 +96,7 @@ begin first left held = record {
   kept = refl;
 }
 
-consumes_more : (old mid new : Option (List ℕ)) (xs ys : List ℕ) → Consumes old mid xs → Consumes mid new ys → Consumes old new (xs ++ ys)
+pub consumes_more : (old mid new : Option (List ℕ)) (xs ys : List ℕ) → Consumes old mid xs → Consumes mid new ys → Consumes old new (xs ++ ys)
 consumes_more None mid new xs ys a b = tt
 consumes_more (Some o) None new xs ys a b = absurd a
 consumes_more (Some o) (Some m) None xs ys a b = absurd b

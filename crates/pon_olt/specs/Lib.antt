@@ -1,3 +1,5 @@
+pub mod CheckFiles
+pub mod CheckLines
 pub mod Commands
 pub mod Faults
 pub mod Fields

@@ -1,47 +1,57 @@
-ghost use Rattle.std.specs.Prelude.{◌≡◌, Some, IfOk, List, ℕ, map, string_bytes};
-ghost use Rattle.clap.specs.Matches.{subcommand_name_of};
-ghost use Rattle.pon_olt.specs.Jobs.{job_of};
+ghost use Rattle.std.specs.Prelude.{IfOk, IfSome};
+ghost use Rattle.clap.specs.Words.{subcommand_rows_of};
+ghost use Rattle.pon_olt.specs.Jobs.{IsJob};
 
 use crate::task::Job;
 use clap::error::ErrorKind;
-use clap::{ArgMatches, Command, Error};
+use clap::{Arg, ArgMatches, Command, Error};
 use std::alloc::{AllocError, Global};
 
 // The program's command, with its subcommands.
 fn command<'a>(alloc: Global) -> Result<Command<'a>, AllocError> {
     let plan = Command::new(alloc, "plan").about("Answer management lines from standard input");
+    let file = Arg::new(alloc, "file")
+        .value_name("FILE")
+        .help("The check file: a surplus, its items and their certificate")
+        .required(true);
+    let check = Command::new(alloc, "check")
+        .about("Judge the certificate of a shared surplus")
+        .arg(file)?;
     Command::new(alloc, "olt")
         .bin_name("olt")?
         .version("0.1.0")
         .about("Upstream bandwidth scheduler of an XG-PON optical line terminal")
         .subcommand_required(true)
         .arg_required_else_help(true)
-        .subcommand(plan)
+        .subcommand(plan)?
+        .subcommand(check)
 }
 
-// The job that a subcommand names.
-fn job_named(name: &str) -> Option<Job>
-    ensures { result ≡ job_of name.now }
+// The job that the subcommand of the matches names.
+fn job_of<'a>(matches: &ArgMatches<'a>) -> Option<Job<'a>>
+    ensures { IfSome result (IsJob (subcommand_rows_of matches.now)) }
 {
+    let (name, found) = matches.subcommand()?;
     if name == "plan" {
-        Some(Job::Plan)
-    } else {
-        None
+        return Some(Job::Plan);
     }
+    if name == "check" {
+        let file = found.get_str("file")?;
+        return Some(Job::Check { file });
+    }
+    None
 }
 
 /// Reads the words of the command line, the program's name first, and tells the job that their subcommand names.
 ///
 /// `Err` is clap's: a fault of the words, their help or version, or want of memory.
-pub fn job<'a>(alloc: Global, words: &'a [String]) -> Result<Job, Error>
-    ensures { IfOk result (λ job. (m : ArgMatches) × (name : List ℕ) × (subcommand_name_of m ≡ Some name) × (job_of name ≡ Some job)) }
+pub fn job<'a>(alloc: Global, words: &'a [String]) -> Result<Job<'a>, Error>
+    ensures { IfOk result (λ job. (m : ArgMatches) × IsJob (subcommand_rows_of m) job) }
 {
     let mut command = command(alloc)?;
     let matches = command.try_get_matches_from_mut(words)?;
-    if let Some(name) = matches.subcommand_name() {
-        if let Some(job) = job_named(name) {
-            return Ok(job);
-        }
+    if let Some(job) = job_of(&matches) {
+        return Ok(job);
     }
     Err(command.error(ErrorKind::InvalidSubcommand, "no such job")?)
 }

@@ -37,8 +37,8 @@ pub enum PlanFault {
 // A line is kept as far as its first 4,097 bytes: one more than may be read.
 const KEPT: usize = 4097;
 
-// The next byte, or `None` at the end.
-fn next_byte<R: DevRead>(reader: &mut R) -> Result<Option<u8>, Failed>
+/// The next byte, or `None` at the end.
+pub(crate) fn next_byte<R: DevRead>(reader: &mut R) -> Result<Option<u8>, Failed>
     ensures byte { GivesByte (R.remaining reader.old) (R.remaining reader.new) result }
     ensures calls { CountsCall (R.calls reader.old) (R.calls reader.new) }
     ensures failures { CountsFailure (R.failures reader.old) (R.failures reader.new) result }

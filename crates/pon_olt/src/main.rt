@@ -6,18 +6,23 @@
 
 mod answer;
 pub mod arguments;
+pub mod check_file;
+mod check_lines;
+mod check_set;
 mod command;
 mod fault;
 mod fields;
 pub mod laws;
 pub mod lines;
 mod occupancies;
+mod parse;
 mod reading;
 mod step;
 pub mod task;
 mod words;
 
 use arguments::job;
+use check_file::check_file;
 pub use fault::LineFault;
 use lines::{PlanEnd, PlanFault, plan};
 use pon_port::PortCfg;
@@ -25,8 +30,10 @@ use pon_units::dev::{StdRead, StdWrite};
 use pon_units::{FrameNo, Gap, Profile};
 pub use reading::{Reading, long_lines, read_line};
 use std::alloc::Global;
+use std::fs;
 use std::io::{self, BufReader};
 use std::process::ExitCode;
+use std::rt::Files;
 pub use step::Step;
 use task::Job;
 
@@ -48,10 +55,28 @@ fn plan_lines<R: Input + Print>(rt: &R, alloc: Global) -> Result<PlanEnd, PlanFa
     plan(rt, alloc, &ports, Vec::new(alloc), &mut reader, &mut writer)
 }
 
+// Judges the certificate of a check file. A file that cannot be opened cannot be read.
+fn judge_file<R: Files + Print>(rt: &R, alloc: Global, name: &str) -> Result<bool, PlanFault> {
+    let Ok(file) = fs::open(rt, name) else {
+        return Err(PlanFault::Read);
+    };
+    let Ok(input) = BufReader::new(alloc, file) else {
+        return Err(PlanFault::Memory);
+    };
+    let mut reader = StdRead::new(input);
+    let mut writer = StdWrite::new(io::writer(rt));
+    check_file(alloc, &mut reader, &mut writer)
+}
+
 fn run(rt: &HostRuntime, words: &[String]) -> ExitCode {
     match job(rt.alloc(), words) {
         Ok(Job::Plan) => match plan_lines(rt, rt.alloc()) {
             Ok(PlanEnd) => ExitCode::SUCCESS,
+            Err(fault) => fail(rt, fault),
+        },
+        Ok(Job::Check { file }) => match judge_file(rt, rt.alloc(), file) {
+            Ok(true) => ExitCode::SUCCESS,
+            Ok(false) => ExitCode::from(1),
             Err(fault) => fail(rt, fault),
         },
         Err(error) => {

@@ -1,6 +1,8 @@
 /// What the program is to do.
 #[derive(Clone, Copy, Debug, PartialEq, Eq)]
-pub enum Job {
+pub enum Job<'a> {
     /// Answer management lines from standard input.
     Plan,
+    /// Judge the certificate of the check file of this name.
+    Check { file: &'a str },
 }
