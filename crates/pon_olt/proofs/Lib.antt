@@ -1,3 +1,4 @@
+pub mod NamedItems
 pub mod Subcommands
 pub mod FileAnswers
 pub mod ItemRows

@@ -2,8 +2,8 @@
 use Rattle.std.specs.Prelude.{◌≡◌, ℕ, suc, ◌+◌, Bool, true, false, List, [], ◌∷◌, ◌++◌, length, map, take, drop, codes, decimal, Option, Some, None, Result, Ok, Err}
 use Rattle.std.specs.Global.{Vec}
 use Rattle.pon_units.specs.Device.{Appends, Consumes, IsAtEnd}
-use Rattle.pon_cert.specs.Problem.{IsProblem}
-use Rattle.pon_cert.specs.Certificate.{IsCertificate}
+use Rattle.pon_cert.specs.Problem.{IsProblem, IsFairest}
+use Rattle.pon_cert.specs.Certificate.{IsCertificate, spelled}
 use Rattle.pon_cert.specs.declared.problem.Item.{Item}
 use Rattle.pon_cert.specs.declared.cert.ClassCert.{ClassCert}
 use Rattle.pon_check.specs.Faults.{IsFirstFault, fault_text}
@@ -80,10 +80,11 @@ IsParsed file (parsed.File f) =
     (file ≡ Ok (record { surplus = f.surplus; items = f.items.items; cert = f.cert })) × IsProblem f.items.items f.surplus
 IsParsed file (parsed.Syntax line) = file ≡ Err line
 
--- the answer line of a file: yes for a certificate, or why not; 10 is the line feed
+-- the answer line of a file: yes for a certificate, which spells the fairest share, or why not; 10 is the line feed
 abbrev pub IsAnswer : Result Filed ℕ → Bool → List ℕ → Type 0
 IsAnswer (Err line) accepted text = (accepted ≡ false) × (text ≡ codes "no Syntax " ++ decimal line ++ 10 ∷ [])
-IsAnswer (Ok f) true text = IsCertificate f.items f.surplus f.cert × (text ≡ codes "yes" ++ 10 ∷ [])
+IsAnswer (Ok f) true text =
+    IsCertificate f.items f.surplus f.cert × IsFairest f.items f.surplus (spelled f.items f.cert) × (text ≡ codes "yes" ++ 10 ∷ [])
 IsAnswer (Ok f) false text =
     (fault : CertFault) × IsFirstFault f.items f.surplus f.cert fault × (text ≡ codes "no " ++ fault_text fault ++ 10 ∷ [])
 

@@ -1,5 +1,5 @@
 -- The lines of a check file: what each spells, where it fits.
-use Rattle.std.specs.Prelude.{ℕ, zero, suc, ◌+◌, ◌==◌, ◌&&◌, nat_le, nat_lt, Bool, false, if◌then◌else◌, List, [], ◌∷◌, length, take, drop, codes, Option, Some, None, option_map}
+use Rattle.std.specs.Prelude.{◌≡◌, ℕ, zero, suc, ◌+◌, ◌==◌, ◌&&◌, nat_le, nat_lt, Bool, true, false, if◌then◌else◌, List, [], ◌∷◌, length, map, take, drop, codes, Option, Some, None, option_map}
 use Rattle.std.specs.Str.{bytes_eq}
 use Rattle.std.specs.List.{position}
 use Rattle.pon_cert.specs.declared.problem.Item.{Item}
@@ -67,6 +67,16 @@ unfoldable pub flags_from : ℕ → ℕ → List (List ℕ) → Option (List Boo
 flags_from k zero [] = Some []
 flags_from k zero (p ∷ ps) = None
 flags_from k (suc n) ps = with_first (is_next k ps) (flags_from (suc k) n (behind (is_next k ps) ps))
+
+-- the indexes of the saturated items, where the first is item k
+abbrev pub indexes_from : ℕ → List Bool → List ℕ
+indexes_from k [] = []
+indexes_from k (true ∷ fs) = k ∷ indexes_from (suc k) fs
+indexes_from k (false ∷ fs) = indexes_from (suc k) fs
+
+-- the parts of a set write the indexes of the saturated ones of n items
+abbrev pub WritesFlags : ℕ → List (List ℕ) → List Bool → Type 0
+WritesFlags n parts flags = (length flags ≡ n) × (map number_of parts ≡ map Some (indexes_from 0 flags))
 
 -- `saturated -` or `saturated <i>,<j>,..`, so of n items
 unfoldable pub flags_of : ℕ → List ℕ → Option (List Bool)
