@@ -23,6 +23,7 @@ mod words;
 
 use arguments::job;
 use check_file::check_file;
+use clap::error::ErrorKind;
 pub use fault::LineFault;
 use lines::{PlanEnd, PlanFault, plan};
 use pon_port::PortCfg;
@@ -79,6 +80,9 @@ fn run(rt: &HostRuntime, words: &[String]) -> ExitCode {
             Ok(false) => ExitCode::from(1),
             Err(fault) => fail(rt, fault),
         },
+        Err(error) if matches!(error.kind(), ErrorKind::OutOfMemory) => {
+            fail(rt, PlanFault::Memory)
+        }
         Err(error) => {
             let _ = error.print(rt);
             ExitCode::from(error.exit_code() as u8)
