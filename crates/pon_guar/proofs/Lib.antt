@@ -5,3 +5,4 @@ pub mod Frames
 pub mod Polls
 pub mod TakenReports
 pub mod Books
+pub mod RunningSums

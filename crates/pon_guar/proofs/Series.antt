@@ -12,7 +12,7 @@ use Rattle.pon_units.specs.declared.granted.Granted.{Granted}
 use Rattle.pon_units.proofs.Lists.{filter-filter, filter_agree, position-None_or_len, position-Some_or_len}
 use Rattle.pon_guar.specs.Window.{words_granted}
 
-order_at : (gs : List Granted) → AreInMapOrder gs → (m n : ℕ) (d : Granted) → m < n → n < length gs → ComesBefore (get_or gs m d) (get_or gs n d)
+pub order_at : (gs : List Granted) → AreInMapOrder gs → (m n : ℕ) (d : Granted) → m < n → n < length gs → ComesBefore (get_or gs m d) (get_or gs n d)
 order_at [] h m n d l k = absurd (omega (arith, k))
 order_at (g ∷ gs) h m zero d l k = absurd (omega (arith, l))
 order_at (g ∷ gs) h zero (suc n) d l k = h.0 n d (omega (arith, k))

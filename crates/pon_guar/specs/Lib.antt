@@ -3,3 +3,4 @@ pub mod Book
 pub mod Window
 pub mod Reports
 pub mod Loads
+pub mod Sums

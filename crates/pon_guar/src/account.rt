@@ -44,6 +44,17 @@ pub(crate) fn index_of(accounts: &[Account], alloc_id: AllocId) -> Option<usize>
     }
 }
 
+/// Where the account of an Alloc-ID stands: at the hint where it is there, else by a search by halves.
+pub(crate) fn index_near(accounts: &[Account], hint: usize, alloc_id: AllocId) -> Option<usize>
+    requires { AreRising (alloc_ids accounts.now) }
+    ensures { MatchOption result (account_of accounts.now alloc_id ≡ None) (StandsAt accounts.now alloc_id) }
+{
+    if hint < accounts.len() && accounts[hint].alloc_id == alloc_id {
+        return Some(hint);
+    }
+    index_of(accounts, alloc_id)
+}
+
 /// The account of an Alloc-ID.
 pub(crate) fn account_of(accounts: &[Account], alloc_id: AllocId) -> Option<Account>
     requires { AreRising (alloc_ids accounts.now) }

@@ -5,26 +5,15 @@ ghost use Rattle.pon_guar.specs.Book.{AreRising, alloc_ids};
 ghost use Rattle.std.specs.List.{list_any};
 ghost use Rattle.pon_guar.specs.Window.{IsLawfulMap, LeadsTo, frame_after, grants_at, is_of, words_to, words_to_from};
 ghost use Rattle.pon_guar.specs.Reports.{after_occupancies, counting, refuses_report, taking, with_report};
-ghost use Rattle.pon_guar.specs.Loads.{IsBook, afresh};
+ghost use Rattle.pon_guar.specs.Loads.{afresh};
+ghost use Rattle.pon_guar.specs.Sums.{AreSummed, IsSummedBook};
 
 use crate::account::{Account, Counted, index_of};
 use crate::lessening::words_left;
+use crate::sums::{MapSums, words_granted};
 use crate::window::{WindowMap, place_of};
 use pon_units::{AllocId, BufOcc, FrameNo, OnuId};
 use std::alloc::AllocError;
-
-// The payload words that maps granted to an Alloc-ID under an ONU.
-fn words_granted(maps: &[WindowMap], onu: OnuId, alloc_id: AllocId) -> u32
-    requires few { length maps.now ≤ 64 }
-    requires lawful { All IsLawfulMap maps.now }
-    ensures { result ≡ sum_by (words_to onu alloc_id) maps.now }
-{
-    let mut words = 0;
-    for map in maps {
-        words += map.words_to(onu, alloc_id);
-    }
-    words
-}
 
 // An account after a report: it counts from since on, where no later one does.
 fn with_report(account: Account, report: Counted) -> Account
@@ -64,6 +53,7 @@ fn count_occupancies(
     accounts: &mut [Account],
     asked: &WindowMap,
     maps: &[WindowMap],
+    sums: &[MapSums],
     onu: OnuId,
     occupancies: &[Option<BufOcc>],
 )
@@ -71,11 +61,17 @@ fn count_occupancies(
     requires few { length maps.now ≤ 64 }
     requires asked { IsLawfulMap asked.now }
     requires lawful { All IsLawfulMap maps.now }
+    requires as_many { length sums.now ≡ length maps.now }
+    requires summed { AreSummed maps.now sums.now }
     ensures { accounts.new ≡ after_occupancies (λ i. sum_by (words_to onu i) maps.now) asked.now.frame (filter (λ g. g.onu == onu) asked.now.grants) occupancies.now accounts.old }
 {
+    let mut hint = asked.first_of(onu);
     for (granted, occupancy) in asked.series(onu).iter().zip(occupancies) {
+        let index = hint;
+        hint = hint.wrapping_add(1);
         if let Some(reported) = *occupancy {
-            let words = words_left(reported, words_granted(maps, onu, granted.alloc_id));
+            let granted_since = words_granted(maps, sums, index, onu, granted.alloc_id);
+            let words = words_left(reported, granted_since);
             let frame = asked.frame;
             count(accounts, granted.alloc_id, Counted { frame, words });
         }
@@ -86,11 +82,12 @@ fn count_occupancies(
 pub(crate) fn count_report(
     accounts: &mut [Account],
     window: &[WindowMap],
+    sums: &[MapSums],
     frame: FrameNo,
     onu: OnuId,
     occupancies: &[Option<BufOcc>],
 )
-    requires book { IsBook accounts.old window.now }
+    requires book { IsSummedBook accounts.old window.now sums.now }
     requires there { list_any (is_of frame) window.now ≡ true }
     ensures { accounts.new ≡ after_occupancies (λ i. words_to_from onu i frame window.now) frame (grants_at frame onu window.now) occupancies.now accounts.old }
 {
@@ -99,7 +96,8 @@ pub(crate) fn count_report(
         None => unreachable!(),
     };
     let (_, maps) = window.split_at(place);
-    count_occupancies(accounts, &window[place], maps, onu, occupancies);
+    let (_, sums) = sums.split_at(place);
+    count_occupancies(accounts, &window[place], maps, sums, onu, occupancies);
 }
 
 /// Notes an ONU's report for the map of a frame that is in the window; `Err` where memory is refused, and then it is not noted.

@@ -5,7 +5,8 @@ ghost use Rattle.pon_guar.specs.Book.{AreRising, alloc_ids};
 ghost use Rattle.pon_guar.specs.Window.{last_64};
 ghost use Rattle.pon_guar.specs.Loads.{lessened, less_by};
 
-use crate::account::{Account, Counted, index_of};
+use crate::account::{Account, Counted, index_near};
+use crate::sums::MapSums;
 use crate::window::WindowMap;
 use pon_units::{BufOcc, Granted, Words};
 
@@ -42,13 +43,37 @@ fn lessened_by(words: Words, account: Account) -> Account
     }
 }
 
-/// Lessens the reports that count by what a map grants.
-pub(crate) fn lessen(accounts: &mut [Account], grants: &[Granted])
+/// The place that is noted at an index, 0 where none is.
+pub(crate) fn noted(places: &[usize], index: usize) -> usize {
+    if index < places.len() {
+        places[index]
+    } else {
+        0
+    }
+}
+
+// Notes a place at an index, where both are.
+fn note(places: &mut [usize], index: usize, found: Option<usize>) {
+    if let Some(place) = found {
+        if index < places.len() {
+            places[index] = place;
+        }
+    }
+}
+
+/// Lessens the reports that count by what a map grants. The places are hints where the account of each grant stands, and
+/// are set right.
+pub(crate) fn lessen(accounts: &mut [Account], grants: &[Granted], places: &mut [usize])
     requires { AreRising (alloc_ids accounts.old) }
     ensures { accounts.new ≡ map (lessened grants.now) accounts.old }
 {
+    let mut index = 0;
     for granted in grants {
-        if let Some(place) = index_of(accounts, granted.alloc_id) {
+        let hint = noted(places, index);
+        let found = index_near(accounts, hint, granted.alloc_id);
+        note(places, index, found);
+        index = index.wrapping_add(1);
+        if let Some(place) = found {
             accounts[place] = lessened_by(granted.words, accounts[place]);
         }
     }
@@ -66,5 +91,17 @@ pub(crate) fn add_to_window(window: &mut Vec<WindowMap>, map: WindowMap)
     window.push(map).unwrap();
     if window.len() > MOST_MAPS {
         let _oldest = window.remove(0);
+    }
+}
+
+/// Adds the sums of a map, and lets the oldest of more than 64 go.
+pub(crate) fn add_to_sums(sums: &mut Vec<MapSums>, next: MapSums)
+    requires few { length sums.old.items ≤ 64 }
+    requires room { vec_len sums.old < vec_capacity sums.old }
+    ensures { sums.new.items ≡ last_64 (sums.old.items ++ next ∷ []) }
+{
+    sums.push(next).unwrap();
+    if sums.len() > MOST_MAPS {
+        let _oldest = sums.remove(0);
     }
 }

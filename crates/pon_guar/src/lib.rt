@@ -10,6 +10,7 @@ mod counting;
 mod lessening;
 mod loads;
 mod rates;
+mod sums;
 mod window;
 
 pub use account::{Account, Counted};

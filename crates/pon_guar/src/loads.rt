@@ -1,9 +1,10 @@
 ghost use Rattle.std.specs.Prelude.{◌≡◌, IfOk};
 ghost use Rattle.pon_guar.specs.Book.{load_of_counted};
 
-use crate::account::{Account, Counted, account_of, add_account, remove_account};
+use crate::account::{Account, Counted, account_of, add_account, index_near, remove_account};
 use crate::counting::{count_report, forget, note_report};
-use crate::lessening::{add_to_window, lessen};
+use crate::lessening::{add_to_sums, add_to_window, lessen, noted};
+use crate::sums::{MapSums, next_sums};
 use crate::window::{WindowMap, report_refusal};
 use pon_descr::Refusal;
 use pon_units::{AllocId, BufOcc, FrameNo, Granted, Kbps, OnuId};
@@ -18,16 +19,21 @@ use std::marker::Model;
 pub struct Loads {
     accounts: Vec<Account>,
     window: Vec<WindowMap>,
+    // Beside each map of the window.
+    sums: Vec<MapSums>,
+    // Where the account of each grant of the last map stood: hints, checked at each use.
+    places: Vec<usize>,
 }
 
 impl Model for Loads {
-    ghost use Rattle.pon_guar.specs.Loads.{IsBook, Loads};
+    ghost use Rattle.pon_guar.specs.Loads.{Loads};
+    ghost use Rattle.pon_guar.specs.Sums.{IsSummedBook};
 
     ghost Value = { Loads };
 
     ghost view = { λ l. record { accounts = l.accounts.items; window = l.window.items } };
 
-    ghost invariant = { λ l. IsBook l.accounts.items l.window.items };
+    ghost invariant = { λ l. IsSummedBook l.accounts.items l.window.items l.sums.items };
 }
 
 // The load of a report, in kbit/s: its words that are not yet granted.
@@ -55,6 +61,17 @@ fn copied(alloc: Global, window: &[WindowMap]) -> Result<Vec<WindowMap>, AllocEr
     Ok(maps)
 }
 
+// Equal sums, or want of memory.
+fn copied_sums(alloc: Global, sums: &[MapSums]) -> Result<Vec<MapSums>, AllocError>
+    ensures { IfOk result (λ copy. copy.items ≡ sums.now) }
+{
+    let mut copies = Vec::with_capacity(alloc, sums.len())?;
+    for map_sums in sums {
+        copies.push(map_sums.try_copy(alloc)?)?;
+    }
+    Ok(copies)
+}
+
 impl Loads {
     ghost use Rattle.std.specs.Prelude.{false, None, [], ◌==◌, length, IfErr, OnOk, OnErr, slice_get};
     ghost use Rattle.std.specs.List.{list_any};
@@ -73,6 +90,8 @@ impl Loads {
         Loads {
             accounts: Vec::new(alloc),
             window: Vec::new(alloc),
+            sums: Vec::new(alloc),
+            places: Vec::new(alloc),
         }
     }
 
@@ -83,6 +102,8 @@ impl Loads {
         Ok(Loads {
             accounts: Vec::from_slice(alloc, &self.accounts)?,
             window: copied(alloc, &self.window)?,
+            sums: copied_sums(alloc, &self.sums)?,
+            places: Vec::from_slice(alloc, &self.places)?,
         })
     }
 
@@ -92,6 +113,18 @@ impl Loads {
         ensures { result ≡ load_of self.now.accounts alloc_id }
     {
         load_of_report(self.counted(alloc_id))
+    }
+
+    /// The offered load of an Alloc-ID, as [`Loads::load_of`] has it. It takes no search where the Alloc-ID stands at
+    /// the index among the grants of the last map.
+    pub fn load_at(&self, index: usize, alloc_id: AllocId) -> Kbps
+        ensures { result ≡ load_of self.now.accounts alloc_id }
+    {
+        let hint = noted(&self.places, index);
+        match index_near(&self.accounts, hint, alloc_id) {
+            None => load_of_report(None),
+            Some(place) => load_of_report(self.accounts[place].counted),
+        }
     }
 
     /// The frame from which reports of an Alloc-ID count; `None` where it is not there.
@@ -171,7 +204,14 @@ impl Loads {
             Ok(kept) => kept,
             Err(_) => return Err(Refusal::OutOfMemory),
         };
-        if self.window.reserve(1).is_err() {
+        let next = match next_sums(alloc, &self.window, &self.sums, grants) {
+            Ok(next) => next,
+            Err(_) => return Err(Refusal::OutOfMemory),
+        };
+        if self.window.reserve(1).is_err() || self.sums.reserve(1).is_err() {
+            return Err(Refusal::OutOfMemory);
+        }
+        if self.places.resize(grants.len(), 0).is_err() {
             return Err(Refusal::OutOfMemory);
         }
         let map = WindowMap {
@@ -179,8 +219,9 @@ impl Loads {
             grants: kept,
             reported: Vec::new(alloc),
         };
-        lessen(&mut self.accounts, grants);
+        lessen(&mut self.accounts, grants, &mut self.places);
         add_to_window(&mut self.window, map);
+        add_to_sums(&mut self.sums, next);
         Ok(())
     }
 
@@ -215,7 +256,14 @@ impl Loads {
         if note_report(&mut self.window, frame, onu).is_err() {
             return Err(Refusal::OutOfMemory);
         }
-        count_report(&mut self.accounts, &self.window, frame, onu, occupancies);
+        count_report(
+            &mut self.accounts,
+            &self.window,
+            &self.sums,
+            frame,
+            onu,
+            occupancies,
+        );
         Ok(())
     }
 
@@ -225,6 +273,7 @@ impl Loads {
     {
         forget(&mut self.accounts, frame);
         self.window.clear();
+        self.sums.clear();
     }
 }
 

@@ -8,7 +8,7 @@ ghost use Rattle.pon_guar.specs.Window.{IsLawfulMap, IsPlaceOf, LeadsTo, frame_a
 ghost use Rattle.pon_guar.specs.Reports.{refuses_report};
 
 use pon_descr::Refusal;
-use pon_units::{AllocId, FrameNo, Granted, OnuId};
+use pon_units::{FrameNo, Granted, OnuId};
 use std::alloc::{AllocError, Global};
 use std::marker::Model;
 
@@ -40,15 +40,6 @@ fn series_of(grants: &[Granted], onu: OnuId) -> &[Granted]
     own
 }
 
-// The index of the grant of an Alloc-ID.
-fn place_in(grants: &[Granted], alloc_id: AllocId) -> Option<usize>
-    ensures { result ≡ position (λ g. g.alloc_id == alloc_id) grants.now }
-{
-    grants
-        .iter()
-        .position(|granted| granted.alloc_id == alloc_id)
-}
-
 // How many are of lesser number.
 fn place_among(onus: &[OnuId], onu: OnuId) -> usize
     requires { AreRising onus.now }
@@ -72,7 +63,7 @@ fn add_onu(onus: &mut Vec<OnuId>, onu: OnuId) -> Result<(), AllocError>
 }
 
 impl WindowMap {
-    ghost use Rattle.pon_guar.specs.Window.{polled, words_to};
+    ghost use Rattle.pon_guar.specs.Window.{polled};
     ghost use Rattle.pon_guar.specs.Reports.{with_report};
 
     /// The frame of the map.
@@ -115,17 +106,12 @@ impl WindowMap {
         series_of(&self.grants, onu)
     }
 
-    /// The payload words that it granted to an Alloc-ID under an ONU.
-    pub(crate) fn words_to(&self, onu: OnuId, alloc_id: AllocId) -> u32
-        requires { AreInMapOrder self.now.grants }
-        ensures words { result ≡ words_to onu alloc_id self.now }
-        ensures range { result ≤ 9720 }
+    /// How many grants stand before those to an ONU.
+    pub(crate) fn first_of(&self, onu: OnuId) -> usize
+        ensures { result ≤ length self.now.grants }
     {
-        let own = self.series(onu);
-        match place_in(own, alloc_id) {
-            None => 0,
-            Some(place) => u32::from(own[place].words.get()),
-        }
+        self.grants
+            .partition_point(|granted| granted.onu.get() < onu.get())
     }
 
     /// Whether an ONU reported for it.

@@ -27,10 +27,10 @@ use Rattle.pon_port.specs.State.{State}
 use Rattle.pon_port.specs.Replay.{admits, allocs_after, begins, cause_after, forgets, grants_of, makes_map, new_map, next_of, reports, roster_after, structures, window_of, with_reports}
 use Rattle.pon_port.specs.Loads.{account_after, candidates_in, counted_of, replay, since_of}
 use Rattle.pon_port.specs.Checks.{first_refusal, when_full}
-use Rattle.pon_port.specs.Legal.{IsMade, MayFollow}
+use Rattle.pon_port.specs.Legal.{IsEvent, IsMade, MayFollow}
 use Rattle.pon_port.specs.Chapters.{Chapter, IsLawfulChapter, present_state}
 use Rattle.pon_port.specs.Taking.{IsKept, Takes, with_entry}
-use Rattle.pon_port.specs.After.{after_admit, after_change, after_cut, after_map, after_remove, after_report, with_parts}
+use Rattle.pon_port.specs.After.{after_admit, after_change, after_cut, after_event, after_map, after_remove, after_report, with_parts}
 use Rattle.pon_guar.proofs.Accounts.{accounts_all, accounts_kept, found_each, unmap}
 use Rattle.pon_guar.proofs.Books.{none_any}
 use Rattle.pon_port.proofs.Legality.{IsLegalAfter, after_from_legal, legal_from_after, legal_push}
@@ -300,3 +300,13 @@ reported c d s t f u ns k accepted more after =
     rw (more, after) (next_chapter c s (after_report s f u ns) (Report f u ns) Taken k
     (record { event = tt; accepted = accepted; reply = refl })
     (λ e. report_step s lawful f u ns))
+
+-- an event that makes no map is kept
+pub taken : (c d : Chapter) (s t : State) (v : Event) → IsKept c s → IsEvent v → makes_map v ≡ false → first_refusal (length c.entries) s v ≡ None → d ≡ with_entry c v Taken → t ≡ after_event s v → IsKept d t
+taken c d s t (Admit u i ds) k range m accepted more after = admitted c d s t (record { onu = u; alloc_id = i; descriptor = ds }) k range accepted more after
+taken c d s t (Change i ds) k range m accepted more after = changed c d s t i ds k range accepted more after
+taken c d s t (Remove i) k range m accepted more after = removed c d s t i k accepted more after
+taken c d s t (Report f u ns) k range m accepted more after = reported c d s t f u ns k accepted more after
+taken c d s t MakeMap k range m accepted more after = absurd cc
+taken c d s t (Fail cause) k range m accepted more after = failed c d s t k cause accepted more after
+taken c d s t Restore k range m accepted more after = restored c d s t k accepted more after

@@ -1,11 +1,13 @@
 -- The running state, one entry further.
-use Rattle.std.specs.Prelude.{ℕ, ◌+◌, List, Option}
+use Rattle.std.specs.Prelude.{ℕ, ◌+◌, List, Option, Some, None}
 use Rattle.pon_units.specs.declared.granted.Granted.{Granted}
 use Rattle.pon_descr.specs.Descriptor.{Descriptor}
 use Rattle.pon_admit.specs.declared.row.Row.{Row}
 use Rattle.pon_admit.specs.Roster.{with_row, with_descriptor, without}
 use Rattle.pon_guar.specs.Loads.{Loads, after_admitted, after_cleared, after_mapped, after_removed, after_reported}
 use Rattle.pon_port.specs.State.{State}
+use Rattle.pon_port.specs.declared.event.Event.{Event}
+use Rattle.pon_port.specs.declared.event.Event.TheVariants.{Admit, Change, Remove, Report, MakeMap, Fail, Restore}
 
 -- the report book of a state
 abbrev pub loads_of : State → Loads
@@ -43,3 +45,13 @@ after_map s gs = with_parts s (s.next + 1) s.cause s.roster (after_mapped (loads
 -- a fault and its end forget the reports and the window
 abbrev pub after_cut : State → Option ℕ → State
 after_cut s cause = with_parts s s.next cause s.roster (after_cleared (loads_of s) s.next)
+
+-- the state after a taken event; a map takes more than its event
+abbrev pub after_event : State → Event → State
+after_event s (Admit onu alloc_id descriptor) = after_admit s (record { onu = onu; alloc_id = alloc_id; descriptor = descriptor })
+after_event s (Change alloc_id descriptor) = after_change s alloc_id descriptor
+after_event s (Remove alloc_id) = after_remove s alloc_id
+after_event s (Report frame onu occ) = after_report s frame onu occ
+after_event s MakeMap = s
+after_event s (Fail cause) = after_cut s (Some cause)
+after_event s Restore = after_cut s None

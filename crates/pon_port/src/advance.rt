@@ -7,8 +7,12 @@ ghost use Rattle.pon_admit.specs.Roster.{refuses_admit, refuses_change, refuses_
 ghost use Rattle.pon_guar.specs.Book.{AreRising, alloc_ids};
 ghost use Rattle.pon_guar.specs.Window.{LeadsTo};
 ghost use Rattle.pon_guar.specs.Reports.{refuses_report};
-ghost use Rattle.pon_port.specs.After.{after_admit, after_change, after_cut, after_map, after_remove, after_report};
+ghost use Rattle.pon_port.specs.Chapters.{AccountsFor};
+ghost use Rattle.pon_port.specs.Checks.{refuses};
+ghost use Rattle.pon_port.specs.Replay.{makes_map};
+ghost use Rattle.pon_port.specs.After.{after_admit, after_change, after_cut, after_event, after_map, after_remove, after_report};
 
+use crate::event::Event;
 use crate::state::PortState;
 use pon_admit::Row;
 use pon_dbru::Occupancies;
@@ -33,8 +37,8 @@ pub(crate) fn add_map(state: &mut PortState, grants: &[Granted]) -> Result<(), A
     Ok(())
 }
 
-/// Admits a row that no check refuses; `Err` where memory is refused, and then the state is as it was.
-pub(crate) fn admit_row(state: &mut PortState, row: &Row) -> Result<(), AllocError>
+// Admits a row that no check refuses; `Err` where memory is refused, and then the state is as it was.
+fn admit_row(state: &mut PortState, row: &Row) -> Result<(), AllocError>
     requires accepted { refuses_admit rule_in_force state.old.gap state.old.roster row.now ≡ None }
     requires rising { AreRising (alloc_ids state.old.book) }
     requires free { list_any (λ j. j == row.now.alloc_id) (alloc_ids state.old.book) ≡ false }
@@ -57,8 +61,8 @@ pub(crate) fn admit_row(state: &mut PortState, row: &Row) -> Result<(), AllocErr
     Ok(())
 }
 
-/// Gives an Alloc-ID another descriptor that no check refuses.
-pub(crate) fn change_row(state: &mut PortState, alloc_id: AllocId, descriptor: Descriptor)
+// Gives an Alloc-ID another descriptor that no check refuses.
+fn change_row(state: &mut PortState, alloc_id: AllocId, descriptor: Descriptor)
     requires accepted { refuses_change rule_in_force state.old.gap state.old.roster alloc_id descriptor ≡ None }
     requires count { state.old.taken_before + 1 < 2 ^ 64 }
     ensures { state.new ≡ after_change state.old alloc_id descriptor }
@@ -69,8 +73,8 @@ pub(crate) fn change_row(state: &mut PortState, alloc_id: AllocId, descriptor: D
     }
 }
 
-/// Takes out an Alloc-ID that is there.
-pub(crate) fn remove_row(state: &mut PortState, alloc_id: AllocId)
+// Takes out an Alloc-ID that is there.
+fn remove_row(state: &mut PortState, alloc_id: AllocId)
     requires accepted { refuses_remove state.old.roster alloc_id ≡ None }
     requires count { state.old.taken_before + 1 < 2 ^ 64 }
     ensures { state.new ≡ after_remove state.old alloc_id }
@@ -84,8 +88,8 @@ pub(crate) fn remove_row(state: &mut PortState, alloc_id: AllocId)
     }
 }
 
-/// Takes an ONU's report that no check refuses; `Err` where memory is refused, and then the state is as it was.
-pub(crate) fn take_report(
+// Takes an ONU's report that no check refuses; `Err` where memory is refused, and then the state is as it was.
+fn take_report(
     state: &mut PortState,
     frame: FrameNo,
     onu: OnuId,
@@ -103,12 +107,41 @@ pub(crate) fn take_report(
     Ok(())
 }
 
-/// Forgets the reports and the window at a fault, told by its cause, or at its end.
-pub(crate) fn cut(state: &mut PortState, cause: Option<Cause>)
+// Forgets the reports and the window at a fault, told by its cause, or at its end.
+fn cut(state: &mut PortState, cause: Option<Cause>)
     requires count { state.old.taken_before + 1 < 2 ^ 64 }
     ensures { state.new ≡ after_cut state.old cause }
 {
     state.loads.cleared(state.next);
     state.cause = cause;
     state.taken_before += 1;
+}
+
+/// Takes an event that makes no map, and that no check refuses, into the state; `Err` where memory is refused, and then the
+/// state is as it was.
+pub(crate) fn step(state: &mut PortState, event: &Event) -> Result<(), AllocError>
+    requires plain { makes_map event.now ≡ false }
+    requires accepted { refuses state.old event.now ≡ None }
+    requires book { AccountsFor state.old.roster state.old.book }
+    requires count { state.old.taken_before + 1 < 2 ^ 64 }
+    ensures ok { OnOk result (state.new ≡ after_event state.old event.now) }
+    ensures err { OnErr result (state.new ≡ state.old) }
+{
+    match event {
+        Event::Admit {
+            onu,
+            alloc_id,
+            descriptor,
+        } => return admit_row(state, &Row::new(*onu, *alloc_id, *descriptor)),
+        Event::Change {
+            alloc_id,
+            descriptor,
+        } => change_row(state, *alloc_id, *descriptor),
+        Event::Remove { alloc_id } => remove_row(state, *alloc_id),
+        Event::Report { frame, onu, occ } => return take_report(state, *frame, *onu, occ),
+        Event::MakeMap => unreachable!(),
+        Event::Fail { cause } => cut(state, Some(*cause)),
+        Event::Restore => cut(state, None),
+    }
+    Ok(())
 }

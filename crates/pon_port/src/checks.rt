@@ -34,8 +34,8 @@ fn down_refusal(state: &PortState) -> Option<Refusal>
     }
 }
 
-/// The first check that refuses one more row, where so many entries are kept.
-pub(crate) fn admit_refusal(state: &PortState, kept: usize, row: &Row) -> Option<Refusal>
+// The first check that refuses one more row, where so many entries are kept.
+fn admit_refusal(state: &PortState, kept: usize, row: &Row) -> Option<Refusal>
     ensures { result ≡ first_refusal kept state.now (Event.Admit row.now.onu row.now.alloc_id row.now.descriptor) }
 {
     match state.roster.admit_refusal(row) {
@@ -44,8 +44,8 @@ pub(crate) fn admit_refusal(state: &PortState, kept: usize, row: &Row) -> Option
     }
 }
 
-/// The first check that refuses another descriptor, where so many entries are kept.
-pub(crate) fn change_refusal(
+// The first check that refuses another descriptor, where so many entries are kept.
+fn change_refusal(
     state: &PortState,
     kept: usize,
     alloc_id: AllocId,
@@ -59,8 +59,8 @@ pub(crate) fn change_refusal(
     }
 }
 
-/// The first check that refuses a removal, where so many entries are kept.
-pub(crate) fn remove_refusal(state: &PortState, kept: usize, alloc_id: AllocId) -> Option<Refusal>
+// The first check that refuses a removal, where so many entries are kept.
+fn remove_refusal(state: &PortState, kept: usize, alloc_id: AllocId) -> Option<Refusal>
     ensures { result ≡ first_refusal kept state.now (Event.Remove alloc_id) }
 {
     match state.roster.remove_refusal(alloc_id) {
@@ -69,8 +69,8 @@ pub(crate) fn remove_refusal(state: &PortState, kept: usize, alloc_id: AllocId) 
     }
 }
 
-/// The first check that refuses a map, where so many entries are kept.
-pub(crate) fn map_refusal(state: &PortState, kept: usize) -> Option<Refusal>
+// The first check that refuses a map, where so many entries are kept.
+fn map_refusal(state: &PortState, kept: usize) -> Option<Refusal>
     ensures { result ≡ first_refusal kept state.now Event.MakeMap }
 {
     match down_refusal(state) {
@@ -80,8 +80,8 @@ pub(crate) fn map_refusal(state: &PortState, kept: usize) -> Option<Refusal>
     }
 }
 
-/// The first check that refuses an ONU's report, where so many entries are kept.
-pub(crate) fn report_refusal(
+// The first check that refuses an ONU's report, where so many entries are kept.
+fn report_refusal(
     state: &PortState,
     kept: usize,
     frame: FrameNo,
@@ -100,8 +100,8 @@ pub(crate) fn report_refusal(
     }
 }
 
-/// The first check that refuses a fault, where so many entries are kept.
-pub(crate) fn fail_refusal(state: &PortState, kept: usize, cause: Cause) -> Option<Refusal>
+// The first check that refuses a fault, where so many entries are kept.
+fn fail_refusal(state: &PortState, kept: usize, cause: Cause) -> Option<Refusal>
     ensures { result ≡ first_refusal kept state.now (Event.Fail cause) }
 {
     match down_refusal(state) {
@@ -110,12 +110,34 @@ pub(crate) fn fail_refusal(state: &PortState, kept: usize, cause: Cause) -> Opti
     }
 }
 
-/// The first check that refuses the end of a fault, where so many entries are kept.
-pub(crate) fn restore_refusal(state: &PortState, kept: usize) -> Option<Refusal>
+// The first check that refuses the end of a fault, where so many entries are kept.
+fn restore_refusal(state: &PortState, kept: usize) -> Option<Refusal>
     ensures { result ≡ first_refusal kept state.now Event.Restore }
 {
     match state.cause {
         None => Some(Refusal::PortUp),
         Some(_) => chapter_refusal(kept, state.taken_before),
+    }
+}
+
+/// The first check that refuses an event, where so many entries are kept.
+pub(crate) fn refusal_of(state: &PortState, kept: usize, event: &Event) -> Option<Refusal>
+    ensures { result ≡ first_refusal kept state.now event.now }
+{
+    match event {
+        Event::Admit {
+            onu,
+            alloc_id,
+            descriptor,
+        } => admit_refusal(state, kept, &Row::new(*onu, *alloc_id, *descriptor)),
+        Event::Change {
+            alloc_id,
+            descriptor,
+        } => change_refusal(state, kept, *alloc_id, descriptor),
+        Event::Remove { alloc_id } => remove_refusal(state, kept, *alloc_id),
+        Event::Report { frame, onu, occ } => report_refusal(state, kept, *frame, *onu, occ),
+        Event::MakeMap => map_refusal(state, kept),
+        Event::Fail { cause } => fail_refusal(state, kept, *cause),
+        Event::Restore => restore_refusal(state, kept),
     }
 }

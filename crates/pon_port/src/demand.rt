@@ -37,11 +37,11 @@ fn weight(descriptor: &Descriptor) -> u64
     u64::from(weight)
 }
 
-// What a row asks.
-fn demand_of(state: &PortState, row: &Row) -> Demand
+// What a row asks; the index is its place in map order.
+fn demand_of(state: &PortState, index: usize, row: &Row) -> Demand
     ensures { result ≡ demand_of state.now row.now }
 {
-    let load = state.loads.load_of(row.alloc_id);
+    let load = state.loads.load_at(index, row.alloc_id);
     let item = Item {
         weight: weight(&row.descriptor),
         cap: u64::from(cap(&row.descriptor, load).get()),
@@ -61,7 +61,7 @@ pub(crate) fn demands(alloc: Global, state: &PortState) -> Result<Vec<Demand>, A
 {
     let mut found = Vec::with_capacity(alloc, state.roster.rows().len())?;
     for row in state.roster.rows() {
-        found.push(demand_of(state, row))?;
+        found.push(demand_of(state, found.len(), row))?;
     }
     Ok(found)
 }

@@ -1,20 +1,18 @@
 ghost use Rattle.std.specs.Prelude.{◌≡◌, IfOk};
 ghost use Rattle.pon_port.specs.Chapters.{just_opened};
+ghost use Rattle.pon_port.specs.Legal.{IsEvent};
+ghost use Rattle.pon_port.specs.Replay.{makes_map};
 
-use crate::advance::{add_map, admit_row, change_row, cut, remove_row, take_report};
-use crate::checks::{
-    admit_refusal, change_refusal, fail_refusal, map_refusal, remove_refusal, report_refusal,
-    restore_refusal,
-};
+use crate::advance::{add_map, step};
+use crate::checks::refusal_of;
 use crate::event::Event;
 use crate::making::next_map;
 use crate::reply::{Entry, MadeMap, Reply};
 use crate::state::{PortCfg, PortState};
 use pon_admit::{Roster, Row};
-use pon_dbru::Occupancies;
-use pon_descr::{Cause, Descriptor, Refusal};
+use pon_descr::Refusal;
 use pon_guar::Loads;
-use pon_units::{AllocId, FrameNo, OnuId};
+use pon_units::{AllocId, FrameNo};
 use std::alloc::{AllocError, Global};
 use std::marker::Model;
 
@@ -58,8 +56,25 @@ fn opened(alloc: Global, cfg: &PortCfg, first: FrameNo) -> Result<PortState, All
     })
 }
 
+// The numbers of an event are in range, as their types have it.
+fn in_range(event: &Event)
+    ensures { IsEvent event.now }
+{
+    match event {
+        Event::Admit {
+            onu,
+            alloc_id,
+            descriptor,
+        } => {
+            let _row = Row::new(*onu, *alloc_id, *descriptor);
+        }
+        Event::Change { descriptor, .. } => prove!(descriptor.promised().get() <= 2_488_320),
+        _ => {}
+    }
+}
+
 impl Port {
-    ghost use Rattle.std.specs.Prelude.{[], ◌+◌, length, IfOk, IfErr, IfSome, MatchOption, None, OnOk, OnErr, Some};
+    ghost use Rattle.std.specs.Prelude.{[], ◌+◌, false, length, IfOk, IfErr, IfSome, MatchOption, None, OnOk, OnErr, Some};
     ghost use Rattle.pon_descr.specs.Descriptor.{IsLawful};
     ghost use Rattle.pon_admit.specs.Roster.{IsAdmitted, IsInRange, rule_in_force};
     ghost use Rattle.pon_port.specs.Chapters.{IsLawfulChapter, present_state};
@@ -119,69 +134,20 @@ impl Port {
         }
     }
 
-    fn admit(&mut self, row: Row) -> Result<(), Refusal>
-        requires { IsInRange row }
-        ensures ok { OnOk result (Takes self.old (Event.Admit row.onu row.alloc_id row.descriptor) Reply.Taken self.new) }
-        ensures refused { IfErr result (λ told. IsTold (refusal_of self.old (Event.Admit row.onu row.alloc_id row.descriptor)) told) }
+    // Takes an event that makes no map.
+    fn take_plain(&mut self, event: Event) -> Result<(), Refusal>
+        requires plain { makes_map event ≡ false }
+        requires in_range { IsEvent event }
+        ensures ok { OnOk result (Takes self.old event Reply.Taken self.new) }
+        ensures refused { IfErr result (λ told. IsTold (refusal_of self.old event) told) }
         ensures err { OnErr result (self.new ≡ self.old) }
     {
-        if let Some(refusal) = admit_refusal(&self.state, self.entries.len(), &row) {
+        if let Some(refusal) = refusal_of(&self.state, self.entries.len(), &event) {
             return Err(refusal);
         }
-        if self.entries.reserve(1).is_err() || admit_row(&mut self.state, &row).is_err() {
+        if self.entries.reserve(1).is_err() || step(&mut self.state, &event).is_err() {
             return Err(Refusal::OutOfMemory);
         }
-        let Row {
-            onu,
-            alloc_id,
-            descriptor,
-        } = row;
-        let event = Event::Admit {
-            onu,
-            alloc_id,
-            descriptor,
-        };
-        let reply = Reply::Taken;
-        self.entries.push(Entry { event, reply }).unwrap();
-        Ok(())
-    }
-
-    fn change(&mut self, alloc_id: AllocId, descriptor: Descriptor) -> Result<(), Refusal>
-        requires { IsLawful descriptor }
-        ensures ok { OnOk result (Takes self.old (Event.Change alloc_id descriptor) Reply.Taken self.new) }
-        ensures refused { IfErr result (λ told. IsTold (refusal_of self.old (Event.Change alloc_id descriptor)) told) }
-        ensures err { OnErr result (self.new ≡ self.old) }
-    {
-        let kept = self.entries.len();
-        if let Some(refusal) = change_refusal(&self.state, kept, alloc_id, &descriptor) {
-            return Err(refusal);
-        }
-        if self.entries.reserve(1).is_err() {
-            return Err(Refusal::OutOfMemory);
-        }
-        change_row(&mut self.state, alloc_id, descriptor);
-        let event = Event::Change {
-            alloc_id,
-            descriptor,
-        };
-        let reply = Reply::Taken;
-        self.entries.push(Entry { event, reply }).unwrap();
-        Ok(())
-    }
-
-    fn remove(&mut self, alloc_id: AllocId) -> Result<(), Refusal>
-        ensures ok { OnOk result (Takes self.old (Event.Remove alloc_id) Reply.Taken self.new) }
-        ensures refused { IfErr result (λ told. IsTold (refusal_of self.old (Event.Remove alloc_id)) told) }
-        ensures err { OnErr result (self.new ≡ self.old) }
-    {
-        if let Some(refusal) = remove_refusal(&self.state, self.entries.len(), alloc_id) {
-            return Err(refusal);
-        }
-        if self.entries.reserve(1).is_err() {
-            return Err(Refusal::OutOfMemory);
-        }
-        remove_row(&mut self.state, alloc_id);
-        let event = Event::Remove { alloc_id };
         let reply = Reply::Taken;
         self.entries.push(Entry { event, reply }).unwrap();
         Ok(())
@@ -193,7 +159,7 @@ impl Port {
         ensures refused { IfErr result (λ told. IsTold (refusal_of self.old Event.MakeMap) told) }
         ensures err { OnErr result (self.new ≡ self.old) }
     {
-        if let Some(refusal) = map_refusal(&self.state, self.entries.len()) {
+        if let Some(refusal) = refusal_of(&self.state, self.entries.len(), &Event::MakeMap) {
             return Err(refusal);
         }
         let alloc = *self.entries.allocator();
@@ -217,61 +183,6 @@ impl Port {
         Ok(next.made)
     }
 
-    fn report(&mut self, frame: FrameNo, onu: OnuId, occ: Occupancies) -> Result<(), Refusal>
-        ensures ok { OnOk result (Takes self.old (Event.Report frame onu occ) Reply.Taken self.new) }
-        ensures refused { IfErr result (λ told. IsTold (refusal_of self.old (Event.Report frame onu occ)) told) }
-        ensures err { OnErr result (self.new ≡ self.old) }
-    {
-        if let Some(refusal) = report_refusal(&self.state, self.entries.len(), frame, onu, &occ) {
-            return Err(refusal);
-        }
-        if self.entries.reserve(1).is_err()
-            || take_report(&mut self.state, frame, onu, &occ).is_err()
-        {
-            return Err(Refusal::OutOfMemory);
-        }
-        let event = Event::Report { frame, onu, occ };
-        let reply = Reply::Taken;
-        self.entries.push(Entry { event, reply }).unwrap();
-        Ok(())
-    }
-
-    fn fail(&mut self, cause: Cause) -> Result<(), Refusal>
-        ensures ok { OnOk result (Takes self.old (Event.Fail cause) Reply.Taken self.new) }
-        ensures refused { IfErr result (λ told. IsTold (refusal_of self.old (Event.Fail cause)) told) }
-        ensures err { OnErr result (self.new ≡ self.old) }
-    {
-        if let Some(refusal) = fail_refusal(&self.state, self.entries.len(), cause) {
-            return Err(refusal);
-        }
-        if self.entries.reserve(1).is_err() {
-            return Err(Refusal::OutOfMemory);
-        }
-        cut(&mut self.state, Some(cause));
-        let event = Event::Fail { cause };
-        let reply = Reply::Taken;
-        self.entries.push(Entry { event, reply }).unwrap();
-        Ok(())
-    }
-
-    fn restore(&mut self) -> Result<(), Refusal>
-        ensures ok { OnOk result (Takes self.old Event.Restore Reply.Taken self.new) }
-        ensures refused { IfErr result (λ told. IsTold (refusal_of self.old Event.Restore) told) }
-        ensures err { OnErr result (self.new ≡ self.old) }
-    {
-        if let Some(refusal) = restore_refusal(&self.state, self.entries.len()) {
-            return Err(refusal);
-        }
-        if self.entries.reserve(1).is_err() {
-            return Err(Refusal::OutOfMemory);
-        }
-        cut(&mut self.state, None);
-        let event = Event::Restore;
-        let reply = Reply::Taken;
-        self.entries.push(Entry { event, reply }).unwrap();
-        Ok(())
-    }
-
     /// Takes an event and keeps it with its reply, or tells the first check that refuses it.
     ///
     /// `Admit` is refused by `AllocTaken`, `TooManyAllocs`, `TooManyOnus`, `SeriesFull`, `Capacity`; `Change` by
@@ -286,43 +197,13 @@ impl Port {
         ensures refused { IfErr result (λ told. IsTold (refusal_of self.old event) told) }
         ensures err { OnErr result (self.new ≡ self.old) }
     {
-        match event {
-            Event::Admit {
-                onu,
-                alloc_id,
-                descriptor,
-            } => {
-                self.admit(Row::new(onu, alloc_id, descriptor))?;
-                Ok(Reply::Taken)
-            }
-            Event::Change {
-                alloc_id,
-                descriptor,
-            } => {
-                self.change(alloc_id, descriptor)?;
-                Ok(Reply::Taken)
-            }
-            Event::Remove { alloc_id } => {
-                self.remove(alloc_id)?;
-                Ok(Reply::Taken)
-            }
-            Event::Report { frame, onu, occ } => {
-                self.report(frame, onu, occ)?;
-                Ok(Reply::Taken)
-            }
-            Event::MakeMap => {
-                let made = self.make_map()?;
-                Ok(Reply::Map(made))
-            }
-            Event::Fail { cause } => {
-                self.fail(cause)?;
-                Ok(Reply::Taken)
-            }
-            Event::Restore => {
-                self.restore()?;
-                Ok(Reply::Taken)
-            }
+        if let Event::MakeMap = event {
+            let made = self.make_map()?;
+            return Ok(Reply::Map(made));
         }
+        in_range(&event);
+        self.take_plain(event)?;
+        Ok(Reply::Taken)
     }
 }
 

@@ -9,8 +9,8 @@ loop-granted-preserved-in-Some-occupancy c = record {
   rising = rw c.count.ensures (counting_rising c.in-Some.granted.now.alloc_id _ c.loop-granted.accounts c.loop-granted.invariant.rising);
   rest = took_one (λ i. sum_by (words_to c.args.onu i) c.args.maps.now) c.args.asked.now.frame
       c.loop-granted.granted-iterator.a.rest.now c.next.new.self.a.rest.now c.in-Some.granted.now c.loop-granted.granted-iterator.b.rest.now c.next.new.self.b.rest.now
-      c.in-Some-occupancy.reported c.asked.inside.frame c.words_left-words.result c.words_granted.result c.loop-granted.accounts c.count.new.accounts _
-      c.in-Some.ensures.steps.0 (c.in-Some.ensures.steps.1 ∙ (search rules)) c.count.ensures (ap (λ m. m.frame) c.asked.view_is) c.words_left-words.ensures c.words_granted.ensures c.loop-granted.invariant.rest;
+      c.in-Some-occupancy.reported c.asked.inside.frame c.words_left-words.result c.words_granted-granted_since.result c.loop-granted.accounts c.count.new.accounts _
+      c.in-Some.ensures.steps.0 (c.in-Some.ensures.steps.1 ∙ (search rules)) c.count.ensures (ap (λ m. m.frame) c.asked.view_is) c.words_left-words.ensures c.words_granted-granted_since.ensures c.loop-granted.invariant.rest;
 }
 
 pub returns : goal.returns

@@ -9,8 +9,8 @@ use Rattle.pon_guar.proofs.lessening.lessen.Goals.{in-Some, in_default}
 pub loop-granted-init : goal.loop-granted-init
 loop-granted-init c = sym (lessened_none c.args.accounts.now)
 
-pub index_of-requires : goal.index_of-requires
-index_of-requires c = rw c.loop-granted.invariant (lessened_rising (take c.loop-granted.granted-index c.args.grants.now) c.args.accounts.now c.requires)
+pub index_near-found-requires : goal.index_near-found-requires
+index_near-found-requires c = rw c.loop-granted.invariant (lessened_rising (take c.loop-granted.granted-index c.args.grants.now) c.args.accounts.now c.requires)
 
 pub loop-granted-preserved : goal.loop-granted-preserved
 loop-granted-preserved c =
@@ -20,7 +20,7 @@ loop-granted-preserved c =
     let more : take (c.loop-granted.granted-index + 1) c.args.grants.now ≡ done ++ granted ∷ []
     = take_more c.args.grants.now c.loop-granted.granted-index granted (search rules) ∙ ap (λ g. done ++ g ∷ []) (sym c.granted-item.is) in
     let all = less_more done granted book ∙ ap (λ gs. map (lessened gs) book) (sym more) in
-    elim c.match-index_of.branch [
+    elim c.match-found.branch [
       | in-Some w ↦
           w.accounts-is
           ∙ ap (set c.loop-granted.accounts w.in-Some.place) (w.lessened_by.ensures ∙ ap (less_by granted.words) w.index-accounts-place.is)
