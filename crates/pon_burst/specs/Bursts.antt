@@ -1,6 +1,7 @@
 -- The upstream bursts of a map (ITU-T G.987.3: StartTime and GrantSize), and when they are sound.
 use Rattle.std.specs.Prelude.{ℕ, ◌+◌, ◌≤◌, ◌⊎◌, if◌then◌else◌, List, [], ◌∷◌, ◌++◌, AllPairs, All, Option, Some, None, is_none}
 use Rattle.pon_bwmap.specs.Structure.{Structure}
+use Rattle.pon_burst.specs.declared.TheConstants.{FRAME_WORDS}
 
 -- the word of its first header word, and the words of its grants
 pub record Burst : Type 0 where
@@ -23,7 +24,7 @@ bursts_of (a ∷ more) = burst_of a more a.start ++ bursts_of more
 
 -- from the gap before it to its trailer, a burst lies in the frame
 abbrev pub IsInFrame : ℕ → Burst → Type 0
-IsInFrame gap b = (gap ≤ b.start) × (b.start + 1 + b.words + 1 ≤ 9720)
+IsInFrame gap b = (gap ≤ b.start) × (b.start + 1 + b.words + 1 ≤ FRAME_WORDS)
 
 -- one ends before the gap of the other begins
 abbrev pub AreDisjoint : ℕ → Burst → Burst → Type 0

@@ -3,6 +3,7 @@ use Rattle.std.specs.Prelude.{ℕ, ◌+◌, ◌<◌, ◌≤◌, true, false, Lis
 use Rattle.arrayvec.specs.ArrayVec.{ArrayVec}
 use Rattle.pon_units.specs.declared.Granted.{Granted}
 use Rattle.pon_bwmap.specs.Structure.{Structure}
+use Rattle.pon_burst.specs.declared.TheConstants.{FRAME_WORDS}
 
 -- an ONU, with its Alloc-IDs and the payload words of each
 abbrev pub Series : Type 0
@@ -25,7 +26,7 @@ pub record FitsFrame (gap : ℕ) (series : List Series) : Type 0 where
   pub onus_rise : AllPairs (λ s t. s.0 < t.0) series
   pub alloc_ids_rise : All (λ s. AllPairs (λ a b. a.0 < b.0) s.1.items) series
   pub none_empty : All (λ s. 0 < length s.1.items) series
-  pub words : sum_by (burst_words gap) series ≤ 9720
+  pub words : sum_by (burst_words gap) series ≤ FRAME_WORDS
 
 -- a structure that polls an Alloc-ID and grants it its payload words
 abbrev pub polled : ℕ → Option ℕ → ℕ × ℕ → Structure

@@ -2,6 +2,7 @@ ghost use Rattle.std.specs.Prelude.{◌≡◌, ◌+◌, ◌≤◌, ◌++◌, len
 ghost use Rattle.pon_bwmap.specs.MapRules.{IsMap};
 ghost use Rattle.pon_burst.specs.Bursts.{AreSound};
 ghost use Rattle.pon_burst.specs.Maps.{map_of};
+use crate::FRAME_WORDS;
 ghost use Rattle.pon_burst.specs.Series.{FitsFrame, burst_structures, granted};
 
 use arrayvec::ArrayVec;
@@ -49,7 +50,7 @@ fn write_burst(
     out: &mut [Alloc],
     from: usize,
 ) -> u16
-    requires fit { sum_by (λ a. 1 + a.1) allocs.now ≤ 9720 }
+    requires fit { sum_by (λ a. 1 + a.1) allocs.now ≤ FRAME_WORDS }
     requires room { from + length allocs.now ≤ length out.old }
     ensures grants { result ≡ sum_by (λ a. 1 + a.1) allocs.now }
     ensures structures { take (from + length allocs.now) out.new ≡ take from out.old ++ burst_structures profile start allocs.now }
