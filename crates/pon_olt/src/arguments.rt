@@ -1,22 +1,32 @@
-ghost use Rattle.std.specs.Prelude.{IfOk, IfSome};
+ghost use Rattle.std.specs.Prelude.{◌≡◌, [], IfOk, IfSome, map, false, string_bytes};
 ghost use Rattle.clap.specs.Words.{subcommand_rows_of};
-ghost use Rattle.pon_olt.specs.Jobs.{IsJob};
+ghost use Rattle.clap.specs.Walk.{rule_of};
+ghost use Rattle.clap.specs.Simple.{app_of, subcommand_of};
+ghost use Rattle.pon_olt.specs.Jobs.{IsJob, file_rule, olt_app};
 
 use crate::task::Job;
 use clap::error::ErrorKind;
 use clap::{Arg, ArgMatches, Command, Error};
 use std::alloc::{AllocError, Global};
 
-// The program's command, with its subcommands.
-fn command<'a>(alloc: Global) -> Result<Command<'a>, AllocError> {
-    let plan = Command::new(alloc, "plan").about("Answer management lines from standard input");
-    let file = Arg::new(alloc, "file")
+fn file_arg<'a>(alloc: Global) -> Arg<'a>
+    ensures rule { rule_of result ≡ file_rule }
+    ensures local { result.global ≡ false }
+{
+    Arg::new(alloc, "file")
         .value_name("FILE")
         .help("The check file: a surplus, its items and their certificate")
-        .required(true);
+        .required(true)
+}
+
+// The program's command, with its subcommands.
+fn command<'a>(alloc: Global) -> Result<Command<'a>, AllocError>
+    ensures { IfOk result (λ c. app_of c ≡ olt_app) }
+{
+    let plan = Command::new(alloc, "plan").about("Answer management lines from standard input");
     let check = Command::new(alloc, "check")
         .about("Judge the certificate of a shared surplus")
-        .arg(file)?;
+        .arg(file_arg(alloc))?;
     Command::new(alloc, "olt")
         .bin_name("olt")?
         .version("0.1.0")
@@ -46,7 +56,7 @@ fn job_of<'a>(matches: &ArgMatches<'a>) -> Option<Job<'a>>
 ///
 /// `Err` is clap's: a fault of the words, their help or version, or want of memory.
 pub fn job<'a>(alloc: Global, words: &'a [String]) -> Result<Job<'a>, Error>
-    ensures { IfOk result (λ job. (m : ArgMatches) × IsJob (subcommand_rows_of m) job) }
+    ensures { IfOk result (λ job. IsJob (subcommand_of olt_app (map string_bytes words.now)) job) }
 {
     let mut command = command(alloc)?;
     let matches = command.try_get_matches_from_mut(words)?;
