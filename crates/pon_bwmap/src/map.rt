@@ -42,8 +42,8 @@ impl Map {
         }
     }
 
-    // The map of structures that are known to make one.
-    pub(crate) fn of_rows(rows: Vec<Alloc>) -> Map
+    /// The map of structures that are known to make one.
+    pub fn of_rows(rows: Vec<Alloc>) -> Map
         requires { IsMap rows.items }
         ensures { result ≡ rows.items }
     {

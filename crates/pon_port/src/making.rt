@@ -131,17 +131,6 @@ fn structures(
     Ok(structures)
 }
 
-// A map of the structures that a state has.
-fn map_of_structures(structures: Vec<Alloc>) -> Map
-    requires { IsMap structures.items }
-    ensures { result ≡ structures.items }
-{
-    match Map::from_rows(structures) {
-        Ok(map) => map,
-        Err(_) => unreachable!(),
-    }
-}
-
 /// A map that is ready: what it is told with, what it grants, and the Alloc-IDs of the two classes that share surplus.
 #[derive(Drop)]
 pub(crate) struct ReadyMap {
@@ -166,7 +155,7 @@ pub(crate) fn next_map(alloc: Global, state: &PortState) -> Result<ReadyMap, All
     let surplus = surplus(state, demands.as_slice());
     let cert = map_cert(alloc, na.items.as_slice(), be.items.as_slice(), surplus)?;
     let grants = grants(alloc, state, demands.as_slice(), &cert)?;
-    let map = map_of_structures(structures(alloc, state, grants.as_slice())?);
+    let map = Map::of_rows(structures(alloc, state, grants.as_slice())?);
     let frame = state.next;
     Ok(ReadyMap {
         made: MadeMap { frame, map, cert },

@@ -38,14 +38,14 @@ returns-clause-made c =
     let certified : IsCertified rule_in_force c.args.state.now c.in_ok-cert.cert
     = (certified_of c.args.state.now _ _ _ _ _ c.in_ok-cert.cert (c.as_slice.ensures.value ∙ c.in_ok-demands.ensures) (c.as_slice-2.ensures.value ∙ c.in_ok-demands.ensures)
     (c.as_slice-4.ensures.value ∙ c.in_ok-na.ensures.items) (c.as_slice-5.ensures.value ∙ c.in_ok-be.ensures.items) c.surplus-surplus.ensures c.in_ok-cert.ensures) in
-    let told : c.map_of_structures-map.result ≡ map_of c.args.state.now (surplus_rate c.args.state.now c.in_ok-cert.cert) = search rules in
+    let told : c.of_rows-map.result ≡ map_of c.args.state.now (surplus_rate c.args.state.now c.in_ok-cert.cert) = search rules in
     let frame : c.state.inside.next ≡ c.args.state.now.next = search rules in
     record { frame = frame; certified = certified; map = told }
 
 pub returns-clause-grants : goal.returns-clause-grants
 returns-clause-grants c =
-    let told : c.map_of_structures-map.result ≡ map_of c.args.state.now (surplus_rate c.args.state.now c.in_ok-cert.cert) = search rules in
-    kept_of_map c.args.state.now (surplus_rate c.args.state.now c.in_ok-cert.cert) c.map_of_structures-map.result _ told c.in_ok-grants.ensures
+    let told : c.of_rows-map.result ≡ map_of c.args.state.now (surplus_rate c.args.state.now c.in_ok-cert.cert) = search rules in
+    kept_of_map c.args.state.now (surplus_rate c.args.state.now c.in_ok-cert.cert) c.of_rows-map.result _ told c.in_ok-grants.ensures
 
 pub returns-clause-map_order : goal.returns-clause-map_order
 returns-clause-map_order c =
