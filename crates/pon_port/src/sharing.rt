@@ -40,12 +40,7 @@ pub(crate) fn surplus(state: &PortState, demands: &[Demand]) -> u64
 fn is_of(demand: &Demand, class: Class) -> bool
     ensures { result ≡ same_class demand.now.class class }
 {
-    match (demand.class, class) {
-        (Class::Plain, Class::Plain) => true,
-        (Class::NonAssured, Class::NonAssured) => true,
-        (Class::BestEffort, Class::BestEffort) => true,
-        _ => false,
-    }
+    demand.class == class
 }
 
 /// The Alloc-IDs of a class in map order, and with what each shares the surplus of the class.
