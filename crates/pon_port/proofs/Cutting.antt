@@ -19,8 +19,8 @@ use Rattle.pon_port.specs.Chapters.{IsLegal}
 use Rattle.pon_port.specs.Replay.{all_maps, allocs_of, begins, forgets, frame_at_last, maps_of, next_of, roster_of, window_of, with_reports}
 use Rattle.pon_port.specs.Loads.{account_after, candidates, candidates_in, counted_of, opening_candidates, replay, since_of}
 use Rattle.pon_port.specs.Checks.{first_refusal, refuses, when_down, when_full}
-use Rattle.pon_port.specs.declared.event.Event.{Event}
-use Rattle.pon_port.specs.declared.event.Event.TheVariants.{Admit, Change, Remove, Report, MakeMap, Fail, Restore}
+use Rattle.pon_event.specs.declared.event.Event.{Event}
+use Rattle.pon_event.specs.declared.event.Event.TheVariants.{Admit, Change, Remove, Report, MakeMap, Fail, Restore}
 use Rattle.pon_port.specs.declared.reply.Entry.{Entry}
 use Rattle.pon_descr.specs.declared.refusal.Refusal.{Refusal}
 use Rattle.pon_descr.specs.declared.refusal.Refusal.TheVariants.{ChapterFull}

@@ -21,8 +21,8 @@ use Rattle.pon_port.specs.Legal.{IsMade, IsReply}
 use Rattle.pon_port.specs.Chapters.{Chapter, IsLawfulChapter, state_before}
 use Rattle.pon_port.specs.FairMaps.{IsFairMap, TellsFairMap, best_effort_surplus, rates_of}
 use Rattle.pon_port.specs.Replay.{grants_of}
-use Rattle.pon_port.specs.declared.event.Event.{Event}
-use Rattle.pon_port.specs.declared.event.Event.TheVariants.{Admit, Change, Remove, Report, MakeMap, Fail, Restore}
+use Rattle.pon_event.specs.declared.event.Event.{Event}
+use Rattle.pon_event.specs.declared.event.Event.TheVariants.{Admit, Change, Remove, Report, MakeMap, Fail, Restore}
 use Rattle.pon_port.specs.declared.reply.Reply.{Reply}
 use Rattle.pon_port.specs.declared.reply.Reply.TheVariants.{Taken, Map}
 use Rattle.pon_port.specs.declared.reply.MadeMap.{MadeMap}

@@ -18,8 +18,8 @@ use Rattle.pon_port.specs.Chapters.{Chapter}
 use Rattle.pon_port.specs.Last.{KeepsLast, LastMap, Suits, last_map, last_told, told_last}
 use Rattle.pon_port.specs.Taking.{IsKept, with_entry}
 use Rattle.pon_port.proofs.Dealing.{few_members}
-use Rattle.pon_port.specs.declared.event.Event.{Event}
-use Rattle.pon_port.specs.declared.event.Event.TheVariants.{MakeMap}
+use Rattle.pon_event.specs.declared.event.Event.{Event}
+use Rattle.pon_event.specs.declared.event.Event.TheVariants.{MakeMap}
 use Rattle.pon_port.specs.declared.reply.Reply.TheVariants.{Taken, Map}
 use Rattle.pon_port.specs.declared.reply.MadeMap.{MadeMap}
 use Rattle.pon_port.specs.declared.reply.Entry.{Entry}

@@ -9,8 +9,8 @@ use Rattle.pon_port.specs.Loads.{replay}
 use Rattle.pon_port.specs.Checks.{first_refusal, when_full}
 use Rattle.pon_port.specs.Legal.{IsEvent}
 use Rattle.pon_port.specs.Chapters.{Chapter, IsLawfulChapter, present_state, state_before}
-use Rattle.pon_port.specs.declared.event.Event.{Event}
-use Rattle.pon_port.specs.declared.event.Event.TheVariants.{Admit, Change, Remove, Report, MakeMap, Fail, Restore}
+use Rattle.pon_event.specs.declared.event.Event.{Event}
+use Rattle.pon_event.specs.declared.event.Event.TheVariants.{Admit, Change, Remove, Report, MakeMap, Fail, Restore}
 use Rattle.pon_port.specs.declared.reply.Entry.{Entry}
 use Rattle.pon_port.proofs.Parts.{roster_of-append}
 use Rattle.pon_port.proofs.Legality.{IsLegalAfter, after_from_legal, legal_split}

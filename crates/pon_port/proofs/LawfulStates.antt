@@ -23,8 +23,8 @@ use Rattle.pon_port.specs.Loads.{account_after, candidates_in, counted_of, repla
 use Rattle.pon_port.specs.Checks.{first_refusal, when_down, when_full}
 use Rattle.pon_port.specs.Legal.{MayFollow}
 use Rattle.pon_port.specs.Chapters.{AccountIsLawful, Chapter, CountedIsLawful, IsLawfulChapter, IsLawfulOpening, Owns, present_state, state_before}
-use Rattle.pon_port.specs.declared.event.Event.{Event}
-use Rattle.pon_port.specs.declared.event.Event.TheVariants.{Admit, Change, Remove, Report, MakeMap, Fail, Restore}
+use Rattle.pon_event.specs.declared.event.Event.{Event}
+use Rattle.pon_event.specs.declared.event.Event.TheVariants.{Admit, Change, Remove, Report, MakeMap, Fail, Restore}
 use Rattle.pon_port.specs.declared.reply.Reply.{Reply}
 use Rattle.pon_port.specs.declared.reply.Entry.{Entry}
 use Rattle.pon_descr.specs.declared.refusal.Refusal.TheVariants.{StaleFrame}

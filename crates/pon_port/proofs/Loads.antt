@@ -14,8 +14,8 @@ use Rattle.pon_guar.specs.Loads.{less}
 use Rattle.pon_port.specs.State.{State}
 use Rattle.pon_port.specs.Replay.{allocs_after, allocs_of, begins, with_reports}
 use Rattle.pon_port.specs.Loads.{account_after, candidates_in, counted_of, since_of}
-use Rattle.pon_port.specs.declared.event.Event.{Event}
-use Rattle.pon_port.specs.declared.event.Event.TheVariants.{Admit, Change, Remove, Report, MakeMap, Fail, Restore}
+use Rattle.pon_event.specs.declared.event.Event.{Event}
+use Rattle.pon_event.specs.declared.event.Event.TheVariants.{Admit, Change, Remove, Report, MakeMap, Fail, Restore}
 use Rattle.pon_port.specs.declared.reply.Entry.{Entry}
 use Rattle.pon_units.proofs.Lists.{map-map, map_same, length-drop, append-nil, filter-append, filter-filter, filter_agree, map_filter, map-append, sum_by-map, flat_map-map}
 use Rattle.pon_port.proofs.Windows.{leads-filter, filter_high}

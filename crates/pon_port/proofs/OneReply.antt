@@ -13,8 +13,8 @@ use Rattle.pon_port.specs.Maps.{map_of}
 use Rattle.pon_port.specs.Legal.{IsMade, IsReply}
 use Rattle.pon_port.specs.Chapters.{Chapter, IsLawfulChapter, present_state}
 use Rattle.pon_port.specs.Taking.{Takes, with_entry}
-use Rattle.pon_port.specs.declared.event.Event.{Event}
-use Rattle.pon_port.specs.declared.event.Event.TheVariants.{Admit, Change, Remove, Report, MakeMap, Fail, Restore}
+use Rattle.pon_event.specs.declared.event.Event.{Event}
+use Rattle.pon_event.specs.declared.event.Event.TheVariants.{Admit, Change, Remove, Report, MakeMap, Fail, Restore}
 use Rattle.pon_port.specs.declared.reply.Reply.{Reply}
 use Rattle.pon_port.specs.declared.reply.Reply.TheVariants.{Taken, Map}
 use Rattle.pon_port.specs.declared.reply.MadeMap.{MadeMap}

@@ -22,7 +22,7 @@ use Rattle.pon_port.specs.Replay.{next_of, with_reports}
 use Rattle.pon_port.specs.Loads.{account_after, candidates_in, counted_of, replay, since_of}
 use Rattle.pon_port.specs.Chapters.{AccountIsLawful, Owns}
 use Rattle.pon_port.specs.After.{after_report}
-use Rattle.pon_port.specs.declared.event.Event.TheVariants.{Report}
+use Rattle.pon_event.specs.declared.event.Event.TheVariants.{Report}
 use Rattle.pon_port.specs.declared.reply.Reply.TheVariants.{Taken}
 use Rattle.pon_port.specs.declared.reply.Entry.{Entry}
 use Rattle.pon_port.proofs.Loads.{has_id, latest-append, words_from-map, grants_at-map}

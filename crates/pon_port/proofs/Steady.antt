@@ -22,8 +22,8 @@ use Rattle.pon_port.specs.Checks.{at_limit, first_refusal, when_down, when_full}
 use Rattle.pon_port.specs.Legal.{MayFollow}
 use Rattle.pon_port.specs.Chapters.{AccountsFor, IsSilent}
 use Rattle.pon_units.specs.Granted.{AreInMapOrder, ComesBefore}
-use Rattle.pon_port.specs.declared.event.Event.{Event}
-use Rattle.pon_port.specs.declared.event.Event.TheVariants.{Admit, Change, Remove, Report, MakeMap, Fail, Restore}
+use Rattle.pon_event.specs.declared.event.Event.{Event}
+use Rattle.pon_event.specs.declared.event.Event.TheVariants.{Admit, Change, Remove, Report, MakeMap, Fail, Restore}
 use Rattle.pon_port.specs.declared.reply.Entry.{Entry}
 use Rattle.pon_units.proofs.Lists.{any_eq-filter, append-nil, length-drop, map_filter, or_assoc}
 use Rattle.pon_port.proofs.Windows.{filter_low, leads-map}

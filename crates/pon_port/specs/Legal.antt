@@ -6,8 +6,8 @@ use Rattle.pon_admit.specs.Roster.{IsInRange, rule_in_force}
 use Rattle.pon_port.specs.Sharing.{IsCertified, surplus_rate}
 use Rattle.pon_port.specs.Maps.{map_of}
 use Rattle.pon_port.specs.Checks.{first_refusal}
-use Rattle.pon_port.specs.declared.event.Event.{Event}
-use Rattle.pon_port.specs.declared.event.Event.TheVariants.{Admit, Change, MakeMap}
+use Rattle.pon_event.specs.declared.event.Event.{Event}
+use Rattle.pon_event.specs.declared.event.Event.TheVariants.{Admit, Change, MakeMap}
 use Rattle.pon_port.specs.declared.reply.Reply.{Reply}
 use Rattle.pon_port.specs.declared.reply.Reply.TheVariants.{Taken, Map}
 use Rattle.pon_port.specs.declared.reply.MadeMap.{MadeMap}

@@ -8,8 +8,8 @@ use Rattle.pon_guar.specs.Book.{with_alloc, without_alloc}
 use Rattle.pon_guar.specs.Window.{WindowMap, last_64, polled}
 use Rattle.pon_units.specs.declared.granted.Granted.{Granted}
 use Rattle.pon_port.specs.State.{State}
-use Rattle.pon_port.specs.declared.event.Event.{Event}
-use Rattle.pon_port.specs.declared.event.Event.TheVariants.{Admit, Change, Remove, Report, MakeMap, Fail, Restore}
+use Rattle.pon_event.specs.declared.event.Event.{Event}
+use Rattle.pon_event.specs.declared.event.Event.TheVariants.{Admit, Change, Remove, Report, MakeMap, Fail, Restore}
 use Rattle.pon_port.specs.declared.reply.Reply.{Reply}
 use Rattle.pon_port.specs.declared.reply.Reply.TheVariants.{Taken, Map}
 use Rattle.pon_port.specs.declared.reply.Entry.{Entry}

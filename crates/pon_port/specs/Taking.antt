@@ -6,7 +6,7 @@ use Rattle.pon_port.specs.Checks.{first_refusal}
 use Rattle.pon_port.specs.Legal.{MayFollow}
 use Rattle.pon_port.specs.Chapters.{Chapter, present_state, IsLawfulChapter, AccountsFor}
 use Rattle.pon_port.specs.Last.{KeepsLast}
-use Rattle.pon_port.specs.declared.event.Event.{Event}
+use Rattle.pon_event.specs.declared.event.Event.{Event}
 use Rattle.pon_port.specs.declared.reply.Reply.{Reply}
 use Rattle.pon_descr.specs.declared.refusal.Refusal.{Refusal}
 

@@ -12,11 +12,11 @@ ghost use Rattle.pon_port.specs.Checks.{refuses};
 ghost use Rattle.pon_port.specs.Replay.{makes_map};
 ghost use Rattle.pon_port.specs.After.{after_admit, after_change, after_cut, after_event, after_map, after_remove, after_report};
 
-use crate::event::Event;
 use crate::state::PortState;
 use pon_admit::Row;
 use pon_dbru::Occupancies;
 use pon_descr::{Cause, Descriptor};
+use pon_event::Event;
 use pon_units::{AllocId, FrameNo, Granted, OnuId};
 use std::alloc::AllocError;
 

@@ -3,11 +3,11 @@
 ghost use Rattle.std.specs.Prelude.{◌≡◌};
 ghost use Rattle.pon_port.specs.Checks.{first_refusal, when_down, when_full};
 
-use crate::event::Event;
 use crate::state::PortState;
 use pon_admit::Row;
 use pon_dbru::Occupancies;
 use pon_descr::{Cause, Descriptor, Refusal};
+use pon_event::Event;
 use pon_units::{AllocId, FrameNo, OnuId};
 
 /// The most entries that a chapter keeps.

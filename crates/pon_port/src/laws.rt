@@ -14,7 +14,7 @@ ghost use Rattle.pon_burst.specs.Bursts.{AreSound};
 ghost use Rattle.pon_port.specs.Chapters.{Chapter, IsLawfulChapter, IsLawfulOpening, IsLegal, present_state, state_before};
 ghost use Rattle.pon_port.specs.FairMaps.{TellsFairMap};
 ghost use Rattle.pon_port.specs.Taking.{Takes};
-ghost use Rattle.pon_port.specs.declared.event.Event.{Event};
+ghost use Rattle.pon_event.specs.declared.event.Event.{Event};
 ghost use Rattle.pon_port.specs.declared.reply.Entry.{Entry};
 ghost use Rattle.pon_port.specs.declared.reply.Reply.{Reply};
 

@@ -7,7 +7,6 @@
 mod advance;
 mod checks;
 mod demand;
-mod event;
 pub mod laws;
 mod making;
 mod port;
@@ -16,7 +15,7 @@ mod series;
 mod sharing;
 mod state;
 
-pub use event::Event;
+pub use pon_event::Event;
 pub use port::Port;
 pub use reply::{Entry, MadeMap, Reply};
 pub use state::{PortCfg, PortState};

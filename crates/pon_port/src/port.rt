@@ -5,12 +5,12 @@ ghost use Rattle.pon_port.specs.Replay.{makes_map};
 
 use crate::advance::{add_map, step};
 use crate::checks::refusal_of;
-use crate::event::Event;
 use crate::making::next_map;
 use crate::reply::{Entry, MadeMap, Reply};
 use crate::state::{PortCfg, PortState};
 use pon_admit::{Roster, Row};
 use pon_descr::Refusal;
+use pon_event::Event;
 use pon_guar::Loads;
 use pon_units::{AllocId, FrameNo};
 use std::alloc::{AllocError, Global};

@@ -1,8 +1,8 @@
 ghost use Rattle.std.specs.Prelude.{◌≡◌, IfOk};
 
-use crate::event::Event;
 use pon_bwmap::Map;
 use pon_cert::MapCert;
+use pon_event::Event;
 use pon_units::FrameNo;
 use std::alloc::{AllocError, Global};
 

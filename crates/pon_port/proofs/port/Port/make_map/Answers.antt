@@ -3,7 +3,7 @@ use Rattle.pon_port.specs.Chapters.{Chapter, present_state}
 use Rattle.pon_port.specs.FairMaps.{IsFairMap}
 use Rattle.pon_port.specs.Legal.{IsMade}
 use Rattle.pon_port.specs.Taking.{Takes, with_entry}
-use Rattle.pon_port.specs.declared.event.Event.TheVariants.{MakeMap}
+use Rattle.pon_event.specs.declared.event.Event.TheVariants.{MakeMap}
 use Rattle.pon_port.specs.declared.reply.Reply.TheVariants.{Map}
 use Rattle.pon_port.proofs.Kept.{kept_frames, map_taken, mapped}
 use Rattle.pon_port.proofs.FairMaps.{fair_map}

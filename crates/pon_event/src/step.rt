@@ -1,4 +1,4 @@
-use pon_port::Event;
+use crate::event::Event;
 use pon_units::PortNo;
 
 /// An event at a port.
