@@ -1,0 +1,3 @@
+pub mod Asking
+mod FieldWords
+pub mod LongLines

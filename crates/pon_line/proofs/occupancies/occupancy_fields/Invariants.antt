@@ -1,0 +1,15 @@
+use Rattle.std.proofs.Common.{◌≡◌, ◌+◌, ◌≤◌, length}
+use Rattle.pon_text.specs.Lines.{words_of}
+use Rattle.pon_line.specs.Commands.{occupancy_fields}
+use Rattle.pon_line.proofs.FieldWords.{after_those}
+use Rattle.pon_line.proofs.occupancies.occupancy_fields.Given as goal
+
+-- the occupancies so far, and what the words of the rest write, are what all words write
+abbrev pub invariant-loop-word : goal.invariant-loop-word
+invariant-loop-word l = record {
+  few : length l.occupancies + length (words_of l.rest) ≤ 16;
+  all : after_those l.occupancies (occupancy_fields (words_of l.rest)) ≡ occupancy_fields (words_of l.text);
+}
+
+abbrev pub decreases-loop-word : goal.decreases-loop-word
+decreases-loop-word l = length (words_of l.rest)

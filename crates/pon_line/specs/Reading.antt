@@ -1,0 +1,53 @@
+-- What a management line asks.
+use Rattle.std.specs.Prelude.{ℕ, ◌<◌, ◌==◌, ◌||◌, ◌&&◌, not, nat_le, nat_lt, Bool, true, false, if◌then◌else◌, List, [], ◌∷◌, length, Result, Ok, Err}
+use Rattle.std.specs.List.{list_all}
+use Rattle.pon_text.specs.Lines.{words_of, without_return}
+use Rattle.pon_line.specs.Fields.{◌>>=◌, number_field}
+use Rattle.pon_line.specs.Commands.{command_of}
+use Rattle.pon_line.specs.declared.command.Command.{Command}
+use Rattle.pon_line.specs.declared.command.Command.TheVariants.{Take, ShowCert}
+use Rattle.pon_line.specs.declared.fault.LineFault.{LineFault}
+use Rattle.pon_line.specs.declared.fault.LineFault.TheVariants.{NoSuchPort, LineLong, NotText}
+use Rattle.pon_line.specs.declared.reading.Reading.{Reading}
+use Rattle.pon_line.specs.declared.reading.Reading.TheVariants.{Nothing, Refused, Asks, AsksCert}
+
+-- the port that a word names, one of so many
+unfoldable pub port_of : ℕ → List ℕ → Result ℕ LineFault
+port_of ports w = number_field w >>= λ n. if nat_lt n ports then Ok n else Err NoSuchPort
+
+-- the port is read before the command
+abbrev pub reading : Result ℕ LineFault → Result Command LineFault → Reading
+reading (Err fault) asked = Refused fault
+reading (Ok port) (Err fault) = Refused fault
+reading (Ok port) (Ok (Take event)) = Asks port event
+reading (Ok port) (Ok ShowCert) = AsksCert port
+
+-- no words ask nothing; else the first is the port, and the others are its command
+abbrev pub read_words : ℕ → List (List ℕ) → Reading
+read_words ports [] = Nothing
+read_words ports (w ∷ ws) = reading (port_of ports w) (command_of ws)
+
+-- a tab, or a printable character of ASCII
+abbrev pub is_text : ℕ → Bool
+is_text b = b == 9 || (nat_le 32 b && nat_le b 126)
+
+-- no words, or the first begins with `#`
+abbrev pub is_comment : List (List ℕ) → Bool
+is_comment [] = true
+is_comment ([] ∷ ws) = false
+is_comment ((b ∷ w) ∷ ws) = b == 35
+
+-- What a line asks of so many ports, by its checks in order. The line has its carriage return, and no line feed.
+unfoldable pub read_line : ℕ → List ℕ → Reading
+read_line ports line =
+    if nat_lt 4096 (length line) then Refused LineLong else
+    (if is_comment (words_of (without_return line)) then Nothing else
+    (if not (list_all is_text (without_return line)) then Refused NotText else
+    read_words ports (words_of (without_return line))))
+
+-- only ports that are there are asked
+abbrev pub AsksWithin : ℕ → Reading → Type 0
+AsksWithin ports Nothing = Unit {0}
+AsksWithin ports (Refused fault) = Unit {0}
+AsksWithin ports (Asks port event) = port < ports
+AsksWithin ports (AsksCert port) = port < ports

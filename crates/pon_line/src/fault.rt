@@ -1,0 +1,43 @@
+use pon_descr::Refusal;
+use std::fmt;
+
+/// Why a line is refused. Each has a number, L1 to L7, and the name that the lines print; a port's refusal has its own.
+#[derive(Clone, Copy, Debug, PartialEq, Eq)]
+pub enum LineFault {
+    /// L1: the second word is no command.
+    UnknownCommand,
+    /// L2: the command is missing, or has more or fewer words than it takes.
+    WordCount,
+    /// L3: a word is no number of 1 to 20 digits below 2^64, or no class.
+    BadField,
+    /// L4: there is no port of that number.
+    NoSuchPort,
+    /// L5: the certificate is asked for, and the kept chapter has no map yet.
+    NoMap,
+    /// L6: the line has more than 4,096 bytes.
+    LineLong,
+    /// L7: a byte is neither a tab nor a printable character of ASCII.
+    NotText,
+    /// The numbers are refused: E03 to E08.
+    Port(Refusal),
+}
+
+impl fmt::Display for LineFault {
+    ghost use Rattle.std.specs.Prelude.{Some};
+    ghost use Rattle.pon_line.specs.Faults.{fault_text};
+
+    ghost output = { λ fault. Some (fault_text fault) };
+
+    fn fmt<W: fmt::Write>(&self, f: &mut fmt::Formatter<W>) -> fmt::Result {
+        match *self {
+            LineFault::UnknownCommand => write!(f, "L1 UnknownCommand"),
+            LineFault::WordCount => write!(f, "L2 WordCount"),
+            LineFault::BadField => write!(f, "L3 BadField"),
+            LineFault::NoSuchPort => write!(f, "L4 NoSuchPort"),
+            LineFault::NoMap => write!(f, "L5 NoMap"),
+            LineFault::LineLong => write!(f, "L6 LineLong"),
+            LineFault::NotText => write!(f, "L7 NotText"),
+            LineFault::Port(refusal) => write!(f, "{refusal}"),
+        }
+    }
+}

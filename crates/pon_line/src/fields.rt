@@ -1,0 +1,136 @@
+//! The fields of a command: words that are numbers, identifiers and descriptors.
+
+ghost use Rattle.std.specs.Prelude.{◌≡◌, ◌≤◌, ◌∷◌, [], IfOk, IfErr, Some, None, MatchOption, MatchResult};
+ghost use Rattle.pon_descr.specs.Descriptor.{descriptor_refusal};
+ghost use Rattle.std.specs.Option.{SomeIff};
+ghost use Rattle.pon_text.specs.Lines.{words_of};
+ghost use Rattle.pon_line.specs.Fields.{number_field, descriptor_words, written_rates, rate_fields};
+
+use crate::fault::LineFault;
+use pon_descr::{Cause, Class, Descriptor, Refusal};
+use pon_text::{Word, first_word, number_of};
+use pon_units::{AllocId, OnuId};
+
+/// The words of a descriptor.
+#[derive(Clone, Copy)]
+pub(crate) struct DescriptorWords<'a> {
+    pub(crate) fixed: &'a [u8],
+    pub(crate) assured: &'a [u8],
+    pub(crate) max: &'a [u8],
+    pub(crate) class: &'a [u8],
+}
+
+/// The rates in kbit/s and the class that a line asks for, not yet checked.
+#[derive(Clone, Copy)]
+pub(crate) struct Rates {
+    pub(crate) fixed: u64,
+    pub(crate) assured: u64,
+    pub(crate) max: u64,
+    pub(crate) class: Class,
+}
+
+/// The next word, where there has to be one.
+pub(crate) fn next_word(text: &[u8]) -> Result<Word<'_>, LineFault>
+    ensures { MatchResult result
+        (λ next. words_of text.now ≡ next.word.now ∷ words_of next.rest.now)
+        (λ fault. (fault ≡ LineFault.WordCount) × (words_of text.now ≡ [])) }
+{
+    match first_word(text) {
+        Some(word) => Ok(word),
+        None => Err(LineFault::WordCount),
+    }
+}
+
+/// The number that a word writes.
+#[tactic(auto, unfolding(crate::specs::Fields::number_field))]
+pub(crate) fn number_field(word: &[u8]) -> Result<u64, LineFault>
+    ensures { result ≡ number_field word.now }
+{
+    match number_of(word) {
+        Some(number) => Ok(number),
+        None => Err(LineFault::BadField),
+    }
+}
+
+/// The words of a descriptor, which are the last of their line.
+#[tactic(auto, unfolding(crate::specs::Fields::descriptor_words))]
+pub(crate) fn descriptor_words(text: &[u8]) -> Result<DescriptorWords<'_>, LineFault>
+    ensures { MatchResult result
+        (λ w. descriptor_words (words_of text.now) ≡ Ok (record { fixed = w.fixed.now; assured = w.assured.now; most = w.max.now; class = w.class.now }))
+        (λ fault. descriptor_words (words_of text.now) ≡ Err fault) }
+{
+    let fixed = next_word(text)?;
+    let assured = next_word(fixed.rest)?;
+    let max = next_word(assured.rest)?;
+    let class = next_word(max.rest)?;
+    if first_word(class.rest).is_some() {
+        return Err(LineFault::WordCount);
+    }
+    Ok(DescriptorWords {
+        fixed: fixed.word,
+        assured: assured.word,
+        max: max.word,
+        class: class.word,
+    })
+}
+
+// The rates and the class that they write.
+fn written_rates(words: &DescriptorWords<'_>) -> Option<Rates>
+    ensures { MatchOption result
+        (written_rates (record { fixed = words.now.fixed.now; assured = words.now.assured.now; most = words.now.max.now; class = words.now.class.now }) ≡ None)
+        (λ r. written_rates (record { fixed = words.now.fixed.now; assured = words.now.assured.now; most = words.now.max.now; class = words.now.class.now }) ≡ Some (record { fixed = r.fixed; assured = r.assured; max = r.max; class = r.class })) }
+{
+    let fixed = number_of(words.fixed)?;
+    let assured = number_of(words.assured)?;
+    let max = number_of(words.max)?;
+    let class = Class::of_word(words.class)?;
+    Some(Rates {
+        fixed,
+        assured,
+        max,
+        class,
+    })
+}
+
+/// The rates and the class that the words of a descriptor write.
+#[tactic(auto, unfolding(crate::specs::Fields::rate_fields))]
+pub(crate) fn rate_fields(words: &DescriptorWords<'_>) -> Result<Rates, LineFault>
+    ensures { MatchResult result
+        (λ r. rate_fields (record { fixed = words.now.fixed.now; assured = words.now.assured.now; most = words.now.max.now; class = words.now.class.now }) ≡ Ok (record { fixed = r.fixed; assured = r.assured; max = r.max; class = r.class }))
+        (λ fault. rate_fields (record { fixed = words.now.fixed.now; assured = words.now.assured.now; most = words.now.max.now; class = words.now.class.now }) ≡ Err fault) }
+{
+    match written_rates(words) {
+        Some(rates) => Ok(rates),
+        None => Err(LineFault::BadField),
+    }
+}
+
+/// The descriptor of the rates that a line asks for.
+pub(crate) fn descriptor_of(rates: &Rates) -> Result<Descriptor, Refusal>
+    ensures ok { IfOk result (λ d. d ≡ record { fixed = rates.now.fixed; assured = rates.now.assured; max = rates.now.max; class = rates.now.class }) }
+    ensures lawful { IfOk result (λ d. descriptor_refusal (record { fixed = rates.now.fixed; assured = rates.now.assured; max = rates.now.max; class = rates.now.class }) ≡ None) }
+    ensures refused { IfErr result (λ why. descriptor_refusal (record { fixed = rates.now.fixed; assured = rates.now.assured; max = rates.now.max; class = rates.now.class }) ≡ Some why) }
+{
+    Descriptor::new(rates.fixed, rates.assured, rates.max, rates.class)
+}
+
+/// A managed Alloc-ID, 1024 to 16383.
+pub(crate) fn alloc_id_of(number: u64) -> Option<AllocId>
+    ensures { SomeIff result ((1024 ≤ number) × (number ≤ 16383)) number }
+{
+    AllocId::new(u16::try_from(number).ok()?)
+}
+
+/// An ONU-ID, 0 to 1022.
+pub(crate) fn onu_id_of(number: u64) -> Option<OnuId>
+    ensures { SomeIff result (number ≤ 1022) number }
+{
+    OnuId::new(u16::try_from(number).ok()?)
+}
+
+/// The cause of a failure, 1 to 9.
+pub(crate) fn cause_of(number: u64) -> Option<Cause>
+    ensures { SomeIff result ((1 ≤ number) × (number ≤ 9)) number }
+{
+    Cause::new(u8::try_from(number).ok()?)
+}

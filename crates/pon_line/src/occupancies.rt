@@ -1,0 +1,52 @@
+//! The occupancies of a `report`.
+
+ghost use Rattle.std.specs.Prelude.{◌≡◌, ◌≤◌, ◌<◌, length, Ok, Err, MatchResult};
+ghost use Rattle.std.specs.Option.{SomeIff};
+ghost use Rattle.pon_text.specs.Lines.{words_of};
+ghost use Rattle.pon_line.specs.Commands.{occupancy_field, occupancy_fields};
+
+use crate::fault::LineFault;
+use crate::fields::number_field;
+use pon_dbru::Occupancies;
+use pon_text::first_word;
+use pon_units::BufOcc;
+
+// The occupancy of so many words, 0 to 16,777,215.
+fn occupancy_of(number: u64) -> Option<BufOcc>
+    ensures { SomeIff result (number ≤ 16777215) number }
+{
+    BufOcc::new(u32::try_from(number).ok()?)
+}
+
+// The occupancy that a word writes, or that it is garbled.
+#[tactic(auto, unfolding(crate::specs::Commands::occupancy_field))]
+fn occupancy_field(word: &[u8]) -> Result<Option<BufOcc>, LineFault>
+    ensures { result ≡ occupancy_field word.now }
+{
+    if word == b"x".as_slice() {
+        return Ok(None);
+    }
+    match occupancy_of(number_field(word)?) {
+        Some(words) => Ok(Some(words)),
+        None => Err(LineFault::BadField),
+    }
+}
+
+/// The occupancies that the words of a text write, at most 16.
+pub(crate) fn occupancy_fields(text: &[u8]) -> Result<Occupancies, LineFault>
+    requires { length (words_of text.now) ≤ 16 }
+    ensures { MatchResult result
+        (λ occ. occupancy_fields (words_of text.now) ≡ Ok occ)
+        (λ fault. occupancy_fields (words_of text.now) ≡ Err fault) }
+{
+    let mut occupancies = Occupancies::new();
+    let mut rest = text;
+    while let Some(word) = first_word(rest) {
+        match occupancy_field(word.word) {
+            Ok(occupancy) => occupancies.push(occupancy),
+            Err(fault) => return Err(fault),
+        }
+        rest = word.rest;
+    }
+    Ok(occupancies)
+}

@@ -1,0 +1,97 @@
+//! What a management line asks of a port, or why it is refused.
+
+ghost use Rattle.std.specs.Prelude.{◌≡◌, ℕ, List, take};
+ghost use Rattle.std.specs.List.{list_all};
+ghost use Rattle.pon_line.specs.Reading.{read_line, port_of, is_text};
+
+use crate::command::{Command, command_of};
+use crate::fault::LineFault;
+use crate::fields::number_field;
+use pon_event::Event;
+use pon_text::{first_word, without_return};
+
+#[cfg(test)]
+mod tests;
+
+/// The most bytes of a line, its carriage return counted.
+const LONGEST: usize = 4096;
+
+/// What a line asks.
+#[derive(Drop)]
+pub enum Reading {
+    /// The line is blank or a comment: there is no reply.
+    Nothing,
+    /// The line is refused.
+    Refused(LineFault),
+    /// The port is to take the event.
+    Asks { port: usize, event: Event },
+    /// The certificate of the port's last map is asked for.
+    AsksCert { port: usize },
+}
+
+// The port that a word names, one of so many.
+#[tactic(auto, unfolding(crate::specs::Reading::port_of))]
+fn port_of(ports: usize, word: &[u8]) -> Result<usize, LineFault>
+    ensures { result ≡ port_of ports word.now }
+{
+    let number = number_field(word)?;
+    if number < ports as u64 {
+        Ok(number as usize)
+    } else {
+        Err(LineFault::NoSuchPort)
+    }
+}
+
+fn is_text(line: &[u8]) -> bool
+    ensures { result ≡ list_all is_text line.now }
+{
+    line.iter()
+        .all(|byte| *byte == b'\t' || (*byte >= 0x20 && *byte <= 0x7e))
+}
+
+/// What a line asks of so many ports. The line comes without its line feed; a carriage return at its end is dropped.
+///
+/// `<port> admit <onu> <alloc> <fixed> <assured> <max> <class>` admits an Alloc-ID, `<port> change <alloc> <fixed>
+/// <assured> <max> <class>` gives it another descriptor, `<port> remove <alloc>` takes it out, `<port> report <frame>
+/// <onu> <occ> ..` tells what waits at an ONU's structures in the map of a frame, `<port> map` makes the next map,
+/// `<port> cert` asks for the certificate of the last map, `<port> fail <cause>` says that the line has failed and `<port> restore` that it is back. Words are parted by spaces
+/// and tabs; a number is 1 to 20 decimal digits with a value below 2^64; rates are in kbit/s; a class is `none`, `na` or
+/// `be`; an occupancy is 0 to 16,777,215 words of 4 bytes, or `x` where it is garbled, 1 to 16 of them; a cause is 1 to 9.
+///
+/// Refused, in this order: `LineLong` above 4,096 bytes, the carriage return counted; `NotText` for a byte that is no
+/// text, unless the line is blank or a comment, which begins with `#`; `BadField` where the first word is no number and
+/// `NoSuchPort` where no port has it; `WordCount` without a second word and `UnknownCommand` where it is no command;
+/// `WordCount` where the command takes more or fewer words; `BadField` at the first word that is no number, no class, no
+/// occupancy or no cause;
+/// `AllocRange` outside 1024 to 16383, `OnuRange` above 1022, and what [`Descriptor::new`] refuses.
+#[tactic(auto, unfolding(crate::specs::Reading::read_line))]
+pub fn read_line(ports: usize, line: &[u8]) -> Reading
+    ensures { result ≡ read_line ports line.now }
+{
+    if line.len() > LONGEST {
+        return Reading::Refused(LineFault::LineLong);
+    }
+    let line = without_return(line);
+    let Some(first) = first_word(line) else {
+        return Reading::Nothing;
+    };
+    if first.word.first() == Some(&b'#') {
+        return Reading::Nothing;
+    }
+    if !is_text(line) {
+        return Reading::Refused(LineFault::NotText);
+    }
+    match port_of(ports, first.word) {
+        Err(fault) => Reading::Refused(fault),
+        Ok(port) => match command_of(first.rest) {
+            Err(fault) => Reading::Refused(fault),
+            Ok(Command::Take(event)) => Reading::Asks { port, event },
+            Ok(Command::ShowCert) => Reading::AsksCert { port },
+        },
+    }
+}
+
+/// A line that is too long reads the same by its first 4,097 bytes, so a reader may let the others go.
+pub fn long_lines()
+    ensures { (ports : ℕ) (line : List ℕ) → read_line ports (take 4097 line) ≡ read_line ports line }
+{}

@@ -1,0 +1,3 @@
+mod AnswerLaws
+mod OneOutput
+mod Streaming

@@ -1,0 +1,301 @@
+-- Text that is read byte by byte, and answered line by line.
+use Rattle.std.proofs.Common.{◌≡◌, ℕ, ◌<◌, ◌≤◌, Bool, true, false, ◌||◌, List, [], ◌∷◌, ◌++◌, length, take, refl, ap, sym, ◌∙◌, subst, arith, append_assoc, inl, inr}
+use Rattle.std.proofs.lemmas.List.{append-nil, length-take, length-append, take-append-le}
+use Rattle.std.proofs.lemmas.List.Folds.{list_any-append}
+use Rattle.std.specs.Prelude.{◌==◌, ◌≢◌, Option, Result, Ok, Err}
+use Rattle.std.specs.List.{list_any}
+use Rattle.std.proofs.lemmas.Bool.{or_parts, or_right}
+use Rattle.pon_port.specs.Chapters.{Chapter}
+use Rattle.pon_units.specs.Device.{Appends, Consumes, Keeps}
+use Rattle.pon_stream.proofs.DeviceBytes.{appends_kept, appends_more, appends_none, consumes_kept, consumes_more, consumes_none, keeps_itself}
+use Rattle.pon_manage.specs.Planning.{Planned, IsText, BeginsNext, BeginsOutput, PrintsLine}
+use Rattle.pon_stream.specs.declared.fault.PlanFault.{PlanFault}
+use Rattle.pon_stream.specs.declared.fault.PlanFault.TheVariants.{Read, Write, Memory}
+use Rattle.pon_text.specs.Lines.{lines_of, whole_lines, onto}
+use Rattle.pon_manage.specs.Text.{Answers, Gives, GivesLines}
+use Rattle.pon_line.specs.Reading.{read_line}
+use Rattle.pon_line.proofs.LongLines.{read_line-take, take_all}
+
+abbrev pub has_feed : List ℕ → Bool
+has_feed bs = list_any (λ b. b == 10) bs
+
+-- Lines of bytes.
+
+lines_of-feed : (cur rest : List ℕ) → has_feed cur ≡ false → lines_of (cur ++ 10 ∷ rest) ≡ cur ∷ lines_of rest
+lines_of-feed [] rest h = refl
+lines_of-feed (b ∷ cur) rest h =
+    let two : ((b == 10) ≡ false) × (has_feed cur ≡ false) = or_parts (b == 10) (has_feed cur) h in
+    rw two.0 (ap (onto b) (lines_of-feed cur rest two.1))
+
+lines_of-last : (b : ℕ) (cur : List ℕ) → has_feed (b ∷ cur) ≡ false → lines_of (b ∷ cur) ≡ (b ∷ cur) ∷ []
+lines_of-last b [] h = rw (or_parts (b == 10) false h).0 refl
+lines_of-last b (c ∷ cur) h =
+    let two : ((b == 10) ≡ false) × (has_feed (c ∷ cur) ≡ false) = or_parts (b == 10) (has_feed (c ∷ cur)) h in
+    rw two.0 (ap (onto b) (lines_of-last c cur two.1))
+
+lone_line : (cur : List ℕ) → has_feed cur ≡ false → cur ≢ [] → lines_of cur ≡ cur ∷ []
+lone_line [] h n = absurd (n refl)
+lone_line (b ∷ cur) h n = lines_of-last b cur h
+
+has_feed-there : (cur rest : List ℕ) → has_feed (cur ++ 10 ∷ rest) ≡ true
+has_feed-there [] rest = refl
+has_feed-there (b ∷ cur) rest = or_right (b == 10) (has_feed (cur ++ 10 ∷ rest)) (has_feed-there cur rest)
+
+whole_lines-feed : (cur rest : List ℕ) → whole_lines (cur ++ 10 ∷ rest) ≡ cur ++ 10 ∷ whole_lines rest
+whole_lines-feed [] rest = refl
+whole_lines-feed (b ∷ cur) rest = rw (has_feed-there (b ∷ cur) rest) (ap (λ t. b ∷ t) (whole_lines-feed cur rest))
+
+whole_lines-open : (cur : List ℕ) → has_feed cur ≡ false → whole_lines cur ≡ []
+whole_lines-open [] h = refl
+whole_lines-open (b ∷ cur) h = rw h refl
+
+-- a line gives what its first 4,097 bytes give
+gives_kept : (old new : List Chapter) (line cur text : List ℕ) → line ≡ take 4097 cur → Gives old line text new → Gives old cur text new
+gives_kept old new line cur text kept g = subst (λ r. Answers old r text new) (ap (read_line (length old)) kept ∙ read_line-take (length old) cur) g
+
+-- one line more
+gives_more : (old mid new : List Chapter) (ls : List (List ℕ)) (l text more : List ℕ) → GivesLines old ls text mid → Gives mid l more new → GivesLines old (ls ++ l ∷ []) (text ++ more) new
+gives_more old mid new [] l text more a g =
+    (more, [], new, subst (λ m. Gives m l more new) a.1 g, (refl, refl), ap (λ t. t ++ more) a.0 ∙ sym (append-nil more))
+gives_more old mid new (x ∷ ls) l text more a g =
+    (a.0, a.1 ++ more, a.2, a.3, gives_more a.2 mid new ls l a.1 more a.4 g, ap (λ t. t ++ more) a.5 ∙ append_assoc a.0 a.1 more)
+
+-- how far the reading has come
+pub record Progress (first : List Chapter) (left_first left held_first held : Option (List ℕ)) (ports : List Chapter) (line : List ℕ) : Type 0 where
+  pub done : List ℕ
+  pub cur : List ℕ
+  pub lines : List (List ℕ)
+  pub written : List ℕ
+  pub read : Consumes left_first left (done ++ cur)
+  pub wrote : Appends held_first held written
+  pub open_line : has_feed cur ≡ false
+  pub split : (tail : List ℕ) → lines_of (done ++ tail) ≡ lines ++ lines_of tail
+  pub whole : (tail : List ℕ) → whole_lines (done ++ tail) ≡ done ++ whole_lines tail
+  pub gave : GivesLines first lines written ports
+  pub kept : line ≡ take 4097 cur
+
+pub begin : (first : List Chapter) (left held : Option (List ℕ)) → Progress first left left held held first []
+begin first left held = record {
+  done = [];
+  cur = [];
+  lines = [];
+  written = [];
+  read = consumes_none left;
+  wrote = appends_none held;
+  open_line = refl;
+  split = λ tail. refl;
+  whole = λ tail. refl;
+  gave = (refl, refl);
+  kept = refl;
+}
+
+-- Where the reading has come to.
+module _ (first : List Chapter) (l0 l m h0 h : Option (List ℕ)) (ports : List Chapter) (line : List ℕ) (p : Progress first l0 l h0 h ports line) where
+  -- one byte more of a line
+  pub push_kept : (b : ℕ) → Consumes l m (b ∷ []) → (b == 10) ≡ false → (new : List ℕ) → ((cur : List ℕ) → line ≡ take 4097 cur → new ≡ take 4097 (cur ++ b ∷ [])) →
+      Progress first l0 m h0 h ports new
+  push_kept b c no_feed new e = record {
+    done = p.done;
+    cur = p.cur ++ b ∷ [];
+    lines = p.lines;
+    written = p.written;
+    read = subst (λ t. Consumes l0 m t) (append_assoc p.done p.cur (b ∷ [])) (consumes_more l0 l m (p.done ++ p.cur) (b ∷ []) p.read c);
+    wrote = p.wrote;
+    open_line = list_any-append (λ b. b == 10) p.cur (b ∷ []) ∙ (λ i. p.open_line i || (no_feed i || false));
+    split = p.split;
+    whole = p.whole;
+    gave = p.gave;
+    kept = e p.cur p.kept;
+  }
+
+  -- a line was answered, and the next is empty
+  pub printed_line : (k : Option (List ℕ)) (after : List Chapter) (done : Unit {0}) (new : List ℕ) → Consumes l m (10 ∷ []) → PrintsLine ports after line h k (Ok done) → new ≡ [] → Progress first l0 m h0 k after new
+  printed_line k after done new c w e = record {
+    done = p.done ++ p.cur ++ 10 ∷ [];
+    cur = [];
+    lines = p.lines ++ p.cur ∷ [];
+    written = p.written ++ w.0;
+    read = subst (λ t. Consumes l0 m t) (sym (append-nil (p.done ++ p.cur ++ 10 ∷ []))) (consumes_more l0 l m (p.done ++ p.cur) (10 ∷ []) p.read c);
+    wrote = appends_more h0 h k p.written w.0 p.wrote w.2;
+    open_line = refl;
+    split = λ tail. ap lines_of (parts tail) ∙ p.split (p.cur ++ 10 ∷ tail) ∙ ap (λ ls. p.lines ++ ls) (lines_of-feed p.cur tail p.open_line) ∙ sym (append_assoc p.lines (p.cur ∷ []) (lines_of tail));
+    whole = λ tail. ap whole_lines (parts tail) ∙ p.whole (p.cur ++ 10 ∷ tail) ∙ ap (λ t. p.done ++ t) (whole_lines-feed p.cur tail) ∙ sym (parts (whole_lines tail));
+    gave = gives_more first ports after p.lines p.cur p.written w.0 p.gave (gives_kept ports after line p.cur w.0 p.kept w.1);
+    kept = e;
+  }
+    where
+      parts : (tail : List ℕ) → (p.done ++ p.cur ++ 10 ∷ []) ++ tail ≡ p.done ++ (p.cur ++ 10 ∷ tail)
+      parts tail = append_assoc (p.done ++ p.cur) (10 ∷ []) tail ∙ append_assoc p.done p.cur (10 ∷ tail)
+
+  -- the reader failed
+  pub read_failed : {T : Type 0} → Keeps l m → Planned {T = T} first l0 m h0 h (Err Read)
+  read_failed kept = record {
+    input = p.done ++ p.cur;
+    written = p.written;
+    read = consumes_kept l0 l m (p.done ++ p.cur) p.read kept;
+    wrote = p.wrote;
+    text = (ports, subst (λ ls. GivesLines first ls p.written ports) (sym all_whole) p.gave);
+  }
+    where
+      all_whole : lines_of (whole_lines (p.done ++ p.cur)) ≡ p.lines
+      all_whole = ap lines_of (p.whole p.cur ∙ ap (λ t. p.done ++ t) (whole_lines-open p.cur p.open_line)) ∙ p.split [] ∙ append-nil p.lines
+
+  -- a beginning was written, where a fault came late
+  begun : {T : Type 0} (k : Option (List ℕ)) (more sent : List ℕ) (next : List (List ℕ)) → Consumes l m more → Appends h k sent → lines_of (p.cur ++ more) ≡ next → BeginsNext ports next sent →
+      (f : PlanFault) → (BeginsOutput first ((p.done ++ p.cur) ++ more) (p.written ++ sent) → IsText {T = T} first ((p.done ++ p.cur) ++ more) (p.written ++ sent) (Err f)) → Planned {T = T} first l0 m h0 k (Err f)
+  begun k more sent next c w e b f tells = record {
+    input = (p.done ++ p.cur) ++ more;
+    written = p.written ++ sent;
+    read = consumes_more l0 l m (p.done ++ p.cur) more p.read c;
+    wrote = appends_more h0 h k p.written sent p.wrote w;
+    text = tells (record {
+      answered = p.lines;
+      more = next;
+      text = p.written;
+      part = sent;
+      after = ports;
+      lines = ap lines_of (append_assoc p.done p.cur more) ∙ p.split (p.cur ++ more) ∙ ap (λ ls. p.lines ++ ls) e;
+      gives = p.gave;
+      begins = b;
+      is = refl;
+    });
+  }
+
+  -- the line's text was not all written; more is what ends the line
+  line_failed : {T : Type 0} (k : Option (List ℕ)) (after : List Chapter) (more : List ℕ) (next : List (List ℕ)) (f : PlanFault) → Consumes l m more → PrintsLine ports after line h k (Err f) → lines_of (p.cur ++ more) ≡ p.cur ∷ next → Planned {T = T} first l0 m h0 k (Err f)
+  line_failed k after more next Read c w e = absurd w
+  line_failed k after more next Write c w e =
+      begun k more w.1 (p.cur ∷ next) c w.3 e (inr (w.0, after, gives_kept ports after line p.cur w.0 p.kept w.2, w.4)) Write (λ b. b)
+  line_failed k after more next Memory c w e =
+      begun k more [] (p.cur ∷ next) c (appends_kept h h k [] (appends_none h) w) e (inl refl) Memory (λ b. b)
+
+  pub feed_failed : {T : Type 0} (k : Option (List ℕ)) (after : List Chapter) (f : PlanFault) → Consumes l m (10 ∷ []) → PrintsLine ports after line h k (Err f) → Planned {T = T} first l0 m h0 k (Err f)
+  feed_failed k after f c w = line_failed k after (10 ∷ []) [] f c w (lines_of-feed p.cur [] p.open_line)
+
+  not_empty : line ≢ [] → p.cur ≢ []
+  not_empty n e = n (p.kept ∙ ap (take 4097) e)
+
+  pub end_failed : {T : Type 0} (k : Option (List ℕ)) (after : List Chapter) (f : PlanFault) → Consumes l m [] → line ≢ [] → PrintsLine ports after line h k (Err f) → Planned {T = T} first l0 m h0 k (Err f)
+  end_failed k after f c n w = line_failed k after [] [] f c w (ap lines_of (append-nil p.cur) ∙ lone_line p.cur p.open_line (not_empty n))
+
+  -- the input ended behind a line without its feed
+  pub ended : {T : Type 0} (k : Option (List ℕ)) (after : List Chapter) (done : Unit {0}) (end : T) → Consumes l m [] → line ≢ [] → PrintsLine ports after line h k (Ok done) → Planned {T = T} first l0 m h0 k (Ok end)
+  ended k after done end c n w = record {
+    input = (p.done ++ p.cur) ++ [];
+    written = p.written ++ w.0;
+    read = consumes_more l0 l m (p.done ++ p.cur) [] p.read c;
+    wrote = appends_more h0 h k p.written w.0 p.wrote w.2;
+    text = (
+      after,
+      subst (λ ls. GivesLines first ls (p.written ++ w.0) after) (sym all)
+          (gives_more first ports after p.lines p.cur p.written w.0 p.gave (gives_kept ports after line p.cur w.0 p.kept w.1)),
+    );
+  }
+    where
+      all : lines_of ((p.done ++ p.cur) ++ []) ≡ p.lines ++ p.cur ∷ []
+      all = ap lines_of (append_assoc p.done p.cur []) ∙ p.split (p.cur ++ []) ∙ ap (λ ls. p.lines ++ ls) (ap lines_of (append-nil p.cur) ∙ lone_line p.cur p.open_line (not_empty n))
+
+  -- the input ended behind a line feed, or at its start
+  pub ended_empty : {T : Type 0} (end : T) → Consumes l m [] → line ≡ [] → Planned {T = T} first l0 m h0 h (Ok end)
+  ended_empty end c n = record {
+    input = (p.done ++ p.cur) ++ [];
+    written = p.written;
+    read = consumes_more l0 l m (p.done ++ p.cur) [] p.read c;
+    wrote = p.wrote;
+    text = (ports, subst (λ ls. GivesLines first ls p.written ports) (sym all) p.gave);
+  }
+    where
+      nothing : (cur : List ℕ) → take 4097 cur ≡ [] → cur ≡ []
+      nothing [] e = refl
+      nothing (b ∷ cur) e = absurd (omega (arith, ap (λ t. length t) e, length-take 4097 (b ∷ cur)))
+
+      all : lines_of ((p.done ++ p.cur) ++ []) ≡ p.lines
+      all = ap lines_of (append_assoc p.done p.cur []) ∙ p.split (p.cur ++ []) ∙ ap (λ c. p.lines ++ lines_of (c ++ [])) (nothing p.cur (sym p.kept ∙ n)) ∙ append-nil p.lines
+
+  -- memory was refused for a byte
+  pub no_room : {T : Type 0} (b : ℕ) → Consumes l m (b ∷ []) → Planned {T = T} first l0 m h0 h (Err Memory)
+  no_room b c = record {
+    input = (p.done ++ p.cur) ++ b ∷ [];
+    written = p.written;
+    read = consumes_more l0 l m (p.done ++ p.cur) (b ∷ []) p.read c;
+    wrote = p.wrote;
+    text = record {
+      answered = p.lines;
+      more = lines_of (p.cur ++ b ∷ []);
+      text = p.written;
+      part = [];
+      after = ports;
+      lines = ap lines_of (append_assoc p.done p.cur (b ∷ [])) ∙ p.split (p.cur ++ b ∷ []);
+      gives = p.gave;
+      begins = nothing_of (lines_of (p.cur ++ b ∷ []));
+      is = sym (append-nil p.written);
+    };
+  }
+    where
+      nothing_of : (ls : List (List ℕ)) → BeginsNext ports ls []
+      nothing_of [] = refl
+      nothing_of (x ∷ ls) = inl refl
+
+-- 2 ^ 64 - 1 reads were made
+pub ran_out : {T : Type 0} (first : List Chapter) (l0 l h0 h : Option (List ℕ)) (ports : List Chapter) (line : List ℕ) → Progress first l0 l h0 h ports line → Planned {T = T} first l0 l h0 h (Err Read)
+ran_out first l0 l h0 h ports line p = read_failed first l0 l l h0 h ports line p (keeps_itself l)
+
+-- the same line under another name
+pub printed : (old new : List Chapter) (a b : List ℕ) (h k : Option (List ℕ)) (r : Result (Unit {0}) PlanFault) → a ≡ b → PrintsLine old new a h k r → PrintsLine old new b h k r
+printed old new a b h k r e w = subst (λ t. PrintsLine old new t h k r) e w
+
+-- a byte is kept of a line that is not too long yet
+pub push_short : (line new : List ℕ) (b : ℕ) → length line < 4097 → new ≡ line ++ b ∷ [] → (cur : List ℕ) → line ≡ take 4097 cur → new ≡ take 4097 (cur ++ b ∷ [])
+push_short line new b l e cur k =
+    let short : length cur < 4097 = omega (arith, l, ap (λ t. length t) k, length-take 4097 cur) in
+    e ∙ ap (λ t. t ++ b ∷ []) (k ∙ take_all 4097 cur (omega arith)) ∙ sym (take_all 4097 (cur ++ b ∷ []) (omega (arith, short, length-append cur (b ∷ []))))
+
+-- a byte of a line that is too long is let go
+pub push_long : (line new : List ℕ) (b : ℕ) → 4097 ≤ length line → new ≡ line → (cur : List ℕ) → line ≡ take 4097 cur → new ≡ take 4097 (cur ++ b ∷ [])
+push_long line new b l e cur k =
+    e ∙ k ∙ sym (take-append-le 4097 cur (b ∷ []) (omega (arith, l, ap (λ t. length t) k, length-take 4097 cur)))
+
+-- Before the first line, and after the last.
+
+-- nothing was read and nothing written
+pub nothing_done : {T : Type 0} (first : List Chapter) (l h : Option (List ℕ)) → Planned {T = T} first l l h h (Err Memory)
+nothing_done first l h = record {
+  input = [];
+  written = [];
+  read = consumes_none l;
+  wrote = appends_none h;
+  text = record { answered = []; more = []; text = []; part = []; after = first; lines = refl; gives = (refl, refl); begins = refl; is = refl };
+}
+
+-- all was written, and the flush failed
+pub not_flushed : {S T : Type 0} (first : List Chapter) (l0 l h0 h k : Option (List ℕ)) (done : S) → Planned {T = S} first l0 l h0 h (Ok done) → Keeps h k → Planned {T = T} first l0 l h0 k (Err Write)
+not_flushed first l0 l h0 h k done p kept = record {
+  input = p.input;
+  written = p.written;
+  read = p.read;
+  wrote = appends_kept h0 h k p.written p.wrote kept;
+  text = record {
+    answered = lines_of p.input;
+    more = [];
+    text = p.written;
+    part = [];
+    after = p.text.0;
+    lines = sym (append-nil (lines_of p.input));
+    gives = p.text.1;
+    begins = refl;
+    is = sym (append-nil p.written);
+  };
+}
+
+pub flushed : {S T : Type 0} (first : List Chapter) (l0 l h0 h k : Option (List ℕ)) (done : S) (end : T) → Planned {T = S} first l0 l h0 h (Ok done) → Keeps h k → Planned {T = T} first l0 l h0 k (Ok end)
+flushed first l0 l h0 h k done end p kept = record {
+  input = p.input;
+  written = p.written;
+  read = p.read;
+  wrote = appends_kept h0 h k p.written p.wrote kept;
+  text = p.text;
+}
+
+-- the port that the lines are asked of
+pub one_port : {T : Type 0} (c d : Chapter) (l0 l h0 h : Option (List ℕ)) (r : Result T PlanFault) → c.number ≡ d.number → c.opening ≡ d.opening → c.entries ≡ d.entries → Planned (c ∷ []) l0 l h0 h r → Planned (d ∷ []) l0 l h0 h r
+one_port c d l0 l h0 h r n o e p = subst (λ c. Planned (c ∷ []) l0 l h0 h r) (λ i. record { number = n i; opening = o i; entries = e i }) p

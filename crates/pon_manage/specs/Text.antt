@@ -1,0 +1,69 @@
+-- The text that lines give, as a relation: what a line asks is answered by the entry that a port keeps for it.
+use Rattle.std.specs.Prelude.{ℕ, ◌≡◌, List, [], ◌∷◌, ◌++◌, length, codes, decimal, slice_get, slice_set, Option, Some, None}
+use Rattle.hex.specs.Hex.{encode_lower}
+use Rattle.pon_bwmap.specs.MapBytes.{map_bytes}
+use Rattle.pon_cert.specs.Spelling.{cert_text}
+use Rattle.pon_port.specs.Chapters.{Chapter}
+use Rattle.pon_port.specs.Last.{LastMap, last_map}
+use Rattle.pon_port.specs.Taking.{Takes, refusal_of}
+use Rattle.pon_event.specs.declared.event.Event.{Event}
+use Rattle.pon_port.specs.declared.reply.Reply.{Reply}
+use Rattle.pon_port.specs.declared.reply.Reply.TheVariants.{Taken, Map}
+use Rattle.pon_descr.specs.declared.refusal.Refusal.{Refusal}
+use Rattle.pon_text.specs.Lines.{lines_of}
+use Rattle.pon_line.specs.Faults.{fault_text}
+use Rattle.pon_line.specs.Reading.{read_line}
+use Rattle.pon_line.specs.declared.fault.LineFault.{LineFault}
+use Rattle.pon_line.specs.declared.fault.LineFault.TheVariants.{NoMap, Port}
+use Rattle.pon_line.specs.declared.reading.Reading.{Reading}
+use Rattle.pon_line.specs.declared.reading.Reading.TheVariants.{Nothing, Refused, Asks, AsksCert}
+
+-- a refusal line
+abbrev pub refusal_line : LineFault → List ℕ
+refusal_line fault = codes "err " ++ fault_text fault ++ 10 ∷ []
+
+-- the reply line of an entry, by its index in the kept chapter; 32 is a space, 10 the line feed
+abbrev pub reply_line : ℕ → Reply → List ℕ
+reply_line index Taken = codes "ok " ++ decimal index ++ 10 ∷ []
+reply_line index (Map made) = codes "map " ++ (decimal made.frame ++ (32 ∷ encode_lower (map_bytes made.map) ++ 10 ∷ []))
+
+-- a port is asked to take an event: the first check that refuses is told, or the entry is kept and its reply told
+abbrev pub Posts : List Chapter → ℕ → Chapter → Event → Option Refusal → List ℕ → List Chapter → Type 0
+Posts old port c event (Some refusal) text new = (text ≡ refusal_line (Port refusal)) × (new ≡ old)
+Posts old port c event None text new =
+    (reply : Reply) × (next : Chapter) × Takes c event reply next × (text ≡ reply_line (length c.entries) reply) × (new ≡ slice_set old port next)
+
+abbrev pub AsksPort : List Chapter → ℕ → Option Chapter → Event → List ℕ → List Chapter → Type 0
+AsksPort old port None event text new = ⊥
+AsksPort old port (Some c) event text new = Posts old port c event (refusal_of c event) text new
+
+-- the certificate of the last map of the kept chapter, where there is one
+abbrev pub cert_line : Option LastMap → List ℕ
+cert_line None = refusal_line NoMap
+cert_line (Some l) = codes "cert " ++ (decimal l.made.frame ++ (32 ∷ cert_text l.na l.be l.made.cert ++ 10 ∷ []))
+
+-- a port is asked for it, and stays as it is
+abbrev pub TellsCert : Option Chapter → List ℕ → Type 0
+TellsCert None text = ⊥
+TellsCert (Some c) text = text ≡ cert_line (last_map c)
+
+-- what is asked gives a text, and leaves the ports' chapters so
+abbrev pub Answers : List Chapter → Reading → List ℕ → List Chapter → Type 0
+Answers old Nothing text new = (text ≡ []) × (new ≡ old)
+Answers old (Refused fault) text new = (text ≡ refusal_line fault) × (new ≡ old)
+Answers old (Asks port event) text new = AsksPort old port (slice_get old port) event text new
+Answers old (AsksCert port) text new = TellsCert (slice_get old port) text × (new ≡ old)
+
+-- a line gives a text
+abbrev pub Gives : List Chapter → List ℕ → List ℕ → List Chapter → Type 0
+Gives old line text new = Answers old (read_line (length old) line) text new
+
+-- lines one after the other give a text
+abbrev pub GivesLines : List Chapter → List (List ℕ) → List ℕ → List Chapter → Type 0
+GivesLines old [] text new = (text ≡ []) × (new ≡ old)
+GivesLines old (l ∷ ls) text new =
+    (first rest : List ℕ) × (mid : List Chapter) × Gives old l first mid × GivesLines mid ls rest new × (text ≡ first ++ rest)
+
+-- the output text of an input
+abbrev pub IsOutput : List Chapter → List ℕ → List ℕ → Type 0
+IsOutput ports input text = (after : List Chapter) × GivesLines ports (lines_of input) text after

@@ -1,5 +1,0 @@
-use Rattle.pon_olt.proofs.OneOutput.{one_output}
-use Rattle.pon_olt.proofs.laws.one_output.Goals as goal
-
-pub returns : goal.returns
-returns c = one_output

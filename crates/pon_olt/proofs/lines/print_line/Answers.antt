@@ -1,7 +1,0 @@
-use Rattle.pon_olt.specs.Text.{AsksWithin}
-use Rattle.std.proofs.Common.{subst, sym}
-use Rattle.pon_olt.proofs.Asking.{read_line-within}
-use Rattle.pon_olt.proofs.lines.print_line.Goals as goal
-
-pub answer-requires : goal.answer-requires
-answer-requires g c = subst (AsksWithin 1) (sym c.read_line.ensures) (read_line-within 1 c.args.line.now)
