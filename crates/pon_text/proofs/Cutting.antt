@@ -1,0 +1,98 @@
+-- Texts that are cut at a byte, and the lines of a file.
+use Rattle.std.proofs.Common.{◌≡◌, ℕ, suc, ◌+◌, ◌-◌, ◌<◌, Bool, true, false, cond, not, eqb, List, [], ◌∷◌, length, take, drop, map, refl, ap, sym, ◌∙◌, arith, Some, None}
+use Rattle.std.specs.Prelude.{◌==◌, nat_lt, option_map}
+use Rattle.std.specs.List.{before_first, after_first, onto_first, position_or_len, prefix_len, slice_split}
+use Rattle.std.proofs.lemmas.Bool.{ltb-true, ltb-false}
+use Rattle.std.proofs.lemmas.List.{length-drop, take_all}
+use Rattle.std.proofs.lemmas.List.Splits.{length-slice_split, slice_split-cons_no, slice_split_first}
+use Rattle.std.proofs.lemmas.List.Sums.{prefix_len-le-length}
+use Rattle.pon_text.specs.Lines.{file_lines, lines_of, onto, without_return}
+use Rattle.pon_text.specs.Cuts.{cut_at}
+
+-- what is left behind a place
+pub behind_all : (n : ℕ) (t : List ℕ) → take (length t - n) (drop n t) ≡ drop n t
+behind_all n t = take_all (length t - n) (drop n t) (omega (arith, length-drop n t))
+
+-- the place of a byte
+abbrev place : ℕ → List ℕ → ℕ
+place c t = position_or_len (λ b. b == c) t
+
+none_step : (x c : ℕ) (xs : List ℕ) (b : Bool) → eqb x c ≡ b → prefix_len (λ y. not (eqb y c)) (x ∷ xs) ≡ suc (length xs) → (prefix_len (λ y. not (eqb y c)) xs ≡ length xs → slice_split (λ y. eqb y c) xs ≡ xs ∷ []) →
+    slice_split (λ y. eqb y c) (x ∷ xs) ≡ (x ∷ xs) ∷ []
+none_step x c xs true e h more = absurd (omega (arith, rw e at h))
+none_step x c xs false e h more =
+    slice_split-cons_no (λ y. eqb y c) x xs e ∙ ap (onto_first x) (more (omega (arith, rw e at h)))
+
+none_split : (c : ℕ) (bs : List ℕ) → prefix_len (λ y. not (eqb y c)) bs ≡ length bs → slice_split (λ y. eqb y c) bs ≡ bs ∷ []
+none_split c [] h = refl
+none_split c (x ∷ xs) h = none_step x c xs (eqb x c) refl h (none_split c xs)
+
+same_value : {A : Type 0} (x y : A) → Some x ≡ Some y → x ≡ y
+same_value x y e = cc
+
+-- A cut parts a text as its first separator does.
+pub parts_some : (c : ℕ) (t a b : List ℕ) → cut_at c t ≡ Some (a, b) → slice_split (λ x. x == c) t ≡ a ∷ slice_split (λ x. x == c) b
+parts_some c t a b e = go (nat_lt (place c t) (length t)) refl e
+  where
+    go : (v : Bool) → nat_lt (place c t) (length t) ≡ v → option_map {U = List ℕ × List ℕ} (λ i. (take i t, drop (i + 1) t)) (cond v (Some (place c t)) None) ≡ Some (a, b) → slice_split (λ x. x == c) t ≡ a ∷ slice_split (λ x. x == c) b
+    go true k h =
+        let both : ◌≡◌ {A = List ℕ × List ℕ} (before_first (λ x. x == c) t, after_first (λ x. x == c) t) (a, b) = same_value _ _ h in
+        slice_split_first (λ x. x == c) t 0 (ltb-true (place c t) (length t) k) ∙ (λ i. (both i).0 ∷ slice_split (λ x. x == c) (both i).1)
+    go false k h = absurd (cc)
+
+pub parts_none : (c : ℕ) (t : List ℕ) → cut_at c t ≡ None → slice_split (λ x. x == c) t ≡ t ∷ []
+parts_none c t e = go (nat_lt (place c t) (length t)) refl e
+  where
+    go : (v : Bool) → nat_lt (place c t) (length t) ≡ v → option_map {U = List ℕ × List ℕ} (λ i. (take i t, drop (i + 1) t)) (cond v (Some (place c t)) None) ≡ None → slice_split (λ x. x == c) t ≡ t ∷ []
+    go true k h = absurd (cc)
+    go false k h = none_split c t (omega (arith, ltb-false (place c t) (length t) k, prefix_len-le-length (λ x. not (x == c)) t))
+
+-- Lines are the parts between line feeds, but for an empty last one.
+abbrev alone : List ℕ → List (List ℕ)
+alone [] = []
+alone (b ∷ l) = (b ∷ l) ∷ []
+
+abbrev lines_in : List ℕ → List (List ℕ) → List (List ℕ)
+lines_in l [] = alone l
+lines_in l (m ∷ ms) = l ∷ lines_in m ms
+
+abbrev but_last : List (List ℕ) → List (List ℕ)
+but_last [] = []
+but_last (l ∷ ls) = lines_in l ls
+
+but_last-cons : (l : List ℕ) (ls : List (List ℕ)) → 0 < length ls → but_last (l ∷ ls) ≡ l ∷ but_last ls
+but_last-cons l [] h = absurd (omega arith)
+but_last-cons l (m ∷ ms) h = refl
+
+but_last-onto : (b : ℕ) (ls : List (List ℕ)) → onto b (but_last ls) ≡ but_last (onto_first b ls)
+but_last-onto b [] = refl
+but_last-onto b ([] ∷ []) = refl
+but_last-onto b ((c ∷ l) ∷ []) = refl
+but_last-onto b (l ∷ m ∷ ms) = refl
+
+has_parts : (t : List ℕ) → 0 < length (slice_split (λ x. x == 10) t)
+has_parts t = omega (arith, length-slice_split (λ x. x == 10) t)
+
+lines_of-parts : (t : List ℕ) → lines_of t ≡ but_last (slice_split (λ x. x == 10) t)
+lines_of-parts [] = refl
+lines_of-parts (b ∷ bs) = elim (b == 10) as (λ v. cond v ([] ∷ lines_of bs) (onto b (lines_of bs)) ≡ but_last (cond v ([] ∷ slice_split (λ x. x == 10) bs) (onto_first b (slice_split (λ x. x == 10) bs)))) [
+  | true ↦ ap (λ ls. [] ∷ ls) (lines_of-parts bs) ∙ sym (but_last-cons [] (slice_split (λ x. x == 10) bs) (has_parts bs))
+  | false ↦ ap (onto b) (lines_of-parts bs) ∙ but_last-onto b (slice_split (λ x. x == 10) bs)
+]
+
+but_last-alone : (t : List ℕ) → 0 < length t → but_last (t ∷ []) ≡ t ∷ []
+but_last-alone [] h = absurd (omega arith)
+but_last-alone (b ∷ t) h = refl
+
+-- the first line ends at the first line feed
+pub file_lines-some : (t l rest line : List ℕ) → cut_at 10 t ≡ Some (l, rest) → line ≡ without_return l → file_lines t ≡ line ∷ file_lines rest
+file_lines-some t l rest line e r =
+    let lines : lines_of t ≡ l ∷ lines_of rest
+    = lines_of-parts t ∙ ap but_last (parts_some 10 t l rest e) ∙ but_last-cons l (slice_split (λ x. x == 10) rest) (has_parts rest) ∙ ap (λ ls. l ∷ ls) (sym (lines_of-parts rest)) in
+    ap (map without_return) lines ∙ ap (λ m. m ∷ file_lines rest) (sym r)
+
+-- or at the end of the text
+pub file_lines-last : (t line rest : List ℕ) → 0 < length t → cut_at 10 t ≡ None → line ≡ without_return t → rest ≡ [] → file_lines t ≡ line ∷ file_lines rest
+file_lines-last t line rest some e r s =
+    let lines : lines_of t ≡ t ∷ [] = lines_of-parts t ∙ ap but_last (parts_none 10 t e) ∙ but_last-alone t some in
+    ap (map without_return) lines ∙ (λ i. sym r i ∷ file_lines (sym s i))

@@ -1,0 +1,4 @@
+pub mod Cutting
+mod Digits
+mod Splitting
+pub mod WordCounts

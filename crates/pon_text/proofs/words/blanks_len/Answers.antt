@@ -1,0 +1,16 @@
+use Rattle.std.proofs.Common.{not}
+use Rattle.pon_text.specs.Lines.{is_blank}
+use Rattle.pon_units.proofs.Lists.{position-Some_or_len, position-Some_within, position-None_or_len}
+use Rattle.pon_text.proofs.words.blanks_len.Goals as goal
+
+pub returns-in-Some-clause-len : goal.returns-in-Some-clause-len
+returns-in-Some-clause-len c =
+    position-Some_or_len (λ b. not (is_blank b)) c.args.text.now c.first_of_word.result c.in-Some.len c.first_of_word.ensures c.in-Some.is
+
+pub returns-in-None-clause-len : goal.returns-in-None-clause-len
+returns-in-None-clause-len c =
+    position-None_or_len (λ b. not (is_blank b)) c.args.text.now c.first_of_word.result c.first_of_word.ensures c.in-None.is
+
+pub returns-in-Some-clause-within : goal.returns-in-Some-clause-within
+returns-in-Some-clause-within c =
+    position-Some_within (λ b. not (is_blank b)) c.args.text.now c.first_of_word.result c.in-Some.len c.first_of_word.ensures c.in-Some.is
