@@ -1,0 +1,2 @@
+pub mod DeviceBytes
+pub mod ReadCounts

@@ -1,0 +1,13 @@
+//! Texts read whole from a device, and texts written whole to one, with what a contract says of each.
+//!
+//! A fault is told only if a device failed, memory was refused or 2^64 - 1 reads were made. A read never gives a part of an
+//! input as the whole, and a failed write leaves a beginning of the text.
+#![tactic(auto)]
+
+mod fault;
+mod reading;
+mod writing;
+
+pub use fault::PlanFault;
+pub use reading::{next_byte, read_all};
+pub use writing::write_text;

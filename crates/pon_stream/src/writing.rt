@@ -1,0 +1,22 @@
+//! Whole texts written to a device.
+
+ghost use Rattle.pon_stream.specs.Streams.{TellsLine, TellsWrite};
+
+use crate::fault::PlanFault;
+use pon_units::dev::{DevWrite, write_all};
+
+/// Writes a text, and flushes the writer.
+///
+/// `Write` if the writer fails: a beginning of the text is written then, or all of it if only the flush fails.
+pub fn write_text<W: DevWrite>(writer: &mut W, text: &[u8]) -> Result<(), PlanFault>
+    ensures text { TellsLine text.now (W.contents writer.old) (W.contents writer.new) result }
+    ensures write { TellsWrite (W.failures writer.old) (W.failures writer.new) result }
+{
+    match write_all(writer, text) {
+        Ok(()) => match writer.flush() {
+            Ok(()) => Ok(()),
+            Err(_) => Err(PlanFault::Write),
+        },
+        Err(_) => Err(PlanFault::Write),
+    }
+}
