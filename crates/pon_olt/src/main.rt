@@ -1,48 +1,47 @@
 //! `olt`: the upstream bandwidth scheduler of an XG-PON optical line terminal, as a program.
 //!
-//! Management lines come in, and the reply or the refusal of each goes out. What is written is a stated function of what
-//! is read ([`lines::plan`]). The program adds the command line, the standard streams and the exit status.
+//! Management lines come in, and the reply or the refusal of each goes out ([`plan`]); a check file is judged
+//! ([`check_file`]). The program adds the standard streams, the files and the exit status.
 #![tactic(auto)]
 
-mod answer;
-pub mod arguments;
-pub mod check_file;
-mod check_lines;
-mod check_set;
-mod command;
-mod fault;
-mod fields;
-pub mod laws;
-pub mod lines;
-mod occupancies;
-mod parse;
-mod reading;
-mod step;
-pub mod task;
-mod words;
+ghost use Rattle.std.specs.Prelude.{◌≡◌};
 
-use arguments::job;
-use check_file::check_file;
-use clap::error::ErrorKind;
-pub use fault::LineFault;
-use lines::{PlanEnd, PlanFault, plan};
+use clap::Error;
+pub use pon_check_file::check_file;
+pub use pon_job::job;
+use pon_job::{Job, Outcome, exit_status, outcome_of_check, outcome_of_run, outcome_of_words};
+use pon_manage::PlanEnd;
+pub use pon_manage::{PlanFault, plan};
 use pon_port::PortCfg;
 use pon_units::dev::{StdRead, StdWrite};
 use pon_units::{FrameNo, Gap, Profile};
-pub use reading::{Reading, long_lines, read_line};
 use std::alloc::Global;
 use std::fs;
 use std::io::{self, BufReader};
 use std::process::ExitCode;
 use std::rt::Files;
-pub use step::Step;
-use task::Job;
 
-// The port that is opened without settings: gap 16, profile 0, first frame 0.
-fn only_port() -> (PortCfg, FrameNo) {
-    let gap = Gap::new(16).unwrap();
-    let profile = Profile::new(0).unwrap();
-    (PortCfg { gap, profile }, FrameNo::new(0))
+/// The gap before each burst of the port that is opened without settings, in words.
+const GAP_WITHOUT_SETTINGS: u16 = 16;
+
+/// The burst profile of that port.
+const PROFILE_WITHOUT_SETTINGS: u8 = 0;
+
+/// The first frame of that port.
+const FRAME_WITHOUT_SETTINGS: u64 = 0;
+
+// The port that is opened without settings.
+fn only_port() -> (PortCfg, FrameNo)
+    ensures gap { result.0.gap ≡ GAP_WITHOUT_SETTINGS }
+    ensures profile { result.0.profile ≡ PROFILE_WITHOUT_SETTINGS }
+    ensures frame { result.1 ≡ FRAME_WITHOUT_SETTINGS }
+{
+    let gap = Gap::new(GAP_WITHOUT_SETTINGS).unwrap();
+    let profile = Profile::new(PROFILE_WITHOUT_SETTINGS).unwrap();
+    (
+        PortCfg { gap, profile },
+        FrameNo::new(FRAME_WITHOUT_SETTINGS),
+    )
 }
 
 // Answers the lines of standard input.
@@ -69,38 +68,49 @@ fn judge_file<R: Files + Print>(rt: &R, alloc: Global, name: &str) -> Result<boo
     check_file(alloc, &mut reader, &mut writer)
 }
 
-fn run(rt: &HostRuntime, words: &[String]) -> ExitCode {
-    match job(rt.alloc(), words) {
-        Ok(Job::Plan) => match plan_lines(rt, rt.alloc()) {
-            Ok(PlanEnd) => ExitCode::SUCCESS,
-            Err(fault) => fail(rt, fault),
-        },
-        Ok(Job::Check { file }) => match judge_file(rt, rt.alloc(), file) {
-            Ok(true) => ExitCode::SUCCESS,
-            Ok(false) => ExitCode::from(1),
-            Err(fault) => fail(rt, fault),
-        },
-        Err(error) if matches!(error.kind(), ErrorKind::OutOfMemory) => {
-            fail(rt, PlanFault::Memory)
-        }
-        Err(error) => {
-            let _ = error.print(rt);
-            ExitCode::from(error.exit_code() as u8)
-        }
+// Prints what clap says of the words. Help and version that cannot be written are a failed write.
+fn show(rt: &HostRuntime, error: &Error) -> Outcome {
+    let outcome = outcome_of_words(error);
+    if let Outcome::Failed(_) = outcome {
+        return outcome;
+    }
+    match error.print(rt) {
+        Err(_) if outcome == Outcome::Done => Outcome::Failed(PlanFault::Write),
+        _ => outcome,
     }
 }
 
-fn fail(rt: &impl Eprint, fault: PlanFault) -> ExitCode {
-    let _ = eprintln!(rt; "olt: {fault}");
-    ExitCode::from(3)
+fn run(rt: &HostRuntime, words: &[String]) -> Outcome {
+    match job(rt.alloc(), words) {
+        Ok(Job::Plan) => outcome_of_run(plan_lines(rt, rt.alloc())),
+        Ok(Job::Check { file }) => outcome_of_check(judge_file(rt, rt.alloc(), file)),
+        Err(error) => show(rt, &error),
+    }
+}
+
+// The outcome where the words cannot be read: a word is not UTF-8, or memory was refused.
+fn without_words(rt: &impl Eprint, error: &io::Error) -> Outcome {
+    if error.kind() != io::ErrorKind::InvalidData {
+        return Outcome::Failed(PlanFault::Memory);
+    }
+    let _ = eprintln!(rt; "error: a word of the command line is not UTF-8");
+    Outcome::CommandLine
+}
+
+fn end(rt: &impl Eprint, outcome: Outcome) -> ExitCode {
+    if let Outcome::Failed(fault) = outcome {
+        let _ = eprintln!(rt; "olt: {fault}");
+    }
+    ExitCode::from(exit_status(outcome))
 }
 
 fn main(rt: HostRuntime) -> ExitCode {
-    let Ok(args) = std::env::args(&rt) else {
-        return fail(&rt, PlanFault::Memory);
+    let args = match std::env::args(&rt) {
+        Ok(args) => args,
+        Err(error) => return end(&rt, without_words(&rt, &error)),
     };
     match args.collect::<Vec<String>>(rt.alloc()) {
-        Ok(words) => run(&rt, words.as_slice()),
-        Err(_) => fail(&rt, PlanFault::Memory),
+        Ok(words) => end(&rt, run(&rt, words.as_slice())),
+        Err(_) => end(&rt, Outcome::Failed(PlanFault::Memory)),
     }
 }
