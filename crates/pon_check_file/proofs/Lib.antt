@@ -1,0 +1,4 @@
+mod FileAnswers
+mod ItemRows
+mod NamedItems
+mod Naming

@@ -1,0 +1,107 @@
+-- What a check file spells, the first of its lines that does not fit, and its answer.
+use Rattle.std.specs.Prelude.{◌≡◌, ℕ, suc, ◌+◌, Bool, true, false, List, [], ◌∷◌, ◌++◌, length, take, drop, codes, decimal, Option, Some, None, Result, Ok, Err}
+use Rattle.pon_units.specs.Device.{Appends, Consumes, IsAtEnd}
+use Rattle.pon_cert.specs.Problem.{IsProblem, IsFairest}
+use Rattle.pon_cert.specs.Certificate.{IsCertificate, spelled}
+use Rattle.pon_cert.specs.declared.problem.Item.{Item}
+use Rattle.pon_cert.specs.declared.cert.ClassCert.{ClassCert}
+use Rattle.pon_check.specs.Faults.{IsFirstFault, fault_text}
+use Rattle.pon_check.specs.declared.fault.CertFault.{CertFault}
+use Rattle.pon_text.specs.Lines.{file_lines}
+use Rattle.pon_stream.specs.Streams.{IsBeginning}
+use Rattle.pon_stream.specs.declared.fault.PlanFault.{PlanFault}
+use Rattle.pon_stream.specs.declared.fault.PlanFault.TheVariants.{Read, Write, Memory}
+use Rattle.pon_check_file.specs.CheckLines.{surplus_of, item_of, level_of, flags_of}
+use Rattle.pon_check_file.specs.declared.parse.TheConstants.{MOST_ITEMS}
+use Rattle.pon_check_file.specs.declared.parse.Parsed.{Parsed}
+use Rattle.pon_check_file.specs.declared.parse.Parsed.TheVariants as parsed
+
+-- a problem, and what is said to be its certificate
+pub record Filed : Type 0 where
+  pub surplus : ℕ
+  pub items : List Item
+  pub cert : ClassCert
+
+-- what is read on behind a line that fits, or the number of the first that does not
+infixl 10 ◌>>=◌
+abbrev pub ◌>>=◌ : {A B : Type 0} → Result A ℕ → (A → Result B ℕ) → Result B ℕ
+(Ok x) >>= f = f x
+(Err n) >>= f = Err n
+
+-- what the first of some lines spells
+abbrev pub first_spells : {T : Type 0} → (List ℕ → Option T) → List (List ℕ) → Option T
+first_spells read [] = None
+first_spells read (l ∷ ls) = read l
+
+-- line n has to spell something
+abbrev pub on_line : {T : Type 0} → ℕ → Option T → Result T ℕ
+on_line n None = Err n
+on_line n (Some x) = Ok x
+
+-- the items that lines in a row spell, from the first line on, and at most the first MOST_ITEMS of them
+abbrev pub and_others : Option Item → List Item → List Item
+and_others None is = []
+and_others (Some i) is = i ∷ is
+
+abbrev pub items_in_row : List (List ℕ) → List Item
+items_in_row [] = []
+items_in_row (l ∷ ls) = and_others (item_of l) (items_in_row ls)
+
+abbrev pub items_of : List (List ℕ) → List Item
+items_of ls = take MOST_ITEMS (items_in_row ls)
+
+-- the number of the first line that is not empty, where line n is the first of them
+abbrev pub are_empty : ℕ → List (List ℕ) → Result (Unit {0}) ℕ
+are_empty n [] = Ok tt
+are_empty n ([] ∷ ls) = are_empty (suc n) ls
+are_empty n ((b ∷ l) ∷ ls) = Err n
+
+-- what the lines behind the items spell
+unfoldable pub file_with : ℕ → List Item → List (List ℕ) → Result Filed ℕ
+file_with surplus items ls = do
+  level ← on_line (length items + 2) (first_spells level_of ls)
+  flags ← on_line (length items + 3) (first_spells (flags_of (length items)) (drop 1 ls))
+  end ← are_empty (length items + 4) (drop 2 ls)
+  Ok (record { surplus = surplus; items = items; cert = record { level = level; saturated = flags } })
+
+-- what the lines of a file spell, or the number of the first that does not fit, counted from 1
+unfoldable pub file_of : List (List ℕ) → Result Filed ℕ
+file_of ls = do
+  surplus ← on_line 1 (first_spells surplus_of ls)
+  file_with surplus (items_of (drop 1 ls)) (drop (length (items_of (drop 1 ls))) (drop 1 ls))
+
+-- so it was read; the problem is one of a class
+abbrev pub IsParsed : Result Filed ℕ → Parsed → Type 0
+IsParsed file (parsed.File f) =
+    (file ≡ Ok (record { surplus = f.surplus; items = f.items.items; cert = f.cert })) × IsProblem f.items.items f.surplus
+IsParsed file (parsed.Syntax line) = file ≡ Err line
+
+-- the answer line of a file: yes for a certificate, which spells the fairest share, or why not; 10 is the line feed
+abbrev pub IsAnswer : Result Filed ℕ → Bool → List ℕ → Type 0
+IsAnswer (Err line) accepted text = (accepted ≡ false) × (text ≡ codes "no Syntax " ++ decimal line ++ 10 ∷ [])
+IsAnswer (Ok f) true text =
+    IsCertificate f.items f.surplus f.cert × IsFairest f.items f.surplus (spelled f.items f.cert) × (text ≡ codes "yes" ++ 10 ∷ [])
+IsAnswer (Ok f) false text =
+    (fault : CertFault) × IsFirstFault f.items f.surplus f.cert fault × (text ≡ codes "no " ++ fault_text fault ++ 10 ∷ [])
+
+-- what is written for what was read, by how it ended
+abbrev pub IsChecked : List ℕ → List ℕ → Result Bool PlanFault → Type 0
+IsChecked input written (Ok accepted) = IsAnswer (file_of (file_lines input)) accepted written
+IsChecked input written (Err Read) = written ≡ []
+IsChecked input written (Err Memory) = written ≡ []
+IsChecked input written (Err Write) = (accepted : Bool) × (text : List ℕ) × IsAnswer (file_of (file_lines input)) accepted text × IsBeginning written text
+
+-- some bytes were read, and a line was written for them
+pub record Checked (left_old left_new held_old held_new : Option (List ℕ)) (result : Result Bool PlanFault) : Type 0 where
+  pub input : List ℕ
+  pub written : List ℕ
+  pub read : Consumes left_old left_new input
+  pub wrote : Appends held_old held_new written
+  pub text : IsChecked input written result
+
+-- all is read where something is written
+abbrev pub ReadsToEnd : Option (List ℕ) → Result Bool PlanFault → Type 0
+ReadsToEnd left (Ok accepted) = IsAtEnd left
+ReadsToEnd left (Err Write) = IsAtEnd left
+ReadsToEnd left (Err Read) = Unit {0}
+ReadsToEnd left (Err Memory) = Unit {0}

@@ -1,0 +1,2 @@
+pub mod CheckFiles
+pub mod CheckLines

@@ -1,0 +1,107 @@
+//! The answer to a check file.
+
+ghost use Rattle.std.specs.Prelude.{◌≡◌, ◌∷◌, ◌++◌, [], Ok, IfOk, codes, decimal, string_bytes};
+ghost use Rattle.pon_cert.specs.Problem.{IsProblem};
+ghost use Rattle.pon_check.specs.Faults.{fault_text};
+ghost use Rattle.pon_text.specs.Lines.{file_lines};
+ghost use Rattle.pon_stream.specs.Streams.{TellsRead, TellsWrite};
+ghost use Rattle.pon_check_file.specs.CheckFiles.{Checked, IsAnswer, ReadsToEnd, file_of};
+
+use crate::parse::{CheckFile, Parsed, parse};
+use pon_check::{CertFault, check_class};
+use pon_stream::{PlanFault, read_all, write_text};
+use pon_units::dev::{DevRead, DevWrite};
+use std::alloc::{AllocError, Global};
+
+#[cfg(test)]
+mod tests;
+
+// Whether a file is accepted, and its answer line.
+#[derive(Drop)]
+struct Answer {
+    accepted: bool,
+    line: String,
+}
+
+fn syntax_line(alloc: Global, line: u64) -> Result<String, AllocError>
+    ensures { IfOk result (λ text. string_bytes text ≡ codes "no Syntax " ++ decimal line ++ 10 ∷ []) }
+{
+    format!(in alloc; "no Syntax {line}\n")
+}
+
+fn fault_line(alloc: Global, fault: CertFault) -> Result<String, AllocError>
+    ensures { IfOk result (λ text. string_bytes text ≡ codes "no " ++ fault_text fault ++ 10 ∷ []) }
+{
+    format!(in alloc; "no {fault}\n")
+}
+
+fn yes_line(alloc: Global) -> Result<String, AllocError>
+    ensures { IfOk result (λ text. string_bytes text ≡ codes "yes" ++ 10 ∷ []) }
+{
+    format!(in alloc; "yes\n")
+}
+
+// The answer to a problem and a certificate.
+fn judge(alloc: Global, file: &CheckFile) -> Result<Answer, AllocError>
+    requires { IsProblem file.now.items.items file.now.surplus }
+    ensures { IfOk result (λ a. IsAnswer (Ok (record { surplus = file.now.surplus; items = file.now.items.items; cert = file.now.cert })) a.accepted (string_bytes a.line)) }
+{
+    match check_class(&file.items, file.surplus, &file.cert) {
+        Ok(()) => Ok(Answer {
+            accepted: true,
+            line: yes_line(alloc)?,
+        }),
+        Err(fault) => Ok(Answer {
+            accepted: false,
+            line: fault_line(alloc, fault)?,
+        }),
+    }
+}
+
+// The answer to the text of a file.
+fn answer_of(alloc: Global, text: &[u8]) -> Result<Answer, AllocError>
+    ensures { IfOk result (λ a. IsAnswer (file_of (file_lines text.now)) a.accepted (string_bytes a.line)) }
+{
+    match parse(alloc, text)? {
+        Parsed::File(file) => judge(alloc, &file),
+        Parsed::Syntax(line) => Ok(Answer {
+            accepted: false,
+            line: syntax_line(alloc, line)?,
+        }),
+    }
+}
+
+/// Reads a check file to the end of the input, and writes its answer: whether its certificate is that of its items and its
+/// surplus, or why not. Returns `true` exactly for the answer `yes`.
+///
+/// The answer is one line: `yes`; `no` with the first fault of the certificate, as [`CertFault`] prints it; or `no Syntax`
+/// with the number, counted from 1, of the first line that does not fit. A file is the line `surplus <S>`, at most 512 lines
+/// `item <weight> <cap>`, a line `level all` or `level <p>/<q>`, a line `saturated -` or `saturated <i>,<j>,..`, and then
+/// only empty lines. Rates are in kbit/s, 0 to 2,488,320; a weight is 1 to 2,488,320; the saturated items are named by their
+/// indexes, counted from 0, in rising order.
+///
+/// `Read` if the reader fails or 2^64 - 1 reads do not reach the end, and `Memory` if memory is refused: nothing is written.
+/// `Write` if the writer fails: a beginning of the answer is written. The writer is flushed once, after the answer.
+pub fn check_file<R: DevRead, W: DevWrite>(
+    alloc: Global,
+    reader: &mut R,
+    writer: &mut W,
+) -> Result<bool, PlanFault>
+    ensures text { Checked (R.remaining reader.old) (R.remaining reader.new) (W.contents writer.old) (W.contents writer.new) result }
+    ensures end { ReadsToEnd (R.remaining reader.new) result }
+    ensures read { TellsRead (R.calls reader.old) (R.calls reader.new) (R.failures reader.old) (R.failures reader.new) result }
+    ensures write { TellsWrite (W.failures writer.old) (W.failures writer.new) result }
+{
+    let text = match read_all(alloc, reader) {
+        Ok(text) => text,
+        Err(fault) => return Err(fault),
+    };
+    let answer = match answer_of(alloc, text.as_slice()) {
+        Ok(answer) => answer,
+        Err(_) => return Err(PlanFault::Memory),
+    };
+    match write_text(writer, answer.line.as_bytes()) {
+        Ok(()) => Ok(answer.accepted),
+        Err(fault) => Err(fault),
+    }
+}
