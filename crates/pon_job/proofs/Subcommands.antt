@@ -1,0 +1,35 @@
+-- The subcommand that clap matched, with what it matched of its arguments.
+use Rattle.std.proofs.Common.{◌≡◌, ℕ, List, refl, sym, ap, ◌∙◌, true, Option, Some, None}
+use Rattle.std.specs.Prelude.{option_map, codes}
+use Rattle.std.specs.Borrow.{Bor}
+use Rattle.std.specs.Box.{box_value}
+use Rattle.std.specs.Str.{bytes_eq}
+use Rattle.std.proofs.lemmas.Slice.Eq.{bytes_eq-Decides}
+use Rattle.clap.specs.Words.{subcommand_rows_of, rows_of}
+use Rattle.clap.specs.Walk.{Row, first_of}
+use Rattle.clap.specs.Matches.{found_of, first_value, subcommand_name_of}
+use Rattle.clap.specs.Simple.{subcommand_rows}
+use Rattle.clap.specs.declared.parser.matches.ArgMatches.{ArgMatches}
+use Rattle.clap.specs.declared.parser.matches.ArgMatches.TheViews.{out-ArgMatches, out-SubCommand}
+use Rattle.clap.proofs.WalkLemmas.{first_value-rows}
+use Rattle.pon_job.specs.Jobs.{IsJob}
+use Rattle.pon_job.specs.declared.task.Job.TheVariants.{Check}
+
+name_of_rows : (m : ArgMatches) → option_map (λ p. p.0) (subcommand_rows_of m) ≡ subcommand_name_of m
+name_of_rows m = elim (out-ArgMatches m).subcommand as (λ o. option_map (λ p. p.0) (subcommand_rows o) ≡ option_map (λ b. (out-SubCommand (box_value b)).name.now) o) [
+  | None ↦ refl
+  | Some b ↦ refl
+]
+
+by_rows : (r : Option (List ℕ × List Row)) (name : List ℕ) (rows : List Row) (file : Bor (List ℕ)) → Some name ≡ option_map (λ p. p.0) r → Some rows ≡ option_map (λ p. p.1) r → name ≡ codes "check" → Some file.now ≡ first_of (codes "file") rows → IsJob r (Check file)
+by_rows None name rows file n e check first = absurd (cc)
+by_rows (Some met) name rows file n e check first =
+    let same_name : name ≡ met.0 = cc in
+    let same_rows : rows ≡ met.1 = cc in
+    (sym same_name ∙ check, sym (first ∙ ap (first_of (codes "file")) same_rows))
+
+-- `check` with the file that was matched
+pub check_met : (m found : ArgMatches) (name : List ℕ) (file : Bor (List ℕ)) → Some name ≡ subcommand_name_of m → Some (rows_of (found_of found)) ≡ option_map (λ p. p.1) (subcommand_rows_of m) →
+    bytes_eq name (codes "check") ≡ true → Some file.now ≡ first_value (found_of found) (codes "file") → IsJob (subcommand_rows_of m) (Check file)
+check_met m found name file n r check first =
+    by_rows (subcommand_rows_of m) name (rows_of (found_of found)) file (n ∙ sym (name_of_rows m)) r ((bytes_eq-Decides name (codes "check")).0 check) (first ∙ first_value-rows (found_of found) (codes "file"))

@@ -1,0 +1,29 @@
+-- The jobs of the program, by the words of its command line.
+use Rattle.std.specs.Prelude.{◌≡◌, ℕ, List, [], ◌∷◌, codes, Option, Some, None, true}
+use Rattle.clap.specs.Walk.{Row, Rule, first_of}
+use Rattle.clap.specs.Simple.{App, Shape, new_shape, new_rule, with_subcommand}
+use Rattle.pon_job.specs.declared.task.Job.{Job}
+use Rattle.pon_job.specs.declared.task.Job.TheVariants.{Plan, Check}
+
+-- the one word of `check`, which it needs
+abbrev pub file_rule : Rule
+file_rule = record (new_rule (codes "file")) { value_names = 1; required = true }
+
+abbrev pub plan_shape : Shape
+plan_shape = new_shape (codes "plan")
+
+abbrev pub check_shape : Shape
+check_shape = record (new_shape (codes "check")) { rules = file_rule ∷ [] }
+
+abbrev pub top_shape : Shape
+top_shape = record (new_shape (codes "olt")) { has_version = true; subcommand_required = true; arg_required_else_help = true }
+
+-- the command line that the program has
+abbrev pub olt_app : App
+olt_app = with_subcommand (with_subcommand (record { top = top_shape; subs = [] }) plan_shape) check_shape
+
+-- `plan` answers management lines, and `check` judges the file that its word names
+abbrev pub IsJob : Option (List ℕ × List Row) → Job → Type 0
+IsJob None job = ⊥
+IsJob (Some met) Plan = met.0 ≡ codes "plan"
+IsJob (Some met) (Check file) = (met.0 ≡ codes "check") × (first_of (codes "file") met.1 ≡ Some file.now)

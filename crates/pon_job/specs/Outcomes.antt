@@ -1,0 +1,35 @@
+-- How a run of the program ends, and its exit status.
+use Rattle.std.specs.Prelude.{ℕ, Bool, true, false, Result, Ok, Err}
+use Rattle.clap.specs.declared.error.kind.ErrorKind.{ErrorKind}
+use Rattle.clap.specs.declared.error.kind.ErrorKind.TheVariants.{DisplayHelp, DisplayVersion, OutOfMemory}
+use Rattle.pon_stream.specs.declared.fault.PlanFault.{PlanFault}
+use Rattle.pon_stream.specs.declared.fault.PlanFault.TheVariants.{Memory}
+use Rattle.pon_job.specs.declared.outcome.Outcome.{Outcome}
+use Rattle.pon_job.specs.declared.outcome.Outcome.TheVariants.{Done, Refused, CommandLine, Settings, Failed}
+
+-- The exit status is 0 if the job is done, 1 if a check or an audit refused, 2 if the command line or the settings are
+-- refused, and 3 if a device failed or memory was refused.
+abbrev pub exit_status : Outcome → ℕ
+exit_status Done = 0
+exit_status Refused = 1
+exit_status CommandLine = 2
+exit_status Settings = 2
+exit_status (Failed fault) = 3
+
+-- a job without a verdict is done, or has failed
+abbrev pub outcome_of_run : {T : Type 0} → Result T PlanFault → Outcome
+outcome_of_run (Ok end) = Done
+outcome_of_run (Err fault) = Failed fault
+
+-- a check says yes or no, or has failed
+abbrev pub outcome_of_check : Result Bool PlanFault → Outcome
+outcome_of_check (Ok true) = Done
+outcome_of_check (Ok false) = Refused
+outcome_of_check (Err fault) = Failed fault
+
+-- help and the version are shown; any other error refuses the words, unless memory was refused
+abbrev pub outcome_of_words : ErrorKind → Outcome
+outcome_of_words DisplayHelp = Done
+outcome_of_words DisplayVersion = Done
+outcome_of_words OutOfMemory = Failed Memory
+outcome_of_words _ = CommandLine

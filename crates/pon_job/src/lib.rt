@@ -1,0 +1,13 @@
+//! The command line of the program `olt`, and its exit status: which job the words name, how a run ended, and the number
+//! that says so.
+//!
+//! Nothing here does a job, prints a text or ends a process.
+#![tactic(auto)]
+
+mod arguments;
+mod outcome;
+mod task;
+
+pub use arguments::job;
+pub use outcome::{Outcome, exit_status, outcome_of_check, outcome_of_run, outcome_of_words};
+pub use task::Job;
