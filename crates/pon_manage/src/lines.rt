@@ -14,9 +14,6 @@ use pon_units::FrameNo;
 use pon_units::dev::{DevRead, DevWrite, write_all};
 use std::alloc::Global;
 
-#[cfg(test)]
-mod tests;
-
 /// The input ended, and all of its text is written.
 #[derive(Clone, Copy, Debug, PartialEq, Eq)]
 pub struct PlanEnd;

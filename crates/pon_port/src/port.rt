@@ -207,5 +207,3 @@ impl Port {
     }
 }
 
-#[cfg(test)]
-mod tests;

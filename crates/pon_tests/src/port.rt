@@ -1,8 +1,10 @@
 // A port under its events, with ample memory.
-use super::*;
 use pon_bwmap::Alloc;
-use pon_descr::Class;
-use pon_units::{Gap, OnuId, Profile};
+use pon_descr::{Class, Descriptor, Refusal};
+use pon_event::Event;
+use pon_port::{MadeMap, Port, PortCfg, Reply};
+use pon_units::{AllocId, FrameNo, Gap, OnuId, Profile};
+use std::alloc::Global;
 use std::process::Abort;
 
 mod reports;

@@ -1,8 +1,10 @@
 ghost use Rattle.std.specs.Prelude.{◌<◌, ◌≤◌};
 
-use super::*;
+use pon_manage::{PlanEnd, PlanFault, plan};
+use pon_port::PortCfg;
 use pon_units::dev::{MemRead, MemWrite};
-use pon_units::{Gap, Profile};
+use pon_units::{FrameNo, Gap, Profile};
+use std::alloc::Global;
 use std::test::Fail;
 
 const FIRST_MAP: &[u8] = b"0 admit 5 1024 2560 0 2560 none\n0 map\n";
