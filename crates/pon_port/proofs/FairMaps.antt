@@ -30,7 +30,7 @@ use Rattle.pon_port.specs.declared.reply.Entry.{Entry}
 use Rattle.pon_port.proofs.Dealing.{problem_of, surplus_range}
 use Rattle.pon_port.proofs.LawfulChapters.{admitted_before}
 use Rattle.pon_port.proofs.OneReply.{weighted}
-use Rattle.pon_port.proofs.RosterMaps.{admitted_map_is_sound, window_grants}
+use Rattle.pon_port.proofs.RosterMaps.{admitted_map_is_sound, guaranteed_fits, window_grants}
 use Rattle.pon_port.proofs.Surplus.{flags_each}
 
 -- The rates of a class.
@@ -83,6 +83,7 @@ module _ (s : State) (k : IsAdmitted rule_in_force s.gap s.roster) where
   fair_map made m =
       record {
         frame = m.frame;
+        guaranteed = guaranteed_fits s rule_in_force k;
         certificate = m.certified;
         only_non_assured = λ other h. one_certificate (items NonAssured s) (surplus rule_in_force s) other made.cert.na (weighted s k NonAssured refl) h m.certified.non_assured;
         only_best_effort = λ other h. one_certificate (items BestEffort s) (best_effort_surplus s made.cert) other made.cert.be (weighted s k BestEffort refl) h m.certified.best_effort;
@@ -100,6 +101,7 @@ module _ (s : State) (k : IsAdmitted rule_in_force s.gap s.roster) where
         bursts = subst (AreSound s.gap) (sym m.map) (admitted_map_is_sound s rule_in_force made.cert k m.certified (omega arith));
         non_assured_problem = problem_of s NonAssured (surplus rule_in_force s) refl k.few_allocs k.in_range (surplus_range s);
         best_effort_problem = problem_of s BestEffort (best_effort_surplus s made.cert) refl k.few_allocs k.in_range (left_within made.cert.na.level (items NonAssured s) (surplus rule_in_force s) (surplus_range s));
+        map = m.map;
       }
 
 -- each map of a lawful chapter is one, of the state before it

@@ -1,16 +1,17 @@
 -- What a map is bought for: guaranteed rates by the reference model, the fairest share of the rest, words that are the
 -- whole parts of these rates, and bursts that do not overlap (ITU-T G.987.3).
-use Rattle.std.specs.Prelude.{ℕ, ◌≡◌, List, map}
+use Rattle.std.specs.Prelude.{ℕ, ◌≡◌, ◌≤◌, ◌*◌, List, map, sum_by}
 use Rattle.pon_units.specs.Fraction.{Fraction}
 use Rattle.pon_burst.specs.Bursts.{AreSound}
 use Rattle.pon_descr.specs.declared.class.Class.TheVariants.{NonAssured, BestEffort}
-use Rattle.pon_admit.specs.Roster.{rule_in_force}
+use Rattle.pon_admit.specs.Roster.{capacity, rule_in_force}
 use Rattle.pon_cert.specs.declared.cert.ClassCert.{ClassCert}
 use Rattle.pon_cert.specs.declared.cert.MapCert.{MapCert}
 use Rattle.pon_cert.specs.Problem.{Assignment, IsFairest, IsProblem}
 use Rattle.pon_cert.specs.Certificate.{IsCertificate, left_surplus, spelled}
 use Rattle.pon_port.specs.State.{State}
-use Rattle.pon_port.specs.Rates.{granted}
+use Rattle.pon_port.specs.Maps.{map_of}
+use Rattle.pon_port.specs.Rates.{granted, guaranteed_rate}
 use Rattle.pon_port.specs.Sharing.{IsCertified, items, members, surplus, surplus_rate}
 use Rattle.pon_port.specs.Replay.{grants_of}
 use Rattle.pon_port.specs.declared.reply.Reply.{Reply}
@@ -40,6 +41,8 @@ rates_of y = map (λ n. record { num = n; den = y.over }) y.amounts
 pub record IsFairMap (s : State) (made : MadeMap) : Type 0 where
   -- it is of the state's next frame
   pub frame : made.frame ≡ s.next
+  -- the guaranteed rates are the reference model's, and fit the capacity: the surplus is what they leave of it
+  pub guaranteed : sum_by (guaranteed_rate s) s.roster ≤ 256 * capacity rule_in_force s.gap s.roster
   -- level and saturated set are accepted for the problem of each class
   pub certificate : IsCertified rule_in_force s made.cert
   -- and neither problem has another certificate
@@ -59,8 +62,11 @@ pub record IsFairMap (s : State) (made : MadeMap) : Type 0 where
   -- the two problems are of the size that a checker takes
   pub non_assured_problem : IsProblem (items NonAssured s) (non_assured_surplus s)
   pub best_effort_problem : IsProblem (items BestEffort s) (best_effort_surplus s made.cert)
+  -- its structures are those of the admitted Alloc-IDs and of no other, each with its ONU's burst, its report asked for
+  -- and the port's profile
+  pub map : made.map ≡ map_of s (surplus_rate s made.cert)
 
--- a map that is told is one
+-- a reply with a map holds a fair map
 abbrev pub TellsFairMap : State → Reply → Type 0
 TellsFairMap s Taken = Unit {0}
 TellsFairMap s (Map made) = IsFairMap s made
