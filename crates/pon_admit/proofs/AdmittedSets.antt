@@ -9,12 +9,14 @@ use Rattle.std.proofs.lemmas.List.Filters.{sum_by-filter_both, length-filter_bot
 use Rattle.std.proofs.lemmas.List.Folds.{list_any-append}
 use Rattle.std.proofs.lemmas.List.Sums.{sum_by-cons}
 use Rattle.pon_descr.specs.Descriptor.{Descriptor, IsLawful, promised}
-use Rattle.pon_units.specs.Distinct.{distinct}
+use Rattle.pon_lists.specs.Distinct.{distinct}
 use Rattle.pon_admit.specs.Roster.{IsAdmitted, IsDistinct, IsInMapOrder, IsInRange, Row, Rule, admit_checks, capacity, change_checks, comes_before, fits, has_alloc, has_onu, longest_series, most_onus, onus_of, overhead, owned, promised_sum, refuses_admit, refuses_change, with_descriptor, with_row, without}
 use Rattle.pon_descr.specs.declared.refusal.Refusal.TheVariants.{AllocTaken, TooManyAllocs, TooManyOnus, SeriesFull, Capacity}
 use Rattle.pon_descr.proofs.Checks.{AreNone, none_refuses, when_none}
-use Rattle.pon_units.proofs.Lists.{count_by-append, sum_by_same, sum_by-map, map-map, map_same}
-use Rattle.pon_units.proofs.Distinct.{bit, count_once, count_once-append, count_once_agree, count_once_known, count_once_split, length-distinct, occurs}
+use Rattle.pon_lists.proofs.Inserted.{rejoined}
+use Rattle.pon_lists.proofs.Order.{in_order-between, in_order-filter}
+use Rattle.pon_lists.proofs.Lists.{All-between, list_any-map, count_by-append, sum_by_same, sum_by-map, map-map, map_same}
+use Rattle.pon_lists.proofs.Distinct.{bit, count_once, count_once-append, count_once_agree, count_once_known, count_once_split, length-distinct, occurs}
 
 -- Map order.
 
@@ -59,42 +61,11 @@ not_before r s h d = elim (cases_order r.onu s.onu) [
 
 -- A list in map order, cut where a row belongs.
 
-none_pass : {X : Type 0} (p : X → Bool) (xs : List X) → All (λ x. p x ≡ false) xs → filter p xs ++ filter (λ x. not (p x)) xs ≡ xs
-none_pass p xs h = (λ i. drops p xs h i ++ keeps p xs h i)
-  where
-    drops : {X : Type 0} (p : X → Bool) (xs : List X) → All (λ x. p x ≡ false) xs → filter p xs ≡ []
-    drops p [] h = refl
-    drops p (x ∷ xs) h = (λ i. cond (All-head (λ x. p x ≡ false) x xs h i) (x ∷ filter p xs) (filter p xs)) ∙ drops p xs (All-tail (λ x. p x ≡ false) x xs h)
-
-    keeps : {X : Type 0} (p : X → Bool) (xs : List X) → All (λ x. p x ≡ false) xs → filter (λ x. not (p x)) xs ≡ xs
-    keeps p [] h = refl
-    keeps p (x ∷ xs) h = (λ i. cond (not (All-head (λ x. p x ≡ false) x xs h i)) (x ∷ filter (λ x. not (p x)) xs) (filter (λ x. not (p x)) xs)) ∙ ap (λ t. x ∷ t) (keeps p xs (All-tail (λ x. p x ≡ false) x xs h))
-
 pub split_in_order : (r : Row) (rows : List Row) → IsInMapOrder rows → filter (λ s. comes_before s r) rows ++ filter (λ s. not (comes_before s r)) rows ≡ rows
-split_in_order r [] h = refl
-split_in_order r (x ∷ rows) h = (elim (comes_before x r) as (λ b. comes_before x r ≡ b →
-    cond b (x ∷ filter (λ s. comes_before s r) rows) (filter (λ s. comes_before s r) rows) ++ cond (not b) (x ∷ filter (λ s. not (comes_before s r)) rows) (filter (λ s. not (comes_before s r)) rows) ≡ x ∷ rows) [
-      | true ↦ λ _. ap (λ t. x ∷ t) (split_in_order r rows h.1)
-      | false ↦ λ e.
-          let later : All (λ s. comes_before s r ≡ false) (x ∷ rows)
-          = All-cons (λ s. comes_before s r ≡ false) x rows e (All-weaker (λ s. comes_before x s ≡ true) (λ s. comes_before s r ≡ false)
-          (λ s k. false_from_ne_true (comes_before s r) (λ t. let u : true ≡ false = sym (before_before x s r k t) ∙ e in absurd cc)) rows h.0) in
-          subst (λ b. cond b (x ∷ filter (λ s. comes_before s r) rows) (filter (λ s. comes_before s r) rows) ++ cond (not b) (x ∷ filter (λ s. not (comes_before s r)) rows) (filter (λ s. not (comes_before s r)) rows) ≡ x ∷ rows) e
-          (none_pass (λ s. comes_before s r) (x ∷ rows) later)
-    ]) refl
+split_in_order r rows h = rejoined (λ s. comes_before s r) (λ x y. comes_before x y ≡ true)
+    (λ x y b e. false_from_ne_true (comes_before y r) (λ t. let u : true ≡ false = sym (before_before x y r b t) ∙ e in absurd cc)) rows h
 
 -- One row more, between the rows that come before it and those that come after.
-
-All-between : {X : Type 0} (P : X → Type 0) (xs ys : List X) (r : X) → All P (xs ++ ys) → P r → All P (xs ++ r ∷ ys)
-All-between P [] ys r h p = All-cons P r ys p h
-All-between P (x ∷ xs) ys r h p = All-cons P x (xs ++ r ∷ ys) (All-head P x (xs ++ ys) h) (All-between P xs ys r (All-tail P x (xs ++ ys) h) p)
-
-order_between : (r : Row) (xs ys : List Row) → IsInMapOrder (xs ++ ys) → All (λ s. comes_before s r ≡ true) xs → All (λ s. comes_before r s ≡ true) ys → IsInMapOrder (xs ++ r ∷ ys)
-order_between r [] ys h before after = (after, h)
-order_between r (x ∷ xs) ys h before after = (
-  All-between (λ s. comes_before x s ≡ true) xs ys r h.0 (All-head (λ s. comes_before s r ≡ true) x xs before),
-  order_between r xs ys h.1 (All-tail (λ s. comes_before s r ≡ true) x xs before) after,
-)
 
 no_alloc_between : (j : ℕ) (r : Row) (xs ys : List Row) → has_alloc j (xs ++ ys) ≡ false → (r.alloc_id == j) ≡ false → has_alloc j (xs ++ r ∷ ys) ≡ false
 no_alloc_between j r [] ys h d = or_from (r.alloc_id == j) (has_alloc j ys) d h
@@ -127,10 +98,6 @@ onus rows = map (λ r. r.onu) rows
 -- how many ONUs own an Alloc-ID
 pub length-onus_of : (rows : List Row) → length (onus_of rows) ≡ count_once (onus rows) (λ _. true)
 length-onus_of rows = length-distinct (onus rows)
-
-pub occurs-onus : (u : ℕ) (rows : List Row) → occurs u (onus rows) ≡ has_onu u rows
-occurs-onus u [] = refl
-occurs-onus u (r ∷ rows) = ap (λ b. (r.onu == u) || b) (occurs-onus u rows)
 
 bit_le : (b : Bool) → bit b ≤ 1
 bit_le true = omega arith
@@ -170,7 +137,7 @@ onus-between xs ys r =
     let same : count_once (onus (xs ++ ys)) (λ _. true) ≡ count_once (onus xs) (λ _. true) + count_once (onus ys) q
     = ap (λ us. count_once us (λ _. true)) (map-append (λ r. r.onu) xs ys) ∙ count_once-append (onus xs) (onus ys) (λ _. true) in
     let owner : has_onu r.onu (xs ++ ys) ≡ (occurs r.onu (onus xs) || occurs r.onu (onus ys))
-    = list_any-append (λ s. s.onu == r.onu) xs ys ∙ (λ i. sym (occurs-onus r.onu xs) i || sym (occurs-onus r.onu ys) i) in
+    = list_any-append (λ s. s.onu == r.onu) xs ys ∙ (λ i. sym (list_any-map (λ u. u == r.onu) (λ s. s.onu) xs) i || sym (list_any-map (λ u. u == r.onu) (λ s. s.onu) ys) i) in
     let new : bit (not (has_onu r.onu (xs ++ ys))) ≡ bit (not (occurs r.onu (onus xs) || occurs r.onu (onus ys))) = ap (λ b. bit (not b)) owner in
     omega (arith, length-onus_of (xs ++ r ∷ ys), length-onus_of (xs ++ ys), more, same, count_once_taken (onus ys) q r.onu, new, bits (occurs r.onu (onus xs)) (occurs r.onu (onus ys)))
   where
@@ -209,13 +176,6 @@ fewer_fit rule gap rows less few_onus few_rows few_promised h =
 -- A row is removed.
 
 module _ (t : Row → Bool) where
-  order_filter : (rows : List Row) → IsInMapOrder rows → IsInMapOrder (filter t rows)
-  order_filter [] h = tt
-  order_filter (r ∷ rows) h = elim (t r) as (λ b. IsInMapOrder (cond b (r ∷ filter t rows) (filter t rows))) [
-    | true ↦ (All-filter t (λ s. comes_before r s ≡ true) rows h.0, order_filter rows h.1)
-    | false ↦ order_filter rows h.1
-  ]
-
   no_alloc_filter : (j : ℕ) (rows : List Row) → has_alloc j rows ≡ false → has_alloc j (filter t rows) ≡ false
   no_alloc_filter j [] h = refl
   no_alloc_filter j (r ∷ rows) h =
@@ -241,7 +201,7 @@ module _ (t : Row → Bool) where
       let shorter : length (filter t rows) ≤ length rows = omega (arith, length-filter_both t (λ r. not (t r)) (λ r. refl) rows) in
       let few : length (onus_of (filter t rows)) ≤ length (onus_of rows) = omega (arith, length-onus_of (filter t rows), length-onus_of rows, onus_filter t rows (λ _. true)) in
       record {
-        in_map_order = order_filter rows k.in_map_order;
+        in_map_order = in_order-filter (λ r s. comes_before r s ≡ true) t rows k.in_map_order;
         apart = apart_filter rows k.apart;
         in_range = All-filter t IsInRange rows k.in_range;
         few_allocs = omega (arith, shorter, k.few_allocs);
@@ -282,7 +242,7 @@ between_admitted rule gap r xs ys p fitting i before after k =
     let longer : length (xs ++ r ∷ ys) ≡ suc (length (xs ++ ys)) = omega (arith, length-append xs (r ∷ ys), length-append xs ys) in
     let free : has_alloc r.alloc_id ys ≡ false = (or_parts (has_alloc r.alloc_id xs) (has_alloc r.alloc_id ys) (sym (list_any-append (λ s. s.alloc_id == r.alloc_id) xs ys) ∙ p.free)).1 in
     record {
-      in_map_order = order_between r xs ys k.in_map_order before (after_row r ys after free);
+      in_map_order = in_order-between (λ r s. comes_before r s ≡ true) r xs ys k.in_map_order before (after_row r ys after free);
       apart = apart_between r xs ys k.apart p.free;
       in_range = All-between IsInRange xs ys r k.in_range i;
       few_allocs = omega (arith, longer, p.few_allocs);

@@ -1,24 +1,20 @@
 -- A set with one row more or one row less, and its sums.
-use Rattle.std.proofs.Common.{◌≡◌, ℕ, zero, suc, ◌+◌, ◌<◌, ◌≤◌, Bool, true, false, cond, not, ◌||◌, List, [], ◌∷◌, ◌++◌, length, take, drop, get_or, set, refl, ap, sym, ◌∙◌, subst, arith, inl, inr}
-use Rattle.std.specs.Prelude.{◌==◌, filter, sum_by, count_by, Some, None, position}
+use Rattle.std.proofs.Common.{◌≡◌, ℕ, suc, ◌+◌, ◌<◌, ◌≤◌, Bool, true, false, cond, not, ◌||◌, List, [], ◌∷◌, ◌++◌, length, take, drop, get_or, set, refl, ap, sym, ◌∙◌, subst, arith, inl, inr}
+use Rattle.std.specs.Prelude.{◌==◌, filter, count_by, Some, None, position}
 use Rattle.std.specs.List.{list_any, insert, remove, prefix_len}
-use Rattle.std.proofs.Math.Seq.{drop-append_seam, drop-cons, take-append_seam}
+use Rattle.std.proofs.Math.Seq.{drop-cons}
 use Rattle.std.proofs.lemmas.Bool.{eqb-true, eq-eqb, lt-ltb, ne_eqb, or_from, or_parts, cases_lt}
 use Rattle.std.proofs.lemmas.Bool.Decides.{eqb_tells}
-use Rattle.std.proofs.lemmas.List.{length-append, map-append, take-append-drop}
-use Rattle.std.proofs.lemmas.List.Elements.{filter-append}
+use Rattle.std.proofs.lemmas.List.{map-append, set_split, take-append-drop}
 use Rattle.std.proofs.lemmas.List.Folds.{list_any-append, list_any_at}
 use Rattle.std.proofs.lemmas.List.Quantifiers.{position-Some}
-use Rattle.std.proofs.lemmas.List.Sums.{length-filter, sum_by-append, sum_by-cons}
+use Rattle.std.proofs.lemmas.List.Sums.{sum_by-cons}
 use Rattle.pon_descr.specs.Descriptor.{Descriptor, promised}
-use Rattle.pon_units.proofs.Distinct.{bit}
+use Rattle.pon_lists.proofs.Distinct.{bit}
+use Rattle.pon_lists.proofs.Inserted.{insert_inserted, length-inserted, sum_by-inserted, without_between}
+use Rattle.pon_lists.proofs.Lists.{sum_by-between}
 use Rattle.pon_admit.specs.Roster.{IsDistinct, IsInMapOrder, Row, comes_before, has_alloc, has_onu, onus_of, owned, promised_sum, with_descriptor, with_row, without}
 use Rattle.pon_admit.proofs.AdmittedSets.{changed, onus-between, split_in_order, with_new}
-
--- What a row adds to a sum.
-
-pub sum_by-between : {X : Type 0} (f : X → ℕ) (xs ys : List X) (x : X) → sum_by f (xs ++ x ∷ ys) ≡ f x + sum_by f (xs ++ ys)
-sum_by-between f xs ys x = omega (arith, sum_by-append f xs (x ∷ ys), sum_by-append f xs ys, sum_by-cons f x ys)
 
 -- What a row adds to the count of ONUs.
 
@@ -37,26 +33,13 @@ not-has_onu u (r ∷ rows) =
 
 -- it goes in behind the rows that come before it
 pub insert_in_order : (r : Row) (rows : List Row) (k : ℕ) → IsInMapOrder rows → k ≡ count_by (λ s. comes_before s r) rows → insert rows k r ≡ with_row r rows
-insert_in_order r rows k order place =
-    let xs : List Row = filter (λ s. comes_before s r) rows in
-    let ys : List Row = filter (λ s. not (comes_before s r)) rows in
-    let e : xs ++ ys ≡ rows = split_in_order r rows order in
-    let behind : k ≡ length xs = place ∙ sym (length-filter (λ s. comes_before s r) rows) in
-    (λ i. take (behind i) (sym e i) ++ r ∷ drop (behind i) (sym e i)) ∙ (λ i. take-append_seam xs ys i ++ r ∷ drop-append_seam xs ys i)
+insert_in_order r rows k order place = insert_inserted (λ s. comes_before s r) r rows (split_in_order r rows order) k place
 
 pub length-with_row : (r : Row) (rows : List Row) → IsInMapOrder rows → length (with_row r rows) ≡ length rows + 1
-length-with_row r rows order =
-    let xs : List Row = filter (λ s. comes_before s r) rows in
-    let ys : List Row = filter (λ s. not (comes_before s r)) rows in
-    let e : length (xs ++ ys) ≡ length rows = ap (λ t. length t) (split_in_order r rows order) in
-    omega (arith, e, length-append xs ys, length-append xs (r ∷ ys))
+length-with_row r rows order = length-inserted (λ s. comes_before s r) r rows (split_in_order r rows order)
 
 pub promised_sum-with_row : (r : Row) (rows : List Row) → IsInMapOrder rows → promised_sum (with_row r rows) ≡ promised_sum rows + promised r.descriptor
-promised_sum-with_row r rows order =
-    let xs : List Row = filter (λ s. comes_before s r) rows in
-    let ys : List Row = filter (λ s. not (comes_before s r)) rows in
-    let e : promised_sum (xs ++ ys) ≡ promised_sum rows = ap promised_sum (split_in_order r rows order) in
-    omega (arith, e, sum_by-between (λ s. promised s.descriptor) xs ys r)
+promised_sum-with_row r rows order = omega (arith, sum_by-inserted (λ s. comes_before s r) r rows (split_in_order r rows order) (λ s. promised s.descriptor))
 
 pub onus-with_row : (r : Row) (rows : List Row) → IsInMapOrder rows → length (onus_of (with_row r rows)) ≡ length (onus_of rows) + bit (owned r.onu rows == 0)
 onus-with_row r rows order =
@@ -114,22 +97,9 @@ others i (y ∷ xs) ys x h e =
 
 -- A row is taken out.
 
-without_none : (i : ℕ) (rows : List Row) → has_alloc i rows ≡ false → without i rows ≡ rows
-without_none i [] h = refl
-without_none i (r ∷ rows) h =
-    let two : ((r.alloc_id == i) ≡ false) × (has_alloc i rows ≡ false) = or_parts (r.alloc_id == i) (has_alloc i rows) h in
-    (λ j. cond (not (two.0 j)) (r ∷ without i rows) (without i rows)) ∙ ap (λ t. r ∷ t) (without_none i rows two.1)
-
-without-between : (i : ℕ) (xs ys : List Row) (x : Row) → has_alloc i (xs ++ ys) ≡ false → x.alloc_id ≡ i → without i (xs ++ x ∷ ys) ≡ xs ++ ys
-without-between i xs ys x h e =
-    let none : without i xs ++ without i ys ≡ xs ++ ys = sym (filter-append (λ r. not (r.alloc_id == i)) xs ys) ∙ without_none i (xs ++ ys) h in
-    filter-append (λ r. not (r.alloc_id == i)) xs (x ∷ ys)
-    ∙ (λ j. without i xs ++ cond (not (eq-eqb x.alloc_id i e j)) (x ∷ without i ys) (without i ys))
-    ∙ none
-
 module _ (i k : ℕ) (x : Row) (rows : List Row) (s : Stands i k x rows) where
   pub remove_found : remove rows k ≡ without i rows
-  remove_found = sym (ap (without i) (sym s.whole) ∙ without-between i (take k rows) (drop (suc k) rows) x (others i (take k rows) (drop (suc k) rows) x (subst IsDistinct (sym s.whole) s.apart) s.here) s.here)
+  remove_found = sym (ap (without i) (sym s.whole) ∙ without_between (λ r. r.alloc_id) i (take k rows) (drop (suc k) rows) x (others i (take k rows) (drop (suc k) rows) x (subst IsDistinct (sym s.whole) s.apart) s.here) s.here)
 
   pub promised_sum-without : promised_sum (without i rows) + promised x.descriptor ≡ promised_sum rows
   promised_sum-without =
@@ -165,11 +135,6 @@ changed-between i d xs ys x h e =
     let two : (has_alloc i xs ≡ false) × (has_alloc i ys ≡ false) = or_parts (has_alloc i xs) (has_alloc i ys) (sym (list_any-append (λ s. s.alloc_id == i) xs ys) ∙ h) in
     map-append (changed i d) xs (x ∷ ys)
     ∙ (λ j. changed_none i d xs two.0 j ++ cond (eq-eqb x.alloc_id i e j) (with_new d x) x ∷ changed_none i d ys two.1 j)
-
-set_split : {X : Type 0} (xs : List X) (k : ℕ) (y : X) → k < length xs → set xs k y ≡ take k xs ++ y ∷ drop (suc k) xs
-set_split [] k y h = absurd (omega (arith, h))
-set_split (x ∷ xs) zero y h = refl
-set_split (x ∷ xs) (suc k) y h = ap (λ t. x ∷ t) (set_split xs k y (omega (arith, h)))
 
 module _ (i k : ℕ) (d : Descriptor) (x : Row) (rows : List Row) (s : Stands i k x rows) where
   split_changed : with_descriptor i d rows ≡ take k rows ++ with_new d x ∷ drop (suc k) rows

@@ -8,17 +8,22 @@ use Rattle.pon_descr.specs.Descriptor.{Descriptor, IsLawful, promised}
 use Rattle.pon_descr.specs.declared.refusal.Refusal.{Refusal}
 use Rattle.pon_descr.specs.declared.refusal.Refusal.TheVariants.{NoSuchAlloc, AllocTaken, TooManyAllocs, TooManyOnus, SeriesFull, Capacity}
 use mir.Val.{bool_byte}
-use Rattle.pon_units.proofs.Distinct.{bit}
-use Rattle.pon_units.specs.Distinct.{distinct}
-use Rattle.pon_admit.specs.Kept.{AreSums, IsKept, sums_fit}
-use Rattle.pon_admit.specs.Roster.{IsAdmitted, IsInRange, Roster, Row, comes_before, fits, has_alloc, has_onu, longest_series, most_onus, onus_of, owned, refuses_admit, refuses_change, refuses_remove, rule_in_force, with_descriptor, with_row, without}
+use Rattle.pon_lists.proofs.Distinct.{bit}
+use Rattle.pon_lists.specs.Distinct.{distinct}
+use Rattle.pon_admit.specs.Kept.{AreSums, IsKept}
+use Rattle.pon_admit.specs.Roster.{sums_fit, IsAdmitted, IsInRange, Roster, Row, comes_before, fits, has_alloc, has_onu, longest_series, most_onus, onus_of, owned, refuses_admit, refuses_change, refuses_remove, rule_in_force, with_descriptor, with_row, without}
 use Rattle.pon_admit.proofs.AdmittedSets.{admit_keeps, change_keeps, changed, onus-changed, remove_keeps, with_new}
 use Rattle.pon_admit.proofs.OneRow.{Stands, insert_in_order, remove_found, set_found, stands, has_alloc-none, has_alloc-some, length-with_row, not-has_onu, onus-with_row, onus-without, promised_sum-changed, promised_sum-with_row, promised_sum-without}
 use Rattle.std.proofs.lemmas.List.{length-map}
 
 -- the sums decide whether a set fits
-fits-sums : (gap n m s : ℕ) (rows : List Row) → AreSums n s rows → m ≡ length rows → fits rule_in_force gap rows ≡ sums_fit gap n m s
-fits-sums gap n m s rows are len = (λ i. sums_fit gap (sym are.onus i) (sym len i) (sym are.promised i))
+fits-sums : (gap n m s : ℕ) (rows : List Row) → AreSums n s rows → m ≡ length rows → fits rule_in_force gap rows ≡ sums_fit rule_in_force gap n m s
+fits-sums gap n m s rows are len = (λ i. sums_fit rule_in_force gap (sym are.onus i) (sym len i) (sym are.promised i))
+
+-- the check of the capacity as the only one
+alone : (b : Bool) → first_of (when (not b) Capacity ∷ []) ≡ when (not b) Capacity
+alone true = refl
+alone false = refl
 
 -- A row is admitted.
 
@@ -93,17 +98,13 @@ module _ {t : Roster} {r : Row} {g n s : ℕ} {rows seen : List Row} {taken : Bo
       ∙ ap (λ b. first_of (when b AllocTaken ∷ when true SeriesFull ∷ when (not (fits rule_in_force g (with_row r rows))) Capacity ∷ [])) free
 
   pub refuses_unfit : taken ≡ false → len < 256 → (new s' : ℕ) → new ≡ bool_byte (owns == 0) → n + new ≤ 128 → owns < 16 → s' ≡ s + promised r.descriptor →
-      (b : Bool) → sums_fit g (n + new) (len + 1) s' ≡ b → refuses_admit rule_in_force t.gap t.rows r ≡ when (not b) Capacity
+      (b : Bool) → sums_fit rule_in_force g (n + new) (len + 1) s' ≡ b → refuses_admit rule_in_force t.gap t.rows r ≡ when (not b) Capacity
   refuses_unfit free few new s' e room short_series more b fitting =
       let longer : len + 1 ≡ length (with_row r rows) = omega (arith, allocs-is, length-with_row r rows h.kept.admitted.in_map_order) in
       by_tests false false false (not b) (short few) (too_many new e ∙ le-ltb 128 (n + new) room) (lt-leb 16 (owned r.onu rows) (omega (arith, short_series, owns-is)))
       (ap not (fits-sums g (n + new) (len + 1) s' (with_row r rows) (sums_here new s' e more) longer ∙ fitting))
       ∙ ap (λ a. first_of (when a AllocTaken ∷ when (not b) Capacity ∷ [])) free
       ∙ alone b
-    where
-      alone : (b : Bool) → first_of (when (not b) Capacity ∷ []) ≡ when (not b) Capacity
-      alone true = refl
-      alone false = refl
 
   pub insert_seen : (k : ℕ) → k ≡ count_by (λ o. comes_before o r) seen → insert t.rows k r ≡ with_row r t.rows
   insert_seen k place = subst (λ u. insert u.rows k r ≡ with_row r u.rows) h.view (insert_in_order r rows k h.kept.admitted.in_map_order (place ∙ ap (λ u. count_by (λ o. comes_before o r) u) h.same))
@@ -160,17 +161,13 @@ module _ {t : Roster} {i g n s : ℕ} {rows : List Row} {k : ℕ} {x : Row} (h :
   pub sums_changed : (d : Descriptor) (s' : ℕ) → s' ≡ s - promised x.descriptor + promised d → AreSums n s' (with_descriptor i d t.rows)
   sums_changed d s' e = subst (λ u. AreSums n s' (with_descriptor i d u.rows)) h.view (changed_here d s' e)
 
-  pub refuses_change-found : (d : Descriptor) (s' len : ℕ) → s' ≡ s - promised x.descriptor + promised d → len ≡ length rows → (b : Bool) → sums_fit g n len s' ≡ b →
+  pub refuses_change-found : (d : Descriptor) (s' len : ℕ) → s' ≡ s - promised x.descriptor + promised d → len ≡ length rows → (b : Bool) → sums_fit rule_in_force g n len s' ≡ b →
       refuses_change rule_in_force t.gap t.rows i d ≡ when (not b) Capacity
   refuses_change-found d s' len e l b fitting =
       let same : fits rule_in_force g (with_descriptor i d rows) ≡ b
       = fits-sums g n len s' (with_descriptor i d rows) (changed_here d s' e) (omega (arith, l, length-map rows (changed i d))) ∙ fitting in
       subst (λ u. refuses_change rule_in_force u.gap u.rows i d ≡ when (not b) Capacity) h.view
       ((λ j. first_of (when (not (has_alloc-some i k x rows h.found j)) NoSuchAlloc ∷ when (not (same j)) Capacity ∷ [])) ∙ alone b)
-    where
-      alone : (b : Bool) → first_of (when (not b) Capacity ∷ []) ≡ when (not b) Capacity
-      alone true = refl
-      alone false = refl
 
   -- It is taken out.
 

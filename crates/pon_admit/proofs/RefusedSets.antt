@@ -6,15 +6,16 @@ use Rattle.pon_descr.specs.Checks.{when, first_of}
 use Rattle.pon_descr.specs.Descriptor.{Descriptor}
 use Rattle.pon_descr.specs.declared.refusal.Refusal.{Refusal}
 use Rattle.pon_descr.specs.declared.refusal.Refusal.TheVariants.{NoSuchAlloc, AllocTaken, TooManyAllocs, TooManyOnus, SeriesFull, Capacity}
-use Rattle.pon_units.proofs.Distinct.{bit}
+use Rattle.pon_lists.proofs.Distinct.{bit}
 use Rattle.pon_admit.specs.Roster.{IsAdmitted, Row, Rule, comes_before, has_alloc, has_onu, longest_series, most_onus, onus_of, owned, refuses_admit, refuses_change, with_descriptor, with_row}
 use Rattle.pon_admit.proofs.AdmittedSets.{split_in_order}
-use Rattle.pon_admit.proofs.OneRow.{length-with_row, not-has_onu, onus-with_row, others, sum_by-between}
+use Rattle.pon_admit.proofs.OneRow.{length-with_row, not-has_onu, onus-with_row, others}
+use Rattle.pon_lists.proofs.Inserted.{sum_by-inserted}
 
 owned-with_row : (rule : Rule) (gap : ℕ) (rows : List Row) (r : Row) → IsAdmitted rule gap rows → owned r.onu (with_row r rows) ≡ 1 + owned r.onu rows
 owned-with_row rule gap rows r k =
-    sum_by-between (λ s. cond (s.onu == r.onu) 1 0) (filter (λ s. comes_before s r) rows) (filter (λ s. not (comes_before s r)) rows) r
-    ∙ (λ i. bit (eq-eqb r.onu r.onu refl i) + owned r.onu (split_in_order r rows k.in_map_order i))
+    sum_by-inserted (λ s. comes_before s r) r rows (split_in_order r rows k.in_map_order) (λ s. cond (s.onu == r.onu) 1 0)
+    ∙ ap (λ b. bit b + owned r.onu rows) (eq-eqb r.onu r.onu refl)
 
 no_check_refuses : (rule : Rule) (gap : ℕ) (rows : List Row) (r : Row) → IsAdmitted rule gap rows → IsAdmitted rule gap (with_row r rows) → refuses_admit rule gap rows r ≡ None
 no_check_refuses rule gap rows r k after =

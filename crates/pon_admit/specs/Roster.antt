@@ -1,8 +1,9 @@
 -- The roster of a port: its admitted Alloc-IDs in map order, and which sets of them are admitted.
-use Rattle.std.specs.Prelude.{ℕ, ◌≡◌, ◌+◌, ◌-◌, ◌*◌, ◌≤◌, Bool, true, false, not, ◌&&◌, ◌||◌, ◌==◌, nat_lt, nat_le, if◌then◌else◌, List, [], ◌∷◌, ◌++◌, map, length, filter, All, sum_by, count_by, Option}
+use Rattle.std.specs.Prelude.{ℕ, ◌≡◌, ◌+◌, ◌-◌, ◌*◌, ◌≤◌, Bool, true, false, not, ◌&&◌, ◌||◌, ◌==◌, nat_lt, nat_le, if◌then◌else◌, List, [], ◌∷◌, map, length, All, sum_by, count_by, Option}
 use Rattle.std.specs.List.{list_any}
 pub use Rattle.pon_admit.specs.declared.row.Row.{Row}
-use Rattle.pon_units.specs.Distinct.{distinct}
+use Rattle.pon_lists.specs.Distinct.{distinct}
+use Rattle.pon_lists.specs.Order.{IsInOrder, with_inserted, without_key}
 use Rattle.pon_descr.specs.Checks.{when, first_of}
 use Rattle.pon_descr.specs.Descriptor.{Descriptor, IsLawful, promised}
 use Rattle.pon_descr.specs.declared.refusal.Refusal.{Refusal}
@@ -41,9 +42,12 @@ most_onus = 128
 abbrev pub longest_series : ℕ
 longest_series = 16
 
--- the words of a frame that gaps, headers, trailers and reports take
+-- the words of a frame that gaps, headers, trailers and reports take, for n ONUs and m Alloc-IDs
+abbrev pub overhead_of : Rule → ℕ → ℕ → ℕ → ℕ
+overhead_of rule gap n m = (gap + 2) * n + rule.overhead_words * m
+
 abbrev pub overhead : Rule → ℕ → List Row → ℕ
-overhead rule gap rows = (gap + 2) * length (onus_of rows) + rule.overhead_words * length rows
+overhead rule gap rows = overhead_of rule gap (length (onus_of rows)) (length rows)
 
 -- the words of a frame that are left for payload
 abbrev pub capacity : Rule → ℕ → List Row → ℕ
@@ -53,9 +57,13 @@ capacity rule gap rows = 9720 - overhead rule gap rows
 abbrev pub promised_sum : List Row → ℕ
 promised_sum rows = sum_by (λ r. promised r.descriptor) rows
 
--- the overhead fits a frame, and the promised rates fit what is left, at 256 kbit/s a word
+-- the overhead of n ONUs and m Alloc-IDs fits a frame, and s kbit/s fit what is left, at 256 kbit/s a word
+abbrev pub sums_fit : Rule → ℕ → ℕ → ℕ → ℕ → Bool
+sums_fit rule gap n m s = nat_le (overhead_of rule gap n m) 9720 && nat_le s (256 * (9720 - overhead_of rule gap n m))
+
+-- the ONUs, the Alloc-IDs and the promised rates of the rows fit a frame
 abbrev pub fits : Rule → ℕ → List Row → Bool
-fits rule gap rows = nat_le (overhead rule gap rows) 9720 && nat_le (promised_sum rows) (256 * capacity rule gap rows)
+fits rule gap rows = sums_fit rule gap (length (onus_of rows)) (length rows) (promised_sum rows)
 
 -- map order: ONUs in rising number, and the Alloc-IDs of an ONU in rising number
 abbrev pub comes_before : Row → Row → Bool
@@ -63,18 +71,17 @@ comes_before r s = nat_lt r.onu s.onu || (r.onu == s.onu && nat_lt r.alloc_id s.
 
 -- the rows with one more in its place
 abbrev pub with_row : Row → List Row → List Row
-with_row r rows = filter (λ s. comes_before s r) rows ++ r ∷ filter (λ s. not (comes_before s r)) rows
+with_row r rows = with_inserted (λ s. comes_before s r) r rows
 
 abbrev pub with_descriptor : ℕ → Descriptor → List Row → List Row
 with_descriptor i d rows = map (λ r. if r.alloc_id == i then record { onu = r.onu; alloc_id = r.alloc_id; descriptor = d } else r) rows
 
 abbrev pub without : ℕ → List Row → List Row
-without i rows = filter (λ r. not (r.alloc_id == i)) rows
+without i rows = without_key (λ r. r.alloc_id) i rows
 
 -- each row comes before all later ones
 abbrev pub IsInMapOrder : List Row → Type 0
-IsInMapOrder [] = Unit {0}
-IsInMapOrder (r ∷ rows) = All (λ s. comes_before r s ≡ true) rows × IsInMapOrder rows
+IsInMapOrder rows = IsInOrder (λ r s. comes_before r s ≡ true) rows
 
 -- no Alloc-ID twice
 abbrev pub IsDistinct : List Row → Type 0

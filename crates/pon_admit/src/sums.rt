@@ -1,6 +1,6 @@
 // The sums that decide whether a set fits a frame.
 ghost use Rattle.std.specs.Prelude.{◌≡◌, ◌≤◌};
-ghost use Rattle.pon_admit.specs.Kept.{overhead_of, sums_fit};
+ghost use Rattle.pon_admit.specs.Roster.{overhead_of, rule_in_force, sums_fit};
 
 use pon_units::{Gap, Kbps, Words};
 
@@ -9,7 +9,7 @@ use pon_units::{Gap, Kbps, Words};
 pub(crate) fn overhead(gap: Gap, onus: usize, allocs: usize) -> usize
     requires onus { onus ≤ 257 }
     requires allocs { allocs ≤ 257 }
-    ensures { result ≡ overhead_of gap onus allocs }
+    ensures { result ≡ overhead_of rule_in_force gap onus allocs }
 {
     (usize::from(gap.get()) + 2) * onus + allocs
 }
@@ -18,7 +18,7 @@ pub(crate) fn overhead(gap: Gap, onus: usize, allocs: usize) -> usize
 pub(crate) fn fits(gap: Gap, onus: usize, allocs: usize, promised: Kbps) -> bool
     requires onus { onus ≤ 257 }
     requires allocs { allocs ≤ 257 }
-    ensures { result ≡ sums_fit gap onus allocs promised }
+    ensures { result ≡ sums_fit rule_in_force gap onus allocs promised }
 {
     let frame = usize::from(Words::MAX);
     let taken = overhead(gap, onus, allocs);

@@ -1,40 +1,20 @@
 -- The structures of grants in map order, one after the other: which start a burst, and at which word.
-use Rattle.std.proofs.Common.{◌≡◌, ℕ, ◌+◌, ◌*◌, ◌<◌, ◌≤◌, Bool, true, false, not, ◌||◌, ◌&&◌, List, [], ◌∷◌, ◌++◌, map, length, refl, ap, sym, ◌∙◌, subst, arith, inl, inr}
+use Rattle.std.proofs.Common.{◌≡◌, ℕ, ◌+◌, ◌*◌, ◌<◌, ◌≤◌, Bool, true, false, not, ◌||◌, ◌&&◌, List, [], ◌∷◌, ◌++◌, map, length, ap, sym, ◌∙◌, subst, arith, inl, inr}
 use Rattle.std.specs.Prelude.{◌==◌, nat_lt, if◌then◌else◌, filter, sum_by, All}
 use Rattle.std.specs.List.{list_any}
+use Rattle.std.proofs.Math.Bool.{and-true}
 use Rattle.std.proofs.lemmas.Bool.{cases_lt, and_parts, and_right, or_parts, ltb-true, lt-ltb, le-ltb, eqb-true, false_from_ne_true}
 use Rattle.std.proofs.lemmas.Bool.Decides.{eqb_tells}
 use Rattle.std.proofs.lemmas.List.{map-append}
 use Rattle.std.proofs.lemmas.List.Elements.{All-nil, All-cons, All-head, All-tail, All-map, All-weaker}
 use Rattle.std.proofs.lemmas.List.Folds.{list_any-append, list_any_none}
-use Rattle.std.proofs.lemmas.List.Sums.{sum_by-append, sum_by-cons, sum_by-le, sum_by_push}
+use Rattle.std.proofs.lemmas.List.Sums.{sum_by-append, sum_by-le, sum_by_push}
 use Rattle.pon_units.specs.declared.Granted.{Granted}
 use Rattle.pon_units.specs.Granted.{AreInMapOrder, ComesBefore, onus_granted}
-use Rattle.pon_units.proofs.Lists.{or-false}
-use Rattle.pon_units.proofs.Distinct.{bit, count_once, count_once-append, count_once_agree, count_once_none, count_once_push, length-distinct, length-filter_distinct, occurs}
+use Rattle.pon_lists.proofs.Lists.{list_any-map, list_any_agree, or-false, sum_by_agree}
+use Rattle.pon_lists.proofs.Order.{in_order-sides}
+use Rattle.pon_lists.proofs.Distinct.{bit, count_once, count_once-append, count_once_agree, count_once_none, count_once_push, length-distinct, length-filter_distinct, occurs}
 use Rattle.pon_burst.specs.Maps.{continues, frame_words, grant, start_of}
-
--- Lists that two functions agree on.
-
-list_any_agree : {X : Type 0} (p q : X → Bool) (xs : List X) → All (λ x. p x ≡ q x) xs → list_any p xs ≡ list_any q xs
-list_any_agree p q [] h = refl
-list_any_agree p q (x ∷ xs) h = (λ i. All-head (λ x. p x ≡ q x) x xs h i || list_any_agree p q xs (All-tail (λ x. p x ≡ q x) x xs h) i)
-
-sum_by_agree : {X : Type 0} (f g : X → ℕ) (xs : List X) → All (λ x. f x ≡ g x) xs → sum_by f xs ≡ sum_by g xs
-sum_by_agree f g [] h = refl
-sum_by_agree f g (x ∷ xs) h = sum_by-cons f x xs ∙ (λ i. All-head (λ x. f x ≡ g x) x xs h i + sum_by_agree f g xs (All-tail (λ x. f x ≡ g x) x xs h) i) ∙ sym (sum_by-cons g x xs)
-
--- What comes before a grant, and what comes after, in map order.
-
-pub All-middle : {X : Type 0} (P : X → Type 0) (xs ys : List X) (x : X) → All P (xs ++ x ∷ ys) → P x
-All-middle P [] ys x h = All-head P x ys h
-All-middle P (z ∷ xs) ys x h = All-middle P xs ys x (All-tail P z (xs ++ x ∷ ys) h)
-
-pub sides : (r : Granted) (xs ys : List Granted) → AreInMapOrder (xs ++ r ∷ ys) → All (λ q. ComesBefore q r) xs × All (λ q. ComesBefore r q) ys
-sides r [] ys h = (All-nil (λ q. ComesBefore q r), h.0)
-sides r (x ∷ xs) ys h =
-    let rest : All (λ q. ComesBefore q r) xs × All (λ q. ComesBefore r q) ys = sides r xs ys h.1 in
-    (All-cons (λ q. ComesBefore q r) x xs (All-middle (λ q. ComesBefore x q) xs ys r h.0) rest.0, rest.1)
 
 -- Who comes before whom.
 
@@ -44,23 +24,15 @@ onus gs = map (λ g. g.onu) gs
 abbrev pub has_onu : ℕ → List Granted → Bool
 has_onu u gs = list_any (λ g. g.onu == u) gs
 
-pub occurs-onus : (u : ℕ) (gs : List Granted) → occurs u (onus gs) ≡ has_onu u gs
-occurs-onus u [] = refl
-occurs-onus u (g ∷ gs) = ap (λ b. (g.onu == u) || b) (occurs-onus u gs)
-
 -- of the same ONU, and of lesser Alloc-ID
 abbrev leads : Granted → Granted → Bool
 leads r q = q.onu == r.onu && nat_lt q.alloc_id r.alloc_id
 
 leads_before : (r q : Granted) → ComesBefore q r → leads r q ≡ (q.onu == r.onu)
 leads_before r q h = elim (eqb_tells q.onu r.onu) [
-  | inl e ↦ ap (λ b. (q.onu == r.onu) && b) (lt-ltb q.alloc_id r.alloc_id (h.1 e.1)) ∙ and_true (q.onu == r.onu)
+  | inl e ↦ ap (λ b. (q.onu == r.onu) && b) (lt-ltb q.alloc_id r.alloc_id (h.1 e.1)) ∙ and-true (q.onu == r.onu)
   | inr e ↦ ap (λ b. b && nat_lt q.alloc_id r.alloc_id) e.0 ∙ sym e.0
 ]
-  where
-    and_true : (b : Bool) → (b && true) ≡ b
-    and_true true = refl
-    and_true false = refl
 
 leads_after : (r q : Granted) → ComesBefore r q → leads r q ≡ false
 leads_after r q h = false_from_ne_true (leads r q) (λ t.
@@ -104,15 +76,15 @@ word_push gap xs r =
     let count : count_once (onus (xs ++ r ∷ [])) (λ _. true) ≡ count_once (onus xs) (λ _. true) + bit (not (has_onu r.onu xs) && true)
     = ap (λ us. count_once us (λ _. true)) (map-append (λ r. r.onu) xs (r ∷ []))
     ∙ count_once_push (onus xs) (λ _. true) r.onu
-    ∙ ap (λ b. count_once (onus xs) (λ _. true) + bit (not b && true)) (occurs-onus r.onu xs) in
+    ∙ ap (λ b. count_once (onus xs) (λ _. true) + bit (not b && true)) (list_any-map (λ u. u == r.onu) (λ g. g.onu) xs) in
     (λ i. gap + (gap + 2) * count i + sum_by_push (grant) xs r i)
 
 module _ (gap profile : ℕ) (gs : List Granted) (order : AreInMapOrder gs) (r : Granted) (xs ys : List Granted) (e : gs ≡ xs ++ r ∷ ys) where
   before : All (λ q. ComesBefore q r) xs
-  before = (sides r xs ys (subst AreInMapOrder e order)).0
+  before = (in_order-sides ComesBefore r xs ys (subst AreInMapOrder e order)).0
 
   after : All (λ q. ComesBefore r q) ys
-  after = (sides r xs ys (subst AreInMapOrder e order)).1
+  after = (in_order-sides ComesBefore r xs ys (subst AreInMapOrder e order)).1
 
   -- a structure continues a burst where its ONU has one before it
   pub continues-is : continues gap profile gs r ≡ has_onu r.onu xs

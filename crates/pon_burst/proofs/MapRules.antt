@@ -8,13 +8,14 @@ use Rattle.std.proofs.lemmas.List.Elements.{All-head, All-tail, All-weaker, All-
 use Rattle.std.proofs.lemmas.List.Sums.{sum_by-cons}
 use Rattle.pon_units.specs.declared.Granted.{Granted}
 use Rattle.pon_units.specs.Granted.{AreInMapOrder, ComesBefore}
-use Rattle.pon_units.proofs.Lists.{count_by-append}
+use Rattle.pon_lists.proofs.Lists.{count_by-append}
 use Rattle.pon_bwmap.specs.Structure.{Structure}
 use Rattle.pon_bwmap.specs.MapRules.{continues as lacks_start, IsMap}
 use Rattle.pon_bwmap.proofs.SeriesLaw.{map_rules}
 use Rattle.pon_burst.specs.Bursts.{IsInFrame, burst_of, bursts_of, continued}
 use Rattle.pon_burst.specs.Maps.{continues, frame_words, map_of, start_of, structure_of}
-use Rattle.pon_burst.proofs.MapRows.{continues-is, has_onu, sides}
+use Rattle.pon_burst.proofs.MapRows.{continues-is, has_onu}
+use Rattle.pon_lists.proofs.Order.{in_order-sides}
 use Rattle.pon_burst.proofs.SoundMaps.{sound_of_rising}
 
 -- a burst that lies in the frame starts in it
@@ -82,7 +83,7 @@ module _ (gap profile : ℕ) (gs : List Granted) (order : AreInMapOrder gs) wher
     -- 16 structures that continue are an ONU's, and the one before them is too
     seventeen : (k : ℕ) (g : Granted) (xs ys : List Granted) → gs ≡ xs ++ g ∷ ys → ((j : ℕ) → j < 16 → goes_on ys (k + j) ≡ true) → ⊥
     seventeen zero g xs ys e all =
-        let two : All (λ q. ComesBefore q g) xs × All (λ q. ComesBefore g q) ys = sides g xs ys (subst AreInMapOrder e order) in
+        let two : All (λ q. ComesBefore q g) xs × All (λ q. ComesBefore g q) ys = in_order-sides ComesBefore g xs ys (subst AreInMapOrder e order) in
         let u : ℕ = g.onu in
         let more : 16 ≤ count_by (λ g. g.onu == u) ys
         = all_of_onu 16 u (xs ++ g ∷ []) ys (e ∙ sym (append_assoc xs (g ∷ []) ys))

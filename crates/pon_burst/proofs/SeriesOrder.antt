@@ -10,11 +10,12 @@ use Rattle.std.proofs.lemmas.List.Sums.{sum_by-append, sum_by-cons, count_by-le-
 use Rattle.std.proofs.lemmas.List.Kept.{AllPairs-cons}
 use Rattle.pon_units.specs.declared.Granted.{Granted}
 use Rattle.pon_units.specs.Granted.{AreInMapOrder, ComesBefore}
-use Rattle.pon_units.proofs.Lists.{count_by-append, sum_by-map}
-use Rattle.pon_units.proofs.Distinct.{count_once, count_once-append, count_once_agree, count_once_none, occurs}
+use Rattle.pon_lists.proofs.Lists.{All-middle, count_by-append, list_any-map, sum_by-map}
+use Rattle.pon_lists.proofs.Order.{in_order-append}
+use Rattle.pon_lists.proofs.Distinct.{count_once, count_once-append, count_once_agree, count_once_none, occurs}
 use Rattle.pon_burst.specs.Maps.{frame_words, grant}
 use Rattle.pon_burst.specs.Series.{FitsFrame, Series, burst_words, granted, granted_to}
-use Rattle.pon_burst.proofs.MapRows.{All-middle, has_onu, occurs-onus, onus, word_after, words_of}
+use Rattle.pon_burst.proofs.MapRows.{has_onu, onus, word_after, words_of}
 
 -- what an Alloc-ID of the ONU is granted
 abbrev pub granted_of : ℕ → ℕ × ℕ → Granted
@@ -63,15 +64,10 @@ above u [] h = λ k d lt. absurd (omega (arith, lt))
 above u (s ∷ ss) h =
     All-append (λ g. u < g.onu) (granted_to s) (granted ss) (All-map (λ g. u < g.onu) (granted_of s.0) s.1.items (λ k d lt. All-head (λ t. u < t.0) s ss h)) (above u ss (All-tail (λ t. u < t.0) s ss h))
 
-order-append : (xs ys : List Granted) → AreInMapOrder xs → AreInMapOrder ys → All (λ x. All (ComesBefore x) ys) xs → AreInMapOrder (xs ++ ys)
-order-append [] ys ox oy h = oy
-order-append (x ∷ xs) ys ox oy h =
-    (All-append (ComesBefore x) xs ys ox.0 (All-head (λ x. All (ComesBefore x) ys) x xs h), order-append xs ys ox.1 oy (All-tail (λ x. All (ComesBefore x) ys) x xs h))
-
 pub in_order : (ss : List Series) → Rise ss → AreInMapOrder (granted ss)
 in_order [] r = tt
 in_order (s ∷ ss) r =
-    order-append (granted_to s) (granted ss) (of_onu_in_order s.0 s.1.items r.1) (in_order ss r.3)
+    in_order-append ComesBefore (granted_to s) (granted ss) (of_onu_in_order s.0 s.1.items r.1) (in_order ss r.3)
     (All-map (λ g. All (ComesBefore g) (granted ss)) (granted_of s.0) s.1.items (λ k d lt. All-weaker (λ g. s.0 < g.onu) (ComesBefore (granted_of s.0 (get_or s.1.items k d)))
     (λ g l. (omega (arith, l), λ e. absurd (omega (arith, l, e)))) (granted ss) (above s.0 ss r.0)))
 
@@ -129,7 +125,7 @@ onus_counted (s ∷ ss) r =
     = ap (λ us. count_once us (λ _. true)) (map-append (λ g. g.onu) (granted_to s) (granted ss)) ∙ count_once-append (onus (granted_to s)) (onus (granted ss)) (λ _. true) in
     let others : All (λ g. test g.onu ≡ true) (granted ss)
     = All-weaker (λ g. s.0 < g.onu) (λ g. test g.onu ≡ true)
-    (λ g l. ap (λ b. not b && true) (occurs-onus g.onu (granted_to s) ∙ not_of s.0 g.onu s.1.items (ne_eqb s.0 g.onu (λ e. omega (arith, l, e))))) (granted ss) (above s.0 ss r.0) in
+    (λ g l. ap (λ b. not b && true) (list_any-map (λ u. u == g.onu) (λ g. g.onu) (granted_to s) ∙ not_of s.0 g.onu s.1.items (ne_eqb s.0 g.onu (λ e. omega (arith, l, e))))) (granted ss) (above s.0 ss r.0) in
     let same : count_once (onus (granted ss)) test ≡ count_once (onus (granted ss)) (λ _. true)
     = count_once_agree (onus (granted ss)) test (λ _. true) (All-map (λ y. test y ≡ true) (λ g. g.onu) (granted ss) others) in
     omega (arith, parts, once s.0 s.1.items r.2, same, onus_counted ss r.3)

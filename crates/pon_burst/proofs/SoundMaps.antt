@@ -4,7 +4,7 @@ use Rattle.std.specs.Prelude.{if◌then◌else◌, sum_by, Some, None}
 use Rattle.std.proofs.lemmas.List.{append-nil}
 use Rattle.pon_units.specs.declared.Granted.{Granted}
 use Rattle.pon_units.specs.Granted.{AreInMapOrder}
-use Rattle.pon_units.proofs.Distinct.{bit, count_once}
+use Rattle.pon_lists.proofs.Distinct.{bit, count_once}
 use Rattle.pon_burst.specs.Bursts.{AreSound}
 use Rattle.pon_burst.specs.Maps.{frame_words, grant, map_of, start_of, structure_of}
 use Rattle.pon_burst.proofs.Laid.{AreLaid, BeginsAt, behind, end_of, laid_sound}

@@ -2,9 +2,9 @@ ghost use Rattle.std.specs.Prelude.{◌≡◌, ◌+◌, ◌≤◌, ◌++◌, len
 ghost use Rattle.pon_bwmap.specs.MapRules.{IsMap};
 ghost use Rattle.pon_burst.specs.Bursts.{AreSound};
 ghost use Rattle.pon_burst.specs.Maps.{map_of};
-use crate::FRAME_WORDS;
 ghost use Rattle.pon_burst.specs.Series.{FitsFrame, burst_structures, granted};
 
+use crate::FRAME_WORDS;
 use arrayvec::ArrayVec;
 use pon_bwmap::Alloc;
 use pon_units::{AllocId, Gap, OnuId, Profile, Words};

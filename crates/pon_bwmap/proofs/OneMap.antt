@@ -1,9 +1,10 @@
 -- Bytes read as one map at most, and bytes that read as a map have no fault.
-use Rattle.std.proofs.Common.{◌≡◌, ℕ, zero, suc, ◌+◌, ◌*◌, ◌^◌, ◌<◌, ◌≤◌, Bool, true, false, List, [], ◌∷◌, ◌++◌, length, drop, get_or, All, Option, Some, None, IfSome, inl, inr, refl, ap, sym, ◌∙◌, subst, arith}
+use Rattle.std.proofs.Common.{◌≡◌, ℕ, zero, suc, ◌+◌, ◌*◌, ◌^◌, ◌<◌, ◌≤◌, Bool, true, false, List, [], ◌∷◌, ◌++◌, length, drop, All, Option, Some, None, IfSome, inl, inr, refl, ap, sym, ◌∙◌, subst, arith}
 use Rattle.std.specs.Int.{w32, w64, from_be_bytes}
-use Rattle.std.proofs.lemmas.Bool.{cases_lt}
-use Rattle.std.proofs.lemmas.List.{drop-drop, get_or-drop, get_or_past}
+use Rattle.std.proofs.lemmas.List.{drop-drop}
 use Rattle.pon_hec.proofs.Unique.{one_reading}
+use Rattle.pon_lists.specs.Bytes.{AreBytes}
+use Rattle.pon_lists.proofs.Bytes.{bytes-drop, bytes-from_All}
 use Rattle.pon_xgtc.specs.MapHead.{MapHead, ReadsMapHead}
 use Rattle.pon_xgtc.proofs.HeaderReading.{one_header}
 use Rattle.pon_bwmap.specs.Structure.{Structure}
@@ -17,18 +18,6 @@ use Rattle.pon_bwmap.proofs.ReadsBack.{flag_small, start_small}
 use Rattle.pon_bwmap.proofs.RowReading.{fault-append}
 
 -- ---- words
-
-abbrev AreBytes : List ℕ → Type 0
-AreBytes bytes = (i : ℕ) → get_or bytes i 0 < 256
-
-are_bytes : (bytes : List ℕ) → All (λ b. b < 256) bytes → AreBytes bytes
-are_bytes bytes all i = elim (cases_lt i (length bytes)) [
-  | inl lt ↦ all i 0 lt
-  | inr ge ↦ omega (arith, get_or_past bytes i 0 ge)
-]
-
-behind : (n : ℕ) (bytes : List ℕ) → AreBytes bytes → AreBytes (drop n bytes)
-behind n bytes all i = omega (arith, get_or-drop n bytes i 0, all (n + i))
 
 word_32 : (bytes : List ℕ) → AreBytes bytes → from_be_bytes w32 bytes < 2 ^ 32
 word_32 bytes all = omega (arith, all 0, all 1, all 2, all 3)
@@ -80,7 +69,7 @@ first_rows bytes [] all k l are r s le = (all, refl)
 first_rows bytes (a ∷ rows) [] k l are r s le = absurd (omega (arith, le))
 first_rows bytes (a ∷ rows) (b ∷ all) k l are r s le =
     let one = one_structure bytes b a s.0 r.0 are s.2 r.2 in
-    let rest = first_rows (drop 8 bytes) rows all r.1 s.1 (behind 8 bytes are) r.3 s.3 (omega (arith, le)) in
+    let rest = first_rows (drop 8 bytes) rows all r.1 s.1 (bytes-drop 8 bytes are) r.3 s.3 (omega (arith, le)) in
     (rest.0, λ i. one.0 i ∷ rest.1 i)
 
 one_rows : (bytes : List ℕ) (rows rows2 : List Structure) (k l : ℕ) → AreBytes bytes → ReadsRows bytes rows k → ReadsRows bytes rows2 l → length rows ≡ length rows2 → (rows ≡ rows2) × (k ≡ l)
@@ -89,7 +78,7 @@ one_rows bytes [] (b ∷ rows2) k l are r s e = absurd (omega (arith, e))
 one_rows bytes (a ∷ rows) [] k l are r s e = absurd (omega (arith, e))
 one_rows bytes (a ∷ rows) (b ∷ rows2) k l are r s e =
     let one = one_structure bytes a b r.0 s.0 are r.2 s.2 in
-    let rest = one_rows (drop 8 bytes) rows rows2 r.1 s.1 (behind 8 bytes are) r.3 s.3 (omega (arith, e)) in
+    let rest = one_rows (drop 8 bytes) rows rows2 r.1 s.1 (bytes-drop 8 bytes are) r.3 s.3 (omega (arith, e)) in
     (λ i. one.0 i ∷ rest.0 i, omega (arith, r.4, s.4, one.1, rest.1))
 
 -- the structure at a place
@@ -111,16 +100,16 @@ one_head bytes h g k l are r s =
 pub one_map : (bytes : List ℕ) (rows rows2 : List Structure) (corrected corrected2 used used2 : ℕ) → All (λ b. b < 256) bytes → ReadsMap bytes rows corrected used → ReadsMap bytes rows2 corrected2 used2
     → (rows ≡ rows2) × (corrected ≡ corrected2) × (used ≡ used2)
 one_map bytes rows rows2 corrected corrected2 used used2 all r s =
-    let are = are_bytes bytes all in
+    let are = bytes-from_All bytes all in
     let head = one_head bytes r.head s.head r.in_head s.in_head are r.reads_head.reads s.reads_head.reads in
-    let same = one_rows (drop 4 bytes) rows rows2 r.in_rows s.in_rows (behind 4 bytes are) r.reads_rows.reads s.reads_rows.reads (r.reads_rows.counted ∙ head.0 ∙ sym s.reads_rows.counted) in
+    let same = one_rows (drop 4 bytes) rows rows2 r.in_rows s.in_rows (bytes-drop 4 bytes are) r.reads_rows.reads s.reads_rows.reads (r.reads_rows.counted ∙ head.0 ∙ sym s.reads_rows.counted) in
     (same.0, omega (arith, r.corrected_is, s.corrected_is, head.2, same.1), omega (arith, r.used_is, s.used_is, head.0, head.1))
 
 -- ---- no fault
 
 no_break : (bytes : List ℕ) (rows : List Structure) (corrected used k : ℕ) (fault : MapFault) → AreBytes bytes → (r : ReadsMap bytes rows corrected used) → k < r.head.n → BreaksRule (drop 4 bytes) k fault → ⊥
 no_break bytes rows corrected used k fault are r lt b =
-    let first = first_rows (drop 4 bytes) b.rows rows b.corrected r.in_rows (behind 4 bytes are) b.reads r.reads_rows.reads (omega (arith, b.counted, r.reads_rows.counted, lt)) in
+    let first = first_rows (drop 4 bytes) b.rows rows b.corrected r.in_rows (bytes-drop 4 bytes are) b.reads r.reads_rows.reads (omega (arith, b.counted, r.reads_rows.counted, lt)) in
     let here : row_fault rows k ≡ Some fault = ap (λ (rs : List Structure). row_fault rs k) first.1 ∙ fault-append b.rows first.0 k (omega (arith, b.counted)) ∙ b.breaks in
     let none : row_fault rows k ≡ None = r.reads_rows.is_map.keep_rules k (omega (arith, r.reads_rows.counted, lt)) in
     let wrong : Some fault ≡ None = sym here ∙ none in
@@ -135,17 +124,17 @@ breaks_no_map bytes rows corrected used k fault f are r b =
 pub no_fault : (bytes : List ℕ) (rows : List Structure) (corrected used : ℕ) (fault : MapFault) → All (λ b. b < 256) bytes → ReadsMap bytes rows corrected used → IsFirstFault bytes fault → fault ≡ Memory
 no_fault bytes rows corrected used Short all r (inl short) = absurd (omega (arith, short, r.reads_head.reads.header.whole))
 no_fault bytes rows corrected used Short all r (inr short) =
-    let head = one_head bytes r.head short.0 r.in_head short.1 (are_bytes bytes all) r.reads_head.reads short.2 in
+    let head = one_head bytes r.head short.0 r.in_head short.1 (bytes-from_All bytes all) r.reads_head.reads short.2 in
     absurd (omega (arith, short.4, r.reads_head.whole, head.0, head.1))
 no_fault bytes rows corrected used HeadHec all r f = absurd (f.1 _ _ r.reads_head.reads.header.word)
 no_fault bytes rows corrected used TooMany all r f =
-    let head = one_head bytes r.head f.0 r.in_head f.1 (are_bytes bytes all) r.reads_head.reads f.2 in
+    let head = one_head bytes r.head f.0 r.in_head f.1 (bytes-from_All bytes all) r.reads_head.reads f.2 in
     absurd (omega (arith, f.3, r.reads_head.count, head.0))
 no_fault bytes rows corrected used (StructHec k) all r f =
-    let head = one_head bytes r.head f.head r.in_head f.corrected (are_bytes bytes all) r.reads_head.reads f.reads_head.reads in
+    let head = one_head bytes r.head f.head r.in_head f.corrected (bytes-from_All bytes all) r.reads_head.reads f.reads_head.reads in
     let at = row_at (drop 4 bytes) rows r.in_rows k r.reads_rows.reads (omega (arith, f.in_rows.0, head.0, r.reads_rows.counted)) in
     absurd (f.in_rows.1.lost (structure_payload at.0) at.1 at.2.word)
-no_fault bytes rows corrected used (SeriesStart k) all r f = absurd (breaks_no_map bytes rows corrected used k (SeriesStart k) f (are_bytes bytes all) r f.in_rows)
-no_fault bytes rows corrected used (StartRange k) all r f = absurd (breaks_no_map bytes rows corrected used k (StartRange k) f (are_bytes bytes all) r f.in_rows)
-no_fault bytes rows corrected used (SeriesLong k) all r f = absurd (breaks_no_map bytes rows corrected used k (SeriesLong k) f (are_bytes bytes all) r f.in_rows)
+no_fault bytes rows corrected used (SeriesStart k) all r f = absurd (breaks_no_map bytes rows corrected used k (SeriesStart k) f (bytes-from_All bytes all) r f.in_rows)
+no_fault bytes rows corrected used (StartRange k) all r f = absurd (breaks_no_map bytes rows corrected used k (StartRange k) f (bytes-from_All bytes all) r f.in_rows)
+no_fault bytes rows corrected used (SeriesLong k) all r f = absurd (breaks_no_map bytes rows corrected used k (SeriesLong k) f (bytes-from_All bytes all) r f.in_rows)
 no_fault bytes rows corrected used Memory all r f = refl

@@ -7,7 +7,7 @@ use Rattle.std.proofs.Math.Dec.{eqb-suc-zero}
 use Rattle.pon_bwmap.specs.Structure.{Structure}
 use Rattle.pon_bwmap.specs.MapRules.{place_in_series, continues, start_fault, row_fault, IsMap, KeepsSeriesRules}
 use Rattle.pon_bwmap.specs.declared.fault.MapFault.TheVariants.{StartRange}
-use Rattle.pon_bwmap.proofs.SeriesRules.{row_fault_is, short}
+use Rattle.pon_bwmap.proofs.SeriesRules.{first_place, row_fault_is, short}
 
 place_on : (rows : List Structure) (k : ℕ) → continues (slice_get rows (suc k)) ≡ true → place_in_series rows (suc k) ≡ place_in_series rows k + 1
 unfolding place_in_series
@@ -16,10 +16,6 @@ place_on rows k on = ap (λ (b : Bool). if b then place_in_series rows k + 1 els
 place_anew : (rows : List Structure) (k : ℕ) → continues (slice_get rows (suc k)) ≡ false → place_in_series rows (suc k) ≡ 0
 unfolding place_in_series
 place_anew rows k anew = ap (λ (b : Bool). if b then place_in_series rows k + 1 else 0) anew
-
-place_first : (rows : List Structure) → place_in_series rows 0 ≡ 0
-unfolding place_in_series
-place_first rows = refl
 
 -- ---- from maps to the rules
 
@@ -86,7 +82,7 @@ one_more rows k m on w =
 
 went_on : (rows : List Structure) (k m : ℕ) → m ≤ place_in_series rows k → WentOn rows k m
 went_on rows k zero le = (k, omega arith, λ j lt. absurd (omega (arith, lt)))
-went_on rows zero (suc m) le = absurd (omega (arith, place_first rows, le))
+went_on rows zero (suc m) le = absurd (omega (arith, first_place rows, le))
 went_on rows (suc k) (suc m) le = by_test (continues (slice_get rows (suc k))) refl (λ less. went_on rows k m less)
   where
     by_test : (b : Bool) → continues (slice_get rows (suc k)) ≡ b → (m ≤ place_in_series rows k → WentOn rows k m) → WentOn rows (suc k) (suc m)

@@ -3,7 +3,7 @@ use Rattle.std.proofs.Common.{◌≡◌, ℕ, ◌+◌, ◌-◌, List, length, ta
 use Rattle.std.proofs.Math.Seq.{take-length}
 use Rattle.pon_xgtc.specs.MapHead.{MapHead}
 use Rattle.pon_bwmap.specs.Structure.{Structure}
-use Rattle.pon_bwmap.specs.MapReading.{ReadsMapRows, ReadsWholeHead, ReadsMap, BeginsWithMap, map_size}
+use Rattle.pon_bwmap.specs.MapReading.{ReadsMapRows, ReadsWholeHead, BeginsWithMap, map_size}
 
 pub begins_with_map : (bytes : List ℕ) (head : MapHead) (in_head count : ℕ) (rows : List Structure) (corrected : ℕ) → ReadsWholeHead bytes head in_head → count ≡ head.n → ReadsMapRows (take (length bytes - 4) (drop 4 bytes)) count rows corrected → BeginsWithMap bytes
 begins_with_map bytes head in_head count rows corrected h is r =

@@ -1,9 +1,10 @@
 -- One text has one certificate.
-use Rattle.std.proofs.Common.{◌≡◌, ℕ, Bool, List, [], ◌∷◌, Some, refl, sym, ap, ◌∙◌}
+use Rattle.std.proofs.Common.{◌≡◌, ℕ, Bool, List, [], ◌∷◌, refl, sym, ap, ◌∙◌}
 use Rattle.std.specs.Prelude.{decimal, ◌==◌, codes}
 use Rattle.std.specs.List.{slice_split}
 use Rattle.std.proofs.lemmas.Fmt.{decimal_injective}
 use Rattle.pon_units.specs.Fraction.{Fraction}
+use Rattle.std.proofs.lemmas.Option.{same_Some}
 use Rattle.pon_cert.specs.declared.cert.Level.{Level}
 use Rattle.pon_cert.specs.declared.cert.Level.TheVariants as level
 use Rattle.pon_cert.specs.declared.cert.ClassCert.{ClassCert}
@@ -36,12 +37,9 @@ same_level (level.At f) (level.At g) fl fm e =
     let dens : decimal f.den ≡ decimal g.den = cc in
     same_fraction f g (decimal_injective f.num g.num fl.0 fm.0 nums) (decimal_injective f.den g.den fl.2 fm.2 dens)
 
-same_flags : (x y : List Bool) → Some x ≡ Some y → x ≡ y
-same_flags x y e = cc
-
 same_class : (names lw sw : List ℕ) (a b : ClassCert) → AreNames names → AreSmall names → IsClassOf names lw sw a → IsClassOf names lw sw b → a ≡ b
 same_class names lw sw a b are small one two =
-    let flags : a.saturated ≡ b.saturated = same_flags a.saturated b.saturated (sym (class_found names lw sw a are small one) ∙ class_found names lw sw b are small two) in
+    let flags : a.saturated ≡ b.saturated = same_Some a.saturated b.saturated (sym (class_found names lw sw a are small one) ∙ class_found names lw sw b are small two) in
     ap (λ (l : Level). record { level = l; saturated = a.saturated }) (same_level a.level b.level one.fits.level two.fits.level (one.level_spelled ∙ sym two.level_spelled))
     ∙ ap (λ (fs : List Bool). record { level = b.level; saturated = fs }) flags
 

@@ -1,22 +1,24 @@
 -- The parts of texts between separators, and numbers as they are written.
-use Rattle.std.proofs.Common.{◌≡◌, ◌≢◌, ℕ, zero, suc, ◌<◌, ◌^◌, Bool, true, false, List, [], ◌∷◌, ◌++◌, length, get_or, refl, sym, ap, ◌∙◌, arith, eqb, lit<, Option, Some, None, append_assoc}
-use Rattle.std.specs.Prelude.{decimal, ◌==◌, MatchOption, not, codes}
+use Rattle.std.proofs.Common.{◌≡◌, ◌≢◌, ℕ, zero, suc, ◌<◌, ◌^◌, false, List, [], ◌∷◌, ◌++◌, length, get_or, refl, sym, ap, ◌∙◌, arith, eqb, lit<, Option, Some, None, append_assoc}
+use Rattle.std.specs.Prelude.{decimal, ◌==◌, MatchOption, codes}
 use Rattle.std.specs.Borrow.{Bor}
 use Rattle.std.specs.Str.{bytes_eq}
 use Rattle.std.specs.Str.Parse.{AllDigits, digits_value, ParsesUnsigned}
-use Rattle.std.specs.List.{All, AllByRecursion, slice_split, onto_first, position_or_len, before_first, after_first, prefix_len, join_with_byte}
+use Rattle.std.specs.List.{All, AllByRecursion, slice_split, position_or_len, before_first, after_first, join_with_byte}
 use Rattle.std.specs.Prelude.{Result, Ok}
 use Rattle.std.proofs.lemmas.Bool.{ne_eqb}
 use Rattle.std.proofs.lemmas.Bool.Decides.{Decides-eqb}
 use Rattle.std.proofs.lemmas.Slice.Eq.{bytes_eq-Decides}
 use Rattle.std.proofs.lemmas.Result.{OkIff-at_ok}
 use Rattle.std.proofs.lemmas.List.Elements.{All-from_recursion}
-use Rattle.std.proofs.lemmas.List.Splits.{slice_split-cons_no, slice_split_none, slice_split_at, slice_split_first, join_with_byte-slice_split}
+use Rattle.std.proofs.lemmas.List.Splits.{slice_split_none, slice_split_at, slice_split_first, join_with_byte-slice_split}
 use Rattle.std.proofs.lemmas.Str.Parse.{IsNumeralModel, numerals_by_value, tells_digits, digit_from_value, parse_plain}
 use Rattle.std.proofs.lemmas.Str.Pattern.{IsSplitOnceResult, split_once_first}
 use Rattle.std.proofs.lemmas.Fmt.{digits_decimal, decimal-digits_value, decimal_injective, decimal_nonempty, decimal_digit, first_decimal}
 use Rattle.pon_cert.specs.declared.cert.Level.{Level}
 use Rattle.pon_cert.specs.declared.cert.Level.TheVariants as level
+use Rattle.pon_lists.proofs.Lists.{same_Bool}
+use Rattle.pon_lists.proofs.Splits.{slice_split_absent}
 use Rattle.pon_cert.specs.Spelling.{level_text}
 use Rattle.pon_cert.specs.Texts.{FitsLevel}
 
@@ -25,23 +27,13 @@ own = numerals_by_value (AllDigits 10) tells_digits
 
 -- ---- cutting
 
-none_step : (x c : ℕ) (xs : List ℕ) (b : Bool) → eqb x c ≡ b → prefix_len (λ y. not (eqb y c)) (x ∷ xs) ≡ suc (length xs) → (prefix_len (λ y. not (eqb y c)) xs ≡ length xs → slice_split (λ y. eqb y c) xs ≡ xs ∷ []) →
-    slice_split (λ y. eqb y c) (x ∷ xs) ≡ (x ∷ xs) ∷ []
-none_step x c xs true e h more = absurd (omega (arith, rw e at h))
-none_step x c xs false e h more =
-    slice_split-cons_no (λ y. eqb y c) x xs e ∙ ap (onto_first x) (more (omega (arith, rw e at h)))
-
-none_split : (c : ℕ) (bs : List ℕ) → prefix_len (λ y. not (eqb y c)) bs ≡ length bs → slice_split (λ y. eqb y c) bs ≡ bs ∷ []
-none_split c [] h = refl
-none_split c (x ∷ xs) h = none_step x c xs (eqb x c) refl h (none_split c xs)
-
 pub whole_part : (c : ℕ) (bs part : List ℕ) → slice_split (λ b. b == c) bs ≡ part ∷ [] → bs ≡ part
 whole_part c bs part e = sym (join_with_byte-slice_split c bs) ∙ ap (join_with_byte c) e
 
 cut_cases : (c : ℕ) (bs : List ℕ) (r : Option (Bor (List ℕ) × Bor (List ℕ))) →
     MatchOption r (position_or_len (λ b. eqb b c) bs ≡ length bs) (λ x. (position_or_len (λ b. eqb b c) bs < length bs) × (x.0.now ≡ before_first (λ b. eqb b c) bs) × (x.1.now ≡ after_first (λ b. eqb b c) bs)) →
     MatchOption r (slice_split (λ b. b == c) bs ≡ bs ∷ []) (λ p. slice_split (λ b. b == c) bs ≡ p.0.now ∷ slice_split (λ b. b == c) p.1.now)
-cut_cases c bs None h = none_split c bs h
+cut_cases c bs None h = slice_split_absent c bs h
 cut_cases c bs (Some x) h = rw (h.1, h.2) (slice_split_first (λ b. eqb b c) bs 0 h.0)
 
 pub cut_parts : (c : ℕ) (bs : List ℕ) (r : Option (Bor (List ℕ) × Bor (List ℕ))) → IsSplitOnceResult c bs r → c < 128 →
@@ -73,16 +65,11 @@ decimal_read w r n h some plus zeros is =
     let p = OkIff-at_ok r _ _ n (parse_plain own 64 w r h plus) is in
     ap decimal p.1 ∙ decimal-digits_value own w p.0.0 some zeros p.0.2
 
-same_truth : (b d : Bool) → (b ≡ true → d ≡ true) → (d ≡ true → b ≡ true) → b ≡ d
-same_truth true d f g = sym (f refl)
-same_truth false true f g = g refl
-same_truth false false f g = refl
-
 pub same_number : (w : List ℕ) (a n : ℕ) → a < 2 ^ 64 → n < 2 ^ 64 → decimal a ≡ w → eqb a n ≡ bytes_eq w (decimal n)
 same_number w a n la ln e =
     let one = Decides-eqb a n in
     let two = bytes_eq-Decides w (decimal n) in
-    same_truth (eqb a n) (bytes_eq w (decimal n)) (λ t. two.1 (sym e ∙ ap decimal (one.0 t))) (λ t. one.1 (decimal_injective a n la ln (e ∙ two.0 t)))
+    same_Bool (eqb a n) (bytes_eq w (decimal n)) (λ t. two.1 (sym e ∙ ap decimal (one.0 t))) (λ t. one.1 (decimal_injective a n la ln (e ∙ two.0 t)))
 
 -- ---- levels; 47 is the stroke between the numbers
 

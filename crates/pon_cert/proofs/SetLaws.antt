@@ -5,7 +5,7 @@ use Rattle.std.specs.Str.{bytes_eq}
 use Rattle.std.specs.List.{AllByRecursion, AllPairs, slice_split, join_with_byte}
 use Rattle.std.specs.Option.{is_some}
 use Rattle.std.specs.Borrow.{Bor}
-use Rattle.std.proofs.lemmas.List.{append-nil}
+use Rattle.std.proofs.lemmas.List.{append-nil, drop_all}
 use Rattle.std.proofs.lemmas.Slice.Eq.{bytes_eq-Decides}
 use Rattle.std.proofs.lemmas.List.Elements.{All-from_recursion}
 use Rattle.std.proofs.lemmas.List.Splits.{slice_split_none, slice_split_at, join_with_byte-slice_split, length-slice_split}
@@ -110,7 +110,8 @@ pub none_done : (o : Option (List Bool)) → o ≡ after_flags [] o
 none_done None = refl
 none_done (Some fs) = refl
 
-one_more : (done : List Bool) (b : Bool) (o : Option (List Bool)) → after_flags done (with_first b o) ≡ after_flags (done ++ b ∷ []) o
+-- one truth value more, in front of those to come and behind those that were
+pub one_more : (done : List Bool) (b : Bool) (o : Option (List Bool)) → after_flags done (with_first b o) ≡ after_flags (done ++ b ∷ []) o
 one_more done b None = refl
 one_more done b (Some fs) = ap Some (sym (append_assoc done (b ∷ []) fs))
 
@@ -124,17 +125,6 @@ pub met_more : (i x : ℕ) (names : List ℕ) (ps qs : List (List ℕ)) (done : 
 met_more i x names ps qs done b found l is so first left =
     rw (add-one, left, first) (so ∙ ap (after_flags done) (met_drop i x names ps l is) ∙ one_more done (starts x ps) (met (drop (suc i) names) (behind (starts x ps) ps)))
 
-pub drop_whole : (i : ℕ) (names : List ℕ) → length names ≤ i → drop i names ≡ []
-drop_whole zero [] l = refl
-drop_whole (suc i) [] l = refl
-drop_whole zero (n ∷ ns) l = absurd (omega arith)
-drop_whole (suc i) (n ∷ ns) l = drop_whole i ns (omega arith)
-
-pub any_default : (i d : ℕ) (names : List ℕ) → i < length names → get_or names i d ≡ get_or names i 0
-any_default i d [] l = absurd (omega arith)
-any_default zero d (n ∷ ns) l = refl
-any_default (suc i) d (n ∷ ns) l = any_default i d ns (omega arith)
-
 -- ---- behind the last item
 
 met_none : (ps : List (List ℕ)) → (ps ≡ [] → ⊥) → met [] ps ≡ None
@@ -143,8 +133,8 @@ met_none (p ∷ ps) h = refl
 
 pub some_left : (i : ℕ) (names : List ℕ) (rest : Option (Bor (List ℕ))) (found : Option (List Bool)) (done : List Bool) → length names ≤ i → is_some rest ≡ true → found ≡ after_flags done (met (drop i names) (left_of rest)) → found ≡ None
 some_left i names None found done l is e = absurd (cc)
-some_left i names (Some t) found done l is e = e ∙ ap (λ (ns : List ℕ). after_flags done (met ns (left_of (Some t)))) (drop_whole i names l) ∙ ap (after_flags done) (met_none (left_of (Some t)) (some_part 44 t.now))
+some_left i names (Some t) found done l is e = e ∙ ap (λ (ns : List ℕ). after_flags done (met ns (left_of (Some t)))) (drop_all i names l) ∙ ap (after_flags done) (met_none (left_of (Some t)) (some_part 44 t.now))
 
 pub none_left : (i : ℕ) (names : List ℕ) (rest : Option (Bor (List ℕ))) (found : Option (List Bool)) (done : List Bool) → length names ≤ i → is_some rest ≡ false → found ≡ after_flags done (met (drop i names) (left_of rest)) → found ≡ Some done
-none_left i names None found done l is e = e ∙ ap (λ (ns : List ℕ). after_flags done (met ns [])) (drop_whole i names l) ∙ ap Some (append-nil done)
+none_left i names None found done l is e = e ∙ ap (λ (ns : List ℕ). after_flags done (met ns [])) (drop_all i names l) ∙ ap Some (append-nil done)
 none_left i names (Some t) found done l is e = absurd (cc)

@@ -8,7 +8,8 @@ use Rattle.pon_cert.specs.declared.cert.Level.TheVariants as level
 use Rattle.pon_cert.specs.declared.cert.ClassCert.{ClassCert}
 use Rattle.pon_cert.specs.declared.cert.CertReadFault.{CertReadFault}
 use Rattle.pon_cert.specs.declared.cert.CertReadFault.TheVariants.{Short, Form, Memory}
-use Rattle.pon_cert.specs.Reading.{◌>>=◌, number_at, wanted, level_of, level_at, flags_at, class_at, cert_at, ReadsCert, IsByteFault, IsTail}
+use Rattle.pon_lists.specs.ResultSteps.{◌>>=◌}
+use Rattle.pon_cert.specs.Reading.{number_at, wanted, level_of, level_at, flags_at, class_at, cert_at, ReadsCert, IsByteFault, IsTail}
 
 -- a reading of bytes wants no memory
 abbrev WantsNone : {A : Type 0} → Result A CertReadFault → Type 0

@@ -1,18 +1,14 @@
 -- Reading a certificate's bytes from left to right: the value and the bytes after it, or the first fault.
-use Rattle.std.specs.Prelude.{◌≡◌, ℕ, ◌-◌, ◌≤◌, zero, suc, ◌==◌, ◌&&◌, Bool, List, [], ◌∷◌, length, take, drop, nat_lt, if◌then◌else◌, Result, Ok, Err}
+use Rattle.std.specs.Prelude.{◌≡◌, ℕ, ◌-◌, ◌≤◌, zero, suc, ◌==◌, ◌&&◌, Bool, List, [], ◌∷◌, length, take, drop, nat_lt, if◌then◌else◌, Result, Ok, Err, MatchResult}
+use Rattle.std.specs.Borrow.{Bor}
 use Rattle.std.specs.Int.{Width, w8, w16, w64, byte_len, from_be_bytes}
+use Rattle.pon_lists.specs.ResultSteps.{◌>>=◌}
 use Rattle.pon_cert.specs.declared.cert.Level.{Level}
 use Rattle.pon_cert.specs.declared.cert.Level.TheVariants as level
 use Rattle.pon_cert.specs.declared.cert.ClassCert.{ClassCert}
 use Rattle.pon_cert.specs.declared.cert.MapCert.{MapCert}
 use Rattle.pon_cert.specs.declared.cert.CertReadFault.{CertReadFault}
 use Rattle.pon_cert.specs.declared.cert.CertReadFault.TheVariants.{Short, Form, Memory}
-
--- what is read on behind a value, or the first fault
-infixl 10 ◌>>=◌
-abbrev pub ◌>>=◌ : {A B : Type 0} → Result A CertReadFault → (A → Result B CertReadFault) → Result B CertReadFault
-(Ok x) >>= f = f x
-(Err e) >>= f = Err e
 
 -- a number of this width, most significant byte first, where all its bytes are there
 abbrev pub number_at : Width → List ℕ → Result (ℕ × List ℕ) CertReadFault
@@ -62,6 +58,10 @@ cert_at bytes = do
   na ← class_at bytes
   be ← class_at na.1
   Ok (record { na = na.0; be = be.0 }, be.1)
+
+-- A reader's result is that of its decoder: the value and the bytes behind it, or the fault.
+abbrev pub ReadsAs : {A : Type 0} → Result (A × List ℕ) CertReadFault → Result (A × Bor (List ℕ)) CertReadFault → Type 0
+ReadsAs decoded result = MatchResult result (λ r. decoded ≡ Ok (r.0, r.1.now)) (λ f. decoded ≡ Err f)
 
 -- the certificate that the bytes begin with, and how many bytes it takes
 pub record ReadsCert (bytes : List ℕ) (cert : MapCert) (used : ℕ) : Type 0 where

@@ -2,7 +2,7 @@
 ghost use Rattle.std.specs.Prelude.{◌≡◌, ◌==◌, nat_lt, map, Ok, Err, IfOk, IfErr, MatchResult};
 ghost use Rattle.std.specs.Int.{w8, w16, w64};
 ghost use Rattle.std.specs.List.{list_all};
-ghost use Rattle.pon_cert.specs.Reading.{ReadsCert, IsByteFault, IsTail, number_at, level_of, level_at, flags_at, class_at};
+ghost use Rattle.pon_cert.specs.Reading.{ReadsAs, ReadsCert, IsByteFault, IsTail, number_at, level_of, level_at, flags_at, class_at};
 ghost use Rattle.pon_cert.specs.declared.cert.CertReadFault.{CertReadFault};
 
 use crate::cert::{CertReadFault, ClassCert, Level, MapCert};
@@ -77,9 +77,7 @@ fn owned(alloc: Global, na: &LentClass<'_>, be: &LentClass<'_>) -> Result<MapCer
 // A class, and the bytes after it.
 #[tactic(auto, unfolding(crate::specs::Reading::class_at))]
 fn read_class(bytes: &[u8]) -> Result<(LentClass<'_>, &[u8]), CertReadFault>
-    ensures value { MatchResult result
-        (λ r. class_at bytes.now ≡ Ok (r.0, r.1.now))
-        (λ f. class_at bytes.now ≡ Err f) }
+    ensures value { ReadsAs (class_at bytes.now) result }
     ensures tail { IfOk result (λ r. IsTail bytes.now r.1.now) }
 {
     let (level, rest) = match read_level(bytes) {
@@ -96,9 +94,7 @@ fn read_class(bytes: &[u8]) -> Result<(LentClass<'_>, &[u8]), CertReadFault>
 
 #[tactic(auto, unfolding(crate::specs::Reading::level_at))]
 fn read_level(bytes: &[u8]) -> Result<(Level, &[u8]), CertReadFault>
-    ensures value { MatchResult result
-        (λ r. level_at bytes.now ≡ Ok (r.0, r.1.now))
-        (λ f. level_at bytes.now ≡ Err f) }
+    ensures value { ReadsAs (level_at bytes.now) result }
     ensures tail { IfOk result (λ r. IsTail bytes.now r.1.now) }
 {
     let (kind, rest) = read_u8(bytes)?;
@@ -156,37 +152,25 @@ fn are_flags(bytes: &[u8]) -> bool
 }
 
 fn read_u8(bytes: &[u8]) -> Result<(u8, &[u8]), CertReadFault>
-    ensures value { MatchResult result
-        (λ r. number_at w8 bytes.now ≡ Ok (r.0, r.1.now))
-        (λ f. number_at w8 bytes.now ≡ Err f) }
+    ensures value { ReadsAs (number_at w8 bytes.now) result }
     ensures tail { IfOk result (λ r. IsTail bytes.now r.1.now) }
 {
-    match bytes.split_first_chunk::<1>() {
-        Some((number, rest)) => Ok((number[0], rest)),
-        None => Err(CertReadFault::Short),
-    }
+    let (number, rest) = bytes.split_first_chunk::<1>().ok_or(CertReadFault::Short)?;
+    Ok((number[0], rest))
 }
 
 fn read_u16(bytes: &[u8]) -> Result<(u16, &[u8]), CertReadFault>
-    ensures value { MatchResult result
-        (λ r. number_at w16 bytes.now ≡ Ok (r.0, r.1.now))
-        (λ f. number_at w16 bytes.now ≡ Err f) }
+    ensures value { ReadsAs (number_at w16 bytes.now) result }
     ensures tail { IfOk result (λ r. IsTail bytes.now r.1.now) }
 {
-    match bytes.split_first_chunk::<2>() {
-        Some((number, rest)) => Ok((u16::from_be_bytes(*number), rest)),
-        None => Err(CertReadFault::Short),
-    }
+    let (number, rest) = bytes.split_first_chunk::<2>().ok_or(CertReadFault::Short)?;
+    Ok((u16::from_be_bytes(*number), rest))
 }
 
 fn read_u64(bytes: &[u8]) -> Result<(u64, &[u8]), CertReadFault>
-    ensures value { MatchResult result
-        (λ r. number_at w64 bytes.now ≡ Ok (r.0, r.1.now))
-        (λ f. number_at w64 bytes.now ≡ Err f) }
+    ensures value { ReadsAs (number_at w64 bytes.now) result }
     ensures tail { IfOk result (λ r. IsTail bytes.now r.1.now) }
 {
-    match bytes.split_first_chunk::<8>() {
-        Some((number, rest)) => Ok((u64::from_be_bytes(*number), rest)),
-        None => Err(CertReadFault::Short),
-    }
+    let (number, rest) = bytes.split_first_chunk::<8>().ok_or(CertReadFault::Short)?;
+    Ok((u64::from_be_bytes(*number), rest))
 }

@@ -1,33 +1,24 @@
 -- Accounts of a report book, found under their Alloc-IDs.
 use Rattle.std.proofs.Common.{◌≡◌, ℕ, zero, suc, ◌<◌, ◌≤◌, inl, inr, Bool, true, false, cond, not, List, [], ◌∷◌, map, refl, ap, sym, ◌∙◌, subst, arith, get_or, length, take, drop, set}
 use Rattle.std.specs.List.Sorted.{IsPartitionPoint, IsPartitionedBy}
-use Rattle.std.specs.Prelude.{◌==◌, ◌≢◌, slice_get, nat_lt, if◌then◌else◌, filter, All, Option, Some, None}
+use Rattle.std.specs.Prelude.{◌==◌, ◌≢◌, nat_lt, if◌then◌else◌, filter, All, Option, Some, None}
 use Rattle.std.proofs.lemmas.Bool.{cases_lt, eq-eqb, le-ltb, lt-ltb, ltb-true, ne_eqb}
 use Rattle.std.proofs.lemmas.Bool.Decides.{eqb_tells}
-use Rattle.std.proofs.lemmas.List.Elements.{All-nil, All-cons, All-filter, All-head, All-tail, All-weaker}
-use Rattle.std.proofs.lemmas.Option.{same_Some}
+use Rattle.std.proofs.lemmas.List.Elements.{All-nil, All-cons, All-head, All-tail, All-weaker}
+use Rattle.std.proofs.lemmas.Option.{same_Some, slice_get-get_or}
 use Rattle.std.proofs.lemmas.List.{drop_all}
+use Rattle.pon_lists.proofs.Lists.{All-unmap}
+use Rattle.pon_lists.proofs.Order.{in_order_at, in_order-unmap}
 use Rattle.pon_guar.specs.Book.{Account, AreRising, StandsAt, account_of, alloc_ids}
-
-pub unmap : {X Y : Type 0} (P : Y → Type 0) (f : X → Y) (xs : List X) → All P (map f xs) → All (λ x. P (f x)) xs
-unmap P f [] h = All-nil (λ x. P (f x))
-unmap P f (x ∷ xs) h = All-cons (λ x. P (f x)) x xs (All-head P (f x) (map f xs) h) (unmap P f xs (All-tail P (f x) (map f xs) h))
 
 pub found_each : (book : List Account) → AreRising (alloc_ids book) → All (λ a. account_of book a.alloc_id ≡ Some a) book
 found_each [] h = All-nil (λ a. account_of [] a.alloc_id ≡ Some a)
 found_each (x ∷ book) h = All-cons (λ a. account_of (x ∷ book) a.alloc_id ≡ Some a) x book
     (ap (λ b. cond b (Some x) (account_of book x.alloc_id)) (eq-eqb x.alloc_id x.alloc_id refl))
-    (λ n d l. past (get_or book n d) (unmap (λ j. x.alloc_id < j) (λ a. a.alloc_id) book h.0 n d l) (found_each book h.1 n d l))
+    (λ n d l. past (get_or book n d) (All-unmap (λ j. x.alloc_id < j) (λ a. a.alloc_id) book h.0 n d l) (found_each book h.1 n d l))
   where
     past : (a : Account) → x.alloc_id < a.alloc_id → account_of book a.alloc_id ≡ Some a → account_of (x ∷ book) a.alloc_id ≡ Some a
     past a l e = ap (λ b. cond b (Some x) (account_of book a.alloc_id)) (ne_eqb x.alloc_id a.alloc_id (λ q. omega (arith, q, l))) ∙ e
-
-pub rising_filter : (t : ℕ → Bool) (ids : List ℕ) → AreRising ids → AreRising (filter t ids)
-rising_filter t [] h = tt
-rising_filter t (i ∷ ids) h = elim (t i) as (λ b. AreRising (cond b (i ∷ filter t ids) (filter t ids))) [
-  | true ↦ (All-filter t (λ j. i < j) ids h.0, rising_filter t ids h.1)
-  | false ↦ rising_filter t ids h.1
-]
 
 -- what a function of Alloc-IDs keeps of a book where it gives each account back
 pub accounts_kept : (g : ℕ → Account) (p : ℕ → Bool) (book : List Account) → All (λ a. g a.alloc_id ≡ a) book → map g (filter p (alloc_ids book)) ≡ filter (λ a. p a.alloc_id) book
@@ -46,19 +37,15 @@ accounts_all g (x ∷ book) h = (λ i. All-head (λ a. g a.alloc_id ≡ a) x boo
 
 -- A book cut where an Alloc-ID belongs.
 
-rising_at : (book : List Account) → AreRising (alloc_ids book) → (m n : ℕ) (d : Account) → m < n → n < length book → (get_or book m d).alloc_id < (get_or book n d).alloc_id
-rising_at [] h m n d l k = absurd (omega (arith, k))
-rising_at (x ∷ book) h zero zero d l k = absurd (omega (arith, l))
-rising_at (x ∷ book) h zero (suc n) d l k = unmap (λ j. x.alloc_id < j) (λ a. a.alloc_id) book h.0 n d (omega (arith, k))
-rising_at (x ∷ book) h (suc m) zero d l k = absurd (omega (arith, l))
-rising_at (x ∷ book) h (suc m) (suc n) d l k = rising_at book h.1 m n d (omega (arith, l)) (omega (arith, k))
-
 -- no account of a lesser Alloc-ID comes after another one
 pub rising_parted : (i : ℕ) (book : List Account) → AreRising (alloc_ids book) → IsPartitionedBy (λ a. nat_lt a.alloc_id i) book
 rising_parted i book h m n d l k t = elim (cases_lt m n) [
-  | inl less ↦ lt-ltb (get_or book m d).alloc_id i (omega (arith, rising_at book h m n d less k, ltb-true (get_or book n d).alloc_id i t))
+  | inl less ↦ lt-ltb (get_or book m d).alloc_id i (omega (arith, rising m n d less k, ltb-true (get_or book n d).alloc_id i t))
   | inr not_less ↦ subst (λ j. nat_lt (get_or book j d).alloc_id i ≡ true) (let e : n ≡ m = omega (arith, l, not_less) in e) t
 ]
+  where
+    rising : (m n : ℕ) (d : Account) → m < n → n < length book → (get_or book m d).alloc_id < (get_or book n d).alloc_id
+    rising = in_order_at (λ a b. a.alloc_id < b.alloc_id) book (in_order-unmap (λ i j. i < j) (λ a. a.alloc_id) book h)
 
 -- what passes stands before the place, and what does not from it on
 pub parts_at : {X : Type 0} (p : X → Bool) (xs : List X) (k : ℕ) → k ≤ length xs → IsPartitionPoint (λ a. p a ≡ true) (λ a. p a ≡ false) xs k → (take k xs ≡ filter p xs) × (drop k xs ≡ filter (λ a. not (p a)) xs)
@@ -121,7 +108,7 @@ put_at a (x ∷ book) h zero d l e =
     ap (λ t. a ∷ t) (sym (put_absent a book (none_above a.alloc_id book (subst (λ i. All (λ j. i < j) (alloc_ids book)) e h.0))))
     ∙ ap (λ b. (if b then a else x) ∷ put a book) (sym (eq-eqb x.alloc_id a.alloc_id e))
 put_at a (x ∷ book) h (suc k) d l e =
-    let lesser : x.alloc_id < a.alloc_id = subst (λ i. x.alloc_id < i) e (unmap (λ j. x.alloc_id < j) (λ a. a.alloc_id) book h.0 k d (omega (arith, l))) in
+    let lesser : x.alloc_id < a.alloc_id = subst (λ i. x.alloc_id < i) e (All-unmap (λ j. x.alloc_id < j) (λ a. a.alloc_id) book h.0 k d (omega (arith, l))) in
     ap (λ t. x ∷ t) (put_at a book h.1 k d (omega (arith, l)) e)
     ∙ ap (λ b. (if b then a else x) ∷ put a book) (sym (ne_eqb x.alloc_id a.alloc_id (λ q. omega (arith, q, lesser))))
 
@@ -179,19 +166,14 @@ module _ (i : ℕ) (book : List Account) (rising : AreRising (alloc_ids book)) (
 
 -- An account at its place.
 
-get_here : {X : Type 0} (xs : List X) (k : ℕ) (d : X) → k < length xs → slice_get xs k ≡ Some (get_or xs k d)
-get_here [] k d l = absurd (omega (arith, l))
-get_here (x ∷ xs) zero d l = refl
-get_here (x ∷ xs) (suc k) d l = get_here xs k d (omega (arith, l))
-
 pub stands_here : (i : ℕ) (book : List Account) → AreRising (alloc_ids book) → (k : ℕ) (d : Account) → k < length book → (get_or book k d).alloc_id ≡ i → StandsAt book i k
 stands_here i book h k d l e = record {
   within = l;
-  is = get_here book k d l ∙ sym (subst (λ j. account_of book j ≡ Some (get_or book k d)) e (found_each book h k d l));
+  is = slice_get-get_or book k d l ∙ sym (subst (λ j. account_of book j ≡ Some (get_or book k d)) e (found_each book h k d l));
 }
 
 account_at : (i : ℕ) (book : List Account) (k : ℕ) (d : Account) → StandsAt book i k → account_of book i ≡ Some (get_or book k d)
-account_at i book k d s = sym s.is ∙ get_here book k d s.within
+account_at i book k d s = sym s.is ∙ slice_get-get_or book k d s.within
 
 pub change_at : (f : Account → Account) → ((a : Account) → (f a).alloc_id ≡ a.alloc_id) → (i : ℕ) (book : List Account) (k : ℕ) (d : Account) → AreRising (alloc_ids book) → StandsAt book i k
     → set book k (f (get_or book k d)) ≡ changing f i book

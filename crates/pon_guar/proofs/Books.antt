@@ -1,20 +1,21 @@
 -- What a report book keeps, call by call.
-use Rattle.std.proofs.Common.{◌≡◌, ℕ, zero, suc, ◌+◌, ◌-◌, ◌<◌, ◌≤◌, ◌||◌, ◌&&◌, Bool, true, false, not, List, [], ◌∷◌, ◌++◌, map, length, drop, take, get_or, refl, ap, sym, ◌∙◌, subst, arith, inl, inr}
+use Rattle.std.proofs.Common.{◌≡◌, ℕ, zero, suc, ◌+◌, ◌-◌, ◌<◌, ◌≤◌, ◌||◌, ◌&&◌, true, false, not, List, [], ◌∷◌, ◌++◌, map, length, drop, take, get_or, refl, ap, sym, ◌∙◌, subst, arith, inl, inr}
 use Rattle.std.specs.Prelude.{◌==◌, nat_le, nat_lt, if◌then◌else◌, filter, flat_map, sum_by, All, Option, Some, None}
 use Rattle.std.specs.List.{list_any}
 use Rattle.std.proofs.Math.Seq.{take-append_seam}
-use Rattle.std.proofs.lemmas.Bool.{cases_order, eq-eqb, le-leb, lt-leb, ltb-false, ltb-true, not-true, or_parts}
+use Rattle.std.proofs.lemmas.Bool.{cases_order, eq-eqb, le-leb, lt-leb, ltb-false, ltb-true, not-true}
 use Rattle.std.proofs.lemmas.List.{length-map, length-drop, map-append}
-use Rattle.std.proofs.lemmas.List.Elements.{All-nil, All-cons, All-append, All-drop, All-filter, All-head, All-map, All-tail, All-weaker, filter_passes}
+use Rattle.std.proofs.lemmas.List.Elements.{All-nil, All-cons, All-append, All-drop, All-filter, All-map, All-weaker, filter_passes}
 use Rattle.std.proofs.lemmas.List.Sums.{sum_by-cons}
 use Rattle.pon_units.specs.Granted.{AreInMapOrder}
 use Rattle.pon_units.specs.declared.granted.Granted.{Granted}
-use Rattle.pon_units.proofs.Lists.{flat_map-map, map_filter, map-map, sum_by-map}
+use Rattle.pon_lists.proofs.Lists.{flat_map-map, list_any-map, map_filter, map-map, none_any, sum_by-map, sum_by_agree}
 use Rattle.pon_guar.specs.Book.{Account, AreRising, Counted, alloc_ids, with_alloc}
 use Rattle.pon_guar.specs.Window.{IsLawfulMap, IsPlaceOf, LeadsTo, WindowMap, frame_after, grants_at, is_of, last_64, polled, words_to, words_to_from}
 use Rattle.pon_guar.specs.Reports.{after_occupancies, counting, with_report}
 use Rattle.pon_guar.specs.Loads.{IsBook, afresh, lessened, with_account, with_map, without_account}
-use Rattle.pon_guar.proofs.Accounts.{rising_filter}
+use Rattle.pon_lists.proofs.Order.{in_order-filter}
+use Rattle.pon_lists.proofs.Inserted.{in_order-inserted, rejoined_at}
 use Rattle.pon_guar.proofs.LessByGrants.{lessened_rising}
 use Rattle.pon_guar.proofs.Frames.{frame_at, leads_above, leads_after, leads_drop, leads_mapped, leads_push, polled_there}
 use Rattle.pon_guar.proofs.Polls.{said_lawful}
@@ -22,29 +23,14 @@ use Rattle.pon_guar.proofs.TakenReports.{counting_ids}
 
 -- Alloc-IDs with one more.
 
-rising_join : (i : ℕ) (xs ys : List ℕ) → AreRising xs → All (λ j. j < i) xs → All (λ j. i < j) ys → AreRising ys → AreRising (xs ++ i ∷ ys)
-rising_join i [] ys h l g k = (g, k)
-rising_join i (x ∷ xs) ys h l g k =
-    let first : x < i = All-head (λ j. j < i) x xs l in (
-      All-append (λ j. x < j) xs (i ∷ ys) h.0 (All-cons (λ j. x < j) i ys first (All-weaker (λ j. i < j) (λ j. x < j) (λ j q. omega (arith, first, q)) ys g)),
-      rising_join i xs ys h.1 (All-tail (λ j. j < i) x xs l) g k,
-    )
-
-pub none_any : {X : Type 0} (p : X → Bool) (xs : List X) → list_any p xs ≡ false → All (λ x. p x ≡ false) xs
-none_any p [] h = All-nil (λ x. p x ≡ false)
-none_any p (x ∷ xs) h =
-    let two : (p x ≡ false) × (list_any p xs ≡ false) = or_parts (p x) (list_any p xs) h in
-    All-cons (λ x. p x ≡ false) x xs two.0 (none_any p xs two.1)
-
 pub rising_with : (i : ℕ) (ids : List ℕ) → AreRising ids → list_any (λ j. j == i) ids ≡ false → AreRising (with_alloc i ids)
 rising_with i ids h n =
     let upper : List ℕ = filter (λ j. not (nat_lt j i)) ids in
     let other : All (λ j. (j == i) ≡ false) upper = All-filter (λ j. not (nat_lt j i)) (λ j. (j == i) ≡ false) ids (none_any (λ j. j == i) ids n) in
     let not_below : All (λ j. not (nat_lt j i) ≡ true) upper = filter_passes (λ j. not (nat_lt j i)) ids in
-    rising_join i (filter (λ j. nat_lt j i) ids) upper (rising_filter (λ j. nat_lt j i) ids h)
+    in_order-inserted (λ j. nat_lt j i) i ids (rejoined_at i (λ j. j) ids h) (λ j k. j < k) h
     (All-weaker (λ j. nat_lt j i ≡ true) (λ j. j < i) (λ j q. ltb-true j i q) (filter (λ j. nat_lt j i) ids) (filter_passes (λ j. nat_lt j i) ids))
     (λ k d l. above (get_or upper k d) (other k d l) (not_below k d l))
-    (rising_filter (λ j. not (nat_lt j i)) ids h)
   where
     above : (j : ℕ) → (j == i) ≡ false → not (nat_lt j i) ≡ true → i < j
     above j d l =
@@ -84,7 +70,7 @@ module _ (accounts : List Account) (window : List WindowMap) (k : IsBook account
 
   pub removed_book : (i : ℕ) → IsBook (without_account i accounts) window
   removed_book i = with_accounts (without_account i accounts)
-      (subst AreRising (map_filter (λ a. a.alloc_id) (λ j. not (j == i)) accounts) (rising_filter (λ j. not (j == i)) (alloc_ids accounts) k.rising))
+      (subst AreRising (map_filter (λ a. a.alloc_id) (λ j. not (j == i)) accounts) (in_order-filter (λ i j. i < j) (λ j. not (j == i)) (alloc_ids accounts) k.rising))
 
   pub mapped_book : (frame : ℕ) (gs : List Granted) → LeadsTo frame window → AreInMapOrder gs → IsBook (map (lessened gs) accounts) (with_map frame gs window)
   mapped_book frame gs next order =
@@ -133,10 +119,6 @@ module _ (accounts : List Account) (window : List WindowMap) (k : IsBook account
 
 -- Words granted from a place of the window on.
 
-sum_by_agree : {X : Type 0} (f g : X → ℕ) (xs : List X) → All (λ x. f x ≡ g x) xs → sum_by f xs ≡ sum_by g xs
-sum_by_agree f g [] h = refl
-sum_by_agree f g (x ∷ xs) h = sum_by-cons f x xs ∙ (λ j. All-head (λ x. f x ≡ g x) x xs h j + sum_by_agree f g xs (All-tail (λ x. f x ≡ g x) x xs h) j) ∙ sym (sum_by-cons g x xs)
-
 pub words_at : (n u i f : ℕ) (ms : List WindowMap) → LeadsTo n ms → (k : ℕ) (d : WindowMap) → k < length ms → (get_or ms k d).frame ≡ f → sum_by (words_to u i) (drop k ms) ≡ words_to_from u i f ms
 words_at n u i f [] h k d l e = absurd (omega (arith, l))
 words_at n u i f (m ∷ ms) h zero d l e =
@@ -166,8 +148,7 @@ noted_same f u v ms ns book = (λ j. after_occupancies (λ i. sum_by-map (λ m. 
         (ap (λ t. flat_map (λ m. m.grants) t) (map_filter (with_report f v) (λ m. m.frame == f) ms) ∙ flat_map-map (λ m. m.grants) (with_report f v) (filter (λ m. m.frame == f) ms))
 
 pub noted_there : (f u : ℕ) (ms : List WindowMap) → list_any (is_of f) (map (with_report f u) ms) ≡ list_any (is_of f) ms
-noted_there f u [] = refl
-noted_there f u (m ∷ ms) = ap (λ b. is_of f m || b) (noted_there f u ms)
+noted_there f u ms = list_any-map (is_of f) (with_report f u) ms
 
 -- a slice of a vector that is written anew
 pub written : {X : Type 0} (xs ys : List X) (n : ℕ) → n ≡ length xs → length ys ≡ length xs → take n (ys ++ drop (length ys) xs) ≡ ys

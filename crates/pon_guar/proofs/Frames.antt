@@ -6,12 +6,12 @@ use Rattle.std.proofs.lemmas.Bool.{eq-eqb, ne_eqb, not-false}
 use Rattle.std.proofs.lemmas.List.{append-nil, length-map, length_push}
 use Rattle.std.proofs.lemmas.List.Elements.{All-nil, All-cons, All-head, All-tail, All-weaker}
 use Rattle.std.proofs.lemmas.Option.{same_Some}
-use Rattle.std.proofs.lemmas.List.Folds.{list_any_at}
+use Rattle.std.proofs.lemmas.List.Folds.{list_any_none, list_any_at}
 use Rattle.pon_descr.specs.Checks.{first_of, when}
 use Rattle.pon_descr.proofs.Checks.{AreNone, none_refuses, when_none}
 use Rattle.pon_descr.specs.declared.refusal.Refusal.{Refusal}
 use Rattle.pon_descr.specs.declared.refusal.Refusal.TheVariants.{StaleFrame, NotPolled, ReportCount, AlreadyReported}
-use Rattle.pon_units.proofs.Lists.{or-false}
+use Rattle.pon_lists.proofs.Lists.{or-false}
 use Rattle.pon_guar.specs.Reports.{refuses_report}
 use Rattle.pon_guar.specs.Window.{Granted, IsPlaceOf, LeadsTo, WindowMap, frame_after, grants_at, is_of}
 
@@ -43,10 +43,6 @@ one_of_frame n f (x ∷ ms) h = All-cons (λ m. m.frame ≡ f → filter (λ m. 
 pub grants_of_one : (f u : ℕ) (ms : List WindowMap) (m : WindowMap) → filter (λ m. m.frame == f) ms ≡ m ∷ [] → grants_at f u ms ≡ filter (λ g. g.onu == u) m.grants
 grants_of_one f u ms m h = ap (λ ms. filter (λ g. g.onu == u) (flat_map (λ m. m.grants) ms)) h ∙ ap (filter (λ g. g.onu == u)) (append-nil m.grants)
 
-none_passes : {X : Type 0} (p : X → Bool) (xs : List X) → All (λ x. p x ≡ false) xs → list_any p xs ≡ false
-none_passes p [] h = refl
-none_passes p (x ∷ xs) h = ap (λ b. b || list_any p xs) (All-head (λ x. p x ≡ false) x xs h) ∙ none_passes p xs (All-tail (λ x. p x ≡ false) x xs h)
-
 -- A frame's place is its distance from the first.
 
 pub frame_at : (n : ℕ) (m : WindowMap) (ms : List WindowMap) → LeadsTo n (m ∷ ms) → (k : ℕ) (d : WindowMap) → k < length (m ∷ ms) → (get_or (m ∷ ms) k d).frame ≡ m.frame + k
@@ -75,11 +71,11 @@ module _ (n f : ℕ) (ms : List WindowMap) (m : WindowMap) (h : LeadsTo n ms) (f
       go (x ∷ xs) h first = ap (λ q. q.frame + length (x ∷ xs)) (sym (same_Some x m first)) ∙ h.0
 
   pub no_place_before : f < m.frame → list_any (is_of f) ms ≡ false
-  no_place_before l = none_passes (is_of f) ms
+  no_place_before l = list_any_none (is_of f) ms
       (All-weaker (λ q. n ≤ q.frame + length ms) (λ q. (q.frame == f) ≡ false) (λ q k. ne_eqb q.frame f (λ e. omega (arith, e, l, k, length_is))) ms (leads_above n ms h))
 
   pub no_place_behind : m.frame + length ms ≤ f → list_any (is_of f) ms ≡ false
-  no_place_behind l = none_passes (is_of f) ms
+  no_place_behind l = list_any_none (is_of f) ms
       (All-weaker (λ q. q.frame < n) (λ q. (q.frame == f) ≡ false) (λ q k. ne_eqb q.frame f (λ e. omega (arith, e, l, k, length_is))) ms (leads_below n ms h))
 
 -- What the map at a place tells of a report for its frame.

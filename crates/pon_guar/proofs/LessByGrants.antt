@@ -4,7 +4,7 @@ use Rattle.std.specs.Prelude.{◌==◌, if◌then◌else◌, Option, Some, None,
 use Rattle.std.proofs.lemmas.Bool.{eq-eqb, ne_eqb}
 use Rattle.std.proofs.lemmas.Bool.Decides.{eqb_tells}
 use Rattle.std.proofs.lemmas.List.Sums.{sum_by-append, sum_by-cons}
-use Rattle.pon_units.proofs.Lists.{map-map}
+use Rattle.pon_lists.proofs.Lists.{map-map}
 use Rattle.pon_guar.specs.Book.{Account, AreRising, Counted, alloc_ids}
 use Rattle.pon_guar.specs.Window.{Granted, words_among}
 use Rattle.pon_guar.specs.Loads.{less, less_by, lessened}

@@ -3,18 +3,19 @@ use Rattle.std.proofs.Common.{◌≡◌, ℕ, zero, suc, length, set, ◌+◌, �
 use Rattle.std.specs.Prelude.{◌==◌, nat_lt, filter, All}
 use Rattle.std.specs.List.Sorted.{IsPartitionedBy}
 use Rattle.std.proofs.lemmas.List.Sorted.{IsPartitionedBy-ltb}
+use Rattle.std.proofs.Math.Bool.{and-true}
 use Rattle.std.proofs.lemmas.Bool.{and_from, cases_lt, cases_order, eq-eqb, le-ltb, lt-ltb, ne_eqb, or_left, or_right}
 use Rattle.std.proofs.lemmas.Bool.Decides.{eqb_tells}
 use Rattle.std.proofs.lemmas.List.Elements.{All-nil, All-cons, All-filter, All-head, All-map, All-tail, All-weaker}
 use Rattle.pon_units.specs.declared.granted.Granted.{Granted}
 use Rattle.pon_units.specs.Granted.{AreInMapOrder, ComesBefore, onus_granted}
-use Rattle.pon_units.specs.Distinct.{distinct}
-use Rattle.pon_units.proofs.Distinct.{occurs}
-use Rattle.pon_units.proofs.Lists.{any_eq-filter, filter_agree, filter_same_in, or-false}
+use Rattle.pon_lists.specs.Distinct.{distinct}
+use Rattle.pon_lists.proofs.Distinct.{occurs}
+use Rattle.pon_lists.proofs.Lists.{any_eq-filter, filter_agree, filter_same_in, or-false}
 use Rattle.pon_guar.specs.Book.{AreRising, with_alloc}
 use Rattle.pon_guar.specs.Window.{IsLawfulMap, LeadsTo, WindowMap, polled}
 use Rattle.pon_guar.specs.Reports.{with_report}
-use Rattle.pon_guar.proofs.Accounts.{rising_filter}
+use Rattle.pon_lists.proofs.Order.{in_order-filter, in_order_at}
 use Rattle.pon_guar.proofs.Frames.{frame_at, leads_above}
 
 -- ONUs in map order rise.
@@ -43,20 +44,14 @@ pub onus_rise : (gs : List Granted) → AreInMapOrder gs → AreRising (onus_gra
 onus_rise [] h = tt
 onus_rise (g ∷ gs) h = (
   above g.onu (distinct (map (λ g. g.onu) gs)) (distinct_all (λ y. g.onu ≤ y) (map (λ g. g.onu) gs) (All-map (λ y. g.onu ≤ y) (λ g. g.onu) gs (All-weaker (ComesBefore g) (λ q. g.onu ≤ q.onu) (λ q b. b.0) gs h.0))),
-  rising_filter (λ y. not (y == g.onu)) (distinct (map (λ g. g.onu) gs)) (onus_rise gs h.1),
+  in_order-filter (λ i j. i < j) (λ y. not (y == g.onu)) (distinct (map (λ g. g.onu) gs)) (onus_rise gs h.1),
 )
 
 -- What rises is parted by each number.
 
-rising_at : (xs : List ℕ) → AreRising xs → (m n d : ℕ) → m < n → n < length xs → get_or xs m d < get_or xs n d
-rising_at [] h m n d l k = absurd (omega (arith, k))
-rising_at (x ∷ xs) h m zero d l k = absurd (omega (arith, l))
-rising_at (x ∷ xs) h zero (suc n) d l k = h.0 n d (omega (arith, k))
-rising_at (x ∷ xs) h (suc m) (suc n) d l k = rising_at xs h.1 m n d (omega (arith, l)) (omega (arith, k))
-
 pub parted : (u : ℕ) (xs : List ℕ) → AreRising xs → IsPartitionedBy (λ v. nat_lt v u) xs
 parted u xs h = IsPartitionedBy-ltb (λ v. v) xs u (λ m n d l k. elim (cases_lt m n) [
-  | inl less ↦ (let e : get_or xs m d < get_or xs n d = rising_at xs h m n d less k in omega (arith, e))
+  | inl less ↦ (let e : get_or xs m d < get_or xs n d = in_order_at (λ i j. i < j) xs h m n d less k in omega (arith, e))
   | inr not_less ↦ (let e : n ≡ m = omega (arith, l, not_less) in let q : get_or xs n d ≡ get_or xs m d = ap (λ j. get_or xs j d) e in omega (arith, q))
 ])
 
@@ -113,7 +108,7 @@ placed p u (x ∷ xs) h t n = elim (eqb_tells x u) [
 -- A map's reporters.
 
 pub reporters_rise : (m : WindowMap) → IsLawfulMap m → AreRising m.reported
-reporters_rise m l = subst AreRising (sym l.reported) (rising_filter (λ u. occurs u m.reported) (polled m) (onus_rise m.grants l.rising))
+reporters_rise m l = subst AreRising (sym l.reported) (in_order-filter (λ i j. i < j) (λ u. occurs u m.reported) (polled m) (onus_rise m.grants l.rising))
 
 pub noted : (m : WindowMap) (u : ℕ) → IsLawfulMap m → occurs u (polled m) ≡ true → occurs u m.reported ≡ false → with_alloc u m.reported ≡ (with_report m.frame u m).reported
 noted m u l there first =
@@ -134,12 +129,8 @@ pub said_lawful : (said : ℕ → Bool) (m : WindowMap) → AreInMapOrder m.gran
 said_lawful said m h = record {
   rising = h;
   reported = filter_same_in said (λ u. occurs u (filter said (polled m))) (polled m)
-      (λ u k. sym (any_eq-filter said u (polled m) ∙ ap (λ b. said u && b) k ∙ and_true (said u)));
+      (λ u k. sym (any_eq-filter said u (polled m) ∙ ap (λ b. said u && b) k ∙ and-true (said u)));
 }
-  where
-    and_true : (b : Bool) → (b && true) ≡ b
-    and_true true = refl
-    and_true false = refl
 
 -- A report in a window.
 

@@ -4,26 +4,27 @@ use Rattle.std.specs.Prelude.{◌==◌, if◌then◌else◌, slice_get, nat_lt, 
 use Rattle.std.specs.List.{position_or_len}
 use Rattle.std.specs.Option.{option_or}
 use Rattle.std.proofs.Math.Nat.{add-mod_left, mod-add-mod, mod-eq_of_lt}
-use Rattle.std.proofs.lemmas.Bool.{and_left, and_parts, and_right, eq-eqb, eqb-true, lt-ltb, ne_eqb}
+use Rattle.std.proofs.lemmas.Bool.{and_left, and_parts, and_right, eqb-true, lt-ltb, ne_eqb}
 use Rattle.std.proofs.lemmas.Bool.Decides.{eqb_tells}
 use Rattle.std.proofs.lemmas.List.Elements.{All-head, All-tail}
 use Rattle.std.proofs.lemmas.List.Sums.{position_or_len_is, sum_by_push, sum_by-cons}
 use Rattle.std.proofs.lemmas.Option.{same_Some}
 use Rattle.pon_units.specs.Granted.{AreInMapOrder, ComesBefore}
 use Rattle.std.proofs.lemmas.List.{length-drop, length-map, length_push, map-append}
-use Rattle.pon_units.proofs.Lists.{position-None_or_len, position-Some_or_len, sum_by-map}
+use Rattle.pon_lists.proofs.Lists.{position-None_or_len, position-Some_or_len, sum_by-map}
 use Rattle.pon_guar.specs.Window.{Granted, WindowMap, last_64, words_granted, words_to}
 use Rattle.pon_guar.specs.Loads.{with_map}
 use Rattle.pon_guar.specs.Reports.{with_report}
 use Rattle.pon_guar.specs.Sums.{AreSummed, AreSumsOf, is_to, or_zero, sum_before, sum_behind, sum_now, sums_beside}
-use Rattle.pon_guar.proofs.Series.{no_words, order_at, words_found}
+use Rattle.pon_guar.proofs.Series.{words_found}
+use Rattle.pon_lists.proofs.Order.{in_order_at}
 
 -- Where a grant stands.
 
 -- of the grants of a map one at most is to an Alloc-ID under an ONU
 pub stands_at : (u i : ℕ) (gs : List Granted) → AreInMapOrder gs → (k : ℕ) (d : Granted) → k < length gs → is_to u i (get_or gs k d) ≡ true → Some k ≡ position (is_to u i) gs
 stands_at u i gs h k d l t =
-    let e : position_or_len (is_to u i) gs ≡ k = position_or_len_is (is_to u i) gs k d (omega (arith, l)) (λ j q. other (get_or gs j d) (order_at gs h j k d q l)) (λ q. t) in
+    let e : position_or_len (is_to u i) gs ≡ k = position_or_len_is (is_to u i) gs k d (omega (arith, l)) (λ j q. other (get_or gs j d) (in_order_at ComesBefore gs h j k d q l)) (λ q. t) in
     sym (ap (λ n. cond (nat_lt n (length gs)) (Some n) None) e ∙ ap (λ b. cond b (Some k) None) (lt-ltb k (length gs) l))
   where
     both : (((get_or gs k d).onu == u) ≡ true) × (((get_or gs k d).alloc_id == i) ≡ true)

@@ -1,5 +1,5 @@
 -- The grants of an ONU in a map, found by halves.
-use Rattle.std.proofs.Common.{◌≡◌, ℕ, zero, suc, ◌<◌, ◌&&◌, Bool, not, List, [], ◌∷◌, length, get_or, ap, sym, ◌∙◌, arith, inl, inr}
+use Rattle.std.proofs.Common.{◌≡◌, ℕ, ◌<◌, ◌&&◌, Bool, not, List, length, get_or, ap, sym, ◌∙◌, arith, inl, inr}
 use Rattle.std.specs.List.Sorted.{IsNonDecreasingBy}
 use Rattle.std.specs.List.{position}
 use Rattle.std.specs.Prelude.{◌==◌, nat_le, nat_lt, slice_get, filter, find, Option, Some, None}
@@ -9,19 +9,14 @@ use Rattle.std.proofs.lemmas.List.Folds.{find_at}
 use Rattle.std.proofs.lemmas.Option.{slice_get-get_or, slice_get_past}
 use Rattle.pon_units.specs.Granted.{AreInMapOrder, ComesBefore}
 use Rattle.pon_units.specs.declared.granted.Granted.{Granted}
-use Rattle.pon_units.proofs.Lists.{filter-filter, filter_agree, position-None_or_len, position-Some_or_len}
+use Rattle.pon_lists.proofs.Lists.{filter-filter, filter_agree, position-None_or_len, position-Some_or_len}
+use Rattle.pon_lists.proofs.Order.{in_order_at}
 use Rattle.pon_guar.specs.Window.{words_granted}
-
-pub order_at : (gs : List Granted) → AreInMapOrder gs → (m n : ℕ) (d : Granted) → m < n → n < length gs → ComesBefore (get_or gs m d) (get_or gs n d)
-order_at [] h m n d l k = absurd (omega (arith, k))
-order_at (g ∷ gs) h m zero d l k = absurd (omega (arith, l))
-order_at (g ∷ gs) h zero (suc n) d l k = h.0 n d (omega (arith, k))
-order_at (g ∷ gs) h (suc m) (suc n) d l k = order_at gs h.1 m n d (omega (arith, l)) (omega (arith, k))
 
 -- what is in map order is ordered by its ONUs
 pub by_onu : (gs : List Granted) → AreInMapOrder gs → IsNonDecreasingBy (λ g. g.onu) gs
 by_onu gs h m n d l k = elim (cases_lt m n) [
-  | inl less ↦ (order_at gs h m n d less k).0
+  | inl less ↦ (in_order_at ComesBefore gs h m n d less k).0
   | inr not_less ↦ (let e : n ≡ m = omega (arith, l, not_less) in let q : (get_or gs n d).onu ≡ (get_or gs m d).onu = ap (λ j. (get_or gs j d).onu) e in omega (arith, q))
 ]
 

@@ -2,7 +2,7 @@
 use Rattle.std.proofs.Common.{◌≡◌, ℕ, ◌-◌, ◌⊎◌, inl, inr, true, false, List, [], ◌∷◌, length, refl, ap, sym, subst, ◌∙◌}
 use Rattle.std.specs.Prelude.{◌==◌, nat_le, if◌then◌else◌, Option, Some}
 use Rattle.std.proofs.lemmas.List.{nil_from_length}
-use Rattle.pon_units.proofs.Lists.{map-map, map_same}
+use Rattle.pon_lists.proofs.Lists.{map-map, map_same}
 use Rattle.pon_guar.specs.Book.{Account, AreRising, Counted, alloc_ids}
 use Rattle.pon_guar.specs.Window.{Granted}
 use Rattle.pon_guar.specs.Reports.{after_occupancies, counting, taking, with_latest}

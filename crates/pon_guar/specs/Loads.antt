@@ -1,5 +1,6 @@
 -- The report book, and what each of its calls leaves.
-use Rattle.std.specs.Prelude.{ℕ, ◌-◌, ◌≤◌, ◌==◌, nat_lt, not, All, List, [], ◌∷◌, ◌++◌, map, filter, length, Option, None, option_map}
+use Rattle.std.specs.Prelude.{ℕ, ◌-◌, ◌≤◌, nat_lt, All, List, [], ◌∷◌, ◌++◌, map, length, Option, None, option_map}
+use Rattle.pon_lists.specs.Order.{with_inserted, without_key}
 use Rattle.pon_guar.specs.Book.{Account, AreRising, Counted, alloc_ids}
 use Rattle.pon_guar.specs.Window.{Granted, IsLawfulMap, LeadsTo, WindowMap, frame_after, grants_at, last_64, words_among, words_to_from}
 use Rattle.pon_guar.specs.Reports.{after_occupancies, with_report}
@@ -20,11 +21,12 @@ pub record IsBook (accounts : List Account) (window : List WindowMap) : Type 0 w
 abbrev pub fresh_account : ℕ → ℕ → Account
 fresh_account i since = record { alloc_id = i; since = since; counted = None }
 
+-- the accounts with one more in its place, and with that of an Alloc-ID taken out
 abbrev pub with_account : Account → List Account → List Account
-with_account a book = filter (λ b. nat_lt b.alloc_id a.alloc_id) book ++ a ∷ filter (λ b. not (nat_lt b.alloc_id a.alloc_id)) book
+with_account a book = with_inserted (λ b. nat_lt b.alloc_id a.alloc_id) a book
 
 abbrev pub without_account : ℕ → List Account → List Account
-without_account i book = filter (λ a. not (a.alloc_id == i)) book
+without_account i book = without_key (λ a. a.alloc_id) i book
 
 -- a report and an account with so many words less, and an account after grants
 abbrev pub less : ℕ → Counted → Counted

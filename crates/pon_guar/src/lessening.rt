@@ -6,8 +6,6 @@ ghost use Rattle.pon_guar.specs.Window.{last_64};
 ghost use Rattle.pon_guar.specs.Loads.{lessened, less_by};
 
 use crate::account::{Account, Counted, index_near};
-use crate::sums::MapSums;
-use crate::window::WindowMap;
 use pon_units::{BufOcc, Granted, Words};
 
 /// So many words less, 0 at the least.
@@ -82,26 +80,14 @@ pub(crate) fn lessen(accounts: &mut [Account], grants: &[Granted], places: &mut 
 /// The most maps of a window.
 const MOST_MAPS: usize = 64;
 
-/// Adds a map, and lets the oldest of more than 64 go.
-pub(crate) fn add_to_window(window: &mut Vec<WindowMap>, map: WindowMap)
+/// Adds what belongs to a map, and drops the oldest beyond 64.
+pub(crate) fn add_to_window<T: Drop>(window: &mut Vec<T>, latest: T)
     requires few { length window.old.items ≤ 64 }
     requires room { vec_len window.old < vec_capacity window.old }
-    ensures { window.new.items ≡ last_64 (window.old.items ++ map ∷ []) }
+    ensures { window.new.items ≡ last_64 (window.old.items ++ latest ∷ []) }
 {
-    window.push(map).unwrap();
+    window.push(latest).unwrap();
     if window.len() > MOST_MAPS {
         let _oldest = window.remove(0);
-    }
-}
-
-/// Adds the sums of a map, and lets the oldest of more than 64 go.
-pub(crate) fn add_to_sums(sums: &mut Vec<MapSums>, next: MapSums)
-    requires few { length sums.old.items ≤ 64 }
-    requires room { vec_len sums.old < vec_capacity sums.old }
-    ensures { sums.new.items ≡ last_64 (sums.old.items ++ next ∷ []) }
-{
-    sums.push(next).unwrap();
-    if sums.len() > MOST_MAPS {
-        let _oldest = sums.remove(0);
     }
 }

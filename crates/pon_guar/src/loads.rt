@@ -3,7 +3,7 @@ ghost use Rattle.pon_guar.specs.Book.{load_of_counted};
 
 use crate::account::{Account, Counted, account_of, add_account, index_near, remove_account};
 use crate::counting::{count_report, forget, note_report};
-use crate::lessening::{add_to_sums, add_to_window, lessen, noted};
+use crate::lessening::{add_to_window, lessen, noted};
 use crate::sums::{MapSums, next_sums};
 use crate::window::{WindowMap, report_refusal};
 use pon_descr::Refusal;
@@ -221,7 +221,7 @@ impl Loads {
         };
         lessen(&mut self.accounts, grants, &mut self.places);
         add_to_window(&mut self.window, map);
-        add_to_sums(&mut self.sums, next);
+        add_to_window(&mut self.sums, next);
         Ok(())
     }
 

@@ -17,22 +17,18 @@ codeword_test word s lt e = (
   λ h. e ∙ sym (codeword_sealed (2 ^ 64) word (omega arith) h),
 )
 
--- of a word and one that differs from it by the pattern
-pub differs_by : (w d : ℕ) → bit_xor w (bit_xor w d) ≡ d
-differs_by w d = xor_back w d
-
 pub reads_none : (n w : ℕ) → IsCodeword (2 ^ n) w → Reads (2 ^ n) w (w / 2 ^ 13) 0
 reads_none n w h = record { codeword = w; is_codeword = h; has_payload = refl; differs = ap ones (xor_self w) ∙ ones_zero; few = omega arith }
 
 pub reads_one : (n w i : ℕ) → IsCodeword (2 ^ n) (bit_xor w (2 ^ i)) → Reads (2 ^ n) w (bit_xor w (2 ^ i) / 2 ^ 13) 1
-reads_one n w i h = record { codeword = bit_xor w (2 ^ i); is_codeword = h; has_payload = refl; differs = ap ones (differs_by w (2 ^ i)) ∙ ones_pow i; few = omega arith }
+reads_one n w i h = record { codeword = bit_xor w (2 ^ i); is_codeword = h; has_payload = refl; differs = ap ones (xor_back w (2 ^ i)) ∙ ones_pow i; few = omega arith }
 
 pub reads_two : (n w i j : ℕ) → j < i → IsCodeword (2 ^ n) (bit_xor (bit_xor w (2 ^ i)) (2 ^ j)) → Reads (2 ^ n) w (bit_xor (bit_xor w (2 ^ i)) (2 ^ j) / 2 ^ 13) 2
 reads_two n w i j lt h = record {
   codeword = bit_xor (bit_xor w (2 ^ i)) (2 ^ j);
   is_codeword = h;
   has_payload = refl;
-  differs = ap (λ (x : ℕ). ones (bit_xor w x)) (xor_assoc w (2 ^ i) (2 ^ j)) ∙ ap ones (differs_by w (bit_xor (2 ^ i) (2 ^ j))) ∙ ones_pows i j lt;
+  differs = ap (λ (x : ℕ). ones (bit_xor w x)) (xor_assoc w (2 ^ i) (2 ^ j)) ∙ ap ones (xor_back w (bit_xor (2 ^ i) (2 ^ j))) ∙ ones_pows i j lt;
   few = omega arith;
 }
 

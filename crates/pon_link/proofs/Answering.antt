@@ -8,7 +8,7 @@ use Rattle.pon_bwmap.specs.MapFaults.{IsFirstFault}
 use Rattle.pon_bwmap.specs.declared.fault.MapFault.{MapFault}
 use Rattle.pon_bwmap.specs.declared.fault.MapFault.TheVariants as map_fault
 use Rattle.pon_bwmap.proofs.OneMap.{one_head}
-use Rattle.pon_link.specs.Runs.{AreBytes}
+use Rattle.pon_lists.specs.Bytes.{AreBytes}
 use Rattle.pon_link.specs.DownRecords.{IsDownRecord, KeepsDown, GivesDown}
 use Rattle.pon_link.specs.Reading.{Reading, KeepsForm, IsWhole, HasFault}
 use Rattle.pon_link.specs.declared.direction.Direction.{Direction}
@@ -17,7 +17,7 @@ use Rattle.pon_link.specs.declared.fault.LinkFault.{LinkFault}
 use Rattle.pon_link.specs.declared.fault.LinkFault.TheVariants.{BadMap}
 use Rattle.pon_link.specs.declared.fault.DownFault.{DownFault}
 use Rattle.pon_link.specs.declared.fault.DownFault.TheVariants.{Link, Memory}
-use Rattle.pon_link.proofs.Sizes.{bytes_behind}
+use Rattle.pon_lists.proofs.Bytes.{bytes-drop}
 
 -- the fault of the form is the reader's, where the input has not ended
 pub form_fault_shown : (s : Reading) (r : Option LinkFault) → s.ended ≡ false → MatchOption r (KeepsForm s.direction s.held) (λ f. HasFault (record { direction = s.direction; held = s.held; ended = false }) f) → MatchOption r (KeepsForm s.direction s.held × (s.ended ≡ false)) (λ f. HasFault s f)
@@ -41,7 +41,7 @@ pub down_record : (bytes : List ℕ) (frame : ℕ) (rows : List Structure) (corr
 down_record bytes frame rows corrected used small w read here =
     let r : ReadsMap (drop 9 bytes) rows corrected used = subst (λ (t : List ℕ). ReadsMap t rows corrected used) (rest_of bytes) read in
     let told = w.size in
-    let same = one_head (drop 9 bytes) r.head told.0 r.in_head told.1 (bytes_behind 9 bytes small) r.reads_head.reads told.2 in
+    let same = one_head (drop 9 bytes) r.head told.0 r.in_head told.1 (bytes-drop 9 bytes small) r.reads_head.reads told.2 in
     let all : used ≡ 4 + 8 * length rows = omega (arith, r.used_is, r.reads_rows.counted, same.1, told.4) in
     record {
       size = omega (arith, told.5, same.0, r.reads_rows.counted);

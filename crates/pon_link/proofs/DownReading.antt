@@ -1,17 +1,14 @@
 -- Downstream bytes have one reading as a record at most, and a record tells its size.
-use Rattle.std.proofs.Common.{◌≡◌, ◌≢◌, ℕ, ◌+◌, ◌*◌, ◌<◌, List, ◌++◌, length, drop, get_or, All, sym, ◌∙◌, inl, inr, arith}
-use Rattle.std.proofs.lemmas.Bool.{cases_lt}
-use Rattle.std.proofs.lemmas.List.{get_or_append_left, get_or_past}
-use Rattle.std.proofs.lemmas.List.Elements.{All-from_get_or}
+use Rattle.std.proofs.Common.{◌≡◌, ◌≢◌, ℕ, ◌+◌, ◌*◌, ◌<◌, List, ◌++◌, length, drop, All, sym, ◌∙◌, arith}
 use Rattle.pon_bwmap.specs.MapFaults.{IsFirstFault}
 use Rattle.pon_bwmap.specs.declared.fault.MapFault.{MapFault}
 use Rattle.pon_bwmap.specs.declared.fault.MapFault.TheVariants as map_fault
 use Rattle.pon_bwmap.proofs.OneMap.{one_map, no_fault}
-use Rattle.pon_link.specs.Runs.{AreBytes}
+use Rattle.pon_lists.specs.Bytes.{AreBytes}
 use Rattle.pon_link.specs.DownRecords.{IsDownRecord}
 use Rattle.pon_link.specs.Reading.{AnnouncesMap}
 use Rattle.pon_link.specs.declared.record.DownRecord.{DownRecord}
-use Rattle.pon_link.proofs.Sizes.{bytes_behind}
+use Rattle.pon_lists.proofs.Bytes.{All-from_bytes, bytes-drop, bytes-front}
 
 -- a record tells its own size
 pub down_size : (bytes : List ℕ) (r : DownRecord) → IsDownRecord bytes r → AnnouncesMap (drop 9 bytes) (length bytes)
@@ -24,20 +21,13 @@ down_size bytes r h = (
   omega (arith, h.size, h.map.reads_rows.counted),
 )
 
--- bytes at the front of others
-bytes_front : (bytes rest : List ℕ) → AreBytes (bytes ++ rest) → AreBytes bytes
-bytes_front bytes rest small k = elim (cases_lt k (length bytes)) [
-  | inl lt ↦ let e : get_or (bytes ++ rest) k 0 ≡ get_or bytes k 0 = get_or_append_left bytes rest 0 k lt in omega (arith, e, small k)
-  | inr ge ↦ omega (arith, get_or_past bytes k 0 ge)
-]
-
 all_bytes : (bytes : List ℕ) → AreBytes bytes → All (λ b. b < 256) (drop 9 bytes)
-all_bytes bytes small = All-from_get_or (λ b. b < 256) (drop 9 bytes) 0 (λ i lt. bytes_behind 9 bytes small i)
+all_bytes bytes small = All-from_bytes (drop 9 bytes) (bytes-drop 9 bytes small)
 
 -- a record's bytes are that record alone, whatever stands behind them
 pub one_down_record : (bytes rest : List ℕ) (r s : DownRecord) → AreBytes (bytes ++ rest) → IsDownRecord bytes r → IsDownRecord bytes s → r ≡ s
 one_down_record bytes rest r s small h k =
-    let same = one_map (drop 9 bytes) r.map s.map h.corrected k.corrected (4 + 8 * length r.map) (4 + 8 * length s.map) (all_bytes bytes (bytes_front bytes rest small)) h.map k.map in
+    let same = one_map (drop 9 bytes) r.map s.map h.corrected k.corrected (4 + 8 * length r.map) (4 + 8 * length s.map) (all_bytes bytes (bytes-front bytes rest small)) h.map k.map in
     let frame : r.frame ≡ s.frame = sym h.frame ∙ k.frame in
     let map : r.map ≡ s.map = same.0 in
     λ i. record { frame = frame i; map = map i }

@@ -8,7 +8,7 @@ use Rattle.pon_xgtc.specs.BurstHead.{BurstHeader}
 use Rattle.pon_xgtc.specs.declared.fault.HeadFault.TheVariants.{Hec}
 use Rattle.pon_xgtc.proofs.HeaderReading.{one_header, no_fault}
 use Rattle.pon_link.specs.UpRecords.{IsRecord, ReadsHead, ReadsReport, ReadsReports}
-use Rattle.pon_link.specs.Runs.{AreBytes}
+use Rattle.pon_lists.specs.Bytes.{AreBytes}
 use Rattle.pon_link.specs.declared.record.UpRecord.{UpRecord}
 
 -- two cuts of a list at one place are the same

@@ -2,7 +2,7 @@
 use Rattle.std.proofs.Common.{◌≡◌, ◌⊎◌, List, ℕ, length, refl, ap, sym, ◌∙◌, subst, inl, inr, true, false, arith}
 use Rattle.pon_link.specs.UpRecords.{IsRecord}
 use Rattle.pon_link.specs.DownRecords.{IsDownRecord}
-use Rattle.pon_link.specs.Runs.{AreBytes}
+use Rattle.pon_lists.specs.Bytes.{AreBytes}
 use Rattle.pon_link.specs.Reading.{Reading, IsOpen, IsBeginning, IsWhole, HasFault, HasBadForm, HasBadTag, HasRefusedMap}
 use Rattle.pon_link.specs.declared.direction.Direction.{Direction}
 use Rattle.pon_link.specs.declared.direction.Direction.TheVariants.{Up, Down}

@@ -1,12 +1,14 @@
 -- The records that a reader gives are those of the bytes that it took, whatever the pieces.
 use Rattle.std.proofs.Common.{◌≡◌, ℕ, ◌+◌, ◌<◌, ◌≤◌, List, [], ◌∷◌, ◌++◌, length, get_or, refl, ap, sym, ◌∙◌, subst, append_assoc, length-append, arith}
-use Rattle.std.proofs.lemmas.List.{append-nil, get_or_append_left, get_or-append-add}
+use Rattle.std.proofs.lemmas.List.{append-nil, get_or_append_left}
 use Rattle.pon_link.specs.UpRecords.{IsRecord}
 use Rattle.pon_link.specs.DownRecords.{IsDownRecord}
 use Rattle.pon_link.specs.Reading.{Reading, empty, holds_more, tag_of, telling, Announces, IsBeginning}
 use Rattle.pon_link.specs.declared.direction.Direction.{Direction}
 use Rattle.pon_link.specs.declared.direction.Direction.TheVariants.{Up, Down}
-use Rattle.pon_link.specs.Runs.{Step, Took, Gave, Leads, taken, given, AreRecords, AreBytes}
+use Rattle.pon_link.specs.Runs.{Step, Took, Gave, Leads, taken, given, AreRecords}
+use Rattle.pon_lists.specs.Bytes.{AreBytes}
+use Rattle.pon_lists.proofs.Bytes.{bytes-back}
 use Rattle.pon_link.proofs.DownReading.{down_size, one_down_record}
 use Rattle.pon_link.proofs.OneReading.{same_cut, one_record}
 use Rattle.pon_link.proofs.Sizes.{one_size, size_kept, size_before, more_needed}
@@ -62,10 +64,6 @@ no_record_yet Is d t held first rest r small b e h =
     let long : telling d ≤ length held = omega (arith, size, t.told first r h) in
     omega (arith, size, more_needed d held (length first) small long (size_behind Is d t held first rest r e h) b)
 
--- bytes behind others
-bytes_behind : (a x : List ℕ) → AreBytes (a ++ x) → AreBytes x
-bytes_behind a x small = λ k. let e : get_or (a ++ x) (length a + k) 0 ≡ get_or x k 0 = get_or-append-add a x k 0 in omega (arith, e, small (length a + k))
-
 one_way : {R : Type 0} (Is : List ℕ → R → Type 0) (d : Direction) → AreTold Is d → (bytes : List ℕ) (rs ss : List R) (held kept : List ℕ) → AreBytes bytes → IsBeginning d held → IsBeginning d kept → AreRecords Is bytes rs held → AreRecords Is bytes ss kept → (rs ≡ ss) × (held ≡ kept)
 one_way Is d t bytes [] [] held kept small b c h k = (refl, sym h ∙ k)
 one_way Is d t bytes [] (s ∷ ss) held kept small b c h k = absurd (no_record_yet Is d t held k.0 k.1 s (subst AreBytes h small) b (sym h ∙ k.2) k.3)
@@ -74,7 +72,7 @@ one_way Is d t bytes (r ∷ rs) (s ∷ ss) held kept small b c h k =
     let cut = record_cut Is d t h.0 k.0 h.1 k.1 r s (subst AreBytes h.2 small) h.3 k.3 (sym h.2 ∙ k.2) in
     let here : AreBytes (k.0 ++ k.1) = subst AreBytes k.2 small in
     let first : r ≡ s = t.one k.0 k.1 r s here (subst (λ (a : List ℕ). Is a r) cut.0 h.3) k.3 in
-    let rest = one_way Is d t k.1 rs ss held kept (bytes_behind k.0 k.1 here) b c (subst (λ (a : List ℕ). AreRecords Is a rs held) cut.1 h.4) k.4 in
+    let rest = one_way Is d t k.1 rs ss held kept (bytes-back k.0 k.1 here) b c (subst (λ (a : List ℕ). AreRecords Is a rs held) cut.1 h.4) k.4 in
     (λ i. first i ∷ rest.0 i, rest.1)
 
 pub whatever_the_pieces : {R : Type 0} (Is : List ℕ → R → Type 0) (d : Direction) → AreTold Is d → (steps others : List (Step R)) (s t : Reading) → Leads Is (empty d) steps s → Leads Is (empty d) others t → taken steps ≡ taken others → AreBytes (taken steps) → IsBeginning d s.held → IsBeginning d t.held → (given steps ≡ given others) × (s.held ≡ t.held)

@@ -2,19 +2,17 @@
 use Rattle.std.proofs.Common.{◌≡◌, ℕ, ◌+◌, ◌-◌, ◌^◌, ◌<◌, ◌≤◌, ◌⊎◌, true, false, List, [], ◌∷◌, ◌++◌, length, take, drop, get_or, Option, Some, None, IsSome, IsNone, MatchOption, refl, sym, ◌∙◌, subst, length-append, inl, inr, arith}
 use Rattle.std.specs.Int.{w32, from_be_bytes}
 use Rattle.std.proofs.lemmas.Bool.{cases_lt}
-use Rattle.std.proofs.lemmas.List.{get_or_append_left, get_or-drop, drop-append-le, length-drop}
+use Rattle.std.proofs.lemmas.List.{get_or_append_left, drop-append-le, length-drop}
 use Rattle.std.proofs.lemmas.Slice.{between_to_end}
 use Rattle.pon_hec.specs.HeaderCode.{Reads}
 use Rattle.pon_xgtc.specs.MapHead.{MapHead, map_head_payload, ReadsMapHead}
 use Rattle.pon_bwmap.proofs.OneMap.{one_head}
 use Rattle.pon_link.specs.UpRecords.{count_in}
-use Rattle.pon_link.specs.Runs.{AreBytes}
+use Rattle.pon_lists.specs.Bytes.{AreBytes}
+use Rattle.pon_lists.proofs.Bytes.{bytes-drop}
 use Rattle.pon_link.specs.Reading.{Announces, AnnouncesMap, HasBadSize, KeepsForm, IsBeginning, IsWhole, IsWithinRecord, telling, longest}
 use Rattle.pon_link.specs.declared.direction.Direction.{Direction}
 use Rattle.pon_link.specs.declared.direction.Direction.TheVariants.{Up, Down}
-
-pub bytes_behind : (n : ℕ) (bytes : List ℕ) → AreBytes bytes → AreBytes (drop n bytes)
-bytes_behind n bytes small = λ k. let e : get_or (drop n bytes) k 0 ≡ get_or bytes (n + k) 0 = get_or-drop n bytes k 0 in omega (arith, e, small (n + k))
 
 -- the bytes of a map tell one size at most
 pub one_map_size : (map : List ℕ) (n m : ℕ) → AreBytes map → AnnouncesMap map n → AnnouncesMap map m → n ≡ m
@@ -25,7 +23,7 @@ one_map_size map n m small a b =
 -- bytes tell one size at most
 pub one_size : (d : Direction) (bytes : List ℕ) (n m : ℕ) → AreBytes bytes → Announces d bytes n → Announces d bytes m → n ≡ m
 one_size Up bytes n m small a b = a.2 ∙ sym b.2
-one_size Down bytes n m small a b = one_map_size (drop 9 bytes) n m (bytes_behind 9 bytes small) a b
+one_size Down bytes n m small a b = one_map_size (drop 9 bytes) n m (bytes-drop 9 bytes small) a b
 
 -- bytes behind those that tell a size change nothing
 word_kept : (b more : List ℕ) → 4 ≤ length b → from_be_bytes w32 (b ++ more) ≡ from_be_bytes w32 b

@@ -1,5 +1,5 @@
 -- What a reader of a link's records does over a time: it takes bytes in pieces, and gives records between them.
-use Rattle.std.specs.Prelude.{◌≡◌, ◌<◌, ℕ, List, [], ◌∷◌, ◌++◌, slice_index}
+use Rattle.std.specs.Prelude.{◌≡◌, ℕ, List, [], ◌∷◌, ◌++◌}
 use Rattle.pon_link.specs.Reading.{Reading, empty, holds_more}
 
 -- a step of a reader: it took a piece, or gave a record
@@ -30,7 +30,3 @@ given (Gave r ∷ steps) = r ∷ given steps
 abbrev pub AreRecords : {R : Type 0} → (List ℕ → R → Type 0) → List ℕ → List R → List ℕ → Type 0
 AreRecords Is bytes [] held = bytes ≡ held
 AreRecords Is bytes (r ∷ rs) held = (first rest : List ℕ) × (bytes ≡ first ++ rest) × Is first r × AreRecords Is rest rs held
-
--- each number of the list is a byte
-abbrev pub AreBytes : List ℕ → Type 0
-AreBytes bytes = (k : ℕ) → slice_index bytes k < 256

@@ -4,7 +4,8 @@ ghost use Rattle.std.specs.Prelude.{◌≡◌, ◌<◌, ℕ, List, ◌++◌, len
 ghost use Rattle.pon_link.specs.Reading.{Reading, empty, IsBeginning, HasFault, IsOpen};
 ghost use Rattle.pon_link.specs.UpRecords.{IsRecord};
 ghost use Rattle.pon_link.specs.DownRecords.{IsDownRecord};
-ghost use Rattle.pon_link.specs.Runs.{Step, Leads, taken, given, AreRecords, AreBytes};
+ghost use Rattle.pon_link.specs.Runs.{Step, Leads, taken, given, AreRecords};
+ghost use Rattle.pon_lists.specs.Bytes.{AreBytes};
 ghost use Rattle.pon_link.specs.declared.direction.Direction.{Direction};
 ghost use Rattle.pon_link.specs.declared.record.UpRecord.{UpRecord};
 ghost use Rattle.pon_link.specs.declared.record.DownRecord.{DownRecord};

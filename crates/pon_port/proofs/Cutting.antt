@@ -1,5 +1,5 @@
 -- A legal history that is cut in two, the second part opened with the replay of the first, has the same replay.
-use Rattle.std.proofs.Common.{◌≡◌, ℕ, ◌+◌, ◌-◌, ◌<◌, ◌≤◌, Bool, true, false, not, ◌||◌, List, [], ◌∷◌, ◌++◌, map, length, refl, ap, sym, ◌∙◌, subst, arith, append_assoc, ◌^◌}
+use Rattle.std.proofs.Common.{◌≡◌, ℕ, ◌+◌, ◌-◌, ◌<◌, ◌≤◌, true, false, not, ◌||◌, List, [], ◌∷◌, ◌++◌, map, length, refl, ap, sym, ◌∙◌, subst, arith, append_assoc, ◌^◌}
 use Rattle.std.specs.Prelude.{◌==◌, nat_le, if◌then◌else◌, filter, flat_map, Option, Some, None, option_to_list, option_map}
 use Rattle.std.specs.List.{list_any}
 use Rattle.std.proofs.lemmas.List.{map-id}
@@ -22,23 +22,16 @@ use Rattle.pon_port.specs.Checks.{first_refusal, refuses, when_down, when_full}
 use Rattle.pon_event.specs.declared.event.Event.{Event}
 use Rattle.pon_event.specs.declared.event.Event.TheVariants.{Admit, Change, Remove, Report, MakeMap, Fail, Restore}
 use Rattle.pon_port.specs.declared.reply.Entry.{Entry}
-use Rattle.pon_descr.specs.declared.refusal.Refusal.{Refusal}
+use Rattle.pon_descr.proofs.Checks.{or_else_none, when_none}
 use Rattle.pon_descr.specs.declared.refusal.Refusal.TheVariants.{ChapterFull}
 use Rattle.pon_port.proofs.Legality.{IsLegalAfter, after_from_legal, legal_from_after, legal_push, legal_split}
 use Rattle.pon_units.proofs.Lists.{or-false, map-map, map_same, length-drop, length-append, append-nil, length-map, map-append, flat_map-append}
 use Rattle.pon_port.proofs.Parts.{next_of-append, next_of_grows, roster_of-append, allocs_of-append, cause_of-append, frame_at_last-append, frame_at_last_any, frame_at_last_none, frame_at_last_late, frame_at_last_below}
-use Rattle.pon_port.proofs.Windows.{all_maps-append, all_maps_lead, maps_of-append, maps_lead, length-maps_of, leads-filter, leads-drop, window_of-append}
+use Rattle.pon_port.proofs.Windows.{all_maps-append, all_maps_lead, maps_of-append, maps_lead, length-maps_of, leads-filter, window_of-append}
+use Rattle.pon_guar.proofs.Frames.{leads_drop}
 use Rattle.pon_port.proofs.Loads.{from, from_window, agree, AreBelow, EventBelow, AreWithin, EventWithin, sub_sub, words_from-map, candidates_agree, candidates_late, candidates_less, latest_less, latest-append, has_id, had_alloc_all, found_since, found_counted}
 
 -- What a legal history says of its reports.
-
-pub or_else_none : (q r : Option Refusal) → or_else q r ≡ None → (q ≡ None) × (r ≡ None)
-or_else_none None r h = (refl, h)
-or_else_none (Some q) r h = absurd cc
-
-pub when_none : (b : Bool) (r : Refusal) → when b r ≡ None → b ≡ false
-when_none true r h = absurd cc
-when_none false r h = refl
 
 -- a report that is taken is of a frame of the window
 report_in_window : (kept : ℕ) (s : State) (frame onu : ℕ) (count : ℕ) → or_else (or_else (when_down s.cause) (refuses_report s.window frame onu count)) (when_full kept s.taken_before) ≡ None → list_any (is_of frame) s.window ≡ true
@@ -59,7 +52,7 @@ pub window_leads : (o : State) (es : List Entry) → LeadsTo o.next o.window →
 window_leads o es h =
     let c : ℕ = frame_at_last (λ e. forgets e.event) 0 o.next es in
     let kept : List WindowMap = filter (λ m. nat_le c m.frame) (all_maps o es) in
-    leads-drop (next_of o.next es) (length kept - 64) kept (leads-filter (next_of o.next es) c (all_maps o es) (all_maps_lead o es h))
+    leads_drop (next_of o.next es) (length kept - 64) kept (leads-filter (next_of o.next es) c (all_maps o es) (all_maps_lead o es h))
 
 -- the reports of a legal history are of frames that were made
 pub legal_below : (o : State) (done es : List Entry) (n : ℕ) → LeadsTo o.next o.window → IsLegalAfter o done es → next_of o.next (done ++ es) ≤ n → AreBelow n es
@@ -250,7 +243,7 @@ fewer_kept more fewer s e l m =
     record { event = m.event; accepted = (λ i. or_else (two.0 i) (when (here i || room.1 i) ChapterFull)); reply = m.reply }
 
 -- entries that may follow a list may follow its replay
-follow_replay : (o : State) (xs done ys : List Entry) → LeadsTo o.next o.window → IsLegalAfter o [] (xs ++ done) → IsLegalAfter o (xs ++ done) ys → IsLegalAfter (replay o xs) done ys
+pub follow_replay : (o : State) (xs done ys : List Entry) → LeadsTo o.next o.window → IsLegalAfter o [] (xs ++ done) → IsLegalAfter o (xs ++ done) ys → IsLegalAfter (replay o xs) done ys
 follow_replay o xs done [] leads before legal = tt
 follow_replay o xs done (e ∷ ys) leads before legal =
     let same : replay o (xs ++ done) ≡ replay (replay o xs) done = replay-append o xs done leads before in (

@@ -14,21 +14,10 @@ use Rattle.pon_units.proofs.Lists.{count_by-append, flat_map-append}
 use Rattle.pon_burst.specs.Maps.{frame_words}
 use Rattle.pon_burst.specs.Series.{FitsFrame, Series, granted, granted_to}
 use Rattle.pon_burst.proofs.SeriesOrder.{Rise, fits_from, granted_of}
+use Rattle.pon_lists.proofs.Order.{in_order-back, in_order-front}
 use Rattle.pon_port.specs.Packing.{AreOneMap}
 
 -- Parts of grants in map order.
-
-order_back : (xs ys : List Granted) → AreInMapOrder (xs ++ ys) → AreInMapOrder ys
-order_back [] ys h = h
-order_back (x ∷ xs) ys h = order_back xs ys h.1
-
-All-front : {X : Type 0} (P : X → Type 0) (xs ys : List X) → All P (xs ++ ys) → All P xs
-All-front P [] ys h = All-nil P
-All-front P (x ∷ xs) ys h = All-cons P x xs (All-head P x (xs ++ ys) h) (All-front P xs ys (All-tail P x (xs ++ ys) h))
-
-order_front : (xs ys : List Granted) → AreInMapOrder (xs ++ ys) → AreInMapOrder xs
-order_front [] ys h = tt
-order_front (x ∷ xs) ys h = (All-front (ComesBefore x) xs ys h.0, order_front xs ys h.1)
 
 -- the Alloc-IDs of one ONU rise
 items_rise : (u : ℕ) (bs : List (ℕ × ℕ)) → AreInMapOrder (map (granted_of u) bs) → AllPairs (λ a b. a.0 < b.0) bs
@@ -73,7 +62,7 @@ others_begin u (g ∷ gs) = elim (cases_Bool (g.onu == u)) [
 -- behind the grants of an ONU, all are of greater ones
 others_above : (u : ℕ) (gs : List Granted) → All (λ g. u ≤ g.onu) gs → AreInMapOrder gs → All (λ g. u < g.onu) (drop (front_len u gs) gs)
 others_above u gs low order = go (drop (front_len u gs) gs) (All-drop (λ g. u ≤ g.onu) (front_len u gs) gs low)
-    (order_back (take (front_len u gs) gs) (drop (front_len u gs) gs) (subst AreInMapOrder (sym (take-append-drop (front_len u gs) gs)) order)) (others_begin u gs)
+    (in_order-back ComesBefore (take (front_len u gs) gs) (drop (front_len u gs) gs) (subst AreInMapOrder (sym (take-append-drop (front_len u gs) gs)) order)) (others_begin u gs)
   where
     go : (hs : List Granted) → All (λ g. u ≤ g.onu) hs → AreInMapOrder hs → BeginsOther u hs → All (λ g. u < g.onu) hs
     go [] l o b = All-nil (λ g. u < g.onu)
@@ -110,7 +99,7 @@ module _ (grants : List Granted) (order : AreInMapOrder grants) (series : List S
   len = front_len first.onu rest
 
   rest_order : AreInMapOrder rest
-  rest_order = order_back (granted series) rest (subst AreInMapOrder (sym g.whole) order)
+  rest_order = in_order-back ComesBefore (granted series) rest (subst AreInMapOrder (sym g.whole) order)
 
   pub some_own : 0 < len
   some_own = omega (arith, front_more first.onu first more refl)
@@ -127,7 +116,7 @@ module _ (grants : List Granted) (order : AreInMapOrder grants) (series : List S
       let below : All (λ t. t.0 < s.0) series
       = All-weaker (λ t. All (λ g. t.0 < g.onu) rest) (λ t. t.0 < s.0) (λ t a. omega (arith, onu, All-head (λ g. t.0 < g.onu) first more a)) series g.above in
       let own_order : AreInMapOrder (granted_to s)
-      = subst AreInMapOrder (sym own) (order_front (take len rest) (drop len rest) (subst AreInMapOrder (sym (take-append-drop len rest)) rest_order)) in
+      = subst AreInMapOrder (sym own) (in_order-front ComesBefore (take len rest) (drop len rest) (subst AreInMapOrder (sym (take-append-drop len rest)) rest_order)) in
       let some : 0 < length s.1.items
       = omega (arith, length-map s.1.items (granted_of s.0), ap (λ t. length t) own, length_taken) in
       let low : All (λ g. first.onu ≤ g.onu) rest

@@ -31,13 +31,13 @@ use Rattle.pon_port.specs.Legal.{IsEvent, IsMade, MayFollow}
 use Rattle.pon_port.specs.Chapters.{Chapter, IsLawfulChapter, present_state}
 use Rattle.pon_port.specs.Taking.{IsKept, Takes, with_entry}
 use Rattle.pon_port.specs.After.{after_admit, after_change, after_cut, after_event, after_map, after_remove, after_report, with_parts}
-use Rattle.pon_guar.proofs.Accounts.{accounts_all, accounts_kept, found_each, unmap}
-use Rattle.pon_guar.proofs.Books.{none_any}
+use Rattle.pon_guar.proofs.Accounts.{accounts_all, accounts_kept, found_each}
+use Rattle.pon_lists.proofs.Lists.{All-unmap, none_any}
 use Rattle.pon_port.proofs.Legality.{IsLegalAfter, after_from_legal, legal_from_after, legal_push}
 use Rattle.pon_port.proofs.Cutting.{replay-append}
 use Rattle.pon_port.proofs.Steps.{counted_forgotten, counted_of-map, counted_of-report, last_64-window, since_begins, since_keeps, window_of-cut, window_of-map, window_of-quiet}
 use Rattle.pon_port.proofs.Steady.{IsSteady, steady_step}
-use Rattle.pon_port.proofs.ReportSteps.{report_step}
+use Rattle.pon_port.proofs.ReportSteps.{latest_lone, report_step}
 use Rattle.pon_port.proofs.LawfulStates.{IsLawfulState, from_opening, legal_state}
 
 -- The step of a map.
@@ -99,15 +99,11 @@ module _ (s : State) (e : Entry) (m : makes_map e.event ≡ false) (none : (ms :
       let since : since_of s (e ∷ []) i ≡ a.since = since_keeps s i e b ∙ ap since_of_account found in
       let counted : counted_of s (e ∷ []) i ≡ a.counted
       = counted_of-report s i e m b
-      ∙ (λ j. latest (counted_of_account (found j) ++ none (map (with_reports (e ∷ [])) s.window) (since_of_account (account_of s.book i)) i j)) ∙ lone a.counted in
+      ∙ (λ j. latest (counted_of_account (found j) ++ none (map (with_reports (e ∷ [])) s.window) (since_of_account (account_of s.book i)) i j)) ∙ latest_lone a.counted in
       (λ j. record { alloc_id = i; since = since j; counted = counted j })
-    where
-      lone : (c : Option Counted) → latest (option_to_list c ++ []) ≡ c
-      lone None = refl
-      lone (Some c) = refl
 
   same_accounts : AreRising (alloc_ids s.book) → All (λ i. begins i e ≡ false) (alloc_ids s.book) → All (λ a. account_after s (e ∷ []) a.alloc_id ≡ a) s.book
-  same_accounts rising b = λ n d l. same_account (get_or s.book n d) (unmap (λ i. begins i e ≡ false) (λ a. a.alloc_id) s.book b n d l) (found_each s.book rising n d l)
+  same_accounts rising b = λ n d l. same_account (get_or s.book n d) (All-unmap (λ i. begins i e ≡ false) (λ a. a.alloc_id) s.book b n d l) (found_each s.book rising n d l)
 
 -- the entry of an event whose reply is that it was taken
 abbrev taken_entry : Event → Entry

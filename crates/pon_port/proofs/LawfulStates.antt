@@ -31,8 +31,8 @@ use Rattle.pon_descr.specs.declared.refusal.Refusal.TheVariants.{StaleFrame}
 use Rattle.pon_units.proofs.Lists.{any_eq-filter, filter_agree, map-map, or-false}
 use Rattle.pon_port.proofs.Windows.{filter_zero, leads-map}
 use Rattle.pon_port.proofs.Loads.{had_alloc_all, has_id}
-use Rattle.pon_guar.proofs.Accounts.{found_each, unmap}
-use Rattle.pon_guar.proofs.Books.{none_any}
+use Rattle.pon_guar.proofs.Accounts.{found_each}
+use Rattle.pon_lists.proofs.Lists.{All-unmap, none_any}
 use Rattle.pon_guar.proofs.Frames.{grants_of_one, leads_below, one_of_frame}
 use Rattle.pon_guar.proofs.Polls.{occurs-distinct}
 use Rattle.pon_port.proofs.Members.{any_contains, contains_any, each_has}
@@ -40,7 +40,7 @@ use Rattle.pon_port.proofs.Legality.{IsLegalAfter, after_from_legal, legal_push,
 use Rattle.pon_descr.proofs.Checks.{or_else_none, when_none}
 use Rattle.pon_port.proofs.Cutting.{replay-append}
 use Rattle.pon_port.proofs.Steps.{counted_forgotten, counted_of-map, counted_of-report, since_begins, since_keeps}
-use Rattle.pon_units.proofs.Distinct.{occurs}
+use Rattle.pon_lists.proofs.Distinct.{occurs}
 use Rattle.pon_admit.proofs.AdmittedSets.{changed, changed_alloc, changed_onu}
 use Rattle.pon_port.proofs.Steady.{IsSteady, grants_all, steady_step, window_all}
 
@@ -338,7 +338,7 @@ module _ (s : State) (e : Entry) (k : IsSteady s) (i : ℕ) (b : begins i e ≡ 
     not_late = omega (arith, below);
     reported = window_all (λ m. m.frame ≡ f → All (λ r. r.alloc_id ≡ i → Contains m.reported r.onu) (roster_after s.roster e.event)) s e
         (λ n z l. one (get_or s.window n z)
-        (unmap (λ m. m.frame ≡ f → filter (λ m. m.frame == f) seen ≡ m ∷ []) (with_reports (e ∷ [])) s.window (one_of_frame s.next f seen (leads-map (e ∷ []) s.next s.window k.frames)) n z l)
+        (All-unmap (λ m. m.frame ≡ f → filter (λ m. m.frame == f) seen ≡ m ∷ []) (with_reports (e ∷ [])) s.window (one_of_frame s.next f seen (leads-map (e ∷ []) s.next s.window k.frames)) n z l)
         (lawful.owner n z l))
         (λ t. absurd (let q : true ≡ false = sym t ∙ no_map in cc));
   }

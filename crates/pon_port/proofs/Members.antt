@@ -5,7 +5,7 @@ use Rattle.std.proofs.lemmas.Bool.{eq-eqb, or_left, or_right}
 use Rattle.std.proofs.lemmas.Bool.Decides.{eqb_tells}
 use Rattle.std.proofs.lemmas.List.Elements.{All-nil, All-cons, All-weaker}
 use Rattle.std.proofs.lemmas.List.Folds.{list_any_at}
-use Rattle.pon_units.proofs.Distinct.{occurs}
+use Rattle.pon_lists.proofs.Distinct.{occurs}
 use Rattle.pon_port.proofs.Loads.{has_id}
 
 pub contains_any : (u : ℕ) (xs : List ℕ) → Contains xs u → occurs u xs ≡ true

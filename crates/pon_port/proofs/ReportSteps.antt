@@ -4,6 +4,7 @@ use Rattle.std.specs.Prelude.{◌==◌, nat_le, if◌then◌else◌, filter, fin
 use Rattle.std.specs.List.{list_any}
 use Rattle.std.proofs.lemmas.Bool.{cases_Bool, eq-eqb, eqb-true, leb-true, ne_eqb}
 use Rattle.std.proofs.lemmas.Bool.Decides.{eqb_tells, leb_tells}
+use Rattle.std.proofs.lemmas.List.{map-id}
 use Rattle.std.proofs.lemmas.List.Elements.{All-append, All-cons, All-head, All-nil, All-tail, All-weaker}
 use Rattle.std.proofs.lemmas.List.Sums.{sum_by-cons}
 use Rattle.pon_units.specs.Granted.{AreInMapOrder, ComesBefore}
@@ -91,24 +92,16 @@ taken_all granted f [] ns a = a
 taken_all granted f (g ∷ gs) [] a = a
 
 by_accounts : (granted : ℕ → ℕ) (f : ℕ) (gs : List Granted) (ns : List (Option ℕ)) (book : List Account) → after_occupancies granted f gs ns book ≡ map (taken_all granted f gs ns) book
-by_accounts granted f [] ns book = sym (map_id book)
-  where
-    map_id : (xs : List Account) → map (λ a. a) xs ≡ xs
-    map_id [] = refl
-    map_id (x ∷ xs) = ap (λ t. x ∷ t) (map_id xs)
-by_accounts granted f (g ∷ gs) [] book = sym (map_id book)
-  where
-    map_id : (xs : List Account) → map (λ a. a) xs ≡ xs
-    map_id [] = refl
-    map_id (x ∷ xs) = ap (λ t. x ∷ t) (map_id xs)
+by_accounts granted f [] ns book = sym (map-id book)
+by_accounts granted f (g ∷ gs) [] book = sym (map-id book)
 by_accounts granted f (g ∷ gs) (None ∷ ns) book = by_accounts granted f gs ns book
 by_accounts granted f (g ∷ gs) (Some n ∷ ns) book =
     by_accounts granted f gs ns (counting g.alloc_id (record { frame = f; words = n - granted g.alloc_id }) book)
     ∙ map-map (taken_all granted f gs ns) (λ a. if a.alloc_id == g.alloc_id then taking (record { frame = f; words = n - granted g.alloc_id }) a else a) book
 
-lone : (c : Option Counted) → latest (option_to_list c ++ []) ≡ c
-lone None = refl
-lone (Some c) = refl
+pub latest_lone : (c : Option Counted) → latest (option_to_list c ++ []) ≡ c
+latest_lone None = refl
+latest_lone (Some c) = refl
 
 -- before its since-frame nothing counts
 too_early : (granted : ℕ → ℕ) (f : ℕ) (a : Account) → nat_le a.since f ≡ false → (gs : List Granted) (ns : List (Option ℕ)) → taken_all granted f gs ns a ≡ a
@@ -133,8 +126,8 @@ module _ (granted : ℕ → ℕ) (f i since : ℕ) (e : nat_le since f ≡ true)
 
   -- from its since-frame on the latest counts
   in_time : (gs : List Granted) (ns : List (Option ℕ)) (o : Option Counted) → taken_all granted f gs ns (account o) ≡ account (latest (option_to_list o ++ map told (occupancies i gs ns)))
-  in_time [] ns o = ap account (sym (lone o))
-  in_time (g ∷ gs) [] o = ap account (sym (lone o))
+  in_time [] ns o = ap account (sym (latest_lone o))
+  in_time (g ∷ gs) [] o = ap account (sym (latest_lone o))
   in_time (g ∷ gs) (None ∷ ns) o = in_time gs ns o
   in_time (g ∷ gs) (Some n ∷ ns) o = elim (eqb_tells g.alloc_id i) [
     | inl q ↦
@@ -233,7 +226,7 @@ module _ (s : State) (l : IsLawfulState s) (f u : ℕ) (ns : List (Option ℕ)) 
             ∙ (λ j. record { alloc_id = a.alloc_id; since = a.since; counted = latest (option_to_list a.counted ++ (same (leb-true a.since f e) ∙ ap (λ b. if b then map (told_from (words_from a.alloc_id f s.window)) occs else []) (sym e)) j) })
         | inr e ↦
             too_early granted f a e (grants_at f u s.window) ns
-            ∙ (λ j. record { alloc_id = a.alloc_id; since = a.since; counted = (sym (lone a.counted) ∙ ap (λ b. latest (option_to_list a.counted ++ (if b then map (told_from (words_from a.alloc_id f s.window)) occs else []))) (sym e)) j })
+            ∙ (λ j. record { alloc_id = a.alloc_id; since = a.since; counted = (sym (latest_lone a.counted) ∙ ap (λ b. latest (option_to_list a.counted ++ (if b then map (told_from (words_from a.alloc_id f s.window)) occs else []))) (sym e)) j })
       ])
       ∙ (λ j. record { alloc_id = a.alloc_id; since = sym since j; counted = sym counted j })
     where

@@ -7,7 +7,7 @@ use Rattle.std.proofs.lemmas.List.Elements.{All-map, All-weaker}
 use Rattle.std.proofs.lemmas.List.Sums.{sum_by-cons}
 use Rattle.pon_units.specs.Granted.{AreInMapOrder, ComesBefore, onus_granted}
 use Rattle.pon_units.specs.declared.granted.Granted.{Granted}
-use Rattle.pon_units.specs.Distinct.{distinct}
+use Rattle.pon_lists.specs.Distinct.{distinct}
 use Rattle.pon_units.specs.Fraction.{Fraction}
 use Rattle.pon_units.proofs.Lists.{map-map, sum_by-map}
 use Rattle.pon_burst.specs.Bursts.{AreSound}

@@ -1,11 +1,10 @@
 -- What every state of a lawful chapter keeps, but for the accounts of its reports.
-use Rattle.std.proofs.Common.{◌≡◌, ℕ, ◌-◌, ◌≤◌, Bool, true, false, cond, not, ◌||◌, ◌&&◌, List, [], ◌∷◌, ◌++◌, map, length, refl, ap, sym, ◌∙◌, subst, arith, inl, inr, get_or}
+use Rattle.std.proofs.Common.{◌≡◌, ◌<◌, ℕ, ◌-◌, ◌≤◌, Bool, true, false, cond, not, ◌||◌, ◌&&◌, List, [], ◌∷◌, ◌++◌, map, length, refl, ap, sym, ◌∙◌, subst, arith, inl, inr, get_or}
 use Rattle.std.specs.Prelude.{◌==◌, nat_le, nat_lt, if◌then◌else◌, filter, All, Option, Some, None, IfSome, option_to_list}
 use Rattle.std.specs.List.{list_any}
 use Rattle.std.proofs.lemmas.Bool.{or_right, cases_Bool}
 use Rattle.std.proofs.lemmas.Option.{IfSome_then}
 use Rattle.std.proofs.lemmas.List.Elements.{All-nil, All-cons, All-head, All-tail, All-append, All-drop, All-filter, All-map, All-weaker}
-use Rattle.std.proofs.lemmas.List.Folds.{list_any-append}
 use Rattle.pon_bwmap.specs.Structure.{Structure}
 use Rattle.pon_descr.specs.Checks.{or_else}
 use Rattle.pon_admit.specs.Roster.{IsAdmitted, IsInMapOrder, comes_before, has_alloc, refuses_admit, rule_in_force, without}
@@ -25,13 +24,15 @@ use Rattle.pon_units.specs.Granted.{AreInMapOrder, ComesBefore}
 use Rattle.pon_event.specs.declared.event.Event.{Event}
 use Rattle.pon_event.specs.declared.event.Event.TheVariants.{Admit, Change, Remove, Report, MakeMap, Fail, Restore}
 use Rattle.pon_port.specs.declared.reply.Entry.{Entry}
-use Rattle.pon_units.proofs.Lists.{any_eq-filter, append-nil, length-drop, map_filter, or_assoc}
+use Rattle.pon_units.proofs.Lists.{any_eq-filter, append-nil, length-drop, map_filter}
 use Rattle.pon_port.proofs.Windows.{filter_low, leads-map}
 use Rattle.pon_port.proofs.Cutting.{alloc_ids-replay, window_leads}
 use Rattle.pon_descr.proofs.Checks.{or_else_none}
 use Rattle.pon_port.proofs.Steps.{counted_forgotten, counted_of-report}
 use Rattle.pon_admit.proofs.AdmittedSets.{Passes, has_alloc-changed, passes, precedes}
-use Rattle.pon_guar.proofs.Accounts.{rising_filter}
+use Rattle.pon_lists.proofs.Inserted.{list_any-inserted}
+use Rattle.pon_lists.proofs.Lists.{list_any-map}
+use Rattle.pon_lists.proofs.Order.{in_order-filter}
 use Rattle.pon_guar.proofs.Books.{rising_with}
 use Rattle.pon_guar.proofs.Polls.{said_lawful}
 use Rattle.pon_port.proofs.LawfulChapters.{event_keeps}
@@ -99,34 +100,12 @@ maps_step s e k = window_all IsLawfulMap s e
 
 -- The Alloc-IDs of the book.
 
--- one more in its place, the others kept
-pub any_around : {X : Type 0} (p q : X → Bool) (x : X) (xs : List X) → list_any p (filter q xs ++ x ∷ filter (λ y. not (q y)) xs) ≡ (p x || list_any p xs)
-any_around p q x xs = list_any-append p (filter q xs) (x ∷ filter (λ y. not (q y)) xs)
-    ∙ or_swap (list_any p (filter q xs)) (p x) (list_any p (filter (λ y. not (q y)) xs))
-    ∙ ap (λ b. p x || b) (both p q xs)
-  where
-    or_swap : (a b c : Bool) → (a || (b || c)) ≡ (b || (a || c))
-    or_swap true true c = refl
-    or_swap true false c = refl
-    or_swap false b c = refl
-
-    both : {X : Type 0} (p q : X → Bool) (xs : List X) → (list_any p (filter q xs) || list_any p (filter (λ y. not (q y)) xs)) ≡ list_any p xs
-    both p q [] = refl
-    both p q (y ∷ xs) = elim (q y) as (λ b. (list_any p (cond b (y ∷ filter q xs) (filter q xs)) || list_any p (cond (not b) (y ∷ filter (λ y. not (q y)) xs) (filter (λ y. not (q y)) xs))) ≡ (p y || list_any p xs)) [
-      | true ↦ or_assoc (p y) (list_any p (filter q xs)) (list_any p (filter (λ y. not (q y)) xs)) ∙ ap (λ b. p y || b) (both p q xs)
-      | false ↦ or_swap (list_any p (filter q xs)) (p y) (list_any p (filter (λ y. not (q y)) xs)) ∙ ap (λ b. p y || b) (both p q xs)
-    ]
-
-has_alloc-is : (j : ℕ) (rows : List Row) → has_alloc j rows ≡ list_any (λ i. i == j) (map (λ r. r.alloc_id) rows)
-has_alloc-is j [] = refl
-has_alloc-is j (r ∷ rows) = ap (λ b. (r.alloc_id == j) || b) (has_alloc-is j rows)
-
 has_alloc-without : (i j : ℕ) (rows : List Row) → has_alloc j (without i rows) ≡ (not (j == i) && has_alloc j rows)
 has_alloc-without i j rows =
-    has_alloc-is j (without i rows)
+    sym (list_any-map (λ k. k == j) (λ r. r.alloc_id) (without i rows))
     ∙ ap (list_any (λ k. k == j)) (sym (map_filter (λ r. r.alloc_id) (λ k. not (k == i)) rows))
     ∙ any_eq-filter (λ k. not (k == i)) j (map (λ r. r.alloc_id) rows)
-    ∙ ap (λ b. not (j == i) && b) (sym (has_alloc-is j rows))
+    ∙ ap (λ b. not (j == i) && b) (list_any-map (λ k. k == j) (λ r. r.alloc_id) rows)
 
 -- the Alloc-IDs after an event are those of the roster after it
 ids_step : (kept : ℕ) (s : State) (v : Event) → first_refusal kept s v ≡ None → AccountsFor s.roster s.book →
@@ -135,13 +114,13 @@ ids_step kept s (Admit onu alloc_id descriptor) h k =
     let r : Row = record { onu = onu; alloc_id = alloc_id; descriptor = descriptor } in
     let p : Passes rule_in_force s.gap s.roster r = passes rule_in_force s.gap s.roster r (or_else_none (refuses_admit rule_in_force s.gap s.roster r) (when_full kept s.taken_before) h).0 in (
       rising_with alloc_id (alloc_ids s.book) k.0 (k.1 alloc_id ∙ p.free),
-      λ i. any_around (λ j. j == i) (λ j. nat_lt j alloc_id) alloc_id (alloc_ids s.book)
+      λ i. list_any-inserted (λ j. j == i) (λ j. nat_lt j alloc_id) alloc_id (alloc_ids s.book)
           ∙ ap (λ b. (alloc_id == i) || b) (k.1 i)
-          ∙ sym (any_around (λ q. q.alloc_id == i) (λ q. comes_before q r) r s.roster),
+          ∙ sym (list_any-inserted (λ q. q.alloc_id == i) (λ q. comes_before q r) r s.roster),
     )
 ids_step kept s (Change alloc_id descriptor) h k = (k.0, λ i. k.1 i ∙ sym (has_alloc-changed alloc_id descriptor i s.roster))
 ids_step kept s (Remove alloc_id) h k = (
-  rising_filter (λ j. not (j == alloc_id)) (alloc_ids s.book) k.0,
+  in_order-filter (λ i j. i < j) (λ j. not (j == alloc_id)) (alloc_ids s.book) k.0,
   λ i. any_eq-filter (λ j. not (j == alloc_id)) i (alloc_ids s.book) ∙ ap (λ b. not (i == alloc_id) && b) (k.1 i) ∙ sym (has_alloc-without alloc_id i s.roster),
 )
 ids_step kept s (Report frame onu occ) h k = k

@@ -1,5 +1,5 @@
 -- The window over a list that is cut in two.
-use Rattle.std.proofs.Common.{◌≡◌, ℕ, zero, suc, ◌+◌, ◌-◌, ◌≤◌, Bool, true, false, cond, ◌||◌, ◌&&◌, List, [], ◌∷◌, ◌++◌, map, length, drop, refl, ap, sym, ◌∙◌, subst, arith, append_assoc, inl, inr}
+use Rattle.std.proofs.Common.{◌≡◌, ℕ, ◌+◌, ◌-◌, ◌≤◌, Bool, true, false, cond, ◌||◌, ◌&&◌, List, [], ◌∷◌, ◌++◌, map, length, drop, refl, ap, sym, ◌∙◌, subst, arith, append_assoc, inl, inr}
 use Rattle.std.specs.Prelude.{◌==◌, nat_le, if◌then◌else◌, filter}
 use Rattle.std.specs.List.{list_any}
 use Rattle.std.proofs.lemmas.List.Folds.{list_any-append}
@@ -11,6 +11,8 @@ use Rattle.pon_port.specs.State.{State}
 use Rattle.pon_port.specs.Replay.{all_maps, forgets, frame_at_last, makes_map, map_made, maps_of, new_map, next_of, reports, roster_after, roster_of, window_of, with_reports}
 use Rattle.pon_port.specs.Loads.{replay}
 use Rattle.pon_port.specs.declared.reply.Entry.{Entry}
+use Rattle.std.proofs.Math.Bool.{and-true}
+use Rattle.pon_guar.proofs.Frames.{leads_drop}
 use Rattle.pon_units.proofs.Lists.{or_assoc, map-map, map_same, drop-map, drop-append-le, drop-drop, length-drop, length-append, filter-append, map_filter, any_eq-filter, filter_same_in, map-append, length-map}
 use Rattle.pon_port.proofs.Parts.{next_of-cons, frame_at_last-append, frame_at_last_any, frame_at_last_none, frame_at_last_late, frame_at_last_below}
 
@@ -28,10 +30,6 @@ with_reports-append xs ys m =
     ∙ or_assoc (list_any (λ v. v == u) m.reported) (list_any (λ e. reports m.frame u e.event) xs) (list_any (λ e. reports m.frame u e.event) ys)
     ∙ ap (λ b. list_any (λ v. v == u) m.reported || b) (sym (list_any-append (λ e. reports m.frame u e.event) xs ys))) in
     (λ i. record { frame = m.frame; grants = m.grants; reported = same i })
-  where
-    and-true : (b : Bool) → (b && true) ≡ b
-    and-true true = refl
-    and-true false = refl
 
 map_wr : (xs ys : List Entry) (ms : List WindowMap) → map (with_reports (xs ++ ys)) ms ≡ map (with_reports ys) (map (with_reports xs) ms)
 map_wr xs ys ms = sym (map-map (with_reports ys) (with_reports xs) ms ∙ map_same _ _ (with_reports-append xs ys) ms)
@@ -62,11 +60,6 @@ leads-map es n (m ∷ ms) h = (omega (arith, h.0, length-map ms (with_reports es
 pub leads-append : (k n : ℕ) (ms bs : List WindowMap) → LeadsTo k ms → LeadsTo n bs → k + length bs ≡ n → LeadsTo n (ms ++ bs)
 leads-append k n [] bs a b e = b
 leads-append k n (m ∷ ms) bs a b e = (omega (arith, a.0, e, length-append ms bs), leads-append k n ms bs a.1 b e)
-
-pub leads-drop : (n k : ℕ) (ms : List WindowMap) → LeadsTo n ms → LeadsTo n (drop k ms)
-leads-drop n zero ms h = h
-leads-drop n (suc k) [] h = tt
-leads-drop n (suc k) (m ∷ ms) h = leads-drop n k ms h.1
 
 pub filter_low : (n c : ℕ) (ms : List WindowMap) → LeadsTo n ms → n ≤ c → filter (λ m. nat_le c m.frame) ms ≡ []
 filter_low n c [] h l = refl
@@ -164,7 +157,7 @@ window_of-append o xs ys h =
     let at_xs : ℕ = frame_at_last cut 0 o.next xs in
     let leads : LeadsTo nx before = all_maps_lead o xs h in
     let kept : List WindowMap = filter (λ m. nat_le at_xs m.frame) before in
-    let window_leads : LeadsTo nx (last_64 kept) = leads-drop nx (length kept - 64) kept (leads-filter nx at_xs before leads) in
+    let window_leads : LeadsTo nx (last_64 kept) = leads_drop nx (length kept - 64) kept (leads-filter nx at_xs before leads) in
     let seen : window_of o (xs ++ ys) ≡ last_64 (filter (λ m. nat_le (frame_at_last cut at_xs nx ys) m.frame) (map (with_reports ys) before ++ after))
     = (λ i. last_64 (filter (λ m. nat_le (frame_at_last-append cut 0 o.next xs ys i) m.frame) (all_maps-append o xs ys i))) in
     let middle : (b : Bool) → list_any cut ys ≡ b →

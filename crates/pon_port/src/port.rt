@@ -206,4 +206,3 @@ impl Port {
         Ok(Reply::Taken)
     }
 }
-

@@ -7,6 +7,7 @@ use pon_units::{AllocId, FrameNo, Gap, OnuId, Profile};
 use std::alloc::Global;
 use std::process::Abort;
 
+mod full;
 mod reports;
 mod sharing;
 

@@ -1,4 +1,3 @@
-mod Pieces
-pub mod Distinct
+pub mod Pieces
 pub mod Lists
 pub mod PolynomialLaws

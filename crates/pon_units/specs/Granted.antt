@@ -1,7 +1,8 @@
 -- What a map grants, and the order in which it does (ITU-T G.987.3: the allocation structures of a bandwidth map).
-use Rattle.std.specs.Prelude.{ℕ, ◌≡◌, ◌<◌, ◌≤◌, List, [], ◌∷◌, map, All}
+use Rattle.std.specs.Prelude.{ℕ, ◌≡◌, ◌<◌, ◌≤◌, List, map}
 pub use Rattle.pon_units.specs.declared.granted.Granted.{Granted}
-use Rattle.pon_units.specs.Distinct.{distinct}
+use Rattle.pon_lists.specs.Distinct.{distinct}
+use Rattle.pon_lists.specs.Order.{IsInOrder}
 
 -- the ONUs that are granted something, each once
 abbrev pub onus_granted : List Granted → List ℕ
@@ -13,5 +14,4 @@ ComesBefore g h = (g.onu ≤ h.onu) × (g.onu ≡ h.onu → g.alloc_id < h.alloc
 
 -- map order: each grant comes before all later ones
 abbrev pub AreInMapOrder : List Granted → Type 0
-AreInMapOrder [] = Unit {0}
-AreInMapOrder (g ∷ gs) = All (ComesBefore g) gs × AreInMapOrder gs
+AreInMapOrder gs = IsInOrder ComesBefore gs

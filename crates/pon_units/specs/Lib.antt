@@ -1,6 +1,5 @@
 pub mod Counts
 pub mod Device
-pub mod Distinct
 pub mod Fraction
 pub mod Granted
 pub mod Memory

@@ -1,4 +1,4 @@
-use Rattle.std.proofs.Common.{◌≡◌, true, false, None, Some, IsNone, ◌∙◌, subst, Option}
+use Rattle.std.proofs.Common.{◌≡◌, true, false, IsNone, ◌∙◌, subst, Option}
 use Rattle.pon_bwmap.specs.declared.fault.MapFault.{MapFault}
 use Rattle.pon_bwmap.proofs.WholeMap.{begins_with_map}
 use Rattle.pon_bwmap.proofs.decode.map_fault.Goals as goal

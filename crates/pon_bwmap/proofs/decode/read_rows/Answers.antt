@@ -1,4 +1,4 @@
-use Rattle.std.proofs.Common.{◌≡◌, ◌*◌, List, drop, IfSome, rules, sym, ◌∙◌, subst}
+use Rattle.std.proofs.Common.{◌≡◌, ◌*◌, List, drop, IfSome, sym, ◌∙◌, subst}
 use Rattle.pon_bwmap.specs.Structure.{Structure}
 use Rattle.pon_bwmap.specs.MapReading.{ReadsStructure}
 use Rattle.pon_bwmap.proofs.RowReading.{no_rows, one_more, first_break}

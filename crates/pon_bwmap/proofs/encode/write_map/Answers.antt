@@ -1,5 +1,4 @@
-use Rattle.std.proofs.Common.{◌≡◌, ◌∙◌, ap, List, ℕ, get_or}
-use Rattle.pon_bwmap.specs.Structure.{Structure}
+use Rattle.std.proofs.Common.{◌≡◌, ◌∙◌, ap, get_or}
 use Rattle.pon_bwmap.specs.MapBytes.{structure_bytes}
 use Rattle.pon_bwmap.proofs.MapWriting.{structure_written, rest_kept}
 use Rattle.pon_bwmap.proofs.encode.write_map.Goals as goal

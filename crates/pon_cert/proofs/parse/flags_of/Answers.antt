@@ -1,7 +1,8 @@
 use Rattle.std.proofs.Common.{◌≡◌, ◌<◌, ◌^◌, ◌∙◌, ◌++◌, ◌∷◌, [], get_or, sym, ap, arith, inl, inr}
 use Rattle.std.proofs.lemmas.Bool.{cases_lt}
+use Rattle.std.proofs.lemmas.List.{get_or_default}
 use Rattle.pon_cert.specs.Parts.{left_of, met}
-use Rattle.pon_cert.proofs.SetLaws.{none_done, met_more, all_small, any_default, none_left, some_left}
+use Rattle.pon_cert.proofs.SetLaws.{none_done, met_more, all_small, none_left, some_left}
 use Rattle.pon_cert.proofs.parse.flags_of.Goals as goal
 
 pub loop-name-init : goal.loop-name-init
@@ -13,7 +14,7 @@ loop-name-init c = record {
 pub loop-name-preserved : goal.loop-name-preserved
 loop-name-preserved c =
     let before = c.loop-name.invariant.found in
-    let small : get_or c.args.names.now c.loop-name.name-index 0 < 2 ^ 64 = omega (arith, c.take-is_met.ensures.small, c.name-item.is, any_default c.loop-name.name-index c.name-item.result c.args.names.now c.loop-name-test.true) in
+    let small : get_or c.args.names.now c.loop-name.name-index 0 < 2 ^ 64 = omega (arith, c.take-is_met.ensures.small, c.name-item.is, get_or_default c.args.names.now c.loop-name.name-index c.name-item.result 0 c.loop-name-test.true) in
     record {
       found = (
         before.0 ++ c.take-is_met.result ∷ [],

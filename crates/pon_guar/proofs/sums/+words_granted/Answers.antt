@@ -1,4 +1,4 @@
-use Rattle.std.proofs.Common.{◌∙◌, ap, arith, rules, subst, sym}
+use Rattle.std.proofs.Common.{◌∙◌, arith, rules, subst, sym}
 use Rattle.std.specs.Prelude.{All}
 use Rattle.std.proofs.lemmas.List.Elements.{All-tail}
 use Rattle.pon_guar.specs.Window.{IsLawfulMap}

@@ -1,4 +1,4 @@
-use Rattle.std.proofs.Common.{◌≡◌, ◌≤◌, map, take}
+use Rattle.std.proofs.Common.{◌≡◌, ◌≤◌, take}
 use Rattle.std.specs.Prelude.{All}
 use Rattle.pon_guar.specs.Sums.{sums_beside}
 use Rattle.pon_guar.proofs.sums.next_sums.Given as goal

@@ -1,6 +1,6 @@
 use Rattle.std.proofs.Common.{◌≡◌, ℕ, ◌+◌, ◌-◌, ◌≤◌, length, Option, MatchOption, arith, subst}
 use Rattle.pon_link.specs.Reading.{Announces, HasBadSize, telling}
-use Rattle.pon_link.specs.Runs.{AreBytes}
+use Rattle.pon_lists.specs.Bytes.{AreBytes}
 use Rattle.pon_link.proofs.Sizes.{some_size, more_needed, told_enough}
 use Rattle.pon_link.proofs.form.needed.Goals as goal
 

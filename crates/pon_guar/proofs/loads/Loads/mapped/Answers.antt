@@ -12,7 +12,7 @@ invariant_of-self-2 c =
     let long : length c.lessen.new.accounts ≡ length c.self.inside.accounts.items = search rules in
     let len : c.self.inside.accounts.len ≡ length c.self.inside.accounts.items = search rules in
     let window : c.add_to_window.new.window.items ≡ with_map c.args.frame c.args.grants.now c.self.inside.window.items = search rules in
-    let sums : c.add_to_sums.new.sums.items ≡ last_64 (c.self.inside.sums.items ++ sums_beside c.self.inside.window.items c.self.inside.sums.items c.args.grants.now ∷ []) = search rules in
+    let sums : c.add_to_window-2.new.window.items ≡ last_64 (c.self.inside.sums.items ++ sums_beside c.self.inside.window.items c.self.inside.sums.items c.args.grants.now ∷ []) = search rules in
     rw (written c.self.inside.accounts.items c.lessen.new.accounts c.self.inside.accounts.len len long, lessened, window, sums) (record {
       book = mapped_book _ _ c.self.invariant.book c.args.frame c.args.grants.now (search rules) c.requires.map_order;
       as_many = as_many_mapped c.args.frame c.args.grants.now c.self.inside.window.items c.self.inside.sums.items c.self.invariant.as_many;

@@ -5,8 +5,8 @@ use Rattle.std.specs.List.{list_any}
 use Rattle.std.proofs.lemmas.Bool.{and_parts, and_from, and_right, ne_eqb}
 use Rattle.std.proofs.lemmas.List.Elements.{All-head, All-tail, All-weaker}
 use Rattle.std.proofs.lemmas.Bool.Decides.{eqb_tells}
-use Rattle.pon_units.specs.Distinct.{distinct}
-use Rattle.pon_units.proofs.Lists.{filter-filter}
+use Rattle.pon_lists.specs.Distinct.{distinct}
+use Rattle.pon_lists.proofs.Lists.{filter-filter}
 
 -- a number stands in a list
 abbrev pub occurs : ℕ → List ℕ → Bool

@@ -1,0 +1,6 @@
+pub mod Bytes
+pub mod Distinct
+pub mod Inserted
+pub mod Lists
+pub mod Order
+pub mod Splits

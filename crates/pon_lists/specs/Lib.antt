@@ -1,0 +1,5 @@
+pub mod Bytes
+pub mod Distinct
+pub mod OptionSteps
+pub mod Order
+pub mod ResultSteps

@@ -1,0 +1,15 @@
+-- Lists in an order, an element put in its place, and one taken out.
+use Rattle.std.specs.Prelude.{ℕ, Bool, not, ◌==◌, List, [], ◌∷◌, ◌++◌, filter, All}
+
+-- each element comes before all later ones
+abbrev pub IsInOrder : {X : Type 0} → (X → X → Type 0) → List X → Type 0
+IsInOrder Before [] = Unit {0}
+IsInOrder Before (x ∷ xs) = All (Before x) xs × IsInOrder Before xs
+
+-- the elements that come before `x`, then `x`, then the others
+abbrev pub with_inserted : {X : Type 0} → (X → Bool) → X → List X → List X
+with_inserted before x xs = filter before xs ++ x ∷ filter (λ y. not (before y)) xs
+
+-- the elements of another key than `i`
+abbrev pub without_key : {X : Type 0} → (X → ℕ) → ℕ → List X → List X
+without_key key i xs = filter (λ x. not (key x == i)) xs

@@ -1,0 +1,233 @@
+// A full port: 256 Alloc-IDs of 16 ONUs in all three classes, whose ONUs report all their buffers after each map. What a
+// map has to hold is computed here from descriptors and reports alone; the checker judges its certificate.
+ghost use Rattle.std.specs.Prelude.{◌≡◌, true};
+ghost use Rattle.pon_cert.specs.Problem.{IsProblem};
+
+use super::*;
+use pon_cert::{Item, Level, MapCert};
+use pon_check::check_map;
+use pon_dbru::Occupancies;
+use pon_units::BufOcc;
+
+const LINE: u64 = 2_488_320;
+
+// The words of a frame less gap, header and trailer of 16 ONUs and a report of each Alloc-ID, at 256 kbit/s a word.
+const CAPACITY: u64 = 256 * (9720 - 16 * 18 - 256);
+
+// An Alloc-ID with its descriptor, and the words that were reported and not granted since.
+#[derive(Clone, Copy)]
+struct Buffer {
+    onu: u16,
+    alloc_id: u16,
+    class: Class,
+    fixed: u64,
+    assured: u64,
+    max: u64,
+    left: u64,
+}
+
+impl Buffer {
+    fn load(&self) -> u64 {
+        self.left.wrapping_mul(256)
+    }
+
+    fn promised(&self) -> u64 {
+        self.fixed.wrapping_add(self.assured)
+    }
+
+    fn guaranteed(&self) -> u64 {
+        self.promised().min(self.load().max(self.fixed))
+    }
+
+    fn item(&self) -> Item {
+        let weight = match self.class {
+            Class::BestEffort => self.max.wrapping_sub(self.promised()),
+            _ => self.promised(),
+        };
+        let wanted = self.max.min(self.load().max(self.fixed));
+        Item {
+            weight,
+            cap: wanted.wrapping_sub(self.guaranteed()),
+        }
+    }
+}
+
+fn buffer_of(onu: u16, alloc_id: u16) -> Buffer {
+    let (class, fixed, assured, max) = match alloc_id % 3 {
+        0 => (Class::Plain, 2560, 256, 5120),
+        1 => (Class::NonAssured, 0, 2304, 8192),
+        _ => (Class::BestEffort, 512, 1024, 131_072),
+    };
+    Buffer {
+        onu,
+        alloc_id,
+        class,
+        fixed,
+        assured,
+        max,
+        left: 0,
+    }
+}
+
+fn buffers(rt: &impl Abort, alloc: Global) -> Vec<Buffer> {
+    let mut all = Vec::new(alloc);
+    for k in 0..256u16 {
+        all.push(buffer_of(k / 16, 1024 + k)).expect(rt, "memory");
+    }
+    all
+}
+
+fn admit(rt: &impl Abort, port: &mut Port, buffer: &Buffer) {
+    let descriptor = Descriptor::new(buffer.fixed, buffer.assured, buffer.max, buffer.class);
+    let event = Event::Admit {
+        onu: OnuId::new(buffer.onu).expect(rt, "an ONU-ID"),
+        alloc_id: id(rt, buffer.alloc_id),
+        descriptor: descriptor.expect(rt, "a descriptor"),
+    };
+    take(rt, port, event);
+}
+
+fn is_problem(items: &[Item], surplus: u64) -> bool
+    ensures { result ≡ true → IsProblem items.now surplus }
+{
+    for item in items {
+        if item.weight == 0 || item.weight > LINE || item.cap > LINE {
+            return false;
+        }
+    }
+    items.len() <= 512 && surplus <= LINE
+}
+
+fn items(rt: &impl Abort, alloc: Global, buffers: &[Buffer], class: Class) -> Vec<Item> {
+    let mut items = Vec::new(alloc);
+    for buffer in buffers {
+        if buffer.class == class {
+            items.push(buffer.item()).expect(rt, "memory");
+        }
+    }
+    items
+}
+
+// The certificate is that of both classes, by the checker.
+fn assert_certified(rt: &impl Abort, alloc: Global, buffers: &[Buffer], cert: &MapCert) {
+    let na = items(rt, alloc, buffers, Class::NonAssured);
+    let be = items(rt, alloc, buffers, Class::BestEffort);
+    let mut surplus = CAPACITY;
+    for buffer in buffers {
+        surplus = surplus.wrapping_sub(buffer.guaranteed());
+    }
+    assert!(rt; is_problem(na.as_slice(), surplus));
+    assert!(rt; is_problem(be.as_slice(), surplus));
+    assert!(rt; check_map(na.as_slice(), be.as_slice(), surplus, cert).is_ok());
+}
+
+fn rate(item: &Item, level: &Level, saturated: bool) -> u64 {
+    match level {
+        Level::At(share) if !saturated => item.weight.wrapping_mul(share.num())
+            / share.den().max(1),
+        _ => item.cap,
+    }
+}
+
+// The payload words of each Alloc-ID.
+fn words(rt: &impl Abort, alloc: Global, buffers: &[Buffer], cert: &MapCert) -> Vec<u64> {
+    let mut na = cert.na.saturated.as_slice().iter();
+    let mut be = cert.be.saturated.as_slice().iter();
+    let mut words = Vec::new(alloc);
+    for buffer in buffers {
+        let surplus = match buffer.class {
+            Class::Plain => 0,
+            Class::NonAssured => rate(
+                &buffer.item(),
+                &cert.na.level,
+                *na.next().expect(rt, "a flag"),
+            ),
+            Class::BestEffort => rate(
+                &buffer.item(),
+                &cert.be.level,
+                *be.next().expect(rt, "a flag"),
+            ),
+        };
+        words
+            .push(buffer.guaranteed().wrapping_add(surplus) / 256)
+            .expect(rt, "memory");
+    }
+    words
+}
+
+// One structure an Alloc-ID, one burst an ONU: header, grants and trailer, with a gap of 16 words before it.
+fn assert_rows(rt: &impl Abort, rows: &[Alloc], buffers: &[Buffer], words: &[u64]) {
+    assert_eq!(rt; rows.len(), buffers.len());
+    let mut at = 0u64;
+    let mut before = None;
+    for ((row, buffer), words) in rows.iter().zip(buffers.iter()).zip(words.iter()) {
+        let is_first = before != Some(buffer.onu);
+        if is_first {
+            at = at.wrapping_add(16);
+        }
+        let start = if is_first { Some(at) } else { None };
+        assert_eq!(rt; row.start().map(u64::from), start);
+        assert_eq!(rt; row.id(), buffer.alloc_id);
+        assert_eq!(rt; u64::from(row.grant()), words.wrapping_add(1));
+        assert!(rt; row.dbru() && !row.ploam() && row.profile() == 0);
+        let header = if is_first { 1 } else { 0 };
+        let trailer = if buffer.alloc_id % 16 == 15 { 1 } else { 0 };
+        at = at
+            .wrapping_add(header + trailer)
+            .wrapping_add(u64::from(row.grant()));
+        before = Some(buffer.onu);
+    }
+    assert!(rt; at <= 9720);
+}
+
+// What waits at an Alloc-ID, 0 to 1999 words.
+fn waiting(alloc_id: u16, frame: u64) -> u64 {
+    (u64::from(alloc_id)
+        .wrapping_mul(2_654_435_761)
+        .wrapping_add(frame.wrapping_mul(40_503))
+        >> 7)
+        % 2000
+}
+
+// Each ONU reports what waits at its Alloc-IDs, in answer to the map of a frame that granted these words.
+fn report(rt: &impl Abort, port: &mut Port, frame: u64, buffers: &mut [Buffer], words: &[u64]) {
+    let mut occ = Occupancies::new();
+    for (buffer, words) in buffers.iter_mut().zip(words.iter()) {
+        let wait = waiting(buffer.alloc_id, frame);
+        buffer.left = wait.saturating_sub(*words);
+        assert!(rt; occ.as_slice().len() < 16);
+        occ.push(BufOcc::new(wait.min(1999) as u32));
+        if buffer.alloc_id % 16 == 15 {
+            let onu = OnuId::new(buffer.onu).expect(rt, "an ONU-ID");
+            let frame = FrameNo::new(frame);
+            take(rt, port, Event::Report { frame, onu, occ });
+            occ = Occupancies::new();
+        }
+    }
+}
+
+#[test]
+fn maps_a_full_port_under_load(rt: HostRuntime) {
+    let mut port = open(&rt, rt.alloc(), 0);
+    let mut buffers = buffers(&rt, rt.alloc());
+    for buffer in &buffers {
+        admit(&rt, &mut port, buffer);
+    }
+    for frame in 0..6 {
+        let made = made_map(&rt, &mut port);
+        assert_eq!(rt; made.frame.get(), frame);
+        assert_certified(&rt, rt.alloc(), buffers.as_slice(), &made.cert);
+        // From the first report on, best effort wants more than is left for it.
+        assert_eq!(rt; matches!(made.cert.be.level, Level::At(_)), frame > 0);
+        let words = words(&rt, rt.alloc(), buffers.as_slice(), &made.cert);
+        assert_rows(&rt, made.map.rows(), buffers.as_slice(), words.as_slice());
+        report(
+            &rt,
+            &mut port,
+            frame,
+            buffers.as_mut_slice(),
+            words.as_slice(),
+        );
+    }
+    assert_eq!(rt; port.history().len(), 256 + 6 * 17);
+}
