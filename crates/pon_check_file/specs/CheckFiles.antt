@@ -1,5 +1,6 @@
 -- What a check file spells, the first of its lines that does not fit, and its answer.
 use Rattle.std.specs.Prelude.{◌≡◌, ℕ, suc, ◌+◌, Bool, true, false, List, [], ◌∷◌, ◌++◌, length, take, drop, codes, decimal, Option, Some, None, Result, Ok, Err}
+use Rattle.pon_lists.specs.ResultSteps.{◌>>=◌}
 use Rattle.pon_units.specs.Device.{Appends, Consumes, IsAtEnd}
 use Rattle.pon_cert.specs.Problem.{IsProblem, IsFairest}
 use Rattle.pon_cert.specs.Certificate.{IsCertificate, spelled}
@@ -21,12 +22,6 @@ pub record Filed : Type 0 where
   pub surplus : ℕ
   pub items : List Item
   pub cert : ClassCert
-
--- what is read on behind a line that fits, or the number of the first that does not
-infixl 10 ◌>>=◌
-abbrev pub ◌>>=◌ : {A B : Type 0} → Result A ℕ → (A → Result B ℕ) → Result B ℕ
-(Ok x) >>= f = f x
-(Err n) >>= f = Err n
 
 -- what the first of some lines spells
 abbrev pub first_spells : {T : Type 0} → (List ℕ → Option T) → List (List ℕ) → Option T

@@ -1,6 +1,7 @@
 -- The lines of a check file: what each spells, where it fits.
 use Rattle.std.specs.Prelude.{◌≡◌, ℕ, zero, suc, ◌==◌, ◌&&◌, nat_le, nat_lt, Bool, true, false, if◌then◌else◌, List, [], ◌∷◌, length, map, codes, Option, Some, None}
 use Rattle.std.specs.Str.{bytes_eq}
+use Rattle.pon_lists.specs.OptionSteps.{◌>>=◌}
 use Rattle.pon_cert.specs.declared.problem.Item.{Item}
 use Rattle.pon_cert.specs.declared.cert.Level.{Level}
 use Rattle.pon_cert.specs.declared.cert.Level.TheVariants as level
@@ -8,12 +9,6 @@ use Rattle.pon_cert.specs.Parts.{behind, parts_of, with_first}
 use Rattle.pon_text.specs.Cuts.{cut_at, follows}
 use Rattle.pon_text.specs.Lines.{number_of}
 use Rattle.pon_check_file.specs.declared.lines.TheConstants.{GREATEST_RATE}
-
--- what is read on behind a value, where there is one
-infixl 10 ◌>>=◌
-abbrev pub ◌>>=◌ : {A B : Type 0} → Option A → (A → Option B) → Option B
-None >>= f = None
-(Some x) >>= f = f x
 
 -- a number of a range
 unfoldable pub number_within : ℕ → ℕ → List ℕ → Option ℕ

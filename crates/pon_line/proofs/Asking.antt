@@ -6,7 +6,8 @@ use Rattle.std.proofs.lemmas.Bool.{ltb-true}
 use Rattle.pon_line.specs.declared.command.Command.{Command}
 use Rattle.pon_line.specs.declared.command.Command.TheVariants.{Take, ShowCert}
 use Rattle.pon_text.specs.Lines.{words_of, without_return}
-use Rattle.pon_line.specs.Fields.{◌>>=◌, number_field}
+use Rattle.pon_lists.specs.ResultSteps.{◌>>=◌}
+use Rattle.pon_line.specs.Fields.{number_field}
 use Rattle.pon_line.specs.Commands.{command_of}
 use Rattle.pon_line.specs.Reading.{AsksWithin, read_line, read_words, reading, port_of, is_comment, is_text}
 use Rattle.pon_line.specs.declared.fault.LineFault.{LineFault}

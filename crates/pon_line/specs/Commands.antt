@@ -7,7 +7,8 @@ use Rattle.pon_descr.specs.declared.refusal.Refusal.{Refusal}
 use Rattle.pon_descr.specs.declared.refusal.Refusal.TheVariants.{AllocRange, OnuRange}
 use Rattle.pon_event.specs.declared.event.Event.{Event}
 use Rattle.pon_event.specs.declared.event.Event.TheVariants.{Admit, Change, Fail, MakeMap, Remove, Report, Restore}
-use Rattle.pon_line.specs.Fields.{◌>>=◌, number_field, descriptor_words, rate_fields}
+use Rattle.pon_lists.specs.ResultSteps.{◌>>=◌}
+use Rattle.pon_line.specs.Fields.{number_field, descriptor_words, rate_fields}
 use Rattle.pon_line.specs.declared.command.Command.{Command}
 use Rattle.pon_line.specs.declared.command.Command.TheVariants.{Take, ShowCert}
 use Rattle.pon_line.specs.declared.fault.LineFault.{LineFault}

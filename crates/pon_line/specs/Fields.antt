@@ -7,12 +7,6 @@ use Rattle.pon_text.specs.Lines.{number_of}
 use Rattle.pon_line.specs.declared.fault.LineFault.{LineFault}
 use Rattle.pon_line.specs.declared.fault.LineFault.TheVariants.{WordCount, BadField}
 
--- a value and then what follows from it, or the first fault
-infixl 10 ◌>>=◌
-abbrev pub ◌>>=◌ : {A B : Type 0} → Result A LineFault → (A → Result B LineFault) → Result B LineFault
-Ok x >>= f = f x
-Err fault >>= f = Err fault
-
 -- a value that is there, or a bad field
 abbrev pub or_bad_field : {T : Type 0} → Option T → Result T LineFault
 or_bad_field (Some x) = Ok x

@@ -2,7 +2,8 @@
 use Rattle.std.specs.Prelude.{ℕ, ◌<◌, ◌==◌, ◌||◌, ◌&&◌, not, nat_le, nat_lt, Bool, true, false, if◌then◌else◌, List, [], ◌∷◌, length, Result, Ok, Err}
 use Rattle.std.specs.List.{list_all}
 use Rattle.pon_text.specs.Lines.{words_of, without_return}
-use Rattle.pon_line.specs.Fields.{◌>>=◌, number_field}
+use Rattle.pon_lists.specs.ResultSteps.{◌>>=◌}
+use Rattle.pon_line.specs.Fields.{number_field}
 use Rattle.pon_line.specs.Commands.{command_of}
 use Rattle.pon_line.specs.declared.command.Command.{Command}
 use Rattle.pon_line.specs.declared.command.Command.TheVariants.{Take, ShowCert}

@@ -18,7 +18,7 @@ pub enum LineFault {
     LineLong,
     /// L7: a byte is neither a tab nor a printable character of ASCII.
     NotText,
-    /// The numbers are refused: E03 to E08.
+    /// The numbers are refused (E03 to E08), or the port refuses the event.
     Port(Refusal),
 }
 

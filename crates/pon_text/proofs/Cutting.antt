@@ -6,6 +6,7 @@ use Rattle.std.proofs.lemmas.Bool.{ltb-true, ltb-false}
 use Rattle.std.proofs.lemmas.List.{length-drop, take_all}
 use Rattle.std.proofs.lemmas.List.Splits.{length-slice_split, slice_split-cons_no, slice_split_first}
 use Rattle.std.proofs.lemmas.List.Sums.{prefix_len-le-length}
+use Rattle.pon_lists.proofs.Splits.{slice_split_absent}
 use Rattle.pon_text.specs.Lines.{file_lines, lines_of, onto, without_return}
 use Rattle.pon_text.specs.Cuts.{cut_at}
 
@@ -16,16 +17,6 @@ behind_all n t = take_all (length t - n) (drop n t) (omega (arith, length-drop n
 -- the place of a byte
 abbrev place : ℕ → List ℕ → ℕ
 place c t = position_or_len (λ b. b == c) t
-
-none_step : (x c : ℕ) (xs : List ℕ) (b : Bool) → eqb x c ≡ b → prefix_len (λ y. not (eqb y c)) (x ∷ xs) ≡ suc (length xs) → (prefix_len (λ y. not (eqb y c)) xs ≡ length xs → slice_split (λ y. eqb y c) xs ≡ xs ∷ []) →
-    slice_split (λ y. eqb y c) (x ∷ xs) ≡ (x ∷ xs) ∷ []
-none_step x c xs true e h more = absurd (omega (arith, rw e at h))
-none_step x c xs false e h more =
-    slice_split-cons_no (λ y. eqb y c) x xs e ∙ ap (onto_first x) (more (omega (arith, rw e at h)))
-
-none_split : (c : ℕ) (bs : List ℕ) → prefix_len (λ y. not (eqb y c)) bs ≡ length bs → slice_split (λ y. eqb y c) bs ≡ bs ∷ []
-none_split c [] h = refl
-none_split c (x ∷ xs) h = none_step x c xs (eqb x c) refl h (none_split c xs)
 
 same_value : {A : Type 0} (x y : A) → Some x ≡ Some y → x ≡ y
 same_value x y e = cc
@@ -45,7 +36,7 @@ parts_none c t e = go (nat_lt (place c t) (length t)) refl e
   where
     go : (v : Bool) → nat_lt (place c t) (length t) ≡ v → option_map {U = List ℕ × List ℕ} (λ i. (take i t, drop (i + 1) t)) (cond v (Some (place c t)) None) ≡ None → slice_split (λ x. x == c) t ≡ t ∷ []
     go true k h = absurd (cc)
-    go false k h = none_split c t (omega (arith, ltb-false (place c t) (length t) k, prefix_len-le-length (λ x. not (x == c)) t))
+    go false k h = slice_split_absent c t (omega (arith, ltb-false (place c t) (length t) k, prefix_len-le-length (λ x. not (x == c)) t))
 
 -- Lines are the parts between line feeds, but for an empty last one.
 abbrev alone : List ℕ → List (List ℕ)
