@@ -18,23 +18,11 @@ consumes_more (Some o) None new xs ys a b = absurd a
 consumes_more (Some o) (Some m) None xs ys a b = absurd b
 consumes_more (Some o) (Some m) (Some n) xs ys a b = a ∙ ap (λ t. xs ++ t) b ∙ sym (append_assoc xs ys n)
 
-pub appends_more : (old mid new : Option (List ℕ)) (xs ys : List ℕ) → Appends old mid xs → Appends mid new ys → Appends old new (xs ++ ys)
-appends_more None mid new xs ys a b = tt
-appends_more (Some o) None new xs ys a b = absurd a
-appends_more (Some o) (Some m) None xs ys a b = absurd b
-appends_more (Some o) (Some m) (Some n) xs ys a b = b ∙ ap (λ t. t ++ ys) a ∙ append_assoc o xs ys
-
 pub consumes_kept : (old mid new : Option (List ℕ)) (xs : List ℕ) → Consumes old mid xs → Keeps mid new → Consumes old new xs
 consumes_kept None mid new xs a b = tt
 consumes_kept (Some o) None new xs a b = absurd a
 consumes_kept (Some o) (Some m) None xs a b = absurd b
 consumes_kept (Some o) (Some m) (Some n) xs a b = a ∙ ap (λ t. xs ++ t) (sym b)
-
-pub appends_kept : (old mid new : Option (List ℕ)) (xs : List ℕ) → Appends old mid xs → Keeps mid new → Appends old new xs
-appends_kept None mid new xs a b = tt
-appends_kept (Some o) None new xs a b = absurd a
-appends_kept (Some o) (Some m) None xs a b = absurd b
-appends_kept (Some o) (Some m) (Some n) xs a b = b ∙ a
 
 pub keeps_itself : (o : Option (List ℕ)) → Keeps o o
 keeps_itself None = tt
