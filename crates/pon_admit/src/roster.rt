@@ -9,8 +9,6 @@ use std::alloc::{AllocError, Global};
 use std::marker::Model;
 
 mod steps;
-#[cfg(test)]
-mod tests;
 
 /// The most Alloc-IDs of a port.
 const MOST_ALLOCS: usize = 256;

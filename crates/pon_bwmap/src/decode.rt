@@ -155,6 +155,3 @@ fn structure(payload: u64) -> Alloc
     )
     .unwrap()
 }
-
-#[cfg(test)]
-mod tests;

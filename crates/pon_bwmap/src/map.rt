@@ -66,6 +66,3 @@ impl Map {
         Ok(Map { rows })
     }
 }
-
-#[cfg(test)]
-mod tests;

@@ -14,8 +14,6 @@ mod parse;
 mod print;
 mod problem;
 mod sat;
-#[cfg(test)]
-mod tests;
 
 pub use cert::{CertReadFault, ClassCert, Level, MapCert};
 pub use left::left_surplus;

@@ -1,6 +1,6 @@
 -- The answer line of a file, where it is written.
 use Rattle.std.proofs.Common.{◌≡◌, ℕ, Bool, List, Option, sym, subst, Err}
-use Rattle.pon_units.specs.Device.{Consumes}
+use Rattle.pon_device.specs.Device.{Consumes}
 use Rattle.pon_check_file.specs.CheckFiles.{Checked, IsAnswer, file_of}
 use Rattle.pon_text.specs.Lines.{file_lines}
 use Rattle.pon_stream.specs.Streams.{TellsLine}

@@ -1,7 +1,7 @@
 -- What a check file spells, the first of its lines that does not fit, and its answer.
 use Rattle.std.specs.Prelude.{◌≡◌, ℕ, suc, ◌+◌, Bool, true, false, List, [], ◌∷◌, ◌++◌, length, take, drop, codes, decimal, Option, Some, None, Result, Ok, Err}
 use Rattle.pon_lists.specs.ResultSteps.{◌>>=◌}
-use Rattle.pon_units.specs.Device.{Appends, Consumes, IsAtEnd}
+use Rattle.pon_device.specs.Device.{Appends, Consumes, IsAtEnd}
 use Rattle.pon_cert.specs.Problem.{IsProblem, IsFairest}
 use Rattle.pon_cert.specs.Certificate.{IsCertificate, spelled}
 use Rattle.pon_cert.specs.declared.problem.Item.{Item}

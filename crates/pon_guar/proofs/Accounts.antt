@@ -1,6 +1,6 @@
 -- Accounts of a report book, found under their Alloc-IDs.
-use Rattle.std.proofs.Common.{◌≡◌, ℕ, zero, suc, ◌<◌, ◌≤◌, inl, inr, Bool, true, false, cond, not, List, [], ◌∷◌, map, refl, ap, sym, ◌∙◌, subst, arith, get_or, length, take, drop, set}
-use Rattle.std.specs.List.Sorted.{IsPartitionPoint, IsPartitionedBy}
+use Rattle.std.proofs.Common.{◌≡◌, ℕ, zero, suc, ◌<◌, ◌≤◌, inl, inr, Bool, true, false, cond, not, List, [], ◌∷◌, map, refl, ap, sym, ◌∙◌, subst, arith, get_or, length, drop, set}
+use Rattle.std.specs.List.Sorted.{IsPartitionedBy}
 use Rattle.std.specs.Prelude.{◌==◌, ◌≢◌, nat_lt, if◌then◌else◌, filter, All, Option, Some, None}
 use Rattle.std.proofs.lemmas.Bool.{cases_lt, eq-eqb, le-ltb, lt-ltb, ltb-true, ne_eqb}
 use Rattle.std.proofs.lemmas.Bool.Decides.{eqb_tells}
@@ -46,21 +46,6 @@ rising_parted i book h m n d l k t = elim (cases_lt m n) [
   where
     rising : (m n : ℕ) (d : Account) → m < n → n < length book → (get_or book m d).alloc_id < (get_or book n d).alloc_id
     rising = in_order_at (λ a b. a.alloc_id < b.alloc_id) book (in_order-unmap (λ i j. i < j) (λ a. a.alloc_id) book h)
-
--- what passes stands before the place, and what does not from it on
-pub parts_at : {X : Type 0} (p : X → Bool) (xs : List X) (k : ℕ) → k ≤ length xs → IsPartitionPoint (λ a. p a ≡ true) (λ a. p a ≡ false) xs k → (take k xs ≡ filter p xs) × (drop k xs ≡ filter (λ a. not (p a)) xs)
-parts_at p [] zero l h = (refl, refl)
-parts_at p [] (suc k) l h = absurd (omega (arith, l))
-parts_at p (x ∷ xs) zero l h =
-    let here : p x ≡ false = h.1 0 x (omega arith) (omega arith) in
-    let rest : (take 0 xs ≡ filter p xs) × (drop 0 xs ≡ filter (λ a. not (p a)) xs)
-    = parts_at p xs 0 (omega arith) (λ n d a b. absurd (omega (arith, b)), λ n d a b. h.1 (suc n) d (omega arith) (omega (arith, b))) in
-    (rest.0 ∙ (λ i. cond (sym here i) (x ∷ filter p xs) (filter p xs)), (λ i. x ∷ rest.1 i) ∙ (λ i. cond (not (sym here i)) (x ∷ filter (λ a. not (p a)) xs) (filter (λ a. not (p a)) xs)))
-parts_at p (x ∷ xs) (suc k) l h =
-    let here : p x ≡ true = h.0 0 x (omega arith) (omega arith) in
-    let rest : (take k xs ≡ filter p xs) × (drop k xs ≡ filter (λ a. not (p a)) xs)
-    = parts_at p xs k (omega (arith, l)) (λ n d a b. h.0 (suc n) d (omega arith) (omega (arith, b)), λ n d a b. h.1 (suc n) d (omega (arith, a)) (omega (arith, b))) in
-    ((λ i. x ∷ rest.0 i) ∙ (λ i. cond (sym here i) (x ∷ filter p xs) (filter p xs)), rest.1 ∙ (λ i. cond (not (sym here i)) (x ∷ filter (λ a. not (p a)) xs) (filter (λ a. not (p a)) xs)))
 
 -- the first of some accounts, where it is of an Alloc-ID
 abbrev pub first_if : ℕ → List Account → Option Account

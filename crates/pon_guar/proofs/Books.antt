@@ -1,24 +1,21 @@
 -- What a report book keeps, call by call.
-use Rattle.std.proofs.Common.{◌≡◌, ℕ, zero, suc, ◌+◌, ◌-◌, ◌<◌, ◌≤◌, ◌||◌, ◌&&◌, true, false, not, List, [], ◌∷◌, ◌++◌, map, length, drop, take, get_or, refl, ap, sym, ◌∙◌, subst, arith, inl, inr}
+use Rattle.std.proofs.Common.{◌≡◌, ℕ, zero, suc, ◌+◌, ◌-◌, ◌<◌, ◌≤◌, true, false, not, List, [], ◌∷◌, ◌++◌, map, length, drop, get_or, refl, ap, sym, ◌∙◌, subst, arith, inl, inr}
 use Rattle.std.specs.Prelude.{◌==◌, nat_le, nat_lt, if◌then◌else◌, filter, flat_map, sum_by, All, Option, Some, None}
 use Rattle.std.specs.List.{list_any}
-use Rattle.std.proofs.Math.Seq.{take-append_seam}
 use Rattle.std.proofs.lemmas.Bool.{cases_order, eq-eqb, le-leb, lt-leb, ltb-false, ltb-true, not-true}
-use Rattle.std.proofs.lemmas.List.{length-map, length-drop, map-append}
-use Rattle.std.proofs.lemmas.List.Elements.{All-nil, All-cons, All-append, All-drop, All-filter, All-map, All-weaker, filter_passes}
+use Rattle.std.proofs.lemmas.List.{length-map, map-append}
+use Rattle.std.proofs.lemmas.List.Elements.{All-filter, All-weaker, filter_passes}
 use Rattle.std.proofs.lemmas.List.Sums.{sum_by-cons}
-use Rattle.pon_units.specs.Granted.{AreInMapOrder}
 use Rattle.pon_units.specs.declared.granted.Granted.{Granted}
 use Rattle.pon_lists.proofs.Lists.{flat_map-map, list_any-map, map_filter, map-map, none_any, sum_by-map, sum_by_agree}
 use Rattle.pon_guar.specs.Book.{Account, AreRising, Counted, alloc_ids, with_alloc}
-use Rattle.pon_guar.specs.Window.{IsLawfulMap, IsPlaceOf, LeadsTo, WindowMap, frame_after, grants_at, is_of, last_64, polled, words_to, words_to_from}
-use Rattle.pon_guar.specs.Reports.{after_occupancies, counting, with_report}
-use Rattle.pon_guar.specs.Loads.{IsBook, afresh, lessened, with_account, with_map, without_account}
+use Rattle.pon_window.specs.Window.{IsPlaceOf, LeadsTo, WindowMap, grants_at, is_of, words_to, words_to_from}
+use Rattle.pon_window.specs.Reports.{with_report}
+use Rattle.pon_guar.specs.Reports.{after_occupancies, counting}
+use Rattle.pon_guar.specs.Loads.{afresh, with_account, without_account}
 use Rattle.pon_lists.proofs.Order.{in_order-filter}
 use Rattle.pon_lists.proofs.Inserted.{in_order-inserted, rejoined_at}
-use Rattle.pon_guar.proofs.LessByGrants.{lessened_rising}
-use Rattle.pon_guar.proofs.Frames.{frame_at, leads_above, leads_after, leads_drop, leads_mapped, leads_push, polled_there}
-use Rattle.pon_guar.proofs.Polls.{said_lawful}
+use Rattle.pon_window.proofs.Frames.{frame_at, leads_above, polled_there}
 use Rattle.pon_guar.proofs.TakenReports.{counting_ids}
 
 -- Alloc-IDs with one more.
@@ -60,62 +57,17 @@ occupancies_length granted frame gs ns book =
 
 -- The book after each call.
 
-module _ (accounts : List Account) (window : List WindowMap) (k : IsBook accounts window) where
-  -- other accounts, in rising Alloc-ID
-  pub with_accounts : (others : List Account) → AreRising (alloc_ids others) → IsBook others window
-  with_accounts others h = record { rising = h; few_maps = k.few_maps; frames = k.frames; maps = k.maps }
+pub admitted_rise : (a : Account) (accounts : List Account) → AreRising (alloc_ids accounts) → list_any (λ j. j == a.alloc_id) (alloc_ids accounts) ≡ false → AreRising (alloc_ids (with_account a accounts))
+admitted_rise a accounts h free = subst AreRising (sym (with_ids a accounts)) (rising_with a.alloc_id (alloc_ids accounts) h free)
 
-  pub admitted_book : (a : Account) → list_any (λ j. j == a.alloc_id) (alloc_ids accounts) ≡ false → IsBook (with_account a accounts) window
-  admitted_book a free = with_accounts (with_account a accounts) (subst AreRising (sym (with_ids a accounts)) (rising_with a.alloc_id (alloc_ids accounts) k.rising free))
+pub removed_rise : (i : ℕ) (accounts : List Account) → AreRising (alloc_ids accounts) → AreRising (alloc_ids (without_account i accounts))
+removed_rise i accounts h = subst AreRising (map_filter (λ a. a.alloc_id) (λ j. not (j == i)) accounts) (in_order-filter (λ i j. i < j) (λ j. not (j == i)) (alloc_ids accounts) h)
 
-  pub removed_book : (i : ℕ) → IsBook (without_account i accounts) window
-  removed_book i = with_accounts (without_account i accounts)
-      (subst AreRising (map_filter (λ a. a.alloc_id) (λ j. not (j == i)) accounts) (in_order-filter (λ i j. i < j) (λ j. not (j == i)) (alloc_ids accounts) k.rising))
+pub cleared_rise : (frame : ℕ) (accounts : List Account) → AreRising (alloc_ids accounts) → AreRising (alloc_ids (map (afresh frame) accounts))
+cleared_rise frame accounts h = subst AreRising (sym (map-map (λ a. a.alloc_id) (afresh frame) accounts)) h
 
-  pub mapped_book : (frame : ℕ) (gs : List Granted) → LeadsTo frame window → AreInMapOrder gs → IsBook (map (lessened gs) accounts) (with_map frame gs window)
-  mapped_book frame gs next order =
-      let new : WindowMap = record { frame = frame; grants = gs; reported = [] } in
-      let all : List WindowMap = window ++ new ∷ [] in
-      record {
-        rising = lessened_rising gs accounts k.rising;
-        few_maps = omega (arith, length-drop (length all - 64) all);
-        frames = leads_after (frame + 1) (last_64 all) (leads_drop (frame + 1) (length all - 64) all (leads_push frame window new next refl));
-        maps = All-drop IsLawfulMap (length all - 64) all (All-append IsLawfulMap window (new ∷ []) k.maps (All-cons IsLawfulMap new [] (record { rising = order; reported = sym (nobody (distinct_onus gs)) }) (All-nil IsLawfulMap)));
-      }
-    where
-      distinct_onus : List Granted → List ℕ
-      distinct_onus gs = polled (record { frame = frame; grants = gs; reported = [] })
-
-      nobody : (xs : List ℕ) → filter (λ u. list_any (λ v. v == u) []) xs ≡ []
-      nobody [] = refl
-      nobody (x ∷ xs) = nobody xs
-
-  pub cleared_book : (frame : ℕ) → IsBook (map (afresh frame) accounts) []
-  cleared_book frame = record {
-    rising = subst AreRising (sym (map-map (λ a. a.alloc_id) (afresh frame) accounts)) k.rising;
-    few_maps = omega arith;
-    frames = tt;
-    maps = All-nil IsLawfulMap;
-  }
-
-  pub noted_book : (f u : ℕ) → IsBook accounts (map (with_report f u) window)
-  noted_book f u = record {
-    rising = k.rising;
-    few_maps = omega (arith, k.few_maps, length-map window (with_report f u));
-    frames = leads_after (frame_after window) (map (with_report f u) window) (leads_mapped (with_report f u) (λ m. refl) (frame_after window) window k.frames);
-    maps = All-map IsLawfulMap (with_report f u) window (All-weaker IsLawfulMap (λ m. IsLawfulMap (with_report f u m))
-        (λ m l. said_lawful (λ v. list_any (λ w. w == v) m.reported || (f == m.frame && u == v)) m l.rising) window k.maps);
-  }
-
-  pub reported_book : (f u : ℕ) (ns : List (Option ℕ)) → IsBook (after_occupancies (λ i. words_to_from u i f window) f (grants_at f u window) ns accounts) (map (with_report f u) window)
-  reported_book f u ns =
-      let noted : IsBook accounts (map (with_report f u) window) = noted_book f u in
-      record {
-        rising = subst AreRising (sym (occupancies_ids (λ i. words_to_from u i f window) f (grants_at f u window) ns accounts)) k.rising;
-        few_maps = noted.few_maps;
-        frames = noted.frames;
-        maps = noted.maps;
-      }
+pub reported_rise : (granted : ℕ → ℕ) (f : ℕ) (gs : List Granted) (ns : List (Option ℕ)) (accounts : List Account) → AreRising (alloc_ids accounts) → AreRising (alloc_ids (after_occupancies granted f gs ns accounts))
+reported_rise granted f gs ns accounts h = subst AreRising (sym (occupancies_ids granted f gs ns accounts)) h
 
 -- Words granted from a place of the window on.
 
@@ -150,6 +102,8 @@ noted_same f u v ms ns book = (λ j. after_occupancies (λ i. sum_by-map (λ m. 
 pub noted_there : (f u : ℕ) (ms : List WindowMap) → list_any (is_of f) (map (with_report f u) ms) ≡ list_any (is_of f) ms
 noted_there f u ms = list_any-map (is_of f) (with_report f u) ms
 
--- a slice of a vector that is written anew
-pub written : {X : Type 0} (xs ys : List X) (n : ℕ) → n ≡ length xs → length ys ≡ length xs → take n (ys ++ drop (length ys) xs) ≡ ys
-written xs ys n e q = ap (λ n. take n (ys ++ drop (length ys) xs)) (e ∙ sym q) ∙ take-append_seam ys (drop (length ys) xs)
+-- what is counted after the note is what is counted before it
+pub counted_after : (f u : ℕ) (ms noted : List WindowMap) (ns : List (Option ℕ)) (at book new : List Account) → noted ≡ map (with_report f u) ms → at ≡ book →
+    new ≡ after_occupancies (λ i. words_to_from u i f noted) f (grants_at f u noted) ns at → new ≡ after_occupancies (λ i. words_to_from u i f ms) f (grants_at f u ms) ns book
+counted_after f u ms noted ns at book new e q h =
+    h ∙ (λ j. after_occupancies (λ i. words_to_from u i f (e j)) f (grants_at f u (e j)) ns (q j)) ∙ noted_same f u u ms ns book

@@ -4,7 +4,7 @@ use Rattle.std.specs.Prelude.{◌==◌, nat_le, if◌then◌else◌, Option, Som
 use Rattle.std.proofs.lemmas.List.{nil_from_length}
 use Rattle.pon_lists.proofs.Lists.{map-map, map_same}
 use Rattle.pon_guar.specs.Book.{Account, AreRising, Counted, alloc_ids}
-use Rattle.pon_guar.specs.Window.{Granted}
+use Rattle.pon_units.specs.declared.granted.Granted.{Granted}
 use Rattle.pon_guar.specs.Reports.{after_occupancies, counting, taking, with_latest}
 
 pub taking_keeps : (c : Counted) (a : Account) → (taking c a).alloc_id ≡ a.alloc_id

@@ -1,6 +1,6 @@
 -- The accounts of a report book: for each admitted Alloc-ID the report that counts, in rising Alloc-ID.
-use Rattle.std.specs.Prelude.{◌≡◌, ℕ, ◌*◌, ◌<◌, ◌==◌, nat_lt, List, [], map, find, length, slice_get, Option, Some, None, option_to_list}
-use Rattle.pon_lists.specs.Order.{IsInOrder, with_inserted, without_key}
+use Rattle.std.specs.Prelude.{◌≡◌, ℕ, ◌*◌, ◌<◌, ◌==◌, List, [], map, find, length, slice_get, Option, Some, None, option_to_list}
+pub use Rattle.pon_lists.specs.Order.{AreRising, with_number as with_alloc, without_number as without_alloc}
 pub use Rattle.pon_guar.specs.declared.account.Counted.{Counted}
 pub use Rattle.pon_guar.specs.declared.account.Account.{Account}
 
@@ -16,17 +16,6 @@ pub record StandsAt (book : List Account) (i place : ℕ) : Type 0 where
 -- the Alloc-IDs of a book
 abbrev pub alloc_ids : List Account → List ℕ
 alloc_ids book = map (λ a. a.alloc_id) book
-
--- Alloc-IDs in rising number
-abbrev pub AreRising : List ℕ → Type 0
-AreRising ids = IsInOrder (λ i j. i < j) ids
-
--- Alloc-IDs with one more in its place, and with one taken out
-abbrev pub with_alloc : ℕ → List ℕ → List ℕ
-with_alloc i ids = with_inserted (λ j. nat_lt j i) i ids
-
-abbrev pub without_alloc : ℕ → List ℕ → List ℕ
-without_alloc i ids = without_key (λ j. j) i ids
 
 -- What an account tells, where there is one.
 

@@ -1,21 +1,16 @@
 -- The report book, and what each of its calls leaves.
-use Rattle.std.specs.Prelude.{ℕ, ◌-◌, ◌≤◌, nat_lt, All, List, [], ◌∷◌, ◌++◌, map, length, Option, None, option_map}
+use Rattle.std.specs.Prelude.{ℕ, ◌-◌, nat_lt, List, [], map, Option, None, option_map}
 use Rattle.pon_lists.specs.Order.{with_inserted, without_key}
-use Rattle.pon_guar.specs.Book.{Account, AreRising, Counted, alloc_ids}
-use Rattle.pon_guar.specs.Window.{Granted, IsLawfulMap, LeadsTo, WindowMap, frame_after, grants_at, last_64, words_among, words_to_from}
-use Rattle.pon_guar.specs.Reports.{after_occupancies, with_report}
+use Rattle.pon_guar.specs.Book.{Account, Counted}
+use Rattle.pon_units.specs.declared.granted.Granted.{Granted}
+use Rattle.pon_window.specs.Window.{WindowMap, grants_at, with_map, words_among, words_to_from}
+use Rattle.pon_window.specs.Reports.{with_report}
+use Rattle.pon_guar.specs.Reports.{after_occupancies}
 
 -- accounts in rising Alloc-ID, and the window in rising frame
 pub record Loads : Type 0 where
   pub accounts : List Account
   pub window : List WindowMap
-
--- what a report book keeps
-pub record IsBook (accounts : List Account) (window : List WindowMap) : Type 0 where
-  pub rising : AreRising (alloc_ids accounts)
-  pub few_maps : length window ≤ 64
-  pub frames : LeadsTo (frame_after window) window
-  pub maps : All IsLawfulMap window
 
 -- an account of an Alloc-ID just admitted, in its place: its reports count from a frame on, and none does yet
 abbrev pub fresh_account : ℕ → ℕ → Account
@@ -37,10 +32,6 @@ less_by w a = record { alloc_id = a.alloc_id; since = a.since; counted = option_
 
 abbrev pub lessened : List Granted → Account → Account
 lessened gs a = less_by (words_among a.alloc_id gs) a
-
--- the window with a map of these grants more
-abbrev pub with_map : ℕ → List Granted → List WindowMap → List WindowMap
-with_map frame gs window = last_64 (window ++ record { frame = frame; grants = gs; reported = [] } ∷ [])
 
 -- an account that counts afresh from a frame on
 abbrev pub afresh : ℕ → Account → Account

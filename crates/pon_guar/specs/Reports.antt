@@ -1,20 +1,7 @@
--- Reports that a book takes.
-use Rattle.std.specs.Prelude.{ℕ, ◌-◌, ◌==◌, ◌&&◌, ◌||◌, not, nat_le, nat_lt, if◌then◌else◌, List, [], ◌∷◌, ◌++◌, map, filter, length, Option, Some, None, option_to_list}
-use Rattle.std.specs.List.{list_any}
-use Rattle.pon_descr.specs.Checks.{when, first_of}
-use Rattle.pon_descr.specs.declared.refusal.Refusal.{Refusal}
-use Rattle.pon_descr.specs.declared.refusal.Refusal.TheVariants.{StaleFrame, NotPolled, ReportCount, AlreadyReported}
+-- Reports that count.
+use Rattle.std.specs.Prelude.{ℕ, ◌-◌, ◌==◌, nat_le, nat_lt, if◌then◌else◌, List, [], ◌∷◌, ◌++◌, map, Option, Some, None, option_to_list}
 use Rattle.pon_guar.specs.Book.{Account, Counted}
-use Rattle.pon_guar.specs.Window.{Granted, WindowMap, grants_at, is_of, polled}
-
--- the first check that refuses a report of so many occupancies
-abbrev pub refuses_report : List WindowMap → ℕ → ℕ → ℕ → Option Refusal
-refuses_report window frame u count = first_of (
-    when (not (list_any (is_of frame) window)) StaleFrame
-    ∷ when (length (grants_at frame u window) == 0) NotPolled
-    ∷ when (not (count == length (grants_at frame u window))) ReportCount
-    ∷ when (list_any (λ m. is_of frame m && list_any (λ v. v == u) m.reported) window) AlreadyReported
-    ∷ [])
+use Rattle.pon_units.specs.declared.granted.Granted.{Granted}
 
 -- the occupancies of an Alloc-ID among those of its ONU, garbled ones left out
 abbrev pub occupancies : ℕ → List Granted → List (Option ℕ) → List ℕ
@@ -50,11 +37,3 @@ after_occupancies granted frame (g ∷ gs) (Some n ∷ ns) book =
 after_occupancies granted frame (g ∷ gs) (None ∷ ns) book = after_occupancies granted frame gs ns book
 after_occupancies granted frame [] ns book = book
 after_occupancies granted frame (g ∷ gs) [] book = book
-
--- a map after an ONU's report for its frame
-abbrev pub with_report : ℕ → ℕ → WindowMap → WindowMap
-with_report frame u m = record {
-  frame = m.frame;
-  grants = m.grants;
-  reported = filter (λ v. list_any (λ w. w == v) m.reported || (frame == m.frame && u == v)) (polled m);
-}

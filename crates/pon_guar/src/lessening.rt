@@ -1,8 +1,7 @@
 //! Reports that count, less what a map grants.
 
-ghost use Rattle.std.specs.Prelude.{◌≡◌, ◌-◌, ◌+◌, ◌≤◌, ◌^◌, ◌<◌, ◌++◌, ◌∷◌, [], map, length, vec_len, vec_capacity};
+ghost use Rattle.std.specs.Prelude.{◌≡◌, ◌-◌, map};
 ghost use Rattle.pon_guar.specs.Book.{AreRising, alloc_ids};
-ghost use Rattle.pon_guar.specs.Window.{last_64};
 ghost use Rattle.pon_guar.specs.Loads.{lessened, less_by};
 
 use crate::account::{Account, Counted, index_near};
@@ -74,20 +73,5 @@ pub(crate) fn lessen(accounts: &mut [Account], grants: &[Granted], places: &mut 
         if let Some(place) = found {
             accounts[place] = lessened_by(granted.words, accounts[place]);
         }
-    }
-}
-
-/// The most maps of a window.
-const MOST_MAPS: usize = 64;
-
-/// Adds what belongs to a map, and drops the oldest beyond 64.
-pub(crate) fn add_to_window<T: Drop>(window: &mut Vec<T>, latest: T)
-    requires few { length window.old.items ≤ 64 }
-    requires room { vec_len window.old < vec_capacity window.old }
-    ensures { window.new.items ≡ last_64 (window.old.items ++ latest ∷ []) }
-{
-    window.push(latest).unwrap();
-    if window.len() > MOST_MAPS {
-        let _oldest = window.remove(0);
     }
 }

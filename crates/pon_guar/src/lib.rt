@@ -10,10 +10,7 @@ mod counting;
 mod lessening;
 mod loads;
 mod rates;
-mod sums;
-mod window;
 
 pub use account::{Account, Counted};
 pub use loads::Loads;
 pub use rates::{cap, guaranteed};
-pub use window::WindowMap;

@@ -2,12 +2,11 @@ ghost use Rattle.std.specs.Prelude.{◌≡◌, IfOk};
 ghost use Rattle.pon_guar.specs.Book.{load_of_counted};
 
 use crate::account::{Account, Counted, account_of, add_account, index_near, remove_account};
-use crate::counting::{count_report, forget, note_report};
-use crate::lessening::{add_to_window, lessen, noted};
-use crate::sums::{MapSums, next_sums};
-use crate::window::{WindowMap, report_refusal};
+use crate::counting::{count_report, forget};
+use crate::lessening::{lessen, noted};
 use pon_descr::Refusal;
 use pon_units::{AllocId, BufOcc, FrameNo, Granted, Kbps, OnuId};
+use pon_window::{Window, WindowMap};
 use std::alloc::{AllocError, Global};
 use std::marker::Model;
 
@@ -18,22 +17,20 @@ use std::marker::Model;
 #[derive(Drop)]
 pub struct Loads {
     accounts: Vec<Account>,
-    window: Vec<WindowMap>,
-    // Beside each map of the window.
-    sums: Vec<MapSums>,
+    window: Window,
     // Where the account of each grant of the last map stood: hints, checked at each use.
     places: Vec<usize>,
 }
 
 impl Model for Loads {
     ghost use Rattle.pon_guar.specs.Loads.{Loads};
-    ghost use Rattle.pon_guar.specs.Sums.{IsSummedBook};
+    ghost use Rattle.pon_guar.specs.Book.{AreRising, alloc_ids};
 
     ghost Value = { Loads };
 
-    ghost view = { λ l. record { accounts = l.accounts.items; window = l.window.items } };
+    ghost view = { λ l. record { accounts = l.accounts.items; window = l.window } };
 
-    ghost invariant = { λ l. IsSummedBook l.accounts.items l.window.items l.sums.items };
+    ghost invariant = { λ l. AreRising (alloc_ids l.accounts.items) };
 }
 
 // The load of a report, in kbit/s: its words that are not yet granted.
@@ -50,28 +47,6 @@ fn load_of_report(counted: Option<Counted>) -> Kbps
     }
 }
 
-// Equal maps, or want of memory.
-fn copied(alloc: Global, window: &[WindowMap]) -> Result<Vec<WindowMap>, AllocError>
-    ensures { IfOk result (λ copy. copy.items ≡ window.now) }
-{
-    let mut maps = Vec::with_capacity(alloc, window.len())?;
-    for map in window {
-        maps.push(map.try_copy(alloc)?)?;
-    }
-    Ok(maps)
-}
-
-// Equal sums, or want of memory.
-fn copied_sums(alloc: Global, sums: &[MapSums]) -> Result<Vec<MapSums>, AllocError>
-    ensures { IfOk result (λ copy. copy.items ≡ sums.now) }
-{
-    let mut copies = Vec::with_capacity(alloc, sums.len())?;
-    for map_sums in sums {
-        copies.push(map_sums.try_copy(alloc)?)?;
-    }
-    Ok(copies)
-}
-
 impl Loads {
     ghost use Rattle.std.specs.Prelude.{false, None, [], ◌==◌, length, IfErr, OnOk, OnErr, slice_get};
     ghost use Rattle.std.specs.List.{list_any};
@@ -79,8 +54,8 @@ impl Loads {
     ghost use Rattle.pon_units.specs.Granted.{AreInMapOrder};
     ghost use Rattle.pon_descr.specs.Checks.{IsTold};
     ghost use Rattle.pon_guar.specs.Book.{account_of, alloc_ids, known_report, known_since, load_of};
-    ghost use Rattle.pon_guar.specs.Window.{LeadsTo};
-    ghost use Rattle.pon_guar.specs.Reports.{refuses_report};
+    ghost use Rattle.pon_window.specs.Window.{IsWindow, LeadsTo};
+    ghost use Rattle.pon_window.specs.Reports.{refuses_report};
     ghost use Rattle.pon_guar.specs.Loads.{after_admitted, after_cleared, after_mapped, after_removed, after_reported};
 
     /// A book with no accounts and an empty window. It takes no memory; what it holds later comes from this allocator.
@@ -89,8 +64,7 @@ impl Loads {
     {
         Loads {
             accounts: Vec::new(alloc),
-            window: Vec::new(alloc),
-            sums: Vec::new(alloc),
+            window: Window::open(alloc),
             places: Vec::new(alloc),
         }
     }
@@ -101,8 +75,7 @@ impl Loads {
     {
         Ok(Loads {
             accounts: Vec::from_slice(alloc, &self.accounts)?,
-            window: copied(alloc, &self.window)?,
-            sums: copied_sums(alloc, &self.sums)?,
+            window: self.window.try_copy(alloc)?,
             places: Vec::from_slice(alloc, &self.places)?,
         })
     }
@@ -147,18 +120,19 @@ impl Loads {
         }
     }
 
-    /// How many maps the window has, at most 64.
+    /// The number of maps of the window, at most 64. Their frames follow each other.
     pub fn window_len(&self) -> usize
-        ensures { result ≡ length self.now.window }
+        ensures value { result ≡ length self.now.window }
+        ensures lawful { IsWindow self.now.window }
     {
-        self.window.len()
+        self.window.maps().len()
     }
 
     /// The map of the window at an index, the oldest first; `None` past the newest.
     pub fn window_at(&self, index: usize) -> Option<&WindowMap>
         ensures { option_copied result ≡ slice_get self.now.window index }
     {
-        self.window.get(index)
+        self.window.maps().get(index)
     }
 
     /// An account for an Alloc-ID that has none: its reports count from a frame on. `OutOfMemory` where a growth is
@@ -199,29 +173,10 @@ impl Loads {
         ensures refused { IfErr result (IsTold None) }
         ensures err { OnErr result (self.new ≡ self.old) }
     {
-        let alloc = *self.window.allocator();
-        let kept = match Vec::from_slice(alloc, grants) {
-            Ok(kept) => kept,
-            Err(_) => return Err(Refusal::OutOfMemory),
-        };
-        let next = match next_sums(alloc, &self.window, &self.sums, grants) {
-            Ok(next) => next,
-            Err(_) => return Err(Refusal::OutOfMemory),
-        };
-        if self.window.reserve(1).is_err() || self.sums.reserve(1).is_err() {
+        if self.places.resize(grants.len(), 0).is_err() || self.window.add(frame, grants).is_err() {
             return Err(Refusal::OutOfMemory);
         }
-        if self.places.resize(grants.len(), 0).is_err() {
-            return Err(Refusal::OutOfMemory);
-        }
-        let map = WindowMap {
-            frame,
-            grants: kept,
-            reported: Vec::new(alloc),
-        };
         lessen(&mut self.accounts, grants, &mut self.places);
-        add_to_window(&mut self.window, map);
-        add_to_window(&mut self.sums, next);
         Ok(())
     }
 
@@ -231,7 +186,7 @@ impl Loads {
     pub fn report_refusal(&self, frame: FrameNo, onu: OnuId, count: usize) -> Option<Refusal>
         ensures { result ≡ refuses_report self.now.window frame onu count }
     {
-        report_refusal(&self.window, frame, onu, count)
+        self.window.report_refusal(frame, onu, count)
     }
 
     /// Takes an ONU's report for the map of a frame: one occupancy for each of its structures there, in order, in words of 4
@@ -249,21 +204,13 @@ impl Loads {
         ensures refused { IfErr result (IsTold (refuses_report self.old.window frame onu (length occupancies.now))) }
         ensures err { OnErr result (self.new ≡ self.old) }
     {
-        let count = occupancies.len();
-        if let Some(refusal) = report_refusal(&self.window, frame, onu, count) {
+        if let Some(refusal) = self.report_refusal(frame, onu, occupancies.len()) {
             return Err(refusal);
         }
-        if note_report(&mut self.window, frame, onu).is_err() {
+        if self.window.note_report(frame, onu).is_err() {
             return Err(Refusal::OutOfMemory);
         }
-        count_report(
-            &mut self.accounts,
-            &self.window,
-            &self.sums,
-            frame,
-            onu,
-            occupancies,
-        );
+        count_report(&mut self.accounts, &self.window, frame, onu, occupancies);
         Ok(())
     }
 
@@ -273,9 +220,5 @@ impl Loads {
     {
         forget(&mut self.accounts, frame);
         self.window.clear();
-        self.sums.clear();
     }
 }
-
-#[cfg(test)]
-mod tests;

@@ -29,6 +29,3 @@ pub fn cap(descriptor: &Descriptor, load: Kbps) -> Kbps
         None => unreachable!(),
     }
 }
-
-#[cfg(test)]
-mod tests;

@@ -4,7 +4,7 @@ use Rattle.std.proofs.lemmas.Grind.{take-set_at}
 use Rattle.std.proofs.lemmas.List.{append-nil, drop-take, drop-drop, length-take, take-append-drop, take_at}
 use Rattle.std.proofs.lemmas.Slice.{take-put_mid}
 use Rattle.std.proofs.Math.Seq.{take-append-add}
-use Rattle.pon_units.specs.Device.{Appends, Keeps}
+use Rattle.pon_device.specs.Device.{Appends, Keeps}
 use borrow.Rule.Slice.PartMut.{put_mid, post_of}
 
 -- the part of a buffer that is left once more of it has gone out

@@ -1,6 +1,6 @@
 -- What a reader of a link's records holds, and what a call of it does, in either direction.
 use Rattle.std.specs.Prelude.{◌≡◌, ◌≢◌, ℕ, ◌+◌, ◌*◌, ◌^◌, ◌%◌, ◌<◌, ◌≤◌, ◌⊎◌, Bool, false, IsTrue, List, [], ◌++◌, length, drop, slice_index, Option, Some, None, Result, Ok, Err}
-use Rattle.pon_units.specs.Device.{Consumes, Keeps, IsAtEnd}
+use Rattle.pon_device.specs.Device.{Consumes, Keeps, IsAtEnd}
 use Rattle.pon_xgtc.specs.MapHead.{MapHead, ReadsMapHead}
 use Rattle.pon_bwmap.specs.MapReading.{BeginsWithMap}
 use Rattle.pon_bwmap.specs.MapFaults.{IsFirstFault}

@@ -1,5 +1,5 @@
 ghost use Rattle.std.specs.Prelude.{◌≡◌, ◌<◌, ◌≤◌, ℕ, length, take};
-ghost use Rattle.pon_units.specs.Device.{CountsCall};
+ghost use Rattle.pon_device.specs.Device.{CountsCall};
 ghost use Rattle.pon_link.specs.DownRecords.{GivesDown};
 ghost use Rattle.pon_link.specs.Reading.{empty, IsOpen, IsWithinRecord, Pulls, CountsDevice, holds_more};
 
@@ -9,7 +9,7 @@ use crate::fault::DownFault;
 use crate::held::Held;
 use crate::pull::{PullFault, Pulled};
 use crate::record::DownRecord;
-use pon_units::dev::DevRead;
+use pon_device::DevRead;
 use std::alloc::Global;
 use std::marker::Model;
 
@@ -99,6 +99,3 @@ impl DownReader {
         self.reading.pull(reader)
     }
 }
-
-#[cfg(test)]
-mod tests;

@@ -1,6 +1,6 @@
 // The bytes of the present record of a link, in either direction, and how they grow.
 ghost use Rattle.std.specs.Prelude.{◌≡◌, ◌↔◌, ◌<◌, ◌≤◌, ◌+◌, ℕ, IsTrue, false, [], ◌∷◌, ◌++◌, length, take, MatchOption, OnSome};
-ghost use Rattle.pon_units.specs.Device.{CountsCall};
+ghost use Rattle.pon_device.specs.Device.{CountsCall};
 ghost use Rattle.pon_link.specs.Reading.{Reading, empty, longest, telling, Announces, IsOpen, HasFault, KeepsForm, IsBeginning, IsWhole, IsReady, IsWithinRecord, Pulls, CountsDevice, holds_more};
 
 use crate::buffer::append;
@@ -10,7 +10,7 @@ use crate::form::{form_fault, needed};
 use crate::pull::{PullFault, Pulled};
 use arrayvec::ArrayVec;
 use pon_bwmap::map_fault;
-use pon_units::dev::DevRead;
+use pon_device::DevRead;
 use std::marker::Model;
 
 /// A reader of one direction, with room for `N` bytes.

@@ -20,8 +20,6 @@ pub mod laws;
 mod pull;
 mod reader;
 mod record;
-#[cfg(test)]
-mod tests;
 mod unit;
 mod writer;
 

@@ -1,5 +1,5 @@
 ghost use Rattle.std.specs.Prelude.{◌≡◌, ◌<◌, ◌≤◌, ℕ, length, take};
-ghost use Rattle.pon_units.specs.Device.{CountsCall};
+ghost use Rattle.pon_device.specs.Device.{CountsCall};
 ghost use Rattle.pon_link.specs.UpRecords.{IsRecord};
 ghost use Rattle.pon_link.specs.Reading.{empty, IsOpen, Gives, IsWithinRecord, Pulls, CountsDevice, holds_more};
 
@@ -9,7 +9,7 @@ use crate::fault::LinkFault;
 use crate::held::Held;
 use crate::pull::{PullFault, Pulled};
 use crate::record::UpRecord;
-use pon_units::dev::DevRead;
+use pon_device::DevRead;
 use std::marker::Model;
 
 /// A reader of upstream records, which takes their bytes in pieces of any size. It holds the bytes of the

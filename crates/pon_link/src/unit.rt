@@ -127,6 +127,3 @@ fn lessened_queue(queue: (AllocId, u32), row: &Alloc) -> (AllocId, u32)
     let payload = row.grant().saturating_sub(1);
     (alloc_id, words.saturating_sub(u32::from(payload)))
 }
-
-#[cfg(test)]
-mod tests;

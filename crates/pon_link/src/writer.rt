@@ -1,11 +1,11 @@
 ghost use Rattle.std.specs.Prelude.{◌≡◌, ◌≢◌, ◌≤◌, ◌++◌, ℕ, List, [], length, take, drop, OnOk, OnErr};
-ghost use Rattle.pon_units.specs.Device.{Appends, CountsFailure};
+ghost use Rattle.pon_device.specs.Device.{Appends, CountsFailure};
 ghost use Rattle.pon_link.specs.DownRecords.{down_bytes};
 
 use crate::form::DOWN_TAG;
 use pon_bwmap::{Map, write_map};
 use pon_units::FrameNo;
-use pon_units::dev::DevWrite;
+use pon_device::DevWrite;
 use std::marker::Model;
 
 /// The bytes of the longest downstream record, one of 512 structures.
@@ -112,6 +112,3 @@ fn write_record(frame: FrameNo, map: &Map, room: &mut [u8]) -> usize
     room[1..9].copy_from_slice(&frame.get().to_be_bytes());
     9 + write_map(map, &mut room[9..])
 }
-
-#[cfg(test)]
-mod tests;

@@ -3,4 +3,5 @@ pub mod Distinct
 pub mod Inserted
 pub mod Lists
 pub mod Order
+pub mod Parts
 pub mod Splits

@@ -1,5 +1,5 @@
 -- Lists in an order, an element put in its place, and one taken out.
-use Rattle.std.specs.Prelude.{ℕ, Bool, not, ◌==◌, List, [], ◌∷◌, ◌++◌, filter, All}
+use Rattle.std.specs.Prelude.{ℕ, ◌<◌, Bool, not, ◌==◌, nat_lt, List, [], ◌∷◌, ◌++◌, filter, All}
 
 -- each element comes before all later ones
 abbrev pub IsInOrder : {X : Type 0} → (X → X → Type 0) → List X → Type 0
@@ -13,3 +13,14 @@ with_inserted before x xs = filter before xs ++ x ∷ filter (λ y. not (before 
 -- the elements of another key than `i`
 abbrev pub without_key : {X : Type 0} → (X → ℕ) → ℕ → List X → List X
 without_key key i xs = filter (λ x. not (key x == i)) xs
+
+-- numbers that rise
+abbrev pub AreRising : List ℕ → Type 0
+AreRising ns = IsInOrder (λ m n. m < n) ns
+
+-- rising numbers with one more in its place, and with one taken out
+abbrev pub with_number : ℕ → List ℕ → List ℕ
+with_number n ns = with_inserted (λ m. nat_lt m n) n ns
+
+abbrev pub without_number : ℕ → List ℕ → List ℕ
+without_number n ns = without_key (λ m. m) n ns

@@ -6,8 +6,8 @@ use Rattle.std.specs.Prelude.{◌==◌, ◌≢◌, Option, Result, Ok, Err}
 use Rattle.std.specs.List.{list_any}
 use Rattle.std.proofs.lemmas.Bool.{or_parts, or_right}
 use Rattle.pon_port.specs.Chapters.{Chapter}
-use Rattle.pon_units.specs.Device.{Appends, Consumes, Keeps}
-use Rattle.pon_units.proofs.Pieces.{appends_kept, appends_more}
+use Rattle.pon_device.specs.Device.{Appends, Consumes, Keeps}
+use Rattle.pon_device.proofs.Pieces.{appends_kept, appends_more}
 use Rattle.pon_stream.proofs.DeviceBytes.{appends_none, consumes_kept, consumes_more, consumes_none, keeps_itself}
 use Rattle.pon_manage.specs.Planning.{Planned, IsText, BeginsNext, BeginsOutput, PrintsLine}
 use Rattle.pon_stream.specs.declared.fault.PlanFault.{PlanFault}

@@ -1,6 +1,6 @@
 -- What reading lines and writing their text leaves.
 use Rattle.std.specs.Prelude.{ℕ, ◌≡◌, ◌⊎◌, List, [], ◌∷◌, ◌++◌, map, Option, Result, Ok, Err}
-use Rattle.pon_units.specs.Device.{Appends, Consumes, Keeps}
+use Rattle.pon_device.specs.Device.{Appends, Consumes, Keeps}
 use Rattle.pon_port.specs.Chapters.{Chapter, just_opened}
 use Rattle.pon_stream.specs.Streams.{IsBeginning}
 use Rattle.pon_text.specs.Lines.{lines_of, whole_lines}

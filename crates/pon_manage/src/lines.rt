@@ -1,7 +1,7 @@
 //! Management lines: each is read, asked of its port, and answered.
 
 ghost use Rattle.std.specs.Prelude.{◌≡◌, ◌∷◌, [], ◌++◌, ◌≤◌, length, map, take, OnOk};
-ghost use Rattle.pon_units.specs.Device.{IsAtEnd};
+ghost use Rattle.pon_device.specs.Device.{IsAtEnd};
 ghost use Rattle.pon_stream.specs.Streams.{TellsRead, TellsWrite};
 ghost use Rattle.pon_manage.specs.Planning.{Planned, PrintsLine, opened_port, opened_ports};
 
@@ -11,7 +11,7 @@ use pon_line::read_line;
 use pon_port::{Port, PortCfg};
 use pon_stream::{PlanFault, next_byte};
 use pon_units::FrameNo;
-use pon_units::dev::{DevRead, DevWrite, write_all};
+use pon_device::{DevRead, DevWrite, write_all};
 use std::alloc::Global;
 
 /// The input ended, and all of its text is written.

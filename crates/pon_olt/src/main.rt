@@ -13,7 +13,7 @@ use pon_job::{Job, Outcome, exit_status, outcome_of_check, outcome_of_run, outco
 use pon_manage::PlanEnd;
 pub use pon_manage::{PlanFault, plan};
 use pon_port::PortCfg;
-use pon_units::dev::{StdRead, StdWrite};
+use pon_device::{StdRead, StdWrite};
 use pon_units::{FrameNo, Gap, Profile};
 use std::alloc::Global;
 use std::fs;

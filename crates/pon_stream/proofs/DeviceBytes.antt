@@ -2,7 +2,7 @@
 use Rattle.std.proofs.Common.{ℕ, List, [], ◌++◌, refl, ap, sym, ◌∙◌, append_assoc}
 use Rattle.std.specs.Prelude.{Option, Some, None}
 use Rattle.std.proofs.lemmas.List.{append-nil}
-use Rattle.pon_units.specs.Device.{Appends, Consumes, Keeps}
+use Rattle.pon_device.specs.Device.{Appends, Consumes, Keeps}
 
 pub consumes_none : (l : Option (List ℕ)) → Consumes l l []
 consumes_none None = tt

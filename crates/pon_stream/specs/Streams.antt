@@ -1,7 +1,7 @@
 -- What reading and writing a text does to a device, by how it ends.
 use Rattle.std.specs.Prelude.{◌≡◌, ℕ, ◌+◌, ◌-◌, ◌%◌, ◌^◌, ◌⊎◌, List, [], ◌∷◌, ◌++◌, Option, Some, None, Result, Ok, Err}
 use Rattle.std.specs.Global.{Vec}
-use Rattle.pon_units.specs.Device.{Appends, Consumes, Keeps, IsAtEnd}
+use Rattle.pon_device.specs.Device.{Appends, Consumes, Keeps, IsAtEnd}
 use Rattle.pon_stream.specs.declared.fault.PlanFault.{PlanFault}
 use Rattle.pon_stream.specs.declared.fault.PlanFault.TheVariants.{Read, Write, Memory}
 

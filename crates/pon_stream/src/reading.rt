@@ -1,10 +1,10 @@
 //! Bytes read one by one, and a whole input.
 
-ghost use Rattle.pon_units.specs.Device.{CountsFailure, CountsCall};
+ghost use Rattle.pon_device.specs.Device.{CountsFailure, CountsCall};
 ghost use Rattle.pon_stream.specs.Streams.{GivesByte, ReadsAll, TellsRead};
 
 use crate::fault::PlanFault;
-use pon_units::dev::{DevRead, Failed};
+use pon_device::{DevRead, Failed};
 use std::alloc::Global;
 
 /// Reads the next byte; `None` at the end of the input. `Failed` if the reader fails.

@@ -3,7 +3,7 @@
 ghost use Rattle.pon_stream.specs.Streams.{TellsLine, TellsWrite};
 
 use crate::fault::PlanFault;
-use pon_units::dev::{DevWrite, write_all};
+use pon_device::{DevWrite, write_all};
 
 /// Writes a text, and flushes the writer.
 ///

@@ -2,7 +2,7 @@ ghost use Rattle.std.specs.Prelude.{◌<◌, ◌≤◌};
 
 use pon_manage::{PlanEnd, PlanFault, plan};
 use pon_port::PortCfg;
-use pon_units::dev::{MemRead, MemWrite};
+use pon_device::{MemRead, MemWrite};
 use pon_units::{FrameNo, Gap, Profile};
 use std::alloc::Global;
 use std::test::Fail;

@@ -1,7 +1,7 @@
 ghost use Rattle.std.specs.Prelude.{◌<◌};
 
 use super::*;
-use pon_units::dev::{MemRead, MemWrite};
+use pon_device::{MemRead, MemWrite};
 use std::test::Fail;
 
 // What a run gave, and what its writer holds.

@@ -1,7 +1,8 @@
 use Rattle.std.proofs.Common.{rules}
 use Rattle.std.specs.Prelude.{nat_lt}
 use Rattle.std.proofs.lemmas.Fn.{always_returns_same}
-use Rattle.pon_guar.proofs.Accounts.{parts_at, rising_parted}
+use Rattle.pon_lists.proofs.Parts.{parts_at}
+use Rattle.pon_guar.proofs.Accounts.{rising_parted}
 use Rattle.pon_guar.proofs.account.place_of.Goals as goal
 
 pub returns-clause-lesser : goal.returns-clause-lesser

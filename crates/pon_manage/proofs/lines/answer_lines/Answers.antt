@@ -1,7 +1,7 @@
 use Rattle.std.proofs.Common.{rules, arith, length, ◌≡◌, ◌≢◌, ◌∷◌, [], ap, sym, ◌∙◌, subst, Ok, Err, refl}
 use Rattle.std.specs.Prelude.{vec_len}
 use Rattle.std.proofs.lemmas.Bool.{eqb-false, ne_eqb}
-use Rattle.pon_units.specs.Device.{Consumes, IsAtEnd}
+use Rattle.pon_device.specs.Device.{Consumes, IsAtEnd}
 use Rattle.pon_stream.proofs.ReadCounts.{read_more}
 use Rattle.pon_manage.proofs.Streaming.{Progress, begin, push_kept, printed_line, feed_failed, end_failed, ended, no_room, printed, push_short, push_long}
 use Rattle.pon_manage.proofs.lines.answer_lines.Goals as goal

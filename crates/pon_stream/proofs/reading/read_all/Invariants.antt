@@ -1,5 +1,5 @@
 use Rattle.std.proofs.Common.{◌≡◌}
-use Rattle.pon_units.specs.Device.{Consumes}
+use Rattle.pon_device.specs.Device.{Consumes}
 use Rattle.pon_stream.proofs.ReadCounts.{AfterReads}
 use Rattle.pon_stream.proofs.reading.read_all.Given as goal
 

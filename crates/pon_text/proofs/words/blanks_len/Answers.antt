@@ -1,6 +1,6 @@
 use Rattle.std.proofs.Common.{not}
 use Rattle.pon_text.specs.Lines.{is_blank}
-use Rattle.pon_units.proofs.Lists.{position-Some_or_len, position-Some_within, position-None_or_len}
+use Rattle.pon_lists.proofs.Lists.{position-Some_or_len, position-Some_within, position-None_or_len}
 use Rattle.pon_text.proofs.words.blanks_len.Goals as goal
 
 pub returns-in-Some-clause-len : goal.returns-in-Some-clause-len

@@ -1,5 +1,5 @@
 use Rattle.pon_text.specs.Lines.{is_blank}
-use Rattle.pon_units.proofs.Lists.{position-Some_or_len, position-Some_within, position-None_or_len}
+use Rattle.pon_lists.proofs.Lists.{position-Some_or_len, position-Some_within, position-None_or_len}
 use Rattle.pon_text.proofs.words.word_len.Goals as goal
 
 pub returns-in-Some-clause-len : goal.returns-in-Some-clause-len

@@ -1,9 +1,5 @@
-use Rattle.pon_guar.proofs.Books.{removed_book}
+use Rattle.pon_guar.proofs.Books.{removed_rise}
 use Rattle.pon_guar.proofs.loads.Loads.removed.Goals as goal
 
 pub invariant_of-self : goal.invariant_of-self
-invariant_of-self c = rw c.remove_account.ensures (record {
-  book = removed_book _ _ c.self.invariant.book c.args.alloc_id;
-  as_many = c.self.invariant.as_many;
-  summed = c.self.invariant.summed;
-})
+invariant_of-self c = rw c.remove_account.ensures (removed_rise c.args.alloc_id _ c.self.invariant)

@@ -1,5 +1,5 @@
 use Rattle.std.proofs.Common.{sym, take, List, ℕ, refl, subst}
-use Rattle.pon_units.specs.Device.{Appends}
+use Rattle.pon_device.specs.Device.{Appends}
 use Rattle.pon_link.proofs.Left.{Sends, none_sent, sent_more, sent_kept, not_idle}
 use Rattle.pon_link.proofs.writer.DownWriter.push.Goals as goal
 

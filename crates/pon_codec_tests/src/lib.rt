@@ -1,0 +1,13 @@
+//! Tests of what is read and written: numbers in range, devices, maps and their bytes, the records of a link.
+//!
+//! They stand here, above the crates that they test, so that each of these is proved once.
+#![tactic(auto)]
+
+#[cfg(test)]
+mod devices;
+#[cfg(test)]
+mod maps;
+#[cfg(test)]
+mod numbers;
+#[cfg(test)]
+mod records;

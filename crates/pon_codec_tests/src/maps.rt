@@ -1,0 +1,5 @@
+// Maps as values and as bytes.
+
+mod read;
+mod rules;
+mod written;

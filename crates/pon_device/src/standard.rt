@@ -1,0 +1,96 @@
+// The readers and writers of std as devices, which tell their counts and no bytes.
+ghost use Rattle.std.specs.Prelude.{◌≡◌, ℕ, None};
+
+use crate::traits::{DevRead, DevWrite, Failed, fail};
+use std::io;
+use std::marker::Model;
+
+/// A reader of std as a device: each error that it answers is a failure, an interrupted read too.
+#[derive(Drop)]
+pub struct StdRead<R> {
+    inner: R,
+    made: u64,
+    failed: u64,
+}
+
+impl<R> Model for StdRead<R> {
+    ghost use Rattle.pon_device.specs.Counts.{ReadCounts};
+
+    ghost Value = { ReadCounts };
+
+    ghost view = { λ s. record { calls = s.made; failures = s.failed } };
+}
+
+impl<R> StdRead<R> {
+    /// The reader as a device that was not read yet.
+    pub fn new(inner: R) -> Self
+        ensures { result ≡ record { calls = 0; failures = 0 } }
+    {
+        StdRead {
+            inner,
+            made: 0,
+            failed: 0,
+        }
+    }
+}
+
+impl<R: io::Read> DevRead for StdRead<R> {
+    ghost calls = { λ s. s.calls };
+
+    ghost failures = { λ s. s.failures };
+
+    ghost remaining = { λ _. None };
+
+    fn read(&mut self, buf: &mut [u8]) -> Result<usize, Failed> {
+        self.made = self.made.wrapping_add(1);
+        match self.inner.read(buf) {
+            Ok(n) => Ok(n),
+            Err(_) => Err(fail(&mut self.failed)),
+        }
+    }
+}
+
+/// A writer of std as a device: each error that it answers is a failure, an interrupted write too, and so is
+/// a write that takes nothing of a piece that is not empty.
+#[derive(Drop)]
+pub struct StdWrite<W> {
+    inner: W,
+    failed: u64,
+}
+
+impl<W> Model for StdWrite<W> {
+    ghost use Rattle.std.specs.Prelude.{ℕ};
+
+    ghost Value = { ℕ };
+
+    ghost view = { λ s. s.failed };
+}
+
+impl<W> StdWrite<W> {
+    /// The writer as a device that has not failed yet.
+    pub fn new(inner: W) -> Self
+        ensures { result ≡ 0 }
+    {
+        StdWrite { inner, failed: 0 }
+    }
+}
+
+impl<W: io::Write> DevWrite for StdWrite<W> {
+    ghost failures = { λ count. count };
+
+    ghost contents = { λ _. None };
+
+    fn write(&mut self, buf: &[u8]) -> Result<usize, Failed> {
+        match self.inner.write(buf) {
+            Ok(n) if n > 0 || buf.is_empty() => Ok(n),
+            _ => Err(fail(&mut self.failed)),
+        }
+    }
+
+    fn flush(&mut self) -> Result<(), Failed> {
+        if self.inner.flush().is_err() {
+            return Err(fail(&mut self.failed));
+        }
+        Ok(())
+    }
+}

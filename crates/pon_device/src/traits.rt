@@ -1,0 +1,79 @@
+// What a device promises, and the writing of a whole piece.
+ghost use Rattle.std.specs.Prelude.{◌≡◌, ◌<◌, ◌≤◌, ◌++◌, ℕ, List, Option, length, IfOk, OnOk, OnErr};
+ghost use Rattle.pon_device.specs.Device.{CountsCall, CountsFailure, ReadConsumes, WriteAppends, Appends, Keeps};
+
+/// The device failed in this call.
+#[derive(Clone, Copy, Debug, PartialEq, Eq)]
+pub struct Failed;
+
+/// Counts one failure more, round 2^64.
+pub(crate) fn fail(failures: &mut u64) -> Failed
+    ensures { CountsCall failures.old failures.new }
+{
+    *failures = failures.wrapping_add(1);
+    Failed
+}
+
+/// A device that gives bytes.
+pub trait DevRead {
+    /// How many reads were made, counted round 2^64.
+    ghost calls: { Self → ℕ };
+
+    /// How many reads have failed, counted round 2^64.
+    ghost failures: { Self → ℕ };
+
+    /// The bytes that are left, where the device tells them.
+    ghost remaining: { Self → Option (List ℕ) };
+
+    /// Gives bytes into the front of `buf`, and tells how many: none only at the end, or with no room.
+    ///
+    /// `Failed` where the device failed in this call, which then gave nothing.
+    fn read(&mut self, buf: &mut [u8]) -> Result<usize, Failed>
+        ensures count { IfOk result (λ n. n ≤ length buf.old) }
+        ensures calls { CountsCall (calls self.old) (calls self.new) }
+        ensures failures { CountsFailure (failures self.old) (failures self.new) result }
+        ensures bytes { ReadConsumes (remaining self.old) (remaining self.new) result buf.new };
+}
+
+/// A device that takes bytes.
+pub trait DevWrite {
+    /// How many calls have failed, counted round 2^64.
+    ghost failures: { Self → ℕ };
+
+    /// The bytes that were taken, where the device tells them.
+    ghost contents: { Self → Option (List ℕ) };
+
+    /// Takes bytes from the front of `buf`, and tells how many.
+    ///
+    /// `Failed` where the device failed in this call, which then took nothing. To take nothing of a piece
+    /// that is not empty is a failure.
+    fn write(&mut self, buf: &[u8]) -> Result<usize, Failed>
+        ensures count { IfOk result (λ n. n ≤ length buf.now) }
+        ensures some { IfOk result (λ n. 0 < length buf.now → 0 < n) }
+        ensures failures { CountsFailure (failures self.old) (failures self.new) result }
+        ensures bytes { WriteAppends (contents self.old) (contents self.new) result buf.now };
+
+    /// Sends on what was taken.
+    ///
+    /// `Failed` where the device failed in this call.
+    fn flush(&mut self) -> Result<(), Failed>
+        ensures failures { CountsFailure (failures self.old) (failures self.new) result }
+        ensures bytes { Keeps (contents self.old) (contents self.new) };
+}
+
+/// Writes all of the bytes, or a beginning of them and then fails, as the writer did. It flushes nothing.
+pub fn write_all<W: DevWrite>(writer: &mut W, bytes: &[u8]) -> Result<(), Failed>
+    ensures ok { OnOk result (Appends (W.contents writer.old) (W.contents writer.new) bytes.now) }
+    ensures err { OnErr result ((sent rest : List ℕ)
+        × Appends (W.contents writer.old) (W.contents writer.new) sent × (sent ++ rest ≡ bytes.now)) }
+    ensures failures { CountsFailure (W.failures writer.old) (W.failures writer.new) result }
+{
+    let mut at = 0;
+    while at < bytes.len() {
+        match writer.write(&bytes[at..]) {
+            Ok(n) => at += n,
+            Err(failed) => return Err(failed),
+        }
+    }
+    Ok(())
+}

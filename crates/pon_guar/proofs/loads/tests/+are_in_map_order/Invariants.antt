@@ -1,6 +1,0 @@
-use Rattle.std.proofs.Common.{length}
-use Rattle.pon_guar.proofs.loads.tests.+are_in_map_order.Given as goal
-
--- fewer grants each time
-abbrev pub decreases-are_in_map_order : goal.decreases-are_in_map_order
-decreases-are_in_map_order l = length l.grants.now

@@ -1,0 +1,38 @@
+-- What a window keeps, call by call.
+use Rattle.std.proofs.Common.{◌≡◌, ℕ, ◌+◌, ◌-◌, ◌||◌, ◌&&◌, List, [], ◌∷◌, ◌++◌, map, length, refl, sym, arith}
+use Rattle.std.specs.Prelude.{◌==◌, filter}
+use Rattle.std.specs.List.{list_any}
+use Rattle.std.proofs.lemmas.List.{length-map, length-drop}
+use Rattle.std.proofs.lemmas.List.Elements.{All-nil, All-cons, All-append, All-drop, All-map, All-weaker}
+use Rattle.pon_units.specs.Granted.{AreInMapOrder}
+use Rattle.pon_units.specs.declared.granted.Granted.{Granted}
+use Rattle.pon_window.specs.Window.{IsLawfulMap, IsWindow, LeadsTo, WindowMap, frame_after, last_64, polled, with_map}
+use Rattle.pon_window.specs.Reports.{with_report}
+use Rattle.pon_window.proofs.Frames.{leads_after, leads_drop, leads_mapped, leads_push}
+use Rattle.pon_window.proofs.Polls.{said_lawful}
+
+pub no_maps : IsWindow []
+no_maps = record { few_maps = omega arith; frames = tt; maps = All-nil IsLawfulMap }
+
+module _ (window : List WindowMap) (k : IsWindow window) where
+  pub one_more : (frame : ℕ) (gs : List Granted) → LeadsTo frame window → AreInMapOrder gs → IsWindow (with_map frame gs window)
+  one_more frame gs next order =
+      let new : WindowMap = record { frame = frame; grants = gs; reported = [] } in
+      let all : List WindowMap = window ++ new ∷ [] in
+      record {
+        few_maps = omega (arith, length-drop (length all - 64) all);
+        frames = leads_after (frame + 1) (last_64 all) (leads_drop (frame + 1) (length all - 64) all (leads_push frame window new next refl));
+        maps = All-drop IsLawfulMap (length all - 64) all (All-append IsLawfulMap window (new ∷ []) k.maps (All-cons IsLawfulMap new [] (record { rising = order; reported = sym (nobody (polled new)) }) (All-nil IsLawfulMap)));
+      }
+    where
+      nobody : (xs : List ℕ) → filter (λ u. list_any (λ v. v == u) []) xs ≡ []
+      nobody [] = refl
+      nobody (x ∷ xs) = nobody xs
+
+  pub one_reported : (f u : ℕ) → IsWindow (map (with_report f u) window)
+  one_reported f u = record {
+    few_maps = omega (arith, k.few_maps, length-map window (with_report f u));
+    frames = leads_after (frame_after window) (map (with_report f u) window) (leads_mapped (with_report f u) (λ m. refl) (frame_after window) window k.frames);
+    maps = All-map IsLawfulMap (with_report f u) window (All-weaker IsLawfulMap (λ m. IsLawfulMap (with_report f u m))
+        (λ m l. said_lawful (λ v. list_any (λ w. w == v) m.reported || (f == m.frame && u == v)) m l.rising) window k.maps);
+  }

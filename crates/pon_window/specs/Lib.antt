@@ -1,0 +1,3 @@
+pub mod Reports
+pub mod Sums
+pub mod Window

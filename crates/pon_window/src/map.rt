@@ -1,0 +1,133 @@
+//! A map of the window.
+
+ghost use Rattle.std.specs.Prelude.{◌≡◌, ◌≤◌, ◌==◌, nat_lt, not, true, false, drop, filter, take, length, IfOk, OnOk, OnErr};
+ghost use Rattle.std.specs.List.{list_any};
+ghost use Rattle.pon_units.specs.Granted.{AreInMapOrder};
+ghost use Rattle.pon_lists.specs.Order.{AreRising, with_number};
+ghost use Rattle.pon_window.specs.Window.{IsLawfulMap};
+
+use pon_units::{FrameNo, Granted, OnuId};
+use std::alloc::{AllocError, Global};
+use std::marker::Model;
+
+/// A map whose reports may still come: its frame, its grants in map order, and the ONUs that reported.
+#[derive(Debug, Drop)]
+pub struct WindowMap {
+    pub(crate) frame: FrameNo,
+    pub(crate) grants: Vec<Granted>,
+    pub(crate) reported: Vec<OnuId>,
+}
+
+impl Model for WindowMap {
+    ghost use Rattle.pon_window.specs.Window.{WindowMap};
+
+    ghost Value = { WindowMap };
+
+    ghost view = { λ a. record { frame = a.frame; grants = a.grants.items; reported = a.reported.items } };
+}
+
+// The grants of an ONU.
+fn series_of(grants: &[Granted], onu: OnuId) -> &[Granted]
+    requires { AreInMapOrder grants.now }
+    ensures { result.now ≡ filter (λ g. g.onu == onu) grants.now }
+{
+    let lesser = grants.partition_point(|granted| granted.onu.get() < onu.get());
+    let (_, others) = grants.split_at(lesser);
+    let count = others.partition_point(|granted| granted.onu.get() <= onu.get());
+    let (own, _) = others.split_at(count);
+    own
+}
+
+// The number of lesser ONU-IDs.
+fn place_among(onus: &[OnuId], onu: OnuId) -> usize
+    requires { AreRising onus.now }
+    ensures within { result ≤ length onus.now }
+    ensures lesser { take result onus.now ≡ filter (λ v. nat_lt v onu) onus.now }
+    ensures others { drop result onus.now ≡ filter (λ v. not (nat_lt v onu)) onus.now }
+{
+    onus.partition_point(|reporter| reporter.get() < onu.get())
+}
+
+// Adds an ONU in its place. `Err` only if memory is refused, and then nothing changes.
+fn add_onu(onus: &mut Vec<OnuId>, onu: OnuId) -> Result<(), AllocError>
+    requires { AreRising onus.old.items }
+    ensures ok { OnOk result (onus.new.items ≡ with_number onu onus.old.items) }
+    ensures err { OnErr result (onus.new.items ≡ onus.old.items) }
+{
+    onus.reserve(1)?;
+    let place = place_among(onus.as_slice(), onu);
+    onus.insert(place, onu).unwrap();
+    Ok(())
+}
+
+impl WindowMap {
+    ghost use Rattle.pon_window.specs.Window.{polled};
+    ghost use Rattle.pon_window.specs.Reports.{with_report};
+
+    /// The frame of the map.
+    pub fn frame(&self) -> FrameNo
+        ensures { result ≡ self.now.frame }
+    {
+        self.frame
+    }
+
+    /// Its grants, in map order.
+    pub fn grants(&self) -> &[Granted]
+        ensures { result.now ≡ self.now.grants }
+    {
+        &self.grants
+    }
+
+    /// The ONUs that reported for it, in rising ONU-ID.
+    pub fn reported(&self) -> &[OnuId]
+        ensures { result.now ≡ self.now.reported }
+    {
+        &self.reported
+    }
+
+    /// An equal map. `Err` only if memory is refused.
+    pub fn try_copy(&self, alloc: Global) -> Result<WindowMap, AllocError>
+        ensures { IfOk result (λ map. map ≡ self.now) }
+    {
+        Ok(WindowMap {
+            frame: self.frame,
+            grants: Vec::from_slice(alloc, &self.grants)?,
+            reported: Vec::from_slice(alloc, &self.reported)?,
+        })
+    }
+
+    /// The grants to an ONU, found by a search by halves. Empty if it granted the ONU nothing.
+    pub fn series(&self, onu: OnuId) -> &[Granted]
+        requires { AreInMapOrder self.now.grants }
+        ensures { result.now ≡ filter (λ g. g.onu == onu) self.now.grants }
+    {
+        series_of(&self.grants, onu)
+    }
+
+    /// The number of grants before those to an ONU: the index of the first of its series.
+    pub fn first_of(&self, onu: OnuId) -> usize
+        ensures { result ≤ length self.now.grants }
+    {
+        self.grants
+            .partition_point(|granted| granted.onu.get() < onu.get())
+    }
+
+    /// Returns whether an ONU reported for it.
+    pub(crate) fn has_reported(&self, onu: OnuId) -> bool
+        ensures { result ≡ list_any (λ v. v == onu) self.now.reported }
+    {
+        self.reported.iter().any(|reporter| *reporter == onu)
+    }
+
+    /// Notes that an ONU reported. `Err` only if memory is refused, and then nothing changes.
+    pub(crate) fn note(&mut self, onu: OnuId) -> Result<(), AllocError>
+        requires lawful { IsLawfulMap self.old }
+        requires polled { list_any (λ v. v == onu) (polled self.old) ≡ true }
+        requires first { list_any (λ v. v == onu) self.old.reported ≡ false }
+        ensures ok { OnOk result (self.new ≡ with_report self.old.frame onu self.old) }
+        ensures err { OnErr result (self.new ≡ self.old) }
+    {
+        add_onu(&mut self.reported, onu)?;
+        Ok(())
+    }
+}

@@ -1,0 +1,59 @@
+//! Reports for the maps of a window: the checks that refuse one, and the note that it came.
+
+ghost use Rattle.std.specs.Prelude.{◌≡◌, ℕ, None, All, OnOk, OnErr, map};
+ghost use Rattle.pon_window.specs.Window.{IsLawfulMap, LeadsTo, frame_after};
+ghost use Rattle.pon_window.specs.Reports.{refuses_report, with_report};
+
+use crate::map::WindowMap;
+use crate::place::place_of;
+use pon_descr::Refusal;
+use pon_units::{FrameNo, OnuId};
+use std::alloc::AllocError;
+
+/// The first check that refuses a report of `count` occupancies.
+pub(crate) fn report_refusal(
+    window: &[WindowMap],
+    frame: FrameNo,
+    onu: OnuId,
+    count: usize,
+) -> Option<Refusal>
+    requires frames { LeadsTo (frame_after window.now) window.now }
+    requires maps { All IsLawfulMap window.now }
+    ensures { result ≡ refuses_report window.now frame onu count }
+{
+    let map = match place_of(window, frame) {
+        None => return Some(Refusal::StaleFrame),
+        Some(place) => &window[place],
+    };
+    let polled = map.series(onu).len();
+    if polled == 0 {
+        return Some(Refusal::NotPolled);
+    }
+    if count != polled {
+        return Some(Refusal::ReportCount);
+    }
+    if map.has_reported(onu) {
+        return Some(Refusal::AlreadyReported);
+    }
+    None
+}
+
+/// Notes an ONU's report for the map of a frame. `Err` only if memory is refused, and then nothing changes.
+pub(crate) fn note_report(
+    window: &mut [WindowMap],
+    frame: FrameNo,
+    onu: OnuId,
+) -> Result<(), AllocError>
+    requires frames { LeadsTo (frame_after window.old) window.old }
+    requires maps { All IsLawfulMap window.old }
+    requires accepted { (count : ℕ) × (refuses_report window.old frame onu count ≡ None) }
+    ensures ok { OnOk result (window.new ≡ map (with_report frame onu) window.old) }
+    ensures err { OnErr result (window.new ≡ window.old) }
+{
+    let place = match place_of(window, frame) {
+        Some(place) => place,
+        None => unreachable!(),
+    };
+    window[place].note(onu)?;
+    Ok(())
+}

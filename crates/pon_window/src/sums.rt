@@ -1,0 +1,176 @@
+//! Running sums beside the window, so that what was granted since a map is one difference.
+
+ghost use Rattle.std.specs.Prelude.{◌≡◌, ◌≤◌, ◌^◌, ◌<◌, All, IfOk, length, position, sum_by, List, ℕ};
+ghost use Rattle.pon_units.specs.Granted.{AreInMapOrder};
+ghost use Rattle.pon_window.specs.Window.{IsLawfulMap, words_to};
+ghost use Rattle.pon_window.specs.Sums.{AreSummed, is_to, sum_before, sum_behind, sum_now, sums_beside};
+
+use crate::map::WindowMap;
+use pon_units::{AllocId, Granted, OnuId};
+use std::alloc::{AllocError, Global};
+use std::marker::Model;
+
+/// Beside each grant of a map, in order, the words that earlier maps granted to its Alloc-ID under its ONU, counted from
+/// any map on, modulo 2^32.
+#[derive(Drop)]
+pub(crate) struct MapSums {
+    before: Vec<u32>,
+}
+
+impl Model for MapSums {
+    ghost Value = { List ℕ };
+
+    ghost view = { λ s. s.before.items };
+}
+
+impl MapSums {
+    /// Equal sums, or want of memory.
+    pub(crate) fn try_copy(&self, alloc: Global) -> Result<MapSums, AllocError>
+        ensures { IfOk result (λ sums. sums ≡ self.now) }
+    {
+        Ok(MapSums {
+            before: Vec::from_slice(alloc, &self.before)?,
+        })
+    }
+}
+
+// Whether a grant is to an Alloc-ID under an ONU.
+fn is_to(granted: &Granted, onu: OnuId, alloc_id: AllocId) -> bool
+    ensures { result ≡ is_to onu alloc_id granted.now }
+{
+    granted.onu == onu && granted.alloc_id == alloc_id
+}
+
+// The index of the grant to an Alloc-ID under an ONU: the hint where it stands there, else by a search.
+fn place_of_grant(grants: &[Granted], hint: usize, onu: OnuId, alloc_id: AllocId) -> Option<usize>
+    requires { AreInMapOrder grants.now }
+    ensures { result ≡ position (is_to onu alloc_id) grants.now }
+{
+    if hint < grants.len() && is_to(&grants[hint], onu, alloc_id) {
+        return Some(hint);
+    }
+    grants
+        .iter()
+        .position(|granted| is_to(granted, onu, alloc_id))
+}
+
+// The sum before the grant to an Alloc-ID under an ONU.
+fn sum_before(
+    map: &WindowMap,
+    sums: &MapSums,
+    hint: usize,
+    onu: OnuId,
+    alloc_id: AllocId,
+) -> Option<u32>
+    requires { AreInMapOrder map.now.grants }
+    ensures { result ≡ sum_before onu alloc_id map.now.grants sums.now }
+{
+    let place = match place_of_grant(&map.grants, hint, onu, alloc_id) {
+        None => return None,
+        Some(place) => place,
+    };
+    if place < sums.before.len() {
+        Some(sums.before[place])
+    } else {
+        None
+    }
+}
+
+// The sum after that grant.
+fn sum_behind(
+    map: &WindowMap,
+    sums: &MapSums,
+    hint: usize,
+    onu: OnuId,
+    alloc_id: AllocId,
+) -> Option<u32>
+    requires { AreInMapOrder map.now.grants }
+    ensures { result ≡ sum_behind onu alloc_id map.now sums.now }
+{
+    let place = match place_of_grant(&map.grants, hint, onu, alloc_id) {
+        None => return None,
+        Some(place) => place,
+    };
+    if place < sums.before.len() {
+        let words = u32::from(map.grants[place].words.get());
+        Some(sums.before[place].wrapping_add(words))
+    } else {
+        None
+    }
+}
+
+// The sum after the last grant to an Alloc-ID under an ONU.
+fn sum_now(
+    maps: &[WindowMap],
+    sums: &[MapSums],
+    hint: usize,
+    onu: OnuId,
+    alloc_id: AllocId,
+) -> Option<u32>
+    requires as_many { length sums.now ≡ length maps.now }
+    requires lawful { All IsLawfulMap maps.now }
+    ensures { result ≡ sum_now onu alloc_id maps.now sums.now }
+{
+    let (map, earlier) = maps.split_last()?;
+    let (last, others) = sums.split_last()?;
+    match sum_behind(map, last, hint, onu, alloc_id) {
+        Some(sum) => Some(sum),
+        None => sum_now(earlier, others, hint, onu, alloc_id),
+    }
+}
+
+/// The payload words that maps granted to an Alloc-ID under an ONU; the hint is its index among the grants.
+pub(crate) fn words_granted(
+    maps: &[WindowMap],
+    sums: &[MapSums],
+    hint: usize,
+    onu: OnuId,
+    alloc_id: AllocId,
+) -> u32
+    requires few { length maps.now ≤ 64 }
+    requires as_many { length sums.now ≡ length maps.now }
+    requires lawful { All IsLawfulMap maps.now }
+    requires summed { AreSummed maps.now sums.now }
+    ensures { result ≡ sum_by (words_to onu alloc_id) maps.now }
+{
+    let (map, later) = match maps.split_first() {
+        None => return 0,
+        Some(parts) => parts,
+    };
+    let (first, others) = match sums.split_first() {
+        None => unreachable!(),
+        Some(parts) => parts,
+    };
+    let before = match sum_before(map, first, hint, onu, alloc_id) {
+        None => return words_granted(later, others, hint, onu, alloc_id),
+        Some(before) => before,
+    };
+    match sum_now(maps, sums, hint, onu, alloc_id) {
+        None => unreachable!(),
+        Some(sum) => sum.wrapping_sub(before),
+    }
+}
+
+/// The sums beside the grants of the next map; `Err` only for want of memory.
+pub(crate) fn next_sums(
+    alloc: Global,
+    maps: &[WindowMap],
+    sums: &[MapSums],
+    grants: &[Granted],
+) -> Result<MapSums, AllocError>
+    requires as_many { length sums.now ≡ length maps.now }
+    requires lawful { All IsLawfulMap maps.now }
+    ensures sums { IfOk result (λ next. next ≡ sums_beside maps.now sums.now grants.now) }
+    ensures small { IfOk result (λ next. All (λ g. g.words ≤ 9720) grants.now) }
+{
+    let mut before = Vec::with_capacity(alloc, grants.len())?;
+    for granted in grants {
+        prove!(granted.words.get() <= 9720);
+        let sum = match sum_now(maps, sums, before.len(), granted.onu, granted.alloc_id) {
+            Some(sum) => sum,
+            None => 0,
+        };
+        before.push(sum)?;
+    }
+    Ok(MapSums { before })
+}
