@@ -10,8 +10,9 @@ use Rattle.pon_descr.specs.Checks.{or_else, when}
 use Rattle.pon_guar.specs.declared.account.Account.{Account}
 use Rattle.pon_guar.specs.declared.account.Counted.{Counted}
 use Rattle.pon_guar.specs.Book.{account_of, alloc_ids, counted_of_account, since_of_account}
-use Rattle.pon_guar.specs.Window.{LeadsTo, WindowMap, words_from, words_in, is_of}
-use Rattle.pon_guar.specs.Reports.{latest, refuses_report}
+use Rattle.pon_window.specs.Window.{LeadsTo, WindowMap, words_from, words_in, is_of}
+use Rattle.pon_window.specs.Reports.{refuses_report}
+use Rattle.pon_guar.specs.Reports.{latest}
 use Rattle.pon_guar.specs.Loads.{less}
 use Rattle.pon_port.specs.State.{State}
 use Rattle.pon_port.specs.Legal.{MayFollow}
@@ -25,10 +26,10 @@ use Rattle.pon_port.specs.declared.reply.Entry.{Entry}
 use Rattle.pon_descr.proofs.Checks.{or_else_none, when_none}
 use Rattle.pon_descr.specs.declared.refusal.Refusal.TheVariants.{ChapterFull}
 use Rattle.pon_port.proofs.Legality.{IsLegalAfter, after_from_legal, legal_from_after, legal_push, legal_split}
-use Rattle.pon_units.proofs.Lists.{or-false, map-map, map_same, length-drop, length-append, append-nil, length-map, map-append, flat_map-append}
+use Rattle.pon_lists.proofs.Lists.{or-false, map-map, map_same, length-drop, length-append, append-nil, length-map, map-append, flat_map-append}
 use Rattle.pon_port.proofs.Parts.{next_of-append, next_of_grows, roster_of-append, allocs_of-append, cause_of-append, frame_at_last-append, frame_at_last_any, frame_at_last_none, frame_at_last_late, frame_at_last_below}
 use Rattle.pon_port.proofs.Windows.{all_maps-append, all_maps_lead, maps_of-append, maps_lead, length-maps_of, leads-filter, window_of-append}
-use Rattle.pon_guar.proofs.Frames.{leads_drop}
+use Rattle.pon_window.proofs.Frames.{leads_drop}
 use Rattle.pon_port.proofs.Loads.{from, from_window, agree, AreBelow, EventBelow, AreWithin, EventWithin, sub_sub, words_from-map, candidates_agree, candidates_late, candidates_less, latest_less, latest-append, has_id, had_alloc_all, found_since, found_counted}
 
 -- What a legal history says of its reports.

@@ -20,7 +20,7 @@ use Rattle.pon_port.specs.declared.reply.Entry.{Entry}
 use Rattle.pon_guar.specs.declared.account.Account.{Account}
 use Rattle.pon_guar.specs.Book.{AreRising, account_of, alloc_ids, counted_of_account, since_of_account}
 use Rattle.pon_guar.specs.declared.account.Counted.{Counted}
-use Rattle.pon_guar.specs.Window.{LeadsTo, WindowMap, last_64, words_in}
+use Rattle.pon_window.specs.Window.{LeadsTo, WindowMap, last_64, words_in}
 use Rattle.pon_guar.specs.Reports.{latest}
 use Rattle.pon_guar.specs.Loads.{afresh, less, lessened, with_account, without_account}
 use Rattle.pon_port.specs.State.{State}

@@ -7,17 +7,18 @@ use Rattle.std.proofs.lemmas.Slice.Zip.{AllZip-long}
 use Rattle.pon_descr.specs.declared.class.Class.{Class}
 use Rattle.pon_descr.specs.declared.class.Class.TheVariants.{NonAssured, BestEffort}
 use Rattle.pon_admit.specs.declared.row.Row.{Row}
-use Rattle.pon_port.specs.State.{State}
+use Rattle.pon_share.specs.Input.{Input}
+use Rattle.pon_port.specs.State.{State, input_of}
 use Rattle.pon_admit.specs.Roster.{IsAdmitted, rule_in_force}
 use Rattle.pon_cert.specs.declared.cert.ClassCert.{ClassCert}
 use Rattle.pon_cert.specs.Certificate.{IsCertificate, RuleHolds, left_surplus}
-use Rattle.pon_port.specs.Sharing.{item_of, items, member_ids, members, surplus}
+use Rattle.pon_share.specs.Sharing.{item_of, items, member_ids, members, surplus}
 use Rattle.pon_port.specs.Legal.{IsMade}
 use Rattle.pon_port.specs.Replay.{roster_after, roster_of}
 use Rattle.pon_port.specs.Chapters.{Chapter}
 use Rattle.pon_port.specs.Last.{KeepsLast, LastMap, Suits, last_map, last_told, told_last}
 use Rattle.pon_port.specs.Taking.{IsKept, with_entry}
-use Rattle.pon_port.proofs.Dealing.{few_members}
+use Rattle.pon_share.proofs.Dealing.{few_members}
 use Rattle.pon_event.specs.declared.event.Event.{Event}
 use Rattle.pon_event.specs.declared.event.Event.TheVariants.{MakeMap}
 use Rattle.pon_port.specs.declared.reply.Reply.TheVariants.{Taken, Map}
@@ -52,7 +53,7 @@ last_kept c d v place na be more h = subst (λ d. KeepsLast d place na be) (sym 
     step (Some k) h = (h.0, h.1, get_old c.entries e k h.1 h.2, h.3, same ∙ h.4, h.5)
 
 -- the certificate of a map has a truth value for each Alloc-ID of its class
-counted : (s : State) (class : Class) (cert : ClassCert) (surplus : ℕ) → IsCertificate (items class s) surplus cert → length cert.saturated ≡ length (member_ids class s.roster)
+counted : (s : Input) (class : Class) (cert : ClassCert) (surplus : ℕ) → IsCertificate (items class s) surplus cert → length cert.saturated ≡ length (member_ids class s.roster)
 counted s class cert surplus k =
     AllZip-long (RuleHolds cert.level) (items class s) cert.saturated k.rules ∙ length-map (members class s.roster) (item_of s) ∙ sym (length-map (members class s.roster) (λ r. r.alloc_id))
 
@@ -61,8 +62,8 @@ few_ids class rows few = omega (arith, length-map (members class rows) (λ r. r.
 
 suits_made : (s : State) (made : MadeMap) → IsAdmitted rule_in_force s.gap s.roster → IsMade s made → Suits made.cert (member_ids NonAssured s.roster) (member_ids BestEffort s.roster)
 suits_made s made a m = record {
-  non_assured = counted s NonAssured made.cert.na (surplus rule_in_force s) m.certified.non_assured;
-  best_effort = counted s BestEffort made.cert.be (left_surplus made.cert.na.level (items NonAssured s) (surplus rule_in_force s)) m.certified.best_effort;
+  non_assured = counted (input_of s) NonAssured made.cert.na (surplus rule_in_force (input_of s)) m.certified.non_assured;
+  best_effort = counted (input_of s) BestEffort made.cert.be (left_surplus made.cert.na.level (items NonAssured (input_of s)) (surplus rule_in_force (input_of s))) m.certified.best_effort;
   few_non_assured = few_ids NonAssured s.roster a.few_allocs;
   few_best_effort = few_ids BestEffort s.roster a.few_allocs;
 }

@@ -14,8 +14,9 @@ use Rattle.pon_guar.specs.declared.account.Account.{Account}
 use Rattle.pon_guar.specs.declared.account.Counted.{Counted}
 use Rattle.pon_guar.specs.Book.{account_of, alloc_ids, counted_of_account, since_of_account}
 use Rattle.pon_units.specs.declared.granted.Granted.{Granted}
-use Rattle.pon_guar.specs.Window.{LeadsTo, WindowMap, grants_at, polled, last_64, words_from, words_in, is_of, IsLawfulMap}
-use Rattle.pon_guar.specs.Reports.{later, latest, occupancies, refuses_report}
+use Rattle.pon_window.specs.Window.{LeadsTo, WindowMap, grants_at, polled, last_64, words_from, words_in, is_of, IsLawfulMap}
+use Rattle.pon_window.specs.Reports.{refuses_report}
+use Rattle.pon_guar.specs.Reports.{later, latest, occupancies}
 use Rattle.pon_guar.specs.Loads.{less}
 use Rattle.pon_port.specs.State.{State}
 use Rattle.pon_port.specs.Replay.{admits, allocs_after, begins, forgets, makes_map, new_map, reports, roster_after, structures, window_of, with_reports}
@@ -28,13 +29,13 @@ use Rattle.pon_event.specs.declared.event.Event.TheVariants.{Admit, Change, Remo
 use Rattle.pon_port.specs.declared.reply.Reply.{Reply}
 use Rattle.pon_port.specs.declared.reply.Entry.{Entry}
 use Rattle.pon_descr.specs.declared.refusal.Refusal.TheVariants.{StaleFrame}
-use Rattle.pon_units.proofs.Lists.{any_eq-filter, filter_agree, map-map, or-false}
+use Rattle.pon_lists.proofs.Lists.{any_eq-filter, filter_agree, map-map, or-false}
 use Rattle.pon_port.proofs.Windows.{filter_zero, leads-map}
 use Rattle.pon_port.proofs.Loads.{had_alloc_all, has_id}
 use Rattle.pon_guar.proofs.Accounts.{found_each}
 use Rattle.pon_lists.proofs.Lists.{All-unmap, none_any}
-use Rattle.pon_guar.proofs.Frames.{grants_of_one, leads_below, one_of_frame}
-use Rattle.pon_guar.proofs.Polls.{occurs-distinct}
+use Rattle.pon_window.proofs.Frames.{grants_of_one, leads_below, one_of_frame}
+use Rattle.pon_window.proofs.Polls.{occurs-distinct}
 use Rattle.pon_port.proofs.Members.{any_contains, contains_any, each_has}
 use Rattle.pon_port.proofs.Legality.{IsLegalAfter, after_from_legal, legal_push, legal_split}
 use Rattle.pon_descr.proofs.Checks.{or_else_none, when_none}

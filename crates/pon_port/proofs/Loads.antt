@@ -8,7 +8,7 @@ use Rattle.std.proofs.lemmas.Bool.{lt-leb, eqb-true, ne_eqb, or_left, or_right, 
 use Rattle.std.proofs.lemmas.Bool.Decides.{leb_tells, nat_tests}
 use Rattle.pon_guar.specs.declared.account.Counted.{Counted}
 use Rattle.pon_guar.specs.Book.{account_of, counted_of_account, since_of_account}
-use Rattle.pon_guar.specs.Window.{LeadsTo, WindowMap, grants_at, last_64, words_from, words_in}
+use Rattle.pon_window.specs.Window.{LeadsTo, WindowMap, grants_at, last_64, words_from, words_in}
 use Rattle.pon_guar.specs.Reports.{later, latest, occupancies}
 use Rattle.pon_guar.specs.Loads.{less}
 use Rattle.pon_port.specs.State.{State}
@@ -17,7 +17,7 @@ use Rattle.pon_port.specs.Loads.{account_after, candidates_in, counted_of, since
 use Rattle.pon_event.specs.declared.event.Event.{Event}
 use Rattle.pon_event.specs.declared.event.Event.TheVariants.{Admit, Change, Remove, Report, MakeMap, Fail, Restore}
 use Rattle.pon_port.specs.declared.reply.Entry.{Entry}
-use Rattle.pon_units.proofs.Lists.{map-map, map_same, length-drop, append-nil, filter-append, filter-filter, filter_agree, map_filter, map-append, sum_by-map, flat_map-map}
+use Rattle.pon_lists.proofs.Lists.{map-map, map_same, length-drop, append-nil, filter-append, filter-filter, filter_agree, map_filter, map-append, sum_by-map, flat_map-map}
 use Rattle.pon_port.proofs.Windows.{leads-filter, filter_high}
 
 -- the maps of a frame or later

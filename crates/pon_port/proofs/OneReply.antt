@@ -1,15 +1,9 @@
 -- A state gives one reply to an event: the certificate of a map is the only one that is accepted.
-use Rattle.std.proofs.Common.{◌≡◌, false, [], ◌∷◌, ◌++◌, refl, ap, sym, ◌∙◌, subst}
-use Rattle.pon_descr.specs.declared.class.Class.{Class}
-use Rattle.pon_descr.specs.declared.class.Class.TheVariants.{Plain, NonAssured, BestEffort}
+use Rattle.std.proofs.Common.{◌≡◌, [], ◌∷◌, ◌++◌, ap, sym, ◌∙◌, subst}
 use Rattle.pon_admit.specs.Roster.{IsAdmitted, rule_in_force}
-use Rattle.pon_cert.specs.declared.cert.MapCert.{MapCert}
-use Rattle.pon_cert.specs.Problem.{AreWeighted, IsProblem}
-use Rattle.pon_cert.specs.Certificate.{IsCertificate, left_surplus}
-use Rattle.pon_cert.proofs.OneCertificate.{one_certificate}
-use Rattle.pon_port.specs.State.{State}
-use Rattle.pon_port.specs.Sharing.{IsCertified, items, same_class, surplus, surplus_rate}
-use Rattle.pon_port.specs.Maps.{map_of}
+use Rattle.pon_port.specs.State.{State, input_of}
+use Rattle.pon_share.specs.Sharing.{surplus_rate}
+use Rattle.pon_share.specs.Maps.{map_of}
 use Rattle.pon_port.specs.Legal.{IsMade, IsReply}
 use Rattle.pon_port.specs.Chapters.{Chapter, IsLawfulChapter, present_state}
 use Rattle.pon_port.specs.Taking.{Takes, with_entry}
@@ -19,28 +13,15 @@ use Rattle.pon_port.specs.declared.reply.Reply.{Reply}
 use Rattle.pon_port.specs.declared.reply.Reply.TheVariants.{Taken, Map}
 use Rattle.pon_port.specs.declared.reply.MadeMap.{MadeMap}
 use Rattle.pon_port.specs.declared.reply.Entry.{Entry}
-use Rattle.pon_port.proofs.Dealing.{problem_of, surplus_range}
+use Rattle.pon_share.proofs.ClassShares.{one_map_certificate}
 use Rattle.pon_port.proofs.Legality.{IsLegalAfter, after_from_legal, legal_from_after, legal_push}
 use Rattle.pon_port.proofs.LawfulChapters.{admitted_at_present}
 
 module _ (s : State) (k : IsAdmitted rule_in_force s.gap s.roster) where
-  pub weighted : (class : Class) → same_class class Plain ≡ false → AreWeighted (items class s)
-  weighted class shares =
-      let problem : IsProblem (items class s) (surplus rule_in_force s) = problem_of s class (surplus rule_in_force s) shares k.few_allocs k.in_range (surplus_range s) in
-      λ n d lt. (problem.each n d lt).has_weight
-
-  pub one_map_certificate : (a b : MapCert) → IsCertified rule_in_force s a → IsCertified rule_in_force s b → a ≡ b
-  one_map_certificate a b p q =
-      let na : a.na ≡ b.na = one_certificate (items NonAssured s) (surplus rule_in_force s) a.na b.na (weighted NonAssured refl) p.non_assured q.non_assured in
-      let same_left : IsCertificate (items BestEffort s) (left_surplus a.na.level (items NonAssured s) (surplus rule_in_force s)) b.be
-      = subst (λ c. IsCertificate (items BestEffort s) (left_surplus c.level (items NonAssured s) (surplus rule_in_force s)) b.be) (sym na) q.best_effort in
-      let be : a.be ≡ b.be = one_certificate (items BestEffort s) (left_surplus a.na.level (items NonAssured s) (surplus rule_in_force s)) a.be b.be (weighted BestEffort refl) p.best_effort same_left in
-      (λ i. record { na = na i; be = be i })
-
   one_made : (a b : MadeMap) → IsMade s a → IsMade s b → a ≡ b
   one_made a b p q =
-      let cert : a.cert ≡ b.cert = one_map_certificate a.cert b.cert p.certified q.certified in
-      let told : a.map ≡ b.map = p.map ∙ ap (λ c. map_of s (surplus_rate s c)) cert ∙ sym q.map in
+      let cert : a.cert ≡ b.cert = one_map_certificate (input_of s) k a.cert b.cert p.certified q.certified in
+      let told : a.map ≡ b.map = p.map ∙ ap (λ c. map_of s.profile (input_of s) (surplus_rate (input_of s) c)) cert ∙ sym q.map in
       (λ i. record { frame = (p.frame ∙ sym q.frame) i; map = told i; cert = cert i })
 
   pub one_reply : (v : Event) (a b : Reply) → IsReply s v a → IsReply s v b → a ≡ b

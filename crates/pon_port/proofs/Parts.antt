@@ -5,7 +5,7 @@ use Rattle.std.specs.List.{list_any}
 use Rattle.pon_admit.specs.declared.row.Row.{Row}
 use Rattle.pon_port.specs.Replay.{allocs_after, allocs_of, cause_after, cause_of, frame_at_last, makes_map, next_of, roster_after, roster_of}
 use Rattle.pon_port.specs.declared.reply.Entry.{Entry}
-use Rattle.pon_units.proofs.Lists.{count_by-append}
+use Rattle.pon_lists.proofs.Lists.{count_by-append}
 
 -- the next frame
 pub next_of-append : (first : ℕ) (xs ys : List Entry) → next_of first (xs ++ ys) ≡ next_of (next_of first xs) ys

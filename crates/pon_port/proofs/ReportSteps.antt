@@ -9,14 +9,15 @@ use Rattle.std.proofs.lemmas.List.Elements.{All-append, All-cons, All-head, All-
 use Rattle.std.proofs.lemmas.List.Sums.{sum_by-cons}
 use Rattle.pon_units.specs.Granted.{AreInMapOrder, ComesBefore}
 use Rattle.pon_units.specs.declared.granted.Granted.{Granted}
-use Rattle.pon_units.proofs.Lists.{filter_agree, map-map, map_same, or-false}
+use Rattle.pon_lists.proofs.Lists.{filter_agree, map-map, map_same, or-false}
 use Rattle.pon_admit.specs.declared.row.Row.{Row}
 use Rattle.pon_admit.specs.Roster.{has_alloc}
 use Rattle.pon_guar.specs.declared.account.Account.{Account}
 use Rattle.pon_guar.specs.declared.account.Counted.{Counted}
 use Rattle.pon_guar.specs.Book.{account_of, alloc_ids, counted_of_account, since_of_account}
-use Rattle.pon_guar.specs.Window.{IsLawfulMap, WindowMap, grants_at, polled, words_among, words_from, words_granted, words_in, words_to, words_to_from}
-use Rattle.pon_guar.specs.Reports.{after_occupancies, counting, latest, occupancies, taking, with_latest, with_report}
+use Rattle.pon_window.specs.Window.{IsLawfulMap, WindowMap, grants_at, polled, words_among, words_from, words_granted, words_in, words_to, words_to_from}
+use Rattle.pon_window.specs.Reports.{with_report}
+use Rattle.pon_guar.specs.Reports.{after_occupancies, counting, latest, occupancies, taking, with_latest}
 use Rattle.pon_guar.proofs.Accounts.{found_each}
 use Rattle.pon_port.specs.State.{State}
 use Rattle.pon_port.specs.Replay.{next_of, with_reports}

@@ -12,8 +12,9 @@ use Rattle.pon_admit.specs.declared.row.Row.{Row}
 use Rattle.pon_guar.specs.declared.account.Account.{Account}
 use Rattle.pon_guar.specs.Book.{AreRising, account_of, alloc_ids, counted_of_account, since_of_account}
 use Rattle.pon_units.specs.declared.granted.Granted.{Granted}
-use Rattle.pon_guar.specs.Window.{LeadsTo, WindowMap, last_64, IsLawfulMap}
-use Rattle.pon_guar.specs.Reports.{latest, refuses_report}
+use Rattle.pon_window.specs.Window.{LeadsTo, WindowMap, last_64, IsLawfulMap}
+use Rattle.pon_window.specs.Reports.{refuses_report}
+use Rattle.pon_guar.specs.Reports.{latest}
 use Rattle.pon_port.specs.State.{State}
 use Rattle.pon_port.specs.Replay.{admits, all_maps, allocs_after, begins, cause_after, forgets, frame_at_last, grants_of, makes_map, maps_of, new_map, reports, roster_after, structures, window_of, with_reports}
 use Rattle.pon_port.specs.Loads.{account_after, candidates_in, counted_of, replay}
@@ -24,7 +25,7 @@ use Rattle.pon_units.specs.Granted.{AreInMapOrder, ComesBefore}
 use Rattle.pon_event.specs.declared.event.Event.{Event}
 use Rattle.pon_event.specs.declared.event.Event.TheVariants.{Admit, Change, Remove, Report, MakeMap, Fail, Restore}
 use Rattle.pon_port.specs.declared.reply.Entry.{Entry}
-use Rattle.pon_units.proofs.Lists.{any_eq-filter, append-nil, length-drop, map_filter}
+use Rattle.pon_lists.proofs.Lists.{any_eq-filter, append-nil, length-drop, map_filter}
 use Rattle.pon_port.proofs.Windows.{filter_low, leads-map}
 use Rattle.pon_port.proofs.Cutting.{alloc_ids-replay, window_leads}
 use Rattle.pon_descr.proofs.Checks.{or_else_none}
@@ -34,7 +35,7 @@ use Rattle.pon_lists.proofs.Inserted.{list_any-inserted}
 use Rattle.pon_lists.proofs.Lists.{list_any-map}
 use Rattle.pon_lists.proofs.Order.{in_order-filter}
 use Rattle.pon_guar.proofs.Books.{rising_with}
-use Rattle.pon_guar.proofs.Polls.{said_lawful}
+use Rattle.pon_window.proofs.Polls.{said_lawful}
 use Rattle.pon_port.proofs.LawfulChapters.{event_keeps}
 
 -- the parts of a lawful opening that speak of no account

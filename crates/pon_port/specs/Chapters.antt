@@ -6,7 +6,7 @@ use Rattle.pon_admit.specs.Roster.{IsAdmitted, rule_in_force, has_alloc}
 use Rattle.pon_guar.specs.declared.account.Account.{Account}
 use Rattle.pon_guar.specs.Book.{AreRising, alloc_ids}
 use Rattle.pon_guar.specs.declared.account.Counted.{Counted}
-use Rattle.pon_guar.specs.Window.{IsLawfulMap, LeadsTo}
+use Rattle.pon_window.specs.Window.{IsLawfulMap, LeadsTo}
 use Rattle.pon_port.specs.State.{State}
 use Rattle.pon_port.specs.Loads.{replay}
 use Rattle.pon_port.specs.Legal.{MayFollow}

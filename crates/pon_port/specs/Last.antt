@@ -3,7 +3,7 @@ use Rattle.std.specs.Prelude.{ℕ, ◌≡◌, ◌≤◌, List, [], ◌∷◌, le
 use Rattle.pon_descr.specs.declared.class.Class.TheVariants.{NonAssured, BestEffort}
 use Rattle.pon_admit.specs.declared.row.Row.{Row}
 use Rattle.pon_cert.specs.declared.cert.MapCert.{MapCert}
-use Rattle.pon_port.specs.Sharing.{member_ids}
+use Rattle.pon_share.specs.Sharing.{member_ids}
 use Rattle.pon_port.specs.Replay.{roster_after}
 use Rattle.pon_port.specs.Chapters.{Chapter}
 use Rattle.pon_port.specs.declared.reply.Reply.{Reply}

@@ -1,13 +1,8 @@
 pub mod State
 pub mod Replay
 pub mod Loads
-pub mod Rates
-pub mod Sharing
-pub mod Demands
 pub mod FairMaps
 pub mod Last
-pub mod Maps
-pub mod Packing
 pub mod Checks
 pub mod Legal
 pub mod Chapters

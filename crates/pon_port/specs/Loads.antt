@@ -4,7 +4,7 @@ use Rattle.std.specs.List.{list_any}
 use Rattle.pon_guar.specs.declared.account.Account.{Account}
 use Rattle.pon_guar.specs.declared.account.Counted.{Counted}
 use Rattle.pon_guar.specs.Book.{account_of, alloc_ids, counted_of_account, since_of_account}
-use Rattle.pon_guar.specs.Window.{WindowMap, grants_at, words_from}
+use Rattle.pon_window.specs.Window.{WindowMap, grants_at, words_from}
 use Rattle.pon_guar.specs.Reports.{latest, occupancies}
 use Rattle.pon_port.specs.State.{State}
 use Rattle.pon_port.specs.Replay.{begins, next_of, cause_of, roster_of, allocs_of, frame_at_last, maps_of, all_maps, window_of}

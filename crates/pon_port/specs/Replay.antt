@@ -5,7 +5,7 @@ use Rattle.pon_bwmap.specs.Structure.{Structure}
 use Rattle.pon_admit.specs.declared.row.Row.{Row}
 use Rattle.pon_admit.specs.Roster.{with_row, with_descriptor, without}
 use Rattle.pon_guar.specs.Book.{with_alloc, without_alloc}
-use Rattle.pon_guar.specs.Window.{WindowMap, last_64, polled}
+use Rattle.pon_window.specs.Window.{WindowMap, last_64, polled}
 use Rattle.pon_units.specs.declared.granted.Granted.{Granted}
 use Rattle.pon_port.specs.State.{State}
 use Rattle.pon_event.specs.declared.event.Event.{Event}

@@ -2,7 +2,8 @@
 use Rattle.std.specs.Prelude.{ℕ, List, Option}
 use Rattle.pon_admit.specs.declared.row.Row.{Row}
 use Rattle.pon_guar.specs.declared.account.Account.{Account}
-use Rattle.pon_guar.specs.Window.{WindowMap}
+use Rattle.pon_window.specs.Window.{WindowMap}
+use Rattle.pon_share.specs.Input.{Input}
 
 pub record State : Type 0 where
   pub gap : ℕ
@@ -13,3 +14,7 @@ pub record State : Type 0 where
   pub roster : List Row
   pub book : List Account
   pub window : List WindowMap
+
+-- what the shares of the next map are made from
+abbrev pub input_of : State → Input
+input_of s = record { gap = s.gap; roster = s.roster; book = s.book }

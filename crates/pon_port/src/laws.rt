@@ -6,10 +6,11 @@ ghost use Rattle.pon_admit.specs.Roster.{IsAdmitted, IsInRange, Rule, refuses_ad
 ghost use Rattle.pon_admit.specs.declared.row.Row.{Row};
 ghost use Rattle.pon_port.specs.State.{State};
 ghost use Rattle.pon_port.specs.Loads.{replay};
-ghost use Rattle.pon_guar.specs.Window.{LeadsTo};
+ghost use Rattle.pon_window.specs.Window.{LeadsTo};
 ghost use Rattle.pon_cert.specs.declared.cert.MapCert.{MapCert};
-ghost use Rattle.pon_port.specs.Sharing.{IsCertified, surplus_rate};
-ghost use Rattle.pon_port.specs.Maps.{map_of};
+ghost use Rattle.pon_share.specs.Input.{Input};
+ghost use Rattle.pon_share.specs.Sharing.{IsCertified, surplus_rate};
+ghost use Rattle.pon_share.specs.Maps.{map_of};
 ghost use Rattle.pon_burst.specs.Bursts.{AreSound};
 ghost use Rattle.pon_port.specs.Chapters.{Chapter, IsLawfulChapter, IsLawfulOpening, IsLegal, present_state, state_before};
 ghost use Rattle.pon_port.specs.FairMaps.{TellsFairMap};
@@ -34,11 +35,12 @@ pub fn lawful_chapters_hold_admitted_sets()
     ensures present { (c : Chapter) → IsLawfulChapter c → IsAdmitted rule_in_force (present_state c).gap (present_state c).roster }
 {}
 
-/// The map of a state whose roster is an admitted set has sound bursts under each accepted certificate, for any number of ONUs and Alloc-IDs: each lies in the frame and no two overlap.
-/// The rule sets aside one word for each Alloc-ID at least, for its report.
+/// The map of an admitted set has sound bursts under each accepted certificate, for any burst profile and any number of
+/// ONUs and Alloc-IDs: each burst lies in the frame and no two overlap. The rule sets aside one word for each Alloc-ID at
+/// least, for its report.
 pub fn maps_of_admitted_sets_are_sound()
-    ensures { (s : State) (rule : Rule) (cert : MapCert) → 1 ≤ rule.overhead_words → IsAdmitted rule s.gap s.roster → IsCertified rule s cert →
-        AreSound s.gap (map_of s (surplus_rate s cert)) }
+    ensures { (s : Input) (rule : Rule) (cert : MapCert) (profile : ℕ) → 1 ≤ rule.overhead_words → IsAdmitted rule s.gap s.roster →
+        IsCertified rule s cert → AreSound s.gap (map_of profile s (surplus_rate s cert)) }
 {}
 
 /// Each map of a lawful chapter is certified, the fairest, in whole words and without overlap, for the state before it.

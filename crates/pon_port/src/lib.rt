@@ -6,13 +6,10 @@
 
 mod advance;
 mod checks;
-mod demand;
 pub mod laws;
 mod making;
 mod port;
 mod reply;
-mod series;
-mod sharing;
 mod state;
 
 pub use pon_event::Event;

@@ -1,5 +1,5 @@
-use Rattle.pon_port.proofs.RosterMaps.{admitted_map_is_sound}
+use Rattle.pon_share.proofs.RosterMaps.{admitted_map_is_sound}
 use Rattle.pon_port.proofs.laws.maps_of_admitted_sets_are_sound.Goals as goal
 
 pub returns : goal.returns
-returns c = λ s rule cert one k certified. admitted_map_is_sound s rule cert k certified one
+returns c = λ s rule cert profile one k certified. admitted_map_is_sound s rule cert k certified one profile

@@ -1,60 +1,36 @@
-use Rattle.std.proofs.Common.{◌≡◌, ◌∙◌, arith, refl, rules}
-use Rattle.pon_descr.specs.declared.class.Class.TheVariants.{NonAssured, BestEffort}
+use Rattle.std.proofs.Common.{◌≡◌, ◌∙◌, ap, arith, rules, subst}
 use Rattle.pon_admit.specs.Roster.{rule_in_force}
-use Rattle.pon_port.specs.Maps.{map_of}
-use Rattle.pon_port.specs.Sharing.{IsCertified, items, surplus, surplus_rate}
-use Rattle.pon_port.proofs.Dealing.{certified_of, ids_demanded, items_demanded, problem_of, surplus_range}
-use Rattle.pon_port.proofs.RosterMaps.{in_order, kept_of_map, one_map}
+use Rattle.pon_share.specs.Maps.{map_of}
+use Rattle.pon_share.specs.Rates.{granted}
+use Rattle.pon_share.specs.Sharing.{IsCertified, surplus_rate}
+use Rattle.pon_share.proofs.RosterMaps.{in_order, one_map}
+use Rattle.pon_port.specs.State.{input_of}
+use Rattle.pon_port.proofs.KeptMaps.{kept_of_map}
 use Rattle.pon_port.proofs.making.next_map.Goals as goal
 
-pub map_cert-requires-clause-non_assured : goal.map_cert-requires-clause-non_assured
-map_cert-requires-clause-non_assured c =
-    let shared : c.as_slice-4.result.now ≡ items NonAssured c.args.state.now
-    = c.as_slice-4.ensures.value ∙ c.in_ok-na.ensures.items ∙ items_demanded c.args.state.now NonAssured c.as_slice.result.now (c.as_slice.ensures.value ∙ c.in_ok-demands.ensures) in
-    rw (shared, c.surplus-surplus.ensures)
-    (problem_of c.args.state.now NonAssured (surplus rule_in_force c.args.state.now) refl c.requires.admitted.few_allocs c.requires.admitted.in_range (surplus_range c.args.state.now))
-
-pub map_cert-requires-clause-best_effort : goal.map_cert-requires-clause-best_effort
-map_cert-requires-clause-best_effort c =
-    let shared : c.as_slice-5.result.now ≡ items BestEffort c.args.state.now
-    = c.as_slice-5.ensures.value ∙ c.in_ok-be.ensures.items ∙ items_demanded c.args.state.now BestEffort c.as_slice-2.result.now (c.as_slice-2.ensures.value ∙ c.in_ok-demands.ensures) in
-    rw (shared, c.surplus-surplus.ensures)
-    (problem_of c.args.state.now BestEffort (surplus rule_in_force c.args.state.now) refl c.requires.admitted.few_allocs c.requires.admitted.in_range (surplus_range c.args.state.now))
-
-pub grants-requires-clause-certified : goal.grants-requires-clause-certified
-grants-requires-clause-certified c =
-    (certified_of c.args.state.now _ _ _ _ _ c.in_ok-cert.cert (c.as_slice.ensures.value ∙ c.in_ok-demands.ensures) (c.as_slice-2.ensures.value ∙ c.in_ok-demands.ensures)
-    (c.as_slice-4.ensures.value ∙ c.in_ok-na.ensures.items) (c.as_slice-5.ensures.value ∙ c.in_ok-be.ensures.items) c.surplus-surplus.ensures c.in_ok-cert.ensures)
-
-pub structures-requires : goal.structures-requires
-structures-requires c =
-    let certified : IsCertified rule_in_force c.args.state.now c.in_ok-cert.cert
-    = (certified_of c.args.state.now _ _ _ _ _ c.in_ok-cert.cert (c.as_slice.ensures.value ∙ c.in_ok-demands.ensures) (c.as_slice-2.ensures.value ∙ c.in_ok-demands.ensures)
-    (c.as_slice-4.ensures.value ∙ c.in_ok-na.ensures.items) (c.as_slice-5.ensures.value ∙ c.in_ok-be.ensures.items) c.surplus-surplus.ensures c.in_ok-cert.ensures) in
-    rw (c.as_slice-7.ensures.value, c.in_ok-grants.ensures) (one_map c.args.state.now rule_in_force c.in_ok-cert.cert c.requires.admitted certified (omega arith) (omega arith))
-
-pub returns-clause-made : goal.returns-clause-made
-returns-clause-made c =
-    let certified : IsCertified rule_in_force c.args.state.now c.in_ok-cert.cert
-    = (certified_of c.args.state.now _ _ _ _ _ c.in_ok-cert.cert (c.as_slice.ensures.value ∙ c.in_ok-demands.ensures) (c.as_slice-2.ensures.value ∙ c.in_ok-demands.ensures)
-    (c.as_slice-4.ensures.value ∙ c.in_ok-na.ensures.items) (c.as_slice-5.ensures.value ∙ c.in_ok-be.ensures.items) c.surplus-surplus.ensures c.in_ok-cert.ensures) in
-    let told : c.of_rows-map.result ≡ map_of c.args.state.now (surplus_rate c.args.state.now c.in_ok-cert.cert) = search rules in
-    let frame : c.state.inside.next ≡ c.args.state.now.next = search rules in
-    record { frame = frame; certified = certified; map = told }
-
-pub returns-clause-grants : goal.returns-clause-grants
-returns-clause-grants c =
-    let told : c.of_rows-map.result ≡ map_of c.args.state.now (surplus_rate c.args.state.now c.in_ok-cert.cert) = search rules in
-    kept_of_map c.args.state.now (surplus_rate c.args.state.now c.in_ok-cert.cert) c.of_rows-map.result _ told c.in_ok-grants.ensures
+pub pack_grants-requires : goal.pack_grants-requires
+pack_grants-requires c =
+    let input = input_of c.args.state.now in
+    let cert = c.in_ok-shares.shares.cert in
+    let read : c.new.result ≡ input = c.new.ensures ∙ ap input_of c.state.view_is in
+    let certified : IsCertified rule_in_force input cert = subst (λ i. IsCertified rule_in_force i cert) read c.in_ok-shares.ensures.certified in
+    let gap : c.gap.result ≡ input.gap = c.gap.ensures ∙ ap (λ s. s.gap) c.state.view_is in
+    let grants : c.deref.result.now ≡ granted input (surplus_rate input cert) = c.deref.ensures.value ∙ c.in_ok-shares.ensures.grants ∙ ap (λ i. granted i (surplus_rate i cert)) read in
+    rw (gap, grants) (one_map input rule_in_force cert c.requires.admitted certified (omega arith) (omega arith))
 
 pub returns-clause-map_order : goal.returns-clause-map_order
 returns-clause-map_order c =
-    rw c.in_ok-grants.ensures (in_order c.args.state.now (surplus_rate c.args.state.now c.in_ok-cert.cert) c.args.state.now.roster c.requires.admitted.in_map_order)
+    let input = input_of c.args.state.now in
+    let cert = c.in_ok-shares.shares.cert in
+    let read : c.new.result ≡ input = c.new.ensures ∙ ap input_of c.state.view_is in
+    let grants : c.in_ok-shares.shares.grants.items ≡ granted input (surplus_rate input cert) = c.in_ok-shares.ensures.grants ∙ ap (λ i. granted i (surplus_rate i cert)) read in
+    rw grants (in_order input (surplus_rate input cert) input.roster c.requires.admitted.in_map_order)
 
-pub returns-clause-na : goal.returns-clause-na
-returns-clause-na c =
-    c.in_ok-na.ensures.ids ∙ ids_demanded c.args.state.now NonAssured c.as_slice.result.now (c.as_slice.ensures.value ∙ c.in_ok-demands.ensures)
-
-pub returns-clause-be : goal.returns-clause-be
-returns-clause-be c =
-    c.in_ok-be.ensures.ids ∙ ids_demanded c.args.state.now BestEffort c.as_slice-2.result.now (c.as_slice-2.ensures.value ∙ c.in_ok-demands.ensures)
+pub returns-clause-grants : goal.returns-clause-grants
+returns-clause-grants c =
+    let input = input_of c.args.state.now in
+    let cert = c.in_ok-shares.shares.cert in
+    let read : c.new.result ≡ input = c.new.ensures ∙ ap input_of c.state.view_is in
+    let grants : c.in_ok-shares.shares.grants.items ≡ granted input (surplus_rate input cert) = c.in_ok-shares.ensures.grants ∙ ap (λ i. granted i (surplus_rate i cert)) read in
+    let told : c.in_ok-map.map ≡ map_of c.args.state.now.profile input (surplus_rate input cert) = search rules in
+    kept_of_map c.args.state.now.profile input (surplus_rate input cert) c.in_ok-map.map _ told grants

@@ -1,0 +1,5 @@
+pub mod ClassShares
+pub mod Dealing
+pub mod Gathering
+pub mod RosterMaps
+pub mod Surplus

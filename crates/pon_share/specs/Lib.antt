@@ -1,0 +1,7 @@
+pub mod ClassShares
+pub mod Demands
+pub mod Input
+pub mod Maps
+pub mod Packing
+pub mod Rates
+pub mod Sharing

@@ -1,0 +1,24 @@
+-- The rates of an Alloc-ID in a map, and its payload words (ITU-T G.987.3: the reference model of dynamic bandwidth assignment).
+use Rattle.std.specs.Prelude.{ℕ, ◌+◌, ◌/◌, List, map}
+use Rattle.pon_units.specs.Fraction.{Fraction}
+use Rattle.pon_units.specs.declared.granted.Granted.{Granted}
+use Rattle.pon_admit.specs.declared.row.Row.{Row}
+use Rattle.pon_guar.specs.Book.{load_of}
+use Rattle.pon_guar.specs.Rates.{guaranteed}
+use Rattle.pon_share.specs.Input.{Input}
+
+-- the guaranteed rate of an admitted Alloc-ID, in kbit/s
+abbrev pub guaranteed_rate : Input → Row → ℕ
+guaranteed_rate s r = guaranteed r.descriptor (load_of s.book r.alloc_id)
+
+-- the whole kbit/s of guaranteed and surplus rate together
+abbrev pub whole_rate : Input → (Row → Fraction) → Row → ℕ
+whole_rate s surplus r = guaranteed_rate s r + (surplus r).num / (surplus r).den
+
+-- the whole words in it, at 256 kbit/s a word
+abbrev pub payload : Input → (Row → Fraction) → Row → ℕ
+payload s surplus r = whole_rate s surplus r / 256
+
+-- what a map grants to each admitted Alloc-ID, in map order
+abbrev pub granted : Input → (Row → Fraction) → List Granted
+granted s surplus = map (λ r. record { onu = r.onu; alloc_id = r.alloc_id; words = payload s surplus r }) s.roster

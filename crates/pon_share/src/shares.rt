@@ -1,0 +1,49 @@
+//! The shares of a map.
+
+ghost use Rattle.std.specs.Prelude.{◌≡◌, IfOk};
+ghost use Rattle.pon_admit.specs.Roster.{IsAdmitted, rule_in_force};
+ghost use Rattle.pon_descr.specs.declared.class.Class.TheVariants.{NonAssured, BestEffort};
+ghost use Rattle.pon_share.specs.Rates.{granted};
+ghost use Rattle.pon_share.specs.Sharing.{IsCertified, member_ids, surplus_rate};
+
+use crate::demand::demands;
+use crate::grants::grants;
+use crate::input::ShareInput;
+use crate::sharing::{class_members, map_cert, surplus};
+use pon_cert::MapCert;
+use pon_descr::Class;
+use pon_units::{AllocId, Granted};
+use std::alloc::{AllocError, Global};
+
+/// The shares of a map: its certificate, what it grants to each admitted Alloc-ID in map order, and the Alloc-IDs of the
+/// non-assured and of the best-effort class, of which the certificate speaks.
+#[derive(Drop)]
+pub struct Shares {
+    pub cert: MapCert,
+    pub grants: Vec<Granted>,
+    pub na: Vec<AllocId>,
+    pub be: Vec<AllocId>,
+}
+
+/// The shares of the next map: guaranteed rates by the reference model, the fairest share of the rest class by class, and
+/// the whole words of both rates. `Err` only if memory is refused.
+pub fn share(alloc: Global, input: &ShareInput) -> Result<Shares, AllocError>
+    requires admitted { IsAdmitted rule_in_force input.now.gap input.now.roster }
+    ensures certified { IfOk result (λ shares. IsCertified rule_in_force input.now shares.cert) }
+    ensures grants { IfOk result (λ shares. shares.grants.items ≡ granted input.now (surplus_rate input.now shares.cert)) }
+    ensures na { IfOk result (λ shares. shares.na.items ≡ member_ids NonAssured input.now.roster) }
+    ensures be { IfOk result (λ shares. shares.be.items ≡ member_ids BestEffort input.now.roster) }
+{
+    let demands = demands(alloc, input)?;
+    let na = class_members(alloc, demands.as_slice(), Class::NonAssured)?;
+    let be = class_members(alloc, demands.as_slice(), Class::BestEffort)?;
+    let surplus = surplus(input, demands.as_slice());
+    let cert = map_cert(alloc, na.items.as_slice(), be.items.as_slice(), surplus)?;
+    let grants = grants(alloc, input, demands.as_slice(), &cert)?;
+    Ok(Shares {
+        cert,
+        grants,
+        na: na.ids,
+        be: be.ids,
+    })
+}

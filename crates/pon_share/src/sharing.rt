@@ -1,0 +1,111 @@
+//! How the rate that is not guaranteed is shared, class by class.
+
+ghost use Rattle.std.specs.Prelude.{◌≡◌, ◌*◌, ◌≤◌, IfOk, filter, length, map, sum_by};
+ghost use Rattle.pon_admit.specs.Roster.{IsAdmitted, rule_in_force};
+ghost use Rattle.pon_cert.specs.Problem.{IsProblem};
+ghost use Rattle.pon_cert.specs.Certificate.{IsCertificate, IsMapCertificate};
+ghost use Rattle.pon_share.specs.Sharing.{same_class, surplus};
+ghost use Rattle.pon_share.specs.Demands.{demands_of};
+
+use crate::demand::Demand;
+use crate::input::ShareInput;
+use pon_cert::{ClassCert, Item, MapCert, Sat, left_surplus};
+use pon_descr::Class;
+use pon_fill::fill;
+use pon_units::AllocId;
+use std::alloc::{AllocError, Global};
+
+// The sum of the guaranteed rates.
+fn guaranteed_sum(demands: &[Demand]) -> u64
+    requires { length demands.now ≤ 256 }
+    ensures { result ≡ sum_by (λ d. d.guaranteed) demands.now }
+{
+    let mut sum = 0;
+    for demand in demands {
+        sum += u64::from(demand.guaranteed.get());
+    }
+    sum
+}
+
+/// What the guaranteed rates leave of the capacity, in kbit/s.
+pub(crate) fn surplus(input: &ShareInput, demands: &[Demand]) -> u64
+    requires admitted { IsAdmitted rule_in_force input.now.gap input.now.roster }
+    requires demands { demands.now ≡ demands_of input.now }
+    ensures { result ≡ surplus rule_in_force input.now }
+{
+    256 * u64::from(input.roster.capacity().get()) - guaranteed_sum(demands)
+}
+
+// Returns whether it has the class.
+fn is_of(demand: &Demand, class: Class) -> bool
+    ensures { result ≡ same_class demand.now.class class }
+{
+    demand.class == class
+}
+
+/// The Alloc-IDs of a class in map order, and with what each shares the surplus of the class.
+#[derive(Drop)]
+pub(crate) struct Members {
+    pub ids: Vec<AllocId>,
+    pub items: Vec<Item>,
+}
+
+/// The members of a class. `Err` only if memory is refused.
+pub(crate) fn class_members(
+    alloc: Global,
+    demands: &[Demand],
+    class: Class,
+) -> Result<Members, AllocError>
+    ensures ids { IfOk result (λ members. members.ids.items ≡ map (λ d. d.alloc_id) (filter (λ d. same_class d.class class) demands.now)) }
+    ensures items { IfOk result (λ members. members.items.items ≡ map (λ d. d.item) (filter (λ d. same_class d.class class) demands.now)) }
+{
+    let mut ids = Vec::new(alloc);
+    let mut items = Vec::new(alloc);
+    for demand in demands {
+        if is_of(demand, class) {
+            ids.push(demand.alloc_id)?;
+            items.push(demand.item)?;
+        }
+    }
+    Ok(Members { ids, items })
+}
+
+// The certificate of a class.
+fn class_cert(alloc: Global, items: &[Item], surplus: u64) -> Result<ClassCert, AllocError>
+    requires { IsProblem items.now surplus }
+    ensures { IfOk result (λ cert. IsCertificate items.now surplus cert) }
+{
+    let mut scratch = Vec::from_elem(alloc, 0, items.len())?;
+    let mut saturated = Vec::from_elem(alloc, false, items.len())?;
+    let level = fill(
+        items,
+        surplus,
+        scratch.as_mut_slice(),
+        saturated.as_mut_slice(),
+    );
+    Ok(ClassCert {
+        level,
+        saturated: Sat::new(saturated),
+    })
+}
+
+/// The certificate of a map: it shares the surplus among the non-assured items, and what they leave among those of best
+/// effort. `Err` only if memory is refused.
+pub(crate) fn map_cert(
+    alloc: Global,
+    na: &[Item],
+    be: &[Item],
+    surplus: u64,
+) -> Result<MapCert, AllocError>
+    requires non_assured { IsProblem na.now surplus }
+    requires best_effort { IsProblem be.now surplus }
+    ensures { IfOk result (λ cert. IsMapCertificate na.now be.now surplus cert) }
+{
+    let na_cert = class_cert(alloc, na, surplus)?;
+    let left = left_surplus(&na_cert.level, na, surplus);
+    let be_cert = class_cert(alloc, be, left)?;
+    Ok(MapCert {
+        na: na_cert,
+        be: be_cert,
+    })
+}
