@@ -184,6 +184,10 @@ three_places d s odd pair lt some same many h =
 
 -- ---- readings
 
+-- a codeword is read as itself
+pub reads_none : (n w : ℕ) → IsCodeword (2 ^ n) w → Reads (2 ^ n) w (w / 2 ^ 13) 0
+reads_none n w h = record { codeword = w; is_codeword = h; has_payload = refl; differs = ap ones (xor_self w) ∙ ones_zero; few = omega arith }
+
 -- the codeword that the wrong places lead to is read
 pub found : (limit w wrong : ℕ) → w < 2 ^ 64 → Leaves wrong (rest_of w) (ones w % 2) → bit_xor w wrong < limit → Reads limit w (bit_xor w wrong / 2 ^ 13) (ones wrong)
 found limit w wrong lt h le =
