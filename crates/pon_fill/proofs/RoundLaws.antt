@@ -80,7 +80,7 @@ met_after p q (i ∷ is) (b ∷ bs) h = (or_met b h.0, met_after p q is bs h.1)
     or_met false h e = leb-true _ _ e
 
 -- what is met at a level is met at a higher one
-met_higher : (p q r s : ℕ) (is : List Item) (bs : List Bool) → 0 < q → p * s ≤ r * q → AllZip (Met p q) is bs → AllZip (Met r s) is bs
+pub met_higher : (p q r s : ℕ) (is : List Item) (bs : List Bool) → 0 < q → p * s ≤ r * q → AllZip (Met p q) is bs → AllZip (Met r s) is bs
 met_higher p q r s [] [] hq le h = tt
 met_higher p q r s [] (b ∷ bs) hq le h = absurd h
 met_higher p q r s (i ∷ is) [] hq le h = absurd h
@@ -93,7 +93,7 @@ met_higher p q r s (i ∷ is) (b ∷ bs) hq le h = (λ e. higher p q r s i.cap i
     ]
 
 -- the sums of a round
-numbers : (p q came weight rest : ℕ) → 0 < q → came * q ≤ weight * p → q ≡ rest + weight → (came ≤ p) × (p * rest ≤ (p - came) * q)
+pub numbers : (p q came weight rest : ℕ) → 0 < q → came * q ≤ weight * p → q ≡ rest + weight → (came ≤ p) × (p * rest ≤ (p - came) * q)
 numbers p q came weight rest hq le split =
     let fits : came ≤ p = elim (cases_lt p came) [
       | inl lt ↦ absurd (omega (arith, mul-lt-mul_of_pos_left lt hq, le, mul-le-mul_left p (let w : weight ≤ q = omega (arith, split) in w)))
@@ -193,7 +193,7 @@ same_after p q (i ∷ is) (false ∷ bs) w l e = elim (cases_Bool (met p q i)) [
   | inr out ↦ rw out (ap (λ (x : List Bool). false ∷ x) (same_after p q is bs w.1 (omega (arith, l)) (omega (arith, rw (weight-cons i (met p q i) is (taken_in p q is bs), weight-cons i false is bs, out) at e))))
 ]
 
-fraction_total : (p q : ℕ) (is : List Item) (bs : List Bool) → sum (map (λ x. amount (level.At (record { num = p; den = q })) x.0 x.1) (zip is bs)) ≡ saturated_caps is bs * q + unsaturated_weight is bs * p
+pub fraction_total : (p q : ℕ) (is : List Item) (bs : List Bool) → sum (map (λ x. amount (level.At (record { num = p; den = q })) x.0 x.1) (zip is bs)) ≡ saturated_caps is bs * q + unsaturated_weight is bs * p
 fraction_total p q [] bs = omega arith
 fraction_total p q (i ∷ is) [] = omega arith
 fraction_total p q (i ∷ is) (b ∷ bs) =

@@ -1,8 +1,9 @@
-// Worked shares, problems at the limits, and `fill` beside the definition of a certificate.
+// Worked shares, problems at the limits, and `fill` beside the definition of a certificate and beside filling in rounds.
 ghost use Rattle.std.specs.Prelude.{◌≡◌, ◌<◌, length, true};
 ghost use Rattle.pon_cert.specs.Problem.{IsProblem};
 
 use crate::fill;
+use crate::rounds::fill_in_rounds;
 use pon_cert::{Item, Level};
 use pon_units::Frac;
 use std::process::Abort;
@@ -137,6 +138,18 @@ fn assert_certified(rt: &impl Abort, items: &[Item], surplus: u64) {
     }
 }
 
+// `fill` and filling in rounds answer one level and leave one set.
+fn assert_as_rounds(rt: &impl Abort, items: &[Item], surplus: u64) {
+    assert!(rt; is_problem(items, surplus));
+    let mut saturated = [false; 512];
+    let mut in_rounds = [false; 512];
+    let saturated = &mut saturated[..items.len()];
+    let in_rounds = &mut in_rounds[..items.len()];
+    let level = fill_in_rounds(items, surplus, in_rounds);
+    assert_eq!(rt; share(rt, items, surplus, saturated), level);
+    assert!(rt; *saturated == *in_rounds);
+}
+
 // One of twelve items of weights 1 to 3 and caps 0 to 3.
 fn small_item(n: u64) -> Item {
     item(1 + n % 3, n / 3 % 4)
@@ -149,6 +162,7 @@ fn all_small_problems(rt: HostRuntime) {
         for surplus in 0..=9 {
             for count in 0..=3 {
                 assert_certified(&rt, &items[..count], surplus);
+                assert_as_rounds(&rt, &items[..count], surplus);
             }
         }
     }
@@ -174,5 +188,27 @@ fn long_problems(rt: HostRuntime) {
         let mut saturated = [false; 512];
         let level = share(&rt, &items, LINE, &mut saturated);
         assert_eq!(rt; certified(&items, &saturated, LINE), Some(level));
+    }
+}
+
+// Random weights and caps, most of them far below the greatest.
+fn write_random(items: &mut [Item], seed: &mut u64) {
+    let weights = LINE >> (next_number(seed) % 21);
+    let caps = LINE >> (next_number(seed) % 21);
+    for item in items.iter_mut() {
+        item.weight = 1 + next_number(seed).checked_rem(weights).unwrap_or(0);
+        item.cap = next_number(seed).checked_rem(caps).unwrap_or(0);
+    }
+}
+
+#[test]
+fn ten_thousand_random_problems(rt: HostRuntime) {
+    let mut seed = 1;
+    let mut items = [item(1, 0); 512];
+    for _ in 0..10_000u32 {
+        let count = (next_number(&mut seed) % 513) as usize;
+        let items = &mut items[..count];
+        write_random(items, &mut seed);
+        assert_as_rounds(&rt, items, next_number(&mut seed) % (LINE + 1));
     }
 }

@@ -45,7 +45,7 @@ ones_within (suc k) n lt = ap (λ (x : ℕ). n % 2 + x) (ones_within k (n / 2) (
     half : (k n : ℕ) → n < 2 ^ suc k → n / 2 < 2 ^ k
     half k n lt = let e : 2 ^ suc k ≡ 2 ^ k * 2 = rw pow-suc refl in omega (arith, lt, e)
 
-ones_bit : (b : ℕ) → b < 2 → ones b ≡ b
+pub ones_bit : (b : ℕ) → b < 2 → ones b ≡ b
 unfolding ones ones_in
 ones_bit zero lt = refl
 ones_bit (suc zero) lt = refl

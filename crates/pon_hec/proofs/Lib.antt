@@ -2,6 +2,7 @@ pub mod ByteTable
 pub mod HeaderLaws
 pub mod Opening
 pub mod Patterns
+pub mod PlaceTable
 pub mod Sealing
 pub mod Rows
 pub mod Syndromes

@@ -14,7 +14,7 @@ use Rattle.pon_hec.proofs.Patterns.{two_places, ones_zero, ones_pow, ones_pows}
 use Rattle.pon_hec.proofs.Syndromes.{rests, are_rests, rests_checked, table, places_at, row_back, all_back, found_again}
 
 -- what is left of a pattern of wrong bits
-abbrev rest_of : ℕ → ℕ
+abbrev pub rest_of : ℕ → ℕ
 rest_of d = remainder generator 12 51 (d / 2)
 
 -- ---- the table
@@ -44,11 +44,11 @@ all_found t i (x ∷ xs) back rs l a b lt le =
       | inl less ↦ all_found t (i - 1) xs p.1 q.1 (omega (arith, l, less)) a b lt (omega (arith, less))
     ]
 
-rests-length : length rests ≡ 64
+pub rests-length : length rests ≡ 64
 unfolding rests
 rests-length = refl
 
-pair_found : (a b : ℕ) → b < a → a < 64 → places_at table (bit_xor (rest_of (2 ^ a)) (rest_of (2 ^ b))) ≡ a * 64 + b
+pub pair_found : (a b : ℕ) → b < a → a < 64 → places_at table (bit_xor (rest_of (2 ^ a)) (rest_of (2 ^ b))) ≡ a * 64 + b
 pair_found a b lt le = all_found table 63 rests (and_parts _ _ found_again).0 rests_checked rests-length a b lt (omega (arith, le))
 
 -- two places leave something
@@ -62,7 +62,7 @@ pair_left a b lt le e =
 half_of : (d : ℕ) → d < 2 ^ 64 → d / 2 < 2 ^ 63
 half_of d lt = omega (arith, lt)
 
-rest_xor : (d e : ℕ) → d < 2 ^ 64 → e < 2 ^ 64 → rest_of (bit_xor d e) ≡ bit_xor (rest_of d) (rest_of e)
+pub rest_xor : (d e : ℕ) → d < 2 ^ 64 → e < 2 ^ 64 → rest_of (bit_xor d e) ≡ bit_xor (rest_of d) (rest_of e)
 rest_xor d e ld le =
     let fd = remainder_is generator 12 51 (d / 2) generator_degree (half_of d ld) in
     let fe = remainder_is generator 12 51 (e / 2) generator_degree (half_of e le) in
@@ -71,12 +71,12 @@ rest_xor d e ld le =
     (subst (IsMultiple generator) (sym (xor_swap (d / 2) (e / 2) (rest_of d) (rest_of e)) ∙ ap (λ (n : ℕ). bit_xor n (bit_xor (rest_of d) (rest_of e))) (sym halves))
     (multiple_xor generator (bit_xor (d / 2) (rest_of d)) (bit_xor (e / 2) (rest_of e)) fd.1 fe.1))
 
-rest_zero : rest_of 0 ≡ 0
+pub rest_zero : rest_of 0 ≡ 0
 unfolding remainder
 rest_zero = refl
 
 -- a multiple leaves nothing
-rest_none : (d : ℕ) → d < 2 ^ 64 → IsMultiple generator (d / 2) → rest_of d ≡ 0
+pub rest_none : (d : ℕ) → d < 2 ^ 64 → IsMultiple generator (d / 2) → rest_of d ≡ 0
 rest_none d lt m = remainder_only 51 (d / 2) 0 (half_of d lt) (lit< tt) (subst (IsMultiple generator) (sym (xor_zero_r (d / 2))) m)
 
 -- ---- parity
@@ -90,7 +90,7 @@ xor_bits (suc (suc x)) y lx ly = absurd (omega (arith, lx))
 xor_bits zero (suc (suc y)) lx ly = absurd (omega (arith, ly))
 xor_bits (suc zero) (suc (suc y)) lx ly = absurd (omega (arith, ly))
 
-parity-xor : (k a b : ℕ) → a < 2 ^ k → b < 2 ^ k → ones (bit_xor a b) % 2 ≡ (ones a + ones b) % 2
+pub parity-xor : (k a b : ℕ) → a < 2 ^ k → b < 2 ^ k → ones (bit_xor a b) % 2 ≡ (ones a + ones b) % 2
 parity-xor zero a b la lb =
     let ea : a ≡ 0 = omega (arith, la) in
     let eb : b ≡ 0 = omega (arith, lb) in
@@ -112,10 +112,10 @@ parity-xor (suc k) a b la lb =
 
 -- ---- one pattern
 
-below_64 : (i : ℕ) → i < 64 → 2 ^ i < 2 ^ 64
+pub below_64 : (i : ℕ) → i < 64 → 2 ^ i < 2 ^ 64
 below_64 i lt = pow_below i 64 lt
 
-one_pattern : (d e : ℕ) → d < 2 ^ 64 → e < 2 ^ 64 → ones d ≤ 2 → ones e ≤ 2 → rest_of d ≡ rest_of e → ones d % 2 ≡ ones e % 2 → d ≡ e
+pub one_pattern : (d e : ℕ) → d < 2 ^ 64 → e < 2 ^ 64 → ones d ≤ 2 → ones e ≤ 2 → rest_of d ≡ rest_of e → ones d % 2 ≡ ones e % 2 → d ≡ e
 one_pattern d e ld le fd fe rest parity =
     elim (two_places 64 d ld fd) [
       | inl d0 ↦ elim (two_places 64 e le fe) [

@@ -1,8 +1,11 @@
-ghost use Rattle.std.specs.Prelude.{◌≡◌, ◌^◌, ◌<◌, ◌≤◌, ◌/◌, ◌↔◌, ℕ, IsTrue, bit_xor, IfOk, IsErr, IfSome, IfNone};
-ghost use Rattle.pon_hec.specs.HeaderCode.{IsCodeword, Reads};
+ghost use Rattle.std.specs.Prelude.{◌≡◌, ◌+◌, ◌^◌, ◌<◌, ◌≤◌, ◌/◌, ◌↔◌, ℕ, IfOk, IsErr, IfSome, IfNone, slice_index};
+ghost use Rattle.pon_units.specs.Polynomial.{remainder};
+ghost use Rattle.pon_hec.specs.HeaderCode.{generator, IsCodeword, Reads};
+ghost use Rattle.pon_hec.specs.Syndrome.{Leaves};
 
 use crate::fault::HecFault;
-use crate::seal::seal;
+use crate::places::PLACES;
+use crate::seal::check_bits;
 
 /// The payload of a header word of 4 bytes, below 2^19, and how many wrong places were corrected, at
 /// most two. `HecFault` exactly where the word is more than two places away from every codeword.
@@ -13,7 +16,7 @@ pub fn open32(word: u32) -> Result<(u32, u8), HecFault>
     ensures fault { IsErr result ↔ ((payload places : ℕ) → Reads (2 ^ 32) word payload places → ⊥) }
     ensures clean { IsCodeword (2 ^ 32) word → result ≡ Ok record { 0 = word / 2 ^ 13; 1 = 0 } }
 {
-    match open(u64::from(word), 32) {
+    match open(u64::from(word), u64::from(u32::MAX)) {
         Some((payload, corrected)) => Ok((payload as u32, corrected)),
         None => Err(HecFault),
     }
@@ -28,67 +31,63 @@ pub fn open64(word: u64) -> Result<(u64, u8), HecFault>
     ensures fault { IsErr result ↔ ((payload places : ℕ) → Reads (2 ^ 64) word payload places → ⊥) }
     ensures clean { IsCodeword (2 ^ 64) word → result ≡ Ok record { 0 = word / 2 ^ 13; 1 = 0 } }
 {
-    match open(word, 64) {
+    match open(word, u64::MAX) {
         Some(opened) => Ok(opened),
         None => Err(HecFault),
     }
 }
 
-// The payload of the codeword within two of the lowest places, and in how many places it differs.
-fn open(word: u64, places: u32) -> Option<(u64, u8)>
-    requires places { places ≤ 64 }
-    requires word { word < 2 ^ places }
-    ensures some { IfSome result (λ p. Reads (2 ^ places) word p.0 p.1) }
-    ensures none { IfNone result ((payload corrected : ℕ) → Reads (2 ^ places) word payload corrected → ⊥) }
-    ensures clean { IsCodeword (2 ^ places) word → result ≡ Some record { 0 = word / 2 ^ 13; 1 = 0 } }
+// The payload of the codeword up to `last` within two places, and in how many places it differs.
+fn open(word: u64, last: u64) -> Option<(u64, u8)>
+    requires { word ≤ last }
+    ensures some { IfSome result (λ p. Reads (last + 1) word p.0 p.1) }
+    ensures none { IfNone result ((payload places : ℕ) → Reads (last + 1) word payload places → ⊥) }
+    ensures clean { IsCodeword (last + 1) word → result ≡ Some record { 0 = word / 2 ^ 13; 1 = 0 } }
 {
-    if is_codeword(word) {
-        return Some((word >> 13, 0));
+    let wrong = wrong_places(rest_of(word), u64::from(word.count_ones() & 1))?;
+    let near = word ^ wrong;
+    if near <= last {
+        Some((near >> 13, wrong.count_ones() as u8))
+    } else {
+        None
     }
-    if let Some(near) = one_place_away(word, places) {
-        return Some((near >> 13, 1));
-    }
-    if let Some(near) = two_places_away(word, places) {
-        return Some((near >> 13, 2));
-    }
-    None
 }
 
-// The codeword that differs from the word in one of its lowest places.
-fn one_place_away(word: u64, places: u32) -> Option<u64>
-    requires { places ≤ 64 }
-    ensures some { IfSome result (λ c. IsCodeword (2 ^ 64) c × (i : ℕ) × (i < places) × (c ≡ bit_xor word (2 ^ i))) }
-    ensures none { IfNone result ((i : ℕ) → i < places → IsCodeword (2 ^ 64) (bit_xor word (2 ^ i)) → ⊥) }
+// What is left of all places but the last after division by the generator: of a codeword nothing.
+fn rest_of(word: u64) -> u16
+    ensures { result ≡ remainder generator 12 51 (word / 2) }
 {
-    for i in 0..places {
-        let near = word ^ (1 << i);
-        if is_codeword(near) {
-            return Some(near);
-        }
-    }
-    None
+    check_bits(word >> 13, 7) ^ ((word >> 1) & 0xfff) as u16
 }
 
-// The codeword that differs from the word in two of its lowest places.
-fn two_places_away(word: u64, places: u32) -> Option<u64>
-    requires { places ≤ 64 }
-    ensures some { IfSome result (λ c. IsCodeword (2 ^ 64) c × (i j : ℕ) × (i < places) × (j < i) ×
-        (c ≡ bit_xor (bit_xor word (2 ^ i)) (2 ^ j))) }
-    ensures none { IfNone result ((i j : ℕ) → i < places → j < i →
-        IsCodeword (2 ^ 64) (bit_xor (bit_xor word (2 ^ i)) (2 ^ j)) → ⊥) }
+// The wrong places, two at most, that leave this rest, and are `odd` in number.
+fn wrong_places(rest: u16, odd: u64) -> Option<u64>
+    requires rest { rest < 2 ^ 12 }
+    requires odd { odd < 2 }
+    ensures some { IfSome result (λ wrong. Leaves wrong rest odd) }
+    ensures none { IfNone result ((wrong : ℕ) → Leaves wrong rest odd → ⊥) }
 {
-    for i in 0..places {
-        if let Some(near) = one_place_away(word ^ (1 << i), i) {
-            return Some(near);
-        }
+    if rest == 0 {
+        return Some(odd);
     }
-    None
+    let pair = pair_of(rest);
+    if pair == 0 {
+        return None;
+    }
+    let wrong = (1 << (pair / 64)) ^ (1 << (pair % 64)) ^ odd;
+    if wrong.count_ones() <= 2 {
+        Some(wrong)
+    } else {
+        None
+    }
 }
 
-fn is_codeword(word: u64) -> bool
-    ensures { IsTrue result ↔ IsCodeword (2 ^ 64) word }
+// The table's entry: the two places that together leave this rest, or 0.
+fn pair_of(rest: u16) -> u16
+    requires { rest < 2 ^ 12 }
+    ensures { result ≡ slice_index PLACES rest }
 {
-    seal(word >> 13, 7) == word
+    PLACES[usize::from(rest)]
 }
 
 #[cfg(test)]

@@ -25,7 +25,7 @@ pub fn seal32(payload: u32) -> u32
 }
 
 // The codeword of a payload of so many bytes.
-pub(crate) fn seal(payload: u64, bytes: u32) -> u64
+fn seal(payload: u64, bytes: u32) -> u64
     requires payload { payload < 2 ^ 51 }
     requires bytes { payload < 2 ^ (8 * bytes) }
     requires most { bytes ≤ 7 }
@@ -36,7 +36,7 @@ pub(crate) fn seal(payload: u64, bytes: u32) -> u64
 }
 
 // The 12 check bits of a payload of so many bytes, by the highest byte first.
-fn check_bits(payload: u64, bytes: u32) -> u16
+pub(crate) fn check_bits(payload: u64, bytes: u32) -> u16
     requires payload { payload < 2 ^ 51 }
     requires bytes { payload < 2 ^ (8 * bytes) }
     requires most { bytes ≤ 7 }

@@ -1,6 +1,6 @@
 use Rattle.std.proofs.Common.{◌≤◌}
 use Rattle.pon_fill.proofs.RoundLaws.{Filling}
-use Rattle.pon_fill.proofs.rounds.fill.Given as goal
+use Rattle.pon_fill.proofs.rounds.fill_in_rounds.Given as goal
 
 abbrev pub invariant-loop-weight : goal.invariant-loop-weight
 invariant-loop-weight l = record {

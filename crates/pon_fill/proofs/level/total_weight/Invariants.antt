@@ -1,6 +1,6 @@
 use Rattle.std.proofs.Common.{◌≡◌, ◌+◌, ◌*◌, ◌≤◌, drop}
 use Rattle.std.specs.Prelude.{sum_by}
-use Rattle.pon_fill.proofs.rounds.total_weight.Given as goal
+use Rattle.pon_fill.proofs.level.total_weight.Given as goal
 
 abbrev pub invariant-loop-item : goal.invariant-loop-item
 invariant-loop-item l = record {

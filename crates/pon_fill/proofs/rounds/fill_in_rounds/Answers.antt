@@ -3,7 +3,7 @@ use Rattle.std.proofs.lemmas.List.Elements.{recursion_from_All}
 use Rattle.pon_cert.specs.declared.problem.Item.{Item}
 use Rattle.pon_cert.specs.Certificate.{unsaturated_weight}
 use Rattle.pon_fill.proofs.RoundLaws.{first_round, fits, next_round, at_the_end, all_saturated}
-use Rattle.pon_fill.proofs.rounds.fill.Goals as goal
+use Rattle.pon_fill.proofs.rounds.fill_in_rounds.Goals as goal
 
 pub loop-weight-init : goal.loop-weight-init
 loop-weight-init c = record {

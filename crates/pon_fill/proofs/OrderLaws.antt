@@ -1,0 +1,72 @@
+-- Sorted by rounded parts, the items stand by cap over weight, each once.
+use Rattle.std.proofs.Common.{◌≡◌, ℕ, ◌+◌, ◌*◌, ◌/◌, ◌<◌, ◌≤◌, List, length, get_or, eqb, ap, sym, ◌∙◌, inl, inr, arith}
+use Rattle.std.specs.Prelude.{All, bit_and}
+use Rattle.std.specs.List.{IsDistinct}
+use Rattle.std.specs.List.Sorted.{IsPermutation, IsNonDecreasingBy}
+use Rattle.std.proofs.lemmas.Bool.{cases_lt, eqb-false, ne_eqb}
+use Rattle.std.proofs.lemmas.Bool.Decides.{eqb_tells}
+use Rattle.std.proofs.lemmas.List.{get_or_default}
+use Rattle.std.proofs.lemmas.List.Sorted.{All-permutation, Contains-permutation}
+use Rattle.std.proofs.lemmas.Map.Keys.{IsDistinct-IsPermutation, IsDistinct-from_apart, apart_from_distinct}
+use Rattle.std.proofs.lemmas.Nat.{and_mask}
+use Rattle.std.proofs.Math.Nat.{mul-le-mul_left, mul-lt-mul_of_pos_left}
+use Rattle.pon_cert.specs.declared.problem.Item.{Item}
+use Rattle.pon_cert.specs.Problem.{IsItem}
+use Rattle.pon_fill.specs.Order.{IsOrder}
+
+-- the level that meets a cap, in parts
+abbrev pub parts : Item → ℕ
+parts item = item.cap * 6191736422400 / item.weight
+
+-- no fewer parts, no lower level: two levels that differ, differ by a part at least
+no_lower : (ca wa cb wb qa qb : ℕ) → 0 < wa → 0 < wb → wa ≤ 2488320 → wb ≤ 2488320 → ca * 6191736422400 < (qa + 1) * wa → qb * wb ≤ cb * 6191736422400 → qa ≤ qb → ca * wb ≤ cb * wa
+no_lower ca wa cb wb qa qb pa pb la lb ha hb le = elim (cases_lt (cb * wa) (ca * wb)) [
+  | inr ge ↦ ge
+  | inl lt ↦
+      let small : wa * wb ≤ 6191736422400 = omega (arith, mul-le-mul_left wa lb, la) in
+      let below = mul-lt-mul_of_pos_left ha pb in
+      let above = mul-le-mul_left wa hb in
+      let more = mul-le-mul_left (wa * wb) le in
+      absurd (omega (arith, small, below, above, more, lt))
+]
+
+pub rises : (a b : Item) → IsItem a → IsItem b → parts a ≤ parts b → a.cap * b.weight ≤ b.cap * a.weight
+rises a b ia ib le =
+    let pa : 0 < a.weight = ia.has_weight in
+    let pb : 0 < b.weight = ib.has_weight in
+    no_lower a.cap a.weight b.cap b.weight (parts a) (parts b) pa pb ia.weight_range ib.weight_range (omega arith) (omega arith) le
+
+eqb_flips : (x y : ℕ) → eqb x y ≡ eqb y x
+eqb_flips x y = elim (eqb_tells x y) [
+  | inl same ↦ (let e : x ≡ y = same.1 in ap (λ (n : ℕ). eqb n y) e ∙ ap (eqb y) (sym e))
+  | inr other ↦ other.0 ∙ sym (ne_eqb y x (λ e. other.1 (sym e)))
+]
+
+pub in_order : (items : List Item) (keys xs ys : List ℕ) → All IsItem items → length items ≤ 512 → length xs ≡ length items → length ys ≡ length xs
+    → ((k : ℕ) → k < length items → get_or xs k 0 ≡ k)
+    → ((k : ℕ) (d : Item) → k < length items → get_or keys k 0 ≡ parts (get_or items k d))
+    → IsPermutation xs ys → IsNonDecreasingBy (λ i. get_or keys (bit_and i 511) 0) ys → IsOrder items ys
+in_order items keys xs ys each count long same numbers parts_of perm up =
+    let numbered : (k d : ℕ) → k < length xs → get_or xs k d ≡ k = λ k d lt. get_or_default xs k d 0 lt ∙ numbers k (omega (arith, lt, long)) in
+    let within : (k d : ℕ) → k < length ys → get_or ys k d < length items =
+    All-permutation (λ i. i < length items) xs ys perm (λ k d lt. omega (arith, numbered k d lt, lt, long)) in
+    let apart : IsDistinct eqb ys = IsDistinct-IsPermutation eqb eqb_flips xs ys perm
+    (IsDistinct-from_apart eqb xs (λ i j d lt ltj. ne_eqb (get_or xs i d) (get_or xs j d) (λ e. omega (arith, numbered i d (omega (arith, lt, ltj)), numbered j d ltj, e, lt)))) in
+    record {
+      long = same ∙ long;
+      below = λ k lt. within k 0 lt;
+      distinct = λ j k lt ltk e. eqb-false (get_or ys j 0) (get_or ys k 0) (apart_from_distinct eqb ys j k 0 apart lt ltk) e;
+      each = λ i lt.
+          let inside : i < length xs = omega (arith, lt, long) in
+          let at = Contains-permutation xs ys i perm (i, inside, numbered i i inside) in
+          (at.0, at.1, get_or_default ys at.0 0 i at.1 ∙ at.2);
+      rising = λ j k d le ltk.
+          let ltj : j < length ys = omega (arith, le, ltk) in
+          let bj = within j 0 ltj in
+          let bk = within k 0 ltk in
+          rises (get_or items (get_or ys j 0) d) (get_or items (get_or ys k 0) d) (each (get_or ys j 0) d bj) (each (get_or ys k 0) d bk)
+          (omega (arith, up j k 0 le ltk, key (get_or ys j 0) d bj, key (get_or ys k 0) d bk));
+    }
+  where
+    key : (i : ℕ) (d : Item) → i < length items → get_or keys (bit_and i 511) 0 ≡ parts (get_or items i d)
+    key i d lt = let e : bit_and i 511 ≡ i = omega (arith, and_mask i 9, lt, count) in ap (λ (n : ℕ). get_or keys n 0) e ∙ parts_of i d lt

@@ -1,0 +1,53 @@
+ghost use Rattle.std.specs.Prelude.{◌≡◌, ◌*◌, ◌≤◌, All, length, sum_by};
+ghost use Rattle.pon_cert.specs.Problem.{IsItem, IsProblem};
+ghost use Rattle.pon_cert.specs.Certificate.{IsCertificate};
+
+use crate::order::order;
+use pon_cert::{Item, Level};
+use pon_units::Frac;
+
+pub(crate) fn total_weight(items: &[Item]) -> u64
+    requires count { length items.now ≤ 512 }
+    requires each { All IsItem items.now }
+    ensures value { result ≡ sum_by (λ item. item.weight) items.now }
+    ensures small { result ≤ 512 * 2488320 }
+{
+    let mut total = 0;
+    for item in items {
+        total += item.weight;
+    }
+    total
+}
+
+/// Shares the surplus among the items in proportion to their weights, no item getting more than its cap:
+/// leaves in `saturated` which items are, and answers the level, how much another item gets for each unit
+/// of its weight. What it leaves is the certificate of the problem, of which there is one: the fairest share.
+///
+/// The caller's conditions: `items`, `scratch` and `saturated` are of one length, 512 at most; each weight is 1
+/// to 2,488,320, each cap and the surplus 0 to 2,488,320 kbit/s. It always succeeds and takes no memory: what
+/// stood in `saturated` is written over, and `scratch` is lent room that it may use.
+///
+/// In proportion to weight until saturated: the rate-proportional reference model of ITU-T G.987.3. Sorting the items
+/// by the level that meets their caps is this crate's own.
+pub fn fill(items: &[Item], surplus: u64, scratch: &mut [u16], saturated: &mut [bool]) -> Level
+    requires problem { IsProblem items.now surplus }
+    requires flags { length saturated.old ≡ length items.now }
+    requires scratch { length scratch.old ≡ length items.now }
+    ensures { IsCertificate items.now surplus record { level = result; saturated = saturated.new } }
+{
+    saturated.fill(false);
+    order(items, scratch);
+    let mut left = surplus;
+    let mut weight = total_weight(items);
+    for number in scratch.iter() {
+        let i = usize::from(*number);
+        let item = items[i];
+        if item.weight * left < item.cap * weight {
+            return Level::At(Frac::new(left, weight));
+        }
+        saturated[i] = true;
+        left -= item.cap;
+        weight -= item.weight;
+    }
+    Level::All
+}

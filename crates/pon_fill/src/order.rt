@@ -1,0 +1,32 @@
+// Items in the order in which their caps are met as the level rises.
+ghost use Rattle.std.specs.Prelude.{◌≡◌, ◌<◌, ◌≤◌, ◌*◌, ◌/◌, All, length};
+ghost use Rattle.pon_cert.specs.Problem.{IsItem};
+ghost use Rattle.pon_fill.specs.Order.{IsOrder};
+
+use pon_cert::Item;
+
+// The square of the greatest weight. Two fractions with denominators up to that weight differ by at least one part of it.
+const PARTS: u64 = 2_488_320 * 2_488_320;
+
+// Writes the item numbers by cap divided by weight.
+pub(crate) fn order(items: &[Item], numbers: &mut [u16])
+    requires each { All IsItem items.now }
+    requires count { length items.now ≤ 512 }
+    requires lengths { length numbers.old ≡ length items.now }
+    ensures { IsOrder items.now numbers.new }
+{
+    let mut keys = [0; 512];
+    for (i, item) in items.iter().enumerate() {
+        keys[i] = met_at(item);
+        numbers[i] = i as u16;
+    }
+    numbers.sort_unstable_by_key(|i| keys[usize::from(*i & 511)]);
+}
+
+// The level at which the item's cap is met, in parts, rounded down: two items whose levels differ have different parts.
+fn met_at(item: &Item) -> u64
+    requires { IsItem item.now }
+    ensures { result ≡ item.now.cap * 6191736422400 / item.now.weight }
+{
+    item.cap * PARTS / item.weight
+}
