@@ -226,10 +226,11 @@ fn open_and_answer<R: DevRead, W: DevWrite>(
 
 /// Reads management lines to the end of the input, and writes the reply or the refusal of each.
 ///
-/// What is written is the output text of what was read. `Read` where the reader failed or 2^64 - 1 reads were made: the
-/// text of all whole lines read is written. `Write` where the writer failed, and `Memory` where memory was refused: the
-/// text of the lines before is written, and a beginning of the next. A line that was not ended when a fault came is not
-/// answered. The writer is flushed once, at the end of the input.
+/// What is written is the output text of what was read. The replies to what one read gave are written before the next
+/// read. `Read` where the reader failed or 2^64 - 1 reads were made: the text of all whole lines read is written.
+/// `Write` where the writer failed, and `Memory` where memory was refused: a beginning of the text is written, after
+/// `Memory` that of the lines before. A line that was not ended when a fault came is not answered. The writer is flushed
+/// once, at the end of the input.
 ///
 /// So far there is one port, and no step is taken before the first line.
 pub fn plan<H, R: DevRead, W: DevWrite>(
