@@ -1,3 +1,5 @@
 mod AnswerLaws
+mod Continuing
+mod Feeds
 mod OneOutput
 mod Streaming

@@ -1,7 +1,6 @@
--- Text that is read byte by byte, and answered line by line.
-use Rattle.std.proofs.Common.{◌≡◌, ℕ, ◌<◌, ◌≤◌, Bool, true, false, ◌||◌, List, [], ◌∷◌, ◌++◌, length, take, refl, ap, sym, ◌∙◌, subst, arith, append_assoc, inl, inr}
-use Rattle.std.proofs.lemmas.List.{append-nil, length-take, length-append, take-append-le}
-use Rattle.std.proofs.lemmas.List.Folds.{list_any-append}
+-- Text that is read piece by piece, and answered line by line.
+use Rattle.std.proofs.Common.{◌≡◌, ℕ, Bool, true, false, List, [], ◌∷◌, ◌++◌, length, take, refl, ap, sym, ◌∙◌, subst, arith, append_assoc, inl, inr}
+use Rattle.std.proofs.lemmas.List.{append-nil, length-take}
 use Rattle.std.specs.Prelude.{◌==◌, ◌≢◌, Option, Result, Ok, Err}
 use Rattle.std.specs.List.{list_any}
 use Rattle.std.proofs.lemmas.Bool.{or_parts, or_right}
@@ -9,20 +8,21 @@ use Rattle.pon_port.specs.Chapters.{Chapter}
 use Rattle.pon_device.specs.Device.{Appends, Consumes, Keeps}
 use Rattle.pon_device.proofs.Pieces.{appends_kept, appends_more}
 use Rattle.pon_stream.proofs.DeviceBytes.{appends_none, consumes_kept, consumes_more, consumes_none, keeps_itself}
+use Rattle.pon_manage.specs.Progress.{Answered, Continues, PrintsPiece, WritesBeginning}
 use Rattle.pon_manage.specs.Planning.{Planned, IsText, BeginsNext, BeginsOutput, PrintsLine}
 use Rattle.pon_stream.specs.declared.fault.PlanFault.{PlanFault}
 use Rattle.pon_stream.specs.declared.fault.PlanFault.TheVariants.{Read, Write, Memory}
 use Rattle.pon_text.specs.Lines.{lines_of, whole_lines, onto}
 use Rattle.pon_manage.specs.Text.{Answers, Gives, GivesLines}
 use Rattle.pon_line.specs.Reading.{read_line}
-use Rattle.pon_line.proofs.LongLines.{read_line-take, take_all}
+use Rattle.pon_line.proofs.LongLines.{read_line-take}
 
 abbrev pub has_feed : List ℕ → Bool
 has_feed bs = list_any (λ b. b == 10) bs
 
 -- Lines of bytes.
 
-lines_of-feed : (cur rest : List ℕ) → has_feed cur ≡ false → lines_of (cur ++ 10 ∷ rest) ≡ cur ∷ lines_of rest
+pub lines_of-feed : (cur rest : List ℕ) → has_feed cur ≡ false → lines_of (cur ++ 10 ∷ rest) ≡ cur ∷ lines_of rest
 lines_of-feed [] rest h = refl
 lines_of-feed (b ∷ cur) rest h =
     let two : ((b == 10) ≡ false) × (has_feed cur ≡ false) = or_parts (b == 10) (has_feed cur) h in
@@ -42,7 +42,7 @@ has_feed-there : (cur rest : List ℕ) → has_feed (cur ++ 10 ∷ rest) ≡ tru
 has_feed-there [] rest = refl
 has_feed-there (b ∷ cur) rest = or_right (b == 10) (has_feed (cur ++ 10 ∷ rest)) (has_feed-there cur rest)
 
-whole_lines-feed : (cur rest : List ℕ) → whole_lines (cur ++ 10 ∷ rest) ≡ cur ++ 10 ∷ whole_lines rest
+pub whole_lines-feed : (cur rest : List ℕ) → whole_lines (cur ++ 10 ∷ rest) ≡ cur ++ 10 ∷ whole_lines rest
 whole_lines-feed [] rest = refl
 whole_lines-feed (b ∷ cur) rest = rw (has_feed-there (b ∷ cur) rest) (ap (λ t. b ∷ t) (whole_lines-feed cur rest))
 
@@ -51,11 +51,11 @@ whole_lines-open [] h = refl
 whole_lines-open (b ∷ cur) h = rw h refl
 
 -- a line gives what its first 4,097 bytes give
-gives_kept : (old new : List Chapter) (line cur text : List ℕ) → line ≡ take 4097 cur → Gives old line text new → Gives old cur text new
+pub gives_kept : (old new : List Chapter) (line cur text : List ℕ) → line ≡ take 4097 cur → Gives old line text new → Gives old cur text new
 gives_kept old new line cur text kept g = subst (λ r. Answers old r text new) (ap (read_line (length old)) kept ∙ read_line-take (length old) cur) g
 
 -- one line more
-gives_more : (old mid new : List Chapter) (ls : List (List ℕ)) (l text more : List ℕ) → GivesLines old ls text mid → Gives mid l more new → GivesLines old (ls ++ l ∷ []) (text ++ more) new
+pub gives_more : (old mid new : List Chapter) (ls : List (List ℕ)) (l text more : List ℕ) → GivesLines old ls text mid → Gives mid l more new → GivesLines old (ls ++ l ∷ []) (text ++ more) new
 gives_more old mid new [] l text more a g =
     (more, [], new, subst (λ m. Gives m l more new) a.1 g, (refl, refl), ap (λ t. t ++ more) a.0 ∙ sym (append-nil more))
 gives_more old mid new (x ∷ ls) l text more a g =
@@ -92,41 +92,41 @@ begin first left held = record {
 
 -- Where the reading has come to.
 module _ (first : List Chapter) (l0 l m h0 h : Option (List ℕ)) (ports : List Chapter) (line : List ℕ) (p : Progress first l0 l h0 h ports line) where
-  -- one byte more of a line
-  pub push_kept : (b : ℕ) → Consumes l m (b ∷ []) → (b == 10) ≡ false → (new : List ℕ) → ((cur : List ℕ) → line ≡ take 4097 cur → new ≡ take 4097 (cur ++ b ∷ [])) →
-      Progress first l0 m h0 h ports new
-  push_kept b c no_feed new e = record {
-    done = p.done;
-    cur = p.cur ++ b ∷ [];
-    lines = p.lines;
-    written = p.written;
-    read = subst (λ t. Consumes l0 m t) (append_assoc p.done p.cur (b ∷ [])) (consumes_more l0 l m (p.done ++ p.cur) (b ∷ []) p.read c);
-    wrote = p.wrote;
-    open_line = list_any-append (λ b. b == 10) p.cur (b ∷ []) ∙ (λ i. p.open_line i || (no_feed i || false));
-    split = p.split;
-    whole = p.whole;
-    gave = p.gave;
-    kept = e p.cur p.kept;
+  answered : Answered first ports (p.done ++ p.cur) p.written line
+  answered = record { done = p.done; cur = p.cur; lines = p.lines; parts = refl; open_line = p.open_line; split = p.split; whole = p.whole; gave = p.gave; kept = p.kept }
+
+  -- a piece was answered
+  pub printed_piece : (k : Option (List ℕ)) (after : List Chapter) (new piece text : List ℕ) → Consumes l m piece → Continues ports line after new piece text → Appends h k text → Progress first l0 m h0 k after new
+  printed_piece k after new piece text c g w =
+      let a = g first (p.done ++ p.cur) p.written answered in record {
+        done = a.done;
+        cur = a.cur;
+        lines = a.lines;
+        written = p.written ++ text;
+        read = subst (Consumes l0 m) a.parts (consumes_more l0 l m (p.done ++ p.cur) piece p.read c);
+        wrote = appends_more h0 h k p.written text p.wrote w;
+        open_line = a.open_line;
+        split = a.split;
+        whole = a.whole;
+        gave = a.gave;
+        kept = a.kept;
+      }
+
+  -- a piece was answered in part
+  pub piece_failed : {T : Type 0} (k : Option (List ℕ)) (piece : List ℕ) (f : PlanFault) → Consumes l m piece → WritesBeginning ports line piece [] h k →
+      ((input written : List ℕ) → BeginsOutput first input written → IsText {T = T} first input written (Err f)) → Planned {T = T} first l0 m h0 k (Err f)
+  piece_failed k piece f c w tells = record {
+    input = (p.done ++ p.cur) ++ piece;
+    written = p.written ++ w.0;
+    read = consumes_more l0 l m (p.done ++ p.cur) piece p.read c;
+    wrote = appends_more h0 h k p.written w.0 p.wrote w.1;
+    text = tells ((p.done ++ p.cur) ++ piece) (p.written ++ w.0) (w.2 first (p.done ++ p.cur) p.written w.0 answered ([], refl));
   }
 
-  -- a line was answered, and the next is empty
-  pub printed_line : (k : Option (List ℕ)) (after : List Chapter) (done : Unit {0}) (new : List ℕ) → Consumes l m (10 ∷ []) → PrintsLine ports after line h k (Ok done) → new ≡ [] → Progress first l0 m h0 k after new
-  printed_line k after done new c w e = record {
-    done = p.done ++ p.cur ++ 10 ∷ [];
-    cur = [];
-    lines = p.lines ++ p.cur ∷ [];
-    written = p.written ++ w.0;
-    read = subst (λ t. Consumes l0 m t) (sym (append-nil (p.done ++ p.cur ++ 10 ∷ []))) (consumes_more l0 l m (p.done ++ p.cur) (10 ∷ []) p.read c);
-    wrote = appends_more h0 h k p.written w.0 p.wrote w.2;
-    open_line = refl;
-    split = λ tail. ap lines_of (parts tail) ∙ p.split (p.cur ++ 10 ∷ tail) ∙ ap (λ ls. p.lines ++ ls) (lines_of-feed p.cur tail p.open_line) ∙ sym (append_assoc p.lines (p.cur ∷ []) (lines_of tail));
-    whole = λ tail. ap whole_lines (parts tail) ∙ p.whole (p.cur ++ 10 ∷ tail) ∙ ap (λ t. p.done ++ t) (whole_lines-feed p.cur tail) ∙ sym (parts (whole_lines tail));
-    gave = gives_more first ports after p.lines p.cur p.written w.0 p.gave (gives_kept ports after line p.cur w.0 p.kept w.1);
-    kept = e;
-  }
-    where
-      parts : (tail : List ℕ) → (p.done ++ p.cur ++ 10 ∷ []) ++ tail ≡ p.done ++ (p.cur ++ 10 ∷ tail)
-      parts tail = append_assoc (p.done ++ p.cur) (10 ∷ []) tail ∙ append_assoc p.done p.cur (10 ∷ tail)
+  pub print_failed : {T : Type 0} (k : Option (List ℕ)) (after : List Chapter) (new piece : List ℕ) (f : PlanFault) → Consumes l m piece → PrintsPiece ports line after new piece h k (Err f) → Planned {T = T} first l0 m h0 k (Err f)
+  print_failed k after new piece Read c w = absurd w
+  print_failed k after new piece Write c w = piece_failed k piece Write c w (λ input written b. b)
+  print_failed k after new piece Memory c w = piece_failed k piece Memory c w (λ input written b. b)
 
   -- the reader failed
   pub read_failed : {T : Type 0} → Keeps l m → Planned {T = T} first l0 m h0 h (Err Read)
@@ -170,9 +170,6 @@ module _ (first : List Chapter) (l0 l m h0 h : Option (List ℕ)) (ports : List 
   line_failed k after more next Memory c w e =
       begun k more [] (p.cur ∷ next) c (appends_kept h h k [] (appends_none h) w) e (inl refl) Memory (λ b. b)
 
-  pub feed_failed : {T : Type 0} (k : Option (List ℕ)) (after : List Chapter) (f : PlanFault) → Consumes l m (10 ∷ []) → PrintsLine ports after line h k (Err f) → Planned {T = T} first l0 m h0 k (Err f)
-  feed_failed k after f c w = line_failed k after (10 ∷ []) [] f c w (lines_of-feed p.cur [] p.open_line)
-
   not_empty : line ≢ [] → p.cur ≢ []
   not_empty n e = n (p.kept ∙ ap (take 4097) e)
 
@@ -196,6 +193,10 @@ module _ (first : List Chapter) (l0 l m h0 h : Option (List ℕ)) (ports : List 
       all : lines_of ((p.done ++ p.cur) ++ []) ≡ p.lines ++ p.cur ∷ []
       all = ap lines_of (append_assoc p.done p.cur []) ∙ p.split (p.cur ++ []) ∙ ap (λ ls. p.lines ++ ls) (ap lines_of (append-nil p.cur) ∙ lone_line p.cur p.open_line (not_empty n))
 
+  pub last_line : (k : Option (List ℕ)) (after : List Chapter) (r : Result (Unit {0}) PlanFault) → Consumes l m [] → line ≢ [] → PrintsLine ports after line h k r → Planned {T = Unit {0}} first l0 m h0 k r
+  last_line k after (Ok done) c n w = ended k after done done c n w
+  last_line k after (Err f) c n w = end_failed k after f c n w
+
   -- the input ended behind a line feed, or at its start
   pub ended_empty : {T : Type 0} (end : T) → Consumes l m [] → line ≡ [] → Planned {T = T} first l0 m h0 h (Ok end)
   ended_empty end c n = record {
@@ -213,30 +214,6 @@ module _ (first : List Chapter) (l0 l m h0 h : Option (List ℕ)) (ports : List 
       all : lines_of ((p.done ++ p.cur) ++ []) ≡ p.lines
       all = ap lines_of (append_assoc p.done p.cur []) ∙ p.split (p.cur ++ []) ∙ ap (λ c. p.lines ++ lines_of (c ++ [])) (nothing p.cur (sym p.kept ∙ n)) ∙ append-nil p.lines
 
-  -- memory was refused for a byte
-  pub no_room : {T : Type 0} (b : ℕ) → Consumes l m (b ∷ []) → Planned {T = T} first l0 m h0 h (Err Memory)
-  no_room b c = record {
-    input = (p.done ++ p.cur) ++ b ∷ [];
-    written = p.written;
-    read = consumes_more l0 l m (p.done ++ p.cur) (b ∷ []) p.read c;
-    wrote = p.wrote;
-    text = record {
-      answered = p.lines;
-      more = lines_of (p.cur ++ b ∷ []);
-      text = p.written;
-      part = [];
-      after = ports;
-      lines = ap lines_of (append_assoc p.done p.cur (b ∷ [])) ∙ p.split (p.cur ++ b ∷ []);
-      gives = p.gave;
-      begins = nothing_of (lines_of (p.cur ++ b ∷ []));
-      is = sym (append-nil p.written);
-    };
-  }
-    where
-      nothing_of : (ls : List (List ℕ)) → BeginsNext ports ls []
-      nothing_of [] = refl
-      nothing_of (x ∷ ls) = inl refl
-
 -- 2 ^ 64 - 1 reads were made
 pub ran_out : {T : Type 0} (first : List Chapter) (l0 l h0 h : Option (List ℕ)) (ports : List Chapter) (line : List ℕ) → Progress first l0 l h0 h ports line → Planned {T = T} first l0 l h0 h (Err Read)
 ran_out first l0 l h0 h ports line p = read_failed first l0 l l h0 h ports line p (keeps_itself l)
@@ -244,17 +221,6 @@ ran_out first l0 l h0 h ports line p = read_failed first l0 l l h0 h ports line 
 -- the same line under another name
 pub printed : (old new : List Chapter) (a b : List ℕ) (h k : Option (List ℕ)) (r : Result (Unit {0}) PlanFault) → a ≡ b → PrintsLine old new a h k r → PrintsLine old new b h k r
 printed old new a b h k r e w = subst (λ t. PrintsLine old new t h k r) e w
-
--- a byte is kept of a line that is not too long yet
-pub push_short : (line new : List ℕ) (b : ℕ) → length line < 4097 → new ≡ line ++ b ∷ [] → (cur : List ℕ) → line ≡ take 4097 cur → new ≡ take 4097 (cur ++ b ∷ [])
-push_short line new b l e cur k =
-    let short : length cur < 4097 = omega (arith, l, ap (λ t. length t) k, length-take 4097 cur) in
-    e ∙ ap (λ t. t ++ b ∷ []) (k ∙ take_all 4097 cur (omega arith)) ∙ sym (take_all 4097 (cur ++ b ∷ []) (omega (arith, short, length-append cur (b ∷ []))))
-
--- a byte of a line that is too long is let go
-pub push_long : (line new : List ℕ) (b : ℕ) → 4097 ≤ length line → new ≡ line → (cur : List ℕ) → line ≡ take 4097 cur → new ≡ take 4097 (cur ++ b ∷ [])
-push_long line new b l e cur k =
-    e ∙ k ∙ sym (take-append-le 4097 cur (b ∷ []) (omega (arith, l, ap (λ t. length t) k, length-take 4097 cur)))
 
 -- Before the first line, and after the last.
 

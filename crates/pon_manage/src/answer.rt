@@ -27,10 +27,15 @@ fn hex_of_map(alloc: Global, map: &Map) -> Result<String, AllocError>
     hex::encode(alloc, bytes.as_slice())
 }
 
+// The room for the words of a map's line: its name, its frame and three separators.
+const ROOM_FOR_FRAME: usize = 26;
+
 fn map_text(alloc: Global, frame: u64, hex: &String) -> Result<String, AllocError>
     ensures { IfOk result (λ text. string_bytes text ≡ codes "map " ++ (decimal frame ++ (32 ∷ string_bytes hex.now ++ 10 ∷ []))) }
 {
-    format!(in alloc; "map {frame} {hex}\n")
+    let mut text = String::with_capacity(alloc, hex.len().saturating_add(ROOM_FOR_FRAME))?;
+    write!(text, "map {frame} {hex}\n")?;
+    Ok(text)
 }
 
 fn map_line(alloc: Global, made: &MadeMap) -> Result<String, AllocError>
@@ -40,11 +45,19 @@ fn map_line(alloc: Global, made: &MadeMap) -> Result<String, AllocError>
     map_text(alloc, made.frame.get(), &hex)
 }
 
+fn taken_line(alloc: Global, index: usize) -> Result<String, AllocError>
+    ensures { IfOk result (λ text. string_bytes text ≡ reply_line index Reply.Taken) }
+{
+    let mut text = String::with_capacity(alloc, ROOM_FOR_FRAME)?;
+    write!(text, "ok {index}\n")?;
+    Ok(text)
+}
+
 fn reply_text_line(alloc: Global, index: usize, reply: &Reply) -> Result<String, AllocError>
     ensures { IfOk result (λ text. string_bytes text ≡ reply_line index reply.now) }
 {
     match reply {
-        Reply::Taken => format!(in alloc; "ok {index}\n"),
+        Reply::Taken => taken_line(alloc, index),
         Reply::Map(made) => map_line(alloc, made),
     }
 }

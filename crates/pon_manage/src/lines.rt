@@ -1,18 +1,21 @@
 //! Management lines: each is read, asked of its port, and answered.
 
-ghost use Rattle.std.specs.Prelude.{◌≡◌, ◌∷◌, [], ◌++◌, ◌≤◌, length, map, take, OnOk};
+ghost use Rattle.std.specs.Prelude.{◌≡◌, ◌==◌, ◌-◌, ◌∷◌, [], ◌++◌, ℕ, List, false, length, take, OnOk, OnErr};
+ghost use Rattle.std.specs.List.{list_any};
 ghost use Rattle.pon_device.specs.Device.{IsAtEnd};
-ghost use Rattle.pon_stream.specs.Streams.{TellsRead, TellsWrite};
+ghost use Rattle.pon_stream.specs.Streams.{TellsLine, TellsRead, TellsWrite};
 ghost use Rattle.pon_manage.specs.Planning.{Planned, PrintsLine, opened_port, opened_ports};
+ghost use Rattle.pon_manage.specs.Progress.{AddsReply, AnswersPiece, Continues, PrintsPiece};
 
 use crate::answer::answer;
 use pon_event::Step;
 use pon_line::read_line;
 use pon_port::{Port, PortCfg};
-use pon_stream::{PlanFault, next_byte};
+use pon_stream::PlanFault;
+use pon_text::cut;
 use pon_units::FrameNo;
 use pon_device::{DevRead, DevWrite, write_all};
-use std::alloc::Global;
+use std::alloc::{AllocError, Global};
 
 /// The input ended, and all of its text is written.
 #[derive(Clone, Copy, Debug, PartialEq, Eq)]
@@ -21,26 +24,149 @@ pub struct PlanEnd;
 // A line is kept as far as its first 4,097 bytes: one more than may be read.
 const KEPT: usize = 4097;
 
-// Answers a line, and writes its text or a beginning of it.
-fn print_line<W: DevWrite>(
+// The most bytes that one read asks for.
+const PIECE: usize = 16_384;
+
+// Gathered replies are written at this length, or before the next read.
+const FULL: usize = 65_536;
+
+// Keeps what may be read of a part of the open line.
+fn keep_part(line: &mut Vec<u8>, part: &[u8]) -> Result<(), AllocError>
+    ensures { OnOk result (line.new.items ≡ line.old.items ++ take (KEPT - length line.old.items) part.now) }
+{
+    let room = KEPT.saturating_sub(line.len());
+    line.extend_from_slice(&part[..room.min(part.len())])
+}
+
+// Answers a line, and puts its reply behind the others.
+fn answer_line(
     alloc: Global,
     port: &mut Port,
     line: &[u8],
-    writer: &mut W,
-) -> Result<(), PlanFault>
-    ensures text { PrintsLine (port.old ∷ []) (port.new ∷ []) line.now (W.contents writer.old) (W.contents writer.new) result }
-    ensures failures { TellsWrite (W.failures writer.old) (W.failures writer.new) result }
+    replies: &mut Vec<u8>,
+) -> Result<(), AllocError>
+    ensures ok { OnOk result (AddsReply (port.old ∷ []) (port.new ∷ []) line.now replies.old.items replies.new.items) }
+    ensures err { OnErr result (replies.new.items ≡ replies.old.items) }
 {
     match answer(alloc, port, read_line(1, line)) {
-        Ok(text) => match write_all(writer, text.as_bytes()) {
-            Ok(()) => Ok(()),
-            Err(_) => Err(PlanFault::Write),
-        },
+        Ok(text) => replies.extend_from_slice(text.as_bytes()),
+        Err(refused) => Err(refused),
+    }
+}
+
+// Ends the open line by this part, and answers it.
+fn end_line(
+    alloc: Global,
+    port: &mut Port,
+    line: &mut Vec<u8>,
+    part: &[u8],
+    replies: &mut Vec<u8>,
+) -> Result<(), AllocError>
+    requires no_feed { list_any (λ b. b == 10) part.now ≡ false }
+    ensures ok { OnOk result ((text : List ℕ) × Continues (port.old ∷ []) line.old.items (port.new ∷ []) line.new.items (part.now ++ 10 ∷ []) text
+        × (replies.new.items ≡ replies.old.items ++ text)) }
+    ensures err { OnErr result (replies.new.items ≡ replies.old.items) }
+{
+    if line.is_empty() {
+        return answer_line(alloc, port, part, replies);
+    }
+    if keep_part(line, part).is_err() {
+        return Err(AllocError);
+    }
+    let answered = answer_line(alloc, port, line.as_slice(), replies);
+    line.clear();
+    answered
+}
+
+// Writes the gathered replies.
+fn send<W: DevWrite>(replies: &mut Vec<u8>, writer: &mut W) -> Result<(), PlanFault>
+    ensures text { TellsLine replies.old.items (W.contents writer.old) (W.contents writer.new) result }
+    ensures failures { TellsWrite (W.failures writer.old) (W.failures writer.new) result }
+    ensures empty { replies.new.items ≡ [] }
+{
+    let sent = write_all(writer, replies.as_slice());
+    replies.clear();
+    match sent {
+        Ok(()) => Ok(()),
+        Err(_) => Err(PlanFault::Write),
+    }
+}
+
+// Answers the lines that end in a piece, keeps what follows, and gathers the replies.
+fn answer_piece<W: DevWrite>(
+    alloc: Global,
+    port: &mut Port,
+    line: &mut Vec<u8>,
+    piece: &[u8],
+    replies: &mut Vec<u8>,
+    writer: &mut W,
+) -> Result<(), PlanFault>
+    requires empty { replies.old.items ≡ [] }
+    ensures text { AnswersPiece (port.old ∷ []) line.old.items (port.new ∷ []) line.new.items piece.now replies.new.items (W.contents writer.old) (W.contents writer.new) result }
+    ensures failures { TellsWrite (W.failures writer.old) (W.failures writer.new) result }
+{
+    let mut rest = piece;
+    'lines: while let Some((part, after)) = cut(rest, b'\n') {
+        if end_line(alloc, port, line, part, replies).is_err() {
+            return Err(PlanFault::Memory);
+        }
+        if replies.len() >= FULL {
+            match send(replies, writer) {
+                Ok(()) => {}
+                Err(fault) => return Err(fault),
+            }
+        }
+        rest = after;
+    }
+    match keep_part(line, rest) {
+        Ok(()) => Ok(()),
         Err(_) => Err(PlanFault::Memory),
     }
 }
 
-// Reads lines to the end, and writes what each gives.
+// Answers the lines that end in a piece, and writes their replies; those before a refusal of memory are written too.
+fn print_piece<W: DevWrite>(
+    alloc: Global,
+    port: &mut Port,
+    line: &mut Vec<u8>,
+    piece: &[u8],
+    replies: &mut Vec<u8>,
+    writer: &mut W,
+) -> Result<(), PlanFault>
+    requires empty { replies.old.items ≡ [] }
+    ensures text { PrintsPiece (port.old ∷ []) line.old.items (port.new ∷ []) line.new.items piece.now (W.contents writer.old) (W.contents writer.new) result }
+    ensures failures { TellsWrite (W.failures writer.old) (W.failures writer.new) result }
+    ensures empty { OnOk result (replies.new.items ≡ []) }
+{
+    match answer_piece(alloc, port, line, piece, replies, writer) {
+        Ok(()) => send(replies, writer),
+        Err(PlanFault::Memory) => match send(replies, writer) {
+            Ok(()) => Err(PlanFault::Memory),
+            Err(fault) => Err(fault),
+        },
+        Err(fault) => Err(fault),
+    }
+}
+
+// Answers the last line, which has no line feed, and writes its text or a beginning of it.
+fn print_line<W: DevWrite>(
+    alloc: Global,
+    port: &mut Port,
+    line: &[u8],
+    replies: &mut Vec<u8>,
+    writer: &mut W,
+) -> Result<(), PlanFault>
+    requires empty { replies.old.items ≡ [] }
+    ensures text { PrintsLine (port.old ∷ []) (port.new ∷ []) line.now (W.contents writer.old) (W.contents writer.new) result }
+    ensures failures { TellsWrite (W.failures writer.old) (W.failures writer.new) result }
+{
+    match answer_line(alloc, port, line, replies) {
+        Ok(()) => send(replies, writer),
+        Err(_) => Err(PlanFault::Memory),
+    }
+}
+
+// Reads lines to the end, and writes what each gives before the next read.
 fn answer_lines<R: DevRead, W: DevWrite>(
     alloc: Global,
     port: &mut Port,
@@ -53,30 +179,21 @@ fn answer_lines<R: DevRead, W: DevWrite>(
     ensures write { TellsWrite (W.failures writer.old) (W.failures writer.new) result }
 {
     let mut line = Vec::new(alloc);
+    let mut replies = Vec::new(alloc);
+    let mut piece = [0u8; PIECE];
     for _turn in 0..u64::MAX {
-        match next_byte(reader) {
-            Err(_) => return Err(PlanFault::Read),
-            Ok(None) => {
-                if line.is_empty() {
-                    return Ok(());
-                }
-                return match print_line(alloc, port, line.as_slice(), writer) {
-                    Ok(()) => Ok(()),
-                    Err(fault) => Err(fault),
-                };
+        let Ok(len) = reader.read(&mut piece) else {
+            return Err(PlanFault::Read);
+        };
+        if len == 0 {
+            if line.is_empty() {
+                return Ok(());
             }
-            Ok(Some(byte)) => {
-                if byte == b'\n' {
-                    match print_line(alloc, port, line.as_slice(), writer) {
-                        Ok(()) => line.clear(),
-                        Err(fault) => return Err(fault),
-                    }
-                } else if line.len() < KEPT {
-                    if line.push(byte).is_err() {
-                        return Err(PlanFault::Memory);
-                    }
-                }
-            }
+            return print_line(alloc, port, line.as_slice(), &mut replies, writer);
+        }
+        match print_piece(alloc, port, &mut line, &piece[..len], &mut replies, writer) {
+            Ok(()) => {}
+            Err(fault) => return Err(fault),
         }
     }
     Err(PlanFault::Read)
@@ -109,10 +226,11 @@ fn open_and_answer<R: DevRead, W: DevWrite>(
 
 /// Reads management lines to the end of the input, and writes the reply or the refusal of each.
 ///
-/// What is written is the output text of what was read. `Read` where the reader failed or 2^64 - 1 reads were made: the
-/// text of all whole lines read is written. `Write` where the writer failed, and `Memory` where memory was refused: the
-/// text of the lines before is written, and a beginning of the next. A line that was not ended when a fault came is not
-/// answered. The writer is flushed once, at the end of the input.
+/// What is written is the output text of what was read. The replies to what one read gave are written before the next
+/// read. `Read` where the reader failed or 2^64 - 1 reads were made: the text of all whole lines read is written.
+/// `Write` where the writer failed, and `Memory` where memory was refused: a beginning of the text is written, after
+/// `Memory` that of the lines before. A line that was not ended when a fault came is not answered. The writer is flushed
+/// once, at the end of the input.
 ///
 /// So far there is one port, and no step is taken before the first line.
 pub fn plan<H, R: DevRead, W: DevWrite>(

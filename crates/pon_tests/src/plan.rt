@@ -202,6 +202,22 @@ fn the_limits_of_a_port(rt: HostRuntime) -> Result<(), Fail> {
     Ok(())
 }
 
+// Maps whose text does not fit the room for gathered replies are the same as those of an input read byte by byte.
+#[test]
+fn full_room_for_replies_is_written(rt: HostRuntime) -> Result<(), Fail> {
+    let mut input = admissions(rt.alloc(), 256, 16)?;
+    for _ in 0..40 {
+        input.extend_from_slice(b"0 map\n")?;
+    }
+    let by_byte = run(rt.alloc(), &input, 1, &[], &[]).ok_or("memory")?;
+    let at_once = run(rt.alloc(), &input, 65_536, &[], &[]).ok_or("memory")?;
+    assert_eq!(rt; by_byte.result, Ok(PlanEnd));
+    assert_eq!(rt; at_once.result, Ok(PlanEnd));
+    assert!(rt; by_byte.text.len() > 2 * 65_536);
+    assert_eq!(rt; at_once.text.as_slice(), by_byte.text.as_slice());
+    Ok(())
+}
+
 // A line of so many bytes, a comment but for its length, and then a map.
 fn long_line(alloc: Global, bytes: usize) -> Result<Vec<u8>, Fail> {
     let mut input = vec![in alloc; b'#'; bytes]?;
@@ -229,7 +245,7 @@ fn long_lines_are_skipped(rt: HostRuntime) -> Result<(), Fail> {
 #[test]
 fn a_failed_read_leaves_the_whole_lines(rt: HostRuntime) -> Result<(), Fail> {
     for call in 0..39u64 {
-        let run = run(rt.alloc(), FIRST_MAP, 5, &[call], &[]).ok_or("memory")?;
+        let run = run(rt.alloc(), FIRST_MAP, 1, &[call], &[]).ok_or("memory")?;
         let text: &[u8] = if call < 32 {
             b""
         } else if call < 38 {

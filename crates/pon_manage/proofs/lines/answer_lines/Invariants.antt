@@ -3,11 +3,12 @@ use Rattle.pon_stream.proofs.ReadCounts.{AfterReads}
 use Rattle.pon_manage.proofs.Streaming.{Progress}
 use Rattle.pon_manage.proofs.lines.answer_lines.Given as goal
 
--- how far the reading has come, and that no device has failed yet
+-- how far the reading has come, that all is written, and that no device has failed yet
 abbrev pub invariant-loop-turn : goal.invariant-loop-turn
 invariant-loop-turn g l = record {
   progress : Progress (l.initial.port ∷ []) (g.R.DevRead.remaining l.initial.reader) (g.R.DevRead.remaining l.reader) (g.W.DevWrite.contents l.initial.writer) (g.W.DevWrite.contents l.writer) (l.port ∷ []) l.line.items;
   reads : AfterReads l._turn (g.R.DevRead.calls l.initial.reader) (g.R.DevRead.calls l.reader);
+  none_gathered : l.replies.items ≡ [];
   none_failed : g.R.DevRead.failures l.reader ≡ g.R.DevRead.failures l.initial.reader;
   all_written : g.W.DevWrite.failures l.writer ≡ g.W.DevWrite.failures l.initial.writer;
 }
