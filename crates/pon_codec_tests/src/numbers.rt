@@ -1,4 +1,6 @@
-use pon_units::{AllocId, BufOcc, Frac, FrameNo, Gap, Kbps, OnuId, PortNo, Profile, Words, cmp_frac, whole};
+use pon_units::{
+    AllocId, BufOcc, Frac, FrameNo, Gap, Kbps, OnuId, PortNo, Profile, Words, cmp_frac, whole,
+};
 use std::cmp::Ordering;
 
 #[test]

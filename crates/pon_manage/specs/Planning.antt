@@ -1,13 +1,14 @@
 -- What reading lines and writing their text leaves.
 use Rattle.std.specs.Prelude.{ℕ, ◌≡◌, ◌⊎◌, List, [], ◌∷◌, ◌++◌, map, Option, Result, Ok, Err}
 use Rattle.pon_device.specs.Device.{Appends, Consumes, Keeps}
-use Rattle.pon_port.specs.Chapters.{Chapter, just_opened}
+use Rattle.pon_state.specs.State.{just_opened}
+use Rattle.pon_port.specs.Chapters.{Chapter}
 use Rattle.pon_stream.specs.Streams.{IsBeginning}
 use Rattle.pon_text.specs.Lines.{lines_of, whole_lines}
 use Rattle.pon_manage.specs.Text.{Gives, GivesLines, IsOutput}
 use Rattle.pon_stream.specs.declared.fault.PlanFault.{PlanFault}
 use Rattle.pon_stream.specs.declared.fault.PlanFault.TheVariants.{Read, Write, Memory}
-use Rattle.pon_port.specs.declared.state.PortCfg.{PortCfg}
+use Rattle.pon_state.specs.declared.state.PortCfg.{PortCfg}
 
 -- a port just opened, chapter 0
 abbrev pub opened_port : PortCfg × ℕ → Chapter

@@ -7,8 +7,8 @@ use Rattle.pon_port.specs.Chapters.{Chapter}
 use Rattle.pon_port.specs.Last.{LastMap, last_map}
 use Rattle.pon_port.specs.Taking.{Takes, refusal_of}
 use Rattle.pon_event.specs.declared.event.Event.{Event}
-use Rattle.pon_port.specs.declared.reply.Reply.{Reply}
-use Rattle.pon_port.specs.declared.reply.Reply.TheVariants.{Taken, Map}
+use Rattle.pon_state.specs.declared.reply.Reply.{Reply}
+use Rattle.pon_state.specs.declared.reply.Reply.TheVariants.{Taken, Map}
 use Rattle.pon_descr.specs.declared.refusal.Refusal.{Refusal}
 use Rattle.pon_text.specs.Lines.{lines_of}
 use Rattle.pon_line.specs.Faults.{fault_text}

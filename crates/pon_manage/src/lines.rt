@@ -8,13 +8,13 @@ ghost use Rattle.pon_manage.specs.Planning.{Planned, PrintsLine, opened_port, op
 ghost use Rattle.pon_manage.specs.Progress.{AddsReply, AnswersPiece, Continues, PrintsPiece};
 
 use crate::answer::answer;
+use pon_device::{DevRead, DevWrite, write_all};
 use pon_event::Step;
 use pon_line::read_line;
 use pon_port::{Port, PortCfg};
 use pon_stream::PlanFault;
 use pon_text::cut;
 use pon_units::FrameNo;
-use pon_device::{DevRead, DevWrite, write_all};
 use std::alloc::{AllocError, Global};
 
 /// The input ended, and all of its text is written.

@@ -14,15 +14,15 @@ use Rattle.pon_window.specs.Window.{LeadsTo, WindowMap, words_from, words_in, is
 use Rattle.pon_window.specs.Reports.{refuses_report}
 use Rattle.pon_guar.specs.Reports.{latest}
 use Rattle.pon_guar.specs.Loads.{less}
-use Rattle.pon_port.specs.State.{State}
-use Rattle.pon_port.specs.Legal.{MayFollow}
+use Rattle.pon_state.specs.State.{State}
+use Rattle.pon_state.specs.Legal.{MayFollow}
 use Rattle.pon_port.specs.Chapters.{IsLegal}
-use Rattle.pon_port.specs.Replay.{all_maps, allocs_of, begins, forgets, frame_at_last, maps_of, next_of, roster_of, window_of, with_reports}
-use Rattle.pon_port.specs.Loads.{account_after, candidates, candidates_in, counted_of, opening_candidates, replay, since_of}
-use Rattle.pon_port.specs.Checks.{first_refusal, refuses, when_down, when_full}
+use Rattle.pon_state.specs.Replay.{all_maps, allocs_of, begins, forgets, frame_at_last, maps_of, next_of, roster_of, window_of, with_reports}
+use Rattle.pon_state.specs.Loads.{account_after, candidates, candidates_in, counted_of, opening_candidates, replay, since_of}
+use Rattle.pon_state.specs.Checks.{first_refusal, refuses, when_down, when_full}
 use Rattle.pon_event.specs.declared.event.Event.{Event}
 use Rattle.pon_event.specs.declared.event.Event.TheVariants.{Admit, Change, Remove, Report, MakeMap, Fail, Restore}
-use Rattle.pon_port.specs.declared.reply.Entry.{Entry}
+use Rattle.pon_state.specs.declared.reply.Entry.{Entry}
 use Rattle.pon_descr.proofs.Checks.{or_else_none, when_none}
 use Rattle.pon_descr.specs.declared.refusal.Refusal.TheVariants.{ChapterFull}
 use Rattle.pon_port.proofs.Legality.{IsLegalAfter, after_from_legal, legal_from_after, legal_push, legal_split}

@@ -6,25 +6,25 @@ use Rattle.pon_descr.specs.declared.class.Class.TheVariants.{NonAssured, BestEff
 use Rattle.pon_admit.specs.Roster.{IsAdmitted, rule_in_force}
 use Rattle.pon_cert.proofs.Fairness.{is_fairest}
 use Rattle.pon_cert.proofs.OneCertificate.{one_certificate}
-use Rattle.pon_port.specs.State.{State, input_of}
+use Rattle.pon_state.specs.State.{State, input_of}
 use Rattle.pon_share.specs.Input.{Input}
 use Rattle.pon_share.specs.Sharing.{items, spelled_rate, surplus, surplus_rate}
-use Rattle.pon_port.specs.Legal.{IsMade, IsReply}
+use Rattle.pon_state.specs.Legal.{IsMade, IsReply}
 use Rattle.pon_port.specs.Chapters.{Chapter, IsLawfulChapter, state_before}
 use Rattle.pon_port.specs.FairMaps.{IsFairMap, TellsFairMap}
-use Rattle.pon_port.specs.Replay.{grants_of}
+use Rattle.pon_state.specs.Replay.{grants_of}
 use Rattle.pon_event.specs.declared.event.Event.{Event}
 use Rattle.pon_event.specs.declared.event.Event.TheVariants.{Admit, Change, Remove, Report, MakeMap, Fail, Restore}
-use Rattle.pon_port.specs.declared.reply.Reply.{Reply}
-use Rattle.pon_port.specs.declared.reply.Reply.TheVariants.{Taken, Map}
-use Rattle.pon_port.specs.declared.reply.MadeMap.{MadeMap}
-use Rattle.pon_port.specs.declared.reply.Entry.{Entry}
+use Rattle.pon_state.specs.declared.reply.Reply.{Reply}
+use Rattle.pon_state.specs.declared.reply.Reply.TheVariants.{Taken, Map}
+use Rattle.pon_state.specs.declared.reply.MadeMap.{MadeMap}
+use Rattle.pon_state.specs.declared.reply.Entry.{Entry}
 use Rattle.pon_share.specs.ClassShares.{best_effort_surplus}
 use Rattle.pon_share.proofs.ClassShares.{best_effort_alone, left_within, members_agree, non_assured_alone, spelled_rates, weighted}
 use Rattle.pon_share.proofs.Dealing.{problem_of, surplus_range}
 use Rattle.pon_port.proofs.LawfulChapters.{admitted_before}
 use Rattle.pon_share.proofs.RosterMaps.{admitted_map_is_sound, guaranteed_fits}
-use Rattle.pon_port.proofs.KeptMaps.{window_grants}
+use Rattle.pon_state.proofs.KeptMaps.{window_grants}
 
 module _ (s : State) (k : IsAdmitted rule_in_force s.gap s.roster) where
   pub fair_map : (made : MadeMap) → IsMade s made → IsFairMap s made

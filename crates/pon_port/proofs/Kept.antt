@@ -13,24 +13,24 @@ use Rattle.pon_admit.specs.Roster.{IsInRange, refuses_admit, rule_in_force}
 use Rattle.pon_admit.proofs.AdmittedSets.{passes}
 use Rattle.pon_event.specs.declared.event.Event.{Event}
 use Rattle.pon_event.specs.declared.event.Event.TheVariants.{Admit, Change, Fail, MakeMap, Remove, Report, Restore}
-use Rattle.pon_port.specs.declared.reply.Reply.{Reply}
-use Rattle.pon_port.specs.declared.reply.Reply.TheVariants.{Taken, Map}
-use Rattle.pon_port.specs.declared.reply.MadeMap.{MadeMap}
-use Rattle.pon_port.specs.declared.reply.Entry.{Entry}
+use Rattle.pon_state.specs.declared.reply.Reply.{Reply}
+use Rattle.pon_state.specs.declared.reply.Reply.TheVariants.{Taken, Map}
+use Rattle.pon_state.specs.declared.reply.MadeMap.{MadeMap}
+use Rattle.pon_state.specs.declared.reply.Entry.{Entry}
 use Rattle.pon_guar.specs.declared.account.Account.{Account}
 use Rattle.pon_guar.specs.Book.{AreRising, account_of, alloc_ids, counted_of_account, since_of_account}
 use Rattle.pon_guar.specs.declared.account.Counted.{Counted}
 use Rattle.pon_window.specs.Window.{LeadsTo, WindowMap, last_64, words_in}
 use Rattle.pon_guar.specs.Reports.{latest}
 use Rattle.pon_guar.specs.Loads.{afresh, less, lessened, with_account, without_account}
-use Rattle.pon_port.specs.State.{State}
-use Rattle.pon_port.specs.Replay.{admits, allocs_after, begins, cause_after, forgets, grants_of, makes_map, new_map, next_of, reports, roster_after, structures, window_of, with_reports}
-use Rattle.pon_port.specs.Loads.{account_after, candidates_in, counted_of, replay, since_of}
-use Rattle.pon_port.specs.Checks.{first_refusal, when_full}
-use Rattle.pon_port.specs.Legal.{IsEvent, IsMade, MayFollow}
+use Rattle.pon_state.specs.State.{State}
+use Rattle.pon_state.specs.Replay.{admits, allocs_after, begins, cause_after, forgets, grants_of, makes_map, new_map, next_of, reports, roster_after, structures, window_of, with_reports}
+use Rattle.pon_state.specs.Loads.{account_after, candidates_in, counted_of, replay, since_of}
+use Rattle.pon_state.specs.Checks.{first_refusal, when_full}
+use Rattle.pon_state.specs.Legal.{IsEvent, IsMade, MayFollow}
 use Rattle.pon_port.specs.Chapters.{Chapter, IsLawfulChapter, present_state}
 use Rattle.pon_port.specs.Taking.{IsKept, Takes, with_entry}
-use Rattle.pon_port.specs.After.{after_admit, after_change, after_cut, after_event, after_map, after_remove, after_report, with_parts}
+use Rattle.pon_state.specs.After.{after_admit, after_change, after_cut, after_event, after_map, after_remove, after_report, with_parts}
 use Rattle.pon_guar.proofs.Accounts.{accounts_all, accounts_kept, found_each}
 use Rattle.pon_lists.proofs.Lists.{All-unmap, none_any}
 use Rattle.pon_port.proofs.Legality.{IsLegalAfter, after_from_legal, legal_from_after, legal_push}

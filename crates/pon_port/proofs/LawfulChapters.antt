@@ -3,15 +3,15 @@ use Rattle.std.proofs.Common.{◌≡◌, ℕ, List, [], ◌∷◌, ◌++◌, len
 use Rattle.std.specs.Prelude.{None}
 use Rattle.std.proofs.lemmas.List.{append-nil, take-append-drop}
 use Rattle.pon_admit.specs.Roster.{IsAdmitted, refuses_admit, refuses_change, rule_in_force}
-use Rattle.pon_port.specs.State.{State}
-use Rattle.pon_port.specs.Replay.{roster_after}
-use Rattle.pon_port.specs.Loads.{replay}
-use Rattle.pon_port.specs.Checks.{first_refusal, when_full}
-use Rattle.pon_port.specs.Legal.{IsEvent}
+use Rattle.pon_state.specs.State.{State}
+use Rattle.pon_state.specs.Replay.{roster_after}
+use Rattle.pon_state.specs.Loads.{replay}
+use Rattle.pon_state.specs.Checks.{first_refusal, when_full}
+use Rattle.pon_state.specs.Legal.{IsEvent}
 use Rattle.pon_port.specs.Chapters.{Chapter, IsLawfulChapter, present_state, state_before}
 use Rattle.pon_event.specs.declared.event.Event.{Event}
 use Rattle.pon_event.specs.declared.event.Event.TheVariants.{Admit, Change, Remove, Report, MakeMap, Fail, Restore}
-use Rattle.pon_port.specs.declared.reply.Entry.{Entry}
+use Rattle.pon_state.specs.declared.reply.Entry.{Entry}
 use Rattle.pon_port.proofs.Parts.{roster_of-append}
 use Rattle.pon_port.proofs.Legality.{IsLegalAfter, after_from_legal, legal_split}
 use Rattle.pon_descr.proofs.Checks.{or_else_none}

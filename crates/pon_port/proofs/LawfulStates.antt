@@ -18,16 +18,16 @@ use Rattle.pon_window.specs.Window.{LeadsTo, WindowMap, grants_at, polled, last_
 use Rattle.pon_window.specs.Reports.{refuses_report}
 use Rattle.pon_guar.specs.Reports.{later, latest, occupancies}
 use Rattle.pon_guar.specs.Loads.{less}
-use Rattle.pon_port.specs.State.{State}
-use Rattle.pon_port.specs.Replay.{admits, allocs_after, begins, forgets, makes_map, new_map, reports, roster_after, structures, window_of, with_reports}
-use Rattle.pon_port.specs.Loads.{account_after, candidates_in, counted_of, replay, since_of}
-use Rattle.pon_port.specs.Checks.{first_refusal, when_down, when_full}
-use Rattle.pon_port.specs.Legal.{MayFollow}
+use Rattle.pon_state.specs.State.{State}
+use Rattle.pon_state.specs.Replay.{admits, allocs_after, begins, forgets, makes_map, new_map, reports, roster_after, structures, window_of, with_reports}
+use Rattle.pon_state.specs.Loads.{account_after, candidates_in, counted_of, replay, since_of}
+use Rattle.pon_state.specs.Checks.{first_refusal, when_down, when_full}
+use Rattle.pon_state.specs.Legal.{MayFollow}
 use Rattle.pon_port.specs.Chapters.{AccountIsLawful, Chapter, CountedIsLawful, IsLawfulChapter, IsLawfulOpening, Owns, present_state, state_before}
 use Rattle.pon_event.specs.declared.event.Event.{Event}
 use Rattle.pon_event.specs.declared.event.Event.TheVariants.{Admit, Change, Remove, Report, MakeMap, Fail, Restore}
-use Rattle.pon_port.specs.declared.reply.Reply.{Reply}
-use Rattle.pon_port.specs.declared.reply.Entry.{Entry}
+use Rattle.pon_state.specs.declared.reply.Reply.{Reply}
+use Rattle.pon_state.specs.declared.reply.Entry.{Entry}
 use Rattle.pon_descr.specs.declared.refusal.Refusal.TheVariants.{StaleFrame}
 use Rattle.pon_lists.proofs.Lists.{any_eq-filter, filter_agree, map-map, or-false}
 use Rattle.pon_port.proofs.Windows.{filter_zero, leads-map}

@@ -2,10 +2,10 @@
 use Rattle.std.proofs.Common.{◌≡◌, ℕ, zero, suc, ◌+◌, List, [], ◌∷◌, ◌++◌, length, take, refl, sym, subst, arith, append_assoc, zero-add, slice_get}
 use Rattle.std.specs.Prelude.{Some}
 use Rattle.std.proofs.lemmas.List.{append-nil, length-append}
-use Rattle.pon_port.specs.declared.reply.Entry.{Entry}
-use Rattle.pon_port.specs.State.{State}
-use Rattle.pon_port.specs.Loads.{replay}
-use Rattle.pon_port.specs.Legal.{MayFollow}
+use Rattle.pon_state.specs.declared.reply.Entry.{Entry}
+use Rattle.pon_state.specs.State.{State}
+use Rattle.pon_state.specs.Loads.{replay}
+use Rattle.pon_state.specs.Legal.{MayFollow}
 use Rattle.pon_port.specs.Chapters.{IsLegal}
 
 -- each entry may follow those before it

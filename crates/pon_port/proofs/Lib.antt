@@ -3,7 +3,6 @@ pub mod Cutting
 pub mod FairMaps
 pub mod LastMaps
 pub mod Kept
-pub mod KeptMaps
 pub mod LawfulChapters
 pub mod LawfulStates
 pub mod Legality
@@ -14,5 +13,4 @@ pub mod Parts
 pub mod ReportSteps
 pub mod Steady
 pub mod Steps
-pub mod Undone
 pub mod Windows

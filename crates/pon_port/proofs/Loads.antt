@@ -11,12 +11,12 @@ use Rattle.pon_guar.specs.Book.{account_of, counted_of_account, since_of_account
 use Rattle.pon_window.specs.Window.{LeadsTo, WindowMap, grants_at, last_64, words_from, words_in}
 use Rattle.pon_guar.specs.Reports.{later, latest, occupancies}
 use Rattle.pon_guar.specs.Loads.{less}
-use Rattle.pon_port.specs.State.{State}
-use Rattle.pon_port.specs.Replay.{allocs_after, allocs_of, begins, with_reports}
-use Rattle.pon_port.specs.Loads.{account_after, candidates_in, counted_of, since_of}
+use Rattle.pon_state.specs.State.{State}
+use Rattle.pon_state.specs.Replay.{allocs_after, allocs_of, begins, with_reports}
+use Rattle.pon_state.specs.Loads.{account_after, candidates_in, counted_of, since_of}
 use Rattle.pon_event.specs.declared.event.Event.{Event}
 use Rattle.pon_event.specs.declared.event.Event.TheVariants.{Admit, Change, Remove, Report, MakeMap, Fail, Restore}
-use Rattle.pon_port.specs.declared.reply.Entry.{Entry}
+use Rattle.pon_state.specs.declared.reply.Entry.{Entry}
 use Rattle.pon_lists.proofs.Lists.{map-map, map_same, length-drop, append-nil, filter-append, filter-filter, filter_agree, map_filter, map-append, sum_by-map, flat_map-map}
 use Rattle.pon_port.proofs.Windows.{leads-filter, filter_high}
 

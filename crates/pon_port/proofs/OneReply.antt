@@ -1,18 +1,18 @@
 -- A state gives one reply to an event: the certificate of a map is the only one that is accepted.
 use Rattle.std.proofs.Common.{◌≡◌, [], ◌∷◌, ◌++◌, ap, sym, ◌∙◌, subst}
 use Rattle.pon_admit.specs.Roster.{IsAdmitted, rule_in_force}
-use Rattle.pon_port.specs.State.{State, input_of}
+use Rattle.pon_state.specs.State.{State, input_of}
 use Rattle.pon_share.specs.Sharing.{surplus_rate}
 use Rattle.pon_share.specs.Maps.{map_of}
-use Rattle.pon_port.specs.Legal.{IsMade, IsReply}
+use Rattle.pon_state.specs.Legal.{IsMade, IsReply}
 use Rattle.pon_port.specs.Chapters.{Chapter, IsLawfulChapter, present_state}
 use Rattle.pon_port.specs.Taking.{Takes, with_entry}
 use Rattle.pon_event.specs.declared.event.Event.{Event}
 use Rattle.pon_event.specs.declared.event.Event.TheVariants.{Admit, Change, Remove, Report, MakeMap, Fail, Restore}
-use Rattle.pon_port.specs.declared.reply.Reply.{Reply}
-use Rattle.pon_port.specs.declared.reply.Reply.TheVariants.{Taken, Map}
-use Rattle.pon_port.specs.declared.reply.MadeMap.{MadeMap}
-use Rattle.pon_port.specs.declared.reply.Entry.{Entry}
+use Rattle.pon_state.specs.declared.reply.Reply.{Reply}
+use Rattle.pon_state.specs.declared.reply.Reply.TheVariants.{Taken, Map}
+use Rattle.pon_state.specs.declared.reply.MadeMap.{MadeMap}
+use Rattle.pon_state.specs.declared.reply.Entry.{Entry}
 use Rattle.pon_share.proofs.ClassShares.{one_map_certificate}
 use Rattle.pon_port.proofs.Legality.{IsLegalAfter, after_from_legal, legal_from_after, legal_push}
 use Rattle.pon_port.proofs.LawfulChapters.{admitted_at_present}

@@ -3,8 +3,8 @@ use Rattle.std.proofs.Common.{◌≡◌, ℕ, ◌+◌, ◌≤◌, Bool, true, fa
 use Rattle.std.specs.Prelude.{if◌then◌else◌, Option}
 use Rattle.std.specs.List.{list_any}
 use Rattle.pon_admit.specs.declared.row.Row.{Row}
-use Rattle.pon_port.specs.Replay.{allocs_after, allocs_of, cause_after, cause_of, frame_at_last, makes_map, next_of, roster_after, roster_of}
-use Rattle.pon_port.specs.declared.reply.Entry.{Entry}
+use Rattle.pon_state.specs.Replay.{allocs_after, allocs_of, cause_after, cause_of, frame_at_last, makes_map, next_of, roster_after, roster_of}
+use Rattle.pon_state.specs.declared.reply.Entry.{Entry}
 use Rattle.pon_lists.proofs.Lists.{count_by-append}
 
 -- the next frame

@@ -19,14 +19,14 @@ use Rattle.pon_window.specs.Window.{IsLawfulMap, WindowMap, grants_at, polled, w
 use Rattle.pon_window.specs.Reports.{with_report}
 use Rattle.pon_guar.specs.Reports.{after_occupancies, counting, latest, occupancies, taking, with_latest}
 use Rattle.pon_guar.proofs.Accounts.{found_each}
-use Rattle.pon_port.specs.State.{State}
-use Rattle.pon_port.specs.Replay.{next_of, with_reports}
-use Rattle.pon_port.specs.Loads.{account_after, candidates_in, counted_of, replay, since_of}
+use Rattle.pon_state.specs.State.{State}
+use Rattle.pon_state.specs.Replay.{next_of, with_reports}
+use Rattle.pon_state.specs.Loads.{account_after, candidates_in, counted_of, replay, since_of}
 use Rattle.pon_port.specs.Chapters.{AccountIsLawful, Owns}
-use Rattle.pon_port.specs.After.{after_report}
+use Rattle.pon_state.specs.After.{after_report}
 use Rattle.pon_event.specs.declared.event.Event.TheVariants.{Report}
-use Rattle.pon_port.specs.declared.reply.Reply.TheVariants.{Taken}
-use Rattle.pon_port.specs.declared.reply.Entry.{Entry}
+use Rattle.pon_state.specs.declared.reply.Reply.TheVariants.{Taken}
+use Rattle.pon_state.specs.declared.reply.Entry.{Entry}
 use Rattle.pon_port.proofs.Loads.{has_id, latest-append, words_from-map, grants_at-map}
 use Rattle.pon_port.proofs.Steps.{counted_of-report, since_keeps, window_of-report}
 use Rattle.pon_port.proofs.LawfulStates.{IsLawfulState, no_occupancies, pick_grant}

@@ -15,16 +15,17 @@ use Rattle.pon_units.specs.declared.granted.Granted.{Granted}
 use Rattle.pon_window.specs.Window.{LeadsTo, WindowMap, last_64, IsLawfulMap}
 use Rattle.pon_window.specs.Reports.{refuses_report}
 use Rattle.pon_guar.specs.Reports.{latest}
-use Rattle.pon_port.specs.State.{State}
-use Rattle.pon_port.specs.Replay.{admits, all_maps, allocs_after, begins, cause_after, forgets, frame_at_last, grants_of, makes_map, maps_of, new_map, reports, roster_after, structures, window_of, with_reports}
-use Rattle.pon_port.specs.Loads.{account_after, candidates_in, counted_of, replay}
-use Rattle.pon_port.specs.Checks.{at_limit, first_refusal, when_down, when_full}
-use Rattle.pon_port.specs.Legal.{MayFollow}
-use Rattle.pon_port.specs.Chapters.{AccountsFor, IsSilent}
+use Rattle.pon_state.specs.State.{State}
+use Rattle.pon_state.specs.Replay.{admits, all_maps, allocs_after, begins, cause_after, forgets, frame_at_last, grants_of, makes_map, maps_of, new_map, reports, roster_after, structures, window_of, with_reports}
+use Rattle.pon_state.specs.Loads.{account_after, candidates_in, counted_of, replay}
+use Rattle.pon_state.specs.Checks.{at_limit, first_refusal, when_down, when_full}
+use Rattle.pon_state.specs.Legal.{MayFollow}
+use Rattle.pon_state.specs.Accounts.{AccountsFor}
+use Rattle.pon_port.specs.Chapters.{IsSilent}
 use Rattle.pon_units.specs.Granted.{AreInMapOrder, ComesBefore}
 use Rattle.pon_event.specs.declared.event.Event.{Event}
 use Rattle.pon_event.specs.declared.event.Event.TheVariants.{Admit, Change, Remove, Report, MakeMap, Fail, Restore}
-use Rattle.pon_port.specs.declared.reply.Entry.{Entry}
+use Rattle.pon_state.specs.declared.reply.Entry.{Entry}
 use Rattle.pon_lists.proofs.Lists.{any_eq-filter, append-nil, length-drop, map_filter}
 use Rattle.pon_port.proofs.Windows.{filter_low, leads-map}
 use Rattle.pon_port.proofs.Cutting.{alloc_ids-replay, window_leads}

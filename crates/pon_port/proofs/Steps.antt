@@ -11,13 +11,13 @@ use Rattle.pon_guar.specs.Book.{account_of, counted_of_account, since_of_account
 use Rattle.pon_window.specs.Window.{LeadsTo, WindowMap, polled, last_64, words_from, words_in}
 use Rattle.pon_guar.specs.Reports.{latest}
 use Rattle.pon_guar.specs.Loads.{less}
-use Rattle.pon_port.specs.State.{State}
-use Rattle.pon_port.specs.Replay.{all_maps, begins, forgets, frame_at_last, makes_map, map_made, maps_of, new_map, next_of, reports, roster_after, window_of, with_reports}
-use Rattle.pon_port.specs.Loads.{candidates_in, counted_of, replay, since_of}
+use Rattle.pon_state.specs.State.{State}
+use Rattle.pon_state.specs.Replay.{all_maps, begins, forgets, frame_at_last, makes_map, map_made, maps_of, new_map, next_of, reports, roster_after, window_of, with_reports}
+use Rattle.pon_state.specs.Loads.{candidates_in, counted_of, replay, since_of}
 use Rattle.pon_event.specs.declared.event.Event.{Event}
 use Rattle.pon_event.specs.declared.event.Event.TheVariants.{MakeMap}
-use Rattle.pon_port.specs.declared.reply.Reply.{Reply}
-use Rattle.pon_port.specs.declared.reply.Entry.{Entry}
+use Rattle.pon_state.specs.declared.reply.Reply.{Reply}
+use Rattle.pon_state.specs.declared.reply.Entry.{Entry}
 use Rattle.pon_lists.proofs.Lists.{or-false, map-map, map_same, drop-map, map_filter, map-append, append-nil, filter_same_in, length-drop, length-map}
 use Rattle.pon_port.proofs.Windows.{with_reports-append, filter_zero, filter_low, leads-map}
 use Rattle.pon_port.proofs.Cutting.{window_leads}

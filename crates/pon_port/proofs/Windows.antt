@@ -7,10 +7,10 @@ use Rattle.std.proofs.lemmas.Bool.{le-leb, lt-leb}
 use Rattle.std.proofs.lemmas.Bool.Decides.{leb_tells}
 use Rattle.pon_admit.specs.declared.row.Row.{Row}
 use Rattle.pon_window.specs.Window.{LeadsTo, WindowMap, polled, last_64}
-use Rattle.pon_port.specs.State.{State}
-use Rattle.pon_port.specs.Replay.{all_maps, forgets, frame_at_last, makes_map, map_made, maps_of, new_map, next_of, reports, roster_after, roster_of, window_of, with_reports}
-use Rattle.pon_port.specs.Loads.{replay}
-use Rattle.pon_port.specs.declared.reply.Entry.{Entry}
+use Rattle.pon_state.specs.State.{State}
+use Rattle.pon_state.specs.Replay.{all_maps, forgets, frame_at_last, makes_map, map_made, maps_of, new_map, next_of, reports, roster_after, roster_of, window_of, with_reports}
+use Rattle.pon_state.specs.Loads.{replay}
+use Rattle.pon_state.specs.declared.reply.Entry.{Entry}
 use Rattle.std.proofs.Math.Bool.{and-true}
 use Rattle.pon_window.proofs.Frames.{leads_drop}
 use Rattle.pon_lists.proofs.Lists.{or_assoc, map-map, map_same, drop-map, drop-append-le, drop-drop, length-drop, length-append, filter-append, map_filter, any_eq-filter, filter_same_in, map-append, length-map}

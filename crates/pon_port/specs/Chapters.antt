@@ -1,16 +1,15 @@
 -- Chapters of a port's history: an opening and the entries that were taken from it.
-use Rattle.std.specs.Prelude.{ℕ, ◌≡◌, ◌+◌, ◌<◌, ◌≤◌, ◌==◌, List, [], length, All, Contains, take, slice_get, Some, None, IfSome}
-use Rattle.std.specs.List.{list_any}
+use Rattle.std.specs.Prelude.{ℕ, ◌≡◌, ◌+◌, ◌<◌, ◌≤◌, List, [], length, All, Contains, take, slice_get, Some, None, IfSome}
 use Rattle.pon_admit.specs.declared.row.Row.{Row}
-use Rattle.pon_admit.specs.Roster.{IsAdmitted, rule_in_force, has_alloc}
+use Rattle.pon_admit.specs.Roster.{IsAdmitted, rule_in_force}
 use Rattle.pon_guar.specs.declared.account.Account.{Account}
-use Rattle.pon_guar.specs.Book.{AreRising, alloc_ids}
 use Rattle.pon_guar.specs.declared.account.Counted.{Counted}
 use Rattle.pon_window.specs.Window.{IsLawfulMap, LeadsTo}
-use Rattle.pon_port.specs.State.{State}
-use Rattle.pon_port.specs.Loads.{replay}
-use Rattle.pon_port.specs.Legal.{MayFollow}
-use Rattle.pon_port.specs.declared.reply.Entry.{Entry}
+use Rattle.pon_state.specs.Accounts.{AccountsFor}
+use Rattle.pon_state.specs.State.{State, just_opened}
+use Rattle.pon_state.specs.Loads.{replay}
+use Rattle.pon_state.specs.Legal.{MayFollow}
+use Rattle.pon_state.specs.declared.reply.Entry.{Entry}
 
 -- the number of a chapter, the state that it opens with, and its entries
 pub record Chapter : Type 0 where
@@ -31,10 +30,6 @@ IsLegal c = (k : ℕ) (e : Entry) → slice_get c.entries k ≡ Some e → MayFo
 
 -- Lawful openings.
 
--- the Alloc-IDs of a report book: in rising number, and those of the roster
-abbrev pub AccountsFor : List Row → List Account → Type 0
-AccountsFor rows book = AreRising (alloc_ids book) × ((i : ℕ) → list_any (λ j. j == i) (alloc_ids book) ≡ has_alloc i rows)
-
 -- an ONU owns the Alloc-ID
 abbrev pub Owns : List Row → ℕ → ℕ → Type 0
 Owns rows i u = All (λ r. r.alloc_id ≡ i → r.onu ≡ u) rows
@@ -54,10 +49,6 @@ pub record AccountIsLawful (s : State) (a : Account) : Type 0 where
 -- a failed port has no window and no reports that count
 abbrev pub IsSilent : State → Type 0
 IsSilent s = (s.window ≡ []) × All (λ a. a.counted ≡ None) s.book
-
--- a port just opened: no rows, no window, not failed, nothing taken before
-abbrev pub just_opened : ℕ → ℕ → ℕ → State
-just_opened gap profile first = record { gap = gap; profile = profile; next = first; cause = None; taken_before = 0; roster = []; book = []; window = [] }
 
 abbrev pub IsJustOpened : State → Type 0
 IsJustOpened s = (gap profile first : ℕ) × (s ≡ just_opened gap profile first)

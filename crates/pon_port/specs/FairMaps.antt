@@ -11,11 +11,11 @@ use Rattle.pon_share.specs.ClassShares.{best_effort_share, best_effort_surplus, 
 use Rattle.pon_share.specs.Maps.{map_of}
 use Rattle.pon_share.specs.Rates.{granted, guaranteed_rate}
 use Rattle.pon_share.specs.Sharing.{IsCertified, items, members, surplus_rate}
-use Rattle.pon_port.specs.State.{State, input_of}
-use Rattle.pon_port.specs.Replay.{grants_of}
-use Rattle.pon_port.specs.declared.reply.Reply.{Reply}
-use Rattle.pon_port.specs.declared.reply.Reply.TheVariants.{Taken, Map}
-use Rattle.pon_port.specs.declared.reply.MadeMap.{MadeMap}
+use Rattle.pon_state.specs.State.{State, input_of}
+use Rattle.pon_state.specs.Replay.{grants_of}
+use Rattle.pon_state.specs.declared.reply.Reply.{Reply}
+use Rattle.pon_state.specs.declared.reply.Reply.TheVariants.{Taken, Map}
+use Rattle.pon_state.specs.declared.reply.MadeMap.{MadeMap}
 
 -- the map of a state, which is the replay of all that its port took before
 pub record IsFairMap (s : State) (made : MadeMap) : Type 0 where

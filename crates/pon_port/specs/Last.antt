@@ -4,12 +4,12 @@ use Rattle.pon_descr.specs.declared.class.Class.TheVariants.{NonAssured, BestEff
 use Rattle.pon_admit.specs.declared.row.Row.{Row}
 use Rattle.pon_cert.specs.declared.cert.MapCert.{MapCert}
 use Rattle.pon_share.specs.Sharing.{member_ids}
-use Rattle.pon_port.specs.Replay.{roster_after}
+use Rattle.pon_state.specs.Replay.{roster_after}
 use Rattle.pon_port.specs.Chapters.{Chapter}
-use Rattle.pon_port.specs.declared.reply.Reply.{Reply}
-use Rattle.pon_port.specs.declared.reply.Reply.TheVariants.{Taken, Map}
-use Rattle.pon_port.specs.declared.reply.MadeMap.{MadeMap}
-use Rattle.pon_port.specs.declared.reply.Entry.{Entry}
+use Rattle.pon_state.specs.declared.reply.Reply.{Reply}
+use Rattle.pon_state.specs.declared.reply.Reply.TheVariants.{Taken, Map}
+use Rattle.pon_state.specs.declared.reply.MadeMap.{MadeMap}
+use Rattle.pon_state.specs.declared.reply.Entry.{Entry}
 
 -- a map, and the Alloc-IDs of the two classes as they were at it, in map order
 pub record LastMap : Type 0 where

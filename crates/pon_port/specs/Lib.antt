@@ -1,10 +1,4 @@
-pub mod State
-pub mod Replay
-pub mod Loads
 pub mod FairMaps
 pub mod Last
-pub mod Checks
-pub mod Legal
 pub mod Chapters
 pub mod Taking
-pub mod After

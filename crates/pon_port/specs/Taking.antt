@@ -1,13 +1,14 @@
 -- What a port's calls do to its chapter.
 use Rattle.std.specs.Prelude.{ℕ, ◌≡◌, List, [], ◌∷◌, ◌++◌, length, Option}
-use Rattle.pon_port.specs.State.{State}
+use Rattle.pon_state.specs.State.{State}
 use Rattle.pon_admit.specs.Roster.{IsAdmitted, rule_in_force}
-use Rattle.pon_port.specs.Checks.{first_refusal}
-use Rattle.pon_port.specs.Legal.{MayFollow}
-use Rattle.pon_port.specs.Chapters.{Chapter, present_state, IsLawfulChapter, AccountsFor}
+use Rattle.pon_state.specs.Checks.{first_refusal}
+use Rattle.pon_state.specs.Legal.{MayFollow}
+use Rattle.pon_state.specs.Accounts.{AccountsFor}
+use Rattle.pon_port.specs.Chapters.{Chapter, present_state, IsLawfulChapter}
 use Rattle.pon_port.specs.Last.{KeepsLast}
 use Rattle.pon_event.specs.declared.event.Event.{Event}
-use Rattle.pon_port.specs.declared.reply.Reply.{Reply}
+use Rattle.pon_state.specs.declared.reply.Reply.{Reply}
 use Rattle.pon_descr.specs.declared.refusal.Refusal.{Refusal}
 
 -- the chapter, with one entry more

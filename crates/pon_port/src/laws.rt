@@ -4,8 +4,8 @@ ghost use Rattle.std.specs.Prelude.{List, None, Some, drop, slice_get, take, ℕ
 ghost use Rattle.pon_descr.specs.Descriptor.{Descriptor, IsLawful};
 ghost use Rattle.pon_admit.specs.Roster.{IsAdmitted, IsInRange, Rule, refuses_admit, refuses_change, rule_in_force, with_descriptor, with_row, without};
 ghost use Rattle.pon_admit.specs.declared.row.Row.{Row};
-ghost use Rattle.pon_port.specs.State.{State};
-ghost use Rattle.pon_port.specs.Loads.{replay};
+ghost use Rattle.pon_state.specs.State.{State};
+ghost use Rattle.pon_state.specs.Loads.{replay};
 ghost use Rattle.pon_window.specs.Window.{LeadsTo};
 ghost use Rattle.pon_cert.specs.declared.cert.MapCert.{MapCert};
 ghost use Rattle.pon_share.specs.Input.{Input};
@@ -16,8 +16,8 @@ ghost use Rattle.pon_port.specs.Chapters.{Chapter, IsLawfulChapter, IsLawfulOpen
 ghost use Rattle.pon_port.specs.FairMaps.{TellsFairMap};
 ghost use Rattle.pon_port.specs.Taking.{Takes};
 ghost use Rattle.pon_event.specs.declared.event.Event.{Event};
-ghost use Rattle.pon_port.specs.declared.reply.Entry.{Entry};
-ghost use Rattle.pon_port.specs.declared.reply.Reply.{Reply};
+ghost use Rattle.pon_state.specs.declared.reply.Entry.{Entry};
+ghost use Rattle.pon_state.specs.declared.reply.Reply.{Reply};
 
 /// A legal history may be cut anywhere: the second part, opened with the replay of the first, leaves the same state, and
 /// is legal as the next chapter.

@@ -4,15 +4,9 @@
 //! no map rests on anything else. The crate has no clock, no device and no thread.
 #![tactic(auto)]
 
-mod advance;
-mod checks;
 pub mod laws;
-mod making;
 mod port;
-mod reply;
-mod state;
 
 pub use pon_event::Event;
+pub use pon_state::{Entry, MadeMap, PortCfg, PortState, Reply};
 pub use port::Port;
-pub use reply::{Entry, MadeMap, Reply};
-pub use state::{PortCfg, PortState};

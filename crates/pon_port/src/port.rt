@@ -1,17 +1,12 @@
 ghost use Rattle.std.specs.Prelude.{◌≡◌, IfOk};
-ghost use Rattle.pon_port.specs.Chapters.{just_opened};
-ghost use Rattle.pon_port.specs.Legal.{IsEvent};
-ghost use Rattle.pon_port.specs.Replay.{makes_map};
+ghost use Rattle.pon_state.specs.State.{just_opened};
+ghost use Rattle.pon_state.specs.Legal.{IsEvent};
+ghost use Rattle.pon_state.specs.Replay.{makes_map};
 
-use crate::advance::{add_map, step};
-use crate::checks::refusal_of;
-use crate::making::next_map;
-use crate::reply::{Entry, MadeMap, Reply};
-use crate::state::{PortCfg, PortState};
-use pon_admit::{Roster, Row};
+use pon_admit::Row;
 use pon_descr::Refusal;
 use pon_event::Event;
-use pon_guar::Loads;
+use pon_state::{Entry, MadeMap, PortCfg, PortState, Reply, add_map, next_map, refusal_of, step};
 use pon_units::{AllocId, FrameNo};
 use std::alloc::{AllocError, Global};
 use std::marker::Model;
@@ -40,20 +35,6 @@ impl Model for Port {
     ghost view = { λ p. record { number = 0; opening = p.opening; entries = p.entries.items } };
 
     ghost invariant = { λ p. IsPort (record { number = 0; opening = p.opening; entries = p.entries.items }) p.state p.last p.na.items p.be.items };
-}
-
-// The state of a port just opened.
-fn opened(alloc: Global, cfg: &PortCfg, first: FrameNo) -> Result<PortState, AllocError>
-    ensures { IfOk result (λ state. state ≡ just_opened cfg.now.gap cfg.now.profile first) }
-{
-    Ok(PortState {
-        profile: cfg.profile,
-        next: first,
-        cause: None,
-        taken_before: 0,
-        roster: Roster::open(alloc, cfg.gap)?,
-        loads: Loads::open(alloc),
-    })
 }
 
 // The numbers of an event are in range, as their types have it.
@@ -90,8 +71,8 @@ impl Port {
         ensures number { IfOk result (λ port. port.number ≡ 0) }
     {
         Ok(Port {
-            opening: opened(alloc, &cfg, first)?,
-            state: opened(alloc, &cfg, first)?,
+            opening: PortState::open(alloc, &cfg, first)?,
+            state: PortState::open(alloc, &cfg, first)?,
             entries: Vec::new(alloc),
             last: None,
             na: Vec::new(alloc),
@@ -111,7 +92,7 @@ impl Port {
     pub fn taken(&self) -> u64
         ensures { result ≡ self.now.opening.taken_before + length self.now.entries }
     {
-        self.state.taken_before
+        self.state.taken_before()
     }
 
     /// The present state: the replay of the kept entries.

@@ -1,6 +1,6 @@
 // Rates of the reference model, from the descriptors and loads of worked cases.
-use pon_guar::{cap, guaranteed};
 use pon_descr::{Class, Descriptor};
+use pon_guar::{cap, guaranteed};
 use pon_units::Kbps;
 use std::process::Abort;
 

@@ -1,7 +1,7 @@
-use pon_link::{DownFault, DownReader, DownWriter, LinkFault, PullFault, Pulled};
 use pon_bwmap::{Alloc, Map};
-use pon_units::FrameNo;
 use pon_device::MemRead;
+use pon_link::{DownFault, DownReader, DownWriter, LinkFault, PullFault, Pulled};
+use pon_units::FrameNo;
 use std::process::Abort;
 use std::test::Fail;
 

@@ -1,6 +1,6 @@
-use pon_link::{LinkFault, PullFault, Pulled, UpReader, UpRecord, encode_up};
 use pon_dbru::Occupancies;
 use pon_device::MemRead;
+use pon_link::{LinkFault, PullFault, Pulled, UpReader, UpRecord, encode_up};
 use pon_units::{BufOcc, FrameNo};
 use pon_xgtc::BurstHead;
 use std::test::Fail;

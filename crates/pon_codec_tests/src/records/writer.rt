@@ -1,8 +1,7 @@
-use pon_bwmap::Map;
+use pon_bwmap::{Alloc, Map};
+use pon_device::MemWrite;
 use pon_link::{Busy, Device, DownWriter};
 use pon_units::FrameNo;
-use pon_bwmap::Alloc;
-use pon_device::MemWrite;
 use std::test::Fail;
 
 // The record of frame 0 and a map that grants 11 words to Alloc-ID 1024.

@@ -1,10 +1,10 @@
 use Rattle.std.proofs.Common.{◌≡◌, rules, subst}
 use Rattle.pon_port.specs.Chapters.{Chapter, present_state}
 use Rattle.pon_port.specs.FairMaps.{IsFairMap}
-use Rattle.pon_port.specs.Legal.{IsMade}
+use Rattle.pon_state.specs.Legal.{IsMade}
 use Rattle.pon_port.specs.Taking.{Takes, with_entry}
 use Rattle.pon_event.specs.declared.event.Event.TheVariants.{MakeMap}
-use Rattle.pon_port.specs.declared.reply.Reply.TheVariants.{Map}
+use Rattle.pon_state.specs.declared.reply.Reply.TheVariants.{Map}
 use Rattle.pon_port.proofs.Kept.{kept_frames, map_taken, mapped}
 use Rattle.pon_port.proofs.FairMaps.{fair_map}
 use Rattle.pon_port.proofs.LastMaps.{last_made}

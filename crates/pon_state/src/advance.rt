@@ -7,10 +7,10 @@ ghost use Rattle.pon_admit.specs.Roster.{refuses_admit, refuses_change, refuses_
 ghost use Rattle.pon_guar.specs.Book.{AreRising, alloc_ids};
 ghost use Rattle.pon_window.specs.Window.{LeadsTo};
 ghost use Rattle.pon_window.specs.Reports.{refuses_report};
-ghost use Rattle.pon_port.specs.Chapters.{AccountsFor};
-ghost use Rattle.pon_port.specs.Checks.{refuses};
-ghost use Rattle.pon_port.specs.Replay.{makes_map};
-ghost use Rattle.pon_port.specs.After.{after_admit, after_change, after_cut, after_event, after_map, after_remove, after_report};
+ghost use Rattle.pon_state.specs.Accounts.{AccountsFor};
+ghost use Rattle.pon_state.specs.Checks.{refuses};
+ghost use Rattle.pon_state.specs.Replay.{makes_map};
+ghost use Rattle.pon_state.specs.After.{after_admit, after_change, after_cut, after_event, after_map, after_remove, after_report};
 
 use crate::state::PortState;
 use pon_admit::Row;
@@ -21,7 +21,7 @@ use pon_units::{AllocId, FrameNo, Granted, OnuId};
 use std::alloc::AllocError;
 
 /// Takes a map of the next frame into the state; `Err` where memory is refused, and then the state is as it was.
-pub(crate) fn add_map(state: &mut PortState, grants: &[Granted]) -> Result<(), AllocError>
+pub fn add_map(state: &mut PortState, grants: &[Granted]) -> Result<(), AllocError>
     requires map_order { AreInMapOrder grants.now }
     requires frames { LeadsTo state.old.next state.old.window }
     requires next { state.old.next + 1 < 2 ^ 64 }
@@ -119,7 +119,7 @@ fn cut(state: &mut PortState, cause: Option<Cause>)
 
 /// Takes an event that makes no map, and that no check refuses, into the state; `Err` where memory is refused, and then the
 /// state is as it was.
-pub(crate) fn step(state: &mut PortState, event: &Event) -> Result<(), AllocError>
+pub fn step(state: &mut PortState, event: &Event) -> Result<(), AllocError>
     requires plain { makes_map event.now ≡ false }
     requires accepted { refuses state.old event.now ≡ None }
     requires book { AccountsFor state.old.roster state.old.book }

@@ -1,5 +1,5 @@
 -- The state of a port.
-use Rattle.std.specs.Prelude.{ℕ, List, Option}
+use Rattle.std.specs.Prelude.{ℕ, List, [], Option, None}
 use Rattle.pon_admit.specs.declared.row.Row.{Row}
 use Rattle.pon_guar.specs.declared.account.Account.{Account}
 use Rattle.pon_window.specs.Window.{WindowMap}
@@ -18,3 +18,7 @@ pub record State : Type 0 where
 -- what the shares of the next map are made from
 abbrev pub input_of : State → Input
 input_of s = record { gap = s.gap; roster = s.roster; book = s.book }
+
+-- a port just opened: no rows, no window, not failed, nothing taken before
+abbrev pub just_opened : ℕ → ℕ → ℕ → State
+just_opened gap profile first = record { gap = gap; profile = profile; next = first; cause = None; taken_before = 0; roster = []; book = []; window = [] }

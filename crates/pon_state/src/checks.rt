@@ -1,7 +1,7 @@
 //! The checks that refuse an event, each in its place of the order.
 
 ghost use Rattle.std.specs.Prelude.{◌≡◌};
-ghost use Rattle.pon_port.specs.Checks.{first_refusal, when_down, when_full};
+ghost use Rattle.pon_state.specs.Checks.{first_refusal, when_down, when_full};
 
 use crate::state::PortState;
 use pon_admit::Row;
@@ -10,8 +10,8 @@ use pon_descr::{Cause, Descriptor, Refusal};
 use pon_event::Event;
 use pon_units::{AllocId, FrameNo, OnuId};
 
-/// The most entries that a chapter keeps.
-const MOST_ENTRIES: usize = 65_536;
+/// The most entries that a chapter of a port's history keeps.
+pub const MOST_ENTRIES: usize = 65_536;
 
 // The check of the chapter: so many entries are kept.
 fn chapter_refusal(kept: usize, taken_before: u64) -> Option<Refusal>
@@ -121,7 +121,7 @@ fn restore_refusal(state: &PortState, kept: usize) -> Option<Refusal>
 }
 
 /// The first check that refuses an event, where so many entries are kept.
-pub(crate) fn refusal_of(state: &PortState, kept: usize, event: &Event) -> Option<Refusal>
+pub fn refusal_of(state: &PortState, kept: usize, event: &Event) -> Option<Refusal>
     ensures { result ≡ first_refusal kept state.now event.now }
 {
     match event {

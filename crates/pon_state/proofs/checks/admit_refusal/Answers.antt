@@ -2,8 +2,8 @@ use Rattle.std.proofs.Common.{ap, sym, ◌∙◌, rules, ◌≡◌}
 use Rattle.std.specs.Prelude.{Some, None}
 use Rattle.pon_descr.specs.Checks.{or_else}
 use Rattle.pon_admit.specs.Roster.{refuses_admit, rule_in_force}
-use Rattle.pon_port.specs.Checks.{when_full}
-use Rattle.pon_port.proofs.checks.admit_refusal.Goals as goal
+use Rattle.pon_state.specs.Checks.{when_full}
+use Rattle.pon_state.proofs.checks.admit_refusal.Goals as goal
 
 pub returns-in-Some : goal.returns-in-Some
 returns-in-Some c =

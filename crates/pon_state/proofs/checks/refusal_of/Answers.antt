@@ -1,7 +1,7 @@
 use Rattle.std.proofs.Common.{◌∙◌, ap, sym}
-use Rattle.pon_port.specs.Checks.{first_refusal}
+use Rattle.pon_state.specs.Checks.{first_refusal}
 use Rattle.pon_event.specs.declared.event.Event.TheVariants.{Admit}
-use Rattle.pon_port.proofs.checks.refusal_of.Goals as goal
+use Rattle.pon_state.proofs.checks.refusal_of.Goals as goal
 
 pub returns-in-Admit : goal.returns-in-Admit
 returns-in-Admit c =

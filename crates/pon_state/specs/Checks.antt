@@ -3,7 +3,7 @@ use Rattle.std.specs.Prelude.{ℕ, ◌-◌, ◌^◌, ◌||◌, nat_le, length, O
 use Rattle.pon_descr.specs.Checks.{when, or_else}
 use Rattle.pon_admit.specs.Roster.{rule_in_force, refuses_admit, refuses_change, refuses_remove}
 use Rattle.pon_window.specs.Reports.{refuses_report}
-use Rattle.pon_port.specs.State.{State}
+use Rattle.pon_state.specs.State.{State}
 use Rattle.pon_event.specs.declared.event.Event.{Event}
 use Rattle.pon_event.specs.declared.event.Event.TheVariants.{Admit, Change, Remove, Report, MakeMap, Fail, Restore}
 use Rattle.pon_descr.specs.declared.refusal.Refusal.{Refusal}

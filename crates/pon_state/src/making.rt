@@ -5,8 +5,8 @@ ghost use Rattle.pon_admit.specs.Roster.{IsAdmitted, rule_in_force};
 ghost use Rattle.pon_units.specs.Granted.{AreInMapOrder};
 ghost use Rattle.pon_descr.specs.declared.class.Class.TheVariants.{NonAssured, BestEffort};
 ghost use Rattle.pon_share.specs.Sharing.{member_ids};
-ghost use Rattle.pon_port.specs.Replay.{grants_of};
-ghost use Rattle.pon_port.specs.Legal.{IsMade};
+ghost use Rattle.pon_state.specs.Replay.{grants_of};
+ghost use Rattle.pon_state.specs.Legal.{IsMade};
 
 use crate::reply::MadeMap;
 use crate::state::PortState;
@@ -16,7 +16,7 @@ use std::alloc::{AllocError, Global};
 
 /// A map that is ready: the reply, what it grants, and the Alloc-IDs of the two classes that share surplus.
 #[derive(Drop)]
-pub(crate) struct ReadyMap {
+pub struct ReadyMap {
     pub made: MadeMap,
     pub grants: Vec<Granted>,
     pub na: Vec<AllocId>,
@@ -24,7 +24,7 @@ pub(crate) struct ReadyMap {
 }
 
 /// The next map under the state's next frame, with its certificate. `Err` only if memory is refused.
-pub(crate) fn next_map(alloc: Global, state: &PortState) -> Result<ReadyMap, AllocError>
+pub fn next_map(alloc: Global, state: &PortState) -> Result<ReadyMap, AllocError>
     requires admitted { IsAdmitted rule_in_force state.now.gap state.now.roster }
     ensures made { IfOk result (λ next. IsMade state.now next.made) }
     ensures map_order { IfOk result (λ next. AreInMapOrder next.grants.items) }

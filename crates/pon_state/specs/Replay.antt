@@ -7,12 +7,12 @@ use Rattle.pon_admit.specs.Roster.{with_row, with_descriptor, without}
 use Rattle.pon_guar.specs.Book.{with_alloc, without_alloc}
 use Rattle.pon_window.specs.Window.{WindowMap, last_64, polled}
 use Rattle.pon_units.specs.declared.granted.Granted.{Granted}
-use Rattle.pon_port.specs.State.{State}
+use Rattle.pon_state.specs.State.{State}
 use Rattle.pon_event.specs.declared.event.Event.{Event}
 use Rattle.pon_event.specs.declared.event.Event.TheVariants.{Admit, Change, Remove, Report, MakeMap, Fail, Restore}
-use Rattle.pon_port.specs.declared.reply.Reply.{Reply}
-use Rattle.pon_port.specs.declared.reply.Reply.TheVariants.{Taken, Map}
-use Rattle.pon_port.specs.declared.reply.Entry.{Entry}
+use Rattle.pon_state.specs.declared.reply.Reply.{Reply}
+use Rattle.pon_state.specs.declared.reply.Reply.TheVariants.{Taken, Map}
+use Rattle.pon_state.specs.declared.reply.Entry.{Entry}
 
 -- Kinds of event.
 

@@ -1,17 +1,17 @@
 -- Which entry may follow in a history.
 use Rattle.std.specs.Prelude.{ℕ, ◌≡◌, None}
-use Rattle.pon_port.specs.State.{State, input_of}
+use Rattle.pon_state.specs.State.{State, input_of}
 use Rattle.pon_descr.specs.Descriptor.{IsLawful}
 use Rattle.pon_admit.specs.Roster.{IsInRange, rule_in_force}
 use Rattle.pon_share.specs.Sharing.{IsCertified, surplus_rate}
 use Rattle.pon_share.specs.Maps.{map_of}
-use Rattle.pon_port.specs.Checks.{first_refusal}
+use Rattle.pon_state.specs.Checks.{first_refusal}
 use Rattle.pon_event.specs.declared.event.Event.{Event}
 use Rattle.pon_event.specs.declared.event.Event.TheVariants.{Admit, Change, MakeMap}
-use Rattle.pon_port.specs.declared.reply.Reply.{Reply}
-use Rattle.pon_port.specs.declared.reply.Reply.TheVariants.{Taken, Map}
-use Rattle.pon_port.specs.declared.reply.MadeMap.{MadeMap}
-use Rattle.pon_port.specs.declared.reply.Entry.{Entry}
+use Rattle.pon_state.specs.declared.reply.Reply.{Reply}
+use Rattle.pon_state.specs.declared.reply.Reply.TheVariants.{Taken, Map}
+use Rattle.pon_state.specs.declared.reply.MadeMap.{MadeMap}
+use Rattle.pon_state.specs.declared.reply.Entry.{Entry}
 
 -- the map that a state makes, under its next frame, with the rates that its certificate spells
 pub record IsMade (s : State) (made : MadeMap) : Type 0 where

@@ -1,9 +1,10 @@
-ghost use Rattle.std.specs.Prelude.{◌≡◌};
+ghost use Rattle.std.specs.Prelude.{◌≡◌, IfOk};
 
 use pon_admit::Roster;
 use pon_descr::Cause;
 use pon_guar::Loads;
 use pon_units::{FrameNo, Gap, Profile};
+use std::alloc::{AllocError, Global};
 use std::marker::Model;
 
 /// What a port is opened with: the gap before each burst, 1 to 256 words, and the burst profile, 0 to 3.
@@ -25,7 +26,7 @@ pub struct PortState {
 }
 
 impl Model for PortState {
-    ghost use Rattle.pon_port.specs.State.{State};
+    ghost use Rattle.pon_state.specs.State.{State};
 
     ghost Value = { State };
 
@@ -42,6 +43,23 @@ impl Model for PortState {
 }
 
 impl PortState {
+    ghost use Rattle.pon_state.specs.State.{just_opened};
+
+    /// The state of a port just opened: no Alloc-ID, the line up, and `first` as its next frame. `Err` only if memory is
+    /// refused.
+    pub fn open(alloc: Global, cfg: &PortCfg, first: FrameNo) -> Result<PortState, AllocError>
+        ensures { IfOk result (λ state. state ≡ just_opened cfg.now.gap cfg.now.profile first) }
+    {
+        Ok(PortState {
+            profile: cfg.profile,
+            next: first,
+            cause: None,
+            taken_before: 0,
+            roster: Roster::open(alloc, cfg.gap)?,
+            loads: Loads::open(alloc),
+        })
+    }
+
     /// What the port was opened with.
     pub fn cfg(&self) -> PortCfg
         ensures gap { result.gap ≡ self.now.gap }

@@ -9,7 +9,7 @@ use Rattle.pon_share.specs.Input.{Input}
 use Rattle.pon_share.specs.Maps.{map_of}
 use Rattle.pon_share.specs.Rates.{granted, payload}
 use Rattle.pon_share.proofs.RosterMaps.{granted_to_row}
-use Rattle.pon_port.specs.Replay.{grants_of}
+use Rattle.pon_state.specs.Replay.{grants_of}
 
 module _ (profile : ℕ) (s : Input) (surplus : Row → Fraction) where
   -- what the structures of rows grant them

@@ -1,0 +1,2 @@
+pub mod KeptMaps
+pub mod Undone

@@ -1,0 +1,17 @@
+//! The state of one port of an XG-PON optical line terminal (upstream bandwidth assignment, ITU-T G.987.3): the checks that refuse an
+//! event, the step that an accepted event takes, and the next map.
+//!
+//! A [`PortState`] is what the history of a port leaves. The crate keeps no history.
+#![tactic(auto)]
+
+mod advance;
+mod checks;
+mod making;
+mod reply;
+mod state;
+
+pub use advance::{add_map, step};
+pub use checks::{MOST_ENTRIES, refusal_of};
+pub use making::{ReadyMap, next_map};
+pub use reply::{Entry, MadeMap, Reply};
+pub use state::{PortCfg, PortState};
