@@ -73,7 +73,7 @@ none_passes p (x ∷ xs) h = (elim (p x) as (λ b. suc (length xs) ≤ cond (not
   | false ↦ λ k. none_passes p xs (omega (arith, k))
 ]) h
 
--- no place is told where no row has the Alloc-ID
+-- there is no place if no row has the Alloc-ID
 pub has_alloc-none : (i : ℕ) (rows : List Row) → position (λ r. r.alloc_id == i) rows ≡ None → has_alloc i rows ≡ false
 has_alloc-none i rows h = elim (cases_lt (prefix_len (λ r. not (r.alloc_id == i)) rows) (length rows)) [
   | inl lt ↦ absurd (let e = ap (λ b. cond b (Some (prefix_len (λ r. not (r.alloc_id == i)) rows)) None) (sym (lt-ltb (prefix_len (λ r. not (r.alloc_id == i)) rows) (length rows) lt)) ∙ h in cc)

@@ -16,7 +16,7 @@ pub fn checks_keep_admitted_sets()
         IsAdmitted rule gap rows → IsAdmitted rule gap (without i rows) }
 {}
 
-/// What a check refuses would leave no admitted set: a step is taken exactly where the set afterwards is one.
+/// What a check refuses would leave no admitted set: a step is taken exactly when the set afterwards is one.
 pub fn refused_sets_are_not_admitted()
     ensures admit { (rule : Rule) (gap : ℕ) (rows : List Row) (r : Row) (why : Refusal) →
         IsAdmitted rule gap rows → refuses_admit rule gap rows r ≡ Some why → IsAdmitted rule gap (with_row r rows) → ⊥ }

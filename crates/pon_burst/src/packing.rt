@@ -10,7 +10,7 @@ use pon_bwmap::Alloc;
 use pon_units::{AllocId, Gap, OnuId, Profile, Words};
 
 /// Writes the structures of the map that grants each Alloc-ID its payload words, 0 to 9,720 of 4 bytes, and
-/// one word for its report, to the front of `out`; how many there are. The bursts are the ONUs' in rising
+/// one word for its report, to the front of `out`; returns the number of structures. The bursts are the ONUs' in rising
 /// number, each behind its gap of 1 to 256 words. It always succeeds and takes no memory.
 ///
 /// The caller's conditions: the ONU-IDs rise, and so do the Alloc-IDs of each ONU; no ONU is without an

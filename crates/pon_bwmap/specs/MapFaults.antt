@@ -29,7 +29,7 @@ pub record BreaksRule (bytes : List ℕ) (k : ℕ) (fault : MapFault) : Type 0 w
   pub keep : FirstKeepRules rows k
   pub breaks : row_fault rows k ≡ Some fault
 
--- this is first wrong with the so many structures that begin the bytes; memory is wanted where nothing else is wrong
+-- this is the first fault of the `n` structures that begin the bytes; out of memory comes only if nothing else is wrong
 abbrev pub IsRowsFirstFault : List ℕ → ℕ → MapFault → Type 0
 IsRowsFirstFault bytes count (StructHec k) = (k < count) × LosesStructure bytes k
 IsRowsFirstFault bytes count (SeriesStart k) = (k < count) × BreaksRule bytes k (SeriesStart k)

@@ -14,18 +14,18 @@ pub record FitsStructure (a : Structure) : Type 0 where
   pub grant : a.grant ≤ 65535
   pub profile : a.profile ≤ 3
 
--- the bytes begin with 8 that read as this structure, with so many places corrected
+-- the first 8 bytes read as this structure, with this number of places corrected
 pub record ReadsStructure (bytes : List ℕ) (a : Structure) (places : ℕ) : Type 0 where
   pub fits : FitsStructure a
   pub whole : 8 ≤ length bytes
   pub word : Reads (2 ^ 64) (from_be_bytes w64 bytes) (structure_payload a) places
 
--- the bytes begin with these structures, one after the other, with so many places corrected in all
+-- the bytes begin with these structures, one after the other, with this number of places corrected in all
 abbrev pub ReadsRows : List ℕ → List Structure → ℕ → Type 0
 ReadsRows bytes [] corrected = corrected ≡ 0
 ReadsRows bytes (a ∷ rows) corrected = (here later : ℕ) × ReadsStructure bytes a here × ReadsRows (drop 8 bytes) rows later × (corrected ≡ here + later)
 
--- the bytes begin with so many structures, which make a map
+-- the bytes begin with this number of structures, which make a map
 pub record ReadsMapRows (bytes : List ℕ) (count : ℕ) (rows : List Structure) (corrected : ℕ) : Type 0 where
   pub counted : length rows ≡ count
   pub reads : ReadsRows bytes rows corrected
@@ -41,7 +41,7 @@ pub record ReadsWholeHead (bytes : List ℕ) (head : MapHead) (corrected : ℕ) 
   pub count : head.n ≤ 512
   pub whole : map_size head ≤ length bytes
 
--- the bytes begin with this map: so many places are corrected in its headers, and so many bytes are its own
+-- the bytes begin with this map: the number of places corrected in its headers, and the number of its bytes
 pub record ReadsMap (bytes : List ℕ) (rows : List Structure) (corrected used : ℕ) : Type 0 where
   pub head : MapHead
   pub in_head : ℕ

@@ -45,7 +45,7 @@ impl Alloc {
     ghost use Rattle.std.specs.Prelude.{◌≡◌, ◌≤◌, true, false};
     ghost use Rattle.std.specs.Option.{SomeIff};
 
-    /// The structure with these fields; `None` exactly where the Alloc-ID is above 16,383 or the
+    /// The structure with these fields; `None` exactly when the Alloc-ID is above 16,383 or the
     /// profile above 3.
     pub fn new(
         id: u16,

@@ -33,7 +33,7 @@ pub fn decode_map(alloc: Global, bytes: &[u8]) -> Result<(Map, u32, usize), MapF
 }
 
 /// Why the bytes begin with no map: the first fault, as [`decode_map`] tells it, but for `Memory`, since this takes
-/// none. `None` exactly where a map does stand in the bytes.
+/// none. `None` exactly when a map does stand in the bytes.
 pub fn map_fault(bytes: &[u8]) -> Option<MapFault>
     ensures none { IsNone result → BeginsWithMap bytes.now }
     ensures fault { IfSome result (λ f. IsFirstFault bytes.now f × (f ≢ MapFault.Memory)) }
@@ -75,15 +75,15 @@ fn size(head: &HLend) -> usize
     4 + 8 * usize::from(head.n()) + 48 * usize::from(head.p())
 }
 
-// Room for so many structures; `None` where memory is refused.
+// Room for `count` structures; `None` if memory is refused.
 fn room_for(alloc: Global, count: usize) -> Option<Vec<Alloc>>
     ensures { IfSome result (λ v. v.items ≡ []) }
 {
     Vec::with_capacity(alloc, count).ok()
 }
 
-// The map of so many structures, in this room, and how many places were corrected in them. It goes through all
-// of them where there is no room too, since a fault of theirs comes first.
+// The map of these structures, in this room, and the number of places corrected in them. It reads all of them even
+// without room, since a fault of theirs comes first.
 fn read_rows(room: Option<Vec<Alloc>>, bytes: &[u8], count: usize) -> Result<(Map, u32), MapFault>
     requires room { IfSome room (λ v. v.items ≡ []) }
     requires count { count ≤ 512 }
@@ -111,7 +111,7 @@ fn read_rows(room: Option<Vec<Alloc>>, bytes: &[u8], count: usize) -> Result<(Ma
     }
 }
 
-// The rows with one more; `None` where memory was refused, now or before.
+// The rows with one more; `None` if memory was refused, now or before.
 fn push_row(rows: Option<Vec<Alloc>>, row: Alloc) -> Option<Vec<Alloc>>
     ensures { (before : List Structure) → IfSome rows (λ v. v.items ≡ before) →
         IfSome result (λ v. v.items ≡ before ++ row ∷ []) }

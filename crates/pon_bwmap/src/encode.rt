@@ -8,7 +8,7 @@ use pon_xgtc::HLend;
 use std::alloc::{AllocError, Global};
 
 /// The bytes of the map: its head with N structures and no messages, then 8 bytes a structure.
-/// `AllocError` where memory is refused; it is asked for once.
+/// `AllocError` if memory is refused; it is asked for once.
 pub fn encode_map(alloc: Global, map: &Map) -> Result<Vec<u8>, AllocError>
     ensures { IfOk result (λ bytes. bytes.items ≡ map_bytes map.now) }
 {
@@ -17,8 +17,8 @@ pub fn encode_map(alloc: Global, map: &Map) -> Result<Vec<u8>, AllocError>
     Ok(bytes)
 }
 
-/// Writes the bytes of the map, those of [`encode_map`], to the front of `room`, and tells how many they are: 4,
-/// and 8 for each structure. There is to be room for them; what stands behind them stays. It takes no memory.
+/// Writes the bytes of the map, those of [`encode_map`], to the front of `room`, and returns their number: 4,
+/// and 8 for each structure. There must be room for them; the bytes after them stay. It takes no memory.
 #[tactic(auto, unfolding(crate::specs::MapBytes::map_bytes))]
 pub fn write_map(map: &Map, room: &mut [u8]) -> usize
     requires { 4 + 8 * length map.now ≤ length room.old }

@@ -8,7 +8,7 @@ ghost use Rattle.pon_bwmap.specs.MapFaults.{IsFirstFault};
 ghost use Rattle.pon_bwmap.specs.MapRules.{IsMap, KeepsSeriesRules};
 ghost use Rattle.pon_bwmap.specs.declared.fault.MapFault.{MapFault};
 
-/// Structures make a map exactly where they keep the rules of series.
+/// Structures make a map exactly when they keep the rules of series.
 pub fn map_rules()
     ensures { (rows : List Structure) → IsMap rows ↔ KeepsSeriesRules rows }
 {}

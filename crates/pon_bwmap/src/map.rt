@@ -58,7 +58,7 @@ impl Map {
         self.rows.as_slice()
     }
 
-    /// An equal map; `AllocError` where memory is refused.
+    /// An equal map; `AllocError` if memory is refused.
     pub fn try_copy(&self, alloc: Global) -> Result<Map, AllocError>
         ensures { IfOk result (λ copy. copy ≡ self.now) }
     {

@@ -34,7 +34,7 @@ level_at bytes = do
   l ← level_of known.0 num.0 den.0
   Ok (l, den.1)
 
--- so many truth values, a byte of 0 or 1 each
+-- this number of truth values, a byte of 0 or 1 each
 unfoldable pub flags_at : ℕ → List ℕ → Result (List Bool × List ℕ) CertReadFault
 flags_at zero bytes = Ok ([], bytes)
 flags_at (suc n) bytes = do
@@ -68,7 +68,7 @@ pub record ReadsCert (bytes : List ℕ) (cert : MapCert) (used : ℕ) : Type 0 w
   pub within : used ≤ length bytes
   pub read : cert_at bytes ≡ Ok (cert, drop used bytes)
 
--- the first fault of the bytes; memory is only wanted for a certificate that does stand there
+-- the first fault of the bytes; out of memory comes only if a certificate is there
 abbrev pub IsByteFault : List ℕ → CertReadFault → Type 0
 IsByteFault bytes Short = cert_at bytes ≡ Err Short
 IsByteFault bytes Form = cert_at bytes ≡ Err Form

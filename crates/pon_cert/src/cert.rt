@@ -9,7 +9,7 @@ use std::alloc::{AllocError, Global};
 pub enum Level {
     /// Every item gets its cap.
     All,
-    /// So many kbit/s for each unit of weight. The fraction is kept as it is written, and not reduced.
+    /// The kbit/s for each unit of weight. The fraction is kept as it is written, and not reduced.
     At(Frac),
 }
 
@@ -23,7 +23,7 @@ pub struct ClassCert {
 }
 
 impl ClassCert {
-    /// An equal certificate; `AllocError` where memory is refused.
+    /// An equal certificate; `AllocError` if memory is refused.
     pub fn try_copy(&self, alloc: Global) -> Result<Self, AllocError>
         ensures { IfOk result (λ copy. copy ≡ self.now) }
     {
@@ -46,7 +46,7 @@ pub struct MapCert {
 }
 
 impl MapCert {
-    /// An equal certificate; `AllocError` where memory is refused.
+    /// An equal certificate; `AllocError` if memory is refused.
     pub fn try_copy(&self, alloc: Global) -> Result<Self, AllocError>
         ensures { IfOk result (λ copy. copy ≡ self.now) }
     {
@@ -61,8 +61,8 @@ impl MapCert {
 pub enum CertReadFault {
     /// Bytes of the certificate are absent. A text is never short.
     Short,
-    /// What stands there is in no certificate's form.
+    /// The bytes or the text have no certificate's form.
     Form,
-    /// Memory was refused for a certificate that does stand there.
+    /// Memory was refused for a certificate that is there.
     Memory,
 }

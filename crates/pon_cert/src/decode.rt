@@ -15,7 +15,7 @@ const MOST_ITEMS: u16 = 512;
 
 impl MapCert {
     /// The certificate that the bytes begin with, and how many bytes it takes. Later bytes are not looked at. An
-    /// `Err` is the first fault from the left: `Short` where a number or a truth value is not there whole, `Form` for
+    /// `Err` is the first fault from the left: `Short` if a number or a truth value is not there whole, `Form` for
     /// a kind of level above 1, numbers at a level that is all, a denominator of 0, more than 512 items, or a truth
     /// value other than 0 and 1. `Memory` comes last, where a certificate does stand in the bytes.
     pub fn from_bytes(alloc: Global, bytes: &[u8]) -> Result<(MapCert, usize), CertReadFault>
@@ -128,7 +128,7 @@ fn fraction(num: u64, den: u64) -> Result<Level, CertReadFault>
     Ok(Level::At(Frac::new(num, den)))
 }
 
-// So many bytes that are each 0 or 1, and the bytes after them.
+// The next `count` bytes, each 0 or 1, and the bytes after them.
 fn read_flags(bytes: &[u8], count: usize) -> Result<(&[u8], &[u8]), CertReadFault>
     ensures value { MatchResult result
         (λ r. flags_at count bytes.now ≡ Ok (map (λ b. b == 1) r.0.now, r.1.now))

@@ -8,7 +8,7 @@ use std::alloc::{AllocError, Global};
 
 impl MapCert {
     /// The bytes of the certificate: its non-assured class, then its best-effort class. A class has 19 bytes and one
-    /// for each item. There are to be at most 512 items in each. `AllocError` where memory is refused.
+    /// for each item. There are to be at most 512 items in each. `AllocError` if memory is refused.
     pub fn to_bytes(&self, alloc: Global) -> Result<Vec<u8>, AllocError>
         requires non_assured { length self.now.na.saturated ≤ 512 }
         requires best_effort { length self.now.be.saturated ≤ 512 }

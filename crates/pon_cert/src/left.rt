@@ -6,7 +6,6 @@ ghost use Rattle.pon_cert.specs.Certificate.{left_surplus};
 use crate::cert::Level;
 use crate::problem::Item;
 
-
 // The caps of the items, added up.
 fn caps_sum(items: &[Item]) -> u64
     requires few { length items.now ≤ 512 }

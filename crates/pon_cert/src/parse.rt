@@ -16,7 +16,7 @@ use std::alloc::Global;
 
 impl MapCert {
     /// The certificate whose text this is, the inverse of `to_text`, where the classes have these Alloc-IDs, in map
-    /// order. The Alloc-IDs of a class are to be different from one another, and at most 512. `Form` where no certificate
+    /// order. The Alloc-IDs of a class are to be different from one another, and at most 512. `Form` if no certificate
     /// has the text. `Memory` comes last, where one has it. A text is never `Short`.
     pub fn from_text(
         alloc: Global,
@@ -54,7 +54,7 @@ struct Words<'a> {
     be_set: &'a str,
 }
 
-// What stands before and after the first such character; `None` where there is none.
+// The text before and after the first such character; `None` if there is none.
 fn cut(text: &str, at: char) -> Option<(&str, &str)>
     requires { at < 128 }
     ensures { MatchOption result
@@ -64,7 +64,7 @@ fn cut(text: &str, at: char) -> Option<(&str, &str)>
     text.split_once(at)
 }
 
-// Whether a word may be a number: it begins with a digit, which is 0 only where it is the whole word.
+// Whether a word may be a number: it begins with a digit, which is 0 only if it is the whole word.
 fn is_plain(word: &str) -> bool
     ensures { IsTrue result ↔ ((0 < length word.now) × (slice_index word.now 0 ≢ 43) × (slice_index word.now 0 ≡ 48 → length word.now ≡ 1)) }
 {
@@ -156,7 +156,7 @@ impl<'a> Names<'a> {
     }
 }
 
-// The flags with one more; `None` where memory was refused, now or before.
+// The flags with one more; `None` if memory was refused, now or before.
 fn push_flag(flags: Option<Vec<bool>>, flag: bool) -> Option<Vec<bool>>
     ensures { (before : List Bool) → IfSome flags (λ v. v.items ≡ before) →
         IfSome result (λ v. v.items ≡ before ++ flag ∷ []) }
@@ -168,7 +168,7 @@ fn push_flag(flags: Option<Vec<bool>>, flag: bool) -> Option<Vec<bool>>
     }
 }
 
-// The flags that the names of a set give the items, one flag each; the outer `None` where the word is no set of these
+// The flags that the names of a set give the items, one flag each; the outer `None` if the word is no set of these
 // items, the inner one where memory was refused.
 fn flags_of(alloc: Global, names: &[AllocId], set: &str) -> Option<Option<Vec<bool>>>
     ensures small { AllByRecursion (λ n. n < 2 ^ 64) names.now }

@@ -9,7 +9,7 @@ use std::alloc::{AllocError, Global};
 impl MapCert {
     /// The text of the certificate, `na <level> <set> be <level> <set>`, where the classes have these Alloc-IDs, in map
     /// order. A level is `all` or a fraction as it is written, a set the saturated Alloc-IDs, joined by commas, or `-`.
-    /// There are to be as many Alloc-IDs as items, at most 512 in each class. `AllocError` where memory is refused.
+    /// There are to be as many Alloc-IDs as items, at most 512 in each class. `AllocError` if memory is refused.
     pub fn to_text(
         &self,
         alloc: Global,
@@ -69,7 +69,7 @@ fn set_text(alloc: Global, names: &[AllocId], saturated: &[bool]) -> Result<Stri
     Ok(text)
 }
 
-// Appends a name, behind a comma where others stand there.
+// Appends a name, after a comma if it is not the first.
 fn add_name(alloc: Global, text: &mut String, name: AllocId) -> Result<(), AllocError>
     ensures first { IsOk result → string_bytes text.old ≡ [] → string_bytes text.new ≡ decimal name }
     ensures later { IsOk result → 0 < length (string_bytes text.old) → string_bytes text.new ≡ string_bytes text.old ++ 44 ∷ decimal name }

@@ -33,7 +33,7 @@ impl Sat {
         self.flags.as_slice()
     }
 
-    /// Equal truth values; `AllocError` where memory is refused.
+    /// Equal truth values; `AllocError` if memory is refused.
     pub fn try_copy(&self, alloc: Global) -> Result<Self, AllocError>
         ensures { IfOk result (λ copy. copy ≡ self.now) }
     {

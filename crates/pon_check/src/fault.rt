@@ -1,6 +1,6 @@
 use std::fmt;
 
-/// Why a class's certificate is refused. Of several faults the first is told: counts, denominator, items in order, sum.
+/// Why a class's certificate is refused. Of several faults it is the first: counts, denominator, items in order, sum.
 #[derive(Clone, Copy, Debug, PartialEq, Eq)]
 pub enum CertFault {
     /// There are not as many truth values as items.

@@ -9,8 +9,8 @@ ghost use Rattle.pon_check_file.specs.CheckFiles.{Checked, IsAnswer, ReadsToEnd,
 
 use crate::parse::{CheckFile, Parsed, parse};
 use pon_check::{CertFault, check_class};
-use pon_stream::{PlanFault, read_all, write_text};
 use pon_device::{DevRead, DevWrite};
+use pon_stream::{PlanFault, read_all, write_text};
 use std::alloc::{AllocError, Global};
 
 #[cfg(test)]

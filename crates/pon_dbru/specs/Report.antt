@@ -7,7 +7,7 @@ use Rattle.pon_units.specs.Polynomial.{IsMultiple}
 abbrev pub generator : ℕ
 generator = 0b1_0000_0111
 
--- The four bytes report so many words: the check byte is what is left, by the generator, of the first
+-- The four bytes report this number of words: the check byte is what is left, by the generator, of the first
 -- three times x^8, so that all four are a multiple of it.
 pub record Reports (bytes : List ℕ) (words : ℕ) : Type 0 where
   pub fits : words < 2 ^ 24

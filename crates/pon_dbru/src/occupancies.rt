@@ -31,7 +31,7 @@ impl Occupancies {
         }
     }
 
-    /// Appends what the next report says, or `None` where it is garbled. There is room for 16.
+    /// Appends what the next report says, or `None` if it is garbled. There is room for 16.
     pub fn push(&mut self, report: Option<BufOcc>)
         requires { length self.old < 16 }
         ensures { self.new ≡ self.old ++ report ∷ [] }

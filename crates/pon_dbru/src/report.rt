@@ -26,7 +26,7 @@ fn check_byte(words: u32) -> u8
     rest as u8
 }
 
-// The four bytes that report so many words.
+// The four bytes that report `words`.
 fn report_of(words: u32) -> [u8; 4]
     requires { words < 2 ^ 24 }
     ensures { Reports result words }
@@ -34,7 +34,7 @@ fn report_of(words: u32) -> [u8; 4]
     (words << 8 | u32::from(check_byte(words))).to_be_bytes()
 }
 
-// The occupancy of so many words.
+// The occupancy of `words`.
 fn occupancy_of(words: u32) -> BufOcc
     requires { words < 2 ^ 24 }
     ensures { result ≡ words }
@@ -53,7 +53,7 @@ pub fn encode(occupancy: BufOcc) -> [u8; 4]
     report_of(occupancy.get())
 }
 
-/// The occupancy that four bytes report; 0xFFFFFF is an ordinary value. `Garbled` exactly where they report none.
+/// The occupancy that four bytes report; 0xFFFFFF is an ordinary value. `Garbled` exactly when they report none.
 pub fn decode(bytes: [u8; 4]) -> Result<BufOcc, Garbled>
     ensures ok { IfOk result (λ occupancy. Reports bytes occupancy) }
     ensures garbled { IsErr result ↔ ((words : ℕ) → Reports bytes words → ⊥) }

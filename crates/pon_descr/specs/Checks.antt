@@ -1,4 +1,4 @@
--- Checks in order: the first that refuses is told.
+-- Checks in order: the refusal is that of the first that refuses.
 use Rattle.std.specs.Prelude.{◌≡◌, Bool, true, false, List, [], ◌∷◌, Option, Some, None}
 use Rattle.pon_descr.specs.declared.refusal.Refusal.{Refusal}
 use Rattle.pon_descr.specs.declared.refusal.Refusal.TheVariants.{OutOfMemory}
@@ -17,7 +17,7 @@ abbrev pub first_of : List (Option Refusal) → Option Refusal
 first_of [] = None
 first_of (r ∷ rs) = or_else r (first_of rs)
 
--- the check that refuses is told, and want of memory only where none does
+-- the refusal of the check that refuses, and out of memory only if none does
 abbrev pub IsTold : Option Refusal → Refusal → Type 0
 IsTold None told = told ≡ OutOfMemory
 IsTold (Some refusal) told = told ≡ refusal

@@ -70,7 +70,7 @@ fn class_at(table: &Table) -> Option<Class>
 /// The descriptor that a table spells with its keys `fixed`, `assured`, `max` (whole numbers, kbit/s) and `class`
 /// (`none`, `na` or `be`). No other key is looked at.
 ///
-/// `Field` where one of the four is not there as it should be, then what [`Descriptor::new`] refuses.
+/// `Field` if one of the four is not there as it should be, then what [`Descriptor::new`] refuses.
 pub fn from_toml(table: &Table) -> Result<Descriptor, DescrFault>
     ensures ok { IfOk result (λ d. spelled (table_view table.now) ≡ Some d) }
     ensures fault { IfErr result (IsDescrFault (spelled (table_view table.now))) }

@@ -1,7 +1,7 @@
 //! Devices that bytes are read from and written to, as the code above sees them.
 //!
 //! Each device counts its failures, and a reader its reads too, so that a contract can say that a fault was
-//! answered only where the device failed. A device over memory also tells its bytes, and only [`MemWrite`] takes memory.
+//! answered only if the device failed. A device over memory also tells its bytes, and only [`MemWrite`] takes memory.
 #![tactic(auto)]
 
 mod memory;

@@ -1,4 +1,4 @@
-// A reader and a writer over memory, which tell their bytes and fail where they are told to.
+// A reader and a writer over memory, whose contracts say their bytes; the calls that fail are chosen when they are made.
 ghost use Rattle.std.specs.Prelude.{◌≡◌, ◌<◌, ◌≤◌, ◌↔◌, ℕ, Some, [], length, min, IfOk, IsErr, Contains};
 ghost use Rattle.pon_device.specs.Device.{CountsCall, CountsFailure, ReadConsumes, WriteAppends, Keeps};
 
@@ -148,7 +148,7 @@ impl DevWrite for MemWrite {
 
     ghost contents = { λ s. Some s.taken };
 
-    /// Fails in the calls that it was told to fail in, and where memory is refused. In every other call it
+    /// Fails in the calls that it was told to fail in, and if memory is refused. In every other call it
     /// takes as many bytes as are there and are allowed in a call.
     fn write(&mut self, buf: &[u8]) -> Result<usize, Failed>
         ensures count { IfOk result (λ n. n ≤ length buf.now) }

@@ -25,9 +25,9 @@ pub trait DevRead {
     /// The bytes that are left, where the device tells them.
     ghost remaining: { Self → Option (List ℕ) };
 
-    /// Gives bytes into the front of `buf`, and tells how many: none only at the end, or with no room.
+    /// Puts bytes into the front of `buf`, and returns their number: 0 only at the end, or with no room.
     ///
-    /// `Failed` where the device failed in this call, which then gave nothing.
+    /// `Failed` if the device failed in this call, which then gave nothing.
     fn read(&mut self, buf: &mut [u8]) -> Result<usize, Failed>
         ensures count { IfOk result (λ n. n ≤ length buf.old) }
         ensures calls { CountsCall (calls self.old) (calls self.new) }
@@ -43,9 +43,9 @@ pub trait DevWrite {
     /// The bytes that were taken, where the device tells them.
     ghost contents: { Self → Option (List ℕ) };
 
-    /// Takes bytes from the front of `buf`, and tells how many.
+    /// Takes bytes from the front of `buf`, and returns their number.
     ///
-    /// `Failed` where the device failed in this call, which then took nothing. To take nothing of a piece
+    /// `Failed` if the device failed in this call, which then took nothing. To take nothing of a piece
     /// that is not empty is a failure.
     fn write(&mut self, buf: &[u8]) -> Result<usize, Failed>
         ensures count { IfOk result (λ n. n ≤ length buf.now) }
@@ -55,7 +55,7 @@ pub trait DevWrite {
 
     /// Sends on what was taken.
     ///
-    /// `Failed` where the device failed in this call.
+    /// `Failed` if the device failed in this call.
     fn flush(&mut self) -> Result<(), Failed>
         ensures failures { CountsFailure (failures self.old) (failures self.new) result }
         ensures bytes { Keeps (contents self.old) (contents self.new) };

@@ -2,7 +2,7 @@
 use Rattle.std.specs.Prelude.{◌≡◌, ◌≢◌, ℕ, ◌*◌, ◌<◌, ◌≤◌, List, length, slice_index, slice_index_or}
 use Rattle.pon_cert.specs.declared.problem.Item.{Item}
 
--- each item's number stands there once, by cap divided by weight
+-- each item's number once, by cap divided by weight
 pub record IsOrder (items : List Item) (numbers : List ℕ) : Type 0 where
   pub long : length numbers ≡ length items
   pub below : (k : ℕ) → k < length numbers → slice_index numbers k < length items

@@ -23,7 +23,7 @@ with_account a book = with_inserted (λ b. nat_lt b.alloc_id a.alloc_id) a book
 abbrev pub without_account : ℕ → List Account → List Account
 without_account i book = without_key (λ a. a.alloc_id) i book
 
--- a report and an account with so many words less, and an account after grants
+-- a report and an account with `w` words less, and an account after grants
 abbrev pub less : ℕ → Counted → Counted
 less w c = record { frame = c.frame; words = c.words - w }
 

@@ -30,7 +30,7 @@ taking c a = if nat_le a.since c.frame then with_latest c a else a
 abbrev pub counting : ℕ → Counted → List Account → List Account
 counting i c book = map (λ a. if a.alloc_id == i then taking c a else a) book
 
--- accounts after the occupancies of some grants, in order; so many words were granted to each Alloc-ID from the frame on
+-- accounts after the occupancies of some grants, in order; `granted` are the words granted to each Alloc-ID from the frame on
 abbrev pub after_occupancies : (ℕ → ℕ) → ℕ → List Granted → List (Option ℕ) → List Account → List Account
 after_occupancies granted frame (g ∷ gs) (Some n ∷ ns) book =
     after_occupancies granted frame gs ns (counting g.alloc_id (record { frame = frame; words = n - granted g.alloc_id }) book)

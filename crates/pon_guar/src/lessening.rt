@@ -7,7 +7,7 @@ ghost use Rattle.pon_guar.specs.Loads.{lessened, less_by};
 use crate::account::{Account, Counted, index_near};
 use pon_units::{BufOcc, Granted, Words};
 
-/// So many words less, 0 at the least.
+/// The reported words less the granted ones, 0 at the least.
 pub(crate) fn words_left(reported: BufOcc, granted: u32) -> BufOcc
     ensures { result ≡ reported - granted }
 {

@@ -100,7 +100,7 @@ impl Loads {
         }
     }
 
-    /// The frame from which reports of an Alloc-ID count; `None` where it is not there.
+    /// The frame from which reports of an Alloc-ID count; `None` if it is not there.
     pub fn since(&self, alloc_id: AllocId) -> Option<FrameNo>
         ensures { result ≡ known_since (account_of self.now.accounts alloc_id) }
     {
@@ -110,7 +110,7 @@ impl Loads {
         }
     }
 
-    /// The report of an Alloc-ID that counts; `None` where none does, or the Alloc-ID is not there.
+    /// The report of an Alloc-ID that counts; `None` if none does, or the Alloc-ID is not there.
     pub fn counted(&self, alloc_id: AllocId) -> Option<Counted>
         ensures { result ≡ known_report (account_of self.now.accounts alloc_id) }
     {
@@ -135,7 +135,7 @@ impl Loads {
         self.window.maps().get(index)
     }
 
-    /// An account for an Alloc-ID that has none: its reports count from a frame on. `OutOfMemory` where a growth is
+    /// An account for an Alloc-ID that has none: its reports count from a frame on. `OutOfMemory` if a growth is
     /// refused, and then nothing changes.
     pub fn admitted(&mut self, alloc_id: AllocId, since: FrameNo) -> Result<(), Refusal>
         requires { list_any (λ j. j == alloc_id) (alloc_ids self.old.accounts) ≡ false }
@@ -165,7 +165,7 @@ impl Loads {
 
     /// Takes a map of a frame into the window, and lets the oldest of more than 64 go; each report that counts is lessened by
     /// what the map grants its Alloc-ID. The grants are in map order, and the frame is that of the last map plus 1, or
-    /// any where the window is empty. `OutOfMemory` where a growth is refused, and then nothing changes.
+    /// any where the window is empty. `OutOfMemory` if a growth is refused, and then nothing changes.
     pub fn mapped(&mut self, frame: FrameNo, grants: &[Granted]) -> Result<(), Refusal>
         requires next { LeadsTo frame self.old.window }
         requires map_order { AreInMapOrder grants.now }
@@ -180,9 +180,9 @@ impl Loads {
         Ok(())
     }
 
-    /// The first check that refuses an ONU's report of so many occupancies for the map of a frame: `StaleFrame` where no map of
-    /// the window is of the frame, `NotPolled` where that map grants the ONU nothing, `ReportCount` where it has another
-    /// number of structures for it, `AlreadyReported` where a report for it was taken.
+    /// The first check that refuses an ONU's report of `count` occupancies for the map of a frame: `StaleFrame` if no map of
+    /// the window is of the frame, `NotPolled` if that map grants the ONU nothing, `ReportCount` if it has another
+    /// number of structures for it, `AlreadyReported` if a report for it was taken.
     pub fn report_refusal(&self, frame: FrameNo, onu: OnuId, count: usize) -> Option<Refusal>
         ensures { result ≡ refuses_report self.now.window frame onu count }
     {
@@ -190,9 +190,9 @@ impl Loads {
     }
 
     /// Takes an ONU's report for the map of a frame: one occupancy for each of its structures there, in order, in words of 4
-    /// bytes, `None` where it is garbled. An occupancy counts for its Alloc-ID from its since-frame on, where no report
-    /// of a later frame does, less what was granted from the report's frame on. The first check that refuses is told, then
-    /// `OutOfMemory` where a growth is refused; and then nothing changes.
+    /// bytes, `None` if it is garbled. An occupancy counts for its Alloc-ID from its since-frame on, where no report
+    /// of a later frame does, less what was granted from the report's frame on. The error is the first check that refuses, then
+    /// `OutOfMemory` if a growth is refused; and then nothing changes.
     pub fn reported(
         &mut self,
         frame: FrameNo,

@@ -8,7 +8,7 @@ use crate::places::PLACES;
 use crate::seal::check_bits;
 
 /// The payload of a header word of 4 bytes, below 2^19, and how many wrong places were corrected, at
-/// most two. `HecFault` exactly where the word is more than two places away from every codeword.
+/// most two. `HecFault` exactly when the word is more than two places away from every codeword.
 pub fn open32(word: u32) -> Result<(u32, u8), HecFault>
     ensures ok { IfOk result (λ p. Reads (2 ^ 32) word p.0 p.1) }
     ensures only { IfOk result (λ p. (payload places : ℕ) → Reads (2 ^ 32) word payload places →
@@ -23,7 +23,7 @@ pub fn open32(word: u32) -> Result<(u32, u8), HecFault>
 }
 
 /// The payload of a header word of 8 bytes, below 2^51, and how many wrong places were corrected, at
-/// most two. `HecFault` exactly where the word is more than two places away from every codeword.
+/// most two. `HecFault` exactly when the word is more than two places away from every codeword.
 pub fn open64(word: u64) -> Result<(u64, u8), HecFault>
     ensures ok { IfOk result (λ p. Reads (2 ^ 64) word p.0 p.1) }
     ensures only { IfOk result (λ p. (payload places : ℕ) → Reads (2 ^ 64) word payload places →

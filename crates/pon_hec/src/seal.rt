@@ -24,7 +24,7 @@ pub fn seal32(payload: u32) -> u32
     seal(u64::from(payload), 3) as u32
 }
 
-// The codeword of a payload of so many bytes.
+// The codeword of a payload of `bytes` bytes.
 fn seal(payload: u64, bytes: u32) -> u64
     requires payload { payload < 2 ^ 51 }
     requires bytes { payload < 2 ^ (8 * bytes) }
@@ -35,7 +35,7 @@ fn seal(payload: u64, bytes: u32) -> u64
     (body << 1) | u64::from(body.count_ones() & 1)
 }
 
-// The 12 check bits of a payload of so many bytes, by the highest byte first.
+// The 12 check bits of a payload of `bytes` bytes, by the highest byte first.
 pub(crate) fn check_bits(payload: u64, bytes: u32) -> u16
     requires payload { payload < 2 ^ 51 }
     requires bytes { payload < 2 ^ (8 * bytes) }

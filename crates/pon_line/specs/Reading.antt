@@ -12,7 +12,7 @@ use Rattle.pon_line.specs.declared.fault.LineFault.TheVariants.{NoSuchPort, Line
 use Rattle.pon_line.specs.declared.reading.Reading.{Reading}
 use Rattle.pon_line.specs.declared.reading.Reading.TheVariants.{Nothing, Refused, Asks, AsksCert}
 
--- the port that a word names, one of so many
+-- the port that a word names, below the number of ports
 unfoldable pub port_of : ℕ → List ℕ → Result ℕ LineFault
 port_of ports w = number_field w >>= λ n. if nat_lt n ports then Ok n else Err NoSuchPort
 
@@ -38,7 +38,7 @@ is_comment [] = true
 is_comment ([] ∷ ws) = false
 is_comment ((b ∷ w) ∷ ws) = b == 35
 
--- What a line asks of so many ports, by its checks in order. The line has its carriage return, and no line feed.
+-- What a line asks of this number of ports, by its checks in order. The line has its carriage return, and no line feed.
 unfoldable pub read_line : ℕ → List ℕ → Reading
 read_line ports line =
     if nat_lt 4096 (length line) then Refused LineLong else

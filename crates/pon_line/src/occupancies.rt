@@ -11,7 +11,7 @@ use pon_dbru::Occupancies;
 use pon_text::first_word;
 use pon_units::BufOcc;
 
-// The occupancy of so many words, 0 to 16,777,215.
+// The occupancy of a number of words, 0 to 16,777,215.
 fn occupancy_of(number: u64) -> Option<BufOcc>
     ensures { SomeIff result (number ≤ 16777215) number }
 {

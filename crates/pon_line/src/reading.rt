@@ -29,7 +29,7 @@ pub enum Reading {
     AsksCert { port: usize },
 }
 
-// The port that a word names, one of so many.
+// The port that a word names, below the number of ports.
 #[tactic(auto, unfolding(crate::specs::Reading::port_of))]
 fn port_of(ports: usize, word: &[u8]) -> Result<usize, LineFault>
     ensures { result ≡ port_of ports word.now }
@@ -49,19 +49,19 @@ fn is_text(line: &[u8]) -> bool
         .all(|byte| *byte == b'\t' || (*byte >= 0x20 && *byte <= 0x7e))
 }
 
-/// What a line asks of so many ports. The line comes without its line feed; a carriage return at its end is dropped.
+/// What a line asks of a number of ports. The line comes without its line feed; a carriage return at its end is dropped.
 ///
 /// `<port> admit <onu> <alloc> <fixed> <assured> <max> <class>` admits an Alloc-ID, `<port> change <alloc> <fixed>
 /// <assured> <max> <class>` gives it another descriptor, `<port> remove <alloc>` takes it out, `<port> report <frame>
-/// <onu> <occ> ..` tells what waits at an ONU's structures in the map of a frame, `<port> map` makes the next map,
+/// <onu> <occ> ..` reports what waits at an ONU's structures in the map of a frame, `<port> map` makes the next map,
 /// `<port> cert` asks for the certificate of the last map, `<port> fail <cause>` says that the line has failed and `<port> restore` that it is back. Words are parted by spaces
 /// and tabs; a number is 1 to 20 decimal digits with a value below 2^64; rates are in kbit/s; a class is `none`, `na` or
 /// `be`; an occupancy is 0 to 16,777,215 words of 4 bytes, or `x` where it is garbled, 1 to 16 of them; a cause is 1 to 9.
 ///
 /// Refused, in this order: `LineLong` above 4,096 bytes, the carriage return counted; `NotText` for a byte that is no
-/// text, unless the line is blank or a comment, which begins with `#`; `BadField` where the first word is no number and
-/// `NoSuchPort` where no port has it; `WordCount` without a second word and `UnknownCommand` where it is no command;
-/// `WordCount` where the command takes more or fewer words; `BadField` at the first word that is no number, no class, no
+/// text, unless the line is blank or a comment, which begins with `#`; `BadField` if the first word is no number and
+/// `NoSuchPort` if no port has it; `WordCount` without a second word and `UnknownCommand` if it is no command;
+/// `WordCount` if the command takes more or fewer words; `BadField` at the first word that is no number, no class, no
 /// occupancy or no cause;
 /// `AllocRange` outside 1024 to 16383, `OnuRange` above 1022, and what [`Descriptor::new`] refuses.
 #[tactic(auto, unfolding(crate::specs::Reading::read_line))]

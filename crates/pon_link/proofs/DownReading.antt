@@ -24,7 +24,7 @@ down_size bytes r h = (
 all_bytes : (bytes : List ℕ) → AreBytes bytes → All (λ b. b < 256) (drop 9 bytes)
 all_bytes bytes small = All-from_bytes (drop 9 bytes) (bytes-drop 9 bytes small)
 
--- a record's bytes are that record alone, whatever stands behind them
+-- a record's bytes are that record alone, whatever follows them
 pub one_down_record : (bytes rest : List ℕ) (r s : DownRecord) → AreBytes (bytes ++ rest) → IsDownRecord bytes r → IsDownRecord bytes s → r ≡ s
 one_down_record bytes rest r s small h k =
     let same = one_map (drop 9 bytes) r.map s.map h.corrected k.corrected (4 + 8 * length r.map) (4 + 8 * length s.map) (all_bytes bytes (bytes-front bytes rest small)) h.map k.map in

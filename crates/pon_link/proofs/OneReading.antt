@@ -61,7 +61,7 @@ head_byte bytes rest i small long lt =
     let whole : get_or (bytes ++ rest) (9 + i) 0 ≡ get_or bytes (9 + i) 0 = get_or_append_left bytes rest 0 (9 + i) (omega (arith, long, lt)) in
     omega (arith, place, whole, small (9 + i))
 
--- a record's bytes are that record alone, whatever stands behind them
+-- a record's bytes are that record alone, whatever follows them
 pub one_record : (bytes rest : List ℕ) (r s : UpRecord) → AreBytes (bytes ++ rest) → IsRecord bytes r → IsRecord bytes s → r ≡ s
 one_record bytes rest r s small h k =
     let long : 14 ≤ length bytes = omega (arith, h.size) in

@@ -25,7 +25,7 @@ pub one_size : (d : Direction) (bytes : List ℕ) (n m : ℕ) → AreBytes bytes
 one_size Up bytes n m small a b = a.2 ∙ sym b.2
 one_size Down bytes n m small a b = one_map_size (drop 9 bytes) n m (bytes-drop 9 bytes small) a b
 
--- bytes behind those that tell a size change nothing
+-- bytes after those that give a size change nothing
 word_kept : (b more : List ℕ) → 4 ≤ length b → from_be_bytes w32 (b ++ more) ≡ from_be_bytes w32 b
 word_kept b more long =
     let e0 : get_or (b ++ more) 0 0 ≡ get_or b 0 0 = get_or_append_left b more 0 0 (omega (arith, long)) in
@@ -116,7 +116,7 @@ begun_limit d bytes b = elim (cases_lt (length bytes) (telling d)) [
   | inr ge ↦ let more = b.more ge in omega (arith, more.2, size_limit d bytes more.0 more.1)
 ]
 
--- the form is kept where bytes are added behind those that tell the size
+-- the form is kept if bytes are added after those that give the size
 form_kept : (d : Direction) (bytes more : List ℕ) → telling d ≤ length bytes → KeepsForm d bytes → KeepsForm d (bytes ++ more)
 form_kept d bytes more long form =
     let some : 0 < length bytes = omega (arith, long, some_told d) in
@@ -169,7 +169,7 @@ told_enough d bytes n small ge a w = elim (cases_lt (telling d) (length bytes)) 
   | inr le ↦ omega (arith, ge, le, told_least d bytes n a)
 ]
 
--- where a size is told, it is found
+-- a size that the bytes give is found
 pub some_size : (r : Option ℕ) (d : Direction) (bytes : List ℕ) (n : ℕ) → Announces d bytes n → MatchOption r (HasBadSize d bytes) (Announces d bytes) → IsSome r
 some_size None d bytes n a m = absurd (no_size d bytes n m a)
 some_size (Some k) d bytes n a m = refl
@@ -186,7 +186,7 @@ down_told d bytes r down m =
     subst (λ (e : Direction). MatchOption r (HasBadSize e bytes) (Announces e bytes)) (sym down)
     (subst (λ (t : List ℕ). MatchOption r ((n : ℕ) → AnnouncesMap t n → ⊥) (AnnouncesMap t)) rest m)
 
--- a head that announces too much tells no size
+-- a head that announces too much gives no size
 pub big_head : (map : List ℕ) (h : MapHead) (k n : ℕ) → AreBytes map → ReadsMapHead map h k → (512 < h.n) ⊎ (0 < h.p) → AnnouncesMap map n → ⊥
 big_head map h k n small r big a =
     let same = one_head map h a.0 k a.1 small r a.2 in

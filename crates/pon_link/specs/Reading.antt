@@ -41,17 +41,17 @@ abbrev pub longest : Direction → ℕ
 longest Up = 78
 longest Down = 4109
 
--- These bytes of a map tell that a record has so many bytes in all: 512 structures at most, and no message.
+-- These bytes of a map give the number of bytes of its record: 512 structures at most, and no message.
 abbrev pub AnnouncesMap : List ℕ → ℕ → Type 0
 AnnouncesMap map n = (head : MapHead) × (corrected : ℕ) × ReadsMapHead map head corrected × (head.n ≤ 512) × (head.p ≡ 0) × (n ≡ 13 + 8 * head.n)
 
--- Those bytes tell that the record has so many in all: its count byte says 1 to 16, or its map's head announces
+-- Those bytes give the number of bytes of the record: its count byte says 1 to 16, or its map's head announces
 -- 512 structures at most and no message.
 abbrev pub Announces : Direction → List ℕ → ℕ → Type 0
 Announces Up bytes n = (1 ≤ count_in bytes) × (count_in bytes ≤ 16) × (n ≡ 14 + 4 * count_in bytes)
 Announces Down bytes n = AnnouncesMap (drop 9 bytes) n
 
--- The tag, if it is there, is the direction's, and the bytes that tell a size, if they are there, tell one.
+-- The tag, if it is there, is the direction's, and the bytes that give a size, if they are there, give one.
 pub record KeepsForm (d : Direction) (bytes : List ℕ) : Type 0 where
   pub tag : 0 < length bytes → slice_index bytes 0 ≡ tag_of d
   pub size : telling d ≤ length bytes → (n : ℕ) × Announces d bytes n
@@ -67,7 +67,7 @@ pub record IsWhole (d : Direction) (bytes : List ℕ) : Type 0 where
   pub told : telling d ≤ length bytes
   pub size : Announces d bytes (length bytes)
 
--- the bytes that are to tell a size tell none
+-- the bytes that should give a size give none
 abbrev pub HasBadSize : Direction → List ℕ → Type 0
 HasBadSize Up bytes = (count_in bytes ≡ 0) ⊎ (16 < count_in bytes)
 HasBadSize Down bytes = (n : ℕ) → Announces Down bytes n → ⊥
@@ -81,7 +81,7 @@ bad_size Down = BadMap
 abbrev pub HasBadTag : Direction → List ℕ → Type 0
 HasBadTag d bytes = (0 < length bytes) × (slice_index bytes 0 ≢ tag_of d)
 
--- The tag is right, and the bytes that are to tell a size are there and tell none.
+-- The tag is right, and the bytes that should give a size are there and give none.
 abbrev pub HasBadForm : Direction → List ℕ → Type 0
 HasBadForm d bytes = (telling d ≤ length bytes) × (slice_index bytes 0 ≡ tag_of d) × HasBadSize d bytes
 
@@ -131,7 +131,7 @@ Pulls old new left rest (Ok End) = (old.held ≡ []) × IsOpen old × (new ≡ o
 Pulls old new left rest (Err Device) = IsOpen old × (new ≡ old) × Keeps left rest
 Pulls old new left rest (Err (Link fault)) = HasFault new fault × (new.held ≡ old.held) × Keeps left rest × ((HasFault old fault × (new ≡ old)) ⊎ (IsOpen old × IsAtEnd rest))
 
--- The count of a device's failures rises by one exactly where a pull answers that the device failed.
+-- The count of a device's failures rises by one exactly when a pull answers that the device failed.
 abbrev pub CountsDevice : ℕ → ℕ → Result Pulled PullFault → Type 0
 CountsDevice old new (Err Device) = new ≡ (old + 1) % 2 ^ 64
 CountsDevice old new _ = new ≡ old

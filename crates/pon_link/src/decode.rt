@@ -33,7 +33,7 @@ pub(crate) fn frame_in(bytes: &[u8]) -> FrameNo
     FrameNo::new(u64::from_be_bytes(*number))
 }
 
-// The burst header of 4 bytes, and `None` where its HEC is refused.
+// The burst header of 4 bytes, and `None` if its HEC is refused.
 fn head_in(bytes: &[u8]) -> Option<BurstHead>
     requires { length bytes.now ≡ 4 }
     ensures { ReadsHead bytes.now result }
@@ -44,7 +44,7 @@ fn head_in(bytes: &[u8]) -> Option<BurstHead>
     }
 }
 
-// The occupancies of so many reports.
+// The occupancies of the reports.
 fn occupancies_in(bytes: &[u8], count: usize) -> Occupancies
     requires size { length bytes.now ≡ 4 * count }
     requires limit { count ≤ 16 }
@@ -58,7 +58,7 @@ fn occupancies_in(bytes: &[u8], count: usize) -> Occupancies
     occupancies
 }
 
-// The occupancy that 4 bytes report, and `None` where they are garbled.
+// The occupancy that 4 bytes report, and `None` if they are garbled.
 fn report_in(bytes: &[u8]) -> Option<BufOcc>
     requires { length bytes.now ≡ 4 }
     ensures { ReadsReport bytes.now result }

@@ -25,7 +25,7 @@ pub(crate) fn decode_down(alloc: Global, bytes: &[u8]) -> Result<DownRecord, Dow
     }
 }
 
-// What is told of a map's fault.
+// The fault of a record whose map has this fault.
 fn told(fault: MapFault) -> DownFault
     ensures { ((fault ≡ MapFault.Memory) × (result ≡ DownFault.Memory))
         ⊎ ((fault ≢ MapFault.Memory) × (result ≡ DownFault.Link LinkFault.BadMap)) }

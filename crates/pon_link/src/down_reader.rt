@@ -46,7 +46,7 @@ impl DownReader {
     }
 
     /// Takes bytes from the front of the piece until one record is whole, a fault is met or the piece ends, and
-    /// tells how many. It takes none while a whole record waits for [`DownReader::next`], and none after a fault.
+    /// returns their number. It takes none while a whole record waits for [`DownReader::next`], and none after a fault.
     pub fn feed(&mut self, piece: &[u8]) -> usize
         ensures count { result ≤ length piece.now }
         ensures held { self.new ≡ holds_more self.old (take result piece.now) }
@@ -56,13 +56,13 @@ impl DownReader {
         self.reading.feed(piece)
     }
 
-    /// The record, exactly where a whole one is held; it is then no longer held. `None` where the bytes that are
+    /// The record, exactly when a whole one is held; it is then no longer held. `None` if the bytes that are
     /// held are the beginning of one.
     ///
     /// `BadTag` as soon as the first byte is there and is no tag; `BadMap` as soon as the head of the map is there
     /// and is refused, or announces messages or more than 512 structures, and where the whole map is refused;
-    /// `Truncated` where the input ended inside the record. Every later call answers the same fault. `Memory`
-    /// where memory is refused for the map of a whole record; it changes nothing, and the next call tries again.
+    /// `Truncated` if the input ended inside the record. Every later call answers the same fault. `Memory`
+    /// if memory is refused for the map of a whole record; it changes nothing, and the next call tries again.
     pub fn next(&mut self) -> Result<Option<DownRecord>, DownFault>
         ensures outcome { GivesDown self.old self.new result }
         ensures within { IsWithinRecord self.old.direction self.old.held }
@@ -87,7 +87,7 @@ impl DownReader {
     /// then at most its rest. It reads nothing while a whole record waits for [`DownReader::next`], and nothing
     /// after a fault; each other pull that succeeds gives at least one byte.
     ///
-    /// `Device` exactly where the device failed in this call. `Link` for a fault of [`DownReader::next`], and
+    /// `Device` exactly when the device failed in this call. `Link` for a fault of [`DownReader::next`], and
     /// where the input ended inside a record.
     pub fn pull<R: DevRead>(&mut self, reader: &mut R) -> Result<Pulled, PullFault>
         ensures value { Pulls self.old self.new (R.remaining reader.old) (R.remaining reader.new) result }

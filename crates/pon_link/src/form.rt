@@ -24,7 +24,7 @@ fn tag(direction: Direction) -> u8
     }
 }
 
-// How many bytes tell the size of a record.
+// The number of bytes that give the size of a record.
 fn telling(direction: Direction) -> usize
     ensures value { result ≡ told_by direction }
     ensures limit { result ≤ 14 }

@@ -62,7 +62,7 @@ impl<const N: usize> Held<N> {
     }
 
     // Takes bytes from the front of the piece until one record is whole, a fault is met or the piece ends, and
-    // tells how many.
+    // returns their number.
     pub(crate) fn feed(&mut self, piece: &[u8]) -> usize
         ensures count { result ≤ length piece.now }
         ensures held { self.new ≡ holds_more self.old (take result piece.now) }
@@ -91,7 +91,7 @@ impl<const N: usize> Held<N> {
         form_fault(self.direction, self.bytes.as_slice())
     }
 
-    // How many bytes the record surely still needs, none exactly where it is whole.
+    // The number of bytes that the record surely still needs, 0 exactly when it is whole.
     pub(crate) fn needed(&self) -> usize
         requires { KeepsForm self.now.direction self.now.held }
         ensures untold { length self.now.held < telling self.now.direction → length self.now.held + result ≡ telling self.now.direction }
@@ -156,7 +156,7 @@ impl<const N: usize> Held<N> {
         self.fault()
     }
 
-    // Reads once, up to what tells the record's size or up to its end.
+    // Reads once, up to the bytes that give the record's size or up to its end.
     pub(crate) fn pull<R: DevRead>(&mut self, reader: &mut R) -> Result<Pulled, PullFault>
         ensures value { Pulls self.old self.new (R.remaining reader.old) (R.remaining reader.new) result }
         ensures failures { CountsDevice (R.failures reader.old) (R.failures reader.new) result }

@@ -3,7 +3,7 @@ use crate::fault::LinkFault;
 /// What a pull found.
 #[derive(Clone, Copy, Debug, PartialEq, Eq)]
 pub enum Pulled {
-    /// So many bytes more are held; none where a whole record waits.
+    /// The number of bytes that were added; 0 if a whole record waits.
     Bytes(usize),
     /// The input ended, with no bytes of a record held.
     End,

@@ -43,7 +43,7 @@ impl UpReader {
     }
 
     /// Takes bytes from the front of the piece until one record is whole, a fault is met or the piece ends, and
-    /// tells how many. It takes none while a whole record waits for [`UpReader::next`], and none after a fault.
+    /// returns their number. It takes none while a whole record waits for [`UpReader::next`], and none after a fault.
     pub fn feed(&mut self, piece: &[u8]) -> usize
         ensures count { result ≤ length piece.now }
         ensures held { self.new ≡ holds_more self.old (take result piece.now) }
@@ -53,11 +53,11 @@ impl UpReader {
         self.reading.feed(piece)
     }
 
-    /// The record, exactly where a whole one is held; it is then no longer held. `None` where the bytes that are
+    /// The record, exactly when a whole one is held; it is then no longer held. `None` if the bytes that are
     /// held are the beginning of one.
     ///
     /// `BadTag` as soon as the first byte is there and is no tag, `BadCount` as soon as the count byte is there
-    /// and is not 1 to 16, `Truncated` where the input ended inside the record. Every later call answers the
+    /// and is not 1 to 16, `Truncated` if the input ended inside the record. Every later call answers the
     /// same fault.
     pub fn next(&mut self) -> Result<Option<UpRecord>, LinkFault>
         ensures outcome { Gives IsRecord self.old self.new result }
@@ -79,7 +79,7 @@ impl UpReader {
     /// at most its rest. It reads nothing while a whole record waits for [`UpReader::next`], and nothing after a
     /// fault; each other pull that succeeds gives at least one byte.
     ///
-    /// `Device` exactly where the device failed in this call. `Link` after a fault of [`UpReader::next`], and
+    /// `Device` exactly when the device failed in this call. `Link` after a fault of [`UpReader::next`], and
     /// where the input ended inside a record.
     pub fn pull<R: DevRead>(&mut self, reader: &mut R) -> Result<Pulled, PullFault>
         ensures value { Pulls self.old self.new (R.remaining reader.old) (R.remaining reader.new) result }

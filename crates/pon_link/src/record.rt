@@ -8,7 +8,7 @@ use pon_xgtc::BurstHead;
 pub struct UpRecord {
     /// The frame that the burst came in.
     pub frame: FrameNo,
-    /// The burst header, with wrong places corrected; `None` where its HEC was refused.
+    /// The burst header, with wrong places corrected; `None` if its HEC was refused.
     pub head: Option<BurstHead>,
     /// The occupancies that the burst reported, in words.
     pub occ: Occupancies,

@@ -27,7 +27,7 @@ impl Model for Unit {
 }
 
 impl Unit {
-    /// The unit of this ONU-ID, with so many words that wait for each Alloc-ID; of an Alloc-ID that stands there
+    /// The unit of this ONU-ID, with the words that wait for each Alloc-ID; of an Alloc-ID that stands there
     /// twice the first number is reported.
     pub fn open(onu: OnuId, queues: ArrayVec<(AllocId, u32), 16>) -> Self
         ensures { result ≡ record { onu = onu; queues = queues.items } }
@@ -40,7 +40,7 @@ impl Unit {
     /// many as the structure grants beside the report's one. The burst header has the unit's ONU-ID and no
     /// indications.
     ///
-    /// `None` exactly where there is no such structure.
+    /// `None` exactly when there is no such structure.
     pub fn answer(&mut self, frame: FrameNo, map: &Map) -> Option<UpRecord>
         ensures none { IsNone result ↔ (answered self.old.queues map.now ≡ []) }
         ensures burst { IfSome result (λ burst. burst ≡ record {

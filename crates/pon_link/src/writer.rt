@@ -4,8 +4,8 @@ ghost use Rattle.pon_link.specs.DownRecords.{down_bytes};
 
 use crate::form::DOWN_TAG;
 use pon_bwmap::{Map, write_map};
-use pon_units::FrameNo;
 use pon_device::DevWrite;
+use pon_units::FrameNo;
 use std::marker::Model;
 
 /// The bytes of the longest downstream record, one of 512 structures.
@@ -53,7 +53,7 @@ impl DownWriter {
     /// Takes the record of the frame and its map, to be written next: a tag byte, the frame in 8 bytes, the most
     /// significant first, and the bytes of the map.
     ///
-    /// `Busy` exactly where something of the record before is left; it changes nothing.
+    /// `Busy` exactly when something of the record before is left; it changes nothing.
     pub fn put(&mut self, frame: FrameNo, map: &Map) -> Result<(), Busy>
         ensures ok { OnOk result ((self.old ≡ []) × (self.new ≡ down_bytes frame map.now)) }
         ensures busy { OnErr result ((self.old ≢ []) × (self.new ≡ self.old)) }
@@ -68,7 +68,7 @@ impl DownWriter {
 
     /// Writes what is left, in as many writes as the device wants.
     ///
-    /// `Device` exactly where the device failed in this call; what it had not taken then is left, and may be
+    /// `Device` exactly when the device failed in this call; what it had not taken then is left, and may be
     /// pushed again.
     pub fn push<W: DevWrite>(&mut self, writer: &mut W) -> Result<(), Device>
         ensures sent { (sent : List ℕ) × Appends (W.contents writer.old) (W.contents writer.new) sent × (sent ++ self.new ≡ self.old) }
@@ -92,7 +92,7 @@ impl DownWriter {
         &self.bytes[self.begin..self.end]
     }
 
-    // So many of the bytes that were left have gone out.
+    // Notes that `n` of the bytes that were left have gone out.
     fn went_out(&mut self, n: usize)
         requires { n ≤ length self.old }
         ensures { self.new ≡ drop n self.old }
@@ -101,7 +101,7 @@ impl DownWriter {
     }
 }
 
-// Writes the record to the front of the room, and tells how many bytes it has.
+// Writes the record to the front of the room, and returns the number of its bytes.
 fn write_record(frame: FrameNo, map: &Map, room: &mut [u8]) -> usize
     requires { length room.old ≡ 4109 }
     ensures count { result ≤ 4109 }

@@ -41,7 +41,7 @@ rejoined_at i key xs h = rejoined (λ x. nat_lt (key x) i) (λ x y. key x < key 
 -- An element put in its place.
 
 module _ {X : Type 0} (p : X → Bool) (x : X) (xs : List X) (whole : filter p xs ++ filter (λ y. not (p y)) xs ≡ xs) where
-  -- it stands behind those that pass
+  -- it comes after those that pass
   pub insert_inserted : (k : ℕ) → k ≡ count_by p xs → insert xs k x ≡ with_inserted p x xs
   insert_inserted k place =
       let behind : k ≡ length (filter p xs) = place ∙ sym (length-filter p xs) in

@@ -11,7 +11,7 @@ use Rattle.pon_manage.specs.Text.{Answers, Posts, refusal_line}
 use Rattle.pon_line.specs.declared.fault.LineFault.TheVariants.{Port}
 use Rattle.pon_line.specs.declared.reading.Reading.TheVariants.{Asks}
 
--- a refusal that is told, and is no want of memory, is the first check's
+-- a refusal that is returned, other than out of memory, is the first check's
 pub refused : (c d : Chapter) (event : Event) (told : Refusal) (text : List ℕ) → IsTold (refusal_of c event) told → told ≢ OutOfMemory → d ≡ c →
     text ≡ refusal_line (Port told) → Answers (c ∷ []) (Asks 0 event) text (d ∷ [])
 refused c d event told text h other same is =

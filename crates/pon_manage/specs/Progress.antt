@@ -32,7 +32,7 @@ abbrev pub MayBegin : List Chapter → List ℕ → List ℕ → List ℕ → Ty
 MayBegin old kept bytes text =
     (first : List Chapter) (input written part : List ℕ) → Answered first old input written kept → IsBeginning part text → BeginsOutput first (input ++ bytes) (written ++ part)
 
--- the reply of a line stands behind the others
+-- the reply of a line follows the others
 abbrev pub AddsReply : List Chapter → List Chapter → List ℕ → List ℕ → List ℕ → Type 0
 AddsReply old new line replies_old replies_new = (text : List ℕ) × Gives old line text new × (replies_new ≡ replies_old ++ text)
 

@@ -95,7 +95,7 @@ fn show_cert(alloc: Global, port: &Port) -> Result<String, AllocError>
     }
 }
 
-/// The text that a reading gives at one port. After an `Err`, which comes only for want of memory, nothing is known of
+/// The text that a reading gives at one port. After an `Err`, which comes only if memory is refused, nothing is known of
 /// the port but that its history is lawful.
 pub(crate) fn answer(alloc: Global, port: &mut Port, reading: Reading) -> Result<String, AllocError>
     requires { AsksWithin 1 reading }

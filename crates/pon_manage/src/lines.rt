@@ -227,8 +227,8 @@ fn open_and_answer<R: DevRead, W: DevWrite>(
 /// Reads management lines to the end of the input, and writes the reply or the refusal of each.
 ///
 /// What is written is the output text of what was read. The replies to what one read gave are written before the next
-/// read. `Read` where the reader failed or 2^64 - 1 reads were made: the text of all whole lines read is written.
-/// `Write` where the writer failed, and `Memory` where memory was refused: a beginning of the text is written, after
+/// read. `Read` if the reader failed or 2^64 - 1 reads were made: the text of all whole lines read is written.
+/// `Write` if the writer failed, and `Memory` if memory was refused: a beginning of the text is written, after
 /// `Memory` that of the lines before. A line that was not ended when a fault came is not answered. The writer is flushed
 /// once, at the end of the input.
 ///

@@ -8,12 +8,12 @@ ghost use Rattle.std.specs.Prelude.{◌≡◌};
 
 use clap::Error;
 pub use pon_check_file::check_file;
+use pon_device::{StdRead, StdWrite};
 pub use pon_job::job;
 use pon_job::{Job, Outcome, exit_status, outcome_of_check, outcome_of_run, outcome_of_words};
 use pon_manage::PlanEnd;
 pub use pon_manage::{PlanFault, plan};
 use pon_port::PortCfg;
-use pon_device::{StdRead, StdWrite};
 use pon_units::{FrameNo, Gap, Profile};
 use std::alloc::Global;
 use std::fs;

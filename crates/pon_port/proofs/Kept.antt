@@ -260,7 +260,7 @@ removed c d s t i k accepted more after =
     (λ e. subst (λ s. after_remove s i ≡ replay s (taken_entry (Remove i) ∷ [])) e
     (remove_step c.opening c.entries i (subst (λ s. AreRising (alloc_ids s.book)) (sym e) k.book.0))))
 
--- the map that is told is the one that is kept
+-- the map that is returned is the one that is kept
 pub map_taken : (c d : Chapter) (s : State) (made kept : MadeMap) → IsKept c s → first_refusal (length c.entries) s MakeMap ≡ None → IsMade s made → kept ≡ made →
     d ≡ with_entry c MakeMap (Map kept) → Takes c MakeMap (Map made) d
 map_taken c d s made kept k accepted is_made same more = record {

@@ -95,7 +95,7 @@ abbrev pub AreBelow : ℕ → List Entry → Type 0
 AreBelow n [] = Unit {0}
 AreBelow n (e ∷ es) = EventBelow n e.event × AreBelow n es
 
--- each report is of a frame so many before n at most
+-- each report is of a frame at most this number of frames before n
 abbrev pub EventWithin : ℕ → ℕ → Event → Type 0
 EventWithin n k (Report frame onu occ) = n ≤ frame + k
 EventWithin n k _ = Unit {0}

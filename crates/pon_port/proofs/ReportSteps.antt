@@ -215,7 +215,7 @@ module _ (s : State) (l : IsLawfulState s) (f u : ℕ) (ns : List (Option ℕ)) 
   abbrev told_from : ℕ → ℕ → Counted
   told_from w n = record { frame = f; words = n - w }
 
-  -- what is told of an Alloc-ID, by the window as it was
+  -- what is reported of an Alloc-ID, by the window as it was
   told_before : (i since : ℕ) → candidates_in seen since i (Report f u ns) ≡ (if nat_le since f then map (told_from (words_from i f s.window)) (occupancies i (grants_at f u s.window) ns) else [])
   told_before i since = (λ j. if nat_le since f then map (told_from (words_from-map i f (entry ∷ []) s.window j)) (occupancies i (grants_at-map f u (entry ∷ []) s.window j) ns) else [])
 

@@ -64,7 +64,7 @@ impl Port {
     ghost use Rattle.pon_port.specs.FairMaps.{IsFairMap, TellsFairMap};
     ghost use Rattle.pon_descr.specs.Checks.{IsTold};
 
-    /// A port just opened: no Alloc-ID, the line up, and `first` as its next frame. `Err` only for want of memory.
+    /// A port just opened: no Alloc-ID, the line up, and `first` as its next frame. `Err` only if memory is refused.
     pub fn open(alloc: Global, cfg: PortCfg, first: FrameNo) -> Result<Port, AllocError>
         ensures opening { IfOk result (λ port. port.opening ≡ just_opened cfg.gap cfg.profile first) }
         ensures entries { IfOk result (λ port. port.entries ≡ []) }
@@ -164,12 +164,12 @@ impl Port {
         Ok(next.made)
     }
 
-    /// Takes an event and keeps it with its reply, or tells the first check that refuses it.
+    /// Takes an event and keeps it with its reply, or returns the first check that refuses it.
     ///
     /// `Admit` is refused by `AllocTaken`, `TooManyAllocs`, `TooManyOnus`, `SeriesFull`, `Capacity`; `Change` by
     /// `NoSuchAlloc`, `Capacity`; `Remove` by `NoSuchAlloc`; `Report` by `PortDown`, `StaleFrame`, `NotPolled`, `ReportCount`,
     /// `AlreadyReported`; `MakeMap` by `PortDown`, `FrameLimit`; `Fail` by `PortDown`; `Restore` by `PortUp`; each then by
-    /// `ChapterFull` and `OutOfMemory`; in these orders. Want of memory comes only where no check refuses. A refusal changes neither the
+    /// `ChapterFull` and `OutOfMemory`; in these orders. `OutOfMemory` comes only if no check refuses. A refusal changes neither the
     /// state nor the history.
     pub fn take(&mut self, event: Event) -> Result<Reply, Refusal>
         ensures ok { IfOk result (λ reply. Takes self.old event reply self.new) }

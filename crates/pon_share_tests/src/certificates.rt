@@ -43,7 +43,7 @@ fn same(rt: &impl Abort, a: &MapCert, b: &MapCert) {
     assert_eq!(rt; a.be.saturated.as_slice(), b.be.saturated.as_slice());
 }
 
-// Want of memory by its own name.
+// Out of memory by its own name.
 fn refused(fault: CertReadFault) -> Fail {
     match fault {
         CertReadFault::Memory => AllocError.into(),

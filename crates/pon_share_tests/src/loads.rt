@@ -26,7 +26,7 @@ fn occupancy(rt: &impl Abort, words: u32) -> Option<BufOcc> {
     Some(BufOcc::new(words).expect(rt, "an occupancy"))
 }
 
-// So many payload words to an Alloc-ID of an ONU.
+// A number of payload words to an Alloc-ID of an ONU.
 fn grant(rt: &impl Abort, owner: u16, alloc_id: u16, words: u16) -> Granted {
     Granted {
         onu: onu(rt, owner),
@@ -98,7 +98,7 @@ fn map_all(rt: &impl Abort, loads: &mut Loads, first: u64, end: u64, words: u16)
     }
 }
 
-// An ONU's report, and what is told of it.
+// An ONU's report, with the result that it should have.
 fn assert_reported(
     rt: &impl Abort,
     loads: &mut Loads,
@@ -296,7 +296,7 @@ fn a_cleared_book_keeps_its_alloc_ids_alone(rt: HostRuntime) {
     assert_load(&rt, &loads, 1024, 256);
 }
 
-// A refused report, which is told by itself too and changes nothing.
+// A refused report: `report_refusal` has the same answer, and nothing changes.
 fn assert_refused(
     rt: &impl Abort,
     loads: &mut Loads,

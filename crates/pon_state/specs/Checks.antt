@@ -35,6 +35,6 @@ refuses s MakeMap = or_else (when_down s.cause) (at_limit s.next)
 refuses s (Fail cause) = when_down s.cause
 refuses s Restore = when_up s.cause
 
--- the first check that refuses an event, that of the chapter last, where so many entries are kept
+-- the first check that refuses an event after `kept` entries of its chapter, that of the chapter last
 abbrev pub first_refusal : ℕ → State → Event → Option Refusal
 first_refusal kept s event = or_else (refuses s event) (when_full kept s.taken_before)

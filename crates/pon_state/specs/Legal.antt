@@ -31,7 +31,7 @@ IsEvent (Admit onu alloc_id descriptor) = IsInRange (record { onu = onu; alloc_i
 IsEvent (Change alloc_id descriptor) = IsLawful descriptor
 IsEvent _ = Unit {0}
 
--- an entry that may follow in a state, after so many entries of its chapter: its numbers are in range, no check refuses it, and its reply is one of the state's
+-- an entry that may follow in a state, after `kept` entries of its chapter: its numbers are in range, no check refuses it, and its reply is one of the state's
 pub record MayFollow (kept : ℕ) (s : State) (e : Entry) : Type 0 where
   pub event : IsEvent e.event
   pub accepted : first_refusal kept s e.event ≡ None

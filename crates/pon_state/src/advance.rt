@@ -20,7 +20,7 @@ use pon_event::Event;
 use pon_units::{AllocId, FrameNo, Granted, OnuId};
 use std::alloc::AllocError;
 
-/// Takes a map of the next frame into the state; `Err` where memory is refused, and then the state is as it was.
+/// Takes a map of the next frame into the state; `Err` if memory is refused, and then the state is as it was.
 pub fn add_map(state: &mut PortState, grants: &[Granted]) -> Result<(), AllocError>
     requires map_order { AreInMapOrder grants.now }
     requires frames { LeadsTo state.old.next state.old.window }
@@ -37,7 +37,7 @@ pub fn add_map(state: &mut PortState, grants: &[Granted]) -> Result<(), AllocErr
     Ok(())
 }
 
-// Admits a row that no check refuses; `Err` where memory is refused, and then the state is as it was.
+// Admits a row that no check refuses; `Err` if memory is refused, and then the state is as it was.
 fn admit_row(state: &mut PortState, row: &Row) -> Result<(), AllocError>
     requires accepted { refuses_admit rule_in_force state.old.gap state.old.roster row.now ≡ None }
     requires rising { AreRising (alloc_ids state.old.book) }
@@ -88,7 +88,7 @@ fn remove_row(state: &mut PortState, alloc_id: AllocId)
     }
 }
 
-// Takes an ONU's report that no check refuses; `Err` where memory is refused, and then the state is as it was.
+// Takes an ONU's report that no check refuses; `Err` if memory is refused, and then the state is as it was.
 fn take_report(
     state: &mut PortState,
     frame: FrameNo,
@@ -117,7 +117,7 @@ fn cut(state: &mut PortState, cause: Option<Cause>)
     state.taken_before += 1;
 }
 
-/// Takes an event that makes no map, and that no check refuses, into the state; `Err` where memory is refused, and then the
+/// Takes an event that makes no map, and that no check refuses, into the state; `Err` if memory is refused, and then the
 /// state is as it was.
 pub fn step(state: &mut PortState, event: &Event) -> Result<(), AllocError>
     requires plain { makes_map event.now ≡ false }

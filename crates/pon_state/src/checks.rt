@@ -13,7 +13,7 @@ use pon_units::{AllocId, FrameNo, OnuId};
 /// The most entries that a chapter of a port's history keeps.
 pub const MOST_ENTRIES: usize = 65_536;
 
-// The check of the chapter: so many entries are kept.
+// The check of the chapter, of which `kept` entries are kept.
 fn chapter_refusal(kept: usize, taken_before: u64) -> Option<Refusal>
     ensures { result ≡ when_full kept taken_before }
 {
@@ -34,7 +34,7 @@ fn down_refusal(state: &PortState) -> Option<Refusal>
     }
 }
 
-// The first check that refuses one more row, where so many entries are kept.
+// The first check that refuses one more row, after `kept` entries of its chapter.
 fn admit_refusal(state: &PortState, kept: usize, row: &Row) -> Option<Refusal>
     ensures { result ≡ first_refusal kept state.now (Event.Admit row.now.onu row.now.alloc_id row.now.descriptor) }
 {
@@ -44,7 +44,7 @@ fn admit_refusal(state: &PortState, kept: usize, row: &Row) -> Option<Refusal>
     }
 }
 
-// The first check that refuses another descriptor, where so many entries are kept.
+// The first check that refuses another descriptor, after `kept` entries of its chapter.
 fn change_refusal(
     state: &PortState,
     kept: usize,
@@ -59,7 +59,7 @@ fn change_refusal(
     }
 }
 
-// The first check that refuses a removal, where so many entries are kept.
+// The first check that refuses a removal, after `kept` entries of its chapter.
 fn remove_refusal(state: &PortState, kept: usize, alloc_id: AllocId) -> Option<Refusal>
     ensures { result ≡ first_refusal kept state.now (Event.Remove alloc_id) }
 {
@@ -69,7 +69,7 @@ fn remove_refusal(state: &PortState, kept: usize, alloc_id: AllocId) -> Option<R
     }
 }
 
-// The first check that refuses a map, where so many entries are kept.
+// The first check that refuses a map, after `kept` entries of its chapter.
 fn map_refusal(state: &PortState, kept: usize) -> Option<Refusal>
     ensures { result ≡ first_refusal kept state.now Event.MakeMap }
 {
@@ -80,7 +80,7 @@ fn map_refusal(state: &PortState, kept: usize) -> Option<Refusal>
     }
 }
 
-// The first check that refuses an ONU's report, where so many entries are kept.
+// The first check that refuses an ONU's report, after `kept` entries of its chapter.
 fn report_refusal(
     state: &PortState,
     kept: usize,
@@ -100,7 +100,7 @@ fn report_refusal(
     }
 }
 
-// The first check that refuses a fault, where so many entries are kept.
+// The first check that refuses a fault, after `kept` entries of its chapter.
 fn fail_refusal(state: &PortState, kept: usize, cause: Cause) -> Option<Refusal>
     ensures { result ≡ first_refusal kept state.now (Event.Fail cause) }
 {
@@ -110,7 +110,7 @@ fn fail_refusal(state: &PortState, kept: usize, cause: Cause) -> Option<Refusal>
     }
 }
 
-// The first check that refuses the end of a fault, where so many entries are kept.
+// The first check that refuses the end of a fault, after `kept` entries of its chapter.
 fn restore_refusal(state: &PortState, kept: usize) -> Option<Refusal>
     ensures { result ≡ first_refusal kept state.now Event.Restore }
 {
@@ -120,7 +120,7 @@ fn restore_refusal(state: &PortState, kept: usize) -> Option<Refusal>
     }
 }
 
-/// The first check that refuses an event, where so many entries are kept.
+/// The first check that refuses an event, after `kept` entries of its chapter.
 pub fn refusal_of(state: &PortState, kept: usize, event: &Event) -> Option<Refusal>
     ensures { result ≡ first_refusal kept state.now event.now }
 {

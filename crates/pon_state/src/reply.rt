@@ -15,7 +15,7 @@ pub struct MadeMap {
 }
 
 impl MadeMap {
-    /// An equal map, or want of memory.
+    /// An equal map. `Err` only if memory is refused.
     pub fn try_copy(&self, alloc: Global) -> Result<MadeMap, AllocError>
         ensures { IfOk result (λ made. made ≡ self.now) }
     {

@@ -33,7 +33,7 @@ TellsLine line old new (Err Memory) = ⊥
 abbrev pub FailedOnce : ℕ → ℕ → Type 0
 FailedOnce old new = new ≡ (old + 1) % 2 ^ 64
 
--- a failed read is told only where a read failed, or where 2 ^ 64 - 1 reads were made
+-- `Read` only if a read failed, or 2 ^ 64 - 1 reads were made
 abbrev pub TellsRead : {T : Type 0} → ℕ → ℕ → ℕ → ℕ → Result T PlanFault → Type 0
 TellsRead calls_old calls_new failures_old failures_new (Err Read) =
     FailedOnce failures_old failures_new ⊎ ((failures_new ≡ failures_old) × (calls_new ≡ (calls_old + (2 ^ 64 - 1)) % 2 ^ 64))
@@ -41,7 +41,7 @@ TellsRead calls_old calls_new failures_old failures_new (Ok end) = failures_new 
 TellsRead calls_old calls_new failures_old failures_new (Err Write) = failures_new ≡ failures_old
 TellsRead calls_old calls_new failures_old failures_new (Err Memory) = failures_new ≡ failures_old
 
--- a failed write is told exactly where a write failed
+-- `Write` exactly when a write failed
 abbrev pub TellsWrite : {T : Type 0} → ℕ → ℕ → Result T PlanFault → Type 0
 TellsWrite old new (Err Write) = FailedOnce old new
 TellsWrite old new (Err Read) = new ≡ old

@@ -1,8 +1,8 @@
 ghost use Rattle.std.specs.Prelude.{◌<◌, ◌≤◌};
 
+use pon_device::{MemRead, MemWrite};
 use pon_manage::{PlanEnd, PlanFault, plan};
 use pon_port::PortCfg;
-use pon_device::{MemRead, MemWrite};
 use pon_units::{FrameNo, Gap, Profile};
 use std::alloc::Global;
 use std::test::Fail;
@@ -25,7 +25,7 @@ fn port(gap: u16) -> Option<(PortCfg, FrameNo)> {
 }
 
 // Answers the input over devices that give and take at most `most` bytes a call, and fail in the given calls. `None`
-// where memory is refused to the test itself.
+// if memory is refused to the test itself.
 fn run(alloc: Global, input: &[u8], most: usize, reads: &[u64], writes: &[u64]) -> Option<Answered>
     requires { 0 < most }
 {
@@ -171,7 +171,7 @@ fn worked_lines_in_pieces(rt: HostRuntime) -> Result<(), Fail> {
     Ok(())
 }
 
-// So many admissions of rate 0, each ONU with so many Alloc-IDs.
+// Admissions of rate 0, each ONU with the same number of Alloc-IDs.
 fn admissions(alloc: Global, count: u16, of_an_onu: u16) -> Result<Vec<u8>, Fail>
     requires some { 0 < of_an_onu }
     requires few { count ≤ 256 }
@@ -218,7 +218,7 @@ fn full_room_for_replies_is_written(rt: HostRuntime) -> Result<(), Fail> {
     Ok(())
 }
 
-// A line of so many bytes, a comment but for its length, and then a map.
+// A line of this number of bytes, a comment but for its length, and then a map.
 fn long_line(alloc: Global, bytes: usize) -> Result<Vec<u8>, Fail> {
     let mut input = vec![in alloc; b'#'; bytes]?;
     input.extend_from_slice(b"\n0 map\n")?;

@@ -156,7 +156,7 @@ fn refuses_admissions(rt: HostRuntime) {
     assert_made(&rt, &made, 0, [lone_row(&rt, 1024, 9702)].as_slice());
 }
 
-// Takes an event; where memory is refused the port is as it was, and takes the same event again.
+// Takes an event; if memory is refused the port is as it was, and takes the same event again.
 fn take_again(rt: &impl Abort, port: &mut Port, event: Event, again: Event) -> Reply {
     let before = shown(port);
     match port.take(event) {
@@ -173,7 +173,7 @@ fn map_again(rt: &impl Abort, port: &mut Port) -> MadeMap {
     told_map(take_again(rt, port, Event::MakeMap, Event::MakeMap)).expect(rt, "a map")
 }
 
-// One allocation that fails (`rt try --test --fail-alloc N`) changes nothing of what is told.
+// One allocation that fails (`rt try --test --fail-alloc N`) changes no result.
 #[test]
 fn takes_again_what_memory_refused(rt: HostRuntime) {
     let mut port = open(&rt, rt.alloc(), 7);

@@ -57,7 +57,7 @@ module _ (u i : ℕ) where
     | false ↦ λ l. none_len gs ns (omega (arith, l))
   ]) l
 
-  -- the sum beside the place that is told
+  -- the sum beside the place that was found
   pub before_at : (gs : List Granted) (ns : List ℕ) (r : Option ℕ) (k : ℕ) → r ≡ position (is_to u i) gs → r ≡ Some k → k < length gs → sum_before u i gs ns ≡ slice_get ns k
   before_at gs ns r k is e l =
       let at : k ≡ position_or_len (is_to u i) gs = position-Some_or_len (is_to u i) gs r k is e in
@@ -73,7 +73,7 @@ module _ (u i : ℕ) where
     | false ↦ find_in gs
   ]
 
-  -- the words of the grant at the place that is told
+  -- the words of the grant at the place that was found
   pub words_there : (m : WindowMap) (r : Option ℕ) (k : ℕ) (d : Granted) → r ≡ position (is_to u i) m.grants → r ≡ Some k → k < length m.grants → (get_or m.grants k d).words ≡ words_to u i m
   words_there m r k d is e l = words_found (is_to u i) m.grants r is k d e l ∙ ap words_granted (sym (find_in m.grants))
 

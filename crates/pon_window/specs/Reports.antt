@@ -6,7 +6,7 @@ use Rattle.pon_descr.specs.declared.refusal.Refusal.{Refusal}
 use Rattle.pon_descr.specs.declared.refusal.Refusal.TheVariants.{StaleFrame, NotPolled, ReportCount, AlreadyReported}
 use Rattle.pon_window.specs.Window.{WindowMap, grants_at, is_of, polled}
 
--- the first check that refuses a report of so many occupancies
+-- the first check that refuses a report of `count` occupancies
 abbrev pub refuses_report : List WindowMap → ℕ → ℕ → ℕ → Option Refusal
 refuses_report window frame u count = first_of (
     when (not (list_any (is_of frame) window)) StaleFrame

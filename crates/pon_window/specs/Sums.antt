@@ -24,7 +24,7 @@ sum_now u i (m ∷ ms) (ns ∷ sums) = option_or (sum_now u i ms sums) (sum_behi
 sum_now u i [] sums = None
 sum_now u i (m ∷ ms) [] = None
 
--- the sums of a map, with those of the maps after it, tell what was granted from the map on
+-- the sums of a map, with those of the maps after it, give what was granted from the map on
 pub record AreSumsOf (m : WindowMap) (ms : List WindowMap) (ns : List ℕ) (sums : List (List ℕ)) : Type 0 where
   pub beside : length ns ≡ length m.grants
   pub small : All (λ g. g.words ≤ 9720) m.grants

@@ -24,7 +24,7 @@ impl Model for MapSums {
 }
 
 impl MapSums {
-    /// Equal sums, or want of memory.
+    /// Equal sums. `Err` only if memory is refused.
     pub(crate) fn try_copy(&self, alloc: Global) -> Result<MapSums, AllocError>
         ensures { IfOk result (λ sums. sums ≡ self.now) }
     {
@@ -41,7 +41,7 @@ fn is_to(granted: &Granted, onu: OnuId, alloc_id: AllocId) -> bool
     granted.onu == onu && granted.alloc_id == alloc_id
 }
 
-// The index of the grant to an Alloc-ID under an ONU: the hint where it stands there, else by a search.
+// The index of the grant to an Alloc-ID under an ONU: the hint if the grant is there, else by a search.
 fn place_of_grant(grants: &[Granted], hint: usize, onu: OnuId, alloc_id: AllocId) -> Option<usize>
     requires { AreInMapOrder grants.now }
     ensures { result ≡ position (is_to onu alloc_id) grants.now }
@@ -151,7 +151,7 @@ pub(crate) fn words_granted(
     }
 }
 
-/// The sums beside the grants of the next map; `Err` only for want of memory.
+/// The sums beside the grants of the next map. `Err` only if memory is refused.
 pub(crate) fn next_sums(
     alloc: Global,
     maps: &[WindowMap],

@@ -16,7 +16,7 @@ pub record FitsBurstHead (h : BurstHeader) : Type 0 where
   pub onu_raw : h.onu_raw ≤ 1023
   pub ind : h.ind ≤ 511
 
--- the bytes begin with this header of a burst, with so many places corrected
+-- the bytes begin with this header of a burst, with this number of places corrected
 pub record ReadsBurstHead (bytes : List ℕ) (h : BurstHeader) (places : ℕ) : Type 0 where
   pub fits : FitsBurstHead h
   pub header : ReadsHeader bytes (burst_head_payload h) places

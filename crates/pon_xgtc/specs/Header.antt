@@ -10,7 +10,7 @@ abbrev pub header_bytes : ℕ → List ℕ
 header_bytes payload = to_be_bytes w32 (sealed payload)
 
 -- The bytes begin with a header: its 4 bytes are there, and their word, the greatest place first, reads
--- as this payload with so many places corrected.
+-- as this payload with this number of places corrected.
 pub record ReadsHeader (bytes : List ℕ) (payload places : ℕ) : Type 0 where
   pub whole : 4 ≤ length bytes
   pub word : Reads (2 ^ 32) (from_be_bytes w32 bytes) payload places

@@ -16,7 +16,7 @@ pub record FitsMapHead (h : MapHead) : Type 0 where
   pub n : h.n ≤ 2047
   pub p : h.p ≤ 255
 
--- the bytes begin with this head of a map, with so many places corrected
+-- the bytes begin with this head of a map, with this number of places corrected
 pub record ReadsMapHead (bytes : List ℕ) (h : MapHead) (places : ℕ) : Type 0 where
   pub fits : FitsMapHead h
   pub header : ReadsHeader bytes (map_head_payload h) places

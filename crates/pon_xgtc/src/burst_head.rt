@@ -29,7 +29,7 @@ impl BurstHead {
     ghost use Rattle.pon_xgtc.specs.BurstHead.{BurstHeader, FitsBurstHead, ReadsBurstHead, burst_head_payload};
     ghost use Rattle.pon_xgtc.specs.Header.{IsHeaderFault, header_bytes};
 
-    /// The header of a burst of this ONU-ID with these indications (Ind); `None` exactly where the
+    /// The header of a burst of this ONU-ID with these indications (Ind); `None` exactly when the
     /// ONU-ID is above 1,023 or the indications are above 511.
     pub fn new(onu_raw: u16, ind: u16) -> Option<Self>
         ensures { SomeIff result ((onu_raw ≤ 1023) × (ind ≤ 511)) record { onu_raw = onu_raw; ind = ind } }
@@ -67,7 +67,7 @@ impl BurstHead {
     }
 
     /// The burst header that the bytes begin with, and how many wrong places were corrected, at most
-    /// two. `Short` exactly where there are fewer than 4 bytes, else `Hec` exactly where the first four
+    /// two. `Short` exactly when there are fewer than 4 bytes, else `Hec` exactly when the first four
     /// are more than two places away from every codeword. Later bytes are not looked at.
     pub fn decode(bytes: &[u8]) -> Result<(Self, u8), HeadFault>
         ensures ok { IfOk result (λ r. ReadsBurstHead bytes.now r.0 r.1) }

@@ -30,7 +30,7 @@ impl HLend {
     ghost use Rattle.pon_xgtc.specs.MapHead.{MapHead, FitsMapHead, ReadsMapHead, map_head_payload};
     ghost use Rattle.pon_xgtc.specs.Header.{IsHeaderFault, header_bytes};
 
-    /// The head of a map with N structures and P messages; `None` exactly where N is above 2,047.
+    /// The head of a map with N structures and P messages; `None` exactly when N is above 2,047.
     pub fn new(n: u16, p: u8) -> Option<Self>
         ensures { SomeIff result (n ≤ 2047) record { n = n; p = p } }
     {
@@ -66,7 +66,7 @@ impl HLend {
     }
 
     /// The head that the bytes begin with, and how many wrong places were corrected, at most two.
-    /// `Short` exactly where there are fewer than 4 bytes, else `Hec` exactly where the first four are
+    /// `Short` exactly when there are fewer than 4 bytes, else `Hec` exactly when the first four are
     /// more than two places away from every codeword. Later bytes are not looked at.
     pub fn decode(bytes: &[u8]) -> Result<(Self, u8), HeadFault>
         ensures ok { IfOk result (λ r. ReadsMapHead bytes.now r.0 r.1) }

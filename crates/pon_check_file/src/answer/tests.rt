@@ -208,7 +208,7 @@ fn the_first_line_that_does_not_fit_is_told(rt: HostRuntime) {
     }
 }
 
-// A file of so many items of weight 1 and cap 0.
+// A file of `count` items of weight 1 and cap 0.
 fn many_items(alloc: Global, count: usize) -> Result<Vec<u8>, AllocError> {
     let mut input = Vec::new(alloc);
     input.extend_from_slice(b"surplus 5\n")?;
@@ -234,7 +234,7 @@ fn the_513th_item_does_not_fit(rt: HostRuntime) {
     }
 }
 
-// The reader gives one byte a call, and a last one tells the end.
+// The reader gives one byte a call, and its last call is the end.
 #[test]
 fn a_failed_read_leaves_nothing(rt: HostRuntime) {
     for call in 0..ACCEPTED.len() as u64 + 1 {

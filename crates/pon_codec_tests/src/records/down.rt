@@ -99,7 +99,7 @@ fn tells_a_refused_map_at_the_pull_after_its_last_byte(rt: HostRuntime) -> Resul
     Ok(())
 }
 
-// Pulls until the record is whole, and again where the device fails; tells how often it failed.
+// Pulls until the record is whole, and again if the device fails; returns the number of failures.
 fn pull_record(reader: &mut DownReader, device: &mut MemRead) -> Result<usize, PullFault> {
     let mut failures = 0usize;
     for _ in 0..50 {
@@ -147,7 +147,7 @@ fn tells_where_the_input_ended(rt: HostRuntime) -> Result<(), Fail> {
     Ok(())
 }
 
-// A map of so many structures, each a burst of its own.
+// A map of `count` structures, each a burst of its own.
 fn long_map(rt: &HostRuntime, count: usize) -> Result<Map, Fail> {
     let mut rows = Vec::new(rt.alloc());
     for _ in 0..count {

@@ -89,7 +89,7 @@ fn gives_none_for_what_is_garbled(rt: HostRuntime) {
     }
 }
 
-// Pulls until the record is whole, and again where the device fails; tells how often it failed.
+// Pulls until the record is whole, and again if the device fails; returns the number of failures.
 fn pull_record(reader: &mut UpReader, device: &mut MemRead) -> Result<usize, PullFault> {
     let mut failures = 0usize;
     for _ in 0..40 {

@@ -32,7 +32,7 @@ fn port_of_admit(line: &[u8]) -> Option<usize> {
     }
 }
 
-// Most of these lines break two checks, and the earlier one is told.
+// Most of these lines break two checks, and the refusal is the earlier one.
 #[test]
 fn tells_the_first_check_that_fails(rt: HostRuntime) {
     for (line, fault) in [

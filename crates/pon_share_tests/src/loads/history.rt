@@ -183,7 +183,7 @@ fn clear(run: &mut Run) {
     }
 }
 
-// So many words to each admitted Alloc-ID.
+// The same number of words to each admitted Alloc-ID.
 fn grants_of(rt: &impl Abort, alloc: Global, places: &[Place], words: Words) -> Vec<Granted> {
     let mut grants = Vec::new(alloc);
     for place in places {
@@ -226,7 +226,7 @@ fn draw_occupancy(rt: &impl Abort, run: &mut Run) -> Option<BufOcc> {
     }
 }
 
-// So many occupancies; now and then one too many.
+// An occupancy for each polled structure; now and then one too many.
 fn draw_occupancies(
     rt: &impl Abort,
     alloc: Global,
@@ -294,7 +294,7 @@ fn note_taken(
     }
 }
 
-// Compares each load with the slow one, and tells how many are above 0.
+// Compares each load with the slow one, and returns the number of those above 0.
 fn compare(rt: &impl Abort, run: &Run, call: u32) -> u32 {
     let mut above: u32 = 0;
     for place in &run.places {

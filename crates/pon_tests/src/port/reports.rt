@@ -59,7 +59,7 @@ fn report(rt: &impl Abort, port: &mut Port, frame: u64, words: Option<u32>) {
     take(rt, port, report_of(rt, frame, 5, words));
 }
 
-// Makes maps, each of one structure with so many payload words.
+// Makes maps, each of one structure with these payload words.
 fn assert_words(rt: &impl Abort, port: &mut Port, wanted: &[u16]) {
     for words in wanted {
         let made = made_map(rt, port);
@@ -195,13 +195,13 @@ fn a_failed_port_takes_descriptors(rt: HostRuntime) {
     assert_words(&rt, &mut port, &[2]);
 }
 
-// Takes an event or, where memory is refused, the same event again.
+// Takes an event or, if memory is refused, the same event again.
 fn again(rt: &impl Abort, port: &mut Port, event: Event, same: Event) {
     let reply = take_again(rt, port, event, same);
     assert!(rt; told_map(reply).is_none());
 }
 
-// One allocation that fails (`rt try --test --fail-alloc N`) changes nothing of what is told.
+// One allocation that fails (`rt try --test --fail-alloc N`) changes no result.
 #[test]
 fn takes_reports_again_where_memory_was_refused(rt: HostRuntime) {
     let mut port = open(&rt, rt.alloc(), 0);
