@@ -20,6 +20,7 @@ pub fn checks_keep_admitted_sets()
 pub fn refused_sets_are_not_admitted()
     ensures admit { (rule : Rule) (gap : ℕ) (rows : List Row) (r : Row) (why : Refusal) →
         IsAdmitted rule gap rows → refuses_admit rule gap rows r ≡ Some why → IsAdmitted rule gap (with_row r rows) → ⊥ }
-    ensures change { (rule : Rule) (gap : ℕ) (rows : List Row) (i : ℕ) (d : Descriptor) (why : Refusal) →
+    ensures change { (rule : Rule) (gap : ℕ) (rows : List Row) (i : ℕ) (d : Descriptor)
+        (why : Refusal) →
         has_alloc i rows ≡ true → refuses_change rule gap rows i d ≡ Some why → IsAdmitted rule gap (with_descriptor i d rows) → ⊥ }
 {}

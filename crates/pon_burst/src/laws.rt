@@ -11,10 +11,13 @@ use crate::FRAME_WORDS;
 
 /// Grants in map order that fit a frame with their gaps have sound bursts.
 pub fn grants_in_map_order_have_sound_bursts()
-    ensures { (gap profile : ℕ) (gs : List Granted) → AreInMapOrder gs → frame_words gap gs ≤ FRAME_WORDS → AreSound gap (map_of gap profile gs) }
+    ensures { (gap profile : ℕ) (gs : List Granted) → AreInMapOrder gs
+        → frame_words gap gs ≤ FRAME_WORDS → AreSound gap (map_of gap profile gs) }
 {}
 
 /// Their structures are a map, where there are at most 512 of them, and at most 16 of each ONU.
 pub fn map_rules()
-    ensures { (gap profile : ℕ) (gs : List Granted) → AreInMapOrder gs → ((u : ℕ) → count_by (λ g. g.onu == u) gs ≤ 16) → length gs ≤ 512 → frame_words gap gs ≤ FRAME_WORDS → IsMap (map_of gap profile gs) }
+    ensures { (gap profile : ℕ) (gs : List Granted) → AreInMapOrder gs
+        → ((u : ℕ) → count_by (λ g. g.onu == u) gs ≤ 16) → length gs ≤ 512
+        → frame_words gap gs ≤ FRAME_WORDS → IsMap (map_of gap profile gs) }
 {}

@@ -53,8 +53,10 @@ fn write_burst(
     requires fit { sum_by (λ a. 1 + a.1) allocs.now ≤ FRAME_WORDS }
     requires room { from + length allocs.now ≤ length out.old }
     ensures grants { result ≡ sum_by (λ a. 1 + a.1) allocs.now }
-    ensures structures { take (from + length allocs.now) out.new ≡ take from out.old ++ burst_structures profile start allocs.now }
-    ensures rest { drop (from + length allocs.now) out.new ≡ drop (from + length allocs.now) out.old }
+    ensures structures { take (from + length allocs.now) out.new
+        ≡ take from out.old ++ burst_structures profile start allocs.now }
+    ensures rest { drop (from + length allocs.now) out.new
+        ≡ drop (from + length allocs.now) out.old }
 {
     let mut grants = 0;
     for (k, alloc) in allocs.iter().enumerate() {

@@ -43,7 +43,8 @@ fn put_level(bytes: &mut Vec<u8>, level: &Level) -> Result<(), AllocError>
 }
 
 fn put_numbers(bytes: &mut Vec<u8>, kind: u8, num: u64, den: u64) -> Result<(), AllocError>
-    ensures { IsOk result → bytes.new.items ≡ bytes.old.items ++ kind ∷ (to_be_bytes w64 num ++ to_be_bytes w64 den) }
+    ensures { IsOk result → bytes.new.items ≡ bytes.old.items
+        ++ kind ∷ (to_be_bytes w64 num ++ to_be_bytes w64 den) }
 {
     bytes.push(kind)?;
     bytes.extend_from_slice(&num.to_be_bytes())?;

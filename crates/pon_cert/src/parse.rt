@@ -66,7 +66,8 @@ fn cut(text: &str, at: char) -> Option<(&str, &str)>
 
 // Whether a word may be a number: it begins with a digit, which is 0 only if it is the whole word.
 fn is_plain(word: &str) -> bool
-    ensures { IsTrue result ↔ ((0 < length word.now) × (slice_index word.now 0 ≢ 43) × (slice_index word.now 0 ≡ 48 → length word.now ≡ 1)) }
+    ensures { IsTrue result ↔ ((0 < length word.now) × (slice_index word.now 0 ≢ 43)
+        × (slice_index word.now 0 ≡ 48 → length word.now ≡ 1)) }
 {
     let bytes = word.as_bytes();
     !bytes.is_empty() && bytes[0] != b'+' && (bytes[0] != b'0' || bytes.len() == 1)
@@ -74,7 +75,8 @@ fn is_plain(word: &str) -> bool
 
 // The number that a word writes without leading zeros, `None` for another word and from 2^64 on.
 fn number_of(word: &str) -> Option<u64>
-    ensures value { MatchOption result ((n : ℕ) → n < 2 ^ 64 → decimal n ≡ word.now → ⊥) (λ n. decimal n ≡ word.now) }
+    ensures value { MatchOption result ((n : ℕ) → n < 2 ^ 64 → decimal n ≡ word.now → ⊥)
+        (λ n. decimal n ≡ word.now) }
     ensures small { IfSome result (λ n. n < 2 ^ 64) }
 {
     if !is_plain(word) {
@@ -111,7 +113,8 @@ fn level_of(word: &str) -> Option<Level>
 }
 
 fn fraction(num: u64, den: u64) -> Option<Level>
-    ensures { MatchOption result (den ≡ 0) (λ l. (0 < den) × (l ≡ Level.At (record { num = num; den = den }))) }
+    ensures { MatchOption result (den ≡ 0) (λ l. (0 < den)
+        × (l ≡ Level.At (record { num = num; den = den }))) }
 {
     if den == 0 {
         return None;
@@ -172,7 +175,8 @@ fn push_flag(flags: Option<Vec<bool>>, flag: bool) -> Option<Vec<bool>>
 // items, the inner one where memory was refused.
 fn flags_of(alloc: Global, names: &[AllocId], set: &str) -> Option<Option<Vec<bool>>>
     ensures small { AllByRecursion (λ n. n < 2 ^ 64) names.now }
-    ensures value { MatchOption result (met names.now (parts_of set.now) ≡ None) (λ flags. HaveFlags flags (met names.now (parts_of set.now))) }
+    ensures value { MatchOption result (met names.now (parts_of set.now) ≡ None)
+        (λ flags. HaveFlags flags (met names.now (parts_of set.now))) }
 {
     let mut left = Names::of(set);
     let mut flags = Some(Vec::new(alloc));
@@ -199,7 +203,8 @@ fn class_of(alloc: Global, names: &[AllocId], level: &str, set: &str) -> Option<
 }
 
 fn with_flags(level: Level, flags: Option<Vec<bool>>) -> Option<ClassCert>
-    ensures { (fs : List Bool) → IfSome flags (λ v. v.items ≡ fs) → IfSome result (λ c. c ≡ record { level = level; saturated = fs }) }
+    ensures { (fs : List Bool) → IfSome flags (λ v. v.items ≡ fs)
+        → IfSome result (λ c. c ≡ record { level = level; saturated = fs }) }
 {
     Some(ClassCert {
         level,

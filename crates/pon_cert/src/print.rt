@@ -55,7 +55,8 @@ fn fraction_text(alloc: Global, num: u64, den: u64) -> Result<String, AllocError
 // The names of the saturated items.
 fn set_text(alloc: Global, names: &[AllocId], saturated: &[bool]) -> Result<String, AllocError>
     requires { length saturated.now ≡ length names.now }
-    ensures { IfOk result (λ text. string_bytes text ≡ names_text (saturated_names names.now saturated.now)) }
+    ensures { IfOk result (λ text. string_bytes text
+        ≡ names_text (saturated_names names.now saturated.now)) }
 {
     let mut text = String::new(alloc);
     for (i, name) in names.iter().enumerate() {
@@ -71,8 +72,10 @@ fn set_text(alloc: Global, names: &[AllocId], saturated: &[bool]) -> Result<Stri
 
 // Appends a name, after a comma if it is not the first.
 fn add_name(alloc: Global, text: &mut String, name: AllocId) -> Result<(), AllocError>
-    ensures first { IsOk result → string_bytes text.old ≡ [] → string_bytes text.new ≡ decimal name }
-    ensures later { IsOk result → 0 < length (string_bytes text.old) → string_bytes text.new ≡ string_bytes text.old ++ 44 ∷ decimal name }
+    ensures first { IsOk result → string_bytes text.old ≡ []
+        → string_bytes text.new ≡ decimal name }
+    ensures later { IsOk result → 0 < length (string_bytes text.old)
+        → string_bytes text.new ≡ string_bytes text.old ++ 44 ∷ decimal name }
     ensures some { IsOk result → 0 < length (string_bytes text.new) }
 {
     if !text.is_empty() {

@@ -32,7 +32,8 @@ fn first_failing(level: &Level, items: &[Item], saturated: &[bool]) -> Option<us
     requires lengths { length items.now ≡ length saturated.now }
     requires each { All IsItem items.now }
     ensures none { IfNone result (AllZip (RuleHolds level.now) items.now saturated.now) }
-    ensures some { IfSome result (λ i. (i < length items.now) × (flag : Bool) × FailsFirst level.now items.now saturated.now i flag) }
+    ensures some { IfSome result (λ i. (i < length items.now) × (flag : Bool)
+        × FailsFirst level.now items.now saturated.now i flag) }
 {
     for i in 0..items.len() {
         if !rule_holds(level, items[i], saturated[i]) {
@@ -95,7 +96,8 @@ pub fn check_class(items: &[Item], surplus: u64, cert: &ClassCert) -> Result<(),
     ensures accepted { IsOk result ↔ IsCertificate items.now surplus cert.now }
     ensures fault { IfErr result (IsFirstFault items.now surplus cert.now) }
     ensures fairest { OnOk result (IsFairest items.now surplus (spelled items.now cert.now)) }
-    ensures only { OnOk result ((other : ClassCert) → IsCertificate items.now surplus other → other ≡ cert.now) }
+    ensures only { OnOk result ((other : ClassCert) → IsCertificate items.now surplus other
+        → other ≡ cert.now) }
 {
     let saturated = cert.saturated.as_slice();
     if items.len() != saturated.len() {

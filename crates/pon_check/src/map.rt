@@ -20,9 +20,13 @@ pub fn check_map(na: &[Item], be: &[Item], surplus: u64, cert: &MapCert) -> Resu
     requires best_effort { IsProblem be.now surplus }
     ensures accepted { IsOk result ↔ IsMapCertificate na.now be.now surplus cert.now }
     ensures fault { IfErr result (IsFirstMapFault na.now be.now surplus cert.now) }
-    ensures fairest_non_assured { OnOk result (IsFairest na.now surplus (spelled na.now cert.now.na)) }
-    ensures fairest_best_effort { OnOk result (IsFairest be.now (left_surplus cert.now.na.level na.now surplus) (spelled be.now cert.now.be)) }
-    ensures only { OnOk result ((other : MapCert) → IsMapCertificate na.now be.now surplus other → other ≡ cert.now) }
+    ensures fairest_non_assured { OnOk result
+        (IsFairest na.now surplus (spelled na.now cert.now.na)) }
+    ensures fairest_best_effort { OnOk result
+        (IsFairest be.now (left_surplus cert.now.na.level na.now surplus)
+        (spelled be.now cert.now.be)) }
+    ensures only { OnOk result ((other : MapCert) → IsMapCertificate na.now be.now surplus other
+        → other ≡ cert.now) }
 {
     if let Err(fault) = check_class(na, surplus, &cert.na) {
         return Err(MapCertFault::NonAssured(fault));

@@ -24,7 +24,8 @@ struct Answer {
 }
 
 fn syntax_line(alloc: Global, line: u64) -> Result<String, AllocError>
-    ensures { IfOk result (λ text. string_bytes text ≡ codes "no Syntax " ++ decimal line ++ 10 ∷ []) }
+    ensures { IfOk result (λ text. string_bytes text
+        ≡ codes "no Syntax " ++ decimal line ++ 10 ∷ []) }
 {
     format!(in alloc; "no Syntax {line}\n")
 }
@@ -44,7 +45,12 @@ fn yes_line(alloc: Global) -> Result<String, AllocError>
 // The answer to a problem and a certificate.
 fn judge(alloc: Global, file: &CheckFile) -> Result<Answer, AllocError>
     requires { IsProblem file.now.items.items file.now.surplus }
-    ensures { IfOk result (λ a. IsAnswer (Ok (record { surplus = file.now.surplus; items = file.now.items.items; cert = file.now.cert })) a.accepted (string_bytes a.line)) }
+    ensures { IfOk result
+        (λ a. IsAnswer (Ok (record {
+          surplus = file.now.surplus;
+          items = file.now.items.items;
+          cert = file.now.cert;
+        })) a.accepted (string_bytes a.line)) }
 {
     match check_class(&file.items, file.surplus, &file.cert) {
         Ok(()) => Ok(Answer {
@@ -60,7 +66,8 @@ fn judge(alloc: Global, file: &CheckFile) -> Result<Answer, AllocError>
 
 // The answer to the text of a file.
 fn answer_of(alloc: Global, text: &[u8]) -> Result<Answer, AllocError>
-    ensures { IfOk result (λ a. IsAnswer (file_of (file_lines text.now)) a.accepted (string_bytes a.line)) }
+    ensures { IfOk result (λ a. IsAnswer (file_of (file_lines text.now)) a.accepted
+        (string_bytes a.line)) }
 {
     match parse(alloc, text)? {
         Parsed::File(file) => judge(alloc, &file),
@@ -87,9 +94,11 @@ pub fn check_file<R: DevRead, W: DevWrite>(
     reader: &mut R,
     writer: &mut W,
 ) -> Result<bool, PlanFault>
-    ensures text { Checked (R.remaining reader.old) (R.remaining reader.new) (W.contents writer.old) (W.contents writer.new) result }
+    ensures text { Checked (R.remaining reader.old) (R.remaining reader.new) (W.contents writer.old)
+        (W.contents writer.new) result }
     ensures end { ReadsToEnd (R.remaining reader.new) result }
-    ensures read { TellsRead (R.calls reader.old) (R.calls reader.new) (R.failures reader.old) (R.failures reader.new) result }
+    ensures read { TellsRead (R.calls reader.old) (R.calls reader.new) (R.failures reader.old)
+        (R.failures reader.new) result }
     ensures write { TellsWrite (W.failures writer.old) (W.failures writer.new) result }
 {
     let text = match read_all(alloc, reader) {

@@ -91,7 +91,8 @@ fn items_of(alloc: Global, text: &[u8]) -> Result<(Vec<Item>, &[u8]), AllocError
     ensures value { IfOk result (λ p. p.0.items ≡ items_of (file_lines text.now)) }
     ensures lawful { IfOk result (λ p. All IsItem p.0.items) }
     ensures count { IfOk result (λ p. length p.0.items ≤ MOST_ITEMS) }
-    ensures rest { IfOk result (λ p. file_lines p.1.now ≡ drop (length p.0.items) (file_lines text.now)) }
+    ensures rest { IfOk result (λ p. file_lines p.1.now
+        ≡ drop (length p.0.items) (file_lines text.now)) }
 {
     let mut items = Vec::new(alloc);
     let mut rest = text;
@@ -108,7 +109,8 @@ fn items_of(alloc: Global, text: &[u8]) -> Result<(Vec<Item>, &[u8]), AllocError
 // The first line that is not empty, where the text begins with line `first`.
 fn first_filled(first: u64, text: &[u8]) -> Option<u64>
     requires { first ≤ MOST_ITEMS + 4 }
-    ensures { MatchOption result (are_empty first (file_lines text.now) ≡ Ok tt) (λ n. are_empty first (file_lines text.now) ≡ Err n) }
+    ensures { MatchOption result (are_empty first (file_lines text.now) ≡ Ok tt)
+        (λ n. are_empty first (file_lines text.now) ≡ Err n) }
 {
     let mut number = first;
     let mut rest = text;

@@ -47,9 +47,12 @@ impl Descriptor {
     /// and assured rate together, `NeedsGuarantee` for the non-assured class without them, `NoSurplusRoom` for a class
     /// that shares surplus with no room above them.
     pub fn new(fixed: u64, assured: u64, max: u64, class: Class) -> Result<Self, Refusal>
-        ensures ok { IfOk result (λ d. d ≡ record { fixed = fixed; assured = assured; max = max; class = class }) }
-        ensures refused { IfErr result (λ why. descriptor_refusal (record { fixed = fixed; assured = assured; max = max; class = class }) ≡ Some why) }
-        ensures lawful { IsOk result ↔ IsLawful (record { fixed = fixed; assured = assured; max = max; class = class }) }
+        ensures ok { IfOk result
+            (λ d. d ≡ record { fixed = fixed; assured = assured; max = max; class = class }) }
+        ensures refused { IfErr result (λ why. descriptor_refusal
+            (record { fixed = fixed; assured = assured; max = max; class = class }) ≡ Some why) }
+        ensures lawful { IsOk result ↔ IsLawful
+            (record { fixed = fixed; assured = assured; max = max; class = class }) }
     {
         if fixed > 2_488_320 || assured > 2_488_320 || max > 2_488_320 {
             return Err(Refusal::RateRange);

@@ -32,7 +32,8 @@ fn integer_at(table: &Table, key: &str) -> Option<i64>
 
 // The text at a key.
 fn text_at<'a>(table: &'a Table, key: &str) -> Option<&'a str>
-    ensures { option_map (λ text. text.now) result ≡ option_and_then as_str (get_member key.now (table_view table.now)) }
+    ensures { option_map (λ text. text.now) result
+        ≡ option_and_then as_str (get_member key.now (table_view table.now)) }
 {
     match table.get(key) {
         Some(value) => value.as_str(),

@@ -72,7 +72,8 @@ impl DevRead for MemRead {
         ensures failures { CountsFailure self.old.failures self.new.failures result }
         ensures bytes { ReadConsumes (Some self.old.left) (Some self.new.left) result buf.new }
         ensures failing { IsErr result ↔ Contains self.old.failing self.old.calls }
-        ensures given { IfOk result (λ n. n ≡ min (min self.old.most (length buf.old)) (length self.old.left)) }
+        ensures given { IfOk result (λ n. n ≡ min (min self.old.most (length buf.old))
+            (length self.old.left)) }
         ensures orders { (self.new.most ≡ self.old.most) × (self.new.failing ≡ self.old.failing) }
     {
         let call = self.made;

@@ -3,6 +3,7 @@ ghost use Rattle.pon_cert.specs.Problem.{IsItem, IsProblem};
 ghost use Rattle.pon_cert.specs.Certificate.{IsCertificate};
 
 use crate::order::order;
+use crate::rounds::fill_in_rounds;
 use pon_cert::{Item, Level};
 use pon_units::Frac;
 
@@ -19,17 +20,8 @@ pub(crate) fn total_weight(items: &[Item]) -> u64
     total
 }
 
-/// Shares the surplus among the items in proportion to their weights, no item getting more than its cap:
-/// leaves in `saturated` which items are, and answers the level, how much another item gets for each unit
-/// of its weight. What it leaves is the certificate of the problem, of which there is one: the fairest share.
-///
-/// The caller's conditions: `items`, `scratch` and `saturated` are of one length, 512 at most; each weight is 1
-/// to 2,488,320, each cap and the surplus 0 to 2,488,320 kbit/s. It always succeeds and takes no memory: what
-/// stood in `saturated` is written over, and `scratch` is lent room that it may use.
-///
-/// In proportion to weight until saturated: the rate-proportional reference model of ITU-T G.987.3. Sorting the items
-/// by the level that meets their caps is this crate's own.
-pub fn fill(items: &[Item], surplus: u64, scratch: &mut [u16], saturated: &mut [bool]) -> Level
+// Takes the items in the order in which their caps are met, up to the first whose cap is not.
+fn fill_sorted(items: &[Item], surplus: u64, scratch: &mut [u16], saturated: &mut [bool]) -> Level
     requires problem { IsProblem items.now surplus }
     requires flags { length saturated.old ≡ length items.now }
     requires scratch { length scratch.old ≡ length items.now }
@@ -50,4 +42,29 @@ pub fn fill(items: &[Item], surplus: u64, scratch: &mut [u16], saturated: &mut [
         weight -= item.weight;
     }
     Level::All
+}
+
+// The most rounds of filling before the items are sorted.
+const MOST_ROUNDS: u32 = 4;
+
+/// Shares the surplus among the items in proportion to their weights, no item getting more than its cap:
+/// leaves in `saturated` which items are, and answers the level, how much another item gets for each unit
+/// of its weight. What it leaves is the certificate of the problem, of which there is one: the fairest share.
+///
+/// The caller's conditions: `items`, `scratch` and `saturated` are of one length, 512 at most; each weight is 1
+/// to 2,488,320, each cap and the surplus 0 to 2,488,320 kbit/s. It always succeeds and takes no memory: what
+/// stood in `saturated` is written over, and `scratch` is lent room that it may use.
+///
+/// In proportion to weight until saturated: the rate-proportional reference model of ITU-T G.987.3. Filling in rounds, and
+/// sorting the items by the level that meets their caps where a few rounds do not end it, is this crate's own.
+pub fn fill(items: &[Item], surplus: u64, scratch: &mut [u16], saturated: &mut [bool]) -> Level
+    requires problem { IsProblem items.now surplus }
+    requires flags { length saturated.old ≡ length items.now }
+    requires scratch { length scratch.old ≡ length items.now }
+    ensures { IsCertificate items.now surplus record { level = result; saturated = saturated.new } }
+{
+    match fill_in_rounds(items, surplus, MOST_ROUNDS, saturated) {
+        Some(level) => level,
+        None => fill_sorted(items, surplus, scratch, saturated),
+    }
 }

@@ -1,4 +1,4 @@
-ghost use Rattle.std.specs.Prelude.{◌≡◌, ◌+◌, ◌*◌, ◌≤◌, length, All, sum_by};
+ghost use Rattle.std.specs.Prelude.{◌≡◌, ◌+◌, ◌*◌, ◌≤◌, length, All, IfSome, sum_by};
 ghost use Rattle.pon_cert.specs.Problem.{IsItem, IsProblem};
 ghost use Rattle.pon_cert.specs.Certificate.{IsCertificate, unsaturated_weight};
 ghost use Rattle.pon_fill.specs.Rounds.{taken_in, saturated_caps};
@@ -22,8 +22,10 @@ fn take_in(items: &[Item], left: u64, weight: u64, saturated: &mut [bool]) -> Ta
     requires left { left ≤ 2488320 }
     requires weight { weight ≤ 512 * 2488320 }
     ensures taken { saturated.new ≡ taken_in left weight items.now saturated.old }
-    ensures weight { unsaturated_weight items.now saturated.new + result.weight ≡ unsaturated_weight items.now saturated.old }
-    ensures caps { saturated_caps items.now saturated.new ≡ saturated_caps items.now saturated.old + result.caps }
+    ensures weight { unsaturated_weight items.now saturated.new + result.weight
+        ≡ unsaturated_weight items.now saturated.old }
+    ensures caps { saturated_caps items.now saturated.new
+        ≡ saturated_caps items.now saturated.old + result.caps }
 {
     let mut taken = Taken { weight: 0, caps: 0 };
     for (i, item) in items.iter().enumerate() {
@@ -36,22 +38,31 @@ fn take_in(items: &[Item], left: u64, weight: u64, saturated: &mut [bool]) -> Ta
     taken
 }
 
-// The plain body that `fill` is tested against: rounds, until none comes in.
-pub(crate) fn fill_in_rounds(items: &[Item], surplus: u64, saturated: &mut [bool]) -> Level
+/// Fills in rounds until none comes in, and leaves in `saturated` what came in; `None` if `most` rounds do not end it.
+pub(crate) fn fill_in_rounds(
+    items: &[Item],
+    surplus: u64,
+    most: u32,
+    saturated: &mut [bool],
+) -> Option<Level>
     requires problem { IsProblem items.now surplus }
     requires flags { length saturated.old ≡ length items.now }
-    ensures { IsCertificate items.now surplus record { level = result; saturated = saturated.new } }
+    ensures { IfSome result (λ level. IsCertificate items.now surplus
+        record { level = level; saturated = saturated.new }) }
 {
     saturated.fill(false);
     let mut left = surplus;
     let mut weight = total_weight(items);
-    while weight > 0 {
+    for _round in 0..most {
+        if weight == 0 {
+            return Some(Level::All);
+        }
         let taken = take_in(items, left, weight, saturated);
         if taken.weight == 0 {
-            return Level::At(Frac::new(left, weight));
+            return Some(Level::At(Frac::new(left, weight)));
         }
         left -= taken.caps;
         weight -= taken.weight;
     }
-    Level::All
+    None
 }

@@ -145,8 +145,8 @@ fn assert_as_rounds(rt: &impl Abort, items: &[Item], surplus: u64) {
     let mut in_rounds = [false; 512];
     let saturated = &mut saturated[..items.len()];
     let in_rounds = &mut in_rounds[..items.len()];
-    let level = fill_in_rounds(items, surplus, in_rounds);
-    assert_eq!(rt; share(rt, items, surplus, saturated), level);
+    let level = fill_in_rounds(items, surplus, 513, in_rounds);
+    assert_eq!(rt; Some(share(rt, items, surplus, saturated)), level);
     assert!(rt; *saturated == *in_rounds);
 }
 

@@ -25,8 +25,10 @@ pub struct Account {
 fn place_of(accounts: &[Account], alloc_id: AllocId) -> usize
     requires { AreRising (alloc_ids accounts.now) }
     ensures within { result ≤ length accounts.now }
-    ensures lesser { take result accounts.now ≡ filter (λ a. nat_lt a.alloc_id alloc_id) accounts.now }
-    ensures others { drop result accounts.now ≡ filter (λ a. not (nat_lt a.alloc_id alloc_id)) accounts.now }
+    ensures lesser { take result accounts.now
+        ≡ filter (λ a. nat_lt a.alloc_id alloc_id) accounts.now }
+    ensures others { drop result accounts.now
+        ≡ filter (λ a. not (nat_lt a.alloc_id alloc_id)) accounts.now }
 {
     accounts.partition_point(|account| account.alloc_id.get() < alloc_id.get())
 }
@@ -34,7 +36,8 @@ fn place_of(accounts: &[Account], alloc_id: AllocId) -> usize
 /// Where the account of an Alloc-ID stands, by a search by halves.
 pub(crate) fn index_of(accounts: &[Account], alloc_id: AllocId) -> Option<usize>
     requires { AreRising (alloc_ids accounts.now) }
-    ensures { MatchOption result (account_of accounts.now alloc_id ≡ None) (StandsAt accounts.now alloc_id) }
+    ensures { MatchOption result (account_of accounts.now alloc_id ≡ None)
+        (StandsAt accounts.now alloc_id) }
 {
     let place = place_of(accounts, alloc_id);
     if place < accounts.len() && accounts[place].alloc_id == alloc_id {
@@ -47,7 +50,8 @@ pub(crate) fn index_of(accounts: &[Account], alloc_id: AllocId) -> Option<usize>
 /// Where the account of an Alloc-ID stands: at the hint where it is there, else by a search by halves.
 pub(crate) fn index_near(accounts: &[Account], hint: usize, alloc_id: AllocId) -> Option<usize>
     requires { AreRising (alloc_ids accounts.now) }
-    ensures { MatchOption result (account_of accounts.now alloc_id ≡ None) (StandsAt accounts.now alloc_id) }
+    ensures { MatchOption result (account_of accounts.now alloc_id ≡ None)
+        (StandsAt accounts.now alloc_id) }
 {
     if hint < accounts.len() && accounts[hint].alloc_id == alloc_id {
         return Some(hint);

@@ -57,7 +57,9 @@ fn count_occupancies(
     requires rising { AreRising (alloc_ids accounts.old) }
     requires asked { IsLawfulMap asked.now }
     requires place { place ≤ length window.now }
-    ensures { accounts.new ≡ after_occupancies (λ i. sum_by (words_to onu i) (drop place window.now)) asked.now.frame (filter (λ g. g.onu == onu) asked.now.grants) occupancies.now accounts.old }
+    ensures { accounts.new ≡ after_occupancies
+        (λ i. sum_by (words_to onu i) (drop place window.now)) asked.now.frame
+        (filter (λ g. g.onu == onu) asked.now.grants) occupancies.now accounts.old }
 {
     let frame = asked.frame();
     let mut hint = asked.first_of(onu);
@@ -82,7 +84,8 @@ pub(crate) fn count_report(
 )
     requires rising { AreRising (alloc_ids accounts.old) }
     requires there { list_any (is_of frame) window.now ≡ true }
-    ensures { accounts.new ≡ after_occupancies (λ i. words_to_from onu i frame window.now) frame (grants_at frame onu window.now) occupancies.now accounts.old }
+    ensures { accounts.new ≡ after_occupancies (λ i. words_to_from onu i frame window.now) frame
+        (grants_at frame onu window.now) occupancies.now accounts.old }
 {
     let place = match window.place_of(frame) {
         Some(place) => place,

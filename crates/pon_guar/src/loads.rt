@@ -200,8 +200,10 @@ impl Loads {
         occupancies: &[Option<BufOcc>],
     ) -> Result<(), Refusal>
         ensures ok { OnOk result (self.new ≡ after_reported self.old frame onu occupancies.now) }
-        ensures accepted { OnOk result (refuses_report self.old.window frame onu (length occupancies.now) ≡ None) }
-        ensures refused { IfErr result (IsTold (refuses_report self.old.window frame onu (length occupancies.now))) }
+        ensures accepted { OnOk result (refuses_report self.old.window frame onu
+            (length occupancies.now) ≡ None) }
+        ensures refused { IfErr result (IsTold
+            (refuses_report self.old.window frame onu (length occupancies.now))) }
         ensures err { OnErr result (self.new ≡ self.old) }
     {
         if let Some(refusal) = self.report_refusal(frame, onu, occupancies.len()) {

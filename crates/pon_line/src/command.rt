@@ -28,7 +28,13 @@ pub(crate) enum Command {
 // The event of an `admit`, by the checks of its numbers in order.
 #[tactic(auto, unfolding(crate::specs::Commands::admit))]
 fn admit(onu: u64, alloc: u64, rates: &Rates) -> Result<Event, LineFault>
-    ensures { result ≡ admit onu alloc (record { fixed = rates.now.fixed; assured = rates.now.assured; max = rates.now.max; class = rates.now.class }) }
+    ensures { result ≡ admit onu alloc
+        (record {
+          fixed = rates.now.fixed;
+          assured = rates.now.assured;
+          max = rates.now.max;
+          class = rates.now.class;
+        }) }
 {
     let Some(alloc_id) = alloc_id_of(alloc) else {
         return Err(LineFault::Port(Refusal::AllocRange));
@@ -49,7 +55,13 @@ fn admit(onu: u64, alloc: u64, rates: &Rates) -> Result<Event, LineFault>
 // The event of a `change`.
 #[tactic(auto, unfolding(crate::specs::Commands::change))]
 fn change(alloc: u64, rates: &Rates) -> Result<Event, LineFault>
-    ensures { result ≡ change alloc (record { fixed = rates.now.fixed; assured = rates.now.assured; max = rates.now.max; class = rates.now.class }) }
+    ensures { result ≡ change alloc
+        (record {
+          fixed = rates.now.fixed;
+          assured = rates.now.assured;
+          max = rates.now.max;
+          class = rates.now.class;
+        }) }
 {
     let Some(alloc_id) = alloc_id_of(alloc) else {
         return Err(LineFault::Port(Refusal::AllocRange));

@@ -107,9 +107,27 @@ pub(crate) fn rate_fields(words: &DescriptorWords<'_>) -> Result<Rates, LineFaul
 
 /// The descriptor of the rates that a line asks for.
 pub(crate) fn descriptor_of(rates: &Rates) -> Result<Descriptor, Refusal>
-    ensures ok { IfOk result (λ d. d ≡ record { fixed = rates.now.fixed; assured = rates.now.assured; max = rates.now.max; class = rates.now.class }) }
-    ensures lawful { IfOk result (λ d. descriptor_refusal (record { fixed = rates.now.fixed; assured = rates.now.assured; max = rates.now.max; class = rates.now.class }) ≡ None) }
-    ensures refused { IfErr result (λ why. descriptor_refusal (record { fixed = rates.now.fixed; assured = rates.now.assured; max = rates.now.max; class = rates.now.class }) ≡ Some why) }
+    ensures ok { IfOk result
+        (λ d. d ≡ record {
+          fixed = rates.now.fixed;
+          assured = rates.now.assured;
+          max = rates.now.max;
+          class = rates.now.class;
+        }) }
+    ensures lawful { IfOk result (λ d. descriptor_refusal
+        (record {
+          fixed = rates.now.fixed;
+          assured = rates.now.assured;
+          max = rates.now.max;
+          class = rates.now.class;
+        }) ≡ None) }
+    ensures refused { IfErr result (λ why. descriptor_refusal
+        (record {
+          fixed = rates.now.fixed;
+          assured = rates.now.assured;
+          max = rates.now.max;
+          class = rates.now.class;
+        }) ≡ Some why) }
 {
     Descriptor::new(rates.fixed, rates.assured, rates.max, rates.class)
 }

@@ -93,5 +93,6 @@ pub fn read_line(ports: usize, line: &[u8]) -> Reading
 
 /// A line that is too long reads the same by its first 4,097 bytes, so a reader may let the others go.
 pub fn long_lines()
-    ensures { (ports : ℕ) (line : List ℕ) → read_line ports (take 4097 line) ≡ read_line ports line }
+    ensures { (ports : ℕ) (line : List ℕ) → read_line ports (take 4097 line)
+        ≡ read_line ports line }
 {}

@@ -19,7 +19,8 @@ pub fn encode_up(burst: &UpRecord) -> ArrayVec<u8, 78>
     requires limit { length burst.now.occ ≤ 16 }
     requires reports { All IsSome burst.now.occ }
     ensures reads { IsRecord result.items burst.now }
-    ensures sealed { IfSome burst.now.head (λ h. slice_range result.items 9 13 ≡ header_bytes (burst_head_payload h)) }
+    ensures sealed { IfSome burst.now.head (λ h. slice_range result.items 9 13
+        ≡ header_bytes (burst_head_payload h)) }
 {
     let reports = burst.occ.as_slice();
     let Some(head) = burst.head else {
@@ -40,7 +41,8 @@ fn front(frame: FrameNo, head: &BurstHead, count: usize) -> ArrayVec<u8, 78>
     requires { count ≤ 16 }
     ensures frame { frame < 2 ^ 64 }
     ensures head { FitsBurstHead head.now }
-    ensures spelled { result.items ≡ 0x55 ∷ (to_be_bytes w64 frame ++ header_bytes (burst_head_payload head.now) ++ count ∷ []) }
+    ensures spelled { result.items ≡ 0x55 ∷ (to_be_bytes w64 frame
+        ++ header_bytes (burst_head_payload head.now) ++ count ∷ []) }
 {
     prove!(head.onu_raw() <= 1023 && head.ind() <= 511);
     let mut bytes = ArrayVec::new();

@@ -48,7 +48,8 @@ fn announced(direction: Direction, bytes: &[u8]) -> Option<usize>
 
 // The size of a record with this count byte.
 fn up_size(count: u8) -> Option<usize>
-    ensures { MatchOption result ((count ≡ 0) ⊎ (16 < count)) (λ n. (1 ≤ count) × (count ≤ 16) × (n ≡ 14 + 4 * count)) }
+    ensures { MatchOption result ((count ≡ 0) ⊎ (16 < count))
+        (λ n. (1 ≤ count) × (count ≤ 16) × (n ≡ 14 + 4 * count)) }
 {
     if count == 0 || count > 16 {
         return None;
@@ -73,7 +74,8 @@ fn down_size(map: &[u8]) -> Option<usize>
 
 // Why the bytes begin no record.
 pub(crate) fn form_fault(direction: Direction, bytes: &[u8]) -> Option<LinkFault>
-    ensures value { MatchOption result (KeepsForm direction bytes.now) (λ f. HasFault record { direction = direction; held = bytes.now; ended = false } f) }
+    ensures value { MatchOption result (KeepsForm direction bytes.now)
+        (λ f. HasFault record { direction = direction; held = bytes.now; ended = false } f) }
     ensures closed { OnSome result (IsBeginning direction bytes.now → ⊥) }
 {
     if bytes.is_empty() {
@@ -101,8 +103,10 @@ fn bad_size(direction: Direction) -> LinkFault
 pub(crate) fn needed(direction: Direction, bytes: &[u8]) -> usize
     requires form { KeepsForm direction bytes.now }
     requires within { IsWithinRecord direction bytes.now }
-    ensures untold { length bytes.now < told_by direction → length bytes.now + result ≡ told_by direction }
-    ensures told { told_by direction ≤ length bytes.now → Announces direction bytes.now (length bytes.now + result) }
+    ensures untold { length bytes.now < told_by direction
+        → length bytes.now + result ≡ told_by direction }
+    ensures told { told_by direction ≤ length bytes.now
+        → Announces direction bytes.now (length bytes.now + result) }
     ensures more { IsBeginning direction bytes.now → 0 < result }
 {
     let telling = telling(direction);

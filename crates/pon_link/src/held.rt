@@ -66,7 +66,8 @@ impl<const N: usize> Held<N> {
     pub(crate) fn feed(&mut self, piece: &[u8]) -> usize
         ensures count { result ≤ length piece.now }
         ensures held { self.new ≡ holds_more self.old (take result piece.now) }
-        ensures while_open { (k : ℕ) → k < result → IsOpen (holds_more self.old (take k piece.now)) }
+        ensures while_open { (k : ℕ) → k < result
+            → IsOpen (holds_more self.old (take k piece.now)) }
         ensures stops { result < length piece.now → IsOpen self.new → ⊥ }
     {
         let mut taken = 0;
@@ -80,7 +81,8 @@ impl<const N: usize> Held<N> {
     // The fault that was met, but for a map that is refused.
     pub(crate) fn fault(&self) -> Option<LinkFault>
         ensures within { IsWithinRecord self.now.direction self.now.held }
-        ensures value { MatchOption result (KeepsForm self.now.direction self.now.held × (self.now.ended ≡ false)) (λ f. HasFault self.now f) }
+        ensures value { MatchOption result (KeepsForm self.now.direction self.now.held
+            × (self.now.ended ≡ false)) (λ f. HasFault self.now f) }
         ensures closed { OnSome result (IsOpen self.now → ⊥) }
     {
         if self.ended {
@@ -94,8 +96,10 @@ impl<const N: usize> Held<N> {
     // The number of bytes that the record surely still needs, 0 exactly when it is whole.
     pub(crate) fn needed(&self) -> usize
         requires { KeepsForm self.now.direction self.now.held }
-        ensures untold { length self.now.held < telling self.now.direction → length self.now.held + result ≡ telling self.now.direction }
-        ensures told { telling self.now.direction ≤ length self.now.held → Announces self.now.direction self.now.held (length self.now.held + result) }
+        ensures untold { length self.now.held < telling self.now.direction
+            → length self.now.held + result ≡ telling self.now.direction }
+        ensures told { telling self.now.direction ≤ length self.now.held
+            → Announces self.now.direction self.now.held (length self.now.held + result) }
         ensures some { 0 < result → IsBeginning self.now.direction self.now.held }
         ensures none { result ≡ 0 → IsWhole self.now.direction self.now.held }
         ensures more { IsBeginning self.now.direction self.now.held → 0 < result }
@@ -107,7 +111,8 @@ impl<const N: usize> Held<N> {
     // The fault of a whole record, of which the map is refused.
     fn refused(&self) -> Option<LinkFault>
         requires { IsWhole self.now.direction self.now.held }
-        ensures { MatchOption result (IsReady self.now.direction self.now.held) (λ f. HasFault self.now f) }
+        ensures { MatchOption result (IsReady self.now.direction self.now.held)
+            (λ f. HasFault self.now f) }
     {
         match self.direction {
             Direction::Up => None,
@@ -158,7 +163,8 @@ impl<const N: usize> Held<N> {
 
     // Reads once, up to the bytes that give the record's size or up to its end.
     pub(crate) fn pull<R: DevRead>(&mut self, reader: &mut R) -> Result<Pulled, PullFault>
-        ensures value { Pulls self.old self.new (R.remaining reader.old) (R.remaining reader.new) result }
+        ensures value { Pulls self.old self.new (R.remaining reader.old)
+            (R.remaining reader.new) result }
         ensures failures { CountsDevice (R.failures reader.old) (R.failures reader.new) result }
         ensures waits { (IsOpen self.old → ⊥) → reader.new ≡ reader.old }
         ensures one_read { IsOpen self.old → CountsCall (R.calls reader.old) (R.calls reader.new) }

@@ -47,7 +47,8 @@ impl UpReader {
     pub fn feed(&mut self, piece: &[u8]) -> usize
         ensures count { result ≤ length piece.now }
         ensures held { self.new ≡ holds_more self.old (take result piece.now) }
-        ensures while_open { (k : ℕ) → k < result → IsOpen (holds_more self.old (take k piece.now)) }
+        ensures while_open { (k : ℕ) → k < result
+            → IsOpen (holds_more self.old (take k piece.now)) }
         ensures stops { result < length piece.now → IsOpen self.new → ⊥ }
     {
         self.reading.feed(piece)
@@ -82,7 +83,8 @@ impl UpReader {
     /// `Device` exactly when the device failed in this call. `Link` after a fault of [`UpReader::next`], and
     /// where the input ended inside a record.
     pub fn pull<R: DevRead>(&mut self, reader: &mut R) -> Result<Pulled, PullFault>
-        ensures value { Pulls self.old self.new (R.remaining reader.old) (R.remaining reader.new) result }
+        ensures value { Pulls self.old self.new (R.remaining reader.old)
+            (R.remaining reader.new) result }
         ensures failures { CountsDevice (R.failures reader.old) (R.failures reader.new) result }
         ensures waits { (IsOpen self.old → ⊥) → reader.new ≡ reader.old }
         ensures one_read { IsOpen self.old → CountsCall (R.calls reader.old) (R.calls reader.new) }

@@ -82,8 +82,11 @@ fn answer_all(queues: &mut [(AllocId, u32)], rows: &[Alloc]) -> Occupancies
 // Answers a structure, if it asks.
 fn answer_one(queues: &mut [(AllocId, u32)], occ: &mut Occupancies, row: &Alloc)
     requires { length occ.old < 16 }
-    ensures asks { asks queues.old row.now ≡ true → (occ.new ≡ occ.old ++ Some (min (waiting queues.old row.now.id) 16777215) ∷ []) × (queues.new ≡ map (lessened row.now) queues.old) }
-    ensures others { asks queues.old row.now ≡ false → (occ.new ≡ occ.old) × (queues.new ≡ queues.old) }
+    ensures asks { asks queues.old row.now ≡ true
+        → (occ.new ≡ occ.old ++ Some (min (waiting queues.old row.now.id) 16777215) ∷ [])
+        × (queues.new ≡ map (lessened row.now) queues.old) }
+    ensures others { asks queues.old row.now ≡ false
+        → (occ.new ≡ occ.old) × (queues.new ≡ queues.old) }
 {
     if !row.dbru() {
         return;

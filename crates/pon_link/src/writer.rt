@@ -71,7 +71,8 @@ impl DownWriter {
     /// `Device` exactly when the device failed in this call; what it had not taken then is left, and may be
     /// pushed again.
     pub fn push<W: DevWrite>(&mut self, writer: &mut W) -> Result<(), Device>
-        ensures sent { (sent : List ℕ) × Appends (W.contents writer.old) (W.contents writer.new) sent × (sent ++ self.new ≡ self.old) }
+        ensures sent { (sent : List ℕ) × Appends (W.contents writer.old)
+            (W.contents writer.new) sent × (sent ++ self.new ≡ self.old) }
         ensures ok { OnOk result (self.new ≡ []) }
         ensures failures { CountsFailure (W.failures writer.old) (W.failures writer.new) result }
         ensures idle { self.old ≡ [] → writer.new ≡ writer.old }

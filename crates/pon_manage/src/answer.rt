@@ -31,7 +31,8 @@ fn hex_of_map(alloc: Global, map: &Map) -> Result<String, AllocError>
 const ROOM_FOR_FRAME: usize = 26;
 
 fn map_text(alloc: Global, frame: u64, hex: &String) -> Result<String, AllocError>
-    ensures { IfOk result (λ text. string_bytes text ≡ codes "map " ++ (decimal frame ++ (32 ∷ string_bytes hex.now ++ 10 ∷ []))) }
+    ensures { IfOk result (λ text. string_bytes text
+        ≡ codes "map " ++ (decimal frame ++ (32 ∷ string_bytes hex.now ++ 10 ∷ []))) }
 {
     let mut text = String::with_capacity(alloc, hex.len().saturating_add(ROOM_FOR_FRAME))?;
     write!(text, "map {frame} {hex}\n")?;
@@ -64,7 +65,8 @@ fn reply_text_line(alloc: Global, index: usize, reply: &Reply) -> Result<String,
 
 // The text of an event at a port: its reply, or its refusal.
 fn post(alloc: Global, port: &mut Port, event: Event) -> Result<String, AllocError>
-    ensures { IfOk result (λ text. Answers (port.old ∷ []) (Reading.Asks 0 event) (string_bytes text) (port.new ∷ [])) }
+    ensures { IfOk result (λ text. Answers (port.old ∷ []) (Reading.Asks 0 event)
+        (string_bytes text) (port.new ∷ [])) }
 {
     let index = port.history().len();
     match port.take(event) {
@@ -77,7 +79,8 @@ fn post(alloc: Global, port: &mut Port, event: Event) -> Result<String, AllocErr
 }
 
 fn cert_text_line(alloc: Global, frame: u64, text: &String) -> Result<String, AllocError>
-    ensures { IfOk result (λ line. string_bytes line ≡ codes "cert " ++ (decimal frame ++ (32 ∷ string_bytes text.now ++ 10 ∷ []))) }
+    ensures { IfOk result (λ line. string_bytes line
+        ≡ codes "cert " ++ (decimal frame ++ (32 ∷ string_bytes text.now ++ 10 ∷ []))) }
 {
     format!(in alloc; "cert {frame} {text}\n")
 }
@@ -99,7 +102,8 @@ fn show_cert(alloc: Global, port: &Port) -> Result<String, AllocError>
 /// the port but that its history is lawful.
 pub(crate) fn answer(alloc: Global, port: &mut Port, reading: Reading) -> Result<String, AllocError>
     requires { AsksWithin 1 reading }
-    ensures { IfOk result (λ text. Answers (port.old ∷ []) reading (string_bytes text) (port.new ∷ [])) }
+    ensures { IfOk result (λ text. Answers (port.old ∷ []) reading (string_bytes text)
+        (port.new ∷ [])) }
 {
     match reading {
         Reading::Nothing => Ok(String::new(alloc)),

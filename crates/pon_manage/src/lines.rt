@@ -32,7 +32,8 @@ const FULL: usize = 65_536;
 
 // Keeps what may be read of a part of the open line.
 fn keep_part(line: &mut Vec<u8>, part: &[u8]) -> Result<(), AllocError>
-    ensures { OnOk result (line.new.items ≡ line.old.items ++ take (KEPT - length line.old.items) part.now) }
+    ensures { OnOk result (line.new.items ≡ line.old.items
+        ++ take (KEPT - length line.old.items) part.now) }
 {
     let room = KEPT.saturating_sub(line.len());
     line.extend_from_slice(&part[..room.min(part.len())])
@@ -45,7 +46,8 @@ fn answer_line(
     line: &[u8],
     replies: &mut Vec<u8>,
 ) -> Result<(), AllocError>
-    ensures ok { OnOk result (AddsReply (port.old ∷ []) (port.new ∷ []) line.now replies.old.items replies.new.items) }
+    ensures ok { OnOk result (AddsReply (port.old ∷ [])
+        (port.new ∷ []) line.now replies.old.items replies.new.items) }
     ensures err { OnErr result (replies.new.items ≡ replies.old.items) }
 {
     match answer(alloc, port, read_line(1, line)) {
@@ -63,7 +65,9 @@ fn end_line(
     replies: &mut Vec<u8>,
 ) -> Result<(), AllocError>
     requires no_feed { list_any (λ b. b == 10) part.now ≡ false }
-    ensures ok { OnOk result ((text : List ℕ) × Continues (port.old ∷ []) line.old.items (port.new ∷ []) line.new.items (part.now ++ 10 ∷ []) text
+    ensures ok { OnOk result ((text : List ℕ)
+        × Continues (port.old ∷ []) line.old.items (port.new ∷ []) line.new.items
+        (part.now ++ 10 ∷ []) text
         × (replies.new.items ≡ replies.old.items ++ text)) }
     ensures err { OnErr result (replies.new.items ≡ replies.old.items) }
 {
@@ -80,7 +84,8 @@ fn end_line(
 
 // Writes the gathered replies.
 fn send<W: DevWrite>(replies: &mut Vec<u8>, writer: &mut W) -> Result<(), PlanFault>
-    ensures text { TellsLine replies.old.items (W.contents writer.old) (W.contents writer.new) result }
+    ensures text { TellsLine replies.old.items (W.contents writer.old)
+        (W.contents writer.new) result }
     ensures failures { TellsWrite (W.failures writer.old) (W.failures writer.new) result }
     ensures empty { replies.new.items ≡ [] }
 {
@@ -102,7 +107,9 @@ fn answer_piece<W: DevWrite>(
     writer: &mut W,
 ) -> Result<(), PlanFault>
     requires empty { replies.old.items ≡ [] }
-    ensures text { AnswersPiece (port.old ∷ []) line.old.items (port.new ∷ []) line.new.items piece.now replies.new.items (W.contents writer.old) (W.contents writer.new) result }
+    ensures text { AnswersPiece (port.old ∷ []) line.old.items
+        (port.new ∷ []) line.new.items piece.now replies.new.items (W.contents writer.old)
+        (W.contents writer.new) result }
     ensures failures { TellsWrite (W.failures writer.old) (W.failures writer.new) result }
 {
     let mut rest = piece;
@@ -134,7 +141,9 @@ fn print_piece<W: DevWrite>(
     writer: &mut W,
 ) -> Result<(), PlanFault>
     requires empty { replies.old.items ≡ [] }
-    ensures text { PrintsPiece (port.old ∷ []) line.old.items (port.new ∷ []) line.new.items piece.now (W.contents writer.old) (W.contents writer.new) result }
+    ensures text { PrintsPiece (port.old ∷ []) line.old.items
+        (port.new ∷ []) line.new.items piece.now (W.contents writer.old)
+        (W.contents writer.new) result }
     ensures failures { TellsWrite (W.failures writer.old) (W.failures writer.new) result }
     ensures empty { OnOk result (replies.new.items ≡ []) }
 {
@@ -157,7 +166,8 @@ fn print_line<W: DevWrite>(
     writer: &mut W,
 ) -> Result<(), PlanFault>
     requires empty { replies.old.items ≡ [] }
-    ensures text { PrintsLine (port.old ∷ []) (port.new ∷ []) line.now (W.contents writer.old) (W.contents writer.new) result }
+    ensures text { PrintsLine (port.old ∷ []) (port.new ∷ []) line.now (W.contents writer.old)
+        (W.contents writer.new) result }
     ensures failures { TellsWrite (W.failures writer.old) (W.failures writer.new) result }
 {
     match answer_line(alloc, port, line, replies) {
@@ -173,9 +183,11 @@ fn answer_lines<R: DevRead, W: DevWrite>(
     reader: &mut R,
     writer: &mut W,
 ) -> Result<(), PlanFault>
-    ensures text { Planned (port.old ∷ []) (R.remaining reader.old) (R.remaining reader.new) (W.contents writer.old) (W.contents writer.new) result }
+    ensures text { Planned (port.old ∷ []) (R.remaining reader.old) (R.remaining reader.new)
+        (W.contents writer.old) (W.contents writer.new) result }
     ensures end { OnOk result (IsAtEnd (R.remaining reader.new)) }
-    ensures read { TellsRead (R.calls reader.old) (R.calls reader.new) (R.failures reader.old) (R.failures reader.new) result }
+    ensures read { TellsRead (R.calls reader.old) (R.calls reader.new) (R.failures reader.old)
+        (R.failures reader.new) result }
     ensures write { TellsWrite (W.failures writer.old) (W.failures writer.new) result }
 {
     let mut line = Vec::new(alloc);
@@ -206,9 +218,11 @@ fn open_and_answer<R: DevRead, W: DevWrite>(
     reader: &mut R,
     writer: &mut W,
 ) -> Result<PlanEnd, PlanFault>
-    ensures text { Planned (opened_port port.now ∷ []) (R.remaining reader.old) (R.remaining reader.new) (W.contents writer.old) (W.contents writer.new) result }
+    ensures text { Planned (opened_port port.now ∷ []) (R.remaining reader.old)
+        (R.remaining reader.new) (W.contents writer.old) (W.contents writer.new) result }
     ensures end { OnOk result (IsAtEnd (R.remaining reader.new)) }
-    ensures read { TellsRead (R.calls reader.old) (R.calls reader.new) (R.failures reader.old) (R.failures reader.new) result }
+    ensures read { TellsRead (R.calls reader.old) (R.calls reader.new) (R.failures reader.old)
+        (R.failures reader.new) result }
     ensures write { TellsWrite (W.failures writer.old) (W.failures writer.new) result }
 {
     let mut opened = match Port::open(alloc, port.0, port.1) {
@@ -243,9 +257,11 @@ pub fn plan<H, R: DevRead, W: DevWrite>(
 ) -> Result<PlanEnd, PlanFault>
     requires one_port { length ports.now ≡ 1 }
     requires no_steps { _steps.items ≡ [] }
-    ensures text { Planned (opened_ports ports.now) (R.remaining reader.old) (R.remaining reader.new) (W.contents writer.old) (W.contents writer.new) result }
+    ensures text { Planned (opened_ports ports.now) (R.remaining reader.old)
+        (R.remaining reader.new) (W.contents writer.old) (W.contents writer.new) result }
     ensures end { OnOk result (IsAtEnd (R.remaining reader.new)) }
-    ensures read { TellsRead (R.calls reader.old) (R.calls reader.new) (R.failures reader.old) (R.failures reader.new) result }
+    ensures read { TellsRead (R.calls reader.old) (R.calls reader.new) (R.failures reader.old)
+        (R.failures reader.new) result }
     ensures write { TellsWrite (W.failures writer.old) (W.failures writer.new) result }
 {
     open_and_answer(alloc, &ports[0], reader, writer)

@@ -66,7 +66,8 @@ impl Port {
 
     /// A port just opened: no Alloc-ID, the line up, and `first` as its next frame. `Err` only if memory is refused.
     pub fn open(alloc: Global, cfg: PortCfg, first: FrameNo) -> Result<Port, AllocError>
-        ensures opening { IfOk result (λ port. port.opening ≡ just_opened cfg.gap cfg.profile first) }
+        ensures opening { IfOk result (λ port. port.opening
+            ≡ just_opened cfg.gap cfg.profile first) }
         ensures entries { IfOk result (λ port. port.entries ≡ []) }
         ensures number { IfOk result (λ port. port.number ≡ 0) }
     {
@@ -107,7 +108,9 @@ impl Port {
     /// that map, in map order: those that its certificate speaks of. `None` before any map of the chapter.
     pub fn last(&self) -> Option<(&MadeMap, &[AllocId], &[AllocId])>
         ensures suits { IfSome result (λ l. Suits l.0.now.cert l.1.now l.2.now) }
-        ensures last { MatchOption result (last_map self.now ≡ None) (λ l. last_map self.now ≡ Some (record { made = l.0.now; na = l.1.now; be = l.2.now })) }
+        ensures last { MatchOption result (last_map self.now ≡ None)
+            (λ l. last_map self.now
+            ≡ Some (record { made = l.0.now; na = l.1.now; be = l.2.now })) }
     {
         match &self.entries[self.last?].reply {
             Reply::Map(made) => Some((made, self.na.as_slice(), self.be.as_slice())),

@@ -39,7 +39,11 @@ fn share(level: &Level, item: &Item, saturated: bool) -> u64
 // What a demand is granted, with its surplus rate in kbit/s.
 fn grant(demand: &Demand, surplus: u64) -> Granted
     requires { demand.now.guaranteed + surplus ≤ 2488320 }
-    ensures { result ≡ record { onu = demand.now.onu; alloc_id = demand.now.alloc_id; words = (demand.now.guaranteed + surplus) / 256 } }
+    ensures { result ≡ record {
+      onu = demand.now.onu;
+      alloc_id = demand.now.alloc_id;
+      words = (demand.now.guaranteed + surplus) / 256;
+    } }
 {
     let rate = u64::from(demand.guaranteed.get()) + surplus;
     match Words::new((rate / 256) as u16) {
@@ -73,7 +77,8 @@ pub(crate) fn grants(
     requires admitted { IsAdmitted rule_in_force input.now.gap input.now.roster }
     requires demands { demands.now ≡ demands_of input.now }
     requires certified { IsCertified rule_in_force input.now cert.now }
-    ensures { IfOk result (λ grants. grants.items ≡ granted input.now (surplus_rate input.now cert.now)) }
+    ensures { IfOk result (λ grants. grants.items
+        ≡ granted input.now (surplus_rate input.now cert.now)) }
 {
     let mut grants = Vec::with_capacity(alloc, demands.len())?;
     let mut na = cert.na.saturated.as_slice();

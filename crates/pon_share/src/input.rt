@@ -22,7 +22,11 @@ impl<'a> Model for ShareInput<'a> {
 impl<'a> ShareInput<'a> {
     /// The roster and the report book of a port.
     pub fn new(roster: &'a Roster, loads: &'a Loads) -> ShareInput<'a>
-        ensures { result ≡ record { gap = roster.now.gap; roster = roster.now.rows; book = loads.now.accounts } }
+        ensures { result ≡ record {
+          gap = roster.now.gap;
+          roster = roster.now.rows;
+          book = loads.now.accounts;
+        } }
     {
         ShareInput { roster, loads }
     }

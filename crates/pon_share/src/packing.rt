@@ -19,7 +19,8 @@ fn structures(
     grants: &[Granted],
 ) -> Result<Vec<Alloc>, AllocError>
     requires { AreOneMap gap grants.now }
-    ensures structures { IfOk result (λ structures. structures.items ≡ map_of gap profile grants.now) }
+    ensures structures { IfOk result (λ structures. structures.items
+        ≡ map_of gap profile grants.now) }
     ensures map { IfOk result (λ structures. IsMap structures.items) }
 {
     let series = gather(alloc, gap, grants)?;

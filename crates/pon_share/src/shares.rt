@@ -30,7 +30,8 @@ pub struct Shares {
 pub fn share(alloc: Global, input: &ShareInput) -> Result<Shares, AllocError>
     requires admitted { IsAdmitted rule_in_force input.now.gap input.now.roster }
     ensures certified { IfOk result (λ shares. IsCertified rule_in_force input.now shares.cert) }
-    ensures grants { IfOk result (λ shares. shares.grants.items ≡ granted input.now (surplus_rate input.now shares.cert)) }
+    ensures grants { IfOk result (λ shares. shares.grants.items
+        ≡ granted input.now (surplus_rate input.now shares.cert)) }
     ensures na { IfOk result (λ shares. shares.na.items ≡ member_ids NonAssured input.now.roster) }
     ensures be { IfOk result (λ shares. shares.be.items ≡ member_ids BestEffort input.now.roster) }
 {

@@ -56,8 +56,10 @@ pub(crate) fn class_members(
     demands: &[Demand],
     class: Class,
 ) -> Result<Members, AllocError>
-    ensures ids { IfOk result (λ members. members.ids.items ≡ map (λ d. d.alloc_id) (filter (λ d. same_class d.class class) demands.now)) }
-    ensures items { IfOk result (λ members. members.items.items ≡ map (λ d. d.item) (filter (λ d. same_class d.class class) demands.now)) }
+    ensures ids { IfOk result (λ members. members.ids.items
+        ≡ map (λ d. d.alloc_id) (filter (λ d. same_class d.class class) demands.now)) }
+    ensures items { IfOk result (λ members. members.items.items
+        ≡ map (λ d. d.item) (filter (λ d. same_class d.class class) demands.now)) }
 {
     let mut ids = Vec::new(alloc);
     let mut items = Vec::new(alloc);

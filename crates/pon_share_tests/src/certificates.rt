@@ -29,7 +29,8 @@ fn at(num: u64, den: u64) -> Level
 
 // The first of three items in the non-assured class, and no best-effort item.
 fn first_of_three(alloc: Global) -> Result<MapCert, AllocError>
-    ensures { IfOk result (λ cert. (length cert.na.saturated ≡ 3) × (length cert.be.saturated ≡ 0)) }
+    ensures { IfOk result (λ cert. (length cert.na.saturated ≡ 3)
+        × (length cert.be.saturated ≡ 0)) }
 {
     Ok(MapCert {
         na: class(alloc, at(90, 3), &[true, false, false])?,

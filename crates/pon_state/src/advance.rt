@@ -63,7 +63,8 @@ fn admit_row(state: &mut PortState, row: &Row) -> Result<(), AllocError>
 
 // Gives an Alloc-ID another descriptor that no check refuses.
 fn change_row(state: &mut PortState, alloc_id: AllocId, descriptor: Descriptor)
-    requires accepted { refuses_change rule_in_force state.old.gap state.old.roster alloc_id descriptor ≡ None }
+    requires accepted { refuses_change rule_in_force state.old.gap state.old.roster alloc_id
+        descriptor ≡ None }
     requires count { state.old.taken_before + 1 < 2 ^ 64 }
     ensures { state.new ≡ after_change state.old alloc_id descriptor }
 {

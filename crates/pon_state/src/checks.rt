@@ -36,7 +36,8 @@ fn down_refusal(state: &PortState) -> Option<Refusal>
 
 // The first check that refuses one more row, after `kept` entries of its chapter.
 fn admit_refusal(state: &PortState, kept: usize, row: &Row) -> Option<Refusal>
-    ensures { result ≡ first_refusal kept state.now (Event.Admit row.now.onu row.now.alloc_id row.now.descriptor) }
+    ensures { result ≡ first_refusal kept state.now
+        (Event.Admit row.now.onu row.now.alloc_id row.now.descriptor) }
 {
     match state.roster.admit_refusal(row) {
         Some(refusal) => Some(refusal),

@@ -28,7 +28,8 @@ pub fn next_map(alloc: Global, state: &PortState) -> Result<ReadyMap, AllocError
     requires admitted { IsAdmitted rule_in_force state.now.gap state.now.roster }
     ensures made { IfOk result (λ next. IsMade state.now next.made) }
     ensures map_order { IfOk result (λ next. AreInMapOrder next.grants.items) }
-    ensures grants { IfOk result (λ next. next.grants.items ≡ grants_of state.now.roster next.made.map) }
+    ensures grants { IfOk result (λ next. next.grants.items
+        ≡ grants_of state.now.roster next.made.map) }
     ensures na { IfOk result (λ next. next.na.items ≡ member_ids NonAssured state.now.roster) }
     ensures be { IfOk result (λ next. next.be.items ≡ member_ids BestEffort state.now.roster) }
 {

@@ -26,7 +26,8 @@ pub fn next_byte<R: DevRead>(reader: &mut R) -> Result<Option<u8>, Failed>
 /// before are lost.
 pub fn read_all<R: DevRead>(alloc: Global, reader: &mut R) -> Result<Vec<u8>, PlanFault>
     ensures bytes { ReadsAll (R.remaining reader.old) (R.remaining reader.new) result }
-    ensures read { TellsRead (R.calls reader.old) (R.calls reader.new) (R.failures reader.old) (R.failures reader.new) result }
+    ensures read { TellsRead (R.calls reader.old) (R.calls reader.new) (R.failures reader.old)
+        (R.failures reader.new) result }
 {
     let mut text = Vec::new(alloc);
     for _turn in 0..u64::MAX {

@@ -6,7 +6,8 @@ ghost use Rattle.pon_text.specs.Cuts.{follows, cut_at};
 
 /// The rest of a line behind the bytes `first`, `None` if the line does not begin with them.
 pub fn follows<'a>(first: &[u8], line: &'a [u8]) -> Option<&'a [u8]>
-    ensures { MatchOption result (follows first.now line.now ≡ None) (λ rest. follows first.now line.now ≡ Some rest.now) }
+    ensures { MatchOption result (follows first.now line.now ≡ None)
+        (λ rest. follows first.now line.now ≡ Some rest.now) }
 {
     line.strip_prefix(first)
 }
@@ -19,7 +20,8 @@ fn first_such(text: &[u8], wanted: u8) -> Option<usize>
 
 /// The bytes before and after the first byte `at`, `None` if the text has no such byte.
 pub fn cut(text: &[u8], at: u8) -> Option<(&[u8], &[u8])>
-    ensures parts { MatchOption result (cut_at at text.now ≡ None) (λ p. cut_at at text.now ≡ Some (p.0.now, p.1.now)) }
+    ensures parts { MatchOption result (cut_at at text.now ≡ None)
+        (λ p. cut_at at text.now ≡ Some (p.0.now, p.1.now)) }
     ensures shorter { IfSome result (λ p. length p.1.now < length text.now) }
 {
     let end = first_such(text, at)?;

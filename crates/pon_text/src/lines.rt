@@ -19,7 +19,8 @@ pub fn without_return(line: &[u8]) -> &[u8]
 /// The first line of a text, without its line feed and the one carriage return before it, and the text after it. `None`
 /// for the empty text. The last line may lack its line feed.
 pub fn first_line(text: &[u8]) -> Option<(&[u8], &[u8])>
-    ensures lines { MatchOption result (file_lines text.now ≡ []) (λ p. file_lines text.now ≡ p.0.now ∷ file_lines p.1.now) }
+    ensures lines { MatchOption result (file_lines text.now ≡ [])
+        (λ p. file_lines text.now ≡ p.0.now ∷ file_lines p.1.now) }
     ensures shorter { IfSome result (λ p. length p.1.now < length text.now) }
 {
     if text.is_empty() {

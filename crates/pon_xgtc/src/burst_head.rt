@@ -32,7 +32,8 @@ impl BurstHead {
     /// The header of a burst of this ONU-ID with these indications (Ind); `None` exactly when the
     /// ONU-ID is above 1,023 or the indications are above 511.
     pub fn new(onu_raw: u16, ind: u16) -> Option<Self>
-        ensures { SomeIff result ((onu_raw ≤ 1023) × (ind ≤ 511)) record { onu_raw = onu_raw; ind = ind } }
+        ensures { SomeIff result ((onu_raw ≤ 1023) × (ind ≤ 511))
+            record { onu_raw = onu_raw; ind = ind } }
     {
         if onu_raw > 1023 || ind > 511 {
             return None;

@@ -9,7 +9,8 @@ pub(crate) fn open_header(bytes: &[u8]) -> Result<(u32, u8), HeadFault>
     ensures ok { IfOk result (λ p. ReadsHeader bytes.now p.0 p.1) }
     ensures payload { IfOk result (λ p. p.0 < 2 ^ 19) }
     ensures fault { IfErr result (λ f. IsHeaderFault bytes.now f) }
-    ensures written { (payload : ℕ) (rest : List ℕ) → payload < 2 ^ 19 → bytes.now ≡ header_bytes payload ++ rest →
+    ensures written { (payload : ℕ) (rest : List ℕ) → payload < 2 ^ 19
+        → bytes.now ≡ header_bytes payload ++ rest →
         result ≡ Ok record { 0 = payload; 1 = 0 } }
 {
     let Some(header) = bytes.first_chunk::<4>() else {

@@ -24,11 +24,15 @@ struct Step {
 impl Roster {
     // Where a row goes in, or the first check that refuses it.
     fn admission(&self, row: &Row) -> Result<Step, Refusal>
-        ensures accepted { OnOk result (refuses_admit rule_in_force self.now.gap self.now.rows row.now ≡ None) }
-        ensures refused { IfErr result (λ told. refuses_admit rule_in_force self.now.gap self.now.rows row.now ≡ Some told) }
+        ensures accepted { OnOk result
+            (refuses_admit rule_in_force self.now.gap self.now.rows row.now ≡ None) }
+        ensures refused { IfErr result
+            (λ told. refuses_admit rule_in_force self.now.gap self.now.rows row.now ≡ Some told) }
         ensures room { IfOk result (λ step. step.place ≤ length self.now.rows) }
-        ensures place { IfOk result (λ step. insert self.now.rows step.place row.now ≡ with_row row.now self.now.rows) }
-        ensures sums { IfOk result (λ step. AreSums step.onus step.promised (with_row row.now self.now.rows)) }
+        ensures place { IfOk result (λ step. insert self.now.rows step.place row.now
+            ≡ with_row row.now self.now.rows) }
+        ensures sums { IfOk result (λ step. AreSums step.onus step.promised
+            (with_row row.now self.now.rows)) }
     {
         let seen = look_through(&self.rows, row);
         let allocs = self.rows.len();
@@ -58,11 +62,17 @@ impl Roster {
 
     // Where a descriptor is replaced, or the first check that refuses it.
     fn alteration(&self, alloc_id: AllocId, descriptor: &Descriptor) -> Result<Step, Refusal>
-        ensures accepted { OnOk result (refuses_change rule_in_force self.now.gap self.now.rows alloc_id descriptor.now ≡ None) }
-        ensures refused { IfErr result (λ told. refuses_change rule_in_force self.now.gap self.now.rows alloc_id descriptor.now ≡ Some told) }
+        ensures accepted { OnOk result
+            (refuses_change rule_in_force self.now.gap self.now.rows alloc_id descriptor.now
+            ≡ None) }
+        ensures refused { IfErr result
+            (λ told. refuses_change rule_in_force self.now.gap self.now.rows alloc_id descriptor.now
+            ≡ Some told) }
         ensures room { IfOk result (λ step. step.place < length self.now.rows) }
-        ensures place { IfOk result (λ step. position (λ r. r.alloc_id == alloc_id) self.now.rows ≡ Some step.place) }
-        ensures sums { IfOk result (λ step. AreSums step.onus step.promised (with_descriptor alloc_id descriptor.now self.now.rows)) }
+        ensures place { IfOk result (λ step. position (λ r. r.alloc_id == alloc_id) self.now.rows
+            ≡ Some step.place) }
+        ensures sums { IfOk result (λ step. AreSums step.onus step.promised
+            (with_descriptor alloc_id descriptor.now self.now.rows)) }
         ensures lawful { OnOk result (IsLawful descriptor.now) }
     {
         let Some(place) = place_of(&self.rows, alloc_id) else {
@@ -85,8 +95,10 @@ impl Roster {
         ensures accepted { OnOk result (refuses_remove self.now.rows alloc_id ≡ None) }
         ensures refused { IfErr result (λ told. refuses_remove self.now.rows alloc_id ≡ Some told) }
         ensures room { IfOk result (λ step. step.place < length self.now.rows) }
-        ensures place { IfOk result (λ step. remove self.now.rows step.place ≡ without alloc_id self.now.rows) }
-        ensures sums { IfOk result (λ step. AreSums step.onus step.promised (without alloc_id self.now.rows)) }
+        ensures place { IfOk result (λ step. remove self.now.rows step.place
+            ≡ without alloc_id self.now.rows) }
+        ensures sums { IfOk result (λ step. AreSums step.onus step.promised
+            (without alloc_id self.now.rows)) }
     {
         let Some(place) = place_of(&self.rows, alloc_id) else {
             return Err(Refusal::NoSuchAlloc);
@@ -112,7 +124,8 @@ impl Roster {
     /// What refuses a new descriptor: the first of `NoSuchAlloc` (the Alloc-ID is not there) and `Capacity` (the set with
     /// the descriptor would not fit a frame).
     pub fn change_refusal(&self, alloc_id: AllocId, descriptor: &Descriptor) -> Option<Refusal>
-        ensures { result ≡ refuses_change rule_in_force self.now.gap self.now.rows alloc_id descriptor.now }
+        ensures { result ≡ refuses_change rule_in_force self.now.gap self.now.rows alloc_id
+            descriptor.now }
     {
         self.alteration(alloc_id, descriptor).err()
     }
@@ -134,9 +147,17 @@ impl Roster {
         alloc_id: AllocId,
         descriptor: Descriptor,
     ) -> Result<(), Refusal>
-        ensures ok { OnOk result (self.new ≡ record { gap = self.old.gap; rows = with_row (record { onu = onu; alloc_id = alloc_id; descriptor = descriptor }) self.old.rows }) }
-        ensures accepted { OnOk result (refuses_admit rule_in_force self.old.gap self.old.rows (record { onu = onu; alloc_id = alloc_id; descriptor = descriptor }) ≡ None) }
-        ensures refused { IfErr result (λ told. IsTold (refuses_admit rule_in_force self.old.gap self.old.rows (record { onu = onu; alloc_id = alloc_id; descriptor = descriptor })) told) }
+        ensures ok { OnOk result
+            (self.new ≡ record {
+              gap = self.old.gap;
+              rows = with_row
+                  (record { onu = onu; alloc_id = alloc_id; descriptor = descriptor }) self.old.rows;
+            }) }
+        ensures accepted { OnOk result (refuses_admit rule_in_force self.old.gap self.old.rows
+            (record { onu = onu; alloc_id = alloc_id; descriptor = descriptor }) ≡ None) }
+        ensures refused { IfErr result (λ told. IsTold
+            (refuses_admit rule_in_force self.old.gap self.old.rows
+            (record { onu = onu; alloc_id = alloc_id; descriptor = descriptor })) told) }
         ensures err { OnErr result (self.new ≡ self.old) }
     {
         let row = Row::new(onu, alloc_id, descriptor);
@@ -156,9 +177,16 @@ impl Roster {
     ///
     /// Refused as [`Roster::change_refusal`] tells, and then the roster stays as it was. It takes no memory.
     pub fn change(&mut self, alloc_id: AllocId, descriptor: Descriptor) -> Result<(), Refusal>
-        ensures ok { OnOk result (self.new ≡ record { gap = self.old.gap; rows = with_descriptor alloc_id descriptor self.old.rows }) }
-        ensures accepted { OnOk result (refuses_change rule_in_force self.old.gap self.old.rows alloc_id descriptor ≡ None) }
-        ensures refused { IfErr result (λ told. refuses_change rule_in_force self.old.gap self.old.rows alloc_id descriptor ≡ Some told) }
+        ensures ok { OnOk result
+            (self.new ≡ record {
+              gap = self.old.gap;
+              rows = with_descriptor alloc_id descriptor self.old.rows;
+            }) }
+        ensures accepted { OnOk result
+            (refuses_change rule_in_force self.old.gap self.old.rows alloc_id descriptor ≡ None) }
+        ensures refused { IfErr result
+            (λ told. refuses_change rule_in_force self.old.gap self.old.rows alloc_id descriptor
+            ≡ Some told) }
         ensures err { OnErr result (self.new ≡ self.old) }
     {
         let step = self.alteration(alloc_id, &descriptor)?;
@@ -172,7 +200,8 @@ impl Roster {
     ///
     /// Refused as [`Roster::remove_refusal`] tells, and then the roster stays as it was. It takes no memory.
     pub fn remove(&mut self, alloc_id: AllocId) -> Result<(), Refusal>
-        ensures ok { OnOk result (self.new ≡ record { gap = self.old.gap; rows = without alloc_id self.old.rows }) }
+        ensures ok { OnOk result
+            (self.new ≡ record { gap = self.old.gap; rows = without alloc_id self.old.rows }) }
         ensures accepted { OnOk result (refuses_remove self.old.rows alloc_id ≡ None) }
         ensures refused { IfErr result (λ told. refuses_remove self.old.rows alloc_id ≡ Some told) }
         ensures err { OnErr result (self.new ≡ self.old) }

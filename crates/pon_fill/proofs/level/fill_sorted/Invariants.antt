@@ -1,7 +1,7 @@
 use Rattle.std.proofs.Common.{◌≤◌}
 use Rattle.pon_fill.proofs.RoundLaws.{Filling}
 use Rattle.pon_fill.proofs.Walk.{IsWalked}
-use Rattle.pon_fill.proofs.level.fill.Given as goal
+use Rattle.pon_fill.proofs.level.fill_sorted.Given as goal
 
 abbrev pub invariant-loop-number : goal.invariant-loop-number
 invariant-loop-number l = record {

@@ -4,7 +4,7 @@ use Rattle.std.proofs.lemmas.List.{get_or_default}
 use Rattle.pon_cert.specs.declared.problem.Item.{Item}
 use Rattle.pon_fill.proofs.RoundLaws.{first_round, all_saturated}
 use Rattle.pon_fill.proofs.Walk.{walked_none, walked_step, step_fits, filling_step, unmet, at_the_first_unmet, all_walked, has_left}
-use Rattle.pon_fill.proofs.level.fill.Goals as goal
+use Rattle.pon_fill.proofs.level.fill_sorted.Goals as goal
 
 pub loop-number-init : goal.loop-number-init
 loop-number-init c = record {
