@@ -27,7 +27,8 @@ use Rattle.pon_state.specs.State.{State}
 use Rattle.pon_state.specs.Replay.{admits, allocs_after, begins, cause_after, forgets, grants_of, makes_map, new_map, next_of, reports, roster_after, structures, window_of, with_reports}
 use Rattle.pon_state.specs.Loads.{account_after, candidates_in, counted_of, replay, since_of}
 use Rattle.pon_state.specs.Checks.{first_refusal, when_full}
-use Rattle.pon_state.specs.Legal.{IsEvent, IsMade, MayFollow}
+use Rattle.pon_state.specs.Events.{IsEvent, IsManaged, IsReported}
+use Rattle.pon_state.specs.Legal.{IsMade, MayFollow}
 use Rattle.pon_port.specs.Chapters.{Chapter, IsLawfulChapter, present_state}
 use Rattle.pon_port.specs.Taking.{IsKept, Takes, with_entry}
 use Rattle.pon_state.specs.After.{after_admit, after_change, after_cut, after_event, after_map, after_remove, after_report, with_parts}
@@ -243,20 +244,20 @@ admitted c d s t r k in_range accepted more after =
     (admit_step c.opening c.entries r (subst (λ s. AreRising (alloc_ids s.book)) (sym e) k.book.0) (subst (λ s. list_any (λ j. j == r.alloc_id) (alloc_ids s.book) ≡ false) (sym e) free))))
 
 -- a change is kept
-pub changed : (c d : Chapter) (s t : State) (i : ℕ) (t2 : Descriptor) → IsKept c s → IsLawful t2 → first_refusal (length c.entries) s (Change i t2) ≡ None →
+pub changed : (c d : Chapter) (s t : State) (i : ℕ) (t2 : Descriptor) → IsKept c s → IsManaged i × IsLawful t2 → first_refusal (length c.entries) s (Change i t2) ≡ None →
     d ≡ with_entry c (Change i t2) Taken → t ≡ after_change s i t2 → IsKept d t
-changed c d s t i t2 k lawful accepted more after =
+changed c d s t i t2 k in_range accepted more after =
     rw (more, after) (next_chapter c s (after_change s i t2) (Change i t2) Taken k
-    (record { event = lawful; accepted = accepted; reply = refl })
+    (record { event = in_range; accepted = accepted; reply = refl })
     (λ e. subst (λ s. after_change s i t2 ≡ replay s (taken_entry (Change i t2) ∷ [])) e
     (change_step c.opening c.entries i t2 (subst (λ s. AreRising (alloc_ids s.book)) (sym e) k.book.0))))
 
 -- a removal is kept
-pub removed : (c d : Chapter) (s t : State) (i : ℕ) → IsKept c s → first_refusal (length c.entries) s (Remove i) ≡ None →
+pub removed : (c d : Chapter) (s t : State) (i : ℕ) → IsKept c s → IsManaged i → first_refusal (length c.entries) s (Remove i) ≡ None →
     d ≡ with_entry c (Remove i) Taken → t ≡ after_remove s i → IsKept d t
-removed c d s t i k accepted more after =
+removed c d s t i k in_range accepted more after =
     rw (more, after) (next_chapter c s (after_remove s i) (Remove i) Taken k
-    (record { event = tt; accepted = accepted; reply = refl })
+    (record { event = in_range; accepted = accepted; reply = refl })
     (λ e. subst (λ s. after_remove s i ≡ replay s (taken_entry (Remove i) ∷ [])) e
     (remove_step c.opening c.entries i (subst (λ s. AreRising (alloc_ids s.book)) (sym e) k.book.0))))
 
@@ -274,10 +275,10 @@ map_taken c d s made kept k accepted is_made same more = record {
 
 -- a fault is kept, and its end
 module _ (c d : Chapter) (s t : State) (k : IsKept c s) where
-  pub failed : (cause : ℕ) → first_refusal (length c.entries) s (Fail cause) ≡ None → d ≡ with_entry c (Fail cause) Taken → t ≡ after_cut s (Some cause) → IsKept d t
-  failed cause accepted more after =
+  pub failed : (cause : ℕ) → IsEvent (Fail cause) → first_refusal (length c.entries) s (Fail cause) ≡ None → d ≡ with_entry c (Fail cause) Taken → t ≡ after_cut s (Some cause) → IsKept d t
+  failed cause in_range accepted more after =
       rw (more, after) (next_chapter c s (after_cut s (Some cause)) (Fail cause) Taken k
-      (record { event = tt; accepted = accepted; reply = refl })
+      (record { event = in_range; accepted = accepted; reply = refl })
       (λ e. subst (λ s. after_cut s (Some cause) ≡ replay s (taken_entry (Fail cause) ∷ [])) e
       (cut_step c.opening c.entries (Fail cause) (Some cause) k.lawful.opening.frames refl refl (λ ms since i. refl) refl refl refl)))
 
@@ -289,20 +290,20 @@ module _ (c d : Chapter) (s t : State) (k : IsKept c s) where
       (cut_step c.opening c.entries Restore None k.lawful.opening.frames refl refl (λ ms since i. refl) refl refl refl)))
 
 -- a report is kept
-pub reported : (c d : Chapter) (s t : State) (f u : ℕ) (ns : List (Option ℕ)) → IsKept c s → first_refusal (length c.entries) s (Report f u ns) ≡ None →
+pub reported : (c d : Chapter) (s t : State) (f u : ℕ) (ns : List (Option ℕ)) → IsKept c s → IsReported f u ns → first_refusal (length c.entries) s (Report f u ns) ≡ None →
     d ≡ with_entry c (Report f u ns) Taken → t ≡ after_report s f u ns → IsKept d t
-reported c d s t f u ns k accepted more after =
+reported c d s t f u ns k in_range accepted more after =
     let lawful : IsLawfulState s = subst IsLawfulState (sym k.replayed) (present_lawful c k.lawful) in
     rw (more, after) (next_chapter c s (after_report s f u ns) (Report f u ns) Taken k
-    (record { event = tt; accepted = accepted; reply = refl })
+    (record { event = in_range; accepted = accepted; reply = refl })
     (λ e. report_step s lawful f u ns))
 
 -- an event that makes no map is kept
 pub taken : (c d : Chapter) (s t : State) (v : Event) → IsKept c s → IsEvent v → makes_map v ≡ false → first_refusal (length c.entries) s v ≡ None → d ≡ with_entry c v Taken → t ≡ after_event s v → IsKept d t
 taken c d s t (Admit u i ds) k range m accepted more after = admitted c d s t (record { onu = u; alloc_id = i; descriptor = ds }) k range accepted more after
 taken c d s t (Change i ds) k range m accepted more after = changed c d s t i ds k range accepted more after
-taken c d s t (Remove i) k range m accepted more after = removed c d s t i k accepted more after
-taken c d s t (Report f u ns) k range m accepted more after = reported c d s t f u ns k accepted more after
+taken c d s t (Remove i) k range m accepted more after = removed c d s t i k range accepted more after
+taken c d s t (Report f u ns) k range m accepted more after = reported c d s t f u ns k range accepted more after
 taken c d s t MakeMap k range m accepted more after = absurd cc
-taken c d s t (Fail cause) k range m accepted more after = failed c d s t k cause accepted more after
+taken c d s t (Fail cause) k range m accepted more after = failed c d s t k cause range accepted more after
 taken c d s t Restore k range m accepted more after = restored c d s t k accepted more after

@@ -7,7 +7,7 @@ use Rattle.pon_state.specs.State.{State}
 use Rattle.pon_state.specs.Replay.{roster_after}
 use Rattle.pon_state.specs.Loads.{replay}
 use Rattle.pon_state.specs.Checks.{first_refusal, when_full}
-use Rattle.pon_state.specs.Legal.{IsEvent}
+use Rattle.pon_state.specs.Events.{IsEvent}
 use Rattle.pon_port.specs.Chapters.{Chapter, IsLawfulChapter, present_state, state_before}
 use Rattle.pon_event.specs.declared.event.Event.{Event}
 use Rattle.pon_event.specs.declared.event.Event.TheVariants.{Admit, Change, Remove, Report, MakeMap, Fail, Restore}
@@ -24,7 +24,7 @@ event_keeps kept s (Admit onu alloc_id descriptor) i h k =
     (or_else_none (refuses_admit rule_in_force s.gap s.roster (record { onu = onu; alloc_id = alloc_id; descriptor = descriptor })) (when_full kept s.taken_before) h).0 i k
 event_keeps kept s (Change alloc_id descriptor) i h k =
     change_keeps rule_in_force s.gap s.roster alloc_id descriptor
-    (or_else_none (refuses_change rule_in_force s.gap s.roster alloc_id descriptor) (when_full kept s.taken_before) h).0 i k
+    (or_else_none (refuses_change rule_in_force s.gap s.roster alloc_id descriptor) (when_full kept s.taken_before) h).0 i.1 k
 event_keeps kept s (Remove alloc_id) i h k = remove_keeps rule_in_force s.gap s.roster alloc_id k
 event_keeps kept s (Report frame onu occ) i h k = k
 event_keeps kept s MakeMap i h k = k

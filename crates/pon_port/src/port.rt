@@ -1,9 +1,10 @@
 ghost use Rattle.std.specs.Prelude.{◌≡◌, IfOk};
 ghost use Rattle.pon_state.specs.State.{just_opened};
-ghost use Rattle.pon_state.specs.Legal.{IsEvent};
+ghost use Rattle.pon_state.specs.Events.{AreOccupancies, IsEvent, IsManaged};
 ghost use Rattle.pon_state.specs.Replay.{makes_map};
 
 use pon_admit::Row;
+use pon_dbru::Occupancies;
 use pon_descr::Refusal;
 use pon_event::Event;
 use pon_state::{Entry, MadeMap, PortCfg, PortState, Reply, add_map, next_map, refusal_of, step};
@@ -37,6 +38,24 @@ impl Model for Port {
     ghost invariant = { λ p. IsPort (record { number = 0; opening = p.opening; entries = p.entries.items }) p.state p.last p.na.items p.be.items };
 }
 
+// An Alloc-ID is in range, as its type has it.
+fn is_managed(alloc_id: AllocId)
+    ensures { IsManaged alloc_id }
+{
+    prove!(alloc_id.get() >= 1024 && alloc_id.get() <= 16_383);
+}
+
+// Occupancies are few and in range, as their types have it.
+fn are_occupancies(occ: &Occupancies)
+    ensures { AreOccupancies occ.now }
+{
+    for report in occ.as_slice() {
+        if let Some(words) = report {
+            prove!(words.get() <= 16_777_215);
+        }
+    }
+}
+
 // The numbers of an event are in range, as their types have it.
 fn in_range(event: &Event)
     ensures { IsEvent event.now }
@@ -49,8 +68,20 @@ fn in_range(event: &Event)
         } => {
             let _row = Row::new(*onu, *alloc_id, *descriptor);
         }
-        Event::Change { descriptor, .. } => prove!(descriptor.promised().get() <= 2_488_320),
-        _ => {}
+        Event::Change {
+            alloc_id,
+            descriptor,
+        } => {
+            is_managed(*alloc_id);
+            prove!(descriptor.promised().get() <= 2_488_320);
+        }
+        Event::Remove { alloc_id } => is_managed(*alloc_id),
+        Event::Report { frame, onu, occ } => {
+            prove!(frame.get() <= u64::MAX && onu.get() <= 1022);
+            are_occupancies(occ);
+        }
+        Event::Fail { cause } => prove!(cause.get() >= 1 && cause.get() <= 9),
+        Event::MakeMap | Event::Restore => {}
     }
 }
 

@@ -1,13 +1,13 @@
 -- Which entry may follow in a history.
 use Rattle.std.specs.Prelude.{ℕ, ◌≡◌, None}
 use Rattle.pon_state.specs.State.{State, input_of}
-use Rattle.pon_descr.specs.Descriptor.{IsLawful}
-use Rattle.pon_admit.specs.Roster.{IsInRange, rule_in_force}
+use Rattle.pon_admit.specs.Roster.{rule_in_force}
 use Rattle.pon_share.specs.Sharing.{IsCertified, surplus_rate}
 use Rattle.pon_share.specs.Maps.{map_of}
 use Rattle.pon_state.specs.Checks.{first_refusal}
+use Rattle.pon_state.specs.Events.{IsEvent}
 use Rattle.pon_event.specs.declared.event.Event.{Event}
-use Rattle.pon_event.specs.declared.event.Event.TheVariants.{Admit, Change, MakeMap}
+use Rattle.pon_event.specs.declared.event.Event.TheVariants.{MakeMap}
 use Rattle.pon_state.specs.declared.reply.Reply.{Reply}
 use Rattle.pon_state.specs.declared.reply.Reply.TheVariants.{Taken, Map}
 use Rattle.pon_state.specs.declared.reply.MadeMap.{MadeMap}
@@ -24,12 +24,6 @@ abbrev pub IsReply : State → Event → Reply → Type 0
 IsReply s MakeMap (Map made) = IsMade s made
 IsReply s MakeMap Taken = ⊥
 IsReply s event reply = reply ≡ Taken
-
--- the numbers of an event are in range
-abbrev pub IsEvent : Event → Type 0
-IsEvent (Admit onu alloc_id descriptor) = IsInRange (record { onu = onu; alloc_id = alloc_id; descriptor = descriptor })
-IsEvent (Change alloc_id descriptor) = IsLawful descriptor
-IsEvent _ = Unit {0}
 
 -- an entry that may follow in a state, after `kept` entries of its chapter: its numbers are in range, no check refuses it, and its reply is one of the state's
 pub record MayFollow (kept : ℕ) (s : State) (e : Entry) : Type 0 where
