@@ -1,6 +1,7 @@
 // A reader and a writer over memory, whose contracts say their bytes; the calls that fail are chosen when they are made.
-ghost use Rattle.std.specs.Prelude.{◌≡◌, ◌<◌, ◌≤◌, ◌↔◌, ℕ, Some, [], length, min, IfOk, IsErr, Contains};
+ghost use Rattle.std.specs.Prelude.{◌≡◌, ◌<◌, ◌≤◌, ◌↔◌, ◌⊎◌, ℕ, Some, [], length, min, IfOk, IsErr, Contains};
 ghost use Rattle.pon_device.specs.Device.{CountsCall, CountsFailure, ReadConsumes, WriteAppends, Keeps};
+ghost use Rattle.pon_device.specs.Memory.{LacksRoom};
 
 use crate::traits::{DevRead, DevWrite, Failed, fail};
 use std::alloc::Global;
@@ -99,13 +100,14 @@ pub struct MemWrite {
 }
 
 impl Model for MemWrite {
-    ghost use Rattle.std.specs.Prelude.{◌<◌};
+    ghost use Rattle.std.specs.Prelude.{◌<◌, vec_capacity};
     ghost use Rattle.pon_device.specs.Memory.{WriteMemory};
 
     ghost Value = { WriteMemory };
 
     ghost view = { λ s. record {
       taken = s.bytes.items;
+      room = vec_capacity s.bytes;
       most = s.most;
       failing = s.failing.items;
       calls = s.made;
@@ -119,13 +121,9 @@ impl MemWrite {
     /// Takes at most `most` bytes in a call, and fails in the calls of the numbers in `failing`.
     pub fn new(alloc: Global, most: usize, failing: Vec<u64>) -> MemWrite
         requires { 0 < most }
-        ensures { result ≡ record {
-          taken = [];
-          most = most;
-          failing = failing.items;
-          calls = 0;
-          failures = 0;
-        } }
+        ensures taken { result.taken ≡ [] }
+        ensures orders { (result.most ≡ most) × (result.failing ≡ failing.items) }
+        ensures counts { (result.calls ≡ 0) × (result.failures ≡ 0) }
     {
         MemWrite {
             bytes: Vec::new(alloc),
@@ -149,8 +147,8 @@ impl DevWrite for MemWrite {
 
     ghost contents = { λ s. Some s.taken };
 
-    /// Fails in the calls that it was told to fail in, and if memory is refused. In every other call it
-    /// takes as many bytes as are there and are allowed in a call.
+    /// Fails in the calls that it was told to fail in, and if it lacks room and memory is refused. In every other
+    /// call it takes as many bytes as are there and are allowed in a call.
     fn write(&mut self, buf: &[u8]) -> Result<usize, Failed>
         ensures count { IfOk result (λ n. n ≤ length buf.now) }
         ensures some { IfOk result (λ n. 0 < length buf.now → 0 < n) }
@@ -158,7 +156,10 @@ impl DevWrite for MemWrite {
         ensures bytes { WriteAppends (Some self.old.taken) (Some self.new.taken) result buf.now }
         ensures calls { CountsCall self.old.calls self.new.calls }
         ensures failing { Contains self.old.failing self.old.calls → IsErr result }
+        ensures refused { IsErr result → Contains self.old.failing self.old.calls
+            ⊎ LacksRoom self.old (length buf.now) }
         ensures given { IfOk result (λ n. n ≡ min self.old.most (length buf.now)) }
+        ensures room { self.old.room ≤ self.new.room }
         ensures orders { (self.new.most ≡ self.old.most) × (self.new.failing ≡ self.old.failing) }
     {
         let call = self.made;
@@ -174,6 +175,7 @@ impl DevWrite for MemWrite {
     fn flush(&mut self) -> Result<(), Failed>
         ensures failures { CountsFailure self.old.failures self.new.failures result }
         ensures bytes { Keeps (Some self.old.taken) (Some self.new.taken) }
+        ensures room { self.new.room ≡ self.old.room }
         ensures calls { CountsCall self.old.calls self.new.calls }
         ensures failing { IsErr result ↔ Contains self.old.failing self.old.calls }
         ensures orders { (self.new.most ≡ self.old.most) × (self.new.failing ≡ self.old.failing) }

@@ -1,5 +1,5 @@
-// The readers and writers of std as devices, which tell their counts and no bytes.
-ghost use Rattle.std.specs.Prelude.{◌≡◌, ℕ, None};
+// The readers and writers of std as devices: where std says which bytes they hold, the device says so too.
+ghost use Rattle.std.specs.Prelude.{◌≡◌};
 
 use crate::traits::{DevRead, DevWrite, Failed, fail};
 use std::io;
@@ -14,17 +14,17 @@ pub struct StdRead<R> {
 }
 
 impl<R> Model for StdRead<R> {
-    ghost use Rattle.pon_device.specs.Counts.{ReadCounts};
+    ghost use Rattle.pon_device.specs.Counts.{CountedRead};
 
-    ghost Value = { ReadCounts };
+    ghost Value = { CountedRead R };
 
-    ghost view = { λ s. record { calls = s.made; failures = s.failed } };
+    ghost view = { λ s. record { inner = s.inner; calls = s.made; failures = s.failed } };
 }
 
 impl<R> StdRead<R> {
     /// The reader as a device that was not read yet.
     pub fn new(inner: R) -> Self
-        ensures { result ≡ record { calls = 0; failures = 0 } }
+        ensures { result ≡ record { inner = inner; calls = 0; failures = 0 } }
     {
         StdRead {
             inner,
@@ -39,7 +39,7 @@ impl<R: io::Read> DevRead for StdRead<R> {
 
     ghost failures = { λ s. s.failures };
 
-    ghost remaining = { λ _. None };
+    ghost remaining = { λ s. R.remaining s.inner };
 
     fn read(&mut self, buf: &mut [u8]) -> Result<usize, Failed> {
         self.made = self.made.wrapping_add(1);
@@ -59,26 +59,26 @@ pub struct StdWrite<W> {
 }
 
 impl<W> Model for StdWrite<W> {
-    ghost use Rattle.std.specs.Prelude.{ℕ};
+    ghost use Rattle.pon_device.specs.Counts.{CountedWrite};
 
-    ghost Value = { ℕ };
+    ghost Value = { CountedWrite W };
 
-    ghost view = { λ s. s.failed };
+    ghost view = { λ s. record { inner = s.inner; failures = s.failed } };
 }
 
 impl<W> StdWrite<W> {
     /// The writer as a device that has not failed yet.
     pub fn new(inner: W) -> Self
-        ensures { result ≡ 0 }
+        ensures { result ≡ record { inner = inner; failures = 0 } }
     {
         StdWrite { inner, failed: 0 }
     }
 }
 
 impl<W: io::Write> DevWrite for StdWrite<W> {
-    ghost failures = { λ count. count };
+    ghost failures = { λ s. s.failures };
 
-    ghost contents = { λ _. None };
+    ghost contents = { λ s. W.contents s.inner };
 
     fn write(&mut self, buf: &[u8]) -> Result<usize, Failed> {
         match self.inner.write(buf) {
