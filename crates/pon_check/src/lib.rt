@@ -10,8 +10,6 @@ mod class;
 mod fault;
 mod map;
 mod sums;
-#[cfg(test)]
-mod tests;
 
 pub use class::check_class;
 pub use fault::{CertFault, MapCertFault};

@@ -13,9 +13,6 @@ use pon_device::{DevRead, DevWrite};
 use pon_stream::{PlanFault, read_all, write_text};
 use std::alloc::{AllocError, Global};
 
-#[cfg(test)]
-mod tests;
-
 // Whether a file is accepted, and its answer line.
 #[derive(Drop)]
 struct Answer {

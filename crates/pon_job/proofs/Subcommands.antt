@@ -1,5 +1,5 @@
 -- The subcommand that clap matched, with what it matched of its arguments.
-use Rattle.std.proofs.Common.{◌≡◌, ℕ, List, refl, sym, ap, ◌∙◌, true, Option, Some, None}
+use Rattle.std.proofs.Common.{◌≡◌, ℕ, List, refl, sym, ap, ◌∙◌, true, arith, subst, inl, Option, Some, None, slice_index}
 use Rattle.std.specs.Prelude.{option_map, codes}
 use Rattle.std.specs.Borrow.{Bor}
 use Rattle.std.specs.Box.{box_value}
@@ -12,8 +12,12 @@ use Rattle.clap.specs.Simple.{subcommand_rows}
 use Rattle.clap.specs.declared.parser.matches.ArgMatches.{ArgMatches}
 use Rattle.clap.specs.declared.parser.matches.ArgMatches.TheViews.{out-ArgMatches, out-SubCommand}
 use Rattle.clap.proofs.WalkLemmas.{first_value-rows}
-use Rattle.pon_job.specs.Jobs.{IsJob}
-use Rattle.pon_job.specs.declared.task.Job.TheVariants.{Check}
+use Rattle.clap.specs.Simple.{App}
+use Rattle.clap.specs.Faults.{fault_of, is_simple_and_free}
+use Rattle.clap.specs.Kinds.{HasKind}
+use Rattle.clap.specs.declared.error.Error.{Error}
+use Rattle.pon_job.specs.Jobs.{IsJob, NamesNoJob, RefusesWords, olt_app}
+use Rattle.pon_job.specs.declared.task.Job.TheVariants.{Plan, Check}
 
 name_of_rows : (m : ArgMatches) → option_map (λ p. p.0) (subcommand_rows_of m) ≡ subcommand_name_of m
 name_of_rows m = elim (out-ArgMatches m).subcommand as (λ o. option_map (λ p. p.0) (subcommand_rows o) ≡ option_map (λ b. (out-SubCommand (box_value b)).name.now) o) [
@@ -33,3 +37,24 @@ pub check_met : (m found : ArgMatches) (name : List ℕ) (file : Bor (List ℕ))
     bytes_eq name (codes "check") ≡ true → Some file.now ≡ first_value (found_of found) (codes "file") → IsJob (subcommand_rows_of m) (Check file)
 check_met m found name file n r check first =
     by_rows (subcommand_rows_of m) name (rows_of (found_of found)) file (n ∙ sym (name_of_rows m)) r ((bytes_eq-Decides name (codes "check")).0 check) (first ∙ first_value-rows (found_of found) (codes "file"))
+
+without_file : (r : Option (List ℕ × List Row)) (name : List ℕ) (rows : List Row) → Some name ≡ option_map (λ p. p.0) r → Some rows ≡ option_map (λ p. p.1) r → name ≡ codes "check" → None ≡ first_of (codes "file") rows → NamesNoJob r
+without_file None name rows n e check first job j = absurd (cc)
+without_file (Some met) name rows n e check first Plan j =
+    let same_name : name ≡ met.0 = cc in
+    let differ : 99 ≡ 112 = ap (λ l. slice_index l 0) (sym check ∙ same_name ∙ j) in
+    absurd (omega (arith, differ))
+without_file (Some met) name rows n e check first (Check file) j =
+    let same_rows : rows ≡ met.1 = cc in
+    let none : None ≡ Some file.now = first ∙ ap (first_of (codes "file")) same_rows ∙ j.1 in
+    absurd (cc)
+
+-- `check` without a file
+pub no_file_met : (m found : ArgMatches) (name : List ℕ) → Some name ≡ subcommand_name_of m → Some (rows_of (found_of found)) ≡ option_map (λ p. p.1) (subcommand_rows_of m) →
+    bytes_eq name (codes "check") ≡ true → None ≡ first_value (found_of found) (codes "file") → NamesNoJob (subcommand_rows_of m)
+no_file_met m found name n r check first =
+    without_file (subcommand_rows_of m) name (rows_of (found_of found)) (n ∙ sym (name_of_rows m)) r ((bytes_eq-Decides name (codes "check")).0 check) (first ∙ first_value-rows (found_of found) (codes "file"))
+
+-- clap refuses the words
+pub clap_refuses : (a : App) (words : List (List ℕ)) (e : Error) → a ≡ olt_app → (is_simple_and_free a ≡ true → HasKind (fault_of a words) e) → RefusesWords words e
+clap_refuses a words e is k = inl (subst (λ a. is_simple_and_free a ≡ true → HasKind (fault_of a words) e) is k refl)

@@ -1,7 +1,12 @@
 -- The jobs of the program, by the words of its command line.
-use Rattle.std.specs.Prelude.{◌≡◌, ℕ, List, [], ◌∷◌, codes, Option, Some, None, true}
+use Rattle.std.specs.Prelude.{◌≡◌, ◌⊎◌, ℕ, List, [], ◌∷◌, codes, Option, Some, None, true}
 use Rattle.clap.specs.Walk.{Row, Rule, first_of}
-use Rattle.clap.specs.Simple.{App, Shape, new_shape, new_rule, with_subcommand}
+use Rattle.clap.specs.Simple.{App, Shape, new_shape, new_rule, subcommand_of, with_subcommand}
+use Rattle.clap.specs.Faults.{fault_of}
+use Rattle.clap.specs.Kinds.{HasKind}
+use Rattle.clap.specs.Values.{kind_of}
+use Rattle.clap.specs.declared.error.Error.{Error}
+use Rattle.clap.specs.declared.error.kind.ErrorKind.TheVariants.{InvalidSubcommand}
 use Rattle.pon_job.specs.declared.task.Job.{Job}
 use Rattle.pon_job.specs.declared.task.Job.TheVariants.{Plan, Check}
 
@@ -27,3 +32,11 @@ abbrev pub IsJob : Option (List ℕ × List Row) → Job → Type 0
 IsJob None job = ⊥
 IsJob (Some met) Plan = met.0 ≡ codes "plan"
 IsJob (Some met) (Check file) = (met.0 ≡ codes "check") × (first_of (codes "file") met.1 ≡ Some file.now)
+
+-- a subcommand that names no job
+abbrev pub NamesNoJob : Option (List ℕ × List Row) → Type 0
+NamesNoJob met = (job : Job) → IsJob met job → ⊥
+
+-- why words give no job: a fault that clap finds in them, refused memory, or a subcommand that names no job
+abbrev pub RefusesWords : List (List ℕ) → Error → Type 0
+RefusesWords words e = HasKind (fault_of olt_app words) e ⊎ ((kind_of e ≡ InvalidSubcommand) × NamesNoJob (subcommand_of olt_app words))

@@ -1,10 +1,10 @@
 //! The words of the command line.
 
-ghost use Rattle.std.specs.Prelude.{◌≡◌, [], IfOk, IfSome, map, false, string_bytes};
+ghost use Rattle.std.specs.Prelude.{◌≡◌, [], IfErr, IfOk, IfSome, IsNone, map, false, string_bytes};
 ghost use Rattle.clap.specs.Words.{subcommand_rows_of};
 ghost use Rattle.clap.specs.Walk.{rule_of};
 ghost use Rattle.clap.specs.Simple.{app_of, subcommand_of};
-ghost use Rattle.pon_job.specs.Jobs.{IsJob, file_rule, olt_app};
+ghost use Rattle.pon_job.specs.Jobs.{IsJob, NamesNoJob, RefusesWords, file_rule, olt_app};
 
 use crate::task::Job;
 use clap::error::ErrorKind;
@@ -41,7 +41,8 @@ fn command<'a>(alloc: Global) -> Result<Command<'a>, AllocError>
 
 // The job that the subcommand of the matches names.
 fn job_of<'a>(matches: &ArgMatches<'a>) -> Option<Job<'a>>
-    ensures { IfSome result (IsJob (subcommand_rows_of matches.now)) }
+    ensures some { IfSome result (IsJob (subcommand_rows_of matches.now)) }
+    ensures none { IsNone result → NamesNoJob (subcommand_rows_of matches.now) }
 {
     let (name, found) = matches.subcommand()?;
     if name == "plan" {
@@ -56,9 +57,11 @@ fn job_of<'a>(matches: &ArgMatches<'a>) -> Option<Job<'a>>
 
 /// Reads the words of the command line, the program's name first, and returns the job that their subcommand names.
 ///
-/// The error is clap's: the first fault of the words, the help or the version that they ask for, or out of memory.
+/// The error is clap's: the first fault of the words, the help or the version that they ask for, or out of memory. A
+/// subcommand that names no job is `InvalidSubcommand`.
 pub fn job<'a>(alloc: Global, words: &'a [String]) -> Result<Job<'a>, Error>
-    ensures { IfOk result (λ job. IsJob (subcommand_of olt_app (map string_bytes words.now)) job) }
+    ensures job { IfOk result (λ job. IsJob (subcommand_of olt_app (map string_bytes words.now)) job) }
+    ensures refused { IfErr result (RefusesWords (map string_bytes words.now)) }
 {
     let mut command = command(alloc)?;
     let matches = command.try_get_matches_from_mut(words)?;

@@ -10,9 +10,6 @@ use crate::fields::number_field;
 use pon_event::Event;
 use pon_text::{first_word, without_return};
 
-#[cfg(test)]
-mod tests;
-
 /// The most bytes of a line, its carriage return counted.
 const LONGEST: usize = 4096;
 

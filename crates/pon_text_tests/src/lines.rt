@@ -1,5 +1,6 @@
-use super::*;
 use pon_descr::Refusal;
+use pon_event::Event;
+use pon_line::{LineFault, Reading, read_line};
 
 fn fault_of(line: &[u8]) -> Option<LineFault> {
     match read_line(2, line) {

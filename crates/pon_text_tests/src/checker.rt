@@ -2,8 +2,8 @@
 ghost use Rattle.std.specs.Prelude.{◌≡◌, ◌<◌, true};
 ghost use Rattle.pon_cert.specs.Problem.{IsProblem};
 
-use super::*;
 use pon_cert::{ClassCert, Item, Level, MapCert, Sat};
+use pon_check::{CertFault, MapCertFault, check_class, check_map};
 use pon_units::Frac;
 use std::alloc::{AllocError, Global};
 use std::process::Abort;

@@ -1,7 +1,8 @@
 ghost use Rattle.std.specs.Prelude.{◌<◌};
 
-use super::*;
+use pon_check_file::{PlanFault, check_file};
 use pon_device::{MemRead, MemWrite};
+use std::alloc::{AllocError, Global};
 use std::test::Fail;
 
 // What a run gave, and what its writer holds.
