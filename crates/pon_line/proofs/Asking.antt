@@ -4,7 +4,7 @@ use Rattle.std.specs.Prelude.{nat_lt, not, if◌then◌else◌, Result, Ok, Err}
 use Rattle.std.specs.List.{list_all}
 use Rattle.std.proofs.lemmas.Bool.{ltb-true}
 use Rattle.pon_line.specs.declared.command.Command.{Command}
-use Rattle.pon_line.specs.declared.command.Command.TheVariants.{Take, ShowCert}
+use Rattle.pon_line.specs.declared.command.Command.TheVariants.{Take, ShowCert, ShowState}
 use Rattle.pon_text.specs.Lines.{words_of, without_return}
 use Rattle.pon_lists.specs.ResultSteps.{◌>>=◌}
 use Rattle.pon_line.specs.Fields.{number_field}
@@ -36,6 +36,7 @@ reading_within ports (Err fault) asked h = tt
 reading_within ports (Ok port) (Err fault) h = tt
 reading_within ports (Ok port) (Ok (Take event)) h = h
 reading_within ports (Ok port) (Ok ShowCert) h = h
+reading_within ports (Ok port) (Ok ShowState) h = h
 
 words_within : (ports : ℕ) (ws : List (List ℕ)) → AsksWithin ports (read_words ports ws)
 words_within ports [] = tt

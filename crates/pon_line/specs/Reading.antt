@@ -6,11 +6,11 @@ use Rattle.pon_lists.specs.ResultSteps.{◌>>=◌}
 use Rattle.pon_line.specs.Fields.{number_field}
 use Rattle.pon_line.specs.Commands.{command_of}
 use Rattle.pon_line.specs.declared.command.Command.{Command}
-use Rattle.pon_line.specs.declared.command.Command.TheVariants.{Take, ShowCert}
+use Rattle.pon_line.specs.declared.command.Command.TheVariants.{Take, ShowCert, ShowState}
 use Rattle.pon_line.specs.declared.fault.LineFault.{LineFault}
 use Rattle.pon_line.specs.declared.fault.LineFault.TheVariants.{NoSuchPort, LineLong, NotText}
 use Rattle.pon_line.specs.declared.reading.Reading.{Reading}
-use Rattle.pon_line.specs.declared.reading.Reading.TheVariants.{Nothing, Refused, Asks, AsksCert}
+use Rattle.pon_line.specs.declared.reading.Reading.TheVariants.{Nothing, Refused, Asks, AsksCert, AsksState}
 
 -- the port that a word names, below the number of ports
 unfoldable pub port_of : ℕ → List ℕ → Result ℕ LineFault
@@ -22,6 +22,7 @@ reading (Err fault) asked = Refused fault
 reading (Ok port) (Err fault) = Refused fault
 reading (Ok port) (Ok (Take event)) = Asks port event
 reading (Ok port) (Ok ShowCert) = AsksCert port
+reading (Ok port) (Ok ShowState) = AsksState port
 
 -- no words ask nothing; else the first is the port, and the others are its command
 abbrev pub read_words : ℕ → List (List ℕ) → Reading
@@ -52,3 +53,4 @@ AsksWithin ports Nothing = Unit {0}
 AsksWithin ports (Refused fault) = Unit {0}
 AsksWithin ports (Asks port event) = port < ports
 AsksWithin ports (AsksCert port) = port < ports
+AsksWithin ports (AsksState port) = port < ports

@@ -2,7 +2,7 @@
 
 ghost use Rattle.std.specs.Prelude.{◌≡◌};
 ghost use Rattle.pon_text.specs.Lines.{words_of};
-ghost use Rattle.pon_line.specs.Commands.{admit, admit_of, alone, change, change_of, command_of, event_of, fail_of, remove, remove_of, report, report_of};
+ghost use Rattle.pon_line.specs.Commands.{admit, admit_of, no_arguments, change, change_of, command_of, event_of, fail_of, remove, remove_of, report, report_of};
 
 use crate::fault::LineFault;
 use crate::fields::{
@@ -23,6 +23,8 @@ pub(crate) enum Command {
     Take(Event),
     /// The certificate of the last map.
     ShowCert,
+    /// The state of the port.
+    ShowState,
 }
 
 // The event of an `admit`, by the checks of its numbers in order.
@@ -170,8 +172,8 @@ fn fail_of(text: &[u8]) -> Result<Event, LineFault>
 }
 
 // What a command asks that no word follows.
-fn alone<A: Drop>(text: &[u8], asked: A) -> Result<A, LineFault>
-    ensures { result ≡ alone asked (words_of text.now) }
+fn no_arguments<A: Drop>(text: &[u8], asked: A) -> Result<A, LineFault>
+    ensures { result ≡ no_arguments asked (words_of text.now) }
 {
     match first_word(text) {
         None => Ok(asked),
@@ -194,11 +196,11 @@ fn event_of(text: &[u8]) -> Result<Event, LineFault>
     } else if name.word == b"report".as_slice() {
         report_of(name.rest)
     } else if name.word == b"map".as_slice() {
-        alone(name.rest, Event::MakeMap)
+        no_arguments(name.rest, Event::MakeMap)
     } else if name.word == b"fail".as_slice() {
         fail_of(name.rest)
     } else if name.word == b"restore".as_slice() {
-        alone(name.rest, Event::Restore)
+        no_arguments(name.rest, Event::Restore)
     } else {
         Err(LineFault::UnknownCommand)
     }
@@ -211,7 +213,9 @@ pub(crate) fn command_of(text: &[u8]) -> Result<Command, LineFault>
 {
     let name = next_word(text)?;
     if name.word == b"cert".as_slice() {
-        alone(name.rest, Command::ShowCert)
+        no_arguments(name.rest, Command::ShowCert)
+    } else if name.word == b"show".as_slice() {
+        no_arguments(name.rest, Command::ShowState)
     } else {
         Ok(Command::Take(event_of(text)?))
     }

@@ -24,6 +24,8 @@ pub enum Reading {
     Asks { port: usize, event: Event },
     /// The certificate of the port's last map is asked for.
     AsksCert { port: usize },
+    /// The state of the port is asked for.
+    AsksState { port: usize },
 }
 
 // The port that a word names, below the number of ports.
@@ -51,7 +53,8 @@ fn is_text(line: &[u8]) -> bool
 /// `<port> admit <onu> <alloc> <fixed> <assured> <max> <class>` admits an Alloc-ID, `<port> change <alloc> <fixed>
 /// <assured> <max> <class>` gives it another descriptor, `<port> remove <alloc>` takes it out, `<port> report <frame>
 /// <onu> <occ> ..` reports what waits at an ONU's structures in the map of a frame, `<port> map` makes the next map,
-/// `<port> cert` asks for the certificate of the last map, `<port> fail <cause>` says that the line has failed and `<port> restore` that it is back. Words are parted by spaces
+/// `<port> cert` asks for the certificate of the last map and `<port> show` for the state of the port, `<port> fail <cause>`
+/// says that the line has failed and `<port> restore` that it is back. Words are parted by spaces
 /// and tabs; a number is 1 to 20 decimal digits with a value below 2^64; rates are in kbit/s; a class is `none`, `na` or
 /// `be`; an occupancy is 0 to 16,777,215 words of 4 bytes, or `x` where it is garbled, 1 to 16 of them; a cause is 1 to 9.
 ///
@@ -84,6 +87,7 @@ pub fn read_line(ports: usize, line: &[u8]) -> Reading
             Err(fault) => Reading::Refused(fault),
             Ok(Command::Take(event)) => Reading::Asks { port, event },
             Ok(Command::ShowCert) => Reading::AsksCert { port },
+            Ok(Command::ShowState) => Reading::AsksState { port },
         },
     }
 }

@@ -2,4 +2,5 @@ mod AnswerLaws
 mod Continuing
 mod Feeds
 mod OneOutput
+mod StateNumbers
 mod Streaming

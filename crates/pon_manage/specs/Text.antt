@@ -1,9 +1,11 @@
 -- The text that lines give, as a relation: what a line asks is answered by the entry that a port keeps for it.
-use Rattle.std.specs.Prelude.{ℕ, ◌≡◌, List, [], ◌∷◌, ◌++◌, length, codes, decimal, slice_get, slice_set, Option, Some, None}
+use Rattle.std.specs.Prelude.{ℕ, ◌≡◌, ◌*◌, List, [], ◌∷◌, ◌++◌, length, codes, decimal, slice_get, slice_set, Option, Some, None}
 use Rattle.hex.specs.Hex.{encode_lower}
 use Rattle.pon_bwmap.specs.MapBytes.{map_bytes}
 use Rattle.pon_cert.specs.Spelling.{cert_text}
-use Rattle.pon_port.specs.Chapters.{Chapter}
+use Rattle.pon_admit.specs.Roster.{capacity, onus_of, promised_sum, rule_in_force}
+use Rattle.pon_state.specs.State.{State}
+use Rattle.pon_port.specs.Chapters.{Chapter, present_state}
 use Rattle.pon_port.specs.Last.{LastMap, last_map}
 use Rattle.pon_port.specs.Taking.{Takes, refusal_of}
 use Rattle.pon_event.specs.declared.event.Event.{Event}
@@ -16,7 +18,7 @@ use Rattle.pon_line.specs.Reading.{read_line}
 use Rattle.pon_line.specs.declared.fault.LineFault.{LineFault}
 use Rattle.pon_line.specs.declared.fault.LineFault.TheVariants.{NoMap, Port}
 use Rattle.pon_line.specs.declared.reading.Reading.{Reading}
-use Rattle.pon_line.specs.declared.reading.Reading.TheVariants.{Nothing, Refused, Asks, AsksCert}
+use Rattle.pon_line.specs.declared.reading.Reading.TheVariants.{Nothing, Refused, Asks, AsksCert, AsksState}
 
 -- a refusal line
 abbrev pub refusal_line : LineFault → List ℕ
@@ -47,12 +49,41 @@ abbrev pub TellsCert : Option Chapter → List ℕ → Type 0
 TellsCert None text = ⊥
 TellsCert (Some c) text = text ≡ cert_line (last_map c)
 
+-- a number under its name
+abbrev pub named : List ℕ → ℕ → List ℕ → List ℕ
+named name n rest = name ++ (decimal n ++ rest)
+
+-- the numbers of a state: its next frame, and of its roster the Alloc-IDs, the ONUs, and in kbit/s the sum of the guaranteed
+-- rates and the capacity
+abbrev pub state_numbers : State → List ℕ
+state_numbers s =
+    named (codes " next ") s.next (
+    named (codes " allocs ") (length s.roster) (
+    named (codes " onus ") (length (onus_of s.roster)) (
+    named (codes " guaranteed ") (promised_sum s.roster) (
+    named (codes " capacity ") (256 * capacity rule_in_force s.gap s.roster) (10 ∷ [])))))
+
+-- the line is up, or it is down by a cause
+abbrev pub show_line : Option ℕ → List ℕ → List ℕ
+show_line None numbers = codes "show up" ++ numbers
+show_line (Some cause) numbers = codes "show down " ++ (decimal cause ++ numbers)
+
+-- the line that shows a state
+abbrev pub state_line : State → List ℕ
+state_line s = show_line s.cause (state_numbers s)
+
+-- a port is asked for its state, and stays as it is
+abbrev pub TellsState : Option Chapter → List ℕ → Type 0
+TellsState None text = ⊥
+TellsState (Some c) text = text ≡ state_line (present_state c)
+
 -- what is asked gives a text, and leaves the ports' chapters so
 abbrev pub Answers : List Chapter → Reading → List ℕ → List Chapter → Type 0
 Answers old Nothing text new = (text ≡ []) × (new ≡ old)
 Answers old (Refused fault) text new = (text ≡ refusal_line fault) × (new ≡ old)
 Answers old (Asks port event) text new = AsksPort old port (slice_get old port) event text new
 Answers old (AsksCert port) text new = TellsCert (slice_get old port) text × (new ≡ old)
+Answers old (AsksState port) text new = TellsState (slice_get old port) text × (new ≡ old)
 
 -- a line gives a text
 abbrev pub Gives : List Chapter → List ℕ → List ℕ → List Chapter → Type 0

@@ -3,10 +3,12 @@
 ghost use Rattle.std.specs.Prelude.{◌≡◌, ◌∷◌, ◌++◌, [], IfOk, codes, decimal, string_bytes};
 ghost use Rattle.hex.specs.Hex.{encode_lower};
 ghost use Rattle.pon_bwmap.specs.MapBytes.{map_bytes};
+ghost use Rattle.pon_port.specs.Chapters.{present_state};
 ghost use Rattle.pon_port.specs.Last.{last_map};
 ghost use Rattle.pon_line.specs.Reading.{AsksWithin};
-ghost use Rattle.pon_manage.specs.Text.{Answers, cert_line, refusal_line, reply_line};
+ghost use Rattle.pon_manage.specs.Text.{Answers, cert_line, refusal_line, reply_line, state_line};
 
+use crate::show::state_line;
 use pon_bwmap::{Map, encode_map};
 use pon_descr::Refusal;
 use pon_line::{LineFault, Reading};
@@ -98,6 +100,13 @@ fn show_cert(alloc: Global, port: &Port) -> Result<String, AllocError>
     }
 }
 
+// The present state.
+fn show_state(alloc: Global, port: &Port) -> Result<String, AllocError>
+    ensures { IfOk result (λ text. string_bytes text ≡ state_line (present_state port.now)) }
+{
+    state_line(alloc, port.state())
+}
+
 /// The text that a reading gives at one port. After an `Err`, which comes only if memory is refused, nothing is known of
 /// the port but that its history is lawful.
 pub(crate) fn answer(alloc: Global, port: &mut Port, reading: Reading) -> Result<String, AllocError>
@@ -110,5 +119,6 @@ pub(crate) fn answer(alloc: Global, port: &mut Port, reading: Reading) -> Result
         Reading::Refused(fault) => refusal_text_line(alloc, fault),
         Reading::Asks { event, .. } => post(alloc, port, event),
         Reading::AsksCert { .. } => show_cert(alloc, port),
+        Reading::AsksState { .. } => show_state(alloc, port),
     }
 }

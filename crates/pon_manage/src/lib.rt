@@ -6,6 +6,7 @@
 mod answer;
 pub mod laws;
 mod lines;
+mod show;
 
 pub use lines::{PlanEnd, plan};
 pub use pon_stream::PlanFault;

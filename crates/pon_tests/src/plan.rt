@@ -148,9 +148,17 @@ static WORKED: [(&[u8], &[u8]); 31] = [
         b"0 cert\n0 cert 1\n1 cert\n0 map\n0 fail 1\n0 cert\n",
         b"err L5 NoMap\nerr L2 WordCount\nerr L4 NoSuchPort\nmap 0 00000000\nok 1\ncert 0 na all - be all -\n",
     ),
+    (
+        b"0 show\n0 admit 5 1024 2560 0 2560 none\n0 map\n0 show\n0 show 1\n1 show\n",
+        b"show up next 0 allocs 0 onus 0 guaranteed 0 capacity 2488320\nok 0\nmap 0 002013ac10020010000b13cb\nshow up next 1 allocs 1 onus 1 guaranteed 2560 capacity 2483456\nerr L2 WordCount\nerr L4 NoSuchPort\n",
+    ),
+    (
+        b"0 admit 5 1024 2560 1280 7680 be\n0 admit 5 1025 0 256 256 none\n0 fail 3\n0 show\n0 restore\n0 remove 1024\n0 show\n",
+        b"ok 0\nok 1\nok 2\nshow down 3 next 0 allocs 2 onus 1 guaranteed 4096 capacity 2483200\nok 3\nok 4\nshow up next 0 allocs 1 onus 1 guaranteed 256 capacity 2483456\n",
+    ),
     (b"# a comment \xff\r\n \t\n0 map\r\n\r", b"map 0 00000000\n"),
     (
-        b"0 map 1\n0 show\n0\nx map\n0 m\xc3p\n",
+        b"0 map 1\n0 shows\n0\nx map\n0 m\xc3p\n",
         b"err L2 WordCount\nerr L1 UnknownCommand\nerr L2 WordCount\nerr L3 BadField\nerr L7 NotText\n",
     ),
     (

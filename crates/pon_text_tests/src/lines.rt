@@ -5,7 +5,10 @@ use pon_line::{LineFault, Reading, read_line};
 fn fault_of(line: &[u8]) -> Option<LineFault> {
     match read_line(2, line) {
         Reading::Refused(fault) => Some(fault),
-        Reading::Nothing | Reading::Asks { .. } | Reading::AsksCert { .. } => None,
+        Reading::Nothing
+        | Reading::Asks { .. }
+        | Reading::AsksCert { .. }
+        | Reading::AsksState { .. } => None,
     }
 }
 
@@ -146,8 +149,10 @@ fn reads_each_command(rt: HostRuntime) {
         }
     );
     assert!(rt; removes);
-    let shows = matches!(read_line(2, b"1 cert"), Reading::AsksCert { port: 1 });
-    assert!(rt; shows);
+    let asks_cert = matches!(read_line(2, b"1 cert"), Reading::AsksCert { port: 1 });
+    assert!(rt; asks_cert);
+    let asks_state = matches!(read_line(2, b"1 show"), Reading::AsksState { port: 1 });
+    assert!(rt; asks_state);
     for (line, port) in [(b"00 map".as_slice(), 0), (b"\t 1 \t map \r".as_slice(), 1)] {
         assert_eq!(rt; port_of_map(line), Some(port), "at {line:?}");
     }
