@@ -5,5 +5,4 @@ pub mod ReadsBack
 pub mod RowReading
 pub mod SeriesLaw
 pub mod SeriesRules
-pub mod StructuresFit
 pub mod WholeMap

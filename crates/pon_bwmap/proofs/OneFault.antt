@@ -1,6 +1,5 @@
 -- Bytes have one first fault as a map at most.
-use Rattle.std.proofs.Common.{◌≡◌, ℕ, ◌+◌, ◌*◌, ◌^◌, ◌<◌, ◌≤◌, ◌⊎◌, List, ◌++◌, length, drop, All, Option, Some, None, inl, inr, refl, ap, sym, ◌∙◌, subst, arith}
-use Rattle.std.specs.Int.{w64, from_be_bytes}
+use Rattle.std.proofs.Common.{◌≡◌, ℕ, ◌<◌, ◌≤◌, List, length, drop, All, Some, None, inl, inr, refl, ap, sym, ◌∙◌, subst, arith}
 use Rattle.std.proofs.lemmas.Bool.{cases_lt}
 use Rattle.pon_lists.specs.Bytes.{AreBytes}
 use Rattle.pon_lists.proofs.Bytes.{bytes-drop, bytes-from_All}
@@ -9,8 +8,8 @@ use Rattle.pon_xgtc.specs.MapHead.{MapHead, ReadsMapHead}
 use Rattle.pon_xgtc.specs.declared.fault.HeadFault.TheVariants.{Hec}
 use Rattle.pon_bwmap.specs.Structure.{Structure}
 use Rattle.pon_bwmap.specs.MapBytes.{structure_payload}
-use Rattle.pon_bwmap.specs.MapRules.{FirstKeepRules, row_fault}
-use Rattle.pon_bwmap.specs.MapReading.{ReadsRows, ReadsMapRows, ReadsWholeHead, map_size}
+use Rattle.pon_bwmap.specs.MapRules.{row_fault}
+use Rattle.pon_bwmap.specs.MapReading.{ReadsRows, ReadsMapRows, map_size}
 use Rattle.pon_bwmap.specs.MapFaults.{LosesStructure, BreaksRule, IsRowsFirstFault, IsFaultOfRows, IsFirstFault}
 use Rattle.pon_bwmap.specs.declared.fault.MapFault.{MapFault}
 use Rattle.pon_bwmap.specs.declared.fault.MapFault.TheVariants.{Short, HeadHec, TooMany, StructHec, SeriesStart, StartRange, SeriesLong, Memory}

@@ -24,6 +24,27 @@ impl Model for Map {
     ghost invariant = { λ m. IsMap m.rows.items × All FitsStructure m.rows.items };
 }
 
+impl PartialEq for Map {
+    ghost use Rattle.std.specs.Cmp.{partial_equiv_from_equiv};
+    ghost use Rattle.std.specs.Cmp.Lexicographic.{pointwise, lists_equiv};
+    ghost use Rattle.pon_bwmap.specs.Structure.{structure_eq, structure_equiv};
+
+    ghost eq = { pointwise structure_eq };
+
+    ghost laws = { partial_equiv_from_equiv (lists_equiv structure_equiv) };
+
+    fn eq(&self, other: &Map) -> bool {
+        self.rows() == other.rows()
+    }
+}
+
+impl Eq for Map {
+    ghost use Rattle.std.specs.Cmp.Lexicographic.{lists_equiv};
+    ghost use Rattle.pon_bwmap.specs.Structure.{structure_equiv};
+
+    ghost laws = { lists_equiv structure_equiv };
+}
+
 impl Map {
     ghost use Rattle.std.specs.Prelude.{◌≡◌, ◌↔◌, All, IsOk, IfOk, IfErr};
     ghost use Rattle.pon_bwmap.specs.MapReading.{FitsStructure};
