@@ -1,6 +1,8 @@
 // One allocation that fails (`rt try --test --fail-alloc N`) changes no result: what memory refused is asked for again.
 
 use pon_bwmap::{Alloc, Map, MapFault, decode_map, encode_map};
+use std::alloc::Global;
+use std::process::Abort;
 use std::test::Fail;
 
 fn map(rt: &HostRuntime, count: usize) -> Result<Map, Fail> {
@@ -9,12 +11,12 @@ fn map(rt: &HostRuntime, count: usize) -> Result<Map, Fail> {
     Ok(Map::from_rows(rows).map_err(|_| "a map")?)
 }
 
-fn decoded(rt: &HostRuntime, bytes: &[u8]) -> Option<(Map, u32, usize)> {
-    match decode_map(rt.alloc(), bytes) {
+fn decoded(rt: &impl Abort, alloc: Global, bytes: &[u8]) -> Option<(Map, u32, usize)> {
+    match decode_map(alloc, bytes) {
         Ok(read) => Some(read),
         Err(fault) => {
             assert_eq!(rt; fault, MapFault::Memory);
-            decode_map(rt.alloc(), bytes).ok()
+            decode_map(alloc, bytes).ok()
         }
     }
 }
@@ -27,7 +29,7 @@ fn asks_again_for_what_memory_refused(rt: HostRuntime) -> Result<(), Fail> {
         let bytes = encode_map(alloc, &map).or(encode_map(alloc, &map))?;
         let copy = map.try_copy(alloc).or(map.try_copy(alloc))?;
         assert_eq!(rt; copy, map);
-        let read = decoded(&rt, &bytes);
+        let read = decoded(&rt, alloc, &bytes);
         assert_eq!(rt; read, Some((copy, 0, bytes.len())));
     }
     assert!(rt; map(&rt, 1)? != map(&rt, 2)?);

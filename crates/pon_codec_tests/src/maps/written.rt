@@ -56,8 +56,10 @@ fn read_whole(alloc: Global, bytes: &[u8]) -> Result<Map, MapFault>
     ensures err { (rows : List Structure) (corrected used : ℕ) → ReadsMap bytes.now rows corrected used
         → IfErr result (λ fault. fault ≡ MapFault.Memory) }
 {
-    let (map, _, _) = decode_map(alloc, bytes)?;
-    Ok(map)
+    match decode_map(alloc, bytes) {
+        Ok((map, _, _)) => Ok(map),
+        Err(fault) => Err(fault),
+    }
 }
 
 // A map, written and read again: it is the same by the contracts, and only memory can be refused.
