@@ -1,5 +1,5 @@
 -- How a reader's run ends: the same for every run over a stream.
-use Rattle.std.proofs.Common.{◌≡◌, ℕ, ◌+◌, ◌<◌, ◌≤◌, ◌⊎◌, Bool, true, IsTrue, List, [], ◌++◌, length, get_or, Option, Some, None, inl, inr, refl, ap, sym, ◌∙◌, subst, length-append, arith}
+use Rattle.std.proofs.Common.{◌≡◌, ℕ, ◌+◌, ◌<◌, ◌≤◌, ◌⊎◌, Bool, IsTrue, List, [], ◌++◌, length, get_or, Option, Some, None, inl, inr, refl, ap, sym, ◌∙◌, subst, length-append, arith}
 use Rattle.std.proofs.lemmas.List.{append-nil, get_or_append_left}
 use Rattle.pon_lists.specs.Bytes.{AreBytes}
 use Rattle.pon_link.specs.Reading.{Reading, Announces, HasBadSize, HasBadTag, HasBadForm, HasRefusedMap, HasFault, IsBeginning, IsWhole, tag_of, telling, bad_size}

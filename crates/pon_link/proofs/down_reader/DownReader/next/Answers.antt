@@ -1,8 +1,6 @@
-use Rattle.std.proofs.Common.{◌≡◌, List, ℕ, Err, refl, ap, sym, ◌∙◌, subst, arith}
-use Rattle.pon_lists.specs.Bytes.{AreBytes}
+use Rattle.std.proofs.Common.{◌≡◌, List, ℕ, refl, ap, sym, ◌∙◌, subst, arith}
 use Rattle.pon_link.specs.Reading.{Reading, HasFault, IsOpen}
-use Rattle.pon_link.specs.DownRecords.{IsDownRecord, KeepsDown, GivesDown}
-use Rattle.pon_link.specs.declared.direction.Direction.TheVariants.{Down}
+use Rattle.pon_link.specs.DownRecords.{IsDownRecord, KeepsDown}
 use Rattle.pon_link.proofs.Answering.{down_kept}
 use Rattle.pon_link.proofs.Outcomes.{faultless, down_sound, sticky_down}
 use Rattle.pon_link.proofs.down_reader.DownReader.next.Goals as goal

@@ -1,4 +1,4 @@
-use Rattle.std.proofs.Common.{◌≡◌, ◌+◌, ◌-◌, ◌<◌, ◌≤◌, List, ℕ, length, take, drop, arith, rules, ap}
+use Rattle.std.proofs.Common.{◌≡◌, ◌+◌, ◌-◌, ◌<◌, ◌≤◌, ℕ, length, take, drop, arith, rules, ap}
 use Rattle.std.proofs.lemmas.List.{length-take}
 use Rattle.pon_link.proofs.Growth.{hold_part, open_further}
 use Rattle.pon_link.proofs.held.Held.feed.Goals as goal
