@@ -1,4 +1,5 @@
 pub mod MapWriting
+pub mod OneFault
 pub mod OneMap
 pub mod ReadsBack
 pub mod RowReading

@@ -64,7 +64,7 @@ one_structure bytes a b k l all r s =
 -- ---- structures in a row
 
 -- fewer structures that are read are the first of those that are
-first_rows : (bytes : List ℕ) (rows all : List Structure) (k l : ℕ) → AreBytes bytes → ReadsRows bytes rows k → ReadsRows bytes all l → length rows ≤ length all → (more : List Structure) × (all ≡ rows ++ more)
+pub first_rows : (bytes : List ℕ) (rows all : List Structure) (k l : ℕ) → AreBytes bytes → ReadsRows bytes rows k → ReadsRows bytes all l → length rows ≤ length all → (more : List Structure) × (all ≡ rows ++ more)
 first_rows bytes [] all k l are r s le = (all, refl)
 first_rows bytes (a ∷ rows) [] k l are r s le = absurd (omega (arith, le))
 first_rows bytes (a ∷ rows) (b ∷ all) k l are r s le =
@@ -72,7 +72,7 @@ first_rows bytes (a ∷ rows) (b ∷ all) k l are r s le =
     let rest = first_rows (drop 8 bytes) rows all r.1 s.1 (bytes-drop 8 bytes are) r.3 s.3 (omega (arith, le)) in
     (rest.0, λ i. one.0 i ∷ rest.1 i)
 
-one_rows : (bytes : List ℕ) (rows rows2 : List Structure) (k l : ℕ) → AreBytes bytes → ReadsRows bytes rows k → ReadsRows bytes rows2 l → length rows ≡ length rows2 → (rows ≡ rows2) × (k ≡ l)
+pub one_rows : (bytes : List ℕ) (rows rows2 : List Structure) (k l : ℕ) → AreBytes bytes → ReadsRows bytes rows k → ReadsRows bytes rows2 l → length rows ≡ length rows2 → (rows ≡ rows2) × (k ≡ l)
 one_rows bytes [] [] k l are r s e = (refl, r ∙ sym s)
 one_rows bytes [] (b ∷ rows2) k l are r s e = absurd (omega (arith, e))
 one_rows bytes (a ∷ rows) [] k l are r s e = absurd (omega (arith, e))
@@ -82,7 +82,7 @@ one_rows bytes (a ∷ rows) (b ∷ rows2) k l are r s e =
     (λ i. one.0 i ∷ rest.0 i, omega (arith, r.4, s.4, one.1, rest.1))
 
 -- the structure at a place
-row_at : (bytes : List ℕ) (rows : List Structure) (corrected k : ℕ) → ReadsRows bytes rows corrected → k < length rows → (a : Structure) × (places : ℕ) × ReadsStructure (drop (8 * k) bytes) a places
+pub row_at : (bytes : List ℕ) (rows : List Structure) (corrected k : ℕ) → ReadsRows bytes rows corrected → k < length rows → (a : Structure) × (places : ℕ) × ReadsStructure (drop (8 * k) bytes) a places
 row_at bytes [] corrected k r lt = absurd (omega (arith, lt))
 row_at bytes (a ∷ rows) corrected zero r lt = (a, r.0, r.2)
 row_at bytes (a ∷ rows) corrected (suc k) r lt =

@@ -1,5 +1,10 @@
 -- One allocation structure of a bandwidth map (ITU-T G.987.3).
-use Rattle.std.specs.Prelude.{ℕ, Bool, Option}
+use Rattle.std.specs.Prelude.{ℕ, ◌≤◌, ◌==◌, Bool, Option}
+use Rattle.std.specs.Option.{option_eq}
+use Rattle.std.specs.Ordering.{on, eq_of_both}
+use Rattle.std.specs.Cmp.{IsEquivalence, and_equiv, on_equiv, nat_eq_equiv, bool_eq_equiv}
+use Rattle.std.specs.Cmp.Lexicographic.{options_equiv}
+use Rattle.std.proofs.Math.Bool.{beq}
 
 -- the fields of an allocation structure; one with no start continues the series before it
 pub record Structure : Type 0 where
@@ -10,3 +15,23 @@ pub record Structure : Type 0 where
   pub grant : ℕ
   pub fwi : Bool
   pub profile : ℕ
+
+-- what the fields of a structure can hold, but for its start
+pub record FitsFields (a : Structure) : Type 0 where
+  pub id : a.id ≤ 16383
+  pub grant : a.grant ≤ 65535
+  pub profile : a.profile ≤ 3
+
+-- whether two structures are equal, field by field
+abbrev pub structure_eq : Structure → Structure → Bool
+structure_eq = eq_of_both (on (λ a. a.id) ◌==◌) (eq_of_both (on (λ a. a.dbru) beq) (eq_of_both (on (λ a. a.ploam) beq) (eq_of_both (on (λ a. a.start) (option_eq ◌==◌)) (eq_of_both (on (λ a. a.grant) ◌==◌) (eq_of_both (on (λ a. a.fwi) beq) (on (λ a. a.profile) ◌==◌))))))
+
+pub structure_equiv : IsEquivalence structure_eq
+structure_equiv =
+    and_equiv (on_equiv (λ a. a.id) nat_eq_equiv)
+    (and_equiv (on_equiv (λ a. a.dbru) bool_eq_equiv)
+    (and_equiv (on_equiv (λ a. a.ploam) bool_eq_equiv)
+    (and_equiv (on_equiv (λ a. a.start) (options_equiv nat_eq_equiv))
+    (and_equiv (on_equiv (λ a. a.grant) nat_eq_equiv)
+    (and_equiv (on_equiv (λ a. a.fwi) bool_eq_equiv)
+    (on_equiv (λ a. a.profile) nat_eq_equiv))))))

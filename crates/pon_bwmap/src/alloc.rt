@@ -137,7 +137,8 @@ impl Alloc {
 
     /// The words of 4 bytes that are granted, a report's word among them.
     pub fn grant(&self) -> u16
-        ensures { result ≡ self.now.grant }
+        ensures value { result ≡ self.now.grant }
+        ensures range { result ≤ 65535 }
     {
         self.grant
     }

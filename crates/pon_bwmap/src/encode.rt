@@ -1,5 +1,6 @@
-ghost use Rattle.std.specs.Prelude.{◌≡◌, ◌+◌, ◌*◌, ◌<◌, ◌≤◌, ◌^◌, ◌++◌, length, take, drop, IfOk};
+ghost use Rattle.std.specs.Prelude.{◌≡◌, ◌+◌, ◌*◌, ◌<◌, ◌≤◌, ◌^◌, ℕ, List, ◌++◌, length, take, drop, IfOk};
 ghost use Rattle.pon_bwmap.specs.MapBytes.{map_bytes, structure_bytes, structure_payload};
+ghost use Rattle.pon_bwmap.specs.MapReading.{ReadsMap};
 
 use crate::alloc::Alloc;
 use crate::map::Map;
@@ -7,10 +8,13 @@ use pon_hec::seal64;
 use pon_xgtc::HLend;
 use std::alloc::{AllocError, Global};
 
-/// The bytes of the map: its head with N structures and no messages, then 8 bytes a structure.
+/// The bytes of the map: its head with N structures and no messages, then 8 bytes a structure. With any bytes behind
+/// them they read as the map, with nothing corrected.
 /// `AllocError` if memory is refused; it is asked for once.
 pub fn encode_map(alloc: Global, map: &Map) -> Result<Vec<u8>, AllocError>
-    ensures { IfOk result (λ bytes. bytes.items ≡ map_bytes map.now) }
+    ensures spelled { IfOk result (λ bytes. bytes.items ≡ map_bytes map.now) }
+    ensures reads_back { IfOk result (λ bytes. (rest : List ℕ)
+        → ReadsMap (bytes.items ++ rest) map.now 0 (4 + 8 * length map.now)) }
 {
     let mut bytes = vec![in alloc; 0; 4 + 8 * map.rows().len()]?;
     write_map(map, bytes.as_mut_slice());

@@ -27,6 +27,12 @@ pub fn one_map()
         (rows ≡ rows2) × (corrected ≡ corrected2) × (used ≡ used2) }
 {}
 
+/// Bytes have one first fault at most.
+pub fn one_fault()
+    ensures { (bytes : List ℕ) (fault fault2 : MapFault) → All (λ b. b < 256) bytes →
+        IsFirstFault bytes fault → IsFirstFault bytes fault2 → fault ≡ fault2 }
+{}
+
 /// Where bytes read as a map, nothing but memory can be wanting.
 pub fn only_memory_is_wanting()
     ensures { (bytes : List ℕ) (rows : List Structure) (corrected used : ℕ) (fault : MapFault) →

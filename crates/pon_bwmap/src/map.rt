@@ -1,6 +1,6 @@
 use crate::alloc::Alloc;
 use crate::fault::MapFault;
-use crate::rules::rows_fault;
+use crate::rules::{fit_ranges, rows_fault};
 use std::alloc::{AllocError, Global};
 use std::marker::Model;
 
@@ -12,19 +12,42 @@ pub struct Map {
 }
 
 impl Model for Map {
-    ghost use Rattle.std.specs.Prelude.{List};
+    ghost use Rattle.std.specs.Prelude.{List, All};
     ghost use Rattle.pon_bwmap.specs.Structure.{Structure};
+    ghost use Rattle.pon_bwmap.specs.MapReading.{FitsStructure};
     ghost use Rattle.pon_bwmap.specs.MapRules.{IsMap};
 
     ghost Value = { List Structure };
 
     ghost view = { λ m. m.rows.items };
 
-    ghost invariant = { λ m. IsMap m.rows.items };
+    ghost invariant = { λ m. IsMap m.rows.items × All FitsStructure m.rows.items };
+}
+
+impl PartialEq for Map {
+    ghost use Rattle.std.specs.Cmp.{partial_equiv_from_equiv};
+    ghost use Rattle.std.specs.Cmp.Lexicographic.{pointwise, lists_equiv};
+    ghost use Rattle.pon_bwmap.specs.Structure.{structure_eq, structure_equiv};
+
+    ghost eq = { pointwise structure_eq };
+
+    ghost laws = { partial_equiv_from_equiv (lists_equiv structure_equiv) };
+
+    fn eq(&self, other: &Map) -> bool {
+        self.rows() == other.rows()
+    }
+}
+
+impl Eq for Map {
+    ghost use Rattle.std.specs.Cmp.Lexicographic.{lists_equiv};
+    ghost use Rattle.pon_bwmap.specs.Structure.{structure_equiv};
+
+    ghost laws = { lists_equiv structure_equiv };
 }
 
 impl Map {
-    ghost use Rattle.std.specs.Prelude.{◌≡◌, ◌↔◌, IsOk, IfOk, IfErr};
+    ghost use Rattle.std.specs.Prelude.{◌≡◌, ◌↔◌, All, IsOk, IfOk, IfErr};
+    ghost use Rattle.pon_bwmap.specs.MapReading.{FitsStructure};
     ghost use Rattle.pon_bwmap.specs.MapRules.{IsMap, IsRowsFault};
 
     /// The map of these structures. An `Err` hands them back with the first thing that is wrong:
@@ -37,7 +60,7 @@ impl Map {
         ensures first_fault { IfErr result (λ e. IsRowsFault rows.items e.1) }
     {
         match rows_fault(&rows) {
-            None => Ok(Map { rows }),
+            None => Ok(Map::of_rows(rows)),
             Some(fault) => Err((rows, fault)),
         }
     }
@@ -47,13 +70,15 @@ impl Map {
         requires { IsMap rows.items }
         ensures { result ≡ rows.items }
     {
+        fit_ranges(&rows);
         Map { rows }
     }
 
-    /// Its structures, in order.
+    /// Its structures, in order. They keep the rules of maps, and each fits its ranges.
     pub fn rows(&self) -> &[Alloc]
         ensures rows { result.now ≡ self.now }
         ensures map { IsMap result.now }
+        ensures fits { All FitsStructure result.now }
     {
         self.rows.as_slice()
     }

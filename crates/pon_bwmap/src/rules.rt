@@ -1,4 +1,5 @@
-ghost use Rattle.std.specs.Prelude.{◌≡◌, ◌+◌, ◌<◌, ◌↔◌, IsNone, IsSome, IfSome};
+ghost use Rattle.std.specs.Prelude.{◌≡◌, ◌+◌, ◌<◌, ◌↔◌, All, IsNone, IsSome, IfSome};
+ghost use Rattle.pon_bwmap.specs.MapReading.{FitsStructure};
 ghost use Rattle.pon_bwmap.specs.MapRules.{IsMap, IsRowsFault, start_fault};
 
 use crate::alloc::Alloc;
@@ -28,6 +29,16 @@ pub(crate) fn rows_fault(rows: &[Alloc]) -> Option<MapFault>
         }
     }
     None
+}
+
+// Each structure of a map fits its ranges, which is known of one once its fields are read. It computes nothing.
+pub(crate) fn fit_ranges(rows: &[Alloc])
+    requires { IsMap rows.now }
+    ensures { All FitsStructure rows.now }
+{
+    for row in rows {
+        let _ranges = (row.id(), row.grant(), row.profile());
+    }
 }
 
 // The place in its series of structure k, after one at the place `before`.

@@ -1,5 +1,7 @@
 // Maps as values and as bytes.
 
+mod faults;
+mod memory;
 mod read;
 mod rules;
 mod written;

@@ -5,7 +5,9 @@ pub mod Left
 pub mod OneReading
 pub mod Outcomes
 pub mod Reports
+pub mod RunEnds
 pub mod RunLaws
 pub mod Sizes
 pub mod UnitSteps
 pub mod Written
+pub mod WrittenDown

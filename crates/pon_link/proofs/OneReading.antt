@@ -22,7 +22,7 @@ report_size : (bytes : List ℕ) (o : Option ℕ) → ReadsReport bytes o → le
 report_size bytes (Some words) r = ap (λ (t : List ℕ). length t) r.spelled
 report_size bytes None r = r.0
 
-one_report : (bytes : List ℕ) (o p : Option ℕ) → ReadsReport bytes o → ReadsReport bytes p → o ≡ p
+pub one_report : (bytes : List ℕ) (o p : Option ℕ) → ReadsReport bytes o → ReadsReport bytes p → o ≡ p
 one_report bytes (Some v) (Some w) r s = ap (λ (n : ℕ). Some n) (sym (words_are bytes v r) ∙ words_are bytes w s)
 one_report bytes (Some v) None r s = absurd (s.1 v r)
 one_report bytes None (Some w) r s = absurd (r.1 w s)

@@ -1,15 +1,27 @@
 -- A reader answers one thing alone.
-use Rattle.std.proofs.Common.{◌≡◌, ◌⊎◌, List, ℕ, length, refl, ap, sym, ◌∙◌, subst, inl, inr, true, false, arith}
-use Rattle.pon_link.specs.UpRecords.{IsRecord}
-use Rattle.pon_link.specs.DownRecords.{IsDownRecord}
+use Rattle.std.proofs.Common.{◌≡◌, ◌+◌, ◌⊎◌, List, ℕ, length, drop, Option, Some, None, Result, Ok, Err, refl, ap, sym, ◌∙◌, subst, inl, inr, true, false, arith}
+use Rattle.pon_bwmap.specs.MapReading.{BeginsWithMap, map_size}
+use Rattle.pon_bwmap.specs.MapFaults.{IsFirstFault}
+use Rattle.pon_bwmap.specs.declared.fault.MapFault.TheVariants as map_fault
+use Rattle.pon_bwmap.proofs.OneMap.{no_fault}
 use Rattle.pon_lists.specs.Bytes.{AreBytes}
-use Rattle.pon_link.specs.Reading.{Reading, IsOpen, IsBeginning, IsWhole, HasFault, HasBadForm, HasBadTag, HasRefusedMap}
+use Rattle.pon_lists.proofs.Bytes.{All-from_bytes, bytes-drop}
+use Rattle.pon_link.specs.UpRecords.{IsRecord}
+use Rattle.pon_link.specs.DownRecords.{IsDownRecord, WantsMemory, GivesDown}
+use Rattle.pon_link.specs.Reading.{Reading, IsOpen, IsBeginning, IsWhole, IsReady, HasFault, HasBadForm, HasBadTag, HasRefusedMap, Gives, Pulls}
 use Rattle.pon_link.specs.declared.direction.Direction.{Direction}
 use Rattle.pon_link.specs.declared.direction.Direction.TheVariants.{Up, Down}
 use Rattle.pon_link.specs.declared.record.UpRecord.{UpRecord}
 use Rattle.pon_link.specs.declared.record.DownRecord.{DownRecord}
 use Rattle.pon_link.specs.declared.fault.LinkFault.{LinkFault}
 use Rattle.pon_link.specs.declared.fault.LinkFault.TheVariants.{BadTag, BadCount, BadMap, Truncated}
+use Rattle.pon_link.specs.declared.fault.DownFault.{DownFault}
+use Rattle.pon_link.specs.declared.fault.DownFault.TheVariants.{Link, Memory}
+use Rattle.pon_link.specs.declared.pull.Pulled.{Pulled}
+use Rattle.pon_link.specs.declared.pull.Pulled.TheVariants.{Bytes, End}
+use Rattle.pon_link.specs.declared.pull.PullFault.{PullFault}
+use Rattle.pon_link.specs.declared.pull.PullFault.TheVariants as pull_fault
+use Rattle.pon_link.specs.declared.pull.PullFault.TheVariants.{Device}
 use Rattle.pon_link.proofs.DownReading.{down_size, not_refused}
 use Rattle.pon_link.proofs.Sizes.{no_size, more_needed}
 
@@ -87,3 +99,73 @@ one_fault s BadMap BadTag small h k = absurd (tag_there s h k)
 one_fault s BadMap BadMap small h k = refl
 one_fault s BadCount BadMap small h k = absurd (not_down s h.0 k.0)
 one_fault s BadMap BadCount small h k = absurd (not_down s k.0 h.0)
+
+-- ---- a record that waits, and memory
+
+whole_sound : (s : Reading) (d : Direction) (f : LinkFault) → s.direction ≡ d → AreBytes s.held → IsWhole d s.held → HasFault s f → (f ≡ BadMap) × HasRefusedMap s.held
+whole_sound s d BadTag is small w f = let bad : HasBadTag d s.held = subst (λ (e : Direction). HasBadTag e s.held) is f in absurd (bad.1 (w.form.tag bad.0))
+whole_sound s d BadCount is small w f =
+    let up : IsWhole Up s.held = subst (λ (e : Direction). IsWhole e s.held) (sym is ∙ f.0) w in
+    absurd (no_size Up s.held (length s.held) f.1.2 up.size)
+whole_sound s d BadMap is small w f =
+    let down : IsWhole Down s.held = subst (λ (e : Direction). IsWhole e s.held) (sym is ∙ f.0) w in
+    elim f.1 [
+      | inl bad ↦ absurd (no_size Down s.held (length s.held) bad.2 down.size)
+      | inr refused ↦ (refl, refused)
+    ]
+whole_sound s d (Truncated left) is small w f = absurd (whole_begun d s.held small (subst (λ (e : Direction). IsBeginning e s.held) is f.1) w)
+
+-- where a whole record waits that is not refused, there is no fault
+ready_sound : (s : Reading) (d : Direction) (f : LinkFault) → s.direction ≡ d → AreBytes s.held → IsReady d s.held → HasFault s f → ⊥
+ready_sound s Up f is small w h = let bad = whole_sound s Up f is small w h in not_down s is (subst (λ (g : LinkFault). HasFault s g) bad.0 h).0
+ready_sound s Down f is small w h =
+    let bad = (whole_sound s Down f is small w.0 h).1 in
+    bad.1.2 (no_fault (drop 9 s.held) w.1.0 w.1.1 w.1.2 bad.1.0 (All-from_bytes (drop 9 s.held) (bytes-drop 9 s.held small)) w.1.3 bad.1.1)
+
+-- memory is wanting for a record that waits
+begins_map : (bytes : List ℕ) → IsFirstFault bytes map_fault.Memory → BeginsWithMap bytes
+begins_map bytes f = (
+  f.in_rows.0,
+  f.corrected + f.in_rows.1,
+  map_size f.head,
+  record {
+    head = f.head;
+    in_head = f.corrected;
+    in_rows = f.in_rows.1;
+    reads_head = f.reads_head;
+    reads_rows = f.in_rows.2;
+    corrected_is = refl;
+    used_is = refl;
+  },
+)
+
+pub memory_sound : (s : Reading) (f : LinkFault) → s.direction ≡ Down → AreBytes s.held → WantsMemory s.held → HasFault s f → ⊥
+memory_sound s f down small m h = ready_sound s Down f down small (m.0, begins_map (drop 9 s.held) m.1) h
+
+pub memory_waits : (s : Reading) → s.direction ≡ Down → AreBytes s.held → WantsMemory s.held → IsOpen s → ⊥
+memory_waits s down small m o = whole_begun Down s.held small (subst (λ (d : Direction). IsBeginning d s.held) down o.beginning) m.0
+
+-- ---- once a fault, always that fault
+
+pub sticky_next : (s t : Reading) (r : Result (Option UpRecord) LinkFault) (f : LinkFault) → s.direction ≡ Up → AreBytes s.held → Gives IsRecord s t r → HasFault s f → r ≡ Err f
+sticky_next s t (Ok (Some r)) f up small g h = absurd (sound s r f up g.0 h)
+sticky_next s t (Ok None) f up small g h = absurd (faultless s f (λ _. small) g.0 h)
+sticky_next s t (Err e) f up small g h = ap (λ (x : LinkFault). Err x) (one_fault s e f (λ _. small) g.0 h)
+
+pub sticky_down : (s t : Reading) (r : Result (Option DownRecord) DownFault) (f : LinkFault) → s.direction ≡ Down → AreBytes s.held → GivesDown s t r → HasFault s f → r ≡ Err (Link f)
+sticky_down s t (Ok (Some r)) f down small g h = absurd (down_sound s r f down small g.0 h)
+sticky_down s t (Ok None) f down small g h = absurd (faultless s f (λ _. small) g.0 h)
+sticky_down s t (Err (Link e)) f down small g h = ap (λ (x : LinkFault). Err (Link x)) (one_fault s e f (λ _. small) g.0 h)
+sticky_down s t (Err Memory) f down small g h = absurd (memory_sound s f down small g.0 h)
+
+pub sticky_pull : (s t : Reading) (left rest : Option (List ℕ)) (r : Result Pulled PullFault) (f : LinkFault) → AreBytes s.held → Pulls s t left rest r → HasFault s f → r ≡ Err (pull_fault.Link f)
+sticky_pull s t left rest (Ok (Bytes n)) f small p h = elim p.4 [
+  | inl ready ↦ absurd (ready_sound s s.direction f refl small ready.0 h)
+  | inr begun ↦ absurd (faultless s f (λ _. small) begun.0 h)
+]
+sticky_pull s t left rest (Ok End) f small p h = absurd (faultless s f (λ _. small) p.1 h)
+sticky_pull s t left rest (Err Device) f small p h = absurd (faultless s f (λ _. small) p.0 h)
+sticky_pull s t left rest (Err (pull_fault.Link e)) f small p h = elim p.3 [
+  | inl old ↦ ap (λ (x : LinkFault). Err (pull_fault.Link x)) (one_fault s e f (λ _. small) old.0 h)
+  | inr begun ↦ absurd (faultless s f (λ _. small) begun.0 h)
+]

@@ -1,5 +1,5 @@
 -- What bytes tell of a record's size, and how that stays.
-use Rattle.std.proofs.Common.{◌≡◌, ℕ, ◌+◌, ◌-◌, ◌^◌, ◌<◌, ◌≤◌, ◌⊎◌, true, false, List, [], ◌∷◌, ◌++◌, length, take, drop, get_or, Option, Some, None, IsSome, IsNone, MatchOption, refl, sym, ◌∙◌, subst, length-append, inl, inr, arith}
+use Rattle.std.proofs.Common.{◌≡◌, ℕ, ◌+◌, ◌-◌, ◌^◌, ◌<◌, ◌≤◌, ◌⊎◌, true, false, List, ◌++◌, length, take, drop, get_or, Option, Some, None, IsSome, IsNone, MatchOption, refl, sym, ◌∙◌, subst, length-append, inl, inr, arith}
 use Rattle.std.specs.Int.{w32, from_be_bytes}
 use Rattle.std.proofs.lemmas.Bool.{cases_lt}
 use Rattle.std.proofs.lemmas.List.{get_or_append_left, drop-append-le, length-drop}
@@ -10,7 +10,7 @@ use Rattle.pon_bwmap.proofs.OneMap.{one_head}
 use Rattle.pon_link.specs.UpRecords.{count_in}
 use Rattle.pon_lists.specs.Bytes.{AreBytes}
 use Rattle.pon_lists.proofs.Bytes.{bytes-drop}
-use Rattle.pon_link.specs.Reading.{Announces, AnnouncesMap, HasBadSize, KeepsForm, IsBeginning, IsWhole, IsWithinRecord, telling, longest}
+use Rattle.pon_link.specs.Reading.{Announces, AnnouncesMap, HasBadSize, KeepsForm, IsBeginning, IsWhole, IsWithinRecord, tag_of, telling, longest}
 use Rattle.pon_link.specs.declared.direction.Direction.{Direction}
 use Rattle.pon_link.specs.declared.direction.Direction.TheVariants.{Up, Down}
 
@@ -141,23 +141,6 @@ within_more d held piece needed b untold told le =
       }
     ]
 
--- nor does one byte
-pub within_one : (d : Direction) (held : List ℕ) (byte : ℕ) → IsBeginning d held → IsWithinRecord d (held ++ byte ∷ [])
-within_one d held byte b =
-    let size : length (held ++ byte ∷ []) ≡ length held + 1 = length-append held (byte ∷ []) in
-    elim (cases_lt (length held) (telling d)) [
-      | inl lt ↦ record {
-        form = λ past. absurd (omega (arith, past, size, lt));
-        size = λ past. absurd (omega (arith, past, size, lt));
-      }
-      | inr ge ↦
-          let more = b.more ge in
-          record {
-            form = λ _. form_kept d held (byte ∷ []) ge b.form;
-            size = λ _. (more.0, size_kept d held (byte ∷ []) more.0 ge more.1, omega (arith, size, more.2));
-          }
-    ]
-
 -- the beginning of a record needs more than it has
 pub more_needed : (d : Direction) (bytes : List ℕ) (n : ℕ) → AreBytes bytes → telling d ≤ length bytes → Announces d bytes n → IsBeginning d bytes → length bytes < n
 more_needed d bytes n small ge a b = let more = b.more ge in omega (arith, more.2, one_size d bytes n more.0 small a more.1)
@@ -203,3 +186,22 @@ whole_now d e held bytes n same is form untold told none =
       told = subst (λ (c : Direction). telling c ≤ length held) same (subst (λ (t : List ℕ). telling e ≤ length t) is ge);
       size = subst (λ (c : Direction). Announces c held (length held)) same (subst (λ (t : List ℕ). Announces e t (length t)) is size);
     }
+
+-- fewer bytes than a record surely still needs leave it a beginning
+pub begins_more : (d : Direction) (held more : List ℕ) (needed : ℕ) → 0 < length held → IsBeginning d held → (length held < telling d → length held + needed ≡ telling d) → (telling d ≤ length held → Announces d held (length held + needed)) → length more < needed → IsBeginning d (held ++ more)
+begins_more d held more needed some b untold told lt =
+    let size : length (held ++ more) ≡ length held + length more = length-append held more in
+    let tag : get_or (held ++ more) 0 0 ≡ tag_of d = get_or_append_left held more 0 0 some ∙ b.form.tag some in
+    elim (cases_lt (length held) (telling d)) [
+      | inl less ↦ record {
+        form = record { tag = λ _. tag; size = λ past. absurd (omega (arith, past, size, untold less, lt)) };
+        more = λ past. absurd (omega (arith, past, size, untold less, lt));
+      }
+      | inr ge ↦
+          let all = length held + needed in
+          let grown : Announces d (held ++ more) all = size_kept d held more all ge (told ge) in
+          record {
+            form = record { tag = λ _. tag; size = λ _. (all, grown) };
+            more = λ _. (all, grown, omega (arith, size, lt));
+          }
+    ]

@@ -1,4 +1,5 @@
 ghost use Rattle.std.specs.Prelude.{◌≡◌, ◌+◌, ◌≤◌, ◌++◌, length};
+ghost use Rattle.pon_lists.specs.Bytes.{AreBytes};
 
 use arrayvec::ArrayVec;
 
@@ -11,4 +12,11 @@ pub(crate) fn append<const N: usize>(bytes: &mut ArrayVec<u8, N>, more: &[u8])
         Ok(()) => {}
         Err(_) => unreachable!(),
     }
+}
+
+// Each number of a slice of bytes is below 256. It computes nothing.
+pub(crate) fn are_bytes(bytes: &[u8])
+    ensures { AreBytes bytes.now }
+{
+    let _size = bytes.len();
 }

@@ -1,7 +1,9 @@
 ghost use Rattle.std.specs.Prelude.{◌≡◌, ◌<◌, ◌≤◌, ℕ, length, take};
 ghost use Rattle.pon_device.specs.Device.{CountsCall};
+ghost use Rattle.pon_lists.specs.Bytes.{AreBytes};
+ghost use Rattle.pon_link.specs.declared.fault.LinkFault.{LinkFault};
 ghost use Rattle.pon_link.specs.DownRecords.{GivesDown};
-ghost use Rattle.pon_link.specs.Reading.{empty, IsOpen, IsWithinRecord, Pulls, CountsDevice, holds_more};
+ghost use Rattle.pon_link.specs.Reading.{empty, IsOpen, HasFault, IsWithinRecord, Pulls, CountsDevice, holds_more};
 
 use crate::decode_down::decode_down;
 use crate::direction::Direction;
@@ -66,6 +68,8 @@ impl DownReader {
     /// if memory is refused for the map of a whole record; it changes nothing, and the next call tries again.
     pub fn next(&mut self) -> Result<Option<DownRecord>, DownFault>
         ensures outcome { GivesDown self.old self.new result }
+        ensures sticky { (f : LinkFault) → HasFault self.old f → result ≡ Err (DownFault.Link f) }
+        ensures bytes { AreBytes self.old.held }
         ensures within { IsWithinRecord self.old.direction self.old.held }
         ensures down { self.old.direction ≡ Direction.Down }
     {
@@ -93,6 +97,7 @@ impl DownReader {
     pub fn pull<R: DevRead>(&mut self, reader: &mut R) -> Result<Pulled, PullFault>
         ensures value { Pulls self.old self.new (R.remaining reader.old)
             (R.remaining reader.new) result }
+        ensures sticky { (f : LinkFault) → HasFault self.old f → result ≡ Err (PullFault.Link f) }
         ensures failures { CountsDevice (R.failures reader.old) (R.failures reader.new) result }
         ensures waits { (IsOpen self.old → ⊥) → reader.new ≡ reader.old }
         ensures one_read { IsOpen self.old → CountsCall (R.calls reader.old) (R.calls reader.new) }

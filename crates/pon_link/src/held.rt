@@ -1,9 +1,10 @@
 // The bytes of the present record of a link, in either direction, and how they grow.
-ghost use Rattle.std.specs.Prelude.{◌≡◌, ◌↔◌, ◌<◌, ◌≤◌, ◌+◌, ℕ, IsTrue, false, [], ◌∷◌, ◌++◌, length, take, MatchOption, OnSome};
+ghost use Rattle.std.specs.Prelude.{◌≡◌, ◌<◌, ◌≤◌, ◌+◌, ℕ, List, false, [], ◌++◌, length, take, MatchOption, OnSome};
+ghost use Rattle.pon_lists.specs.Bytes.{AreBytes};
 ghost use Rattle.pon_device.specs.Device.{CountsCall};
 ghost use Rattle.pon_link.specs.Reading.{Reading, empty, longest, telling, Announces, IsOpen, HasFault, KeepsForm, IsBeginning, IsWhole, IsReady, IsWithinRecord, Pulls, CountsDevice, holds_more};
 
-use crate::buffer::append;
+use crate::buffer::{append, are_bytes};
 use crate::direction::Direction;
 use crate::fault::LinkFault;
 use crate::form::{form_fault, needed};
@@ -48,9 +49,12 @@ impl<const N: usize> Held<N> {
 
     // The bytes that are held.
     pub(crate) fn bytes(&self) -> &[u8]
-        ensures { result.now ≡ self.now.held }
+        ensures value { result.now ≡ self.now.held }
+        ensures bytes { AreBytes self.now.held }
     {
-        self.bytes.as_slice()
+        let bytes = self.bytes.as_slice();
+        are_bytes(bytes);
+        bytes
     }
 
     // Lets the bytes go.
@@ -62,7 +66,8 @@ impl<const N: usize> Held<N> {
     }
 
     // Takes bytes from the front of the piece until one record is whole, a fault is met or the piece ends, and
-    // returns their number.
+    // returns their number. It looks at what is held at most three times a record: after the tag, after the bytes
+    // that give the size, and at the end.
     pub(crate) fn feed(&mut self, piece: &[u8]) -> usize
         ensures count { result ≤ length piece.now }
         ensures held { self.new ≡ holds_more self.old (take result piece.now) }
@@ -71,26 +76,46 @@ impl<const N: usize> Held<N> {
         ensures stops { result < length piece.now → IsOpen self.new → ⊥ }
     {
         let mut taken = 0;
-        while taken < piece.len() && self.is_open() {
-            self.hold(piece[taken]);
-            taken += 1;
+        while taken < piece.len() {
+            let size = self.safe_size().min(piece.len() - taken);
+            if size == 0 {
+                return taken;
+            }
+            self.hold_all(&piece[taken..taken + size]);
+            taken += size;
         }
         taken
+    }
+
+    // How many bytes can be taken before the reader has to look at them again; 0 if it is not open.
+    fn safe_size(&self) -> usize
+        ensures open { IsOpen self.now → 0 < result }
+        ensures some { 0 < result → IsOpen self.now }
+        ensures begins { (more : List ℕ) → length more < result → IsOpen (holds_more self.now more) }
+        ensures within { (more : List ℕ) → length more ≤ result
+            → IsWithinRecord self.now.direction (self.now.held ++ more) }
+    {
+        if let Some(_) = self.fault() {
+            return 0;
+        }
+        let needed = self.needed();
+        let held = self.bytes().len();
+        if held == 0 { needed.min(1) } else { needed }
     }
 
     // The fault that was met, but for a map that is refused.
     pub(crate) fn fault(&self) -> Option<LinkFault>
         ensures within { IsWithinRecord self.now.direction self.now.held }
+        ensures bytes { AreBytes self.now.held }
         ensures value { MatchOption result (KeepsForm self.now.direction self.now.held
             × (self.now.ended ≡ false)) (λ f. HasFault self.now f) }
         ensures closed { OnSome result (IsOpen self.now → ⊥) }
     {
+        let bytes = self.bytes();
         if self.ended {
-            return Some(LinkFault::Truncated {
-                left: self.bytes.len(),
-            });
+            return Some(LinkFault::Truncated { left: bytes.len() });
         }
-        form_fault(self.direction, self.bytes.as_slice())
+        form_fault(self.direction, bytes)
     }
 
     // The number of bytes that the record surely still needs, 0 exactly when it is whole.
@@ -121,19 +146,6 @@ impl<const N: usize> Held<N> {
                 None => None,
             },
         }
-    }
-
-    fn is_open(&self) -> bool
-        ensures { IsTrue result ↔ IsOpen self.now }
-    {
-        self.fault().is_none() && self.needed() > 0
-    }
-
-    fn hold(&mut self, byte: u8)
-        requires { IsOpen self.old }
-        ensures { self.new ≡ holds_more self.old (byte ∷ []) }
-    {
-        self.bytes.push(byte);
     }
 
     // Takes bytes that do not go past the present record.
@@ -169,6 +181,7 @@ impl<const N: usize> Held<N> {
         ensures waits { (IsOpen self.old → ⊥) → reader.new ≡ reader.old }
         ensures one_read { IsOpen self.old → CountsCall (R.calls reader.old) (R.calls reader.new) }
         ensures within { IsWithinRecord self.new.direction self.new.held }
+        ensures bytes { AreBytes self.old.held }
         ensures direction { self.new.direction ≡ self.old.direction }
     {
         if let Some(fault) = self.fault() {

@@ -1,10 +1,13 @@
 //! What holds of readers of a link's records, whatever the pieces.
 
-ghost use Rattle.std.specs.Prelude.{◌≡◌, ◌<◌, ℕ, List, ◌++◌, length};
+ghost use Rattle.std.specs.Prelude.{◌≡◌, ◌<◌, ◌^◌, ◌↔◌, ℕ, Bool, Option, List, ◌++◌, length, All};
+ghost use Rattle.pon_bwmap.specs.Structure.{Structure};
+ghost use Rattle.pon_bwmap.specs.MapRules.{IsMap};
+ghost use Rattle.pon_bwmap.specs.MapReading.{FitsStructure};
 ghost use Rattle.pon_link.specs.Reading.{Reading, empty, IsBeginning, HasFault, IsOpen};
-ghost use Rattle.pon_link.specs.UpRecords.{IsRecord};
-ghost use Rattle.pon_link.specs.DownRecords.{IsDownRecord};
-ghost use Rattle.pon_link.specs.Runs.{Step, Leads, taken, given, AreRecords};
+ghost use Rattle.pon_link.specs.UpRecords.{IsRecord, ReadsReport};
+ghost use Rattle.pon_link.specs.DownRecords.{IsDownRecord, WantsMemory, down_bytes};
+ghost use Rattle.pon_link.specs.Runs.{Step, Leads, taken, given, AreRecords, RunsOver};
 ghost use Rattle.pon_lists.specs.Bytes.{AreBytes};
 ghost use Rattle.pon_link.specs.declared.direction.Direction.{Direction};
 ghost use Rattle.pon_link.specs.declared.record.UpRecord.{UpRecord};
@@ -22,22 +25,22 @@ pub fn nothing_is_lost()
         AreRecords IsDownRecord (taken steps) (given steps) s.held }
 {}
 
-/// Two readers that took the same bytes in other pieces gave the same records and hold the same bytes, where no
-/// whole record waits in either.
+/// Whatever the pieces of a stream, and whether the input ends behind it or not: a reader gives the same records and
+/// meets the same fault, or none, and then holds the same bytes.
 pub fn whatever_the_pieces()
-    ensures up { (steps others : List (Step UpRecord)) (s t : Reading)
-        → Leads IsRecord (empty Direction.Up) steps s →
-        Leads IsRecord (empty Direction.Up) others t → taken steps ≡ taken others → AreBytes (taken steps) →
-        IsBeginning Direction.Up s.held → IsBeginning Direction.Up t.held →
-        (given steps ≡ given others) × (s.held ≡ t.held) }
-    ensures down { (steps others : List (Step DownRecord)) (s t : Reading)
-        → Leads IsDownRecord (empty Direction.Down) steps s →
-        Leads IsDownRecord (empty Direction.Down) others t → taken steps ≡ taken others → AreBytes (taken steps) →
-        IsBeginning Direction.Down s.held → IsBeginning Direction.Down t.held →
-        (given steps ≡ given others) × (s.held ≡ t.held) }
+    ensures up { (stream : List ℕ) (over : Bool) (steps others : List (Step UpRecord)) (s t : Reading)
+        (f g : Option LinkFault) → AreBytes stream → RunsOver IsRecord Direction.Up stream over steps s f
+        → RunsOver IsRecord Direction.Up stream over others t g
+        → (given steps ≡ given others) × (f ≡ g) × (f ≡ None → s.held ≡ t.held) }
+    ensures down { (stream : List ℕ) (over : Bool) (steps others : List (Step DownRecord))
+        (s t : Reading) (f g : Option LinkFault) → AreBytes stream
+        → RunsOver IsDownRecord Direction.Down stream over steps s f
+        → RunsOver IsDownRecord Direction.Down stream over others t g
+        → (given steps ≡ given others) × (f ≡ g) × (f ≡ None → s.held ≡ t.held) }
 {}
 
-/// What a reader answers is one thing alone: it holds a record, or the beginning of one, or one fault.
+/// What a reader answers is one thing alone: it holds a record, or the beginning of one, or one fault. Memory is refused
+/// only for a record.
 pub fn one_outcome()
     ensures waits { (s : Reading) (r : UpRecord) → s.direction ≡ Direction.Up → IsRecord s.held r
         → IsOpen s → ⊥ }
@@ -52,6 +55,10 @@ pub fn one_outcome()
         → (s.direction ≡ Direction.Down → AreBytes s.held) → IsOpen s → HasFault s f → ⊥ }
     ensures one_fault { (s : Reading) (f g : LinkFault)
         → (s.direction ≡ Direction.Down → AreBytes s.held) → HasFault s f → HasFault s g → f ≡ g }
+    ensures memory_waits { (s : Reading) → s.direction ≡ Direction.Down → AreBytes s.held
+        → WantsMemory s.held → IsOpen s → ⊥ }
+    ensures memory_sound { (s : Reading) (f : LinkFault) → s.direction ≡ Direction.Down
+        → AreBytes s.held → WantsMemory s.held → HasFault s f → ⊥ }
 {}
 
 /// What a record begins with, and is not all of it, is a beginning: no reader refuses it.
@@ -68,4 +75,17 @@ pub fn one_reading()
         → IsRecord bytes s → r ≡ s }
     ensures down { (bytes : List ℕ) (r s : DownRecord) → AreBytes bytes → IsDownRecord bytes r
         → IsDownRecord bytes s → r ≡ s }
+{}
+
+/// The bytes that are written of a frame and its map are the record of these, and of nothing else.
+pub fn written_down()
+    ensures { (frame : ℕ) (rows : List Structure) (r : DownRecord) → frame < 2 ^ 64 → IsMap rows
+        → All FitsStructure rows
+        → (IsDownRecord (down_bytes frame rows) r ↔ (r ≡ record { frame = frame; map = rows })) }
+{}
+
+/// Four bytes report one number at most, and none if they are garbled.
+pub fn one_report()
+    ensures { (bytes : List ℕ) (words words2 : Option ℕ) → ReadsReport bytes words
+        → ReadsReport bytes words2 → words ≡ words2 }
 {}

@@ -1,7 +1,9 @@
 ghost use Rattle.std.specs.Prelude.{◌≡◌, ◌<◌, ◌≤◌, ℕ, length, take};
 ghost use Rattle.pon_device.specs.Device.{CountsCall};
+ghost use Rattle.pon_lists.specs.Bytes.{AreBytes};
 ghost use Rattle.pon_link.specs.UpRecords.{IsRecord};
-ghost use Rattle.pon_link.specs.Reading.{empty, IsOpen, Gives, IsWithinRecord, Pulls, CountsDevice, holds_more};
+ghost use Rattle.pon_link.specs.declared.fault.LinkFault.{LinkFault};
+ghost use Rattle.pon_link.specs.Reading.{empty, IsOpen, HasFault, Gives, IsWithinRecord, Pulls, CountsDevice, holds_more};
 
 use crate::decode::decode_up;
 use crate::direction::Direction;
@@ -62,6 +64,8 @@ impl UpReader {
     /// same fault.
     pub fn next(&mut self) -> Result<Option<UpRecord>, LinkFault>
         ensures outcome { Gives IsRecord self.old self.new result }
+        ensures sticky { (f : LinkFault) → HasFault self.old f → result ≡ Err f }
+        ensures bytes { AreBytes self.old.held }
         ensures within { IsWithinRecord self.old.direction self.old.held }
         ensures up { self.old.direction ≡ Direction.Up }
     {
@@ -85,6 +89,7 @@ impl UpReader {
     pub fn pull<R: DevRead>(&mut self, reader: &mut R) -> Result<Pulled, PullFault>
         ensures value { Pulls self.old self.new (R.remaining reader.old)
             (R.remaining reader.new) result }
+        ensures sticky { (f : LinkFault) → HasFault self.old f → result ≡ Err (PullFault.Link f) }
         ensures failures { CountsDevice (R.failures reader.old) (R.failures reader.new) result }
         ensures waits { (IsOpen self.old → ⊥) → reader.new ≡ reader.old }
         ensures one_read { IsOpen self.old → CountsCall (R.calls reader.old) (R.calls reader.new) }

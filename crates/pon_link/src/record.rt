@@ -15,7 +15,7 @@ pub struct UpRecord {
 }
 
 /// The map that was made for a frame.
-#[derive(Debug, Drop)]
+#[derive(Debug, PartialEq, Eq, Drop)]
 pub struct DownRecord {
     /// The frame whose upstream bursts the map grants.
     pub frame: FrameNo,

@@ -1,6 +1,6 @@
 ghost use Rattle.std.specs.Prelude.{◌≡◌, ◌≢◌, ◌≤◌, ◌++◌, ℕ, List, [], length, take, drop, OnOk, OnErr};
 ghost use Rattle.pon_device.specs.Device.{Appends, CountsFailure};
-ghost use Rattle.pon_link.specs.DownRecords.{down_bytes};
+ghost use Rattle.pon_link.specs.DownRecords.{down_bytes, IsDownRecord};
 
 use crate::form::DOWN_TAG;
 use pon_bwmap::{Map, write_map};
@@ -51,11 +51,12 @@ impl DownWriter {
     }
 
     /// Takes the record of the frame and its map, to be written next: a tag byte, the frame in 8 bytes, the most
-    /// significant first, and the bytes of the map.
+    /// significant first, and the bytes of the map. A reader reads them as this record.
     ///
     /// `Busy` exactly when something of the record before is left; it changes nothing.
     pub fn put(&mut self, frame: FrameNo, map: &Map) -> Result<(), Busy>
         ensures ok { OnOk result ((self.old ≡ []) × (self.new ≡ down_bytes frame map.now)) }
+        ensures reads { OnOk result (IsDownRecord self.new record { frame = frame; map = map.now }) }
         ensures busy { OnErr result ((self.old ≢ []) × (self.new ≡ self.old)) }
     {
         if self.begin < self.end {
@@ -107,8 +108,10 @@ fn write_record(frame: FrameNo, map: &Map, room: &mut [u8]) -> usize
     requires { length room.old ≡ 4109 }
     ensures count { result ≤ 4109 }
     ensures bytes { take result room.new ≡ down_bytes frame map.now }
+    ensures reads { IsDownRecord (down_bytes frame map.now) record { frame = frame; map = map.now } }
 {
-    prove!(map.rows().len() <= 512);
+    let rows = map.rows();
+    prove!(rows.len() <= 512);
     room[0] = DOWN_TAG;
     room[1..9].copy_from_slice(&frame.get().to_be_bytes());
     9 + write_map(map, &mut room[9..])

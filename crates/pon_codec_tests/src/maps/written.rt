@@ -1,4 +1,10 @@
-use pon_bwmap::{Alloc, Map, encode_map, write_map};
+ghost use Rattle.std.specs.Prelude.{◌≡◌, ℕ, List, IfOk, IfErr};
+ghost use Rattle.pon_bwmap.specs.Structure.{Structure};
+ghost use Rattle.pon_bwmap.specs.MapReading.{ReadsMap};
+ghost use Rattle.pon_bwmap.specs.declared.fault.MapFault.{MapFault};
+
+use pon_bwmap::{Alloc, Map, MapFault, decode_map, encode_map, write_map};
+use std::alloc::Global;
 use std::test::Fail;
 
 fn first() -> Alloc {
@@ -40,5 +46,37 @@ fn writes_into_room(rt: HostRuntime) -> Result<(), Fail> {
     let bytes = encode_map(rt.alloc(), &map)?;
     assert_eq!(rt; &room[..12], bytes.as_slice());
     assert_eq!(rt; &room[12..], [0xff; 2].as_slice());
+    Ok(())
+}
+
+// The map that the bytes of a map are.
+fn read_whole(alloc: Global, bytes: &[u8]) -> Result<Map, MapFault>
+    ensures ok { (rows : List Structure) (corrected used : ℕ) → ReadsMap bytes.now rows corrected used
+        → IfOk result (λ map. map ≡ rows) }
+    ensures err { (rows : List Structure) (corrected used : ℕ) → ReadsMap bytes.now rows corrected used
+        → IfErr result (λ fault. fault ≡ MapFault.Memory) }
+{
+    match decode_map(alloc, bytes) {
+        Ok((map, _, _)) => Ok(map),
+        Err(fault) => Err(fault),
+    }
+}
+
+// A map, written and read again: it is the same by the contracts, and only memory can be refused.
+fn read_again(alloc: Global, map: &Map) -> Result<Map, MapFault>
+    ensures ok { IfOk result (λ again. again ≡ map.now) }
+    ensures err { IfErr result (λ fault. fault ≡ MapFault.Memory) }
+{
+    match encode_map(alloc, map) {
+        Ok(bytes) => read_whole(alloc, bytes.as_slice()),
+        Err(_) => Err(MapFault::Memory),
+    }
+}
+
+#[test]
+fn reads_what_it_wrote(rt: HostRuntime) -> Result<(), Fail> {
+    let rows = vec![in rt.alloc(); first()]?;
+    let map = Map::from_rows(rows).map_err(|_| "a map")?;
+    assert_eq!(rt; read_again(rt.alloc(), &map), Ok(map));
     Ok(())
 }

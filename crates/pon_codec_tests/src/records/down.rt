@@ -99,6 +99,25 @@ fn tells_a_refused_map_at_the_pull_after_its_last_byte(rt: HostRuntime) -> Resul
     Ok(())
 }
 
+// One allocation that fails (`rt try --test --fail-alloc N`) leaves the record held, and the next call gives it.
+#[test]
+fn keeps_a_record_where_memory_is_refused(rt: HostRuntime) -> Result<(), Fail> {
+    let mut reader = DownReader::new(rt.alloc());
+    assert_eq!(rt; reader.feed(BYTES), 21);
+    let given = match reader.next() {
+        Err(fault) => {
+            assert_eq!(rt; fault, DownFault::Memory);
+            assert_eq!(rt; reader.feed(BYTES), 0);
+            reader.next()
+        }
+        given => given,
+    };
+    let record = given.map_err(|_| "no fault")?.ok_or("a record")?;
+    let row = Alloc::polled(1024, Some(16), 11, 0);
+    assert_eq!(rt; record.map.rows(), [row].as_slice());
+    Ok(())
+}
+
 // Pulls until the record is whole, and again if the device fails; returns the number of failures.
 fn pull_record(reader: &mut DownReader, device: &mut MemRead) -> Result<usize, PullFault> {
     let mut failures = 0usize;
