@@ -66,8 +66,8 @@ impl<const N: usize> Held<N> {
     }
 
     // Takes bytes from the front of the piece until one record is whole, a fault is met or the piece ends, and
-    // returns their number. It looks at what is held at most three times a record: after the tag, after the bytes
-    // that give the size, and at the end.
+    // returns their number. In one piece it looks at a record at most four times: before and after the tag, after the
+    // bytes that give the size, and at the end.
     pub(crate) fn feed(&mut self, piece: &[u8]) -> usize
         ensures count { result ≤ length piece.now }
         ensures held { self.new ≡ holds_more self.old (take result piece.now) }

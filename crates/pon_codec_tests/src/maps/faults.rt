@@ -5,14 +5,20 @@ use std::test::Fail;
 
 // Heads that announce so many structures, and no message.
 const ONE: u32 = 0x0020_13ac;
+
 const TWO: u32 = 0x0040_0d2b;
+
 const SEVENTEEN: u32 = 0x0220_046b;
+
 const TOO_MANY: u32 = 0x4020_18a9;
 
 // Structures: one with start 16, one that continues, one with start 9,720, one with three wrong places.
 const STARTS: u64 = 0x1002_0010_000b_13cb;
+
 const CONTINUES: u64 = 0x1006_ffff_0002_176f;
+
 const LATE: u64 = 0x1002_25f8_000b_0beb;
+
 const LOST: u64 = 0x1002_0010_000b_13cc;
 
 fn refused(
