@@ -139,8 +139,7 @@ fn a_port_has_256_alloc_ids(rt: HostRuntime) {
 
 #[test]
 fn the_second_rule_has_512_alloc_ids_of_two_words(rt: HostRuntime) {
-    let mut roster =
-        Roster::open_with(rt.alloc(), gap(&rt, 1), Rule::Two).expect(&rt, "memory");
+    let mut roster = Roster::open_with(rt.alloc(), gap(&rt, 1), Rule::Two).expect(&rt, "memory");
     for id in 0..512 {
         assert_eq!(rt; admit(&rt, &mut roster, id / 16, 1024 + id, 0), Ok(()));
     }
