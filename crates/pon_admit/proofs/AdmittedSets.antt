@@ -10,7 +10,7 @@ use Rattle.std.proofs.lemmas.List.Folds.{list_any-append}
 use Rattle.std.proofs.lemmas.List.Sums.{sum_by-cons}
 use Rattle.pon_descr.specs.Descriptor.{Descriptor, IsLawful, promised}
 use Rattle.pon_lists.specs.Distinct.{distinct}
-use Rattle.pon_admit.specs.Roster.{IsAdmitted, IsDistinct, IsInMapOrder, IsInRange, Row, Rule, admit_checks, capacity, change_checks, comes_before, fits, has_alloc, has_onu, longest_series, most_onus, onus_of, overhead, owned, promised_sum, refuses_admit, refuses_change, with_descriptor, with_row, without}
+use Rattle.pon_admit.specs.Roster.{IsAdmitted, IsDistinct, IsInMapOrder, IsInRange, Row, Rule, admit_checks, capacity, change_checks, comes_before, fits, has_alloc, has_onu, longest_series, most_allocs, most_onus, onus_of, overhead, overhead_words, owned, promised_sum, refuses_admit, refuses_change, with_descriptor, with_row, without}
 use Rattle.pon_descr.specs.declared.refusal.Refusal.TheVariants.{AllocTaken, TooManyAllocs, TooManyOnus, SeriesFull, Capacity}
 use Rattle.pon_descr.proofs.Checks.{AreNone, none_refuses, when_none}
 use Rattle.pon_lists.proofs.Inserted.{rejoined}
@@ -167,7 +167,7 @@ fewer_fit : (rule : Rule) (gap : ℕ) (rows less : List Row) → length (onus_of
 fewer_fit rule gap rows less few_onus few_rows few_promised h =
     let two : (overhead rule gap rows ≤ 9720) × (promised_sum rows ≤ 256 * capacity rule gap rows) = fits_parts rule gap rows h in
     let a : (gap + 2) * length (onus_of less) ≤ (gap + 2) * length (onus_of rows) = mul-le-mul_left (gap + 2) few_onus in
-    let b : rule.overhead_words * length less ≤ rule.overhead_words * length rows = mul-le-mul_left rule.overhead_words few_rows in
+    let b : (overhead_words rule) * length less ≤ (overhead_words rule) * length rows = mul-le-mul_left (overhead_words rule) few_rows in
     let c : overhead rule gap less ≤ overhead rule gap rows = omega (arith, a, b) in
     and_from (nat_le (overhead rule gap less) 9720) (nat_le (promised_sum less) (256 * capacity rule gap less))
     (le-leb (overhead rule gap less) 9720 (omega (arith, c, two.0)))
@@ -219,7 +219,7 @@ remove_keeps rule gap rows i k = filter_admitted (λ r. not (r.alloc_id == i)) r
 -- what the checks of an admission say
 pub record Passes (rule : Rule) (gap : ℕ) (rows : List Row) (r : Row) : Type 0 where
   pub free : has_alloc r.alloc_id rows ≡ false
-  pub few_allocs : length rows < rule.most_allocs
+  pub few_allocs : length rows < (most_allocs rule)
   pub few_onus : (nat_le most_onus (length (onus_of rows)) && not (has_onu r.onu rows)) ≡ false
   pub short_series : owned r.onu rows < longest_series
   pub fitting : fits rule gap (with_row r rows) ≡ true
@@ -229,7 +229,7 @@ passes rule gap rows r h =
     let p : AreNone (admit_checks rule gap rows r) = none_refuses (admit_checks rule gap rows r) h in
     record {
       free = when_none (has_alloc r.alloc_id rows) AllocTaken p.0;
-      few_allocs = leb-false rule.most_allocs (length rows) (when_none (nat_le rule.most_allocs (length rows)) TooManyAllocs p.1.0);
+      few_allocs = leb-false (most_allocs rule) (length rows) (when_none (nat_le (most_allocs rule) (length rows)) TooManyAllocs p.1.0);
       few_onus = when_none (nat_le most_onus (length (onus_of rows)) && not (has_onu r.onu rows)) TooManyOnus p.1.1.0;
       short_series = leb-false longest_series (owned r.onu rows) (when_none (nat_le longest_series (owned r.onu rows)) SeriesFull p.1.1.1.0);
       fitting = not-false (fits rule gap (with_row r rows)) (when_none (not (fits rule gap (with_row r rows))) Capacity p.1.1.1.1.0);

@@ -11,14 +11,14 @@ use mir.Val.{bool_byte}
 use Rattle.pon_lists.proofs.Distinct.{bit}
 use Rattle.pon_lists.specs.Distinct.{distinct}
 use Rattle.pon_admit.specs.Kept.{AreSums, IsKept}
-use Rattle.pon_admit.specs.Roster.{sums_fit, IsAdmitted, IsInRange, Roster, Row, comes_before, fits, has_alloc, has_onu, longest_series, most_onus, onus_of, owned, refuses_admit, refuses_change, refuses_remove, rule_in_force, with_descriptor, with_row, without}
+use Rattle.pon_admit.specs.Roster.{sums_fit, IsAdmitted, IsInRange, Roster, Row, Rule, comes_before, fits, has_alloc, has_onu, longest_series, most_allocs, most_onus, onus_of, owned, refuses_admit, refuses_change, refuses_remove, with_descriptor, with_row, without}
 use Rattle.pon_admit.proofs.AdmittedSets.{admit_keeps, change_keeps, changed, onus-changed, remove_keeps, with_new}
 use Rattle.pon_admit.proofs.OneRow.{Stands, insert_in_order, remove_found, set_found, stands, has_alloc-none, has_alloc-some, length-with_row, not-has_onu, onus-with_row, onus-without, promised_sum-changed, promised_sum-with_row, promised_sum-without}
 use Rattle.std.proofs.lemmas.List.{length-map}
 
 -- the sums decide whether a set fits
-fits-sums : (gap n m s : ℕ) (rows : List Row) → AreSums n s rows → m ≡ length rows → fits rule_in_force gap rows ≡ sums_fit rule_in_force gap n m s
-fits-sums gap n m s rows are len = (λ i. sums_fit rule_in_force gap (sym are.onus i) (sym len i) (sym are.promised i))
+fits-sums : (rule : Rule) (gap n m s : ℕ) (rows : List Row) → AreSums n s rows → m ≡ length rows → fits rule gap rows ≡ sums_fit rule gap n m s
+fits-sums rule gap n m s rows are len = (λ i. sums_fit rule gap (sym are.onus i) (sym len i) (sym are.promised i))
 
 -- the check of the capacity as the only one
 alone : (b : Bool) → first_of (when (not b) Capacity ∷ []) ≡ when (not b) Capacity
@@ -28,23 +28,23 @@ alone false = refl
 -- A row is admitted.
 
 -- what one pass over the rows tells of a row, and the roster t that they are of
-pub record Sees (t : Roster) (r : Row) (g n s : ℕ) (rows seen : List Row) (taken : Bool) (len owns : ℕ) : Type 0 where
-  pub kept : IsKept g n s rows
-  pub view : record { gap = g; rows = rows } ≡ t
+pub record Sees (t : Roster) (r : Row) (rule : Rule) (g n s : ℕ) (rows seen : List Row) (taken : Bool) (len owns : ℕ) : Type 0 where
+  pub kept : IsKept rule g n s rows
+  pub view : record { rule = rule; gap = g; rows = rows } ≡ t
   pub same : seen ≡ rows
   pub there : taken ≡ has_alloc r.alloc_id seen
   pub allocs : len ≡ length seen
   pub series : owns ≡ owned r.onu seen
 
-pub sees : {t : Roster} {g n s : ℕ} {rows seen : List Row} {taken : Bool} {len owns : ℕ} (r : Row) → IsKept g n s rows → record { gap = g; rows = rows } ≡ t → seen ≡ rows →
-    taken ≡ has_alloc r.alloc_id seen → len ≡ length seen → owns ≡ owned r.onu seen → Sees t r g n s rows seen taken len owns
+pub sees : {t : Roster} {rule : Rule} {g n s : ℕ} {rows seen : List Row} {taken : Bool} {len owns : ℕ} (r : Row) → IsKept rule g n s rows → record { rule = rule; gap = g; rows = rows } ≡ t → seen ≡ rows →
+    taken ≡ has_alloc r.alloc_id seen → len ≡ length seen → owns ≡ owned r.onu seen → Sees t r rule g n s rows seen taken len owns
 sees r kept view same there allocs series = record { kept = kept; view = view; same = same; there = there; allocs = allocs; series = series }
 
 byte_bit : (b : Bool) → bool_byte b ≡ bit b
 byte_bit true = refl
 byte_bit false = refl
 
-module _ {t : Roster} {r : Row} {g n s : ℕ} {rows seen : List Row} {taken : Bool} {len owns : ℕ} (h : Sees t r g n s rows seen taken len owns) where
+module _ {t : Roster} {r : Row} {rule : Rule} {g n s : ℕ} {rows seen : List Row} {taken : Bool} {len owns : ℕ} (h : Sees t r rule g n s rows seen taken len owns) where
   owns-is : owns ≡ owned r.onu rows
   owns-is = h.series ∙ ap (λ u. owned r.onu u) h.same
 
@@ -76,33 +76,39 @@ module _ {t : Roster} {r : Row} {g n s : ℕ} {rows seen : List Row} {taken : Bo
       ]
 
   -- the checks, by their tests
-  by_tests : (long many full unfit : Bool) → nat_le 256 (length rows) ≡ long → (nat_le most_onus (length (onus_of rows)) && not (has_onu r.onu rows)) ≡ many →
-      nat_le longest_series (owned r.onu rows) ≡ full → not (fits rule_in_force g (with_row r rows)) ≡ unfit →
-      refuses_admit rule_in_force t.gap t.rows r ≡ first_of (when taken AllocTaken ∷ when long TooManyAllocs ∷ when many TooManyOnus ∷ when full SeriesFull ∷ when unfit Capacity ∷ [])
+  by_tests : (long many full unfit : Bool) → nat_le (most_allocs rule) (length rows) ≡ long → (nat_le most_onus (length (onus_of rows)) && not (has_onu r.onu rows)) ≡ many →
+      nat_le longest_series (owned r.onu rows) ≡ full → not (fits rule g (with_row r rows)) ≡ unfit →
+      refuses_admit t.rule t.gap t.rows r ≡ first_of (when taken AllocTaken ∷ when long TooManyAllocs ∷ when many TooManyOnus ∷ when full SeriesFull ∷ when unfit Capacity ∷ [])
   by_tests long many full unfit a b c d =
       let there : has_alloc r.alloc_id rows ≡ taken = sym (h.there ∙ ap (λ u. has_alloc r.alloc_id u) h.same) in
-      subst (λ u. refuses_admit rule_in_force u.gap u.rows r ≡ first_of (when taken AllocTaken ∷ when long TooManyAllocs ∷ when many TooManyOnus ∷ when full SeriesFull ∷ when unfit Capacity ∷ [])) h.view
+      subst (λ u. refuses_admit u.rule u.gap u.rows r ≡ first_of (when taken AllocTaken ∷ when long TooManyAllocs ∷ when many TooManyOnus ∷ when full SeriesFull ∷ when unfit Capacity ∷ [])) h.view
       (λ i. first_of (when (there i) AllocTaken ∷ when (a i) TooManyAllocs ∷ when (b i) TooManyOnus ∷ when (c i) SeriesFull ∷ when (d i) Capacity ∷ []))
 
-  short : len < 256 → nat_le 256 (length rows) ≡ false
-  short few = lt-leb 256 (length rows) (omega (arith, few, allocs-is))
+  short : len < most_allocs rule → nat_le (most_allocs rule) (length rows) ≡ false
+  short few = lt-leb (most_allocs rule) (length rows) (omega (arith, few, allocs-is))
 
-  pub refuses_onus : taken ≡ false → len < 256 → (new : ℕ) → new ≡ bool_byte (owns == 0) → 128 < n + new → refuses_admit rule_in_force t.gap t.rows r ≡ Some TooManyOnus
+  pub refuses_allocs : taken ≡ false → most_allocs rule ≤ len → refuses_admit t.rule t.gap t.rows r ≡ Some TooManyAllocs
+  refuses_allocs free many =
+      by_tests true (nat_le most_onus (length (onus_of rows)) && not (has_onu r.onu rows)) (nat_le longest_series (owned r.onu rows)) (not (fits rule g (with_row r rows)))
+      (le-leb (most_allocs rule) (length rows) (omega (arith, many, allocs-is))) refl refl refl
+      ∙ ap (λ b. first_of (when b AllocTaken ∷ when true TooManyAllocs ∷ when (nat_le most_onus (length (onus_of rows)) && not (has_onu r.onu rows)) TooManyOnus ∷ when (nat_le longest_series (owned r.onu rows)) SeriesFull ∷ when (not (fits rule g (with_row r rows))) Capacity ∷ [])) free
+
+  pub refuses_onus : taken ≡ false → len < most_allocs rule → (new : ℕ) → new ≡ bool_byte (owns == 0) → 128 < n + new → refuses_admit t.rule t.gap t.rows r ≡ Some TooManyOnus
   refuses_onus free few new e many =
-      by_tests false true (nat_le longest_series (owned r.onu rows)) (not (fits rule_in_force g (with_row r rows))) (short few) (too_many new e ∙ lt-ltb 128 (n + new) many) refl refl
-      ∙ ap (λ b. first_of (when b AllocTaken ∷ when true TooManyOnus ∷ when (nat_le longest_series (owned r.onu rows)) SeriesFull ∷ when (not (fits rule_in_force g (with_row r rows))) Capacity ∷ [])) free
+      by_tests false true (nat_le longest_series (owned r.onu rows)) (not (fits rule g (with_row r rows))) (short few) (too_many new e ∙ lt-ltb 128 (n + new) many) refl refl
+      ∙ ap (λ b. first_of (when b AllocTaken ∷ when true TooManyOnus ∷ when (nat_le longest_series (owned r.onu rows)) SeriesFull ∷ when (not (fits rule g (with_row r rows))) Capacity ∷ [])) free
 
-  pub refuses_series : taken ≡ false → len < 256 → (new : ℕ) → new ≡ bool_byte (owns == 0) → n + new ≤ 128 → 16 ≤ owns → refuses_admit rule_in_force t.gap t.rows r ≡ Some SeriesFull
+  pub refuses_series : taken ≡ false → len < most_allocs rule → (new : ℕ) → new ≡ bool_byte (owns == 0) → n + new ≤ 128 → 16 ≤ owns → refuses_admit t.rule t.gap t.rows r ≡ Some SeriesFull
   refuses_series free few new e room many =
-      by_tests false false true (not (fits rule_in_force g (with_row r rows))) (short few) (too_many new e ∙ le-ltb 128 (n + new) room) (le-leb 16 (owned r.onu rows) (omega (arith, many, owns-is))) refl
-      ∙ ap (λ b. first_of (when b AllocTaken ∷ when true SeriesFull ∷ when (not (fits rule_in_force g (with_row r rows))) Capacity ∷ [])) free
+      by_tests false false true (not (fits rule g (with_row r rows))) (short few) (too_many new e ∙ le-ltb 128 (n + new) room) (le-leb 16 (owned r.onu rows) (omega (arith, many, owns-is))) refl
+      ∙ ap (λ b. first_of (when b AllocTaken ∷ when true SeriesFull ∷ when (not (fits rule g (with_row r rows))) Capacity ∷ [])) free
 
-  pub refuses_unfit : taken ≡ false → len < 256 → (new s' : ℕ) → new ≡ bool_byte (owns == 0) → n + new ≤ 128 → owns < 16 → s' ≡ s + promised r.descriptor →
-      (b : Bool) → sums_fit rule_in_force g (n + new) (len + 1) s' ≡ b → refuses_admit rule_in_force t.gap t.rows r ≡ when (not b) Capacity
+  pub refuses_unfit : taken ≡ false → len < most_allocs rule → (new s' : ℕ) → new ≡ bool_byte (owns == 0) → n + new ≤ 128 → owns < 16 → s' ≡ s + promised r.descriptor →
+      (b : Bool) → sums_fit rule g (n + new) (len + 1) s' ≡ b → refuses_admit t.rule t.gap t.rows r ≡ when (not b) Capacity
   refuses_unfit free few new s' e room short_series more b fitting =
       let longer : len + 1 ≡ length (with_row r rows) = omega (arith, allocs-is, length-with_row r rows h.kept.admitted.in_map_order) in
       by_tests false false false (not b) (short few) (too_many new e ∙ le-ltb 128 (n + new) room) (lt-leb 16 (owned r.onu rows) (omega (arith, short_series, owns-is)))
-      (ap not (fits-sums g (n + new) (len + 1) s' (with_row r rows) (sums_here new s' e more) longer ∙ fitting))
+      (ap not (fits-sums rule g (n + new) (len + 1) s' (with_row r rows) (sums_here new s' e more) longer ∙ fitting))
       ∙ ap (λ a. first_of (when a AllocTaken ∷ when (not b) Capacity ∷ [])) free
       ∙ alone b
 
@@ -112,12 +118,12 @@ module _ {t : Roster} {r : Row} {g n s : ℕ} {rows seen : List Row} {taken : Bo
   pub sums_seen : (new s' : ℕ) → new ≡ bool_byte (owns == 0) → s' ≡ s + promised r.descriptor → AreSums (n + new) s' (with_row r t.rows)
   sums_seen new s' e more = subst (λ u. AreSums (n + new) s' (with_row r u.rows)) h.view (sums_here new s' e more)
 
-pub kept_with_row : {t : Roster} {g n s n' s' : ℕ} {rows rows' : List Row} (k : ℕ) (r : Row) → IsKept g n s rows → record { gap = g; rows = rows } ≡ t → refuses_admit rule_in_force t.gap t.rows r ≡ None →
-    IsInRange r → insert t.rows k r ≡ with_row r t.rows → AreSums n' s' (with_row r t.rows) → rows' ≡ insert rows k r → IsKept g n' s' rows'
-kept_with_row {t = t} {g = g} {n' = n'} {s' = s'} {rows = rows} k r kept view free i place sums e =
-    let admitted : IsAdmitted rule_in_force g (with_row r rows) = admit_keeps rule_in_force g rows r (subst (λ u. refuses_admit rule_in_force u.gap u.rows r ≡ None) (sym view) free) i kept.admitted in
+pub kept_with_row : {t : Roster} {rule : Rule} {g n s n' s' : ℕ} {rows rows' : List Row} (k : ℕ) (r : Row) → IsKept rule g n s rows → record { rule = rule; gap = g; rows = rows } ≡ t → refuses_admit t.rule t.gap t.rows r ≡ None →
+    IsInRange r → insert t.rows k r ≡ with_row r t.rows → AreSums n' s' (with_row r t.rows) → rows' ≡ insert rows k r → IsKept rule g n' s' rows'
+kept_with_row {t = t} {rule = rule} {g = g} {n' = n'} {s' = s'} {rows = rows} k r kept view free i place sums e =
+    let admitted : IsAdmitted rule g (with_row r rows) = admit_keeps rule g rows r (subst (λ u. refuses_admit u.rule u.gap u.rows r ≡ None) (sym view) free) i kept.admitted in
     let after : AreSums n' s' (with_row r rows) = subst (λ u. AreSums n' s' (with_row r u.rows)) (sym view) sums in
-    subst (IsKept g n' s') (sym (e ∙ subst (λ u. insert u.rows k r ≡ with_row r u.rows) (sym view) place)) (record { admitted = admitted; sums = after })
+    subst (IsKept rule g n' s') (sym (e ∙ subst (λ u. insert u.rows k r ≡ with_row r u.rows) (sym view) place)) (record { admitted = admitted; sums = after })
 
 pub told : (q : Option Refusal) (why : Refusal) → q ≡ Some why → IsTold q why
 told q why h = subst (λ q. IsTold q why) (sym h) refl
@@ -125,28 +131,28 @@ told q why h = subst (λ q. IsTold q why) (sym h) refl
 -- A row is found by its Alloc-ID.
 
 -- the row x stands at k of the rows, and they are of the roster t
-pub record Finds (t : Roster) (i g n s : ℕ) (rows : List Row) (k : ℕ) (x : Row) : Type 0 where
-  pub kept : IsKept g n s rows
-  pub view : record { gap = g; rows = rows } ≡ t
+pub record Finds (t : Roster) (rule : Rule) (i g n s : ℕ) (rows : List Row) (k : ℕ) (x : Row) : Type 0 where
+  pub kept : IsKept rule g n s rows
+  pub view : record { rule = rule; gap = g; rows = rows } ≡ t
   pub found : position (λ r. r.alloc_id == i) rows ≡ Some k
   pub here : x ≡ get_or rows k x
 
-pub finds : {t : Roster} {g n s : ℕ} {rows seen : List Row} {k : ℕ} {x : Row} (i : ℕ) → IsKept g n s rows → record { gap = g; rows = rows } ≡ t → seen ≡ rows →
-    Some k ≡ position (λ r. r.alloc_id == i) seen → x ≡ get_or rows k x → Finds t i g n s rows k x
+pub finds : {t : Roster} {rule : Rule} {g n s : ℕ} {rows seen : List Row} {k : ℕ} {x : Row} (i : ℕ) → IsKept rule g n s rows → record { rule = rule; gap = g; rows = rows } ≡ t → seen ≡ rows →
+    Some k ≡ position (λ r. r.alloc_id == i) seen → x ≡ get_or rows k x → Finds t rule i g n s rows k x
 finds i kept view same found here = record { kept = kept; view = view; found = sym (found ∙ ap (λ u. position (λ r. r.alloc_id == i) u) same); here = here }
 
-absent_here : {t : Roster} {g : ℕ} {rows seen : List Row} (i : ℕ) → record { gap = g; rows = rows } ≡ t → seen ≡ rows → None ≡ position (λ r. r.alloc_id == i) seen → has_alloc i t.rows ≡ false
+absent_here : {t : Roster} {rule : Rule} {g : ℕ} {rows seen : List Row} (i : ℕ) → record { rule = rule; gap = g; rows = rows } ≡ t → seen ≡ rows → None ≡ position (λ r. r.alloc_id == i) seen → has_alloc i t.rows ≡ false
 absent_here {rows = rows} i view same none = subst (λ u. has_alloc i u.rows ≡ false) view (has_alloc-none i rows (sym (none ∙ ap (λ u. position (λ r. r.alloc_id == i) u) same)))
 
-pub refuses_change-absent : {t : Roster} {g : ℕ} {rows seen : List Row} (i : ℕ) (d : Descriptor) → record { gap = g; rows = rows } ≡ t → seen ≡ rows → None ≡ position (λ r. r.alloc_id == i) seen →
-    refuses_change rule_in_force t.gap t.rows i d ≡ Some NoSuchAlloc
+pub refuses_change-absent : {t : Roster} {rule : Rule} {g : ℕ} {rows seen : List Row} (i : ℕ) (d : Descriptor) → record { rule = rule; gap = g; rows = rows } ≡ t → seen ≡ rows → None ≡ position (λ r. r.alloc_id == i) seen →
+    refuses_change t.rule t.gap t.rows i d ≡ Some NoSuchAlloc
 refuses_change-absent {t = t} i d view same none =
-    (λ j. first_of (when (not (absent_here i view same none j)) NoSuchAlloc ∷ when (not (fits rule_in_force t.gap (with_descriptor i d t.rows))) Capacity ∷ []))
+    (λ j. first_of (when (not (absent_here i view same none j)) NoSuchAlloc ∷ when (not (fits t.rule t.gap (with_descriptor i d t.rows))) Capacity ∷ []))
 
-pub refuses_remove-absent : {t : Roster} {g : ℕ} {rows seen : List Row} (i : ℕ) → record { gap = g; rows = rows } ≡ t → seen ≡ rows → None ≡ position (λ r. r.alloc_id == i) seen → refuses_remove t.rows i ≡ Some NoSuchAlloc
+pub refuses_remove-absent : {t : Roster} {rule : Rule} {g : ℕ} {rows seen : List Row} (i : ℕ) → record { rule = rule; gap = g; rows = rows } ≡ t → seen ≡ rows → None ≡ position (λ r. r.alloc_id == i) seen → refuses_remove t.rows i ≡ Some NoSuchAlloc
 refuses_remove-absent i view same none = ap (λ b. when (not b) NoSuchAlloc) (absent_here i view same none)
 
-module _ {t : Roster} {i g n s : ℕ} {rows : List Row} {k : ℕ} {x : Row} (h : Finds t i g n s rows k x) where
+module _ {t : Roster} {rule : Rule} {i g n s : ℕ} {rows : List Row} {k : ℕ} {x : Row} (h : Finds t rule i g n s rows k x) where
   stands_here : Stands i k x rows
   stands_here = stands i k x rows h.kept.admitted.apart h.found h.here
 
@@ -161,12 +167,12 @@ module _ {t : Roster} {i g n s : ℕ} {rows : List Row} {k : ℕ} {x : Row} (h :
   pub sums_changed : (d : Descriptor) (s' : ℕ) → s' ≡ s - promised x.descriptor + promised d → AreSums n s' (with_descriptor i d t.rows)
   sums_changed d s' e = subst (λ u. AreSums n s' (with_descriptor i d u.rows)) h.view (changed_here d s' e)
 
-  pub refuses_change-found : (d : Descriptor) (s' len : ℕ) → s' ≡ s - promised x.descriptor + promised d → len ≡ length rows → (b : Bool) → sums_fit rule_in_force g n len s' ≡ b →
-      refuses_change rule_in_force t.gap t.rows i d ≡ when (not b) Capacity
+  pub refuses_change-found : (d : Descriptor) (s' len : ℕ) → s' ≡ s - promised x.descriptor + promised d → len ≡ length rows → (b : Bool) → sums_fit rule g n len s' ≡ b →
+      refuses_change t.rule t.gap t.rows i d ≡ when (not b) Capacity
   refuses_change-found d s' len e l b fitting =
-      let same : fits rule_in_force g (with_descriptor i d rows) ≡ b
-      = fits-sums g n len s' (with_descriptor i d rows) (changed_here d s' e) (omega (arith, l, length-map rows (changed i d))) ∙ fitting in
-      subst (λ u. refuses_change rule_in_force u.gap u.rows i d ≡ when (not b) Capacity) h.view
+      let same : fits rule g (with_descriptor i d rows) ≡ b
+      = fits-sums rule g n len s' (with_descriptor i d rows) (changed_here d s' e) (omega (arith, l, length-map rows (changed i d))) ∙ fitting in
+      subst (λ u. refuses_change u.rule u.gap u.rows i d ≡ when (not b) Capacity) h.view
       ((λ j. first_of (when (not (has_alloc-some i k x rows h.found j)) NoSuchAlloc ∷ when (not (same j)) Capacity ∷ [])) ∙ alone b)
 
   -- It is taken out.
@@ -191,21 +197,21 @@ module _ {t : Roster} {i g n s : ℕ} {rows : List Row} {k : ℕ} {x : Row} (h :
         promised = omega (arith, less, h.kept.sums.promised, promised_sum-without i k x rows stands_here);
       })
 
-pub kept_changed : {t : Roster} {g n s n' s' : ℕ} {rows rows' : List Row} (i : ℕ) (d : Descriptor) → IsKept g n s rows → record { gap = g; rows = rows } ≡ t → refuses_change rule_in_force t.gap t.rows i d ≡ None →
-    IsLawful d → AreSums n' s' (with_descriptor i d t.rows) → rows' ≡ with_descriptor i d rows → IsKept g n' s' rows'
-kept_changed {t = t} {g = g} {n' = n'} {s' = s'} {rows = rows} i d kept view free l sums e =
-    let admitted : IsAdmitted rule_in_force g (with_descriptor i d rows) = change_keeps rule_in_force g rows i d (subst (λ u. refuses_change rule_in_force u.gap u.rows i d ≡ None) (sym view) free) l kept.admitted in
+pub kept_changed : {t : Roster} {rule : Rule} {g n s n' s' : ℕ} {rows rows' : List Row} (i : ℕ) (d : Descriptor) → IsKept rule g n s rows → record { rule = rule; gap = g; rows = rows } ≡ t → refuses_change t.rule t.gap t.rows i d ≡ None →
+    IsLawful d → AreSums n' s' (with_descriptor i d t.rows) → rows' ≡ with_descriptor i d rows → IsKept rule g n' s' rows'
+kept_changed {t = t} {rule = rule} {g = g} {n' = n'} {s' = s'} {rows = rows} i d kept view free l sums e =
+    let admitted : IsAdmitted rule g (with_descriptor i d rows) = change_keeps rule g rows i d (subst (λ u. refuses_change u.rule u.gap u.rows i d ≡ None) (sym view) free) l kept.admitted in
     let after : AreSums n' s' (with_descriptor i d rows) = subst (λ u. AreSums n' s' (with_descriptor i d u.rows)) (sym view) sums in
-    subst (IsKept g n' s') (sym e) (record { admitted = admitted; sums = after })
+    subst (IsKept rule g n' s') (sym e) (record { admitted = admitted; sums = after })
 
 -- what stands in the place of the row found
-pub replaced : {t : Roster} {g n s : ℕ} {rows : List Row} (i k : ℕ) (d : Descriptor) (x : Row) → IsKept g n s rows → record { gap = g; rows = rows } ≡ t → position (λ r. r.alloc_id == i) t.rows ≡ Some k →
+pub replaced : {t : Roster} {rule : Rule} {g n s : ℕ} {rows : List Row} (i k : ℕ) (d : Descriptor) (x : Row) → IsKept rule g n s rows → record { rule = rule; gap = g; rows = rows } ≡ t → position (λ r. r.alloc_id == i) t.rows ≡ Some k →
     k < length t.rows → x ≡ get_or rows k x → set rows k (with_new d x) ≡ with_descriptor i d rows
 replaced {rows = rows} i k d x kept view found lt here =
     set_found i k d x rows (stands i k x rows kept.admitted.apart (subst (λ u. position (λ r. r.alloc_id == i) u.rows ≡ Some k) (sym view) found) here) (subst (λ u. k < length u.rows) (sym view) lt)
 
-pub kept_without : {t : Roster} {g n s n' s' : ℕ} {rows rows' : List Row} (k i : ℕ) → IsKept g n s rows → record { gap = g; rows = rows } ≡ t → remove t.rows k ≡ without i t.rows →
-    AreSums n' s' (without i t.rows) → rows' ≡ remove rows k → IsKept g n' s' rows'
-kept_without {t = t} {g = g} {n' = n'} {s' = s'} {rows = rows} k i kept view place sums e =
+pub kept_without : {t : Roster} {rule : Rule} {g n s n' s' : ℕ} {rows rows' : List Row} (k i : ℕ) → IsKept rule g n s rows → record { rule = rule; gap = g; rows = rows } ≡ t → remove t.rows k ≡ without i t.rows →
+    AreSums n' s' (without i t.rows) → rows' ≡ remove rows k → IsKept rule g n' s' rows'
+kept_without {t = t} {rule = rule} {g = g} {n' = n'} {s' = s'} {rows = rows} k i kept view place sums e =
     let after : AreSums n' s' (without i rows) = subst (λ u. AreSums n' s' (without i u.rows)) (sym view) sums in
-    subst (IsKept g n' s') (sym (e ∙ subst (λ u. remove u.rows k ≡ without i u.rows) (sym view) place)) (record { admitted = remove_keeps rule_in_force g rows i kept.admitted; sums = after })
+    subst (IsKept rule g n' s') (sym (e ∙ subst (λ u. remove u.rows k ≡ without i u.rows) (sym view) place)) (record { admitted = remove_keeps rule g rows i kept.admitted; sums = after })

@@ -7,7 +7,7 @@ use Rattle.pon_descr.specs.Descriptor.{Descriptor}
 use Rattle.pon_descr.specs.declared.refusal.Refusal.{Refusal}
 use Rattle.pon_descr.specs.declared.refusal.Refusal.TheVariants.{NoSuchAlloc, AllocTaken, TooManyAllocs, TooManyOnus, SeriesFull, Capacity}
 use Rattle.pon_lists.proofs.Distinct.{bit}
-use Rattle.pon_admit.specs.Roster.{IsAdmitted, Row, Rule, comes_before, has_alloc, has_onu, longest_series, most_onus, onus_of, owned, refuses_admit, refuses_change, with_descriptor, with_row}
+use Rattle.pon_admit.specs.Roster.{IsAdmitted, Row, Rule, comes_before, has_alloc, has_onu, longest_series, most_allocs, most_onus, onus_of, owned, refuses_admit, refuses_change, with_descriptor, with_row}
 use Rattle.pon_admit.proofs.AdmittedSets.{split_in_order}
 use Rattle.pon_admit.proofs.OneRow.{length-with_row, not-has_onu, onus-with_row, others}
 use Rattle.pon_lists.proofs.Inserted.{sum_by-inserted}
@@ -22,8 +22,8 @@ no_check_refuses rule gap rows r k after =
     let free : has_alloc r.alloc_id rows ≡ false
     = subst (λ t. has_alloc r.alloc_id t ≡ false) (split_in_order r rows k.in_map_order)
     (others r.alloc_id (filter (λ s. comes_before s r) rows) (filter (λ s. not (comes_before s r)) rows) r after.apart refl) in
-    let few : nat_le rule.most_allocs (length rows) ≡ false
-    = lt-leb rule.most_allocs (length rows) (omega (arith, length-with_row r rows k.in_map_order, after.few_allocs)) in
+    let few : nat_le (most_allocs rule) (length rows) ≡ false
+    = lt-leb (most_allocs rule) (length rows) (omega (arith, length-with_row r rows k.in_map_order, after.few_allocs)) in
     let short : nat_le longest_series (owned r.onu rows) ≡ false
     = lt-leb longest_series (owned r.onu rows) (omega (arith, owned-with_row rule gap rows r k, after.short_series r.onu)) in
     let many : (nat_le most_onus (length (onus_of rows)) && not (has_onu r.onu rows)) ≡ false

@@ -2,6 +2,8 @@
 use Rattle.std.specs.Prelude.{ℕ, ◌≡◌, ◌+◌, ◌-◌, ◌*◌, ◌≤◌, Bool, true, false, not, ◌&&◌, ◌||◌, ◌==◌, nat_lt, nat_le, if◌then◌else◌, List, [], ◌∷◌, map, length, All, sum_by, count_by, Option}
 use Rattle.std.specs.List.{list_any}
 pub use Rattle.pon_admit.specs.declared.row.Row.{Row}
+pub use Rattle.pon_admit.specs.declared.rule.Rule.{Rule}
+use Rattle.pon_admit.specs.declared.rule.Rule.TheVariants.{One, Two}
 use Rattle.pon_lists.specs.Distinct.{distinct}
 use Rattle.pon_lists.specs.Order.{IsInOrder, with_inserted, without_key}
 use Rattle.pon_descr.specs.Checks.{when, first_of}
@@ -23,18 +25,27 @@ has_onu u rows = list_any (λ r. r.onu == u) rows
 abbrev pub owned : ℕ → List Row → ℕ
 owned u rows = count_by (λ r. r.onu == u) rows
 
--- a roster: the gap before each burst of its port, and its rows
+-- What a rule sets aside and allows.
+
+-- the words of a frame that each Alloc-ID takes beside its payload
+abbrev pub overhead_words : Rule → ℕ
+overhead_words One = 1
+overhead_words Two = 2
+
+-- the most Alloc-IDs of a port
+abbrev pub most_allocs : Rule → ℕ
+most_allocs One = 256
+most_allocs Two = 512
+
+-- the rule of a roster that is opened under no other
+abbrev pub rule_in_force : Rule
+rule_in_force = One
+
+-- a roster: its rule, the gap before each burst of its port, and its rows
 pub record Roster : Type 0 where
+  pub rule : Rule
   pub gap : ℕ
   pub rows : List Row
-
--- what a version of the product sets aside and allows: overhead words of each Alloc-ID, and the most Alloc-IDs of a port
-pub record Rule : Type 0 where
-  pub overhead_words : ℕ
-  pub most_allocs : ℕ
-
-abbrev pub rule_in_force : Rule
-rule_in_force = record { overhead_words = 1; most_allocs = 256 }
 
 abbrev pub most_onus : ℕ
 most_onus = 128
@@ -44,7 +55,7 @@ longest_series = 16
 
 -- the words of a frame that gaps, headers, trailers and reports take, for n ONUs and m Alloc-IDs
 abbrev pub overhead_of : Rule → ℕ → ℕ → ℕ → ℕ
-overhead_of rule gap n m = (gap + 2) * n + rule.overhead_words * m
+overhead_of rule gap n m = (gap + 2) * n + overhead_words rule * m
 
 abbrev pub overhead : Rule → ℕ → List Row → ℕ
 overhead rule gap rows = overhead_of rule gap (length (onus_of rows)) (length rows)
@@ -100,7 +111,7 @@ pub record IsAdmitted (rule : Rule) (gap : ℕ) (rows : List Row) : Type 0 where
   pub in_map_order : IsInMapOrder rows
   pub apart : IsDistinct rows
   pub in_range : All IsInRange rows
-  pub few_allocs : length rows ≤ rule.most_allocs
+  pub few_allocs : length rows ≤ most_allocs rule
   pub few_onus : length (onus_of rows) ≤ most_onus
   pub short_series : (u : ℕ) → owned u rows ≤ longest_series
   pub fitting : fits rule gap rows ≡ true
@@ -110,7 +121,7 @@ pub record IsAdmitted (rule : Rule) (gap : ℕ) (rows : List Row) : Type 0 where
 abbrev pub admit_checks : Rule → ℕ → List Row → Row → List (Option Refusal)
 admit_checks rule gap rows r =
     when (has_alloc r.alloc_id rows) AllocTaken
-    ∷ when (nat_le rule.most_allocs (length rows)) TooManyAllocs
+    ∷ when (nat_le (most_allocs rule) (length rows)) TooManyAllocs
     ∷ when (nat_le most_onus (length (onus_of rows)) && not (has_onu r.onu rows)) TooManyOnus
     ∷ when (nat_le longest_series (owned r.onu rows)) SeriesFull
     ∷ when (not (fits rule gap (with_row r rows))) Capacity

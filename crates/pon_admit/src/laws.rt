@@ -6,7 +6,7 @@ ghost use Rattle.pon_descr.specs.declared.refusal.Refusal.{Refusal};
 ghost use Rattle.pon_admit.specs.Roster.{IsAdmitted, IsInRange, Row, Rule, has_alloc, refuses_admit, refuses_change, with_descriptor, with_row, without};
 
 /// An admitted set stays admitted: with one row more that no check refuses, with a new descriptor that no check refuses, and with an Alloc-ID removed.
-/// This holds for any overhead words of an Alloc-ID, any most of Alloc-IDs and any gap.
+/// This holds for each rule and any gap.
 pub fn checks_keep_admitted_sets()
     ensures admit { (rule : Rule) (gap : ℕ) (rows : List Row) (r : Row) →
         refuses_admit rule gap rows r ≡ None → IsInRange r → IsAdmitted rule gap rows → IsAdmitted rule gap (with_row r rows) }

@@ -2,14 +2,16 @@
 //! assignment, ITU-T G.987.3).
 //!
 //! A [`Roster`] holds, by its type, an admitted set: the overhead of all bursts fits a frame, and the promised rates fit
-//! the words that are left. The sums are kept, so a step costs one or two searches in at most 256 rows.
+//! the words that are left. The sums are kept, so a step costs one or two searches in the rows.
 #![tactic(auto)]
 
 pub mod laws;
 mod roster;
 mod row;
+mod rule;
 mod search;
 mod sums;
 
 pub use roster::Roster;
 pub use row::Row;
+pub use rule::Rule;

@@ -3,6 +3,7 @@ ghost use Rattle.std.specs.Prelude.{◌≡◌, ◌≤◌, [], length, IfOk};
 ghost use Rattle.pon_admit.specs.Roster.{IsAdmitted, capacity, onus_of, promised_sum, rule_in_force};
 
 use crate::row::Row;
+use crate::rule::Rule;
 use crate::sums::{overhead, rate, words};
 use pon_units::{Gap, Kbps, Words};
 use std::alloc::{AllocError, Global};
@@ -10,8 +11,8 @@ use std::marker::Model;
 
 mod steps;
 
-/// The most Alloc-IDs of a port.
-const MOST_ALLOCS: usize = 256;
+/// The rule of a roster that is opened under no other.
+const RULE_IN_FORCE: Rule = Rule::One;
 
 /// The most ONUs of a port.
 const MOST_ONUS: usize = 128;
@@ -19,10 +20,12 @@ const MOST_ONUS: usize = 128;
 /// The most Alloc-IDs of an ONU.
 const LONGEST_SERIES: usize = 16;
 
-/// The admitted Alloc-IDs of a port in map order, an admitted set at any time: at most 256 Alloc-IDs of at most 128 ONUs,
-/// at most 16 of an ONU, no Alloc-ID twice, and the promised rates fit the words that the overhead leaves of a frame.
+/// The admitted Alloc-IDs of a port in map order, an admitted set under its rule at any time: at most 256 Alloc-IDs (512
+/// under [`Rule::Two`]) of at most 128 ONUs, at most 16 of an ONU, no Alloc-ID twice, and the promised rates fit the words
+/// that the overhead leaves of a frame.
 #[derive(Drop)]
 pub struct Roster {
+    rule: Rule,
     gap: Gap,
     rows: Vec<Row>,
     onus: usize,
@@ -35,19 +38,29 @@ impl Model for Roster {
 
     ghost Value = { Roster };
 
-    ghost view = { λ a. record { gap = a.gap; rows = a.rows.items } };
+    ghost view = { λ a. record { rule = a.rule; gap = a.gap; rows = a.rows.items } };
 
-    ghost invariant = { λ a. IsKept a.gap a.onus a.promised a.rows.items };
+    ghost invariant = { λ a. IsKept a.rule a.gap a.onus a.promised a.rows.items };
 }
 
 impl Roster {
-    /// A roster with no rows, for bursts with this gap before each. It takes the memory of 256 rows, and fails where that
-    /// is refused.
+    /// A roster with no rows, for bursts with this gap before each, under the rule in force, [`Rule::One`]. It takes
+    /// the memory of 256 rows, and fails where that is refused.
     pub fn open(alloc: Global, gap: Gap) -> Result<Roster, AllocError>
-        ensures { IfOk result (λ roster. roster ≡ record { gap = gap; rows = [] }) }
+        ensures { IfOk result
+            (λ roster. roster ≡ record { rule = rule_in_force; gap = gap; rows = [] }) }
     {
-        let rows = Vec::with_capacity(alloc, MOST_ALLOCS)?;
+        Roster::open_with(alloc, gap, RULE_IN_FORCE)
+    }
+
+    /// A roster with no rows, for bursts with this gap before each, under a rule. It takes the memory of as many rows
+    /// as the rule allows, and fails where that is refused.
+    pub fn open_with(alloc: Global, gap: Gap, rule: Rule) -> Result<Roster, AllocError>
+        ensures { IfOk result (λ roster. roster ≡ record { rule = rule; gap = gap; rows = [] }) }
+    {
+        let rows = Vec::with_capacity(alloc, rule.most_allocs())?;
         Ok(Roster {
+            rule,
             gap,
             rows,
             onus: 0,
@@ -61,11 +74,19 @@ impl Roster {
     {
         let rows = Vec::from_slice(alloc, &self.rows)?;
         Ok(Roster {
+            rule: self.rule,
             gap: self.gap,
             rows,
             onus: self.onus,
             promised: self.promised,
         })
+    }
+
+    /// The rule that the rows are admitted under.
+    pub fn rule(&self) -> Rule
+        ensures { result ≡ self.now.rule }
+    {
+        self.rule
     }
 
     /// The words of 4 bytes that are kept free before each burst, 1 to 256.
@@ -75,10 +96,10 @@ impl Roster {
         self.gap
     }
 
-    /// The rows in map order, at most 256.
+    /// The rows in map order, at most as many as the rule allows.
     pub fn rows(&self) -> &[Row]
         ensures value { result.now ≡ self.now.rows }
-        ensures admitted { IsAdmitted rule_in_force self.now.gap self.now.rows }
+        ensures admitted { IsAdmitted self.now.rule self.now.gap self.now.rows }
     {
         &self.rows
     }
@@ -93,10 +114,10 @@ impl Roster {
 
     /// The words of 4 bytes of a frame, 0 to 9,720, that gaps, headers, trailers and reports leave for payload.
     pub fn capacity(&self) -> Words
-        ensures value { result ≡ capacity rule_in_force self.now.gap self.now.rows }
+        ensures value { result ≡ capacity self.now.rule self.now.gap self.now.rows }
         ensures range { result ≤ 9720 }
     {
-        words(usize::from(Words::MAX) - overhead(self.gap, self.onus, self.rows.len()))
+        words(usize::from(Words::MAX) - overhead(self.rule, self.gap, self.onus, self.rows.len()))
     }
 
     /// The fixed and assured rates of all rows, added up: 0 to 2,488,320 kbit/s.

@@ -1,27 +1,28 @@
 // The sums that decide whether a set fits a frame.
 ghost use Rattle.std.specs.Prelude.{◌≡◌, ◌≤◌};
-ghost use Rattle.pon_admit.specs.Roster.{overhead_of, rule_in_force, sums_fit};
+ghost use Rattle.pon_admit.specs.Roster.{most_allocs, most_onus, overhead_of, sums_fit};
 
+use crate::rule::Rule;
 use pon_units::{Gap, Kbps, Words};
 
 /// The words of a frame that gaps, headers, trailers and reports take: for each ONU the gap, a header and a trailer, and
-/// for each Alloc-ID a report.
-pub(crate) fn overhead(gap: Gap, onus: usize, allocs: usize) -> usize
-    requires onus { onus ≤ 257 }
-    requires allocs { allocs ≤ 257 }
-    ensures { result ≡ overhead_of rule_in_force gap onus allocs }
+/// for each Alloc-ID the overhead of the rule.
+pub(crate) fn overhead(rule: Rule, gap: Gap, onus: usize, allocs: usize) -> usize
+    requires onus { onus ≤ most_onus }
+    requires allocs { allocs ≤ most_allocs rule }
+    ensures { result ≡ overhead_of rule gap onus allocs }
 {
-    (usize::from(gap.get()) + 2) * onus + allocs
+    (usize::from(gap.get()) + 2) * onus + rule.overhead(allocs)
 }
 
 /// Whether the overhead fits a frame, and the promised rates fit what is left, at 256 kbit/s a word.
-pub(crate) fn fits(gap: Gap, onus: usize, allocs: usize, promised: Kbps) -> bool
-    requires onus { onus ≤ 257 }
-    requires allocs { allocs ≤ 257 }
-    ensures { result ≡ sums_fit rule_in_force gap onus allocs promised }
+pub(crate) fn fits(rule: Rule, gap: Gap, onus: usize, allocs: usize, promised: Kbps) -> bool
+    requires onus { onus ≤ most_onus }
+    requires allocs { allocs ≤ most_allocs rule }
+    ensures { result ≡ sums_fit rule gap onus allocs promised }
 {
     let frame = usize::from(Words::MAX);
-    let taken = overhead(gap, onus, allocs);
+    let taken = overhead(rule, gap, onus, allocs);
     taken <= frame && promised.get() as usize <= 256 * (frame - taken)
 }
 

@@ -39,6 +39,18 @@ impl Occupancies {
         self.reports.push(report);
     }
 
+    /// The same occupancies. It takes no memory.
+    pub fn copy(&self) -> Self
+        ensures { result ≡ self.now }
+    {
+        let mut copy = Occupancies::new();
+        let reports = self.as_slice();
+        for report in reports {
+            copy.push(*report);
+        }
+        copy
+    }
+
     /// The occupancies, in order.
     pub fn as_slice(&self) -> &[Option<BufOcc>]
         ensures value { result.now ≡ self.now }
@@ -59,5 +71,6 @@ mod tests {
         occupancies.push(None);
         let wanted = [BufOcc::new(16_777_215), None];
         assert_eq!(rt; occupancies.as_slice(), wanted.as_slice());
+        assert_eq!(rt; occupancies.copy(), occupancies);
     }
 }

@@ -3,7 +3,7 @@ use pon_descr::{Cause, Descriptor};
 use pon_units::{AllocId, FrameNo, OnuId};
 
 /// What may happen at a port.
-#[derive(Drop)]
+#[derive(Debug, PartialEq, Eq, Drop)]
 pub enum Event {
     /// An Alloc-ID of an ONU is admitted with a descriptor.
     Admit {
@@ -34,4 +34,43 @@ pub enum Event {
     },
     /// The line is back: reports count from the next frame on.
     Restore,
+}
+
+impl Event {
+    ghost use Rattle.std.specs.Prelude.{◌≡◌};
+
+    /// The same event. It takes no memory.
+    pub fn copy(&self) -> Event
+        ensures { result ≡ self.now }
+    {
+        match self {
+            Event::Admit {
+                onu,
+                alloc_id,
+                descriptor,
+            } => Event::Admit {
+                onu: *onu,
+                alloc_id: *alloc_id,
+                descriptor: *descriptor,
+            },
+            Event::Change {
+                alloc_id,
+                descriptor,
+            } => Event::Change {
+                alloc_id: *alloc_id,
+                descriptor: *descriptor,
+            },
+            Event::Remove { alloc_id } => Event::Remove {
+                alloc_id: *alloc_id,
+            },
+            Event::Report { frame, onu, occ } => Event::Report {
+                frame: *frame,
+                onu: *onu,
+                occ: occ.copy(),
+            },
+            Event::MakeMap => Event::MakeMap,
+            Event::Fail { cause } => Event::Fail { cause: *cause },
+            Event::Restore => Event::Restore,
+        }
+    }
 }

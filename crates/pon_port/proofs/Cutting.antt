@@ -225,6 +225,7 @@ replay-append o xs ys leads legal =
     = ap (map (account_after o (xs ++ ys))) (allocs_of-append (alloc_ids o.book) xs ys) ∙ same ∙ ap (λ ids. map (account_after (replay o xs) ys) (allocs_of ids ys)) (sym (alloc_ids-replay o xs)) in
     let taken : o.taken_before + length (xs ++ ys) ≡ (o.taken_before + length xs) + length ys = omega (arith, length-append xs ys) in
     (λ j. record {
+      rule = o.rule;
       gap = o.gap;
       profile = o.profile;
       next = next_of-append o.next xs ys j;

@@ -1,9 +1,9 @@
 -- The map of an admitted set is what it is bought for.
-use Rattle.std.proofs.Common.{◌≡◌, ℕ, refl, ap, sym, ◌∙◌, subst, arith}
+use Rattle.std.proofs.Common.{◌≡◌, ℕ, refl, ap, sym, ◌∙◌, subst}
 use Rattle.std.specs.Prelude.{Some, slice_get}
 use Rattle.pon_burst.specs.Bursts.{AreSound}
 use Rattle.pon_descr.specs.declared.class.Class.TheVariants.{NonAssured, BestEffort}
-use Rattle.pon_admit.specs.Roster.{IsAdmitted, rule_in_force}
+use Rattle.pon_admit.specs.Roster.{IsAdmitted}
 use Rattle.pon_cert.proofs.Fairness.{is_fairest}
 use Rattle.pon_cert.proofs.OneCertificate.{one_certificate}
 use Rattle.pon_state.specs.State.{State, input_of}
@@ -26,30 +26,30 @@ use Rattle.pon_port.proofs.LawfulChapters.{admitted_before}
 use Rattle.pon_share.proofs.RosterMaps.{admitted_map_is_sound, guaranteed_fits}
 use Rattle.pon_state.proofs.KeptMaps.{window_grants}
 
-module _ (s : State) (k : IsAdmitted rule_in_force s.gap s.roster) where
+module _ (s : State) (k : IsAdmitted s.rule s.gap s.roster) where
   pub fair_map : (made : MadeMap) → IsMade s made → IsFairMap s made
   fair_map made m =
       let i : Input = input_of s in
       record {
         frame = m.frame;
-        guaranteed = guaranteed_fits i rule_in_force k;
+        guaranteed = guaranteed_fits i k;
         certificate = m.certified;
-        only_non_assured = λ other h. one_certificate (items NonAssured i) (surplus rule_in_force i) other made.cert.na (weighted i k NonAssured refl) h m.certified.non_assured;
+        only_non_assured = λ other h. one_certificate (items NonAssured i) (surplus i) other made.cert.na (weighted i k NonAssured refl) h m.certified.non_assured;
         only_best_effort = λ other h. one_certificate (items BestEffort i) (best_effort_surplus i made.cert) other made.cert.be (weighted i k BestEffort refl) h m.certified.best_effort;
-        fairest_non_assured = is_fairest (items NonAssured i) (surplus rule_in_force i) made.cert.na (weighted i k NonAssured refl) m.certified.non_assured;
+        fairest_non_assured = is_fairest (items NonAssured i) (surplus i) made.cert.na (weighted i k NonAssured refl) m.certified.non_assured;
         fairest_best_effort = is_fairest (items BestEffort i) (best_effort_surplus i made.cert) made.cert.be (weighted i k BestEffort refl) m.certified.best_effort;
         non_assured_rates =
             members_agree NonAssured (surplus_rate i made.cert) (spelled_rate i NonAssured made.cert.na)
             (λ r e. non_assured_alone r.descriptor.class (spelled_rate i NonAssured made.cert.na r) (spelled_rate i BestEffort made.cert.be r) e) s.roster
-            ∙ spelled_rates i NonAssured made.cert.na (surplus rule_in_force i) k m.certified.non_assured;
+            ∙ spelled_rates i NonAssured made.cert.na (surplus i) k m.certified.non_assured;
         best_effort_rates =
             members_agree BestEffort (surplus_rate i made.cert) (spelled_rate i BestEffort made.cert.be)
             (λ r e. best_effort_alone r.descriptor.class (spelled_rate i NonAssured made.cert.na r) (spelled_rate i BestEffort made.cert.be r) e) s.roster
             ∙ spelled_rates i BestEffort made.cert.be (best_effort_surplus i made.cert) k m.certified.best_effort;
         words = ap (grants_of s.roster) m.map ∙ window_grants s.profile i (surplus_rate i made.cert);
-        bursts = subst (AreSound s.gap) (sym m.map) (admitted_map_is_sound i rule_in_force made.cert k m.certified (omega arith) s.profile);
-        non_assured_problem = problem_of i NonAssured (surplus rule_in_force i) refl k.few_allocs k.in_range (surplus_range i);
-        best_effort_problem = problem_of i BestEffort (best_effort_surplus i made.cert) refl k.few_allocs k.in_range (left_within made.cert.na.level (items NonAssured i) (surplus rule_in_force i) (surplus_range i));
+        bursts = subst (AreSound s.gap) (sym m.map) (admitted_map_is_sound i made.cert k m.certified s.profile);
+        non_assured_problem = problem_of i NonAssured (surplus i) refl k.few_allocs k.in_range (surplus_range i);
+        best_effort_problem = problem_of i BestEffort (best_effort_surplus i made.cert) refl k.few_allocs k.in_range (left_within made.cert.na.level (items NonAssured i) (surplus i) (surplus_range i));
         map = m.map;
       }
 
@@ -57,7 +57,7 @@ module _ (s : State) (k : IsAdmitted rule_in_force s.gap s.roster) where
 pub maps_are_fair : (c : Chapter) → IsLawfulChapter c → (n : ℕ) (e : Entry) → slice_get c.entries n ≡ Some e → TellsFairMap (state_before c n) e.reply
 maps_are_fair c l n e at = told e.event e.reply (l.legal n e at).reply
   where
-    k : IsAdmitted rule_in_force (state_before c n).gap (state_before c n).roster
+    k : IsAdmitted (state_before c n).rule (state_before c n).gap (state_before c n).roster
     k = admitted_before c l n
 
     told : (v : Event) (reply : Reply) → IsReply (state_before c n) v reply → TellsFairMap (state_before c n) reply

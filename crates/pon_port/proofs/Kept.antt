@@ -9,7 +9,7 @@ use Rattle.std.proofs.lemmas.List.Sums.{sum_by-cons}
 use Rattle.pon_descr.specs.Descriptor.{Descriptor, IsLawful}
 use Rattle.pon_descr.proofs.Checks.{or_else_none}
 use Rattle.pon_admit.specs.declared.row.Row.{Row}
-use Rattle.pon_admit.specs.Roster.{IsInRange, refuses_admit, rule_in_force}
+use Rattle.pon_admit.specs.Roster.{IsInRange, refuses_admit}
 use Rattle.pon_admit.proofs.AdmittedSets.{passes}
 use Rattle.pon_event.specs.declared.event.Event.{Event}
 use Rattle.pon_event.specs.declared.event.Event.TheVariants.{Admit, Change, Fail, MakeMap, Remove, Report, Restore}
@@ -76,6 +76,7 @@ map_step o es reply rising =
     let s : State = replay o es in
     let window : last_64 (window_of o es ++ new_map s.roster s.next reply ∷ []) ≡ window_of s (record { event = MakeMap; reply = reply } ∷ []) = sym (window_of-map o es reply) in
     (λ i. record {
+      rule = s.rule;
       gap = s.gap;
       profile = s.profile;
       next = s.next + 1;
@@ -120,6 +121,7 @@ roster_step o es v book quiet m f up same =
     let next : s.next ≡ next_of s.next (e ∷ []) = omega (arith, maps) in
     let window : window_of o es ≡ window_of s (e ∷ []) = sym (window_of-quiet o es e quiet m f (last_64-window o es)) in
     (λ j. record {
+      rule = s.rule;
       gap = s.gap;
       profile = s.profile;
       next = next j;
@@ -180,6 +182,7 @@ cut_step o es v cause leads m f none rows ids told =
     let maps : count_by (λ e. makes_map e.event) (e ∷ []) ≡ 0 = sum_by-cons (λ e. cond (makes_map e.event) 1 0) e [] ∙ ap (λ b. cond b 1 0 + 0) m in
     let next : s.next ≡ next_of s.next (e ∷ []) = omega (arith, maps) in
     (λ j. record {
+      rule = s.rule;
       gap = s.gap;
       profile = s.profile;
       next = next j;
@@ -201,7 +204,7 @@ cut_step o es v cause leads m f none rows ids told =
 -- One entry more.
 
 -- the present state of a lawful chapter is a lawful one
-present_lawful : (c : Chapter) → IsLawfulChapter c → IsLawfulState (present_state c)
+pub present_lawful : (c : Chapter) → IsLawfulChapter c → IsLawfulState (present_state c)
 present_lawful c l = legal_state c.opening c.entries (from_opening c.number c.opening l.opening) (after_from_legal c.opening c.entries c.number l.legal)
 
 next_chapter : (c : Chapter) (s t : State) (event : Event) (reply : Reply) → IsKept c s → MayFollow (length c.entries) s (record { event = event; reply = reply }) →
@@ -236,8 +239,8 @@ mapped c d s t made k accepted is_made more after =
 pub admitted : (c d : Chapter) (s t : State) (r : Row) → IsKept c s → IsInRange r → first_refusal (length c.entries) s (Admit r.onu r.alloc_id r.descriptor) ≡ None →
     d ≡ with_entry c (Admit r.onu r.alloc_id r.descriptor) Taken → t ≡ after_admit s r → IsKept d t
 admitted c d s t r k in_range accepted more after =
-    let own : refuses_admit rule_in_force s.gap s.roster r ≡ None = (or_else_none (refuses_admit rule_in_force s.gap s.roster r) (when_full (length c.entries) s.taken_before) accepted).0 in
-    let free : list_any (λ j. j == r.alloc_id) (alloc_ids s.book) ≡ false = k.book.1 r.alloc_id ∙ (passes rule_in_force s.gap s.roster r own).free in
+    let own : refuses_admit s.rule s.gap s.roster r ≡ None = (or_else_none (refuses_admit s.rule s.gap s.roster r) (when_full (length c.entries) s.taken_before) accepted).0 in
+    let free : list_any (λ j. j == r.alloc_id) (alloc_ids s.book) ≡ false = k.book.1 r.alloc_id ∙ (passes s.rule s.gap s.roster r own).free in
     rw (more, after) (next_chapter c s (after_admit s r) (Admit r.onu r.alloc_id r.descriptor) Taken k
     (record { event = in_range; accepted = accepted; reply = refl })
     (λ e. subst (λ s. after_admit s r ≡ replay s (taken_entry (Admit r.onu r.alloc_id r.descriptor) ∷ [])) e

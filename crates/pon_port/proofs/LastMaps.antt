@@ -9,7 +9,8 @@ use Rattle.pon_descr.specs.declared.class.Class.TheVariants.{NonAssured, BestEff
 use Rattle.pon_admit.specs.declared.row.Row.{Row}
 use Rattle.pon_share.specs.Input.{Input}
 use Rattle.pon_state.specs.State.{State, input_of}
-use Rattle.pon_admit.specs.Roster.{IsAdmitted, rule_in_force}
+use Rattle.pon_admit.specs.Roster.{IsAdmitted}
+use Rattle.pon_admit.proofs.Rules.{few_allowed}
 use Rattle.pon_cert.specs.declared.cert.ClassCert.{ClassCert}
 use Rattle.pon_cert.specs.Certificate.{IsCertificate, RuleHolds, left_surplus}
 use Rattle.pon_share.specs.Sharing.{item_of, items, member_ids, members, surplus}
@@ -50,22 +51,29 @@ last_kept c d v place na be more h = subst (λ d. KeepsLast d place na be) (sym 
 
     step : (place : Option ℕ) → KeepsLast c place na be → KeepsLast (with_entry c v Taken) place na be
     step None h = same ∙ h
-    step (Some k) h = (h.0, h.1, get_old c.entries e k h.1 h.2, h.3, same ∙ h.4, h.5)
+    step (Some k) h = record {
+      made = h.made;
+      entry = h.entry;
+      at = get_old c.entries e k h.entry h.at;
+      is_map = h.is_map;
+      is_last = same ∙ h.is_last;
+      suits = h.suits;
+    }
 
 -- the certificate of a map has a truth value for each Alloc-ID of its class
 counted : (s : Input) (class : Class) (cert : ClassCert) (surplus : ℕ) → IsCertificate (items class s) surplus cert → length cert.saturated ≡ length (member_ids class s.roster)
 counted s class cert surplus k =
     AllZip-long (RuleHolds cert.level) (items class s) cert.saturated k.rules ∙ length-map (members class s.roster) (item_of s) ∙ sym (length-map (members class s.roster) (λ r. r.alloc_id))
 
-few_ids : (class : Class) (rows : List Row) → length rows ≤ 256 → length (member_ids class rows) ≤ 512
+few_ids : (class : Class) (rows : List Row) → length rows ≤ 512 → length (member_ids class rows) ≤ 512
 few_ids class rows few = omega (arith, length-map (members class rows) (λ r. r.alloc_id), few_members class rows, few)
 
-suits_made : (s : State) (made : MadeMap) → IsAdmitted rule_in_force s.gap s.roster → IsMade s made → Suits made.cert (member_ids NonAssured s.roster) (member_ids BestEffort s.roster)
+suits_made : (s : State) (made : MadeMap) → IsAdmitted s.rule s.gap s.roster → IsMade s made → Suits made.cert (member_ids NonAssured s.roster) (member_ids BestEffort s.roster)
 suits_made s made a m = record {
-  non_assured = counted (input_of s) NonAssured made.cert.na (surplus rule_in_force (input_of s)) m.certified.non_assured;
-  best_effort = counted (input_of s) BestEffort made.cert.be (left_surplus made.cert.na.level (items NonAssured (input_of s)) (surplus rule_in_force (input_of s))) m.certified.best_effort;
-  few_non_assured = few_ids NonAssured s.roster a.few_allocs;
-  few_best_effort = few_ids BestEffort s.roster a.few_allocs;
+  non_assured = counted (input_of s) NonAssured made.cert.na (surplus (input_of s)) m.certified.non_assured;
+  best_effort = counted (input_of s) BestEffort made.cert.be (left_surplus made.cert.na.level (items NonAssured (input_of s)) (surplus (input_of s))) m.certified.best_effort;
+  few_non_assured = few_ids NonAssured s.roster (omega (arith, a.few_allocs, few_allowed s.rule));
+  few_best_effort = few_ids BestEffort s.roster (omega (arith, a.few_allocs, few_allowed s.rule));
 }
 
 -- a map is the last one
@@ -79,4 +87,4 @@ last_made c d s made place na be k m more here na_is be_is =
     ∙ (λ i. Some (record { made = made; na = (ap (member_ids NonAssured) (sym rows) ∙ sym na_is) i; be = (ap (member_ids BestEffort) (sym rows) ∙ sym be_is) i })) in
     let suits : Suits made.cert na be = rw (na_is, be_is) (suits_made s made k.admitted m) in
     let at : slice_get (c.entries ++ e ∷ []) place ≡ Some e = ap (slice_get (c.entries ++ e ∷ [])) here ∙ get_new c.entries e in
-    subst (λ d. KeepsLast d (Some place) na be) (sym more) (made, e, at, refl, told, suits)
+    subst (λ d. KeepsLast d (Some place) na be) (sym more) (record { made = made; entry = e; at = at; is_map = refl; is_last = told; suits = suits })

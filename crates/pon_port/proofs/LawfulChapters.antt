@@ -2,7 +2,7 @@
 use Rattle.std.proofs.Common.{◌≡◌, ℕ, List, [], ◌∷◌, ◌++◌, length, take, drop, sym, subst, append_assoc}
 use Rattle.std.specs.Prelude.{None}
 use Rattle.std.proofs.lemmas.List.{append-nil, take-append-drop}
-use Rattle.pon_admit.specs.Roster.{IsAdmitted, refuses_admit, refuses_change, rule_in_force}
+use Rattle.pon_admit.specs.Roster.{IsAdmitted, refuses_admit, refuses_change}
 use Rattle.pon_state.specs.State.{State}
 use Rattle.pon_state.specs.Replay.{roster_after}
 use Rattle.pon_state.specs.Loads.{replay}
@@ -18,30 +18,30 @@ use Rattle.pon_descr.proofs.Checks.{or_else_none}
 use Rattle.pon_admit.proofs.AdmittedSets.{admit_keeps, change_keeps, remove_keeps}
 
 -- an event that no check refuses keeps the set admitted
-pub event_keeps : (kept : ℕ) (s : State) (v : Event) → IsEvent v → first_refusal kept s v ≡ None → IsAdmitted rule_in_force s.gap s.roster → IsAdmitted rule_in_force s.gap (roster_after s.roster v)
+pub event_keeps : (kept : ℕ) (s : State) (v : Event) → IsEvent v → first_refusal kept s v ≡ None → IsAdmitted s.rule s.gap s.roster → IsAdmitted s.rule s.gap (roster_after s.roster v)
 event_keeps kept s (Admit onu alloc_id descriptor) i h k =
-    admit_keeps rule_in_force s.gap s.roster (record { onu = onu; alloc_id = alloc_id; descriptor = descriptor })
-    (or_else_none (refuses_admit rule_in_force s.gap s.roster (record { onu = onu; alloc_id = alloc_id; descriptor = descriptor })) (when_full kept s.taken_before) h).0 i k
+    admit_keeps s.rule s.gap s.roster (record { onu = onu; alloc_id = alloc_id; descriptor = descriptor })
+    (or_else_none (refuses_admit s.rule s.gap s.roster (record { onu = onu; alloc_id = alloc_id; descriptor = descriptor })) (when_full kept s.taken_before) h).0 i k
 event_keeps kept s (Change alloc_id descriptor) i h k =
-    change_keeps rule_in_force s.gap s.roster alloc_id descriptor
-    (or_else_none (refuses_change rule_in_force s.gap s.roster alloc_id descriptor) (when_full kept s.taken_before) h).0 i.1 k
-event_keeps kept s (Remove alloc_id) i h k = remove_keeps rule_in_force s.gap s.roster alloc_id k
+    change_keeps s.rule s.gap s.roster alloc_id descriptor
+    (or_else_none (refuses_change s.rule s.gap s.roster alloc_id descriptor) (when_full kept s.taken_before) h).0 i.1 k
+event_keeps kept s (Remove alloc_id) i h k = remove_keeps s.rule s.gap s.roster alloc_id k
 event_keeps kept s (Report frame onu occ) i h k = k
 event_keeps kept s MakeMap i h k = k
 event_keeps kept s (Fail cause) i h k = k
 event_keeps kept s Restore i h k = k
 
 -- so does a legal list of entries
-pub entries_keep : (o : State) (done es : List Entry) → IsLegalAfter o done es → IsAdmitted rule_in_force o.gap (replay o done).roster → IsAdmitted rule_in_force o.gap (replay o (done ++ es)).roster
-entries_keep o done [] l k = subst (λ t. IsAdmitted rule_in_force o.gap (replay o t).roster) (sym (append-nil done)) k
+pub entries_keep : (o : State) (done es : List Entry) → IsLegalAfter o done es → IsAdmitted o.rule o.gap (replay o done).roster → IsAdmitted o.rule o.gap (replay o (done ++ es)).roster
+entries_keep o done [] l k = subst (λ t. IsAdmitted o.rule o.gap (replay o t).roster) (sym (append-nil done)) k
 entries_keep o done (e ∷ es) l k =
-    subst (λ t. IsAdmitted rule_in_force o.gap (replay o t).roster) (append_assoc done (e ∷ []) es)
+    subst (λ t. IsAdmitted o.rule o.gap (replay o t).roster) (append_assoc done (e ∷ []) es)
     (entries_keep o (done ++ e ∷ []) es l.1
-    (subst (IsAdmitted rule_in_force o.gap) (sym (roster_of-append o.roster done (e ∷ [])))
+    (subst (IsAdmitted o.rule o.gap) (sym (roster_of-append o.roster done (e ∷ [])))
     (event_keeps (length done) (replay o done) e.event l.0.event l.0.accepted k)))
 
 -- before each entry of a lawful chapter
-pub admitted_before : (c : Chapter) → IsLawfulChapter c → (k : ℕ) → IsAdmitted rule_in_force (state_before c k).gap (state_before c k).roster
+pub admitted_before : (c : Chapter) → IsLawfulChapter c → (k : ℕ) → IsAdmitted (state_before c k).rule (state_before c k).gap (state_before c k).roster
 admitted_before c l k =
     entries_keep c.opening [] (take k c.entries)
     (legal_split c.opening [] (take k c.entries) (drop k c.entries)
@@ -49,5 +49,5 @@ admitted_before c l k =
     l.opening.admitted
 
 -- and at its end
-pub admitted_at_present : (c : Chapter) → IsLawfulChapter c → IsAdmitted rule_in_force (present_state c).gap (present_state c).roster
+pub admitted_at_present : (c : Chapter) → IsLawfulChapter c → IsAdmitted (present_state c).rule (present_state c).gap (present_state c).roster
 admitted_at_present c l = entries_keep c.opening [] c.entries (after_from_legal c.opening c.entries c.number l.legal) l.opening.admitted

@@ -51,7 +51,7 @@ some_all : {X : Type 0} (P : X → Type 0) (o : Option X) → IfSome o P → All
 some_all P None h = All-nil P
 some_all P (Some x) h = All-cons P x [] h (All-nil P)
 
-latest_all : (P : Counted → Type 0) (cs : List Counted) → All P cs → IfSome (latest cs) P
+pub latest_all : (P : Counted → Type 0) (cs : List Counted) → All P cs → IfSome (latest cs) P
 latest_all P [] h = tt
 latest_all P (c ∷ cs) h = one (latest cs) (latest_all P cs (All-tail P c cs h))
   where
@@ -70,6 +70,7 @@ map_as_it_was m l = (λ i. record {
 
 pub replay_none : (s : State) → IsSteady s → replay s [] ≡ s
 replay_none s k = (λ i. record {
+  rule = s.rule;
   gap = s.gap;
   profile = s.profile;
   next = plus s.next i;

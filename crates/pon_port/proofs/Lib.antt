@@ -1,5 +1,7 @@
+pub mod CountedReports
 pub mod CutChapters
 pub mod Cutting
+pub mod EntryByEntry
 pub mod FairMaps
 pub mod LastMaps
 pub mod Kept
@@ -9,6 +11,7 @@ pub mod Legality
 pub mod Loads
 pub mod Members
 pub mod OneReply
+pub mod OtherForms
 pub mod Parts
 pub mod ReportSteps
 pub mod Steady

@@ -1,6 +1,6 @@
 -- A state gives one reply to an event: the certificate of a map is the only one that is accepted.
 use Rattle.std.proofs.Common.{◌≡◌, [], ◌∷◌, ◌++◌, ap, sym, ◌∙◌, subst}
-use Rattle.pon_admit.specs.Roster.{IsAdmitted, rule_in_force}
+use Rattle.pon_admit.specs.Roster.{IsAdmitted}
 use Rattle.pon_state.specs.State.{State, input_of}
 use Rattle.pon_share.specs.Sharing.{surplus_rate}
 use Rattle.pon_share.specs.Maps.{map_of}
@@ -17,7 +17,7 @@ use Rattle.pon_share.proofs.ClassShares.{one_map_certificate}
 use Rattle.pon_port.proofs.Legality.{IsLegalAfter, after_from_legal, legal_from_after, legal_push}
 use Rattle.pon_port.proofs.LawfulChapters.{admitted_at_present}
 
-module _ (s : State) (k : IsAdmitted rule_in_force s.gap s.roster) where
+module _ (s : State) (k : IsAdmitted s.rule s.gap s.roster) where
   one_made : (a b : MadeMap) → IsMade s a → IsMade s b → a ≡ b
   one_made a b p q =
       let cert : a.cert ≡ b.cert = one_map_certificate (input_of s) k a.cert b.cert p.certified q.certified in

@@ -86,13 +86,13 @@ words_agree i u f (m ∷ ms) l h =
 
 -- One account after the occupancies of a series.
 
-abbrev taken_all : (ℕ → ℕ) → ℕ → List Granted → List (Option ℕ) → Account → Account
+abbrev pub taken_all : (ℕ → ℕ) → ℕ → List Granted → List (Option ℕ) → Account → Account
 taken_all granted f (g ∷ gs) (Some n ∷ ns) a = taken_all granted f gs ns (if a.alloc_id == g.alloc_id then taking (record { frame = f; words = n - granted g.alloc_id }) a else a)
 taken_all granted f (g ∷ gs) (None ∷ ns) a = taken_all granted f gs ns a
 taken_all granted f [] ns a = a
 taken_all granted f (g ∷ gs) [] a = a
 
-by_accounts : (granted : ℕ → ℕ) (f : ℕ) (gs : List Granted) (ns : List (Option ℕ)) (book : List Account) → after_occupancies granted f gs ns book ≡ map (taken_all granted f gs ns) book
+pub by_accounts : (granted : ℕ → ℕ) (f : ℕ) (gs : List Granted) (ns : List (Option ℕ)) (book : List Account) → after_occupancies granted f gs ns book ≡ map (taken_all granted f gs ns) book
 by_accounts granted f [] ns book = sym (map-id book)
 by_accounts granted f (g ∷ gs) [] book = sym (map-id book)
 by_accounts granted f (g ∷ gs) (None ∷ ns) book = by_accounts granted f gs ns book
@@ -105,7 +105,7 @@ latest_lone None = refl
 latest_lone (Some c) = refl
 
 -- before its since-frame nothing counts
-too_early : (granted : ℕ → ℕ) (f : ℕ) (a : Account) → nat_le a.since f ≡ false → (gs : List Granted) (ns : List (Option ℕ)) → taken_all granted f gs ns a ≡ a
+pub too_early : (granted : ℕ → ℕ) (f : ℕ) (a : Account) → nat_le a.since f ≡ false → (gs : List Granted) (ns : List (Option ℕ)) → taken_all granted f gs ns a ≡ a
 too_early granted f a e [] ns = refl
 too_early granted f a e (g ∷ gs) [] = refl
 too_early granted f a e (g ∷ gs) (None ∷ ns) = too_early granted f a e gs ns
@@ -126,7 +126,7 @@ module _ (granted : ℕ → ℕ) (f i since : ℕ) (e : nat_le since f ≡ true)
   account o = record { alloc_id = i; since = since; counted = o }
 
   -- from its since-frame on the latest counts
-  in_time : (gs : List Granted) (ns : List (Option ℕ)) (o : Option Counted) → taken_all granted f gs ns (account o) ≡ account (latest (option_to_list o ++ map told (occupancies i gs ns)))
+  pub in_time : (gs : List Granted) (ns : List (Option ℕ)) (o : Option Counted) → taken_all granted f gs ns (account o) ≡ account (latest (option_to_list o ++ map told (occupancies i gs ns)))
   in_time [] ns o = ap account (sym (latest_lone o))
   in_time (g ∷ gs) [] o = ap account (sym (latest_lone o))
   in_time (g ∷ gs) (None ∷ ns) o = in_time gs ns o
@@ -268,6 +268,7 @@ module _ (s : State) (l : IsLawfulState s) (f u : ℕ) (ns : List (Option ℕ)) 
   report_step =
       let next : s.next ≡ next_of s.next (entry ∷ []) = omega (arith, sum_by-cons (λ e. cond false 1 0) entry []) in
       (λ j. record {
+        rule = s.rule;
         gap = s.gap;
         profile = s.profile;
         next = next j;

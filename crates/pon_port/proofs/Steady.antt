@@ -7,7 +7,7 @@ use Rattle.std.proofs.lemmas.Option.{IfSome_then}
 use Rattle.std.proofs.lemmas.List.Elements.{All-nil, All-cons, All-head, All-tail, All-append, All-drop, All-filter, All-map, All-weaker}
 use Rattle.pon_bwmap.specs.Structure.{Structure}
 use Rattle.pon_descr.specs.Checks.{or_else}
-use Rattle.pon_admit.specs.Roster.{IsAdmitted, IsInMapOrder, comes_before, has_alloc, refuses_admit, rule_in_force, without}
+use Rattle.pon_admit.specs.Roster.{IsAdmitted, IsInMapOrder, comes_before, has_alloc, refuses_admit, without}
 use Rattle.pon_admit.specs.declared.row.Row.{Row}
 use Rattle.pon_guar.specs.declared.account.Account.{Account}
 use Rattle.pon_guar.specs.Book.{AreRising, account_of, alloc_ids, counted_of_account, since_of_account}
@@ -41,7 +41,7 @@ use Rattle.pon_port.proofs.LawfulChapters.{event_keeps}
 
 -- the parts of a lawful opening that speak of no account
 pub record IsSteady (s : State) : Type 0 where
-  pub admitted : IsAdmitted rule_in_force s.gap s.roster
+  pub admitted : IsAdmitted s.rule s.gap s.roster
   pub book : AccountsFor s.roster s.book
   pub few_maps : length s.window ≤ 64
   pub frames : LeadsTo s.next s.window
@@ -114,7 +114,7 @@ ids_step : (kept : ℕ) (s : State) (v : Event) → first_refusal kept s v ≡ N
     AreRising (allocs_after (alloc_ids s.book) v) × ((i : ℕ) → list_any (λ j. j == i) (allocs_after (alloc_ids s.book) v) ≡ has_alloc i (roster_after s.roster v))
 ids_step kept s (Admit onu alloc_id descriptor) h k =
     let r : Row = record { onu = onu; alloc_id = alloc_id; descriptor = descriptor } in
-    let p : Passes rule_in_force s.gap s.roster r = passes rule_in_force s.gap s.roster r (or_else_none (refuses_admit rule_in_force s.gap s.roster r) (when_full kept s.taken_before) h).0 in (
+    let p : Passes s.rule s.gap s.roster r = passes s.rule s.gap s.roster r (or_else_none (refuses_admit s.rule s.gap s.roster r) (when_full kept s.taken_before) h).0 in (
       rising_with alloc_id (alloc_ids s.book) k.0 (k.1 alloc_id ∙ p.free),
       λ i. list_any-inserted (λ j. j == i) (λ j. nat_lt j alloc_id) alloc_id (alloc_ids s.book)
           ∙ ap (λ b. (alloc_id == i) || b) (k.1 i)

@@ -1,17 +1,18 @@
 -- Chapters of a port's history: an opening and the entries that were taken from it.
 use Rattle.std.specs.Prelude.{ℕ, ◌≡◌, ◌+◌, ◌<◌, ◌≤◌, List, [], length, All, Contains, take, slice_get, Some, None, IfSome}
 use Rattle.pon_admit.specs.declared.row.Row.{Row}
-use Rattle.pon_admit.specs.Roster.{IsAdmitted, rule_in_force}
+use Rattle.pon_admit.specs.declared.rule.Rule.{Rule}
+use Rattle.pon_admit.specs.Roster.{IsAdmitted}
 use Rattle.pon_guar.specs.declared.account.Account.{Account}
 use Rattle.pon_guar.specs.declared.account.Counted.{Counted}
 use Rattle.pon_window.specs.Window.{IsLawfulMap, LeadsTo}
 use Rattle.pon_state.specs.Accounts.{AccountsFor}
-use Rattle.pon_state.specs.State.{State, just_opened}
+use Rattle.pon_state.specs.State.{State, opened_under}
 use Rattle.pon_state.specs.Loads.{replay}
 use Rattle.pon_state.specs.Legal.{MayFollow}
 use Rattle.pon_state.specs.declared.reply.Entry.{Entry}
 
--- the number of a chapter, the state that it opens with, and its entries
+-- the number of a chapter, counted from 0 in its port, the state that it opens with, and its entries
 pub record Chapter : Type 0 where
   pub number : ℕ
   pub opening : State
@@ -51,7 +52,7 @@ abbrev pub IsSilent : State → Type 0
 IsSilent s = (s.window ≡ []) × All (λ a. a.counted ≡ None) s.book
 
 abbrev pub IsJustOpened : State → Type 0
-IsJustOpened s = (gap profile first : ℕ) × (s ≡ just_opened gap profile first)
+IsJustOpened s = (rule : Rule) × (gap profile first : ℕ) × (s ≡ opened_under rule gap profile first)
 
 -- chapter 0 opens with a port just opened
 abbrev pub OpensFirst : ℕ → State → Type 0
@@ -59,7 +60,7 @@ OpensFirst number s = number ≡ 0 → IsJustOpened s
 
 pub record IsLawfulOpening (number : ℕ) (s : State) : Type 0 where
   pub first : OpensFirst number s
-  pub admitted : IsAdmitted rule_in_force s.gap s.roster
+  pub admitted : IsAdmitted s.rule s.gap s.roster
   pub book : AccountsFor s.roster s.book
   pub accounts : All (AccountIsLawful s) s.book
   pub few_maps : length s.window ≤ 64

@@ -3,7 +3,7 @@
 use Rattle.std.specs.Prelude.{◌≡◌, ◌≤◌, ◌*◌, map, sum_by}
 use Rattle.pon_burst.specs.Bursts.{AreSound}
 use Rattle.pon_descr.specs.declared.class.Class.TheVariants.{NonAssured, BestEffort}
-use Rattle.pon_admit.specs.Roster.{capacity, rule_in_force}
+use Rattle.pon_admit.specs.Roster.{capacity}
 use Rattle.pon_cert.specs.declared.cert.ClassCert.{ClassCert}
 use Rattle.pon_cert.specs.Problem.{IsFairest, IsProblem}
 use Rattle.pon_cert.specs.Certificate.{IsCertificate}
@@ -22,9 +22,9 @@ pub record IsFairMap (s : State) (made : MadeMap) : Type 0 where
   -- it is of the state's next frame
   pub frame : made.frame ≡ s.next
   -- the guaranteed rates are the reference model's, and fit the capacity: the surplus is what they leave of it
-  pub guaranteed : sum_by (guaranteed_rate (input_of s)) s.roster ≤ 256 * capacity rule_in_force s.gap s.roster
+  pub guaranteed : sum_by (guaranteed_rate (input_of s)) s.roster ≤ 256 * capacity s.rule s.gap s.roster
   -- level and saturated set are accepted for the problem of each class
-  pub certificate : IsCertified rule_in_force (input_of s) made.cert
+  pub certificate : IsCertified (input_of s) made.cert
   -- and neither problem has another certificate
   pub only_non_assured : (other : ClassCert) → IsCertificate (items NonAssured (input_of s)) (non_assured_surplus (input_of s)) other → other ≡ made.cert.na
   pub only_best_effort : (other : ClassCert) → IsCertificate (items BestEffort (input_of s)) (best_effort_surplus (input_of s) made.cert) other → other ≡ made.cert.be

@@ -37,7 +37,16 @@ last_told before rows (e ∷ es) = last_told (told_last before rows e.reply) (ro
 abbrev pub last_map : Chapter → Option LastMap
 last_map c = last_told None c.opening.roster c.entries
 
--- where the last map stands among the entries, and the Alloc-IDs that belong to it
+-- the k-th entry tells the last map, and the Alloc-IDs of the two classes are those that its certificate speaks of
+pub record KeepsLastAt (c : Chapter) (k : ℕ) (na be : List ℕ) : Type 0 where
+  pub made : MadeMap
+  pub entry : Entry
+  pub at : slice_get c.entries k ≡ Some entry
+  pub is_map : entry.reply ≡ Map made
+  pub is_last : last_map c ≡ Some (record { made = made; na = na; be = be })
+  pub suits : Suits made.cert na be
+
+-- where the last map stands among the entries, if there is one
 abbrev pub KeepsLast : Chapter → Option ℕ → List ℕ → List ℕ → Type 0
 KeepsLast c None na be = last_map c ≡ None
-KeepsLast c (Some k) na be = (made : MadeMap) × (e : Entry) × (slice_get c.entries k ≡ Some e) × (e.reply ≡ Map made) × (last_map c ≡ Some (record { made = made; na = na; be = be })) × Suits made.cert na be
+KeepsLast c (Some k) na be = KeepsLastAt c k na be

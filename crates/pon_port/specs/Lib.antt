@@ -1,4 +1,6 @@
+pub mod CountedReports
 pub mod FairMaps
 pub mod Last
+pub mod OtherForms
 pub mod Chapters
 pub mod Taking

@@ -1,7 +1,7 @@
 -- What a port's calls do to its chapter.
 use Rattle.std.specs.Prelude.{ℕ, ◌≡◌, List, [], ◌∷◌, ◌++◌, length, Option}
 use Rattle.pon_state.specs.State.{State}
-use Rattle.pon_admit.specs.Roster.{IsAdmitted, rule_in_force}
+use Rattle.pon_admit.specs.Roster.{IsAdmitted}
 use Rattle.pon_state.specs.Checks.{first_refusal}
 use Rattle.pon_state.specs.Legal.{MayFollow}
 use Rattle.pon_state.specs.Accounts.{AccountsFor}
@@ -28,7 +28,7 @@ refusal_of c event = first_refusal (length c.entries) (present_state c) event
 pub record IsKept (c : Chapter) (state : State) : Type 0 where
   pub lawful : IsLawfulChapter c
   pub replayed : state ≡ present_state c
-  pub admitted : IsAdmitted rule_in_force state.gap state.roster
+  pub admitted : IsAdmitted state.rule state.gap state.roster
   pub book : AccountsFor state.roster state.book
 
 -- a port: what it keeps, and where its last map stands with the Alloc-IDs of the classes that shared surplus in it

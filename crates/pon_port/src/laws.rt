@@ -1,11 +1,19 @@
 //! Laws of histories, over the definitions alone.
 
-ghost use Rattle.std.specs.Prelude.{List, None, Some, drop, slice_get, take, ℕ, ◌++◌, ◌+◌, ◌<◌, ◌≡◌, ◌≤◌};
+ghost use Rattle.std.specs.Prelude.{Bool, List, Option, [], length, map, if◌then◌else◌, None, Some, drop, slice_get, take, ℕ, ◌++◌, ◌+◌, ◌<◌, ◌≡◌, ◌≤◌};
 ghost use Rattle.pon_descr.specs.Descriptor.{Descriptor, IsLawful};
-ghost use Rattle.pon_admit.specs.Roster.{IsAdmitted, IsInRange, Rule, refuses_admit, refuses_change, rule_in_force, with_descriptor, with_row, without};
+ghost use Rattle.pon_admit.specs.Roster.{IsAdmitted, IsInRange, refuses_admit, refuses_change, with_descriptor, with_row, without};
 ghost use Rattle.pon_admit.specs.declared.row.Row.{Row};
 ghost use Rattle.pon_state.specs.State.{State};
-ghost use Rattle.pon_state.specs.Loads.{replay};
+ghost use Rattle.std.specs.List.{list_any};
+ghost use Rattle.pon_units.specs.declared.granted.Granted.{Granted};
+ghost use Rattle.pon_guar.specs.Reports.{after_occupancies};
+ghost use Rattle.pon_guar.specs.declared.account.Account.{Account};
+ghost use Rattle.pon_guar.specs.declared.account.Counted.{Counted};
+ghost use Rattle.pon_state.specs.Replay.{frame_at_last, next_of};
+ghost use Rattle.pon_state.specs.Loads.{counted_of, replay};
+ghost use Rattle.pon_state.specs.After.{after_entry};
+ghost use Rattle.pon_state.specs.Legal.{MayFollow};
 ghost use Rattle.pon_window.specs.Window.{LeadsTo};
 ghost use Rattle.pon_cert.specs.declared.cert.MapCert.{MapCert};
 ghost use Rattle.pon_share.specs.Input.{Input};
@@ -13,8 +21,10 @@ ghost use Rattle.pon_share.specs.Sharing.{IsCertified, surplus_rate};
 ghost use Rattle.pon_share.specs.Maps.{map_of};
 ghost use Rattle.pon_burst.specs.Bursts.{AreSound};
 ghost use Rattle.pon_port.specs.Chapters.{Chapter, IsLawfulChapter, IsLawfulOpening, IsLegal, present_state, state_before};
+ghost use Rattle.pon_port.specs.CountedReports.{Counts, IsReport};
 ghost use Rattle.pon_port.specs.FairMaps.{TellsFairMap};
-ghost use Rattle.pon_port.specs.Taking.{Takes};
+ghost use Rattle.pon_port.specs.OtherForms.{account_reported, before_last};
+ghost use Rattle.pon_port.specs.Taking.{Takes, with_entry};
 ghost use Rattle.pon_event.specs.declared.event.Event.{Event};
 ghost use Rattle.pon_state.specs.declared.reply.Entry.{Entry};
 ghost use Rattle.pon_state.specs.declared.reply.Reply.{Reply};
@@ -22,8 +32,9 @@ ghost use Rattle.pon_state.specs.declared.reply.Reply.{Reply};
 /// A legal history may be cut anywhere: the second part, opened with the replay of the first, leaves the same state, and
 /// is legal as the next chapter.
 pub fn cutting()
-    ensures state { (o : State) (xs ys : List Entry) → LeadsTo o.next o.window →
-        IsLegal (record { number = 0; opening = o; entries = xs ++ ys }) → replay o (xs ++ ys) ≡ replay (replay o xs) ys }
+    ensures state { (n : ℕ) (o : State) (xs ys : List Entry) → LeadsTo o.next o.window →
+        IsLegal (record { number = n; opening = o; entries = xs ++ ys })
+        → replay o (xs ++ ys) ≡ replay (replay o xs) ys }
     ensures rest { (n : ℕ) (o : State) (xs ys : List Entry) → LeadsTo o.next o.window →
         IsLegal (record { number = n; opening = o; entries = xs ++ ys }) →
         IsLegal (record { number = n + 1; opening = replay o xs; entries = ys }) }
@@ -32,18 +43,16 @@ pub fn cutting()
 /// Before each entry of a lawful chapter, and after all of them, the roster is an admitted set.
 pub fn lawful_chapters_hold_admitted_sets()
     ensures before { (c : Chapter) → IsLawfulChapter c → (k : ℕ)
-        → IsAdmitted rule_in_force (state_before c k).gap (state_before c k).roster }
+        → IsAdmitted (state_before c k).rule (state_before c k).gap (state_before c k).roster }
     ensures present { (c : Chapter) → IsLawfulChapter c
-        → IsAdmitted rule_in_force (present_state c).gap (present_state c).roster }
+        → IsAdmitted (present_state c).rule (present_state c).gap (present_state c).roster }
 {}
 
-/// The map of an admitted set has sound bursts under each accepted certificate, for any burst profile and any number of
-/// ONUs and Alloc-IDs: each burst lies in the frame and no two overlap. The rule sets aside one word for each Alloc-ID at
-/// least, for its report.
+/// The map of an admitted set has sound bursts under each accepted certificate, for each rule, any burst profile and
+/// any number of ONUs and Alloc-IDs: each burst lies in the frame and no two overlap.
 pub fn maps_of_admitted_sets_are_sound()
-    ensures { (s : Input) (rule : Rule) (cert : MapCert) (profile : ℕ) → 1 ≤ rule.overhead_words
-        → IsAdmitted rule s.gap s.roster →
-        IsCertified rule s cert → AreSound s.gap (map_of profile s (surplus_rate s cert)) }
+    ensures { (s : Input) (cert : MapCert) (profile : ℕ) → IsAdmitted s.rule s.gap s.roster →
+        IsCertified s cert → AreSound s.gap (map_of profile s (surplus_rate s cert)) }
 {}
 
 /// Each map of a lawful chapter is certified, the fairest, in whole words and without overlap, for the state before it.
@@ -76,4 +85,46 @@ pub fn lawful_chapters_give_one_reply()
         → Takes c v b e → (a ≡ b) × (d ≡ e) }
     ensures lawful { (c d : Chapter) → IsLawfulChapter c → (v : Event) (a : Reply) → Takes c v a d
         → IsLawfulChapter d }
+{}
+
+/// The replay goes entry by entry: no entries leave a lawful opening as it is, and one more entry that may follow
+/// leaves the state after that entry.
+pub fn replay_goes_entry_by_entry()
+    ensures none { (n : ℕ) (s : State) → IsLawfulOpening n s → replay s [] ≡ s }
+    ensures one_more { (c : Chapter) (e : Entry) → IsLawfulChapter c
+        → MayFollow (length c.entries) (present_state c) e →
+        present_state (with_entry c e.event e.reply) ≡ after_entry (present_state c) e }
+{}
+
+/// Legality goes entry by entry: no entries are legal, and a chapter with one more entry is legal exactly when the
+/// chapter is and the entry may follow in the state that it leaves.
+pub fn legality_goes_entry_by_entry()
+    ensures none { (n : ℕ) (s : State)
+        → IsLegal (record { number = n; opening = s; entries = [] }) }
+    ensures one_more { (c : Chapter) (e : Entry) → IsLegal c
+        → MayFollow (length c.entries) (present_state c) e
+        → IsLegal (with_entry c e.event e.reply) }
+    ensures one_less { (c : Chapter) (e : Entry) → IsLegal (with_entry c e.event e.reply)
+        → IsLegal c × MayFollow (length c.entries) (present_state c) e }
+{}
+
+/// The load of an Alloc-ID rests on one report: an accepted one of a frame that is not below since, its words less what
+/// was granted from that frame on, where no later one is accepted. Where none counts, none is accepted.
+pub fn the_last_accepted_report_counts()
+    ensures some { (o : State) (es : List Entry) (i : ℕ) (c : Counted) → counted_of o es i ≡ Some c
+        → Counts o es i c }
+    ensures none { (o : State) (es : List Entry) (i : ℕ) → counted_of o es i ≡ None
+        → (c : Counted) → IsReport o es i c → ⊥ }
+{}
+
+/// Two definitions in another form. An ONU's report is taken account by account: of each one's occupancies the latest
+/// counts from its since-frame on. The frame at the last entry of a kind is the next one after the entries before it.
+pub fn definitions_in_another_form()
+    ensures accounts { (granted : ℕ → ℕ) (frame : ℕ) (gs : List Granted)
+        (occ : List (Option ℕ)) (book : List Account)
+        → after_occupancies granted frame gs occ book
+        ≡ map (account_reported granted frame gs occ) book }
+    ensures last { (test : Entry → Bool) (start first : ℕ) (es : List Entry)
+        → frame_at_last test start first es
+        ≡ (if list_any test es then next_of first (before_last test es) else start) }
 {}

@@ -18,6 +18,7 @@ use std::marker::Model;
 /// lawful and that the state is its replay.
 #[derive(Drop)]
 pub struct Port {
+    number: u64,
     opening: PortState,
     state: PortState,
     entries: Vec<Entry>,
@@ -33,9 +34,15 @@ impl Model for Port {
 
     ghost Value = { Chapter };
 
-    ghost view = { λ p. record { number = 0; opening = p.opening; entries = p.entries.items } };
+    ghost view = { λ p. record {
+      number = p.number;
+      opening = p.opening;
+      entries = p.entries.items;
+    } };
 
-    ghost invariant = { λ p. IsPort (record { number = 0; opening = p.opening; entries = p.entries.items }) p.state p.last p.na.items p.be.items };
+    ghost invariant = { λ p. IsPort
+        (record { number = p.number; opening = p.opening; entries = p.entries.items })
+        p.state p.last p.na.items p.be.items };
 }
 
 // An Alloc-ID is in range, as its type has it.
@@ -88,7 +95,7 @@ fn in_range(event: &Event)
 impl Port {
     ghost use Rattle.std.specs.Prelude.{[], ◌+◌, false, length, IfOk, IfErr, IfSome, MatchOption, None, OnOk, OnErr, Some};
     ghost use Rattle.pon_descr.specs.Descriptor.{IsLawful};
-    ghost use Rattle.pon_admit.specs.Roster.{IsAdmitted, IsInRange, rule_in_force};
+    ghost use Rattle.pon_admit.specs.Roster.{IsAdmitted, IsInRange};
     ghost use Rattle.pon_port.specs.Chapters.{IsLawfulChapter, present_state};
     ghost use Rattle.pon_port.specs.Last.{Suits, last_map};
     ghost use Rattle.pon_port.specs.Taking.{Takes, refusal_of};
@@ -103,6 +110,7 @@ impl Port {
         ensures number { IfOk result (λ port. port.number ≡ 0) }
     {
         Ok(Port {
+            number: 0,
             opening: PortState::open(alloc, &cfg, first)?,
             state: PortState::open(alloc, &cfg, first)?,
             entries: Vec::new(alloc),
@@ -110,6 +118,14 @@ impl Port {
             na: Vec::new(alloc),
             be: Vec::new(alloc),
         })
+    }
+
+    /// The number of the kept chapter. The chapters of a port are counted from 0; the first begins when the port is
+    /// opened.
+    pub fn chapter_number(&self) -> u64
+        ensures { result ≡ self.now.number }
+    {
+        self.number
     }
 
     /// The kept entries, oldest first.
@@ -130,7 +146,7 @@ impl Port {
     /// The present state: the replay of the kept entries.
     pub fn state(&self) -> &PortState
         ensures replayed { result.now ≡ present_state self.now }
-        ensures admitted { IsAdmitted rule_in_force result.now.gap result.now.roster }
+        ensures admitted { IsAdmitted result.now.rule result.now.gap result.now.roster }
     {
         &self.state
     }

@@ -4,7 +4,7 @@ use Rattle.std.specs.List.{zip}
 use Rattle.pon_units.specs.Fraction.{Fraction}
 use Rattle.pon_descr.specs.declared.class.Class.{Class}
 use Rattle.pon_descr.specs.declared.class.Class.TheVariants.{Plain, NonAssured, BestEffort}
-use Rattle.pon_admit.specs.Roster.{IsAdmitted, rule_in_force}
+use Rattle.pon_admit.specs.Roster.{IsAdmitted}
 use Rattle.pon_admit.specs.declared.row.Row.{Row}
 use Rattle.pon_cert.specs.declared.problem.Item.{Item}
 use Rattle.pon_cert.specs.declared.cert.Level.{Level}
@@ -50,7 +50,7 @@ rates_each l g sat d [] = refl
 rates_each l g sat d (r ∷ rows) = (λ k. over d (amount l (g r) (sat r)) ∷ rates_each l g sat d rows k)
 
 -- the rates of the members are those that the certificate spells, in map order
-pub spelled_rates : (s : Input) (class : Class) (cert : ClassCert) (left : ℕ) (k : IsAdmitted rule_in_force s.gap s.roster) → IsCertificate (items class s) left cert →
+pub spelled_rates : (s : Input) (class : Class) (cert : ClassCert) (left : ℕ) (k : IsAdmitted s.rule s.gap s.roster) → IsCertificate (items class s) left cert →
     map (spelled_rate s class cert) (members class s.roster) ≡ rates_of (spelled (items class s) cert)
 spelled_rates s class cert left k c =
     rates_each cert.level (item_of s) spelled_flag (denominator cert.level) (members class s.roster)
@@ -64,16 +64,16 @@ left_within level.All is n h = omega (arith, h)
 left_within (level.At f) is n h = omega arith
 
 -- One certificate.
-module _ (s : Input) (k : IsAdmitted rule_in_force s.gap s.roster) where
+module _ (s : Input) (k : IsAdmitted s.rule s.gap s.roster) where
   pub weighted : (class : Class) → same_class class Plain ≡ false → AreWeighted (items class s)
   weighted class shares =
-      let problem : IsProblem (items class s) (surplus rule_in_force s) = problem_of s class (surplus rule_in_force s) shares k.few_allocs k.in_range (surplus_range s) in
+      let problem : IsProblem (items class s) (surplus s) = problem_of s class (surplus s) shares k.few_allocs k.in_range (surplus_range s) in
       λ n d lt. (problem.each n d lt).has_weight
 
-  pub one_map_certificate : (a b : MapCert) → IsCertified rule_in_force s a → IsCertified rule_in_force s b → a ≡ b
+  pub one_map_certificate : (a b : MapCert) → IsCertified s a → IsCertified s b → a ≡ b
   one_map_certificate a b p q =
-      let na : a.na ≡ b.na = one_certificate (items NonAssured s) (surplus rule_in_force s) a.na b.na (weighted NonAssured refl) p.non_assured q.non_assured in
-      let same_left : IsCertificate (items BestEffort s) (left_surplus a.na.level (items NonAssured s) (surplus rule_in_force s)) b.be
-      = subst (λ c. IsCertificate (items BestEffort s) (left_surplus c.level (items NonAssured s) (surplus rule_in_force s)) b.be) (sym na) q.best_effort in
-      let be : a.be ≡ b.be = one_certificate (items BestEffort s) (left_surplus a.na.level (items NonAssured s) (surplus rule_in_force s)) a.be b.be (weighted BestEffort refl) p.best_effort same_left in
+      let na : a.na ≡ b.na = one_certificate (items NonAssured s) (surplus s) a.na b.na (weighted NonAssured refl) p.non_assured q.non_assured in
+      let same_left : IsCertificate (items BestEffort s) (left_surplus a.na.level (items NonAssured s) (surplus s)) b.be
+      = subst (λ c. IsCertificate (items BestEffort s) (left_surplus c.level (items NonAssured s) (surplus s)) b.be) (sym na) q.best_effort in
+      let be : a.be ≡ b.be = one_certificate (items BestEffort s) (left_surplus a.na.level (items NonAssured s) (surplus s)) a.be b.be (weighted BestEffort refl) p.best_effort same_left in
       (λ i. record { na = na i; be = be i })

@@ -11,7 +11,7 @@ use Rattle.pon_units.specs.declared.granted.Granted.{Granted}
 use Rattle.pon_descr.specs.declared.class.Class.{Class}
 use Rattle.pon_descr.specs.declared.class.Class.TheVariants.{Plain, NonAssured, BestEffort}
 use Rattle.pon_descr.specs.Descriptor.{Descriptor, SuitsClass, promised}
-use Rattle.pon_admit.specs.Roster.{IsAdmitted, IsInRange, capacity, rule_in_force}
+use Rattle.pon_admit.specs.Roster.{IsAdmitted, IsInRange, capacity, most_allocs}
 use Rattle.pon_admit.specs.declared.row.Row.{Row}
 use Rattle.pon_cert.specs.declared.problem.Item.{Item}
 use Rattle.pon_cert.specs.declared.cert.Level.{Level}
@@ -26,6 +26,7 @@ use Rattle.pon_share.specs.Sharing.{IsCertified, is_saturated, item_of, items, m
 use Rattle.pon_share.specs.Demands.{demand_of, demands_of}
 use Rattle.pon_share.specs.declared.demand.Demand.{Demand}
 use Rattle.pon_lists.proofs.Lists.{map-map, map_filter, sum_by-map}
+use Rattle.pon_admit.proofs.Rules.{few_allowed}
 use Rattle.pon_share.proofs.RosterMaps.{granted_to_row}
 use Rattle.pon_share.proofs.Surplus.{flags_each, rules_hold}
 
@@ -119,11 +120,11 @@ few_members class (r ∷ rows) = one (few_members class rows) (same_class r.desc
     one few true = omega (arith, few)
     one few false = omega (arith, few)
 
-few_items : (s : Input) (class : Class) → length s.roster ≤ 256 → length (items class s) ≤ 512
-few_items s class few = omega (arith, length-map (members class s.roster) (item_of s), few_members class s.roster, few)
+few_items : (s : Input) (class : Class) → length s.roster ≤ most_allocs s.rule → length (items class s) ≤ 512
+few_items s class few = omega (arith, length-map (members class s.roster) (item_of s), few_members class s.roster, few, few_allowed s.rule)
 
 -- the problem of a class
-pub problem_of : (s : Input) (class : Class) (surplus : ℕ) → same_class class Plain ≡ false → length s.roster ≤ 256 → All IsInRange s.roster → surplus ≤ 2488320 → IsProblem (items class s) surplus
+pub problem_of : (s : Input) (class : Class) (surplus : ℕ) → same_class class Plain ≡ false → length s.roster ≤ most_allocs s.rule → All IsInRange s.roster → surplus ≤ 2488320 → IsProblem (items class s) surplus
 problem_of s class surplus shares few ranges most = record {
   count = few_items s class few;
   each = members_are_items s class shares s.roster ranges;
@@ -158,11 +159,11 @@ row_at s ds d i e lt is =
       demand = is ∙ ap (λ ds. get_or ds i d) e ∙ get_or-map (demand_of s) s.roster i at.0 d within ∙ ap (demand_of s) at.1;
     }
 
-range_at : (s : Input) → IsAdmitted rule_in_force s.gap s.roster → (r : Row) (i : ℕ) → i < length s.roster → get_or s.roster i r ≡ r → IsInRange r
+range_at : (s : Input) → IsAdmitted s.rule s.gap s.roster → (r : Row) (i : ℕ) → i < length s.roster → get_or s.roster i r ≡ r → IsInRange r
 range_at s k r i lt is = subst IsInRange is (k.in_range i r lt)
 
 -- guaranteed rate and cap are the rate of the line at most
-pub rates_at : (s : Input) → IsAdmitted rule_in_force s.gap s.roster → (d : Demand) (i : ℕ) → RowAt s d i → d.guaranteed + d.item.cap ≤ 2488320
+pub rates_at : (s : Input) → IsAdmitted s.rule s.gap s.roster → (d : Demand) (i : ℕ) → RowAt s d i → d.guaranteed + d.item.cap ≤ 2488320
 rates_at s k d i at = subst (λ d. d.guaranteed + d.item.cap ≤ 2488320) (sym at.demand) (rates_range s at.row (range_at s k at.row i at.within at.here))
 
 -- what is granted so far, and the truth values that are left, before row i
@@ -172,15 +173,15 @@ pub record Dealt (s : Input) (cert : MapCert) (i : ℕ) (gs : List Granted) (na_
   pub be : be_left ≡ map (λ r. is_saturated BestEffort s.roster cert.be r.alloc_id) (members BestEffort (drop i s.roster))
 
 -- before the first row all truth values are left
-pub dealt_none : (s : Input) (cert : MapCert) → IsAdmitted rule_in_force s.gap s.roster → IsCertified rule_in_force s cert → Dealt s cert 0 [] cert.na.saturated cert.be.saturated
+pub dealt_none : (s : Input) (cert : MapCert) → IsAdmitted s.rule s.gap s.roster → IsCertified s cert → Dealt s cert 0 [] cert.na.saturated cert.be.saturated
 dealt_none s cert k c = record {
   grants = refl;
-  na = sym (flags_each s NonAssured cert.na (surplus rule_in_force s) k.apart c.non_assured);
-  be = sym (flags_each s BestEffort cert.be (left_surplus cert.na.level (items NonAssured s) (surplus rule_in_force s)) k.apart c.best_effort);
+  na = sym (flags_each s NonAssured cert.na (surplus s) k.apart c.non_assured);
+  be = sym (flags_each s BestEffort cert.be (left_surplus cert.na.level (items NonAssured s) (surplus s)) k.apart c.best_effort);
 }
 
 -- one class at one row: its own truth value comes first, and the conditions of its share hold
-module _ (s : Input) (class : Class) (cert : ClassCert) (surplus : ℕ) (k : IsAdmitted rule_in_force s.gap s.roster) (c : IsCertificate (items class s) surplus cert) (shares : same_class class Plain ≡ false) where
+module _ (s : Input) (class : Class) (cert : ClassCert) (surplus : ℕ) (k : IsAdmitted s.rule s.gap s.roster) (c : IsCertificate (items class s) surplus cert) (shares : same_class class Plain ≡ false) where
   abbrev sat : Row → Bool
   sat r = is_saturated class s.roster cert r.alloc_id
 
@@ -296,12 +297,12 @@ ids_demanded s class ds e = of_class s class (λ d. d.alloc_id) ds e
 pub guaranteed_demanded : (s : Input) (ds : List Demand) → ds ≡ demands_of s → sum_by (λ d. d.guaranteed) ds ≡ sum_by (guaranteed_rate s) s.roster
 guaranteed_demanded s ds e = ap (sum_by (λ d. d.guaranteed)) e ∙ sum_by-map (λ d. d.guaranteed) (demand_of s) s.roster
 
-pub surplus_range : (s : Input) → surplus rule_in_force s ≤ 2488320
-surplus_range s = let room : capacity rule_in_force s.gap s.roster ≤ 9720 = omega arith in omega (arith, room)
+pub surplus_range : (s : Input) → surplus s ≤ 2488320
+surplus_range s = let room : capacity s.rule s.gap s.roster ≤ 9720 = omega arith in omega (arith, room)
 
 -- what shares the surplus among the members of the two classes is a certificate of the state
 pub certified_of : (s : Input) (ds es : List Demand) (na be : List Item) (n : ℕ) (cert : MapCert) → ds ≡ demands_of s → es ≡ demands_of s →
     na ≡ map (λ d. d.item) (filter (λ d. same_class d.class NonAssured) ds) → be ≡ map (λ d. d.item) (filter (λ d. same_class d.class BestEffort) es) →
-    n ≡ surplus rule_in_force s → IsMapCertificate na be n cert → IsCertified rule_in_force s cert
+    n ≡ surplus s → IsMapCertificate na be n cert → IsCertified s cert
 certified_of s ds es na be n cert d e a b m c =
     rw (← items_demanded s NonAssured ds d, ← items_demanded s BestEffort es e, ← a, ← b, ← m) c

@@ -14,9 +14,10 @@ use Rattle.pon_burst.specs.Bursts.{AreSound}
 use Rattle.pon_burst.specs.Maps.{frame_words}
 use Rattle.pon_burst.proofs.SoundMaps.{sound_of_rising}
 use Rattle.pon_descr.specs.Descriptor.{promised}
-use Rattle.pon_admit.specs.Roster.{IsAdmitted, IsInMapOrder, Rule, capacity, comes_before, onus_of, overhead, promised_sum}
+use Rattle.pon_admit.specs.Roster.{IsAdmitted, IsInMapOrder, capacity, comes_before, onus_of, overhead, overhead_words, promised_sum}
 use Rattle.pon_admit.specs.declared.row.Row.{Row}
 use Rattle.pon_admit.proofs.AdmittedSets.{fits_parts, precedes}
+use Rattle.pon_admit.proofs.Rules.{few_allowed, some_overhead}
 use Rattle.pon_share.specs.Input.{Input}
 use Rattle.pon_cert.specs.declared.cert.MapCert.{MapCert}
 use Rattle.pon_cert.specs.Certificate.{left_surplus}
@@ -53,23 +54,23 @@ module _ (s : Input) (surplus : Row → Fraction) where
   grant_words (r ∷ rows) = omega (arith, sum_by-cons (λ g. 1 + g.words) (granted_to_row r) (map granted_to_row rows), sum_by-cons (payload s surplus) r rows, grant_words rows)
 
   -- they fit a frame where the payload fits what the overhead leaves
-  pub fitting_with : (rule : Rule) → 1 ≤ rule.overhead_words → IsAdmitted rule s.gap s.roster → sum_by (payload s surplus) s.roster ≤ capacity rule s.gap s.roster →
+  pub fitting_with : IsAdmitted s.rule s.gap s.roster → sum_by (payload s surplus) s.roster ≤ capacity s.rule s.gap s.roster →
       frame_words s.gap (granted s surplus) ≤ 9720
-  fitting_with rule one k fitting =
+  fitting_with k fitting =
       let n : ℕ = length s.roster in
-      let room : overhead rule s.gap s.roster ≤ 9720 = (fits_parts rule s.gap s.roster k.fitting).0 in
-      let reports : n * 1 ≤ n * rule.overhead_words = mul-le-mul_left n one in
+      let room : overhead s.rule s.gap s.roster ≤ 9720 = (fits_parts s.rule s.gap s.roster k.fitting).0 in
+      let reports : n * 1 ≤ n * overhead_words s.rule = mul-le-mul_left n (some_overhead s.rule) in
       let gaps : (s.gap + 2) * length (onus_granted (granted s surplus)) ≡ (s.gap + 2) * length (onus_of s.roster) = ap (λ us. (s.gap + 2) * length us) onus_same in
       omega (arith, room, reports, gaps, fitting, grant_words s.roster)
 
   -- and make one map where they are few
-  pub one_map_with : (rule : Rule) → 1 ≤ rule.overhead_words → rule.most_allocs ≤ 512 → IsAdmitted rule s.gap s.roster → sum_by (payload s surplus) s.roster ≤ capacity rule s.gap s.roster →
+  pub one_map_with : IsAdmitted s.rule s.gap s.roster → sum_by (payload s surplus) s.roster ≤ capacity s.rule s.gap s.roster →
       AreOneMap s.gap (granted s surplus)
-  one_map_with rule one few k fitting = record {
+  one_map_with k fitting = record {
     in_map_order = in_order s.roster k.in_map_order;
     short_series = λ u. subst (λ m. m ≤ 16) (sym (sum_by-map (λ g. cond (g.onu == u) 1 0) granted_to_row s.roster)) (k.short_series u);
-    few = omega (arith, length-map s.roster granted_to_row, k.few_allocs, few);
-    fitting = fitting_with rule one k fitting;
+    few = omega (arith, length-map s.roster granted_to_row, k.few_allocs, few_allowed s.rule);
+    fitting = fitting_with k fitting;
   }
 
 -- The payload of guaranteed and surplus rates.
@@ -89,31 +90,31 @@ guaranteed_promised s (r ∷ rows) =
     omega (arith, sum_by-cons (guaranteed_rate s) r rows, sum_by-cons (λ r. promised r.descriptor) r rows, least, guaranteed_promised s rows)
 
 -- the guaranteed rates leave a surplus
-pub guaranteed_fits : (s : Input) (rule : Rule) → IsAdmitted rule s.gap s.roster → sum_by (guaranteed_rate s) s.roster ≤ 256 * capacity rule s.gap s.roster
-guaranteed_fits s rule k =
-    let held : promised_sum s.roster ≤ 256 * capacity rule s.gap s.roster = (fits_parts rule s.gap s.roster k.fitting).1 in
+pub guaranteed_fits : (s : Input) → IsAdmitted s.rule s.gap s.roster → sum_by (guaranteed_rate s) s.roster ≤ 256 * capacity s.rule s.gap s.roster
+guaranteed_fits s k =
+    let held : promised_sum s.roster ≤ 256 * capacity s.rule s.gap s.roster = (fits_parts s.rule s.gap s.roster k.fitting).1 in
     omega (arith, held, guaranteed_promised s s.roster)
 
 -- The map of an input, under an accepted certificate.
-module _ (s : Input) (rule : Rule) (cert : MapCert) (k : IsAdmitted rule s.gap s.roster) (c : IsCertified rule s cert) where
+module _ (s : Input) (cert : MapCert) (k : IsAdmitted s.rule s.gap s.roster) (c : IsCertified s cert) where
   -- the surplus rates take no more than the surplus
-  surplus_shared : sum_by (λ r. (surplus_rate s cert r).num / (surplus_rate s cert r).den) s.roster ≤ surplus rule s
+  surplus_shared : sum_by (λ r. (surplus_rate s cert r).num / (surplus_rate s cert r).den) s.roster ≤ surplus s
   surplus_shared =
-      let left : ℕ = left_surplus cert.na.level (items NonAssured s) (surplus rule s) in
-      let parts : sum_by (λ r. (surplus_rate s cert r).num / (surplus_rate s cert r).den) s.roster ≡ sum_by (whole_share s NonAssured cert.na (surplus rule s) k.apart c.non_assured) (members NonAssured s.roster) + sum_by (whole_share s BestEffort cert.be left k.apart c.best_effort) (members BestEffort s.roster)
+      let left : ℕ = left_surplus cert.na.level (items NonAssured s) (surplus s) in
+      let parts : sum_by (λ r. (surplus_rate s cert r).num / (surplus_rate s cert r).den) s.roster ≡ sum_by (whole_share s NonAssured cert.na (surplus s) k.apart c.non_assured) (members NonAssured s.roster) + sum_by (whole_share s BestEffort cert.be left k.apart c.best_effort) (members BestEffort s.roster)
       = by_class (spelled_rate s NonAssured cert.na) (spelled_rate s BestEffort cert.be) s.roster in
-      let na = shared s NonAssured cert.na (surplus rule s) k.apart c.non_assured in
+      let na = shared s NonAssured cert.na (surplus s) k.apart c.non_assured in
       let be = shared s BestEffort cert.be left k.apart c.best_effort in
       omega (arith, parts, na, be)
 
-  payload_fits : sum_by (payload s (surplus_rate s cert)) s.roster ≤ capacity rule s.gap s.roster
-  payload_fits = omega (arith, guaranteed_fits s rule k, payload_sum s (surplus_rate s cert) s.roster, surplus_shared)
+  payload_fits : sum_by (payload s (surplus_rate s cert)) s.roster ≤ capacity s.rule s.gap s.roster
+  payload_fits = omega (arith, guaranteed_fits s k, payload_sum s (surplus_rate s cert) s.roster, surplus_shared)
 
   -- they make one map
-  pub one_map : 1 ≤ rule.overhead_words → rule.most_allocs ≤ 512 → AreOneMap s.gap (granted s (surplus_rate s cert))
-  one_map one few = one_map_with s (surplus_rate s cert) rule one few k payload_fits
+  pub one_map : AreOneMap s.gap (granted s (surplus_rate s cert))
+  one_map = one_map_with s (surplus_rate s cert) k payload_fits
 
   -- and its bursts are sound
-  pub admitted_map_is_sound : 1 ≤ rule.overhead_words → (profile : ℕ) → AreSound s.gap (map_of profile s (surplus_rate s cert))
-  admitted_map_is_sound one profile =
-      sound_of_rising s.gap profile (granted s (surplus_rate s cert)) (in_order s (surplus_rate s cert) s.roster k.in_map_order) (fitting_with s (surplus_rate s cert) rule one k payload_fits)
+  pub admitted_map_is_sound : (profile : ℕ) → AreSound s.gap (map_of profile s (surplus_rate s cert))
+  admitted_map_is_sound profile =
+      sound_of_rising s.gap profile (granted s (surplus_rate s cert)) (in_order s (surplus_rate s cert) s.roster k.in_map_order) (fitting_with s (surplus_rate s cert) k payload_fits)

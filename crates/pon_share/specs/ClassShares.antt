@@ -2,7 +2,6 @@
 use Rattle.std.specs.Prelude.{ℕ, List, map}
 use Rattle.pon_units.specs.Fraction.{Fraction}
 use Rattle.pon_descr.specs.declared.class.Class.TheVariants.{NonAssured, BestEffort}
-use Rattle.pon_admit.specs.Roster.{rule_in_force}
 use Rattle.pon_cert.specs.declared.cert.MapCert.{MapCert}
 use Rattle.pon_cert.specs.Problem.{Assignment}
 use Rattle.pon_cert.specs.Certificate.{left_surplus, spelled}
@@ -11,11 +10,11 @@ use Rattle.pon_share.specs.Sharing.{items, surplus}
 
 -- the non-assured class shares what the guaranteed rates leave
 abbrev pub non_assured_surplus : Input → ℕ
-non_assured_surplus s = surplus rule_in_force s
+non_assured_surplus s = surplus s
 
 -- best effort shares what the non-assured class leaves
 abbrev pub best_effort_surplus : Input → MapCert → ℕ
-best_effort_surplus s cert = left_surplus cert.na.level (items NonAssured s) (surplus rule_in_force s)
+best_effort_surplus s cert = left_surplus cert.na.level (items NonAssured s) (surplus s)
 
 -- the rates that the level and the saturated set of a class spell
 abbrev pub non_assured_share : Input → MapCert → Assignment

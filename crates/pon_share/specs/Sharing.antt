@@ -7,7 +7,7 @@ use Rattle.pon_descr.specs.declared.class.Class.{Class}
 use Rattle.pon_descr.specs.declared.class.Class.TheVariants.{Plain, NonAssured, BestEffort}
 use Rattle.pon_descr.specs.Descriptor.{Descriptor, promised}
 use Rattle.pon_admit.specs.declared.row.Row.{Row}
-use Rattle.pon_admit.specs.Roster.{Rule, capacity}
+use Rattle.pon_admit.specs.Roster.{capacity}
 use Rattle.pon_guar.specs.Book.{load_of}
 use Rattle.pon_guar.specs.Rates.{cap}
 use Rattle.pon_cert.specs.declared.problem.Item.{Item}
@@ -44,12 +44,12 @@ abbrev pub items : Class → Input → List Item
 items class s = map (item_of s) (members class s.roster)
 
 -- what the guaranteed rates leave of the capacity, at 256 kbit/s a word
-abbrev pub surplus : Rule → Input → ℕ
-surplus rule s = 256 * capacity rule s.gap s.roster - sum_by (guaranteed_rate s) s.roster
+abbrev pub surplus : Input → ℕ
+surplus s = 256 * capacity s.rule s.gap s.roster - sum_by (guaranteed_rate s) s.roster
 
 -- the surplus goes to the non-assured class, and what that leaves to best effort
-abbrev pub IsCertified : Rule → Input → MapCert → Type 0
-IsCertified rule s cert = IsMapCertificate (items NonAssured s) (items BestEffort s) (surplus rule s) cert
+abbrev pub IsCertified : Input → MapCert → Type 0
+IsCertified s cert = IsMapCertificate (items NonAssured s) (items BestEffort s) (surplus s) cert
 
 -- a class's certificate has an Alloc-ID among the saturated ones
 abbrev pub is_saturated : Class → List Row → ClassCert → ℕ → Bool

@@ -1,7 +1,7 @@
 //! The payload words of each Alloc-ID: the whole words of its guaranteed and its surplus rate.
 
 ghost use Rattle.std.specs.Prelude.{◌≡◌, ◌+◌, ◌*◌, ◌/◌, ◌<◌, ◌≤◌, ◌∷◌, length, IfOk};
-ghost use Rattle.pon_admit.specs.Roster.{IsAdmitted, rule_in_force};
+ghost use Rattle.pon_admit.specs.Roster.{IsAdmitted};
 ghost use Rattle.pon_cert.specs.Problem.{IsItem};
 ghost use Rattle.pon_cert.specs.Certificate.{RuleHolds, amount, denominator};
 ghost use Rattle.pon_share.specs.Rates.{granted};
@@ -74,9 +74,9 @@ pub(crate) fn grants(
     demands: &[Demand],
     cert: &MapCert,
 ) -> Result<Vec<Granted>, AllocError>
-    requires admitted { IsAdmitted rule_in_force input.now.gap input.now.roster }
+    requires admitted { IsAdmitted input.now.rule input.now.gap input.now.roster }
     requires demands { demands.now ≡ demands_of input.now }
-    requires certified { IsCertified rule_in_force input.now cert.now }
+    requires certified { IsCertified input.now cert.now }
     ensures { IfOk result (λ grants. grants.items
         ≡ granted input.now (surplus_rate input.now cert.now)) }
 {

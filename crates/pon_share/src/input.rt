@@ -4,7 +4,8 @@ use pon_admit::Roster;
 use pon_guar::Loads;
 use std::marker::Model;
 
-/// What the shares of a map are made from: the admitted Alloc-IDs, with the gap before each burst, and their report book.
+/// What the shares of a map are made from: the admitted Alloc-IDs, with their rule and the gap before each burst, and
+/// their report book.
 #[derive(Drop)]
 pub struct ShareInput<'a> {
     pub(crate) roster: &'a Roster,
@@ -16,13 +17,19 @@ impl<'a> Model for ShareInput<'a> {
 
     ghost Value = { Input };
 
-    ghost view = { λ i. record { gap = i.roster.now.gap; roster = i.roster.now.rows; book = i.loads.now.accounts } };
+    ghost view = { λ i. record {
+      rule = i.roster.now.rule;
+      gap = i.roster.now.gap;
+      roster = i.roster.now.rows;
+      book = i.loads.now.accounts;
+    } };
 }
 
 impl<'a> ShareInput<'a> {
     /// The roster and the report book of a port.
     pub fn new(roster: &'a Roster, loads: &'a Loads) -> ShareInput<'a>
         ensures { result ≡ record {
+          rule = roster.now.rule;
           gap = roster.now.gap;
           roster = roster.now.rows;
           book = loads.now.accounts;

@@ -1,7 +1,7 @@
 //! The shares of a map.
 
 ghost use Rattle.std.specs.Prelude.{◌≡◌, IfOk};
-ghost use Rattle.pon_admit.specs.Roster.{IsAdmitted, rule_in_force};
+ghost use Rattle.pon_admit.specs.Roster.{IsAdmitted};
 ghost use Rattle.pon_descr.specs.declared.class.Class.TheVariants.{NonAssured, BestEffort};
 ghost use Rattle.pon_share.specs.Rates.{granted};
 ghost use Rattle.pon_share.specs.Sharing.{IsCertified, member_ids, surplus_rate};
@@ -28,8 +28,8 @@ pub struct Shares {
 /// The shares of the next map: guaranteed rates by the reference model, the fairest share of the rest class by class, and
 /// the whole words of both rates. `Err` only if memory is refused.
 pub fn share(alloc: Global, input: &ShareInput) -> Result<Shares, AllocError>
-    requires admitted { IsAdmitted rule_in_force input.now.gap input.now.roster }
-    ensures certified { IfOk result (λ shares. IsCertified rule_in_force input.now shares.cert) }
+    requires admitted { IsAdmitted input.now.rule input.now.gap input.now.roster }
+    ensures certified { IfOk result (λ shares. IsCertified input.now shares.cert) }
     ensures grants { IfOk result (λ shares. shares.grants.items
         ≡ granted input.now (surplus_rate input.now shares.cert)) }
     ensures na { IfOk result (λ shares. shares.na.items ≡ member_ids NonAssured input.now.roster) }

@@ -1,7 +1,7 @@
 //! How the rate that is not guaranteed is shared, class by class.
 
 ghost use Rattle.std.specs.Prelude.{◌≡◌, ◌*◌, ◌≤◌, IfOk, filter, length, map, sum_by};
-ghost use Rattle.pon_admit.specs.Roster.{IsAdmitted, rule_in_force};
+ghost use Rattle.pon_admit.specs.Roster.{IsAdmitted};
 ghost use Rattle.pon_cert.specs.Problem.{IsProblem};
 ghost use Rattle.pon_cert.specs.Certificate.{IsCertificate, IsMapCertificate};
 ghost use Rattle.pon_share.specs.Sharing.{same_class, surplus};
@@ -17,7 +17,7 @@ use std::alloc::{AllocError, Global};
 
 // The sum of the guaranteed rates.
 fn guaranteed_sum(demands: &[Demand]) -> u64
-    requires { length demands.now ≤ 256 }
+    requires { length demands.now ≤ 512 }
     ensures { result ≡ sum_by (λ d. d.guaranteed) demands.now }
 {
     let mut sum = 0;
@@ -29,9 +29,9 @@ fn guaranteed_sum(demands: &[Demand]) -> u64
 
 /// What the guaranteed rates leave of the capacity, in kbit/s.
 pub(crate) fn surplus(input: &ShareInput, demands: &[Demand]) -> u64
-    requires admitted { IsAdmitted rule_in_force input.now.gap input.now.roster }
+    requires admitted { IsAdmitted input.now.rule input.now.gap input.now.roster }
     requires demands { demands.now ≡ demands_of input.now }
-    ensures { result ≡ surplus rule_in_force input.now }
+    ensures { result ≡ surplus input.now }
 {
     256 * u64::from(input.roster.capacity().get()) - guaranteed_sum(demands)
 }

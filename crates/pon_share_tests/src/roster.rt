@@ -1,5 +1,5 @@
 // Each step with ample memory, at the limits of an admitted set.
-use pon_admit::{Roster, Row};
+use pon_admit::{Roster, Row, Rule};
 use pon_descr::{Class, Descriptor, Refusal};
 use pon_units::{AllocId, Gap, OnuId};
 use std::alloc::Global;
@@ -55,7 +55,7 @@ fn assert_rows(rt: &impl Abort, roster: &Roster, wanted: &[(u16, u16)]) {
 #[test]
 fn opens_with_no_rows(rt: HostRuntime) {
     let roster = open(&rt, rt.alloc(), 16);
-    assert_eq!(rt; roster.gap().get(), 16);
+    assert_eq!(rt; (roster.rule(), roster.gap().get()), (Rule::One, 16));
     assert_eq!(rt; roster.rows().len(), 0);
     assert_eq!(rt; roster.onus(), 0);
     assert_eq!(rt; roster.capacity().get(), 9720);
@@ -135,6 +135,20 @@ fn a_port_has_256_alloc_ids(rt: HostRuntime) {
         );
     }
     assert_eq!(rt; roster.capacity().get(), 9416);
+}
+
+#[test]
+fn the_second_rule_has_512_alloc_ids_of_two_words(rt: HostRuntime) {
+    let mut roster = Roster::open_with(rt.alloc(), gap(&rt, 1), Rule::Two).expect(&rt, "memory");
+    for id in 0..512 {
+        assert_eq!(rt; admit(&rt, &mut roster, id / 16, 1024 + id, 0), Ok(()));
+    }
+    assert_eq!(rt;
+        admit(&rt, &mut roster, 32, 1536, 0),
+        Err(Refusal::TooManyAllocs)
+    );
+    assert_eq!(rt; roster.capacity().get(), 8600);
+    assert_eq!(rt; roster.rule(), Rule::Two);
 }
 
 #[test]

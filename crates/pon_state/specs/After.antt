@@ -8,6 +8,9 @@ use Rattle.pon_guar.specs.Loads.{Loads, after_admitted, after_cleared, after_map
 use Rattle.pon_state.specs.State.{State}
 use Rattle.pon_event.specs.declared.event.Event.{Event}
 use Rattle.pon_event.specs.declared.event.Event.TheVariants.{Admit, Change, Remove, Report, MakeMap, Fail, Restore}
+use Rattle.pon_state.specs.Replay.{grants_of, structures}
+use Rattle.pon_state.specs.declared.reply.Reply.{Reply}
+use Rattle.pon_state.specs.declared.reply.Entry.{Entry}
 
 -- the report book of a state
 abbrev pub loads_of : State → Loads
@@ -16,6 +19,7 @@ loads_of s = record { accounts = s.book; window = s.window }
 -- the parts of a state after one more entry
 abbrev pub with_parts : State → ℕ → Option ℕ → List Row → Loads → State
 with_parts s next cause rows loads = record {
+  rule = s.rule;
   gap = s.gap;
   profile = s.profile;
   next = next;
@@ -55,3 +59,11 @@ after_event s (Report frame onu occ) = after_report s frame onu occ
 after_event s MakeMap = s
 after_event s (Fail cause) = after_cut s (Some cause)
 after_event s Restore = after_cut s None
+
+-- the state after an entry: of a map it takes what the reply grants
+abbrev pub after_reply : State → Event → Reply → State
+after_reply s MakeMap reply = after_map s (grants_of s.roster (structures reply))
+after_reply s event reply = after_event s event
+
+abbrev pub after_entry : State → Entry → State
+after_entry s e = after_reply s e.event e.reply

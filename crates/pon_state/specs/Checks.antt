@@ -1,7 +1,7 @@
 -- The first check that refuses an event.
 use Rattle.std.specs.Prelude.{ℕ, ◌-◌, ◌^◌, ◌||◌, nat_le, length, Option, Some, None}
 use Rattle.pon_descr.specs.Checks.{when, or_else}
-use Rattle.pon_admit.specs.Roster.{rule_in_force, refuses_admit, refuses_change, refuses_remove}
+use Rattle.pon_admit.specs.Roster.{refuses_admit, refuses_change, refuses_remove}
 use Rattle.pon_window.specs.Reports.{refuses_report}
 use Rattle.pon_state.specs.State.{State}
 use Rattle.pon_event.specs.declared.event.Event.{Event}
@@ -27,8 +27,8 @@ when_full kept taken_before = when (nat_le 65536 kept || nat_le (2 ^ 64 - 1) (ta
 
 -- Each event's own checks, in order.
 abbrev pub refuses : State → Event → Option Refusal
-refuses s (Admit onu alloc_id descriptor) = refuses_admit rule_in_force s.gap s.roster (record { onu = onu; alloc_id = alloc_id; descriptor = descriptor })
-refuses s (Change alloc_id descriptor) = refuses_change rule_in_force s.gap s.roster alloc_id descriptor
+refuses s (Admit onu alloc_id descriptor) = refuses_admit s.rule s.gap s.roster (record { onu = onu; alloc_id = alloc_id; descriptor = descriptor })
+refuses s (Change alloc_id descriptor) = refuses_change s.rule s.gap s.roster alloc_id descriptor
 refuses s (Remove alloc_id) = refuses_remove s.roster alloc_id
 refuses s (Report frame onu occ) = or_else (when_down s.cause) (refuses_report s.window frame onu (length occ))
 refuses s MakeMap = or_else (when_down s.cause) (at_limit s.next)

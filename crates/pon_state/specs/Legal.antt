@@ -1,7 +1,6 @@
 -- Which entry may follow in a history.
 use Rattle.std.specs.Prelude.{ℕ, ◌≡◌, None}
 use Rattle.pon_state.specs.State.{State, input_of}
-use Rattle.pon_admit.specs.Roster.{rule_in_force}
 use Rattle.pon_share.specs.Sharing.{IsCertified, surplus_rate}
 use Rattle.pon_share.specs.Maps.{map_of}
 use Rattle.pon_state.specs.Checks.{first_refusal}
@@ -16,7 +15,7 @@ use Rattle.pon_state.specs.declared.reply.Entry.{Entry}
 -- the map that a state makes, under its next frame, with the rates that its certificate spells
 pub record IsMade (s : State) (made : MadeMap) : Type 0 where
   pub frame : made.frame ≡ s.next
-  pub certified : IsCertified rule_in_force (input_of s) made.cert
+  pub certified : IsCertified (input_of s) made.cert
   pub map : made.map ≡ map_of s.profile (input_of s) (surplus_rate (input_of s) made.cert)
 
 -- the replies that a state may give to an event that it takes

@@ -45,6 +45,7 @@ account_after o es i = record { alloc_id = i; since = since_of o es i; counted =
 -- the state that the entries leave
 abbrev pub replay : State → List Entry → State
 replay o es = record {
+  rule = o.rule;
   gap = o.gap;
   profile = o.profile;
   next = next_of o.next es;

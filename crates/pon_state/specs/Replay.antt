@@ -88,13 +88,13 @@ grants_of (r ∷ rows) (a ∷ more) = record { onu = r.onu; alloc_id = r.alloc_i
 grants_of [] more = []
 grants_of (r ∷ rows) [] = []
 
+-- an ONU that the map names already, or that an entry reports for
+abbrev pub has_reported : List Entry → WindowMap → ℕ → Bool
+has_reported es m u = list_any (λ v. v == u) m.reported || list_any (λ e. reports m.frame u e.event) es
+
 -- a map, with the ONUs that later entries report for
 abbrev pub with_reports : List Entry → WindowMap → WindowMap
-with_reports es m = record {
-  frame = m.frame;
-  grants = m.grants;
-  reported = filter (λ u. list_any (λ v. v == u) m.reported || list_any (λ e. reports m.frame u e.event) es) (polled m);
-}
+with_reports es m = record { frame = m.frame; grants = m.grants; reported = filter (has_reported es m) (polled m) }
 
 abbrev pub structures : Reply → List Structure
 structures Taken = []
@@ -116,6 +116,14 @@ maps_of rows next (e ∷ es) = map (with_reports es) (map_made rows next e) ++ m
 abbrev pub all_maps : State → List Entry → List WindowMap
 all_maps o es = map (with_reports es) o.window ++ maps_of o.roster o.next es
 
+-- the next frame at the last Fail or Restore, 0 where none stands in the list
+abbrev pub kept_from : State → List Entry → ℕ
+kept_from o es = frame_at_last (λ e. forgets e.event) 0 o.next es
+
+-- a map that the last Fail or Restore has not forgotten
+abbrev pub is_kept : State → List Entry → WindowMap → Bool
+is_kept o es m = nat_le (kept_from o es) m.frame
+
 -- the last 64 maps after the last Fail or Restore
 abbrev pub window_of : State → List Entry → List WindowMap
-window_of o es = last_64 (filter (λ m. nat_le (frame_at_last (λ e. forgets e.event) 0 o.next es) m.frame) (all_maps o es))
+window_of o es = last_64 (filter (is_kept o es) (all_maps o es))

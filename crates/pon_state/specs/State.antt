@@ -1,11 +1,14 @@
 -- The state of a port.
 use Rattle.std.specs.Prelude.{ℕ, List, [], Option, None}
 use Rattle.pon_admit.specs.declared.row.Row.{Row}
+use Rattle.pon_admit.specs.declared.rule.Rule.{Rule}
+use Rattle.pon_admit.specs.Roster.{rule_in_force}
 use Rattle.pon_guar.specs.declared.account.Account.{Account}
 use Rattle.pon_window.specs.Window.{WindowMap}
 use Rattle.pon_share.specs.Input.{Input}
 
 pub record State : Type 0 where
+  pub rule : Rule  -- the rule that the port is under
   pub gap : ℕ
   pub profile : ℕ
   pub next : ℕ  -- the next frame
@@ -17,8 +20,22 @@ pub record State : Type 0 where
 
 -- what the shares of the next map are made from
 abbrev pub input_of : State → Input
-input_of s = record { gap = s.gap; roster = s.roster; book = s.book }
+input_of s = record { rule = s.rule; gap = s.gap; roster = s.roster; book = s.book }
 
--- a port just opened: no rows, no window, not failed, nothing taken before
+-- a port just opened under a rule: no rows, no window, not failed, nothing taken before
+abbrev pub opened_under : Rule → ℕ → ℕ → ℕ → State
+opened_under rule gap profile first = record {
+  rule = rule;
+  gap = gap;
+  profile = profile;
+  next = first;
+  cause = None;
+  taken_before = 0;
+  roster = [];
+  book = [];
+  window = [];
+}
+
+-- a port just opened under the rule in force
 abbrev pub just_opened : ℕ → ℕ → ℕ → State
-just_opened gap profile first = record { gap = gap; profile = profile; next = first; cause = None; taken_before = 0; roster = []; book = []; window = [] }
+just_opened gap profile first = opened_under rule_in_force gap profile first

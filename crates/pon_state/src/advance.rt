@@ -3,7 +3,7 @@
 ghost use Rattle.std.specs.Prelude.{◌≡◌, ◌==◌, ◌+◌, ◌<◌, ◌^◌, false, None, Some, length, OnOk, OnErr};
 ghost use Rattle.std.specs.List.{list_any};
 ghost use Rattle.pon_units.specs.Granted.{AreInMapOrder};
-ghost use Rattle.pon_admit.specs.Roster.{refuses_admit, refuses_change, refuses_remove, rule_in_force};
+ghost use Rattle.pon_admit.specs.Roster.{refuses_admit, refuses_change, refuses_remove};
 ghost use Rattle.pon_guar.specs.Book.{AreRising, alloc_ids};
 ghost use Rattle.pon_window.specs.Window.{LeadsTo};
 ghost use Rattle.pon_window.specs.Reports.{refuses_report};
@@ -39,7 +39,7 @@ pub fn add_map(state: &mut PortState, grants: &[Granted]) -> Result<(), AllocErr
 
 // Admits a row that no check refuses; `Err` if memory is refused, and then the state is as it was.
 fn admit_row(state: &mut PortState, row: &Row) -> Result<(), AllocError>
-    requires accepted { refuses_admit rule_in_force state.old.gap state.old.roster row.now ≡ None }
+    requires accepted { refuses_admit state.old.rule state.old.gap state.old.roster row.now ≡ None }
     requires rising { AreRising (alloc_ids state.old.book) }
     requires free { list_any (λ j. j == row.now.alloc_id) (alloc_ids state.old.book) ≡ false }
     requires count { state.old.taken_before + 1 < 2 ^ 64 }
@@ -63,7 +63,7 @@ fn admit_row(state: &mut PortState, row: &Row) -> Result<(), AllocError>
 
 // Gives an Alloc-ID another descriptor that no check refuses.
 fn change_row(state: &mut PortState, alloc_id: AllocId, descriptor: Descriptor)
-    requires accepted { refuses_change rule_in_force state.old.gap state.old.roster alloc_id
+    requires accepted { refuses_change state.old.rule state.old.gap state.old.roster alloc_id
         descriptor ≡ None }
     requires count { state.old.taken_before + 1 < 2 ^ 64 }
     ensures { state.new ≡ after_change state.old alloc_id descriptor }

@@ -1,7 +1,7 @@
 //! The map that a state makes.
 
 ghost use Rattle.std.specs.Prelude.{◌≡◌, IfOk};
-ghost use Rattle.pon_admit.specs.Roster.{IsAdmitted, rule_in_force};
+ghost use Rattle.pon_admit.specs.Roster.{IsAdmitted};
 ghost use Rattle.pon_units.specs.Granted.{AreInMapOrder};
 ghost use Rattle.pon_descr.specs.declared.class.Class.TheVariants.{NonAssured, BestEffort};
 ghost use Rattle.pon_share.specs.Sharing.{member_ids};
@@ -25,7 +25,7 @@ pub struct ReadyMap {
 
 /// The next map under the state's next frame, with its certificate. `Err` only if memory is refused.
 pub fn next_map(alloc: Global, state: &PortState) -> Result<ReadyMap, AllocError>
-    requires admitted { IsAdmitted rule_in_force state.now.gap state.now.roster }
+    requires admitted { IsAdmitted state.now.rule state.now.gap state.now.roster }
     ensures made { IfOk result (λ next. IsMade state.now next.made) }
     ensures map_order { IfOk result (λ next. AreInMapOrder next.grants.items) }
     ensures grants { IfOk result (λ next. next.grants.items

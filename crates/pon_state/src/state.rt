@@ -14,7 +14,7 @@ pub struct PortCfg {
     pub profile: Profile,
 }
 
-/// The state of a port: configuration, next frame, cause of failure, roster, report book and window.
+/// The state of a port: rule, configuration, next frame, cause of failure, roster, report book and window.
 #[derive(Drop)]
 pub struct PortState {
     pub(crate) profile: Profile,
@@ -31,6 +31,7 @@ impl Model for PortState {
     ghost Value = { State };
 
     ghost view = { λ a. record {
+      rule = a.roster.rule;
       gap = a.roster.gap;
       profile = a.profile;
       next = a.next;
@@ -60,6 +61,20 @@ impl PortState {
         })
     }
 
+    /// An equal state. `Err` only if memory is refused.
+    pub fn try_copy(&self, alloc: Global) -> Result<PortState, AllocError>
+        ensures { IfOk result (λ state. state ≡ self.now) }
+    {
+        Ok(PortState {
+            profile: self.profile,
+            next: self.next,
+            cause: self.cause,
+            taken_before: self.taken_before,
+            roster: self.roster.try_copy(alloc)?,
+            loads: self.loads.try_copy(alloc)?,
+        })
+    }
+
     /// What the port was opened with.
     pub fn cfg(&self) -> PortCfg
         ensures gap { result.gap ≡ self.now.gap }
@@ -71,8 +86,9 @@ impl PortState {
         }
     }
 
-    /// The admitted Alloc-IDs, with the gap before each burst.
+    /// The admitted Alloc-IDs, with their rule and the gap before each burst.
     pub fn roster(&self) -> &Roster
+        ensures rule { result.now.rule ≡ self.now.rule }
         ensures gap { result.now.gap ≡ self.now.gap }
         ensures rows { result.now.rows ≡ self.now.roster }
     {

@@ -112,6 +112,12 @@ fn maps_what_is_admitted(rt: HostRuntime) {
         assert_made(&rt, &copy, frame, rows.as_slice());
     }
     assert_eq!(rt; shown(&port), (3, 3, 2));
+    assert_eq!(rt; port.chapter_number(), 0);
+    let first = port.history().first().expect(&rt, "an entry");
+    assert_eq!(rt; first.event.copy(), admission(&rt, 1024, 2560));
+    let state = port.state().try_copy(rt.alloc()).expect(&rt, "memory");
+    assert_eq!(rt; (state.taken_before(), state.next_frame().get()), (3, 2));
+    assert_eq!(rt; state.roster().rows().len(), 1);
 }
 
 #[test]

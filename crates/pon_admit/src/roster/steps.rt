@@ -4,9 +4,9 @@ ghost use Rattle.std.specs.List.{insert, remove};
 ghost use Rattle.pon_descr.specs.Checks.{IsTold};
 ghost use Rattle.pon_descr.specs.Descriptor.{IsLawful};
 ghost use Rattle.pon_admit.specs.Kept.{AreSums};
-ghost use Rattle.pon_admit.specs.Roster.{refuses_admit, refuses_change, refuses_remove, rule_in_force, with_descriptor, with_row, without};
+ghost use Rattle.pon_admit.specs.Roster.{refuses_admit, refuses_change, refuses_remove, with_descriptor, with_row, without};
 
-use super::{LONGEST_SERIES, MOST_ALLOCS, MOST_ONUS, Roster};
+use super::{LONGEST_SERIES, MOST_ONUS, Roster};
 use crate::row::Row;
 use crate::search::{count_owned, look_through, place_of};
 use crate::sums::{fits, rate};
@@ -25,9 +25,9 @@ impl Roster {
     // Where a row goes in, or the first check that refuses it.
     fn admission(&self, row: &Row) -> Result<Step, Refusal>
         ensures accepted { OnOk result
-            (refuses_admit rule_in_force self.now.gap self.now.rows row.now ≡ None) }
+            (refuses_admit self.now.rule self.now.gap self.now.rows row.now ≡ None) }
         ensures refused { IfErr result
-            (λ told. refuses_admit rule_in_force self.now.gap self.now.rows row.now ≡ Some told) }
+            (λ told. refuses_admit self.now.rule self.now.gap self.now.rows row.now ≡ Some told) }
         ensures room { IfOk result (λ step. step.place ≤ length self.now.rows) }
         ensures place { IfOk result (λ step. insert self.now.rows step.place row.now
             ≡ with_row row.now self.now.rows) }
@@ -36,10 +36,11 @@ impl Roster {
     {
         let seen = look_through(&self.rows, row);
         let allocs = self.rows.len();
+        let most = self.rule.most_allocs();
         if seen.taken {
             return Err(Refusal::AllocTaken);
         }
-        if allocs >= MOST_ALLOCS {
+        if allocs >= most {
             return Err(Refusal::TooManyAllocs);
         }
         let onus = self.onus + usize::from(seen.owned == 0);
@@ -50,7 +51,7 @@ impl Roster {
             return Err(Refusal::SeriesFull);
         }
         let promised = rate(self.promised.get() + row.descriptor.promised().get());
-        if !fits(self.gap, onus, allocs + 1, promised) {
+        if !fits(self.rule, self.gap, onus, allocs + 1, promised) {
             return Err(Refusal::Capacity);
         }
         Ok(Step {
@@ -63,10 +64,10 @@ impl Roster {
     // Where a descriptor is replaced, or the first check that refuses it.
     fn alteration(&self, alloc_id: AllocId, descriptor: &Descriptor) -> Result<Step, Refusal>
         ensures accepted { OnOk result
-            (refuses_change rule_in_force self.now.gap self.now.rows alloc_id descriptor.now
+            (refuses_change self.now.rule self.now.gap self.now.rows alloc_id descriptor.now
             ≡ None) }
         ensures refused { IfErr result
-            (λ told. refuses_change rule_in_force self.now.gap self.now.rows alloc_id descriptor.now
+            (λ told. refuses_change self.now.rule self.now.gap self.now.rows alloc_id descriptor.now
             ≡ Some told) }
         ensures room { IfOk result (λ step. step.place < length self.now.rows) }
         ensures place { IfOk result (λ step. position (λ r. r.alloc_id == alloc_id) self.now.rows
@@ -80,7 +81,7 @@ impl Roster {
         };
         let former = self.rows[place].descriptor.promised();
         let promised = rate(self.promised.get() - former.get() + descriptor.promised().get());
-        if !fits(self.gap, self.onus, self.rows.len(), promised) {
+        if !fits(self.rule, self.gap, self.onus, self.rows.len(), promised) {
             return Err(Refusal::Capacity);
         }
         Ok(Step {
@@ -113,10 +114,10 @@ impl Roster {
     }
 
     /// What refuses the admission of a row, memory aside: the first of `AllocTaken` (the Alloc-ID is there, whatever its
-    /// ONU), `TooManyAllocs` (there are 256 rows), `TooManyOnus` (128 ONUs own rows, and this is none of them),
-    /// `SeriesFull` (the ONU owns 16 rows) and `Capacity` (the set with the row would not fit a frame).
+    /// ONU), `TooManyAllocs` (there are as many rows as the rule allows), `TooManyOnus` (128 ONUs own rows, and this is
+    /// none of them), `SeriesFull` (the ONU owns 16 rows) and `Capacity` (the set with the row would not fit a frame).
     pub fn admit_refusal(&self, row: &Row) -> Option<Refusal>
-        ensures { result ≡ refuses_admit rule_in_force self.now.gap self.now.rows row.now }
+        ensures { result ≡ refuses_admit self.now.rule self.now.gap self.now.rows row.now }
     {
         self.admission(row).err()
     }
@@ -124,7 +125,7 @@ impl Roster {
     /// What refuses a new descriptor: the first of `NoSuchAlloc` (the Alloc-ID is not there) and `Capacity` (the set with
     /// the descriptor would not fit a frame).
     pub fn change_refusal(&self, alloc_id: AllocId, descriptor: &Descriptor) -> Option<Refusal>
-        ensures { result ≡ refuses_change rule_in_force self.now.gap self.now.rows alloc_id
+        ensures { result ≡ refuses_change self.now.rule self.now.gap self.now.rows alloc_id
             descriptor.now }
     {
         self.alteration(alloc_id, descriptor).err()
@@ -149,14 +150,15 @@ impl Roster {
     ) -> Result<(), Refusal>
         ensures ok { OnOk result
             (self.new ≡ record {
+              rule = self.old.rule;
               gap = self.old.gap;
               rows = with_row
                   (record { onu = onu; alloc_id = alloc_id; descriptor = descriptor }) self.old.rows;
             }) }
-        ensures accepted { OnOk result (refuses_admit rule_in_force self.old.gap self.old.rows
+        ensures accepted { OnOk result (refuses_admit self.old.rule self.old.gap self.old.rows
             (record { onu = onu; alloc_id = alloc_id; descriptor = descriptor }) ≡ None) }
         ensures refused { IfErr result (λ told. IsTold
-            (refuses_admit rule_in_force self.old.gap self.old.rows
+            (refuses_admit self.old.rule self.old.gap self.old.rows
             (record { onu = onu; alloc_id = alloc_id; descriptor = descriptor })) told) }
         ensures err { OnErr result (self.new ≡ self.old) }
     {
@@ -179,13 +181,14 @@ impl Roster {
     pub fn change(&mut self, alloc_id: AllocId, descriptor: Descriptor) -> Result<(), Refusal>
         ensures ok { OnOk result
             (self.new ≡ record {
+              rule = self.old.rule;
               gap = self.old.gap;
               rows = with_descriptor alloc_id descriptor self.old.rows;
             }) }
         ensures accepted { OnOk result
-            (refuses_change rule_in_force self.old.gap self.old.rows alloc_id descriptor ≡ None) }
+            (refuses_change self.old.rule self.old.gap self.old.rows alloc_id descriptor ≡ None) }
         ensures refused { IfErr result
-            (λ told. refuses_change rule_in_force self.old.gap self.old.rows alloc_id descriptor
+            (λ told. refuses_change self.old.rule self.old.gap self.old.rows alloc_id descriptor
             ≡ Some told) }
         ensures err { OnErr result (self.new ≡ self.old) }
     {
@@ -201,7 +204,11 @@ impl Roster {
     /// Refused as [`Roster::remove_refusal`] tells, and then the roster stays as it was. It takes no memory.
     pub fn remove(&mut self, alloc_id: AllocId) -> Result<(), Refusal>
         ensures ok { OnOk result
-            (self.new ≡ record { gap = self.old.gap; rows = without alloc_id self.old.rows }) }
+            (self.new ≡ record {
+              rule = self.old.rule;
+              gap = self.old.gap;
+              rows = without alloc_id self.old.rows;
+            }) }
         ensures accepted { OnOk result (refuses_remove self.old.rows alloc_id ≡ None) }
         ensures refused { IfErr result (λ told. refuses_remove self.old.rows alloc_id ≡ Some told) }
         ensures err { OnErr result (self.new ≡ self.old) }

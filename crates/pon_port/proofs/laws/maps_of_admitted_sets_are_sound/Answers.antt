@@ -2,4 +2,4 @@ use Rattle.pon_share.proofs.RosterMaps.{admitted_map_is_sound}
 use Rattle.pon_port.proofs.laws.maps_of_admitted_sets_are_sound.Goals as goal
 
 pub returns : goal.returns
-returns c = λ s rule cert profile one k certified. admitted_map_is_sound s rule cert k certified one profile
+returns c = λ s cert profile k certified. admitted_map_is_sound s cert k certified profile

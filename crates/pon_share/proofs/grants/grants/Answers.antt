@@ -1,6 +1,5 @@
 use Rattle.std.proofs.Common.{ap, arith, refl, sym, subst, ℕ}
 use Rattle.pon_descr.specs.declared.class.Class.TheVariants.{NonAssured, BestEffort}
-use Rattle.pon_admit.specs.Roster.{rule_in_force}
 use Rattle.pon_cert.specs.Certificate.{RuleHolds, left_surplus}
 use Rattle.pon_share.specs.Sharing.{items, same_class, surplus}
 use Rattle.pon_share.proofs.Dealing.{dealt_all, dealt_be, dealt_na, dealt_none, dealt_plain, denominator_range, flag_is, has_flag, item_at, rates_at, row_at, rule_at}
@@ -14,41 +13,41 @@ loop-demand-init c =
 pub first_of-saturated-requires : goal.first_of-saturated-requires
 first_of-saturated-requires c =
     let at = row_at c.args.input.now c.args.demands.now c.demand-item.result c.loop-demand.demand-index c.requires.demands c.loop-demand-test.true c.demand-item.is in
-    has_flag c.args.input.now NonAssured c.args.cert.now.na (surplus rule_in_force c.args.input.now) c.requires.admitted c.requires.certified.non_assured refl
+    has_flag c.args.input.now NonAssured c.args.cert.now.na (surplus c.args.input.now) c.requires.admitted c.requires.certified.non_assured refl
     c.demand-item.result c.loop-demand.demand-index at (ap (λ k. same_class k NonAssured) c.in-NonAssured.is) c.loop-demand.na.now c.loop-demand.invariant.na
 
 pub first_of-saturated-requires-in-BestEffort : goal.first_of-saturated-requires-in-BestEffort
 first_of-saturated-requires-in-BestEffort c =
     let at = row_at c.args.input.now c.args.demands.now c.demand-item.result c.loop-demand.demand-index c.requires.demands c.loop-demand-test.true c.demand-item.is in
-    has_flag c.args.input.now BestEffort c.args.cert.now.be (left_surplus c.args.cert.now.na.level (items NonAssured c.args.input.now) (surplus rule_in_force c.args.input.now)) c.requires.admitted c.requires.certified.best_effort refl
+    has_flag c.args.input.now BestEffort c.args.cert.now.be (left_surplus c.args.cert.now.na.level (items NonAssured c.args.input.now) (surplus c.args.input.now)) c.requires.admitted c.requires.certified.best_effort refl
     c.demand-item.result c.loop-demand.demand-index at (ap (λ k. same_class k BestEffort) c.in-BestEffort.is) c.loop-demand.be.now c.loop-demand.invariant.be
 
 pub share-surplus-requires-clause-item : goal.share-surplus-requires-clause-item
 share-surplus-requires-clause-item c =
     let at = row_at c.args.input.now c.args.demands.now c.demand-item.result c.loop-demand.demand-index c.requires.demands c.loop-demand-test.true c.demand-item.is in
-    item_at c.args.input.now NonAssured c.args.cert.now.na (surplus rule_in_force c.args.input.now) c.requires.admitted c.requires.certified.non_assured refl
+    item_at c.args.input.now NonAssured c.args.cert.now.na (surplus c.args.input.now) c.requires.admitted c.requires.certified.non_assured refl
     c.demand-item.result c.loop-demand.demand-index at (ap (λ k. same_class k NonAssured) c.in-NonAssured.is)
 
 pub share-surplus-requires-in-BestEffort-clause-item : goal.share-surplus-requires-in-BestEffort-clause-item
 share-surplus-requires-in-BestEffort-clause-item c =
     let at = row_at c.args.input.now c.args.demands.now c.demand-item.result c.loop-demand.demand-index c.requires.demands c.loop-demand-test.true c.demand-item.is in
-    item_at c.args.input.now BestEffort c.args.cert.now.be (left_surplus c.args.cert.now.na.level (items NonAssured c.args.input.now) (surplus rule_in_force c.args.input.now)) c.requires.admitted c.requires.certified.best_effort refl
+    item_at c.args.input.now BestEffort c.args.cert.now.be (left_surplus c.args.cert.now.na.level (items NonAssured c.args.input.now) (surplus c.args.input.now)) c.requires.admitted c.requires.certified.best_effort refl
     c.demand-item.result c.loop-demand.demand-index at (ap (λ k. same_class k BestEffort) c.in-BestEffort.is)
 
 pub share-surplus-requires-clause-rule : goal.share-surplus-requires-clause-rule
 share-surplus-requires-clause-rule c =
     let at = row_at c.args.input.now c.args.demands.now c.demand-item.result c.loop-demand.demand-index c.requires.demands c.loop-demand-test.true c.demand-item.is in
     let own = ap (λ k. same_class k NonAssured) c.in-NonAssured.is in
-    let flag = flag_is c.args.input.now NonAssured c.args.cert.now.na (surplus rule_in_force c.args.input.now) c.requires.admitted c.requires.certified.non_assured refl
+    let flag = flag_is c.args.input.now NonAssured c.args.cert.now.na (surplus c.args.input.now) c.requires.admitted c.requires.certified.non_assured refl
     c.demand-item.result c.loop-demand.demand-index at own c.loop-demand.na.now c.first_of-saturated.result.1.now c.first_of-saturated.result.0 c.loop-demand.invariant.na c.first_of-saturated.ensures in
     subst (RuleHolds c.args.cert.now.na.level c.demand-item.result.item) (sym flag.0)
-    (rule_at c.args.input.now NonAssured c.args.cert.now.na (surplus rule_in_force c.args.input.now) c.requires.admitted c.requires.certified.non_assured refl c.demand-item.result c.loop-demand.demand-index at own)
+    (rule_at c.args.input.now NonAssured c.args.cert.now.na (surplus c.args.input.now) c.requires.admitted c.requires.certified.non_assured refl c.demand-item.result c.loop-demand.demand-index at own)
 
 pub share-surplus-requires-in-BestEffort-clause-rule : goal.share-surplus-requires-in-BestEffort-clause-rule
 share-surplus-requires-in-BestEffort-clause-rule c =
     let at = row_at c.args.input.now c.args.demands.now c.demand-item.result c.loop-demand.demand-index c.requires.demands c.loop-demand-test.true c.demand-item.is in
     let own = ap (λ k. same_class k BestEffort) c.in-BestEffort.is in
-    let left : ℕ = left_surplus c.args.cert.now.na.level (items NonAssured c.args.input.now) (surplus rule_in_force c.args.input.now) in
+    let left : ℕ = left_surplus c.args.cert.now.na.level (items NonAssured c.args.input.now) (surplus c.args.input.now) in
     let flag = flag_is c.args.input.now BestEffort c.args.cert.now.be left c.requires.admitted c.requires.certified.best_effort refl
     c.demand-item.result c.loop-demand.demand-index at own c.loop-demand.be.now c.first_of-saturated-in-BestEffort.result.1.now c.first_of-saturated-in-BestEffort.result.0 c.loop-demand.invariant.be c.first_of-saturated-in-BestEffort.ensures in
     subst (RuleHolds c.args.cert.now.be.level c.demand-item.result.item) (sym flag.0)
@@ -56,11 +55,11 @@ share-surplus-requires-in-BestEffort-clause-rule c =
 
 pub share-surplus-requires-clause-denominator : goal.share-surplus-requires-clause-denominator
 share-surplus-requires-clause-denominator c =
-    denominator_range c.args.input.now NonAssured c.args.cert.now.na (surplus rule_in_force c.args.input.now) c.requires.admitted c.requires.certified.non_assured refl
+    denominator_range c.args.input.now NonAssured c.args.cert.now.na (surplus c.args.input.now) c.requires.admitted c.requires.certified.non_assured refl
 
 pub share-surplus-requires-in-BestEffort-clause-denominator : goal.share-surplus-requires-in-BestEffort-clause-denominator
 share-surplus-requires-in-BestEffort-clause-denominator c =
-    let left : ℕ = left_surplus c.args.cert.now.na.level (items NonAssured c.args.input.now) (surplus rule_in_force c.args.input.now) in
+    let left : ℕ = left_surplus c.args.cert.now.na.level (items NonAssured c.args.input.now) (surplus c.args.input.now) in
     denominator_range c.args.input.now BestEffort c.args.cert.now.be left c.requires.admitted c.requires.certified.best_effort refl
 
 pub grant-requires : goal.grant-requires
@@ -81,13 +80,13 @@ loop-demand-preserved c =
           (dealt_plain c.args.input.now c.args.cert.now c.demand-item.result c.loop-demand.demand-index at c.loop-demand.grants.items c.loop-demand.na.now c.loop-demand.be.now c.grant.result
           c.loop-demand.invariant w.in-Plain.is (rw w.surplus-is at c.grant.ensures))
       | in-NonAssured w ↦
-          let flag = flag_is c.args.input.now NonAssured c.args.cert.now.na (surplus rule_in_force c.args.input.now) c.requires.admitted c.requires.certified.non_assured refl
+          let flag = flag_is c.args.input.now NonAssured c.args.cert.now.na (surplus c.args.input.now) c.requires.admitted c.requires.certified.non_assured refl
           c.demand-item.result c.loop-demand.demand-index at (ap (λ k. same_class k NonAssured) w.in-NonAssured.is) c.loop-demand.na.now w.first_of-saturated.result.1.now w.first_of-saturated.result.0 c.loop-demand.invariant.na w.first_of-saturated.ensures in
           rw (w.na-is, w.be-is, c.in_ok-push.ensures.items)
           (dealt_na c.args.input.now c.args.cert.now c.demand-item.result c.loop-demand.demand-index at c.loop-demand.grants.items c.loop-demand.na.now c.loop-demand.be.now w.first_of-saturated.result.1.now w.first_of-saturated.result.0 w.share-surplus.result c.grant.result
           c.loop-demand.invariant w.in-NonAssured.is flag w.share-surplus.ensures.value (rw w.surplus-is at c.grant.ensures))
       | in-BestEffort w ↦
-          let left : ℕ = left_surplus c.args.cert.now.na.level (items NonAssured c.args.input.now) (surplus rule_in_force c.args.input.now) in
+          let left : ℕ = left_surplus c.args.cert.now.na.level (items NonAssured c.args.input.now) (surplus c.args.input.now) in
           let flag = flag_is c.args.input.now BestEffort c.args.cert.now.be left c.requires.admitted c.requires.certified.best_effort refl
           c.demand-item.result c.loop-demand.demand-index at (ap (λ k. same_class k BestEffort) w.in-BestEffort.is) c.loop-demand.be.now w.first_of-saturated-in-BestEffort.result.1.now w.first_of-saturated-in-BestEffort.result.0 c.loop-demand.invariant.be w.first_of-saturated-in-BestEffort.ensures in
           rw (w.na-is, w.be-is, c.in_ok-push.ensures.items)

@@ -1,6 +1,5 @@
 use Rattle.std.proofs.Common.{◌≡◌, ◌∙◌, refl}
 use Rattle.pon_descr.specs.declared.class.Class.TheVariants.{NonAssured, BestEffort}
-use Rattle.pon_admit.specs.Roster.{rule_in_force}
 use Rattle.pon_share.specs.Sharing.{items, surplus}
 use Rattle.pon_share.proofs.Dealing.{certified_of, ids_demanded, items_demanded, problem_of, surplus_range}
 use Rattle.pon_share.proofs.shares.share.Goals as goal
@@ -10,14 +9,14 @@ map_cert-requires-clause-non_assured c =
     let shared : c.as_slice-4.result.now ≡ items NonAssured c.args.input.now
     = c.as_slice-4.ensures.value ∙ c.in_ok-na.ensures.items ∙ items_demanded c.args.input.now NonAssured c.as_slice.result.now (c.as_slice.ensures.value ∙ c.in_ok-demands.ensures) in
     rw (shared, c.surplus-surplus.ensures)
-    (problem_of c.args.input.now NonAssured (surplus rule_in_force c.args.input.now) refl c.requires.admitted.few_allocs c.requires.admitted.in_range (surplus_range c.args.input.now))
+    (problem_of c.args.input.now NonAssured (surplus c.args.input.now) refl c.requires.admitted.few_allocs c.requires.admitted.in_range (surplus_range c.args.input.now))
 
 pub map_cert-requires-clause-best_effort : goal.map_cert-requires-clause-best_effort
 map_cert-requires-clause-best_effort c =
     let shared : c.as_slice-5.result.now ≡ items BestEffort c.args.input.now
     = c.as_slice-5.ensures.value ∙ c.in_ok-be.ensures.items ∙ items_demanded c.args.input.now BestEffort c.as_slice-2.result.now (c.as_slice-2.ensures.value ∙ c.in_ok-demands.ensures) in
     rw (shared, c.surplus-surplus.ensures)
-    (problem_of c.args.input.now BestEffort (surplus rule_in_force c.args.input.now) refl c.requires.admitted.few_allocs c.requires.admitted.in_range (surplus_range c.args.input.now))
+    (problem_of c.args.input.now BestEffort (surplus c.args.input.now) refl c.requires.admitted.few_allocs c.requires.admitted.in_range (surplus_range c.args.input.now))
 
 pub grants-requires-clause-certified : goal.grants-requires-clause-certified
 grants-requires-clause-certified c =

@@ -16,6 +16,7 @@ returns-then-is_err-2-clause-err c =
     let free : list_any (λ j. j == alloc_id) (alloc_ids state.loads.accounts) ≡ false = subst (λ s. list_any (λ j. j == alloc_id) (alloc_ids s.book) ≡ false) (sym c.state.view_is) c.requires.free in
     let loads = c.removed.ensures ∙ ap (λ l. after_removed l alloc_id) added ∙ undone state.loads alloc_id state.next rising free in
     (λ j. record {
+      rule = (roster j).rule;
       gap = (roster j).gap;
       profile = state.profile;
       next = state.next;

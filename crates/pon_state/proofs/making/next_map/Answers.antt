@@ -1,5 +1,4 @@
-use Rattle.std.proofs.Common.{◌≡◌, ◌∙◌, ap, arith, rules, subst}
-use Rattle.pon_admit.specs.Roster.{rule_in_force}
+use Rattle.std.proofs.Common.{◌≡◌, ◌∙◌, ap, rules, subst}
 use Rattle.pon_share.specs.Maps.{map_of}
 use Rattle.pon_share.specs.Rates.{granted}
 use Rattle.pon_share.specs.Sharing.{IsCertified, surplus_rate}
@@ -13,10 +12,10 @@ pack_grants-requires c =
     let input = input_of c.args.state.now in
     let cert = c.in_ok-shares.shares.cert in
     let read : c.new.result ≡ input = c.new.ensures ∙ ap input_of c.state.view_is in
-    let certified : IsCertified rule_in_force input cert = subst (λ i. IsCertified rule_in_force i cert) read c.in_ok-shares.ensures.certified in
+    let certified : IsCertified input cert = subst (λ i. IsCertified i cert) read c.in_ok-shares.ensures.certified in
     let gap : c.gap.result ≡ input.gap = c.gap.ensures ∙ ap (λ s. s.gap) c.state.view_is in
     let grants : c.deref.result.now ≡ granted input (surplus_rate input cert) = c.deref.ensures.value ∙ c.in_ok-shares.ensures.grants ∙ ap (λ i. granted i (surplus_rate i cert)) read in
-    rw (gap, grants) (one_map input rule_in_force cert c.requires.admitted certified (omega arith) (omega arith))
+    rw (gap, grants) (one_map input cert c.requires.admitted certified)
 
 pub returns-clause-map_order : goal.returns-clause-map_order
 returns-clause-map_order c =

@@ -12,4 +12,4 @@ pub returns-clause-ok : goal.returns-clause-ok
 returns-clause-ok c =
     let rows = replaced c.args.alloc_id c.in_ok-step.step.place c.args.descriptor c.index_mut.result.now c.self.invariant c.self.view_is c.in_ok-step.ensures.place c.in_ok-step.ensures.room c.index_mut.ensures.value
     ∙ ap (λ t. with_descriptor c.args.alloc_id c.args.descriptor t.rows) c.self.view_is in
-    (λ j. record { gap = (c.self.view_is j).gap; rows = rows j })
+    (λ j. record { rule = (c.self.view_is j).rule; gap = (c.self.view_is j).gap; rows = rows j })

@@ -12,8 +12,8 @@ use Rattle.pon_port.proofs.port.Port.make_map.Goals as goal
 
 pub invariant_of-self-2 : goal.invariant_of-self-2
 invariant_of-self-2 c =
-    let old : Chapter = record { number = 0; opening = c.self.inside.opening; entries = c.self.inside.entries.items } in
-    let new : Chapter = record { number = 0; opening = c.self.inside.opening; entries = c.push.new.self.items } in
+    let old : Chapter = record { number = c.self.inside.number; opening = c.self.inside.opening; entries = c.self.inside.entries.items } in
+    let new : Chapter = record { number = c.self.inside.number; opening = c.self.inside.opening; entries = c.push.new.self.items } in
     let made : IsMade c.self.inside.state c.in-Ok-try_copy.kept = search rules in
     let more : new ≡ with_entry old MakeMap (Map c.in-Ok-try_copy.kept) = search rules in
     record {
@@ -23,8 +23,8 @@ invariant_of-self-2 c =
 
 pub returns-clause-ok : goal.returns-clause-ok
 returns-clause-ok c =
-    let old : Chapter = record { number = 0; opening = c.self.inside.opening; entries = c.self.inside.entries.items } in
-    let new : Chapter = record { number = 0; opening = c.self.inside.opening; entries = c.push.new.self.items } in
+    let old : Chapter = record { number = c.self.inside.number; opening = c.self.inside.opening; entries = c.self.inside.entries.items } in
+    let new : Chapter = record { number = c.self.inside.number; opening = c.self.inside.opening; entries = c.push.new.self.items } in
     subst (λ old. Takes old MakeMap (Map c.in-Ok.next.made) new) c.self.view_is
     (map_taken old new c.self.inside.state c.in-Ok.next.made c.in-Ok-try_copy.kept c.self.invariant.kept (search rules) (search rules) (search rules) (search rules))
 
@@ -33,7 +33,7 @@ add_map-requires-clause-frames c = kept_frames _ c.self.inside.state c.self.inva
 
 pub returns-clause-fair : goal.returns-clause-fair
 returns-clause-fair c =
-    let old : Chapter = record { number = 0; opening = c.self.inside.opening; entries = c.self.inside.entries.items } in
+    let old : Chapter = record { number = c.self.inside.number; opening = c.self.inside.opening; entries = c.self.inside.entries.items } in
     let made : IsMade c.self.inside.state c.in-Ok.next.made = search rules in
     let fair : IsFairMap (present_state old) c.in-Ok.next.made = subst (λ s. IsFairMap s c.in-Ok.next.made) c.self.invariant.kept.replayed (fair_map c.self.inside.state c.self.invariant.kept.admitted c.in-Ok.next.made made) in
     subst (λ old. IsFairMap (present_state old) c.in-Ok.next.made) c.self.view_is fair

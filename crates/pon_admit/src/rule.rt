@@ -1,0 +1,38 @@
+// What a rule sets aside and allows.
+ghost use Rattle.std.specs.Prelude.{◌≡◌, ◌*◌, ◌≤◌};
+ghost use Rattle.pon_admit.specs.Roster.{most_allocs, overhead_words};
+
+/// What a version of the product sets aside for each Alloc-ID, and how many Alloc-IDs a port may have. A roster keeps the
+/// rule that it was opened with.
+#[derive(Clone, Copy, Debug, PartialEq, Eq)]
+pub enum Rule {
+    /// At most 256 Alloc-IDs of a port, and one word of overhead for each: its report.
+    One,
+    /// At most 512 Alloc-IDs of a port, and two words of overhead for each.
+    Two,
+}
+
+impl Rule {
+    /// The most Alloc-IDs of a port: 256 or 512.
+    pub fn most_allocs(self) -> usize
+        ensures value { result ≡ most_allocs self }
+        ensures range { result ≤ 512 }
+    {
+        match self {
+            Rule::One => 256,
+            Rule::Two => 512,
+        }
+    }
+
+    /// The words of a frame that are set aside for this number of Alloc-IDs.
+    pub(crate) fn overhead(self, allocs: usize) -> usize
+        requires { allocs ≤ most_allocs self }
+        ensures value { result ≡ overhead_words self * allocs }
+        ensures range { result ≤ 1024 }
+    {
+        match self {
+            Rule::One => allocs,
+            Rule::Two => 2 * allocs,
+        }
+    }
+}
