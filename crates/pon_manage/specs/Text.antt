@@ -3,7 +3,7 @@ use Rattle.std.specs.Prelude.{ℕ, ◌≡◌, ◌*◌, List, [], ◌∷◌, ◌+
 use Rattle.hex.specs.Hex.{encode_lower}
 use Rattle.pon_bwmap.specs.MapBytes.{map_bytes}
 use Rattle.pon_cert.specs.Spelling.{cert_text}
-use Rattle.pon_admit.specs.Roster.{capacity, onus_of, promised_sum, rule_in_force}
+use Rattle.pon_admit.specs.Roster.{capacity, onus_of, promised_sum}
 use Rattle.pon_state.specs.State.{State}
 use Rattle.pon_port.specs.Chapters.{Chapter, present_state}
 use Rattle.pon_port.specs.Last.{LastMap, last_map}
@@ -61,7 +61,7 @@ state_numbers s =
     named (codes " allocs ") (length s.roster) (
     named (codes " onus ") (length (onus_of s.roster)) (
     named (codes " guaranteed ") (promised_sum s.roster) (
-    named (codes " capacity ") (256 * capacity rule_in_force s.gap s.roster) (10 ∷ [])))))
+    named (codes " capacity ") (256 * capacity s.rule s.gap s.roster) (10 ∷ [])))))
 
 -- the line is up, or it is down by a cause
 abbrev pub show_line : Option ℕ → List ℕ → List ℕ
