@@ -64,5 +64,5 @@ pub(crate) fn fill_in_rounds(
         left -= taken.caps;
         weight -= taken.weight;
     }
-    None
+    if weight == 0 { Some(Level::All) } else { None }
 }

@@ -37,3 +37,10 @@ returns-then-weight-eq0 c =
     all_saturated c.args.items.now c.args.surplus c.loop-round.left c.loop-round.saturated
     (recursion_from_All (λ (i : Item). 0 < i.weight) c.args.items.now (λ k d lt. (c.requires.problem.each k d lt).has_weight))
     (rw none at c.loop-round.invariant.filling)
+
+pub returns-then-weight-eq0-2 : goal.returns-then-weight-eq0-2
+returns-then-weight-eq0-2 c =
+    let none : c.loop-round.weight ≡ 0 = c.if-weight-eq0-2.true in
+    all_saturated c.args.items.now c.args.surplus c.loop-round.left c.loop-round.saturated
+    (recursion_from_All (λ (i : Item). 0 < i.weight) c.args.items.now (λ k d lt. (c.requires.problem.each k d lt).has_weight))
+    (rw none at c.loop-round.invariant.filling)
