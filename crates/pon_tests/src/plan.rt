@@ -59,7 +59,7 @@ fn run_at(
     Some(Answered { result, text })
 }
 
-static WORKED: [(&[u8], &[u8]); 31] = [
+static WORKED: [(&[u8], &[u8]); 33] = [
     (FIRST_MAP, FIRST_TEXT),
     (b"0 map", b"map 0 00000000\n"),
     (b"", b""),
