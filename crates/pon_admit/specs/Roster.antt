@@ -1,6 +1,7 @@
 -- The roster of a port: its admitted Alloc-IDs in map order, and which sets of them are admitted.
 use Rattle.std.specs.Prelude.{ℕ, ◌≡◌, ◌+◌, ◌-◌, ◌*◌, ◌≤◌, Bool, true, false, not, ◌&&◌, ◌||◌, ◌==◌, nat_lt, nat_le, if◌then◌else◌, List, [], ◌∷◌, map, length, All, sum_by, count_by, Option}
 use Rattle.std.specs.List.{list_any}
+use Rattle.pon_units.specs.declared.limits.TheConstants.{FRAME_WORDS, GREATEST_ALLOC_ID, GREATEST_ONU_ID, LEAST_ALLOC_ID, WORD_RATE}
 pub use Rattle.pon_admit.specs.declared.row.Row.{Row}
 pub use Rattle.pon_admit.specs.declared.rule.Rule.{Rule}
 use Rattle.pon_admit.specs.declared.rule.Rule.TheVariants.{One, Two}
@@ -62,15 +63,15 @@ overhead rule gap rows = overhead_of rule gap (length (onus_of rows)) (length ro
 
 -- the words of a frame that are left for payload
 abbrev pub capacity : Rule → ℕ → List Row → ℕ
-capacity rule gap rows = 9720 - overhead rule gap rows
+capacity rule gap rows = FRAME_WORDS - overhead rule gap rows
 
 -- the promised rates, added up
 abbrev pub promised_sum : List Row → ℕ
 promised_sum rows = sum_by (λ r. promised r.descriptor) rows
 
--- the overhead of n ONUs and m Alloc-IDs fits a frame, and s kbit/s fit what is left, at 256 kbit/s a word
+-- the overhead of n ONUs and m Alloc-IDs fits a frame, and s kbit/s fit what is left
 abbrev pub sums_fit : Rule → ℕ → ℕ → ℕ → ℕ → Bool
-sums_fit rule gap n m s = nat_le (overhead_of rule gap n m) 9720 && nat_le s (256 * (9720 - overhead_of rule gap n m))
+sums_fit rule gap n m s = nat_le (overhead_of rule gap n m) FRAME_WORDS && nat_le s (WORD_RATE * (FRAME_WORDS - overhead_of rule gap n m))
 
 -- the ONUs, the Alloc-IDs and the promised rates of the rows fit a frame
 abbrev pub fits : Rule → ℕ → List Row → Bool
@@ -101,9 +102,9 @@ IsDistinct (r ∷ rows) = (has_alloc r.alloc_id rows ≡ false) × IsDistinct ro
 
 -- an ONU-ID, a managed Alloc-ID and a lawful descriptor
 pub record IsInRange (r : Row) : Type 0 where
-  pub onu : r.onu ≤ 1022
-  pub managed : 1024 ≤ r.alloc_id
-  pub alloc_id : r.alloc_id ≤ 16383
+  pub onu : r.onu ≤ GREATEST_ONU_ID
+  pub managed : LEAST_ALLOC_ID ≤ r.alloc_id
+  pub alloc_id : r.alloc_id ≤ GREATEST_ALLOC_ID
   pub descriptor : IsLawful r.descriptor
 
 -- an admitted set

@@ -5,7 +5,7 @@ ghost use Rattle.pon_admit.specs.Roster.{IsAdmitted, capacity, onus_of, promised
 use crate::row::Row;
 use crate::rule::Rule;
 use crate::sums::{overhead, rate, words};
-use pon_units::{Gap, Kbps, Words};
+use pon_units::{FRAME_WORDS, Gap, Kbps, LINE_RATE, Words};
 use std::alloc::{AllocError, Global};
 use std::marker::Model;
 
@@ -16,9 +16,6 @@ const RULE_IN_FORCE: Rule = Rule::One;
 
 /// The most ONUs of a port.
 const MOST_ONUS: usize = 128;
-
-/// The most Alloc-IDs of an ONU.
-const LONGEST_SERIES: usize = 16;
 
 /// The admitted Alloc-IDs of a port in map order, an admitted set under its rule at any time: at most 256 Alloc-IDs (512
 /// under [`Rule::Two`]) of at most 128 ONUs, at most 16 of an ONU, no Alloc-ID twice, and the promised rates fit the words
@@ -107,7 +104,7 @@ impl Roster {
     /// How many ONUs own an Alloc-ID, at most 128.
     pub fn onus(&self) -> usize
         ensures value { result ≡ length (onus_of self.now.rows) }
-        ensures range { result ≤ 128 }
+        ensures range { result ≤ MOST_ONUS }
     {
         self.onus
     }
@@ -115,15 +112,15 @@ impl Roster {
     /// The words of 4 bytes of a frame, 0 to 9,720, that gaps, headers, trailers and reports leave for payload.
     pub fn capacity(&self) -> Words
         ensures value { result ≡ capacity self.now.rule self.now.gap self.now.rows }
-        ensures range { result ≤ 9720 }
+        ensures range { result ≤ FRAME_WORDS }
     {
-        words(usize::from(Words::MAX) - overhead(self.rule, self.gap, self.onus, self.rows.len()))
+        words(usize::from(FRAME_WORDS) - overhead(self.rule, self.gap, self.onus, self.rows.len()))
     }
 
     /// The fixed and assured rates of all rows, added up: 0 to 2,488,320 kbit/s.
     pub fn guaranteed_sum(&self) -> Kbps
         ensures value { result ≡ promised_sum self.now.rows }
-        ensures range { result ≤ 2488320 }
+        ensures range { result ≤ LINE_RATE }
     {
         self.promised
     }

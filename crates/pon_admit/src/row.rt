@@ -1,5 +1,5 @@
 use pon_descr::Descriptor;
-use pon_units::{AllocId, OnuId};
+use pon_units::{AllocId, GREATEST_ALLOC_ID, GREATEST_ONU_ID, LEAST_ALLOC_ID, LINE_RATE, OnuId};
 
 /// An admitted Alloc-ID, the ONU that owns it, and its descriptor.
 #[derive(Clone, Copy, Debug, PartialEq, Eq)]
@@ -18,9 +18,9 @@ impl Row {
         ensures row { result ≡ record { onu = onu; alloc_id = alloc_id; descriptor = descriptor } }
         ensures in_range { IsInRange result }
     {
-        prove!(onu.get() <= 1022);
-        prove!(alloc_id.get() >= 1024 && alloc_id.get() <= 16_383);
-        prove!(descriptor.promised().get() <= 2_488_320);
+        prove!(onu.get() <= GREATEST_ONU_ID);
+        prove!(alloc_id.get() >= LEAST_ALLOC_ID && alloc_id.get() <= GREATEST_ALLOC_ID);
+        prove!(u64::from(descriptor.promised().get()) <= LINE_RATE);
         Row {
             onu,
             alloc_id,

@@ -2,6 +2,8 @@
 ghost use Rattle.std.specs.Prelude.{◌≡◌, ◌*◌, ◌≤◌};
 ghost use Rattle.pon_admit.specs.Roster.{most_allocs, overhead_words};
 
+use pon_units::MOST_STRUCTURES;
+
 /// What a version of the product sets aside for each Alloc-ID, and how many Alloc-IDs a port may have. A roster keeps the
 /// rule that it was opened with.
 #[derive(Clone, Copy, Debug, PartialEq, Eq)]
@@ -16,11 +18,11 @@ impl Rule {
     /// The most Alloc-IDs of a port: 256 or 512.
     pub fn most_allocs(self) -> usize
         ensures value { result ≡ most_allocs self }
-        ensures range { result ≤ 512 }
+        ensures range { result ≤ MOST_STRUCTURES }
     {
         match self {
             Rule::One => 256,
-            Rule::Two => 512,
+            Rule::Two => MOST_STRUCTURES,
         }
     }
 

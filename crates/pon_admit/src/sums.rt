@@ -3,7 +3,7 @@ ghost use Rattle.std.specs.Prelude.{◌≡◌, ◌≤◌};
 ghost use Rattle.pon_admit.specs.Roster.{most_allocs, most_onus, overhead_of, sums_fit};
 
 use crate::rule::Rule;
-use pon_units::{Gap, Kbps, Words};
+use pon_units::{FRAME_WORDS, GREATEST_RATE, Gap, Kbps, WORD_RATE, Words};
 
 /// The words of a frame that gaps, headers, trailers and reports take: for each ONU the gap, a header and a trailer, and
 /// for each Alloc-ID the overhead of the rule.
@@ -15,20 +15,20 @@ pub(crate) fn overhead(rule: Rule, gap: Gap, onus: usize, allocs: usize) -> usiz
     (usize::from(gap.get()) + 2) * onus + rule.overhead(allocs)
 }
 
-/// Whether the overhead fits a frame, and the promised rates fit what is left, at 256 kbit/s a word.
+/// Whether the overhead fits a frame, and the promised rates fit what is left.
 pub(crate) fn fits(rule: Rule, gap: Gap, onus: usize, allocs: usize, promised: Kbps) -> bool
     requires onus { onus ≤ most_onus }
     requires allocs { allocs ≤ most_allocs rule }
     ensures { result ≡ sums_fit rule gap onus allocs promised }
 {
-    let frame = usize::from(Words::MAX);
+    let frame = usize::from(FRAME_WORDS);
     let taken = overhead(rule, gap, onus, allocs);
-    taken <= frame && promised.get() as usize <= 256 * (frame - taken)
+    taken <= frame && u64::from(promised.get()) <= WORD_RATE * (frame - taken) as u64
 }
 
 /// The rate of this number of kbit/s.
 pub(crate) fn rate(n: u32) -> Kbps
-    requires { n ≤ 4294967040 }
+    requires { n ≤ GREATEST_RATE }
     ensures { result ≡ n }
 {
     match Kbps::new(n) {
@@ -39,7 +39,7 @@ pub(crate) fn rate(n: u32) -> Kbps
 
 /// This number of words of a frame.
 pub(crate) fn words(n: usize) -> Words
-    requires { n ≤ 9720 }
+    requires { n ≤ FRAME_WORDS }
     ensures { result ≡ n }
 {
     match Words::new(n as u16) {

@@ -8,6 +8,7 @@ use Rattle.std.proofs.lemmas.List.Elements.{All-head, All-tail, All-weaker, All-
 use Rattle.std.proofs.lemmas.List.Sums.{sum_by-cons}
 use Rattle.pon_units.specs.declared.Granted.{Granted}
 use Rattle.pon_units.specs.Granted.{AreInMapOrder, ComesBefore}
+use Rattle.pon_units.specs.declared.limits.TheConstants.{FRAME_WORDS}
 use Rattle.pon_lists.proofs.Lists.{count_by-append}
 use Rattle.pon_bwmap.specs.Structure.{Structure}
 use Rattle.pon_bwmap.specs.MapRules.{continues as lacks_start, IsMap}
@@ -19,11 +20,11 @@ use Rattle.pon_lists.proofs.Order.{in_order-sides}
 use Rattle.pon_burst.proofs.SoundMaps.{sound_of_rising}
 
 -- a burst that lies in the frame starts in it
-starts_in_frame : (gap : ℕ) (rows : List Structure) → All (IsInFrame gap) (bursts_of rows) → (k start : ℕ) (a : Structure) → slice_get rows k ≡ Some a → a.start ≡ Some start → start ≤ 9719
+starts_in_frame : (gap : ℕ) (rows : List Structure) → All (IsInFrame gap) (bursts_of rows) → (k start : ℕ) (a : Structure) → slice_get rows k ≡ Some a → a.start ≡ Some start → start < FRAME_WORDS
 starts_in_frame gap [] h k start a here is = absurd (cc)
 starts_in_frame gap (b ∷ rows) h zero start a here is = first b.start h (let same : b.start ≡ Some start = (let e : b ≡ a = cc in ap (λ (x : Structure). x.start) e ∙ is) in same)
   where
-    first : (o : Option ℕ) → All (IsInFrame gap) (burst_of b rows o ++ bursts_of rows) → o ≡ Some start → start ≤ 9719
+    first : (o : Option ℕ) → All (IsInFrame gap) (burst_of b rows o ++ bursts_of rows) → o ≡ Some start → start < FRAME_WORDS
     first None h e = absurd (cc)
     first (Some s) h e =
         let same : s ≡ start = cc in

@@ -1,7 +1,7 @@
 -- The upstream bursts of a map (ITU-T G.987.3: StartTime and GrantSize), and when they are sound.
 use Rattle.std.specs.Prelude.{ℕ, ◌+◌, ◌≤◌, ◌⊎◌, if◌then◌else◌, List, [], ◌∷◌, ◌++◌, AllPairs, All, Option, Some, None, is_none}
+use Rattle.pon_units.specs.declared.limits.TheConstants.{FRAME_WORDS}
 use Rattle.pon_bwmap.specs.Structure.{Structure}
-use Rattle.pon_burst.specs.declared.TheConstants.{FRAME_WORDS}
 
 -- the word of its first header word, and the words of its grants
 pub record Burst : Type 0 where

@@ -1,9 +1,9 @@
 -- What is packed into a frame: ONUs, and the payload words of their Alloc-IDs.
 use Rattle.std.specs.Prelude.{ℕ, ◌+◌, ◌<◌, ◌≤◌, true, false, List, [], ◌∷◌, map, flat_map, length, sum_by, All, AllPairs, Option, Some, None}
+use Rattle.pon_units.specs.declared.limits.TheConstants.{FRAME_WORDS}
 use Rattle.arrayvec.specs.ArrayVec.{ArrayVec}
 use Rattle.pon_units.specs.declared.Granted.{Granted}
 use Rattle.pon_bwmap.specs.Structure.{Structure}
-use Rattle.pon_burst.specs.declared.TheConstants.{FRAME_WORDS}
 
 -- an ONU, with its Alloc-IDs and the payload words of each
 abbrev pub Series : Type 0

@@ -4,9 +4,6 @@
 //! the frame. It takes no memory; who is given how many words is for the crates above.
 #![tactic(auto)]
 
-/// The words of an upstream frame.
-pub const FRAME_WORDS: u16 = 9720;
-
 pub mod laws;
 mod packing;
 

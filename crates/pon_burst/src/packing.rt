@@ -4,10 +4,9 @@ ghost use Rattle.pon_burst.specs.Bursts.{AreSound};
 ghost use Rattle.pon_burst.specs.Maps.{map_of};
 ghost use Rattle.pon_burst.specs.Series.{FitsFrame, burst_structures, granted};
 
-use crate::FRAME_WORDS;
 use arrayvec::ArrayVec;
 use pon_bwmap::Alloc;
-use pon_units::{AllocId, Gap, OnuId, Profile, Words};
+use pon_units::{AllocId, FRAME_WORDS, Gap, MOST_STRUCTURES, OnuId, Profile, Words};
 
 /// Writes the structures of the map that grants each Alloc-ID its payload words, 0 to 9,720 of 4 bytes, and
 /// one word for its report, to the front of `out`; returns the number of structures. The bursts are the ONUs' in rising
@@ -28,7 +27,7 @@ pub fn pack(
     ensures structures { take result out.new ≡ map_of gap profile (granted onus.now) }
     ensures rest { drop result out.new ≡ drop result out.old }
     ensures sound { AreSound gap (take result out.new) }
-    ensures map { result ≤ 512 → IsMap (take result out.new) }
+    ensures map { result ≤ MOST_STRUCTURES → IsMap (take result out.new) }
 {
     let gap_words = gap.get();
     let mut start = gap_words;

@@ -1,8 +1,9 @@
 -- Structures that are read one after the other.
-use Rattle.std.proofs.Common.{◌≡◌, ℕ, zero, suc, ◌+◌, ◌-◌, ◌*◌, ◌<◌, ◌≤◌, Bool, true, false, ltb, List, [], ◌∷◌, ◌++◌, length, drop, get_or, Option, Some, None, IsNone, IsSome, IfSome, refl, ap, sym, ◌∙◌, subst, arith}
+use Rattle.std.proofs.Common.{◌≡◌, ℕ, zero, suc, ◌+◌, ◌-◌, ◌*◌, ◌<◌, ◌≤◌, Bool, true, false, leb, ltb, List, [], ◌∷◌, ◌++◌, length, drop, get_or, Option, Some, None, IsNone, IsSome, IfSome, refl, ap, sym, ◌∙◌, subst, arith}
 use Rattle.std.specs.Prelude.{slice_get, if◌then◌else◌, eqb}
 use Rattle.std.proofs.lemmas.List.{drop-drop, length-append}
 use Rattle.std.proofs.Math.Seq.{get_or-append_seam}
+use Rattle.pon_units.specs.declared.limits.TheConstants.{FRAME_WORDS}
 use Rattle.pon_bwmap.specs.Structure.{Structure}
 use Rattle.pon_bwmap.specs.MapRules.{place_in_series, continues, start_fault, row_fault, FirstKeepRules}
 use Rattle.pon_bwmap.specs.MapReading.{ReadsStructure, ReadsRows}
@@ -104,7 +105,7 @@ one_more bytes k corrected place next here a start g s is first starts goes_on n
 
 breaks_at : (bytes : List ℕ) (count k : ℕ) (start : Option ℕ) (place : ℕ) → k < count → ((fault : MapFault) → start_fault k start place ≡ Some fault → BreaksRule bytes k fault)
     → IfSome (start_fault k start place) (IsRowsFirstFault bytes count)
-breaks_at bytes count k (Some s) place lt breaks = by_test (ltb 9719 s) (breaks (StartRange k))
+breaks_at bytes count k (Some s) place lt breaks = by_test (leb FRAME_WORDS s) (breaks (StartRange k))
   where
     by_test : (b : Bool) → ((if b then Some (StartRange k) else None) ≡ Some (StartRange k) → BreaksRule bytes k (StartRange k)) → IfSome (if b then Some (StartRange k) else None) (IsRowsFirstFault bytes count)
     by_test true is = (lt, is refl)

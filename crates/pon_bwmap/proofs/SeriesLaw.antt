@@ -1,9 +1,10 @@
 -- A list of structures is a map where it keeps the rules of series, and only there.
-use Rattle.std.proofs.Common.{◌≡◌, ℕ, zero, suc, ◌+◌, ◌<◌, ◌≤◌, Bool, true, false, ltb, List, Option, Some, None, inl, inr, refl, ap, sym, ◌∙◌, arith, rules}
+use Rattle.std.proofs.Common.{◌≡◌, ℕ, zero, suc, ◌+◌, ◌<◌, ◌≤◌, Bool, true, false, leb, ltb, List, Option, Some, None, inl, inr, refl, ap, sym, ◌∙◌, arith, rules}
 use Rattle.std.specs.Prelude.{slice_get, if◌then◌else◌, is_none}
-use Rattle.std.proofs.lemmas.Bool.{cases_lt, le-ltb}
+use Rattle.std.proofs.lemmas.Bool.{cases_lt, le-ltb, lt-leb}
 use Rattle.std.proofs.lemmas.Option.{slice_get_within}
 use Rattle.std.proofs.Math.Dec.{eqb-suc-zero}
+use Rattle.pon_units.specs.declared.limits.TheConstants.{FRAME_WORDS}
 use Rattle.pon_bwmap.specs.Structure.{Structure}
 use Rattle.pon_bwmap.specs.MapRules.{place_in_series, continues, start_fault, row_fault, IsMap, KeepsSeriesRules}
 use Rattle.pon_bwmap.specs.declared.fault.MapFault.TheVariants.{StartRange}
@@ -31,10 +32,10 @@ first_starts rows (Some a) map here = started a.start (place_in_series rows 0) (
     started (Some start) place e = refl
     started None place e = absurd (cc)
 
-in_frame : (k start place : ℕ) → start_fault k (Some start) place ≡ None → start ≤ 9719
-in_frame k start place e = by_test (ltb 9719 start) refl e
+in_frame : (k start place : ℕ) → start_fault k (Some start) place ≡ None → start < FRAME_WORDS
+in_frame k start place e = by_test (leb FRAME_WORDS start) refl e
   where
-    by_test : (b : Bool) → ltb 9719 start ≡ b → (if b then Some (StartRange k) else None) ≡ None → start ≤ 9719
+    by_test : (b : Bool) → leb FRAME_WORDS start ≡ b → (if b then Some (StartRange k) else None) ≡ None → start < FRAME_WORDS
     by_test true is e = absurd (cc)
     by_test false is e = search (rules, is)
 
@@ -101,7 +102,7 @@ nothing_wrong rows k None keeps here = rw here refl
 nothing_wrong rows k (Some a) keeps here = row_fault_is rows k (place_in_series rows k) a a.start None here refl refl (sym (by_start a.start k refl here))
   where
     by_start : (start : Option ℕ) (k : ℕ) → a.start ≡ start → slice_get rows k ≡ Some a → start_fault k start (place_in_series rows k) ≡ None
-    by_start (Some start) k is here = rw (le-ltb 9719 start (keeps.starts k start a here is)) refl
+    by_start (Some start) k is here = rw (lt-leb FRAME_WORDS start (keeps.starts k start a here is)) refl
     by_start None zero is here =
         let on : continues (slice_get rows 0) ≡ true = ap continues here ∙ ap is_none is in
         let off = keeps.first in

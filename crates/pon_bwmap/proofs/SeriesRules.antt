@@ -1,7 +1,8 @@
 -- The rules of series, one structure after the other.
-use Rattle.std.proofs.Common.{◌≡◌, ℕ, zero, suc, ◌+◌, ◌-◌, ◌<◌, ◌≤◌, Bool, true, false, ltb, List, length, get_or, Option, Some, None, IsNone, IsSome, IfSome, refl, ap, sym, ◌∙◌, arith, rules}
+use Rattle.std.proofs.Common.{◌≡◌, ℕ, zero, suc, ◌+◌, ◌-◌, ◌<◌, ◌≤◌, Bool, true, false, leb, ltb, List, length, get_or, Option, Some, None, IsNone, IsSome, IfSome, refl, ap, sym, ◌∙◌, arith, rules}
 use Rattle.std.specs.Prelude.{slice_get, if◌then◌else◌, is_none, is_some, eqb}
 use Rattle.std.proofs.lemmas.Option.{slice_get_read}
+use Rattle.pon_units.specs.declared.limits.TheConstants.{FRAME_WORDS}
 use Rattle.pon_bwmap.specs.Structure.{Structure}
 use Rattle.pon_bwmap.specs.MapRules.{place_in_series, continues, start_fault, row_fault, FirstKeepRules, IsMap, IsRowsFault}
 use Rattle.pon_bwmap.specs.declared.fault.MapFault.{MapFault}
@@ -64,7 +65,7 @@ keep_more rows k before here i lt = grind (arith, before i)
 -- the first structure with which something is wrong
 first_fault_at : (rows : List Structure) (k : ℕ) (start : Option ℕ) (place : ℕ) → length rows ≤ 512 → k < length rows → FirstKeepRules rows k → row_fault rows k ≡ start_fault k start place
     → IfSome (start_fault k start place) (IsRowsFault rows)
-first_fault_at rows k (Some s) place count within before here = by_test (ltb 9719 s) here
+first_fault_at rows k (Some s) place count within before here = by_test (leb FRAME_WORDS s) here
   where
     by_test : (b : Bool) → row_fault rows k ≡ (if b then Some (StartRange k) else None) → IfSome (if b then Some (StartRange k) else None) (IsRowsFault rows)
     by_test true here = record { count = count; within = within; before = before; here = here }

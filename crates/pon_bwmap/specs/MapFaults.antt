@@ -1,6 +1,7 @@
 -- The first thing that is wrong with the bytes of a bandwidth map, from left to right.
 use Rattle.std.specs.Prelude.{◌≡◌, ℕ, ◌+◌, ◌*◌, ◌^◌, ◌<◌, ◌≤◌, ◌⊎◌, List, length, drop, Some}
 use Rattle.std.specs.Int.{w64, from_be_bytes}
+use Rattle.pon_units.specs.declared.limits.TheConstants.{MOST_STRUCTURES}
 use Rattle.pon_hec.specs.HeaderCode.{Reads}
 use Rattle.pon_xgtc.specs.Header.{IsHeaderFault}
 use Rattle.pon_xgtc.specs.MapHead.{MapHead, ReadsMapHead}
@@ -49,13 +50,13 @@ pub record IsFaultOfRows (bytes : List ℕ) (fault : MapFault) : Type 0 where
 
 -- fewer bytes than the head has, or than it announces
 abbrev pub IsShort : List ℕ → Type 0
-IsShort bytes = (length bytes < 4) ⊎ ((head : MapHead) × (corrected : ℕ) × ReadsMapHead bytes head corrected × (head.n ≤ 512) × (length bytes < map_size head))
+IsShort bytes = (length bytes < 4) ⊎ ((head : MapHead) × (corrected : ℕ) × ReadsMapHead bytes head corrected × (head.n ≤ MOST_STRUCTURES) × (length bytes < map_size head))
 
 -- this is the first thing that is wrong
 abbrev pub IsFirstFault : List ℕ → MapFault → Type 0
 IsFirstFault bytes Short = IsShort bytes
 IsFirstFault bytes HeadHec = IsHeaderFault bytes Hec
-IsFirstFault bytes TooMany = (head : MapHead) × (corrected : ℕ) × ReadsMapHead bytes head corrected × (512 < head.n)
+IsFirstFault bytes TooMany = (head : MapHead) × (corrected : ℕ) × ReadsMapHead bytes head corrected × (MOST_STRUCTURES < head.n)
 IsFirstFault bytes (StructHec k) = IsFaultOfRows bytes (StructHec k)
 IsFirstFault bytes (SeriesStart k) = IsFaultOfRows bytes (SeriesStart k)
 IsFirstFault bytes (StartRange k) = IsFaultOfRows bytes (StartRange k)

@@ -1,6 +1,7 @@
 -- What bytes read as a bandwidth map (ITU-T G.987.3): its head, N allocation structures of 8 bytes, P messages of 48.
 use Rattle.std.specs.Prelude.{◌≡◌, ℕ, ◌+◌, ◌*◌, ◌^◌, ◌<◌, ◌≤◌, List, [], ◌∷◌, length, drop, IfSome}
 use Rattle.std.specs.Int.{w64, from_be_bytes}
+use Rattle.pon_units.specs.declared.limits.TheConstants.{GREATEST_ALLOC_ID, GREATEST_PROFILE, MOST_STRUCTURES}
 use Rattle.pon_hec.specs.HeaderCode.{Reads}
 use Rattle.pon_xgtc.specs.MapHead.{MapHead, ReadsMapHead}
 use Rattle.pon_bwmap.specs.Structure.{Structure}
@@ -9,10 +10,10 @@ use Rattle.pon_bwmap.specs.MapRules.{IsMap}
 
 -- what the fields of a structure can hold; a start of all ones stands for none
 pub record FitsStructure (a : Structure) : Type 0 where
-  pub id : a.id ≤ 16383
+  pub id : a.id ≤ GREATEST_ALLOC_ID
   pub start : IfSome a.start (λ start. start < 0xffff)
   pub grant : a.grant ≤ 65535
-  pub profile : a.profile ≤ 3
+  pub profile : a.profile ≤ GREATEST_PROFILE
 
 -- the first 8 bytes read as this structure, with this number of places corrected
 pub record ReadsStructure (bytes : List ℕ) (a : Structure) (places : ℕ) : Type 0 where
@@ -35,10 +36,10 @@ pub record ReadsMapRows (bytes : List ℕ) (count : ℕ) (rows : List Structure)
 abbrev pub map_size : MapHead → ℕ
 map_size head = 4 + 8 * head.n + 48 * head.p
 
--- the bytes begin with this head of a map, which announces 512 structures at most, and all that it announces is there
+-- the bytes begin with this head of a map, which announces at most MOST_STRUCTURES structures, and all that it announces is there
 pub record ReadsWholeHead (bytes : List ℕ) (head : MapHead) (corrected : ℕ) : Type 0 where
   pub reads : ReadsMapHead bytes head corrected
-  pub count : head.n ≤ 512
+  pub count : head.n ≤ MOST_STRUCTURES
   pub whole : map_size head ≤ length bytes
 
 -- the bytes begin with this map: the number of places corrected in its headers, and the number of its bytes

@@ -1,6 +1,7 @@
 -- The rules of the structures of a bandwidth map (ITU-T G.987.3): the first has a start, each start is in the
 -- frame, and no series, which a start begins and structures without one continue, is longer than 16.
-use Rattle.std.specs.Prelude.{◌≡◌, ℕ, zero, suc, ◌+◌, ◌<◌, ◌≤◌, ◌==◌, Bool, true, false, List, length, nat_lt, if◌then◌else◌, Option, Some, None, is_none, option_and_then, slice_get}
+use Rattle.std.specs.Prelude.{◌≡◌, ℕ, zero, suc, ◌+◌, ◌<◌, ◌≤◌, ◌==◌, Bool, true, false, List, length, nat_lt, nat_le, if◌then◌else◌, Option, Some, None, is_none, option_and_then, slice_get}
+use Rattle.pon_units.specs.declared.limits.TheConstants.{FRAME_WORDS, LONGEST_SERIES, MOST_STRUCTURES}
 use Rattle.pon_bwmap.specs.Structure.{Structure}
 use Rattle.pon_bwmap.specs.declared.fault.MapFault.{MapFault}
 use Rattle.pon_bwmap.specs.declared.fault.MapFault.TheVariants.{Short, HeadHec, TooMany, StructHec, SeriesStart, StartRange, SeriesLong, Memory}
@@ -17,8 +18,8 @@ place_in_series rows (suc k) = if continues (slice_get rows (suc k)) then place_
 
 -- what is wrong with structure k, if it has this start and stands at this place in its series
 abbrev pub start_fault : ℕ → Option ℕ → ℕ → Option MapFault
-start_fault k (Some start) place = if nat_lt 9719 start then Some (StartRange k) else None
-start_fault k None place = if k == 0 then Some (SeriesStart k) else (if nat_lt 15 place then Some (SeriesLong k) else None)
+start_fault k (Some start) place = if nat_le FRAME_WORDS start then Some (StartRange k) else None
+start_fault k None place = if k == 0 then Some (SeriesStart k) else (if nat_le LONGEST_SERIES place then Some (SeriesLong k) else None)
 
 -- what is wrong with structure k
 abbrev pub row_fault : List Structure → ℕ → Option MapFault
@@ -30,19 +31,19 @@ FirstKeepRules rows n = (k : ℕ) → k < n → row_fault rows k ≡ None
 
 -- the structures make a map: 512 at most, and each keeps the rules
 pub record IsMap (rows : List Structure) : Type 0 where
-  pub count : length rows ≤ 512
+  pub count : length rows ≤ MOST_STRUCTURES
   pub keep_rules : FirstKeepRules rows (length rows)
 
 -- structure k is the first that breaks a rule, and this is wrong with it
 pub record IsFirstRowFault (rows : List Structure) (k : ℕ) (fault : MapFault) : Type 0 where
-  pub count : length rows ≤ 512
+  pub count : length rows ≤ MOST_STRUCTURES
   pub within : k < length rows
   pub before : FirstKeepRules rows k
   pub here : row_fault rows k ≡ Some fault
 
 -- this is the first thing that is wrong with the structures, their number before all else
 abbrev pub IsRowsFault : List Structure → MapFault → Type 0
-IsRowsFault rows TooMany = 512 < length rows
+IsRowsFault rows TooMany = MOST_STRUCTURES < length rows
 IsRowsFault rows (SeriesStart k) = IsFirstRowFault rows k (SeriesStart k)
 IsRowsFault rows (StartRange k) = IsFirstRowFault rows k (StartRange k)
 IsRowsFault rows (SeriesLong k) = IsFirstRowFault rows k (SeriesLong k)
@@ -53,7 +54,7 @@ IsRowsFault rows Memory = ⊥
 
 -- the rules as those who read a map know them: no 16 structures in a row continue, so no series is longer than 16
 pub record KeepsSeriesRules (rows : List Structure) : Type 0 where
-  pub count : length rows ≤ 512
+  pub count : length rows ≤ MOST_STRUCTURES
   pub first : continues (slice_get rows 0) ≡ false
-  pub starts : (k start : ℕ) (a : Structure) → slice_get rows k ≡ Some a → a.start ≡ Some start → start ≤ 9719
-  pub series : (k : ℕ) → ((j : ℕ) → j < 16 → continues (slice_get rows (k + j)) ≡ true) → ⊥
+  pub starts : (k start : ℕ) (a : Structure) → slice_get rows k ≡ Some a → a.start ≡ Some start → start < FRAME_WORDS
+  pub series : (k : ℕ) → ((j : ℕ) → j < LONGEST_SERIES → continues (slice_get rows (k + j)) ≡ true) → ⊥

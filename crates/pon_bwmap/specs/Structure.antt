@@ -5,6 +5,7 @@ use Rattle.std.specs.Ordering.{on, eq_of_both}
 use Rattle.std.specs.Cmp.{IsEquivalence, and_equiv, on_equiv, nat_eq_equiv, bool_eq_equiv}
 use Rattle.std.specs.Cmp.Lexicographic.{options_equiv}
 use Rattle.std.proofs.Math.Bool.{beq}
+use Rattle.pon_units.specs.declared.limits.TheConstants.{GREATEST_ALLOC_ID, GREATEST_PROFILE}
 
 -- the fields of an allocation structure; one with no start continues the series before it
 pub record Structure : Type 0 where
@@ -18,9 +19,9 @@ pub record Structure : Type 0 where
 
 -- what the fields of a structure can hold, but for its start
 pub record FitsFields (a : Structure) : Type 0 where
-  pub id : a.id ≤ 16383
+  pub id : a.id ≤ GREATEST_ALLOC_ID
   pub grant : a.grant ≤ 65535
-  pub profile : a.profile ≤ 3
+  pub profile : a.profile ≤ GREATEST_PROFILE
 
 -- whether two structures are equal, field by field
 abbrev pub structure_eq : Structure → Structure → Bool

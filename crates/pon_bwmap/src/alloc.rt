@@ -1,3 +1,4 @@
+use pon_units::{GREATEST_ALLOC_ID, GREATEST_PROFILE};
 use std::marker::Model;
 
 /// An allocation structure of a bandwidth map (ITU-T G.987.3): what one Alloc-ID is granted.
@@ -14,6 +15,7 @@ pub struct Alloc {
 
 impl Model for Alloc {
     ghost use Rattle.std.specs.Prelude.{◌≤◌};
+    ghost use Rattle.pon_units.specs.declared.limits.TheConstants.{GREATEST_ALLOC_ID, GREATEST_PROFILE};
     ghost use Rattle.pon_bwmap.specs.Structure.{Structure};
 
     ghost Value = { Structure };
@@ -28,7 +30,7 @@ impl Model for Alloc {
       profile = a.profile;
     } };
 
-    ghost invariant = { λ a. (a.id ≤ 16383) × (a.profile ≤ 3) };
+    ghost invariant = { λ a. (a.id ≤ GREATEST_ALLOC_ID) × (a.profile ≤ GREATEST_PROFILE) };
 
     ghost inverse = { λ v. record {
       id = v.id;
@@ -56,7 +58,7 @@ impl Alloc {
         fwi: bool,
         profile: u8,
     ) -> Option<Self>
-        ensures { SomeIff result ((id ≤ 16383) × (profile ≤ 3)) record {
+        ensures { SomeIff result ((id ≤ GREATEST_ALLOC_ID) × (profile ≤ GREATEST_PROFILE)) record {
           id = id;
           dbru = dbru;
           ploam = ploam;
@@ -66,7 +68,7 @@ impl Alloc {
           profile = profile;
         } }
     {
-        if id > 16383 || profile > 3 {
+        if id > GREATEST_ALLOC_ID || profile > GREATEST_PROFILE {
             return None;
         }
         Some(Alloc {
@@ -82,8 +84,8 @@ impl Alloc {
 
     /// A structure that asks for a report and for no message.
     pub fn polled(id: u16, start: Option<u16>, grant: u16, profile: u8) -> Self
-        requires id { id ≤ 16383 }
-        requires profile { profile ≤ 3 }
+        requires id { id ≤ GREATEST_ALLOC_ID }
+        requires profile { profile ≤ GREATEST_PROFILE }
         ensures { result ≡ record {
           id = id;
           dbru = true;
@@ -108,7 +110,7 @@ impl Alloc {
     /// The Alloc-ID, at most 16,383.
     pub fn id(&self) -> u16
         ensures value { result ≡ self.now.id }
-        ensures range { result ≤ 16383 }
+        ensures range { result ≤ GREATEST_ALLOC_ID }
     {
         self.id
     }
@@ -153,7 +155,7 @@ impl Alloc {
     /// The burst profile, at most 3.
     pub fn profile(&self) -> u8
         ensures value { result ≡ self.now.profile }
-        ensures range { result ≤ 3 }
+        ensures range { result ≤ GREATEST_PROFILE }
     {
         self.profile
     }

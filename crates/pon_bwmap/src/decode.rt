@@ -11,8 +11,9 @@ use crate::alloc::Alloc;
 use crate::encode::NO_START;
 use crate::fault::MapFault;
 use crate::map::Map;
-use crate::rules::{MOST_ROWS, next_place, start_fault};
+use crate::rules::{next_place, start_fault};
 use pon_hec::open64;
+use pon_units::MOST_STRUCTURES;
 use pon_xgtc::{HLend, HeadFault};
 use std::alloc::Global;
 
@@ -60,7 +61,7 @@ fn read_head(bytes: &[u8]) -> Result<(HLend, u8), MapFault>
         Err(HeadFault::Short) => return Err(MapFault::Short),
         Err(HeadFault::Hec) => return Err(MapFault::HeadHec),
     };
-    if usize::from(head.n()) > MOST_ROWS {
+    if usize::from(head.n()) > MOST_STRUCTURES {
         return Err(MapFault::TooMany);
     }
     if bytes.len() < size(&head) {
@@ -86,7 +87,7 @@ fn room_for(alloc: Global, count: usize) -> Option<Vec<Alloc>>
 // without room, since a fault of theirs comes first.
 fn read_rows(room: Option<Vec<Alloc>>, bytes: &[u8], count: usize) -> Result<(Map, u32), MapFault>
     requires room { IfSome room (λ v. v.items ≡ []) }
-    requires count { count ≤ 512 }
+    requires count { count ≤ MOST_STRUCTURES }
     requires whole { 8 * count ≤ length bytes.now }
     ensures ok { IfOk result (λ r. ReadsMapRows bytes.now count r.0 r.1) }
     ensures small { IfOk result (λ r. r.1 ≤ 1024) }

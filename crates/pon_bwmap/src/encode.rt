@@ -5,6 +5,7 @@ ghost use Rattle.pon_bwmap.specs.MapReading.{ReadsMap};
 use crate::alloc::Alloc;
 use crate::map::Map;
 use pon_hec::seal64;
+use pon_units::MOST_STRUCTURES;
 use pon_xgtc::HLend;
 use std::alloc::{AllocError, Global};
 
@@ -47,7 +48,7 @@ fn put(room: &mut [u8], at: usize, piece: &[u8])
 }
 
 fn head(count: usize) -> HLend
-    requires { count ≤ 512 }
+    requires { count ≤ MOST_STRUCTURES }
     ensures { result ≡ record { n = count; p = 0 } }
 {
     HLend::new(count as u16, 0).unwrap()

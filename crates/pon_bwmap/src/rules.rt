@@ -4,19 +4,14 @@ ghost use Rattle.pon_bwmap.specs.MapRules.{IsMap, IsRowsFault, start_fault};
 
 use crate::alloc::Alloc;
 use crate::fault::MapFault;
-
-pub(crate) const MOST_ROWS: usize = 512;
-
-const LAST_START: u16 = 9719;
-
-const LONGEST_SERIES: usize = 16;
+use pon_units::{FRAME_WORDS, LONGEST_SERIES, MOST_STRUCTURES};
 
 // The first thing that is wrong with the structures.
 pub(crate) fn rows_fault(rows: &[Alloc]) -> Option<MapFault>
     ensures none { IsNone result ↔ IsMap rows.now }
     ensures fault { IfSome result (IsRowsFault rows.now) }
 {
-    if rows.len() > MOST_ROWS {
+    if rows.len() > MOST_STRUCTURES {
         return Some(MapFault::TooMany);
     }
     let mut place = 0;
@@ -43,7 +38,7 @@ pub(crate) fn fit_ranges(rows: &[Alloc])
 
 // The place in its series of structure k, after one at the place `before`.
 pub(crate) fn next_place(k: usize, start: Option<u16>, before: usize) -> usize
-    requires { before < 16 }
+    requires { before < LONGEST_SERIES }
     ensures first { k ≡ 0 → result ≡ 0 }
     ensures starts { IsSome start → result ≡ 0 }
     ensures continues { 0 < k → IsNone start → result ≡ before + 1 }
@@ -60,7 +55,7 @@ pub(crate) fn start_fault(k: usize, start: Option<u16>, place: usize) -> Option<
     ensures { result ≡ start_fault k start place }
 {
     match start {
-        Some(start) if start > LAST_START => Some(MapFault::StartRange { k }),
+        Some(start) if start >= FRAME_WORDS => Some(MapFault::StartRange { k }),
         Some(_) => None,
         None if k == 0 => Some(MapFault::SeriesStart { k }),
         None if place >= LONGEST_SERIES => Some(MapFault::SeriesLong { k }),

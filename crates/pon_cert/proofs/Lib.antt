@@ -4,6 +4,7 @@ pub mod Fairness
 pub mod OneCertificate
 pub mod Rows
 pub mod Flags
+pub mod LeftSurplus
 pub mod WholeReading
 pub mod SetText
 pub mod ReadsBack
@@ -11,4 +12,5 @@ pub mod PartLaws
 pub mod MetLaws
 pub mod SetLaws
 pub mod ClassLaws
+pub mod OneSpelling
 pub mod OneText

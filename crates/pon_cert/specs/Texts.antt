@@ -1,6 +1,7 @@
 -- Which certificates there are, and which texts are theirs.
 use Rattle.std.specs.Prelude.{◌≡◌, ℕ, ◌<◌, ◌≤◌, ◌^◌, List, length}
 use Rattle.std.specs.List.{AllPairs}
+use Rattle.pon_cert.specs.declared.problem.TheConstants.{MOST_ITEMS}
 use Rattle.pon_cert.specs.declared.cert.Level.{Level}
 use Rattle.pon_cert.specs.declared.cert.Level.TheVariants as level
 use Rattle.pon_cert.specs.declared.cert.ClassCert.{ClassCert}
@@ -14,10 +15,10 @@ abbrev pub FitsLevel : Level → Type 0
 FitsLevel level.All = Unit {0}
 FitsLevel (level.At f) = (f.num < 2 ^ 64) × (0 < f.den) × (f.den < 2 ^ 64)
 
--- what a class of 512 items at most can have for a certificate
+-- what a class problem can have for a certificate
 pub record FitsClass (cert : ClassCert) : Type 0 where
   pub level : FitsLevel cert.level
-  pub count : length cert.saturated ≤ 512
+  pub count : length cert.saturated ≤ MOST_ITEMS
 
 pub record FitsCert (cert : MapCert) : Type 0 where
   pub non_assured : FitsClass cert.na
@@ -25,7 +26,7 @@ pub record FitsCert (cert : MapCert) : Type 0 where
 
 -- names of a class, no two of them alike
 pub record AreNames (names : List ℕ) : Type 0 where
-  pub count : length names ≤ 512
+  pub count : length names ≤ MOST_ITEMS
   pub different : AllPairs (λ m n. m ≡ n → ⊥) names
 
 -- the text is that of the certificate, for classes whose items have these names

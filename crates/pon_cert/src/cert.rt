@@ -14,7 +14,7 @@ pub enum Level {
 }
 
 /// What shows how the surplus of a class is shared: the level, and which of its items are saturated.
-#[derive(Debug, Drop)]
+#[derive(Debug, PartialEq, Eq, Drop)]
 pub struct ClassCert {
     /// What the unsaturated items get.
     pub level: Level,
@@ -37,7 +37,7 @@ impl ClassCert {
 
 /// The certificate of a map: how its surplus is shared in the non-assured class, and what that leaves in the
 /// best-effort class.
-#[derive(Debug, Drop)]
+#[derive(Debug, PartialEq, Eq, Drop)]
 pub struct MapCert {
     /// The non-assured class.
     pub na: ClassCert,

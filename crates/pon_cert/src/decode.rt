@@ -6,12 +6,11 @@ ghost use Rattle.pon_cert.specs.Reading.{ReadsAs, ReadsCert, IsByteFault, IsTail
 ghost use Rattle.pon_cert.specs.declared.cert.CertReadFault.{CertReadFault};
 
 use crate::cert::{CertReadFault, ClassCert, Level, MapCert};
+use crate::problem::MOST_ITEMS;
 use crate::sat::Sat;
 use pon_units::Frac;
 use std::alloc::{AllocError, Global};
 use std::marker::Model;
-
-const MOST_ITEMS: u16 = 512;
 
 impl MapCert {
     /// The certificate that the bytes begin with, and how many bytes it takes. Later bytes are not looked at. An
@@ -85,10 +84,11 @@ fn read_class(bytes: &[u8]) -> Result<(LentClass<'_>, &[u8]), CertReadFault>
         Err(fault) => return Err(fault),
     };
     let (count, rest) = read_u16(rest)?;
+    let count = usize::from(count);
     if count > MOST_ITEMS {
         return Err(CertReadFault::Form);
     }
-    let (flags, rest) = read_flags(rest, usize::from(count))?;
+    let (flags, rest) = read_flags(rest, count)?;
     Ok((LentClass { level, flags }, rest))
 }
 

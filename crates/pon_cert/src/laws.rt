@@ -1,12 +1,13 @@
 //! What a certificate shows, and that it reads back as it was written.
 
-ghost use Rattle.std.specs.Prelude.{◌≡◌, ◌<◌, ◌^◌, ℕ, List, ◌++◌, length};
+ghost use Rattle.std.specs.Prelude.{◌≡◌, ◌<◌, ◌^◌, ◌+◌, ◌*◌, ℕ, List, ◌++◌, length, sum, take};
 ghost use Rattle.std.specs.List.{AllByRecursion};
+ghost use Rattle.pon_lists.specs.Bytes.{AreBytes};
 ghost use Rattle.pon_cert.specs.declared.problem.Item.{Item};
 ghost use Rattle.pon_cert.specs.declared.cert.ClassCert.{ClassCert};
 ghost use Rattle.pon_cert.specs.Problem.{AreWeighted, IsFairest};
 ghost use Rattle.pon_cert.specs.declared.cert.MapCert.{MapCert};
-ghost use Rattle.pon_cert.specs.Certificate.{IsCertificate, spelled};
+ghost use Rattle.pon_cert.specs.Certificate.{IsCertificate, denominator, left_surplus, spelled};
 ghost use Rattle.pon_cert.specs.Spelling.{cert_bytes};
 ghost use Rattle.pon_cert.specs.Reading.{ReadsCert};
 ghost use Rattle.pon_cert.specs.Texts.{FitsCert, AreNames, IsTextOf};
@@ -23,10 +24,25 @@ pub fn one_certificate()
         IsCertificate items surplus a → IsCertificate items surplus b → a ≡ b }
 {}
 
+/// What a class leaves of its surplus is the surplus less the rates that its certificate spells, over their denominator.
+pub fn left_is_the_rest()
+    ensures { (items : List Item) (surplus : ℕ) (cert : ClassCert) →
+        IsCertificate items surplus cert →
+        sum (spelled items cert).amounts
+        + denominator cert.level * left_surplus cert.level items surplus
+        ≡ denominator cert.level * surplus }
+{}
+
 /// The bytes of a certificate, with any bytes behind them, read as that certificate, and the bytes behind are not its.
 pub fn reads_back()
     ensures { (cert : MapCert) (rest : List ℕ) → FitsCert cert →
         ReadsCert (cert_bytes cert ++ rest) cert (length (cert_bytes cert)) }
+{}
+
+/// Bytes that read as a certificate are exactly the bytes of that certificate, whatever bytes follow.
+pub fn only_its_bytes()
+    ensures { (bytes : List ℕ) (cert : MapCert) (used : ℕ) → AreBytes bytes →
+        ReadsCert bytes cert used → FitsCert cert × (take used bytes ≡ cert_bytes cert) }
 {}
 
 /// With the same Alloc-IDs, one text has one certificate, so that a text that was written reads back as the very

@@ -4,11 +4,11 @@ ghost use Rattle.pon_cert.specs.Problem.{IsItem, IsProblem};
 ghost use Rattle.pon_cert.specs.Certificate.{left_surplus};
 
 use crate::cert::Level;
-use crate::problem::Item;
+use crate::problem::{Item, MOST_ITEMS};
 
 // The caps of the items, added up.
 fn caps_sum(items: &[Item]) -> u64
-    requires few { length items.now ≤ 512 }
+    requires few { length items.now ≤ MOST_ITEMS }
     requires each { All IsItem items.now }
     ensures { result ≡ sum_by (λ item. item.cap) items.now }
 {

@@ -1,3 +1,11 @@
+ghost use Rattle.std.specs.Prelude.{◌↔◌, IsTrue};
+ghost use Rattle.pon_cert.specs.Problem.{IsItem, IsProblem};
+
+use pon_units::LINE_RATE;
+
+/// The most items of a class problem (this project's choice).
+pub const MOST_ITEMS: usize = 512;
+
 /// What shares a surplus: a weight above 0, and a cap in kbit/s up to which it can use its share.
 ///
 /// Both are at most 2,488,320, the rate of the line, where a problem of a port is filled or checked.
@@ -5,4 +13,18 @@
 pub struct Item {
     pub weight: u64,
     pub cap: u64,
+}
+
+fn is_item(item: Item) -> bool
+    ensures { IsTrue result ↔ IsItem item }
+{
+    0 < item.weight && item.weight <= LINE_RATE && item.cap <= LINE_RATE
+}
+
+/// Whether items and a surplus in kbit/s are a class problem: at most 512 items, each weight 1 to 2,488,320, each cap and the
+/// surplus 0 to 2,488,320. That is what filling and checking ask of their caller.
+pub fn is_problem(items: &[Item], surplus: u64) -> bool
+    ensures { IsTrue result ↔ IsProblem items.now surplus }
+{
+    items.len() <= MOST_ITEMS && surplus <= LINE_RATE && items.iter().all(|item| is_item(*item))
 }

@@ -16,6 +16,27 @@ impl Model for Sat {
     ghost view = { λ s. s.flags.items };
 }
 
+impl PartialEq for Sat {
+    ghost use Rattle.std.proofs.Math.Bool.{beq};
+    ghost use Rattle.std.specs.Cmp.{bool_eq_equiv, partial_equiv_from_equiv};
+    ghost use Rattle.std.specs.Cmp.Lexicographic.{pointwise, lists_equiv};
+
+    ghost eq = { pointwise beq };
+
+    ghost laws = { partial_equiv_from_equiv (lists_equiv bool_eq_equiv) };
+
+    fn eq(&self, other: &Sat) -> bool {
+        self.as_slice() == other.as_slice()
+    }
+}
+
+impl Eq for Sat {
+    ghost use Rattle.std.specs.Cmp.{bool_eq_equiv};
+    ghost use Rattle.std.specs.Cmp.Lexicographic.{lists_equiv};
+
+    ghost laws = { lists_equiv bool_eq_equiv };
+}
+
 impl Sat {
     ghost use Rattle.std.specs.Prelude.{◌≡◌, IfOk};
 

@@ -9,7 +9,7 @@ ghost use Rattle.pon_check.specs.Faults.{IsFirstFault, IsSumFault, FailsFirst};
 
 use crate::fault::CertFault;
 use crate::sums::{total_of, weight_left};
-use pon_cert::{ClassCert, Item, Level};
+use pon_cert::{ClassCert, Item, Level, MOST_ITEMS};
 
 // Whether an item keeps the rule of its side: its cap is at most its share at the level where it is saturated, above it
 // elsewhere.
@@ -46,7 +46,7 @@ fn first_failing(level: &Level, items: &[Item], saturated: &[bool]) -> Option<us
 // Whether a fraction is over the weight of the unsaturated items.
 fn denominator_holds(level: &Level, items: &[Item], saturated: &[bool]) -> bool
     requires lengths { length items.now ≡ length saturated.now }
-    requires count { length items.now ≤ 512 }
+    requires count { length items.now ≤ MOST_ITEMS }
     requires each { All IsItem items.now }
     ensures { IsTrue result ↔ DenominatorHolds level.now items.now saturated.now }
 {

@@ -1,4 +1,11 @@
 mod FileAnswers
-mod ItemRows
+mod LongLines
 mod NamedItems
 mod Naming
+mod OpenLines
+mod PrintedLines
+mod PrintedText
+mod ReadFiles
+mod ReadWhole
+mod StageLines
+mod UnfitLines

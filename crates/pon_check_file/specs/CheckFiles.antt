@@ -1,8 +1,8 @@
 -- What a check file spells, the first of its lines that does not fit, and its answer.
-use Rattle.std.specs.Prelude.{◌≡◌, ℕ, suc, ◌+◌, Bool, true, false, List, [], ◌∷◌, ◌++◌, length, take, drop, codes, decimal, Option, Some, None, Result, Ok, Err}
+use Rattle.std.specs.Prelude.{◌≡◌, ◌⊎◌, ℕ, suc, ◌+◌, Bool, true, false, List, [], ◌∷◌, ◌++◌, length, take, drop, codes, decimal, Option, Some, None, Result, Ok, Err}
 use Rattle.pon_lists.specs.ResultSteps.{◌>>=◌}
 use Rattle.pon_device.specs.Device.{Appends, Consumes, IsAtEnd}
-use Rattle.pon_cert.specs.Problem.{IsProblem, IsFairest}
+use Rattle.pon_cert.specs.Problem.{IsFairest}
 use Rattle.pon_cert.specs.Certificate.{IsCertificate, spelled}
 use Rattle.pon_cert.specs.declared.problem.Item.{Item}
 use Rattle.pon_cert.specs.declared.cert.ClassCert.{ClassCert}
@@ -13,9 +13,7 @@ use Rattle.pon_stream.specs.Streams.{IsBeginning}
 use Rattle.pon_stream.specs.declared.fault.PlanFault.{PlanFault}
 use Rattle.pon_stream.specs.declared.fault.PlanFault.TheVariants.{Read, Write, Memory}
 use Rattle.pon_check_file.specs.CheckLines.{surplus_of, item_of, level_of, flags_of}
-use Rattle.pon_check_file.specs.declared.parse.TheConstants.{MOST_ITEMS}
-use Rattle.pon_check_file.specs.declared.parse.Parsed.{Parsed}
-use Rattle.pon_check_file.specs.declared.parse.Parsed.TheVariants as parsed
+use Rattle.pon_cert.specs.declared.problem.TheConstants.{MOST_ITEMS}
 
 -- a problem, and what is said to be its certificate
 pub record Filed : Type 0 where
@@ -65,12 +63,6 @@ file_of ls = do
   surplus ← on_line 1 (first_spells surplus_of ls)
   file_with surplus (items_of (drop 1 ls)) (drop (length (items_of (drop 1 ls))) (drop 1 ls))
 
--- so it was read; the problem is one of a class
-abbrev pub IsParsed : Result Filed ℕ → Parsed → Type 0
-IsParsed file (parsed.File f) =
-    (file ≡ Ok (record { surplus = f.surplus; items = f.items.items; cert = f.cert })) × IsProblem f.items.items f.surplus
-IsParsed file (parsed.Syntax line) = file ≡ Err line
-
 -- the answer line of a file: yes for a certificate, which spells the fairest share, or why not; 10 is the line feed
 abbrev pub IsAnswer : Result Filed ℕ → Bool → List ℕ → Type 0
 IsAnswer (Err line) accepted text = (accepted ≡ false) × (text ≡ codes "no Syntax " ++ decimal line ++ 10 ∷ [])
@@ -79,12 +71,18 @@ IsAnswer (Ok f) true text =
 IsAnswer (Ok f) false text =
     (fault : CertFault) × IsFirstFault f.items f.surplus f.cert fault × (text ≡ codes "no " ++ fault_text fault ++ 10 ∷ [])
 
+-- the bytes have this answer: at their end, or whatever follows them, and then it is no
+abbrev pub IsDecided : List ℕ → Option (List ℕ) → Bool → List ℕ → Type 0
+IsDecided input left accepted text =
+    (IsAtEnd left × IsAnswer (file_of (file_lines input)) accepted text)
+    ⊎ ((accepted ≡ false) × ((rest : List ℕ) → IsAnswer (file_of (file_lines (input ++ rest))) accepted text))
+
 -- what is written for what was read, by how it ended
-abbrev pub IsChecked : List ℕ → List ℕ → Result Bool PlanFault → Type 0
-IsChecked input written (Ok accepted) = IsAnswer (file_of (file_lines input)) accepted written
-IsChecked input written (Err Read) = written ≡ []
-IsChecked input written (Err Memory) = written ≡ []
-IsChecked input written (Err Write) = (accepted : Bool) × (text : List ℕ) × IsAnswer (file_of (file_lines input)) accepted text × IsBeginning written text
+abbrev pub IsChecked : List ℕ → Option (List ℕ) → List ℕ → Result Bool PlanFault → Type 0
+IsChecked input left written (Ok accepted) = IsDecided input left accepted written
+IsChecked input left written (Err Read) = written ≡ []
+IsChecked input left written (Err Memory) = written ≡ []
+IsChecked input left written (Err Write) = (accepted : Bool) × (text : List ℕ) × IsDecided input left accepted text × IsBeginning written text
 
 -- some bytes were read, and a line was written for them
 pub record Checked (left_old left_new held_old held_new : Option (List ℕ)) (result : Result Bool PlanFault) : Type 0 where
@@ -92,11 +90,10 @@ pub record Checked (left_old left_new held_old held_new : Option (List ℕ)) (re
   pub written : List ℕ
   pub read : Consumes left_old left_new input
   pub wrote : Appends held_old held_new written
-  pub text : IsChecked input written result
+  pub text : IsChecked input left_new written result
 
--- all is read where something is written
+-- yes comes only at the end
 abbrev pub ReadsToEnd : Option (List ℕ) → Result Bool PlanFault → Type 0
-ReadsToEnd left (Ok accepted) = IsAtEnd left
-ReadsToEnd left (Err Write) = IsAtEnd left
-ReadsToEnd left (Err Read) = Unit {0}
-ReadsToEnd left (Err Memory) = Unit {0}
+ReadsToEnd left (Ok true) = IsAtEnd left
+ReadsToEnd left (Ok false) = Unit {0}
+ReadsToEnd left (Err fault) = Unit {0}

@@ -8,7 +8,7 @@ use Rattle.pon_cert.specs.declared.cert.Level.TheVariants as level
 use Rattle.pon_cert.specs.Parts.{behind, parts_of, with_first}
 use Rattle.pon_text.specs.Cuts.{cut_at, follows}
 use Rattle.pon_text.specs.Lines.{number_of}
-use Rattle.pon_check_file.specs.declared.lines.TheConstants.{GREATEST_RATE}
+use Rattle.pon_units.specs.declared.limits.TheConstants.{LINE_RATE}
 
 -- a number of a range
 unfoldable pub number_within : ℕ → ℕ → List ℕ → Option ℕ
@@ -18,15 +18,15 @@ number_within least most w = do
 
 -- `surplus <S>`, in kbit/s
 unfoldable pub surplus_of : List ℕ → Option ℕ
-surplus_of l = follows (codes "surplus ") l >>= number_within 0 GREATEST_RATE
+surplus_of l = follows (codes "surplus ") l >>= number_within 0 LINE_RATE
 
 -- `item <weight> <cap>`; 32 is a space
 unfoldable pub item_of : List ℕ → Option Item
 item_of l = do
   numbers ← follows (codes "item ") l
   parts ← cut_at 32 numbers
-  weight ← number_within 1 GREATEST_RATE parts.0
-  cap ← number_within 0 GREATEST_RATE parts.1
+  weight ← number_within 1 LINE_RATE parts.0
+  cap ← number_within 0 LINE_RATE parts.1
   Some (record { weight = weight; cap = cap })
 
 -- `<p>/<q>` with q above 0; 47 is the stroke

@@ -3,14 +3,15 @@
 ghost use Rattle.std.specs.Prelude.{◌≡◌, ◌∷◌, ◌++◌, [], Ok, IfOk, codes, decimal, string_bytes};
 ghost use Rattle.pon_cert.specs.Problem.{IsProblem};
 ghost use Rattle.pon_check.specs.Faults.{fault_text};
-ghost use Rattle.pon_text.specs.Lines.{file_lines};
 ghost use Rattle.pon_stream.specs.Streams.{TellsRead, TellsWrite};
-ghost use Rattle.pon_check_file.specs.CheckFiles.{Checked, IsAnswer, ReadsToEnd, file_of};
+ghost use Rattle.pon_check_file.specs.CheckFiles.{Checked, IsAnswer, ReadsToEnd};
+ghost use Rattle.pon_check_file.specs.Stages.{IsSaid, said};
 
-use crate::parse::{CheckFile, Parsed, parse};
+use crate::file::{CheckFile, Parsed};
+use crate::reading::read_file;
 use pon_check::{CertFault, check_class};
 use pon_device::{DevRead, DevWrite};
-use pon_stream::{PlanFault, read_all, write_text};
+use pon_stream::{PlanFault, write_text};
 use std::alloc::{AllocError, Global};
 
 // Whether a file is accepted, and its answer line.
@@ -61,12 +62,12 @@ fn judge(alloc: Global, file: &CheckFile) -> Result<Answer, AllocError>
     }
 }
 
-// The answer to the text of a file.
-fn answer_of(alloc: Global, text: &[u8]) -> Result<Answer, AllocError>
-    ensures { IfOk result (λ a. IsAnswer (file_of (file_lines text.now)) a.accepted
-        (string_bytes a.line)) }
+// The answer to what the lines of a file spell.
+fn answer_of(alloc: Global, parsed: Parsed) -> Result<Answer, AllocError>
+    requires { IsSaid parsed }
+    ensures { IfOk result (λ a. IsAnswer (said parsed) a.accepted (string_bytes a.line)) }
 {
-    match parse(alloc, text)? {
+    match parsed {
         Parsed::File(file) => judge(alloc, &file),
         Parsed::Syntax(line) => Ok(Answer {
             accepted: false,
@@ -75,8 +76,9 @@ fn answer_of(alloc: Global, text: &[u8]) -> Result<Answer, AllocError>
     }
 }
 
-/// Reads a check file to the end of the input, and writes its answer: whether its certificate is that of its items and its
-/// surplus, or why not. Returns `true` exactly for the answer `yes`.
+/// Reads a check file to the end of the input or to the first line that does not fit, and writes its answer: whether its
+/// certificate is that of its items and its surplus, or why not. Returns `true` exactly for the answer `yes`, which comes
+/// only at the end of the input.
 ///
 /// The answer is one line: `yes`; `no` with the first fault of the certificate, as [`CertFault`] prints it; or `no Syntax`
 /// with the number, counted from 1, of the first line that does not fit. A file is the line `surplus <S>`, at most 512 lines
@@ -84,7 +86,10 @@ fn answer_of(alloc: Global, text: &[u8]) -> Result<Answer, AllocError>
 /// only empty lines. Rates are in kbit/s, 0 to 2,488,320; a weight is 1 to 2,488,320; the saturated items are named by their
 /// indexes, counted from 0, in rising order.
 ///
-/// `Read` if the reader fails or 2^64 - 1 reads do not reach the end, and `Memory` if memory is refused: nothing is written.
+/// At most 512 items and one line are kept, of which no more than [`LONGEST_LINE`](crate::LONGEST_LINE) + 1 bytes: a
+/// longer line does not fit.
+///
+/// `Read` if the reader fails or 2^64 - 1 reads decide nothing, and `Memory` if memory is refused: nothing is written.
 /// `Write` if the writer fails: a beginning of the answer is written. The writer is flushed once, after the answer.
 pub fn check_file<R: DevRead, W: DevWrite>(
     alloc: Global,
@@ -98,11 +103,11 @@ pub fn check_file<R: DevRead, W: DevWrite>(
         (R.failures reader.new) result }
     ensures write { TellsWrite (W.failures writer.old) (W.failures writer.new) result }
 {
-    let text = match read_all(alloc, reader) {
-        Ok(text) => text,
+    let parsed = match read_file(alloc, reader) {
+        Ok(parsed) => parsed,
         Err(fault) => return Err(fault),
     };
-    let answer = match answer_of(alloc, text.as_slice()) {
+    let answer = match answer_of(alloc, parsed) {
         Ok(answer) => answer,
         Err(_) => return Err(PlanFault::Memory),
     };

@@ -6,12 +6,13 @@
 #![tactic(auto)]
 
 mod answer;
+mod file;
 pub mod laws;
 mod lines;
-mod parse;
+mod reading;
 mod set;
+mod stage;
 
 pub use answer::check_file;
-pub use lines::GREATEST_RATE;
-pub use parse::MOST_ITEMS;
 pub use pon_stream::PlanFault;
+pub use reading::LONGEST_LINE;

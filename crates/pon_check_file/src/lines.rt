@@ -6,10 +6,7 @@ ghost use Rattle.pon_check_file.specs.CheckLines.{number_within, surplus_of, ite
 
 use pon_cert::{Item, Level};
 use pon_text::{cut, follows, number_of};
-use pon_units::Frac;
-
-/// The greatest surplus, cap and weight: the upstream rate of an XG-PON line, in kbit/s.
-pub const GREATEST_RATE: u64 = 2_488_320;
+use pon_units::{Frac, LINE_RATE};
 
 // The number from `least` to `most` that a word writes.
 #[tactic(auto, unfolding(crate::specs::CheckLines::number_within))]
@@ -29,9 +26,9 @@ fn number_within(least: u64, most: u64, word: &[u8]) -> Option<u64>
 #[tactic(auto, unfolding(crate::specs::CheckLines::surplus_of))]
 pub(crate) fn surplus_of(line: &[u8]) -> Option<u64>
     ensures value { result ≡ surplus_of line.now }
-    ensures range { IfSome result (λ n. n ≤ GREATEST_RATE) }
+    ensures range { IfSome result (λ n. n ≤ LINE_RATE) }
 {
-    number_within(0, GREATEST_RATE, follows(b"surplus ", line)?)
+    number_within(0, LINE_RATE, follows(b"surplus ", line)?)
 }
 
 /// The item of a line `item <weight> <cap>`, weight 1 to 2,488,320 and cap 0 to 2,488,320 kbit/s.
@@ -41,8 +38,8 @@ pub(crate) fn item_of(line: &[u8]) -> Option<Item>
     ensures lawful { IfSome result IsItem }
 {
     let (weight, cap) = cut(follows(b"item ", line)?, b' ')?;
-    let weight = number_within(1, GREATEST_RATE, weight)?;
-    let cap = number_within(0, GREATEST_RATE, cap)?;
+    let weight = number_within(1, LINE_RATE, weight)?;
+    let cap = number_within(0, LINE_RATE, cap)?;
     Some(Item { weight, cap })
 }
 

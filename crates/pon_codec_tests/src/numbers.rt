@@ -1,5 +1,6 @@
 use pon_units::{
-    AllocId, BufOcc, Frac, FrameNo, Gap, Kbps, OnuId, PortNo, Profile, Words, cmp_frac, whole,
+    AllocId, BufOcc, FRAME_WORDS, Frac, FrameNo, GREATEST_OCCUPANCY, GREATEST_RATE, Gap, Kbps,
+    LINE_RATE, OnuId, PortNo, Profile, WORD_RATE, Words, cmp_frac, whole,
 };
 use std::cmp::Ordering;
 
@@ -25,6 +26,18 @@ fn takes_identifiers_in_range(rt: HostRuntime) {
     for (n, want) in [(0, Some(0)), (63, Some(63)), (64, None), (255, None)] {
         assert_eq!(rt; PortNo::new(n).map(PortNo::get), want, "port {n}");
     }
+    for place in [0, 1, 63] {
+        assert_eq!(rt; usize::from(PortNo::at(place).get()), place);
+    }
+}
+
+#[test]
+fn rates_are_words_in_each_frame(rt: HostRuntime) {
+    assert_eq!(rt; u64::from(FRAME_WORDS) * WORD_RATE, LINE_RATE);
+    assert_eq!(rt;
+        u64::from(GREATEST_OCCUPANCY) * WORD_RATE,
+        u64::from(GREATEST_RATE)
+    );
 }
 
 #[test]

@@ -1,5 +1,5 @@
 use arrayvec::ArrayVec;
-use pon_units::BufOcc;
+use pon_units::{BufOcc, LONGEST_SERIES};
 use std::marker::Model;
 
 /// The occupancies that an ONU reports in one burst, in words, for its structures in order: at most 16. A garbled report
@@ -33,7 +33,7 @@ impl Occupancies {
 
     /// Appends what the next report says, or `None` if it is garbled. There is room for 16.
     pub fn push(&mut self, report: Option<BufOcc>)
-        requires { length self.old < 16 }
+        requires { length self.old < LONGEST_SERIES }
         ensures { self.new ≡ self.old ++ report ∷ [] }
     {
         self.reports.push(report);
@@ -54,7 +54,7 @@ impl Occupancies {
     /// The occupancies, in order.
     pub fn as_slice(&self) -> &[Option<BufOcc>]
         ensures value { result.now ≡ self.now }
-        ensures range { length self.now ≤ 16 }
+        ensures range { length self.now ≤ LONGEST_SERIES }
     {
         self.reports.as_slice()
     }

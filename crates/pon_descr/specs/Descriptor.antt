@@ -1,5 +1,6 @@
 -- Descriptors of the rate-proportional reference model of dynamic bandwidth assignment (ITU-T G.987.3).
 use Rattle.std.specs.Prelude.{ℕ, ◌+◌, ◌<◌, ◌≤◌, ◌==◌, ◌||◌, nat_lt, [], ◌∷◌, Option, None}
+use Rattle.pon_units.specs.declared.limits.TheConstants.{LINE_RATE}
 use Rattle.pon_descr.specs.declared.class.Class.{Class}
 use Rattle.pon_descr.specs.declared.class.Class.TheVariants.{Plain, NonAssured, BestEffort}
 use Rattle.pon_descr.specs.Checks.{when, first_of}
@@ -13,10 +14,6 @@ pub record Descriptor : Type 0 where
   pub max : ℕ
   pub class : Class
 
--- the greatest rate: 9,720 words a frame, at 256 kbit/s a word
-abbrev pub greatest_rate : ℕ
-greatest_rate = 2488320
-
 -- what is promised under load
 abbrev pub promised : Descriptor → ℕ
 promised d = d.fixed + d.assured
@@ -29,7 +26,7 @@ SuitsClass BestEffort promise most = promise < most
 
 -- rates in range, the maximum not below the promise
 pub record IsLawful (d : Descriptor) : Type 0 where
-  pub in_range : d.max ≤ greatest_rate
+  pub in_range : d.max ≤ LINE_RATE
   pub enough : promised d ≤ d.max
   pub class : SuitsClass d.class (promised d) d.max
 
@@ -42,7 +39,7 @@ class_refusal BestEffort promise most = when (promise == most) NoSurplusRoom
 -- the first check that refuses the numbers of a descriptor
 abbrev pub descriptor_refusal : Descriptor → Option Refusal
 descriptor_refusal d = first_of (
-    when (nat_lt greatest_rate d.fixed || (nat_lt greatest_rate d.assured || nat_lt greatest_rate d.max)) RateRange
+    when (nat_lt LINE_RATE d.fixed || (nat_lt LINE_RATE d.assured || nat_lt LINE_RATE d.max)) RateRange
     ∷ when (nat_lt d.max (promised d)) MaxBelowGuaranteed
     ∷ class_refusal d.class (promised d) d.max
     ∷ [])

@@ -2,7 +2,7 @@ ghost use Rattle.std.specs.Prelude.{◌≡◌, ◌≤◌};
 
 use crate::class::Class;
 use crate::refusal::Refusal;
-use pon_units::Kbps;
+use pon_units::{Kbps, LINE_RATE};
 use std::marker::Model;
 
 /// The traffic descriptor of an Alloc-ID: fixed, assured and maximum rate, each 0 to 2,488,320 kbit/s, and its class.
@@ -28,7 +28,7 @@ impl Model for Descriptor {
 
 // A rate of a descriptor in kbit/s.
 fn rate(n: u64) -> Kbps
-    requires { n ≤ 2488320 }
+    requires { n ≤ LINE_RATE }
     ensures { result ≡ n }
 {
     match Kbps::new(n as u32) {
@@ -54,7 +54,7 @@ impl Descriptor {
         ensures lawful { IsOk result ↔ IsLawful
             (record { fixed = fixed; assured = assured; max = max; class = class }) }
     {
-        if fixed > 2_488_320 || assured > 2_488_320 || max > 2_488_320 {
+        if fixed > LINE_RATE || assured > LINE_RATE || max > LINE_RATE {
             return Err(Refusal::RateRange);
         }
         let promised = fixed + assured;
@@ -78,7 +78,7 @@ impl Descriptor {
     /// The fixed rate: it is granted whatever the load.
     pub fn fixed(&self) -> Kbps
         ensures value { result ≡ self.now.fixed }
-        ensures range { result ≤ 2488320 }
+        ensures range { result ≤ LINE_RATE }
     {
         self.fixed
     }
@@ -86,7 +86,7 @@ impl Descriptor {
     /// The assured rate: it is granted as far as the load asks for it.
     pub fn assured(&self) -> Kbps
         ensures value { result ≡ self.now.assured }
-        ensures range { result ≤ 2488320 }
+        ensures range { result ≤ LINE_RATE }
     {
         self.assured
     }
@@ -94,7 +94,7 @@ impl Descriptor {
     /// The maximum rate: nothing above it is granted.
     pub fn max(&self) -> Kbps
         ensures value { result ≡ self.now.max }
-        ensures range { result ≤ 2488320 }
+        ensures range { result ≤ LINE_RATE }
     {
         self.max
     }
@@ -109,7 +109,7 @@ impl Descriptor {
     /// What is promised under load: fixed and assured rate together.
     pub fn promised(&self) -> Kbps
         ensures sum { result ≡ promised self.now }
-        ensures range { result ≤ 2488320 }
+        ensures range { result ≤ LINE_RATE }
         ensures lawful { IsLawful self.now }
     {
         rate(u64::from(self.fixed.get() + self.assured.get()))

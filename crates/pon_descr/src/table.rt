@@ -2,13 +2,13 @@
 
 ghost use Rattle.std.specs.Prelude.{◌≡◌, Some, IfOk, IfErr, option_and_then, option_map};
 ghost use Rattle.toml.specs.Data.{as_integer, as_str, get_member};
-ghost use Rattle.toml.specs.View.{table_view};
+ghost use Rattle.toml.specs.View.{table_view, view};
 ghost use Rattle.pon_descr.specs.Tables.{natural, rate_at, class_at, spelled, IsDescrFault};
 
 use crate::class::Class;
 use crate::descriptor::Descriptor;
 use crate::refusal::Refusal;
-use toml::Table;
+use toml::{Table, Value};
 
 /// Why a table gives no descriptor.
 #[derive(Clone, Copy, Debug, PartialEq, Eq)]
@@ -20,11 +20,19 @@ pub enum DescrFault {
     Refused(Refusal),
 }
 
+// The value at a key.
+fn value_at<'a>(table: &'a Table, key: &str) -> Option<&'a Value>
+    ensures { option_map (λ value. view value.now) result
+        ≡ get_member key.now (table_view table.now) }
+{
+    table.get(key)
+}
+
 // The whole number at a key.
 fn integer_at(table: &Table, key: &str) -> Option<i64>
     ensures { result ≡ option_and_then as_integer (get_member key.now (table_view table.now)) }
 {
-    match table.get(key) {
+    match value_at(table, key) {
         Some(value) => value.as_integer(),
         None => None,
     }
@@ -35,7 +43,7 @@ fn text_at<'a>(table: &'a Table, key: &str) -> Option<&'a str>
     ensures { option_map (λ text. text.now) result
         ≡ option_and_then as_str (get_member key.now (table_view table.now)) }
 {
-    match table.get(key) {
+    match value_at(table, key) {
         Some(value) => value.as_str(),
         None => None,
     }

@@ -14,19 +14,19 @@ use Rattle.pon_fill.specs.Rounds.{taken_in, saturated_caps}
 abbrev pub Met : ℕ → ℕ → Item → Bool → Type 0
 Met p q i b = b ≡ true → i.cap * q ≤ i.weight * p
 
-abbrev met : ℕ → ℕ → Item → Bool
+abbrev pub met : ℕ → ℕ → Item → Bool
 met p q i = nat_le (i.cap * q) (i.weight * p)
 
 -- what comes in during a round
-abbrev comes : ℕ → ℕ → Item → Bool → Bool
+abbrev pub comes : ℕ → ℕ → Item → Bool → Bool
 comes p q i b = cond b false (met p q i)
 
-abbrev came_caps : ℕ → ℕ → List Item → List Bool → ℕ
+abbrev pub came_caps : ℕ → ℕ → List Item → List Bool → ℕ
 came_caps p q [] bs = 0
 came_caps p q (i ∷ is) [] = 0
 came_caps p q (i ∷ is) (b ∷ bs) = cond (comes p q i b) i.cap 0 + came_caps p q is bs
 
-abbrev came_weight : ℕ → ℕ → List Item → List Bool → ℕ
+abbrev pub came_weight : ℕ → ℕ → List Item → List Bool → ℕ
 came_weight p q [] bs = 0
 came_weight p q (i ∷ is) [] = 0
 came_weight p q (i ∷ is) (b ∷ bs) = cond (comes p q i b) i.weight 0 + came_weight p q is bs
@@ -47,13 +47,13 @@ weight_one true t n = omega arith
 weight_one false true n = omega arith
 weight_one false false n = omega arith
 
-caps_after : (p q : ℕ) (is : List Item) (bs : List Bool) → saturated_caps is (taken_in p q is bs) ≡ saturated_caps is bs + came_caps p q is bs
+pub caps_after : (p q : ℕ) (is : List Item) (bs : List Bool) → saturated_caps is (taken_in p q is bs) ≡ saturated_caps is bs + came_caps p q is bs
 caps_after p q [] bs = refl
 caps_after p q (i ∷ is) [] = refl
 caps_after p q (i ∷ is) (b ∷ bs) =
     rw (caps-cons i (b || met p q i) is (taken_in p q is bs), caps-cons i b is bs) (omega (arith, caps_one b (met p q i) i.cap, caps_after p q is bs))
 
-weight_after : (p q : ℕ) (is : List Item) (bs : List Bool) → unsaturated_weight is bs ≡ unsaturated_weight is (taken_in p q is bs) + came_weight p q is bs
+pub weight_after : (p q : ℕ) (is : List Item) (bs : List Bool) → unsaturated_weight is bs ≡ unsaturated_weight is (taken_in p q is bs) + came_weight p q is bs
 weight_after p q [] bs = refl
 weight_after p q (i ∷ is) [] = refl
 weight_after p q (i ∷ is) (b ∷ bs) =

@@ -4,14 +4,14 @@ ghost use Rattle.pon_cert.specs.Certificate.{IsCertificate};
 
 use crate::order::order;
 use crate::rounds::fill_in_rounds;
-use pon_cert::{Item, Level};
-use pon_units::Frac;
+use pon_cert::{Item, Level, MOST_ITEMS};
+use pon_units::{Frac, LINE_RATE};
 
 pub(crate) fn total_weight(items: &[Item]) -> u64
-    requires count { length items.now ≤ 512 }
+    requires count { length items.now ≤ MOST_ITEMS }
     requires each { All IsItem items.now }
     ensures value { result ≡ sum_by (λ item. item.weight) items.now }
-    ensures small { result ≤ 512 * 2488320 }
+    ensures small { result ≤ MOST_ITEMS * LINE_RATE }
 {
     let mut total = 0;
     for item in items {

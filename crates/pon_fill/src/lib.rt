@@ -5,6 +5,7 @@
 //! What shows that a share is fair, and that it is the fairest, is of the crate `pon_cert`.
 #![tactic(auto)]
 
+pub mod laws;
 mod level;
 mod order;
 mod rounds;

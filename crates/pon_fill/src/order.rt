@@ -3,19 +3,20 @@ ghost use Rattle.std.specs.Prelude.{◌≡◌, ◌<◌, ◌≤◌, ◌*◌, ◌/
 ghost use Rattle.pon_cert.specs.Problem.{IsItem};
 ghost use Rattle.pon_fill.specs.Order.{IsOrder};
 
-use pon_cert::Item;
+use pon_cert::{Item, MOST_ITEMS};
+use pon_units::LINE_RATE;
 
 // The square of the greatest weight. Two fractions with denominators up to that weight differ by at least one part of it.
-const PARTS: u64 = 2_488_320 * 2_488_320;
+const PARTS: u64 = LINE_RATE * LINE_RATE;
 
 // Writes the item numbers by cap divided by weight.
 pub(crate) fn order(items: &[Item], numbers: &mut [u16])
     requires each { All IsItem items.now }
-    requires count { length items.now ≤ 512 }
+    requires count { length items.now ≤ MOST_ITEMS }
     requires lengths { length numbers.old ≡ length items.now }
     ensures { IsOrder items.now numbers.new }
 {
-    let mut keys = [0; 512];
+    let mut keys = [0; MOST_ITEMS];
     for (i, item) in items.iter().enumerate() {
         keys[i] = met_at(item);
         numbers[i] = i as u16;

@@ -4,8 +4,8 @@ ghost use Rattle.pon_cert.specs.Certificate.{IsCertificate, unsaturated_weight};
 ghost use Rattle.pon_fill.specs.Rounds.{taken_in, saturated_caps};
 
 use crate::level::total_weight;
-use pon_cert::{Item, Level};
-use pon_units::Frac;
+use pon_cert::{Item, Level, MOST_ITEMS};
+use pon_units::{Frac, LINE_RATE};
 
 // What the items that come in during a round have together.
 #[derive(Clone, Copy)]
@@ -17,10 +17,10 @@ struct Taken {
 // One round at the level `left / weight`: every item whose cap is met there comes in.
 fn take_in(items: &[Item], left: u64, weight: u64, saturated: &mut [bool]) -> Taken
     requires lengths { length items.now ≡ length saturated.old }
-    requires count { length items.now ≤ 512 }
+    requires count { length items.now ≤ MOST_ITEMS }
     requires each { All IsItem items.now }
-    requires left { left ≤ 2488320 }
-    requires weight { weight ≤ 512 * 2488320 }
+    requires left { left ≤ LINE_RATE }
+    requires weight { weight ≤ MOST_ITEMS * LINE_RATE }
     ensures taken { saturated.new ≡ taken_in left weight items.now saturated.old }
     ensures weight { unsaturated_weight items.now saturated.new + result.weight
         ≡ unsaturated_weight items.now saturated.old }

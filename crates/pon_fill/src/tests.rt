@@ -1,10 +1,9 @@
 // Worked shares, problems at the limits, and `fill` beside the definition of a certificate and beside filling in rounds.
 ghost use Rattle.std.specs.Prelude.{◌≡◌, ◌<◌, length, true};
-ghost use Rattle.pon_cert.specs.Problem.{IsProblem};
 
 use crate::fill;
 use crate::rounds::fill_in_rounds;
-use pon_cert::{Item, Level};
+use pon_cert::{Item, Level, is_problem};
 use pon_units::Frac;
 use std::process::Abort;
 
@@ -18,17 +17,6 @@ fn at(num: u64, den: u64) -> Level
     requires { 0 < den }
 {
     Level::At(Frac::new(num, den))
-}
-
-fn is_problem(items: &[Item], surplus: u64) -> bool
-    ensures { result ≡ true → IsProblem items.now surplus }
-{
-    for item in items {
-        if item.weight == 0 || item.weight > LINE || item.cap > LINE {
-            return false;
-        }
-    }
-    items.len() <= 512 && surplus <= LINE
 }
 
 // What `fill` answers and leaves.

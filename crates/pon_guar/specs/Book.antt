@@ -1,5 +1,6 @@
 -- The accounts of a report book: for each admitted Alloc-ID the report that counts, in rising Alloc-ID.
 use Rattle.std.specs.Prelude.{◌≡◌, ℕ, ◌*◌, ◌<◌, ◌==◌, List, [], map, find, length, slice_get, Option, Some, None, option_to_list}
+use Rattle.pon_units.specs.declared.limits.TheConstants.{WORD_RATE}
 pub use Rattle.pon_lists.specs.Order.{AreRising, with_number as with_alloc, without_number as without_alloc}
 pub use Rattle.pon_guar.specs.declared.account.Counted.{Counted}
 pub use Rattle.pon_guar.specs.declared.account.Account.{Account}
@@ -39,7 +40,7 @@ known_report (Some a) = a.counted
 -- the load that a report offers: its words not yet granted, at 256 kbit/s a word
 abbrev pub load_of_counted : Option Counted → ℕ
 load_of_counted None = 0
-load_of_counted (Some c) = 256 * c.words
+load_of_counted (Some c) = WORD_RATE * c.words
 
 -- the offered load of an Alloc-ID in kbit/s, 0 where it is not there
 abbrev pub load_of : List Account → ℕ → ℕ

@@ -3,7 +3,7 @@ ghost use Rattle.pon_descr.specs.Descriptor.{promised};
 ghost use Rattle.pon_guar.specs.Rates.{cap, guaranteed};
 
 use pon_descr::Descriptor;
-use pon_units::Kbps;
+use pon_units::{Kbps, LINE_RATE};
 
 /// The guaranteed rate of a descriptor under a load, both in kbit/s: the fixed rate always, the assured rate as far as the
 /// load asks for it (ITU-T G.987.3, reference model). At most the promised rate.
@@ -19,7 +19,7 @@ pub fn guaranteed(descriptor: &Descriptor, load: Kbps) -> Kbps
 /// for up to the maximum rate, less the guaranteed rate.
 pub fn cap(descriptor: &Descriptor, load: Kbps) -> Kbps
     ensures rate { result ≡ cap descriptor.now load }
-    ensures range { result ≤ 2488320 }
+    ensures range { result ≤ LINE_RATE }
 {
     prove!(descriptor.promised() <= descriptor.max());
     let most = load.max(descriptor.fixed()).min(descriptor.max());

@@ -32,6 +32,19 @@ by_rows (Some met) name rows file n e check first =
     let same_rows : rows ≡ met.1 = cc in
     (sym same_name ∙ check, sym (first ∙ ap (first_of (codes "file")) same_rows))
 
+plan_by_rows : (r : Option (List ℕ × List Row)) (name : List ℕ) (rows : List Row) (config : Option (Bor (List ℕ))) → Some name ≡ option_map (λ p. p.0) r → Some rows ≡ option_map (λ p. p.1) r → name ≡ codes "plan" → option_map (λ f. f.now) config ≡ first_of (codes "config") rows → IsJob r (Plan config)
+plan_by_rows None name rows config n e plan first = absurd (cc)
+plan_by_rows (Some met) name rows config n e plan first =
+    let same_name : name ≡ met.0 = cc in
+    let same_rows : rows ≡ met.1 = cc in
+    (sym same_name ∙ plan, first ∙ ap (first_of (codes "config")) same_rows)
+
+-- `plan` with the settings that were matched
+pub plan_met : (m found : ArgMatches) (name : List ℕ) (config : Option (Bor (List ℕ))) → Some name ≡ subcommand_name_of m → Some (rows_of (found_of found)) ≡ option_map (λ p. p.1) (subcommand_rows_of m) →
+    bytes_eq name (codes "plan") ≡ true → option_map (λ f. f.now) config ≡ first_value (found_of found) (codes "config") → IsJob (subcommand_rows_of m) (Plan config)
+plan_met m found name config n r plan first =
+    plan_by_rows (subcommand_rows_of m) name (rows_of (found_of found)) config (n ∙ sym (name_of_rows m)) r ((bytes_eq-Decides name (codes "plan")).0 plan) (first ∙ first_value-rows (found_of found) (codes "config"))
+
 -- `check` with the file that was matched
 pub check_met : (m found : ArgMatches) (name : List ℕ) (file : Bor (List ℕ)) → Some name ≡ subcommand_name_of m → Some (rows_of (found_of found)) ≡ option_map (λ p. p.1) (subcommand_rows_of m) →
     bytes_eq name (codes "check") ≡ true → Some file.now ≡ first_value (found_of found) (codes "file") → IsJob (subcommand_rows_of m) (Check file)
@@ -40,9 +53,9 @@ check_met m found name file n r check first =
 
 without_file : (r : Option (List ℕ × List Row)) (name : List ℕ) (rows : List Row) → Some name ≡ option_map (λ p. p.0) r → Some rows ≡ option_map (λ p. p.1) r → name ≡ codes "check" → None ≡ first_of (codes "file") rows → NamesNoJob r
 without_file None name rows n e check first job j = absurd (cc)
-without_file (Some met) name rows n e check first Plan j =
+without_file (Some met) name rows n e check first (Plan config) j =
     let same_name : name ≡ met.0 = cc in
-    let differ : 99 ≡ 112 = ap (λ l. slice_index l 0) (sym check ∙ same_name ∙ j) in
+    let differ : 99 ≡ 112 = ap (λ l. slice_index l 0) (sym check ∙ same_name ∙ j.0) in
     absurd (omega (arith, differ))
 without_file (Some met) name rows n e check first (Check file) j =
     let same_rows : rows ≡ met.1 = cc in

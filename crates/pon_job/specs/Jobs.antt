@@ -1,5 +1,5 @@
 -- The jobs of the program, by the words of its command line.
-use Rattle.std.specs.Prelude.{◌≡◌, ◌⊎◌, ℕ, List, [], ◌∷◌, codes, Option, Some, None, true}
+use Rattle.std.specs.Prelude.{◌≡◌, ◌⊎◌, ℕ, List, [], ◌∷◌, codes, Option, Some, None, option_map, true}
 use Rattle.clap.specs.Walk.{Row, Rule, first_of}
 use Rattle.clap.specs.Simple.{App, Shape, new_shape, new_rule, subcommand_of, with_subcommand}
 use Rattle.clap.specs.Faults.{fault_of}
@@ -14,8 +14,12 @@ use Rattle.pon_job.specs.declared.task.Job.TheVariants.{Plan, Check}
 abbrev pub file_rule : Rule
 file_rule = record (new_rule (codes "file")) { value_names = 1; required = true }
 
+-- the settings of `plan`, which it may have
+abbrev pub config_rule : Rule
+config_rule = record (new_rule (codes "config")) { long = Some (codes "config"); value_names = 1 }
+
 abbrev pub plan_shape : Shape
-plan_shape = new_shape (codes "plan")
+plan_shape = record (new_shape (codes "plan")) { rules = config_rule ∷ [] }
 
 abbrev pub check_shape : Shape
 check_shape = record (new_shape (codes "check")) { rules = file_rule ∷ [] }
@@ -27,10 +31,11 @@ top_shape = record (new_shape (codes "olt")) { has_version = true; subcommand_re
 abbrev pub olt_app : App
 olt_app = with_subcommand (with_subcommand (record { top = top_shape; subs = [] }) plan_shape) check_shape
 
--- `plan` answers management lines, and `check` judges the file that its word names
+-- `plan` answers management lines, at the ports of the settings that `--config` names if it is there; `check` judges the file
+-- that its word names
 abbrev pub IsJob : Option (List ℕ × List Row) → Job → Type 0
 IsJob None job = ⊥
-IsJob (Some met) Plan = met.0 ≡ codes "plan"
+IsJob (Some met) (Plan config) = (met.0 ≡ codes "plan") × (option_map (λ file. file.now) config ≡ first_of (codes "config") met.1)
 IsJob (Some met) (Check file) = (met.0 ≡ codes "check") × (first_of (codes "file") met.1 ≡ Some file.now)
 
 -- a subcommand that names no job

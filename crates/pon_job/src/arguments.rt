@@ -4,7 +4,7 @@ ghost use Rattle.std.specs.Prelude.{◌≡◌, [], IfErr, IfOk, IfSome, IsNone, 
 ghost use Rattle.clap.specs.Words.{subcommand_rows_of};
 ghost use Rattle.clap.specs.Walk.{rule_of};
 ghost use Rattle.clap.specs.Simple.{app_of, subcommand_of};
-ghost use Rattle.pon_job.specs.Jobs.{IsJob, NamesNoJob, RefusesWords, file_rule, olt_app};
+ghost use Rattle.pon_job.specs.Jobs.{IsJob, NamesNoJob, RefusesWords, config_rule, file_rule, olt_app};
 
 use crate::task::Job;
 use clap::error::ErrorKind;
@@ -21,11 +21,23 @@ fn file_arg<'a>(alloc: Global) -> Arg<'a>
         .required(true)
 }
 
+fn config_arg<'a>(alloc: Global) -> Arg<'a>
+    ensures rule { rule_of result ≡ config_rule }
+    ensures local { result.global ≡ false }
+{
+    Arg::new(alloc, "config")
+        .long("config")
+        .value_name("FILE")
+        .help("The settings of the ports and their Alloc-IDs, in TOML")
+}
+
 // The program's command, with its subcommands.
 fn command<'a>(alloc: Global) -> Result<Command<'a>, AllocError>
     ensures { IfOk result (λ c. app_of c ≡ olt_app) }
 {
-    let plan = Command::new(alloc, "plan").about("Answer management lines from standard input");
+    let plan = Command::new(alloc, "plan")
+        .about("Answer management lines from standard input")
+        .arg(config_arg(alloc))?;
     let check = Command::new(alloc, "check")
         .about("Judge the certificate of a shared surplus")
         .arg(file_arg(alloc))?;
@@ -46,7 +58,8 @@ fn job_of<'a>(matches: &ArgMatches<'a>) -> Option<Job<'a>>
 {
     let (name, found) = matches.subcommand()?;
     if name == "plan" {
-        return Some(Job::Plan);
+        let config = found.get_str("config");
+        return Some(Job::Plan { config });
     }
     if name == "check" {
         let file = found.get_str("file")?;

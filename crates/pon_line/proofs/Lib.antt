@@ -1,3 +1,4 @@
+pub mod AskedEvents
 pub mod Asking
 mod FieldWords
 pub mod LongLines

@@ -1,6 +1,7 @@
 -- The commands of management lines: what the words after the port ask.
 use Rattle.std.specs.Prelude.{ℕ, ◌==◌, ◌||◌, nat_lt, if◌then◌else◌, List, [], ◌∷◌, length, codes, Option, Some, None, Result, Ok, Err}
 use Rattle.std.specs.Str.{bytes_eq}
+use Rattle.pon_units.specs.declared.limits.TheConstants.{GREATEST_ALLOC_ID, GREATEST_OCCUPANCY, GREATEST_ONU_ID, LEAST_ALLOC_ID, LONGEST_SERIES}
 use Rattle.pon_descr.specs.Checks.{when, first_of}
 use Rattle.pon_descr.specs.Descriptor.{Descriptor, descriptor_refusal}
 use Rattle.pon_descr.specs.declared.refusal.Refusal.{Refusal}
@@ -20,10 +21,10 @@ unless None event = Ok event
 unless (Some refusal) event = Err (Port refusal)
 
 abbrev pub alloc_refusal : ℕ → Option Refusal
-alloc_refusal alloc = when (nat_lt alloc 1024 || nat_lt 16383 alloc) AllocRange
+alloc_refusal alloc = when (nat_lt alloc LEAST_ALLOC_ID || nat_lt GREATEST_ALLOC_ID alloc) AllocRange
 
 abbrev pub onu_refusal : ℕ → Option Refusal
-onu_refusal onu = when (nat_lt 1022 onu) OnuRange
+onu_refusal onu = when (nat_lt GREATEST_ONU_ID onu) OnuRange
 
 -- the events of numbers
 unfoldable pub admit : ℕ → ℕ → Descriptor → Result Event LineFault
@@ -63,7 +64,7 @@ remove_of _ = Err WordCount
 unfoldable pub occupancy_field : List ℕ → Result (Option ℕ) LineFault
 occupancy_field w = if bytes_eq w (codes "x") then Ok None else (do
   n ← number_field w
-  if nat_lt 16777215 n then Err BadField else Ok (Some n))
+  if nat_lt GREATEST_OCCUPANCY n then Err BadField else Ok (Some n))
 
 unfoldable pub occupancy_fields : List (List ℕ) → Result (List (Option ℕ)) LineFault
 occupancy_fields [] = Ok []
@@ -77,7 +78,7 @@ report frame onu ns = unless (onu_refusal onu) (Report frame onu ns)
 
 -- the words after `report`: frame, onu, and 1 to 16 occupancies
 unfoldable pub report_of : List (List ℕ) → Result Event LineFault
-report_of (frame ∷ onu ∷ ws) = if length ws == 0 || nat_lt 16 (length ws) then Err WordCount else (do
+report_of (frame ∷ onu ∷ ws) = if length ws == 0 || nat_lt LONGEST_SERIES (length ws) then Err WordCount else (do
   f ← number_field frame
   u ← number_field onu
   ns ← occupancy_fields ws

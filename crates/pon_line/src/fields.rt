@@ -9,7 +9,7 @@ ghost use Rattle.pon_line.specs.Fields.{number_field, descriptor_words, written_
 use crate::fault::LineFault;
 use pon_descr::{Cause, Class, Descriptor, Refusal};
 use pon_text::{Word, first_word, number_of};
-use pon_units::{AllocId, OnuId};
+use pon_units::{AllocId, GREATEST_ALLOC_ID, GREATEST_ONU_ID, LEAST_ALLOC_ID, OnuId};
 
 /// The words of a descriptor.
 #[derive(Clone, Copy)]
@@ -134,14 +134,14 @@ pub(crate) fn descriptor_of(rates: &Rates) -> Result<Descriptor, Refusal>
 
 /// A managed Alloc-ID, 1024 to 16383.
 pub(crate) fn alloc_id_of(number: u64) -> Option<AllocId>
-    ensures { SomeIff result ((1024 ≤ number) × (number ≤ 16383)) number }
+    ensures { SomeIff result ((LEAST_ALLOC_ID ≤ number) × (number ≤ GREATEST_ALLOC_ID)) number }
 {
     AllocId::new(u16::try_from(number).ok()?)
 }
 
 /// An ONU-ID, 0 to 1022.
 pub(crate) fn onu_id_of(number: u64) -> Option<OnuId>
-    ensures { SomeIff result (number ≤ 1022) number }
+    ensures { SomeIff result (number ≤ GREATEST_ONU_ID) number }
 {
     OnuId::new(u16::try_from(number).ok()?)
 }

@@ -9,11 +9,11 @@ use crate::fault::LineFault;
 use crate::fields::number_field;
 use pon_dbru::Occupancies;
 use pon_text::first_word;
-use pon_units::BufOcc;
+use pon_units::{BufOcc, GREATEST_OCCUPANCY};
 
 // The occupancy of a number of words, 0 to 16,777,215.
 fn occupancy_of(number: u64) -> Option<BufOcc>
-    ensures { SomeIff result (number ≤ 16777215) number }
+    ensures { SomeIff result (number ≤ GREATEST_OCCUPANCY) number }
 {
     BufOcc::new(u32::try_from(number).ok()?)
 }

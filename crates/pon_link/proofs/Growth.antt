@@ -16,7 +16,7 @@ hold_part old mid new piece part k n is e one =
     let seam : holds_more (holds_more old (take k piece)) part ≡ holds_more old (take (k + n) piece) = λ i. record { direction = old.direction; held = grown i; ended = old.ended } in
     one ∙ both ∙ seam
 
--- a reader that is open with any fewer bytes than so many is open all along the next part of a piece
+-- a reader that is open up to byte k of a piece, and from there with fewer than n bytes more, is open up to byte k + n
 pub open_further : (old mid : Reading) (piece : List ℕ) (k n : ℕ) → mid ≡ holds_more old (take k piece) → ((more : List ℕ) → length more < n → IsOpen (holds_more mid more)) → ((j : ℕ) → j < k → IsOpen (holds_more old (take j piece))) → (j : ℕ) → j < k + n → IsOpen (holds_more old (take j piece))
 open_further old mid piece k n e begins before j lt = elim (cases_lt j k) [
   | inl less ↦ before j less

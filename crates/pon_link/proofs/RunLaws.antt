@@ -89,9 +89,19 @@ one_way Is d t bytes (r ∷ rs) (s ∷ ss) held kept small b c h k =
 -- ---- where a run ends
 
 -- bytes behind those that a run took are behind what it holds
-records_behind : {R : Type 0} (Is : List ℕ → R → Type 0) (bytes rest : List ℕ) (rs : List R) (held : List ℕ) → AreRecords Is bytes rs held → AreRecords Is (bytes ++ rest) rs (held ++ rest)
+pub records_behind : {R : Type 0} (Is : List ℕ → R → Type 0) (bytes rest : List ℕ) (rs : List R) (held : List ℕ) → AreRecords Is bytes rs held → AreRecords Is (bytes ++ rest) rs (held ++ rest)
 records_behind Is bytes rest [] held h = ap (λ (t : List ℕ). t ++ rest) h
 records_behind Is bytes rest (r ∷ rs) held h = (h.0, h.1 ++ rest, ap (λ (t : List ℕ). t ++ rest) h.2 ∙ append_assoc h.0 h.1 rest, h.3, records_behind Is h.1 rest rs held h.4)
+
+-- records, and then others
+pub records_joined : {R : Type 0} (Is : List ℕ → R → Type 0) (bytes more : List ℕ) (rs others : List R) (held : List ℕ) → AreRecords Is bytes rs [] → AreRecords Is more others held → AreRecords Is (bytes ++ more) (rs ++ others) held
+records_joined Is bytes more [] others held h k = subst (λ (t : List ℕ). AreRecords Is (t ++ more) others held) (sym h) k
+records_joined Is bytes more (r ∷ rs) others held h k = (h.0, h.1 ++ more, ap (λ (t : List ℕ). t ++ more) h.2 ∙ append_assoc h.0 h.1 more, h.3, records_joined Is h.1 more rs others held h.4 k)
+
+-- the bytes behind the records are one more
+pub held_record : {R : Type 0} (Is : List ℕ → R → Type 0) (bytes : List ℕ) (rs : List R) (held : List ℕ) (r : R) → AreRecords Is bytes rs held → Is held r → AreRecords Is bytes (rs ++ r ∷ []) []
+held_record Is bytes [] held r h is = (held, [], h ∙ sym (append-nil held), is, refl)
+held_record Is bytes (s ∷ rs) held r h is = (h.0, h.1, h.2, h.3, held_record Is h.1 rs held r h.4 is)
 
 held_bytes : {R : Type 0} (Is : List ℕ → R → Type 0) (bytes : List ℕ) (rs : List R) (held : List ℕ) → AreBytes bytes → AreRecords Is bytes rs held → AreBytes held
 held_bytes Is bytes [] held small h = subst AreBytes h small

@@ -1,5 +1,6 @@
 -- What a reader of a link's records holds, and what a call of it does, in either direction.
 use Rattle.std.specs.Prelude.{◌≡◌, ◌≢◌, ℕ, ◌+◌, ◌*◌, ◌^◌, ◌%◌, ◌<◌, ◌≤◌, ◌⊎◌, Bool, false, IsTrue, List, [], ◌++◌, length, drop, slice_index, Option, Some, None, Result, Ok, Err}
+use Rattle.pon_units.specs.declared.limits.TheConstants.{MOST_STRUCTURES}
 use Rattle.pon_device.specs.Device.{Consumes, Keeps, IsAtEnd}
 use Rattle.pon_xgtc.specs.MapHead.{MapHead, ReadsMapHead}
 use Rattle.pon_bwmap.specs.MapReading.{BeginsWithMap}
@@ -43,7 +44,7 @@ longest Down = 4109
 
 -- These bytes of a map give the number of bytes of its record: 512 structures at most, and no message.
 abbrev pub AnnouncesMap : List ℕ → ℕ → Type 0
-AnnouncesMap map n = (head : MapHead) × (corrected : ℕ) × ReadsMapHead map head corrected × (head.n ≤ 512) × (head.p ≡ 0) × (n ≡ 13 + 8 * head.n)
+AnnouncesMap map n = (head : MapHead) × (corrected : ℕ) × ReadsMapHead map head corrected × (head.n ≤ MOST_STRUCTURES) × (head.p ≡ 0) × (n ≡ 13 + 8 * head.n)
 
 -- Those bytes give the number of bytes of the record: its count byte says 1 to 16, or its map's head announces
 -- 512 structures at most and no message.

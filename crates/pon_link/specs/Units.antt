@@ -1,6 +1,7 @@
 -- What a unit answers to a bandwidth map: its reports (DBRu, ITU-T G.987.3), and what then still waits in it.
 use Rattle.std.specs.Prelude.{ℕ, ◌-◌, ◌==◌, ◌&&◌, min, Bool, if◌then◌else◌, List, [], ◌∷◌, map, take, filter, Option, Some}
 use Rattle.std.specs.List.{list_any}
+use Rattle.pon_units.specs.declared.limits.TheConstants.{GREATEST_OCCUPANCY}
 use Rattle.pon_bwmap.specs.Structure.{Structure}
 
 -- a unit: its ONU-ID, and the words that wait for each Alloc-ID of its own
@@ -8,9 +9,13 @@ pub record UnitState : Type 0 where
   pub onu : ℕ
   pub queues : List (ℕ × ℕ)
 
+-- one of these queues is of this Alloc-ID
+abbrev pub owns : List (ℕ × ℕ) → ℕ → Bool
+owns queues id = list_any (λ q. q.0 == id) queues
+
 -- a structure asks for a report of one of these queues
 abbrev pub asks : List (ℕ × ℕ) → Structure → Bool
-asks queues a = a.dbru && list_any (λ q. q.0 == a.id) queues
+asks queues a = a.dbru && owns queues a.id
 
 -- the structures of a map that a unit with these queues answers: the first 16 that ask it
 abbrev pub answered : List (ℕ × ℕ) → List Structure → List Structure
@@ -34,4 +39,4 @@ served queues (a ∷ rows) = served (map (lessened a) queues) rows
 -- report can say.
 abbrev pub reports : List (ℕ × ℕ) → List Structure → List (Option ℕ)
 reports queues [] = []
-reports queues (a ∷ rows) = Some (min (waiting queues a.id) 16777215) ∷ reports (map (lessened a) queues) rows
+reports queues (a ∷ rows) = Some (min (waiting queues a.id) GREATEST_OCCUPANCY) ∷ reports (map (lessened a) queues) rows

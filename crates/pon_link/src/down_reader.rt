@@ -102,6 +102,7 @@ impl DownReader {
         ensures waits { (IsOpen self.old → ⊥) → reader.new ≡ reader.old }
         ensures one_read { IsOpen self.old → CountsCall (R.calls reader.old) (R.calls reader.new) }
         ensures within { IsWithinRecord self.new.direction self.new.held }
+        ensures down { self.new.direction ≡ Direction.Down }
     {
         self.reading.pull(reader)
     }

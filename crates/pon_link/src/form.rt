@@ -4,6 +4,7 @@ ghost use Rattle.pon_link.specs.Reading.{KeepsForm, HasFault, HasBadSize, IsBegi
 
 use crate::direction::Direction;
 use crate::fault::LinkFault;
+use pon_units::{LONGEST_SERIES, MOST_STRUCTURES};
 use pon_xgtc::HLend;
 
 /// The tag of an upstream record.
@@ -11,9 +12,6 @@ pub(crate) const UP_TAG: u8 = 0x55;
 
 /// The tag of a downstream record.
 pub(crate) const DOWN_TAG: u8 = 0x44;
-
-/// The most structures that the map of a downstream record has.
-const MOST_ROWS: u16 = 512;
 
 fn tag(direction: Direction) -> u8
     ensures { result ≡ tag_of direction }
@@ -48,10 +46,10 @@ fn announced(direction: Direction, bytes: &[u8]) -> Option<usize>
 
 // The size of a record with this count byte.
 fn up_size(count: u8) -> Option<usize>
-    ensures { MatchOption result ((count ≡ 0) ⊎ (16 < count))
-        (λ n. (1 ≤ count) × (count ≤ 16) × (n ≡ 14 + 4 * count)) }
+    ensures { MatchOption result ((count ≡ 0) ⊎ (LONGEST_SERIES < count))
+        (λ n. (1 ≤ count) × (count ≤ LONGEST_SERIES) × (n ≡ 14 + 4 * count)) }
 {
-    if count == 0 || count > 16 {
+    if count == 0 || usize::from(count) > LONGEST_SERIES {
         return None;
     }
     Some(14 + 4 * usize::from(count))
@@ -66,7 +64,7 @@ fn down_size(map: &[u8]) -> Option<usize>
         Ok((head, _)) => head,
         Err(_) => return None,
     };
-    if head.n() > MOST_ROWS || head.p() > 0 {
+    if usize::from(head.n()) > MOST_STRUCTURES || head.p() > 0 {
         return None;
     }
     Some(13 + 8 * usize::from(head.n()))

@@ -1,12 +1,12 @@
 ghost use Rattle.std.specs.Prelude.{◌≡◌, ◌<◌, ◌==◌, ◌↔◌, ◌++◌, [], ◌∷◌, true, false, min, map, length, Some, IsNone, IfSome, MatchOption};
 ghost use Rattle.std.specs.List.{list_any};
-ghost use Rattle.pon_link.specs.Units.{asks, answered, waiting, lessened, served, reports};
+ghost use Rattle.pon_link.specs.Units.{owns, asks, answered, waiting, lessened, served, reports};
 
 use crate::record::UpRecord;
 use arrayvec::ArrayVec;
 use pon_bwmap::{Alloc, Map};
 use pon_dbru::Occupancies;
-use pon_units::{AllocId, BufOcc, FrameNo, OnuId};
+use pon_units::{AllocId, BufOcc, FrameNo, GREATEST_OCCUPANCY, LONGEST_SERIES, OnuId};
 use pon_xgtc::BurstHead;
 use std::marker::Model;
 
@@ -35,6 +35,13 @@ impl Unit {
         Unit { onu, queues }
     }
 
+    /// Whether the Alloc-ID is one of its own.
+    pub fn owns(&self, alloc_id: u16) -> bool
+        ensures { result ≡ owns self.now.queues alloc_id }
+    {
+        words_waiting(self.queues.as_slice(), alloc_id).is_some()
+    }
+
     /// The burst that answers the map of a frame: for each of the first 16 structures that ask for a report of an
     /// Alloc-ID of its own, in order, the words that wait, at most 16,777,215. Of the words that wait then go as
     /// many as the structure grants beside the report's one. The burst header has the unit's ONU-ID and no
@@ -53,7 +60,25 @@ impl Unit {
           queues = served self.old.queues (answered self.old.queues map.now);
         } }
     {
-        let occ = answer_all(self.queues.as_mut_slice(), map.rows());
+        self.answer_rows(frame, map.rows())
+    }
+
+    /// The burst that answers these structures of a map of the frame, as [`Unit::answer`] answers a whole map.
+    ///
+    /// `None` exactly when none of them asks for a report of an Alloc-ID of its own.
+    pub fn answer_rows(&mut self, frame: FrameNo, rows: &[Alloc]) -> Option<UpRecord>
+        ensures none { IsNone result ↔ (answered self.old.queues rows.now ≡ []) }
+        ensures burst { IfSome result (λ burst. burst ≡ record {
+          frame = frame;
+          head = Some (record { onu_raw = self.old.onu; ind = 0 });
+          occ = reports self.old.queues (answered self.old.queues rows.now);
+        }) }
+        ensures queues { self.new ≡ record {
+          onu = self.old.onu;
+          queues = served self.old.queues (answered self.old.queues rows.now);
+        } }
+    {
+        let occ = answer_all(self.queues.as_mut_slice(), rows);
         if occ.as_slice().is_empty() {
             return None;
         }
@@ -62,9 +87,6 @@ impl Unit {
     }
 }
 
-/// The most reports of a burst.
-const MOST_REPORTS: usize = 16;
-
 // Answers the first 16 structures that ask.
 fn answer_all(queues: &mut [(AllocId, u32)], rows: &[Alloc]) -> Occupancies
     ensures reports { result ≡ reports queues.old (answered queues.old rows.now) }
@@ -72,7 +94,7 @@ fn answer_all(queues: &mut [(AllocId, u32)], rows: &[Alloc]) -> Occupancies
 {
     let mut occ = Occupancies::new();
     for row in rows {
-        if occ.as_slice().len() < MOST_REPORTS {
+        if occ.as_slice().len() < LONGEST_SERIES {
             answer_one(queues, &mut occ, row);
         }
     }
@@ -81,9 +103,9 @@ fn answer_all(queues: &mut [(AllocId, u32)], rows: &[Alloc]) -> Occupancies
 
 // Answers a structure, if it asks.
 fn answer_one(queues: &mut [(AllocId, u32)], occ: &mut Occupancies, row: &Alloc)
-    requires { length occ.old < 16 }
+    requires { length occ.old < LONGEST_SERIES }
     ensures asks { asks queues.old row.now ≡ true
-        → (occ.new ≡ occ.old ++ Some (min (waiting queues.old row.now.id) 16777215) ∷ [])
+        → (occ.new ≡ occ.old ++ Some (min (waiting queues.old row.now.id) GREATEST_OCCUPANCY) ∷ [])
         × (queues.new ≡ map (lessened row.now) queues.old) }
     ensures others { asks queues.old row.now ≡ false
         → (occ.new ≡ occ.old) × (queues.new ≡ queues.old) }
@@ -92,7 +114,7 @@ fn answer_one(queues: &mut [(AllocId, u32)], occ: &mut Occupancies, row: &Alloc)
         return;
     }
     if let Some(words) = words_waiting(queues, row.id()) {
-        occ.push(BufOcc::new(words.min(BufOcc::MAX)));
+        occ.push(BufOcc::new(words.min(GREATEST_OCCUPANCY)));
         lessen(queues, row);
     }
 }

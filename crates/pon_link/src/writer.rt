@@ -5,7 +5,7 @@ ghost use Rattle.pon_link.specs.DownRecords.{down_bytes, IsDownRecord};
 use crate::form::DOWN_TAG;
 use pon_bwmap::{Map, write_map};
 use pon_device::DevWrite;
-use pon_units::FrameNo;
+use pon_units::{FrameNo, MOST_STRUCTURES};
 use std::marker::Model;
 
 /// The bytes of the longest downstream record, one of 512 structures.
@@ -111,7 +111,7 @@ fn write_record(frame: FrameNo, map: &Map, room: &mut [u8]) -> usize
     ensures reads { IsDownRecord (down_bytes frame map.now) record { frame = frame; map = map.now } }
 {
     let rows = map.rows();
-    prove!(rows.len() <= 512);
+    prove!(rows.len() <= MOST_STRUCTURES);
     room[0] = DOWN_TAG;
     room[1..9].copy_from_slice(&frame.get().to_be_bytes());
     9 + write_map(map, &mut room[9..])

@@ -1,28 +1,36 @@
--- What a port answers to an event that it refuses.
-use Rattle.std.proofs.Common.{◌≡◌, ℕ, List, [], ◌∷◌, refl, subst, sym}
-use Rattle.std.specs.Prelude.{Option, Some, None, Result, Ok, Err, IfOk, ◌≢◌}
-use Rattle.pon_port.specs.Chapters.{Chapter}
+-- What a port answers to an event, as a text.
+use Rattle.std.proofs.Common.{◌≡◌, ℕ, List, refl, ap, sym, ◌∙◌, subst, length}
+use Rattle.std.specs.Prelude.{Option, Some, None, Result, Ok, Err, IfOk, IfSome, ◌≢◌, slice_get, slice_set}
 use Rattle.pon_descr.specs.Checks.{IsTold}
-use Rattle.pon_port.specs.Taking.{refusal_of}
-use Rattle.pon_event.specs.declared.event.Event.{Event}
 use Rattle.pon_descr.specs.declared.refusal.Refusal.{Refusal}
 use Rattle.pon_descr.specs.declared.refusal.Refusal.TheVariants.{OutOfMemory}
-use Rattle.pon_manage.specs.Text.{Answers, Posts, refusal_line}
+use Rattle.pon_event.specs.declared.event.Event.{Event}
+use Rattle.pon_event.specs.declared.step.Step.{Step}
+use Rattle.pon_state.specs.declared.reply.Reply.{Reply}
+use Rattle.pon_port.specs.Chapters.{Chapter}
+use Rattle.pon_port.specs.Taking.{refusal_of, with_entry}
+use Rattle.pon_plant.specs.Answers.{IsAnswer, after_entry, after_step}
+use Rattle.pon_plant.specs.declared.fault.StepFault.TheVariants.{NoSuchPort, Refused}
 use Rattle.pon_line.specs.declared.fault.LineFault.TheVariants.{Port}
 use Rattle.pon_line.specs.declared.reading.Reading.TheVariants.{Asks}
+use Rattle.pon_manage.specs.Text.{Answers, AsksPort, Posts, refusal_line, reply_line}
 
--- a refusal that is returned, other than out of memory, is the first check's
-pub refused : (c d : Chapter) (event : Event) (told : Refusal) (text : List ℕ) → IsTold (refusal_of c event) told → told ≢ OutOfMemory → d ≡ c →
-    text ≡ refusal_line (Port told) → Answers (c ∷ []) (Asks 0 event) text (d ∷ [])
-refused c d event told text h other same is =
-    subst (λ d. Answers (c ∷ []) (Asks 0 event) text (d ∷ [])) (sym same) (by_check (refusal_of c event) h)
+abbrev at : ℕ → Event → Step
+at port event = record { port = port; event = event }
+
+-- the text of a refused event is that of the first check that refuses it, unless memory was refused
+refused_at : (old : List Chapter) (port : ℕ) (event : Event) (told : Refusal) (text : List ℕ) (o : Option Chapter) →
+    IsAnswer o event (Err (Refused told)) → told ≢ OutOfMemory → text ≡ refusal_line (Port told) → AsksPort old port o event text old
+refused_at old port event told text None h other is = absurd (cc)
+refused_at old port event told text (Some c) h other is = by_check (refusal_of c event) h
   where
-    by_check : (r : Option Refusal) → IsTold r told → Posts (c ∷ []) 0 c event r text (c ∷ [])
+    by_check : (r : Option Refusal) → IsTold r told → Posts old port c event r text old
     by_check None h = absurd (other h)
     by_check (Some r) h = (subst (λ r. text ≡ refusal_line (Port r)) h is, refl)
 
--- the same of the text that was made for it, where it was made
-pub refused_text : {T E : Type 0} (bytes : T → List ℕ) (c d : Chapter) (event : Event) (told : Refusal) (r : Result T E) → IsTold (refusal_of c event) told → told ≢ OutOfMemory →
-    d ≡ c → IfOk r (λ text. bytes text ≡ refusal_line (Port told)) → IfOk r (λ text. Answers (c ∷ []) (Asks 0 event) (bytes text) (d ∷ []))
-refused_text bytes c d event told (Ok text) h other same is = refused c d event told (bytes text) h other same is
-refused_text bytes c d event told (Err e) h other same is = tt
+pub refused_text : {T E : Type 0} (bytes : T → List ℕ) (old new : List Chapter) (port : ℕ) (event : Event) (told : Refusal) (r : Result T E) →
+    IsAnswer (slice_get old port) event (Err (Refused told)) → told ≢ OutOfMemory → new ≡ after_step old (at port event) (Err (Refused told)) →
+    IfOk r (λ text. bytes text ≡ refusal_line (Port told)) → IfOk r (λ text. Answers old (Asks port event) (bytes text) new)
+refused_text bytes old new port event told (Ok text) h other after is =
+    subst (λ ports. Answers old (Asks port event) (bytes text) ports) (sym after) (refused_at old port event told (bytes text) (slice_get old port) h other is)
+refused_text bytes old new port event told (Err e) h other after is = tt

@@ -1,6 +1,6 @@
 mod AnswerLaws
-mod Continuing
-mod Feeds
+mod EachOutput
 mod OneOutput
+mod ReadEvents
+mod ShownViews
 mod StateNumbers
-mod Streaming

@@ -10,7 +10,8 @@ use Rattle.pon_event.specs.declared.event.Event.{Event}
 use Rattle.pon_descr.specs.declared.refusal.Refusal.{Refusal}
 use Rattle.pon_text.specs.Lines.{lines_of}
 use Rattle.pon_line.specs.Reading.{read_line}
-use Rattle.pon_manage.specs.Text.{reply_line, Answers, AsksPort, Posts, TellsCert, TellsState, GivesLines, IsOutput}
+use Rattle.pon_session.specs.Giving.{GivesLines}
+use Rattle.pon_manage.specs.Text.{reply_line, Answers, AsksPort, Posts, TellsCert, TellsState, Gives, IsOutput}
 use Rattle.pon_line.specs.declared.reading.Reading.{Reading}
 use Rattle.pon_line.specs.declared.reading.Reading.TheVariants.{Nothing, Refused, Asks, AsksCert, AsksState}
 
@@ -26,10 +27,10 @@ one_post old port c v None text more new other l p q =
     (p.3 ∙ ap (reply_line (length c.entries)) same.0 ∙ sym q.3, p.4 ∙ ap (slice_set old port) same.1 ∙ sym q.4)
 
 -- the chapters of the ports are lawful, and stay so
-abbrev AreLawful : List Chapter → Type 0
+abbrev pub AreLawful : List Chapter → Type 0
 AreLawful cs = All IsLawfulChapter cs
 
-lawful_at : (old : List Chapter) (port : ℕ) (c : Chapter) → AreLawful old → slice_get old port ≡ Some c → IsLawfulChapter c
+pub lawful_at : (old : List Chapter) (port : ℕ) (c : Chapter) → AreLawful old → slice_get old port ≡ Some c → IsLawfulChapter c
 lawful_at old port c l at = subst IsLawfulChapter (get_or_from_slice_get old port c c at) (l port c (slice_get_within old port c at))
 
 one_ask : (old : List Chapter) (port : ℕ) (c : Option Chapter) (v : Event) (text more : List ℕ) (new other : List Chapter) → AreLawful old → slice_get old port ≡ c →
@@ -60,19 +61,19 @@ lawful_ask : (old : List Chapter) (port : ℕ) (c : Option Chapter) (v : Event) 
 lawful_ask old port None v text new l at p = absurd p
 lawful_ask old port (Some c) v text new l at p = lawful_post old port c v (refusal_of c v) text new l (lawful_at old port c l at) p
 
-lawful_answer : (old : List Chapter) (r : Reading) (text : List ℕ) (new : List Chapter) → AreLawful old → Answers old r text new → AreLawful new
+pub lawful_answer : (old : List Chapter) (r : Reading) (text : List ℕ) (new : List Chapter) → AreLawful old → Answers old r text new → AreLawful new
 lawful_answer old Nothing text new l p = subst AreLawful (sym p.1) l
 lawful_answer old (Refused fault) text new l p = subst AreLawful (sym p.1) l
 lawful_answer old (Asks port event) text new l p = lawful_ask old port (slice_get old port) event text new l refl p
 lawful_answer old (AsksCert port) text new l p = subst AreLawful (sym p.1) l
 lawful_answer old (AsksState port) text new l p = subst AreLawful (sym p.1) l
 
-one_lines : (old : List Chapter) (ls : List (List ℕ)) (text more : List ℕ) (new other : List Chapter) → AreLawful old → GivesLines old ls text new → GivesLines old ls more other → Same text more new other
+one_lines : (old : List Chapter) (ls : List (List ℕ)) (text more : List ℕ) (new other : List Chapter) → AreLawful old → GivesLines Gives old ls text new → GivesLines Gives old ls more other → Same text more new other
 one_lines old [] text more new other l p q = (p.0 ∙ sym q.0, p.1 ∙ sym q.1)
 one_lines old (x ∷ ls) text more new other l p q =
     let first : Same p.0 q.0 p.2 q.2 = one_answer old (read_line (length old) x) p.0 q.0 p.2 q.2 l p.3 q.3 in
     let lawful : AreLawful q.2 = lawful_answer old (read_line (length old) x) q.0 q.2 l q.3 in
-    let rest : Same p.1 q.1 new other = one_lines q.2 ls p.1 q.1 new other lawful (subst (λ mid. GivesLines mid ls p.1 new) first.1 p.4) q.4 in
+    let rest : Same p.1 q.1 new other = one_lines q.2 ls p.1 q.1 new other lawful (subst (λ mid. GivesLines Gives mid ls p.1 new) first.1 p.4) q.4 in
     (p.5 ∙ (λ i. first.0 i ++ rest.0 i) ∙ sym q.5, rest.1)
 
 pub one_output : (ports : List Chapter) (input text more : List ℕ) → AreLawful ports → IsOutput ports input text → IsOutput ports input more → text ≡ more

@@ -1,11 +1,10 @@
--- The numbers of a state, found one by one.
-use Rattle.std.proofs.Common.{◌≡◌, ℕ, ◌*◌, [], ◌∷◌, length}
+-- The numbers that are shown, found one by one.
+use Rattle.std.proofs.Common.{◌≡◌, ℕ, ◌*◌, [], ◌∷◌}
 use Rattle.std.specs.Prelude.{codes}
-use Rattle.pon_admit.specs.Roster.{capacity, onus_of, promised_sum}
-use Rattle.pon_state.specs.State.{State}
-use Rattle.pon_manage.specs.Text.{named, state_numbers}
+use Rattle.pon_manage.specs.Text.{named, shown_numbers}
+use Rattle.pon_manage.specs.declared.show.Shown.{Shown}
 
-pub same_numbers : (s : State) (next allocs onus guaranteed free : ℕ) → next ≡ s.next → allocs ≡ length s.roster → onus ≡ length (onus_of s.roster) → guaranteed ≡ promised_sum s.roster → free ≡ 256 * capacity s.rule s.gap s.roster →
-    named (codes " next ") next (named (codes " allocs ") allocs (named (codes " onus ") onus (named (codes " guaranteed ") guaranteed (named (codes " capacity ") free (10 ∷ []))))) ≡ state_numbers s
-same_numbers s next allocs onus guaranteed free n a o g f =
-    λ i. named (codes " next ") (n i) (named (codes " allocs ") (a i) (named (codes " onus ") (o i) (named (codes " guaranteed ") (g i) (named (codes " capacity ") (f i) (10 ∷ [])))))
+pub same_numbers : (s : Shown) (next guaranteed free : ℕ) → next ≡ s.next → guaranteed ≡ s.guaranteed → free ≡ 256 * s.capacity →
+    named (codes " next ") next (named (codes " allocs ") s.allocs (named (codes " onus ") s.onus (named (codes " guaranteed ") guaranteed (named (codes " capacity ") free (10 ∷ []))))) ≡ shown_numbers s
+same_numbers s next guaranteed free n g f =
+    λ i. named (codes " next ") (n i) (named (codes " allocs ") s.allocs (named (codes " onus ") s.onus (named (codes " guaranteed ") (g i) (named (codes " capacity ") (f i) (10 ∷ [])))))

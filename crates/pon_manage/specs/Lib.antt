@@ -1,3 +1,4 @@
+pub mod Desks
+pub mod FirstBytes
 pub mod Planning
-pub mod Progress
 pub mod Text

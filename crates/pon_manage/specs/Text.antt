@@ -1,5 +1,6 @@
 -- The text that lines give, as a relation: what a line asks is answered by the entry that a port keeps for it.
 use Rattle.std.specs.Prelude.{ℕ, ◌≡◌, ◌*◌, List, [], ◌∷◌, ◌++◌, length, codes, decimal, slice_get, slice_set, Option, Some, None}
+use Rattle.pon_units.specs.declared.limits.TheConstants.{WORD_RATE}
 use Rattle.hex.specs.Hex.{encode_lower}
 use Rattle.pon_bwmap.specs.MapBytes.{map_bytes}
 use Rattle.pon_cert.specs.Spelling.{cert_text}
@@ -12,13 +13,14 @@ use Rattle.pon_event.specs.declared.event.Event.{Event}
 use Rattle.pon_state.specs.declared.reply.Reply.{Reply}
 use Rattle.pon_state.specs.declared.reply.Reply.TheVariants.{Taken, Map}
 use Rattle.pon_descr.specs.declared.refusal.Refusal.{Refusal}
-use Rattle.pon_text.specs.Lines.{lines_of}
 use Rattle.pon_line.specs.Faults.{fault_text}
 use Rattle.pon_line.specs.Reading.{read_line}
 use Rattle.pon_line.specs.declared.fault.LineFault.{LineFault}
 use Rattle.pon_line.specs.declared.fault.LineFault.TheVariants.{NoMap, Port}
 use Rattle.pon_line.specs.declared.reading.Reading.{Reading}
 use Rattle.pon_line.specs.declared.reading.Reading.TheVariants.{Nothing, Refused, Asks, AsksCert, AsksState}
+use Rattle.pon_session.specs.Giving.{GivesText}
+use Rattle.pon_manage.specs.declared.show.Shown.{Shown}
 
 -- a refusal line
 abbrev pub refusal_line : LineFault → List ℕ
@@ -53,24 +55,38 @@ TellsCert (Some c) text = text ≡ cert_line (last_map c)
 abbrev pub named : List ℕ → ℕ → List ℕ → List ℕ
 named name n rest = name ++ (decimal n ++ rest)
 
--- the numbers of a state: its next frame, and of its roster the Alloc-IDs, the ONUs, and in kbit/s the sum of the guaranteed
--- rates and the capacity
-abbrev pub state_numbers : State → List ℕ
-state_numbers s =
+-- what is shown of a state: why it is failed, its next frame, and of its roster the Alloc-IDs, the ONUs, the sum of the
+-- guaranteed rates in kbit/s and the capacity in words
+abbrev pub shown_of : State → Shown
+shown_of s = record {
+  cause = s.cause;
+  next = s.next;
+  allocs = length s.roster;
+  onus = length (onus_of s.roster);
+  guaranteed = promised_sum s.roster;
+  capacity = capacity s.rule s.gap s.roster;
+}
+
+-- its numbers behind the cause, the capacity in kbit/s
+abbrev pub shown_numbers : Shown → List ℕ
+shown_numbers s =
     named (codes " next ") s.next (
-    named (codes " allocs ") (length s.roster) (
-    named (codes " onus ") (length (onus_of s.roster)) (
-    named (codes " guaranteed ") (promised_sum s.roster) (
-    named (codes " capacity ") (256 * capacity s.rule s.gap s.roster) (10 ∷ [])))))
+    named (codes " allocs ") s.allocs (
+    named (codes " onus ") s.onus (
+    named (codes " guaranteed ") s.guaranteed (
+    named (codes " capacity ") (WORD_RATE * s.capacity) (10 ∷ [])))))
 
 -- the line is up, or it is down by a cause
 abbrev pub show_line : Option ℕ → List ℕ → List ℕ
 show_line None numbers = codes "show up" ++ numbers
 show_line (Some cause) numbers = codes "show down " ++ (decimal cause ++ numbers)
 
+abbrev pub shown_line : Shown → List ℕ
+shown_line s = show_line s.cause (shown_numbers s)
+
 -- the line that shows a state
 abbrev pub state_line : State → List ℕ
-state_line s = show_line s.cause (state_numbers s)
+state_line s = shown_line (shown_of s)
 
 -- a port is asked for its state, and stays as it is
 abbrev pub TellsState : Option Chapter → List ℕ → Type 0
@@ -89,12 +105,6 @@ Answers old (AsksState port) text new = TellsState (slice_get old port) text × 
 abbrev pub Gives : List Chapter → List ℕ → List ℕ → List Chapter → Type 0
 Gives old line text new = Answers old (read_line (length old) line) text new
 
--- lines one after the other give a text
-abbrev pub GivesLines : List Chapter → List (List ℕ) → List ℕ → List Chapter → Type 0
-GivesLines old [] text new = (text ≡ []) × (new ≡ old)
-GivesLines old (l ∷ ls) text new =
-    (first rest : List ℕ) × (mid : List Chapter) × Gives old l first mid × GivesLines mid ls rest new × (text ≡ first ++ rest)
-
 -- the output text of an input
 abbrev pub IsOutput : List Chapter → List ℕ → List ℕ → Type 0
-IsOutput ports input text = (after : List Chapter) × GivesLines ports (lines_of input) text after
+IsOutput ports input text = GivesText Gives ports input text

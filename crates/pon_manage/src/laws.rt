@@ -1,7 +1,9 @@
-//! The law of the output text, over the definitions alone.
+//! The laws of the output text, over the definitions alone.
 
 ghost use Rattle.std.specs.Prelude.{◌≡◌, ℕ, List, All};
 ghost use Rattle.pon_port.specs.Chapters.{Chapter, IsLawfulChapter};
+ghost use Rattle.pon_stream.specs.Streams.{IsBeginning};
+ghost use Rattle.pon_manage.specs.Planning.{BeginsOutput};
 ghost use Rattle.pon_manage.specs.Text.{IsOutput};
 
 /// The output text is a relation between what is read and what is written; at ports whose chapters are lawful, as those of
@@ -9,4 +11,13 @@ ghost use Rattle.pon_manage.specs.Text.{IsOutput};
 pub fn one_output()
     ensures { (ports : List Chapter) (input text other : List ℕ) → All IsLawfulChapter ports
         → IsOutput ports input text → IsOutput ports input other → text ≡ other }
+{}
+
+/// At ports whose chapters are lawful each input has an output text, and what begins an output is a beginning of it.
+pub fn each_input_has_an_output()
+    ensures output { (ports : List Chapter) (input : List ℕ) → All IsLawfulChapter ports
+        → (text : List ℕ) × IsOutput ports input text }
+    ensures begun { (ports : List Chapter) (input written : List ℕ) → All IsLawfulChapter ports
+        → BeginsOutput ports input written
+        → (text : List ℕ) × IsOutput ports input text × IsBeginning written text }
 {}

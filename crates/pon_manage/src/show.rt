@@ -1,37 +1,66 @@
 //! The text that shows the state of a port.
 
 ghost use Rattle.std.specs.Prelude.{◌≡◌, IfOk, string_bytes};
-ghost use Rattle.pon_manage.specs.Text.{state_line, state_numbers};
+ghost use Rattle.pon_manage.specs.Text.{shown_line, shown_numbers, shown_of};
 
+use pon_descr::Cause;
 use pon_state::PortState;
+use pon_units::{FrameNo, Kbps, WORD_RATE, Words};
 use std::alloc::{AllocError, Global};
 
-/// What one word in each frame is as a rate, in kbit/s: 32 bits every 125 µs.
-const RATE_OF_A_WORD: u64 = 256;
+/// What is shown of a port: numbers of its present state, which keeps each of them, so that none is counted anew.
+#[derive(Clone, Copy)]
+pub(crate) struct Shown {
+    /// Why the port is failed, if it is.
+    pub(crate) cause: Option<Cause>,
+    /// The frame of the next map.
+    pub(crate) next: FrameNo,
+    /// The number of admitted Alloc-IDs.
+    pub(crate) allocs: usize,
+    /// The number of ONUs that own one of them.
+    pub(crate) onus: usize,
+    /// The sum of the promised rates, in kbit/s.
+    pub(crate) guaranteed: Kbps,
+    /// The words of a frame that the overhead leaves.
+    pub(crate) capacity: Words,
+}
 
-// The numbers of a state, each under its name.
-fn numbers_text(alloc: Global, state: &PortState) -> Result<String, AllocError>
-    ensures { IfOk result (λ text. string_bytes text ≡ state_numbers state.now) }
+/// What is shown of a state.
+pub(crate) fn shown_of(state: &PortState) -> Shown
+    ensures { result ≡ shown_of state.now }
 {
     let roster = state.roster();
-    let next = state.next_frame().get();
-    let allocs = roster.rows().len();
-    let onus = roster.onus();
-    let guaranteed = roster.guaranteed_sum().get();
-    let capacity = RATE_OF_A_WORD * u64::from(roster.capacity().get());
+    Shown {
+        cause: state.cause(),
+        next: state.next_frame(),
+        allocs: roster.rows().len(),
+        onus: roster.onus(),
+        guaranteed: roster.guaranteed_sum(),
+        capacity: roster.capacity(),
+    }
+}
+
+// The numbers behind the cause, each under its name.
+fn numbers_text(alloc: Global, shown: &Shown) -> Result<String, AllocError>
+    ensures { IfOk result (λ text. string_bytes text ≡ shown_numbers shown.now) }
+{
+    let next = shown.next.get();
+    let allocs = shown.allocs;
+    let onus = shown.onus;
+    let guaranteed = shown.guaranteed.get();
+    let capacity = WORD_RATE * u64::from(shown.capacity.get());
     format!(in alloc;
         " next {next} allocs {allocs} onus {onus} guaranteed {guaranteed} capacity {capacity}\n"
     )
 }
 
-/// The line that shows the state of a port: whether its line is up, its next frame, how many Alloc-IDs and ONUs its roster
-/// has, and in kbit/s the sum of their guaranteed rates and the capacity. Each number is kept, so none is counted anew.
-/// `Err` only if memory is refused.
-pub(crate) fn state_line(alloc: Global, state: &PortState) -> Result<String, AllocError>
-    ensures { IfOk result (λ text. string_bytes text ≡ state_line state.now) }
+/// The line that shows a port: whether its line is up, its next frame, how many Alloc-IDs and ONUs its roster has, and in
+/// kbit/s the sum of their guaranteed rates and the capacity. `Err` only if memory is refused.
+pub(crate) fn shown_line(alloc: Global, shown: &Shown) -> Result<String, AllocError>
+    ensures { IfOk result (λ text. string_bytes text ≡ shown_line shown.now) }
 {
-    let numbers = numbers_text(alloc, state)?;
-    match state.cause() {
+    let numbers = numbers_text(alloc, shown)?;
+    match shown.cause {
         None => format!(in alloc; "show up{numbers}"),
         Some(cause) => {
             let number = cause.get();

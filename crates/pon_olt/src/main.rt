@@ -1,11 +1,15 @@
 //! `olt`: the upstream bandwidth scheduler of an XG-PON optical line terminal, as a program.
 //!
 //! Management lines come in, and the reply or the refusal of each goes out ([`plan`]); a check file is judged
-//! ([`check_file`]). The program adds the standard streams, the files and the exit status.
+//! ([`check_file`]). The program adds the standard streams, the files, the settings and the exit status.
 #![tactic(auto)]
 
-ghost use Rattle.std.specs.Prelude.{◌≡◌};
+ghost use Rattle.std.specs.Prelude.{length};
+ghost use Rattle.pon_plant.specs.Plants.{IsPlantSize};
 
+mod opening;
+
+use crate::opening::{NotOpened, Opening, with_settings, without_settings};
 use clap::Error;
 pub use pon_check_file::check_file;
 use pon_device::{StdRead, StdWrite};
@@ -13,46 +17,43 @@ pub use pon_job::job;
 use pon_job::{Job, Outcome, exit_status, outcome_of_check, outcome_of_run, outcome_of_words};
 use pon_manage::PlanEnd;
 pub use pon_manage::{PlanFault, plan};
-use pon_port::PortCfg;
-use pon_units::{FrameNo, Gap, Profile};
 use std::alloc::Global;
 use std::fs;
 use std::io::{self, BufReader};
 use std::process::ExitCode;
 use std::rt::Files;
 
-/// The gap before each burst of the port that is opened without settings, in words.
-const GAP_WITHOUT_SETTINGS: u16 = 16;
-
-/// The burst profile of that port.
-const PROFILE_WITHOUT_SETTINGS: u8 = 0;
-
-/// The first frame of that port.
-const FRAME_WITHOUT_SETTINGS: u64 = 0;
-
-// The port that is opened without settings.
-fn only_port() -> (PortCfg, FrameNo)
-    ensures gap { result.0.gap ≡ GAP_WITHOUT_SETTINGS }
-    ensures profile { result.0.profile ≡ PROFILE_WITHOUT_SETTINGS }
-    ensures frame { result.1 ≡ FRAME_WITHOUT_SETTINGS }
-{
-    let gap = Gap::new(GAP_WITHOUT_SETTINGS).unwrap();
-    let profile = Profile::new(PROFILE_WITHOUT_SETTINGS).unwrap();
-    (
-        PortCfg { gap, profile },
-        FrameNo::new(FRAME_WITHOUT_SETTINGS),
-    )
-}
-
 // Answers the lines of standard input.
-fn plan_lines<R: Input + Print>(rt: &R, alloc: Global) -> Result<PlanEnd, PlanFault> {
+fn plan_lines<R: Input + Print>(
+    rt: &R,
+    alloc: Global,
+    opening: Opening,
+) -> Result<PlanEnd, PlanFault>
+    requires { IsPlantSize (length opening.ports.items) }
+{
     let Ok(input) = BufReader::new(alloc, rt.reader()) else {
         return Err(PlanFault::Memory);
     };
     let mut reader = StdRead::new(input);
     let mut writer = StdWrite::new(io::writer(rt));
-    let ports = [only_port()];
-    plan(rt, alloc, &ports, Vec::new(alloc), &mut reader, &mut writer)
+    let Opening { ports, steps } = opening;
+    plan(rt, alloc, ports.as_slice(), steps, &mut reader, &mut writer)
+}
+
+// Answers the lines of standard input at the ports of the settings file, or at one port without settings.
+fn run_plan(rt: &HostRuntime, config: Option<&str>) -> Outcome {
+    let opening = match config {
+        Some(name) => with_settings(rt, rt.alloc(), name),
+        None => without_settings(rt.alloc()).map_err(NotOpened::from),
+    };
+    match opening {
+        Ok(opening) => outcome_of_run(plan_lines(rt, rt.alloc(), opening)),
+        Err(NotOpened::Failed(fault)) => Outcome::Failed(fault),
+        Err(NotOpened::Refused(line)) => {
+            let _ = eprintln!(rt; "olt: settings refused\n{line}");
+            Outcome::Settings
+        }
+    }
 }
 
 // Judges the certificate of a check file. A file that cannot be opened cannot be read.
@@ -82,7 +83,7 @@ fn show(rt: &HostRuntime, error: &Error) -> Outcome {
 
 fn run(rt: &HostRuntime, words: &[String]) -> Outcome {
     match job(rt.alloc(), words) {
-        Ok(Job::Plan) => outcome_of_run(plan_lines(rt, rt.alloc())),
+        Ok(Job::Plan { config }) => run_plan(rt, config),
         Ok(Job::Check { file }) => outcome_of_check(judge_file(rt, rt.alloc(), file)),
         Err(error) => show(rt, &error),
     }

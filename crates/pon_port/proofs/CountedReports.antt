@@ -65,7 +65,7 @@ in_flat f (z ∷ xs) x y h k = elim (cases_in z xs x h) [
 
 -- The latest of a list of reports.
 
--- none of the list is of a later frame, and where there is none the list is empty
+-- no report of the list is of a later frame than the latest; without a latest the list is empty
 abbrev Bounds : Option Counted → List Counted → Type 0
 Bounds None cs = All (λ d. ⊥) cs
 Bounds (Some c) cs = All (λ d. d.frame ≤ c.frame) cs

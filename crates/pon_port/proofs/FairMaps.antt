@@ -1,10 +1,11 @@
 -- The map of an admitted set is what it is bought for.
-use Rattle.std.proofs.Common.{◌≡◌, ℕ, refl, ap, sym, ◌∙◌, subst}
+use Rattle.std.proofs.Common.{◌≡◌, ℕ, refl, ap, sym, ◌∙◌, subst, arith}
 use Rattle.std.specs.Prelude.{Some, slice_get}
 use Rattle.pon_burst.specs.Bursts.{AreSound}
 use Rattle.pon_descr.specs.declared.class.Class.TheVariants.{NonAssured, BestEffort}
 use Rattle.pon_admit.specs.Roster.{IsAdmitted}
 use Rattle.pon_cert.proofs.Fairness.{is_fairest}
+use Rattle.pon_cert.proofs.LeftSurplus.{left_rest}
 use Rattle.pon_cert.proofs.OneCertificate.{one_certificate}
 use Rattle.pon_state.specs.State.{State, input_of}
 use Rattle.pon_share.specs.Input.{Input}
@@ -32,7 +33,9 @@ module _ (s : State) (k : IsAdmitted s.rule s.gap s.roster) where
       let i : Input = input_of s in
       record {
         frame = m.frame;
-        guaranteed = guaranteed_fits i k;
+        reference = λ n d lt. refl;
+        guaranteed = omega (arith, guaranteed_fits i k);
+        left = left_rest (items NonAssured i) (surplus i) made.cert.na.level made.cert.na.saturated m.certified.non_assured;
         certificate = m.certified;
         only_non_assured = λ other h. one_certificate (items NonAssured i) (surplus i) other made.cert.na (weighted i k NonAssured refl) h m.certified.non_assured;
         only_best_effort = λ other h. one_certificate (items BestEffort i) (best_effort_surplus i made.cert) other made.cert.be (weighted i k BestEffort refl) h m.certified.best_effort;

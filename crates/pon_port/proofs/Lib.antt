@@ -1,3 +1,4 @@
+pub mod ChecksAlone
 pub mod CountedReports
 pub mod CutChapters
 pub mod Cutting

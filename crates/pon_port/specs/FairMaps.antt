@@ -1,9 +1,12 @@
 -- What a map is bought for: guaranteed rates by the reference model, the fairest share of the rest, words that are the
 -- whole parts of these rates, and bursts that do not overlap (ITU-T G.987.3).
-use Rattle.std.specs.Prelude.{◌≡◌, ◌≤◌, ◌*◌, map, sum_by}
+use Rattle.std.specs.Prelude.{◌≡◌, ◌+◌, ◌*◌, All, map, max, min, sum, sum_by}
+use Rattle.pon_units.specs.declared.limits.TheConstants.{WORD_RATE}
 use Rattle.pon_burst.specs.Bursts.{AreSound}
 use Rattle.pon_descr.specs.declared.class.Class.TheVariants.{NonAssured, BestEffort}
+use Rattle.pon_descr.specs.Descriptor.{promised}
 use Rattle.pon_admit.specs.Roster.{capacity}
+use Rattle.pon_guar.specs.Book.{load_of}
 use Rattle.pon_cert.specs.declared.cert.ClassCert.{ClassCert}
 use Rattle.pon_cert.specs.Problem.{IsFairest, IsProblem}
 use Rattle.pon_cert.specs.Certificate.{IsCertificate}
@@ -21,8 +24,13 @@ use Rattle.pon_state.specs.declared.reply.MadeMap.{MadeMap}
 pub record IsFairMap (s : State) (made : MadeMap) : Type 0 where
   -- it is of the state's next frame
   pub frame : made.frame ≡ s.next
-  -- the guaranteed rates are the reference model's, and fit the capacity: the surplus is what they leave of it
-  pub guaranteed : sum_by (guaranteed_rate (input_of s)) s.roster ≤ 256 * capacity s.rule s.gap s.roster
+  -- each guaranteed rate is the reference model's: the fixed rate, or the load up to fixed and assured rate together
+  pub reference : All (λ r. guaranteed_rate (input_of s) r ≡ min (promised r.descriptor) (max r.descriptor.fixed (load_of s.book r.alloc_id))) s.roster
+  -- they fit the capacity, and the non-assured class shares the rest of it
+  pub guaranteed : sum_by (guaranteed_rate (input_of s)) s.roster + non_assured_surplus (input_of s) ≡ WORD_RATE * capacity s.rule s.gap s.roster
+  -- best effort shares what the rates of the non-assured class leave of that
+  pub left : sum (non_assured_share (input_of s) made.cert).amounts + (non_assured_share (input_of s) made.cert).over * best_effort_surplus (input_of s) made.cert
+      ≡ (non_assured_share (input_of s) made.cert).over * non_assured_surplus (input_of s)
   -- level and saturated set are accepted for the problem of each class
   pub certificate : IsCertified (input_of s) made.cert
   -- and neither problem has another certificate

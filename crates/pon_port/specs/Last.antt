@@ -1,5 +1,6 @@
 -- The last map of a chapter, with the Alloc-IDs of the classes that shared surplus in it.
 use Rattle.std.specs.Prelude.{ℕ, ◌≡◌, ◌≤◌, List, [], ◌∷◌, length, Option, Some, None, slice_get}
+use Rattle.pon_cert.specs.declared.problem.TheConstants.{MOST_ITEMS}
 use Rattle.pon_descr.specs.declared.class.Class.TheVariants.{NonAssured, BestEffort}
 use Rattle.pon_admit.specs.declared.row.Row.{Row}
 use Rattle.pon_cert.specs.declared.cert.MapCert.{MapCert}
@@ -21,8 +22,8 @@ pub record LastMap : Type 0 where
 pub record Suits (cert : MapCert) (na be : List ℕ) : Type 0 where
   pub non_assured : length cert.na.saturated ≡ length na
   pub best_effort : length cert.be.saturated ≡ length be
-  pub few_non_assured : length na ≤ 512
-  pub few_best_effort : length be ≤ 512
+  pub few_non_assured : length na ≤ MOST_ITEMS
+  pub few_best_effort : length be ≤ MOST_ITEMS
 
 -- the map that an entry tells, where it tells one, in place of the one before
 abbrev pub told_last : Option LastMap → List Row → Reply → Option LastMap
@@ -37,7 +38,7 @@ last_told before rows (e ∷ es) = last_told (told_last before rows e.reply) (ro
 abbrev pub last_map : Chapter → Option LastMap
 last_map c = last_told None c.opening.roster c.entries
 
--- the k-th entry tells the last map, and the Alloc-IDs of the two classes are those that its certificate speaks of
+-- the k-th entry is the last map, and the Alloc-IDs of the two classes are those whose items its certificate has
 pub record KeepsLastAt (c : Chapter) (k : ℕ) (na be : List ℕ) : Type 0 where
   pub made : MadeMap
   pub entry : Entry

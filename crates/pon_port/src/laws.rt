@@ -1,7 +1,8 @@
 //! Laws of histories, over the definitions alone.
 
-ghost use Rattle.std.specs.Prelude.{Bool, List, Option, [], length, map, if◌then◌else◌, None, Some, drop, slice_get, take, ℕ, ◌++◌, ◌+◌, ◌<◌, ◌≡◌, ◌≤◌};
+ghost use Rattle.std.specs.Prelude.{Bool, List, Option, [], length, map, if◌then◌else◌, None, Some, drop, slice_get, take, ℕ, ◌++◌, ◌+◌, ◌<◌, ◌≡◌, ◌≢◌, ◌≤◌};
 ghost use Rattle.pon_descr.specs.Descriptor.{Descriptor, IsLawful};
+ghost use Rattle.pon_descr.specs.declared.refusal.Refusal.{Refusal};
 ghost use Rattle.pon_admit.specs.Roster.{IsAdmitted, IsInRange, refuses_admit, refuses_change, with_descriptor, with_row, without};
 ghost use Rattle.pon_admit.specs.declared.row.Row.{Row};
 ghost use Rattle.pon_state.specs.State.{State};
@@ -13,6 +14,7 @@ ghost use Rattle.pon_guar.specs.declared.account.Counted.{Counted};
 ghost use Rattle.pon_state.specs.Replay.{frame_at_last, next_of};
 ghost use Rattle.pon_state.specs.Loads.{counted_of, replay};
 ghost use Rattle.pon_state.specs.After.{after_entry};
+ghost use Rattle.pon_state.specs.Events.{IsEvent};
 ghost use Rattle.pon_state.specs.Legal.{MayFollow};
 ghost use Rattle.pon_window.specs.Window.{LeadsTo};
 ghost use Rattle.pon_cert.specs.declared.cert.MapCert.{MapCert};
@@ -24,7 +26,7 @@ ghost use Rattle.pon_port.specs.Chapters.{Chapter, IsLawfulChapter, IsLawfulOpen
 ghost use Rattle.pon_port.specs.CountedReports.{Counts, IsReport};
 ghost use Rattle.pon_port.specs.FairMaps.{TellsFairMap};
 ghost use Rattle.pon_port.specs.OtherForms.{account_reported, before_last};
-ghost use Rattle.pon_port.specs.Taking.{Takes, with_entry};
+ghost use Rattle.pon_port.specs.Taking.{Takes, refusal_of, with_entry};
 ghost use Rattle.pon_event.specs.declared.event.Event.{Event};
 ghost use Rattle.pon_state.specs.declared.reply.Entry.{Entry};
 ghost use Rattle.pon_state.specs.declared.reply.Reply.{Reply};
@@ -87,6 +89,16 @@ pub fn lawful_chapters_give_one_reply()
         → IsLawfulChapter d }
 {}
 
+/// A lawful chapter gives a reply to each event whose numbers are in range and that no check refuses, and there is a next
+/// chapter, which keeps it: for a map there is always a certificate.
+pub fn each_accepted_event_has_a_reply()
+    ensures reply { (c : Chapter) (v : Event) → IsLawfulChapter c → IsEvent v → refusal_of c v ≡ None
+        → (reply : Reply) × MayFollow (length c.entries) (present_state c)
+        (record { event = v; reply = reply }) }
+    ensures next { (c : Chapter) (v : Event) → IsLawfulChapter c → IsEvent v → refusal_of c v ≡ None
+        → (reply : Reply) × (next : Chapter) × Takes c v reply next }
+{}
+
 /// The replay goes entry by entry: no entries leave a lawful opening as it is, and one more entry that may follow
 /// leaves the state after that entry.
 pub fn replay_goes_entry_by_entry()
@@ -127,4 +139,9 @@ pub fn definitions_in_another_form()
     ensures last { (test : Entry → Bool) (start first : ℕ) (es : List Entry)
         → frame_at_last test start first es
         ≡ (if list_any test es then next_of first (before_last test es) else start) }
+{}
+
+/// No check refuses an event as out of memory: `Port::take` answers so only if no check refuses and memory is refused.
+pub fn no_check_is_out_of_memory()
+    ensures { (c : Chapter) (v : Event) → refusal_of c v ≢ Some Refusal.OutOfMemory }
 {}

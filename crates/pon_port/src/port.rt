@@ -8,7 +8,10 @@ use pon_dbru::Occupancies;
 use pon_descr::Refusal;
 use pon_event::Event;
 use pon_state::{Entry, MadeMap, PortCfg, PortState, Reply, add_map, next_map, refusal_of, step};
-use pon_units::{AllocId, FrameNo};
+use pon_units::{
+    AllocId, FrameNo, GREATEST_ALLOC_ID, GREATEST_OCCUPANCY, GREATEST_ONU_ID, LEAST_ALLOC_ID,
+    LINE_RATE,
+};
 use std::alloc::{AllocError, Global};
 use std::marker::Model;
 
@@ -49,7 +52,7 @@ impl Model for Port {
 fn is_managed(alloc_id: AllocId)
     ensures { IsManaged alloc_id }
 {
-    prove!(alloc_id.get() >= 1024 && alloc_id.get() <= 16_383);
+    prove!(alloc_id.get() >= LEAST_ALLOC_ID && alloc_id.get() <= GREATEST_ALLOC_ID);
 }
 
 // Occupancies are few and in range, as their types have it.
@@ -58,7 +61,7 @@ fn are_occupancies(occ: &Occupancies)
 {
     for report in occ.as_slice() {
         if let Some(words) = report {
-            prove!(words.get() <= 16_777_215);
+            prove!(words.get() <= GREATEST_OCCUPANCY);
         }
     }
 }
@@ -80,11 +83,11 @@ fn in_range(event: &Event)
             descriptor,
         } => {
             is_managed(*alloc_id);
-            prove!(descriptor.promised().get() <= 2_488_320);
+            prove!(u64::from(descriptor.promised().get()) <= LINE_RATE);
         }
         Event::Remove { alloc_id } => is_managed(*alloc_id),
         Event::Report { frame, onu, occ } => {
-            prove!(frame.get() <= u64::MAX && onu.get() <= 1022);
+            prove!(frame.get() <= u64::MAX && onu.get() <= GREATEST_ONU_ID);
             are_occupancies(occ);
         }
         Event::Fail { cause } => prove!(cause.get() >= 1 && cause.get() <= 9),

@@ -1,4 +1,4 @@
--- The rates of a class, and the one certificate of a map.
+-- The rates of a class, and the certificate of a map: there is one, and no other.
 use Rattle.std.proofs.Common.{◌≡◌, ℕ, ◌≤◌, Bool, true, false, cond, List, [], ◌∷◌, map, refl, ap, sym, ◌∙◌, subst, arith}
 use Rattle.std.specs.List.{zip}
 use Rattle.pon_units.specs.Fraction.{Fraction}
@@ -14,6 +14,7 @@ use Rattle.pon_cert.specs.declared.cert.MapCert.{MapCert}
 use Rattle.pon_cert.specs.Problem.{AreWeighted, IsProblem}
 use Rattle.pon_cert.specs.Certificate.{IsCertificate, amount, denominator, left_surplus, spelled}
 use Rattle.pon_cert.proofs.OneCertificate.{one_certificate}
+use Rattle.pon_fill.proofs.EachProblem.{each_problem}
 use Rattle.pon_share.specs.Input.{Input}
 use Rattle.pon_share.specs.ClassShares.{rates_of}
 use Rattle.pon_share.specs.Sharing.{IsCertified, is_saturated, item_of, items, members, rate_in, same_class, spelled_rate, surplus}
@@ -63,7 +64,7 @@ pub left_within : (l : Level) (is : List Item) (n : ℕ) → n ≤ 2488320 → l
 left_within level.All is n h = omega (arith, h)
 left_within (level.At f) is n h = omega arith
 
--- One certificate.
+-- The certificate of a map.
 module _ (s : Input) (k : IsAdmitted s.rule s.gap s.roster) where
   pub weighted : (class : Class) → same_class class Plain ≡ false → AreWeighted (items class s)
   weighted class shares =
@@ -77,3 +78,10 @@ module _ (s : Input) (k : IsAdmitted s.rule s.gap s.roster) where
       = subst (λ c. IsCertificate (items BestEffort s) (left_surplus c.level (items NonAssured s) (surplus s)) b.be) (sym na) q.best_effort in
       let be : a.be ≡ b.be = one_certificate (items BestEffort s) (left_surplus a.na.level (items NonAssured s) (surplus s)) a.be b.be (weighted BestEffort refl) p.best_effort same_left in
       (λ i. record { na = na i; be = be i })
+
+  pub each_map_certificate : (cert : MapCert) × IsCertified s cert
+  each_map_certificate =
+      let na : (cert : ClassCert) × IsCertificate (items NonAssured s) (surplus s) cert = each_problem (items NonAssured s) (surplus s) (weighted NonAssured refl) in
+      let be : (cert : ClassCert) × IsCertificate (items BestEffort s) (left_surplus na.0.level (items NonAssured s) (surplus s)) cert
+      = each_problem (items BestEffort s) (left_surplus na.0.level (items NonAssured s) (surplus s)) (weighted BestEffort refl) in
+      (record { na = na.0; be = be.0 }, record { non_assured = na.1; best_effort = be.1 })

@@ -1,5 +1,6 @@
 -- The rates of an Alloc-ID in a map, and its payload words (ITU-T G.987.3: the reference model of dynamic bandwidth assignment).
 use Rattle.std.specs.Prelude.{ℕ, ◌+◌, ◌/◌, List, map}
+use Rattle.pon_units.specs.declared.limits.TheConstants.{WORD_RATE}
 use Rattle.pon_units.specs.Fraction.{Fraction}
 use Rattle.pon_units.specs.declared.granted.Granted.{Granted}
 use Rattle.pon_admit.specs.declared.row.Row.{Row}
@@ -17,7 +18,7 @@ whole_rate s surplus r = guaranteed_rate s r + (surplus r).num / (surplus r).den
 
 -- the whole words in it, at 256 kbit/s a word
 abbrev pub payload : Input → (Row → Fraction) → Row → ℕ
-payload s surplus r = whole_rate s surplus r / 256
+payload s surplus r = whole_rate s surplus r / WORD_RATE
 
 -- what a map grants to each admitted Alloc-ID, in map order
 abbrev pub granted : Input → (Row → Fraction) → List Granted

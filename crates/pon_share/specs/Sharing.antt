@@ -2,6 +2,7 @@
 -- (ITU-T G.987.3: rate-proportional assignment, the non-assured class before best effort). Rates in kbit/s.
 use Rattle.std.specs.Prelude.{ℕ, ◌-◌, ◌*◌, ◌==◌, Bool, true, false, List, map, filter, sum_by}
 use Rattle.std.specs.List.{list_any}
+use Rattle.pon_units.specs.declared.limits.TheConstants.{WORD_RATE}
 use Rattle.pon_units.specs.Fraction.{Fraction}
 use Rattle.pon_descr.specs.declared.class.Class.{Class}
 use Rattle.pon_descr.specs.declared.class.Class.TheVariants.{Plain, NonAssured, BestEffort}
@@ -45,7 +46,7 @@ items class s = map (item_of s) (members class s.roster)
 
 -- what the guaranteed rates leave of the capacity, at 256 kbit/s a word
 abbrev pub surplus : Input → ℕ
-surplus s = 256 * capacity s.rule s.gap s.roster - sum_by (guaranteed_rate s) s.roster
+surplus s = WORD_RATE * capacity s.rule s.gap s.roster - sum_by (guaranteed_rate s) s.roster
 
 -- the surplus goes to the non-assured class, and what that leaves to best effort
 abbrev pub IsCertified : Input → MapCert → Type 0

@@ -10,16 +10,16 @@ ghost use Rattle.pon_share.specs.Demands.{demands_of};
 
 use crate::demand::Demand;
 use crate::input::ShareInput;
-use pon_cert::{Item, Level, MapCert};
+use pon_cert::{Item, Level, MOST_ITEMS, MapCert};
 use pon_descr::Class;
-use pon_units::{Granted, Words, whole};
+use pon_units::{Granted, LINE_RATE, WORD_RATE, Words, whole};
 use std::alloc::{AllocError, Global};
 
 // The whole kbit/s of the surplus rate that a level gives to an item.
 fn share(level: &Level, item: &Item, saturated: bool) -> u64
     requires item { IsItem item.now }
     requires rule { RuleHolds level.now item.now saturated }
-    requires denominator { denominator level.now ≤ 512 * 2488320 }
+    requires denominator { denominator level.now ≤ MOST_ITEMS * LINE_RATE }
     ensures value { result ≡ amount level.now item.now saturated / denominator level.now }
     ensures within { result ≤ item.now.cap }
 {
@@ -38,15 +38,15 @@ fn share(level: &Level, item: &Item, saturated: bool) -> u64
 
 // What a demand is granted, with its surplus rate in kbit/s.
 fn grant(demand: &Demand, surplus: u64) -> Granted
-    requires { demand.now.guaranteed + surplus ≤ 2488320 }
+    requires { demand.now.guaranteed + surplus ≤ LINE_RATE }
     ensures { result ≡ record {
       onu = demand.now.onu;
       alloc_id = demand.now.alloc_id;
-      words = (demand.now.guaranteed + surplus) / 256;
+      words = (demand.now.guaranteed + surplus) / WORD_RATE;
     } }
 {
     let rate = u64::from(demand.guaranteed.get()) + surplus;
-    match Words::new((rate / 256) as u16) {
+    match Words::new((rate / WORD_RATE) as u16) {
         Some(words) => Granted {
             onu: demand.onu,
             alloc_id: demand.alloc_id,

@@ -9,15 +9,15 @@ ghost use Rattle.pon_share.specs.Demands.{demands_of};
 
 use crate::demand::Demand;
 use crate::input::ShareInput;
-use pon_cert::{ClassCert, Item, MapCert, Sat, left_surplus};
+use pon_cert::{ClassCert, Item, MOST_ITEMS, MapCert, Sat, left_surplus};
 use pon_descr::Class;
 use pon_fill::fill;
-use pon_units::AllocId;
+use pon_units::{AllocId, WORD_RATE};
 use std::alloc::{AllocError, Global};
 
 // The sum of the guaranteed rates.
 fn guaranteed_sum(demands: &[Demand]) -> u64
-    requires { length demands.now ≤ 512 }
+    requires { length demands.now ≤ MOST_ITEMS }
     ensures { result ≡ sum_by (λ d. d.guaranteed) demands.now }
 {
     let mut sum = 0;
@@ -33,7 +33,7 @@ pub(crate) fn surplus(input: &ShareInput, demands: &[Demand]) -> u64
     requires demands { demands.now ≡ demands_of input.now }
     ensures { result ≡ surplus input.now }
 {
-    256 * u64::from(input.roster.capacity().get()) - guaranteed_sum(demands)
+    WORD_RATE * u64::from(input.roster.capacity().get()) - guaranteed_sum(demands)
 }
 
 // Returns whether it has the class.

@@ -1,7 +1,4 @@
-ghost use Rattle.std.specs.Prelude.{◌≡◌, true};
-ghost use Rattle.pon_cert.specs.Problem.{IsProblem};
-
-use pon_cert::{Item, Level, left_surplus};
+use pon_cert::{Item, Level, is_problem, left_surplus};
 use pon_units::Frac;
 use std::process::Abort;
 
@@ -9,17 +6,6 @@ const LINE: u64 = 2_488_320;
 
 fn item(weight: u64, cap: u64) -> Item {
     Item { weight, cap }
-}
-
-fn is_problem(items: &[Item], surplus: u64) -> bool
-    ensures { result ≡ true → IsProblem items.now surplus }
-{
-    for item in items {
-        if item.weight == 0 || item.weight > LINE || item.cap > LINE {
-            return false;
-        }
-    }
-    items.len() <= 512 && surplus <= LINE
 }
 
 fn left(rt: &impl Abort, level: Level, items: &[Item], surplus: u64) -> u64 {

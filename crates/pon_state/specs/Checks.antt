@@ -1,5 +1,6 @@
 -- The first check that refuses an event.
 use Rattle.std.specs.Prelude.{ℕ, ◌-◌, ◌^◌, ◌||◌, nat_le, length, Option, Some, None}
+use Rattle.pon_state.specs.declared.checks.TheConstants.{MOST_ENTRIES}
 use Rattle.pon_descr.specs.Checks.{when, or_else}
 use Rattle.pon_admit.specs.Roster.{refuses_admit, refuses_change, refuses_remove}
 use Rattle.pon_window.specs.Reports.{refuses_report}
@@ -23,7 +24,7 @@ at_limit next = when (nat_le (2 ^ 64 - 1) next) FrameLimit
 
 -- the chapter, or the count of entries over all chapters, is full
 abbrev pub when_full : ℕ → ℕ → Option Refusal
-when_full kept taken_before = when (nat_le 65536 kept || nat_le (2 ^ 64 - 1) (taken_before)) ChapterFull
+when_full kept taken_before = when (nat_le MOST_ENTRIES kept || nat_le (2 ^ 64 - 1) (taken_before)) ChapterFull
 
 -- Each event's own checks, in order.
 abbrev pub refuses : State → Event → Option Refusal

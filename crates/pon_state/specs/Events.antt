@@ -1,5 +1,6 @@
 -- The ranges of an event's numbers (ITU-T G.987.3: ONU-ID, Alloc-ID, BufOcc; causes and frames are this project's).
 use Rattle.std.specs.Prelude.{ℕ, ◌<◌, ◌≤◌, ◌^◌, All, List, length, Option, IfSome}
+use Rattle.pon_units.specs.declared.limits.TheConstants.{GREATEST_ALLOC_ID, GREATEST_ONU_ID, LEAST_ALLOC_ID, LONGEST_SERIES}
 use Rattle.pon_descr.specs.Descriptor.{IsLawful}
 use Rattle.pon_admit.specs.Roster.{IsInRange}
 use Rattle.pon_event.specs.declared.event.Event.{Event}
@@ -7,17 +8,17 @@ use Rattle.pon_event.specs.declared.event.Event.TheVariants.{Admit, Change, Remo
 
 -- an Alloc-ID that may be admitted
 abbrev pub IsManaged : ℕ → Type 0
-IsManaged i = (1024 ≤ i) × (i ≤ 16383)
+IsManaged i = (LEAST_ALLOC_ID ≤ i) × (i ≤ GREATEST_ALLOC_ID)
 
 -- the occupancies of a burst: 16 at most, each of 24 bits where it is not garbled
 pub record AreOccupancies (occ : List (Option ℕ)) : Type 0 where
-  pub few : length occ ≤ 16
+  pub few : length occ ≤ LONGEST_SERIES
   pub range : All (λ o. IfSome o (λ words. words < 2 ^ 24)) occ
 
 -- a report of an ONU for the map of a frame
 pub record IsReported (frame onu : ℕ) (occ : List (Option ℕ)) : Type 0 where
   pub frame_range : frame < 2 ^ 64
-  pub onu_range : onu ≤ 1022
+  pub onu_range : onu ≤ GREATEST_ONU_ID
   pub occupancies : AreOccupancies occ
 
 -- the numbers of an event are in range

@@ -7,7 +7,7 @@ use pon_units::FrameNo;
 use std::alloc::{AllocError, Global};
 
 /// A map that was made, the frame that it is for, and the certificate of how it shares the surplus.
-#[derive(Drop)]
+#[derive(Debug, PartialEq, Eq, Drop)]
 pub struct MadeMap {
     pub frame: FrameNo,
     pub map: Map,
@@ -28,14 +28,14 @@ impl MadeMap {
 }
 
 /// What a port answers to an event that it takes.
-#[derive(Drop)]
+#[derive(Debug, PartialEq, Eq, Drop)]
 pub enum Reply {
     Taken,
     Map(MadeMap),
 }
 
 /// An event that was taken, and its reply.
-#[derive(Drop)]
+#[derive(Debug, PartialEq, Eq, Drop)]
 pub struct Entry {
     pub event: Event,
     pub reply: Reply,

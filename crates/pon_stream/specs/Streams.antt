@@ -1,6 +1,5 @@
 -- What reading and writing a text does to a device, by how it ends.
 use Rattle.std.specs.Prelude.{◌≡◌, ℕ, ◌+◌, ◌-◌, ◌%◌, ◌^◌, ◌⊎◌, List, [], ◌∷◌, ◌++◌, Option, Some, None, Result, Ok, Err}
-use Rattle.std.specs.Global.{Vec}
 use Rattle.pon_device.specs.Device.{Appends, Consumes, Keeps, IsAtEnd}
 use Rattle.pon_stream.specs.declared.fault.PlanFault.{PlanFault}
 use Rattle.pon_stream.specs.declared.fault.PlanFault.TheVariants.{Read, Write, Memory}
@@ -14,13 +13,6 @@ abbrev pub GivesByte : {E : Type 0} → Option (List ℕ) → Option (List ℕ) 
 GivesByte old new (Ok None) = Consumes old new [] × IsAtEnd new
 GivesByte old new (Ok (Some b)) = Consumes old new (b ∷ [])
 GivesByte old new (Err e) = Keeps old new
-
--- the whole input, or what was read of it before a fault
-abbrev pub ReadsAll : Option (List ℕ) → Option (List ℕ) → Result (Vec ℕ) PlanFault → Type 0
-ReadsAll old new (Ok text) = Consumes old new text.items × IsAtEnd new
-ReadsAll old new (Err Read) = (input : List ℕ) × Consumes old new input
-ReadsAll old new (Err Memory) = (input : List ℕ) × Consumes old new input
-ReadsAll old new (Err Write) = ⊥
 
 -- the text was written, or a beginning of it
 abbrev pub TellsLine : List ℕ → Option (List ℕ) → Option (List ℕ) → Result (Unit {0}) PlanFault → Type 0

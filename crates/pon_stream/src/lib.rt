@@ -1,7 +1,7 @@
-//! Texts read whole from a device, and texts written whole to one, with what a contract says of each.
+//! Bytes read from a device, and texts written whole to one, with what a contract says of each.
 //!
-//! A fault of reading or writing is returned only if the device failed or 2^64 - 1 reads were made. A part of an input is never
-//! given as the whole, and a failed write leaves a beginning of the text.
+//! A fault of reading or writing is returned only if the device failed. A failed read is never taken for the end of the input,
+//! and a failed write leaves a beginning of the text.
 #![tactic(auto)]
 
 mod fault;
@@ -9,5 +9,5 @@ mod reading;
 mod writing;
 
 pub use fault::PlanFault;
-pub use reading::{next_byte, read_all};
+pub use reading::next_byte;
 pub use writing::write_text;

@@ -7,6 +7,8 @@ use pon_units::{FrameNo, Gap, Profile};
 use std::alloc::Global;
 use std::test::Fail;
 
+mod ports;
+
 const FIRST_MAP: &[u8] = b"0 admit 5 1024 2560 0 2560 none\n0 map\n";
 
 const FIRST_TEXT: &[u8] = b"ok 0\nmap 0 002013ac10020010000b13cb\n";

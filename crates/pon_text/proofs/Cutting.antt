@@ -74,16 +74,3 @@ lines_of-parts (b ∷ bs) = elim (b == 10) as (λ v. cond v ([] ∷ lines_of bs)
 but_last-alone : (t : List ℕ) → 0 < length t → but_last (t ∷ []) ≡ t ∷ []
 but_last-alone [] h = absurd (omega arith)
 but_last-alone (b ∷ t) h = refl
-
--- the first line ends at the first line feed
-pub file_lines-some : (t l rest line : List ℕ) → cut_at 10 t ≡ Some (l, rest) → line ≡ without_return l → file_lines t ≡ line ∷ file_lines rest
-file_lines-some t l rest line e r =
-    let lines : lines_of t ≡ l ∷ lines_of rest
-    = lines_of-parts t ∙ ap but_last (parts_some 10 t l rest e) ∙ but_last-cons l (slice_split (λ x. x == 10) rest) (has_parts rest) ∙ ap (λ ls. l ∷ ls) (sym (lines_of-parts rest)) in
-    ap (map without_return) lines ∙ ap (λ m. m ∷ file_lines rest) (sym r)
-
--- or at the end of the text
-pub file_lines-last : (t line rest : List ℕ) → 0 < length t → cut_at 10 t ≡ None → line ≡ without_return t → rest ≡ [] → file_lines t ≡ line ∷ file_lines rest
-file_lines-last t line rest some e r s =
-    let lines : lines_of t ≡ t ∷ [] = lines_of-parts t ∙ ap but_last (parts_none 10 t e) ∙ but_last-alone t some in
-    ap (map without_return) lines ∙ (λ i. sym r i ∷ file_lines (sym s i))

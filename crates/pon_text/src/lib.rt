@@ -10,6 +10,6 @@ mod numbers;
 mod words;
 
 pub use cuts::{cut, follows};
-pub use lines::{first_line, without_return};
+pub use lines::without_return;
 pub use numbers::{MOST_DIGITS, number_of};
 pub use words::{Word, count_words, first_word};

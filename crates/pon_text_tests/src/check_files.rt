@@ -1,7 +1,7 @@
 ghost use Rattle.std.specs.Prelude.{◌<◌};
 
-use pon_check_file::{PlanFault, check_file};
-use pon_device::{MemRead, MemWrite};
+use pon_check_file::{LONGEST_LINE, PlanFault, check_file};
+use pon_device::{DevRead, MemRead, MemWrite};
 use std::alloc::{AllocError, Global};
 use std::test::Fail;
 
@@ -231,6 +231,82 @@ fn the_513th_item_does_not_fit(rt: HostRuntime) {
         let input = many_items(rt.alloc(), count).expect(&rt, "memory");
         let run = run(rt.alloc(), &input, 4096, &[], &[]).expect(&rt, "memory");
         assert_eq!(rt; run.result, Ok(false));
+        assert_eq!(rt; run.text.as_slice(), text);
+    }
+}
+
+// How many bytes of the file are not read. `None` where memory is refused to the test itself.
+fn unread(alloc: Global, input: &[u8]) -> Option<usize> {
+    let mut rest = input.to_vec(alloc).ok()?;
+    let bytes = input.to_vec(alloc).ok()?;
+    let mut reader = MemRead::new(bytes, usize::MAX, Vec::new(alloc));
+    let mut writer = MemWrite::new(alloc, 4096, Vec::new(alloc));
+    check_file(alloc, &mut reader, &mut writer).ok()?;
+    reader.read(&mut rest).ok()
+}
+
+// The bytes of the longest line with its carriage return are kept, and one byte more is read.
+#[test]
+fn a_first_line_without_an_end_is_told(rt: HostRuntime) {
+    let input = [0u8; 100_000];
+    let run = run(rt.alloc(), &input, 4096, &[], &[]).expect(&rt, "memory");
+    assert_eq!(rt; run.result, Ok(false));
+    assert_eq!(rt; run.text.as_slice(), b"no Syntax 1\n".as_slice());
+    let left = unread(rt.alloc(), &input).expect(&rt, "memory");
+    assert_eq!(rt; left, input.len() - LONGEST_LINE - 2);
+}
+
+#[test]
+fn nothing_is_read_behind_a_513th_item(rt: HostRuntime) {
+    let input = many_items(rt.alloc(), 600).expect(&rt, "memory");
+    let left = unread(rt.alloc(), &input).expect(&rt, "memory");
+    assert_eq!(rt;
+        left,
+        b"item 1 0\n".len() * 87 + b"level 5/1\nsaturated -\n".len()
+    );
+}
+
+#[test]
+fn many_empty_lines_may_follow(rt: HostRuntime) {
+    let mut input = ACCEPTED.to_vec(rt.alloc()).expect(&rt, "memory");
+    for _ in 0..20_000 {
+        input.push(b'\n').expect(&rt, "memory");
+    }
+    let run = run(rt.alloc(), &input, 4096, &[], &[]).expect(&rt, "memory");
+    assert_eq!(rt; run.result, Ok(true));
+    assert_eq!(rt; run.text.as_slice(), b"yes\n".as_slice());
+}
+
+// A file whose set has 512 indexes of 20 digits, and this behind it.
+fn longest_set(alloc: Global, behind: &[u8]) -> Result<Vec<u8>, AllocError> {
+    let mut input = Vec::new(alloc);
+    input.extend_from_slice(b"surplus 0\n")?;
+    for _ in 0..512 {
+        input.extend_from_slice(b"item 1 0\n")?;
+    }
+    input.extend_from_slice(b"level all\nsaturated ")?;
+    for index in 0..512u64 {
+        if index > 0 {
+            input.push(b',')?;
+        }
+        let digits = format!(in alloc; "{index:020}")?;
+        input.extend_from_slice(digits.as_bytes())?;
+    }
+    input.extend_from_slice(behind)?;
+    Ok(input)
+}
+
+#[test]
+fn the_longest_line_fits(rt: HostRuntime) {
+    for (behind, text) in [
+        (b"\r\n".as_slice(), b"yes\n".as_slice()),
+        (b"\r", b"yes\n"),
+        (b"\r\r\n", b"no Syntax 515\n"),
+        (b"0\n", b"no Syntax 515\n"),
+    ] {
+        let input = longest_set(rt.alloc(), behind).expect(&rt, "memory");
+        let run = run(rt.alloc(), &input, 4096, &[], &[]).expect(&rt, "memory");
+        assert_eq!(rt; run.result, Ok(text == b"yes\n".as_slice()));
         assert_eq!(rt; run.text.as_slice(), text);
     }
 }

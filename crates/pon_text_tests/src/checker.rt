@@ -1,8 +1,7 @@
 // Certificates worked by hand, wrong ones with their first fault, and numbers near 2^64.
 ghost use Rattle.std.specs.Prelude.{◌≡◌, ◌<◌, true};
-ghost use Rattle.pon_cert.specs.Problem.{IsProblem};
 
-use pon_cert::{ClassCert, Item, Level, MapCert, Sat};
+use pon_cert::{ClassCert, Item, Level, MapCert, Sat, is_problem};
 use pon_check::{CertFault, MapCertFault, check_class, check_map};
 use pon_units::Frac;
 use std::alloc::{AllocError, Global};
@@ -19,17 +18,6 @@ fn at(num: u64, den: u64) -> Level
     requires { 0 < den }
 {
     Level::At(Frac::new(num, den))
-}
-
-fn is_problem(items: &[Item], surplus: u64) -> bool
-    ensures { result ≡ true → IsProblem items.now surplus }
-{
-    for item in items {
-        if item.weight == 0 || item.weight > LINE || item.cap > LINE {
-            return false;
-        }
-    }
-    items.len() <= 512 && surplus <= LINE
 }
 
 fn class(alloc: Global, level: Level, flags: &[bool]) -> Result<ClassCert, AllocError> {

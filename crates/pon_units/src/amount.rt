@@ -2,6 +2,7 @@
 ghost use Rattle.std.specs.Prelude.{◌≡◌, ◌≤◌};
 ghost use Rattle.std.specs.Option.{SomeIff};
 
+use crate::limits::{FRAME_WORDS, GREATEST_OCCUPANCY, GREATEST_RATE};
 use std::marker::Model;
 
 /// A rate in kbit/s, 0 to 4,294,967,040. One word of 4 bytes in each frame of 125 µs is 256 kbit/s,
@@ -13,25 +14,23 @@ pub struct Kbps {
 
 impl Model for Kbps {
     ghost use Rattle.std.specs.Prelude.{ℕ, ◌≤◌};
+    ghost use Rattle.pon_units.specs.declared.limits.TheConstants.{GREATEST_RATE};
 
     ghost Value = { ℕ };
 
     ghost view = { λ a. a.rate };
 
-    ghost invariant = { λ a. a.rate ≤ 4_294_967_040 };
+    ghost invariant = { λ a. a.rate ≤ GREATEST_RATE };
 
     ghost inverse = { λ n. record { rate = n } };
 }
 
 impl Kbps {
-    /// 256 kbit/s for each word of the greatest occupancy.
-    pub const MAX: u32 = 4_294_967_040;
-
-    /// `None` above [`Kbps::MAX`].
+    /// `None` above [`GREATEST_RATE`].
     pub fn new(n: u32) -> Option<Self>
-        ensures { SomeIff result (n ≤ 4_294_967_040) n }
+        ensures { SomeIff result (n ≤ GREATEST_RATE) n }
     {
-        if n <= Self::MAX {
+        if n <= GREATEST_RATE {
             Some(Kbps { rate: n })
         } else {
             None
@@ -41,7 +40,7 @@ impl Kbps {
     /// The rate in kbit/s.
     pub fn get(self) -> u32
         ensures value { result ≡ self }
-        ensures range { self ≤ 4_294_967_040 }
+        ensures range { self ≤ GREATEST_RATE }
     {
         self.rate
     }
@@ -56,25 +55,23 @@ pub struct Words {
 
 impl Model for Words {
     ghost use Rattle.std.specs.Prelude.{ℕ, ◌≤◌};
+    ghost use Rattle.pon_units.specs.declared.limits.TheConstants.{FRAME_WORDS};
 
     ghost Value = { ℕ };
 
     ghost view = { λ a. a.words };
 
-    ghost invariant = { λ a. a.words ≤ 9720 };
+    ghost invariant = { λ a. a.words ≤ FRAME_WORDS };
 
     ghost inverse = { λ n. record { words = n } };
 }
 
 impl Words {
-    /// The words of a whole frame.
-    pub const MAX: u16 = 9720;
-
-    /// `None` above [`Words::MAX`].
+    /// `None` above [`FRAME_WORDS`].
     pub fn new(n: u16) -> Option<Self>
-        ensures { SomeIff result (n ≤ 9720) n }
+        ensures { SomeIff result (n ≤ FRAME_WORDS) n }
     {
-        if n <= Self::MAX {
+        if n <= FRAME_WORDS {
             Some(Words { words: n })
         } else {
             None
@@ -84,7 +81,7 @@ impl Words {
     /// The number of words.
     pub fn get(self) -> u16
         ensures value { result ≡ self }
-        ensures range { self ≤ 9720 }
+        ensures range { self ≤ FRAME_WORDS }
     {
         self.words
     }
@@ -110,25 +107,23 @@ pub struct BufOcc {
 
 impl Model for BufOcc {
     ghost use Rattle.std.specs.Prelude.{ℕ, ◌≤◌};
+    ghost use Rattle.pon_units.specs.declared.limits.TheConstants.{GREATEST_OCCUPANCY};
 
     ghost Value = { ℕ };
 
     ghost view = { λ a. a.occupancy };
 
-    ghost invariant = { λ a. a.occupancy ≤ 16_777_215 };
+    ghost invariant = { λ a. a.occupancy ≤ GREATEST_OCCUPANCY };
 
     ghost inverse = { λ n. record { occupancy = n } };
 }
 
 impl BufOcc {
-    /// The greatest number of 24 bits.
-    pub const MAX: u32 = 16_777_215;
-
-    /// `None` above [`BufOcc::MAX`].
+    /// `None` above [`GREATEST_OCCUPANCY`].
     pub fn new(n: u32) -> Option<Self>
-        ensures { SomeIff result (n ≤ 16_777_215) n }
+        ensures { SomeIff result (n ≤ GREATEST_OCCUPANCY) n }
     {
-        if n <= Self::MAX {
+        if n <= GREATEST_OCCUPANCY {
             Some(BufOcc { occupancy: n })
         } else {
             None
@@ -138,7 +133,7 @@ impl BufOcc {
     /// The number of words.
     pub fn get(self) -> u32
         ensures value { result ≡ self }
-        ensures range { self ≤ 16_777_215 }
+        ensures range { self ≤ GREATEST_OCCUPANCY }
     {
         self.occupancy
     }

@@ -1,7 +1,8 @@
 // Who and where: the units of a line, their allocations, and the ports of the terminal.
-ghost use Rattle.std.specs.Prelude.{◌≡◌, ◌≤◌};
+ghost use Rattle.std.specs.Prelude.{◌≡◌, ◌<◌, ◌≤◌};
 ghost use Rattle.std.specs.Option.{SomeIff};
 
+use crate::limits::{GREATEST_ALLOC_ID, GREATEST_ONU_ID, LEAST_ALLOC_ID, MOST_PORTS};
 use std::marker::Model;
 
 /// An ONU-ID, 0 to 1022: the number of an optical network unit on its line (ITU-T G.987.3, ONU-ID).
@@ -12,25 +13,23 @@ pub struct OnuId {
 
 impl Model for OnuId {
     ghost use Rattle.std.specs.Prelude.{ℕ, ◌≤◌};
+    ghost use Rattle.pon_units.specs.declared.limits.TheConstants.{GREATEST_ONU_ID};
 
     ghost Value = { ℕ };
 
     ghost view = { λ a. a.onu };
 
-    ghost invariant = { λ a. a.onu ≤ 1022 };
+    ghost invariant = { λ a. a.onu ≤ GREATEST_ONU_ID };
 
     ghost inverse = { λ n. record { onu = n } };
 }
 
 impl OnuId {
-    /// The greatest ONU-ID: 1023 names no unit.
-    pub const MAX: u16 = 1022;
-
-    /// `None` above [`OnuId::MAX`].
+    /// `None` above [`GREATEST_ONU_ID`].
     pub fn new(n: u16) -> Option<Self>
-        ensures { SomeIff result (n ≤ 1022) n }
+        ensures { SomeIff result (n ≤ GREATEST_ONU_ID) n }
     {
-        if n <= Self::MAX {
+        if n <= GREATEST_ONU_ID {
             Some(OnuId { onu: n })
         } else {
             None
@@ -40,7 +39,7 @@ impl OnuId {
     /// The number.
     pub fn get(self) -> u16
         ensures value { result ≡ self }
-        ensures range { self ≤ 1022 }
+        ensures range { self ≤ GREATEST_ONU_ID }
     {
         self.onu
     }
@@ -55,28 +54,23 @@ pub struct AllocId {
 
 impl Model for AllocId {
     ghost use Rattle.std.specs.Prelude.{ℕ, ◌≤◌};
+    ghost use Rattle.pon_units.specs.declared.limits.TheConstants.{GREATEST_ALLOC_ID, LEAST_ALLOC_ID};
 
     ghost Value = { ℕ };
 
     ghost view = { λ a. a.alloc_id };
 
-    ghost invariant = { λ a. (1024 ≤ a.alloc_id) × (a.alloc_id ≤ 16383) };
+    ghost invariant = { λ a. (LEAST_ALLOC_ID ≤ a.alloc_id) × (a.alloc_id ≤ GREATEST_ALLOC_ID) };
 
     ghost inverse = { λ n. record { alloc_id = n } };
 }
 
 impl AllocId {
-    /// The least Alloc-ID that is assigned by management.
-    pub const MIN: u16 = 1024;
-
-    /// The greatest number of the 14 bits of an Alloc-ID.
-    pub const MAX: u16 = 16383;
-
-    /// `None` outside [`AllocId::MIN`] to [`AllocId::MAX`].
+    /// `None` outside [`LEAST_ALLOC_ID`] to [`GREATEST_ALLOC_ID`].
     pub fn new(n: u16) -> Option<Self>
-        ensures { SomeIff result ((1024 ≤ n) × (n ≤ 16383)) n }
+        ensures { SomeIff result ((LEAST_ALLOC_ID ≤ n) × (n ≤ GREATEST_ALLOC_ID)) n }
     {
-        if n >= Self::MIN && n <= Self::MAX {
+        if n >= LEAST_ALLOC_ID && n <= GREATEST_ALLOC_ID {
             Some(AllocId { alloc_id: n })
         } else {
             None
@@ -86,7 +80,7 @@ impl AllocId {
     /// The number.
     pub fn get(self) -> u16
         ensures value { result ≡ self }
-        ensures range { (1024 ≤ self) × (self ≤ 16383) }
+        ensures range { (LEAST_ALLOC_ID ≤ self) × (self ≤ GREATEST_ALLOC_ID) }
     {
         self.alloc_id
     }
@@ -95,53 +89,60 @@ impl AllocId {
 /// The least one.
 impl Default for AllocId {
     ghost use Rattle.std.specs.Prelude.{◌≡◌};
+    ghost use Rattle.pon_units.specs.declared.limits.TheConstants.{LEAST_ALLOC_ID};
 
-    ghost is_default = { λ a. a ≡ 1024 };
+    ghost is_default = { λ a. a ≡ LEAST_ALLOC_ID };
 
     fn default() -> Self {
         AllocId {
-            alloc_id: Self::MIN,
+            alloc_id: LEAST_ALLOC_ID,
         }
     }
 }
 
-/// The number of a port of the line terminal, 0 to 63.
+/// The number of a port of the line terminal, 0 to 63: its place in the list of the ports.
 #[derive(Clone, Copy, Debug, PartialEq, Eq, PartialOrd, Ord)]
 pub struct PortNo {
     port: u8,
 }
 
 impl Model for PortNo {
-    ghost use Rattle.std.specs.Prelude.{ℕ, ◌≤◌};
+    ghost use Rattle.std.specs.Prelude.{ℕ, ◌<◌};
+    ghost use Rattle.pon_units.specs.declared.limits.TheConstants.{MOST_PORTS};
 
     ghost Value = { ℕ };
 
     ghost view = { λ a. a.port };
 
-    ghost invariant = { λ a. a.port ≤ 63 };
+    ghost invariant = { λ a. a.port < MOST_PORTS };
 
     ghost inverse = { λ n. record { port = n } };
 }
 
 impl PortNo {
-    /// The last port.
-    pub const MAX: u8 = 63;
-
-    /// `None` above [`PortNo::MAX`].
+    /// `None` from [`MOST_PORTS`] on.
     pub fn new(n: u8) -> Option<Self>
-        ensures { SomeIff result (n ≤ 63) n }
+        ensures { SomeIff result (n < MOST_PORTS) n }
     {
-        if n <= Self::MAX {
+        if usize::from(n) < MOST_PORTS {
             Some(PortNo { port: n })
         } else {
             None
         }
     }
 
+    /// The number of the port at a place of a list of ports. The caller's condition: the place is below [`MOST_PORTS`].
+    pub fn at(place: usize) -> Self
+        requires { place < MOST_PORTS }
+        ensures { result ≡ place }
+    {
+        PortNo { port: place as u8 }
+    }
+
     /// The number.
     pub fn get(self) -> u8
         ensures value { result ≡ self }
-        ensures range { self ≤ 63 }
+        ensures range { self < MOST_PORTS }
     {
         self.port
     }

@@ -9,10 +9,16 @@ mod amount;
 mod frac;
 mod granted;
 mod identity;
+mod limits;
 mod line;
 
 pub use amount::{BufOcc, Kbps, Words};
 pub use frac::{Frac, cmp_frac, whole};
 pub use granted::Granted;
 pub use identity::{AllocId, OnuId, PortNo};
+pub use limits::{
+    FRAME_WORDS, GREATEST_ALLOC_ID, GREATEST_OCCUPANCY, GREATEST_ONU_ID, GREATEST_PROFILE,
+    GREATEST_RATE, LEAST_ALLOC_ID, LINE_RATE, LONGEST_GAP, LONGEST_SERIES, MOST_PORTS,
+    MOST_STRUCTURES, SHORTEST_GAP, WORD_RATE,
+};
 pub use line::{FrameNo, Gap, Profile};

@@ -2,6 +2,7 @@
 ghost use Rattle.std.specs.Prelude.{◌≡◌, ◌≤◌};
 ghost use Rattle.std.specs.Option.{SomeIff};
 
+use crate::limits::{GREATEST_PROFILE, LONGEST_GAP, SHORTEST_GAP};
 use std::marker::Model;
 
 /// The words of 4 bytes that are kept free before each burst, 1 to 256: guard time, preamble and
@@ -13,28 +14,23 @@ pub struct Gap {
 
 impl Model for Gap {
     ghost use Rattle.std.specs.Prelude.{ℕ, ◌≤◌};
+    ghost use Rattle.pon_units.specs.declared.limits.TheConstants.{LONGEST_GAP, SHORTEST_GAP};
 
     ghost Value = { ℕ };
 
     ghost view = { λ a. a.gap };
 
-    ghost invariant = { λ a. (1 ≤ a.gap) × (a.gap ≤ 256) };
+    ghost invariant = { λ a. (SHORTEST_GAP ≤ a.gap) × (a.gap ≤ LONGEST_GAP) };
 
     ghost inverse = { λ n. record { gap = n } };
 }
 
 impl Gap {
-    /// The shortest gap: two bursts never touch.
-    pub const MIN: u16 = 1;
-
-    /// The longest gap.
-    pub const MAX: u16 = 256;
-
-    /// `None` outside [`Gap::MIN`] to [`Gap::MAX`].
+    /// `None` outside [`SHORTEST_GAP`] to [`LONGEST_GAP`].
     pub fn new(n: u16) -> Option<Self>
-        ensures { SomeIff result ((1 ≤ n) × (n ≤ 256)) n }
+        ensures { SomeIff result ((SHORTEST_GAP ≤ n) × (n ≤ LONGEST_GAP)) n }
     {
-        if n >= Self::MIN && n <= Self::MAX {
+        if n >= SHORTEST_GAP && n <= LONGEST_GAP {
             Some(Gap { gap: n })
         } else {
             None
@@ -44,7 +40,7 @@ impl Gap {
     /// The number of words.
     pub fn get(self) -> u16
         ensures value { result ≡ self }
-        ensures range { (1 ≤ self) × (self ≤ 256) }
+        ensures range { (SHORTEST_GAP ≤ self) × (self ≤ LONGEST_GAP) }
     {
         self.gap
     }
@@ -58,25 +54,23 @@ pub struct Profile {
 
 impl Model for Profile {
     ghost use Rattle.std.specs.Prelude.{ℕ, ◌≤◌};
+    ghost use Rattle.pon_units.specs.declared.limits.TheConstants.{GREATEST_PROFILE};
 
     ghost Value = { ℕ };
 
     ghost view = { λ a. a.profile };
 
-    ghost invariant = { λ a. a.profile ≤ 3 };
+    ghost invariant = { λ a. a.profile ≤ GREATEST_PROFILE };
 
     ghost inverse = { λ n. record { profile = n } };
 }
 
 impl Profile {
-    /// The greatest number of the 2 bits of a burst profile.
-    pub const MAX: u8 = 3;
-
-    /// `None` above [`Profile::MAX`].
+    /// `None` above [`GREATEST_PROFILE`].
     pub fn new(n: u8) -> Option<Self>
-        ensures { SomeIff result (n ≤ 3) n }
+        ensures { SomeIff result (n ≤ GREATEST_PROFILE) n }
     {
-        if n <= Self::MAX {
+        if n <= GREATEST_PROFILE {
             Some(Profile { profile: n })
         } else {
             None
@@ -86,7 +80,7 @@ impl Profile {
     /// The index.
     pub fn get(self) -> u8
         ensures value { result ≡ self }
-        ensures range { self ≤ 3 }
+        ensures range { self ≤ GREATEST_PROFILE }
     {
         self.profile
     }

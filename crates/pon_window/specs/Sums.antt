@@ -2,6 +2,7 @@
 -- ONU, counted from any map on, modulo 2^32. By how much two of them differ was granted between them.
 use Rattle.std.specs.Prelude.{ℕ, ◌≡◌, ◌≤◌, ◌+◌, ◌^◌, ◌%◌, ◌==◌, ◌&&◌, Bool, All, if◌then◌else◌, List, [], ◌∷◌, map, length, sum_by, Option, Some, None, option_map}
 use Rattle.std.specs.Option.{option_or}
+use Rattle.pon_units.specs.declared.limits.TheConstants.{FRAME_WORDS}
 use Rattle.pon_window.specs.Window.{Granted, IsWindow, WindowMap, words_to}
 
 -- the grant is to an Alloc-ID under an ONU
@@ -27,7 +28,7 @@ sum_now u i (m ∷ ms) [] = None
 -- the sums of a map, with those of the maps after it, give what was granted from the map on
 pub record AreSumsOf (m : WindowMap) (ms : List WindowMap) (ns : List ℕ) (sums : List (List ℕ)) : Type 0 where
   pub beside : length ns ≡ length m.grants
-  pub small : All (λ g. g.words ≤ 9720) m.grants
+  pub small : All (λ g. g.words ≤ FRAME_WORDS) m.grants
   pub differ : (u i n : ℕ) → sum_before u i m.grants ns ≡ Some n → sum_now u i (m ∷ ms) (ns ∷ sums) ≡ Some ((n + sum_by (words_to u i) (m ∷ ms)) % 2 ^ 32)
 
 abbrev pub AreSummed : List WindowMap → List (List ℕ) → Type 0

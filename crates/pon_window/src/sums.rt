@@ -6,7 +6,7 @@ ghost use Rattle.pon_window.specs.Window.{IsLawfulMap, words_to};
 ghost use Rattle.pon_window.specs.Sums.{AreSummed, is_to, sum_before, sum_behind, sum_now, sums_beside};
 
 use crate::map::WindowMap;
-use pon_units::{AllocId, Granted, OnuId};
+use pon_units::{AllocId, FRAME_WORDS, Granted, OnuId};
 use std::alloc::{AllocError, Global};
 use std::marker::Model;
 
@@ -161,11 +161,11 @@ pub(crate) fn next_sums(
     requires as_many { length sums.now ≡ length maps.now }
     requires lawful { All IsLawfulMap maps.now }
     ensures sums { IfOk result (λ next. next ≡ sums_beside maps.now sums.now grants.now) }
-    ensures small { IfOk result (λ next. All (λ g. g.words ≤ 9720) grants.now) }
+    ensures small { IfOk result (λ next. All (λ g. g.words ≤ FRAME_WORDS) grants.now) }
 {
     let mut before = Vec::with_capacity(alloc, grants.len())?;
     for granted in grants {
-        prove!(granted.words.get() <= 9720);
+        prove!(granted.words.get() <= FRAME_WORDS);
         let sum = match sum_now(maps, sums, before.len(), granted.onu, granted.alloc_id) {
             Some(sum) => sum,
             None => 0,

@@ -6,12 +6,12 @@ ghost use Rattle.pon_descr.specs.Descriptor.{IsLawful};
 ghost use Rattle.pon_admit.specs.Kept.{AreSums};
 ghost use Rattle.pon_admit.specs.Roster.{refuses_admit, refuses_change, refuses_remove, with_descriptor, with_row, without};
 
-use super::{LONGEST_SERIES, MOST_ONUS, Roster};
+use super::{MOST_ONUS, Roster};
 use crate::row::Row;
 use crate::search::{count_owned, look_through, place_of};
 use crate::sums::{fits, rate};
 use pon_descr::{Descriptor, Refusal};
-use pon_units::{AllocId, Kbps, OnuId};
+use pon_units::{AllocId, Kbps, LONGEST_SERIES, OnuId};
 
 // Where a change of the set takes place, and the sums afterwards.
 #[derive(Drop)]

@@ -3,7 +3,7 @@ use std::alloc::Global;
 use std::process::Abort;
 use std::test::Fail;
 
-// Heads that announce so many structures, and no message.
+// Heads that announce 1, 2, 17 and 513 structures, and no message.
 const ONE: u32 = 0x0020_13ac;
 
 const TWO: u32 = 0x0040_0d2b;

@@ -1,10 +1,8 @@
 // A full port: 256 Alloc-IDs of 16 ONUs in all three classes, whose ONUs report all their buffers after each map. What a
 // map has to hold is computed here from descriptors and reports alone; the checker judges its certificate.
-ghost use Rattle.std.specs.Prelude.{◌≡◌, true};
-ghost use Rattle.pon_cert.specs.Problem.{IsProblem};
 
 use super::*;
-use pon_cert::{Item, Level, MapCert};
+use pon_cert::{Item, Level, MapCert, is_problem};
 use pon_check::check_map;
 use pon_dbru::Occupancies;
 use pon_units::BufOcc;
@@ -85,17 +83,6 @@ fn admit(rt: &impl Abort, port: &mut Port, buffer: &Buffer) {
         descriptor: descriptor.expect(rt, "a descriptor"),
     };
     take(rt, port, event);
-}
-
-fn is_problem(items: &[Item], surplus: u64) -> bool
-    ensures { result ≡ true → IsProblem items.now surplus }
-{
-    for item in items {
-        if item.weight == 0 || item.weight > LINE || item.cap > LINE {
-            return false;
-        }
-    }
-    items.len() <= 512 && surplus <= LINE
 }
 
 fn items(rt: &impl Abort, alloc: Global, buffers: &[Buffer], class: Class) -> Vec<Item> {

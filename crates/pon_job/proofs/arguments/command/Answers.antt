@@ -23,14 +23,15 @@ subbed a b r s x p q e = e ∙ ap (λ k. with_subcommand k r) p ∙ ap (with_sub
 
 pub returns : goal.returns
 returns c = lift c.subcommand-2.result _ _ c.subcommand-2.ensures (λ n h.
-    let plan_app = ap app_of_fields c.about-plan.ensures ∙ c.new.ensures.app in
-    let plan_local = ap (λ f. f.has_globals) c.about-plan.ensures ∙ c.new.ensures.local in
-    let about_app = ap app_of_fields c.about.ensures ∙ c.new-2.ensures.app in
+    let plan_about = ap app_of_fields c.about.ensures ∙ c.new.ensures.app in
+    let plan_app = ruled _ _ _ _ _ plan_about c.config_arg.ensures.rule (c.in_ok-plan.ensures.shape c.config_arg.ensures.local) in
+    let plan_local = c.in_ok-plan.ensures.globals ∙ both _ _ (ap (λ f. f.has_globals) c.about.ensures ∙ c.new.ensures.local) c.config_arg.ensures.local in
+    let about_app = ap app_of_fields c.about-2.ensures ∙ c.new-2.ensures.app in
     let check_app = ruled _ _ _ _ _ about_app c.file_arg.ensures.rule (c.in_ok-check.ensures.shape c.file_arg.ensures.local) in
-    let check_local = c.in_ok-check.ensures.globals ∙ both _ _ (ap (λ f. f.has_globals) c.about.ensures ∙ c.new-2.ensures.local) c.file_arg.ensures.local in
+    let check_local = c.in_ok-check.ensures.globals ∙ both _ _ (ap (λ f. f.has_globals) c.about-2.ensures ∙ c.new-2.ensures.local) c.file_arg.ensures.local in
     let bin = ap app_of_fields c.in_ok-bin_name.ensures.0 ∙ c.new-3.ensures.app in
     let ver = ap app_of_fields c.version.ensures ∙ ap (on_top (λ s. record s { has_version = true })) bin in
-    let abt = ap app_of_fields c.about-2.ensures ∙ ver in
+    let abt = ap app_of_fields c.about-3.ensures ∙ ver in
     let req = ap app_of_fields c.subcommand_required.ensures ∙ ap (on_top (λ s. record s { subcommand_required = true })) abt in
     let els = ap app_of_fields c.arg_required_else_help.ensures ∙ ap (on_top (λ s. record s { arg_required_else_help = true })) req in
     let one = subbed _ _ _ _ _ els (ap (λ a. a.top) plan_app) (c.in_ok-subcommand.ensures.shape plan_local) in

@@ -1,6 +1,11 @@
 use Rattle.std.proofs.Common.{sym, ◌∙◌}
-use Rattle.pon_job.proofs.Subcommands.{check_met, no_file_met}
+use Rattle.pon_job.proofs.Subcommands.{check_met, no_file_met, plan_met}
 use Rattle.pon_job.proofs.arguments.job_of.Goals as goal
+
+pub returns-then-eq-clause-some : goal.returns-then-eq-clause-some
+returns-then-eq-clause-some c =
+    plan_met c.args.matches.now c.in_ok-name.found.now c.in_ok-name.name.now c.get_str-config.result c.in_ok-name.ensures.name c.in_ok-name.ensures.rows
+    (sym c.eq.ensures ∙ c.if-eq.true) c.get_str-config.ensures
 
 pub returns-then-eq-2-clause-some : goal.returns-then-eq-2-clause-some
 returns-then-eq-2-clause-some c =

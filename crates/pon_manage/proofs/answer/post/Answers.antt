@@ -5,5 +5,6 @@ use Rattle.pon_manage.proofs.answer.post.Goals as goal
 
 pub returns-in_default : goal.returns-in_default
 returns-in_default c =
-    refused_text (λ (text : String Global). string_bytes text) c.args.port.now c.take.new.self c.args.event c.in-Err.refusal c.refusal_text_line.result
-    c.in-Err.ensures.refused c.in_default.not-OutOfMemory c.in-Err.ensures.err c.refusal_text_line.ensures
+    refused_text (λ (text : String Global). string_bytes text) c.args.plant.now c.step.new.self c.args.port c.args.event c.in-Err-Refused.refusal c.refusal_text_line.result
+    (rw c.in-Err-Refused.field-0-is at c.in-Err-Refused.ensures.answer) c.in_default.not-OutOfMemory c.in-Err-Refused.ensures.plant
+    c.refusal_text_line.ensures

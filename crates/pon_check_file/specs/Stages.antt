@@ -1,0 +1,126 @@
+-- How far the lines of a check file have come, and what the lines behind them change.
+use Rattle.std.specs.Prelude.{◌≡◌, ◌⊎◌, ℕ, ◌+◌, ◌-◌, ◌≤◌, ◌==◌, false, List, [], ◌∷◌, ◌++◌, length, take, drop, Option, Some, None, Result, Ok, Err}
+use Rattle.std.specs.List.{list_any}
+use Rattle.pon_lists.specs.ResultSteps.{◌>>=◌}
+use Rattle.pon_device.specs.Device.{Consumes, IsAtEnd}
+use Rattle.pon_cert.specs.declared.problem.Item.{Item}
+use Rattle.pon_cert.specs.declared.cert.Level.{Level}
+use Rattle.pon_stream.specs.declared.fault.PlanFault.{PlanFault}
+use Rattle.pon_stream.specs.declared.fault.PlanFault.TheVariants.{Read, Write, Memory}
+use Rattle.pon_text.specs.Lines.{file_lines, without_return}
+use Rattle.pon_check_file.specs.CheckLines.{flags_of}
+use Rattle.pon_check_file.specs.CheckFiles.{Filed, are_empty, file_of, file_with, first_spells, items_in_row, on_line}
+use Rattle.pon_cert.specs.declared.problem.TheConstants.{MOST_ITEMS}
+use Rattle.pon_check_file.specs.declared.file.CheckFile.{CheckFile}
+use Rattle.pon_check_file.specs.declared.file.Parsed.{Parsed}
+use Rattle.pon_check_file.specs.declared.file.Parsed.TheVariants as parsed
+use Rattle.pon_check_file.specs.declared.reading.Open.{Open}
+use Rattle.pon_check_file.specs.declared.reading.Taken.{Taken}
+use Rattle.pon_check_file.specs.declared.reading.Taken.TheVariants as taken
+use Rattle.pon_check_file.specs.declared.stage.Stage.{Stage}
+use Rattle.pon_check_file.specs.declared.stage.Stage.TheVariants as stage
+
+-- what the file spells that goes on with these lines: behind a surplus and items
+unfoldable pub behind_items : ℕ → List Item → List (List ℕ) → Result Filed ℕ
+behind_items surplus is ls = file_with surplus (is ++ take (MOST_ITEMS - length is) (items_in_row ls)) (drop (length (take (MOST_ITEMS - length is) (items_in_row ls))) ls)
+
+-- behind a level
+unfoldable pub behind_level : ℕ → List Item → Level → List (List ℕ) → Result Filed ℕ
+behind_level surplus is level ls = do
+  flags ← on_line (length is + 3) (first_spells (flags_of (length is)) ls)
+  end ← are_empty (length is + 4) (drop 1 ls)
+  Ok (record { surplus = surplus; items = is; cert = record { level = level; saturated = flags } })
+
+-- behind a whole file of n lines
+unfoldable pub behind_file : Filed → ℕ → List (List ℕ) → Result Filed ℕ
+behind_file f n ls = are_empty (n + 1) ls >>= λ end. Ok f
+
+-- what a file spells
+abbrev pub filed : CheckFile → Filed
+filed f = record { surplus = f.surplus; items = f.items.items; cert = f.cert }
+
+abbrev pub said : Parsed → Result Filed ℕ
+said (parsed.File f) = Ok (filed f)
+said (parsed.Syntax line) = Err line
+
+-- at any stage
+abbrev pub goes_on : Stage → List (List ℕ) → Result Filed ℕ
+goes_on stage.First ls = file_of ls
+goes_on (stage.Items s) ls = behind_items s.surplus s.items.items ls
+goes_on (stage.Level l) ls = behind_level l.shared.surplus l.shared.items.items l.level ls
+goes_on (stage.Whole w) ls = behind_file (filed w.file) w.lines ls
+
+-- the number of lines so far
+abbrev pub lines_before : Stage → ℕ
+lines_before stage.First = 0
+lines_before (stage.Items s) = length s.items.items + 1
+lines_before (stage.Level l) = length l.shared.items.items + 2
+lines_before (stage.Whole w) = w.lines
+
+-- there are no more items than there may be
+abbrev pub IsFew : Stage → Type 0
+IsFew stage.First = Unit {0}
+IsFew (stage.Items s) = length s.items.items ≤ MOST_ITEMS
+IsFew (stage.Level l) = length l.shared.items.items ≤ MOST_ITEMS
+IsFew (stage.Whole w) = Unit {0}
+
+-- a line that fits makes this of a stage
+pub record Fits (old : Stage) (line : List ℕ) (new : Stage) : Type 0 where
+  pub same : (ls : List (List ℕ)) → goes_on old (line ∷ ls) ≡ goes_on new ls
+  pub few : IsFew new
+  pub lines : lines_before new ≡ lines_before old + 1
+
+-- a line fits, or it does not whatever follows
+abbrev pub Takes : Stage → List ℕ → Option Stage → Type 0
+Takes old line None = (ls : List (List ℕ)) → goes_on old (line ∷ ls) ≡ Err (lines_before old + 1)
+Takes old line (Some new) = Fits old line new
+
+-- ---- the open line
+-- there are no more items than there may be, and no line feed in the open line
+pub record IsOpen (o : Open) : Type 0 where
+  pub few : IsFew o.stage
+  pub no_feed : list_any (λ b. b == 10) o.line.items ≡ false
+
+-- what the file spells that goes on with these bytes
+abbrev pub opens : Open → List ℕ → Result Filed ℕ
+opens o rest = goes_on o.stage (file_lines (o.line.items ++ rest))
+
+-- the whole lines and the bytes behind them
+abbrev pub size : Open → ℕ
+size o = lines_before o.stage + length o.line.items
+
+-- the open line is ended
+pub record Ends (old new : Open) : Type 0 where
+  pub fits : Fits old.stage (without_return old.line.items) new.stage
+  pub empty : new.line.items ≡ []
+
+abbrev pub EndsLine : Open → Taken → Type 0
+EndsLine old (taken.Open new) = Ends old new
+EndsLine old (taken.Syntax n) = (ls : List (List ℕ)) → goes_on old.stage (without_return old.line.items ∷ ls) ≡ Err n
+
+-- a byte more
+pub record Grows (old new : Open) (byte : ℕ) : Type 0 where
+  pub is_open : IsOpen new
+  pub small : size new ≤ size old + 1
+  pub same : (rest : List ℕ) → opens old (byte ∷ rest) ≡ opens new rest
+
+abbrev pub TakesByte : Open → ℕ → Taken → Type 0
+TakesByte old byte (taken.Open new) = Grows old new byte
+TakesByte old byte (taken.Syntax n) = (rest : List ℕ) → opens old (byte ∷ rest) ≡ Err n
+
+-- ---- a file that is read
+-- some lines spell this
+abbrev pub IsSaid : Parsed → Type 0
+IsSaid p = (ls : List (List ℕ)) × (file_of ls ≡ said p)
+
+-- the bytes spell this: at their end, or whatever follows them
+abbrev pub Decides : List ℕ → Option (List ℕ) → Parsed → Type 0
+Decides input left p =
+    (IsAtEnd left × (file_of (file_lines input) ≡ said p))
+    ⊎ ((n : ℕ) × (said p ≡ Err n) × ((rest : List ℕ) → file_of (file_lines (input ++ rest)) ≡ Err n))
+
+abbrev pub ReadsFile : Option (List ℕ) → Option (List ℕ) → Result Parsed PlanFault → Type 0
+ReadsFile old new (Ok p) = (input : List ℕ) × Consumes old new input × Decides input new p
+ReadsFile old new (Err Read) = (input : List ℕ) × Consumes old new input
+ReadsFile old new (Err Memory) = (input : List ℕ) × Consumes old new input
+ReadsFile old new (Err Write) = ⊥

@@ -1,0 +1,63 @@
+-- The first line of a check file that does not fit.
+use Rattle.std.specs.Prelude.{◌≡◌, ◌⊎◌, ℕ, Bool, ◌+◌, ◌<◌, ◌≤◌, List, [], ◌∷◌, ◌++◌, length, map, drop, replicate, Some, None}
+use Rattle.pon_cert.specs.declared.problem.Item.{Item}
+use Rattle.pon_cert.specs.declared.cert.Level.{Level}
+use Rattle.pon_check_file.specs.CheckLines.{surplus_of, item_of, level_of, flags_of}
+use Rattle.pon_check_file.specs.CheckFiles.{first_spells}
+use Rattle.pon_cert.specs.declared.problem.TheConstants.{MOST_ITEMS}
+
+-- a line with a surplus, and then one for each item
+pub record AreProblem (lines : List (List ℕ)) (items : List Item) : Type 0 where
+  pub surplus : ℕ
+  pub is_surplus : first_spells surplus_of lines ≡ Some surplus
+  pub are_items : map item_of (drop 1 lines) ≡ map Some items
+  pub count : length items ≤ MOST_ITEMS
+
+-- the file begins with no surplus
+pub record LacksSurplus (before rest : List (List ℕ)) : Type 0 where
+  pub first : before ≡ []
+  pub no_surplus : first_spells surplus_of rest ≡ None
+
+-- a problem, and behind it neither a level nor, where there may be more of them, an item
+pub record LacksLevel (before rest : List (List ℕ)) : Type 0 where
+  pub items : List Item
+  pub problem : AreProblem before items
+  pub no_level : first_spells level_of rest ≡ None
+  pub no_item : length items < MOST_ITEMS → first_spells item_of rest ≡ None
+
+-- a problem and a level, and behind them no set of its items
+pub record LacksSet (before rest : List (List ℕ)) : Type 0 where
+  pub lines : List (List ℕ)
+  pub items : List Item
+  pub problem : AreProblem lines items
+  pub level_line : List ℕ
+  pub level : Level
+  pub is_level : level_of level_line ≡ Some level
+  pub all_before : before ≡ lines ++ level_line ∷ []
+  pub no_set : first_spells (flags_of (length items)) rest ≡ None
+
+-- a problem, a level, a set and empty lines, and behind them a line that is not empty
+pub record HasMore (before rest : List (List ℕ)) : Type 0 where
+  pub lines : List (List ℕ)
+  pub items : List Item
+  pub problem : AreProblem lines items
+  pub level_line : List ℕ
+  pub level : Level
+  pub is_level : level_of level_line ≡ Some level
+  pub set_line : List ℕ
+  pub flags : List Bool
+  pub is_set : flags_of (length items) set_line ≡ Some flags
+  pub empty : ℕ
+  pub all_before : before ≡ lines ++ level_line ∷ set_line ∷ replicate empty []
+  pub byte : ℕ
+  pub bytes : List ℕ
+  pub others : List (List ℕ)
+  pub not_empty : rest ≡ (byte ∷ bytes) ∷ others
+
+-- the lines before line n fit, and line n is not what has to stand behind them
+pub record IsFirstUnfit (ls : List (List ℕ)) (n : ℕ) : Type 0 where
+  pub before : List (List ℕ)
+  pub rest : List (List ℕ)
+  pub all : ls ≡ before ++ rest
+  pub place : n ≡ length before + 1
+  pub unfit : LacksSurplus before rest ⊎ LacksLevel before rest ⊎ LacksSet before rest ⊎ HasMore before rest

@@ -1,0 +1,118 @@
+//! The bytes of a check file, gathered to lines.
+
+ghost use Rattle.std.specs.Prelude.{◌≡◌, ◌<◌, ◌-◌, ◌^◌, IfOk, length};
+ghost use Rattle.pon_stream.specs.Streams.{TellsRead};
+ghost use Rattle.pon_text.specs.Lines.{file_lines};
+ghost use Rattle.pon_check_file.specs.Stages.{EndsLine, IsOpen, ReadsFile, TakesByte, goes_on, lines_before, said, size};
+
+use crate::file::Parsed;
+use crate::stage::Stage;
+use pon_device::DevRead;
+use pon_stream::{PlanFault, next_byte};
+use pon_text::without_return;
+use std::alloc::{AllocError, Global};
+
+/// The greatest number of bytes of a line that fits, without its carriage return and line feed: a set of 512 indexes of
+/// 20 digits. What is longer fits nowhere.
+pub const LONGEST_LINE: usize = 10_761;
+
+// What the whole lines spell, and the open line behind them.
+#[derive(Drop)]
+struct Open {
+    stage: Stage,
+    line: Vec<u8>,
+}
+
+// What a byte more makes of the file.
+#[derive(Drop)]
+enum Taken {
+    // It may still fit.
+    Open(Open),
+    // This line does not fit, whatever follows.
+    Syntax(u64),
+}
+
+impl Open {
+    // Ends the open line.
+    fn end_line(self, alloc: Global) -> Result<Taken, AllocError>
+        requires open { IsOpen self }
+        requires lines { lines_before self.stage < 2 ^ 64 - 1 }
+        ensures { IfOk result (EndsLine self) }
+    {
+        let number = self.stage.line();
+        let mut line = self.line;
+        match self.stage.take(alloc, without_return(line.as_slice()))? {
+            Some(stage) => {
+                line.clear();
+                Ok(Taken::Open(Open { stage, line }))
+            }
+            None => Ok(Taken::Syntax(number)),
+        }
+    }
+
+    // Takes the next byte.
+    fn take(self, alloc: Global, byte: u8) -> Result<Taken, AllocError>
+        requires open { IsOpen self }
+        requires lines { size self < 2 ^ 64 - 1 }
+        ensures { IfOk result (TakesByte self byte) }
+    {
+        if byte == b'\n' {
+            return self.end_line(alloc);
+        }
+        if self.line.len() > LONGEST_LINE {
+            return Ok(Taken::Syntax(self.stage.line()));
+        }
+        let mut line = self.line;
+        line.push(byte)?;
+        Ok(Taken::Open(Open {
+            stage: self.stage,
+            line,
+        }))
+    }
+
+    // Ends the file; an open line counts where it is not empty.
+    fn end(self, alloc: Global) -> Result<Parsed, AllocError>
+        requires open { IsOpen self }
+        requires lines { size self < 2 ^ 64 - 1 }
+        ensures { IfOk result (λ p. goes_on self.stage (file_lines self.line.items) ≡ said p) }
+    {
+        if self.line.is_empty() {
+            return Ok(self.stage.end());
+        }
+        match self.end_line(alloc)? {
+            Taken::Open(open) => Ok(open.stage.end()),
+            Taken::Syntax(line) => Ok(Parsed::Syntax(line)),
+        }
+    }
+}
+
+/// Reads a check file, one byte a call, to the end of the input or until a line does not fit.
+///
+/// `Read` if the reader fails or 2^64 - 1 reads decide nothing, and `Memory` if memory is refused.
+pub(crate) fn read_file<R: DevRead>(alloc: Global, reader: &mut R) -> Result<Parsed, PlanFault>
+    ensures text { ReadsFile (R.remaining reader.old) (R.remaining reader.new) result }
+    ensures read { TellsRead (R.calls reader.old) (R.calls reader.new) (R.failures reader.old)
+        (R.failures reader.new) result }
+{
+    let mut open = Open {
+        stage: Stage::First,
+        line: Vec::new(alloc),
+    };
+    for _turn in 0..u64::MAX {
+        match next_byte(reader) {
+            Err(_) => return Err(PlanFault::Read),
+            Ok(None) => {
+                return match open.end(alloc) {
+                    Ok(parsed) => Ok(parsed),
+                    Err(_) => Err(PlanFault::Memory),
+                };
+            }
+            Ok(Some(byte)) => match open.take(alloc, byte) {
+                Ok(Taken::Open(next)) => open = next,
+                Ok(Taken::Syntax(line)) => return Ok(Parsed::Syntax(line)),
+                Err(_) => return Err(PlanFault::Memory),
+            },
+        }
+    }
+    Err(PlanFault::Read)
+}

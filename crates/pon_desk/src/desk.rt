@@ -1,0 +1,206 @@
+use crate::books::Books;
+use crate::closed::Closed;
+use crate::closing::settle;
+use crate::fault::CloseFault;
+use crate::held::Held;
+use crate::opening::{open_ports, open_seats};
+use crate::posted::Posted;
+use crate::seat::Seat;
+use crate::view::{PortView, view_of};
+use pon_descr::Refusal;
+use pon_event::Event;
+use pon_plant::{PlantFault, StepFault};
+use pon_port::{Port, PortCfg};
+use pon_units::{FrameNo, MOST_PORTS, PortNo};
+use std::alloc::Global;
+use std::marker::Model;
+use std::sync::ledger::{Blank, Ledger};
+use std::sync::{Mutex, Wait};
+
+/// The ports of a line terminal, 1 to 64, each under a lock of its own, for threads that post to them.
+///
+/// Contracts see the number of its ports, and the number of seats that were opened.
+#[derive(Drop)]
+pub struct Desk<L: Ledger, M: Ledger> {
+    ports: Vec<Mutex<Held<L>>>,
+    books: Mutex<Books<L, M>>,
+    seats: usize,
+    // Room for what `close` hands out.
+    room: Vec<Port>,
+    counts: Vec<u64>,
+}
+
+impl<L: Ledger, M: Ledger> Model for Desk<L, M> {
+    ghost use Rattle.std.specs.Prelude.{◌≡◌, ◌≤◌, replicate, vec_len, vec_capacity};
+    ghost use Rattle.pon_plant.specs.Plants.{IsPlantSize};
+    ghost use Rattle.pon_desk.specs.Counts.{DeskSize};
+
+    ghost Value = { DeskSize };
+
+    ghost view = { λ d. record { ports = vec_len d.ports; seats = d.seats } };
+
+    ghost invariant = { λ d. (vec_len d.ports ≡ L.parts) × (d.seats ≡ M.parts)
+        × (vec_len d.room ≡ 0) × (vec_len d.ports ≤ vec_capacity d.room)
+        × (d.counts.items ≡ replicate L.parts 0) × IsPlantSize (vec_len d.ports) };
+}
+
+impl<L: Ledger, M: Ledger> Desk<L, M> {
+    ghost use Rattle.std.specs.Prelude.{◌≡◌, ◌<◌, ◌≤◌, ◌↔◌, ◌⊎◌, replicate, length, IfOk, IfErr, OnOk, OnErr};
+    ghost use Rattle.std.specs.Fn.{FnOnceReturnsAt};
+    ghost use Rattle.pon_port.specs.Chapters.{Chapter, IsLawfulChapter};
+    ghost use Rattle.pon_plant.specs.Plants.{IsPlantSize, TellsOpening};
+    ghost use Rattle.pon_desk.specs.Counts.{IsEven, one_more_at, unused_seat};
+    ghost use Rattle.pon_desk.specs.Faults.{IsNoSuchPort, TellsClosing, TellsRefusal};
+    ghost use Rattle.pon_desk.specs.Posts.{IsSomePost};
+    ghost use Rattle.pon_desk.specs.Views.{view_of};
+
+    /// Opens a port for each configuration and first frame, numbered from 0 in their order, and gives this number of seats.
+    ///
+    /// The caller's conditions: there is a seat; the blank of the ports' ledger has a part for each port, that of the seats'
+    /// ledger one for each seat. `Ports` exactly if there are no ports or more than 64; `Memory` only if memory is
+    /// refused. A refusal gives the blanks up.
+    pub fn open(
+        alloc: Global,
+        of_ports: Blank,
+        of_seats: Blank,
+        ports: &[(PortCfg, FrameNo)],
+        seats: usize,
+    ) -> Result<(Desk<L, M>, Vec<Seat<L, M>>), PlantFault>
+        requires ports { (of_ports.name ≡ L.name) × (of_ports.parts ≡ L.parts)
+            × (L.parts ≡ length ports.now) }
+        requires seats { (of_seats.name ≡ M.name) × (of_seats.parts ≡ M.parts)
+            × (M.parts ≡ seats) }
+        requires some { 0 < seats }
+        ensures ports { IfOk result (λ r. r.0.ports ≡ length ports.now) }
+        ensures seats { IfOk result (λ r. r.0.seats ≡ seats) }
+        ensures unused { IfOk result (λ r. r.1.items
+            ≡ replicate seats (unused_seat (length ports.now))) }
+        ensures size { IfOk result (λ r. IsPlantSize (length ports.now)) }
+        ensures err { IfErr result (λ fault. TellsOpening (length ports.now) fault) }
+    {
+        if ports.is_empty() || ports.len() > MOST_PORTS {
+            return Err(PlantFault::Ports);
+        }
+        let (of_ports, mut all_ports) = of_ports.open::<L>();
+        let (of_seats, mut all_seats) = of_seats.open::<M>();
+        let locks = open_ports(alloc, ports, &mut all_ports)?;
+        let opened = open_seats::<L, M>(alloc, ports.len(), seats, &mut all_seats)?;
+        let books = Books::<L, M>::new(of_ports, of_seats, all_ports, all_seats);
+        let desk = Desk {
+            ports: locks,
+            books: Mutex::new(books),
+            seats,
+            room: Vec::with_capacity(alloc, ports.len())?,
+            counts: vec![in alloc; 0; ports.len()]?,
+        };
+        Ok((desk, opened))
+    }
+
+    /// The number of its ports, 1 to 64. A seat of the desk counts as many.
+    pub fn ports(&self) -> usize
+        ensures value { result ≡ self.now.ports }
+        ensures ledger { result ≡ L.parts }
+        ensures size { IsPlantSize result }
+    {
+        self.ports.len()
+    }
+
+    /// Posts an event at a port, under that port's lock: one call of [`Held::post`], with its refusals.
+    ///
+    /// `NoSuchPort` exactly if the desk has no such port. Only an accepted post is counted at the seat.
+    pub fn post<R: Wait>(
+        &self,
+        rt: &R,
+        seat: &mut Seat<L, M>,
+        port: PortNo,
+        event: Event,
+    ) -> Result<Posted, StepFault>
+        ensures no_such { IsNoSuchPort result ↔ self.now.ports ≤ port }
+        // What the port was at that moment is not said, but that it was lawful.
+        ensures posted { IfOk result (λ posted. IsSomePost event posted) }
+        ensures refused { IfErr result (λ fault. TellsRefusal event fault) }
+        ensures counted { OnOk result (seat.new ≡ one_more_at port seat.old) }
+        ensures err { OnErr result (seat.new ≡ seat.old) }
+    {
+        let Some(lock) = self.ports.get(usize::from(port.get())) else {
+            return Err(StepFault::NoSuchPort);
+        };
+        prove!(usize::from(port.get()) < seat.counts().len());
+        let mut held = lock.lock(rt);
+        prove!(held.port().history().len() <= usize::MAX);
+        match held.post(rt, &self.books, seat, port, event) {
+            Ok(posted) => Ok(posted),
+            Err(refusal) => Err(StepFault::Refused(refusal)),
+        }
+    }
+
+    /// Calls `look` on a port under that port's lock alone, and returns its answer. The caller's condition: `look` may be
+    /// called on any port.
+    ///
+    /// `Err` is `NoSuchPort`, exactly if the desk has no such port.
+    pub fn inspect<T, F: FnOnce(&Port) -> T, R: Wait>(
+        &self,
+        rt: &R,
+        port: PortNo,
+        look: F,
+    ) -> Result<T, StepFault>
+        requires { F.IsAlwaysCallable look }
+        ensures no_such { IsNoSuchPort result ↔ self.now.ports ≤ port }
+        ensures answer { IfOk result (λ answer.
+            (at : Chapter) × IsLawfulChapter at × FnOnceReturnsAt F.FnOnce look at answer) }
+        ensures err { IfErr result (λ fault. fault ≡ StepFault.NoSuchPort) }
+    {
+        let Some(lock) = self.ports.get(usize::from(port.get())) else {
+            return Err(StepFault::NoSuchPort);
+        };
+        let held = lock.lock(rt);
+        Ok(look(held.port()))
+    }
+
+    /// What a port shows at some moment, copied under its lock.
+    ///
+    /// `NoSuchPort` exactly if the desk has no such port; else `Refused` with `OutOfMemory`, only if memory for the copy
+    /// is refused.
+    pub fn look<R: Wait>(&self, rt: &R, alloc: Global, port: PortNo) -> Result<PortView, StepFault>
+        ensures no_such { IsNoSuchPort result ↔ self.now.ports ≤ port }
+        ensures view { IfOk result (λ view.
+            (at : Chapter) × IsLawfulChapter at × (view ≡ view_of at)) }
+        ensures err { IfErr result (λ fault. (fault ≡ StepFault.NoSuchPort)
+            ⊎ (fault ≡ StepFault.Refused Refusal.OutOfMemory)) }
+    {
+        let Some(lock) = self.ports.get(usize::from(port.get())) else {
+            return Err(StepFault::NoSuchPort);
+        };
+        let held = lock.lock(rt);
+        match view_of(alloc, held.port()) {
+            Ok(view) => Ok(view),
+            Err(_) => Err(StepFault::Refused(Refusal::OutOfMemory)),
+        }
+    }
+
+    /// Closes the desk: each port took as many entries as the seats count at it. It takes no memory.
+    ///
+    /// `Missing` exactly if there are fewer seats than were opened; seats of another desk do not compile. `Uneven` exactly
+    /// if all are there and some port took another number of entries than they count at it.
+    pub fn close(self, seats: Vec<Seat<L, M>>) -> Result<Closed, CloseFault<L, M>>
+        ensures ports { IfOk result (λ closed. length closed ≡ self.ports) }
+        ensures seats { IfOk result (λ closed. length seats.items ≡ self.seats) }
+        ensures even { IfOk result (λ closed. IsEven closed seats.items) }
+        ensures err { IfErr result (λ fault. TellsClosing self seats.items fault) }
+    {
+        if seats.len() < self.seats {
+            return Err(CloseFault::Missing { desk: self, seats });
+        }
+        let Desk {
+            ports,
+            books,
+            seats: _,
+            room,
+            counts,
+        } = self;
+        match settle(books.into_inner(), ports, seats, room, counts) {
+            Ok(closed) => Ok(closed),
+            Err((ports, counts)) => Err(CloseFault::Uneven { ports, counts }),
+        }
+    }
+}

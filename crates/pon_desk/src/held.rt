@@ -1,0 +1,91 @@
+ghost use Rattle.std.specs.Prelude.{◌≡◌, ◌<◌, ◌⊎◌, length, IfOk, IfErr, OnOk, OnErr};
+ghost use Rattle.pon_descr.specs.Checks.{IsTold};
+ghost use Rattle.pon_port.specs.Chapters.{IsLawfulChapter};
+ghost use Rattle.pon_port.specs.Taking.{refusal_of};
+ghost use Rattle.pon_desk.specs.Counts.{one_more_at};
+ghost use Rattle.pon_desk.specs.Posts.{IsPosted};
+
+use crate::books::Books;
+use crate::posted::{Posted, take};
+use crate::seat::{Seat, count_at};
+use pon_descr::Refusal;
+use pon_event::Event;
+use pon_port::Port;
+use pon_units::PortNo;
+use std::marker::Model;
+use std::sync::ledger::{Ledger, Share};
+use std::sync::{Mutex, Wait};
+
+/// A port as it lies under its lock: with a share of the ports' ledger whose amount is the number of entries that it took.
+///
+/// Contracts see the chapter that the port keeps.
+#[derive(Drop)]
+pub struct Held<L: Ledger> {
+    pub(crate) port: Port,
+    pub(crate) share: Share<L>,
+}
+
+impl<L: Ledger> Model for Held<L> {
+    ghost use Rattle.std.specs.Prelude.{◌≡◌};
+    ghost use Rattle.pon_port.specs.Chapters.{Chapter};
+    ghost use Rattle.pon_desk.specs.Counts.{taken_of};
+
+    ghost Value = { Chapter };
+
+    ghost view = { λ h. h.port };
+
+    ghost invariant = { λ h. (h.share.parts ≡ 1) × (h.share.amount ≡ taken_of h.port) };
+}
+
+impl<L: Ledger> Held<L> {
+    /// The port.
+    pub fn port(&self) -> &Port
+        ensures value { result.now ≡ self.now }
+        ensures lawful { IsLawfulChapter self.now }
+    {
+        let _entries = self.port.history();
+        &self.port
+    }
+
+    /// Posts an event at this port, and counts the post at the port and at the seat. The caller's condition: the seat
+    /// counts a port of this number.
+    ///
+    /// `ChapterFull` first if the number of entries of all ports of the desk is at its last value (2^64 - 1); else the
+    /// first check of the port that refuses the event; `OutOfMemory` only if none does. A refusal changes neither the
+    /// port nor the seat.
+    pub fn post<M: Ledger, R: Wait>(
+        &mut self,
+        rt: &R,
+        books: &Mutex<Books<L, M>>,
+        seat: &mut Seat<L, M>,
+        port: PortNo,
+        event: Event,
+    ) -> Result<Posted, Refusal>
+        requires { port < length seat.old.counts }
+        ensures ok { IfOk result (λ posted. IsPosted self.old event posted self.new) }
+        ensures counted { OnOk result (seat.new ≡ one_more_at port seat.old) }
+        ensures refused { IfErr result (λ told.
+            IsTold (refusal_of self.old event) told ⊎ (told ≡ Refusal.ChapterFull)) }
+        ensures err { OnErr result ((self.new ≡ self.old) × (seat.new ≡ seat.old)) }
+    {
+        let Held { port: at, share } = self;
+        let Seat {
+            counts,
+            share: mine,
+            of: _,
+        } = seat;
+        if !books.lock(rt).count(share, mine) {
+            return Err(Refusal::ChapterFull);
+        }
+        match take(at, event) {
+            Ok(posted) => {
+                count_at(counts, port);
+                Ok(posted)
+            }
+            Err(refusal) => {
+                books.lock(rt).uncount(share, mine);
+                Err(refusal)
+            }
+        }
+    }
+}

@@ -1,0 +1,28 @@
+//! A desk: many threads post events to the ports of one XG-PON optical line terminal (upstream bandwidth assignment,
+//! ITU-T G.987.3).
+//!
+//! Each port is under a lock of its own. Each post is counted twice, at its port and at the seat that made it, and a ledger
+//! for each keeps the two totals equal: once all seats are back, no post was lost and none was kept twice. The crate
+//! starts no thread, and has no clock or device.
+#![tactic(auto)]
+
+mod books;
+mod closed;
+mod closing;
+mod desk;
+mod fault;
+mod held;
+mod opening;
+mod posted;
+mod seat;
+mod view;
+
+pub use books::Books;
+pub use closed::Closed;
+pub use desk::Desk;
+pub use fault::CloseFault;
+pub use held::Held;
+pub use pon_plant::{PlantFault, StepFault};
+pub use posted::Posted;
+pub use seat::Seat;
+pub use view::{LastView, PortView};

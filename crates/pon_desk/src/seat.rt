@@ -1,0 +1,50 @@
+ghost use Rattle.std.specs.Prelude.{◌≡◌, ◌+◌, ◌<◌, ◌^◌, length, slice_index, slice_set, sum};
+
+use pon_units::PortNo;
+use std::marker::{Model, PhantomData};
+use std::sync::ledger::{Ledger, Share};
+
+/// The right to post at the ports of one desk, with the number of posts made with it at each port.
+///
+/// Contracts see a seat as these numbers. They are as many as the desk has ports, since the ledger of the ports is in the
+/// type.
+#[derive(Drop)]
+pub struct Seat<L: Ledger, M: Ledger> {
+    pub(crate) counts: Vec<u64>,
+    pub(crate) share: Share<M>,
+    pub(crate) of: PhantomData<L>,
+}
+
+impl<L: Ledger, M: Ledger> Model for Seat<L, M> {
+    ghost use Rattle.std.specs.Prelude.{◌≡◌, length, sum};
+    ghost use Rattle.pon_desk.specs.Counts.{SeatCounts};
+
+    ghost Value = { SeatCounts };
+
+    ghost view = { λ s. record { counts = s.counts.items } };
+
+    ghost invariant = { λ s. (length s.counts.items ≡ L.parts)
+        × (s.share.parts ≡ 1) × (s.share.amount ≡ sum s.counts.items) };
+}
+
+impl<L: Ledger, M: Ledger> Seat<L, M> {
+    ghost use Rattle.std.specs.Prelude.{◌≡◌, length};
+
+    /// The number of posts made with this seat at each port, by the ports' numbers.
+    pub fn counts(&self) -> &[u64]
+        ensures value { result.now ≡ self.now.counts }
+        ensures one_each { length self.now.counts ≡ L.parts }
+    {
+        self.counts.as_slice()
+    }
+}
+
+// Counts one post more at a port.
+pub(crate) fn count_at(counts: &mut Vec<u64>, port: PortNo)
+    requires is_port { port < length counts.old.items }
+    requires fits { sum counts.old.items + 1 < 2 ^ 64 }
+    ensures { counts.new.items
+        ≡ slice_set counts.old.items port (slice_index counts.old.items port + 1) }
+{
+    counts[usize::from(port.get())] += 1;
+}

@@ -1,0 +1,7 @@
+use Rattle.pon_desk_tests.proofs.desks.posts_again_what_memory_refused.Given as goal
+
+abbrev pub ghosts-run-L-Ledger : goal.ghosts-run-L-Ledger
+ghosts-run-L-Ledger g a = record { name = a.of_ports.name; parts = a.of_ports.parts }
+
+abbrev pub ghosts-run-M-Ledger : goal.ghosts-run-M-Ledger
+ghosts-run-M-Ledger g a = record { name = a.of_seats.name; parts = a.of_seats.parts }

@@ -1,0 +1,9 @@
+//! Tests of the desk: posts from threads, kept entries, looks, refused memory, and management lines at a desk.
+//!
+//! They stand here, above the crate that they test, so that it is proved once.
+#![tactic(auto)]
+
+#[cfg(test)]
+mod desks;
+#[cfg(test)]
+mod operating;

@@ -1,0 +1,18 @@
+-- A line gives what its first 4,097 bytes give.
+use Rattle.std.proofs.Common.{ℕ, List, length, subst, sym}
+use Rattle.pon_line.proofs.LongLines.{read_line-take}
+use Rattle.pon_session.specs.Giving.{ReadsFirst}
+use Rattle.pon_manage.specs.Desks.{DeskAnswers, DeskGives}
+use Rattle.pon_manage.specs.Text.{Answers, Gives}
+
+pub gives_first : ReadsFirst Gives
+gives_first old line text new = (
+  subst (λ r. Answers old r text new) (read_line-take (length old) line),
+  subst (λ r. Answers old r text new) (sym (read_line-take (length old) line)),
+)
+
+pub desk_gives_first : ReadsFirst DeskGives
+desk_gives_first old line text new = (
+  λ g. (subst (λ r. DeskAnswers r text) (read_line-take old line) g.0, g.1),
+  λ g. (subst (λ r. DeskAnswers r text) (sym (read_line-take old line)) g.0, g.1),
+)

@@ -1,0 +1,76 @@
+//! Management lines at a desk.
+
+ghost use Rattle.std.specs.Prelude.{OnOk};
+ghost use Rattle.pon_device.specs.Device.{IsAtEnd};
+ghost use Rattle.pon_stream.specs.Streams.{TellsRead, TellsWrite};
+ghost use Rattle.pon_session.specs.Planning.{Planned};
+ghost use Rattle.pon_manage.specs.Desks.{DeskGives};
+ghost use Rattle.pon_manage.specs.FirstBytes.{desk_gives_first};
+
+use crate::at_desk::answer_at_desk;
+use pon_desk::{Desk, Seat};
+use pon_device::{DevRead, DevWrite};
+use pon_line::read_line;
+use pon_session::{Answers, PlanEnd, answer_input};
+use pon_stream::PlanFault;
+use std::alloc::{AllocError, Global};
+use std::marker::Model;
+use std::sync::Wait;
+use std::sync::ledger::Ledger;
+
+// A desk that answers lines, with the seat that posts for them. Contracts see the number of its ports.
+#[derive(Drop)]
+struct AtDesk<'a, L: Ledger, M: Ledger, H: Wait> {
+    rt: &'a H,
+    desk: &'a Desk<L, M>,
+    seat: &'a mut Seat<L, M>,
+}
+
+impl<'a, L: Ledger, M: Ledger, H: Wait> Model for AtDesk<'a, L, M, H> {
+    ghost use Rattle.std.specs.Prelude.{ℕ};
+
+    ghost Value = { ℕ };
+
+    ghost view = { λ a. a.desk.now.ports };
+}
+
+impl<'a, L: Ledger, M: Ledger, H: Wait> Answers for AtDesk<'a, L, M, H> {
+    ghost gives = { DeskGives };
+
+    fn answer_line(&mut self, alloc: Global, line: &[u8]) -> Result<String, AllocError> {
+        let reading = read_line(self.desk.ports(), line);
+        answer_at_desk(self.rt, alloc, self.desk, self.seat, reading)
+    }
+
+    ghost reads_first = { desk_gives_first };
+}
+
+/// Reads management lines to the end of the input, posts their events at the desk with this seat, and writes the reply or the
+/// refusal of each, for a thread that runs beside others that post there.
+///
+/// The text of a line has the form that its reading allows: none for a blank line or a comment, the refusal of a line that
+/// cannot be read, else what some port with a lawful chapter replies, refuses or shows; which chapter that was is not said,
+/// since other threads post too. No lock is held over a read or a write. The replies to what one read gave are written before the next read.
+///
+/// `Read` if the reader failed or 2^64 - 1 reads were made: the text of all whole lines read is written.
+/// `Write` if the writer failed, and `Memory` if memory was refused: a beginning of the text is written; after
+/// `Memory` it is the text of the lines before. A line that was not ended when a fault came is not answered. The writer is
+/// flushed once, at the end of the input.
+pub fn operate<L: Ledger, M: Ledger, H: Wait, R: DevRead, W: DevWrite>(
+    rt: &H,
+    alloc: Global,
+    desk: &Desk<L, M>,
+    seat: &mut Seat<L, M>,
+    reader: &mut R,
+    writer: &mut W,
+) -> Result<PlanEnd, PlanFault>
+    ensures text { Planned DeskGives desk.now.ports (R.remaining reader.old)
+        (R.remaining reader.new) (W.contents writer.old) (W.contents writer.new) result }
+    ensures end { OnOk result (IsAtEnd (R.remaining reader.new)) }
+    ensures read { TellsRead (R.calls reader.old) (R.calls reader.new) (R.failures reader.old)
+        (R.failures reader.new) result }
+    ensures write { TellsWrite (W.failures writer.old) (W.failures writer.new) result }
+{
+    let mut at = AtDesk { rt, desk, seat };
+    answer_input(alloc, &mut at, reader, writer)
+}

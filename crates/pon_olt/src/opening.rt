@@ -1,0 +1,140 @@
+//! What `plan` begins with: the ports and the steps of the settings, or one port without settings.
+
+ghost use Rattle.std.specs.Prelude.{◌≡◌, ℕ, List, [], IfOk, length};
+ghost use Rattle.pon_plant.specs.Plants.{IsPlantSize};
+ghost use Rattle.pon_settings.specs.Ports.{IsOpening, openings, steps_from};
+
+use pon_manage::{PlanFault, Step};
+use pon_port::PortCfg;
+use pon_settings::{Settings, SettingsFault, explain, settings};
+use pon_units::{FrameNo, Gap, Profile};
+use std::alloc::{AllocError, Global};
+use std::fs;
+use std::io::{self, ErrorKind, Read};
+use std::rt::Files;
+
+/// The gap before each burst of the port that is opened without settings, in words.
+const GAP_WITHOUT_SETTINGS: u16 = 16;
+
+/// The burst profile of that port.
+const PROFILE_WITHOUT_SETTINGS: u8 = 0;
+
+/// The first frame of that port.
+const FRAME_WITHOUT_SETTINGS: u64 = 0;
+
+/// The most bytes of a settings file. 64 ports with 256 Alloc-IDs each take about two million.
+const MOST_BYTES: u64 = 16_777_216;
+
+/// The ports that are opened, 1 to 64, and the steps that are taken before the first line.
+#[derive(Drop)]
+pub(crate) struct Opening {
+    pub(crate) ports: Vec<(PortCfg, FrameNo)>,
+    pub(crate) steps: Vec<Step>,
+}
+
+/// Why there is nothing to begin with.
+#[derive(Drop)]
+pub(crate) enum NotOpened {
+    /// The settings file cannot be read, or memory was refused.
+    Failed(PlanFault),
+    /// The settings are refused. The text says where, and which rule they break.
+    Refused(String),
+}
+
+impl From<AllocError> for NotOpened {
+    ghost use Rattle.std.specs.Prelude.{◌≡◌};
+    ghost use Rattle.pon_stream.specs.declared.fault.PlanFault.TheVariants.{Memory};
+    ghost use Rattle.pon_olt.specs.declared.opening.NotOpened.TheVariants.{Failed};
+
+    ghost from_gives = { λ _ fault. fault ≡ Failed Memory };
+
+    fn from(_: AllocError) -> Self {
+        NotOpened::Failed(PlanFault::Memory)
+    }
+}
+
+// The port that is opened without settings.
+fn only_port() -> (PortCfg, FrameNo)
+    ensures gap { result.0.gap ≡ GAP_WITHOUT_SETTINGS }
+    ensures profile { result.0.profile ≡ PROFILE_WITHOUT_SETTINGS }
+    ensures frame { result.1 ≡ FRAME_WITHOUT_SETTINGS }
+{
+    let gap = Gap::new(GAP_WITHOUT_SETTINGS).unwrap();
+    let profile = Profile::new(PROFILE_WITHOUT_SETTINGS).unwrap();
+    (
+        PortCfg { gap, profile },
+        FrameNo::new(FRAME_WITHOUT_SETTINGS),
+    )
+}
+
+/// One port without Alloc-IDs. `Err` only if memory is refused.
+pub(crate) fn without_settings(alloc: Global) -> Result<Opening, AllocError>
+    ensures ports { IfOk result (λ opening. IsPlantSize (length opening.ports.items)) }
+    ensures steps { IfOk result (λ opening. opening.steps.items ≡ []) }
+{
+    let ports = vec![in alloc; only_port()]?;
+    let steps = Vec::new(alloc);
+    Ok(Opening { ports, steps })
+}
+
+// What settings open, and the steps that admit their rows.
+fn opening_of(alloc: Global, settings: &Settings) -> Result<Opening, AllocError>
+    ensures size { IfOk result (λ opening. IsPlantSize (length opening.ports.items)) }
+    ensures ports { IfOk result (λ opening. opening.ports.items ≡ openings settings.now) }
+    ensures steps { IfOk result (λ opening. opening.steps.items ≡ steps_from 0 settings.now) }
+{
+    prove!(!settings.ports().is_empty());
+    let ports = settings.openings(alloc)?;
+    let steps = settings.steps(alloc)?;
+    Ok(Opening { ports, steps })
+}
+
+fn refusal(alloc: Global, text: &str, fault: SettingsFault) -> NotOpened {
+    if let SettingsFault::Memory = fault {
+        return NotOpened::Failed(PlanFault::Memory);
+    }
+    match explain(alloc, text, &fault) {
+        Ok(line) => NotOpened::Refused(line),
+        Err(_) => NotOpened::Failed(PlanFault::Memory),
+    }
+}
+
+fn refused_as(alloc: Global, rule: &str) -> NotOpened {
+    match format!(in alloc; "  {rule}") {
+        Ok(line) => NotOpened::Refused(line),
+        Err(_) => NotOpened::Failed(PlanFault::Memory),
+    }
+}
+
+// The text of a settings file of this name. A file that cannot be opened cannot be read.
+fn text_of<R: Files>(rt: &R, alloc: Global, name: &str) -> Result<String, NotOpened> {
+    let Ok(file) = fs::open(rt, name) else {
+        return Err(NotOpened::Failed(PlanFault::Read));
+    };
+    match io::read_to_string(alloc, file.take(MOST_BYTES + 1)) {
+        Ok(text) if text.len() as u64 <= MOST_BYTES => Ok(text),
+        Ok(_) => Err(refused_as(alloc, "the file has more than 16777216 bytes")),
+        Err(error) => match error.kind() {
+            ErrorKind::InvalidData => Err(refused_as(alloc, "the file is not UTF-8")),
+            ErrorKind::OutOfMemory => Err(NotOpened::Failed(PlanFault::Memory)),
+            _ => Err(NotOpened::Failed(PlanFault::Read)),
+        },
+    }
+}
+
+/// The ports and the steps of the settings file of this name: those that its text spells.
+pub(crate) fn with_settings<R: Files>(
+    rt: &R,
+    alloc: Global,
+    name: &str,
+) -> Result<Opening, NotOpened>
+    ensures size { IfOk result (λ opening. IsPlantSize (length opening.ports.items)) }
+    ensures spelled { IfOk result (λ opening. (text : List ℕ)
+        × IsOpening text opening.ports.items opening.steps.items) }
+{
+    let text = text_of(rt, alloc, name)?;
+    match settings(alloc, text.as_str()) {
+        Ok(settings) => Ok(opening_of(alloc, &settings)?),
+        Err(fault) => Err(refusal(alloc, text.as_str(), fault)),
+    }
+}

@@ -1,0 +1,4 @@
+pub mod Alone
+pub mod Interleaving
+pub mod OneHistory
+pub mod Stepping

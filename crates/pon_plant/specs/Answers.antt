@@ -1,0 +1,39 @@
+-- What a step is answered, and what it leaves.
+use Rattle.std.specs.Prelude.{◌≡◌, ◌≢◌, List, length, All, Option, Some, None, Result, Ok, Err, slice_get, slice_set}
+use Rattle.pon_descr.specs.Checks.{IsTold}
+use Rattle.pon_descr.specs.declared.refusal.Refusal.TheVariants.{OutOfMemory}
+use Rattle.pon_event.specs.declared.event.Event.{Event}
+use Rattle.pon_event.specs.declared.step.Step.{Step}
+use Rattle.pon_state.specs.Legal.{MayFollow}
+use Rattle.pon_state.specs.declared.reply.Reply.{Reply}
+use Rattle.pon_port.specs.Chapters.{Chapter, present_state}
+use Rattle.pon_port.specs.FairMaps.{TellsFairMap}
+use Rattle.pon_port.specs.Taking.{refusal_of, with_entry}
+use Rattle.pon_plant.specs.declared.fault.StepFault.{StepFault}
+use Rattle.pon_plant.specs.declared.fault.StepFault.TheVariants.{NoSuchPort, Refused}
+
+-- the entry may follow in the history of the port, and a map in its reply is fair
+pub record IsAccepted (c : Chapter) (event : Event) (reply : Reply) : Type 0 where
+  pub follows : MayFollow (length c.entries) (present_state c) (record { event = event; reply = reply })
+  pub fair : TellsFairMap (present_state c) reply
+
+-- an answer to an event at a port with this chapter, if there is such a port: the reply of an entry that may follow, or the
+-- first check that refuses, or out of memory if none does
+abbrev pub IsAnswer : Option Chapter → Event → Result Reply StepFault → Type 0
+IsAnswer None event answer = answer ≡ Err NoSuchPort
+IsAnswer (Some c) event (Ok reply) = IsAccepted c event reply
+IsAnswer (Some c) event (Err NoSuchPort) = ⊥
+IsAnswer (Some c) event (Err (Refused told)) = IsTold (refusal_of c event) told
+
+abbrev pub NoneIsOutOfMemory : List (Result Reply StepFault) → Type 0
+NoneIsOutOfMemory answers = All (λ answer. answer ≢ Err (Refused OutOfMemory)) answers
+
+-- the port has one entry more
+abbrev pub after_entry : List Chapter → Step → Reply → Option Chapter → List Chapter
+after_entry plant step reply None = plant
+after_entry plant step reply (Some c) = slice_set plant step.port (with_entry c step.event reply)
+
+-- the plant after a step: an accepted one adds its entry at its port, another leaves the plant as it is
+abbrev pub after_step : List Chapter → Step → Result Reply StepFault → List Chapter
+after_step plant step (Ok reply) = after_entry plant step reply (slice_get plant step.port)
+after_step plant step (Err fault) = plant

@@ -1,0 +1,4 @@
+pub mod Answers
+pub mod Plants
+pub mod Projections
+pub mod Runs

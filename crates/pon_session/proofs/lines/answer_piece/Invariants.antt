@@ -1,0 +1,13 @@
+use Rattle.std.proofs.Common.{◌≡◌, length}
+use Rattle.pon_session.proofs.Continuing.{Reached}
+use Rattle.pon_session.proofs.lines.answer_piece.Given as goal
+
+-- how far the piece is answered, and that the writer has not failed yet
+abbrev pub invariant-lines : goal.invariant-lines
+invariant-lines g l = record {
+  reached : Reached g.A.Answers.gives l.initial.answers l.initial.line.items l.answers l.line.items l.piece l.rest l.replies.items (g.W.DevWrite.contents l.initial.writer) (g.W.DevWrite.contents l.writer);
+  none_failed : g.W.DevWrite.failures l.writer ≡ g.W.DevWrite.failures l.initial.writer;
+}
+
+abbrev pub decreases-lines : goal.decreases-lines
+decreases-lines g l = length l.rest

@@ -1,0 +1,22 @@
+-- The text that lines give, one after the other.
+use Rattle.std.specs.Prelude.{ℕ, ◌≡◌, List, [], ◌∷◌, ◌++◌, take}
+use Rattle.pon_text.specs.Lines.{lines_of}
+
+-- who answers lines, as a relation: what it is before, a line, the text of the line, and what it is after
+abbrev pub Giving : Type 0 → Type 1
+Giving S = S → List ℕ → List ℕ → S → Type 0
+
+-- a line gives what its first 4,097 bytes give, and nothing else
+abbrev pub ReadsFirst : {S : Type 0} → Giving S → Type 0
+ReadsFirst {S} gives =
+    (old : S) (line text : List ℕ) (new : S) → (gives old (take 4097 line) text new → gives old line text new) × (gives old line text new → gives old (take 4097 line) text new)
+
+-- lines one after the other give a text
+abbrev pub GivesLines : {S : Type 0} → Giving S → S → List (List ℕ) → List ℕ → S → Type 0
+GivesLines {S} gives old [] text new = (text ≡ []) × (new ≡ old)
+GivesLines {S} gives old (l ∷ ls) text new =
+    (first rest : List ℕ) × (mid : S) × gives old l first mid × GivesLines gives mid ls rest new × (text ≡ first ++ rest)
+
+-- the lines of an input give a text
+abbrev pub GivesText : {S : Type 0} → Giving S → S → List ℕ → List ℕ → Type 0
+GivesText {S} gives start input text = (after : S) × GivesLines gives start (lines_of input) text after

@@ -1,0 +1,47 @@
+-- What reading lines and writing their text leaves.
+use Rattle.std.specs.Prelude.{ℕ, ◌≡◌, ◌⊎◌, List, [], ◌∷◌, ◌++◌, Option, Result, Ok, Err}
+use Rattle.pon_device.specs.Device.{Appends, Consumes, Keeps}
+use Rattle.pon_stream.specs.Streams.{IsBeginning}
+use Rattle.pon_stream.specs.declared.fault.PlanFault.{PlanFault}
+use Rattle.pon_stream.specs.declared.fault.PlanFault.TheVariants.{Read, Write, Memory}
+use Rattle.pon_text.specs.Lines.{lines_of, whole_lines}
+use Rattle.pon_session.specs.Giving.{Giving, GivesLines, GivesText}
+
+-- nothing, or a beginning of what the next line gives
+abbrev pub BeginsNext : {S : Type 0} → Giving S → S → List (List ℕ) → List ℕ → Type 0
+BeginsNext {S} gives start [] part = part ≡ []
+BeginsNext {S} gives start (l ∷ ls) part = (part ≡ []) ⊎ ((text : List ℕ) × (after : S) × gives start l text after × IsBeginning part text)
+
+-- a beginning of the text of an input: what the first lines give, and a beginning of what the next one gives
+pub record BeginsText {S : Type 0} (gives : Giving S) (start : S) (input written : List ℕ) : Type 0 where
+  pub answered : List (List ℕ)
+  pub more : List (List ℕ)
+  pub text : List ℕ
+  pub part : List ℕ
+  pub after : S
+  pub lines : lines_of input ≡ answered ++ more
+  pub gave : GivesLines gives start answered text after
+  pub begins : BeginsNext gives after more part
+  pub is : written ≡ text ++ part
+
+-- what is written for what was read, by how it ended
+abbrev pub IsText : {S T : Type 0} → Giving S → S → List ℕ → List ℕ → Result T PlanFault → Type 0
+IsText gives start input written (Ok end) = GivesText gives start input written
+IsText gives start input written (Err Read) = GivesText gives start (whole_lines input) written
+IsText gives start input written (Err Write) = BeginsText gives start input written
+IsText gives start input written (Err Memory) = BeginsText gives start input written
+
+-- some bytes were read and text was written for them
+pub record Planned {S T : Type 0} (gives : Giving S) (start : S) (left_old left_new held_old held_new : Option (List ℕ)) (result : Result T PlanFault) : Type 0 where
+  pub input : List ℕ
+  pub written : List ℕ
+  pub read : Consumes left_old left_new input
+  pub wrote : Appends held_old held_new written
+  pub text : IsText gives start input written result
+
+-- the text of a line was written, or a beginning of it
+abbrev pub PrintsLine : {S : Type 0} → Giving S → S → S → List ℕ → Option (List ℕ) → Option (List ℕ) → Result (Unit {0}) PlanFault → Type 0
+PrintsLine gives old new line held_old held_new (Ok done) = (text : List ℕ) × gives old line text new × Appends held_old held_new text
+PrintsLine gives old new line held_old held_new (Err Read) = ⊥
+PrintsLine gives old new line held_old held_new (Err Write) = (text sent : List ℕ) × gives old line text new × Appends held_old held_new sent × IsBeginning sent text
+PrintsLine gives old new line held_old held_new (Err Memory) = Keeps held_old held_new

@@ -1,0 +1,244 @@
+//! The loop over the lines of an input: each is answered, and its text is written.
+
+ghost use Rattle.std.specs.Prelude.{◌≡◌, ◌==◌, ◌-◌, ◌∷◌, [], ◌++◌, ℕ, List, false, length, take, OnOk, OnErr};
+ghost use Rattle.std.specs.List.{list_any};
+ghost use Rattle.pon_device.specs.Device.{IsAtEnd};
+ghost use Rattle.pon_stream.specs.Streams.{TellsLine, TellsRead, TellsWrite};
+ghost use Rattle.pon_session.specs.Planning.{Planned, PrintsLine};
+ghost use Rattle.pon_session.specs.Progress.{AddsReply, AnswersPiece, Continues, PrintsPiece};
+
+use crate::answers::Answers;
+use pon_device::{DevRead, DevWrite, write_all};
+use pon_stream::PlanFault;
+use pon_text::cut;
+use std::alloc::{AllocError, Global};
+
+/// The input ended, and all of its text is written.
+#[derive(Clone, Copy, Debug, PartialEq, Eq)]
+pub struct PlanEnd;
+
+// A line is kept as far as its first 4,097 bytes: one more than may be read.
+const KEPT: usize = 4097;
+
+// The most bytes that one read asks for.
+const PIECE: usize = 16_384;
+
+// Gathered replies are written at this length, or before the next read.
+const FULL: usize = 65_536;
+
+// Keeps what may be read of a part of the open line.
+fn keep_part(line: &mut Vec<u8>, part: &[u8]) -> Result<(), AllocError>
+    ensures { OnOk result (line.new.items ≡ line.old.items
+        ++ take (KEPT - length line.old.items) part.now) }
+{
+    let room = KEPT.saturating_sub(line.len());
+    line.extend_from_slice(&part[..room.min(part.len())])
+}
+
+// Answers a line, and puts its reply behind the others.
+fn answer_line<A: Answers>(
+    alloc: Global,
+    answers: &mut A,
+    line: &[u8],
+    replies: &mut Vec<u8>,
+) -> Result<(), AllocError>
+    ensures ok { OnOk result (AddsReply A.gives answers.old answers.new line.now
+        replies.old.items replies.new.items) }
+    ensures err { OnErr result (replies.new.items ≡ replies.old.items) }
+{
+    match answers.answer_line(alloc, line) {
+        Ok(text) => replies.extend_from_slice(text.as_bytes()),
+        Err(refused) => Err(refused),
+    }
+}
+
+// Ends the open line by this part, and answers it.
+fn end_line<A: Answers>(
+    alloc: Global,
+    answers: &mut A,
+    line: &mut Vec<u8>,
+    part: &[u8],
+    replies: &mut Vec<u8>,
+) -> Result<(), AllocError>
+    requires no_feed { list_any (λ b. b == 10) part.now ≡ false }
+    ensures ok { OnOk result ((text : List ℕ)
+        × Continues A.gives answers.old line.old.items answers.new line.new.items
+        (part.now ++ 10 ∷ []) text
+        × (replies.new.items ≡ replies.old.items ++ text)) }
+    ensures err { OnErr result (replies.new.items ≡ replies.old.items) }
+{
+    if line.is_empty() {
+        return answer_line(alloc, answers, part, replies);
+    }
+    if keep_part(line, part).is_err() {
+        return Err(AllocError);
+    }
+    let answered = answer_line(alloc, answers, line.as_slice(), replies);
+    line.clear();
+    answered
+}
+
+// Writes the gathered replies.
+fn send<W: DevWrite>(replies: &mut Vec<u8>, writer: &mut W) -> Result<(), PlanFault>
+    ensures text { TellsLine replies.old.items (W.contents writer.old)
+        (W.contents writer.new) result }
+    ensures failures { TellsWrite (W.failures writer.old) (W.failures writer.new) result }
+    ensures empty { replies.new.items ≡ [] }
+{
+    let sent = write_all(writer, replies.as_slice());
+    replies.clear();
+    match sent {
+        Ok(()) => Ok(()),
+        Err(_) => Err(PlanFault::Write),
+    }
+}
+
+// Answers the lines that end in a piece, keeps what follows, and gathers the replies.
+fn answer_piece<A: Answers, W: DevWrite>(
+    alloc: Global,
+    answers: &mut A,
+    line: &mut Vec<u8>,
+    piece: &[u8],
+    replies: &mut Vec<u8>,
+    writer: &mut W,
+) -> Result<(), PlanFault>
+    requires empty { replies.old.items ≡ [] }
+    ensures text { AnswersPiece A.gives answers.old line.old.items
+        answers.new line.new.items piece.now replies.new.items (W.contents writer.old)
+        (W.contents writer.new) result }
+    ensures failures { TellsWrite (W.failures writer.old) (W.failures writer.new) result }
+{
+    let mut rest = piece;
+    'lines: while let Some((part, after)) = cut(rest, b'\n') {
+        if end_line(alloc, answers, line, part, replies).is_err() {
+            return Err(PlanFault::Memory);
+        }
+        if replies.len() >= FULL {
+            match send(replies, writer) {
+                Ok(()) => {}
+                Err(fault) => return Err(fault),
+            }
+        }
+        rest = after;
+    }
+    match keep_part(line, rest) {
+        Ok(()) => Ok(()),
+        Err(_) => Err(PlanFault::Memory),
+    }
+}
+
+// Answers the lines that end in a piece, and writes their replies; those before a refusal of memory are written too.
+fn print_piece<A: Answers, W: DevWrite>(
+    alloc: Global,
+    answers: &mut A,
+    line: &mut Vec<u8>,
+    piece: &[u8],
+    replies: &mut Vec<u8>,
+    writer: &mut W,
+) -> Result<(), PlanFault>
+    requires empty { replies.old.items ≡ [] }
+    ensures text { PrintsPiece A.gives answers.old line.old.items
+        answers.new line.new.items piece.now (W.contents writer.old)
+        (W.contents writer.new) result }
+    ensures failures { TellsWrite (W.failures writer.old) (W.failures writer.new) result }
+    ensures empty { OnOk result (replies.new.items ≡ []) }
+{
+    match answer_piece(alloc, answers, line, piece, replies, writer) {
+        Ok(()) => send(replies, writer),
+        Err(PlanFault::Memory) => match send(replies, writer) {
+            Ok(()) => Err(PlanFault::Memory),
+            Err(fault) => Err(fault),
+        },
+        Err(fault) => Err(fault),
+    }
+}
+
+// Answers the last line, which has no line feed, and writes its text or a beginning of it.
+fn print_line<A: Answers, W: DevWrite>(
+    alloc: Global,
+    answers: &mut A,
+    line: &[u8],
+    replies: &mut Vec<u8>,
+    writer: &mut W,
+) -> Result<(), PlanFault>
+    requires empty { replies.old.items ≡ [] }
+    ensures text { PrintsLine A.gives answers.old answers.new line.now (W.contents writer.old)
+        (W.contents writer.new) result }
+    ensures failures { TellsWrite (W.failures writer.old) (W.failures writer.new) result }
+{
+    match answer_line(alloc, answers, line, replies) {
+        Ok(()) => send(replies, writer),
+        Err(_) => Err(PlanFault::Memory),
+    }
+}
+
+// Reads lines to the end, and writes what each gives before the next read.
+fn answer_lines<A: Answers, R: DevRead, W: DevWrite>(
+    alloc: Global,
+    answers: &mut A,
+    reader: &mut R,
+    writer: &mut W,
+) -> Result<(), PlanFault>
+    ensures text { Planned A.gives answers.old (R.remaining reader.old) (R.remaining reader.new)
+        (W.contents writer.old) (W.contents writer.new) result }
+    ensures end { OnOk result (IsAtEnd (R.remaining reader.new)) }
+    ensures read { TellsRead (R.calls reader.old) (R.calls reader.new) (R.failures reader.old)
+        (R.failures reader.new) result }
+    ensures write { TellsWrite (W.failures writer.old) (W.failures writer.new) result }
+{
+    let mut line = Vec::new(alloc);
+    let mut replies = Vec::new(alloc);
+    let mut piece = [0u8; PIECE];
+    for _turn in 0..u64::MAX {
+        let Ok(len) = reader.read(&mut piece) else {
+            return Err(PlanFault::Read);
+        };
+        if len == 0 {
+            if line.is_empty() {
+                return Ok(());
+            }
+            return print_line(alloc, answers, line.as_slice(), &mut replies, writer);
+        }
+        match print_piece(
+            alloc,
+            answers,
+            &mut line,
+            &piece[..len],
+            &mut replies,
+            writer,
+        ) {
+            Ok(()) => {}
+            Err(fault) => return Err(fault),
+        }
+    }
+    Err(PlanFault::Read)
+}
+
+/// Reads lines to the end of the input, has each answered, writes its text, and flushes what was written.
+///
+/// What is written is the output text of what was read, from the state before. The replies to what one read gave are written
+/// before the next read. `Read` if the reader failed or 2^64 - 1 reads were made: the text of all whole lines read is written.
+/// `Write` if the writer failed, and `Memory` if memory was refused: a beginning of the text is written; after `Memory` it is
+/// the text of the lines before. A line that was not ended when a fault came is not answered. The writer is flushed once, at
+/// the end of the input.
+pub fn answer_input<A: Answers, R: DevRead, W: DevWrite>(
+    alloc: Global,
+    answers: &mut A,
+    reader: &mut R,
+    writer: &mut W,
+) -> Result<PlanEnd, PlanFault>
+    ensures text { Planned A.gives answers.old (R.remaining reader.old) (R.remaining reader.new)
+        (W.contents writer.old) (W.contents writer.new) result }
+    ensures end { OnOk result (IsAtEnd (R.remaining reader.new)) }
+    ensures read { TellsRead (R.calls reader.old) (R.calls reader.new) (R.failures reader.old)
+        (R.failures reader.new) result }
+    ensures write { TellsWrite (W.failures writer.old) (W.failures writer.new) result }
+{
+    match answer_lines(alloc, answers, reader, writer) {
+        Ok(()) => match writer.flush() {
+            Ok(()) => Ok(PlanEnd),
+            Err(_) => Err(PlanFault::Write),
+        },
+        Err(fault) => Err(fault),
+    }
+}

@@ -1,0 +1,4 @@
+pub mod Members
+pub mod RowFaults
+pub mod Admission
+pub mod PortFaults

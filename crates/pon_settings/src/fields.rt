@@ -1,0 +1,101 @@
+//! The value at a key: a whole number within a range, or an array of tables.
+
+ghost use Rattle.std.specs.Prelude.{◌≡◌, map, option_map};
+ghost use Rattle.toml.specs.Data.{get_member};
+ghost use Rattle.toml.specs.View.{view, table_view};
+ghost use Rattle.pon_settings.specs.Fields.{number, optional, required, optional_tables, required_tables, tables, whole};
+
+use toml::{Table, Value};
+
+/// The greatest whole number of TOML.
+pub(crate) const GREATEST_INTEGER: u64 = 9_223_372_036_854_775_807;
+
+// A number within a range.
+fn whole(least: u64, most: u64, n: i64) -> Option<u64>
+    ensures { result ≡ whole least most n }
+{
+    if n < 0 {
+        return None;
+    }
+    let n = n as u64;
+    if n >= least && n <= most {
+        Some(n)
+    } else {
+        None
+    }
+}
+
+// The number that a value is, within a range.
+fn number(least: u64, most: u64, value: &Value) -> Option<u64>
+    ensures { result ≡ number least most (view value.now) }
+{
+    match value.as_integer() {
+        Some(n) => whole(least, most, n),
+        None => None,
+    }
+}
+
+// The value at a key.
+fn value_at<'a>(table: &'a Table, key: &str) -> Option<&'a Value>
+    ensures { option_map (λ value. view value.now) result
+        ≡ get_member key.now (table_view table.now) }
+{
+    table.get(key)
+}
+
+/// The number at a key, within a range.
+pub(crate) fn required(table: &Table, key: &str, least: u64, most: u64) -> Option<u64>
+    ensures { result ≡ required key.now least most (table_view table.now) }
+{
+    match value_at(table, key) {
+        Some(value) => number(least, most, value),
+        None => None,
+    }
+}
+
+/// The number at a key, 0 to `most`, and 0 where the key is absent.
+pub(crate) fn optional(table: &Table, key: &str, most: u64) -> Option<u64>
+    ensures { result ≡ optional key.now most (table_view table.now) }
+{
+    match value_at(table, key) {
+        Some(value) => number(0, most, value),
+        None => Some(0),
+    }
+}
+
+// The elements of an array of tables.
+fn tables(value: &Value) -> Option<&[Value]>
+    ensures { option_map (λ values. map view values.now) result ≡ tables (view value.now) }
+{
+    let values = match value.as_array() {
+        Some(values) => values,
+        None => return None,
+    };
+    if values.iter().all(|value| value.is_table()) {
+        Some(values.as_slice())
+    } else {
+        None
+    }
+}
+
+/// The tables at a key.
+pub(crate) fn required_tables<'a>(table: &'a Table, key: &str) -> Option<&'a [Value]>
+    ensures { option_map (λ values. map view values.now) result
+        ≡ required_tables key.now (table_view table.now) }
+{
+    match value_at(table, key) {
+        Some(value) => tables(value),
+        None => None,
+    }
+}
+
+/// The tables at a key, none where the key is absent.
+pub(crate) fn optional_tables<'a>(table: &'a Table, key: &str) -> Option<&'a [Value]>
+    ensures { option_map (λ values. map view values.now) result
+        ≡ optional_tables key.now (table_view table.now) }
+{
+    match value_at(table, key) {
+        Some(value) => tables(value),
+        None => Some(&[]),
+    }
+}

@@ -1,0 +1,148 @@
+//! What a person needs to mend settings: where a fault is, and which rule is broken there.
+
+ghost use Rattle.std.specs.Prelude.{IfOk, string_bytes};
+ghost use Rattle.pon_settings.specs.Lines.{Explains, NamesPort, NamesRow};
+
+use crate::fault::SettingsFault;
+use crate::rule::{Rule, port_rule, row_rule, top_rule};
+use pon_units::PortNo;
+use std::alloc::{AllocError, Global};
+use toml::Table;
+
+// The table of a text, where it is TOML.
+fn table_of(alloc: Global, text: &str) -> Result<Option<Table>, AllocError> {
+    match toml::table_from_str(alloc, text) {
+        Ok(table) => Ok(Some(table)),
+        Err(fault) => {
+            if fault.is_memory() {
+                Err(AllocError)
+            } else {
+                Ok(None)
+            }
+        }
+    }
+}
+
+// The table of this index in the list at a key.
+fn table_at<'a>(table: &'a Table, key: &str, index: usize) -> Option<&'a Table> {
+    let Some(list) = table.get(key) else {
+        return None;
+    };
+    let Some(values) = list.as_array() else {
+        return None;
+    };
+    match values.get(index) {
+        Some(value) => value.as_table(),
+        None => None,
+    }
+}
+
+// The rule that a port breaks.
+fn rule_at_port(table: &Table, port: PortNo) -> Option<Rule<'_>> {
+    match table_at(table, "port", usize::from(port.get())) {
+        Some(found) => port_rule(found),
+        None => None,
+    }
+}
+
+// The rule that a row of a port breaks.
+fn rule_at_row(table: &Table, port: PortNo, row: usize) -> Option<Rule<'_>> {
+    let Some(found) = table_at(table, "port", usize::from(port.get())) else {
+        return None;
+    };
+    match table_at(found, "alloc", row) {
+        Some(found) => row_rule(found),
+        None => None,
+    }
+}
+
+// What follows the place in a line.
+fn words_of(alloc: Global, rule: Option<Rule<'_>>) -> Result<String, AllocError> {
+    match rule {
+        Some(rule) => format!(in alloc; ": {rule}"),
+        None => Ok(String::new(alloc)),
+    }
+}
+
+// The line and the column where a text is no TOML, and why.
+fn explain_text(alloc: Global, text: &str) -> Result<String, AllocError> {
+    let Err(fault) = toml::table_from_str(alloc, text) else {
+        return Ok(String::new(alloc));
+    };
+    let told = format!(in alloc; "{fault}")?;
+    let place = match told.as_str().lines().next() {
+        Some(line) => line,
+        None => "",
+    };
+    let why = fault.message();
+    format!(in alloc; "  {place}: {why}")
+}
+
+// The rule that is broken at the top.
+fn explain_ports(alloc: Global, text: &str) -> Result<String, AllocError> {
+    match table_of(alloc, text)? {
+        Some(table) => {
+            let rule = top_rule(&table);
+            format!(in alloc; "  {rule}")
+        }
+        None => Ok(String::new(alloc)),
+    }
+}
+
+// The rule that is broken at a port, in words.
+fn words_at_port(alloc: Global, text: &str, port: PortNo) -> Result<String, AllocError> {
+    match table_of(alloc, text)? {
+        Some(table) => words_of(alloc, rule_at_port(&table, port)),
+        None => Ok(String::new(alloc)),
+    }
+}
+
+// The rule that is broken at a row, in words.
+fn words_at_row(alloc: Global, text: &str, port: PortNo, row: usize) -> Result<String, AllocError> {
+    match table_of(alloc, text)? {
+        Some(table) => words_of(alloc, rule_at_row(&table, port, row)),
+        None => Ok(String::new(alloc)),
+    }
+}
+
+// The line of a port.
+fn explain_port(alloc: Global, text: &str, port: PortNo) -> Result<String, AllocError>
+    ensures { IfOk result (λ line. NamesPort port (string_bytes line)) }
+{
+    let words = words_at_port(alloc, text, port)?;
+    let number = port.get();
+    format!(in alloc; "  port {number}{words}")
+}
+
+// The line of a row.
+fn explain_row(alloc: Global, text: &str, port: PortNo, row: usize) -> Result<String, AllocError>
+    ensures { IfOk result (λ line. NamesRow port row (string_bytes line)) }
+{
+    let words = words_at_row(alloc, text, port, row)?;
+    let number = port.get();
+    format!(in alloc; "  port {number}, alloc {row}{words}")
+}
+
+/// A line, without its end, that says where this fault of a text is and which rule is broken there. Ports and
+/// rows are counted from 0.
+///
+/// The fault is one that [`settings`](crate::settings) gave for this text; for another the line may name the place alone.
+/// The line of `Memory` is empty. `Err` only if memory is refused.
+pub fn explain(alloc: Global, text: &str, fault: &SettingsFault) -> Result<String, AllocError>
+    ensures { IfOk result (λ line. Explains fault.now (string_bytes line)) }
+{
+    match *fault {
+        SettingsFault::Text => explain_text(alloc, text),
+        SettingsFault::Ports => explain_ports(alloc, text),
+        SettingsFault::Field { port } => explain_port(alloc, text, port),
+        SettingsFault::Row { port, row } => explain_row(alloc, text, port, row),
+        SettingsFault::Refused { port, row, refusal } => {
+            let number = port.get();
+            format!(in alloc; "  port {number}, alloc {row}: {refusal}")
+        }
+        SettingsFault::Memory => Ok(String::new(alloc)),
+    }
+}
+
+#[cfg(test)]
+mod tests;

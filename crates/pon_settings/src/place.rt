@@ -1,0 +1,49 @@
+//! The three kinds of tables of settings, and the keys of each.
+
+ghost use Rattle.std.specs.Prelude.{◌≡◌};
+ghost use Rattle.toml.specs.View.{table_view};
+ghost use Rattle.pon_settings.specs.Keys.{is_known, has_known_keys};
+
+use toml::Table;
+
+/// A kind of table.
+#[derive(Clone, Copy)]
+pub(crate) enum Place {
+    Top,
+    Port,
+    Row,
+}
+
+impl Place {
+    /// Whether a table of this kind may have the key.
+    pub(crate) fn knows(self, key: &str) -> bool
+        ensures { result ≡ is_known self key.now }
+    {
+        let key = key.as_bytes();
+        match self {
+            Place::Top => key == b"port".as_slice(),
+            Place::Port => {
+                key == b"gap".as_slice()
+                    || key == b"profile".as_slice()
+                    || key == b"first".as_slice()
+                    || key == b"alloc".as_slice()
+            }
+            Place::Row => {
+                key == b"onu".as_slice()
+                    || key == b"alloc".as_slice()
+                    || key == b"fixed".as_slice()
+                    || key == b"assured".as_slice()
+                    || key == b"max".as_slice()
+                    || key == b"class".as_slice()
+                    || key == b"queue".as_slice()
+            }
+        }
+    }
+
+    /// Whether all keys of the table are such.
+    pub(crate) fn knows_keys(self, table: &Table) -> bool
+        ensures { result ≡ has_known_keys self (table_view table.now) }
+    {
+        table.keys().all(|key| self.knows(key.as_str()))
+    }
+}

@@ -1,0 +1,117 @@
+//! A port of settings: its own fields, and its rows.
+
+ghost use Rattle.std.specs.Prelude.{◌≡◌, ◌≤◌, Some, None, map, option_map, IfOk, IfErr};
+ghost use Rattle.toml.specs.View.{table_view, view};
+ghost use Rattle.pon_settings.specs.Ports.{IsPortFault, SpellsPort, first_frame_of, gap_of, opening_of, profile_of};
+
+use crate::fault::SettingsFault;
+use crate::fields::{GREATEST_INTEGER, optional, optional_tables, required};
+use crate::place::Place;
+use crate::row::SettingsRow;
+use crate::rows::rows_of;
+use pon_state::PortCfg;
+use pon_units::{FrameNo, GREATEST_PROFILE, Gap, LONGEST_GAP, PortNo, Profile, SHORTEST_GAP};
+use std::alloc::Global;
+use std::marker::Model;
+use toml::{Table, Value};
+
+/// A port of settings: what it is opened with, its first frame, 0 to 9,223,372,036,854,775,807, and its rows in the order
+/// of the text.
+#[derive(Drop)]
+pub struct PortSettings {
+    opening: (PortCfg, FrameNo),
+    rows: Vec<SettingsRow>,
+}
+
+impl Model for PortSettings {
+    ghost use Rattle.pon_settings.specs.Ports.{PortSettings};
+
+    ghost Value = { PortSettings };
+
+    ghost view = { λ a. record { opening = a.opening; rows = a.rows.items } };
+}
+
+impl PortSettings {
+    /// The gap and the profile of the port, and its first frame.
+    pub fn opening(&self) -> (PortCfg, FrameNo)
+        ensures { result ≡ self.now.opening }
+    {
+        self.opening
+    }
+
+    /// The rows, to be admitted in this order.
+    pub fn rows(&self) -> &[SettingsRow]
+        ensures { result.now ≡ self.now.rows }
+    {
+        &self.rows
+    }
+}
+
+/// The gap in words of 4 bytes, 1 to 256.
+pub(crate) fn gap_of(table: &Table) -> Option<Gap>
+    ensures { result ≡ gap_of (table_view table.now) }
+{
+    let gap = required(
+        table,
+        "gap",
+        u64::from(SHORTEST_GAP),
+        u64::from(LONGEST_GAP),
+    )?;
+    Gap::new(gap as u16)
+}
+
+/// The profile, 0 to 3.
+pub(crate) fn profile_of(table: &Table) -> Option<Profile>
+    ensures { result ≡ profile_of (table_view table.now) }
+{
+    let profile = optional(table, "profile", u64::from(GREATEST_PROFILE))?;
+    Profile::new(profile as u8)
+}
+
+/// The first frame, 0 where the key is absent.
+pub(crate) fn first_of(table: &Table) -> Option<FrameNo>
+    ensures { result ≡ first_frame_of (table_view table.now) }
+{
+    let first = optional(table, "first", GREATEST_INTEGER)?;
+    Some(FrameNo::new(first))
+}
+
+// What a table with the keys of a port says of its opening.
+fn opening_of(table: &Table) -> Option<(PortCfg, FrameNo)>
+    ensures { result ≡ opening_of (table_view table.now) }
+{
+    if !Place::Port.knows_keys(table) {
+        return None;
+    }
+    let gap = gap_of(table)?;
+    let profile = profile_of(table)?;
+    let first = first_of(table)?;
+    Some((PortCfg { gap, profile }, first))
+}
+
+/// The port that a table spells. Else the first fault: its own fields, then row by row.
+pub(crate) fn port_of(
+    alloc: Global,
+    port: PortNo,
+    value: &Value,
+) -> Result<PortSettings, SettingsFault>
+    ensures ok { IfOk result (SpellsPort (view value.now)) }
+    ensures fault { IfErr result (IsPortFault port (view value.now)) }
+{
+    let Some(table) = value.as_table() else {
+        return Err(SettingsFault::Field { port });
+    };
+    let Some((cfg, first)) = opening_of(table) else {
+        return Err(SettingsFault::Field { port });
+    };
+    let Some(tables) = optional_tables(table, "alloc") else {
+        return Err(SettingsFault::Field { port });
+    };
+    match rows_of(alloc, port, cfg.gap, tables) {
+        Ok(rows) => Ok(PortSettings {
+            opening: (cfg, first),
+            rows,
+        }),
+        Err(fault) => Err(fault),
+    }
+}

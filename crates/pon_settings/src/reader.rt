@@ -1,0 +1,86 @@
+//! Reads a text: the ports in order.
+
+ghost use Rattle.std.specs.Prelude.{◌≡◌, ◌≤◌, length, map, option_map, IfOk, IfErr, IfSome};
+ghost use Rattle.std.specs.List.{AllZip};
+ghost use Rattle.toml.specs.Parse.{parse_document};
+ghost use Rattle.toml.specs.View.{table_view, view};
+ghost use Rattle.pon_settings.specs.Ports.{IsFirstFault, IsPortCount, IsPortsFault, Spells, SpellsPort, port_tables};
+
+use crate::fault::SettingsFault;
+use crate::fields::required_tables;
+use crate::place::Place;
+use crate::port::{PortSettings, port_of};
+use crate::terminal::Settings;
+use pon_units::{MOST_PORTS, PortNo};
+use std::alloc::Global;
+use toml::{Table, Value};
+
+// The tables of the ports.
+fn port_tables(table: &Table) -> Option<&[Value]>
+    ensures list { option_map (λ values. map view values.now) result
+        ≡ port_tables (table_view table.now) }
+    ensures count { IfSome result
+        (λ values. IsPortCount (length values.now)) }
+{
+    if !Place::Top.knows_keys(table) {
+        return None;
+    }
+    let Some(tables) = required_tables(table, "port") else {
+        return None;
+    };
+    if tables.len() >= 1 && tables.len() <= MOST_PORTS {
+        Some(tables)
+    } else {
+        None
+    }
+}
+
+// The ports that tables spell. Else the first fault, port by port.
+fn ports_of(alloc: Global, tables: &[Value]) -> Result<Vec<PortSettings>, SettingsFault>
+    requires { length tables.now ≤ MOST_PORTS }
+    ensures ok { IfOk result (λ ports. AllZip SpellsPort (map view tables.now) ports.items) }
+    ensures fault { IfErr result (IsPortsFault (map view tables.now)) }
+{
+    let mut ports = Vec::new(alloc);
+    for (i, table) in tables.iter().enumerate() {
+        let port = match port_of(alloc, PortNo::at(i), table) {
+            Ok(port) => port,
+            Err(fault) => return Err(fault),
+        };
+        if ports.push(port).is_err() {
+            return Err(SettingsFault::Memory);
+        }
+    }
+    Ok(ports)
+}
+
+/// The settings that a text spells (TOML).
+///
+/// Else its first fault: `Text` if it is no TOML, `Ports` if its table has no list of 1 to 64 `port` tables or has another
+/// key, then port by port: `Field` for its own fields, then row by row `Row` for the row's fields and `Refused` for its
+/// admission after the rows before it. `Memory` if a growth was refused, wherever the reader then stood.
+pub fn settings(alloc: Global, text: &str) -> Result<Settings, SettingsFault>
+    ensures ok { IfOk result (Spells (parse_document text.now)) }
+    ensures fault { IfErr result (IsFirstFault (parse_document text.now)) }
+{
+    let table = match toml::table_from_str(alloc, text) {
+        Ok(table) => table,
+        Err(fault) => {
+            return Err(if fault.is_memory() {
+                SettingsFault::Memory
+            } else {
+                SettingsFault::Text
+            });
+        }
+    };
+    let Some(tables) = port_tables(&table) else {
+        return Err(SettingsFault::Ports);
+    };
+    match ports_of(alloc, tables) {
+        Ok(ports) => Ok(Settings { ports }),
+        Err(fault) => Err(fault),
+    }
+}
+
+#[cfg(test)]
+mod tests;

@@ -1,0 +1,49 @@
+//! The rows of a port, admitted in order.
+
+ghost use Rattle.std.specs.Prelude.{◌≡◌, map, IfOk, IfErr};
+ghost use Rattle.toml.specs.View.{view};
+ghost use Rattle.pon_settings.specs.Rows.{SpellsRows, IsRowsFault, fault_at};
+
+use crate::fault::SettingsFault;
+use crate::row::{RowFault, SettingsRow, admit};
+use pon_admit::Roster;
+use pon_units::{Gap, PortNo};
+use std::alloc::Global;
+use toml::Value;
+
+// The fault of a row at its place.
+fn fault_at(port: PortNo, row: usize, fault: RowFault) -> SettingsFault
+    ensures { result ≡ fault_at port row fault }
+{
+    match fault {
+        RowFault::Form => SettingsFault::Row { port, row },
+        RowFault::Refused(refusal) => SettingsFault::Refused { port, row, refusal },
+        RowFault::Memory => SettingsFault::Memory,
+    }
+}
+
+/// The rows that tables spell, each admitted after those before it. Else the first fault, row by row.
+pub(crate) fn rows_of(
+    alloc: Global,
+    port: PortNo,
+    gap: Gap,
+    tables: &[Value],
+) -> Result<Vec<SettingsRow>, SettingsFault>
+    ensures ok { IfOk result (λ rows. SpellsRows gap (map view tables.now) rows.items) }
+    ensures fault { IfErr result (IsRowsFault port gap (map view tables.now)) }
+{
+    let Ok(mut roster) = Roster::open(alloc, gap) else {
+        return Err(SettingsFault::Memory);
+    };
+    let mut rows = Vec::new(alloc);
+    for (k, table) in tables.iter().enumerate() {
+        let row = match admit(&mut roster, table) {
+            Ok(row) => row,
+            Err(fault) => return Err(fault_at(port, k, fault)),
+        };
+        if rows.push(row).is_err() {
+            return Err(SettingsFault::Memory);
+        }
+    }
+    Ok(rows)
+}

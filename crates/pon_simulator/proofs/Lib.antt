@@ -1,0 +1,5 @@
+mod Owners
+mod Rounds
+mod Splits
+mod Turns
+mod Writable

@@ -1,0 +1,42 @@
+-- The records of answers as bytes that a device took.
+use Rattle.std.specs.Prelude.{ℕ, ◌≤◌, List, [], ◌++◌, All, IsSome, length, Option}
+use Rattle.pon_bwmap.specs.Structure.{Structure}
+use Rattle.pon_device.specs.Device.{Appends}
+use Rattle.pon_link.specs.Runs.{AreRecords}
+use Rattle.pon_link.specs.Units.{UnitState}
+use Rattle.pon_link.specs.UpRecords.{IsRecord}
+use Rattle.pon_link.specs.declared.record.UpRecord.{UpRecord}
+use Rattle.pon_simulator.specs.Answers.{AnswersRows}
+
+-- an answer has a burst header and 1 to 16 occupancies, none of them garbled
+pub record IsWritable (answer : UpRecord) : Type 0 where
+  pub head : IsSome answer.head
+  pub some : 1 ≤ length answer.occ
+  pub limit : length answer.occ ≤ 16
+  pub reports : All IsSome answer.occ
+
+-- The answers were written, each as its record, one behind the other.
+pub record Writes (old new : Option (List ℕ)) (answers : List UpRecord) : Type 0 where
+  pub bytes : List ℕ
+  pub records : AreRecords IsRecord bytes answers []
+  pub written : Appends old new bytes
+
+-- A beginning of the records of the answers was written.
+pub record WritesPart (old new : Option (List ℕ)) (answers : List UpRecord) : Type 0 where
+  pub sent : List ℕ
+  pub unsent : List ℕ
+  pub records : AreRecords IsRecord (sent ++ unsent) answers []
+  pub written : Appends old new sent
+
+-- The structures of a frame, but the rest, are answered, and the answers written.
+pub record HasAnswered (frame : ℕ) (rows rest : List Structure) (old new : List UnitState) (out_old out_new : Option (List ℕ)) : Type 0 where
+  pub answers : List UpRecord
+  pub answered : AnswersRows frame rows rest old new answers
+  pub written : Writes out_old out_new answers
+
+-- The first series of a frame are answered, and a beginning of the answers' records is written.
+pub record HasBegun (frame : ℕ) (rows : List Structure) (old new : List UnitState) (out_old out_new : Option (List ℕ)) : Type 0 where
+  pub answers : List UpRecord
+  pub rest : List Structure
+  pub answered : AnswersRows frame rows rest old new answers
+  pub written : WritesPart out_old out_new answers

@@ -1,0 +1,32 @@
+//! The answer to one series.
+
+ghost use Rattle.std.specs.Prelude.{◌≤◌, ◌<◌, length};
+ghost use Rattle.pon_simulator.specs.Answers.{AnswersSeries};
+
+use crate::foreign::foreign;
+use crate::owner::owner;
+use pon_bwmap::Alloc;
+use pon_link::{Unit, UpRecord};
+use pon_units::{FrameNo, LONGEST_SERIES};
+
+// Has the unit that owns a series answer it, or answers it as foreign. `next` is the unit after the last owner, which is tried
+// first: maps name the units in their order.
+pub(crate) fn answer_series(
+    units: &mut [Unit],
+    next: &mut usize,
+    frame: FrameNo,
+    series: &[Alloc],
+) -> UpRecord
+    requires some { 0 < length series.now }
+    requires limit { length series.now ≤ LONGEST_SERIES }
+    ensures { AnswersSeries frame series.now units.old units.new result }
+{
+    let Some(place) = owner(units, *next, series[0].id()) else {
+        return foreign(frame, series);
+    };
+    *next = place + 1;
+    match units[place].answer_rows(frame, series) {
+        Some(answer) => answer,
+        None => foreign(frame, series),
+    }
+}

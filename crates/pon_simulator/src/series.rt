@@ -1,0 +1,23 @@
+//! The series that the structures of a map begin with.
+
+ghost use Rattle.std.specs.Prelude.{◌≤◌, ◌<◌, length, take, drop};
+ghost use Rattle.pon_simulator.specs.Series.{IsSeries, KeepsSeries};
+
+use pon_bwmap::Alloc;
+use pon_units::LONGEST_SERIES;
+
+// The number of structures of the first series, at most 16.
+pub(crate) fn series_len(rows: &[Alloc]) -> usize
+    requires some { 0 < length rows.now }
+    requires series { KeepsSeries rows.now }
+    ensures within { result ≤ length rows.now }
+    ensures limit { result ≤ LONGEST_SERIES }
+    ensures series { IsSeries (take result rows.now) }
+    ensures later { KeepsSeries (drop result rows.now) }
+{
+    let mut len = 1;
+    while len < rows.len() && rows[len].start().is_none() {
+        len += 1;
+    }
+    len
+}

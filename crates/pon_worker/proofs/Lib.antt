@@ -1,0 +1,4 @@
+mod Bursts
+mod Posted
+mod Tries
+mod Works

@@ -1,0 +1,62 @@
+use Rattle.std.proofs.Common.{List, ℕ, ◌≡◌, refl, sym, ap, subst, ◌∙◌, arith}
+use Rattle.pon_link.specs.Reading.{Reading}
+use Rattle.pon_worker.specs.Records.{HasRead}
+use Rattle.pon_worker.proofs.Bursts.{none_so_far, so_far_more, so_far_part}
+use Rattle.pon_worker.proofs.Posted.{posts_fit, posts_more, posts_none}
+use Rattle.pon_worker.proofs.reading.read_bursts.Goals as goal
+
+pub loop-burst-init : goal.loop-burst-init
+loop-burst-init g c = record {
+  empty_again = c.requires.empty;
+  so_far = none_so_far c.args.counts.now (g.R.DevRead.remaining c.args.reader.now) (omega arith) (omega arith);
+  maps = refl;
+  posts = posts_none c.args.port c.args.seat.now c.args.counts.now c.args.counts.now refl refl;
+  fits = c.requires.posts;
+}
+
+pub receive-requires : goal.receive-requires
+receive-requires g c = c.loop-burst.invariant.empty_again
+
+pub post_record-requires : goal.post_record-requires
+post_record-requires g c = c.loop-burst.invariant.fits
+
+pub returns-in-Err-clause-read : goal.returns-in-Err-clause-read
+returns-in-Err-clause-read g c =
+    let left = g.R.DevRead.remaining c.args.reader.now in
+    let far = so_far_part c.loop-burst._burst c.receive.new.up.held c.args.counts.now c.loop-burst.counts left (g.R.DevRead.remaining c.loop-burst.reader) (g.R.DevRead.remaining c.receive.new.reader) c.loop-burst.invariant.so_far c.in-Err.ensures.err.1 in
+    (far.0, far.1, far.2, far.3, tt)
+
+pub returns-in-Err-clause-maps : goal.returns-in-Err-clause-maps
+returns-in-Err-clause-maps g c = c.loop-burst.invariant.maps
+
+pub returns-in-Err-clause-posts : goal.returns-in-Err-clause-posts
+returns-in-Err-clause-posts g c = c.loop-burst.invariant.posts
+
+pub loop-burst-preserved : goal.loop-burst-preserved
+loop-burst-preserved g c =
+    let far = c.loop-burst.invariant in
+    let got = c.in-Ok.ensures.ok in
+    let counted = c.post_record.ensures.counted in record {
+      empty_again = c.in-Ok.ensures.empty;
+      so_far = so_far_more c.loop-burst._burst c.in-Ok.burst got.0 counted.0 c.args.counts.now c.loop-burst.counts c.post_record.new.counts (g.R.DevRead.remaining c.args.reader.now) (g.R.DevRead.remaining c.loop-burst.reader) (g.R.DevRead.remaining c.receive.new.reader) far.so_far got.1 got.2 counted.1;
+      maps = c.post_record.ensures.maps ∙ far.maps;
+      posts = posts_more c.args.port 0 0 c.args.seat.now c.loop-burst.seat c.post_record.new.seat c.args.counts.now c.loop-burst.counts c.post_record.new.counts far.posts c.post_record.ensures.posts;
+      fits = posts_fit c.args.port c.loop-burst.seat c.post_record.new.seat c.loop-burst.counts c.post_record.new.counts c.post_record.ensures.posts far.fits;
+    }
+
+pub returns-clause-read : goal.returns-clause-read
+returns-clause-read g c =
+    let far = c.loop-burst.invariant in
+    let all = far.so_far in
+    let none = sym (ap (λ (s : Reading). s.held) far.empty_again) in
+    let number : c.loop-burst._burst ≡ c.args.bursts = omega (arith, c.loop-burst.auto._burst-end, c.loop-burst-test.false) in
+    (all.records, all.reports, all.counted, subst (λ (t : List ℕ). HasRead all.records t (g.R.DevRead.remaining c.args.reader.now) (g.R.DevRead.remaining c.loop-burst.reader)) none all.read, all.size ∙ number)
+
+pub returns-clause-maps : goal.returns-clause-maps
+returns-clause-maps g c = c.loop-burst.invariant.maps
+
+pub returns-clause-posts : goal.returns-clause-posts
+returns-clause-posts g c = c.loop-burst.invariant.posts
+
+pub returns-clause-all : goal.returns-clause-all
+returns-clause-all g c = c.loop-burst.invariant.empty_again

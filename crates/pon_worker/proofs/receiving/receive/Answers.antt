@@ -1,0 +1,55 @@
+use Rattle.std.proofs.Common.{List, ℕ, ◌++◌, sym, ap, subst, ◌∙◌}
+use Rattle.std.proofs.Common.{inl, inr, Ok, Option}
+use Rattle.std.proofs.KnownBytes.{Consumes-nil, Consumes-trans, Consumes-kept}
+use Rattle.pon_device.specs.Device.{Consumes}
+use Rattle.pon_link.specs.Reading.{Reading, Gives, HasFault}
+use Rattle.pon_link.specs.UpRecords.{IsRecord}
+use Rattle.pon_link.specs.declared.record.UpRecord.{UpRecord}
+use Rattle.pon_worker.proofs.receiving.receive.Goals as goal
+
+pub loop-init : goal.loop-init
+loop-init g c =
+    let left = g.R.DevRead.remaining c.args.reader.now in record {
+      up = ap (λ (s : Reading). s.direction) c.requires;
+      open_end = ap (λ (s : Reading). s.ended) c.requires;
+      held = subst (λ (s : Reading). Consumes left left s.held) (sym c.requires) (Consumes-nil left);
+    }
+
+pub returns-in-Ok-Some-clause-ok : goal.returns-in-Ok-Some-clause-ok
+returns-in-Ok-Some-clause-ok g c =
+    let v = subst (λ (o : Option UpRecord). Gives IsRecord c.loop.up c.next-in-loop.new.self (Ok o)) c.in-Ok-Some.field-0-is c.in-Ok-Some.ensures.outcome in
+    (c.loop.up.held, v.0, c.loop.invariant.held)
+
+pub loop-preserved : goal.loop-preserved
+loop-preserved g c =
+    let v = c.in-Ok.ensures.ok in
+    let far = c.loop.invariant in
+    let same = (subst (λ (o : Option UpRecord). Gives IsRecord c.loop.up c.next-in-loop.new.self (Ok o)) c.in-Ok-None.field-0-is c.in-Ok-None.ensures.outcome).1 in
+    let left = g.R.DevRead.remaining c.args.reader.now in
+    let now = g.R.DevRead.remaining c.pull.new.reader in
+    let more = Consumes-trans left (g.R.DevRead.remaining c.loop.reader) now c.loop.up.held v.0 far.held v.2 in record {
+      up = ap (λ (s : Reading). s.direction) (v.1) ∙ ap (λ (s : Reading). s.direction) same ∙ far.up;
+      open_end = ap (λ (s : Reading). s.ended) (v.1) ∙ ap (λ (s : Reading). s.ended) same ∙ far.open_end;
+      held = subst (λ (s : Reading). Consumes left now s.held) (sym v.1) (subst (λ (s : Reading). Consumes left now (s.held ++ v.0)) (sym same) more);
+    }
+
+pub returns-in-Err-pull-clause-err : goal.returns-in-Err-pull-clause-err
+returns-in-Err-pull-clause-err g c =
+    let v = c.in-Err-pull.ensures.err in
+    let far = c.loop.invariant in
+    let same = (subst (λ (o : Option UpRecord). Gives IsRecord c.loop.up c.next-in-loop.new.self (Ok o)) c.in-Ok-None.field-0-is c.in-Ok-None.ensures.outcome).1 in
+    let left = g.R.DevRead.remaining c.args.reader.now in
+    let now = g.R.DevRead.remaining c.pull.new.reader in
+    let all = Consumes-kept left (g.R.DevRead.remaining c.loop.reader) now c.loop.up.held far.held v.2 in (
+      v.0,
+      subst (λ (t : List ℕ). Consumes left now t) (sym (v.1 ∙ ap (λ (s : Reading). s.held) same)) all,
+    )
+
+pub returns-in-Err-clause-err : goal.returns-in-Err-clause-err
+returns-in-Err-clause-err g c =
+    let v = c.in-Err.ensures.outcome in
+    let left = g.R.DevRead.remaining c.args.reader.now in
+    let now = g.R.DevRead.remaining c.loop.reader in (
+      inr (inl (c.cause_of.ensures, (c.in-Err.field-0, subst (λ (s : Reading). HasFault s c.in-Err.field-0) (sym v.1) v.0))),
+      subst (λ (s : Reading). Consumes left now s.held) (sym v.1) c.loop.invariant.held,
+    )

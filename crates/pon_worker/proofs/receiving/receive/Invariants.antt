@@ -1,0 +1,12 @@
+use Rattle.std.proofs.Common.{◌≡◌, false}
+use Rattle.pon_device.specs.Device.{Consumes}
+use Rattle.pon_link.specs.declared.direction.Direction.TheVariants.{Up}
+use Rattle.pon_worker.proofs.receiving.receive.Given as goal
+
+-- what was read so far is held
+abbrev pub invariant-loop : goal.invariant-loop
+invariant-loop g l = record {
+  up : l.up.direction ≡ Up;
+  open_end : l.up.ended ≡ false;
+  held : Consumes (g.R.DevRead.remaining l.initial.reader) (g.R.DevRead.remaining l.reader) l.up.held;
+}

@@ -1,0 +1,51 @@
+use Rattle.std.proofs.Common.{refl, sym, ap, subst, arith}
+use Rattle.pon_worker.specs.Turns.{PostsAt, Turned, counts_of, no_counts}
+use Rattle.pon_worker.specs.declared.counts.Counts.{Counts}
+use Rattle.pon_worker.specs.declared.counts.Why.TheVariants.{Finished}
+use Rattle.pon_worker.proofs.Posted.{posts_fit, posts_more, posts_none}
+use Rattle.pon_worker.proofs.Works.{ends_cut, ends_with, stopped_more, turned_more, turned_none}
+use Rattle.pon_worker.proofs.serving.make_turns.Goals as goal
+
+pub loop-init : goal.loop-init
+loop-init g c =
+    let none = sym c.new-counts.ensures in
+    let start = turned_none no_counts (g.W.DevWrite.contents c.args.writer.now) (g.R.DevRead.remaining c.args.reader.now) (omega arith) (omega arith) in record {
+      empty_again = c.new-up.ensures;
+      turned = subst (λ (k : Counts). Turned no_counts k (g.W.DevWrite.contents c.args.writer.now) (g.W.DevWrite.contents c.args.writer.now) (g.R.DevRead.remaining c.args.reader.now) (g.R.DevRead.remaining c.args.reader.now)) none start;
+      posts = subst (λ (k : Counts). PostsAt c.args.port 0 c.args.seat.now c.args.seat.now no_counts k) none (posts_none c.args.port c.args.seat.now no_counts no_counts refl refl);
+      fits = omega (arith, ap (λ (k : Counts). k.maps) c.new-counts.ensures, ap (λ (k : Counts). k.reports) c.new-counts.ensures);
+    }
+
+pub turn-requires-clause-empty : goal.turn-requires-clause-empty
+turn-requires-clause-empty g c = c.loop.invariant.empty_again
+
+pub turn-requires-clause-posts : goal.turn-requires-clause-posts
+turn-requires-clause-posts g c = c.loop.invariant.fits
+
+pub loop-preserved : goal.loop-preserved
+loop-preserved g c =
+    let far = c.loop.invariant in record {
+      empty_again = c.in-Ok.ensures.empty;
+      turned = turned_more no_counts c.loop.counts c.turn.new.counts (g.W.DevWrite.contents c.args.writer.now) (g.W.DevWrite.contents c.loop.writer) (g.W.DevWrite.contents c.turn.new.writer) (g.R.DevRead.remaining c.args.reader.now) (g.R.DevRead.remaining c.loop.reader) (g.R.DevRead.remaining c.turn.new.reader) far.turned c.in-Ok.ensures.turned;
+      posts = posts_more c.args.port 0 0 c.args.seat.now c.loop.seat c.turn.new.seat no_counts c.loop.counts c.turn.new.counts far.posts c.turn.ensures.posts;
+      fits = posts_fit c.args.port c.loop.seat c.turn.new.seat c.loop.counts c.turn.new.counts c.turn.ensures.posts far.fits;
+    }
+
+pub returns-then-not-next-clause-ended : goal.returns-then-not-next-clause-ended
+returns-then-not-next-clause-ended g c =
+    ends_with Finished c.end.result.why no_counts c.loop.counts (counts_of c.end.result) (g.W.DevWrite.contents c.args.writer.now) (g.W.DevWrite.contents c.loop.writer) (g.R.DevRead.remaining c.args.reader.now) (g.R.DevRead.remaining c.loop.reader) c.end.ensures.why c.end.ensures.counts c.loop.invariant.turned
+
+pub returns-then-not-next-clause-posts : goal.returns-then-not-next-clause-posts
+returns-then-not-next-clause-posts g c = subst (λ (k : Counts). PostsAt c.args.port 0 c.args.seat.now c.loop.seat no_counts k) (sym c.end.ensures.counts) c.loop.invariant.posts
+
+pub returns-in-Err-clause-ended : goal.returns-in-Err-clause-ended
+returns-in-Err-clause-ended g c =
+    let far = c.loop.invariant in
+    let more = stopped_more no_counts c.loop.counts c.turn.new.counts (g.W.DevWrite.contents c.args.writer.now) (g.W.DevWrite.contents c.loop.writer) (g.W.DevWrite.contents c.turn.new.writer) (g.R.DevRead.remaining c.args.reader.now) (g.R.DevRead.remaining c.loop.reader) (g.R.DevRead.remaining c.turn.new.reader) far.turned c.in-Err.ensures.stopped in
+    let cut = ends_cut c.in-Err.why no_counts c.turn.new.counts (g.W.DevWrite.contents c.args.writer.now) (g.W.DevWrite.contents c.turn.new.writer) (g.R.DevRead.remaining c.args.reader.now) (g.R.DevRead.remaining c.turn.new.reader) c.in-Err.ensures.why more in
+    ends_with c.in-Err.why c.end-in-Err.result.why no_counts c.turn.new.counts (counts_of c.end-in-Err.result) (g.W.DevWrite.contents c.args.writer.now) (g.W.DevWrite.contents c.turn.new.writer) (g.R.DevRead.remaining c.args.reader.now) (g.R.DevRead.remaining c.turn.new.reader) c.end-in-Err.ensures.why c.end-in-Err.ensures.counts cut
+
+pub returns-in-Err-clause-posts : goal.returns-in-Err-clause-posts
+returns-in-Err-clause-posts g c =
+    let more = posts_more c.args.port 0 0 c.args.seat.now c.loop.seat c.turn.new.seat no_counts c.loop.counts c.turn.new.counts c.loop.invariant.posts c.turn.ensures.posts in
+    subst (λ (k : Counts). PostsAt c.args.port 0 c.args.seat.now c.turn.new.seat no_counts k) (sym c.end-in-Err.ensures.counts) more

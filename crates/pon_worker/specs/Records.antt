@@ -1,0 +1,43 @@
+-- The records that a worker reads from its link, and what becomes of them.
+use Rattle.std.specs.Prelude.{ℕ, ◌≡◌, ◌+◌, ◌==◌, ◌⊎◌, Bool, true, min, List, count_by, length, Option, Some, None}
+use Rattle.pon_device.specs.Device.{Consumes, IsAtEnd}
+use Rattle.pon_xgtc.specs.BurstHead.{BurstHeader}
+use Rattle.pon_link.specs.Reading.{Reading, HasFault, IsOpen}
+use Rattle.pon_link.specs.Runs.{AreRecords}
+use Rattle.pon_link.specs.UpRecords.{IsRecord}
+use Rattle.pon_link.specs.declared.fault.LinkFault.{LinkFault}
+use Rattle.pon_link.specs.declared.record.UpRecord.{UpRecord}
+use Rattle.pon_worker.specs.declared.causes.TheConstants.{READ_FAILED, BAD_RECORD, INPUT_ENDED}
+use Rattle.pon_worker.specs.declared.counts.Counts.{Counts}
+use Rattle.pon_worker.specs.declared.counts.TheConstants.{GREATEST_COUNT}
+use Rattle.pon_worker.specs.declared.reading.TheConstants.{NO_ONU}
+
+-- why a reader in this state has no further record: reads failed, or its bytes are none, or the input ended
+abbrev pub StopsFor : ℕ → Reading → Option (List ℕ) → Type 0
+StopsFor cause s left =
+    ((cause ≡ READ_FAILED) × IsOpen s)
+    ⊎ ((cause ≡ BAD_RECORD) × ((fault : LinkFault) × HasFault s fault))
+    ⊎ ((cause ≡ INPUT_ENDED) × IsAtEnd left)
+
+-- a burst header that names no sender
+abbrev pub is_nobodys : Option BurstHeader → Bool
+is_nobodys None = true
+is_nobodys (Some head) = head.onu_raw == NO_ONU
+
+-- a record without a sender
+abbrev pub is_garbled : UpRecord → Bool
+is_garbled burst = is_nobodys burst.head
+
+-- what counting these records came to: this number of reports was taken, and the others were without a sender or refused
+pub record Counted (records : List UpRecord) (reports : ℕ) (old new : Counts) : Type 0 where
+  pub refusals : ℕ
+  pub all : reports + count_by is_garbled records + refusals ≡ length records
+  pub taken : new.reports ≡ old.reports + reports
+  pub garbled : new.garbled ≡ min (old.garbled + count_by is_garbled records) GREATEST_COUNT
+  pub refused : new.refused ≡ min (old.refused + refusals) GREATEST_COUNT
+
+-- records that were read, and bytes of a next one
+pub record HasRead (records : List UpRecord) (held : List ℕ) (left_old left_new : Option (List ℕ)) : Type 0 where
+  pub input : List ℕ
+  pub read : Consumes left_old left_new input
+  pub are : AreRecords IsRecord input records held

@@ -1,0 +1,83 @@
+ghost use Rattle.std.specs.Prelude.{◌≡◌, ◌+◌, min};
+
+use pon_descr::Cause;
+use pon_plant::StepFault;
+
+/// Why a worker ended.
+#[derive(Clone, Copy, Debug, PartialEq, Eq)]
+pub enum Why {
+    /// Its pace gave it no further turn.
+    Finished,
+    /// It gave up its link, and posted that the port is failed, with this cause: 2 if three reads in a row failed, 3 if
+    /// three writes in a row failed, 4 if what it read is no record, 5 if the input ended.
+    Gave { cause: Cause },
+    /// Its gate held it back 10,000 times in a row.
+    GateLimit,
+    /// The desk made no map.
+    Refused(StepFault),
+}
+
+/// How a worker ended, and what it did. Of the counts the last two stay at 2^64 - 1 once they are there.
+#[derive(Clone, Copy, Debug, PartialEq, Eq)]
+pub struct WorkerEnd {
+    /// The number of maps that it had its port make.
+    pub maps: u64,
+    /// The number of reports that its port took.
+    pub reports: u64,
+    /// The number of records without a sender, which it dropped.
+    pub garbled: u64,
+    /// The number of reports that its port refused.
+    pub refused: u64,
+    /// Why it ended.
+    pub why: Why,
+}
+
+/// The last value of a count.
+pub(crate) const GREATEST_COUNT: u64 = u64::MAX;
+
+/// What a worker has counted so far.
+#[derive(Clone, Copy, Debug, PartialEq, Eq)]
+pub(crate) struct Counts {
+    pub(crate) maps: u64,
+    pub(crate) reports: u64,
+    pub(crate) garbled: u64,
+    pub(crate) refused: u64,
+}
+
+// One more, or the last value.
+pub(crate) fn count(number: u64) -> u64
+    ensures { result ≡ min (number + 1) GREATEST_COUNT }
+{
+    number.saturating_add(1)
+}
+
+impl Counts {
+    ghost use Rattle.pon_worker.specs.Turns.{counts_of, no_counts};
+    ghost use Rattle.std.specs.Prelude.{◌≡◌};
+
+    // Nothing counted.
+    pub(crate) fn new() -> Counts
+        ensures { result ≡ no_counts }
+    {
+        Counts {
+            maps: 0,
+            reports: 0,
+            garbled: 0,
+            refused: 0,
+        }
+    }
+
+    // The end of a worker that counted this.
+    pub(crate) fn end(&self, why: Why) -> WorkerEnd
+        ensures counts { counts_of result ≡ self.now }
+        ensures why { result.why ≡ why }
+    {
+        WorkerEnd {
+            maps: self.maps,
+            reports: self.reports,
+            garbled: self.garbled,
+            refused: self.refused,
+            why,
+        }
+    }
+}

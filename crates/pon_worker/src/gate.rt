@@ -1,0 +1,85 @@
+ghost use Rattle.std.specs.Prelude.{◌≡◌, ◌+◌, true, MatchBool};
+
+use pon_units::PortNo;
+use std::marker::Model;
+
+/// A place in a worker's turn where its gate is asked.
+#[derive(Clone, Copy, Debug, PartialEq, Eq)]
+pub enum Point {
+    /// The map is made, and not sent yet.
+    Send,
+    /// The map is sent, and no burst is read yet.
+    Read,
+}
+
+/// Holds workers back, or lets them pass.
+pub trait Gate {
+    /// Whether the worker of this port may pass this point now.
+    fn pass(&self, port: PortNo, point: Point) -> bool;
+}
+
+/// A gate that always lets each worker pass.
+#[derive(Clone, Copy, Debug, PartialEq, Eq)]
+pub struct OpenGate;
+
+impl Gate for OpenGate {
+    fn pass(&self, _port: PortNo, _point: Point) -> bool
+        ensures { result ≡ true }
+    {
+        true
+    }
+}
+
+/// Gives a worker its turns.
+pub trait Pace {
+    /// Whether the worker makes another turn.
+    fn next(&mut self) -> bool;
+}
+
+/// A number of turns, one after the other. Contracts see those that are left.
+#[derive(Clone, Copy, Debug, PartialEq, Eq)]
+pub struct Turns {
+    left: u64,
+}
+
+impl Model for Turns {
+    ghost use Rattle.std.specs.Prelude.{ℕ};
+
+    ghost Value = { ℕ };
+
+    ghost view = { λ t. t.left };
+
+    ghost inverse = { λ n. record { left = n } };
+}
+
+impl Turns {
+    /// This number of turns.
+    pub fn new(number: u64) -> Turns
+        ensures { result ≡ number }
+    {
+        Turns { left: number }
+    }
+}
+
+impl Pace for Turns {
+    fn next(&mut self) -> bool
+        ensures { MatchBool result (self.old ≡ self.new + 1) ((self.old ≡ 0) × (self.new ≡ 0)) }
+    {
+        let more = self.left > 0;
+        self.left = self.left.saturating_sub(1);
+        more
+    }
+}
+
+/// The most times in a row that a gate is asked at one point.
+const MOST_ASKS: usize = 10_000;
+
+// Asks the gate until the worker may pass, and gives up after 10,000 answers of no.
+pub(crate) fn pass<G: Gate>(gate: &G, port: PortNo, point: Point) -> bool {
+    for _ask in 0..MOST_ASKS {
+        if gate.pass(port, point) {
+            return true;
+        }
+    }
+    false
+}

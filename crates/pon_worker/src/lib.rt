@@ -1,0 +1,22 @@
+//! The worker of one port of an XG-PON optical line terminal (upstream bandwidth assignment, ITU-T G.987.3).
+//!
+//! In each turn a worker has its port make the map of the next frame, sends it to the units of the line, reads one record
+//! for each burst of the map, and posts what the bursts report. It posts at a desk, which other threads may use meanwhile,
+//! and holds no lock while it asks its gate, writes or reads. The crate starts no thread and opens no device.
+#![tactic(auto)]
+
+mod causes;
+mod counts;
+mod gate;
+mod posting;
+mod reading;
+mod receiving;
+mod sending;
+mod serving;
+mod sink;
+mod turn;
+
+pub use counts::{Why, WorkerEnd};
+pub use gate::{Gate, OpenGate, Pace, Point, Turns};
+pub use serving::serve_port;
+pub use sink::Sink;

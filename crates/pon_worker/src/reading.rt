@@ -1,0 +1,90 @@
+// How a worker reads the bursts of a map, and posts what they report.
+ghost use Rattle.std.specs.Prelude.{◌≡◌, ◌+◌, ◌∷◌, ◌≤◌, [], ℕ, List, false, true, length, slice_index, IfErr, IfOk, IfSome, MatchOption, OnOk};
+ghost use Rattle.pon_link.specs.Reading.{empty};
+ghost use Rattle.pon_link.specs.declared.record.UpRecord.{UpRecord};
+ghost use Rattle.pon_worker.specs.Records.{Counted, HasRead, StopsFor, is_nobodys};
+ghost use Rattle.pon_worker.specs.Turns.{PostsAt};
+
+use crate::counts::{Counts, count};
+use crate::posting::is_posted;
+use crate::receiving::receive;
+use pon_descr::Cause;
+use pon_desk::{Desk, Seat};
+use pon_device::DevRead;
+use pon_event::Event;
+use pon_link::{Direction, UpReader, UpRecord};
+use pon_units::{OnuId, PortNo};
+use pon_xgtc::BurstHead;
+use std::sync::Wait;
+use std::sync::ledger::Ledger;
+
+/// The ONU-ID of no unit (ITU-T G.987.3, ONU-ID).
+pub(crate) const NO_ONU: u16 = 1023;
+
+// The unit that sent a burst, if its header names one.
+fn sender(head: Option<BurstHead>) -> Option<OnuId>
+    ensures { MatchOption result (is_nobodys head ≡ true)
+        (λ onu. (is_nobodys head ≡ false) × IfSome head (λ h. h.onu_raw ≡ onu)) }
+{
+    OnuId::new(head?.onu_raw())
+}
+
+// Posts what a burst reports, and counts what became of it.
+fn post_record<L: Ledger, M: Ledger, T: Wait>(
+    rt: &T,
+    desk: &Desk<L, M>,
+    seat: &mut Seat<L, M>,
+    port: PortNo,
+    burst: UpRecord,
+    counts: &mut Counts,
+)
+    requires { counts.old.maps + counts.old.reports ≤ slice_index seat.old.counts port }
+    ensures counted { (n : ℕ) × Counted (burst ∷ []) n counts.old counts.new }
+    ensures maps { counts.new.maps ≡ counts.old.maps }
+    ensures posts { PostsAt port 0 seat.old seat.new counts.old counts.new }
+{
+    let Some(onu) = sender(burst.head) else {
+        counts.garbled = count(counts.garbled);
+        return;
+    };
+    let event = Event::Report {
+        frame: burst.frame,
+        onu,
+        occ: burst.occ,
+    };
+    if is_posted(rt, desk, seat, port, event) {
+        counts.reports += 1;
+    } else {
+        counts.refused = count(counts.refused);
+    }
+}
+
+// Reads this number of bursts, and posts what each reports. Else the cause why one was not read.
+pub(crate) fn read_bursts<L: Ledger, M: Ledger, R: DevRead, T: Wait>(
+    rt: &T,
+    desk: &Desk<L, M>,
+    seat: &mut Seat<L, M>,
+    port: PortNo,
+    bursts: usize,
+    up: &mut UpReader,
+    reader: &mut R,
+    counts: &mut Counts,
+) -> Result<(), Cause>
+    requires empty { up.old ≡ empty Direction.Up }
+    requires posts { counts.old.maps + counts.old.reports ≤ slice_index seat.old.counts port }
+    ensures read { (records : List UpRecord) × (n : ℕ) × Counted records n counts.old counts.new
+        × HasRead records up.new.held (R.remaining reader.old) (R.remaining reader.new)
+        × OnOk result (length records ≡ bursts) }
+    ensures maps { counts.new.maps ≡ counts.old.maps }
+    ensures posts { PostsAt port 0 seat.old seat.new counts.old counts.new }
+    ensures all { OnOk result (up.new ≡ empty Direction.Up) }
+    ensures err { IfErr result (λ cause. StopsFor cause up.new (R.remaining reader.new)) }
+{
+    for _burst in 0..bursts {
+        match receive(rt, up, reader) {
+            Ok(burst) => post_record(rt, desk, seat, port, burst, counts),
+            Err(cause) => return Err(cause),
+        }
+    }
+    Ok(())
+}

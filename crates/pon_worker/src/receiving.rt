@@ -1,0 +1,61 @@
+// How a worker reads the record of a burst.
+ghost use Rattle.std.specs.Prelude.{◌≡◌, ℕ, List, IfOk, IfErr, OnOk};
+ghost use Rattle.pon_device.specs.Device.{Consumes, Keeps};
+ghost use Rattle.pon_link.specs.Reading.{empty, holds_more, IsOpen};
+ghost use Rattle.pon_link.specs.UpRecords.{IsRecord};
+ghost use Rattle.pon_worker.specs.Records.{StopsFor};
+
+use crate::causes::{BAD_RECORD, INPUT_ENDED, READ_FAILED, cause_of};
+use crate::sending::MOST_TRIES;
+use pon_descr::Cause;
+use pon_device::DevRead;
+use pon_link::{Direction, PullFault, Pulled, UpReader, UpRecord};
+use std::sync::Wait;
+
+// Reads once, and again if the device failed, at most three times. Else the cause: the device failed in each, or the input
+// ended.
+fn pull<R: DevRead>(up: &mut UpReader, reader: &mut R) -> Result<(), Cause>
+    requires up { up.old.direction ≡ Direction.Up }
+    requires open { IsOpen up.old }
+    ensures ok { OnOk result ((bytes : List ℕ) × (up.new ≡ holds_more up.old bytes)
+        × Consumes (R.remaining reader.old) (R.remaining reader.new) bytes) }
+    ensures err { IfErr result (λ cause. StopsFor cause up.new (R.remaining reader.new)
+        × (up.new.held ≡ up.old.held)
+        × Keeps (R.remaining reader.old) (R.remaining reader.new)) }
+{
+    for _try in 0..MOST_TRIES {
+        match up.pull(reader) {
+            Ok(Pulled::Bytes(_)) => return Ok(()),
+            Ok(Pulled::End) => return Err(cause_of(INPUT_ENDED)),
+            Err(PullFault::Link(_)) => return Err(cause_of(INPUT_ENDED)),
+            Err(PullFault::Device) => {}
+        }
+    }
+    Err(cause_of(READ_FAILED))
+}
+
+// Reads the next record. Else the cause, and what was read of a record is held.
+pub(crate) fn receive<R: DevRead, T: Wait>(
+    rt: &T,
+    up: &mut UpReader,
+    reader: &mut R,
+) -> Result<UpRecord, Cause>
+    requires { up.old ≡ empty Direction.Up }
+    ensures empty { OnOk result (up.new ≡ empty Direction.Up) }
+    ensures ok { IfOk result (λ burst. (bytes : List ℕ) × IsRecord bytes burst
+        × Consumes (R.remaining reader.old) (R.remaining reader.new) bytes) }
+    ensures err { IfErr result (λ cause. StopsFor cause up.new (R.remaining reader.new)
+        × Consumes (R.remaining reader.old) (R.remaining reader.new) up.new.held) }
+{
+    for _ in rt.forever() {
+        match up.next() {
+            Ok(Some(record)) => return Ok(record),
+            Ok(None) => match pull(up, reader) {
+                Ok(()) => {}
+                Err(cause) => return Err(cause),
+            },
+            Err(_) => return Err(cause_of(BAD_RECORD)),
+        }
+    }
+    unreachable!()
+}

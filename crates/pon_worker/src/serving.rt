@@ -1,0 +1,102 @@
+//! The turns of a worker.
+
+ghost use Rattle.std.specs.Prelude.{◌≡◌, ◌≤◌, ℕ};
+ghost use Rattle.pon_worker.specs.Turns.{EndsAs, PostsAt, RaisedAt, counts_of, most_others, no_counts};
+
+use crate::counts::{Counts, Why, WorkerEnd};
+use crate::gate::{Gate, Pace};
+use crate::posting::is_posted;
+use crate::sink::Sink;
+use crate::turn::turn;
+use pon_desk::{Desk, Seat};
+use pon_device::{DevRead, DevWrite};
+use pon_event::Event;
+use pon_link::UpReader;
+use pon_units::PortNo;
+use std::sync::Wait;
+use std::sync::ledger::Ledger;
+
+// Makes the turns that the pace gives, and counts what they did.
+fn make_turns<L: Ledger, M: Ledger, G: Gate, P: Pace, R: DevRead, W: DevWrite, T: Wait>(
+    rt: &T,
+    desk: &Desk<L, M>,
+    seat: &mut Seat<L, M>,
+    port: PortNo,
+    gate: &G,
+    pace: &mut P,
+    reader: &mut R,
+    writer: &mut W,
+) -> WorkerEnd
+    ensures ended { EndsAs result.why no_counts (counts_of result) (W.contents writer.old)
+        (W.contents writer.new) (R.remaining reader.old) (R.remaining reader.new) }
+    ensures posts { PostsAt port 0 seat.old seat.new no_counts (counts_of result) }
+{
+    let mut up = UpReader::new();
+    let mut counts = Counts::new();
+    for _ in rt.forever() {
+        if !pace.next() {
+            return counts.end(Why::Finished);
+        }
+        match turn(
+            rt,
+            desk,
+            seat,
+            port,
+            gate,
+            &mut up,
+            reader,
+            writer,
+            &mut counts,
+        ) {
+            Ok(()) => {}
+            Err(why) => return counts.end(why),
+        }
+    }
+    unreachable!()
+}
+
+// Posts that the port is failed, if its link was given up.
+fn give_up<L: Ledger, M: Ledger, T: Wait>(
+    rt: &T,
+    desk: &Desk<L, M>,
+    seat: &mut Seat<L, M>,
+    port: PortNo,
+    why: Why,
+)
+    ensures { (others : ℕ) × (others ≤ most_others why) × RaisedAt port others seat.old seat.new }
+{
+    if let Why::Gave { cause } = why {
+        let _taken = is_posted(rt, desk, seat, port, Event::Fail { cause });
+    }
+}
+
+/// Serves the port of this number over its link, for as many turns as the pace gives. In each turn it posts `MakeMap`, asks
+/// the gate at `Send`, writes the record of the map, asks the gate at `Read`, and reads one record for each burst of the map
+/// and posts it as a report. It holds no lock while it asks the gate, writes or reads.
+///
+/// A record whose burst header is refused, or has the ONU-ID 1023, is counted as garbled and dropped; a report that the port
+/// refuses is counted. It ends as [`Why`] says. A write or read that fails is tried three times in a row; then, and if what
+/// it read is no record or the input ended, it posts that the port is failed. It flushes nothing, so the writer is to send
+/// what it takes.
+pub fn serve_port<L: Ledger, M: Ledger, G: Gate, P: Pace, R: DevRead, W: DevWrite, T: Wait>(
+    rt: &T,
+    desk: &Desk<L, M>,
+    seat: &mut Seat<L, M>,
+    port: PortNo,
+    gate: &G,
+    pace: &mut P,
+    reader: &mut R,
+    writer: &mut W,
+    _sink: &mut Sink,
+) -> WorkerEnd
+    // Of the devices, as far as they tell their bytes: what was written are the maps that the port made, each with the whole
+    // promise of a map, and what was counted are the records that were read.
+    ensures ended { EndsAs result.why no_counts (counts_of result) (W.contents writer.old)
+        (W.contents writer.new) (R.remaining reader.old) (R.remaining reader.new) }
+    ensures posts { (others : ℕ) × (others ≤ most_others result.why)
+        × PostsAt port others seat.old seat.new no_counts (counts_of result) }
+{
+    let end = make_turns(rt, desk, seat, port, gate, pace, reader, writer);
+    give_up(rt, desk, seat, port, end.why);
+    end
+}

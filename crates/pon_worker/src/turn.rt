@@ -1,0 +1,71 @@
+// One turn of a worker.
+ghost use Rattle.std.specs.Prelude.{◌≡◌, ◌+◌, ◌≤◌, count_by, slice_index, IfErr, OnErr, OnOk};
+ghost use Rattle.pon_link.specs.Reading.{empty};
+ghost use Rattle.pon_worker.specs.Turns.{begins_burst, IsCutBy, PostsAt, Stopped, Turned};
+
+use crate::causes::{WRITE_FAILED, cause_of};
+use crate::counts::{Counts, Why};
+use crate::gate::{Gate, Point, pass};
+use crate::posting::make_map;
+use crate::reading::read_bursts;
+use crate::sending::send;
+use pon_bwmap::Alloc;
+use pon_desk::{Desk, Seat};
+use pon_device::{DevRead, DevWrite};
+use pon_link::{Direction, UpReader};
+use pon_units::PortNo;
+use std::sync::Wait;
+use std::sync::ledger::Ledger;
+
+// The number of bursts of a map: each structure with a start begins one.
+fn bursts_in(rows: &[Alloc]) -> usize
+    ensures { result ≡ count_by begins_burst rows.now }
+{
+    rows.iter().filter(|row| row.start().is_some()).count()
+}
+
+// The port makes a map, which is sent, and then its bursts are read and posted. Else why not.
+pub(crate) fn turn<L: Ledger, M: Ledger, G: Gate, R: DevRead, W: DevWrite, T: Wait>(
+    rt: &T,
+    desk: &Desk<L, M>,
+    seat: &mut Seat<L, M>,
+    port: PortNo,
+    gate: &G,
+    up: &mut UpReader,
+    reader: &mut R,
+    writer: &mut W,
+    counts: &mut Counts,
+) -> Result<(), Why>
+    requires empty { up.old ≡ empty Direction.Up }
+    requires posts { counts.old.maps + counts.old.reports ≤ slice_index seat.old.counts port }
+    ensures turned { OnOk result (Turned counts.old counts.new (W.contents writer.old)
+        (W.contents writer.new) (R.remaining reader.old) (R.remaining reader.new)) }
+    ensures empty { OnOk result (up.new ≡ empty Direction.Up) }
+    ensures stopped { OnErr result (Stopped counts.old counts.new (W.contents writer.old)
+        (W.contents writer.new) (R.remaining reader.old) (R.remaining reader.new)) }
+    ensures why { IfErr result (λ why. IsCutBy why (R.remaining reader.new)) }
+    ensures posts { PostsAt port 0 seat.old seat.new counts.old counts.new }
+{
+    let made = match make_map(rt, desk, seat, port) {
+        Ok(made) => made,
+        Err(fault) => return Err(Why::Refused(fault)),
+    };
+    counts.maps += 1;
+    if !pass(gate, port, Point::Send) {
+        return Err(Why::GateLimit);
+    }
+    match send(writer, &made) {
+        Ok(()) => {}
+        Err(_) => return Err(Why::Gave {
+            cause: cause_of(WRITE_FAILED),
+        }),
+    }
+    if !pass(gate, port, Point::Read) {
+        return Err(Why::GateLimit);
+    }
+    let bursts = bursts_in(made.map.rows());
+    match read_bursts(rt, desk, seat, port, bursts, up, reader, counts) {
+        Ok(()) => Ok(()),
+        Err(cause) => Err(Why::Gave { cause }),
+    }
+}
