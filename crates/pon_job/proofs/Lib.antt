@@ -1,1 +1,3 @@
+mod Builders
+mod Runs
 mod Subcommands

@@ -1,22 +1,42 @@
 -- The jobs of the program, by the words of its command line.
-use Rattle.std.specs.Prelude.{◌≡◌, ◌⊎◌, ℕ, List, [], ◌∷◌, codes, Option, Some, None, option_map, true}
+use Rattle.std.specs.Prelude.{◌≡◌, ◌⊎◌, ℕ, List, [], ◌∷◌, codes, Option, Some, None, IsSomeAnd, option_map, true}
+use Rattle.std.specs.Str.Parse.{digits_value, without_leading_plus}
 use Rattle.clap.specs.Walk.{Row, Rule, first_of}
 use Rattle.clap.specs.Simple.{App, Shape, new_shape, new_rule, subcommand_of, with_subcommand}
 use Rattle.clap.specs.Faults.{fault_of}
 use Rattle.clap.specs.Kinds.{HasKind}
-use Rattle.clap.specs.Values.{kind_of}
+use Rattle.clap.specs.Values.{IsUnsignedIn, kind_of}
+use Rattle.clap.specs.declared.builder.value_parser.ValueParser.TheVariants.{Unsigned}
 use Rattle.clap.specs.declared.error.Error.{Error}
 use Rattle.clap.specs.declared.error.kind.ErrorKind.TheVariants.{InvalidSubcommand}
+use Rattle.pon_job.specs.declared.task.TheConstants.{MOST_MAPS}
 use Rattle.pon_job.specs.declared.task.Job.{Job}
-use Rattle.pon_job.specs.declared.task.Job.TheVariants.{Plan, Check}
+use Rattle.pon_job.specs.declared.task.Job.TheVariants.{Plan, Check, Run}
 
 -- the one word of `check`, which it needs
 abbrev pub file_rule : Rule
 file_rule = record (new_rule (codes "file")) { value_names = 1; required = true }
 
--- the settings of `plan`, which it may have
+-- the settings, which `plan` may have
 abbrev pub config_rule : Rule
 config_rule = record (new_rule (codes "config")) { long = Some (codes "config"); value_names = 1 }
+
+-- the address of the sockets of `run`, which it needs
+abbrev pub listen_rule : Rule
+listen_rule = record (new_rule (codes "listen")) { long = Some (codes "listen"); value_names = 1; required = true }
+
+-- the number of maps of `run`, which it needs, within its range
+abbrev pub maps_rule : Rule
+maps_rule = record (new_rule (codes "maps")) {
+  long = Some (codes "maps");
+  value_names = 1;
+  parser = Some (Unsigned 1 MOST_MAPS);
+  required = true;
+}
+
+-- the management lines of an operator, which `run` may have
+abbrev pub operate_rule : Rule
+operate_rule = record (new_rule (codes "operate")) { long = Some (codes "operate"); value_names = 1 }
 
 abbrev pub plan_shape : Shape
 plan_shape = record (new_shape (codes "plan")) { rules = config_rule ∷ [] }
@@ -24,24 +44,62 @@ plan_shape = record (new_shape (codes "plan")) { rules = config_rule ∷ [] }
 abbrev pub check_shape : Shape
 check_shape = record (new_shape (codes "check")) { rules = file_rule ∷ [] }
 
+-- `run` needs the settings
+abbrev pub run_shape : Shape
+run_shape = record (new_shape (codes "run")) {
+  rules = record config_rule { required = true } ∷ listen_rule ∷ maps_rule ∷ operate_rule ∷ [];
+}
+
 abbrev pub top_shape : Shape
 top_shape = record (new_shape (codes "olt")) { has_version = true; subcommand_required = true; arg_required_else_help = true }
 
 -- the command line that the program has
 abbrev pub olt_app : App
-olt_app = with_subcommand (with_subcommand (record { top = top_shape; subs = [] }) plan_shape) check_shape
+olt_app = with_subcommand (with_subcommand (with_subcommand (record { top = top_shape; subs = [] }) plan_shape) check_shape) run_shape
 
--- `plan` answers management lines, at the ports of the settings that `--config` names if it is there; `check` judges the file
--- that its word names
+-- the word of a job's subcommand
+abbrev pub word_of : Job → List ℕ
+word_of (Plan config) = codes "plan"
+word_of (Check file) = codes "check"
+word_of (Run config listen maps operate) = codes "run"
+
+-- the text spells the number, which is within the range of the maps of a run
+pub record SpellsMaps (text : List ℕ) (maps : ℕ) : Type 0 where
+  pub in_range : IsUnsignedIn 1 MOST_MAPS text
+  pub number : digits_value 10 (without_leading_plus text) ≡ maps
+
+-- the matches have this number of maps
+abbrev pub HasMaps : List Row → ℕ → Type 0
+HasMaps rows maps = IsSomeAnd (first_of (codes "maps") rows) (λ text. SpellsMaps text maps)
+
+-- the matches of `run` have these values
+pub record IsRun (rows : List Row) (config listen : List ℕ) (maps : ℕ) (operate : Option (List ℕ)) : Type 0 where
+  pub settings : first_of (codes "config") rows ≡ Some config
+  pub address : first_of (codes "listen") rows ≡ Some listen
+  pub number : HasMaps rows maps
+  pub operator : first_of (codes "operate") rows ≡ operate
+
+-- the matches of a job's subcommand have the values of the job, by the names of its arguments
+abbrev pub HasValues : List Row → Job → Type 0
+HasValues rows (Plan config) = first_of (codes "config") rows ≡ option_map (λ name. name.now) config
+HasValues rows (Check file) = first_of (codes "file") rows ≡ Some file.now
+HasValues rows (Run config listen maps operate) = IsRun rows config.now listen.now maps (option_map (λ name. name.now) operate)
+
+-- the job is the one that the subcommand names, with the values of its arguments
 abbrev pub IsJob : Option (List ℕ × List Row) → Job → Type 0
 IsJob None job = ⊥
-IsJob (Some met) (Plan config) = (met.0 ≡ codes "plan") × (option_map (λ file. file.now) config ≡ first_of (codes "config") met.1)
-IsJob (Some met) (Check file) = (met.0 ≡ codes "check") × (first_of (codes "file") met.1 ≡ Some file.now)
+IsJob (Some met) job = (met.0 ≡ word_of job) × HasValues met.1 job
 
 -- a subcommand that names no job
 abbrev pub NamesNoJob : Option (List ℕ × List Row) → Type 0
-NamesNoJob met = (job : Job) → IsJob met job → ⊥
+NamesNoJob met = (job : Job) → ¬ IsJob met job
+
+-- clap finds no fault in the words, but their subcommand names no job
+pub record NameNoJob (words : List (List ℕ)) (e : Error) : Type 0 where
+  pub kind : kind_of e ≡ InvalidSubcommand
+  pub no_fault : fault_of olt_app words ≡ []
+  pub no_job : NamesNoJob (subcommand_of olt_app words)
 
 -- why words give no job: a fault that clap finds in them, refused memory, or a subcommand that names no job
 abbrev pub RefusesWords : List (List ℕ) → Error → Type 0
-RefusesWords words e = HasKind (fault_of olt_app words) e ⊎ ((kind_of e ≡ InvalidSubcommand) × NamesNoJob (subcommand_of olt_app words))
+RefusesWords words e = HasKind (fault_of olt_app words) e ⊎ NameNoJob words e

@@ -5,16 +5,17 @@ use Rattle.clap.specs.declared.error.kind.ErrorKind.TheVariants.{DisplayHelp, Di
 use Rattle.pon_stream.specs.declared.fault.PlanFault.{PlanFault}
 use Rattle.pon_stream.specs.declared.fault.PlanFault.TheVariants.{Memory}
 use Rattle.pon_job.specs.declared.outcome.Outcome.{Outcome}
-use Rattle.pon_job.specs.declared.outcome.Outcome.TheVariants.{Done, Refused, CommandLine, Settings, Failed}
+use Rattle.pon_job.specs.declared.outcome.Outcome.TheVariants.{Done, Refused, CommandLine, Settings, Failed, Unfinished}
 
 -- The exit status is 0 if the job is done, 1 if a check or an audit refused, 2 if the command line or the settings are
--- refused, and 3 if a device failed or memory was refused.
+-- refused, and 3 if a device failed, memory was refused or a port was not served to its last map.
 abbrev pub exit_status : Outcome → ℕ
 exit_status Done = 0
 exit_status Refused = 1
 exit_status CommandLine = 2
 exit_status Settings = 2
 exit_status (Failed fault) = 3
+exit_status Unfinished = 3
 
 -- a job without a verdict is done, or has failed
 abbrev pub outcome_of_run : {T : Type 0} → Result T PlanFault → Outcome
@@ -26,6 +27,12 @@ abbrev pub outcome_of_check : Result Bool PlanFault → Outcome
 outcome_of_check (Ok true) = Done
 outcome_of_check (Ok false) = Refused
 outcome_of_check (Err fault) = Failed fault
+
+-- a run at ports serves each of them to its last map, or not, or has failed
+abbrev pub outcome_of_ports : Result Bool PlanFault → Outcome
+outcome_of_ports (Ok true) = Done
+outcome_of_ports (Ok false) = Unfinished
+outcome_of_ports (Err fault) = Failed fault
 
 -- help and the version are shown; any other error refuses the words, unless memory was refused
 abbrev pub outcome_of_words : ErrorKind → Outcome

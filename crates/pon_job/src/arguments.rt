@@ -1,54 +1,50 @@
 //! The words of the command line.
 
-ghost use Rattle.std.specs.Prelude.{◌≡◌, [], IfErr, IfOk, IfSome, IsNone, map, false, string_bytes};
-ghost use Rattle.clap.specs.Words.{subcommand_rows_of};
-ghost use Rattle.clap.specs.Walk.{rule_of};
-ghost use Rattle.clap.specs.Simple.{app_of, subcommand_of};
-ghost use Rattle.pon_job.specs.Jobs.{IsJob, NamesNoJob, RefusesWords, config_rule, file_rule, olt_app};
+ghost use Rattle.std.specs.Prelude.{◌≡◌, ◌∷◌, List, [], IfErr, IfOk, IfSome, IsNone, MatchOption, ℕ, Some, codes, map, string_bytes};
+ghost use Rattle.clap.specs.Words.{found_of, rows_of, subcommand_rows_of};
+ghost use Rattle.clap.specs.Simple.{subcommand_of};
+ghost use Rattle.pon_job.specs.Jobs.{HasMaps, IsJob, NamesNoJob, RefusesWords, SpellsMaps, olt_app};
 
-use crate::task::Job;
+use crate::commands::olt_command;
+use crate::task::{Job, MOST_MAPS};
 use clap::error::ErrorKind;
-use clap::{Arg, ArgMatches, Command, Error};
-use std::alloc::{AllocError, Global};
+use clap::{ArgMatches, Error};
+use std::alloc::Global;
 
-fn file_arg<'a>(alloc: Global) -> Arg<'a>
-    ensures rule { rule_of result ≡ file_rule }
-    ensures local { result.global ≡ false }
+// The number of maps that a text spells.
+fn maps_in(text: &str) -> Option<u64>
+    ensures { MatchOption result ((maps : ℕ) → ¬ SpellsMaps text.now maps) (SpellsMaps text.now) }
 {
-    Arg::new(alloc, "file")
-        .value_name("FILE")
-        .help("The check file: a surplus, its items and their certificate")
-        .required(true)
+    match text.parse::<u64>() {
+        Ok(maps @ 1..=MOST_MAPS) => Some(maps),
+        _ => None,
+    }
 }
 
-fn config_arg<'a>(alloc: Global) -> Arg<'a>
-    ensures rule { rule_of result ≡ config_rule }
-    ensures local { result.global ≡ false }
+// The number of maps of a run.
+fn maps_of(found: &ArgMatches<'_>) -> Option<u64>
+    ensures some { IfSome result (HasMaps (rows_of (found_of found.now))) }
+    ensures none { IsNone result → (maps : ℕ) → ¬ HasMaps (rows_of (found_of found.now)) maps }
 {
-    Arg::new(alloc, "config")
-        .long("config")
-        .value_name("FILE")
-        .help("The settings of the ports and their Alloc-IDs, in TOML")
+    let text = found.get_str("maps")?;
+    maps_in(text)
 }
 
-// The program's command, with its subcommands.
-fn command<'a>(alloc: Global) -> Result<Command<'a>, AllocError>
-    ensures { IfOk result (λ c. app_of c ≡ olt_app) }
+// The run that the matches of its subcommand name.
+fn run_of<'a>(found: &ArgMatches<'a>) -> Option<Job<'a>>
+    ensures some { IfSome result (IsJob (Some (codes "run", rows_of (found_of found.now)))) }
+    ensures none { IsNone result → NamesNoJob (Some (codes "run", rows_of (found_of found.now))) }
 {
-    let plan = Command::new(alloc, "plan")
-        .about("Answer management lines from standard input")
-        .arg(config_arg(alloc))?;
-    let check = Command::new(alloc, "check")
-        .about("Judge the certificate of a shared surplus")
-        .arg(file_arg(alloc))?;
-    Command::new(alloc, "olt")
-        .bin_name("olt")?
-        .version("0.1.0")
-        .about("Upstream bandwidth scheduler of an XG-PON optical line terminal")
-        .subcommand_required(true)
-        .arg_required_else_help(true)
-        .subcommand(plan)?
-        .subcommand(check)
+    let config = found.get_str("config")?;
+    let listen = found.get_str("listen")?;
+    let maps = maps_of(found)?;
+    let operate = found.get_str("operate");
+    Some(Job::Run {
+        config,
+        listen,
+        maps,
+        operate,
+    })
 }
 
 // The job that the subcommand of the matches names.
@@ -65,18 +61,22 @@ fn job_of<'a>(matches: &ArgMatches<'a>) -> Option<Job<'a>>
         let file = found.get_str("file")?;
         return Some(Job::Check { file });
     }
+    if name == "run" {
+        return run_of(found);
+    }
     None
 }
 
-/// Reads the words of the command line, the program's name first, and returns the job that their subcommand names.
+/// Reads the words of the command line, the program's name first, and returns the job that their subcommand names, with the
+/// values of its arguments.
 ///
-/// The error is clap's: the first fault of the words, the help or the version that they ask for, or out of memory. A
-/// subcommand that names no job is `InvalidSubcommand`.
+/// The error is clap's: the first fault of the words, the help or the version that they ask for, or out of memory. Words in
+/// which clap finds no fault, but whose subcommand names no job, are `InvalidSubcommand`.
 pub fn job<'a>(alloc: Global, words: &'a [String]) -> Result<Job<'a>, Error>
-    ensures job { IfOk result (λ job. IsJob (subcommand_of olt_app (map string_bytes words.now)) job) }
+    ensures job { IfOk result (IsJob (subcommand_of olt_app (map string_bytes words.now))) }
     ensures refused { IfErr result (RefusesWords (map string_bytes words.now)) }
 {
-    let mut command = command(alloc)?;
+    let mut command = olt_command(alloc)?;
     let matches = command.try_get_matches_from_mut(words)?;
     if let Some(job) = job_of(&matches) {
         return Ok(job);

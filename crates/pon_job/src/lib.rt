@@ -5,9 +5,12 @@
 #![tactic(auto)]
 
 mod arguments;
+mod commands;
 mod outcome;
 mod task;
 
 pub use arguments::job;
-pub use outcome::{Outcome, exit_status, outcome_of_check, outcome_of_run, outcome_of_words};
-pub use task::Job;
+pub use outcome::{
+    Outcome, exit_status, outcome_of_check, outcome_of_ports, outcome_of_run, outcome_of_words,
+};
+pub use task::{Job, MOST_MAPS};

@@ -2,7 +2,7 @@
 
 ghost use Rattle.std.specs.Prelude.{◌≡◌};
 ghost use Rattle.clap.specs.Values.{kind_of};
-ghost use Rattle.pon_job.specs.Outcomes.{exit_status, outcome_of_check, outcome_of_run, outcome_of_words};
+ghost use Rattle.pon_job.specs.Outcomes.{exit_status, outcome_of_check, outcome_of_ports, outcome_of_run, outcome_of_words};
 
 use clap::Error;
 use clap::error::ErrorKind;
@@ -21,10 +21,12 @@ pub enum Outcome {
     Settings,
     /// A device failed, or memory was refused.
     Failed(PlanFault),
+    /// A port was not served to its last map.
+    Unfinished,
 }
 
 /// The exit status of an outcome: 0 if the job is done, 1 for a refusal by a check or an audit, 2 for a command line or
-/// settings that are refused, 3 for a failed device or refused memory.
+/// settings that are refused, 3 for a failed device, refused memory, or a port that was not served to its last map.
 pub fn exit_status(outcome: Outcome) -> u8
     ensures { result ≡ exit_status outcome }
 {
@@ -33,6 +35,7 @@ pub fn exit_status(outcome: Outcome) -> u8
         Outcome::Refused => 1,
         Outcome::CommandLine | Outcome::Settings => 2,
         Outcome::Failed(_) => 3,
+        Outcome::Unfinished => 3,
     }
 }
 
@@ -52,6 +55,16 @@ pub fn outcome_of_check(verdict: Result<bool, PlanFault>) -> Outcome
 {
     match verdict {
         Ok(false) => Outcome::Refused,
+        ended => outcome_of_run(ended),
+    }
+}
+
+/// The outcome of a run at ports, where `true` says that each was served to its last map.
+pub fn outcome_of_ports(ended: Result<bool, PlanFault>) -> Outcome
+    ensures { result ≡ outcome_of_ports ended }
+{
+    match ended {
+        Ok(false) => Outcome::Unfinished,
         ended => outcome_of_run(ended),
     }
 }

@@ -1,0 +1,28 @@
+use Rattle.std.proofs.Common.{◌∙◌, refl, sym, codes}
+use Rattle.clap.specs.Matches.{found_of}
+use Rattle.clap.specs.Walk.{rows_of}
+use Rattle.clap.proofs.WalkLemmas.{first_value-rows}
+use Rattle.pon_job.proofs.Runs.{without_address, without_settings}
+use Rattle.pon_job.proofs.arguments.run_of.Goals as goal
+
+pub returns-in_err-config-clause-none : goal.returns-in_err-config-clause-none
+returns-in_err-config-clause-none c =
+    let none = without_settings (rows_of (found_of c.args.found.now)) (c.in_err-config.ensures ∙ first_value-rows (found_of c.args.found.now) (codes "config")) in
+    λ _. none
+
+pub returns-in_err-listen-clause-none : goal.returns-in_err-listen-clause-none
+returns-in_err-listen-clause-none c =
+    let none = without_address (rows_of (found_of c.args.found.now)) (c.in_err-listen.ensures ∙ first_value-rows (found_of c.args.found.now) (codes "listen")) in
+    λ _. none
+
+pub returns-clause-some : goal.returns-clause-some
+returns-clause-some c =
+    let f = found_of c.args.found.now in (
+      refl,
+      record {
+        settings = sym (c.in_ok-config.ensures ∙ first_value-rows f (codes "config"));
+        address = sym (c.in_ok-listen.ensures ∙ first_value-rows f (codes "listen"));
+        number = c.in_ok-maps.ensures.some;
+        operator = sym (c.get_str-operate.ensures ∙ first_value-rows f (codes "operate"));
+      },
+    )

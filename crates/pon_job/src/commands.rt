@@ -1,0 +1,113 @@
+//! The command line that the program has.
+
+ghost use Rattle.std.specs.Prelude.{◌≡◌, IfOk, false};
+ghost use Rattle.clap.specs.declared.builder.command.Command.TheViews.{out-Command};
+ghost use Rattle.clap.specs.Walk.{rule_of};
+ghost use Rattle.clap.specs.Simple.{app_of, shape_of};
+ghost use Rattle.pon_job.specs.Jobs.{check_shape, config_rule, file_rule, listen_rule, maps_rule, olt_app, operate_rule, plan_shape, run_shape};
+
+use crate::task::MOST_MAPS;
+use clap::builder::ValueParser;
+use clap::{Arg, Command};
+use std::alloc::{AllocError, Global};
+
+fn file_arg<'a>(alloc: Global) -> Arg<'a>
+    ensures rule { rule_of result ≡ file_rule }
+    ensures local { result.global ≡ false }
+{
+    Arg::new(alloc, "file")
+        .value_name("FILE")
+        .help("The check file: a surplus, its items and their certificate")
+        .required(true)
+}
+
+fn config_arg<'a>(alloc: Global) -> Arg<'a>
+    ensures rule { rule_of result ≡ config_rule }
+    ensures local { result.global ≡ false }
+{
+    Arg::new(alloc, "config")
+        .long("config")
+        .value_name("FILE")
+        .help("The settings of the ports and their Alloc-IDs, in TOML")
+}
+
+fn listen_arg<'a>(alloc: Global) -> Arg<'a>
+    ensures rule { rule_of result ≡ listen_rule }
+    ensures local { result.global ≡ false }
+{
+    Arg::new(alloc, "listen")
+        .long("listen")
+        .value_name("ADDRESS")
+        .help("The socket address that the ports listen on, such as 127.0.0.1:0")
+        .required(true)
+}
+
+fn maps_arg<'a>(alloc: Global) -> Arg<'a>
+    ensures rule { rule_of result ≡ maps_rule }
+    ensures local { result.global ≡ false }
+{
+    Arg::new(alloc, "maps")
+        .long("maps")
+        .value_name("NUMBER")
+        .help("The number of maps that each port makes, 1 to 1000000000")
+        .value_parser(ValueParser::unsigned(1, MOST_MAPS))
+        .required(true)
+}
+
+fn operate_arg<'a>(alloc: Global) -> Arg<'a>
+    ensures rule { rule_of result ≡ operate_rule }
+    ensures local { result.global ≡ false }
+{
+    Arg::new(alloc, "operate")
+        .long("operate")
+        .value_name("FILE")
+        .help("The management lines of an operator")
+}
+
+fn plan_command<'a>(alloc: Global) -> Result<Command<'a>, AllocError>
+    ensures shape { IfOk result (λ c. shape_of c ≡ plan_shape) }
+    ensures local { IfOk result (λ c. (out-Command c).has_globals ≡ false) }
+{
+    Command::new(alloc, "plan")
+        .about("Answer management lines from standard input")
+        .arg(config_arg(alloc))
+}
+
+fn check_command<'a>(alloc: Global) -> Result<Command<'a>, AllocError>
+    ensures shape { IfOk result (λ c. shape_of c ≡ check_shape) }
+    ensures local { IfOk result (λ c. (out-Command c).has_globals ≡ false) }
+{
+    Command::new(alloc, "check")
+        .about("Judge the certificate of a shared surplus")
+        .arg(file_arg(alloc))
+}
+
+fn run_command<'a>(alloc: Global) -> Result<Command<'a>, AllocError>
+    ensures shape { IfOk result (λ c. shape_of c ≡ run_shape) }
+    ensures local { IfOk result (λ c. (out-Command c).has_globals ≡ false) }
+{
+    Command::new(alloc, "run")
+        .about("Make maps at each port, over sockets")
+        .arg(config_arg(alloc).required(true))?
+        .arg(listen_arg(alloc))?
+        .arg(maps_arg(alloc))?
+        .arg(operate_arg(alloc))
+}
+
+/// The program's command, with its subcommands.
+pub(crate) fn olt_command<'a>(alloc: Global) -> Result<Command<'a>, AllocError>
+    ensures { IfOk result (λ c. app_of c ≡ olt_app) }
+{
+    let plan = plan_command(alloc)?;
+    let check = check_command(alloc)?;
+    let run = run_command(alloc)?;
+    Command::new(alloc, "olt")
+        .bin_name("olt")?
+        .version("0.1.0")
+        .about("Upstream bandwidth scheduler of an XG-PON optical line terminal")
+        .subcommand_required(true)
+        .arg_required_else_help(true)
+        .subcommand(plan)?
+        .subcommand(check)?
+        .subcommand(run)
+}
