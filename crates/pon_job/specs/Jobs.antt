@@ -51,11 +51,18 @@ run_shape = record (new_shape (codes "run")) {
 }
 
 abbrev pub top_shape : Shape
-top_shape = record (new_shape (codes "olt")) { has_version = true; subcommand_required = true; arg_required_else_help = true }
+top_shape = record (new_shape (codes "olt")) {
+  has_version = true;
+  subcommand_required = true;
+  arg_required_else_help = true;
+}
+
+abbrev pub top_app : App
+top_app = record { top = top_shape; subs = [] }
 
 -- the command line that the program has
 abbrev pub olt_app : App
-olt_app = with_subcommand (with_subcommand (with_subcommand (record { top = top_shape; subs = [] }) plan_shape) check_shape) run_shape
+olt_app = with_subcommand (with_subcommand (with_subcommand top_app plan_shape) check_shape) run_shape
 
 -- the word of a job's subcommand
 abbrev pub word_of : Job → List ℕ
@@ -83,7 +90,8 @@ pub record IsRun (rows : List Row) (config listen : List ℕ) (maps : ℕ) (oper
 abbrev pub HasValues : List Row → Job → Type 0
 HasValues rows (Plan config) = first_of (codes "config") rows ≡ option_map (λ name. name.now) config
 HasValues rows (Check file) = first_of (codes "file") rows ≡ Some file.now
-HasValues rows (Run config listen maps operate) = IsRun rows config.now listen.now maps (option_map (λ name. name.now) operate)
+HasValues rows (Run config listen maps operate) =
+    IsRun rows config.now listen.now maps (option_map (λ name. name.now) operate)
 
 -- the job is the one that the subcommand names, with the values of its arguments
 abbrev pub IsJob : Option (List ℕ × List Row) → Job → Type 0

@@ -1,6 +1,6 @@
 //! The words of the command line.
 
-ghost use Rattle.std.specs.Prelude.{◌≡◌, ◌∷◌, List, [], IfErr, IfOk, IfSome, IsNone, MatchOption, ℕ, Some, codes, map, string_bytes};
+ghost use Rattle.std.specs.Prelude.{ℕ, IfErr, IfOk, IfSome, IsNone, MatchOption, codes, map, string_bytes};
 ghost use Rattle.clap.specs.Words.{found_of, rows_of, subcommand_rows_of};
 ghost use Rattle.clap.specs.Simple.{subcommand_of};
 ghost use Rattle.pon_job.specs.Jobs.{HasMaps, IsJob, NamesNoJob, RefusesWords, SpellsMaps, olt_app};

@@ -4,7 +4,8 @@ ghost use Rattle.std.specs.Prelude.{◌≡◌, IfOk, false};
 ghost use Rattle.clap.specs.declared.builder.command.Command.TheViews.{out-Command};
 ghost use Rattle.clap.specs.Walk.{rule_of};
 ghost use Rattle.clap.specs.Simple.{app_of, shape_of};
-ghost use Rattle.pon_job.specs.Jobs.{check_shape, config_rule, file_rule, listen_rule, maps_rule, olt_app, operate_rule, plan_shape, run_shape};
+ghost use Rattle.pon_job.specs.Jobs.{config_rule, file_rule, listen_rule, maps_rule, operate_rule};
+ghost use Rattle.pon_job.specs.Jobs.{check_shape, olt_app, plan_shape, run_shape};
 
 use crate::task::MOST_MAPS;
 use clap::builder::ValueParser;
