@@ -34,7 +34,7 @@ maps_rule = record (new_rule (codes "maps")) {
   required = true;
 }
 
--- the management lines of an operator, which `run` may have
+-- the file of management lines for an operator, which `run` may have
 abbrev pub operate_rule : Rule
 operate_rule = record (new_rule (codes "operate")) { long = Some (codes "operate"); value_names = 1 }
 
@@ -102,12 +102,12 @@ IsJob (Some met) job = (met.0 ≡ word_of job) × HasValues met.1 job
 abbrev pub NamesNoJob : Option (List ℕ × List Row) → Type 0
 NamesNoJob met = (job : Job) → ¬ IsJob met job
 
--- clap finds no fault in the words, but their subcommand names no job
-pub record NameNoJob (words : List (List ℕ)) (e : Error) : Type 0 where
+-- the error of words in which clap finds no fault, but whose subcommand names no job
+pub record IsNoSuchJob (words : List (List ℕ)) (e : Error) : Type 0 where
   pub kind : kind_of e ≡ InvalidSubcommand
   pub no_fault : fault_of olt_app words ≡ []
   pub no_job : NamesNoJob (subcommand_of olt_app words)
 
 -- why words give no job: a fault that clap finds in them, refused memory, or a subcommand that names no job
 abbrev pub RefusesWords : List (List ℕ) → Error → Type 0
-RefusesWords words e = HasKind (fault_of olt_app words) e ⊎ NameNoJob words e
+RefusesWords words e = HasKind (fault_of olt_app words) e ⊎ IsNoSuchJob words e

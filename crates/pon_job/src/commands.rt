@@ -62,7 +62,7 @@ fn operate_arg<'a>(alloc: Global) -> Arg<'a>
     Arg::new(alloc, "operate")
         .long("operate")
         .value_name("FILE")
-        .help("The management lines of an operator")
+        .help("Management lines for an operator")
 }
 
 fn plan_command<'a>(alloc: Global) -> Result<Command<'a>, AllocError>
