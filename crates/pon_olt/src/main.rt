@@ -1,7 +1,7 @@
 //! `olt`: the upstream bandwidth scheduler of an XG-PON optical line terminal, as a program.
 //!
 //! Management lines come in, and the reply or the refusal of each goes out ([`plan`]); a check file is judged
-//! ([`check_file`]). The program adds the standard streams, the files, the settings and the exit status.
+//! ([`check_file`]); ports are run over sockets ([`run_ports`]). The program adds the standard streams, the files, the settings and the exit status.
 #![tactic(auto)]
 
 ghost use Rattle.std.specs.Prelude.{length};
@@ -9,7 +9,7 @@ ghost use Rattle.pon_plant.specs.Plants.{IsPlantSize};
 
 mod opening;
 
-use crate::opening::{NotOpened, Opening, with_settings, without_settings};
+use crate::opening::{NotOpened, Opening, settings_of, with_settings, without_settings};
 use clap::Error;
 pub use pon_check_file::check_file;
 use pon_device::{StdRead, StdWrite};
@@ -17,6 +17,9 @@ pub use pon_job::job;
 use pon_job::{Job, Outcome, exit_status, outcome_of_check, outcome_of_run, outcome_of_words};
 use pon_manage::PlanEnd;
 pub use pon_manage::{PlanFault, plan};
+pub use pon_run::run_ports;
+use pon_run::RunArgs;
+use pon_worker::OpenGate;
 use std::alloc::Global;
 use std::fs;
 use std::io::{self, BufReader};
@@ -40,6 +43,17 @@ fn plan_lines<R: Input + Print>(
     plan(rt, alloc, ports.as_slice(), steps, &mut reader, &mut writer)
 }
 
+// Says why settings are refused.
+fn outcome_of_opening(rt: &HostRuntime, why: NotOpened) -> Outcome {
+    match why {
+        NotOpened::Failed(fault) => Outcome::Failed(fault),
+        NotOpened::Refused(line) => {
+            let _ = eprintln!(rt; "olt: settings refused\n{line}");
+            Outcome::Settings
+        }
+    }
+}
+
 // Answers the lines of standard input at the ports of the settings file, or at one port without settings.
 fn run_plan(rt: &HostRuntime, config: Option<&str>) -> Outcome {
     let opening = match config {
@@ -48,11 +62,18 @@ fn run_plan(rt: &HostRuntime, config: Option<&str>) -> Outcome {
     };
     match opening {
         Ok(opening) => outcome_of_run(plan_lines(rt, rt.alloc(), opening)),
-        Err(NotOpened::Failed(fault)) => Outcome::Failed(fault),
-        Err(NotOpened::Refused(line)) => {
-            let _ = eprintln!(rt; "olt: settings refused\n{line}");
-            Outcome::Settings
+        Err(why) => outcome_of_opening(rt, why),
+    }
+}
+
+// Runs the ports of the settings file over sockets. The answer is the exit status.
+fn run_settings(rt: &HostRuntime, config: &str, args: RunArgs<'_>) -> u8 {
+    match settings_of(rt, rt.alloc(), config) {
+        Ok(settings) => {
+            let mut writer = StdWrite::new(io::writer(rt));
+            run_ports(rt, rt.alloc(), settings, args, &OpenGate, &mut writer)
         }
+        Err(why) => told(rt, outcome_of_opening(rt, why)),
     }
 }
 
@@ -81,12 +102,12 @@ fn show(rt: &HostRuntime, error: &Error) -> Outcome {
     }
 }
 
-fn run(rt: &HostRuntime, words: &[String]) -> Outcome {
-    match job(rt.alloc(), words) {
-        Ok(Job::Plan { config }) => run_plan(rt, config),
-        Ok(Job::Check { file }) => outcome_of_check(judge_file(rt, rt.alloc(), file)),
-        Err(error) => show(rt, &error),
+// Says of a failed device or refused memory that it was met. The answer is the exit status.
+fn told(rt: &impl Eprint, outcome: Outcome) -> u8 {
+    if let Outcome::Failed(fault) = outcome {
+        let _ = eprintln!(rt; "olt: {fault}");
     }
+    exit_status(outcome)
 }
 
 // The outcome where the words cannot be read: a word is not UTF-8, or memory was refused.
@@ -98,20 +119,36 @@ fn without_words(rt: &impl Eprint, error: &io::Error) -> Outcome {
     Outcome::CommandLine
 }
 
-fn end(rt: &impl Eprint, outcome: Outcome) -> ExitCode {
-    if let Outcome::Failed(fault) = outcome {
-        let _ = eprintln!(rt; "olt: {fault}");
+// Does the job that the words name. The answer is the exit status.
+fn run(rt: &HostRuntime, words: &[String]) -> u8 {
+    match job(rt.alloc(), words) {
+        Ok(Job::Plan { config }) => told(rt, run_plan(rt, config)),
+        Ok(Job::Check { file }) => told(rt, outcome_of_check(judge_file(rt, rt.alloc(), file))),
+        Ok(Job::Run {
+            config,
+            listen,
+            maps,
+            operate,
+        }) => run_settings(
+            rt,
+            config,
+            RunArgs {
+                listen,
+                maps,
+                operate,
+            },
+        ),
+        Err(error) => told(rt, show(rt, &error)),
     }
-    ExitCode::from(exit_status(outcome))
 }
 
 fn main(rt: HostRuntime) -> ExitCode {
     let args = match std::env::args(&rt) {
         Ok(args) => args,
-        Err(error) => return end(&rt, without_words(&rt, &error)),
+        Err(error) => return ExitCode::from(told(&rt, without_words(&rt, &error))),
     };
     match args.collect::<Vec<String>>(rt.alloc()) {
-        Ok(words) => end(&rt, run(&rt, words.as_slice())),
-        Err(_) => end(&rt, Outcome::Failed(PlanFault::Memory)),
+        Ok(words) => ExitCode::from(run(&rt, words.as_slice())),
+        Err(_) => ExitCode::from(told(&rt, Outcome::Failed(PlanFault::Memory))),
     }
 }

@@ -2,7 +2,8 @@
 
 ghost use Rattle.std.specs.Prelude.{◌≡◌, ℕ, List, [], IfOk, length};
 ghost use Rattle.pon_plant.specs.Plants.{IsPlantSize};
-ghost use Rattle.pon_settings.specs.Ports.{IsOpening, openings, steps_from};
+ghost use Rattle.toml.specs.Parse.{parse_document};
+ghost use Rattle.pon_settings.specs.Ports.{IsOpening, Spells, openings, steps_from};
 
 use pon_manage::{PlanFault, Step};
 use pon_port::PortCfg;
@@ -122,6 +123,21 @@ fn text_of<R: Files>(rt: &R, alloc: Global, name: &str) -> Result<String, NotOpe
     }
 }
 
+/// The settings of the file of this name: those that its text spells.
+pub(crate) fn settings_of<R: Files>(
+    rt: &R,
+    alloc: Global,
+    name: &str,
+) -> Result<Settings, NotOpened>
+    ensures { IfOk result (λ s. (text : List ℕ) × Spells (parse_document text) s) }
+{
+    let text = text_of(rt, alloc, name)?;
+    match settings(alloc, text.as_str()) {
+        Ok(settings) => Ok(settings),
+        Err(fault) => Err(refusal(alloc, text.as_str(), fault)),
+    }
+}
+
 /// The ports and the steps of the settings file of this name: those that its text spells.
 pub(crate) fn with_settings<R: Files>(
     rt: &R,
@@ -132,9 +148,6 @@ pub(crate) fn with_settings<R: Files>(
     ensures spelled { IfOk result (λ opening. (text : List ℕ)
         × IsOpening text opening.ports.items opening.steps.items) }
 {
-    let text = text_of(rt, alloc, name)?;
-    match settings(alloc, text.as_str()) {
-        Ok(settings) => Ok(opening_of(alloc, &settings)?),
-        Err(fault) => Err(refusal(alloc, text.as_str(), fault)),
-    }
+    let settings = settings_of(rt, alloc, name)?;
+    Ok(opening_of(alloc, &settings)?)
 }

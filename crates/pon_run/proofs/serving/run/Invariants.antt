@@ -1,0 +1,8 @@
+use Rattle.pon_run.proofs.serving.run.Given as goal
+
+-- the two ledgers of the desk
+abbrev pub ghosts-run_at-L-Ledger : goal.ghosts-run_at-L-Ledger
+ghosts-run_at-L-Ledger g a = record { name = a.of_ports.name; parts = a.of_ports.parts }
+
+abbrev pub ghosts-run_at-M-Ledger : goal.ghosts-run_at-M-Ledger
+ghosts-run_at-M-Ledger g a = record { name = a.of_seats.name; parts = a.of_seats.parts }

@@ -1,0 +1,26 @@
+-- The lines that tell at the end of a run what each port did.
+use Rattle.std.specs.Prelude.{ℕ, suc, ◌≡◌, List, [], ◌∷◌, ◌++◌, codes, decimal, Option, Result, Ok, Err}
+use Rattle.pon_device.specs.Device.{Appends, Keeps}
+use Rattle.pon_stream.specs.Streams.{TellsLine}
+use Rattle.pon_stream.specs.declared.fault.PlanFault.{PlanFault}
+use Rattle.pon_stream.specs.declared.fault.PlanFault.TheVariants.{Read, Write, Memory}
+use Rattle.pon_run.specs.declared.end.PortEnd.{PortEnd}
+
+-- port P maps M entries E reports R dropped D, and a line feed
+abbrev pub line_of : ℕ → PortEnd → List ℕ
+line_of port end =
+    codes "port " ++ (decimal port ++ (codes " maps " ++ (decimal end.maps
+        ++ (codes " entries " ++ (decimal end.entries ++ (codes " reports " ++ (decimal end.reports
+        ++ (codes " dropped " ++ (decimal end.dropped ++ 10 ∷ [])))))))))
+
+-- a line for each port, of which the first has this number
+abbrev pub lines_from : ℕ → List PortEnd → List ℕ
+lines_from port [] = []
+lines_from port (end ∷ ends) = line_of port end ++ lines_from (suc port) ends
+
+-- the lines of all ports were written, or a beginning of them, or none for want of memory
+abbrev pub TellsEnds : List PortEnd → Option (List ℕ) → Option (List ℕ) → Result (Unit {0}) PlanFault → Type 0
+TellsEnds ends old new (Err Memory) = new ≡ old
+TellsEnds ends old new (Err Read) = TellsLine (lines_from 0 ends) old new (Err Read)
+TellsEnds ends old new (Err Write) = TellsLine (lines_from 0 ends) old new (Err Write)
+TellsEnds ends old new (Ok done) = TellsLine (lines_from 0 ends) old new (Ok done)

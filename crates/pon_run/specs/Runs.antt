@@ -1,0 +1,12 @@
+-- What a run says of itself: the text that it writes, and its exit status.
+use Rattle.std.specs.Prelude.{ℕ, ◌≡◌, List, length, Option, Result, Ok, Err, Bool, true, false}
+use Rattle.pon_device.specs.Device.{Appends}
+use Rattle.pon_stream.specs.declared.fault.PlanFault.{PlanFault}
+use Rattle.pon_run.specs.declared.end.PortEnd.{PortEnd}
+use Rattle.pon_run.specs.Ends.{lines_from}
+
+-- a line for each of so many ports was written, and nothing else
+pub record TellsPorts (ports : ℕ) (old new : Option (List ℕ)) : Type 0 where
+  pub ends : List PortEnd
+  pub one_each : length ends ≡ ports
+  pub lines : Appends old new (lines_from 0 ends)

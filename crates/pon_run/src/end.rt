@@ -1,0 +1,62 @@
+//! What is told of each port at the end of a run.
+
+ghost use Rattle.std.specs.Prelude.{◌≡◌, ◌≤◌, ◌++◌, [], IfOk, OnOk, string_bytes};
+ghost use Rattle.pon_stream.specs.Streams.{TellsWrite};
+ghost use Rattle.pon_run.specs.Ends.{TellsEnds, line_of, lines_from};
+
+use pon_device::DevWrite;
+use pon_stream::{PlanFault, write_text};
+use std::alloc::{AllocError, Global};
+
+/// What one port did in a run.
+#[derive(Clone, Copy, Debug, PartialEq, Eq)]
+pub(crate) struct PortEnd {
+    /// The number of maps that its worker had it make.
+    pub(crate) maps: u64,
+    /// The number of entries that it took.
+    pub(crate) entries: u64,
+    /// The number of reports of its units that it took.
+    pub(crate) reports: u64,
+    /// The number of its chapters that were dropped.
+    pub(crate) dropped: u64,
+}
+
+fn line_of(alloc: Global, port: usize, end: PortEnd) -> Result<String, AllocError>
+    ensures { IfOk result (λ text. string_bytes text ≡ line_of port end) }
+{
+    let PortEnd {
+        maps,
+        entries,
+        reports,
+        dropped,
+    } = end;
+    format!(in alloc; "port {port} maps {maps} entries {entries} reports {reports} dropped {dropped}\n")
+}
+
+fn lines_of(alloc: Global, ends: &[PortEnd]) -> Result<String, AllocError>
+    ensures { IfOk result (λ text. string_bytes text ≡ lines_from 0 ends.now) }
+{
+    let mut text = String::new(alloc);
+    for (port, end) in ends.iter().enumerate() {
+        let line = line_of(alloc, port, *end)?;
+        text.push_str(line.as_str())?;
+    }
+    Ok(text)
+}
+
+/// Writes the line of each port, in order, and flushes the writer.
+///
+/// `Memory` if memory is refused: nothing is written then. `Write` if the writer fails.
+pub(crate) fn write_ends<W: DevWrite>(
+    alloc: Global,
+    ends: &[PortEnd],
+    writer: &mut W,
+) -> Result<(), PlanFault>
+    ensures text { TellsEnds ends.now (W.contents writer.old) (W.contents writer.new) result }
+    ensures write { TellsWrite (W.failures writer.old) (W.failures writer.new) result }
+{
+    match lines_of(alloc, ends) {
+        Ok(text) => write_text(writer, text.as_bytes()),
+        Err(_) => Err(PlanFault::Memory),
+    }
+}

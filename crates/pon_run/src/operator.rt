@@ -1,0 +1,39 @@
+//! The operator of a run: management lines of a file, answered while the workers run.
+
+use pon_desk::{Desk, Seat};
+use pon_device::{DevWrite, StdRead};
+use pon_manage::operate;
+use pon_stream::PlanFault;
+use std::alloc::Global;
+use std::fs;
+use std::io::{BufReader, Read};
+use std::rt::Files;
+use std::sync::Wait;
+use std::sync::ledger::Ledger;
+
+/// Opens the file of the operator's lines. A file that cannot be opened cannot be read.
+pub(crate) fn open_lines<R: Files>(rt: &R, name: &str) -> Result<R::File, PlanFault> {
+    match fs::open(rt, name) {
+        Ok(file) => Ok(file),
+        Err(_) => Err(PlanFault::Read),
+    }
+}
+
+/// Answers the lines of the file, as [`operate`] does.
+pub(crate) fn answer_lines<L: Ledger, M: Ledger, F: Read + Drop, W: DevWrite, R: Wait>(
+    rt: &R,
+    alloc: Global,
+    desk: &Desk<L, M>,
+    seat: &mut Seat<L, M>,
+    file: F,
+    writer: &mut W,
+) -> Result<(), PlanFault> {
+    let Ok(input) = BufReader::new(alloc, file) else {
+        return Err(PlanFault::Memory);
+    };
+    let mut reader = StdRead::new(input);
+    match operate(rt, alloc, desk, seat, &mut reader, writer) {
+        Ok(_) => Ok(()),
+        Err(fault) => Err(fault),
+    }
+}

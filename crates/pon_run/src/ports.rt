@@ -1,0 +1,135 @@
+//! The ports of a run, at a desk: opened, filled from the settings, and closed.
+
+ghost use Rattle.std.specs.Prelude.{◌≡◌, ◌+◌, ◌≤◌, IfOk, IfSome, length};
+ghost use Rattle.std.specs.Vec.{vec_len};
+
+use crate::end::PortEnd;
+use crate::link::Link;
+use crate::running::Served;
+use crate::thread::Worked;
+use crate::units::units_of;
+use pon_desk::{CloseFault, Desk, Seat};
+use pon_port::Port;
+use pon_settings::Settings;
+use pon_units::PortNo;
+use pon_worker::{Why, WorkerEnd};
+use std::alloc::{AllocError, Global};
+use std::sync::Wait;
+use std::sync::ledger::Ledger;
+
+/// The seats beside those of the workers: one for the rows of the settings, and one for the operator.
+pub(crate) const OTHER_SEATS: usize = 2;
+
+/// Admits the rows of the settings, whose roster took each of them. `Err` only if memory is refused.
+pub(crate) fn admit_rows<L: Ledger, M: Ledger, R: Wait>(
+    rt: &R,
+    alloc: Global,
+    desk: &Desk<L, M>,
+    seat: &mut Seat<L, M>,
+    settings: &Settings,
+) -> Result<(), AllocError> {
+    for step in settings.steps(alloc)? {
+        if desk.post(rt, seat, step.port, step.event).is_err() {
+            return Err(AllocError);
+        }
+    }
+    Ok(())
+}
+
+/// What serves each port of the settings, in order. `Err` only if memory is refused.
+pub(crate) fn served_ports<L: Ledger, M: Ledger>(
+    alloc: Global,
+    settings: &Settings,
+    seats: Vec<Seat<L, M>>,
+    links: Vec<Link>,
+) -> Result<Vec<Served<L, M>>, AllocError> {
+    let mut all = Vec::with_capacity(alloc, links.len())?;
+    let pairs = seats.into_iter().zip(links);
+    for ((i, port), (seat, link)) in settings.ports().iter().enumerate().zip(pairs) {
+        let units = units_of(alloc, port.rows())?;
+        let port = PortNo::at(i);
+        all.push(Served {
+            port,
+            seat,
+            link,
+            units,
+        })?;
+    }
+    Ok(all)
+}
+
+// What a port did, by its worker's end.
+fn end_of(port: &Port, end: &WorkerEnd) -> PortEnd
+    ensures maps { result.maps ≡ end.now.maps }
+    ensures reports { result.reports ≡ end.now.reports }
+    ensures entries { result.entries
+        ≡ port.now.opening.taken_before + length port.now.entries }
+    ensures dropped { result.dropped ≡ 0 }
+{
+    PortEnd {
+        maps: end.maps,
+        entries: port.taken(),
+        reports: end.reports,
+        dropped: 0,
+    }
+}
+
+/// How the workers of a run ended.
+#[derive(Drop)]
+pub(crate) struct Ended<L: Ledger, M: Ledger> {
+    /// All seats of the desk.
+    pub(crate) seats: Vec<Seat<L, M>>,
+    /// How each worker ended.
+    pub(crate) ends: Vec<WorkerEnd>,
+    /// Whether each made all its turns.
+    pub(crate) finished: bool,
+}
+
+/// Parts what the threads of the workers gave, and puts their seats to the other ones. `Err` if memory was refused, here or in one of them.
+pub(crate) fn parted<L: Ledger, M: Ledger>(
+    alloc: Global,
+    mut seats: Vec<Seat<L, M>>,
+    all: Vec<Worked<L, M>>,
+) -> Result<Ended<L, M>, AllocError> {
+    let mut ends = Vec::with_capacity(alloc, all.len())?;
+    let mut finished = true;
+    for Worked { seat, end } in all {
+        let end = end?;
+        finished = finished && end.why == Why::Finished;
+        seats.push(seat)?;
+        ends.push(end)?;
+    }
+    Ok(Ended {
+        seats,
+        ends,
+        finished,
+    })
+}
+
+/// What each port did. `Err` only if memory is refused.
+pub(crate) fn ends_of(
+    alloc: Global,
+    ports: &[Port],
+    ends: &[WorkerEnd],
+) -> Result<Vec<PortEnd>, AllocError> {
+    ports
+        .iter()
+        .zip(ends)
+        .map(|(port, end)| end_of(port, end))
+        .collect(alloc)
+}
+
+/// Closes the desk of a run: its ports, and whether each took as many entries as the seats count at it. `None` if a seat is
+/// missing.
+pub(crate) fn close<L: Ledger, M: Ledger>(
+    desk: Desk<L, M>,
+    seats: Vec<Seat<L, M>>,
+) -> Option<(Vec<Port>, bool)>
+    ensures { IfSome result (λ closed. vec_len closed.0 ≡ desk.ports) }
+{
+    match desk.close(seats) {
+        Ok(closed) => Some((closed.into_ports(), true)),
+        Err(CloseFault::Uneven { ports, counts: _ }) => Some((ports, false)),
+        Err(CloseFault::Missing { .. }) => None,
+    }
+}

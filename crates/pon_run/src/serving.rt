@@ -1,0 +1,224 @@
+//! A run, from its settings to its last line.
+
+ghost use Rattle.std.specs.Prelude.{◌≡◌, ◌⊎◌, ◌+◌, ◌<◌, IfOk, IsNone, length, true};
+ghost use Rattle.pon_plant.specs.Plants.{IsPlantSize};
+ghost use Rattle.pon_run.specs.Runs.{TellsPorts};
+
+use crate::arguments::RunArgs;
+use crate::end::write_ends;
+use crate::link::{Link, open_links};
+use crate::operator::{answer_lines, open_lines};
+use crate::ports::{OTHER_SEATS, admit_rows, close, ends_of, parted, served_ports};
+use crate::running::serve_all;
+use crate::thread::Worked;
+use pon_desk::{Desk, Seat};
+use pon_device::DevWrite;
+use pon_job::{exit_status, outcome_of_ports};
+use pon_port::Port;
+use pon_settings::Settings;
+use pon_stream::PlanFault;
+use pon_worker::{Gate, WorkerEnd};
+use std::alloc::Global;
+use std::io::Read;
+use std::marker::Brand;
+use std::net::{Net, TcpListener, TcpStream};
+use std::rt::Files;
+use std::sync::Wait;
+use std::sync::ledger::{Blank, Ledger};
+use std::thread::Threads;
+
+// Serves the ports of a desk, while the operator's lines are answered. The workers, and how the operator ended.
+fn serve<L, M, G, F, W, R>(
+    rt: &R,
+    alloc: Global,
+    desk: &Desk<L, M>,
+    settings: &Settings,
+    seats: Vec<Seat<L, M>>,
+    operator: &mut Seat<L, M>,
+    links: Vec<Link>,
+    gate: &G,
+    maps: u64,
+    lines: Option<F>,
+    writer: &mut W,
+) -> Result<(Vec<Worked<L, M>>, Result<(), PlanFault>), PlanFault>
+where
+    L: Ledger + Send + Sync,
+    M: Ledger + Send + Sync,
+    G: Gate + Sync,
+    F: Read + Drop,
+    W: DevWrite,
+    R: Wait + Threads + Sync,
+    ensures quiet { IsNone lines → W.contents writer.new ≡ W.contents writer.old }
+    ensures failures { IsNone lines → W.failures writer.new ≡ W.failures writer.old }
+{
+    let Ok(all) = served_ports(alloc, settings, seats, links) else {
+        return Err(PlanFault::Memory);
+    };
+    match lines {
+        None => serve_all(rt, alloc, desk, all, gate, maps, || Ok(())),
+        Some(file) => serve_all(rt, alloc, desk, all, gate, maps, || {
+            answer_lines(rt, alloc, desk, operator, file, writer)
+        }),
+    }
+}
+
+// Writes what each port did. Whether these are all ports.
+fn tell_ports<W: DevWrite>(
+    alloc: Global,
+    ports: &[Port],
+    ends: &[WorkerEnd],
+    writer: &mut W,
+) -> Result<bool, PlanFault>
+    ensures { IfOk result (λ all. all ≡ true
+        → TellsPorts (length ports.now) (W.contents writer.old) (W.contents writer.new)) }
+{
+    let Ok(ends) = ends_of(alloc, ports, ends) else {
+        return Err(PlanFault::Memory);
+    };
+    write_ends(alloc, ends.as_slice(), writer)?;
+    Ok(ends.len() == ports.len())
+}
+
+// Closes the desk, and writes what each port did. Whether each worker made all its turns, and no post was lost.
+fn tell<L: Ledger, M: Ledger, W: DevWrite>(
+    alloc: Global,
+    desk: Desk<L, M>,
+    others: Vec<Seat<L, M>>,
+    all: Vec<Worked<L, M>>,
+    writer: &mut W,
+) -> Result<bool, PlanFault>
+    ensures { IfOk result (λ done. done ≡ true
+        → TellsPorts desk.ports (W.contents writer.old) (W.contents writer.new)) }
+{
+    let Ok(ended) = parted(alloc, others, all) else {
+        return Err(PlanFault::Memory);
+    };
+    let Some((ports, even)) = close(desk, ended.seats) else {
+        return Ok(false);
+    };
+    let all = tell_ports(alloc, ports.as_slice(), ended.ends.as_slice(), writer)?;
+    Ok(all && even && ended.finished)
+}
+
+// Opens a desk for the ports of the settings, serves them, and writes what each did. Whether each worker made all its turns, and no
+// post was lost.
+fn run_at<L, M, G, F, W, R>(
+    rt: &R,
+    alloc: Global,
+    of_ports: Blank,
+    of_seats: Blank,
+    settings: &Settings,
+    links: Vec<Link>,
+    gate: &G,
+    maps: u64,
+    lines: Option<F>,
+    writer: &mut W,
+) -> Result<bool, PlanFault>
+where
+    L: Ledger + Send + Sync,
+    M: Ledger + Send + Sync,
+    G: Gate + Sync,
+    F: Read + Drop,
+    W: DevWrite,
+    R: Wait + Threads + Sync,
+    requires ports { (of_ports.name ≡ L.name) × (of_ports.parts ≡ L.parts)
+        × (L.parts ≡ length settings.now) }
+    requires seats { (of_seats.name ≡ M.name) × (of_seats.parts ≡ M.parts)
+        × (M.parts ≡ length settings.now + OTHER_SEATS) }
+    ensures { IsNone lines → IfOk result (λ done. done ≡ true
+        → TellsPorts (length settings.now) (W.contents writer.old) (W.contents writer.new)) }
+{
+    let Ok(openings) = settings.openings(alloc) else {
+        return Err(PlanFault::Memory);
+    };
+    let seats = openings.len() + OTHER_SEATS;
+    let Ok((desk, mut seats)) =
+        Desk::<L, M>::open(alloc, of_ports, of_seats, openings.as_slice(), seats)
+    else {
+        return Err(PlanFault::Memory);
+    };
+    let (Some(mut operator), Some(mut first)) = (seats.pop(), seats.pop()) else {
+        unreachable!()
+    };
+    if admit_rows(rt, alloc, &desk, &mut first, settings).is_err() {
+        return Err(PlanFault::Memory);
+    }
+    let (all, operated) = serve(
+        rt, alloc, &desk, settings, seats, &mut operator, links, gate, maps, lines, writer,
+    )?;
+    let Ok(others) = Vec::from_array(alloc, [first, operator]) else {
+        return Err(PlanFault::Memory);
+    };
+    let done = tell(alloc, desk, others, all, writer)?;
+    operated?;
+    Ok(done)
+}
+
+// Opens the files and the sockets of a run, in this order, and runs it.
+fn run<G, W, R>(
+    rt: &R,
+    alloc: Global,
+    settings: &Settings,
+    args: RunArgs<'_>,
+    gate: &G,
+    writer: &mut W,
+) -> Result<bool, PlanFault>
+where
+    G: Gate + Sync,
+    W: DevWrite,
+    R: Net<Listener = TcpListener, Stream = TcpStream> + Files + Threads + Wait + Sync,
+    ensures { IsNone args.entry.operate → IfOk result (λ done. done ≡ true
+        → TellsPorts (length settings.now) (W.contents writer.old) (W.contents writer.new)) }
+{
+    let lines = match args.operate {
+        None => None,
+        Some(name) => Some(open_lines(rt, name)?),
+    };
+    let ports = settings.ports().len();
+    let links = open_links(rt, alloc, args.listen, ports)?;
+    run_at::<Brand, Brand, G, R::File, W, R>(
+        rt,
+        alloc,
+        Blank::new(ports as u64),
+        Blank::new((ports + OTHER_SEATS) as u64),
+        settings,
+        links,
+        gate,
+        args.maps,
+        lines,
+        writer,
+    )
+}
+
+/// Runs the ports of the settings: opens the operator's file and listens on the address, opens a connection for each port,
+/// admits the rows of the settings, and has each port make this many maps for its simulated units, which answer over the
+/// connection, while the operator's lines are answered. At the end a line about each port is written. The gate may hold workers
+/// back.
+///
+/// The answer is the exit status: 0 if each worker made all its turns and the operator's lines were all answered; else 3. Of a
+/// failed device or refused memory standard error is told: `olt: read failed` if the file or the address cannot be read,
+/// bound, connected to or accepted on, `olt: write failed`, or `olt: out of memory`, also for a thread that cannot be made. Of
+/// a worker that ended early nothing is told. All threads have ended when it returns.
+pub fn run_ports<G, W, R>(
+    rt: &R,
+    alloc: Global,
+    settings: Settings,
+    args: RunArgs<'_>,
+    gate: &G,
+    writer: &mut W,
+) -> u8
+where
+    G: Gate + Sync,
+    W: DevWrite,
+    R: Net<Listener = TcpListener, Stream = TcpStream> + Files + Threads + Wait + Eprint + Sync,
+    ensures status { (result ≡ 0) ⊎ (result ≡ 3) }
+    // Without an operator nothing but these lines is written.
+    ensures lines { IsNone args.entry.operate → result ≡ 0
+        → TellsPorts (length settings) (W.contents writer.old) (W.contents writer.new) }
+{
+    let ended = run(rt, alloc, &settings, args, gate, writer);
+    if let Err(fault) = ended {
+        let _ = eprintln!(rt; "olt: {fault}");
+    }
+    exit_status(outcome_of_ports(ended))
+}

@@ -1,0 +1,63 @@
+//! The simulated units of a port: one for each ONU of its rows.
+
+ghost use Rattle.std.specs.Prelude.{◌≡◌, IfOk, take};
+ghost use Rattle.std.specs.List.{list_any};
+ghost use Rattle.pon_run.specs.Units.{is_of, own_queues, units_of};
+
+use arrayvec::ArrayVec;
+use pon_link::Unit;
+use pon_settings::SettingsRow;
+use pon_units::{AllocId, LONGEST_SERIES, OnuId};
+use std::alloc::{AllocError, Global};
+
+// The words that wait for each Alloc-ID of an ONU, in the order of the rows.
+fn own_queues(
+    alloc: Global,
+    rows: &[SettingsRow],
+    onu: OnuId,
+) -> Result<Vec<(AllocId, u32)>, AllocError>
+    ensures { IfOk result (λ own. own.items ≡ own_queues rows.now onu) }
+{
+    rows.iter()
+        .filter(|settings_row| settings_row.row.onu == onu)
+        .map(|settings_row| (settings_row.row.alloc_id, settings_row.queue))
+        .collect(alloc)
+}
+
+// The first 16 of these.
+fn first_queues(own: &[(AllocId, u32)]) -> ArrayVec<(AllocId, u32), 16>
+    ensures { result.items ≡ take LONGEST_SERIES own.now }
+{
+    let mut queues = ArrayVec::new();
+    for queue in own {
+        if queues.is_full() {
+            return queues;
+        }
+        queues.push(*queue);
+    }
+    prove!(queues.len() == own.len());
+    queues
+}
+
+// Whether one of these rows is of the ONU.
+fn has_onu(rows: &[SettingsRow], onu: OnuId) -> bool
+    ensures { result ≡ list_any (is_of onu) rows.now }
+{
+    rows.iter().any(|settings_row| settings_row.row.onu == onu)
+}
+
+/// A unit for each ONU that has rows, in the order of the first row of each, whose queues are those of its rows. `Err` only
+/// if memory is refused.
+pub(crate) fn units_of(alloc: Global, rows: &[SettingsRow]) -> Result<Vec<Unit>, AllocError>
+    ensures { IfOk result (λ units. units.items ≡ units_of rows.now) }
+{
+    let mut units = Vec::new(alloc);
+    for (i, settings_row) in rows.iter().enumerate() {
+        let onu = settings_row.row.onu;
+        if !has_onu(&rows[..i], onu) {
+            let own = own_queues(alloc, rows, onu)?;
+            units.push(Unit::open(onu, first_queues(own.as_slice())))?;
+        }
+    }
+    Ok(units)
+}
