@@ -1,0 +1,104 @@
+-- Each format of a recording agrees in its two directions.
+use Rattle.std.proofs.Common.{◌≡◌, ℕ, ◌≤◌, Bool, true, false, cond, eqb, leb, ◌&&◌, List, ◌∷◌, ◌++◌, Option, Some, None, refl, sym, ap, ◌∙◌, arith}
+use Rattle.std.specs.Int.{w8, w16, w32, w64}
+use Rattle.std.proofs.lemmas.Bool.{eqb-true, and_parts}
+use Rattle.pon_descr.specs.declared.class.Class.{Class}
+use Rattle.pon_descr.specs.declared.class.Class.TheVariants.{Plain, NonAssured, BestEffort}
+use Rattle.pon_descr.specs.declared.refusal.Refusal.{Refusal}
+use Rattle.pon_descr.specs.Descriptor.{Descriptor, descriptor_refusal}
+use Rattle.pon_guar.specs.declared.account.Counted.{Counted}
+use Rattle.pon_record.specs.Format.{◌&◌, as_value, number, told_by}
+use Rattle.pon_record.specs.Fields
+use Rattle.pon_record.specs.Openings
+use Rattle.pon_record.specs.Events
+use Rattle.pon_record.proofs.Exact.{IsExact, IsOneCode, numbers, wide8, wide16, wide32, wide64, both, told, only_those, lists, some_is}
+
+-- ---- numbers
+
+pub n8 : IsExact (number w8)
+n8 = numbers w8 wide8
+
+pub n16 : IsExact (number w16)
+n16 = numbers w16 wide16
+
+pub n32 : IsExact (number w32)
+n32 = numbers w32 wide32
+
+pub n64 : IsExact (number w64)
+n64 = numbers w64 wide64
+
+-- ---- fields
+
+pub exact_onu : IsExact Fields.onu_id
+exact_onu = only_those (λ n. leb n 1022) (number w16) n16
+
+pub exact_alloc : IsExact Fields.alloc_id
+exact_alloc = only_those (λ n. leb 1024 n && leb n 16383) (number w16) n16
+
+pub exact_words : IsExact Fields.words
+exact_words = only_those (λ n. leb n 9720) (number w16) n16
+
+pub exact_cause : IsExact Fields.cause
+exact_cause = only_those (λ n. leb 1 n && leb n 9) (number w8) n8
+
+zero_or : (n : ℕ) (c : Option ℕ) (b z : Bool) → eqb n 0 ≡ z → cond z (Some None) (cond b (Some (Some n)) None) ≡ Some c → Fields.cause_code c ≡ n
+zero_or n c b true t e = ap Fields.cause_code (sym (some_is None c e)) ∙ sym (eqb-true n 0 t)
+zero_or n c true false t e = ap Fields.cause_code (sym (some_is (Some n) c e))
+zero_or n c false false t e = absurd cc
+
+pub exact_failure : IsExact Fields.failure
+exact_failure = told Fields.cause_meaning Fields.cause_code (number w8) n8 (λ n c fits e. zero_or n c (leb n 9) (eqb n 0) refl e)
+
+class_is : (n : ℕ) (c : Class) (x y z : Bool) → eqb n 0 ≡ x → eqb n 1 ≡ y → eqb n 2 ≡ z → cond x (Some Plain) (cond y (Some NonAssured) (cond z (Some BestEffort) None)) ≡ Some c → Fields.class_code c ≡ n
+class_is n c true y z a b d e = ap Fields.class_code (sym (some_is Plain c e)) ∙ sym (eqb-true n 0 a)
+class_is n c false true z a b d e = ap Fields.class_code (sym (some_is NonAssured c e)) ∙ sym (eqb-true n 1 b)
+class_is n c false false true a b d e = ap Fields.class_code (sym (some_is BestEffort c e)) ∙ sym (eqb-true n 2 d)
+class_is n c false false false a b d e = absurd cc
+
+pub exact_class : IsExact Fields.class
+exact_class = told Fields.class_meaning Fields.class_code (number w8) n8 (λ n c fits e. class_is n c (eqb n 0) (eqb n 1) (eqb n 2) refl refl refl e)
+
+kept : (r : Option Refusal) (d t : Descriptor) → Fields.unless_refused r d ≡ Some t → t ≡ d
+kept None d t e = sym (some_is d t e)
+kept (Some why) d t e = absurd cc
+
+pub exact_descriptor : IsExact Fields.descriptor
+exact_descriptor = told Fields.descriptor_meaning Fields.descriptor_code (Fields.rate & Fields.rate & Fields.rate & Fields.class)
+    (both _ _ n32 (both _ _ n32 (both _ _ n32 exact_class)))
+    (λ x d fits e. ap Fields.descriptor_code (kept _ _ d e))
+
+report_is : (n f w : ℕ) (c : Option Counted) (x y z : Bool) → eqb n 0 ≡ x → (eqb f 0 && eqb w 0) ≡ y → (eqb n 1 && leb w 16777215) ≡ z →
+    cond x (cond y (Some None) None) (cond z (Some (Some (record { frame = f; words = w }))) None) ≡ Some c → Fields.report_code c ≡ (n, (f, w))
+report_is n f w c true true z a b d e = ap Fields.report_code (sym (some_is None c e)) ∙ (λ i. (sym (eqb-true n 0 a) i, (sym (eqb-true f 0 (and_parts _ _ b).0) i, sym (eqb-true w 0 (and_parts _ _ b).1) i)))
+report_is n f w c true false z a b d e = absurd cc
+report_is n f w c false y true a b d e = ap Fields.report_code (sym (some_is (Some (record { frame = f; words = w })) c e)) ∙ (λ i. (sym (eqb-true n 1 (and_parts _ _ d).0) i, (f, w)))
+report_is n f w c false y false a b d e = absurd cc
+
+pub exact_report : IsExact Fields.report
+exact_report = told Fields.report_meaning Fields.report_code (number w8 & Fields.frame & number w32) (both _ _ n8 (both _ _ n64 n32))
+    (λ x c fits e. report_is x.0 x.1.0 x.1.1 c _ _ _ refl refl refl e)
+
+-- ---- openings
+
+abbrev somes : {A : Type 0} → A → Option A
+somes x = Some x
+
+pub exact_row : IsExact Openings.row
+exact_row = told (as_value Openings.row_of) Openings.row_parts _
+    (both _ _ exact_onu (both _ _ exact_alloc (both _ _ exact_descriptor (both _ _ n64 exact_report))))
+    (λ x r fits e. ap Openings.row_parts (sym (some_is (Openings.row_of x) r e)))
+
+pub exact_grant : IsExact Openings.grant
+exact_grant = told (as_value Openings.grant_of) Openings.grant_parts _
+    (both _ _ exact_onu (both _ _ exact_alloc exact_words))
+    (λ x r fits e. ap Openings.grant_parts (sym (some_is (Openings.grant_of x) r e)))
+
+pub exact_map : IsExact Openings.window_map
+exact_map = told (as_value Openings.map_of) Openings.map_parts _
+    (both _ _ n64 (both _ _ (lists _ 256 _ n16 exact_grant) (lists _ 255 _ n8 exact_onu)))
+    (λ x r fits e. ap Openings.map_parts (sym (some_is (Openings.map_of x) r e)))
+
+pub exact_opening : IsExact Openings.opening
+exact_opening = told (as_value Openings.opening_of) Openings.opening_parts _
+    (both _ _ (only_those _ _ n16) (both _ _ (only_those _ _ n8) (both _ _ exact_failure (both _ _ n64 (both _ _ n64 (both _ _ (lists _ 256 _ n16 exact_row) (lists _ 64 _ n8 exact_map)))))))
+    (λ x r fits e. ap Openings.opening_parts (sym (some_is (Openings.opening_of x) r e)))

@@ -1,0 +1,76 @@
+-- Chapters: the port, the number, the opening and the entries, each with its reply.
+use Rattle.std.specs.Prelude.{◌≡◌, ℕ, ◌+◌, nat_lt, ◌==◌, List, [], ◌∷◌, ◌++◌, length, Option, Some}
+use Rattle.std.specs.Int.{w8, w32, w64}
+use Rattle.pon_lists.specs.OptionSteps.{◌>>=◌}
+use Rattle.pon_units.specs.declared.limits.TheConstants.{MOST_PORTS}
+use Rattle.pon_event.specs.declared.event.Event.{Event}
+use Rattle.pon_event.specs.declared.event.Event.TheVariants.{MakeMap}
+use Rattle.pon_state.specs.declared.reply.Reply.{Reply}
+use Rattle.pon_state.specs.declared.reply.Reply.TheVariants.{Taken, Map}
+use Rattle.pon_state.specs.declared.reply.Entry.{Entry}
+use Rattle.pon_state.specs.declared.checks.TheConstants.{MOST_ENTRIES}
+use Rattle.pon_record.specs.declared.limits.TheConstants.{CHAPTER_TAG}
+use Rattle.pon_record.specs.Format.{Format, ◌&◌, as_value, constant, counted, followed, number, only, sized, told_by}
+use Rattle.pon_record.specs.Openings.{Opening, opening}
+use Rattle.pon_record.specs.Events.{event}
+use Rattle.pon_record.specs.MadeMaps.{made_map}
+
+-- the reply to MakeMap is a map
+abbrev pub MapFits : Reply → Type 0
+MapFits Taken = ⊥
+MapFits (Map m) = made_map.Fits m
+
+abbrev pub map_bytes : Reply → List ℕ
+map_bytes Taken = []
+map_bytes (Map m) = made_map.write m
+
+abbrev pub map_reply : Format Reply
+map_reply = record { Fits = MapFits; write = map_bytes; read = λ bytes. made_map.read bytes >>= λ m. Some (Map m.0, m.1) }
+
+-- the reply to any other event is not written
+abbrev pub reply_to : Event → Format Reply
+reply_to MakeMap = map_reply
+reply_to _ = constant Taken
+
+abbrev pub entry : Format Entry
+entry = told_by (as_value (λ x. record { event = x.0; reply = x.1 })) (λ e. (e.event, e.reply)) (followed event reply_to)
+
+abbrev pub port : Format ℕ
+port = only (λ n. nat_lt n MOST_PORTS) (number w8)
+
+-- a chapter of a port
+pub record Body : Type 0 where
+  pub port : ℕ
+  pub number : ℕ
+  pub opening : Opening
+  pub entries : List Entry
+
+abbrev pub body_parts : Body → ℕ × (ℕ × (Opening × List Entry))
+body_parts b = (b.port, (b.number, (b.opening, b.entries)))
+
+abbrev pub body_of : ℕ × (ℕ × (Opening × List Entry)) → Body
+body_of x = record { port = x.0; number = x.1.0; opening = x.1.1.0; entries = x.1.1.1 }
+
+abbrev pub body : Format Body
+body = told_by (as_value body_of) body_parts (port & number w64 & opening & counted (number w32) MOST_ENTRIES entry)
+
+-- the tag of a chapter, the number of the bytes of its body, and these
+abbrev pub tagged_body : Format (ℕ × Body)
+tagged_body = only (λ n. n == CHAPTER_TAG) (number w8) & sized w32 body
+
+abbrev pub chapter_bytes : Body → List ℕ
+chapter_bytes b = tagged_body.write (CHAPTER_TAG, b)
+
+-- what the format can hold
+abbrev pub FitsChapter : Body → Type 0
+FitsChapter b = tagged_body.Fits (CHAPTER_TAG, b)
+
+-- a chapter, and the place of its first byte in the recording
+pub record PlacedChapter : Type 0 where
+  pub at : ℕ
+  pub body : Body
+
+-- chapters that stand one after another from a place on
+abbrev pub placed : ℕ → List Body → List PlacedChapter
+placed at [] = []
+placed at (b ∷ bs) = record { at = at; body = b } ∷ placed (at + length (chapter_bytes b)) bs

@@ -1,0 +1,70 @@
+-- The state that a chapter opens with.
+use Rattle.std.specs.Prelude.{ℕ, List, Option}
+use Rattle.std.specs.Int.{w8, w16, w64}
+use Rattle.pon_descr.specs.Descriptor.{Descriptor}
+use Rattle.pon_units.specs.declared.granted.Granted.{Granted}
+use Rattle.pon_guar.specs.declared.account.Counted.{Counted}
+use Rattle.pon_window.specs.Window.{WindowMap}
+use Rattle.pon_window.specs.declared.window.TheConstants.{MOST_MAPS}
+use Rattle.pon_record.specs.declared.limits.TheConstants.{MOST_GRANTS, MOST_REPORTED, MOST_ROWS}
+use Rattle.pon_record.specs.declared.row.RawRow.{RawRow}
+use Rattle.pon_record.specs.Format.{Format, ◌&◌, as_value, counted, number, told_by}
+use Rattle.pon_record.specs.Fields.{alloc_id, descriptor, failure, frame, gap, onu_id, profile, report, words}
+
+-- a row: the ONU, the Alloc-ID, its descriptor, the frame since which its reports count, and the report that counts
+abbrev pub row_parts : RawRow → ℕ × (ℕ × (Descriptor × (ℕ × Option Counted)))
+row_parts r = (r.onu, (r.alloc_id, (r.descriptor, (r.since, r.counted))))
+
+abbrev pub row_of : ℕ × (ℕ × (Descriptor × (ℕ × Option Counted))) → RawRow
+row_of x = record { onu = x.0; alloc_id = x.1.0; descriptor = x.1.1.0; since = x.1.1.1.0; counted = x.1.1.1.1 }
+
+abbrev pub row : Format RawRow
+row = told_by (as_value row_of) row_parts (onu_id & alloc_id & descriptor & frame & report)
+
+-- a grant of a map of the window: the ONU, the Alloc-ID, its payload words
+abbrev pub grant_parts : Granted → ℕ × (ℕ × ℕ)
+grant_parts g = (g.onu, (g.alloc_id, g.words))
+
+abbrev pub grant_of : ℕ × (ℕ × ℕ) → Granted
+grant_of x = record { onu = x.0; alloc_id = x.1.0; words = x.1.1 }
+
+abbrev pub grant : Format Granted
+grant = told_by (as_value grant_of) grant_parts (onu_id & alloc_id & words)
+
+-- a map of the window: its frame, its grants, the ONUs that reported
+abbrev pub map_parts : WindowMap → ℕ × (List Granted × List ℕ)
+map_parts m = (m.frame, (m.grants, m.reported))
+
+abbrev pub map_of : ℕ × (List Granted × List ℕ) → WindowMap
+map_of x = record { frame = x.0; grants = x.1.0; reported = x.1.1 }
+
+abbrev pub window_map : Format WindowMap
+window_map = told_by (as_value map_of) map_parts (frame & counted (number w16) MOST_GRANTS grant & counted (number w8) MOST_REPORTED onu_id)
+
+-- the gap, the profile, the cause of a failure, the next frame, the entries taken before, the rows, and the window
+pub record Opening : Type 0 where
+  pub gap : ℕ
+  pub profile : ℕ
+  pub cause : Option ℕ
+  pub next : ℕ
+  pub taken_before : ℕ
+  pub rows : List RawRow
+  pub window : List WindowMap
+
+abbrev pub opening_parts : Opening → ℕ × (ℕ × (Option ℕ × (ℕ × (ℕ × (List RawRow × List WindowMap)))))
+opening_parts o = (o.gap, (o.profile, (o.cause, (o.next, (o.taken_before, (o.rows, o.window))))))
+
+abbrev pub opening_of : ℕ × (ℕ × (Option ℕ × (ℕ × (ℕ × (List RawRow × List WindowMap))))) → Opening
+opening_of x = record {
+  gap = x.0;
+  profile = x.1.0;
+  cause = x.1.1.0;
+  next = x.1.1.1.0;
+  taken_before = x.1.1.1.1.0;
+  rows = x.1.1.1.1.1.0;
+  window = x.1.1.1.1.1.1;
+}
+
+abbrev pub opening : Format Opening
+opening = told_by (as_value opening_of) opening_parts
+    (gap & profile & failure & frame & number w64 & counted (number w16) MOST_ROWS row & counted (number w8) MOST_MAPS window_map)

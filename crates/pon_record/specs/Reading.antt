@@ -1,0 +1,20 @@
+-- What a function that reads returns.
+use Rattle.std.specs.Prelude.{◌≡◌, Option, Some, None, Result, Ok, Err}
+use Rattle.pon_record.specs.declared.fault.Malformed.{Malformed}
+use Rattle.pon_record.specs.declared.fault.Stop.{Stop}
+use Rattle.pon_record.specs.declared.fault.Stop.TheVariants as stop
+
+-- the value that is read, seen by `view`, or the fact that there is none
+abbrev pub Reads : {X Y : Type 0} → (X → Y) → Result X Malformed → Option Y → Type 0
+Reads view (Ok x) read = read ≡ Some (view x)
+Reads view (Err e) read = read ≡ None
+
+-- there is no value, unless memory was refused
+abbrev pub StopsAt : {Y : Type 0} → Stop → Option Y → Type 0
+StopsAt stop.Malformed read = read ≡ None
+StopsAt stop.Memory read = Unit {0}
+
+-- as `Reads`, unless memory was refused
+abbrev pub Gives : {X Y : Type 0} → (X → Y) → Result X Stop → Option Y → Type 0
+Gives view (Ok x) read = read ≡ Some (view x)
+Gives view (Err e) read = StopsAt e read

@@ -1,0 +1,49 @@
+-- Recordings: eight magic bytes, then chapters one after another.
+use Rattle.std.specs.Prelude.{◌≡◌, ◌≢◌, ℕ, ◌+◌, ◌<◌, ◌≤◌, List, [], ◌∷◌, ◌++◌, ◌⊎◌, length, map, take}
+use Rattle.std.specs.List.{flat_map, AllByRecursion}
+use Rattle.std.specs.Int.{w32, from_be_bytes}
+use Rattle.pon_record.specs.declared.limits.TheConstants.{CHAPTER_TAG, MAGIC}
+use Rattle.pon_record.specs.declared.fault.ReadFault.{ReadFault}
+use Rattle.pon_record.specs.declared.fault.ReadFault.TheVariants.{BadFormat, Truncated, Memory}
+use Rattle.pon_record.specs.Chapters.{Body, FitsChapter, PlacedChapter, chapter_bytes, placed}
+
+-- the bytes of a recording of these chapters
+abbrev pub recording_bytes : List Body → List ℕ
+recording_bytes bodies = MAGIC ++ flat_map chapter_bytes bodies
+
+-- the bytes are the magic, these chapters at their places, and a rest
+pub record Holds (bytes : List ℕ) (chapters : List PlacedChapter) (rest : List ℕ) : Type 0 where
+  pub parts : bytes ≡ recording_bytes (map (λ c. c.body) chapters) ++ rest
+  pub fit : AllByRecursion FitsChapter (map (λ c. c.body) chapters)
+  pub places : chapters ≡ placed (length MAGIC) (map (λ c. c.body) chapters)
+
+abbrev pub IsRecording : List ℕ → List PlacedChapter → Type 0
+IsRecording bytes chapters = Holds bytes chapters []
+
+-- a chapter begins here and does not end inside the bytes, whatever its body
+abbrev pub IsCutShort : List ℕ → Type 0
+IsCutShort rest = (more : List ℕ) × (rest ≡ CHAPTER_TAG ∷ more) × (length more < 4 + from_be_bytes w32 (take 4 more))
+
+-- the bytes do not begin with a chapter of this format, and do not end inside one
+pub record IsNoChapter (rest : List ℕ) : Type 0 where
+  pub more : rest ≢ []
+  pub ends : IsCutShort rest → ⊥
+  pub other : (b : Body) (after : List ℕ) → FitsChapter b → rest ≡ chapter_bytes b ++ after → ⊥
+
+-- the bytes are fewer than the magic, or end inside the chapter that begins at a place, behind these whole ones
+abbrev pub IsTruncated : List ℕ → ℕ → List PlacedChapter → Type 0
+IsTruncated bytes at whole =
+    ((length bytes < length MAGIC) × (at ≡ 0) × (whole ≡ []))
+    ⊎ ((rest : List ℕ) × Holds bytes whole rest × IsCutShort rest × (at + length rest ≡ length bytes))
+
+-- the bytes begin with another magic, or no chapter begins at a place, behind whole ones
+abbrev pub IsBadFormat : List ℕ → ℕ → Type 0
+IsBadFormat bytes at =
+    ((length MAGIC ≤ length bytes) × (at ≡ 0) × (take (length MAGIC) bytes ≢ MAGIC))
+    ⊎ ((whole : List PlacedChapter) × (rest : List ℕ) × Holds bytes whole rest × IsNoChapter rest × (at + length rest ≡ length bytes))
+
+-- this is the first fault of the bytes; memory may be refused at any chapter before it
+abbrev pub IsReadFault : List ℕ → ReadFault → Type 0
+IsReadFault bytes (BadFormat at) = IsBadFormat bytes at
+IsReadFault bytes (Truncated at whole) = IsTruncated bytes at whole
+IsReadFault bytes Memory = (whole : List PlacedChapter) × (rest : List ℕ) × Holds bytes whole rest × (rest ≢ [])

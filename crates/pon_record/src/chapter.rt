@@ -1,0 +1,52 @@
+use crate::opening::Opening;
+use pon_state::Entry;
+use pon_units::PortNo;
+use std::marker::Model;
+
+/// A recorded chapter of a port: the place of its first byte in the recording, the port, the number of the chapter, the
+/// state that it opens with, and its entries.
+#[derive(Debug, Drop)]
+pub struct RawChapter {
+    pub at: usize,
+    pub port: PortNo,
+    pub number: u64,
+    pub opening: Opening,
+    pub entries: Vec<Entry>,
+}
+
+impl Model for RawChapter {
+    ghost use Rattle.pon_record.specs.Chapters.{PlacedChapter};
+
+    ghost Value = { PlacedChapter };
+
+    ghost view = { λ c. record {
+      at = c.at;
+      body = record { port = c.port; number = c.number; opening = c.opening; entries = c.entries.items };
+    } };
+}
+
+/// The chapters of a recording, in its order. Contracts see it as their list.
+#[derive(Debug, Drop)]
+pub struct Recording {
+    pub(crate) chapters: Vec<RawChapter>,
+}
+
+impl Model for Recording {
+    ghost use Rattle.std.specs.Prelude.{List};
+    ghost use Rattle.pon_record.specs.Chapters.{PlacedChapter};
+
+    ghost Value = { List PlacedChapter };
+
+    ghost view = { λ r. r.chapters.items };
+}
+
+impl Recording {
+    ghost use Rattle.std.specs.Prelude.{◌≡◌};
+
+    /// The chapters, in the order of the recording.
+    pub fn chapters(&self) -> &[RawChapter]
+        ensures { result.now ≡ self.now }
+    {
+        self.chapters.as_slice()
+    }
+}

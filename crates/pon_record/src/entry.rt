@@ -1,0 +1,33 @@
+//! The reading of an entry: an event and its reply.
+
+ghost use Rattle.std.specs.Prelude.{◌≡◌};
+ghost use Rattle.pon_record.specs.Reading.{Gives};
+ghost use Rattle.pon_record.specs.Chapters.{entry, reply_to};
+
+use crate::cursor::Cursor;
+use crate::events::read_event;
+use crate::fault::Stop;
+use crate::lists::Recorded;
+use pon_event::Event;
+use pon_state::{Entry, MadeMap, Reply};
+use std::alloc::Global;
+
+// The reply to an event.
+fn read_reply(alloc: Global, cursor: &mut Cursor<'_>, event: &Event) -> Result<Reply, Stop>
+    ensures { Gives (λ x. (x, cursor.new)) result ((reply_to event.now).read cursor.old) }
+{
+    match event {
+        Event::MakeMap => Ok(Reply::Map(MadeMap::read(alloc, cursor)?)),
+        _ => Ok(Reply::Taken),
+    }
+}
+
+impl Recorded for Entry {
+    ghost form = { entry };
+
+    fn read(alloc: Global, cursor: &mut Cursor<'_>) -> Result<Self, Stop> {
+        let event = read_event(cursor)?;
+        let reply = read_reply(alloc, cursor, &event)?;
+        Ok(Entry { event, reply })
+    }
+}

@@ -1,0 +1,65 @@
+//! The events of a chapter.
+
+ghost use Rattle.std.specs.Prelude.{◌≡◌, ◌≤◌};
+ghost use Rattle.pon_record.specs.Format.{read_times};
+ghost use Rattle.pon_record.specs.Reading.{Reads};
+ghost use Rattle.pon_record.specs.Events.{event, occupancies, occupancy};
+
+use crate::cursor::Cursor;
+use crate::fault::Malformed;
+use pon_dbru::Occupancies;
+use pon_event::Event;
+
+pub(crate) fn read_event(cursor: &mut Cursor<'_>) -> Result<Event, Malformed>
+    ensures { Reads (λ x. (x, cursor.new)) result (event.read cursor.old) }
+{
+    match cursor.u8()? {
+        1 => Ok(Event::Admit {
+            onu: cursor.onu()?,
+            alloc_id: cursor.alloc_id()?,
+            descriptor: cursor.descriptor()?,
+        }),
+        2 => Ok(Event::Change {
+            alloc_id: cursor.alloc_id()?,
+            descriptor: cursor.descriptor()?,
+        }),
+        3 => Ok(Event::Remove {
+            alloc_id: cursor.alloc_id()?,
+        }),
+        4 => Ok(Event::Report {
+            frame: cursor.frame()?,
+            onu: cursor.onu()?,
+            occ: read_occupancies(cursor)?,
+        }),
+        5 => Ok(Event::MakeMap),
+        6 => Ok(Event::Fail {
+            cause: cursor.cause()?,
+        }),
+        7 => Ok(Event::Restore),
+        _ => Err(Malformed),
+    }
+}
+
+// A count of 1 to 16, and as many occupancies.
+fn read_occupancies(cursor: &mut Cursor<'_>) -> Result<Occupancies, Malformed>
+    ensures { Reads (λ x. (x, cursor.new)) result (occupancies.read cursor.old) }
+{
+    let count = cursor.u8()?;
+    if count < 1 || count > 16 {
+        return Err(Malformed);
+    }
+    occupancies_in(cursor, count)
+}
+
+// So many occupancies.
+fn occupancies_in(cursor: &mut Cursor<'_>, count: u8) -> Result<Occupancies, Malformed>
+    requires { count ≤ 16 }
+    ensures { Reads (λ x. (x, cursor.new)) result (read_times occupancy count cursor.old) }
+{
+    let mut occupancies = Occupancies::new();
+    for _ in 0..count {
+        let occupancy = cursor.occupancy()?;
+        occupancies.push(occupancy);
+    }
+    Ok(occupancies)
+}

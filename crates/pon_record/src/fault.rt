@@ -1,0 +1,53 @@
+ghost use Rattle.std.specs.Prelude.{◌≡◌};
+ghost use Rattle.pon_record.specs.declared.fault.Stop.TheVariants.{Malformed, Memory};
+
+use crate::chapter::Recording;
+use std::alloc::{AllocError, AllocFailed};
+
+/// Why bytes are no recording. `at` is the place of the first byte of a chapter, from 0.
+#[derive(Debug, Drop)]
+pub enum ReadFault {
+    /// Other magic bytes (at 0), or in the chapter that begins at `at` another tag, a field out of its range, a refused
+    /// descriptor, or a body that does not end where its length says.
+    BadFormat { at: usize },
+    /// The bytes end inside the chapter that begins at `at`, or inside the magic bytes (at 0); the whole chapters before
+    /// it.
+    Truncated { at: usize, whole: Recording },
+    /// Memory was refused.
+    Memory,
+}
+
+/// The bytes begin with no value of the format that is read.
+#[derive(Clone, Copy, Debug, PartialEq, Eq)]
+pub(crate) struct Malformed;
+
+/// Why a value that takes memory was not read.
+#[derive(Clone, Copy, Debug, PartialEq, Eq)]
+pub(crate) enum Stop {
+    Malformed,
+    Memory,
+}
+
+impl From<Malformed> for Stop {
+    ghost from_gives = { λ _ e. e ≡ Malformed };
+
+    fn from(_e: Malformed) -> Stop {
+        Stop::Malformed
+    }
+}
+
+impl From<AllocError> for Stop {
+    ghost from_gives = { λ _ e. e ≡ Memory };
+
+    fn from(_e: AllocError) -> Stop {
+        Stop::Memory
+    }
+}
+
+impl<T: Drop> From<AllocFailed<T>> for Stop {
+    ghost from_gives = { λ _ e. e ≡ Memory };
+
+    fn from(_e: AllocFailed<T>) -> Stop {
+        Stop::Memory
+    }
+}

@@ -1,0 +1,24 @@
+//! Recordings of the ports of an XG-PON optical line terminal (upstream bandwidth assignment, ITU-T G.987.3): the chapters
+//! of their histories as bytes.
+//!
+//! The format is given once, in `specs/`: each value has one spelling, and [`read_recording`] accepts exactly those. The
+//! crate does not judge what a recording tells: whether its entries follow from its openings is for others.
+#![tactic(auto)]
+
+mod chapter;
+mod chapters;
+mod cursor;
+mod entry;
+mod events;
+mod fault;
+mod limits;
+mod lists;
+mod made;
+mod opening;
+mod openings;
+mod row;
+
+pub use chapter::{RawChapter, Recording};
+pub use fault::ReadFault;
+pub use opening::{Opening, RawMap};
+pub use row::RawRow;

@@ -1,0 +1,74 @@
+//! Lists of values of one format, whatever it is.
+
+ghost use Rattle.std.specs.Prelude.{◌≡◌};
+ghost use Rattle.std.specs.Int.{w8, w16, w32};
+ghost use Rattle.pon_record.specs.Format.{Format, counted, number, read_times};
+ghost use Rattle.pon_record.specs.Reading.{Gives};
+
+use crate::cursor::Cursor;
+use crate::fault::Stop;
+use std::alloc::Global;
+
+/// A value of a recording.
+pub(crate) trait Recorded: Drop + Sized {
+    /// Its format.
+    ghost form: { Format Self };
+
+    fn read(alloc: Global, cursor: &mut Cursor<'_>) -> Result<Self, Stop>
+        ensures { Gives (λ x. (x, cursor.new)) result (form.read cursor.old) };
+}
+
+/// `count` values, one after another.
+pub(crate) fn read_list<T: Recorded>(
+    alloc: Global,
+    cursor: &mut Cursor<'_>,
+    count: usize,
+) -> Result<Vec<T>, Stop>
+    ensures { Gives (λ x. (x.items, cursor.new)) result (read_times T.form count cursor.old) }
+{
+    let mut values = Vec::new(alloc);
+    for _ in 0..count {
+        let value = T::read(alloc, cursor)?;
+        values.push(value)?;
+    }
+    Ok(values)
+}
+
+/// A count in 1 byte, and as many values.
+pub(crate) fn read_few<T: Recorded>(
+    alloc: Global,
+    cursor: &mut Cursor<'_>,
+    most: u8,
+) -> Result<Vec<T>, Stop>
+    ensures { Gives (λ x. (x.items, cursor.new)) result
+        ((counted (number w8) most T.form).read cursor.old) }
+{
+    let count = cursor.count8(most)?;
+    read_list(alloc, cursor, count)
+}
+
+/// A count in 2 bytes, and as many values.
+pub(crate) fn read_some<T: Recorded>(
+    alloc: Global,
+    cursor: &mut Cursor<'_>,
+    most: u16,
+) -> Result<Vec<T>, Stop>
+    ensures { Gives (λ x. (x.items, cursor.new)) result
+        ((counted (number w16) most T.form).read cursor.old) }
+{
+    let count = cursor.count16(most)?;
+    read_list(alloc, cursor, count)
+}
+
+/// A count in 4 bytes, and as many values.
+pub(crate) fn read_many<T: Recorded>(
+    alloc: Global,
+    cursor: &mut Cursor<'_>,
+    most: u32,
+) -> Result<Vec<T>, Stop>
+    ensures { Gives (λ x. (x.items, cursor.new)) result
+        ((counted (number w32) most T.form).read cursor.old) }
+{
+    let count = cursor.count32(most)?;
+    read_list(alloc, cursor, count)
+}

@@ -1,0 +1,32 @@
+ghost use Rattle.std.specs.Prelude.{◌≡◌};
+ghost use Rattle.pon_record.specs.Reading.{Reads};
+ghost use Rattle.pon_record.specs.Openings.{row};
+
+use crate::cursor::Cursor;
+use crate::fault::Malformed;
+use pon_descr::Descriptor;
+use pon_guar::Counted;
+use pon_units::{AllocId, FrameNo, OnuId};
+
+/// A row of a recorded opening: an admitted Alloc-ID, the frame since which its reports count, and the report that
+/// counts, if any.
+#[derive(Clone, Copy, Debug, PartialEq, Eq)]
+pub struct RawRow {
+    pub onu: OnuId,
+    pub alloc_id: AllocId,
+    pub descriptor: Descriptor,
+    pub since: FrameNo,
+    pub counted: Option<Counted>,
+}
+
+pub(crate) fn read_row(cursor: &mut Cursor<'_>) -> Result<RawRow, Malformed>
+    ensures { Reads (λ x. (x, cursor.new)) result (row.read cursor.old) }
+{
+    Ok(RawRow {
+        onu: cursor.onu()?,
+        alloc_id: cursor.alloc_id()?,
+        descriptor: cursor.descriptor()?,
+        since: cursor.frame()?,
+        counted: cursor.report()?,
+    })
+}
