@@ -32,7 +32,7 @@ guarded : {A : Type 0} (b : Bool) (x y : A) → cond b None (Some x) ≡ Some y 
 guarded true x y e = absurd cc
 guarded false x y e = (refl, cc)
 
-passed : {A : Type 0} (b : Bool) (x y : A) → cond b (Some x) None ≡ Some y → (b ≡ true) × (x ≡ y)
+pub passed : {A : Type 0} (b : Bool) (x y : A) → cond b (Some x) None ≡ Some y → (b ≡ true) × (x ≡ y)
 passed true x y e = (refl, cc)
 passed false x y e = absurd cc
 

@@ -1,5 +1,10 @@
 pub mod Exact
 pub mod Exactness
+pub mod ChapterReading
 pub mod Loop
 pub mod MapRules
 pub mod ExactEvents
+pub mod ExactMaps
+pub mod ExactCertificates
+pub mod ExactChapters
+pub mod Reading

@@ -1,6 +1,6 @@
 -- Chapters: the port, the number, the opening and the entries, each with its reply.
-use Rattle.std.specs.Prelude.{◌≡◌, ℕ, ◌+◌, nat_lt, ◌==◌, List, [], ◌∷◌, ◌++◌, length, Option, Some}
-use Rattle.std.specs.Int.{w8, w32, w64}
+use Rattle.std.specs.Prelude.{◌≡◌, ℕ, ◌+◌, ◌<◌, nat_lt, ◌==◌, List, [], ◌∷◌, ◌++◌, drop, length, slice_index, take, Option, Some}
+use Rattle.std.specs.Int.{w8, w32, w64, from_be_bytes}
 use Rattle.pon_lists.specs.OptionSteps.{◌>>=◌}
 use Rattle.pon_units.specs.declared.limits.TheConstants.{MOST_PORTS}
 use Rattle.pon_event.specs.declared.event.Event.{Event}
@@ -9,7 +9,7 @@ use Rattle.pon_state.specs.declared.reply.Reply.{Reply}
 use Rattle.pon_state.specs.declared.reply.Reply.TheVariants.{Taken, Map}
 use Rattle.pon_state.specs.declared.reply.Entry.{Entry}
 use Rattle.pon_state.specs.declared.checks.TheConstants.{MOST_ENTRIES}
-use Rattle.pon_record.specs.declared.limits.TheConstants.{CHAPTER_TAG}
+use Rattle.pon_record.specs.declared.limits.TheConstants.{CHAPTER_TAG, HEAD_BYTES}
 use Rattle.pon_record.specs.Format.{Format, ◌&◌, as_value, constant, counted, followed, number, only, sized, told_by}
 use Rattle.pon_record.specs.Openings.{Opening, opening}
 use Rattle.pon_record.specs.Events.{event}
@@ -74,3 +74,13 @@ pub record PlacedChapter : Type 0 where
 abbrev pub placed : ℕ → List Body → List PlacedChapter
 placed at [] = []
 placed at (b ∷ bs) = record { at = at; body = b } ∷ placed (at + length (chapter_bytes b)) bs
+
+-- the number of the bytes of the body, as the 4 bytes behind the tag tell it
+abbrev pub body_size : List ℕ → ℕ
+body_size bytes = from_be_bytes w32 (take 4 (drop 1 bytes))
+
+-- a chapter begins here and does not end inside the bytes, whatever its body
+pub record IsCutShort (bytes : List ℕ) : Type 0 where
+  pub more : 0 < length bytes
+  pub tag : slice_index bytes 0 ≡ CHAPTER_TAG
+  pub ends : length bytes < HEAD_BYTES + body_size bytes

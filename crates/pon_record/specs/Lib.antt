@@ -5,4 +5,5 @@ pub mod Events
 pub mod MadeMaps
 pub mod Chapters
 pub mod Reading
+pub mod ChapterReading
 pub mod Recordings

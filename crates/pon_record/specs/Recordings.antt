@@ -1,11 +1,10 @@
 -- Recordings: eight magic bytes, then chapters one after another.
 use Rattle.std.specs.Prelude.{◌≡◌, ◌≢◌, ℕ, ◌+◌, ◌<◌, ◌≤◌, List, [], ◌∷◌, ◌++◌, ◌⊎◌, length, map, take}
 use Rattle.std.specs.List.{flat_map, AllByRecursion}
-use Rattle.std.specs.Int.{w32, from_be_bytes}
-use Rattle.pon_record.specs.declared.limits.TheConstants.{CHAPTER_TAG, MAGIC}
+use Rattle.pon_record.specs.declared.limits.TheConstants.{MAGIC}
 use Rattle.pon_record.specs.declared.fault.ReadFault.{ReadFault}
 use Rattle.pon_record.specs.declared.fault.ReadFault.TheVariants.{BadFormat, Truncated, Memory}
-use Rattle.pon_record.specs.Chapters.{Body, FitsChapter, PlacedChapter, chapter_bytes, placed}
+use Rattle.pon_record.specs.Chapters.{Body, FitsChapter, IsCutShort, PlacedChapter, chapter_bytes, placed}
 
 -- the bytes of a recording of these chapters
 abbrev pub recording_bytes : List Body → List ℕ
@@ -19,10 +18,6 @@ pub record Holds (bytes : List ℕ) (chapters : List PlacedChapter) (rest : List
 
 abbrev pub IsRecording : List ℕ → List PlacedChapter → Type 0
 IsRecording bytes chapters = Holds bytes chapters []
-
--- a chapter begins here and does not end inside the bytes, whatever its body
-abbrev pub IsCutShort : List ℕ → Type 0
-IsCutShort rest = (more : List ℕ) × (rest ≡ CHAPTER_TAG ∷ more) × (length more < 4 + from_be_bytes w32 (take 4 more))
 
 -- the bytes do not begin with a chapter of this format, and do not end inside one
 pub record IsNoChapter (rest : List ℕ) : Type 0 where

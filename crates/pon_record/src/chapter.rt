@@ -1,6 +1,7 @@
 use crate::opening::Opening;
 use pon_state::Entry;
 use pon_units::PortNo;
+use std::alloc::{AllocError, Global};
 use std::marker::Model;
 
 /// A recorded chapter of a port: the place of its first byte in the recording, the port, the number of the chapter, the
@@ -28,7 +29,7 @@ impl Model for RawChapter {
 /// The chapters of a recording, in its order. Contracts see it as their list.
 #[derive(Debug, Drop)]
 pub struct Recording {
-    pub(crate) chapters: Vec<RawChapter>,
+    chapters: Vec<RawChapter>,
 }
 
 impl Model for Recording {
@@ -41,7 +42,26 @@ impl Model for Recording {
 }
 
 impl Recording {
-    ghost use Rattle.std.specs.Prelude.{◌≡◌};
+    ghost use Rattle.std.specs.Prelude.{◌≡◌, ◌∷◌, ◌++◌, [], OnOk, OnErr};
+
+    // No chapters.
+    pub(crate) fn new(alloc: Global) -> Recording
+        ensures { result ≡ [] }
+    {
+        Recording {
+            chapters: Vec::new(alloc),
+        }
+    }
+
+    // Appends a chapter. `Err` only if memory is refused.
+    pub(crate) fn push(&mut self, chapter: RawChapter) -> Result<(), AllocError>
+        ensures { OnOk result (self.new ≡ self.old ++ chapter ∷ []) }
+    {
+        match self.chapters.push(chapter) {
+            Ok(()) => Ok(()),
+            Err(_) => Err(AllocError),
+        }
+    }
 
     /// The chapters, in the order of the recording.
     pub fn chapters(&self) -> &[RawChapter]

@@ -1,16 +1,15 @@
 //! The reading of a chapter.
 
-ghost use Rattle.std.specs.Prelude.{◌≡◌, ◌≢◌, ◌==◌, [], Some, None, IfOk, length};
-ghost use Rattle.pon_state.specs.declared.checks.TheConstants.{MOST_ENTRIES};
-ghost use Rattle.pon_record.specs.Format.{all_of, only};
-ghost use Rattle.pon_record.specs.Reading.{Gives, Reads};
-ghost use Rattle.pon_record.specs.Chapters.{body, tagged_body};
-ghost use Rattle.pon_record.specs.Recordings.{IsCutShort};
+ghost use Rattle.std.specs.Prelude.{◌≡◌, ◌<◌, IfOk, length};
+ghost use Rattle.pon_record.specs.Format.{all_of};
+ghost use Rattle.pon_record.specs.Reading.{Gives};
+ghost use Rattle.pon_record.specs.Chapters.{body};
+ghost use Rattle.pon_record.specs.ChapterReading.{IsBodyOf, ReadsChapter};
 
 use crate::chapter::RawChapter;
 use crate::cursor::Cursor;
-use crate::fault::{Malformed, Stop};
-use crate::limits::CHAPTER_TAG;
+use crate::fault::{ChapterFault, Stop};
+use crate::limits::{CHAPTER_TAG, HEAD_BYTES};
 use crate::lists::read_many;
 use crate::openings::read_opening;
 use pon_state::MOST_ENTRIES;
@@ -41,4 +40,37 @@ fn read_whole(alloc: Global, at: usize, bytes: &[u8]) -> Result<RawChapter, Stop
         return Err(Stop::Malformed);
     }
     Ok(chapter)
+}
+
+// The body of the chapter that the bytes begin with.
+fn body_of(bytes: &[u8]) -> Result<&[u8], ChapterFault>
+    requires { 0 < length bytes.now }
+    ensures { IsBodyOf bytes.now result }
+{
+    if bytes[0] != CHAPTER_TAG {
+        return Err(ChapterFault::Malformed);
+    }
+    if bytes.len() < HEAD_BYTES {
+        return Err(ChapterFault::CutShort);
+    }
+    let word = bytes[1..].first_chunk::<4>().unwrap();
+    let size = u32::from_be_bytes(*word) as usize;
+    if bytes.len() < HEAD_BYTES + size {
+        return Err(ChapterFault::CutShort);
+    }
+    Ok(&bytes[HEAD_BYTES..HEAD_BYTES + size])
+}
+
+/// The chapter that the bytes begin with, which stands at a place of a recording, and the number of its bytes.
+pub(crate) fn read_chapter(
+    alloc: Global,
+    at: usize,
+    bytes: &[u8],
+) -> Result<(RawChapter, usize), ChapterFault>
+    requires { 0 < length bytes.now }
+    ensures { ReadsChapter bytes.now at result }
+{
+    let body = body_of(bytes)?;
+    let chapter = read_whole(alloc, at, body)?;
+    Ok((chapter, HEAD_BYTES + body.len()))
 }

@@ -17,6 +17,16 @@ pub enum ReadFault {
     Memory,
 }
 
+impl From<AllocError> for ReadFault {
+    ghost use Rattle.pon_record.specs.declared.fault.ReadFault.TheVariants as fault;
+
+    ghost from_gives = { λ _ e. e ≡ fault.Memory };
+
+    fn from(_e: AllocError) -> ReadFault {
+        ReadFault::Memory
+    }
+}
+
 /// The bytes begin with no value of the format that is read.
 #[derive(Clone, Copy, Debug, PartialEq, Eq)]
 pub(crate) struct Malformed;
@@ -26,6 +36,28 @@ pub(crate) struct Malformed;
 pub(crate) enum Stop {
     Malformed,
     Memory,
+}
+
+/// Why a chapter was not read.
+#[derive(Clone, Copy, Debug, PartialEq, Eq)]
+pub(crate) enum ChapterFault {
+    /// The bytes end inside it.
+    CutShort,
+    Malformed,
+    Memory,
+}
+
+impl From<Stop> for ChapterFault {
+    ghost use Rattle.pon_record.specs.ChapterReading.{fault_of};
+
+    ghost from_gives = { λ e f. f ≡ fault_of e };
+
+    fn from(e: Stop) -> ChapterFault {
+        match e {
+            Stop::Malformed => ChapterFault::Malformed,
+            Stop::Memory => ChapterFault::Memory,
+        }
+    }
 }
 
 impl From<Malformed> for Stop {

@@ -16,9 +16,11 @@ mod lists;
 mod made;
 mod opening;
 mod openings;
+mod recording;
 mod row;
 
 pub use chapter::{RawChapter, Recording};
 pub use fault::ReadFault;
 pub use opening::{Opening, RawMap};
+pub use recording::read_recording;
 pub use row::RawRow;

@@ -4,6 +4,9 @@ pub const MAGIC: [u8; 8] = *b"PONREC01";
 /// The byte that begins a chapter.
 pub const CHAPTER_TAG: u8 = 0x43;
 
+/// The bytes before the body of a chapter: its tag, and the length of the body in 4 bytes.
+pub(crate) const HEAD_BYTES: usize = 5;
+
 /// What is recorded in place of the words of a garbled report.
 pub const GARBLED: u32 = 0xffff_ffff;
 

@@ -1,0 +1,46 @@
+-- What reading a chapter returns.
+use Rattle.std.specs.Prelude.{◌≡◌, ◌≢◌, ℕ, ◌+◌, ◌<◌, ◌≤◌, List, drop, length, slice_index, take, Some, None, Result, Ok, Err}
+use Rattle.std.specs.Borrow.{Bor}
+use Rattle.pon_record.specs.declared.limits.TheConstants.{CHAPTER_TAG, HEAD_BYTES}
+use Rattle.pon_record.specs.declared.fault.ChapterFault.{ChapterFault}
+use Rattle.pon_record.specs.declared.fault.ChapterFault.TheVariants as chapter
+use Rattle.pon_record.specs.declared.fault.Stop.{Stop}
+use Rattle.pon_record.specs.declared.fault.Stop.TheVariants as stop
+use Rattle.pon_record.specs.Chapters.{IsCutShort, PlacedChapter, body_size, tagged_body}
+
+abbrev pub fault_of : Stop → ChapterFault
+fault_of stop.Malformed = chapter.Malformed
+fault_of stop.Memory = chapter.Memory
+
+-- the body of the chapter that the bytes begin with: its bytes, or why there is none
+abbrev pub HasNoBody : List ℕ → ChapterFault → Type 0
+HasNoBody bytes chapter.CutShort = IsCutShort bytes
+HasNoBody bytes chapter.Malformed = slice_index bytes 0 ≢ CHAPTER_TAG
+HasNoBody bytes chapter.Memory = ⊥
+
+pub record HasBody (bytes piece : List ℕ) : Type 0 where
+  pub tag : slice_index bytes 0 ≡ CHAPTER_TAG
+  pub within : HEAD_BYTES + length piece ≤ length bytes
+  pub size : length piece ≡ body_size bytes
+  pub is : piece ≡ take (length piece) (drop HEAD_BYTES bytes)
+
+abbrev pub IsBodyOf : List ℕ → Result (Bor (List ℕ)) ChapterFault → Type 0
+IsBodyOf bytes (Ok piece) = HasBody bytes piece.now
+IsBodyOf bytes (Err fault) = HasNoBody bytes fault
+
+-- the chapter that the bytes begin with, and the number of its bytes
+pub record BeginsWith (bytes : List ℕ) (at : ℕ) (c : PlacedChapter) (size : ℕ) : Type 0 where
+  pub place : c.at ≡ at
+  pub some : 0 < size
+  pub within : size ≤ length bytes
+  pub read : tagged_body.read bytes ≡ Some ((CHAPTER_TAG, c.body), drop size bytes)
+
+-- why the bytes begin with no chapter
+abbrev pub HasNoChapter : List ℕ → ChapterFault → Type 0
+HasNoChapter bytes chapter.CutShort = IsCutShort bytes
+HasNoChapter bytes chapter.Malformed = (tagged_body.read bytes ≡ None) × (IsCutShort bytes → ⊥)
+HasNoChapter bytes chapter.Memory = Unit {0}
+
+abbrev pub ReadsChapter : List ℕ → ℕ → Result (PlacedChapter × ℕ) ChapterFault → Type 0
+ReadsChapter bytes at (Ok r) = BeginsWith bytes at r.0 r.1
+ReadsChapter bytes at (Err fault) = HasNoChapter bytes fault
