@@ -8,3 +8,4 @@ pub mod ExactMaps
 pub mod ExactCertificates
 pub mod ExactChapters
 pub mod Reading
+pub mod OneReading

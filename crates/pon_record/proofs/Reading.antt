@@ -12,7 +12,7 @@ use Rattle.pon_record.specs.Recordings.{Holds, IsBadFormat, IsNoChapter, recordi
 use Rattle.pon_record.proofs.Exact.{rest_fits}
 use Rattle.pon_record.proofs.ExactChapters.{exact_chapter}
 
-abbrev bodies : List PlacedChapter → List Body
+abbrev pub bodies : List PlacedChapter → List Body
 bodies cs = map (λ c. c.body) cs
 
 fit_more : (bs : List Body) (b : Body) → AllByRecursion FitsChapter bs → FitsChapter b → AllByRecursion FitsChapter (bs ++ b ∷ [])

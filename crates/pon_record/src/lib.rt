@@ -11,6 +11,7 @@ mod cursor;
 mod entry;
 mod events;
 mod fault;
+pub mod laws;
 mod limits;
 mod lists;
 mod made;
