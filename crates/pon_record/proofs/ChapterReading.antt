@@ -1,12 +1,12 @@
 -- A chapter is its tag, the length of its body, and the body.
-use Rattle.std.proofs.Common.{◌≡◌, ℕ, zero, suc, ◌+◌, ◌<◌, ◌≤◌, Bool, true, false, cond, ltb, eqb, List, [], ◌∷◌, ◌++◌, length, get_or, take, drop, Option, Some, None, refl, sym, ap, subst, ◌∙◌, arith}
+use Rattle.std.proofs.Common.{◌≡◌, ℕ, ◌+◌, ◌≤◌, false, cond, ltb, eqb, List, [], ◌∷◌, length, get_or, take, drop, Option, Some, None, refl, sym, ap, ◌∙◌, arith}
 use Rattle.std.specs.Int.{w8, w32, from_be_bytes}
 use Rattle.std.proofs.lemmas.Bool.{le-ltb}
 use Rattle.std.proofs.lemmas.List.{length-drop, drop-drop}
 use Rattle.pon_lists.specs.OptionSteps.{◌>>=◌}
 use Rattle.pon_record.specs.declared.limits.TheConstants.{CHAPTER_TAG, HEAD_BYTES}
 use Rattle.pon_record.specs.Format.{Format, all_of, number, only, sized, ◌&◌}
-use Rattle.pon_record.specs.Chapters.{Body, PlacedChapter, body, body_size, tagged_body}
+use Rattle.pon_record.specs.Chapters.{PlacedChapter, body}
 use Rattle.pon_record.specs.ChapterReading.{BeginsWith, HasBody}
 
 -- for any format of the body

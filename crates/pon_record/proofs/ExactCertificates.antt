@@ -1,11 +1,10 @@
 -- The format of a certificate agrees in its two directions.
-use Rattle.std.proofs.Common.{◌≡◌, ℕ, zero, suc, ◌+◌, ◌<◌, ◌≤◌, Bool, true, false, cond, List, ◌∷◌, ◌++◌, length, take, drop, Option, Some, None, refl, sym, ap, subst, ◌∙◌, arith}
+use Rattle.std.proofs.Common.{◌≡◌, ℕ, zero, suc, ◌+◌, ◌≤◌, Bool, true, false, cond, List, ◌∷◌, ◌++◌, length, take, drop, Some, refl, sym, ap, subst, ◌∙◌, arith}
 use Rattle.std.specs.Prelude.{Result, Ok, Err, nat_lt, ◌==◌}
 use Rattle.std.specs.Int.{Width, w8, w16, w64, byte_len, from_be_bytes}
 use Rattle.std.specs.Result.{result_ok}
 use Rattle.std.proofs.lemmas.Bool.{ltb-false}
 use Rattle.std.proofs.lemmas.List.{drop-drop, length-drop, drop_at, take-append-drop}
-use Rattle.pon_lists.specs.Bytes.{AreBytes}
 use Rattle.pon_lists.specs.ResultSteps.{◌>>=◌}
 use Rattle.pon_cert.specs.declared.cert.CertReadFault.{CertReadFault}
 use Rattle.pon_cert.specs.declared.cert.ClassCert.{ClassCert}
@@ -13,7 +12,6 @@ use Rattle.pon_cert.specs.declared.cert.Level.{Level}
 use Rattle.pon_cert.specs.declared.cert.MapCert.{MapCert}
 use Rattle.pon_cert.specs.Reading.{ReadsCert, cert_at, class_at, flags_at, level_at, level_of, number_at, wanted}
 use Rattle.pon_cert.specs.Spelling.{cert_bytes}
-use Rattle.pon_cert.specs.Texts.{FitsCert}
 use Rattle.pon_cert.proofs.OneSpelling.{cert_read}
 use Rattle.pon_cert.proofs.ReadsBack.{cert_back}
 use Rattle.pon_record.specs.MadeMaps.{certificate}
@@ -75,8 +73,8 @@ level_leaves bytes x e =
     let l = step (level_of known.0.0 num.0.0 den.0.0) _ x den.2 in
     subst (λ (p : Level × List ℕ). Leaves bytes p.1) (same (l.0, den.0.1) x l.2)
     (leaves_more bytes num.0.1 den.0.1
-      (leaves_more bytes known.0.1 num.0.1 (known_leaves w8 bytes kind.0 known.0 _ kind.1 known.1) (number_leaves w64 known.0.1 num.0 num.1))
-      (number_leaves w64 num.0.1 den.0 den.1))
+    (leaves_more bytes known.0.1 num.0.1 (known_leaves w8 bytes kind.0 known.0 _ kind.1 known.1) (number_leaves w64 known.0.1 num.0 num.1))
+    (number_leaves w64 num.0.1 den.0 den.1))
 
 flags_leave : (n : ℕ) (bytes : List ℕ) (x : List Bool × List ℕ) → flags_at n bytes ≡ Ok x → Leaves bytes x.1
 unfolding flags_at
@@ -97,8 +95,8 @@ class_leaves bytes x e =
     let flags = step (flags_at known.0.0 known.0.1) _ x known.2 in
     subst (λ (p : ClassCert × List ℕ). Leaves bytes p.1) (same (record { level = l.0.0; saturated = flags.0.0 }, flags.0.1) x flags.2)
     (leaves_more bytes known.0.1 flags.0.1
-      (leaves_more bytes l.0.1 known.0.1 (level_leaves bytes l.0 l.1) (known_leaves w16 l.0.1 count.0 known.0 _ count.1 known.1))
-      (flags_leave known.0.0 known.0.1 flags.0 flags.1))
+    (leaves_more bytes l.0.1 known.0.1 (level_leaves bytes l.0 l.1) (known_leaves w16 l.0.1 count.0 known.0 _ count.1 known.1))
+    (flags_leave known.0.0 known.0.1 flags.0 flags.1))
 
 cert_leaves : (bytes : List ℕ) (x : MapCert × List ℕ) → cert_at bytes ≡ Ok x → Leaves bytes x.1
 unfolding cert_at

@@ -1,14 +1,11 @@
 -- The formats of made maps, entries and chapters agree in their two directions.
-use Rattle.std.proofs.Common.{◌≡◌, ℕ, List, ◌++◌, Option, Some, None, refl, sym, ap, subst, ◌∙◌}
-use Rattle.std.specs.Int.{w8, w32}
-use Rattle.pon_lists.specs.Bytes.{AreBytes}
-use Rattle.pon_lists.specs.OptionSteps.{◌>>=◌}
+use Rattle.std.proofs.Common.{◌≡◌, ℕ, List, ◌++◌, Some, refl, sym, ap, subst}
 use Rattle.pon_event.specs.declared.event.Event.{Event}
 use Rattle.pon_event.specs.declared.event.Event.TheVariants.{Admit, Change, Remove, Report, MakeMap, Fail, Restore}
 use Rattle.pon_state.specs.declared.reply.Reply.{Reply}
 use Rattle.pon_state.specs.declared.reply.Reply.TheVariants.{Taken, Map}
 use Rattle.pon_record.specs.MadeMaps.{made_map, made_of, made_parts}
-use Rattle.pon_record.specs.Chapters.{body, body_of, body_parts, entry, map_reply, port, reply_to, tagged_body}
+use Rattle.pon_record.specs.Chapters.{body, body_of, body_parts, entry, map_reply, reply_to, tagged_body}
 use Rattle.pon_record.proofs.Exact.{IsExact, bind_some, both, constants, followed_by, lists, only_those, sizes, some_is, told, wide32}
 use Rattle.pon_record.proofs.Exactness.{n8, n32, n64, exact_opening}
 use Rattle.pon_record.proofs.ExactCertificates.{exact_certificate}

@@ -1,15 +1,14 @@
 -- The format of events agrees in its two directions.
-use Rattle.std.proofs.Common.{◌≡◌, ℕ, Bool, true, false, cond, eqb, List, [], ◌∷◌, ◌++◌, Option, Some, None, refl, sym, ap, subst, ◌∙◌, lit<, ◌<◌, arith}
+use Rattle.std.proofs.Common.{◌≡◌, ℕ, Bool, true, false, cond, eqb, List, ◌∷◌, ◌++◌, Option, Some, None, refl, sym, ap, subst, ◌∙◌, lit<, ◌<◌, arith}
 use Rattle.std.specs.Int.{w8}
 use Rattle.std.proofs.lemmas.Bool.{eqb-true}
-use Rattle.pon_descr.specs.Descriptor.{Descriptor}
 use Rattle.pon_event.specs.declared.event.Event.{Event}
 use Rattle.pon_event.specs.declared.event.Event.TheVariants.{Admit, Change, Remove, Report, MakeMap, Fail, Restore}
 use Rattle.pon_lists.specs.Bytes.{AreBytes}
 use Rattle.pon_lists.specs.OptionSteps.{◌>>=◌}
-use Rattle.pon_record.specs.Format.{Format, ◌&◌, number}
+use Rattle.pon_record.specs.Format.{Format, number}
 use Rattle.pon_record.specs.Fields.{alloc_id, cause}
-use Rattle.pon_record.specs.Events.{EventFits, admit_fields, change_fields, event, event_at, event_bytes, occupancies, occupancy, occupancy_code, occupancy_meaning, report_fields}
+use Rattle.pon_record.specs.Events.{EventFits, admit_fields, change_fields, event, event_at, event_bytes, occupancies, occupancy_code, occupancy_meaning, report_fields}
 use Rattle.pon_record.proofs.Exact.{IsExact, bind_some, both, lists, only_those, rest_fits, some_is, told}
 use Rattle.pon_record.proofs.Exactness.{n8, n32, n64, exact_alloc, exact_cause, exact_descriptor, exact_onu}
 

@@ -1,10 +1,9 @@
 -- The format of a map agrees in its two directions.
-use Rattle.std.proofs.Common.{◌≡◌, ℕ, ◌+◌, ◌*◌, ◌/◌, ◌%◌, ◌^◌, ◌<◌, ◌≤◌, Bool, true, false, cond, eqb, List, Option, Some, None, refl, sym, ap, ◌∙◌, arith}
+use Rattle.std.proofs.Common.{◌≡◌, ℕ, ◌/◌, ◌%◌, ◌^◌, ◌<◌, Bool, true, false, cond, eqb, Some, None, refl, sym, ap, ◌∙◌, arith}
 use Rattle.std.specs.Int.{w32, w64}
-use Rattle.std.proofs.lemmas.Bool.{eqb-true, eqb-false, eq-eqb}
+use Rattle.std.proofs.lemmas.Bool.{eqb-true, eqb-false}
 use Rattle.pon_hec.specs.HeaderCode.{sealed}
 use Rattle.pon_bwmap.specs.MapBytes.{flag_bit, start_field, structure_payload}
-use Rattle.pon_bwmap.specs.Structure.{Structure}
 use Rattle.pon_record.specs.Format.{number}
 use Rattle.pon_record.specs.MadeMaps.{head, head_code, head_meaning, is_map, map, start_of, structure, structure_code, structure_meaning, structure_of}
 use Rattle.pon_record.proofs.Exact.{IsExact, lists, only_those, passed, told}

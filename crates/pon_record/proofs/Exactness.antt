@@ -1,17 +1,16 @@
 -- Each format of a recording agrees in its two directions.
-use Rattle.std.proofs.Common.{◌≡◌, ℕ, ◌≤◌, Bool, true, false, cond, eqb, leb, ◌&&◌, List, ◌∷◌, ◌++◌, Option, Some, None, refl, sym, ap, ◌∙◌, arith}
+use Rattle.std.proofs.Common.{◌≡◌, ℕ, Bool, true, false, cond, eqb, leb, ◌&&◌, Option, Some, None, refl, sym, ap, ◌∙◌}
 use Rattle.std.specs.Int.{w8, w16, w32, w64}
 use Rattle.std.proofs.lemmas.Bool.{eqb-true, and_parts}
 use Rattle.pon_descr.specs.declared.class.Class.{Class}
 use Rattle.pon_descr.specs.declared.class.Class.TheVariants.{Plain, NonAssured, BestEffort}
 use Rattle.pon_descr.specs.declared.refusal.Refusal.{Refusal}
-use Rattle.pon_descr.specs.Descriptor.{Descriptor, descriptor_refusal}
+use Rattle.pon_descr.specs.Descriptor.{Descriptor}
 use Rattle.pon_guar.specs.declared.account.Counted.{Counted}
-use Rattle.pon_record.specs.Format.{◌&◌, as_value, number, told_by}
+use Rattle.pon_record.specs.Format.{◌&◌, as_value, number}
 use Rattle.pon_record.specs.Fields
 use Rattle.pon_record.specs.Openings
-use Rattle.pon_record.specs.Events
-use Rattle.pon_record.proofs.Exact.{IsExact, IsOneCode, numbers, wide8, wide16, wide32, wide64, both, told, only_those, lists, some_is}
+use Rattle.pon_record.proofs.Exact.{IsExact, numbers, wide8, wide16, wide32, wide64, both, told, only_those, lists, some_is}
 
 -- ---- numbers
 

@@ -1,9 +1,9 @@
 -- Bytes begin with one list of chapters, if what is behind it begins with none.
-use Rattle.std.proofs.Common.{◌≡◌, ℕ, ◌+◌, ◌<◌, ◌≤◌, ◌^◌, List, [], ◌∷◌, ◌++◌, length, take, drop, Option, Some, None, refl, sym, ap, subst, ◌∙◌, append_assoc, arith, inl, inr}
-use Rattle.std.specs.Prelude.{map, ◌⊎◌}
+use Rattle.std.proofs.Common.{◌≡◌, ℕ, ◌+◌, List, [], ◌∷◌, ◌++◌, length, take, drop, refl, sym, ap, subst, ◌∙◌, append_assoc, arith, inl, inr}
+use Rattle.std.specs.Prelude.{map}
 use Rattle.std.specs.List.{flat_map, AllByRecursion}
-use Rattle.std.specs.Int.{w8, w32, byte_len, from_be_bytes, to_be_bytes}
-use Rattle.std.proofs.lemmas.List.{append-nil, length-append, take_at, drop_at}
+use Rattle.std.specs.Int.{w32, from_be_bytes, to_be_bytes}
+use Rattle.std.proofs.lemmas.List.{append-nil, length-append, take_at}
 use Rattle.std.proofs.lemmas.List.Concat.{flat_map-cons}
 use Rattle.std.proofs.lemmas.Nat.{from_be_bytes-to_be_bytes_4}
 use Rattle.pon_record.specs.declared.limits.TheConstants.{CHAPTER_TAG, MAGIC}

@@ -1,5 +1,5 @@
 -- Chapters: the port, the number, the opening and the entries, each with its reply.
-use Rattle.std.specs.Prelude.{◌≡◌, ℕ, ◌+◌, ◌<◌, nat_lt, ◌==◌, List, [], ◌∷◌, ◌++◌, drop, length, slice_index, take, Option, Some}
+use Rattle.std.specs.Prelude.{◌≡◌, ℕ, ◌+◌, ◌<◌, nat_lt, ◌==◌, List, [], ◌∷◌, drop, length, slice_index, take, Some}
 use Rattle.std.specs.Int.{w8, w32, w64, from_be_bytes}
 use Rattle.pon_lists.specs.OptionSteps.{◌>>=◌}
 use Rattle.pon_units.specs.declared.limits.TheConstants.{MOST_PORTS}

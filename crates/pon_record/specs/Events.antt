@@ -1,5 +1,5 @@
 -- The events of a chapter: a tag and the fields of the event.
-use Rattle.std.specs.Prelude.{ℕ, ◌==◌, nat_le, if◌then◌else◌, List, [], ◌∷◌, ◌++◌, Option, Some, None}
+use Rattle.std.specs.Prelude.{ℕ, ◌==◌, nat_le, if◌then◌else◌, List, [], ◌∷◌, Option, Some, None}
 use Rattle.std.specs.Int.{w8, w32}
 use Rattle.pon_lists.specs.OptionSteps.{◌>>=◌}
 use Rattle.pon_units.specs.declared.limits.TheConstants.{GREATEST_OCCUPANCY, LONGEST_SERIES}

@@ -1,6 +1,6 @@
 -- A map that was made: its frame, its bytes as on the line (ITU-T G.987.3, BWmap) with exact header codes and no messages, and
 -- the bytes of its certificate.
-use Rattle.std.specs.Prelude.{ℕ, zero, suc, ◌*◌, ◌/◌, ◌%◌, ◌^◌, ◌&&◌, ◌==◌, nat_le, Bool, true, if◌then◌else◌, List, length, Option, Some, None, is_none}
+use Rattle.std.specs.Prelude.{ℕ, zero, suc, ◌/◌, ◌%◌, ◌^◌, ◌&&◌, ◌==◌, nat_le, Bool, true, if◌then◌else◌, List, length, Option, Some, None, is_none}
 use Rattle.std.specs.Int.{w32, w64}
 use Rattle.std.specs.Result.{result_ok}
 use Rattle.pon_units.specs.declared.limits.TheConstants.{MOST_STRUCTURES}

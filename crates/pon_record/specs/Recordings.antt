@@ -1,5 +1,5 @@
 -- Recordings: eight magic bytes, then chapters one after another.
-use Rattle.std.specs.Prelude.{◌≡◌, ◌≢◌, ℕ, ◌+◌, ◌<◌, ◌≤◌, List, [], ◌∷◌, ◌++◌, ◌⊎◌, length, map, take}
+use Rattle.std.specs.Prelude.{◌≡◌, ◌≢◌, ℕ, ◌+◌, ◌<◌, ◌≤◌, List, [], ◌++◌, ◌⊎◌, length, map, take}
 use Rattle.std.specs.List.{flat_map, AllByRecursion}
 use Rattle.pon_record.specs.declared.limits.TheConstants.{MAGIC}
 use Rattle.pon_record.specs.declared.fault.ReadFault.{ReadFault}

@@ -22,6 +22,10 @@ mod row;
 
 pub use chapter::{RawChapter, Recording};
 pub use fault::ReadFault;
+pub use limits::{CHAPTER_TAG, GARBLED, MAGIC, MOST_GRANTS, MOST_REPORTED, MOST_ROWS};
 pub use opening::{Opening, RawMap};
 pub use recording::read_recording;
 pub use row::RawRow;
+
+#[cfg(test)]
+mod tests;

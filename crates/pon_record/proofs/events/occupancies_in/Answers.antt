@@ -1,8 +1,8 @@
-use Rattle.std.proofs.Common.{◌≡◌, ◌∷◌, [], arith}
+use Rattle.std.proofs.Common.{◌∷◌, [], arith}
 use Rattle.std.proofs.lemmas.List.{length-append}
 use Rattle.pon_record.specs.Format.{read_times}
 use Rattle.pon_record.specs.Events.{occupancy}
-use Rattle.pon_record.proofs.Loop.{with_front, goes_on}
+use Rattle.pon_record.proofs.Loop.{goes_on}
 use Rattle.pon_record.proofs.events.occupancies_in.Goals as goal
 
 pub loop-preserved : goal.loop-preserved

@@ -1,4 +1,4 @@
-use Rattle.std.proofs.Common.{◌≡◌, ◌-◌, ◌≤◌, length}
+use Rattle.std.proofs.Common.{◌≡◌, ◌-◌, length}
 use Rattle.pon_record.specs.Format.{read_times}
 use Rattle.pon_record.specs.Events.{occupancy}
 use Rattle.pon_record.proofs.Loop.{with_front}

@@ -1,4 +1,3 @@
-use Rattle.std.proofs.Common.{◌≡◌}
 use Rattle.pon_record.specs.Format.{read_times}
 use Rattle.pon_record.proofs.Loop.{goes_on, stops}
 use Rattle.pon_record.proofs.lists.read_list.Goals as goal

@@ -1,4 +1,4 @@
-use Rattle.std.proofs.Common.{◌≡◌, ◌-◌, ◌<◌, length, refl, arith, rules, subst}
+use Rattle.std.proofs.Common.{◌-◌, ◌<◌, length, refl, arith, rules, subst}
 use Rattle.pon_lists.specs.Bytes.{AreBytes}
 use Rattle.pon_record.specs.ChapterReading.{BeginsWith, HasNoChapter}
 use Rattle.pon_record.proofs.Reading.{bad_format, holds_more, no_chapter}

@@ -1,4 +1,4 @@
-use Rattle.std.proofs.Common.{◌≡◌, ◌-◌, ◌≤◌, length}
+use Rattle.std.proofs.Common.{length}
 use Rattle.pon_record.specs.Recordings.{Holds}
 use Rattle.pon_record.proofs.recording.read_chapters.Given as goal
 
