@@ -108,7 +108,8 @@ impl<'a> Cursor<'a> {
 
     /// A count in 1 byte.
     pub(crate) fn count8(&mut self, most: u8) -> Result<usize, Malformed>
-        ensures { Reads (λ x. (x, self.new)) result ((only (λ n. nat_le n most) (number w8)).read self.old) }
+        ensures { Reads (λ x. (x, self.new)) result
+            ((only (λ n. nat_le n most) (number w8)).read self.old) }
     {
         let count = self.u8()?;
         if count > most {
@@ -119,7 +120,8 @@ impl<'a> Cursor<'a> {
 
     /// A count in 2 bytes.
     pub(crate) fn count16(&mut self, most: u16) -> Result<usize, Malformed>
-        ensures { Reads (λ x. (x, self.new)) result ((only (λ n. nat_le n most) (number w16)).read self.old) }
+        ensures { Reads (λ x. (x, self.new)) result
+            ((only (λ n. nat_le n most) (number w16)).read self.old) }
     {
         let count = self.u16()?;
         if count > most {
@@ -130,7 +132,8 @@ impl<'a> Cursor<'a> {
 
     /// A count in 4 bytes.
     pub(crate) fn count32(&mut self, most: u32) -> Result<usize, Malformed>
-        ensures { Reads (λ x. (x, self.new)) result ((only (λ n. nat_le n most) (number w32)).read self.old) }
+        ensures { Reads (λ x. (x, self.new)) result
+            ((only (λ n. nat_le n most) (number w32)).read self.old) }
     {
         let count = self.u32()?;
         if count > most {
