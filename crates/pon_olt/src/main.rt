@@ -1,7 +1,8 @@
 //! `olt`: the upstream bandwidth scheduler of an XG-PON optical line terminal, as a program.
 //!
 //! Management lines come in, and the reply or the refusal of each goes out ([`plan`]); a check file is judged
-//! ([`check_file`]); ports are run over sockets ([`run_ports`]). The program adds the standard streams, the files, the settings and the exit status.
+//! ([`check_file`]); ports are run over sockets ([`run_ports`]). The program adds the standard streams, the files, the settings
+//! and the exit status.
 #![tactic(auto)]
 
 ghost use Rattle.std.specs.Prelude.{length};
@@ -17,8 +18,8 @@ pub use pon_job::job;
 use pon_job::{Job, Outcome, exit_status, outcome_of_check, outcome_of_run, outcome_of_words};
 use pon_manage::PlanEnd;
 pub use pon_manage::{PlanFault, plan};
-pub use pon_run::run_ports;
 use pon_run::RunArgs;
+pub use pon_run::run_ports;
 use pon_worker::OpenGate;
 use std::alloc::Global;
 use std::fs;
@@ -124,12 +125,14 @@ fn run(rt: &HostRuntime, words: &[String]) -> u8 {
     match job(rt.alloc(), words) {
         Ok(Job::Plan { config }) => told(rt, run_plan(rt, config)),
         Ok(Job::Check { file }) => told(rt, outcome_of_check(judge_file(rt, rt.alloc(), file))),
-        Ok(Job::Run {
-            config,
-            listen,
-            maps,
-            operate,
-        }) => run_settings(
+        Ok(
+            Job::Run {
+                config,
+                listen,
+                maps,
+                operate,
+            },
+        ) => run_settings(
             rt,
             config,
             RunArgs {

@@ -10,8 +10,8 @@ use Rattle.pon_run.specs.declared.end.PortEnd.{PortEnd}
 abbrev pub line_of : ℕ → PortEnd → List ℕ
 line_of port end =
     codes "port " ++ (decimal port ++ (codes " maps " ++ (decimal end.maps
-        ++ (codes " entries " ++ (decimal end.entries ++ (codes " reports " ++ (decimal end.reports
-        ++ (codes " dropped " ++ (decimal end.dropped ++ 10 ∷ [])))))))))
+    ++ (codes " entries " ++ (decimal end.entries ++ (codes " reports " ++ (decimal end.reports
+    ++ (codes " dropped " ++ (decimal end.dropped ++ 10 ∷ [])))))))))
 
 -- a line for each port, of which the first has this number
 abbrev pub lines_from : ℕ → List PortEnd → List ℕ

@@ -30,7 +30,9 @@ fn line_of(alloc: Global, port: usize, end: PortEnd) -> Result<String, AllocErro
         reports,
         dropped,
     } = end;
-    format!(in alloc; "port {port} maps {maps} entries {entries} reports {reports} dropped {dropped}\n")
+    format!(in alloc;
+        "port {port} maps {maps} entries {entries} reports {reports} dropped {dropped}\n"
+    )
 }
 
 fn lines_of(alloc: Global, ends: &[PortEnd]) -> Result<String, AllocError>

@@ -1,7 +1,7 @@
 //! A run, from its settings to its last line.
 
-ghost use Rattle.std.specs.Prelude.{◌≡◌, ◌⊎◌, ◌+◌, ◌<◌, IfOk, IsNone, length, true};
-ghost use Rattle.pon_plant.specs.Plants.{IsPlantSize};
+ghost use Rattle.std.specs.Prelude.{◌≡◌, ◌⊎◌, ◌+◌, ◌≤◌, IfOk, IsNone, length, true};
+ghost use Rattle.std.specs.Vec.{vec_len};
 ghost use Rattle.pon_run.specs.Runs.{TellsPorts};
 
 use crate::arguments::RunArgs;
@@ -100,8 +100,60 @@ fn tell<L: Ledger, M: Ledger, W: DevWrite>(
     Ok(all && even && ended.finished)
 }
 
-// Opens a desk for the ports of the settings, serves them, and writes what each did. Whether each worker made all its turns, and no
-// post was lost.
+// Admits the rows of the settings at an open desk, serves its ports, and writes what each did. Whether each worker made all its
+// turns, and no post was lost.
+fn run_desk<L, M, G, F, W, R>(
+    rt: &R,
+    alloc: Global,
+    desk: Desk<L, M>,
+    mut seats: Vec<Seat<L, M>>,
+    settings: &Settings,
+    links: Vec<Link>,
+    gate: &G,
+    maps: u64,
+    lines: Option<F>,
+    writer: &mut W,
+) -> Result<bool, PlanFault>
+where
+    L: Ledger + Send + Sync,
+    M: Ledger + Send + Sync,
+    G: Gate + Sync,
+    F: Read + Drop,
+    W: DevWrite,
+    R: Wait + Threads + Sync,
+    requires { OTHER_SEATS ≤ vec_len seats }
+    ensures { IsNone lines → IfOk result (λ done. done ≡ true
+        → TellsPorts desk.ports (W.contents writer.old) (W.contents writer.new)) }
+{
+    let (Some(mut operator), Some(mut first)) = (seats.pop(), seats.pop()) else {
+        unreachable!()
+    };
+    if admit_rows(rt, alloc, &desk, &mut first, settings).is_err() {
+        return Err(PlanFault::Memory);
+    }
+    let served = serve(
+        rt,
+        alloc,
+        &desk,
+        settings,
+        seats,
+        &mut operator,
+        links,
+        gate,
+        maps,
+        lines,
+        writer,
+    );
+    let (all, operated) = served?;
+    let Ok(others) = Vec::from_array(alloc, [first, operator]) else {
+        return Err(PlanFault::Memory);
+    };
+    let done = tell(alloc, desk, others, all, writer)?;
+    operated?;
+    Ok(done)
+}
+
+// Opens a desk for the ports of the settings, and runs it.
 fn run_at<L, M, G, F, W, R>(
     rt: &R,
     alloc: Global,
@@ -132,26 +184,14 @@ where
         return Err(PlanFault::Memory);
     };
     let seats = openings.len() + OTHER_SEATS;
-    let Ok((desk, mut seats)) =
-        Desk::<L, M>::open(alloc, of_ports, of_seats, openings.as_slice(), seats)
-    else {
-        return Err(PlanFault::Memory);
-    };
-    let (Some(mut operator), Some(mut first)) = (seats.pop(), seats.pop()) else {
-        unreachable!()
-    };
-    if admit_rows(rt, alloc, &desk, &mut first, settings).is_err() {
-        return Err(PlanFault::Memory);
+    match Desk::<L, M>::open(alloc, of_ports, of_seats, openings.as_slice(), seats) {
+        Ok((desk, seats)) => {
+            run_desk(
+                rt, alloc, desk, seats, settings, links, gate, maps, lines, writer,
+            )
+        }
+        Err(_) => Err(PlanFault::Memory),
     }
-    let (all, operated) = serve(
-        rt, alloc, &desk, settings, seats, &mut operator, links, gate, maps, lines, writer,
-    )?;
-    let Ok(others) = Vec::from_array(alloc, [first, operator]) else {
-        return Err(PlanFault::Memory);
-    };
-    let done = tell(alloc, desk, others, all, writer)?;
-    operated?;
-    Ok(done)
 }
 
 // Opens the files and the sockets of a run, in this order, and runs it.

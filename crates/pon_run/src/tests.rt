@@ -93,7 +93,8 @@ fn runs_two_ports_at_the_same_time(rt: HostRuntime) -> Result<(), Fail> {
     };
     let (status, writer) = ran(&rt, rt.alloc(), 2, args(1), &gate)?;
     assert_eq!(rt; status, 0);
-    let lines = "port 0 maps 1 entries 3 reports 1 dropped 0\nport 1 maps 1 entries 3 reports 1 dropped 0\n";
+    let lines =
+        "port 0 maps 1 entries 3 reports 1 dropped 0\nport 1 maps 1 entries 3 reports 1 dropped 0\n";
     assert_eq!(rt; writer.bytes(), lines.as_bytes());
     Ok(())
 }
@@ -124,7 +125,13 @@ fn refuses_what_cannot_be_opened(rt: HostRuntime) -> Result<(), Fail> {
         assert!(rt; writer.bytes().is_empty());
     }
     let operate = Some("no/such/file");
-    let (status, writer) = ran(&rt, rt.alloc(), 1, RunArgs { operate, ..args(1) }, &OpenGate)?;
+    let (status, writer) = ran(
+        &rt,
+        rt.alloc(),
+        1,
+        RunArgs { operate, ..args(1) },
+        &OpenGate,
+    )?;
     assert_eq!(rt; status, 3);
     assert!(rt; writer.bytes().is_empty());
     Ok(())
@@ -135,7 +142,10 @@ fn runs_64_ports_again_and_again(rt: HostRuntime) -> Result<(), Fail> {
     for _run in 0..20 {
         let (status, writer) = ran(&rt, rt.alloc(), 64, args(2), &OpenGate)?;
         assert_eq!(rt; status, 0);
-        assert_eq!(rt; writer.bytes().iter().filter(|byte| **byte == b'\n').count(), 64);
+        assert_eq!(rt;
+            writer.bytes().iter().filter(|byte| **byte == b'\n').count(),
+            64
+        );
     }
     Ok(())
 }

@@ -64,17 +64,7 @@ pub(crate) fn work<L: Ledger, M: Ledger, G: Gate, R: Wait>(
     stop: &AtomicBool,
     stream: TcpStream,
 ) -> Worked<L, M> {
-    let end = serve(
-        rt,
-        alloc,
-        desk,
-        &mut seat,
-        port,
-        gate,
-        maps,
-        stop,
-        &stream,
-    );
+    let end = serve(rt, alloc, desk, &mut seat, port, gate, maps, stop, &stream);
     Worked { seat, end }
 }
 
