@@ -24,8 +24,11 @@ use pon_worker::OpenGate;
 use std::alloc::Global;
 use std::fs;
 use std::io::{self, BufReader};
+use std::net::{Net, TcpListener, TcpStream};
 use std::process::ExitCode;
 use std::rt::Files;
+use std::sync::Wait;
+use std::thread::Threads;
 
 // Answers the lines of standard input.
 fn plan_lines<R: Input + Print>(
@@ -45,7 +48,7 @@ fn plan_lines<R: Input + Print>(
 }
 
 // Says why settings are refused.
-fn outcome_of_opening(rt: &HostRuntime, why: NotOpened) -> Outcome {
+fn outcome_of_opening<R: Eprint>(rt: &R, why: NotOpened) -> Outcome {
     match why {
         NotOpened::Failed(fault) => Outcome::Failed(fault),
         NotOpened::Refused(line) => {
@@ -56,23 +59,36 @@ fn outcome_of_opening(rt: &HostRuntime, why: NotOpened) -> Outcome {
 }
 
 // Answers the lines of standard input at the ports of the settings file, or at one port without settings.
-fn run_plan(rt: &HostRuntime, config: Option<&str>) -> Outcome {
+fn run_plan<R: Input + Print + Eprint + Files>(
+    rt: &R,
+    alloc: Global,
+    config: Option<&str>,
+) -> Outcome {
     let opening = match config {
-        Some(name) => with_settings(rt, rt.alloc(), name),
-        None => without_settings(rt.alloc()).map_err(NotOpened::from),
+        Some(name) => with_settings(rt, alloc, name),
+        None => without_settings(alloc).map_err(NotOpened::from),
     };
     match opening {
-        Ok(opening) => outcome_of_run(plan_lines(rt, rt.alloc(), opening)),
+        Ok(opening) => outcome_of_run(plan_lines(rt, alloc, opening)),
         Err(why) => outcome_of_opening(rt, why),
     }
 }
 
 // Runs the ports of the settings file over sockets. The answer is the exit status.
-fn run_settings(rt: &HostRuntime, config: &str, args: RunArgs<'_>) -> u8 {
-    match settings_of(rt, rt.alloc(), config) {
+fn run_settings<R>(rt: &R, alloc: Global, config: &str, args: RunArgs<'_>) -> u8
+where
+    R: Net<Listener = TcpListener, Stream = TcpStream>
+        + Files
+        + Print
+        + Eprint
+        + Threads
+        + Wait
+        + Sync,
+{
+    match settings_of(rt, alloc, config) {
         Ok(settings) => {
             let mut writer = StdWrite::new(io::writer(rt));
-            run_ports(rt, rt.alloc(), settings, args, &OpenGate, &mut writer)
+            run_ports(rt, alloc, settings, args, &OpenGate, &mut writer)
         }
         Err(why) => told(rt, outcome_of_opening(rt, why)),
     }
@@ -92,7 +108,7 @@ fn judge_file<R: Files + Print>(rt: &R, alloc: Global, name: &str) -> Result<boo
 }
 
 // Prints what clap says of the words. Help and version that cannot be written are a failed write.
-fn show(rt: &HostRuntime, error: &Error) -> Outcome {
+fn show<R: Print + Eprint>(rt: &R, error: &Error) -> Outcome {
     let outcome = outcome_of_words(error);
     if let Outcome::Failed(_) = outcome {
         return outcome;
@@ -121,10 +137,20 @@ fn without_words(rt: &impl Eprint, error: &io::Error) -> Outcome {
 }
 
 // Does the job that the words name. The answer is the exit status.
-fn run(rt: &HostRuntime, words: &[String]) -> u8 {
-    match job(rt.alloc(), words) {
-        Ok(Job::Plan { config }) => told(rt, run_plan(rt, config)),
-        Ok(Job::Check { file }) => told(rt, outcome_of_check(judge_file(rt, rt.alloc(), file))),
+fn run<R>(rt: &R, alloc: Global, words: &[String]) -> u8
+where
+    R: Net<Listener = TcpListener, Stream = TcpStream>
+        + Files
+        + Input
+        + Print
+        + Eprint
+        + Threads
+        + Wait
+        + Sync,
+{
+    match job(alloc, words) {
+        Ok(Job::Plan { config }) => told(rt, run_plan(rt, alloc, config)),
+        Ok(Job::Check { file }) => told(rt, outcome_of_check(judge_file(rt, alloc, file))),
         Ok(
             Job::Run {
                 config,
@@ -132,15 +158,14 @@ fn run(rt: &HostRuntime, words: &[String]) -> u8 {
                 maps,
                 operate,
             },
-        ) => run_settings(
-            rt,
-            config,
-            RunArgs {
+        ) => {
+            let args = RunArgs {
                 listen,
                 maps,
                 operate,
-            },
-        ),
+            };
+            run_settings(rt, alloc, config, args)
+        }
         Err(error) => told(rt, show(rt, &error)),
     }
 }
@@ -151,7 +176,7 @@ fn main(rt: HostRuntime) -> ExitCode {
         Err(error) => return ExitCode::from(told(&rt, without_words(&rt, &error))),
     };
     match args.collect::<Vec<String>>(rt.alloc()) {
-        Ok(words) => ExitCode::from(run(&rt, words.as_slice())),
+        Ok(words) => ExitCode::from(run(&rt, rt.alloc(), words.as_slice())),
         Err(_) => ExitCode::from(told(&rt, Outcome::Failed(PlanFault::Memory))),
     }
 }
