@@ -62,7 +62,10 @@ where
     for _port in 0..ports {
         text.push_str(PORT)?;
     }
-    let settings = settings(alloc, text.as_str()).map_err(|_| "settings")?;
+    let settings = match settings(alloc, text.as_str()) {
+        Ok(settings) => settings,
+        Err(_) => return Err(Fail::from("settings")),
+    };
     let mut writer = MemWrite::new(alloc, 4096, Vec::new(alloc));
     let status = run_ports(rt, alloc, settings, args, gate, &mut writer);
     Ok((status, writer))
