@@ -1,9 +1,11 @@
-//! Tests of the desk: posts from threads, kept entries, looks, refused memory, and management lines at a desk.
+//! Tests of the desk: posts from threads, kept entries, looks and inspections, refused memory, and management lines at a desk.
 //!
 //! They stand here, above the crate that they test, so that it is proved once.
 #![tactic(auto)]
 
 #[cfg(test)]
 mod desks;
+#[cfg(test)]
+mod inspecting;
 #[cfg(test)]
 mod operating;
