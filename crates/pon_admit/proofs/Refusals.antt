@@ -10,7 +10,7 @@ use Rattle.pon_descr.specs.declared.refusal.Refusal.TheVariants.{NoSuchAlloc, Al
 use mir.Val.{bool_byte}
 use Rattle.pon_lists.proofs.Distinct.{bit}
 use Rattle.pon_lists.specs.Distinct.{distinct}
-use Rattle.pon_admit.specs.Kept.{AreSums, IsKept}
+use Rattle.pon_admit.specs.Kept.{AreSums, IsKeptRoster}
 use Rattle.pon_admit.specs.Roster.{sums_fit, IsAdmitted, IsInRange, Roster, Row, Rule, comes_before, fits, has_alloc, has_onu, longest_series, most_allocs, most_onus, onus_of, owned, refuses_admit, refuses_change, refuses_remove, with_descriptor, with_row, without}
 use Rattle.pon_admit.proofs.AdmittedSets.{admit_keeps, change_keeps, changed, onus-changed, remove_keeps, with_new}
 use Rattle.pon_admit.proofs.OneRow.{Stands, insert_in_order, remove_found, set_found, stands, has_alloc-none, has_alloc-some, length-with_row, not-has_onu, onus-with_row, onus-without, promised_sum-changed, promised_sum-with_row, promised_sum-without}
@@ -29,14 +29,14 @@ alone false = refl
 
 -- what one pass over the rows tells of a row, and the roster t that they are of
 pub record Sees (t : Roster) (r : Row) (rule : Rule) (g n s : ℕ) (rows seen : List Row) (taken : Bool) (len owns : ℕ) : Type 0 where
-  pub kept : IsKept rule g n s rows
+  pub kept : IsKeptRoster rule g n s rows
   pub view : record { rule = rule; gap = g; rows = rows } ≡ t
   pub same : seen ≡ rows
   pub there : taken ≡ has_alloc r.alloc_id seen
   pub allocs : len ≡ length seen
   pub series : owns ≡ owned r.onu seen
 
-pub sees : {t : Roster} {rule : Rule} {g n s : ℕ} {rows seen : List Row} {taken : Bool} {len owns : ℕ} (r : Row) → IsKept rule g n s rows → record { rule = rule; gap = g; rows = rows } ≡ t → seen ≡ rows →
+pub sees : {t : Roster} {rule : Rule} {g n s : ℕ} {rows seen : List Row} {taken : Bool} {len owns : ℕ} (r : Row) → IsKeptRoster rule g n s rows → record { rule = rule; gap = g; rows = rows } ≡ t → seen ≡ rows →
     taken ≡ has_alloc r.alloc_id seen → len ≡ length seen → owns ≡ owned r.onu seen → Sees t r rule g n s rows seen taken len owns
 sees r kept view same there allocs series = record { kept = kept; view = view; same = same; there = there; allocs = allocs; series = series }
 
@@ -118,12 +118,12 @@ module _ {t : Roster} {r : Row} {rule : Rule} {g n s : ℕ} {rows seen : List Ro
   pub sums_seen : (new s' : ℕ) → new ≡ bool_byte (owns == 0) → s' ≡ s + promised r.descriptor → AreSums (n + new) s' (with_row r t.rows)
   sums_seen new s' e more = subst (λ u. AreSums (n + new) s' (with_row r u.rows)) h.view (sums_here new s' e more)
 
-pub kept_with_row : {t : Roster} {rule : Rule} {g n s n' s' : ℕ} {rows rows' : List Row} (k : ℕ) (r : Row) → IsKept rule g n s rows → record { rule = rule; gap = g; rows = rows } ≡ t → refuses_admit t.rule t.gap t.rows r ≡ None →
-    IsInRange r → insert t.rows k r ≡ with_row r t.rows → AreSums n' s' (with_row r t.rows) → rows' ≡ insert rows k r → IsKept rule g n' s' rows'
+pub kept_with_row : {t : Roster} {rule : Rule} {g n s n' s' : ℕ} {rows rows' : List Row} (k : ℕ) (r : Row) → IsKeptRoster rule g n s rows → record { rule = rule; gap = g; rows = rows } ≡ t → refuses_admit t.rule t.gap t.rows r ≡ None →
+    IsInRange r → insert t.rows k r ≡ with_row r t.rows → AreSums n' s' (with_row r t.rows) → rows' ≡ insert rows k r → IsKeptRoster rule g n' s' rows'
 kept_with_row {t = t} {rule = rule} {g = g} {n' = n'} {s' = s'} {rows = rows} k r kept view free i place sums e =
     let admitted : IsAdmitted rule g (with_row r rows) = admit_keeps rule g rows r (subst (λ u. refuses_admit u.rule u.gap u.rows r ≡ None) (sym view) free) i kept.admitted in
     let after : AreSums n' s' (with_row r rows) = subst (λ u. AreSums n' s' (with_row r u.rows)) (sym view) sums in
-    subst (IsKept rule g n' s') (sym (e ∙ subst (λ u. insert u.rows k r ≡ with_row r u.rows) (sym view) place)) (record { admitted = admitted; sums = after })
+    subst (IsKeptRoster rule g n' s') (sym (e ∙ subst (λ u. insert u.rows k r ≡ with_row r u.rows) (sym view) place)) (record { admitted = admitted; sums = after })
 
 pub told : (q : Option Refusal) (why : Refusal) → q ≡ Some why → IsTold q why
 told q why h = subst (λ q. IsTold q why) (sym h) refl
@@ -132,12 +132,12 @@ told q why h = subst (λ q. IsTold q why) (sym h) refl
 
 -- the row x stands at k of the rows, and they are of the roster t
 pub record Finds (t : Roster) (rule : Rule) (i g n s : ℕ) (rows : List Row) (k : ℕ) (x : Row) : Type 0 where
-  pub kept : IsKept rule g n s rows
+  pub kept : IsKeptRoster rule g n s rows
   pub view : record { rule = rule; gap = g; rows = rows } ≡ t
   pub found : position (λ r. r.alloc_id == i) rows ≡ Some k
   pub here : x ≡ get_or rows k x
 
-pub finds : {t : Roster} {rule : Rule} {g n s : ℕ} {rows seen : List Row} {k : ℕ} {x : Row} (i : ℕ) → IsKept rule g n s rows → record { rule = rule; gap = g; rows = rows } ≡ t → seen ≡ rows →
+pub finds : {t : Roster} {rule : Rule} {g n s : ℕ} {rows seen : List Row} {k : ℕ} {x : Row} (i : ℕ) → IsKeptRoster rule g n s rows → record { rule = rule; gap = g; rows = rows } ≡ t → seen ≡ rows →
     Some k ≡ position (λ r. r.alloc_id == i) seen → x ≡ get_or rows k x → Finds t rule i g n s rows k x
 finds i kept view same found here = record { kept = kept; view = view; found = sym (found ∙ ap (λ u. position (λ r. r.alloc_id == i) u) same); here = here }
 
@@ -197,21 +197,21 @@ module _ {t : Roster} {rule : Rule} {i g n s : ℕ} {rows : List Row} {k : ℕ} 
         promised = omega (arith, less, h.kept.sums.promised, promised_sum-without i k x rows stands_here);
       })
 
-pub kept_changed : {t : Roster} {rule : Rule} {g n s n' s' : ℕ} {rows rows' : List Row} (i : ℕ) (d : Descriptor) → IsKept rule g n s rows → record { rule = rule; gap = g; rows = rows } ≡ t → refuses_change t.rule t.gap t.rows i d ≡ None →
-    IsLawful d → AreSums n' s' (with_descriptor i d t.rows) → rows' ≡ with_descriptor i d rows → IsKept rule g n' s' rows'
+pub kept_changed : {t : Roster} {rule : Rule} {g n s n' s' : ℕ} {rows rows' : List Row} (i : ℕ) (d : Descriptor) → IsKeptRoster rule g n s rows → record { rule = rule; gap = g; rows = rows } ≡ t → refuses_change t.rule t.gap t.rows i d ≡ None →
+    IsLawful d → AreSums n' s' (with_descriptor i d t.rows) → rows' ≡ with_descriptor i d rows → IsKeptRoster rule g n' s' rows'
 kept_changed {t = t} {rule = rule} {g = g} {n' = n'} {s' = s'} {rows = rows} i d kept view free l sums e =
     let admitted : IsAdmitted rule g (with_descriptor i d rows) = change_keeps rule g rows i d (subst (λ u. refuses_change u.rule u.gap u.rows i d ≡ None) (sym view) free) l kept.admitted in
     let after : AreSums n' s' (with_descriptor i d rows) = subst (λ u. AreSums n' s' (with_descriptor i d u.rows)) (sym view) sums in
-    subst (IsKept rule g n' s') (sym e) (record { admitted = admitted; sums = after })
+    subst (IsKeptRoster rule g n' s') (sym e) (record { admitted = admitted; sums = after })
 
 -- what stands in the place of the row found
-pub replaced : {t : Roster} {rule : Rule} {g n s : ℕ} {rows : List Row} (i k : ℕ) (d : Descriptor) (x : Row) → IsKept rule g n s rows → record { rule = rule; gap = g; rows = rows } ≡ t → position (λ r. r.alloc_id == i) t.rows ≡ Some k →
+pub replaced : {t : Roster} {rule : Rule} {g n s : ℕ} {rows : List Row} (i k : ℕ) (d : Descriptor) (x : Row) → IsKeptRoster rule g n s rows → record { rule = rule; gap = g; rows = rows } ≡ t → position (λ r. r.alloc_id == i) t.rows ≡ Some k →
     k < length t.rows → x ≡ get_or rows k x → set rows k (with_new d x) ≡ with_descriptor i d rows
 replaced {rows = rows} i k d x kept view found lt here =
     set_found i k d x rows (stands i k x rows kept.admitted.apart (subst (λ u. position (λ r. r.alloc_id == i) u.rows ≡ Some k) (sym view) found) here) (subst (λ u. k < length u.rows) (sym view) lt)
 
-pub kept_without : {t : Roster} {rule : Rule} {g n s n' s' : ℕ} {rows rows' : List Row} (k i : ℕ) → IsKept rule g n s rows → record { rule = rule; gap = g; rows = rows } ≡ t → remove t.rows k ≡ without i t.rows →
-    AreSums n' s' (without i t.rows) → rows' ≡ remove rows k → IsKept rule g n' s' rows'
+pub kept_without : {t : Roster} {rule : Rule} {g n s n' s' : ℕ} {rows rows' : List Row} (k i : ℕ) → IsKeptRoster rule g n s rows → record { rule = rule; gap = g; rows = rows } ≡ t → remove t.rows k ≡ without i t.rows →
+    AreSums n' s' (without i t.rows) → rows' ≡ remove rows k → IsKeptRoster rule g n' s' rows'
 kept_without {t = t} {rule = rule} {g = g} {n' = n'} {s' = s'} {rows = rows} k i kept view place sums e =
     let after : AreSums n' s' (without i rows) = subst (λ u. AreSums n' s' (without i u.rows)) (sym view) sums in
-    subst (IsKept rule g n' s') (sym (e ∙ subst (λ u. remove u.rows k ≡ without i u.rows) (sym view) place)) (record { admitted = remove_keeps rule g rows i kept.admitted; sums = after })
+    subst (IsKeptRoster rule g n' s') (sym (e ∙ subst (λ u. remove u.rows k ≡ without i u.rows) (sym view) place)) (record { admitted = remove_keeps rule g rows i kept.admitted; sums = after })

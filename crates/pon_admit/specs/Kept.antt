@@ -8,6 +8,6 @@ pub record AreSums (n s : ℕ) (rows : List Row) : Type 0 where
   pub promised : s ≡ promised_sum rows
 
 -- the rows are an admitted set under the rule, and the sums are theirs
-pub record IsKept (rule : Rule) (gap n s : ℕ) (rows : List Row) : Type 0 where
+pub record IsKeptRoster (rule : Rule) (gap n s : ℕ) (rows : List Row) : Type 0 where
   pub admitted : IsAdmitted rule gap rows
   pub sums : AreSums n s rows

@@ -31,13 +31,13 @@ pub struct Roster {
 
 impl Model for Roster {
     ghost use Rattle.pon_admit.specs.Roster.{Roster};
-    ghost use Rattle.pon_admit.specs.Kept.{IsKept};
+    ghost use Rattle.pon_admit.specs.Kept.{IsKeptRoster};
 
     ghost Value = { Roster };
 
     ghost view = { λ a. record { rule = a.rule; gap = a.gap; rows = a.rows.items } };
 
-    ghost invariant = { λ a. IsKept a.rule a.gap a.onus a.promised a.rows.items };
+    ghost invariant = { λ a. IsKeptRoster a.rule a.gap a.onus a.promised a.rows.items };
 }
 
 impl Roster {

@@ -14,7 +14,7 @@ use Rattle.pon_units.specs.Granted.{AreInMapOrder, ComesBefore, onus_granted}
 use Rattle.pon_lists.proofs.Lists.{list_any-map, list_any_agree, or-false, sum_by_agree}
 use Rattle.pon_lists.proofs.Order.{in_order-sides}
 use Rattle.pon_lists.proofs.Distinct.{bit, count_once, count_once-append, count_once_agree, count_once_none, count_once_push, length-distinct, length-filter_distinct, occurs}
-use Rattle.pon_burst.specs.Maps.{continues, frame_words, grant, start_of}
+use Rattle.pon_burst.specs.Maps.{follows_in_series, frame_words, grant, start_of}
 
 -- Who comes before whom.
 
@@ -87,8 +87,8 @@ module _ (gap profile : ℕ) (gs : List Granted) (order : AreInMapOrder gs) (r :
   after = (in_order-sides ComesBefore r xs ys (subst AreInMapOrder e order)).1
 
   -- a structure continues a burst where its ONU has one before it
-  pub continues-is : continues gap profile gs r ≡ has_onu r.onu xs
-  continues-is =
+  pub follows_in_series-is : follows_in_series gap profile gs r ≡ has_onu r.onu xs
+  follows_in_series-is =
       let none : (leads r r || list_any (leads r) ys) ≡ false
       = (λ i. and_right (r.onu == r.onu) (nat_lt r.alloc_id r.alloc_id) (le-ltb r.alloc_id r.alloc_id (omega arith)) i
       || list_any_none (leads r) ys (All-weaker (λ q. ComesBefore r q) (λ q. leads r q ≡ false) (leads_after r) ys after) i) in

@@ -14,8 +14,8 @@ use Rattle.pon_bwmap.specs.Structure.{Structure}
 use Rattle.pon_bwmap.specs.MapRules.{continues as lacks_start, IsMap}
 use Rattle.pon_bwmap.proofs.SeriesLaw.{map_rules}
 use Rattle.pon_burst.specs.Bursts.{IsInFrame, burst_of, bursts_of, continued}
-use Rattle.pon_burst.specs.Maps.{continues, frame_words, map_of, start_of, structure_of}
-use Rattle.pon_burst.proofs.MapRows.{continues-is, has_onu}
+use Rattle.pon_burst.specs.Maps.{follows_in_series, frame_words, map_of, start_of, structure_of}
+use Rattle.pon_burst.proofs.MapRows.{follows_in_series-is, has_onu}
 use Rattle.pon_lists.proofs.Order.{in_order-sides}
 use Rattle.pon_burst.proofs.SoundMaps.{sound_of_rising}
 
@@ -56,7 +56,7 @@ module _ (gap profile : ℕ) (gs : List Granted) (order : AreInMapOrder gs) wher
 
   row_continues : (g : Granted) (xs ys : List Granted) → gs ≡ xs ++ g ∷ ys → is_none (row g).start ≡ has_onu g.onu xs
   row_continues g xs ys e =
-      flag_is (continues gap profile gs g) ∙ continues-is gap profile gs order g xs ys e
+      flag_is (follows_in_series gap profile gs g) ∙ follows_in_series-is gap profile gs order g xs ys e
     where
       flag_is : (b : Bool) → is_none (if b then None else Some (start_of gap profile gs g.onu)) ≡ b
       flag_is true = refl

@@ -9,9 +9,9 @@ use Rattle.std.proofs.lemmas.Grind.{flat_map-append}
 use Rattle.pon_units.specs.declared.Granted.{Granted}
 use Rattle.pon_units.specs.Granted.{AreInMapOrder}
 use Rattle.pon_bwmap.specs.Structure.{Structure}
-use Rattle.pon_burst.specs.Maps.{continues, start_of, structure_of}
+use Rattle.pon_burst.specs.Maps.{follows_in_series, start_of, structure_of}
 use Rattle.pon_burst.specs.Series.{Series, burst_structures, burst_words, granted, granted_to, polled}
-use Rattle.pon_burst.proofs.MapRows.{continues-is, has_onu, start-is, word_after}
+use Rattle.pon_burst.proofs.MapRows.{follows_in_series-is, has_onu, start-is, word_after}
 use Rattle.pon_burst.proofs.SeriesOrder.{Rise, granted_of, in_order, none_before, rise-take, words_after}
 
 module _ (gap profile : ℕ) (gs : List Granted) (order : AreInMapOrder gs) (u : ℕ) where
@@ -28,7 +28,7 @@ module _ (gap profile : ℕ) (gs : List Granted) (order : AreInMapOrder gs) (u :
   later : (bs : List (ℕ × ℕ)) (xs ys : List Granted) → gs ≡ xs ++ (grants_of bs ++ ys) → has_onu u xs ≡ true → map (polled profile None) bs ≡ structures_of bs
   later [] xs ys e h = refl
   later (b ∷ bs) xs ys e h =
-      let on : continues gap profile gs (granted_of u b) ≡ true = continues-is gap profile gs order (granted_of u b) xs (grants_of bs ++ ys) e ∙ h in
+      let on : follows_in_series gap profile gs (granted_of u b) ≡ true = follows_in_series-is gap profile gs order (granted_of u b) xs (grants_of bs ++ ys) e ∙ h in
       let rest : map (polled profile None) bs ≡ structures_of bs
       = later bs (xs ++ granted_of u b ∷ []) ys (e ∙ sym (append_assoc xs (granted_of u b ∷ []) (grants_of bs ++ ys))) (has_last xs b) in
       (λ i. polled profile (if sym on i then None else Some (start_of gap profile gs u)) b ∷ rest i)
@@ -37,7 +37,7 @@ module _ (gap profile : ℕ) (gs : List Granted) (order : AreInMapOrder gs) (u :
   burst : (bs : List (ℕ × ℕ)) (xs ys : List Granted) → gs ≡ xs ++ (grants_of bs ++ ys) → has_onu u xs ≡ false → burst_structures profile (word_after gap xs) bs ≡ structures_of bs
   burst [] xs ys e h = refl
   burst (b ∷ bs) xs ys e h =
-      let off : continues gap profile gs (granted_of u b) ≡ false = continues-is gap profile gs order (granted_of u b) xs (grants_of bs ++ ys) e ∙ h in
+      let off : follows_in_series gap profile gs (granted_of u b) ≡ false = follows_in_series-is gap profile gs order (granted_of u b) xs (grants_of bs ++ ys) e ∙ h in
       let start : start_of gap profile gs u ≡ word_after gap xs = start-is gap profile gs order (granted_of u b) xs (grants_of bs ++ ys) e h in
       let rest : map (polled profile None) bs ≡ structures_of bs
       = later bs (xs ++ granted_of u b ∷ []) ys (e ∙ sym (append_assoc xs (granted_of u b ∷ []) (grants_of bs ++ ys))) (has_last xs b) in

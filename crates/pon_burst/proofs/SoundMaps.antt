@@ -8,7 +8,7 @@ use Rattle.pon_lists.proofs.Distinct.{bit, count_once}
 use Rattle.pon_burst.specs.Bursts.{AreSound}
 use Rattle.pon_burst.specs.Maps.{frame_words, grant, map_of, start_of, structure_of}
 use Rattle.pon_burst.proofs.Laid.{AreLaid, BeginsAt, behind, end_of, laid_sound}
-use Rattle.pon_burst.proofs.MapRows.{continues-is, has_onu, onus, start-is, word_after, word_push, words_of}
+use Rattle.pon_burst.proofs.MapRows.{follows_in_series-is, has_onu, onus, start-is, word_after, word_push, words_of}
 
 module _ (gap profile : ℕ) (gs : List Granted) (order : AreInMapOrder gs) where
   -- a structure lies behind those before it
@@ -16,7 +16,7 @@ module _ (gap profile : ℕ) (gs : List Granted) (order : AreInMapOrder gs) wher
       BeginsAt (word_after gap xs) (structure_of gap profile gs r).start × (behind gap (word_after gap xs) (grant r) (structure_of gap profile gs r).start ≡ word_after gap (xs ++ r ∷ []))
   row_laid r xs ys e =
       subst (λ b. BeginsAt (word_after gap xs) (if b then None else Some s) × (behind gap (word_after gap xs) (grant r) (if b then None else Some s) ≡ word_after gap (xs ++ r ∷ [])))
-      (sym (continues-is gap profile gs order r xs ys e))
+      (sym (follows_in_series-is gap profile gs order r xs ys e))
       (by_test (has_onu r.onu xs) refl)
     where
       s : ℕ

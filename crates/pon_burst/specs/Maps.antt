@@ -22,15 +22,15 @@ module _ (gap profile : ℕ) (gs : List Granted) where
       + sum_by (λ g. if nat_lt g.onu u then grant g else 0) gs
 
   -- the ONU has an Alloc-ID of lesser number
-  abbrev pub continues : Granted → Bool
-  continues g = list_any (λ h. h.onu == g.onu && nat_lt h.alloc_id g.alloc_id) gs
+  abbrev pub follows_in_series : Granted → Bool
+  follows_in_series g = list_any (λ h. h.onu == g.onu && nat_lt h.alloc_id g.alloc_id) gs
 
   abbrev pub structure_of : Granted → Structure
   structure_of g = record {
     id = g.alloc_id;
     dbru = true;
     ploam = false;
-    start = if continues g then None else Some (start_of g.onu);
+    start = if follows_in_series g then None else Some (start_of g.onu);
     grant = grant g;
     fwi = false;
     profile = profile;

@@ -10,7 +10,7 @@ use Rattle.pon_bwmap.specs.Structure.{Structure}
 use Rattle.pon_bwmap.specs.MapBytes.{structure_payload}
 use Rattle.pon_bwmap.specs.MapRules.{row_fault}
 use Rattle.pon_bwmap.specs.MapReading.{ReadsRows, ReadsMapRows, map_size}
-use Rattle.pon_bwmap.specs.MapFaults.{LosesStructure, BreaksRule, IsRowsFirstFault, IsFaultOfRows, IsFirstFault}
+use Rattle.pon_bwmap.specs.MapFaults.{LosesStructure, BreaksRule, IsRowsFirstFault, IsFaultOfRows, IsFirstMapFault}
 use Rattle.pon_bwmap.specs.declared.fault.MapFault.{MapFault}
 use Rattle.pon_bwmap.specs.declared.fault.MapFault.TheVariants.{Short, HeadHec, TooMany, StructHec, SeriesStart, StartRange, SeriesLong, Memory}
 use Rattle.pon_bwmap.proofs.OneMap.{first_rows, one_rows, row_at, one_head}
@@ -110,7 +110,7 @@ pub data MapEnd (bytes : List ℕ) (f : MapFault) : Type 0 where
 of_rows : (bytes : List ℕ) (f : MapFault) → IsFaultOfRows bytes f → MapEnd bytes f
 of_rows bytes f h = Head h.head h.corrected h.reads_head.reads (Rows h.reads_head.count h.reads_head.whole h.in_rows)
 
-map_end : (bytes : List ℕ) (f : MapFault) → IsFirstFault bytes f → MapEnd bytes f
+map_end : (bytes : List ℕ) (f : MapFault) → IsFirstMapFault bytes f → MapEnd bytes f
 map_end bytes Short (inl short) = NoHead short refl
 map_end bytes Short (inr cut) = Head cut.0 cut.1 cut.2 (Cut cut.3 cut.4 refl)
 map_end bytes HeadHec h = LostHead h refl
@@ -147,5 +147,5 @@ one_map_end bytes f g are (Head h k r s) (Head h2 k2 r2 s2) =
     let same = one_head bytes h h2 k k2 are r r2 in
     one_head_end bytes h h2 f g are same.0 same.1 s s2
 
-pub one_fault : (bytes : List ℕ) (f g : MapFault) → All (λ b. b < 256) bytes → IsFirstFault bytes f → IsFirstFault bytes g → f ≡ g
+pub one_fault : (bytes : List ℕ) (f g : MapFault) → All (λ b. b < 256) bytes → IsFirstMapFault bytes f → IsFirstMapFault bytes g → f ≡ g
 one_fault bytes f g all a b = one_map_end bytes f g (bytes-from_All bytes all) (map_end bytes f a) (map_end bytes g b)

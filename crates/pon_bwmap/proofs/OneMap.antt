@@ -11,7 +11,7 @@ use Rattle.pon_bwmap.specs.Structure.{Structure}
 use Rattle.pon_bwmap.specs.MapBytes.{flag_bit, start_field, structure_payload}
 use Rattle.pon_bwmap.specs.MapRules.{row_fault}
 use Rattle.pon_bwmap.specs.MapReading.{FitsStructure, ReadsStructure, ReadsRows, ReadsMap}
-use Rattle.pon_bwmap.specs.MapFaults.{BreaksRule, IsFaultOfRows, IsFirstFault}
+use Rattle.pon_bwmap.specs.MapFaults.{BreaksRule, IsFaultOfRows, IsFirstMapFault}
 use Rattle.pon_bwmap.specs.declared.fault.MapFault.{MapFault}
 use Rattle.pon_bwmap.specs.declared.fault.MapFault.TheVariants.{Short, HeadHec, TooMany, StructHec, SeriesStart, StartRange, SeriesLong, Memory}
 use Rattle.pon_bwmap.proofs.ReadsBack.{flag_small, start_small}
@@ -121,7 +121,7 @@ breaks_no_map bytes rows corrected used k fault f are r b =
     let head = one_head bytes r.head f.head r.in_head f.corrected are r.reads_head.reads f.reads_head.reads in
     no_break bytes rows corrected used k fault are r (omega (arith, b.0, head.0)) b.1
 
-pub no_fault : (bytes : List ℕ) (rows : List Structure) (corrected used : ℕ) (fault : MapFault) → All (λ b. b < 256) bytes → ReadsMap bytes rows corrected used → IsFirstFault bytes fault → fault ≡ Memory
+pub no_fault : (bytes : List ℕ) (rows : List Structure) (corrected used : ℕ) (fault : MapFault) → All (λ b. b < 256) bytes → ReadsMap bytes rows corrected used → IsFirstMapFault bytes fault → fault ≡ Memory
 no_fault bytes rows corrected used Short all r (inl short) = absurd (omega (arith, short, r.reads_head.reads.header.whole))
 no_fault bytes rows corrected used Short all r (inr short) =
     let head = one_head bytes r.head short.0 r.in_head short.1 (bytes-from_All bytes all) r.reads_head.reads short.2 in

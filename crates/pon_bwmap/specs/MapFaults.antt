@@ -53,12 +53,12 @@ abbrev pub IsShort : List ℕ → Type 0
 IsShort bytes = (length bytes < 4) ⊎ ((head : MapHead) × (corrected : ℕ) × ReadsMapHead bytes head corrected × (head.n ≤ MOST_STRUCTURES) × (length bytes < map_size head))
 
 -- this is the first thing that is wrong
-abbrev pub IsFirstFault : List ℕ → MapFault → Type 0
-IsFirstFault bytes Short = IsShort bytes
-IsFirstFault bytes HeadHec = IsHeaderFault bytes Hec
-IsFirstFault bytes TooMany = (head : MapHead) × (corrected : ℕ) × ReadsMapHead bytes head corrected × (MOST_STRUCTURES < head.n)
-IsFirstFault bytes (StructHec k) = IsFaultOfRows bytes (StructHec k)
-IsFirstFault bytes (SeriesStart k) = IsFaultOfRows bytes (SeriesStart k)
-IsFirstFault bytes (StartRange k) = IsFaultOfRows bytes (StartRange k)
-IsFirstFault bytes (SeriesLong k) = IsFaultOfRows bytes (SeriesLong k)
-IsFirstFault bytes Memory = IsFaultOfRows bytes Memory
+abbrev pub IsFirstMapFault : List ℕ → MapFault → Type 0
+IsFirstMapFault bytes Short = IsShort bytes
+IsFirstMapFault bytes HeadHec = IsHeaderFault bytes Hec
+IsFirstMapFault bytes TooMany = (head : MapHead) × (corrected : ℕ) × ReadsMapHead bytes head corrected × (MOST_STRUCTURES < head.n)
+IsFirstMapFault bytes (StructHec k) = IsFaultOfRows bytes (StructHec k)
+IsFirstMapFault bytes (SeriesStart k) = IsFaultOfRows bytes (SeriesStart k)
+IsFirstMapFault bytes (StartRange k) = IsFaultOfRows bytes (StartRange k)
+IsFirstMapFault bytes (SeriesLong k) = IsFaultOfRows bytes (SeriesLong k)
+IsFirstMapFault bytes Memory = IsFaultOfRows bytes Memory

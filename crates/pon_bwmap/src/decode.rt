@@ -4,7 +4,7 @@ ghost use Rattle.pon_hec.specs.HeaderCode.{Reads};
 ghost use Rattle.pon_bwmap.specs.Structure.{Structure};
 ghost use Rattle.pon_bwmap.specs.MapBytes.{structure_payload};
 ghost use Rattle.pon_bwmap.specs.MapReading.{FitsStructure, ReadsStructure, ReadsMapRows, ReadsWholeHead, ReadsMap, BeginsWithMap, map_size};
-ghost use Rattle.pon_bwmap.specs.MapFaults.{IsRowsFirstFault, IsFirstFault};
+ghost use Rattle.pon_bwmap.specs.MapFaults.{IsRowsFirstFault, IsFirstMapFault};
 ghost use Rattle.pon_bwmap.specs.declared.fault.MapFault.{MapFault};
 
 use crate::alloc::Alloc;
@@ -25,7 +25,7 @@ use std::alloc::Global;
 /// last, where a map does stand in the bytes.
 pub fn decode_map(alloc: Global, bytes: &[u8]) -> Result<(Map, u32, usize), MapFault>
     ensures ok { IfOk result (λ r. ReadsMap bytes.now r.0 r.1 r.2) }
-    ensures fault { IfErr result (λ f. IsFirstFault bytes.now f) }
+    ensures fault { IfErr result (λ f. IsFirstMapFault bytes.now f) }
 {
     let (head, in_head) = read_head(bytes)?;
     let count = usize::from(head.n());
@@ -37,7 +37,7 @@ pub fn decode_map(alloc: Global, bytes: &[u8]) -> Result<(Map, u32, usize), MapF
 /// none. `None` exactly when a map does stand in the bytes.
 pub fn map_fault(bytes: &[u8]) -> Option<MapFault>
     ensures none { IsNone result → BeginsWithMap bytes.now }
-    ensures fault { IfSome result (λ f. IsFirstFault bytes.now f × (f ≢ MapFault.Memory)) }
+    ensures fault { IfSome result (λ f. IsFirstMapFault bytes.now f × (f ≢ MapFault.Memory)) }
 {
     let head = match read_head(bytes) {
         Ok((head, _)) => head,
@@ -53,7 +53,7 @@ pub fn map_fault(bytes: &[u8]) -> Option<MapFault>
 // The head, where all that it announces is there.
 fn read_head(bytes: &[u8]) -> Result<(HLend, u8), MapFault>
     ensures ok { IfOk result (λ r. ReadsWholeHead bytes.now r.0 r.1) }
-    ensures fault { IfErr result (λ f. IsFirstFault bytes.now f) }
+    ensures fault { IfErr result (λ f. IsFirstMapFault bytes.now f) }
     ensures early { IfErr result (λ f. f ≢ MapFault.Memory) }
 {
     let (head, corrected) = match HLend::decode(bytes) {

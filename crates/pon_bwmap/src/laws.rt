@@ -4,7 +4,7 @@ ghost use Rattle.std.specs.Prelude.{◌≡◌, ◌↔◌, ◌+◌, ◌*◌, ◌<
 ghost use Rattle.pon_bwmap.specs.Structure.{Structure};
 ghost use Rattle.pon_bwmap.specs.MapBytes.{map_bytes};
 ghost use Rattle.pon_bwmap.specs.MapReading.{FitsStructure, ReadsMap};
-ghost use Rattle.pon_bwmap.specs.MapFaults.{IsFirstFault};
+ghost use Rattle.pon_bwmap.specs.MapFaults.{IsFirstMapFault};
 ghost use Rattle.pon_bwmap.specs.MapRules.{IsMap, KeepsSeriesRules};
 ghost use Rattle.pon_bwmap.specs.declared.fault.MapFault.{MapFault};
 
@@ -30,12 +30,12 @@ pub fn one_map()
 /// Bytes have one first fault at most.
 pub fn one_fault()
     ensures { (bytes : List ℕ) (fault fault2 : MapFault) → All (λ b. b < 256) bytes →
-        IsFirstFault bytes fault → IsFirstFault bytes fault2 → fault ≡ fault2 }
+        IsFirstMapFault bytes fault → IsFirstMapFault bytes fault2 → fault ≡ fault2 }
 {}
 
 /// Where bytes read as a map, nothing but memory can be wanting.
 pub fn only_memory_is_wanting()
     ensures { (bytes : List ℕ) (rows : List Structure) (corrected used : ℕ) (fault : MapFault) →
-        All (λ b. b < 256) bytes → ReadsMap bytes rows corrected used → IsFirstFault bytes fault →
+        All (λ b. b < 256) bytes → ReadsMap bytes rows corrected used → IsFirstMapFault bytes fault →
         fault ≡ MapFault.Memory }
 {}

@@ -16,7 +16,7 @@ use Rattle.pon_cert.specs.declared.cert.ClassCert.{ClassCert}
 use Rattle.pon_cert.specs.declared.cert.MapCert.{MapCert}
 use Rattle.pon_cert.specs.Spelling.{flag_byte, level_bytes, class_bytes, cert_bytes}
 use Rattle.pon_cert.specs.Texts.{FitsLevel, FitsClass, FitsCert}
-use Rattle.pon_cert.specs.Reading.{number_at, wanted, level_of, level_at, flags_at, class_at, cert_at, ReadsCert}
+use Rattle.pon_cert.specs.Reading.{number_at, wanted, level_in_bytes, level_at, flags_at, class_in_bytes, cert_at, ReadsCert}
 use Rattle.pon_cert.proofs.Flags.{byte_at}
 
 -- Steps.
@@ -163,7 +163,7 @@ record IsLevel (kind num den : ℕ) (l : Level) : Type 0 where
   fits : FitsLevel l
   spelled : kind ∷ (to_be_bytes w64 num ++ to_be_bytes w64 den) ≡ level_bytes l
 
-level_is : (kind num den : ℕ) (l : Level) → kind < 2 → num < 2 ^ 64 → den < 2 ^ 64 → level_of kind num den ≡ Ok l → IsLevel kind num den l
+level_is : (kind num den : ℕ) (l : Level) → kind < 2 → num < 2 ^ 64 → den < 2 ^ 64 → level_in_bytes kind num den ≡ Ok l → IsLevel kind num den l
 level_is zero num den l k n d e =
     let so : Wanted ((num == 0) && (den == 0)) level.All l = was_wanted _ _ _ e in
     let both = and_parts (num == 0) (den == 0) so.holds_so in
@@ -180,7 +180,7 @@ level_read bytes l rest are e =
     let known = came (wanted (nat_lt kind.value.0 2) kind.value) _ _ kind.last in
     let num = came (number_at w64 known.value.1) _ _ known.last in
     let den = came (number_at w64 num.value.1) _ _ num.last in
-    let found = came (level_of known.value.0 num.value.0 den.value.0) _ _ den.last in
+    let found = came (level_in_bytes known.value.0 num.value.0 den.value.0) _ _ den.last in
     let byte : IsByte bytes kind.value.0 kind.value.1 = byte_is bytes kind.value.0 kind.value.1 kind.first in
     let so : Wanted (nat_lt kind.value.0 2) kind.value known.value = was_wanted _ _ _ known.first in
     let same_number : known.value.0 ≡ kind.value.0 = ap (λ (p : ℕ × List ℕ). p.0) so.same in
@@ -203,8 +203,8 @@ record SpellsClass (c : ClassCert) (bytes rest : List ℕ) : Type 0 where
   spelled : bytes ≡ class_bytes c ++ rest
   still : AreBytes rest
 
-class_read : (bytes : List ℕ) (c : ClassCert) (rest : List ℕ) → AreBytes bytes → class_at bytes ≡ Ok (c, rest) → SpellsClass c bytes rest
-unfolding class_at
+class_read : (bytes : List ℕ) (c : ClassCert) (rest : List ℕ) → AreBytes bytes → class_in_bytes bytes ≡ Ok (c, rest) → SpellsClass c bytes rest
+unfolding class_in_bytes
 class_read bytes c rest are e =
     let l = came (level_at bytes) _ _ e in
     let count = came (number_at w16 l.value.1) _ _ l.last in
@@ -229,8 +229,8 @@ class_read bytes c rest are e =
 pub cert_read : (bytes : List ℕ) (c : MapCert) (used : ℕ) → AreBytes bytes → ReadsCert bytes c used → FitsCert c × (take used bytes ≡ cert_bytes c)
 unfolding cert_at
 cert_read bytes c used are reads =
-    let na = came (class_at bytes) _ _ reads.read in
-    let be = came (class_at na.value.1) _ _ na.last in
+    let na = came (class_in_bytes bytes) _ _ reads.read in
+    let be = came (class_in_bytes na.value.1) _ _ na.last in
     let na_so : SpellsClass na.value.0 bytes na.value.1 = class_read bytes na.value.0 na.value.1 are na.first in
     let be_so : SpellsClass be.value.0 na.value.1 be.value.1 = class_read na.value.1 be.value.0 be.value.1 na_so.still be.first in
     let pair : (record { na = na.value.0; be = be.value.0 }, be.value.1) ≡ (c, drop used bytes) = same_value _ _ be.last in

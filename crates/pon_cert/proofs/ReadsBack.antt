@@ -11,7 +11,7 @@ use Rattle.pon_cert.specs.declared.cert.ClassCert.{ClassCert}
 use Rattle.pon_cert.specs.declared.cert.MapCert.{MapCert}
 use Rattle.pon_cert.specs.declared.cert.CertReadFault.{CertReadFault}
 use Rattle.pon_cert.specs.Spelling.{flag_byte, level_bytes, class_bytes, cert_bytes}
-use Rattle.pon_cert.specs.Reading.{number_at, flags_at, level_at, class_at, cert_at, ReadsCert}
+use Rattle.pon_cert.specs.Reading.{number_at, flags_at, level_at, class_in_bytes, cert_at, ReadsCert}
 use Rattle.pon_cert.specs.Texts.{FitsLevel, FitsClass, FitsCert}
 use Rattle.pon_cert.proofs.Flags.{byte_at}
 
@@ -44,8 +44,8 @@ level_back (level.At f) rest fits =
     let some : nat_lt 0 f.den ≡ true = lt-ltb 0 f.den fits.1 in
     rw (byte_at 1 (to_be_bytes w64 f.num ++ (to_be_bytes w64 f.den ++ rest)), eight_back f.num (to_be_bytes w64 f.den ++ rest) fits.0, eight_back f.den rest fits.2, some) refl
 
-class_back : (c : ClassCert) (rest : List ℕ) → FitsClass c → class_at (class_bytes c ++ rest) ≡ Ok (c, rest)
-unfolding class_at
+class_back : (c : ClassCert) (rest : List ℕ) → FitsClass c → class_in_bytes (class_bytes c ++ rest) ≡ Ok (c, rest)
+unfolding class_in_bytes
 class_back c rest fits =
     let known : nat_lt (length c.saturated) 513 ≡ true = lt-ltb (length c.saturated) 513 (omega (arith, fits.count)) in
     rw (

@@ -19,8 +19,8 @@ abbrev pub wanted : {A : Type 0} → Bool → A → Result A CertReadFault
 wanted holds a = if holds then Ok a else Err Form
 
 -- both numbers are 0 where every item is saturated, and the denominator is above 0 for a fraction
-abbrev pub level_of : ℕ → ℕ → ℕ → Result Level CertReadFault
-level_of kind num den =
+abbrev pub level_in_bytes : ℕ → ℕ → ℕ → Result Level CertReadFault
+level_in_bytes kind num den =
     if kind == 0 then wanted ((num == 0) && (den == 0)) level.All
     else wanted (nat_lt 0 den) (level.At (record { num = num; den = den }))
 
@@ -31,7 +31,7 @@ level_at bytes = do
   known ← wanted (nat_lt kind.0 2) kind
   num ← number_at w64 known.1
   den ← number_at w64 num.1
-  l ← level_of known.0 num.0 den.0
+  l ← level_in_bytes known.0 num.0 den.0
   Ok (l, den.1)
 
 -- this number of truth values, a byte of 0 or 1 each
@@ -44,8 +44,8 @@ flags_at (suc n) bytes = do
   Ok ((known.0 == 1) ∷ others.0, others.1)
 
 -- the level, the count of items, at most 512, and their truth values
-unfoldable pub class_at : List ℕ → Result (ClassCert × List ℕ) CertReadFault
-class_at bytes = do
+unfoldable pub class_in_bytes : List ℕ → Result (ClassCert × List ℕ) CertReadFault
+class_in_bytes bytes = do
   l ← level_at bytes
   count ← number_at w16 l.1
   known ← wanted (nat_lt count.0 513) count
@@ -55,8 +55,8 @@ class_at bytes = do
 -- the non-assured class, then the best-effort one; later bytes are not read
 unfoldable pub cert_at : List ℕ → Result (MapCert × List ℕ) CertReadFault
 cert_at bytes = do
-  na ← class_at bytes
-  be ← class_at na.1
+  na ← class_in_bytes bytes
+  be ← class_in_bytes na.1
   Ok (record { na = na.0; be = be.0 }, be.1)
 
 -- A reader's result is that of its decoder: the value and the bytes behind it, or the fault.

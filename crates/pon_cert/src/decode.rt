@@ -2,7 +2,7 @@
 ghost use Rattle.std.specs.Prelude.{◌≡◌, ◌==◌, nat_lt, map, Ok, Err, IfOk, IfErr, MatchResult};
 ghost use Rattle.std.specs.Int.{w8, w16, w64};
 ghost use Rattle.std.specs.List.{list_all};
-ghost use Rattle.pon_cert.specs.Reading.{ReadsAs, ReadsCert, IsByteFault, IsTail, number_at, level_of, level_at, flags_at, class_at};
+ghost use Rattle.pon_cert.specs.Reading.{ReadsAs, ReadsCert, IsByteFault, IsTail, number_at, level_in_bytes, level_at, flags_at, class_in_bytes};
 ghost use Rattle.pon_cert.specs.declared.cert.CertReadFault.{CertReadFault};
 
 use crate::cert::{CertReadFault, ClassCert, Level, MapCert};
@@ -74,9 +74,9 @@ fn owned(alloc: Global, na: &LentClass<'_>, be: &LentClass<'_>) -> Result<MapCer
 }
 
 // A class, and the bytes after it.
-#[tactic(auto, unfolding(crate::specs::Reading::class_at))]
+#[tactic(auto, unfolding(crate::specs::Reading::class_in_bytes))]
 fn read_class(bytes: &[u8]) -> Result<(LentClass<'_>, &[u8]), CertReadFault>
-    ensures value { ReadsAs (class_at bytes.now) result }
+    ensures value { ReadsAs (class_in_bytes bytes.now) result }
     ensures tail { IfOk result (λ r. IsTail bytes.now r.1.now) }
 {
     let (level, rest) = match read_level(bytes) {
@@ -103,12 +103,12 @@ fn read_level(bytes: &[u8]) -> Result<(Level, &[u8]), CertReadFault>
     }
     let (num, rest) = read_u64(rest)?;
     let (den, rest) = read_u64(rest)?;
-    Ok((level_of(kind, num, den)?, rest))
+    Ok((level_in_bytes(kind, num, den)?, rest))
 }
 
 // The level of this kind with these numbers.
-fn level_of(kind: u8, num: u64, den: u64) -> Result<Level, CertReadFault>
-    ensures { result ≡ level_of kind num den }
+fn level_in_bytes(kind: u8, num: u64, den: u64) -> Result<Level, CertReadFault>
+    ensures { result ≡ level_in_bytes kind num den }
 {
     if kind != 0 {
         return fraction(num, den);
@@ -120,7 +120,7 @@ fn level_of(kind: u8, num: u64, den: u64) -> Result<Level, CertReadFault>
 }
 
 fn fraction(num: u64, den: u64) -> Result<Level, CertReadFault>
-    ensures { result ≡ level_of 1 num den }
+    ensures { result ≡ level_in_bytes 1 num den }
 {
     if den == 0 {
         return Err(CertReadFault::Form);

@@ -32,10 +32,10 @@ impl MapCert {
         let Some(words) = words_of(text) else {
             return Err(CertReadFault::Form);
         };
-        let Some(na) = class_of(alloc, na, words.na_level, words.na_set) else {
+        let Some(na) = class_in_text(alloc, na, words.na_level, words.na_set) else {
             return Err(CertReadFault::Form);
         };
-        let Some(be) = class_of(alloc, be, words.be_level, words.be_set) else {
+        let Some(be) = class_in_text(alloc, be, words.be_level, words.be_set) else {
             return Err(CertReadFault::Form);
         };
         match (na, be) {
@@ -100,7 +100,7 @@ fn is_name(word: &str, name: AllocId) -> bool
 }
 
 // The level that a word writes.
-fn level_of(word: &str) -> Option<Level>
+fn level_in_text(word: &str) -> Option<Level>
     ensures { MatchOption result
         ((l : Level) → FitsLevel l → level_text l ≡ word.now → ⊥)
         (λ l. FitsLevel l × (level_text l ≡ word.now)) }
@@ -191,13 +191,13 @@ fn flags_of(alloc: Global, names: &[AllocId], set: &str) -> Option<Option<Vec<bo
 }
 
 // The class that the words of its level and its set write; as above, memory is the inner `None`.
-fn class_of(alloc: Global, names: &[AllocId], level: &str, set: &str) -> Option<Option<ClassCert>>
+fn class_in_text(alloc: Global, names: &[AllocId], level: &str, set: &str) -> Option<Option<ClassCert>>
     requires { AreNames names.now }
     ensures { MatchOption result
         ((cert : ClassCert) → IsClassOf names.now level.now set.now cert → ⊥)
         (λ read. (cert : ClassCert) × IsClassOf names.now level.now set.now cert × IfSome read (λ c. c ≡ cert)) }
 {
-    let level = level_of(level)?;
+    let level = level_in_text(level)?;
     let flags = flags_of(alloc, names, set)?;
     Some(with_flags(level, flags))
 }

@@ -43,25 +43,25 @@ IsSumFault l total surplus Denominator = ⊥
 IsSumFault l total surplus (Saturated i) = ⊥
 IsSumFault l total surplus (Unsaturated i) = ⊥
 
-abbrev pub IsFirstFault : List Item → ℕ → ClassCert → CertFault → Type 0
-IsFirstFault items surplus cert Length = length items ≢ length cert.saturated
-IsFirstFault items surplus cert Denominator = (length items ≡ length cert.saturated) × (DenominatorHolds cert.level items cert.saturated → ⊥)
-IsFirstFault items surplus cert (Saturated i) = IsAligned items cert × FailsFirst cert.level items cert.saturated i true
-IsFirstFault items surplus cert (Unsaturated i) = IsAligned items cert × FailsFirst cert.level items cert.saturated i false
-IsFirstFault items surplus cert Overspent = KeepsRules items cert × IsSumFault cert.level (sum (spelled items cert).amounts) surplus Overspent
-IsFirstFault items surplus cert NotExhausted = KeepsRules items cert × IsSumFault cert.level (sum (spelled items cert).amounts) surplus NotExhausted
+abbrev pub IsFirstClassFault : List Item → ℕ → ClassCert → CertFault → Type 0
+IsFirstClassFault items surplus cert Length = length items ≢ length cert.saturated
+IsFirstClassFault items surplus cert Denominator = (length items ≡ length cert.saturated) × (DenominatorHolds cert.level items cert.saturated → ⊥)
+IsFirstClassFault items surplus cert (Saturated i) = IsAligned items cert × FailsFirst cert.level items cert.saturated i true
+IsFirstClassFault items surplus cert (Unsaturated i) = IsAligned items cert × FailsFirst cert.level items cert.saturated i false
+IsFirstClassFault items surplus cert Overspent = KeepsRules items cert × IsSumFault cert.level (sum (spelled items cert).amounts) surplus Overspent
+IsFirstClassFault items surplus cert NotExhausted = KeepsRules items cert × IsSumFault cert.level (sum (spelled items cert).amounts) surplus NotExhausted
 
 -- of a map, the non-assured class is looked at first, and best effort against what that leaves
-abbrev pub IsFirstMapFault : List Item → List Item → ℕ → MapCert → MapCertFault → Type 0
-IsFirstMapFault na be surplus cert (NonAssured fault) = IsFirstFault na surplus cert.na fault
-IsFirstMapFault na be surplus cert (BestEffort fault) =
-    IsCertificate na surplus cert.na × IsFirstFault be (left_surplus cert.na.level na surplus) cert.be fault
+abbrev pub IsFirstMapCertFault : List Item → List Item → ℕ → MapCert → MapCertFault → Type 0
+IsFirstMapCertFault na be surplus cert (NonAssured fault) = IsFirstClassFault na surplus cert.na fault
+IsFirstMapCertFault na be surplus cert (BestEffort fault) =
+    IsCertificate na surplus cert.na × IsFirstClassFault be (left_surplus cert.na.level na surplus) cert.be fault
 
 -- its name, and the item where it has one
-abbrev pub fault_text : CertFault → List ℕ
-fault_text Length = codes "Length"
-fault_text Denominator = codes "Denominator"
-fault_text (Saturated i) = codes "Saturated " ++ decimal i
-fault_text (Unsaturated i) = codes "Unsaturated " ++ decimal i
-fault_text NotExhausted = codes "NotExhausted"
-fault_text Overspent = codes "Overspent"
+abbrev pub cert_fault_text : CertFault → List ℕ
+cert_fault_text Length = codes "Length"
+cert_fault_text Denominator = codes "Denominator"
+cert_fault_text (Saturated i) = codes "Saturated " ++ decimal i
+cert_fault_text (Unsaturated i) = codes "Unsaturated " ++ decimal i
+cert_fault_text NotExhausted = codes "NotExhausted"
+cert_fault_text Overspent = codes "Overspent"

@@ -5,7 +5,7 @@ ghost use Rattle.pon_cert.specs.declared.cert.ClassCert.{ClassCert};
 ghost use Rattle.pon_cert.specs.Problem.{IsItem, IsProblem, IsFairest};
 ghost use Rattle.pon_cert.specs.Certificate.{IsCertificate, RuleHolds, DenominatorHolds, SumHolds, spelled};
 ghost use Rattle.pon_check.specs.declared.fault.CertFault.TheVariants.{Saturated, Unsaturated};
-ghost use Rattle.pon_check.specs.Faults.{IsFirstFault, IsSumFault, FailsFirst};
+ghost use Rattle.pon_check.specs.Faults.{IsFirstClassFault, IsSumFault, FailsFirst};
 
 use crate::fault::CertFault;
 use crate::sums::{total_of, weight_left};
@@ -94,7 +94,7 @@ fn check_sum(level: &Level, total: u128, surplus: u64) -> Result<(), CertFault>
 pub fn check_class(items: &[Item], surplus: u64, cert: &ClassCert) -> Result<(), CertFault>
     requires { IsProblem items.now surplus }
     ensures accepted { IsOk result ↔ IsCertificate items.now surplus cert.now }
-    ensures fault { IfErr result (IsFirstFault items.now surplus cert.now) }
+    ensures fault { IfErr result (IsFirstClassFault items.now surplus cert.now) }
     ensures fairest { OnOk result (IsFairest items.now surplus (spelled items.now cert.now)) }
     ensures only { OnOk result ((other : ClassCert) → IsCertificate items.now surplus other
         → other ≡ cert.now) }

@@ -3,7 +3,7 @@ ghost use Rattle.std.specs.Prelude.{◌≡◌, ◌↔◌, IsOk, IfErr, OnOk};
 ghost use Rattle.pon_cert.specs.declared.cert.MapCert.{MapCert};
 ghost use Rattle.pon_cert.specs.Problem.{IsProblem, IsFairest};
 ghost use Rattle.pon_cert.specs.Certificate.{IsMapCertificate, left_surplus, spelled};
-ghost use Rattle.pon_check.specs.Faults.{IsFirstMapFault};
+ghost use Rattle.pon_check.specs.Faults.{IsFirstMapCertFault};
 
 use crate::class::check_class;
 use crate::fault::MapCertFault;
@@ -19,7 +19,7 @@ pub fn check_map(na: &[Item], be: &[Item], surplus: u64, cert: &MapCert) -> Resu
     requires non_assured { IsProblem na.now surplus }
     requires best_effort { IsProblem be.now surplus }
     ensures accepted { IsOk result ↔ IsMapCertificate na.now be.now surplus cert.now }
-    ensures fault { IfErr result (IsFirstMapFault na.now be.now surplus cert.now) }
+    ensures fault { IfErr result (IsFirstMapCertFault na.now be.now surplus cert.now) }
     ensures fairest_non_assured { OnOk result
         (IsFairest na.now surplus (spelled na.now cert.now.na)) }
     ensures fairest_best_effort { OnOk result

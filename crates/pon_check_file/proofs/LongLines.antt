@@ -15,7 +15,7 @@ use Rattle.pon_cert.specs.declared.problem.Item.{Item}
 use Rattle.pon_cert.specs.declared.cert.Level.{Level}
 use Rattle.pon_cert.specs.declared.cert.Level.TheVariants as level
 use Rattle.pon_cert.specs.Parts.{parts_of}
-use Rattle.pon_check_file.specs.CheckLines.{surplus_of, item_of, level_of, fraction_of, flags_of, flags_from, indexes_from, number_within}
+use Rattle.pon_check_file.specs.CheckLines.{surplus_of, item_on_line, level_on_line, fraction_of, flags_of, flags_from, indexes_from, number_within}
 use Rattle.pon_check_file.specs.Stages.{IsFew, goes_on, filed, lines_before}
 use Rattle.pon_check_file.specs.declared.stage.Stage.{Stage}
 use Rattle.pon_check_file.specs.declared.stage.Stage.TheVariants as stage
@@ -68,8 +68,8 @@ surplus_short l s e = go (follows (codes "surplus ") l) refl e
     go None is e = absurd (cc)
     go (Some w) is e = omega (arith, follows_short (codes "surplus ") l w is, within_short 0 2488320 w s e)
 
-item_short : (l : List ℕ) (i : Item) → item_of l ≡ Some i → length l ≤ 46
-unfolding item_of
+item_short : (l : List ℕ) (i : Item) → item_on_line l ≡ Some i → length l ≤ 46
+unfolding item_on_line
 item_short l i e = go (follows (codes "item ") l) refl e
   where
     two : (v w : List ℕ) (o q : Option ℕ) → number_within 1 2488320 v ≡ o → number_within 0 2488320 w ≡ q →
@@ -103,8 +103,8 @@ fraction_short w v e = parts (cut_at 47 w) refl e
     parts None is e = absurd (cc)
     parts (Some p) is e = omega (arith, cut_short 47 w p is, two p.0 p.1 (number_of p.0) (number_of p.1) refl refl e)
 
-level_short : (l : List ℕ) (v : Level) → level_of l ≡ Some v → length l ≤ 47
-unfolding level_of
+level_short : (l : List ℕ) (v : Level) → level_on_line l ≡ Some v → length l ≤ 47
+unfolding level_on_line
 level_short l v e = go (follows (codes "level ") l) refl e
   where
     word : (w : List ℕ) (b : Bool) → bytes_eq w (codes "all") ≡ b → (if b then Some level.All else fraction_of w) ≡ Some v → length w ≤ 41
@@ -173,7 +173,7 @@ spells_none most l (Some x) short long = absurd (omega (arith, long, short x ref
 pub long_unfit : (s : Stage) (l : List ℕ) (ls : List (List ℕ)) → IsFew s → 10761 < length l → goes_on s (l ∷ ls) ≡ Err (lines_before s + 1)
 long_unfit stage.First l ls few long = no_surplus l ls (spells_none 28 l (surplus_of l) (surplus_short l) (omega (arith, long)))
 long_unfit (stage.Items s) l ls few long =
-    no_level s.surplus s.items.items l ls (λ m. spells_none 46 l (item_of l) (item_short l) (omega (arith, long))) (spells_none 47 l (level_of l) (level_short l) (omega (arith, long)))
+    no_level s.surplus s.items.items l ls (λ m. spells_none 46 l (item_on_line l) (item_short l) (omega (arith, long))) (spells_none 47 l (level_on_line l) (level_short l) (omega (arith, long)))
 long_unfit (stage.Level v) l ls few long =
     no_set v.shared.surplus v.shared.items.items v.level l ls (spells_none 10761 l (flags_of (length v.shared.items.items) l) (λ fs. flags_short (length v.shared.items.items) l fs few) long)
 long_unfit (stage.Whole w) l ls few long = no_empty (filed w.file) w.lines l ls (omega (arith, long))

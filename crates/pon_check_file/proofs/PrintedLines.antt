@@ -23,7 +23,7 @@ use Rattle.pon_cert.specs.Texts.{FitsLevel}
 use Rattle.pon_cert.proofs.MetLaws.{AreSmall}
 use Rattle.pon_cert.proofs.SetLaws.{Lacks, parts_of_names}
 use Rattle.pon_cert.proofs.PartLaws.{decimal_lacks_each}
-use Rattle.pon_check_file.specs.CheckLines.{surplus_of, item_of, level_of, fraction_of, flags_of, flags_from, indexes_from, number_within}
+use Rattle.pon_check_file.specs.CheckLines.{surplus_of, item_on_line, level_on_line, fraction_of, flags_of, flags_from, indexes_from, number_within}
 use Rattle.pon_check_file.specs.CheckFiles.{Filed, are_empty, file_of, file_with}
 use Rattle.pon_check_file.specs.Printed.{IsPrintable, item_line, printed, problem_lines, surplus_line}
 use Rattle.pon_check_file.specs.Unfit.{AreProblem}
@@ -86,18 +86,18 @@ with_weight w weight = weight >>= λ weight. with_cap weight (number_within 0 24
 abbrev pub with_numbers : Option (List ℕ × List ℕ) → Option Item
 with_numbers parts = parts >>= λ parts. with_weight parts.1 (number_within 1 2488320 parts.0)
 
-item_said : (w : List ℕ) → item_of (codes "item " ++ w) ≡ with_numbers (cut_at 32 w)
-unfolding item_of
+item_said : (w : List ℕ) → item_on_line (codes "item " ++ w) ≡ with_numbers (cut_at 32 w)
+unfolding item_on_line
 item_said w = refl
 
-item_back : (i : Item) → IsItem i → item_of (item_line i) ≡ Some i
+item_back : (i : Item) → IsItem i → item_on_line (item_line i) ≡ Some i
 item_back i h =
     let weight_small : i.weight < 2 ^ 64 = omega (arith, h.weight_range) in
     let cap_small : i.cap < 2 ^ 64 = omega (arith, h.cap_range) in
     let cut : cut_at 32 (decimal i.weight ++ 32 ∷ decimal i.cap) ≡ Some (decimal i.weight, decimal i.cap) = cut_back 32 (decimal i.weight) (decimal i.cap) (decimal_lacks_each 32 i.weight (lit< tt) weight_small) refl in
     let weight = within_back 1 2488320 i.weight (omega (arith, h.has_weight)) h.weight_range weight_small in
     let cap = within_back 0 2488320 i.cap (omega arith) h.cap_range cap_small in
-    ap (λ w. item_of (codes "item " ++ w)) (append_assoc (decimal i.weight) (codes " ") (decimal i.cap))
+    ap (λ w. item_on_line (codes "item " ++ w)) (append_assoc (decimal i.weight) (codes " ") (decimal i.cap))
     ∙ item_said (decimal i.weight ++ 32 ∷ decimal i.cap) ∙ ap with_numbers cut ∙ ap (with_weight (decimal i.cap)) weight ∙ ap (with_cap i.weight) cap
 
 fraction_back : (num den : ℕ) → num < 2 ^ 64 → 0 < den → den < 2 ^ 64 → (cut_at 47 (decimal num ++ 47 ∷ decimal den) ≡ Some (decimal num, decimal den)) × (fraction_of (decimal num ++ 47 ∷ decimal den) ≡ Some (level.At (record { num = num; den = den })))
@@ -119,17 +119,17 @@ no_all true w p cut e =
 abbrev pub with_word : List ℕ → Bool → Option Level
 with_word w b = if b then Some level.All else fraction_of w
 
-level_said : (w : List ℕ) → level_of (codes "level " ++ w) ≡ with_word w (bytes_eq w (codes "all"))
-unfolding level_of
+level_said : (w : List ℕ) → level_on_line (codes "level " ++ w) ≡ with_word w (bytes_eq w (codes "all"))
+unfolding level_on_line
 level_said w = refl
 
-level_back : (l : Level) → FitsLevel l → level_of (codes "level " ++ level_text l) ≡ Some l
-unfolding level_of
+level_back : (l : Level) → FitsLevel l → level_on_line (codes "level " ++ level_text l) ≡ Some l
+unfolding level_on_line
 level_back level.All h = refl
 level_back (level.At f) h =
     let back = fraction_back f.num f.den h.0 h.1 h.2 in
     let other = no_all (bytes_eq (decimal f.num ++ 47 ∷ decimal f.den) (codes "all")) (decimal f.num ++ 47 ∷ decimal f.den) (decimal f.num, decimal f.den) back.0 refl in
-    ap (λ w. level_of (codes "level " ++ w)) (append_assoc (decimal f.num) (codes "/") (decimal f.den))
+    ap (λ w. level_on_line (codes "level " ++ w)) (append_assoc (decimal f.num) (codes "/") (decimal f.den))
     ∙ level_said (decimal f.num ++ 47 ∷ decimal f.den) ∙ ap (with_word (decimal f.num ++ 47 ∷ decimal f.den)) other ∙ back.1
 
 -- ---- the set
@@ -150,7 +150,7 @@ set_back n fs e l =
     ∙ (sets_name_items n (map decimal (indexes_from 0 fs)) fs).1 (e, numbers_back (indexes_from 0 fs) small)
 
 -- ---- the file
-items_back : (is : List Item) → AllByRecursion IsItem is → map item_of (map item_line is) ≡ map Some is
+items_back : (is : List Item) → AllByRecursion IsItem is → map item_on_line (map item_line is) ≡ map Some is
 items_back [] h = refl
 items_back (i ∷ is) h = λ j. item_back i h.0 j ∷ items_back is h.1 j
 

@@ -14,7 +14,7 @@ use Rattle.pon_cert.specs.declared.cert.Level.TheVariants as level
 use Rattle.pon_cert.specs.Problem.{IsItem}
 use Rattle.pon_cert.specs.Texts.{FitsLevel}
 use Rattle.pon_cert.specs.Parts.{parts_of}
-use Rattle.pon_check_file.specs.CheckLines.{surplus_of, item_of, level_of, fraction_of, flags_of, flags_from, number_within}
+use Rattle.pon_check_file.specs.CheckLines.{surplus_of, item_on_line, level_on_line, fraction_of, flags_of, flags_from, number_within}
 use Rattle.pon_check_file.proofs.NamedItems.{sets_name_items}
 use Rattle.pon_check_file.proofs.PrintedLines.{with_cap, with_weight, with_numbers}
 
@@ -62,20 +62,20 @@ numbers_read : (i : Item) (o : Option (List ℕ × List ℕ)) → with_numbers o
 numbers_read i None e = absurd (cc)
 numbers_read i (Some p) e = weight_read p.0 p.1 i (number_within 1 2488320 p.0) refl e
 
-item_read : (l : List ℕ) (i : Item) → item_of l ≡ Some i → IsItem i
-unfolding item_of
+item_read : (l : List ℕ) (i : Item) → item_on_line l ≡ Some i → IsItem i
+unfolding item_on_line
 item_read l i e = go (follows (codes "item ") l) e
   where
     go : (o : Option (List ℕ)) → (o >>= λ w. with_numbers (cut_at 32 w)) ≡ Some i → IsItem i
     go None e = absurd (cc)
     go (Some w) e = numbers_read i (cut_at 32 w) e
 
-pub items_read : (ls : List (List ℕ)) (is : List Item) → map item_of ls ≡ map Some is → AllByRecursion IsItem is
+pub items_read : (ls : List (List ℕ)) (is : List Item) → map item_on_line ls ≡ map Some is → AllByRecursion IsItem is
 items_read ls [] e = tt
 items_read [] (i ∷ is) e = absurd (cc)
 items_read (l ∷ ls) (i ∷ is) e =
-    let first : item_of l ≡ Some i = cc in
-    let more : map item_of ls ≡ map Some is = cc in
+    let first : item_on_line l ≡ Some i = cc in
+    let more : map item_on_line ls ≡ map Some is = cc in
     (item_read l i first, items_read ls is more)
 
 abbrev with_den : ℕ → Option ℕ → Option Level
@@ -103,8 +103,8 @@ fraction_read w l e = go (cut_at 47 w) e
     go None e = absurd (cc)
     go (Some p) e = num_read p.0 p.1 l (number_of p.0) refl e
 
-pub level_read : (line : List ℕ) (l : Level) → level_of line ≡ Some l → FitsLevel l
-unfolding level_of
+pub level_read : (line : List ℕ) (l : Level) → level_on_line line ≡ Some l → FitsLevel l
+unfolding level_on_line
 level_read line l e = go (follows (codes "level ") line) e
   where
     word : (w : List ℕ) (b : Bool) → (if b then Some level.All else fraction_of w) ≡ Some l → FitsLevel l

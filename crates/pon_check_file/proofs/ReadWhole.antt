@@ -6,7 +6,7 @@ use Rattle.pon_cert.specs.declared.problem.Item.{Item}
 use Rattle.pon_cert.specs.declared.cert.Level.{Level}
 use Rattle.pon_cert.specs.Problem.{IsItem, IsProblem}
 use Rattle.pon_cert.specs.Texts.{FitsLevel}
-use Rattle.pon_check_file.specs.CheckLines.{surplus_of, level_of, flags_of}
+use Rattle.pon_check_file.specs.CheckLines.{surplus_of, level_on_line, flags_of}
 use Rattle.pon_check_file.specs.CheckFiles.{Filed, are_empty, file_of, file_with, first_spells, items_of, on_line}
 use Rattle.pon_check_file.specs.Printed.{IsPrintable}
 use Rattle.pon_check_file.proofs.ReadFiles.{flags_read, items_read, level_read, surplus_range}
@@ -24,19 +24,19 @@ first_read P read one (l ∷ ls) x e = one l x e
 
 behind_read : (s : ℕ) (items : List Item) (ls : List (List ℕ)) (f : Filed) → IsProblem items s → file_with s items ls ≡ Ok f → IsPrintable f
 unfolding file_with
-behind_read s items ls f p e = at_level (first_spells level_of ls) refl e
+behind_read s items ls f p e = at_level (first_spells level_on_line ls) refl e
   where
-    at_set : (level : Level) → first_spells level_of ls ≡ Some level → (o : Option (List Bool)) → first_spells (flags_of (length items)) (drop 1 ls) ≡ o →
+    at_set : (level : Level) → first_spells level_on_line ls ≡ Some level → (o : Option (List Bool)) → first_spells (flags_of (length items)) (drop 1 ls) ≡ o →
         (on_line (length items + 3) o >>= λ flags. with_end s items level flags (are_empty (length items + 4) (drop 2 ls))) ≡ Ok f → IsPrintable f
     at_set level is None none e = absurd (cc)
     at_set level is (Some flags) some e =
         end_read s items level flags f (record {
           problem = p;
-          level = first_read FitsLevel level_of level_read ls level is;
+          level = first_read FitsLevel level_on_line level_read ls level is;
           flags = first_read (λ fs. length fs ≡ length items) (flags_of (length items)) (flags_read (length items)) (drop 1 ls) flags some;
         }) (are_empty (length items + 4) (drop 2 ls)) e
 
-    at_level : (o : Option Level) → first_spells level_of ls ≡ o → with_level s items ls o ≡ Ok f → IsPrintable f
+    at_level : (o : Option Level) → first_spells level_on_line ls ≡ o → with_level s items ls o ≡ Ok f → IsPrintable f
     at_level None none e = absurd (cc)
     at_level (Some level) is e = at_set level is (first_spells (flags_of (length items)) (drop 1 ls)) refl e
 

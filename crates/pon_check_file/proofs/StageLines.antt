@@ -4,7 +4,7 @@ use Rattle.std.proofs.lemmas.List.{append-nil, length_push}
 use Rattle.pon_lists.specs.ResultSteps.{◌>>=◌}
 use Rattle.pon_cert.specs.declared.problem.Item.{Item}
 use Rattle.pon_cert.specs.declared.cert.Level.{Level}
-use Rattle.pon_check_file.specs.CheckLines.{surplus_of, item_of, level_of, flags_of}
+use Rattle.pon_check_file.specs.CheckLines.{surplus_of, item_on_line, level_on_line, flags_of}
 use Rattle.pon_check_file.specs.CheckFiles.{Filed, and_others, are_empty, file_of, file_with, items_in_row, items_of, on_line}
 use Rattle.pon_check_file.specs.Stages.{behind_file, behind_items, behind_level}
 use Rattle.pon_check_file.proofs.UnfitLines.{with_end, with_level, with_set}
@@ -22,7 +22,7 @@ unfolding file_of with_surplus behind_items
 one_surplus l s ls e = ap (with_surplus ls) e
 
 -- ---- an item
-pub one_item : (s : ℕ) (is : List Item) (l : List ℕ) (i : Item) (ls : List (List ℕ)) → length is < 512 → item_of l ≡ Some i → behind_items s is (l ∷ ls) ≡ behind_items s (is ++ i ∷ []) ls
+pub one_item : (s : ℕ) (is : List Item) (l : List ℕ) (i : Item) (ls : List (List ℕ)) → length is < 512 → item_on_line l ≡ Some i → behind_items s is (l ∷ ls) ≡ behind_items s (is ++ i ∷ []) ls
 unfolding behind_items
 one_item s is l i ls few e =
     let k : ℕ = 512 - length (is ++ i ∷ []) in
@@ -37,17 +37,17 @@ nothing : (k : ℕ) (o : Option Item) (is : List Item) → (0 < k → o ≡ None
 nothing zero o is none = refl
 nothing (suc k) o is none = ap (λ o. take (suc k) (and_others o is)) (none (omega arith))
 
-at_level : (s : ℕ) (is : List Item) (l : List ℕ) (ls : List (List ℕ)) → (length is < 512 → item_of l ≡ None) → behind_items s is (l ∷ ls) ≡ file_with s is (l ∷ ls)
+at_level : (s : ℕ) (is : List Item) (l : List ℕ) (ls : List (List ℕ)) → (length is < 512 → item_on_line l ≡ None) → behind_items s is (l ∷ ls) ≡ file_with s is (l ∷ ls)
 unfolding behind_items
 at_level s is l ls none =
-    ap (λ t. file_with s (is ++ t) (drop (length t) (l ∷ ls))) (nothing (512 - length is) (item_of l) (items_in_row ls) (λ m. none (omega (arith, m))))
+    ap (λ t. file_with s (is ++ t) (drop (length t) (l ∷ ls))) (nothing (512 - length is) (item_on_line l) (items_in_row ls) (λ m. none (omega (arith, m))))
     ∙ ap (λ xs. file_with s xs (l ∷ ls)) (append-nil is)
 
-pub no_level : (s : ℕ) (is : List Item) (l : List ℕ) (ls : List (List ℕ)) → (length is < 512 → item_of l ≡ None) → level_of l ≡ None → behind_items s is (l ∷ ls) ≡ Err (length is + 1 + 1)
+pub no_level : (s : ℕ) (is : List Item) (l : List ℕ) (ls : List (List ℕ)) → (length is < 512 → item_on_line l ≡ None) → level_on_line l ≡ None → behind_items s is (l ∷ ls) ≡ Err (length is + 1 + 1)
 unfolding file_with
 no_level s is l ls none e = at_level s is l ls none ∙ ap (with_level s is (l ∷ ls)) e ∙ ap Err (let n : length is + 2 ≡ length is + 1 + 1 = omega arith in n)
 
-pub one_level : (s : ℕ) (is : List Item) (l : List ℕ) (level : Level) (ls : List (List ℕ)) → (length is < 512 → item_of l ≡ None) → level_of l ≡ Some level → behind_items s is (l ∷ ls) ≡ behind_level s is level ls
+pub one_level : (s : ℕ) (is : List Item) (l : List ℕ) (level : Level) (ls : List (List ℕ)) → (length is < 512 → item_on_line l ≡ None) → level_on_line l ≡ Some level → behind_items s is (l ∷ ls) ≡ behind_level s is level ls
 unfolding file_with behind_level
 one_level s is l level ls none e = at_level s is l ls none ∙ ap (with_level s is (l ∷ ls)) e
 

@@ -7,7 +7,7 @@ use Rattle.pon_text.specs.Cuts.{follows}
 use Rattle.pon_lists.specs.ResultSteps.{◌>>=◌}
 use Rattle.pon_cert.specs.declared.problem.Item.{Item}
 use Rattle.pon_cert.specs.declared.cert.Level.{Level}
-use Rattle.pon_check_file.specs.CheckLines.{surplus_of, item_of, level_of, flags_of}
+use Rattle.pon_check_file.specs.CheckLines.{surplus_of, item_on_line, level_on_line, flags_of}
 use Rattle.pon_check_file.specs.CheckFiles.{Filed, and_others, are_empty, file_of, file_with, first_spells, items_in_row, items_of, on_line}
 use Rattle.pon_check_file.specs.Unfit.{AreProblem, HasMore, IsFirstUnfit, LacksLevel, LacksSet, LacksSurplus}
 
@@ -16,12 +16,12 @@ pub record Row (most : ℕ) (ls : List (List ℕ)) (items : List Item) : Type 0 
   pub lines : List (List ℕ)
   pub rest : List (List ℕ)
   pub all : ls ≡ lines ++ rest
-  pub are_items : map item_of lines ≡ map Some items
+  pub are_items : map item_on_line lines ≡ map Some items
   pub count : length items ≤ most
   pub left : drop (length items) ls ≡ rest
-  pub ends : length items < most → first_spells item_of rest ≡ None
+  pub ends : length items < most → first_spells item_on_line rest ≡ None
 
-row_step : (most : ℕ) (l : List ℕ) (ls : List (List ℕ)) (o : Option Item) → item_of l ≡ o → Row most ls (take most (items_in_row ls)) → Row (suc most) (l ∷ ls) (take (suc most) (and_others o (items_in_row ls)))
+row_step : (most : ℕ) (l : List ℕ) (ls : List (List ℕ)) (o : Option Item) → item_on_line l ≡ o → Row most ls (take most (items_in_row ls)) → Row (suc most) (l ∷ ls) (take (suc most) (and_others o (items_in_row ls)))
 row_step most l ls None is more = record { lines = []; rest = l ∷ ls; all = refl; are_items = refl; count = omega arith; left = refl; ends = λ m. is }
 row_step most l ls (Some i) is more = record {
   lines = l ∷ more.lines;
@@ -36,14 +36,14 @@ row_step most l ls (Some i) is more = record {
 pub row : (most : ℕ) (ls : List (List ℕ)) → Row most ls (take most (items_in_row ls))
 row zero ls = record { lines = []; rest = ls; all = refl; are_items = refl; count = omega arith; left = refl; ends = λ l. absurd (omega (arith, l)) }
 row (suc most) [] = record { lines = []; rest = []; all = refl; are_items = refl; count = omega arith; left = refl; ends = λ l. refl }
-row (suc most) (l ∷ ls) = row_step most l ls (item_of l) refl (row most ls)
+row (suc most) (l ∷ ls) = row_step most l ls (item_on_line l) refl (row most ls)
 
 -- ---- told, so not fitting
-row_length : (lines : List (List ℕ)) (items : List Item) → map item_of lines ≡ map Some items → length lines ≡ length items
+row_length : (lines : List (List ℕ)) (items : List Item) → map item_on_line lines ≡ map Some items → length lines ≡ length items
 row_length [] [] e = refl
 row_length [] (i ∷ is) e = absurd (cc)
 row_length (l ∷ ls) [] e = absurd (cc)
-row_length (l ∷ ls) (i ∷ is) e = let more : map item_of ls ≡ map Some is = cc in ap suc (row_length ls is more)
+row_length (l ∷ ls) (i ∷ is) e = let more : map item_on_line ls ≡ map Some is = cc in ap suc (row_length ls is more)
 
 record Filled (n : ℕ) (ls : List (List ℕ)) (at : ℕ) : Type 0 where
   pub empty : ℕ
@@ -80,11 +80,11 @@ with_level s items ls o = on_line (length items + 2) o >>= λ level. on_line (le
 
 -- behind the problem
 unfit_behind : (s : ℕ) (items : List Item) (lines rest : List (List ℕ)) (n : ℕ) → AreProblem lines items → length lines ≡ length items + 1 →
-    (length items < 512 → first_spells item_of rest ≡ None) → file_with s items rest ≡ Err n → IsFirstUnfit (lines ++ rest) n
+    (length items < 512 → first_spells item_on_line rest ≡ None) → file_with s items rest ≡ Err n → IsFirstUnfit (lines ++ rest) n
 unfolding file_with
-unfit_behind s items lines rest n p size ends e = at_level (first_spells level_of rest) refl e
+unfit_behind s items lines rest n p size ends e = at_level (first_spells level_on_line rest) refl e
   where
-    at_set : (ll : List ℕ) (ls : List (List ℕ)) (level : Level) → rest ≡ ll ∷ ls → level_of ll ≡ Some level → (o : Option (List Bool)) → first_spells (flags_of (length items)) ls ≡ o →
+    at_set : (ll : List ℕ) (ls : List (List ℕ)) (level : Level) → rest ≡ ll ∷ ls → level_on_line ll ≡ Some level → (o : Option (List Bool)) → first_spells (flags_of (length items)) ls ≡ o →
         with_set s items level ls o ≡ Err n → IsFirstUnfit (lines ++ rest) n
     at_set ll ls level cut is None none e = record {
       before = lines ++ ll ∷ [];
@@ -125,12 +125,12 @@ unfit_behind s items lines rest n p size ends e = at_level (first_spells level_o
               })));
             }
 
-    cut_level : (ls : List (List ℕ)) (level : Level) → rest ≡ ls → first_spells level_of ls ≡ Some level →
+    cut_level : (ls : List (List ℕ)) (level : Level) → rest ≡ ls → first_spells level_on_line ls ≡ Some level →
         with_level s items ls (Some level) ≡ Err n → IsFirstUnfit (lines ++ rest) n
     cut_level [] level cut is e = absurd (cc)
     cut_level (ll ∷ ls) level cut is e = at_set ll ls level cut is (first_spells (flags_of (length items)) ls) refl e
 
-    at_level : (o : Option Level) → first_spells level_of rest ≡ o →
+    at_level : (o : Option Level) → first_spells level_on_line rest ≡ o →
         with_level s items rest o ≡ Err n → IsFirstUnfit (lines ++ rest) n
     at_level None none e = record {
       before = lines;
@@ -156,8 +156,8 @@ told (l ∷ ls) n e = at_surplus (surplus_of l) refl e
         subst (λ ls. IsFirstUnfit (l ∷ ls) n) (sym r.all) behind
 
 -- ---- not fitting, so told
-row_back : (most : ℕ) (lines rest : List (List ℕ)) (items : List Item) → map item_of lines ≡ map Some items → length items ≤ most →
-    (length items < most → first_spells item_of rest ≡ None) → take most (items_in_row (lines ++ rest)) ≡ items
+row_back : (most : ℕ) (lines rest : List (List ℕ)) (items : List Item) → map item_on_line lines ≡ map Some items → length items ≤ most →
+    (length items < most → first_spells item_on_line rest ≡ None) → take most (items_in_row (lines ++ rest)) ≡ items
 row_back most (l ∷ ls) rest [] e c ends = absurd (cc)
 row_back most [] rest (i ∷ is) e c ends = absurd (cc)
 row_back zero [] rest [] e c ends = refl
@@ -165,8 +165,8 @@ row_back (suc most) [] [] [] e c ends = refl
 row_back (suc most) [] (l ∷ ls) [] e c ends = ap (λ o. take (suc most) (and_others o (items_in_row ls))) (ends (omega arith))
 row_back zero (l ∷ ls) rest (i ∷ is) e c ends = absurd (omega (arith, c))
 row_back (suc most) (l ∷ ls) rest (i ∷ is) e c ends =
-    let first : item_of l ≡ Some i = cc in
-    let more : map item_of ls ≡ map Some is = cc in
+    let first : item_on_line l ≡ Some i = cc in
+    let more : map item_on_line ls ≡ map Some is = cc in
     ap (λ o. take (suc most) (and_others o (items_in_row (ls ++ rest)))) first
     ∙ ap (λ is. i ∷ is) (row_back most ls rest is more (omega (arith, c)) (λ m. ends (omega (arith, m))))
 
@@ -176,7 +176,7 @@ drop_lines zero (x ∷ a) b e = absurd (omega (arith, e))
 drop_lines (suc n) (x ∷ a) b e = drop_lines n a b (omega (arith, e))
 
 -- behind a problem
-pub behind_problem : (lines rest : List (List ℕ)) (items : List Item) (p : AreProblem lines items) → (length items < 512 → first_spells item_of rest ≡ None) →
+pub behind_problem : (lines rest : List (List ℕ)) (items : List Item) (p : AreProblem lines items) → (length items < 512 → first_spells item_on_line rest ≡ None) →
     (file_of (lines ++ rest) ≡ file_with p.surplus items rest) × (length lines ≡ length items + 1)
 unfolding file_of
 behind_problem [] rest items p ends = let none : None ≡ Some p.surplus = p.is_surplus in absurd (cc)
@@ -211,15 +211,15 @@ no_keyword (b ∷ l) starts (Some x) is =
     let two : b ≡ 105 = ap (λ l. get_or l 0 0) item in
     absurd (omega (arith, one, two))
 
-level_keyword : (l : List ℕ) (level : Level) → level_of l ≡ Some level → (o : Option (List ℕ)) → follows (codes "level ") l ≡ o → take 6 l ≡ codes "level "
-unfolding level_of
+level_keyword : (l : List ℕ) (level : Level) → level_on_line l ≡ Some level → (o : Option (List ℕ)) → follows (codes "level ") l ≡ o → take 6 l ≡ codes "level "
+unfolding level_on_line
 level_keyword l level e None is =
-    let none : level_of l ≡ None = rw is refl in
+    let none : level_on_line l ≡ None = rw is refl in
     absurd (cc)
 level_keyword l level e (Some x) is = starts_with (codes "level ") l x is
 
-pub level_no_item : (l : List ℕ) (level : Level) → level_of l ≡ Some level → item_of l ≡ None
-unfolding item_of
+pub level_no_item : (l : List ℕ) (level : Level) → level_on_line l ≡ Some level → item_on_line l ≡ None
+unfolding item_on_line
 level_no_item l level e =
     let none = no_keyword l (level_keyword l level e (follows (codes "level ") l) refl) (follows (codes "item ") l) refl in
     rw none refl

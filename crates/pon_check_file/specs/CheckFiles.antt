@@ -6,13 +6,13 @@ use Rattle.pon_cert.specs.Problem.{IsFairest}
 use Rattle.pon_cert.specs.Certificate.{IsCertificate, spelled}
 use Rattle.pon_cert.specs.declared.problem.Item.{Item}
 use Rattle.pon_cert.specs.declared.cert.ClassCert.{ClassCert}
-use Rattle.pon_check.specs.Faults.{IsFirstFault, fault_text}
+use Rattle.pon_check.specs.Faults.{IsFirstClassFault, cert_fault_text}
 use Rattle.pon_check.specs.declared.fault.CertFault.{CertFault}
 use Rattle.pon_text.specs.Lines.{file_lines}
 use Rattle.pon_stream.specs.Streams.{IsBeginning}
 use Rattle.pon_stream.specs.declared.fault.PlanFault.{PlanFault}
 use Rattle.pon_stream.specs.declared.fault.PlanFault.TheVariants.{Read, Write, Memory}
-use Rattle.pon_check_file.specs.CheckLines.{surplus_of, item_of, level_of, flags_of}
+use Rattle.pon_check_file.specs.CheckLines.{surplus_of, item_on_line, level_on_line, flags_of}
 use Rattle.pon_cert.specs.declared.problem.TheConstants.{MOST_ITEMS}
 
 -- a problem, and what is said to be its certificate
@@ -38,7 +38,7 @@ and_others (Some i) is = i ∷ is
 
 abbrev pub items_in_row : List (List ℕ) → List Item
 items_in_row [] = []
-items_in_row (l ∷ ls) = and_others (item_of l) (items_in_row ls)
+items_in_row (l ∷ ls) = and_others (item_on_line l) (items_in_row ls)
 
 abbrev pub items_of : List (List ℕ) → List Item
 items_of ls = take MOST_ITEMS (items_in_row ls)
@@ -52,7 +52,7 @@ are_empty n ((b ∷ l) ∷ ls) = Err n
 -- what the lines behind the items spell
 unfoldable pub file_with : ℕ → List Item → List (List ℕ) → Result Filed ℕ
 file_with surplus items ls = do
-  level ← on_line (length items + 2) (first_spells level_of ls)
+  level ← on_line (length items + 2) (first_spells level_on_line ls)
   flags ← on_line (length items + 3) (first_spells (flags_of (length items)) (drop 1 ls))
   end ← are_empty (length items + 4) (drop 2 ls)
   Ok (record { surplus = surplus; items = items; cert = record { level = level; saturated = flags } })
@@ -69,7 +69,7 @@ IsAnswer (Err line) accepted text = (accepted ≡ false) × (text ≡ codes "no 
 IsAnswer (Ok f) true text =
     IsCertificate f.items f.surplus f.cert × IsFairest f.items f.surplus (spelled f.items f.cert) × (text ≡ codes "yes" ++ 10 ∷ [])
 IsAnswer (Ok f) false text =
-    (fault : CertFault) × IsFirstFault f.items f.surplus f.cert fault × (text ≡ codes "no " ++ fault_text fault ++ 10 ∷ [])
+    (fault : CertFault) × IsFirstClassFault f.items f.surplus f.cert fault × (text ≡ codes "no " ++ cert_fault_text fault ++ 10 ∷ [])
 
 -- the bytes have this answer: at their end, or whatever follows them, and then it is no
 abbrev pub IsDecided : List ℕ → Option (List ℕ) → Bool → List ℕ → Type 0

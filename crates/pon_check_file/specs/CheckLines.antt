@@ -21,8 +21,8 @@ unfoldable pub surplus_of : List ℕ → Option ℕ
 surplus_of l = follows (codes "surplus ") l >>= number_within 0 LINE_RATE
 
 -- `item <weight> <cap>`; 32 is a space
-unfoldable pub item_of : List ℕ → Option Item
-item_of l = do
+unfoldable pub item_on_line : List ℕ → Option Item
+item_on_line l = do
   numbers ← follows (codes "item ") l
   parts ← cut_at 32 numbers
   weight ← number_within 1 LINE_RATE parts.0
@@ -38,8 +38,8 @@ fraction_of w = do
   if nat_lt 0 den then Some (level.At (record { num = num; den = den })) else None
 
 -- `level all` or `level <p>/<q>`
-unfoldable pub level_of : List ℕ → Option Level
-level_of l = follows (codes "level ") l >>= λ w. if bytes_eq w (codes "all") then Some level.All else fraction_of w
+unfoldable pub level_on_line : List ℕ → Option Level
+level_on_line l = follows (codes "level ") l >>= λ w. if bytes_eq w (codes "all") then Some level.All else fraction_of w
 
 -- whether the first of the indexes that are left is this one
 abbrev pub is_index : ℕ → Option ℕ → Bool

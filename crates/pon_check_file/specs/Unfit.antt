@@ -2,7 +2,7 @@
 use Rattle.std.specs.Prelude.{◌≡◌, ◌⊎◌, ℕ, Bool, ◌+◌, ◌<◌, ◌≤◌, List, [], ◌∷◌, ◌++◌, length, map, drop, replicate, Some, None}
 use Rattle.pon_cert.specs.declared.problem.Item.{Item}
 use Rattle.pon_cert.specs.declared.cert.Level.{Level}
-use Rattle.pon_check_file.specs.CheckLines.{surplus_of, item_of, level_of, flags_of}
+use Rattle.pon_check_file.specs.CheckLines.{surplus_of, item_on_line, level_on_line, flags_of}
 use Rattle.pon_check_file.specs.CheckFiles.{first_spells}
 use Rattle.pon_cert.specs.declared.problem.TheConstants.{MOST_ITEMS}
 
@@ -10,7 +10,7 @@ use Rattle.pon_cert.specs.declared.problem.TheConstants.{MOST_ITEMS}
 pub record AreProblem (lines : List (List ℕ)) (items : List Item) : Type 0 where
   pub surplus : ℕ
   pub is_surplus : first_spells surplus_of lines ≡ Some surplus
-  pub are_items : map item_of (drop 1 lines) ≡ map Some items
+  pub are_items : map item_on_line (drop 1 lines) ≡ map Some items
   pub count : length items ≤ MOST_ITEMS
 
 -- the file begins with no surplus
@@ -22,8 +22,8 @@ pub record LacksSurplus (before rest : List (List ℕ)) : Type 0 where
 pub record LacksLevel (before rest : List (List ℕ)) : Type 0 where
   pub items : List Item
   pub problem : AreProblem before items
-  pub no_level : first_spells level_of rest ≡ None
-  pub no_item : length items < MOST_ITEMS → first_spells item_of rest ≡ None
+  pub no_level : first_spells level_on_line rest ≡ None
+  pub no_item : length items < MOST_ITEMS → first_spells item_on_line rest ≡ None
 
 -- a problem and a level, and behind them no set of its items
 pub record LacksSet (before rest : List (List ℕ)) : Type 0 where
@@ -32,7 +32,7 @@ pub record LacksSet (before rest : List (List ℕ)) : Type 0 where
   pub problem : AreProblem lines items
   pub level_line : List ℕ
   pub level : Level
-  pub is_level : level_of level_line ≡ Some level
+  pub is_level : level_on_line level_line ≡ Some level
   pub all_before : before ≡ lines ++ level_line ∷ []
   pub no_set : first_spells (flags_of (length items)) rest ≡ None
 
@@ -43,7 +43,7 @@ pub record HasMore (before rest : List (List ℕ)) : Type 0 where
   pub problem : AreProblem lines items
   pub level_line : List ℕ
   pub level : Level
-  pub is_level : level_of level_line ≡ Some level
+  pub is_level : level_on_line level_line ≡ Some level
   pub set_line : List ℕ
   pub flags : List Bool
   pub is_set : flags_of (length items) set_line ≡ Some flags

@@ -2,7 +2,7 @@
 
 ghost use Rattle.std.specs.Prelude.{◌≡◌, ◌∷◌, ◌++◌, [], Ok, IfOk, codes, decimal, string_bytes};
 ghost use Rattle.pon_cert.specs.Problem.{IsProblem};
-ghost use Rattle.pon_check.specs.Faults.{fault_text};
+ghost use Rattle.pon_check.specs.Faults.{cert_fault_text};
 ghost use Rattle.pon_stream.specs.Streams.{TellsRead, TellsWrite};
 ghost use Rattle.pon_check_file.specs.CheckFiles.{Checked, IsAnswer, ReadsToEnd};
 ghost use Rattle.pon_check_file.specs.Stages.{IsSaid, said};
@@ -29,7 +29,7 @@ fn syntax_line(alloc: Global, line: u64) -> Result<String, AllocError>
 }
 
 fn fault_line(alloc: Global, fault: CertFault) -> Result<String, AllocError>
-    ensures { IfOk result (λ text. string_bytes text ≡ codes "no " ++ fault_text fault ++ 10 ∷ []) }
+    ensures { IfOk result (λ text. string_bytes text ≡ codes "no " ++ cert_fault_text fault ++ 10 ∷ []) }
 {
     format!(in alloc; "no {fault}\n")
 }

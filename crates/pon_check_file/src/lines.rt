@@ -2,7 +2,7 @@
 
 ghost use Rattle.std.specs.Prelude.{◌≡◌, ◌≤◌, IfSome};
 ghost use Rattle.pon_cert.specs.Problem.{IsItem};
-ghost use Rattle.pon_check_file.specs.CheckLines.{number_within, surplus_of, item_of, fraction_of, level_of};
+ghost use Rattle.pon_check_file.specs.CheckLines.{number_within, surplus_of, item_on_line, fraction_of, level_on_line};
 
 use pon_cert::{Item, Level};
 use pon_text::{cut, follows, number_of};
@@ -32,9 +32,9 @@ pub(crate) fn surplus_of(line: &[u8]) -> Option<u64>
 }
 
 /// The item of a line `item <weight> <cap>`, weight 1 to 2,488,320 and cap 0 to 2,488,320 kbit/s.
-#[tactic(auto, unfolding(crate::specs::CheckLines::item_of))]
-pub(crate) fn item_of(line: &[u8]) -> Option<Item>
-    ensures value { result ≡ item_of line.now }
+#[tactic(auto, unfolding(crate::specs::CheckLines::item_on_line))]
+pub(crate) fn item_on_line(line: &[u8]) -> Option<Item>
+    ensures value { result ≡ item_on_line line.now }
     ensures lawful { IfSome result IsItem }
 {
     let (weight, cap) = cut(follows(b"item ", line)?, b' ')?;
@@ -59,9 +59,9 @@ fn fraction_of(word: &[u8]) -> Option<Level>
 }
 
 /// The level of a line `level all` or `level <p>/<q>`.
-#[tactic(auto, unfolding(crate::specs::CheckLines::level_of))]
-pub(crate) fn level_of(line: &[u8]) -> Option<Level>
-    ensures { result ≡ level_of line.now }
+#[tactic(auto, unfolding(crate::specs::CheckLines::level_on_line))]
+pub(crate) fn level_on_line(line: &[u8]) -> Option<Level>
+    ensures { result ≡ level_on_line line.now }
 {
     let word = follows(b"level ", line)?;
     if word == b"all".as_slice() {

@@ -1,12 +1,12 @@
 //! How far the lines of a check file have come, and what the next line changes.
 
 ghost use Rattle.std.specs.Prelude.{◌≡◌, ◌<◌, ◌≤◌, ◌+◌, ◌-◌, ◌^◌, [], None, IfOk, length};
-ghost use Rattle.pon_check_file.specs.CheckLines.{item_of};
+ghost use Rattle.pon_check_file.specs.CheckLines.{item_on_line};
 ghost use Rattle.pon_check_file.specs.Stages.{IsFew, Takes, goes_on, lines_before, said};
 ghost use Rattle.pon_check_file.specs.declared.stage.Stage.TheVariants as stage;
 
 use crate::file::{CheckFile, Parsed};
-use crate::lines::{item_of, level_of, surplus_of};
+use crate::lines::{item_on_line, level_on_line, surplus_of};
 use crate::set::flags_of;
 use pon_cert::{ClassCert, Item, Level, MOST_ITEMS};
 use std::alloc::{AllocError, Global};
@@ -67,10 +67,10 @@ fn take_surplus(alloc: Global, line: &[u8]) -> Option<Stage>
 // Takes the line of the level.
 fn take_level(shared: Shared, line: &[u8]) -> Option<Stage>
     requires few { length shared.items.items ≤ MOST_ITEMS }
-    requires no_item { length shared.items.items < MOST_ITEMS → item_of line.now ≡ None }
+    requires no_item { length shared.items.items < MOST_ITEMS → item_on_line line.now ≡ None }
     ensures { Takes (stage.Items shared) line.now result }
 {
-    match level_of(line) {
+    match level_on_line(line) {
         Some(level) => Some(Stage::Level(Levelled { shared, level })),
         None => None,
     }
@@ -82,7 +82,7 @@ fn take_item(shared: Shared, line: &[u8]) -> Result<Option<Stage>, AllocError>
     ensures { IfOk result (Takes (stage.Items shared) line.now) }
 {
     if shared.items.len() < MOST_ITEMS {
-        if let Some(item) = item_of(line) {
+        if let Some(item) = item_on_line(line) {
             let mut items = shared.items;
             items.push(item)?;
             return Ok(Some(Stage::Items(Shared {

@@ -4,8 +4,8 @@ use Rattle.std.specs.Int.{w32, to_be_bytes}
 use Rattle.pon_units.specs.Polynomial.{IsMultiple}
 
 -- x^8 + x^2 + x + 1
-abbrev pub generator : ℕ
-generator = 0b1_0000_0111
+abbrev pub check_generator : ℕ
+check_generator = 0b1_0000_0111
 
 -- The four bytes report this number of words: the check byte is what is left, by the generator, of the first
 -- three times x^8, so that all four are a multiple of it.
@@ -14,4 +14,4 @@ pub record Reports (bytes : List ℕ) (words : ℕ) : Type 0 where
   pub check : ℕ
   pub check_fits : check < 2 ^ 8
   pub spelled : bytes ≡ to_be_bytes w32 (words * 2 ^ 8 + check)
-  pub multiple : IsMultiple generator (words * 2 ^ 8 + check)
+  pub multiple : IsMultiple check_generator (words * 2 ^ 8 + check)

@@ -1,6 +1,6 @@
 ghost use Rattle.std.specs.Prelude.{◌≡◌, ◌^◌, ◌*◌, ◌<◌, ◌↔◌, ℕ, IfOk, IsErr};
 ghost use Rattle.pon_units.specs.Polynomial.{remainder};
-ghost use Rattle.pon_dbru.specs.Report.{generator, Reports};
+ghost use Rattle.pon_dbru.specs.Report.{check_generator, Reports};
 
 use pon_units::BufOcc;
 
@@ -14,7 +14,7 @@ const GENERATOR: u32 = 0b1_0000_0111;
 // What is left of 24 bits times x^8 by the generator.
 fn check_byte(words: u32) -> u8
     requires { words < 2 ^ 24 }
-    ensures { result ≡ remainder generator 8 24 (words * 2 ^ 8) }
+    ensures { result ≡ remainder check_generator 8 24 (words * 2 ^ 8) }
 {
     let mut rest = words << 8;
     for k in 0..24u32 {
@@ -27,7 +27,7 @@ fn check_byte(words: u32) -> u8
 }
 
 // The four bytes that report `words`.
-fn report_of(words: u32) -> [u8; 4]
+fn report_bytes(words: u32) -> [u8; 4]
     requires { words < 2 ^ 24 }
     ensures { Reports result words }
 {
@@ -50,7 +50,7 @@ fn occupancy_of(words: u32) -> BufOcc
 pub fn encode(occupancy: BufOcc) -> [u8; 4]
     ensures { Reports result occupancy }
 {
-    report_of(occupancy.get())
+    report_bytes(occupancy.get())
 }
 
 /// The occupancy that four bytes report; 0xFFFFFF is an ordinary value. `Garbled` exactly when they report none.
@@ -59,7 +59,7 @@ pub fn decode(bytes: [u8; 4]) -> Result<BufOcc, Garbled>
     ensures garbled { IsErr result ↔ ((words : ℕ) → Reports bytes words → ⊥) }
 {
     let words = u32::from_be_bytes(bytes) >> 8;
-    if report_of(words) == bytes {
+    if report_bytes(words) == bytes {
         Ok(occupancy_of(words))
     } else {
         Err(Garbled)

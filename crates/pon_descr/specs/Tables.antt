@@ -18,8 +18,8 @@ abbrev pub rate_at : List ℕ → Members → Option ℕ
 rate_at key t = option_and_then natural (option_and_then as_integer (get_member key t))
 
 -- the class that a table names
-abbrev pub class_at : Members → Option Class
-class_at t = option_and_then class_of (option_and_then as_str (get_member (codes "class") t))
+abbrev pub class_in_table : Members → Option Class
+class_in_table t = option_and_then class_of (option_and_then as_str (get_member (codes "class") t))
 
 -- three rates and a class, where all are there
 abbrev pub all_there : Option ℕ → Option ℕ → Option ℕ → Option Class → Option Descriptor
@@ -27,8 +27,8 @@ all_there (Some fixed) (Some assured) (Some most) (Some class) = Some (record { 
 all_there _ _ _ _ = None
 
 -- what the keys `fixed`, `assured`, `max` and `class` spell, whatever the other keys
-abbrev pub spelled : Members → Option Descriptor
-spelled t = all_there (rate_at (codes "fixed") t) (rate_at (codes "assured") t) (rate_at (codes "max") t) (class_at t)
+abbrev pub described : Members → Option Descriptor
+described t = all_there (rate_at (codes "fixed") t) (rate_at (codes "assured") t) (rate_at (codes "max") t) (class_in_table t)
 
 -- one of the four is not there, or the numbers that are spelled are refused
 abbrev pub IsDescrFault : Option Descriptor → DescrFault → Type 0

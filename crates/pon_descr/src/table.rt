@@ -3,7 +3,7 @@
 ghost use Rattle.std.specs.Prelude.{◌≡◌, Some, IfOk, IfErr, option_and_then, option_map};
 ghost use Rattle.toml.specs.Data.{as_integer, as_str, get_member};
 ghost use Rattle.toml.specs.View.{table_view, view};
-ghost use Rattle.pon_descr.specs.Tables.{natural, rate_at, class_at, spelled, IsDescrFault};
+ghost use Rattle.pon_descr.specs.Tables.{natural, rate_at, class_in_table, described, IsDescrFault};
 
 use crate::class::Class;
 use crate::descriptor::Descriptor;
@@ -67,8 +67,8 @@ fn rate_at(table: &Table, key: &str) -> Option<u64>
 }
 
 // The class that a table names.
-fn class_at(table: &Table) -> Option<Class>
-    ensures { result ≡ class_at (table_view table.now) }
+fn class_in_table(table: &Table) -> Option<Class>
+    ensures { result ≡ class_in_table (table_view table.now) }
 {
     match text_at(table, "class") {
         Some(word) => Class::of_word(word.as_bytes()),
@@ -81,8 +81,8 @@ fn class_at(table: &Table) -> Option<Class>
 ///
 /// `Field` if one of the four is not there as it should be, then what [`Descriptor::new`] refuses.
 pub fn from_toml(table: &Table) -> Result<Descriptor, DescrFault>
-    ensures ok { IfOk result (λ d. spelled (table_view table.now) ≡ Some d) }
-    ensures fault { IfErr result (IsDescrFault (spelled (table_view table.now))) }
+    ensures ok { IfOk result (λ d. described (table_view table.now) ≡ Some d) }
+    ensures fault { IfErr result (IsDescrFault (described (table_view table.now))) }
 {
     let Some(fixed) = rate_at(table, "fixed") else {
         return Err(DescrFault::Field);
@@ -93,7 +93,7 @@ pub fn from_toml(table: &Table) -> Result<Descriptor, DescrFault>
     let Some(max) = rate_at(table, "max") else {
         return Err(DescrFault::Field);
     };
-    let Some(class) = class_at(table) else {
+    let Some(class) = class_in_table(table) else {
         return Err(DescrFault::Field);
     };
     match Descriptor::new(fixed, assured, max, class) {

@@ -62,7 +62,7 @@ fn count_occupancies(
         (filter (λ g. g.onu == onu) asked.now.grants) occupancies.now accounts.old }
 {
     let frame = asked.frame();
-    let mut hint = asked.first_of(onu);
+    let mut hint = asked.first_grant_to(onu);
     for (granted, occupancy) in asked.series(onu).iter().zip(occupancies) {
         let index = hint;
         hint = hint.wrapping_add(1);

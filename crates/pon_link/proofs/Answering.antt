@@ -4,7 +4,7 @@ use Rattle.std.specs.Int.{w64, from_be_bytes}
 use Rattle.std.proofs.lemmas.Slice.{between_to_end}
 use Rattle.pon_bwmap.specs.Structure.{Structure}
 use Rattle.pon_bwmap.specs.MapReading.{ReadsMap}
-use Rattle.pon_bwmap.specs.MapFaults.{IsFirstFault}
+use Rattle.pon_bwmap.specs.MapFaults.{IsFirstMapFault}
 use Rattle.pon_bwmap.specs.declared.fault.MapFault.{MapFault}
 use Rattle.pon_bwmap.specs.declared.fault.MapFault.TheVariants as map_fault
 use Rattle.pon_bwmap.proofs.OneMap.{one_head}
@@ -31,9 +31,9 @@ rest_of : (bytes : List ℕ) → take (length bytes - 9) (drop 9 bytes) ≡ drop
 rest_of bytes = between_to_end bytes 9 (length bytes) (omega arith)
 
 -- a map that is refused is the reader's fault
-pub refused_shown : (s : Reading) (bytes : List ℕ) (f : MapFault) → bytes ≡ s.held → s.direction ≡ Down → IsWhole s.direction s.held → IsFirstFault (take (length bytes - 9) (drop 9 bytes)) f → f ≢ map_fault.Memory → HasFault s BadMap
+pub refused_shown : (s : Reading) (bytes : List ℕ) (f : MapFault) → bytes ≡ s.held → s.direction ≡ Down → IsWhole s.direction s.held → IsFirstMapFault (take (length bytes - 9) (drop 9 bytes)) f → f ≢ map_fault.Memory → HasFault s BadMap
 refused_shown s bytes f is down whole first other =
-    let here : IsFirstFault (drop 9 s.held) f = subst (λ (t : List ℕ). IsFirstFault (drop 9 t) f) is (subst (λ (t : List ℕ). IsFirstFault t f) (rest_of bytes) first) in
+    let here : IsFirstMapFault (drop 9 s.held) f = subst (λ (t : List ℕ). IsFirstMapFault (drop 9 t) f) is (subst (λ (t : List ℕ). IsFirstMapFault t f) (rest_of bytes) first) in
     (down, inr (subst (λ (d : Direction). IsWhole d s.held) down whole, (f, here, other)))
 
 -- a whole record's bytes, of which the map is read, are the record
@@ -52,11 +52,11 @@ down_record bytes frame rows corrected used small w read here =
     }
 
 -- why a whole record's bytes give none
-pub down_fault : (bytes : List ℕ) (f : MapFault) (told : DownFault) → IsWhole Down bytes → IsFirstFault (take (length bytes - 9) (drop 9 bytes)) f → ((f ≡ map_fault.Memory) × (told ≡ Memory)) ⊎ ((f ≢ map_fault.Memory) × (told ≡ Link BadMap)) → KeepsDown bytes told
+pub down_fault : (bytes : List ℕ) (f : MapFault) (told : DownFault) → IsWhole Down bytes → IsFirstMapFault (take (length bytes - 9) (drop 9 bytes)) f → ((f ≡ map_fault.Memory) × (told ≡ Memory)) ⊎ ((f ≢ map_fault.Memory) × (told ≡ Link BadMap)) → KeepsDown bytes told
 down_fault bytes f told w first cases =
-    let here : IsFirstFault (drop 9 bytes) f = subst (λ (t : List ℕ). IsFirstFault t f) (rest_of bytes) first in
+    let here : IsFirstMapFault (drop 9 bytes) f = subst (λ (t : List ℕ). IsFirstMapFault t f) (rest_of bytes) first in
     elim cases [
-      | inl memory ↦ subst (λ (t : DownFault). KeepsDown bytes t) (sym memory.1) (w, subst (λ (g : MapFault). IsFirstFault (drop 9 bytes) g) memory.0 here)
+      | inl memory ↦ subst (λ (t : DownFault). KeepsDown bytes t) (sym memory.1) (w, subst (λ (g : MapFault). IsFirstMapFault (drop 9 bytes) g) memory.0 here)
       | inr other ↦ subst (λ (t : DownFault). KeepsDown bytes t) (sym other.1) (refl, (w, (f, here, other.0)))
     ]
 

@@ -1,6 +1,6 @@
 -- Downstream bytes have one reading as a record at most, and a record tells its size.
 use Rattle.std.proofs.Common.{◌≡◌, ◌≢◌, ℕ, ◌+◌, ◌*◌, ◌<◌, List, ◌++◌, length, drop, All, sym, ◌∙◌, arith}
-use Rattle.pon_bwmap.specs.MapFaults.{IsFirstFault}
+use Rattle.pon_bwmap.specs.MapFaults.{IsFirstMapFault}
 use Rattle.pon_bwmap.specs.declared.fault.MapFault.{MapFault}
 use Rattle.pon_bwmap.specs.declared.fault.MapFault.TheVariants as map_fault
 use Rattle.pon_bwmap.proofs.OneMap.{one_map, no_fault}
@@ -33,5 +33,5 @@ one_down_record bytes rest r s small h k =
     λ i. record { frame = frame i; map = map i }
 
 -- a record's map is not refused
-pub not_refused : (bytes : List ℕ) (r : DownRecord) (f : MapFault) → AreBytes bytes → IsDownRecord bytes r → IsFirstFault (drop 9 bytes) f → f ≢ map_fault.Memory → ⊥
+pub not_refused : (bytes : List ℕ) (r : DownRecord) (f : MapFault) → AreBytes bytes → IsDownRecord bytes r → IsFirstMapFault (drop 9 bytes) f → f ≢ map_fault.Memory → ⊥
 not_refused bytes r f small h first other = other (no_fault (drop 9 bytes) r.map h.corrected (4 + 8 * length r.map) f (all_bytes bytes small) h.map first)

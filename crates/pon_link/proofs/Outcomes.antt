@@ -1,14 +1,14 @@
 -- A reader answers one thing alone.
 use Rattle.std.proofs.Common.{◌≡◌, ◌+◌, ◌⊎◌, List, ℕ, length, drop, Option, Some, None, Result, Ok, Err, refl, ap, sym, ◌∙◌, subst, inl, inr, true, false, arith}
 use Rattle.pon_bwmap.specs.MapReading.{BeginsWithMap, map_size}
-use Rattle.pon_bwmap.specs.MapFaults.{IsFirstFault}
+use Rattle.pon_bwmap.specs.MapFaults.{IsFirstMapFault}
 use Rattle.pon_bwmap.specs.declared.fault.MapFault.TheVariants as map_fault
 use Rattle.pon_bwmap.proofs.OneMap.{no_fault}
 use Rattle.pon_lists.specs.Bytes.{AreBytes}
 use Rattle.pon_lists.proofs.Bytes.{All-from_bytes, bytes-drop}
 use Rattle.pon_link.specs.UpRecords.{IsRecord}
 use Rattle.pon_link.specs.DownRecords.{IsDownRecord, WantsMemory, GivesDown}
-use Rattle.pon_link.specs.Reading.{Reading, IsOpen, IsBeginning, IsWhole, IsReady, HasFault, HasBadForm, HasBadTag, HasRefusedMap, Gives, Pulls}
+use Rattle.pon_link.specs.Reading.{Reading, IsOpen, MayBecomeRecord, IsWhole, IsReady, HasFault, HasBadForm, HasBadTag, HasRefusedMap, Returns, Pulls}
 use Rattle.pon_link.specs.declared.direction.Direction.{Direction}
 use Rattle.pon_link.specs.declared.direction.Direction.TheVariants.{Up, Down}
 use Rattle.pon_link.specs.declared.record.UpRecord.{UpRecord}
@@ -25,13 +25,13 @@ use Rattle.pon_link.specs.declared.pull.PullFault.TheVariants.{Device}
 use Rattle.pon_link.proofs.DownReading.{down_size, not_refused}
 use Rattle.pon_link.proofs.Sizes.{no_size, more_needed}
 
-not_begun : (bytes : List ℕ) (r : UpRecord) → IsRecord bytes r → IsBeginning Up bytes → ⊥
+not_begun : (bytes : List ℕ) (r : UpRecord) → IsRecord bytes r → MayBecomeRecord Up bytes → ⊥
 not_begun bytes r h b = let more = b.more (omega (arith, h.size)) in omega (arith, h.size, h.count, more.1.2, more.2)
 
 pub waits : (s : Reading) (r : UpRecord) → s.direction ≡ Up → IsRecord s.held r → IsOpen s → ⊥
-waits s r up h o = not_begun s.held r h (subst (λ (d : Direction). IsBeginning d s.held) up o.beginning)
+waits s r up h o = not_begun s.held r h (subst (λ (d : Direction). MayBecomeRecord d s.held) up o.beginning)
 
-down_not_begun : (bytes : List ℕ) (r : DownRecord) → AreBytes bytes → IsDownRecord bytes r → IsBeginning Down bytes → ⊥
+down_not_begun : (bytes : List ℕ) (r : DownRecord) → AreBytes bytes → IsDownRecord bytes r → MayBecomeRecord Down bytes → ⊥
 down_not_begun bytes r small h b = omega (arith, more_needed Down bytes (length bytes) small (omega (arith, h.size)) (down_size bytes r h) b)
 
 -- upward is not downward
@@ -42,30 +42,30 @@ pub sound : (s : Reading) (r : UpRecord) (f : LinkFault) → s.direction ≡ Up 
 sound s r BadTag up h f = (subst (λ (d : Direction). HasBadTag d s.held) up f).1 h.tag
 sound s r BadCount up h f = elim f.1.2 [ inl none ↦ omega (arith, none, h.count, h.some) | inr more ↦ omega (arith, more, h.count, h.limit) ]
 sound s r BadMap up h f = not_down s up f.0
-sound s r (Truncated left) up h f = not_begun s.held r h (subst (λ (d : Direction). IsBeginning d s.held) up f.1)
+sound s r (Truncated left) up h f = not_begun s.held r h (subst (λ (d : Direction). MayBecomeRecord d s.held) up f.1)
 
 -- a beginning has no bad form
-pub form_begun : (d : Direction) (bytes : List ℕ) → IsBeginning d bytes → HasBadForm d bytes → ⊥
+pub form_begun : (d : Direction) (bytes : List ℕ) → MayBecomeRecord d bytes → HasBadForm d bytes → ⊥
 form_begun d bytes b f = let size = b.form.size f.0 in no_size d bytes size.0 f.2 size.1
 
 -- nor a whole record's size
-whole_begun : (d : Direction) (bytes : List ℕ) → AreBytes bytes → IsBeginning d bytes → IsWhole d bytes → ⊥
+whole_begun : (d : Direction) (bytes : List ℕ) → AreBytes bytes → MayBecomeRecord d bytes → IsWhole d bytes → ⊥
 whole_begun d bytes small b w = omega (arith, more_needed d bytes (length bytes) small w.told w.size b)
 
-no_form_fault : (s : Reading) (f : LinkFault) → (s.direction ≡ Down → AreBytes s.held) → IsBeginning s.direction s.held → HasFault s f → f ≡ Truncated (length s.held)
+no_form_fault : (s : Reading) (f : LinkFault) → (s.direction ≡ Down → AreBytes s.held) → MayBecomeRecord s.direction s.held → HasFault s f → f ≡ Truncated (length s.held)
 no_form_fault s BadTag small b f = absurd (f.1 (b.form.tag f.0))
-no_form_fault s BadCount small b f = absurd (form_begun Up s.held (subst (λ (d : Direction). IsBeginning d s.held) f.0 b) f.1)
+no_form_fault s BadCount small b f = absurd (form_begun Up s.held (subst (λ (d : Direction). MayBecomeRecord d s.held) f.0 b) f.1)
 no_form_fault s BadMap small b f =
-    let down : IsBeginning Down s.held = subst (λ (d : Direction). IsBeginning d s.held) f.0 b in
+    let down : MayBecomeRecord Down s.held = subst (λ (d : Direction). MayBecomeRecord d s.held) f.0 b in
     absurd (elim f.1 [ inl bad ↦ form_begun Down s.held down bad | inr refused ↦ whole_begun Down s.held (small f.0) down refused.0 ])
 no_form_fault s (Truncated left) small b f = ap (λ (n : ℕ). Truncated n) f.3
 
 pub faultless : (s : Reading) (f : LinkFault) → (s.direction ≡ Down → AreBytes s.held) → IsOpen s → HasFault s f → ⊥
 faultless s (Truncated left) small o f = let both : true ≡ false = sym f.0 ∙ o.unended in cc
 faultless s BadTag small o f = f.1 (o.beginning.form.tag f.0)
-faultless s BadCount small o f = form_begun Up s.held (subst (λ (d : Direction). IsBeginning d s.held) f.0 o.beginning) f.1
+faultless s BadCount small o f = form_begun Up s.held (subst (λ (d : Direction). MayBecomeRecord d s.held) f.0 o.beginning) f.1
 faultless s BadMap small o f =
-    let down : IsBeginning Down s.held = subst (λ (d : Direction). IsBeginning d s.held) f.0 o.beginning in
+    let down : MayBecomeRecord Down s.held = subst (λ (d : Direction). MayBecomeRecord d s.held) f.0 o.beginning in
     elim f.1 [ inl bad ↦ form_begun Down s.held down bad | inr refused ↦ whole_begun Down s.held (small f.0) down refused.0 ]
 
 -- a bad form has the right tag, and so has a whole record
@@ -76,7 +76,7 @@ tag_there s f t =
 
 -- a record of a map is whole
 pub down_waits : (s : Reading) (r : DownRecord) → s.direction ≡ Down → AreBytes s.held → IsDownRecord s.held r → IsOpen s → ⊥
-down_waits s r down small h o = down_not_begun s.held r small h (subst (λ (d : Direction). IsBeginning d s.held) down o.beginning)
+down_waits s r down small h o = down_not_begun s.held r small h (subst (λ (d : Direction). MayBecomeRecord d s.held) down o.beginning)
 
 pub down_sound : (s : Reading) (r : DownRecord) (f : LinkFault) → s.direction ≡ Down → AreBytes s.held → IsDownRecord s.held r → HasFault s f → ⊥
 down_sound s r BadTag down small h f = (subst (λ (d : Direction). HasBadTag d s.held) down f).1 h.tag
@@ -85,7 +85,7 @@ down_sound s r BadMap down small h f = elim f.1 [
   | inl bad ↦ bad.2 (length s.held) (down_size s.held r h)
   | inr refused ↦ not_refused s.held r refused.1.0 small h refused.1.1 refused.1.2
 ]
-down_sound s r (Truncated left) down small h f = down_not_begun s.held r small h (subst (λ (d : Direction). IsBeginning d s.held) down f.1)
+down_sound s r (Truncated left) down small h f = down_not_begun s.held r small h (subst (λ (d : Direction). MayBecomeRecord d s.held) down f.1)
 
 pub one_fault : (s : Reading) (f g : LinkFault) → (s.direction ≡ Down → AreBytes s.held) → HasFault s f → HasFault s g → f ≡ g
 one_fault s (Truncated left) g small h k = no_form_fault s (Truncated left) small h.1 h ∙ sym (no_form_fault s g small h.1 k)
@@ -113,7 +113,7 @@ whole_sound s d BadMap is small w f =
       | inl bad ↦ absurd (no_size Down s.held (length s.held) bad.2 down.size)
       | inr refused ↦ (refl, refused)
     ]
-whole_sound s d (Truncated left) is small w f = absurd (whole_begun d s.held small (subst (λ (e : Direction). IsBeginning e s.held) is f.1) w)
+whole_sound s d (Truncated left) is small w f = absurd (whole_begun d s.held small (subst (λ (e : Direction). MayBecomeRecord e s.held) is f.1) w)
 
 -- where a whole record waits that is not refused, there is no fault
 ready_sound : (s : Reading) (d : Direction) (f : LinkFault) → s.direction ≡ d → AreBytes s.held → IsReady d s.held → HasFault s f → ⊥
@@ -123,7 +123,7 @@ ready_sound s Down f is small w h =
     bad.1.2 (no_fault (drop 9 s.held) w.1.0 w.1.1 w.1.2 bad.1.0 (All-from_bytes (drop 9 s.held) (bytes-drop 9 s.held small)) w.1.3 bad.1.1)
 
 -- memory is wanting for a record that waits
-begins_map : (bytes : List ℕ) → IsFirstFault bytes map_fault.Memory → BeginsWithMap bytes
+begins_map : (bytes : List ℕ) → IsFirstMapFault bytes map_fault.Memory → BeginsWithMap bytes
 begins_map bytes f = (
   f.in_rows.0,
   f.corrected + f.in_rows.1,
@@ -143,11 +143,11 @@ pub memory_sound : (s : Reading) (f : LinkFault) → s.direction ≡ Down → Ar
 memory_sound s f down small m h = ready_sound s Down f down small (m.0, begins_map (drop 9 s.held) m.1) h
 
 pub memory_waits : (s : Reading) → s.direction ≡ Down → AreBytes s.held → WantsMemory s.held → IsOpen s → ⊥
-memory_waits s down small m o = whole_begun Down s.held small (subst (λ (d : Direction). IsBeginning d s.held) down o.beginning) m.0
+memory_waits s down small m o = whole_begun Down s.held small (subst (λ (d : Direction). MayBecomeRecord d s.held) down o.beginning) m.0
 
 -- ---- once a fault, always that fault
 
-pub sticky_next : (s t : Reading) (r : Result (Option UpRecord) LinkFault) (f : LinkFault) → s.direction ≡ Up → AreBytes s.held → Gives IsRecord s t r → HasFault s f → r ≡ Err f
+pub sticky_next : (s t : Reading) (r : Result (Option UpRecord) LinkFault) (f : LinkFault) → s.direction ≡ Up → AreBytes s.held → Returns IsRecord s t r → HasFault s f → r ≡ Err f
 sticky_next s t (Ok (Some r)) f up small g h = absurd (sound s r f up g.0 h)
 sticky_next s t (Ok None) f up small g h = absurd (faultless s f (λ _. small) g.0 h)
 sticky_next s t (Err e) f up small g h = ap (λ (x : LinkFault). Err x) (one_fault s e f (λ _. small) g.0 h)

@@ -2,7 +2,7 @@
 use Rattle.std.proofs.Common.{◌≡◌, ℕ, ◌+◌, ◌<◌, ◌≤◌, ◌⊎◌, Bool, IsTrue, List, [], ◌++◌, length, get_or, Option, Some, None, inl, inr, refl, ap, sym, ◌∙◌, subst, length-append, arith}
 use Rattle.std.proofs.lemmas.List.{append-nil, get_or_append_left}
 use Rattle.pon_lists.specs.Bytes.{AreBytes}
-use Rattle.pon_link.specs.Reading.{Reading, Announces, HasBadSize, HasBadTag, HasBadForm, HasRefusedMap, HasFault, IsBeginning, IsWhole, tag_of, telling, bad_size}
+use Rattle.pon_link.specs.Reading.{Reading, Announces, HasBadSize, HasBadTag, HasBadForm, HasRefusedMap, HasFault, MayBecomeRecord, IsWhole, tag_of, telling, bad_size}
 use Rattle.pon_link.specs.Runs.{ComesTo}
 use Rattle.pon_link.specs.declared.direction.Direction.{Direction}
 use Rattle.pon_link.specs.declared.direction.Direction.TheVariants.{Up, Down}
@@ -12,7 +12,7 @@ use Rattle.pon_link.proofs.Sizes.{no_size, size_kept, size_before, more_needed, 
 
 -- the ends of a reader that met a fault: the input ended, the tag is wrong, or what follows it
 pub data Ends (d : Direction) (s : Reading) (f : LinkFault) : Type 0 where
-  Cut : IsBeginning d s.held → 0 < length s.held → IsTrue s.ended → f ≡ Truncated (length s.held) → Ends d s f
+  Cut : MayBecomeRecord d s.held → 0 < length s.held → IsTrue s.ended → f ≡ Truncated (length s.held) → Ends d s f
   Tag : HasBadTag d s.held → f ≡ BadTag → Ends d s f
   Form : telling d ≤ length s.held → get_or s.held 0 0 ≡ tag_of d → HasBadSize d s.held ⊎ Announces d s.held (length s.held) → f ≡ bad_size d → Ends d s f
 
@@ -32,10 +32,10 @@ pub ends : (d : Direction) (s : Reading) (f : LinkFault) → s.direction ≡ d �
 ends d s BadTag is h = Tag (subst (λ (x : Direction). HasBadTag x s.held) is h) refl
 ends d s BadCount is h = late s d Up BadCount is h.0 refl h.1
 ends d s BadMap is h = elim h.1 [ inl form ↦ late s d Down BadMap is h.0 refl form | inr map ↦ refused s d is h.0 map ]
-ends d s (Truncated left) is h = Cut (subst (λ (x : Direction). IsBeginning x s.held) is h.1) (omega (arith, h.2, h.3)) h.0 (ap (λ (n : ℕ). Truncated n) h.3)
+ends d s (Truncated left) is h = Cut (subst (λ (x : Direction). MayBecomeRecord x s.held) is h.1) (omega (arith, h.2, h.3)) h.0 (ap (λ (n : ℕ). Truncated n) h.3)
 
 -- what begins with bytes of a bad form is no beginning
-form_stays : (d : Direction) (held rest : List ℕ) → AreBytes (held ++ rest) → telling d ≤ length held → HasBadSize d held ⊎ Announces d held (length held) → IsBeginning d (held ++ rest) → ⊥
+form_stays : (d : Direction) (held rest : List ℕ) → AreBytes (held ++ rest) → telling d ≤ length held → HasBadSize d held ⊎ Announces d held (length held) → MayBecomeRecord d (held ++ rest) → ⊥
 form_stays d held rest small ge bad b =
     let size : length (held ++ rest) ≡ length held + length rest = length-append held rest in
     let told = b.form.size (omega (arith, ge, size)) in
@@ -48,16 +48,16 @@ form_stays d held rest small ge bad b =
 first_byte : (a b x y : List ℕ) → 0 < length a → 0 < length b → a ++ x ≡ b ++ y → get_or a 0 0 ≡ get_or b 0 0
 first_byte a b x y la lb e = sym (get_or_append_left a x 0 0 la) ∙ ap (λ (t : List ℕ). get_or t 0 0) e ∙ get_or_append_left b y 0 0 lb
 
-tag_stays : (d : Direction) (held rest : List ℕ) → HasBadTag d held → IsBeginning d (held ++ rest) → ⊥
+tag_stays : (d : Direction) (held rest : List ℕ) → HasBadTag d held → MayBecomeRecord d (held ++ rest) → ⊥
 tag_stays d held rest bad b =
     let size : length (held ++ rest) ≡ length held + length rest = length-append held rest in
     bad.1 (sym (get_or_append_left held rest 0 0 bad.0) ∙ b.form.tag (omega (arith, bad.0, size)))
 
 -- a fault before the end of the bytes leaves them no beginning
-not_cut : (d : Direction) (s : Reading) (rest all : List ℕ) (f : LinkFault) → AreBytes all → s.held ++ rest ≡ all → IsBeginning d all → Ends d s f → f ≡ Truncated (length s.held)
+not_cut : (d : Direction) (s : Reading) (rest all : List ℕ) (f : LinkFault) → AreBytes all → s.held ++ rest ≡ all → MayBecomeRecord d all → Ends d s f → f ≡ Truncated (length s.held)
 not_cut d s rest all f small e b (Cut c some over is) = is
-not_cut d s rest all f small e b (Tag bad is) = absurd (tag_stays d s.held rest bad (subst (λ (t : List ℕ). IsBeginning d t) (sym e) b))
-not_cut d s rest all f small e b (Form ge tag bad is) = absurd (form_stays d s.held rest (subst AreBytes (sym e) small) ge bad (subst (λ (t : List ℕ). IsBeginning d t) (sym e) b))
+not_cut d s rest all f small e b (Tag bad is) = absurd (tag_stays d s.held rest bad (subst (λ (t : List ℕ). MayBecomeRecord d t) (sym e) b))
+not_cut d s rest all f small e b (Form ge tag bad is) = absurd (form_stays d s.held rest (subst AreBytes (sym e) small) ge bad (subst (λ (t : List ℕ). MayBecomeRecord d t) (sym e) b))
 
 -- the whole rest of the stream, where the input ended or all was taken
 all_held : (held rest all : List ℕ) → held ++ rest ≡ all → rest ≡ [] → held ≡ all
@@ -76,16 +76,16 @@ cut_size d s t y held ys g (Form ge tag bad is) cut = absurd (late_cut d (length
 two_faults : (d : Direction) (s t : Reading) (x y : List ℕ) (f g : LinkFault) → AreBytes (t.held ++ y) → s.held ++ x ≡ t.held ++ y → (IsTrue s.ended → x ≡ []) → (IsTrue t.ended → y ≡ []) → Ends d s f → Ends d t g → f ≡ g
 two_faults d s t x y f g small e xs ys (Cut b some over is) k =
     let held = all_held s.held x (t.held ++ y) e (xs over) in
-    let cut = not_cut d t y (t.held ++ y) g small refl (subst (λ (h : List ℕ). IsBeginning d h) held b) k in
+    let cut = not_cut d t y (t.held ++ y) g small refl (subst (λ (h : List ℕ). MayBecomeRecord d h) held b) k in
     is ∙ cut_size d s t y held ys g k cut
 two_faults d s t x y f g small e xs ys (Tag bad is) (Cut b some over is2) =
     let held = all_held t.held y (s.held ++ x) (sym e) (ys over) in
-    absurd (tag_stays d s.held x bad (subst (λ (h : List ℕ). IsBeginning d h) held b))
+    absurd (tag_stays d s.held x bad (subst (λ (h : List ℕ). MayBecomeRecord d h) held b))
 two_faults d s t x y f g small e xs ys (Tag bad is) (Tag bad2 is2) = is ∙ sym is2
 two_faults d s t x y f g small e xs ys (Tag bad is) (Form ge tag bad2 is2) = absurd (bad.1 (first_byte s.held t.held x y bad.0 (omega (arith, ge, some_told d)) e ∙ tag))
 two_faults d s t x y f g small e xs ys (Form ge tag bad is) (Cut b some over is2) =
     let held = all_held t.held y (s.held ++ x) (sym e) (ys over) in
-    absurd (form_stays d s.held x (subst AreBytes (sym e) small) ge bad (subst (λ (h : List ℕ). IsBeginning d h) held b))
+    absurd (form_stays d s.held x (subst AreBytes (sym e) small) ge bad (subst (λ (h : List ℕ). MayBecomeRecord d h) held b))
 two_faults d s t x y f g small e xs ys (Form ge tag bad is) (Tag bad2 is2) = absurd (bad2.1 (first_byte t.held s.held y x bad2.0 (omega (arith, ge, some_told d)) (sym e) ∙ tag))
 two_faults d s t x y f g small e xs ys (Form ge tag bad is) (Form ge2 tag2 bad2 is2) = is ∙ sym is2
 
@@ -93,7 +93,7 @@ two_faults d s t x y f g small e xs ys (Form ge tag bad is) (Form ge2 tag2 bad2 
 no_fault_there : (d : Direction) (over : Bool) (s t : Reading) (x y : List ℕ) (g : LinkFault) → s.direction ≡ d → t.direction ≡ d → AreBytes (t.held ++ y) → s.held ++ x ≡ t.held ++ y → ComesTo over s x None → ComesTo over t y (Some g) → ⊥
 no_fault_there d over s t x y g sd td small e a b =
     let held = all_held s.held x (t.held ++ y) e a.1 in
-    let begun : IsBeginning d (t.held ++ y) = subst (λ (h : List ℕ). IsBeginning d h) held (subst (λ (z : Direction). IsBeginning z s.held) sd a.0.beginning) in
+    let begun : MayBecomeRecord d (t.held ++ y) = subst (λ (h : List ℕ). MayBecomeRecord d h) held (subst (λ (z : Direction). MayBecomeRecord z s.held) sd a.0.beginning) in
     by_end g (not_cut d t y (t.held ++ y) g small refl begun (ends d t g td b.0)) b
   where
     by_end : (g : LinkFault) → g ≡ Truncated (length t.held) → ComesTo over t y (Some g) → ⊥

@@ -10,7 +10,7 @@ use Rattle.pon_bwmap.proofs.OneMap.{one_head}
 use Rattle.pon_link.specs.UpRecords.{count_in}
 use Rattle.pon_lists.specs.Bytes.{AreBytes}
 use Rattle.pon_lists.proofs.Bytes.{bytes-drop}
-use Rattle.pon_link.specs.Reading.{Announces, AnnouncesMap, HasBadSize, KeepsForm, IsBeginning, IsWhole, IsWithinRecord, tag_of, telling, longest}
+use Rattle.pon_link.specs.Reading.{Announces, AnnouncesMap, HasBadSize, KeepsForm, MayBecomeRecord, IsWhole, IsWithinRecord, tag_of, telling, longest}
 use Rattle.pon_link.specs.declared.direction.Direction.{Direction}
 use Rattle.pon_link.specs.declared.direction.Direction.TheVariants.{Up, Down}
 
@@ -110,7 +110,7 @@ within_limit d bytes w = elim (cases_lt (telling d) (length bytes)) [
 ]
 
 -- the beginning of a record is shorter than the longest
-pub begun_limit : (d : Direction) (bytes : List ℕ) → IsBeginning d bytes → length bytes < longest d
+pub begun_limit : (d : Direction) (bytes : List ℕ) → MayBecomeRecord d bytes → length bytes < longest d
 begun_limit d bytes b = elim (cases_lt (length bytes) (telling d)) [
   | inl lt ↦ omega (arith, lt, told_early d)
   | inr ge ↦ let more = b.more ge in omega (arith, more.2, size_limit d bytes more.0 more.1)
@@ -127,7 +127,7 @@ form_kept d bytes more long form =
     }
 
 -- bytes that a record surely still needs do not go past it
-pub within_more : (d : Direction) (held piece : List ℕ) (needed : ℕ) → IsBeginning d held → (length held < telling d → length held + needed ≡ telling d) → (telling d ≤ length held → Announces d held (length held + needed)) → length piece ≤ needed → IsWithinRecord d (held ++ piece)
+pub within_more : (d : Direction) (held piece : List ℕ) (needed : ℕ) → MayBecomeRecord d held → (length held < telling d → length held + needed ≡ telling d) → (telling d ≤ length held → Announces d held (length held + needed)) → length piece ≤ needed → IsWithinRecord d (held ++ piece)
 within_more d held piece needed b untold told le =
     let size : length (held ++ piece) ≡ length held + length piece = length-append held piece in
     elim (cases_lt (length held) (telling d)) [
@@ -142,7 +142,7 @@ within_more d held piece needed b untold told le =
     ]
 
 -- the beginning of a record needs more than it has
-pub more_needed : (d : Direction) (bytes : List ℕ) (n : ℕ) → AreBytes bytes → telling d ≤ length bytes → Announces d bytes n → IsBeginning d bytes → length bytes < n
+pub more_needed : (d : Direction) (bytes : List ℕ) (n : ℕ) → AreBytes bytes → telling d ≤ length bytes → Announces d bytes n → MayBecomeRecord d bytes → length bytes < n
 more_needed d bytes n small ge a b = let more = b.more ge in omega (arith, more.2, one_size d bytes n more.0 small a more.1)
 
 -- bytes within a record are no more than they tell
@@ -158,7 +158,7 @@ some_size None d bytes n a m = absurd (no_size d bytes n m a)
 some_size (Some k) d bytes n a m = refl
 
 -- where none is found, the bytes are not the beginning of a record
-pub none_begun : (r : Option ℕ) (d : Direction) (bytes : List ℕ) → telling d ≤ length bytes → IsNone r → MatchOption r (HasBadSize d bytes) (Announces d bytes) → IsBeginning d bytes → ⊥
+pub none_begun : (r : Option ℕ) (d : Direction) (bytes : List ℕ) → telling d ≤ length bytes → IsNone r → MatchOption r (HasBadSize d bytes) (Announces d bytes) → MayBecomeRecord d bytes → ⊥
 none_begun None d bytes ge none m b = let size = b.form.size ge in no_size d bytes size.0 m size.1
 none_begun (Some k) d bytes ge none m b = let both : true ≡ false = none in cc
 
@@ -188,7 +188,7 @@ whole_now d e held bytes n same is form untold told none =
     }
 
 -- fewer bytes than a record surely still needs leave it a beginning
-pub begins_more : (d : Direction) (held more : List ℕ) (needed : ℕ) → 0 < length held → IsBeginning d held → (length held < telling d → length held + needed ≡ telling d) → (telling d ≤ length held → Announces d held (length held + needed)) → length more < needed → IsBeginning d (held ++ more)
+pub begins_more : (d : Direction) (held more : List ℕ) (needed : ℕ) → 0 < length held → MayBecomeRecord d held → (length held < telling d → length held + needed ≡ telling d) → (telling d ≤ length held → Announces d held (length held + needed)) → length more < needed → MayBecomeRecord d (held ++ more)
 begins_more d held more needed some b untold told lt =
     let size : length (held ++ more) ≡ length held + length more = length-append held more in
     let tag : get_or (held ++ more) 0 0 ≡ tag_of d = get_or_append_left held more 0 0 some ∙ b.form.tag some in

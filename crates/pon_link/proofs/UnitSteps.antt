@@ -4,15 +4,15 @@ use Rattle.std.specs.List.{list_any}
 use Rattle.std.proofs.lemmas.List.{append-nil, drop_all}
 use Rattle.std.proofs.Math.Seq.{take-nil}
 use Rattle.pon_bwmap.specs.Structure.{Structure}
-use Rattle.pon_link.specs.Units.{asks, answered, waiting, lessened, served, reports}
+use Rattle.pon_link.specs.Units.{asks, answered, waiting, queue_after, served, reports}
 
 -- the Alloc-IDs of queues stay
-id_kept : (a : Structure) (q : ℕ × ℕ) → (lessened a q).0 ≡ q.0
+id_kept : (a : Structure) (q : ℕ × ℕ) → (queue_after a q).0 ≡ q.0
 id_kept a q = elim (q.0 == a.id) as (λ b. (if b then (q.0, q.1 - (a.grant - 1)) else q).0 ≡ q.0) [ true ↦ refl | false ↦ refl ]
 
-own_kept : (a : Structure) (queues : List (ℕ × ℕ)) (id : ℕ) → list_any (λ q. q.0 == id) (map (lessened a) queues) ≡ list_any (λ q. q.0 == id) queues
+own_kept : (a : Structure) (queues : List (ℕ × ℕ)) (id : ℕ) → list_any (λ q. q.0 == id) (map (queue_after a) queues) ≡ list_any (λ q. q.0 == id) queues
 own_kept a [] id = refl
-own_kept a (q ∷ queues) id = ap (λ (n : ℕ). (n == id) || list_any (λ p. p.0 == id) (map (lessened a) queues)) (id_kept a q) ∙ ap (λ (b : Bool). (q.0 == id) || b) (own_kept a queues id)
+own_kept a (q ∷ queues) id = ap (λ (n : ℕ). (n == id) || list_any (λ p. p.0 == id) (map (queue_after a) queues)) (id_kept a q) ∙ ap (λ (b : Bool). (q.0 == id) || b) (own_kept a queues id)
 
 -- After k structures: what was answered, and then what the others ask for, is the whole answer.
 pub record HasAnswered (first : List (ℕ × ℕ)) (rows : List Structure) (k : ℕ) (queues : List (ℕ × ℕ)) (occ : List (Option ℕ)) : Type 0 where
@@ -51,7 +51,7 @@ passed_over first rows k queues occ a h lt is not =
     }
 
 -- a structure that asks is answered
-pub is_answered : (first : List (ℕ × ℕ)) (rows : List Structure) (k : ℕ) (queues : List (ℕ × ℕ)) (occ : List (Option ℕ)) (a : Structure) → HasAnswered first rows k queues occ → k < length rows → a ≡ get_or rows k a → length occ < 16 → asks first a ≡ true → HasAnswered first rows (k + 1) (map (lessened a) queues) (occ ++ Some (min (waiting queues a.id) 16777215) ∷ [])
+pub is_answered : (first : List (ℕ × ℕ)) (rows : List Structure) (k : ℕ) (queues : List (ℕ × ℕ)) (occ : List (Option ℕ)) (a : Structure) → HasAnswered first rows k queues occ → k < length rows → a ≡ get_or rows k a → length occ < 16 → asks first a ≡ true → HasAnswered first rows (k + 1) (map (queue_after a) queues) (occ ++ Some (min (waiting queues a.id) 16777215) ∷ [])
 is_answered first rows k queues occ a h lt is room asked =
     let report = Some (min (waiting queues a.id) 16777215) in
     let later = filter (asks first) (drop (k + 1) rows) in
@@ -86,7 +86,7 @@ pub asks_alike : (first queues : List (ℕ × ℕ)) (a : Structure) → ((id : �
 asks_alike first queues a own = ap (λ (b : Bool). a.dbru && b) (own a.id)
 
 -- one structure more
-pub one_more : (first : List (ℕ × ℕ)) (rows : List Structure) (k : ℕ) (queues queues2 : List (ℕ × ℕ)) (occ occ2 : List (Option ℕ)) (a : Structure) → HasAnswered first rows k queues occ → k < length rows → a ≡ get_or rows k a → length occ < 16 → (asks queues a ≡ true → (occ2 ≡ occ ++ Some (min (waiting queues a.id) 16777215) ∷ []) × (queues2 ≡ map (lessened a) queues)) → (asks queues a ≡ false → (occ2 ≡ occ) × (queues2 ≡ queues)) → HasAnswered first rows (k + 1) queues2 occ2
+pub one_more : (first : List (ℕ × ℕ)) (rows : List Structure) (k : ℕ) (queues queues2 : List (ℕ × ℕ)) (occ occ2 : List (Option ℕ)) (a : Structure) → HasAnswered first rows k queues occ → k < length rows → a ≡ get_or rows k a → length occ < 16 → (asks queues a ≡ true → (occ2 ≡ occ ++ Some (min (waiting queues a.id) 16777215) ∷ []) × (queues2 ≡ map (queue_after a) queues)) → (asks queues a ≡ false → (occ2 ≡ occ) × (queues2 ≡ queues)) → HasAnswered first rows (k + 1) queues2 occ2
 one_more first rows k queues queues2 occ occ2 a h lt is room if_asked if_not =
     let alike = asks_alike first queues a h.own in
     let P : Bool → Type 0 = λ b. asks queues a ≡ b → HasAnswered first rows (k + 1) queues2 occ2 in
@@ -94,7 +94,7 @@ one_more first rows k queues queues2 occ occ2 a h lt is room if_asked if_not =
       | true ↦ λ t.
           let e = if_asked t in
           subst (λ (qs : List (ℕ × ℕ)). HasAnswered first rows (k + 1) qs occ2) (sym e.1)
-          (subst (λ (os : List (Option ℕ)). HasAnswered first rows (k + 1) (map (lessened a) queues) os) (sym e.0) (is_answered first rows k queues occ a h lt is room (sym alike ∙ t)))
+          (subst (λ (os : List (Option ℕ)). HasAnswered first rows (k + 1) (map (queue_after a) queues) os) (sym e.0) (is_answered first rows k queues occ a h lt is room (sym alike ∙ t)))
       | false ↦ λ t.
           let e = if_not t in
           subst (λ (qs : List (ℕ × ℕ)). HasAnswered first rows (k + 1) qs occ2) (sym e.1)

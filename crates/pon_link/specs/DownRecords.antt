@@ -5,9 +5,9 @@ use Rattle.std.specs.Int.{w64, to_be_bytes, from_be_bytes}
 use Rattle.pon_bwmap.specs.Structure.{Structure}
 use Rattle.pon_bwmap.specs.MapBytes.{map_bytes}
 use Rattle.pon_bwmap.specs.MapReading.{ReadsMap}
-use Rattle.pon_bwmap.specs.MapFaults.{IsFirstFault}
+use Rattle.pon_bwmap.specs.MapFaults.{IsFirstMapFault}
 use Rattle.pon_bwmap.specs.declared.fault.MapFault.TheVariants as map_fault
-use Rattle.pon_link.specs.Reading.{Reading, Gives, IsWhole, HasRefusedMap}
+use Rattle.pon_link.specs.Reading.{Reading, Returns, IsWhole, HasRefusedMap}
 use Rattle.pon_link.specs.declared.direction.Direction.TheVariants.{Down}
 use Rattle.pon_link.specs.declared.record.DownRecord.{DownRecord}
 use Rattle.pon_link.specs.declared.fault.DownFault.{DownFault}
@@ -28,7 +28,7 @@ pub record IsDownRecord (bytes : List ℕ) (r : DownRecord) : Type 0 where
 
 -- Memory is wanting for the map of a whole record, in which nothing is wrong.
 abbrev pub WantsMemory : List ℕ → Type 0
-WantsMemory bytes = IsWhole Down bytes × IsFirstFault (drop 9 bytes) map_fault.Memory
+WantsMemory bytes = IsWhole Down bytes × IsFirstMapFault (drop 9 bytes) map_fault.Memory
 
 -- why the bytes of a whole record give none
 abbrev pub KeepsDown : List ℕ → DownFault → Type 0
@@ -37,6 +37,6 @@ KeepsDown bytes Memory = WantsMemory bytes
 
 -- A reader of downstream records gives one as each reader does; or memory is wanting, and it stays as it was.
 abbrev pub GivesDown : Reading → Reading → Result (Option DownRecord) DownFault → Type 0
-GivesDown old new (Ok given) = Gives IsDownRecord old new (Ok given)
-GivesDown old new (Err (Link fault)) = Gives IsDownRecord old new (Err fault)
+GivesDown old new (Ok given) = Returns IsDownRecord old new (Ok given)
+GivesDown old new (Err (Link fault)) = Returns IsDownRecord old new (Err fault)
 GivesDown old new (Err Memory) = WantsMemory old.held × (new ≡ old)

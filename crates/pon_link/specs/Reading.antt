@@ -4,7 +4,7 @@ use Rattle.pon_units.specs.declared.limits.TheConstants.{MOST_STRUCTURES}
 use Rattle.pon_device.specs.Device.{Consumes, Keeps, IsAtEnd}
 use Rattle.pon_xgtc.specs.MapHead.{MapHead, ReadsMapHead}
 use Rattle.pon_bwmap.specs.MapReading.{BeginsWithMap}
-use Rattle.pon_bwmap.specs.MapFaults.{IsFirstFault}
+use Rattle.pon_bwmap.specs.MapFaults.{IsFirstMapFault}
 use Rattle.pon_bwmap.specs.declared.fault.MapFault.{MapFault}
 use Rattle.pon_bwmap.specs.declared.fault.MapFault.TheVariants.{Memory}
 use Rattle.pon_link.specs.UpRecords.{count_in}
@@ -58,7 +58,7 @@ pub record KeepsForm (d : Direction) (bytes : List ℕ) : Type 0 where
   pub size : telling d ≤ length bytes → (n : ℕ) × Announces d bytes n
 
 -- The bytes may still become a record, and are none yet.
-pub record IsBeginning (d : Direction) (bytes : List ℕ) : Type 0 where
+pub record MayBecomeRecord (d : Direction) (bytes : List ℕ) : Type 0 where
   pub form : KeepsForm d bytes
   pub more : telling d ≤ length bytes → (n : ℕ) × Announces d bytes n × (length bytes < n)
 
@@ -88,7 +88,7 @@ HasBadForm d bytes = (telling d ≤ length bytes) × (slice_index bytes 0 ≡ ta
 
 -- All bytes of a downstream record are there, and the map in them is refused.
 abbrev pub HasRefusedMap : List ℕ → Type 0
-HasRefusedMap bytes = IsWhole Down bytes × ((fault : MapFault) × IsFirstFault (drop 9 bytes) fault × (fault ≢ Memory))
+HasRefusedMap bytes = IsWhole Down bytes × ((fault : MapFault) × IsFirstMapFault (drop 9 bytes) fault × (fault ≢ Memory))
 
 -- A whole record waits: a downstream one is not refused.
 abbrev pub IsReady : Direction → List ℕ → Type 0
@@ -104,14 +104,14 @@ pub record IsWithinRecord (d : Direction) (bytes : List ℕ) : Type 0 where
 -- The reader takes bytes: those of a record that is not whole, with no fault.
 pub record IsOpen (s : Reading) : Type 0 where
   pub unended : s.ended ≡ false
-  pub beginning : IsBeginning s.direction s.held
+  pub beginning : MayBecomeRecord s.direction s.held
 
 -- This is the fault that a reader met.
 abbrev pub HasFault : Reading → LinkFault → Type 0
 HasFault s BadTag = HasBadTag s.direction s.held
 HasFault s BadCount = (s.direction ≡ Up) × HasBadForm Up s.held
 HasFault s BadMap = (s.direction ≡ Down) × (HasBadForm Down s.held ⊎ HasRefusedMap s.held)
-HasFault s (Truncated left) = IsTrue s.ended × IsBeginning s.direction s.held × (0 < left) × (left ≡ length s.held)
+HasFault s (Truncated left) = IsTrue s.ended × MayBecomeRecord s.direction s.held × (0 < left) × (left ≡ length s.held)
 
 -- A reader with these bytes behind those that it held.
 abbrev pub holds_more : Reading → List ℕ → Reading
@@ -119,10 +119,10 @@ holds_more s bytes = record { direction = s.direction; held = s.held ++ bytes; e
 
 -- A reader of records that bytes are as `Is` says gives the one that it held and holds nothing then; or it stays as it
 -- was, with the beginning of a record or with a fault.
-abbrev pub Gives : {R : Type 0} → (List ℕ → R → Type 0) → Reading → Reading → Result (Option R) LinkFault → Type 0
-Gives Is old new (Ok (Some r)) = Is old.held r × (new ≡ empty old.direction)
-Gives Is old new (Ok None) = IsOpen old × (new ≡ old)
-Gives Is old new (Err fault) = HasFault old fault × (new ≡ old)
+abbrev pub Returns : {R : Type 0} → (List ℕ → R → Type 0) → Reading → Reading → Result (Option R) LinkFault → Type 0
+Returns Is old new (Ok (Some r)) = Is old.held r × (new ≡ empty old.direction)
+Returns Is old new (Ok None) = IsOpen old × (new ≡ old)
+Returns Is old new (Err fault) = HasFault old fault × (new ≡ old)
 
 -- A pull added bytes from the device, or none where a whole record waits; or it found the end between two records;
 -- or the device failed; or there was a fault, or the input ended inside a record.

@@ -5,10 +5,10 @@ use Rattle.pon_link.specs.declared.direction.Direction.{Direction}
 use Rattle.pon_link.specs.declared.fault.LinkFault.{LinkFault}
 
 -- a step of a reader: it took a piece, gave a record, or found that the input ended inside one
-pub data Step (R : Type 0) : Type 0 where
-  Took : List ℕ → Step R
-  Gave : R → Step R
-  Ended : Step R
+pub data ReaderStep (R : Type 0) : Type 0 where
+  Took : List ℕ → ReaderStep R
+  Gave : R → ReaderStep R
+  Ended : ReaderStep R
 
 -- a reader whose input ended
 abbrev pub at_end : Reading → Reading
@@ -16,21 +16,21 @@ at_end s = record { direction = s.direction; held = s.held; ended = true }
 
 -- The steps lead from the first reader to the second: a piece is held behind the rest, a record is what was held, as
 -- `Is` says, and the input ends with a part of a record held.
-abbrev pub Leads : {R : Type 0} → (List ℕ → R → Type 0) → Reading → List (Step R) → Reading → Type 0
+abbrev pub Leads : {R : Type 0} → (List ℕ → R → Type 0) → Reading → List (ReaderStep R) → Reading → Type 0
 Leads Is s [] t = s ≡ t
 Leads Is s (Took piece ∷ steps) t = Leads Is (holds_more s piece) steps t
 Leads Is s (Gave r ∷ steps) t = Is s.held r × Leads Is (empty s.direction) steps t
 Leads Is s (Ended ∷ steps) t = IsOpen s × (0 < length s.held) × Leads Is (at_end s) steps t
 
 -- the bytes that the steps took, in turn
-abbrev pub taken : {R : Type 0} → List (Step R) → List ℕ
-taken [] = []
-taken (Took piece ∷ steps) = piece ++ taken steps
-taken (Gave r ∷ steps) = taken steps
-taken (Ended ∷ steps) = taken steps
+abbrev pub bytes_taken : {R : Type 0} → List (ReaderStep R) → List ℕ
+bytes_taken [] = []
+bytes_taken (Took piece ∷ steps) = piece ++ bytes_taken steps
+bytes_taken (Gave r ∷ steps) = bytes_taken steps
+bytes_taken (Ended ∷ steps) = bytes_taken steps
 
 -- the records that the steps gave, in turn
-abbrev pub given : {R : Type 0} → List (Step R) → List R
+abbrev pub given : {R : Type 0} → List (ReaderStep R) → List R
 given [] = []
 given (Took piece ∷ steps) = given steps
 given (Gave r ∷ steps) = r ∷ given steps
@@ -48,8 +48,8 @@ ComesTo over s rest None = IsOpen s × (rest ≡ []) × (IsTrue over → s.held 
 ComesTo over s rest (Some fault) = HasFault s fault × (IsTrue s.ended → IsTrue over × (rest ≡ []))
 
 -- A run of a new reader over the bytes of a stream, in any pieces; `over` says whether the input ends behind them.
-pub record RunsOver {R : Type 0} (Is : List ℕ → R → Type 0) (d : Direction) (stream : List ℕ) (over : Bool) (steps : List (Step R)) (s : Reading) (fault : Option LinkFault) : Type 0 where
+pub record RunsOver {R : Type 0} (Is : List ℕ → R → Type 0) (d : Direction) (stream : List ℕ) (over : Bool) (steps : List (ReaderStep R)) (s : Reading) (fault : Option LinkFault) : Type 0 where
   pub leads : Leads Is (empty d) steps s
   pub rest : List ℕ
-  pub stream_is : taken steps ++ rest ≡ stream
+  pub stream_is : bytes_taken steps ++ rest ≡ stream
   pub comes_to : ComesTo over s rest fault

@@ -27,16 +27,16 @@ waiting [] id = 0
 waiting (q ∷ queues) id = if q.0 == id then q.1 else waiting queues id
 
 -- A queue after a structure: if it is of the structure's Alloc-ID, the granted words are gone, but the one of the report.
-abbrev pub lessened : Structure → ℕ × ℕ → ℕ × ℕ
-lessened a q = if q.0 == a.id then (q.0, q.1 - (a.grant - 1)) else q
+abbrev pub queue_after : Structure → ℕ × ℕ → ℕ × ℕ
+queue_after a q = if q.0 == a.id then (q.0, q.1 - (a.grant - 1)) else q
 
 -- the queues after these structures, one after the other
 abbrev pub served : List (ℕ × ℕ) → List Structure → List (ℕ × ℕ)
 served queues [] = queues
-served queues (a ∷ rows) = served (map (lessened a) queues) rows
+served queues (a ∷ rows) = served (map (queue_after a) queues) rows
 
 -- The reports for these structures, one after the other: the words that wait then, or the greatest number that a
 -- report can say.
 abbrev pub reports : List (ℕ × ℕ) → List Structure → List (Option ℕ)
 reports queues [] = []
-reports queues (a ∷ rows) = Some (min (waiting queues a.id) GREATEST_OCCUPANCY) ∷ reports (map (lessened a) queues) rows
+reports queues (a ∷ rows) = Some (min (waiting queues a.id) GREATEST_OCCUPANCY) ∷ reports (map (queue_after a) queues) rows

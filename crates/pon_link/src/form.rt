@@ -1,6 +1,6 @@
 // What the bytes of the present record tell before it is whole.
 ghost use Rattle.std.specs.Prelude.{◌≡◌, ◌+◌, ◌*◌, ◌≤◌, ◌<◌, ◌⊎◌, ℕ, length, false, MatchOption, OnSome};
-ghost use Rattle.pon_link.specs.Reading.{KeepsForm, HasFault, HasBadSize, IsBeginning, IsWithinRecord, Announces, AnnouncesMap, tag_of, telling as told_by, bad_size as fault_of};
+ghost use Rattle.pon_link.specs.Reading.{KeepsForm, HasFault, HasBadSize, MayBecomeRecord, IsWithinRecord, Announces, AnnouncesMap, tag_of, telling as told_by, bad_size as fault_of};
 
 use crate::direction::Direction;
 use crate::fault::LinkFault;
@@ -74,7 +74,7 @@ fn down_size(map: &[u8]) -> Option<usize>
 pub(crate) fn form_fault(direction: Direction, bytes: &[u8]) -> Option<LinkFault>
     ensures value { MatchOption result (KeepsForm direction bytes.now)
         (λ f. HasFault record { direction = direction; held = bytes.now; ended = false } f) }
-    ensures closed { OnSome result (IsBeginning direction bytes.now → ⊥) }
+    ensures closed { OnSome result (MayBecomeRecord direction bytes.now → ⊥) }
 {
     if bytes.is_empty() {
         return None;
@@ -105,7 +105,7 @@ pub(crate) fn needed(direction: Direction, bytes: &[u8]) -> usize
         → length bytes.now + result ≡ told_by direction }
     ensures told { told_by direction ≤ length bytes.now
         → Announces direction bytes.now (length bytes.now + result) }
-    ensures more { IsBeginning direction bytes.now → 0 < result }
+    ensures more { MayBecomeRecord direction bytes.now → 0 < result }
 {
     let telling = telling(direction);
     if bytes.len() < telling {

@@ -2,7 +2,7 @@
 ghost use Rattle.std.specs.Prelude.{◌≡◌, ◌<◌, ◌≤◌, ◌+◌, ℕ, List, false, [], ◌++◌, length, take, MatchOption, OnSome};
 ghost use Rattle.pon_lists.specs.Bytes.{AreBytes};
 ghost use Rattle.pon_device.specs.Device.{CountsCall};
-ghost use Rattle.pon_link.specs.Reading.{Reading, empty, longest, telling, Announces, IsOpen, HasFault, KeepsForm, IsBeginning, IsWhole, IsReady, IsWithinRecord, Pulls, CountsDevice, holds_more};
+ghost use Rattle.pon_link.specs.Reading.{Reading, empty, longest, telling, Announces, IsOpen, HasFault, KeepsForm, MayBecomeRecord, IsWhole, IsReady, IsWithinRecord, Pulls, CountsDevice, holds_more};
 
 use crate::buffer::{append, are_bytes};
 use crate::direction::Direction;
@@ -24,14 +24,14 @@ pub(crate) struct Held<const N: usize> {
 
 impl<const N: usize> Model for Held<N> {
     ghost use Rattle.std.specs.Prelude.{◌<◌, ◌≤◌, IsTrue, length};
-    ghost use Rattle.pon_link.specs.Reading.{Reading, IsBeginning, IsWithinRecord, longest};
+    ghost use Rattle.pon_link.specs.Reading.{Reading, MayBecomeRecord, IsWithinRecord, longest};
 
     ghost Value = { Reading };
 
     ghost view = { λ s. record { direction = s.direction; held = s.bytes.items; ended = s.ended } };
 
     ghost invariant = { λ s. (longest s.direction ≤ N) × IsWithinRecord s.direction s.bytes.items
-        × (IsTrue s.ended → IsBeginning s.direction s.bytes.items × (0 < length s.bytes.items)) };
+        × (IsTrue s.ended → MayBecomeRecord s.direction s.bytes.items × (0 < length s.bytes.items)) };
 }
 
 impl<const N: usize> Held<N> {
@@ -125,9 +125,9 @@ impl<const N: usize> Held<N> {
             → length self.now.held + result ≡ telling self.now.direction }
         ensures told { telling self.now.direction ≤ length self.now.held
             → Announces self.now.direction self.now.held (length self.now.held + result) }
-        ensures some { 0 < result → IsBeginning self.now.direction self.now.held }
+        ensures some { 0 < result → MayBecomeRecord self.now.direction self.now.held }
         ensures none { result ≡ 0 → IsWhole self.now.direction self.now.held }
-        ensures more { IsBeginning self.now.direction self.now.held → 0 < result }
+        ensures more { MayBecomeRecord self.now.direction self.now.held → 0 < result }
         ensures fits { length self.now.held + result ≤ N }
     {
         needed(self.direction, self.bytes.as_slice())

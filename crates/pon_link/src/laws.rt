@@ -4,10 +4,10 @@ ghost use Rattle.std.specs.Prelude.{◌≡◌, ◌<◌, ◌^◌, ◌↔◌, ℕ,
 ghost use Rattle.pon_bwmap.specs.Structure.{Structure};
 ghost use Rattle.pon_bwmap.specs.MapRules.{IsMap};
 ghost use Rattle.pon_bwmap.specs.MapReading.{FitsStructure};
-ghost use Rattle.pon_link.specs.Reading.{Reading, empty, IsBeginning, HasFault, IsOpen};
+ghost use Rattle.pon_link.specs.Reading.{Reading, empty, MayBecomeRecord, HasFault, IsOpen};
 ghost use Rattle.pon_link.specs.UpRecords.{IsRecord, ReadsReport};
 ghost use Rattle.pon_link.specs.DownRecords.{IsDownRecord, WantsMemory, down_bytes};
-ghost use Rattle.pon_link.specs.Runs.{Step, Leads, taken, given, AreRecords, RunsOver};
+ghost use Rattle.pon_link.specs.Runs.{ReaderStep, Leads, bytes_taken, given, AreRecords, RunsOver};
 ghost use Rattle.pon_lists.specs.Bytes.{AreBytes};
 ghost use Rattle.pon_link.specs.declared.direction.Direction.{Direction};
 ghost use Rattle.pon_link.specs.declared.record.UpRecord.{UpRecord};
@@ -17,22 +17,22 @@ ghost use Rattle.pon_link.specs.declared.fault.LinkFault.{LinkFault};
 /// Nothing is lost and nothing is added: the records that were given, and then the bytes that are held, are
 /// the bytes that were taken.
 pub fn nothing_is_lost()
-    ensures up { (steps : List (Step UpRecord)) (s : Reading)
+    ensures up { (steps : List (ReaderStep UpRecord)) (s : Reading)
         → Leads IsRecord (empty Direction.Up) steps s →
-        AreRecords IsRecord (taken steps) (given steps) s.held }
-    ensures down { (steps : List (Step DownRecord)) (s : Reading)
+        AreRecords IsRecord (bytes_taken steps) (given steps) s.held }
+    ensures down { (steps : List (ReaderStep DownRecord)) (s : Reading)
         → Leads IsDownRecord (empty Direction.Down) steps s →
-        AreRecords IsDownRecord (taken steps) (given steps) s.held }
+        AreRecords IsDownRecord (bytes_taken steps) (given steps) s.held }
 {}
 
 /// Whatever the pieces of a stream, and whether the input ends behind it or not: a reader gives the same records and
 /// meets the same fault, or none, and then holds the same bytes.
 pub fn whatever_the_pieces()
-    ensures up { (stream : List ℕ) (over : Bool) (steps others : List (Step UpRecord)) (s t : Reading)
+    ensures up { (stream : List ℕ) (over : Bool) (steps others : List (ReaderStep UpRecord)) (s t : Reading)
         (f g : Option LinkFault) → AreBytes stream → RunsOver IsRecord Direction.Up stream over steps s f
         → RunsOver IsRecord Direction.Up stream over others t g
         → (given steps ≡ given others) × (f ≡ g) × (f ≡ None → s.held ≡ t.held) }
-    ensures down { (stream : List ℕ) (over : Bool) (steps others : List (Step DownRecord))
+    ensures down { (stream : List ℕ) (over : Bool) (steps others : List (ReaderStep DownRecord))
         (s t : Reading) (f g : Option LinkFault) → AreBytes stream
         → RunsOver IsDownRecord Direction.Down stream over steps s f
         → RunsOver IsDownRecord Direction.Down stream over others t g
@@ -64,9 +64,9 @@ pub fn one_outcome()
 /// What a record begins with, and is not all of it, is a beginning: no reader refuses it.
 pub fn no_record_is_refused()
     ensures up { (bytes rest : List ℕ) (r : UpRecord) → 0 < length rest → IsRecord (bytes ++ rest) r
-        → IsBeginning Direction.Up bytes }
+        → MayBecomeRecord Direction.Up bytes }
     ensures down { (bytes rest : List ℕ) (r : DownRecord) → 0 < length rest
-        → IsDownRecord (bytes ++ rest) r → IsBeginning Direction.Down bytes }
+        → IsDownRecord (bytes ++ rest) r → MayBecomeRecord Direction.Down bytes }
 {}
 
 /// Bytes are one record of a direction at most, so what was written reads back as it was.

@@ -3,7 +3,7 @@ ghost use Rattle.pon_device.specs.Device.{CountsCall};
 ghost use Rattle.pon_lists.specs.Bytes.{AreBytes};
 ghost use Rattle.pon_link.specs.UpRecords.{IsRecord};
 ghost use Rattle.pon_link.specs.declared.fault.LinkFault.{LinkFault};
-ghost use Rattle.pon_link.specs.Reading.{empty, IsOpen, HasFault, Gives, IsWithinRecord, Pulls, CountsDevice, holds_more};
+ghost use Rattle.pon_link.specs.Reading.{empty, IsOpen, HasFault, Returns, IsWithinRecord, Pulls, CountsDevice, holds_more};
 
 use crate::decode::decode_up;
 use crate::direction::Direction;
@@ -63,7 +63,7 @@ impl UpReader {
     /// and is not 1 to 16, `Truncated` if the input ended inside the record. Every later call answers the
     /// same fault.
     pub fn next(&mut self) -> Result<Option<UpRecord>, LinkFault>
-        ensures outcome { Gives IsRecord self.old self.new result }
+        ensures outcome { Returns IsRecord self.old self.new result }
         ensures sticky { (f : LinkFault) → HasFault self.old f → result ≡ Err f }
         ensures bytes { AreBytes self.old.held }
         ensures within { IsWithinRecord self.old.direction self.old.held }

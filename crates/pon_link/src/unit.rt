@@ -1,6 +1,6 @@
 ghost use Rattle.std.specs.Prelude.{◌≡◌, ◌<◌, ◌==◌, ◌↔◌, ◌++◌, [], ◌∷◌, true, false, min, map, length, Some, IsNone, IfSome, MatchOption};
 ghost use Rattle.std.specs.List.{list_any};
-ghost use Rattle.pon_link.specs.Units.{owns, asks, answered, waiting, lessened, served, reports};
+ghost use Rattle.pon_link.specs.Units.{owns, asks, answered, waiting, queue_after, served, reports};
 
 use crate::record::UpRecord;
 use arrayvec::ArrayVec;
@@ -106,7 +106,7 @@ fn answer_one(queues: &mut [(AllocId, u32)], occ: &mut Occupancies, row: &Alloc)
     requires { length occ.old < LONGEST_SERIES }
     ensures asks { asks queues.old row.now ≡ true
         → (occ.new ≡ occ.old ++ Some (min (waiting queues.old row.now.id) GREATEST_OCCUPANCY) ∷ [])
-        × (queues.new ≡ map (lessened row.now) queues.old) }
+        × (queues.new ≡ map (queue_after row.now) queues.old) }
     ensures others { asks queues.old row.now ≡ false
         → (occ.new ≡ occ.old) × (queues.new ≡ queues.old) }
 {
@@ -134,7 +134,7 @@ fn words_waiting(queues: &[(AllocId, u32)], id: u16) -> Option<u32>
 
 // Takes what the structure grants from the words that wait.
 fn lessen(queues: &mut [(AllocId, u32)], row: &Alloc)
-    ensures { queues.new ≡ map (lessened row.now) queues.old }
+    ensures { queues.new ≡ map (queue_after row.now) queues.old }
 {
     for queue in queues.iter_mut() {
         *queue = lessened_queue(*queue, row);
@@ -143,7 +143,7 @@ fn lessen(queues: &mut [(AllocId, u32)], row: &Alloc)
 
 // The queue after the structure.
 fn lessened_queue(queue: (AllocId, u32), row: &Alloc) -> (AllocId, u32)
-    ensures { result ≡ lessened row.now queue }
+    ensures { result ≡ queue_after row.now queue }
 {
     let (alloc_id, words) = queue;
     if alloc_id.get() != row.id() {

@@ -13,7 +13,7 @@ use Rattle.pon_event.specs.declared.event.Event.{Event}
 use Rattle.pon_state.specs.declared.reply.Reply.{Reply}
 use Rattle.pon_state.specs.declared.reply.Reply.TheVariants.{Taken, Map}
 use Rattle.pon_descr.specs.declared.refusal.Refusal.{Refusal}
-use Rattle.pon_line.specs.Faults.{fault_text}
+use Rattle.pon_line.specs.Faults.{line_fault_text}
 use Rattle.pon_line.specs.Reading.{read_line}
 use Rattle.pon_line.specs.declared.fault.LineFault.{LineFault}
 use Rattle.pon_line.specs.declared.fault.LineFault.TheVariants.{NoMap, Port}
@@ -24,7 +24,7 @@ use Rattle.pon_manage.specs.declared.show.Shown.{Shown}
 
 -- a refusal line
 abbrev pub refusal_line : LineFault → List ℕ
-refusal_line fault = codes "err " ++ fault_text fault ++ 10 ∷ []
+refusal_line fault = codes "err " ++ line_fault_text fault ++ 10 ∷ []
 
 -- the reply line of an entry, by its index in the kept chapter; 32 is a space, 10 the line feed
 abbrev pub reply_line : ℕ → Reply → List ℕ

@@ -10,7 +10,7 @@ use Rattle.pon_cert.specs.declared.cert.CertReadFault.{CertReadFault}
 use Rattle.pon_cert.specs.declared.cert.ClassCert.{ClassCert}
 use Rattle.pon_cert.specs.declared.cert.Level.{Level}
 use Rattle.pon_cert.specs.declared.cert.MapCert.{MapCert}
-use Rattle.pon_cert.specs.Reading.{ReadsCert, cert_at, class_at, flags_at, level_at, level_of, number_at, wanted}
+use Rattle.pon_cert.specs.Reading.{ReadsCert, cert_at, class_in_bytes, flags_at, level_at, level_in_bytes, number_at, wanted}
 use Rattle.pon_cert.specs.Spelling.{cert_bytes}
 use Rattle.pon_cert.proofs.OneSpelling.{cert_read}
 use Rattle.pon_cert.proofs.ReadsBack.{cert_back}
@@ -70,7 +70,7 @@ level_leaves bytes x e =
     let known = step (wanted (nat_lt kind.0.0 2) kind.0) _ x kind.2 in
     let num = step (number_at w64 known.0.1) _ x known.2 in
     let den = step (number_at w64 num.0.1) _ x num.2 in
-    let l = step (level_of known.0.0 num.0.0 den.0.0) _ x den.2 in
+    let l = step (level_in_bytes known.0.0 num.0.0 den.0.0) _ x den.2 in
     subst (λ (p : Level × List ℕ). Leaves bytes p.1) (same (l.0, den.0.1) x l.2)
     (leaves_more bytes num.0.1 den.0.1
     (leaves_more bytes known.0.1 num.0.1 (known_leaves w8 bytes kind.0 known.0 _ kind.1 known.1) (number_leaves w64 known.0.1 num.0 num.1))
@@ -86,8 +86,8 @@ flags_leave (suc n) bytes x e =
     subst (λ (p : List Bool × List ℕ). Leaves bytes p.1) (same ((known.0.0 == 1) ∷ others.0.0, others.0.1) x others.2)
     (leaves_more bytes known.0.1 others.0.1 (known_leaves w8 bytes flag.0 known.0 _ flag.1 known.1) (flags_leave n known.0.1 others.0 others.1))
 
-class_leaves : (bytes : List ℕ) (x : ClassCert × List ℕ) → class_at bytes ≡ Ok x → Leaves bytes x.1
-unfolding class_at
+class_leaves : (bytes : List ℕ) (x : ClassCert × List ℕ) → class_in_bytes bytes ≡ Ok x → Leaves bytes x.1
+unfolding class_in_bytes
 class_leaves bytes x e =
     let l = step (level_at bytes) _ x e in
     let count = step (number_at w16 l.0.1) _ x l.2 in
@@ -101,8 +101,8 @@ class_leaves bytes x e =
 cert_leaves : (bytes : List ℕ) (x : MapCert × List ℕ) → cert_at bytes ≡ Ok x → Leaves bytes x.1
 unfolding cert_at
 cert_leaves bytes x e =
-    let na = step (class_at bytes) _ x e in
-    let be = step (class_at na.0.1) _ x na.2 in
+    let na = step (class_in_bytes bytes) _ x e in
+    let be = step (class_in_bytes na.0.1) _ x na.2 in
     subst (λ (p : MapCert × List ℕ). Leaves bytes p.1) (same (record { na = na.0.0; be = be.0.0 }, be.0.1) x be.2)
     (leaves_more bytes na.0.1 be.0.1 (class_leaves bytes na.0 na.1) (class_leaves na.0.1 be.0 be.1))
 

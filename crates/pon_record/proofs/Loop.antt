@@ -7,7 +7,7 @@ use Rattle.pon_lists.specs.OptionSteps.{◌>>=◌}
 use Rattle.pon_record.specs.declared.fault.Stop.{Stop}
 use Rattle.pon_record.specs.declared.fault.Stop.TheVariants.{Malformed, Memory}
 use Rattle.pon_record.specs.Format.{Format, read_times}
-use Rattle.pon_record.specs.Reading.{Gives, StopsAt}
+use Rattle.pon_record.specs.Reading.{ReadsValue, StopsAt}
 
 -- what was read before, and what is still read
 abbrev pub with_front : {A : Type 0} → List A → Option (List A × List ℕ) → Option (List A × List ℕ)
@@ -34,7 +34,7 @@ ends f front count i bytes total Malformed lt h so_far =
 
 -- a value that is not read ends the list
 pub stops : {A X : Type 0} (f : Format A) (front : List A) (count i : ℕ) (bytes : List ℕ) (total : Option (List A × List ℕ)) (view : X → List A × List ℕ) (r : Result X Stop) (e : Stop) → i < count → StopsAt e (f.read bytes)
-    → with_front front (read_times f (count - i) bytes) ≡ total → IsErrAnd r (λ x. x ≡ e) → Gives view r total
+    → with_front front (read_times f (count - i) bytes) ≡ total → IsErrAnd r (λ x. x ≡ e) → ReadsValue view r total
 stops f front count i bytes total view (Ok x) e lt h so_far is = absurd is
 stops f front count i bytes total view (Err x) e lt h so_far is = subst (λ (s : Stop). StopsAt s total) (sym is) (ends f front count i bytes total e lt h so_far)
 

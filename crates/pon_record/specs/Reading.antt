@@ -15,6 +15,6 @@ StopsAt stop.Malformed read = read ≡ None
 StopsAt stop.Memory read = Unit {0}
 
 -- as `Reads`, unless memory was refused
-abbrev pub Gives : {X Y : Type 0} → (X → Y) → Result X Stop → Option Y → Type 0
-Gives view (Ok x) read = read ≡ Some (view x)
-Gives view (Err e) read = StopsAt e read
+abbrev pub ReadsValue : {X Y : Type 0} → (X → Y) → Result X Stop → Option Y → Type 0
+ReadsValue view (Ok x) read = read ≡ Some (view x)
+ReadsValue view (Err e) read = StopsAt e read

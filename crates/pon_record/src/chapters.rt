@@ -2,7 +2,7 @@
 
 ghost use Rattle.std.specs.Prelude.{◌≡◌, ◌<◌, IfOk, length};
 ghost use Rattle.pon_record.specs.Format.{all_of};
-ghost use Rattle.pon_record.specs.Reading.{Gives};
+ghost use Rattle.pon_record.specs.Reading.{ReadsValue};
 ghost use Rattle.pon_record.specs.Chapters.{body};
 ghost use Rattle.pon_record.specs.ChapterReading.{IsBodyOf, ReadsChapter};
 
@@ -17,7 +17,7 @@ use std::alloc::Global;
 
 // The body of the chapter that begins at a place.
 fn read_body(alloc: Global, at: usize, cursor: &mut Cursor<'_>) -> Result<RawChapter, Stop>
-    ensures body { Gives (λ c. (c.body, cursor.new)) result (body.read cursor.old) }
+    ensures body { ReadsValue (λ c. (c.body, cursor.new)) result (body.read cursor.old) }
     ensures at { IfOk result (λ c. c.at ≡ at) }
 {
     Ok(RawChapter {
@@ -31,7 +31,7 @@ fn read_body(alloc: Global, at: usize, cursor: &mut Cursor<'_>) -> Result<RawCha
 
 // The body that all these bytes are.
 fn read_whole(alloc: Global, at: usize, bytes: &[u8]) -> Result<RawChapter, Stop>
-    ensures body { Gives (λ c. c.body) result (all_of (body.read bytes.now)) }
+    ensures body { ReadsValue (λ c. c.body) result (all_of (body.read bytes.now)) }
     ensures at { IfOk result (λ c. c.at ≡ at) }
 {
     let mut cursor = Cursor::new(bytes);

@@ -1,7 +1,7 @@
 //! The reading of an entry: an event and its reply.
 
 ghost use Rattle.std.specs.Prelude.{◌≡◌};
-ghost use Rattle.pon_record.specs.Reading.{Gives};
+ghost use Rattle.pon_record.specs.Reading.{ReadsValue};
 ghost use Rattle.pon_record.specs.Chapters.{entry, reply_to};
 
 use crate::cursor::Cursor;
@@ -14,7 +14,7 @@ use std::alloc::Global;
 
 // The reply to an event.
 fn read_reply(alloc: Global, cursor: &mut Cursor<'_>, event: &Event) -> Result<Reply, Stop>
-    ensures { Gives (λ x. (x, cursor.new)) result ((reply_to event.now).read cursor.old) }
+    ensures { ReadsValue (λ x. (x, cursor.new)) result ((reply_to event.now).read cursor.old) }
 {
     match event {
         Event::MakeMap => Ok(Reply::Map(MadeMap::read(alloc, cursor)?)),

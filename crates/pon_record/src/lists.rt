@@ -3,7 +3,7 @@
 ghost use Rattle.std.specs.Prelude.{◌≡◌};
 ghost use Rattle.std.specs.Int.{w8, w16, w32};
 ghost use Rattle.pon_record.specs.Format.{Format, counted, number, read_times};
-ghost use Rattle.pon_record.specs.Reading.{Gives};
+ghost use Rattle.pon_record.specs.Reading.{ReadsValue};
 
 use crate::cursor::Cursor;
 use crate::fault::Stop;
@@ -15,7 +15,7 @@ pub(crate) trait Recorded: Drop + Sized {
     ghost form: { Format Self };
 
     fn read(alloc: Global, cursor: &mut Cursor<'_>) -> Result<Self, Stop>
-        ensures { Gives (λ x. (x, cursor.new)) result (form.read cursor.old) };
+        ensures { ReadsValue (λ x. (x, cursor.new)) result (form.read cursor.old) };
 }
 
 /// `count` values, one after another.
@@ -24,7 +24,7 @@ pub(crate) fn read_list<T: Recorded>(
     cursor: &mut Cursor<'_>,
     count: usize,
 ) -> Result<Vec<T>, Stop>
-    ensures { Gives (λ x. (x.items, cursor.new)) result (read_times T.form count cursor.old) }
+    ensures { ReadsValue (λ x. (x.items, cursor.new)) result (read_times T.form count cursor.old) }
 {
     let mut values = Vec::new(alloc);
     for _ in 0..count {
@@ -40,7 +40,7 @@ pub(crate) fn read_few<T: Recorded>(
     cursor: &mut Cursor<'_>,
     most: u8,
 ) -> Result<Vec<T>, Stop>
-    ensures { Gives (λ x. (x.items, cursor.new)) result
+    ensures { ReadsValue (λ x. (x.items, cursor.new)) result
         ((counted (number w8) most T.form).read cursor.old) }
 {
     let count = cursor.count8(most)?;
@@ -53,7 +53,7 @@ pub(crate) fn read_some<T: Recorded>(
     cursor: &mut Cursor<'_>,
     most: u16,
 ) -> Result<Vec<T>, Stop>
-    ensures { Gives (λ x. (x.items, cursor.new)) result
+    ensures { ReadsValue (λ x. (x.items, cursor.new)) result
         ((counted (number w16) most T.form).read cursor.old) }
 {
     let count = cursor.count16(most)?;
@@ -66,7 +66,7 @@ pub(crate) fn read_many<T: Recorded>(
     cursor: &mut Cursor<'_>,
     most: u32,
 ) -> Result<Vec<T>, Stop>
-    ensures { Gives (λ x. (x.items, cursor.new)) result
+    ensures { ReadsValue (λ x. (x.items, cursor.new)) result
         ((counted (number w32) most T.form).read cursor.old) }
 {
     let count = cursor.count32(most)?;

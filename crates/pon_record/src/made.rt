@@ -2,7 +2,7 @@
 
 ghost use Rattle.std.specs.Prelude.{◌≡◌, ◌<◌, ◌^◌};
 ghost use Rattle.pon_record.specs.Format.{counted, passing};
-ghost use Rattle.pon_record.specs.Reading.{Gives, Reads};
+ghost use Rattle.pon_record.specs.Reading.{ReadsValue, Reads};
 ghost use Rattle.pon_record.specs.MadeMaps.{certificate, head, is_map, made_map, map, structure, structure_of};
 
 use crate::cursor::Cursor;
@@ -69,7 +69,7 @@ impl Recorded for Alloc {
 
 // The structures of a map, and the head before them.
 fn read_rows(alloc: Global, cursor: &mut Cursor<'_>) -> Result<Vec<Alloc>, Stop>
-    ensures { Gives (λ x. (x.items, cursor.new)) result
+    ensures { ReadsValue (λ x. (x.items, cursor.new)) result
         ((counted head MOST_STRUCTURES structure).read cursor.old) }
 {
     let count = read_head(cursor)? as usize;

@@ -1,7 +1,7 @@
 //! The reading of an opening.
 
 ghost use Rattle.std.specs.Prelude.{◌≡◌};
-ghost use Rattle.pon_record.specs.Reading.{Gives, Reads};
+ghost use Rattle.pon_record.specs.Reading.{ReadsValue, Reads};
 ghost use Rattle.pon_record.specs.Openings.{grant, opening, row, window_map};
 ghost use Rattle.pon_record.specs.Fields.{onu_id};
 
@@ -62,7 +62,7 @@ impl Recorded for RawMap {
 }
 
 pub(crate) fn read_opening(alloc: Global, cursor: &mut Cursor<'_>) -> Result<Opening, Stop>
-    ensures { Gives (λ x. (x, cursor.new)) result (opening.read cursor.old) }
+    ensures { ReadsValue (λ x. (x, cursor.new)) result (opening.read cursor.old) }
 {
     Ok(Opening {
         gap: cursor.gap()?,

@@ -6,12 +6,12 @@ use Rattle.pon_link.specs.Units.{UnitState}
 use Rattle.pon_settings.specs.declared.row.SettingsRow.{SettingsRow}
 
 -- whether a row is of the ONU
-abbrev pub is_of : ℕ → SettingsRow → Bool
-is_of onu r = r.row.onu == onu
+abbrev pub is_row_of : ℕ → SettingsRow → Bool
+is_row_of onu r = r.row.onu == onu
 
 -- the words that wait for each Alloc-ID of an ONU, in the order of the rows
 abbrev pub own_queues : List SettingsRow → ℕ → List (ℕ × ℕ)
-own_queues rows onu = map (λ r. (r.row.alloc_id, r.queue)) (filter (is_of onu) rows)
+own_queues rows onu = map (λ r. (r.row.alloc_id, r.queue)) (filter (is_row_of onu) rows)
 
 -- the first 16 of them
 abbrev pub queues_of : List SettingsRow → ℕ → List (ℕ × ℕ)
@@ -21,7 +21,7 @@ queues_of rows onu = take LONGEST_SERIES (own_queues rows onu)
 abbrev pub units_behind : List SettingsRow → List SettingsRow → List SettingsRow → List UnitState
 units_behind all before [] = []
 units_behind all before (r ∷ rs) =
-    if list_any (is_of r.row.onu) before then units_behind all (before ++ r ∷ []) rs
+    if list_any (is_row_of r.row.onu) before then units_behind all (before ++ r ∷ []) rs
     else (record { onu = r.row.onu; queues = queues_of all r.row.onu }) ∷ units_behind all (before ++ r ∷ []) rs
 
 -- one unit for each ONU that has rows

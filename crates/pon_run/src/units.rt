@@ -2,7 +2,7 @@
 
 ghost use Rattle.std.specs.Prelude.{◌≡◌, IfOk, take};
 ghost use Rattle.std.specs.List.{list_any};
-ghost use Rattle.pon_run.specs.Units.{is_of, own_queues, units_of};
+ghost use Rattle.pon_run.specs.Units.{is_row_of, own_queues, units_of};
 
 use arrayvec::ArrayVec;
 use pon_link::Unit;
@@ -41,7 +41,7 @@ fn first_queues(own: &[(AllocId, u32)]) -> ArrayVec<(AllocId, u32), 16>
 
 // Whether one of these rows is of the ONU.
 fn has_onu(rows: &[SettingsRow], onu: OnuId) -> bool
-    ensures { result ≡ list_any (is_of onu) rows.now }
+    ensures { result ≡ list_any (is_row_of onu) rows.now }
 {
     rows.iter().any(|settings_row| settings_row.row.onu == onu)
 }

@@ -7,7 +7,7 @@ use Rattle.toml.specs.Data.{Data, Members}
 use Rattle.pon_settings.specs.declared.fault.SettingsFault.{SettingsFault}
 use Rattle.pon_settings.specs.declared.fault.SettingsFault.TheVariants as fault
 use Rattle.pon_settings.specs.Rows.{IsRowsFault}
-use Rattle.pon_settings.specs.Ports.{PortFields, PortSettings, SpellsPort, port_fields_at, port_tables, IsPortFault, IsPortsFault, IsFirstFault}
+use Rattle.pon_settings.specs.Ports.{PortFields, PortSettings, SpellsPort, port_fields_at, port_tables, IsPortFault, IsPortsFault, IsFirstSettingsFault}
 
 -- the first fault of the rows is that of a port whose fields are in form
 pub in_rows : (port : ℕ) (d : Data) (own : PortFields) (f : SettingsFault) → port_fields_at d ≡ Some own → IsRowsFault port own.opening.0.gap own.tables f → IsPortFault port d f
@@ -36,7 +36,7 @@ one_more_port R (z ∷ xs) [] (suc k) x y so_far here last = absurd so_far
 one_more_port R (z ∷ xs) (w ∷ ys) (suc k) x y so_far here last = (so_far.0, one_more_port R xs ys k x y so_far.1 here last)
 
 -- the first fault of the ports is that of the text
-pub among_ports : (document : Option Members) (t : Members) (tables : List Data) (f : SettingsFault) → document ≡ Some t → port_tables t ≡ Some tables → IsPortsFault tables f → IsFirstFault document f
+pub among_ports : (document : Option Members) (t : Members) (tables : List Data) (f : SettingsFault) → document ≡ Some t → port_tables t ≡ Some tables → IsPortsFault tables f → IsFirstSettingsFault document f
 among_ports document t tables fault.Text is list h = absurd h
 among_ports document t tables fault.Ports is list h = absurd h
 among_ports document t tables (fault.Field p) is list h = record { table = t; is_toml = is; tables = tables; list = list; first = h }

@@ -131,13 +131,13 @@ pub record StandsInPorts (document : Option Members) (fault : SettingsFault) : T
   pub first : IsPortsFault tables fault
 
 -- the first fault of a document
-abbrev pub IsFirstFault : Option Members → SettingsFault → Type 0
-IsFirstFault document fault.Text = document ≡ None
-IsFirstFault document fault.Ports = HasNoPorts document
-IsFirstFault document (fault.Field p) = StandsInPorts document (fault.Field p)
-IsFirstFault document (fault.Row p k) = StandsInPorts document (fault.Row p k)
-IsFirstFault document (fault.Refused p k why) = StandsInPorts document (fault.Refused p k why)
-IsFirstFault document fault.Memory = Unit {0}
+abbrev pub IsFirstSettingsFault : Option Members → SettingsFault → Type 0
+IsFirstSettingsFault document fault.Text = document ≡ None
+IsFirstSettingsFault document fault.Ports = HasNoPorts document
+IsFirstSettingsFault document (fault.Field p) = StandsInPorts document (fault.Field p)
+IsFirstSettingsFault document (fault.Row p k) = StandsInPorts document (fault.Row p k)
+IsFirstSettingsFault document (fault.Refused p k why) = StandsInPorts document (fault.Refused p k why)
+IsFirstSettingsFault document fault.Memory = Unit {0}
 
 -- What the ports are opened with, and the steps that admit their rows.
 

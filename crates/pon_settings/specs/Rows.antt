@@ -4,7 +4,7 @@ use Rattle.pon_units.specs.declared.limits.TheConstants.{GREATEST_ALLOC_ID, GREA
 use Rattle.toml.specs.Data.{Data, Members, as_table}
 use Rattle.pon_descr.specs.Checks.{when, or_else, first_of}
 use Rattle.pon_descr.specs.Descriptor.{Descriptor, descriptor_refusal}
-use Rattle.pon_descr.specs.Tables.{spelled}
+use Rattle.pon_descr.specs.Tables.{described}
 use Rattle.pon_descr.specs.declared.refusal.Refusal.{Refusal}
 use Rattle.pon_descr.specs.declared.refusal.Refusal.TheVariants.{AllocRange, OnuRange, OutOfMemory}
 use Rattle.pon_descr.specs.declared.table.DescrFault.{DescrFault}
@@ -41,7 +41,7 @@ row_from _ _ = None
 
 -- the row that a table spells, its identifiers and rates in range or not
 abbrev pub row_of : Members → Option SettingsRow
-row_of t = row_from (numbers_of t) (spelled t)
+row_of t = row_from (numbers_of t) (described t)
 
 abbrev pub row_at : Data → Option SettingsRow
 row_at d = option_and_then row_of (as_table d)

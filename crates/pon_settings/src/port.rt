@@ -69,7 +69,7 @@ pub(crate) fn profile_of(table: &Table) -> Option<Profile>
 }
 
 /// The first frame, 0 where the key is absent.
-pub(crate) fn first_of(table: &Table) -> Option<FrameNo>
+pub(crate) fn first_frame(table: &Table) -> Option<FrameNo>
     ensures { result ≡ first_frame_of (table_view table.now) }
 {
     let first = optional(table, "first", GREATEST_INTEGER)?;
@@ -85,7 +85,7 @@ fn opening_of(table: &Table) -> Option<(PortCfg, FrameNo)>
     }
     let gap = gap_of(table)?;
     let profile = profile_of(table)?;
-    let first = first_of(table)?;
+    let first = first_frame(table)?;
     Some((PortCfg { gap, profile }, first))
 }
 

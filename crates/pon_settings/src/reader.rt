@@ -4,7 +4,7 @@ ghost use Rattle.std.specs.Prelude.{◌≡◌, ◌≤◌, length, map, option_ma
 ghost use Rattle.std.specs.List.{AllZip};
 ghost use Rattle.toml.specs.Parse.{parse_document};
 ghost use Rattle.toml.specs.View.{table_view, view};
-ghost use Rattle.pon_settings.specs.Ports.{IsFirstFault, IsPortCount, IsPortsFault, Spells, SpellsPort, port_tables};
+ghost use Rattle.pon_settings.specs.Ports.{IsFirstSettingsFault, IsPortCount, IsPortsFault, Spells, SpellsPort, port_tables};
 
 use crate::fault::SettingsFault;
 use crate::fields::required_tables;
@@ -61,7 +61,7 @@ fn ports_of(alloc: Global, tables: &[Value]) -> Result<Vec<PortSettings>, Settin
 /// admission after the rows before it. `Memory` if a growth was refused, wherever the reader then stood.
 pub fn settings(alloc: Global, text: &str) -> Result<Settings, SettingsFault>
     ensures ok { IfOk result (Spells (parse_document text.now)) }
-    ensures fault { IfErr result (IsFirstFault (parse_document text.now)) }
+    ensures fault { IfErr result (IsFirstSettingsFault (parse_document text.now)) }
 {
     let table = match toml::table_from_str(alloc, text) {
         Ok(table) => table,

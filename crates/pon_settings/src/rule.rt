@@ -2,7 +2,7 @@
 
 use crate::fields::{GREATEST_INTEGER, optional, optional_tables, required};
 use crate::place::Place;
-use crate::port::{first_of, gap_of, profile_of};
+use crate::port::{first_frame, gap_of, profile_of};
 use crate::row::MOST_QUEUE;
 use pon_descr::Class;
 use std::fmt;
@@ -53,7 +53,7 @@ pub(crate) fn port_rule(table: &Table) -> Option<Rule<'_>> {
         "gap must be 1 to 256"
     } else if profile_of(table).is_none() {
         "profile must be 0 to 3"
-    } else if first_of(table).is_none() {
+    } else if first_frame(table).is_none() {
         "first must be 0 to 9223372036854775807"
     } else if optional_tables(table, "alloc").is_none() {
         "alloc must be a list of tables"

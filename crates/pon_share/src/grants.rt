@@ -57,7 +57,7 @@ fn grant(demand: &Demand, surplus: u64) -> Granted
 }
 
 // The first of the truth values, and those after it.
-fn first_of(saturated: &[bool]) -> (bool, &[bool])
+fn first_flag(saturated: &[bool]) -> (bool, &[bool])
     requires { 0 < length saturated.now }
     ensures { saturated.now ≡ result.0 ∷ result.1.now }
 {
@@ -87,12 +87,12 @@ pub(crate) fn grants(
         let surplus = match demand.class {
             Class::Plain => 0,
             Class::NonAssured => {
-                let (saturated, rest) = first_of(na);
+                let (saturated, rest) = first_flag(na);
                 na = rest;
                 share(&cert.na.level, &demand.item, saturated)
             }
             Class::BestEffort => {
-                let (saturated, rest) = first_of(be);
+                let (saturated, rest) = first_flag(be);
                 be = rest;
                 share(&cert.be.level, &demand.item, saturated)
             }

@@ -16,7 +16,7 @@ use pon_units::{AllocId, WORD_RATE};
 use std::alloc::{AllocError, Global};
 
 // The sum of the guaranteed rates.
-fn guaranteed_sum(demands: &[Demand]) -> u64
+fn sum_of_guaranteed(demands: &[Demand]) -> u64
     requires { length demands.now ≤ MOST_ITEMS }
     ensures { result ≡ sum_by (λ d. d.guaranteed) demands.now }
 {
@@ -33,11 +33,11 @@ pub(crate) fn surplus(input: &ShareInput, demands: &[Demand]) -> u64
     requires demands { demands.now ≡ demands_of input.now }
     ensures { result ≡ surplus input.now }
 {
-    WORD_RATE * u64::from(input.roster.capacity().get()) - guaranteed_sum(demands)
+    WORD_RATE * u64::from(input.roster.capacity().get()) - sum_of_guaranteed(demands)
 }
 
 // Returns whether it has the class.
-fn is_of(demand: &Demand, class: Class) -> bool
+fn is_in_class(demand: &Demand, class: Class) -> bool
     ensures { result ≡ same_class demand.now.class class }
 {
     demand.class == class
@@ -64,7 +64,7 @@ pub(crate) fn class_members(
     let mut ids = Vec::new(alloc);
     let mut items = Vec::new(alloc);
     for demand in demands {
-        if is_of(demand, class) {
+        if is_in_class(demand, class) {
             ids.push(demand.alloc_id)?;
             items.push(demand.item)?;
         }

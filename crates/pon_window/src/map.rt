@@ -105,7 +105,7 @@ impl WindowMap {
     }
 
     /// The number of grants before those to an ONU: the index of the first of its series.
-    pub fn first_of(&self, onu: OnuId) -> usize
+    pub fn first_grant_to(&self, onu: OnuId) -> usize
         ensures { result ≤ length self.now.grants }
     {
         self.grants

@@ -15,7 +15,7 @@ use pon_units::{AllocId, Kbps, LONGEST_SERIES, OnuId};
 
 // Where a change of the set takes place, and the sums afterwards.
 #[derive(Drop)]
-struct Step {
+struct RosterStep {
     place: usize,
     onus: usize,
     promised: Kbps,
@@ -23,7 +23,7 @@ struct Step {
 
 impl Roster {
     // Where a row goes in, or the first check that refuses it.
-    fn admission(&self, row: &Row) -> Result<Step, Refusal>
+    fn admission(&self, row: &Row) -> Result<RosterStep, Refusal>
         ensures accepted { OnOk result
             (refuses_admit self.now.rule self.now.gap self.now.rows row.now ≡ None) }
         ensures refused { IfErr result
@@ -54,7 +54,7 @@ impl Roster {
         if !fits(self.rule, self.gap, onus, allocs + 1, promised) {
             return Err(Refusal::Capacity);
         }
-        Ok(Step {
+        Ok(RosterStep {
             place: seen.place,
             onus,
             promised,
@@ -62,7 +62,7 @@ impl Roster {
     }
 
     // Where a descriptor is replaced, or the first check that refuses it.
-    fn alteration(&self, alloc_id: AllocId, descriptor: &Descriptor) -> Result<Step, Refusal>
+    fn alteration(&self, alloc_id: AllocId, descriptor: &Descriptor) -> Result<RosterStep, Refusal>
         ensures accepted { OnOk result
             (refuses_change self.now.rule self.now.gap self.now.rows alloc_id descriptor.now
             ≡ None) }
@@ -84,7 +84,7 @@ impl Roster {
         if !fits(self.rule, self.gap, self.onus, self.rows.len(), promised) {
             return Err(Refusal::Capacity);
         }
-        Ok(Step {
+        Ok(RosterStep {
             place,
             onus: self.onus,
             promised,
@@ -92,7 +92,7 @@ impl Roster {
     }
 
     // Where a row is taken out, or the check that refuses it.
-    fn removal(&self, alloc_id: AllocId) -> Result<Step, Refusal>
+    fn removal(&self, alloc_id: AllocId) -> Result<RosterStep, Refusal>
         ensures accepted { OnOk result (refuses_remove self.now.rows alloc_id ≡ None) }
         ensures refused { IfErr result (λ told. refuses_remove self.now.rows alloc_id ≡ Some told) }
         ensures room { IfOk result (λ step. step.place < length self.now.rows) }
@@ -106,7 +106,7 @@ impl Roster {
         };
         let row = &self.rows[place];
         let alone = count_owned(&self.rows, row.onu) == 1;
-        Ok(Step {
+        Ok(RosterStep {
             place,
             onus: self.onus - usize::from(alone),
             promised: rate(self.promised.get() - row.descriptor.promised().get()),

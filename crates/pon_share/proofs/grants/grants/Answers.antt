@@ -10,14 +10,14 @@ pub loop-demand-init : goal.loop-demand-init
 loop-demand-init c =
     rw (c.as_slice-na.ensures, c.as_slice-be.ensures, c.in_ok-grants.ensures.items) (dealt_none c.args.input.now c.args.cert.now c.requires.admitted c.requires.certified)
 
-pub first_of-saturated-requires : goal.first_of-saturated-requires
-first_of-saturated-requires c =
+pub first_flag-saturated-requires : goal.first_flag-saturated-requires
+first_flag-saturated-requires c =
     let at = row_at c.args.input.now c.args.demands.now c.demand-item.result c.loop-demand.demand-index c.requires.demands c.loop-demand-test.true c.demand-item.is in
     has_flag c.args.input.now NonAssured c.args.cert.now.na (surplus c.args.input.now) c.requires.admitted c.requires.certified.non_assured refl
     c.demand-item.result c.loop-demand.demand-index at (ap (λ k. same_class k NonAssured) c.in-NonAssured.is) c.loop-demand.na.now c.loop-demand.invariant.na
 
-pub first_of-saturated-requires-in-BestEffort : goal.first_of-saturated-requires-in-BestEffort
-first_of-saturated-requires-in-BestEffort c =
+pub first_flag-saturated-requires-in-BestEffort : goal.first_flag-saturated-requires-in-BestEffort
+first_flag-saturated-requires-in-BestEffort c =
     let at = row_at c.args.input.now c.args.demands.now c.demand-item.result c.loop-demand.demand-index c.requires.demands c.loop-demand-test.true c.demand-item.is in
     has_flag c.args.input.now BestEffort c.args.cert.now.be (left_surplus c.args.cert.now.na.level (items NonAssured c.args.input.now) (surplus c.args.input.now)) c.requires.admitted c.requires.certified.best_effort refl
     c.demand-item.result c.loop-demand.demand-index at (ap (λ k. same_class k BestEffort) c.in-BestEffort.is) c.loop-demand.be.now c.loop-demand.invariant.be
@@ -39,7 +39,7 @@ share-surplus-requires-clause-rule c =
     let at = row_at c.args.input.now c.args.demands.now c.demand-item.result c.loop-demand.demand-index c.requires.demands c.loop-demand-test.true c.demand-item.is in
     let own = ap (λ k. same_class k NonAssured) c.in-NonAssured.is in
     let flag = flag_is c.args.input.now NonAssured c.args.cert.now.na (surplus c.args.input.now) c.requires.admitted c.requires.certified.non_assured refl
-    c.demand-item.result c.loop-demand.demand-index at own c.loop-demand.na.now c.first_of-saturated.result.1.now c.first_of-saturated.result.0 c.loop-demand.invariant.na c.first_of-saturated.ensures in
+    c.demand-item.result c.loop-demand.demand-index at own c.loop-demand.na.now c.first_flag-saturated.result.1.now c.first_flag-saturated.result.0 c.loop-demand.invariant.na c.first_flag-saturated.ensures in
     subst (RuleHolds c.args.cert.now.na.level c.demand-item.result.item) (sym flag.0)
     (rule_at c.args.input.now NonAssured c.args.cert.now.na (surplus c.args.input.now) c.requires.admitted c.requires.certified.non_assured refl c.demand-item.result c.loop-demand.demand-index at own)
 
@@ -49,7 +49,7 @@ share-surplus-requires-in-BestEffort-clause-rule c =
     let own = ap (λ k. same_class k BestEffort) c.in-BestEffort.is in
     let left : ℕ = left_surplus c.args.cert.now.na.level (items NonAssured c.args.input.now) (surplus c.args.input.now) in
     let flag = flag_is c.args.input.now BestEffort c.args.cert.now.be left c.requires.admitted c.requires.certified.best_effort refl
-    c.demand-item.result c.loop-demand.demand-index at own c.loop-demand.be.now c.first_of-saturated-in-BestEffort.result.1.now c.first_of-saturated-in-BestEffort.result.0 c.loop-demand.invariant.be c.first_of-saturated-in-BestEffort.ensures in
+    c.demand-item.result c.loop-demand.demand-index at own c.loop-demand.be.now c.first_flag-saturated-in-BestEffort.result.1.now c.first_flag-saturated-in-BestEffort.result.0 c.loop-demand.invariant.be c.first_flag-saturated-in-BestEffort.ensures in
     subst (RuleHolds c.args.cert.now.be.level c.demand-item.result.item) (sym flag.0)
     (rule_at c.args.input.now BestEffort c.args.cert.now.be left c.requires.admitted c.requires.certified.best_effort refl c.demand-item.result c.loop-demand.demand-index at own)
 
@@ -81,16 +81,16 @@ loop-demand-preserved c =
           c.loop-demand.invariant w.in-Plain.is (rw w.surplus-is at c.grant.ensures))
       | in-NonAssured w ↦
           let flag = flag_is c.args.input.now NonAssured c.args.cert.now.na (surplus c.args.input.now) c.requires.admitted c.requires.certified.non_assured refl
-          c.demand-item.result c.loop-demand.demand-index at (ap (λ k. same_class k NonAssured) w.in-NonAssured.is) c.loop-demand.na.now w.first_of-saturated.result.1.now w.first_of-saturated.result.0 c.loop-demand.invariant.na w.first_of-saturated.ensures in
+          c.demand-item.result c.loop-demand.demand-index at (ap (λ k. same_class k NonAssured) w.in-NonAssured.is) c.loop-demand.na.now w.first_flag-saturated.result.1.now w.first_flag-saturated.result.0 c.loop-demand.invariant.na w.first_flag-saturated.ensures in
           rw (w.na-is, w.be-is, c.in_ok-push.ensures.items)
-          (dealt_na c.args.input.now c.args.cert.now c.demand-item.result c.loop-demand.demand-index at c.loop-demand.grants.items c.loop-demand.na.now c.loop-demand.be.now w.first_of-saturated.result.1.now w.first_of-saturated.result.0 w.share-surplus.result c.grant.result
+          (dealt_na c.args.input.now c.args.cert.now c.demand-item.result c.loop-demand.demand-index at c.loop-demand.grants.items c.loop-demand.na.now c.loop-demand.be.now w.first_flag-saturated.result.1.now w.first_flag-saturated.result.0 w.share-surplus.result c.grant.result
           c.loop-demand.invariant w.in-NonAssured.is flag w.share-surplus.ensures.value (rw w.surplus-is at c.grant.ensures))
       | in-BestEffort w ↦
           let left : ℕ = left_surplus c.args.cert.now.na.level (items NonAssured c.args.input.now) (surplus c.args.input.now) in
           let flag = flag_is c.args.input.now BestEffort c.args.cert.now.be left c.requires.admitted c.requires.certified.best_effort refl
-          c.demand-item.result c.loop-demand.demand-index at (ap (λ k. same_class k BestEffort) w.in-BestEffort.is) c.loop-demand.be.now w.first_of-saturated-in-BestEffort.result.1.now w.first_of-saturated-in-BestEffort.result.0 c.loop-demand.invariant.be w.first_of-saturated-in-BestEffort.ensures in
+          c.demand-item.result c.loop-demand.demand-index at (ap (λ k. same_class k BestEffort) w.in-BestEffort.is) c.loop-demand.be.now w.first_flag-saturated-in-BestEffort.result.1.now w.first_flag-saturated-in-BestEffort.result.0 c.loop-demand.invariant.be w.first_flag-saturated-in-BestEffort.ensures in
           rw (w.na-is, w.be-is, c.in_ok-push.ensures.items)
-          (dealt_be c.args.input.now c.args.cert.now c.demand-item.result c.loop-demand.demand-index at c.loop-demand.grants.items c.loop-demand.na.now c.loop-demand.be.now w.first_of-saturated-in-BestEffort.result.1.now w.first_of-saturated-in-BestEffort.result.0 w.share-surplus-in-BestEffort.result c.grant.result
+          (dealt_be c.args.input.now c.args.cert.now c.demand-item.result c.loop-demand.demand-index at c.loop-demand.grants.items c.loop-demand.na.now c.loop-demand.be.now w.first_flag-saturated-in-BestEffort.result.1.now w.first_flag-saturated-in-BestEffort.result.0 w.share-surplus-in-BestEffort.result c.grant.result
           c.loop-demand.invariant w.in-BestEffort.is flag w.share-surplus-in-BestEffort.ensures.value (rw w.surplus-is at c.grant.ensures))
     ]
 

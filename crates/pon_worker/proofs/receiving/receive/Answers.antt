@@ -2,7 +2,7 @@ use Rattle.std.proofs.Common.{List, ℕ, ◌++◌, sym, ap, subst, ◌∙◌}
 use Rattle.std.proofs.Common.{inl, inr, Ok, Option}
 use Rattle.std.proofs.KnownBytes.{Consumes-nil, Consumes-trans, Consumes-kept}
 use Rattle.pon_device.specs.Device.{Consumes}
-use Rattle.pon_link.specs.Reading.{Reading, Gives, HasFault}
+use Rattle.pon_link.specs.Reading.{Reading, Returns, HasFault}
 use Rattle.pon_link.specs.UpRecords.{IsRecord}
 use Rattle.pon_link.specs.declared.record.UpRecord.{UpRecord}
 use Rattle.pon_worker.proofs.receiving.receive.Goals as goal
@@ -17,14 +17,14 @@ loop-init g c =
 
 pub returns-in-Ok-Some-clause-ok : goal.returns-in-Ok-Some-clause-ok
 returns-in-Ok-Some-clause-ok g c =
-    let v = subst (λ (o : Option UpRecord). Gives IsRecord c.loop.up c.next-in-loop.new.self (Ok o)) c.in-Ok-Some.field-0-is c.in-Ok-Some.ensures.outcome in
+    let v = subst (λ (o : Option UpRecord). Returns IsRecord c.loop.up c.next-in-loop.new.self (Ok o)) c.in-Ok-Some.field-0-is c.in-Ok-Some.ensures.outcome in
     (c.loop.up.held, v.0, c.loop.invariant.held)
 
 pub loop-preserved : goal.loop-preserved
 loop-preserved g c =
     let v = c.in-Ok.ensures.ok in
     let far = c.loop.invariant in
-    let same = (subst (λ (o : Option UpRecord). Gives IsRecord c.loop.up c.next-in-loop.new.self (Ok o)) c.in-Ok-None.field-0-is c.in-Ok-None.ensures.outcome).1 in
+    let same = (subst (λ (o : Option UpRecord). Returns IsRecord c.loop.up c.next-in-loop.new.self (Ok o)) c.in-Ok-None.field-0-is c.in-Ok-None.ensures.outcome).1 in
     let left = g.R.DevRead.remaining c.args.reader.now in
     let now = g.R.DevRead.remaining c.pull.new.reader in
     let more = Consumes-trans left (g.R.DevRead.remaining c.loop.reader) now c.loop.up.held v.0 far.held v.2 in record {
@@ -37,7 +37,7 @@ pub returns-in-Err-pull-clause-err : goal.returns-in-Err-pull-clause-err
 returns-in-Err-pull-clause-err g c =
     let v = c.in-Err-pull.ensures.err in
     let far = c.loop.invariant in
-    let same = (subst (λ (o : Option UpRecord). Gives IsRecord c.loop.up c.next-in-loop.new.self (Ok o)) c.in-Ok-None.field-0-is c.in-Ok-None.ensures.outcome).1 in
+    let same = (subst (λ (o : Option UpRecord). Returns IsRecord c.loop.up c.next-in-loop.new.self (Ok o)) c.in-Ok-None.field-0-is c.in-Ok-None.ensures.outcome).1 in
     let left = g.R.DevRead.remaining c.args.reader.now in
     let now = g.R.DevRead.remaining c.pull.new.reader in
     let all = Consumes-kept left (g.R.DevRead.remaining c.loop.reader) now c.loop.up.held far.held v.2 in (

@@ -1,5 +1,5 @@
 use Rattle.pon_cert.proofs.ClassLaws.{class_found, class_made}
-use Rattle.pon_cert.proofs.parse.class_of.Goals as goal
+use Rattle.pon_cert.proofs.parse.class_in_text.Goals as goal
 
 pub returns-in_err-flags : goal.returns-in_err-flags
 returns-in_err-flags c = rw c.from_residual-in_err-flags.ensures (λ cert is.

@@ -2,7 +2,7 @@ use Rattle.std.proofs.Common.{◌≡◌}
 use Rattle.std.specs.Prelude.{codes}
 use Rattle.std.proofs.lemmas.Slice.Eq.{bytes_eq-Decides}
 use Rattle.pon_cert.proofs.PartLaws.{no_level_uncut, no_level_num, no_level_den, level_result}
-use Rattle.pon_cert.proofs.parse.level_of.Goals as goal
+use Rattle.pon_cert.proofs.parse.level_in_text.Goals as goal
 
 pub returns-in_err-num : goal.returns-in_err-num
 returns-in_err-num c =

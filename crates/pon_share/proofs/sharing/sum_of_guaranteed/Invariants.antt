@@ -1,6 +1,6 @@
 use Rattle.std.proofs.Common.{◌≡◌, ◌*◌, ◌≤◌, take}
 use Rattle.std.specs.Prelude.{sum_by}
-use Rattle.pon_share.proofs.sharing.guaranteed_sum.Given as goal
+use Rattle.pon_share.proofs.sharing.sum_of_guaranteed.Given as goal
 
 abbrev pub invariant-loop-demand : goal.invariant-loop-demand
 invariant-loop-demand l = record {
