@@ -2,7 +2,7 @@ ghost use Rattle.std.specs.Prelude.{◌≡◌, ◌^◌, ◌*◌, ◌<◌, ◌≤
 ghost use Rattle.pon_units.specs.Polynomial.{remainder};
 ghost use Rattle.pon_hec.specs.HeaderCode.{generator, IsCodeword, sealed};
 
-use crate::table::REMAINDERS;
+use crate::table::{BYTE_VALUES, REMAINDERS};
 
 /// The codeword of 8 bytes with this payload of 51 bits. The caller keeps the payload below 2^51.
 pub fn seal64(payload: u64) -> u64
@@ -35,7 +35,7 @@ fn seal(payload: u64, bytes: u32) -> u64
     (body << 1) | u64::from(body.count_ones() & 1)
 }
 
-// The 12 check bits of a payload of `bytes` bytes, by the highest byte first.
+// The 12 check bits of a payload of `bytes` bytes: the sum of what its bytes leave. No look-up waits for another.
 pub(crate) fn check_bits(payload: u64, bytes: u32) -> u16
     requires payload { payload < 2 ^ 51 }
     requires bytes { payload < 2 ^ (8 * bytes) }
@@ -43,20 +43,19 @@ pub(crate) fn check_bits(payload: u64, bytes: u32) -> u16
     ensures { result ≡ remainder generator 12 51 (payload * 2 ^ 12) }
 {
     let mut rest = 0;
-    for k in 0..bytes {
-        let byte = (payload >> (8 * (bytes - 1 - k))) & 0xff;
-        rest = divide_byte(rest, byte as u8);
+    for place in 0..bytes {
+        let byte = (payload >> (8 * place)) & 0xff;
+        rest ^= left_of(place, byte as u8);
     }
     rest
 }
 
-// What is left, where `rest` was left of the bytes before, and one more byte comes.
-fn divide_byte(rest: u16, byte: u8) -> u16
-    requires { rest < 2 ^ 12 }
-    ensures { result ≡ remainder generator 12 8 (bit_xor (rest * 2 ^ 8) (byte * 2 ^ 12)) }
+// What is left of a byte at this place of a payload.
+fn left_of(place: u32, byte: u8) -> u16
+    requires { place < 7 }
+    ensures { result ≡ remainder generator 12 56 (byte * 2 ^ (8 * place) * 2 ^ 12) }
 {
-    let top = (rest >> 4) as u8 ^ byte;
-    ((rest & 0xf) << 8) ^ REMAINDERS[usize::from(top)]
+    REMAINDERS[place as usize * BYTE_VALUES + usize::from(byte)]
 }
 
 #[cfg(test)]
