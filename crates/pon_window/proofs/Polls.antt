@@ -6,6 +6,7 @@ use Rattle.std.proofs.lemmas.List.Sorted.{IsPartitionedBy-ltb}
 use Rattle.std.proofs.Math.Bool.{and-true}
 use Rattle.std.proofs.lemmas.Bool.{and_from, cases_lt, cases_order, eq-eqb, le-ltb, lt-ltb, ne_eqb, or_left, or_right}
 use Rattle.std.proofs.lemmas.Bool.Decides.{eqb_tells}
+use Rattle.std.proofs.lemmas.List.Folds.{list_any_none}
 use Rattle.std.proofs.lemmas.List.Elements.{All-nil, All-cons, All-filter, All-head, All-map, All-tail, All-weaker}
 use Rattle.pon_units.specs.declared.granted.Granted.{Granted}
 use Rattle.pon_units.specs.Granted.{AreInMapOrder, ComesBefore, onus_granted}
@@ -54,6 +55,28 @@ parted u xs h = IsPartitionedBy-ltb (λ v. v) xs u (λ m n d l k. elim (cases_lt
   | inl less ↦ (let e : get_or xs m d < get_or xs n d = in_order_at (λ i j. i < j) xs h m n d less k in omega (arith, e))
   | inr not_less ↦ (let e : n ≡ m = omega (arith, l, not_less) in let q : get_or xs n d ≡ get_or xs m d = ap (λ j. get_or xs j d) e in omega (arith, q))
 ])
+
+-- A number is among rising ones exactly if it is the first that is not below it.
+
+pub among_none : (u : ℕ) (xs ys : List ℕ) → length ys ≡ 0 → ys ≡ filter (λ v. not (nat_lt v u)) xs → false ≡ occurs u xs
+among_none u xs [] n e =
+    ap (occurs u) e ∙ any_eq-filter (λ v. not (nat_lt v u)) u xs ∙ ap (λ b. not b && occurs u xs) (le-ltb u u (omega arith))
+among_none u xs (y ∷ ys) n e = absurd (omega (arith, n))
+
+pub among_first : (u v : ℕ) (xs vs : List ℕ) → AreRising xs → v ∷ vs ≡ filter (λ w. not (nat_lt w u)) xs → (v == u) ≡ occurs u xs
+among_first u v xs vs h e =
+    let rise : AreRising (v ∷ vs) = subst AreRising (sym e) (in_order-filter (λ i j. i < j) (λ w. not (nat_lt w u)) xs h) in
+    let all : All (λ w. u ≤ w) (v ∷ vs) = subst (All (λ w. u ≤ w)) (sym e) (not_below u xs) in
+    let least : u ≤ v = All-head (λ w. u ≤ w) v vs all in
+    let none : occurs u vs ≡ false = list_any_none (λ w. w == u) vs (All-weaker (λ w. v < w) (λ w. (w == u) ≡ false) (λ w l. ne_eqb w u (λ k. omega (arith, k, l, least))) vs rise.0) in
+    sym (ap (λ b. (v == u) || b) none ∙ or-false (v == u)) ∙ ap (occurs u) e ∙ any_eq-filter (λ w. not (nat_lt w u)) u xs ∙ ap (λ b. not b && occurs u xs) (le-ltb u u (omega arith))
+  where
+    not_below : (u : ℕ) (xs : List ℕ) → All (λ w. u ≤ w) (filter (λ w. not (nat_lt w u)) xs)
+    not_below u [] = All-nil (λ w. u ≤ w)
+    not_below u (x ∷ xs) = elim (cases_lt x u) [
+      | inl l ↦ rw (lt-ltb x u l) (not_below u xs)
+      | inr g ↦ rw (le-ltb x u g) (All-cons (λ w. u ≤ w) x (filter (λ w. not (nat_lt w u)) xs) g (not_below u xs))
+    ]
 
 -- One more, in its place.
 

@@ -48,6 +48,18 @@ fn place_among(onus: &[OnuId], onu: OnuId) -> usize
     onus.partition_point(|reporter| reporter.get() < onu.get())
 }
 
+// Returns whether an ONU-ID is among rising ones, by a search by halves.
+fn is_among(onus: &[OnuId], onu: OnuId) -> bool
+    requires { AreRising onus.now }
+    ensures { result ≡ list_any (λ v. v == onu) onus.now }
+{
+    let (_, others) = onus.split_at(place_among(onus, onu));
+    match others.split_first() {
+        Some((least, _)) => *least == onu,
+        None => false,
+    }
+}
+
 // Adds an ONU in its place. `Err` only if memory is refused, and then nothing changes.
 fn add_onu(onus: &mut Vec<OnuId>, onu: OnuId) -> Result<(), AllocError>
     requires { AreRising onus.old.items }
@@ -114,9 +126,10 @@ impl WindowMap {
 
     /// Returns whether an ONU reported for it.
     pub(crate) fn has_reported(&self, onu: OnuId) -> bool
+        requires { IsLawfulMap self.now }
         ensures { result ≡ list_any (λ v. v == onu) self.now.reported }
     {
-        self.reported.iter().any(|reporter| *reporter == onu)
+        is_among(self.reported(), onu)
     }
 
     /// Notes that an ONU reported. `Err` only if memory is refused, and then nothing changes.
