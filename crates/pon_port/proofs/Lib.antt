@@ -4,6 +4,7 @@ pub mod CutChapters
 pub mod Cutting
 pub mod EntryByEntry
 pub mod FairMaps
+pub mod FirstChapters
 pub mod LastMaps
 pub mod Kept
 pub mod LawfulChapters

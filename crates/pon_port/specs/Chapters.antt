@@ -1,5 +1,6 @@
 -- Chapters of a port's history: an opening and the entries that were taken from it.
-use Rattle.std.specs.Prelude.{ℕ, ◌≡◌, ◌+◌, ◌<◌, ◌≤◌, List, [], length, All, Contains, take, slice_get, Some, None, IfSome}
+use Rattle.std.specs.Prelude.{ℕ, ◌≡◌, ◌+◌, ◌<◌, ◌≤◌, ◌^◌, List, [], length, All, Contains, take, slice_get, Some, None, IfSome}
+use Rattle.pon_units.specs.declared.limits.TheConstants.{GREATEST_PROFILE, LONGEST_GAP, SHORTEST_GAP}
 use Rattle.pon_admit.specs.declared.row.Row.{Row}
 use Rattle.pon_admit.specs.declared.rule.Rule.{Rule}
 use Rattle.pon_admit.specs.Roster.{IsAdmitted}
@@ -7,7 +8,7 @@ use Rattle.pon_guar.specs.declared.account.Account.{Account}
 use Rattle.pon_guar.specs.declared.account.Counted.{Counted}
 use Rattle.pon_window.specs.Window.{IsLawfulMap, LeadsTo}
 use Rattle.pon_state.specs.Accounts.{AccountsFor}
-use Rattle.pon_state.specs.State.{State, opened_under}
+use Rattle.pon_state.specs.State.{State, just_opened, opened_under}
 use Rattle.pon_state.specs.Loads.{replay}
 use Rattle.pon_state.specs.Legal.{MayFollow}
 use Rattle.pon_state.specs.declared.reply.Entry.{Entry}
@@ -76,3 +77,12 @@ pub record IsLawfulChapter (c : Chapter) : Type 0 where
 -- for any two chapters of one port whose numbers follow each other, the later opens with the end of the earlier
 abbrev pub Follows : Chapter → Chapter → Type 0
 Follows c d = d.number ≡ c.number + 1 → d.opening ≡ present_state c
+
+-- the first chapter of a port: it has the number 0 and opens with the port just opened, under numbers in range
+pub record IsFirst (c : Chapter) : Type 0 where
+  pub number : c.number ≡ 0
+  pub opening : c.opening ≡ just_opened c.opening.gap c.opening.profile c.opening.next
+  pub shortest_gap : SHORTEST_GAP ≤ c.opening.gap
+  pub longest_gap : c.opening.gap ≤ LONGEST_GAP
+  pub profile : c.opening.profile ≤ GREATEST_PROFILE
+  pub next : c.opening.next < 2 ^ 64

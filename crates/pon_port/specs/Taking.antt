@@ -5,7 +5,7 @@ use Rattle.pon_admit.specs.Roster.{IsAdmitted}
 use Rattle.pon_state.specs.Checks.{first_refusal}
 use Rattle.pon_state.specs.Legal.{MayFollow}
 use Rattle.pon_state.specs.Accounts.{AccountsFor}
-use Rattle.pon_port.specs.Chapters.{Chapter, present_state, IsLawfulChapter}
+use Rattle.pon_port.specs.Chapters.{Chapter, present_state, IsFirst, IsLawfulChapter}
 use Rattle.pon_port.specs.Last.{KeepsLast}
 use Rattle.pon_event.specs.declared.event.Event.{Event}
 use Rattle.pon_state.specs.declared.reply.Reply.{Reply}
@@ -31,7 +31,8 @@ pub record IsKept (c : Chapter) (state : State) : Type 0 where
   pub admitted : IsAdmitted state.rule state.gap state.roster
   pub book : AccountsFor state.roster state.book
 
--- a port: what it keeps, and where its last map stands with the Alloc-IDs of the classes that shared surplus in it
+-- a port: what it keeps, its first chapter, and where its last map stands with the Alloc-IDs of the classes that shared surplus in it
 pub record IsPort (c : Chapter) (state : State) (last_place : Option ℕ) (na be : List ℕ) : Type 0 where
   pub kept : IsKept c state
+  pub first : IsFirst c
   pub last : KeepsLast c last_place na be

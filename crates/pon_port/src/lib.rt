@@ -4,9 +4,14 @@
 //! no map rests on anything else. The crate has no clock, no device and no thread.
 #![tactic(auto)]
 
+mod chapter;
 pub mod laws;
 mod port;
 
+pub use chapter::Chapter;
 pub use pon_event::Event;
 pub use pon_state::{Entry, MadeMap, PortCfg, PortState, Reply};
 pub use port::Port;
+
+#[cfg(test)]
+mod tests;

@@ -3,6 +3,7 @@ ghost use Rattle.pon_state.specs.State.{just_opened};
 ghost use Rattle.pon_state.specs.Events.{AreOccupancies, IsEvent, IsManaged};
 ghost use Rattle.pon_state.specs.Replay.{makes_map};
 
+use crate::chapter::Chapter;
 use pon_admit::Row;
 use pon_dbru::Occupancies;
 use pon_descr::Refusal;
@@ -238,5 +239,16 @@ impl Port {
         in_range(&event);
         self.take_plain(event)?;
         Ok(Reply::Taken)
+    }
+
+    /// Hands out the kept chapter. It takes no memory.
+    pub fn into_chapter(self) -> Chapter
+        ensures { result ≡ self }
+    {
+        Chapter {
+            number: self.number,
+            opening: self.opening,
+            entries: self.entries,
+        }
     }
 }

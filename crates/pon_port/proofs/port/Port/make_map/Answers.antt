@@ -7,6 +7,7 @@ use Rattle.pon_event.specs.declared.event.Event.TheVariants.{MakeMap}
 use Rattle.pon_state.specs.declared.reply.Reply.TheVariants.{Map}
 use Rattle.pon_port.proofs.Kept.{kept_frames, map_taken, mapped}
 use Rattle.pon_port.proofs.FairMaps.{fair_map}
+use Rattle.pon_port.proofs.FirstChapters.{first_kept}
 use Rattle.pon_port.proofs.LastMaps.{last_made}
 use Rattle.pon_port.proofs.port.Port.make_map.Goals as goal
 
@@ -18,6 +19,7 @@ invariant_of-self-2 c =
     let more : new ≡ with_entry old MakeMap (Map c.in-Ok-try_copy.kept) = search rules in
     record {
       kept = mapped _ _ c.self.inside.state _ c.in-Ok-try_copy.kept c.self.invariant.kept (search rules) made more (search rules);
+      first = first_kept old new MakeMap (Map c.in-Ok-try_copy.kept) c.self.invariant.first more;
       last = last_made old new c.self.inside.state c.in-Ok-try_copy.kept c.len-2.result c.in-Ok.next.na.items c.in-Ok.next.be.items c.self.invariant.kept made more (search rules) (search rules) (search rules);
     }
 

@@ -1,0 +1,56 @@
+use pon_state::{Entry, PortState};
+use std::marker::Model;
+
+/// A chapter that a port has handed out: its number, the state that it opens with, and its entries, oldest first. The
+/// type keeps that it is lawful, and that it is the first of its port: it has the number 0 and opens with the port
+/// just opened.
+#[derive(Drop)]
+pub struct Chapter {
+    pub(crate) number: u64,
+    pub(crate) opening: PortState,
+    pub(crate) entries: Vec<Entry>,
+}
+
+impl Model for Chapter {
+    ghost use Rattle.pon_port.specs.Chapters.{Chapter, IsFirst, IsLawfulChapter};
+
+    ghost Value = { Chapter };
+
+    ghost view = { λ c. record {
+      number = c.number;
+      opening = c.opening;
+      entries = c.entries.items;
+    } };
+
+    ghost invariant = { λ c.
+        IsLawfulChapter (record { number = c.number; opening = c.opening; entries = c.entries.items })
+        × IsFirst (record { number = c.number; opening = c.opening; entries = c.entries.items }) };
+}
+
+impl Chapter {
+    ghost use Rattle.std.specs.Prelude.{◌≡◌};
+    ghost use Rattle.pon_port.specs.Chapters.{IsFirst, IsLawfulChapter};
+
+    /// Its number, counted from 0 in its port.
+    pub fn number(&self) -> u64
+        ensures { result ≡ self.now.number }
+    {
+        self.number
+    }
+
+    /// The state that it opens with: that of the port just opened.
+    pub fn opening(&self) -> &PortState
+        ensures opening { result.now ≡ self.now.opening }
+        ensures first { IsFirst self.now }
+    {
+        &self.opening
+    }
+
+    /// Its entries, oldest first.
+    pub fn entries(&self) -> &[Entry]
+        ensures entries { result.now ≡ self.now.entries }
+        ensures lawful { IsLawfulChapter self.now }
+    {
+        self.entries.as_slice()
+    }
+}
