@@ -1,0 +1,28 @@
+-- Fields written one after another behind bytes.
+use Rattle.std.proofs.Common.{◌≡◌, ℕ, List, ◌++◌, refl, ap, ◌∙◌, append_assoc}
+use Rattle.std.specs.Int.{w8, to_be_bytes}
+use Rattle.pon_bwmap.specs.MapBytes.{map_bytes}
+use Rattle.pon_bwmap.specs.Structure.{Structure}
+use Rattle.pon_event.specs.declared.event.Event.{Event}
+use Rattle.pon_event.specs.declared.event.Event.TheVariants.{Admit, Change, Remove, Report, MakeMap, Fail, Restore}
+use Rattle.pon_record.specs.Events.{event}
+use Rattle.pon_record.specs.MadeMaps.{map}
+use Rattle.pon_recorder.specs.Bodies.{event_fields, event_tag}
+
+pub behind : (old a b x y : List ℕ) → x ≡ old ++ a → y ≡ x ++ b → y ≡ old ++ (a ++ b)
+behind old a b x y first second = second ∙ ap (λ (l : List ℕ). l ++ b) first ∙ append_assoc old a b
+
+-- the tag of an event and its fields are its bytes
+pub tagged : (e : Event) → to_be_bytes w8 (event_tag e) ++ event_fields e ≡ event.write e
+tagged (Admit u i d) = refl
+tagged (Change i d) = refl
+tagged (Remove i) = refl
+tagged (Report f u occ) = refl
+tagged MakeMap = refl
+tagged (Fail c) = refl
+tagged Restore = refl
+
+-- the bytes of a map are those of its format
+pub map_written : (rows : List Structure) → map_bytes rows ≡ map.write rows
+unfolding map_bytes
+map_written rows = refl

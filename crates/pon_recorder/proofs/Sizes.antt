@@ -1,0 +1,80 @@
+-- How many bytes a recorded chapter takes.
+use Rattle.std.proofs.Common.{◌≡◌, ℕ, ◌+◌, ◌*◌, ◌^◌, ◌<◌, ◌≤◌, Bool, List, [], ◌∷◌, ◌++◌, length, refl, ap, sym, ◌∙◌, subst, arith, length-append}
+use Rattle.std.specs.Prelude.{Option, map}
+use Rattle.std.specs.Int.{w16, to_be_bytes}
+use Rattle.std.specs.List.{AllByRecursion, flat_map}
+use Rattle.std.proofs.lemmas.List.{length-map}
+use Rattle.std.proofs.lemmas.List.Concat.{flat_map-cons}
+use Rattle.pon_bwmap.specs.Structure.{Structure}
+use Rattle.pon_cert.specs.declared.cert.ClassCert.{ClassCert}
+use Rattle.pon_cert.specs.declared.cert.Level.{Level}
+use Rattle.pon_cert.specs.declared.cert.Level.TheVariants as level
+use Rattle.pon_cert.specs.declared.cert.MapCert.{MapCert}
+use Rattle.pon_cert.specs.Spelling.{cert_bytes, class_bytes, flag_byte, level_bytes}
+use Rattle.pon_cert.specs.Texts.{FitsCert, FitsClass}
+use Rattle.pon_event.specs.declared.event.Event.{Event}
+use Rattle.pon_event.specs.declared.event.Event.TheVariants.{Admit, Change, Remove, Report, MakeMap, Fail, Restore}
+use Rattle.pon_state.specs.declared.reply.Entry.{Entry}
+use Rattle.pon_state.specs.declared.reply.MadeMap.{MadeMap}
+use Rattle.pon_state.specs.declared.reply.Reply.{Reply}
+use Rattle.pon_state.specs.declared.reply.Reply.TheVariants.{Taken, Map}
+use Rattle.pon_record.specs.Format.{followed}
+use Rattle.pon_record.specs.Events.{event, occupancy}
+use Rattle.pon_record.specs.MadeMaps.{made_map, structure}
+use Rattle.pon_record.specs.Chapters.{entry, reply_to}
+
+occ_size : (occ : List (Option ℕ)) → length (flat_map occupancy.write occ) ≡ 4 * length occ
+occ_size [] = refl
+occ_size (o ∷ occ) = ap (λ (bs : List ℕ). length bs) (flat_map-cons occupancy.write o occ) ∙ omega (arith, occ_size occ)
+
+event_size : (v : Event) → event.Fits v → length (event.write v) ≤ 76
+event_size (Admit u i d) fits = omega arith
+event_size (Change i d) fits = omega arith
+event_size (Remove i) fits = omega arith
+event_size (Report f u occ) fits = omega (arith, occ_size occ, fits.1.1.1)
+event_size MakeMap fits = omega arith
+event_size (Fail c) fits = omega arith
+event_size Restore fits = omega arith
+
+rows_size : (rows : List Structure) → length (flat_map structure.write rows) ≡ 8 * length rows
+rows_size [] = refl
+rows_size (a ∷ rows) = ap (λ (bs : List ℕ). length bs) (flat_map-cons structure.write a rows) ∙ omega (arith, rows_size rows)
+
+level_size : (l : Level) (ss : List Bool) → length (level_bytes l ++ to_be_bytes w16 (length ss) ++ map flag_byte ss) ≡ 19 + length ss
+level_size level.All ss = omega (arith, length-map ss flag_byte)
+level_size (level.At f) ss = omega (arith, length-map ss flag_byte)
+
+class_size : (c : ClassCert) → FitsClass c → length (class_bytes c) ≤ 531
+class_size c fits =
+    let all : length (class_bytes c) ≡ 19 + length c.saturated = level_size c.level c.saturated in
+    omega (arith, all, fits.count)
+
+cert_size : (m : MapCert) → FitsCert m → length (cert_bytes m) ≤ 1062
+cert_size m fits = omega (arith, length-append (class_bytes m.na) (class_bytes m.be), class_size m.na fits.non_assured, class_size m.be fits.best_effort)
+
+made_size : (m : MadeMap) → made_map.Fits m → length (made_map.write m) ≤ 5170
+made_size m fits =
+    let rows : length m.map ≤ 512 = fits.0.1.0.0.1 in
+    omega (arith, length-append (flat_map structure.write m.map) (cert_bytes m.cert), rows_size m.map, rows, cert_size m.cert fits.0.1.1)
+
+no_reply : (bs : List ℕ) → length bs ≤ 76 → length (bs ++ []) ≤ 5171
+no_reply bs le = omega (arith, length-append bs [], le)
+
+parts_size : (v : Event) (a : Reply) → (followed event reply_to).Fits (v, a) → length (event.write v ++ (reply_to v).write a) ≤ 5171
+parts_size (Admit u i d) a fits = no_reply (event.write (Admit u i d)) (event_size (Admit u i d) fits.0)
+parts_size (Change i d) a fits = no_reply (event.write (Change i d)) (event_size (Change i d) fits.0)
+parts_size (Remove i) a fits = no_reply (event.write (Remove i)) (event_size (Remove i) fits.0)
+parts_size (Report f u occ) a fits = no_reply (event.write (Report f u occ)) (event_size (Report f u occ) fits.0)
+parts_size MakeMap Taken fits = absurd fits.1
+parts_size MakeMap (Map m) fits = omega (arith, made_size m fits.1)
+parts_size (Fail c) a fits = no_reply (event.write (Fail c)) (event_size (Fail c) fits.0)
+parts_size Restore a fits = no_reply (event.write Restore) (event_size Restore fits.0)
+
+entry_size : (e : Entry) → entry.Fits e → length (entry.write e) ≤ 5171
+entry_size e fits = parts_size e.event e.reply fits.0
+
+pub entries_size : (es : List Entry) → AllByRecursion entry.Fits es → length (flat_map entry.write es) ≤ 5171 * length es
+entries_size [] h = omega arith
+entries_size (e ∷ es) h =
+    let joined : length (flat_map entry.write (e ∷ es)) ≡ length (entry.write e ++ flat_map entry.write es) = ap (λ (bs : List ℕ). length bs) (flat_map-cons entry.write e es) in
+    omega (arith, joined, length-append (entry.write e) (flat_map entry.write es), entry_size e h.0, entries_size es h.1)

@@ -1,0 +1,11 @@
+use Rattle.std.proofs.Common.{◌≡◌, ◌++◌}
+use Rattle.std.specs.Int.{w8, w16, w32, w64, to_be_bytes}
+use Rattle.pon_record.specs.Fields.{alloc_id, descriptor, failure, gap, onu_id, profile}
+use Rattle.pon_recorder.proofs.Put.{behind}
+use Rattle.pon_recorder.proofs.entries.put_admission.Goals as goal
+
+pub returns : goal.returns
+returns c =
+    let old = c.args.bytes.now.items in
+    let to1 = behind old (onu_id.write c.args.onu) (alloc_id.write c.args.alloc_id) c.put_onu.new.bytes.items c.put_alloc_id.new.bytes.items c.in_ok-put_onu.ensures c.in_ok-put_alloc_id.ensures in
+    behind old ((onu_id.write c.args.onu) ++ alloc_id.write c.args.alloc_id) (descriptor.write c.args.descriptor.now) c.put_alloc_id.new.bytes.items c.put_descriptor.new.bytes.items to1 c.in_ok-put_descriptor.ensures

@@ -1,0 +1,49 @@
+-- What a writer of recordings holds, and what has gone out of it.
+use Rattle.std.specs.Prelude.{◌≡◌, ℕ, ◌+◌, ◌%◌, ◌^◌, List, [], ◌∷◌, ◌++◌, Option, Result, Ok, Err}
+use Rattle.pon_device.specs.Device.{Appends}
+use Rattle.pon_record.specs.Chapters.{Body}
+use Rattle.pon_record.specs.Recordings.{recording_bytes}
+use Rattle.pon_recorder.specs.declared.fault.RecordFault.{RecordFault}
+use Rattle.pon_recorder.specs.declared.fault.RecordFault.TheVariants.{Busy, Memory, Device}
+
+-- a writer: its device, and the bytes that the device has not taken yet
+pub record Recorder (W : Type 0) : Type 0 where
+  pub device : W
+  pub left : List ℕ
+
+-- bytes went out to a device that tells what it holds, and with what is left they are these
+pub record GoesOut (before after : Option (List ℕ)) (left bytes : List ℕ) : Type 0 where
+  pub sent : List ℕ
+  pub appends : Appends before after sent
+  pub together : sent ++ left ≡ bytes
+
+-- what went out since the device held `before`, and then what is left, is the recording of these chapters
+abbrev pub Records : Option (List ℕ) → Option (List ℕ) → List ℕ → List Body → Type 0
+Records before now left bodies = GoesOut before now left (recording_bytes bodies)
+
+-- the recording has one chapter more
+abbrev pub Grows : Option (List ℕ) → List ℕ → Option (List ℕ) → List ℕ → Body → Type 0
+Grows old left new rest b = (before : Option (List ℕ)) (bodies : List Body) → Records before old left bodies → Records before new rest (bodies ++ b ∷ [])
+
+-- the recording stays the same
+abbrev pub Stays : Option (List ℕ) → List ℕ → Option (List ℕ) → List ℕ → Type 0
+Stays old left new rest = (before : Option (List ℕ)) (bodies : List Body) → Records before old left bodies → Records before new rest bodies
+
+-- the chapter was taken
+abbrev pub IsTaken : {T : Type 0} → Result T RecordFault → Type 0
+IsTaken (Ok t) = Unit {0}
+IsTaken (Err Device) = Unit {0}
+IsTaken (Err Busy) = ⊥
+IsTaken (Err Memory) = ⊥
+
+-- one more failure exactly if the device failed, counted round 2 ^ 64
+abbrev pub CountsDevice : {T : Type 0} → ℕ → ℕ → Result T RecordFault → Type 0
+CountsDevice old new (Ok t) = new ≡ old
+CountsDevice old new (Err Device) = new ≡ (old + 1) % 2 ^ 64
+CountsDevice old new (Err Busy) = new ≡ old
+CountsDevice old new (Err Memory) = new ≡ old
+
+-- one more failure exactly if something of the magic bytes is left
+abbrev pub CountsOpening : ℕ → ℕ → List ℕ → Type 0
+CountsOpening old new [] = new ≡ old
+CountsOpening old new (b ∷ bs) = new ≡ (old + 1) % 2 ^ 64

@@ -1,0 +1,183 @@
+//! Entries, each written behind bytes: an event, and its reply if that is a map.
+
+ghost use Rattle.std.specs.Prelude.{◌≡◌, ◌≤◌, ◌++◌, All, OnOk, length};
+ghost use Rattle.std.specs.Int.{w32};
+ghost use Rattle.std.specs.List.{flat_map};
+ghost use Rattle.pon_state.specs.declared.checks.TheConstants.{MOST_ENTRIES};
+ghost use Rattle.pon_record.specs.Format.{counted, number};
+ghost use Rattle.pon_record.specs.Events.{admit_fields, change_fields, event, occupancies, occupancy, report_fields};
+ghost use Rattle.pon_record.specs.Chapters.{entry, map_reply, reply_to};
+ghost use Rattle.pon_recorder.specs.Bodies.{HoldsFittingCert, event_fields, event_tag};
+
+use crate::fields::{
+    put_alloc_id, put_descriptor, put_frame, put_occupancy, put_onu, put_u8, put_u32,
+};
+use crate::made::put_made;
+use pon_dbru::Occupancies;
+use pon_descr::Descriptor;
+use pon_event::Event;
+use pon_state::{Entry, Reply};
+use pon_units::{AllocId, BufOcc, FrameNo, OnuId};
+use std::alloc::AllocError;
+
+fn put_reports(bytes: &mut Vec<u8>, reports: &[Option<BufOcc>]) -> Result<(), AllocError>
+    ensures { OnOk result (bytes.new.items
+        ≡ bytes.old.items ++ flat_map occupancy.write reports.now) }
+{
+    for report in reports {
+        put_occupancy(bytes, *report)?;
+    }
+    Ok(())
+}
+
+// The number of the occupancies, and these.
+fn put_occupancies(bytes: &mut Vec<u8>, value: &Occupancies) -> Result<(), AllocError>
+    ensures { OnOk result (bytes.new.items ≡ bytes.old.items ++ occupancies.write value.now) }
+{
+    let reports = value.as_slice();
+    put_u8(bytes, reports.len() as u8)?;
+    put_reports(bytes, reports)?;
+    Ok(())
+}
+
+fn put_report(
+    bytes: &mut Vec<u8>,
+    frame: FrameNo,
+    onu: OnuId,
+    occ: &Occupancies,
+) -> Result<(), AllocError>
+    ensures { OnOk result (bytes.new.items
+        ≡ bytes.old.items ++ report_fields.write (frame, (onu, occ.now))) }
+{
+    put_frame(bytes, frame)?;
+    put_onu(bytes, onu)?;
+    put_occupancies(bytes, occ)?;
+    Ok(())
+}
+
+fn put_admission(
+    bytes: &mut Vec<u8>,
+    onu: OnuId,
+    alloc_id: AllocId,
+    descriptor: &Descriptor,
+) -> Result<(), AllocError>
+    ensures { OnOk result (bytes.new.items
+        ≡ bytes.old.items ++ admit_fields.write (onu, (alloc_id, descriptor.now))) }
+{
+    put_onu(bytes, onu)?;
+    put_alloc_id(bytes, alloc_id)?;
+    put_descriptor(bytes, descriptor)?;
+    Ok(())
+}
+
+fn put_change(
+    bytes: &mut Vec<u8>,
+    alloc_id: AllocId,
+    descriptor: &Descriptor,
+) -> Result<(), AllocError>
+    ensures { OnOk result (bytes.new.items
+        ≡ bytes.old.items ++ change_fields.write (alloc_id, descriptor.now)) }
+{
+    put_alloc_id(bytes, alloc_id)?;
+    put_descriptor(bytes, descriptor)?;
+    Ok(())
+}
+
+// The tag of the kind of event.
+fn tag_of(event: &Event) -> u8
+    ensures { result ≡ event_tag event.now }
+{
+    match event {
+        Event::Admit { .. } => 1,
+        Event::Change { .. } => 2,
+        Event::Remove { .. } => 3,
+        Event::Report { .. } => 4,
+        Event::MakeMap => 5,
+        Event::Fail { .. } => 6,
+        Event::Restore => 7,
+    }
+}
+
+// The fields behind the tag.
+fn put_fields(bytes: &mut Vec<u8>, event: &Event) -> Result<(), AllocError>
+    ensures { OnOk result (bytes.new.items ≡ bytes.old.items ++ event_fields event.now) }
+{
+    match event {
+        Event::Admit {
+            onu,
+            alloc_id,
+            descriptor,
+        } => put_admission(bytes, *onu, *alloc_id, descriptor),
+        Event::Change {
+            alloc_id,
+            descriptor,
+        } => put_change(bytes, *alloc_id, descriptor),
+        Event::Remove { alloc_id } => put_alloc_id(bytes, *alloc_id),
+        Event::Report { frame, onu, occ } => put_report(bytes, *frame, *onu, occ),
+        Event::Fail { cause } => put_u8(bytes, cause.get()),
+        Event::MakeMap | Event::Restore => Ok(()),
+    }
+}
+
+fn put_event(bytes: &mut Vec<u8>, value: &Event) -> Result<(), AllocError>
+    ensures { OnOk result (bytes.new.items ≡ bytes.old.items ++ event.write value.now) }
+{
+    put_u8(bytes, tag_of(value))?;
+    put_fields(bytes, value)?;
+    Ok(())
+}
+
+// The reply to MakeMap.
+fn put_map_reply(bytes: &mut Vec<u8>, reply: &Reply) -> Result<(), AllocError>
+    requires { HoldsFittingCert reply.now }
+    ensures { OnOk result (bytes.new.items ≡ bytes.old.items ++ map_reply.write reply.now) }
+{
+    match reply {
+        Reply::Map(made) => put_made(bytes, made),
+        Reply::Taken => Ok(()),
+    }
+}
+
+// The reply to an event.
+fn put_reply(bytes: &mut Vec<u8>, event: &Event, reply: &Reply) -> Result<(), AllocError>
+    requires { HoldsFittingCert reply.now }
+    ensures { OnOk result (bytes.new.items
+        ≡ bytes.old.items ++ (reply_to event.now).write reply.now) }
+{
+    match event {
+        Event::MakeMap => put_map_reply(bytes, reply),
+        _ => Ok(()),
+    }
+}
+
+fn put_entry(bytes: &mut Vec<u8>, value: &Entry) -> Result<(), AllocError>
+    requires { HoldsFittingCert value.now.reply }
+    ensures { OnOk result (bytes.new.items ≡ bytes.old.items ++ entry.write value.now) }
+{
+    put_event(bytes, &value.event)?;
+    put_reply(bytes, &value.event, &value.reply)?;
+    Ok(())
+}
+
+fn put_all(bytes: &mut Vec<u8>, values: &[Entry]) -> Result<(), AllocError>
+    requires { All (λ e. HoldsFittingCert e.reply) values.now }
+    ensures { OnOk result (bytes.new.items
+        ≡ bytes.old.items ++ flat_map entry.write values.now) }
+{
+    for value in values {
+        put_entry(bytes, value)?;
+    }
+    Ok(())
+}
+
+/// The number of the entries, and these.
+pub(crate) fn put_entries(bytes: &mut Vec<u8>, values: &[Entry]) -> Result<(), AllocError>
+    requires few { length values.now ≤ MOST_ENTRIES }
+    requires certs { All (λ e. HoldsFittingCert e.reply) values.now }
+    ensures { OnOk result (bytes.new.items
+        ≡ bytes.old.items ++ (counted (number w32) MOST_ENTRIES entry).write values.now) }
+{
+    put_u32(bytes, values.len() as u32)?;
+    put_all(bytes, values)?;
+    Ok(())
+}

@@ -1,0 +1,35 @@
+//! What holds of the recordings of ports, over the definitions alone.
+
+ghost use Rattle.std.specs.Prelude.{◌≡◌, ◌<◌, ℕ, List, length};
+ghost use Rattle.std.specs.List.{AllByRecursion};
+ghost use Rattle.pon_units.specs.declared.limits.TheConstants.{MOST_PORTS};
+ghost use Rattle.pon_port.specs.Chapters.{Chapter, IsFirst, IsLawfulChapter};
+ghost use Rattle.pon_record.specs.declared.limits.TheConstants.{MAGIC};
+ghost use Rattle.pon_record.specs.declared.fault.ReadFault.{ReadFault};
+ghost use Rattle.pon_record.specs.Chapters.{Body, FitsChapter, PlacedChapter, placed};
+ghost use Rattle.pon_record.specs.Recordings.{IsReadFault, IsRecording, recording_bytes};
+ghost use Rattle.pon_recorder.specs.Bodies.{IsOfPort, chapter_body};
+
+/// A lawful first chapter of a port fits the format: each field is in its range, and the body is shorter than 2^32 bytes.
+pub fn chapters_fit_the_format()
+    ensures { (port : ℕ) (c : Chapter) → port < MOST_PORTS → IsLawfulChapter c → IsFirst c
+        → FitsChapter (chapter_body port c) }
+{}
+
+/// The recording of chapters of ports is read back as these chapters, each at its place and in this order, and has no
+/// fault: only memory may be refused.
+pub fn recordings_are_read_back()
+    ensures whole { (bodies : List Body) → AllByRecursion IsOfPort bodies
+        → IsRecording (recording_bytes bodies) (placed (length MAGIC) bodies) }
+    ensures same { (bodies : List Body) (chapters : List PlacedChapter)
+        → AllByRecursion IsOfPort bodies → IsRecording (recording_bytes bodies) chapters
+        → chapters ≡ placed (length MAGIC) bodies }
+    ensures fault { (bodies : List Body) (fault : ReadFault) → AllByRecursion IsOfPort bodies
+        → IsReadFault (recording_bytes bodies) fault → fault ≡ ReadFault.Memory }
+{}
+
+/// A body is that of one port and one first chapter at most.
+pub fn bodies_have_one_chapter()
+    ensures { (p q : ℕ) (c d : Chapter) → IsFirst c → IsFirst d
+        → chapter_body p c ≡ chapter_body q d → (p ≡ q) × (c ≡ d) }
+{}

@@ -1,0 +1,103 @@
+ghost use Rattle.std.specs.Prelude.{◌≡◌, ◌≢◌, ◌↔◌, [], Err, IfOk, OnOk};
+ghost use Rattle.pon_device.specs.Device.{CountsFailure};
+ghost use Rattle.pon_recorder.specs.Bodies.{chapter_body};
+ghost use Rattle.pon_recorder.specs.declared.fault.RecordFault.TheVariants.{Busy};
+
+use crate::chapters::chapter_bytes;
+use crate::fault::RecordFault;
+use crate::pending::Pending;
+use pon_device::{DevWrite, Failed};
+use pon_port::Chapter;
+use pon_record::MAGIC;
+use pon_units::PortNo;
+use std::alloc::{AllocError, Global};
+use std::marker::Model;
+
+/// A recording on its way to a device. Contracts see it as the device and the bytes that it has not taken yet.
+#[derive(Drop)]
+pub struct RecordFile<W> {
+    alloc: Global,
+    writer: W,
+    pending: Pending,
+}
+
+impl<W> Model for RecordFile<W> {
+    ghost use Rattle.pon_recorder.specs.Recorders.{Recorder};
+
+    ghost Value = { Recorder W };
+
+    ghost view = { λ f. record { device = f.writer; left = f.pending } };
+}
+
+impl<W: DevWrite + Drop> RecordFile<W> {
+    ghost use Rattle.pon_recorder.specs.Recorders.{CountsDevice, CountsOpening, Grows, IsTaken, Records, Stays};
+
+    /// Begins a recording: tries once to write the magic bytes to the device. If the device fails, what it did not take of
+    /// them is left. `Err` only if memory is refused.
+    pub fn open(alloc: Global, writer: W) -> Result<RecordFile<W>, AllocError>
+        ensures recorded { IfOk result (λ file.
+            Records (W.contents writer) (W.contents file.device) file.left []) }
+        ensures failures { IfOk result (λ file.
+            CountsOpening (W.failures writer) (W.failures file.device) file.left) }
+    {
+        let mut writer = writer;
+        let mut pending = Pending::new(Vec::from_slice(alloc, &MAGIC)?);
+        let _ = pending.push(&mut writer);
+        Ok(RecordFile {
+            alloc,
+            writer,
+            pending,
+        })
+    }
+
+    /// Appends a chapter of a port. With `Ok` nothing of it is left.
+    ///
+    /// `Busy` exactly if something of what came before is left, and `Memory` if memory is refused: neither changes
+    /// anything. `Device` exactly if the device failed in this call: the chapter is taken, and what did not go out of it is left.
+    pub fn append(&mut self, port: PortNo, chapter: &Chapter) -> Result<(), RecordFault>
+        ensures ok { OnOk result (self.new.left ≡ []) }
+        ensures taken { IsTaken result → Grows (W.contents self.old.device) self.old.left
+            (W.contents self.new.device) self.new.left (chapter_body port chapter.now) }
+        ensures unchanged { (IsTaken result → ⊥) → self.new ≡ self.old }
+        ensures busy { (result ≡ Err Busy) ↔ (self.old.left ≢ []) }
+        ensures failures { CountsDevice (W.failures self.old.device) (W.failures self.new.device) result }
+    {
+        if !self.left().is_empty() {
+            return Err(RecordFault::Busy);
+        }
+        let Ok(bytes) = chapter_bytes(self.alloc, port, chapter) else {
+            return Err(RecordFault::Memory);
+        };
+        self.pending = Pending::new(bytes);
+        match self.pending.push(&mut self.writer) {
+            Ok(()) => Ok(()),
+            Err(_) => Err(RecordFault::Device),
+        }
+    }
+
+    /// Writes what is left, and then has the device send on what it took. `Failed` exactly if the device failed in this
+    /// call; what it had not taken then is left.
+    pub fn flush(&mut self) -> Result<(), Failed>
+        ensures ok { OnOk result (self.new.left ≡ []) }
+        ensures recorded { Stays (W.contents self.old.device) self.old.left
+            (W.contents self.new.device) self.new.left }
+        ensures failures { CountsFailure (W.failures self.old.device) (W.failures self.new.device) result }
+    {
+        self.pending.push(&mut self.writer)?;
+        self.writer.flush()
+    }
+
+    /// The bytes that the device has not taken yet, in order.
+    pub fn left(&self) -> &[u8]
+        ensures { result.now ≡ self.now.left }
+    {
+        self.pending.left()
+    }
+
+    /// The device.
+    pub fn writer(&self) -> &W
+        ensures { result.now ≡ self.now.device }
+    {
+        &self.writer
+    }
+}
