@@ -1,8 +1,7 @@
 -- The chapters of ports fit the format of recordings.
-use Rattle.std.proofs.Common.{◌≡◌, ℕ, suc, ◌+◌, ◌*◌, ◌-◌, ◌^◌, ◌<◌, ◌≤◌, Bool, true, false, eqb, leb, ltb, ◌&&◌, ◌||◌, List, [], ◌∷◌, length, get_or, Option, Some, None, refl, ap, sym, ◌∙◌, subst, arith, inl, inr}
+use Rattle.std.proofs.Common.{◌≡◌, ℕ, suc, ◌-◌, ◌^◌, ◌<◌, ◌≤◌, Bool, true, false, leb, ltb, ◌&&◌, ◌||◌, List, [], ◌∷◌, length, get_or, Some, None, refl, ap, sym, subst, arith, inl, inr}
 use Rattle.std.specs.Prelude.{All, slice_get}
-use Rattle.std.specs.Int.{w32}
-use Rattle.std.specs.List.{AllByRecursion, flat_map}
+use Rattle.std.specs.List.{AllByRecursion}
 use Rattle.std.proofs.lemmas.Bool.{cases_lt, le-leb, leb-false}
 use Rattle.std.proofs.lemmas.Option.{slice_get-get_or}
 use Rattle.std.proofs.lemmas.List.Elements.{All-from_recursion}
@@ -21,10 +20,9 @@ use Rattle.pon_port.specs.Chapters.{Chapter, IsFirst, IsLawfulChapter, state_bef
 use Rattle.pon_port.specs.FairMaps.{TellsFairMap}
 use Rattle.pon_port.proofs.FairMaps.{maps_are_fair}
 use Rattle.pon_port.proofs.LawfulChapters.{admitted_before}
-use Rattle.pon_record.specs.Format.{counted, number}
-use Rattle.pon_record.specs.Fields.{failure, gap, profile}
+use Rattle.pon_record.specs.Fields.{failure}
 use Rattle.pon_record.specs.Openings.{opening}
-use Rattle.pon_record.specs.Chapters.{FitsChapter, body, entry, port, reply_to}
+use Rattle.pon_record.specs.Chapters.{FitsChapter, body, entry, reply_to}
 use Rattle.pon_recorder.specs.Bodies.{HoldsFittingCert, chapter_body, recorded_opening}
 use Rattle.pon_recorder.proofs.FitEvents.{between, event_fits, passes}
 use Rattle.pon_recorder.proofs.FitMaps.{from_places, made_fits}
@@ -71,8 +69,7 @@ reply_fits k s Restore a adm p h r f = r
 entry_fits : (c : Chapter) → IsLawfulChapter c → IsFirst c → (k : ℕ) (e : Entry) → slice_get c.entries k ≡ Some e → entry.Fits e
 entry_fits c l f k e at =
     let s : State = state_before c k in
-    let m : MayFollow k s e = l.legal k e at in
-    (
+    let m : MayFollow k s e = l.legal k e at in (
       (event_fits k s e.event m.event m.accepted, reply_fits k s e.event e.reply (admitted_before c l k) f.profile m.accepted m.reply (maps_are_fair c l k e at)),
       refl,
     )
@@ -103,8 +100,7 @@ opening_fits : (c : Chapter) → IsFirst c → opening.Fits (recorded_opening c.
 opening_fits c f =
     let s : State = c.opening in
     let up : s.cause ≡ None = ap (λ (t : State). t.cause) f.opening in
-    let none : s.taken_before ≡ 0 = ap (λ (t : State). t.taken_before) f.opening in
-    (
+    let none : s.taken_before ≡ 0 = ap (λ (t : State). t.taken_before) f.opening in (
       (
         (omega (arith, f.longest_gap), passes (λ (n : ℕ). leb 1 n && leb n 256) s.gap (between 1 s.gap 256 f.shortest_gap f.longest_gap)),
         (
@@ -120,8 +116,7 @@ opening_fits c f =
 
 body_fits : (p : ℕ) (c : Chapter) → p < 64 → IsLawfulChapter c → IsFirst c → body.Fits (chapter_body p c)
 body_fits p c lt l f =
-    let few : length c.entries ≤ 65536 = few_entries c l in
-    (
+    let few : length c.entries ≤ 65536 = few_entries c l in (
       (
         (omega (arith, lt), passes (λ (n : ℕ). ltb n 64) p (le-leb (suc p) 64 (omega (arith, lt)))),
         (omega (arith, f.number), (opening_fits c f, (omega (arith, few), few, entries_fit c l f))),

@@ -1,6 +1,6 @@
 -- The events that a port takes fit the format of recordings.
-use Rattle.std.proofs.Common.{◌≡◌, ℕ, ◌+◌, ◌^◌, ◌<◌, ◌≤◌, Bool, true, false, cond, eqb, leb, ltb, ◌&&◌, not, List, [], ◌∷◌, length, Option, Some, None, refl, ap, sym, ◌∙◌, arith}
-use Rattle.std.specs.Prelude.{All, IfSome}
+use Rattle.std.proofs.Common.{◌≡◌, ℕ, ◌^◌, ◌<◌, ◌≤◌, Bool, true, false, cond, eqb, leb, ltb, ◌&&◌, not, List, [], ◌∷◌, length, Option, Some, None, refl, ap, arith}
+use Rattle.std.specs.Prelude.{IfSome}
 use Rattle.std.specs.List.{AllByRecursion, list_any}
 use Rattle.std.proofs.lemmas.Bool.{eqb-false, eqb-true, le-leb, le-ltb, ne_eqb}
 use Rattle.std.proofs.lemmas.List.Elements.{recursion_from_All}
@@ -19,8 +19,8 @@ use Rattle.pon_state.specs.State.{State}
 use Rattle.pon_state.specs.Checks.{first_refusal, when_down, when_full}
 use Rattle.pon_state.specs.Events.{IsEvent}
 use Rattle.pon_record.specs.Format.{passing}
-use Rattle.pon_record.specs.Fields.{alloc_id, cause, class, class_code, class_meaning, descriptor, onu_id, unless_refused}
-use Rattle.pon_record.specs.Events.{event, occupancies, occupancy}
+use Rattle.pon_record.specs.Fields.{alloc_id, cause, class, descriptor, onu_id, unless_refused}
+use Rattle.pon_record.specs.Events.{event, occupancy}
 
 pub passes : {A : Type 0} (test : A → Bool) (x : A) → test x ≡ true → passing test x ≡ Some x
 passes test x e = ap (λ (b : Bool). cond b (Some x) None) e
@@ -97,8 +97,7 @@ event_fits kept s (Report f u occ) r h =
     let own = or_else_none _ (when_full kept s.taken_before) h in
     let report = or_else_none (when_down s.cause) (refuses_report s.window f u (length occ)) own.0 in
     let some : 1 ≤ length occ = some_reported s.window f u (length occ) report.1 in
-    let few : length occ ≤ 16 = r.occupancies.few in
-    (
+    let few : length occ ≤ 16 = r.occupancies.few in (
       omega (arith, r.frame_range),
       (
         onu_fits u r.onu_range,

@@ -1,9 +1,8 @@
 -- The maps that a port makes fit the format of recordings.
-use Rattle.std.proofs.Common.{◌≡◌, ℕ, zero, suc, ◌+◌, ◌*◌, ◌/◌, ◌%◌, ◌^◌, ◌<◌, ◌≤◌, Bool, true, false, cond, eqb, leb, List, [], ◌∷◌, ◌++◌, length, Option, Some, None, refl, ap, sym, ◌∙◌, subst, arith}
-use Rattle.std.specs.Prelude.{IfSome, All, map, slice_get, sum_by}
+use Rattle.std.proofs.Common.{◌≡◌, ℕ, zero, suc, ◌+◌, ◌*◌, ◌/◌, ◌%◌, ◌^◌, ◌<◌, ◌≤◌, Bool, true, false, cond, eqb, List, [], ◌∷◌, length, Option, Some, None, refl, ap, sym, ◌∙◌, subst, arith}
+use Rattle.std.specs.Prelude.{IfSome, map, slice_get, sum_by}
 use Rattle.std.specs.List.{AllByRecursion}
 use Rattle.std.proofs.lemmas.Bool.{eq-eqb, ne_eqb}
-use Rattle.std.proofs.lemmas.List.{length-map}
 use Rattle.std.proofs.lemmas.List.Elements.{recursion_from_All}
 use Rattle.std.proofs.lemmas.List.Sums.{sum_by-cons}
 use Rattle.pon_units.specs.Fraction.{Fraction}
@@ -16,20 +15,19 @@ use Rattle.pon_bwmap.specs.MapReading.{FitsStructure}
 use Rattle.pon_bwmap.specs.MapRules.{IsMap}
 use Rattle.pon_bwmap.proofs.ReadsBack.{flag_small, start_small}
 use Rattle.pon_bwmap.proofs.SeriesLaw.{map_rules}
-use Rattle.pon_burst.specs.Maps.{frame_words, grant, map_of, structure_of as structure_granting}
+use Rattle.pon_burst.specs.Maps.{grant, map_of, structure_of as structure_granting}
 use Rattle.pon_burst.proofs.MapRules.{is_map_of_rising}
 use Rattle.pon_admit.specs.declared.row.Row.{Row}
 use Rattle.pon_admit.specs.Roster.{IsAdmitted, IsInRange}
-use Rattle.pon_cert.specs.declared.cert.MapCert.{MapCert}
 use Rattle.pon_share.specs.Input.{Input}
 use Rattle.pon_share.specs.Packing.{AreOneMap}
 use Rattle.pon_share.specs.Rates.{granted, payload}
-use Rattle.pon_share.specs.Sharing.{IsCertified, surplus_rate}
+use Rattle.pon_share.specs.Sharing.{surplus_rate}
 use Rattle.pon_share.proofs.RosterMaps.{one_map}
 use Rattle.pon_state.specs.State.{State, input_of}
 use Rattle.pon_state.specs.declared.reply.MadeMap.{MadeMap}
 use Rattle.pon_port.specs.FairMaps.{IsFairMap}
-use Rattle.pon_record.specs.MadeMaps.{head, head_code, made_map, start_of, structure, structure_code, structure_meaning, structure_of}
+use Rattle.pon_record.specs.MadeMaps.{head, head_code, made_map, start_of, structure, structure_code, structure_of}
 use Rattle.pon_record.proofs.MapRules.{passes}
 use Rattle.pon_recorder.proofs.FitCerts.{class_cert_fits}
 
@@ -85,12 +83,11 @@ structure_fits a fits =
     let lt = payload_small a fits in
     let code = sealed_codeword (2 ^ 64) (structure_payload a) lt (omega (arith, lt)) in
     let word : ℕ = structure_code a in
-    let same : eqb (sealed (word / 2 ^ 13)) word ≡ true = eq-eqb (sealed (word / 2 ^ 13)) word (ap sealed code.1) in
-    (
+    let same : eqb (sealed (word / 2 ^ 13)) word ≡ true = eq-eqb (sealed (word / 2 ^ 13)) word (ap sealed code.1) in (
       code.0.below,
       ap (λ (b : Bool). cond b (Some (structure_of (word / 2 ^ 13))) None) same
-      ∙ ap (λ (p : ℕ). Some (structure_of p)) code.1
-      ∙ ap (λ (t : Structure). Some t) (structure_back a fits),
+          ∙ ap (λ (p : ℕ). Some (structure_of p)) code.1
+          ∙ ap (λ (t : Structure). Some t) (structure_back a fits),
     )
 
 -- ---- the structures of a map
@@ -144,8 +141,7 @@ made_fits s made k p next f =
     let grants : sum_by grant gs ≤ 9720 = omega (arith, one.fitting) in
     let each = rest_fits s.gap s.profile gs gs p (ids_fit t (surplus_rate t made.cert) s.roster (recursion_from_All IsInRange s.roster k.in_range)) (each_below grant gs 9720 grants) in
     let is_map : IsMap made.map = subst IsMap (sym f.map) m in
-    let fit : AllByRecursion structure.Fits made.map = subst (λ (rows : List Structure). AllByRecursion structure.Fits rows) (sym f.map) (rows_fit (map_of s.gap s.profile gs) m each) in
-    (
+    let fit : AllByRecursion structure.Fits made.map = subst (λ (rows : List Structure). AllByRecursion structure.Fits rows) (sym f.map) (rows_fit (map_of s.gap s.profile gs) m each) in (
       (
         subst (λ (n : ℕ). n < 2 ^ 64) (sym f.frame) next,
         (

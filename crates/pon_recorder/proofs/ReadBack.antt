@@ -1,5 +1,5 @@
 -- The recordings of ports are read back.
-use Rattle.std.proofs.Common.{◌≡◌, ℕ, List, [], ◌∷◌, ◌++◌, length, refl, sym, subst}
+use Rattle.std.proofs.Common.{◌≡◌, List, [], ◌∷◌, length, refl, sym, subst}
 use Rattle.std.specs.List.{AllByRecursion}
 use Rattle.pon_record.specs.declared.limits.TheConstants.{MAGIC}
 use Rattle.pon_record.specs.declared.fault.ReadFault.{ReadFault}

@@ -118,10 +118,7 @@ fn occupancy_code(occupancy: Option<BufOcc>) -> u32
 }
 
 /// The words of an occupancy, or that its report was garbled.
-pub(crate) fn put_occupancy(
-    bytes: &mut Vec<u8>,
-    value: Option<BufOcc>,
-) -> Result<(), AllocError>
+pub(crate) fn put_occupancy(bytes: &mut Vec<u8>, value: Option<BufOcc>) -> Result<(), AllocError>
     ensures { OnOk result (bytes.new.items ≡ bytes.old.items ++ occupancy.write value) }
 {
     put_u32(bytes, occupancy_code(value))

@@ -148,11 +148,20 @@ fn is_busy_while_something_is_left(rt: HostRuntime) -> Result<(), Fail> {
     let chapter = chapter_of(&rt, rt.alloc());
     let mut file = failing_in(&rt, rt.alloc(), 0);
     assert_eq!(rt; file.left(), MAGIC.as_slice());
-    assert_eq!(rt; file.append(number(&rt, 0), &chapter), Err(RecordFault::Busy));
+    assert_eq!(rt;
+        file.append(number(&rt, 0), &chapter),
+        Err(RecordFault::Busy)
+    );
     assert_eq!(rt; file.left(), MAGIC.as_slice());
     let mut file = failing_in(&rt, rt.alloc(), 2);
-    assert_eq!(rt; file.append(number(&rt, 0), &chapter), Err(RecordFault::Device));
+    assert_eq!(rt;
+        file.append(number(&rt, 0), &chapter),
+        Err(RecordFault::Device)
+    );
     assert_eq!(rt; file.left().len(), 220);
-    assert_eq!(rt; file.append(number(&rt, 0), &chapter), Err(RecordFault::Busy));
+    assert_eq!(rt;
+        file.append(number(&rt, 0), &chapter),
+        Err(RecordFault::Busy)
+    );
     Ok(())
 }

@@ -1,4 +1,4 @@
-use Rattle.std.proofs.Common.{◌≡◌, ◌++◌, ap, ◌∙◌, ℕ}
+use Rattle.std.proofs.Common.{◌++◌, ap, ◌∙◌, ℕ}
 use Rattle.std.specs.Prelude.{Option}
 use Rattle.std.specs.Int.{w8, w16, w64, to_be_bytes}
 use Rattle.pon_record.specs.Fields.{failure, gap, profile}

@@ -1,6 +1,5 @@
-use Rattle.std.proofs.Common.{◌≡◌, ◌++◌}
-use Rattle.std.specs.Int.{w8, w16, w32, w64, to_be_bytes}
-use Rattle.pon_record.specs.Fields.{alloc_id, descriptor, failure, gap, onu_id, profile}
+use Rattle.std.proofs.Common.{◌++◌}
+use Rattle.pon_record.specs.Fields.{alloc_id, descriptor, onu_id}
 use Rattle.pon_recorder.proofs.Put.{behind}
 use Rattle.pon_recorder.proofs.entries.put_admission.Goals as goal
 

@@ -1,4 +1,4 @@
-use Rattle.std.proofs.Common.{◌≡◌, ◌++◌, ap, ◌∙◌, List, ℕ}
+use Rattle.std.proofs.Common.{◌++◌, ap, ◌∙◌, List, ℕ}
 use Rattle.std.specs.Int.{w8, to_be_bytes}
 use Rattle.pon_recorder.specs.Bodies.{event_fields, event_tag}
 use Rattle.pon_recorder.proofs.Put.{behind, tagged}

@@ -1,4 +1,4 @@
-use Rattle.std.proofs.Common.{◌≡◌, ◌++◌, ap, ◌∙◌, List, ℕ}
+use Rattle.std.proofs.Common.{◌++◌, ap, ◌∙◌, List, ℕ}
 use Rattle.pon_recorder.proofs.Put.{map_written}
 use Rattle.pon_recorder.proofs.made.put_map.Goals as goal
 

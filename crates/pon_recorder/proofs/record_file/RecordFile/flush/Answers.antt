@@ -1,5 +1,5 @@
-use Rattle.std.proofs.Common.{◌≡◌, subst}
-use Rattle.pon_recorder.specs.Recorders.{Recorder, Stays}
+use Rattle.std.proofs.Common.{subst}
+use Rattle.pon_recorder.specs.Recorders.{Stays}
 use Rattle.pon_recorder.proofs.Recording.{stays}
 use Rattle.pon_recorder.proofs.record_file.RecordFile.flush.Goals as goal
 
