@@ -24,6 +24,8 @@ use Rattle.pon_share.specs.Input.{Input}
 use Rattle.pon_share.specs.Rates.{granted, guaranteed_rate}
 use Rattle.pon_share.specs.Sharing.{IsCertified, is_saturated, item_of, items, member_ids, members, rate_in, same_class, spelled_rate, surplus, surplus_rate, weight_in}
 use Rattle.pon_share.specs.Demands.{demand_of, demands_of}
+use Rattle.pon_share.specs.Problems.{AreProblems}
+use Rattle.pon_share.specs.declared.problems.Problems.{Problems}
 use Rattle.pon_share.specs.declared.demand.Demand.{Demand}
 use Rattle.pon_lists.proofs.Lists.{map-map, map_filter, sum_by-map}
 use Rattle.pon_admit.proofs.Rules.{few_allowed}
@@ -301,8 +303,5 @@ pub surplus_range : (s : Input) → surplus s ≤ 2488320
 surplus_range s = let room : capacity s.rule s.gap s.roster ≤ 9720 = omega arith in omega (arith, room)
 
 -- what shares the surplus among the members of the two classes is a certificate of the state
-pub certified_of : (s : Input) (ds es : List Demand) (na be : List Item) (n : ℕ) (cert : MapCert) → ds ≡ demands_of s → es ≡ demands_of s →
-    na ≡ map (λ d. d.item) (filter (λ d. same_class d.class NonAssured) ds) → be ≡ map (λ d. d.item) (filter (λ d. same_class d.class BestEffort) es) →
-    n ≡ surplus s → IsMapCertificate na be n cert → IsCertified s cert
-certified_of s ds es na be n cert d e a b m c =
-    rw (← items_demanded s NonAssured ds d, ← items_demanded s BestEffort es e, ← a, ← b, ← m) c
+pub certified_under : (s : Input) (p : Problems) (cert : MapCert) → AreProblems s p → IsMapCertificate p.na.items.items p.be.items.items p.surplus cert → IsCertified s cert
+certified_under s p cert h c = rw (← h.na_items, ← h.be_items, ← h.surplus) c

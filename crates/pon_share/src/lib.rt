@@ -8,10 +8,13 @@ mod demand;
 mod grants;
 mod input;
 mod packing;
+mod problems;
 mod series;
 mod shares;
 mod sharing;
 
 pub use input::ShareInput;
 pub use packing::pack_grants;
+pub use problems::{Problems, class_problems, grants_under};
 pub use shares::{Shares, share};
+pub use sharing::Members;

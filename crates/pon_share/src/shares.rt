@@ -6,12 +6,11 @@ ghost use Rattle.pon_descr.specs.declared.class.Class.TheVariants.{NonAssured, B
 ghost use Rattle.pon_share.specs.Rates.{granted};
 ghost use Rattle.pon_share.specs.Sharing.{IsCertified, member_ids, surplus_rate};
 
-use crate::demand::demands;
 use crate::grants::grants;
 use crate::input::ShareInput;
-use crate::sharing::{class_members, map_cert, surplus};
+use crate::problems::{Problems, class_problems};
+use crate::sharing::map_cert;
 use pon_cert::MapCert;
-use pon_descr::Class;
 use pon_units::{AllocId, Granted};
 use std::alloc::{AllocError, Global};
 
@@ -35,10 +34,12 @@ pub fn share(alloc: Global, input: &ShareInput) -> Result<Shares, AllocError>
     ensures na { IfOk result (λ shares. shares.na.items ≡ member_ids NonAssured input.now.roster) }
     ensures be { IfOk result (λ shares. shares.be.items ≡ member_ids BestEffort input.now.roster) }
 {
-    let demands = demands(alloc, input)?;
-    let na = class_members(alloc, demands.as_slice(), Class::NonAssured)?;
-    let be = class_members(alloc, demands.as_slice(), Class::BestEffort)?;
-    let surplus = surplus(input, demands.as_slice());
+    let Problems {
+        demands,
+        na,
+        be,
+        surplus,
+    } = class_problems(alloc, input)?;
     let cert = map_cert(alloc, na.items.as_slice(), be.items.as_slice(), surplus)?;
     let grants = grants(alloc, input, demands.as_slice(), &cert)?;
     Ok(Shares {

@@ -45,7 +45,7 @@ fn is_in_class(demand: &Demand, class: Class) -> bool
 
 /// The Alloc-IDs of a class in map order, and with what each shares the surplus of the class.
 #[derive(Drop)]
-pub(crate) struct Members {
+pub struct Members {
     pub ids: Vec<AllocId>,
     pub items: Vec<Item>,
 }

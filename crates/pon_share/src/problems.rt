@@ -1,0 +1,60 @@
+//! The class problems of a map: what a certificate of it is checked against.
+
+ghost use Rattle.std.specs.Prelude.{◌≡◌, IfOk};
+ghost use Rattle.pon_admit.specs.Roster.{IsAdmitted};
+ghost use Rattle.pon_share.specs.Problems.{AreProblems};
+ghost use Rattle.pon_share.specs.Rates.{granted};
+ghost use Rattle.pon_share.specs.Sharing.{IsCertified, surplus_rate};
+
+use crate::demand::{Demand, demands};
+use crate::grants::grants;
+use crate::input::ShareInput;
+use crate::sharing::{Members, class_members, surplus};
+use pon_cert::MapCert;
+use pon_descr::Class;
+use pon_units::Granted;
+use std::alloc::{AllocError, Global};
+
+/// The class problems of a map: the members of the non-assured and of the best-effort class with their items, and the
+/// surplus in kbit/s that the non-assured class shares first.
+#[derive(Drop)]
+pub struct Problems {
+    pub(crate) demands: Vec<Demand>,
+    pub na: Members,
+    pub be: Members,
+    pub surplus: u64,
+}
+
+/// The class problems of the next map. `Err` only if memory is refused.
+pub fn class_problems(alloc: Global, input: &ShareInput) -> Result<Problems, AllocError>
+    requires admitted { IsAdmitted input.now.rule input.now.gap input.now.roster }
+    ensures { IfOk result (λ problems. AreProblems input.now problems) }
+{
+    let demands = demands(alloc, input)?;
+    let na = class_members(alloc, demands.as_slice(), Class::NonAssured)?;
+    let be = class_members(alloc, demands.as_slice(), Class::BestEffort)?;
+    let surplus = surplus(input, demands.as_slice());
+    Ok(Problems {
+        demands,
+        na,
+        be,
+        surplus,
+    })
+}
+
+/// What a map grants to each admitted Alloc-ID under a certificate, in map order: the whole words of its guaranteed rate
+/// and of the surplus rate that the certificate spells. `Err` only if memory is refused.
+pub fn grants_under(
+    alloc: Global,
+    input: &ShareInput,
+    problems: &Problems,
+    cert: &MapCert,
+) -> Result<Vec<Granted>, AllocError>
+    requires admitted { IsAdmitted input.now.rule input.now.gap input.now.roster }
+    requires problems { AreProblems input.now problems.now }
+    requires certified { IsCertified input.now cert.now }
+    ensures { IfOk result (λ grants. grants.items
+        ≡ granted input.now (surplus_rate input.now cert.now)) }
+{
+    grants(alloc, input, problems.demands.as_slice(), cert)
+}
