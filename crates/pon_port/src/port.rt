@@ -1,18 +1,15 @@
 ghost use Rattle.std.specs.Prelude.{◌≡◌, IfOk};
 ghost use Rattle.pon_state.specs.State.{just_opened};
-ghost use Rattle.pon_state.specs.Events.{AreOccupancies, IsEvent, IsManaged};
+ghost use Rattle.pon_state.specs.Events.{IsEvent};
 ghost use Rattle.pon_state.specs.Replay.{makes_map};
 
 use crate::chapter::Chapter;
-use pon_admit::Row;
-use pon_dbru::Occupancies;
 use pon_descr::Refusal;
 use pon_event::Event;
-use pon_state::{Entry, MadeMap, PortCfg, PortState, Reply, add_map, next_map, refusal_of, step};
-use pon_units::{
-    AllocId, FrameNo, GREATEST_ALLOC_ID, GREATEST_OCCUPANCY, GREATEST_ONU_ID, LEAST_ALLOC_ID,
-    LINE_RATE,
+use pon_state::{
+    Entry, MadeMap, PortCfg, PortState, Reply, add_map, in_range, next_map, refusal_of, step,
 };
+use pon_units::{AllocId, FrameNo};
 use std::alloc::{AllocError, Global};
 use std::marker::Model;
 
@@ -47,53 +44,6 @@ impl Model for Port {
     ghost invariant = { λ p. IsPort
         (record { number = p.number; opening = p.opening; entries = p.entries.items })
         p.state p.last p.na.items p.be.items };
-}
-
-// An Alloc-ID is in range, as its type has it.
-fn is_managed(alloc_id: AllocId)
-    ensures { IsManaged alloc_id }
-{
-    prove!(alloc_id.get() >= LEAST_ALLOC_ID && alloc_id.get() <= GREATEST_ALLOC_ID);
-}
-
-// Occupancies are few and in range, as their types have it.
-fn are_occupancies(occ: &Occupancies)
-    ensures { AreOccupancies occ.now }
-{
-    for report in occ.as_slice() {
-        if let Some(words) = report {
-            prove!(words.get() <= GREATEST_OCCUPANCY);
-        }
-    }
-}
-
-// The numbers of an event are in range, as their types have it.
-fn in_range(event: &Event)
-    ensures { IsEvent event.now }
-{
-    match event {
-        Event::Admit {
-            onu,
-            alloc_id,
-            descriptor,
-        } => {
-            let _row = Row::new(*onu, *alloc_id, *descriptor);
-        }
-        Event::Change {
-            alloc_id,
-            descriptor,
-        } => {
-            is_managed(*alloc_id);
-            prove!(u64::from(descriptor.promised().get()) <= LINE_RATE);
-        }
-        Event::Remove { alloc_id } => is_managed(*alloc_id),
-        Event::Report { frame, onu, occ } => {
-            prove!(frame.get() <= u64::MAX && onu.get() <= GREATEST_ONU_ID);
-            are_occupancies(occ);
-        }
-        Event::Fail { cause } => prove!(cause.get() >= 1 && cause.get() <= 9),
-        Event::MakeMap | Event::Restore => {}
-    }
 }
 
 impl Port {

@@ -7,11 +7,13 @@
 mod advance;
 mod checks;
 mod making;
+mod ranges;
 mod reply;
 mod state;
 
 pub use advance::{add_map, step};
 pub use checks::{MOST_ENTRIES, refusal_of};
-pub use making::{ReadyMap, next_map};
+pub use making::{MapUnder, ReadyMap, map_under, next_map, next_problems};
+pub use ranges::in_range;
 pub use reply::{Entry, MadeMap, Reply};
 pub use state::{PortCfg, PortState};

@@ -4,13 +4,18 @@ ghost use Rattle.std.specs.Prelude.{◌≡◌, IfOk};
 ghost use Rattle.pon_admit.specs.Roster.{IsAdmitted};
 ghost use Rattle.pon_units.specs.Granted.{AreInMapOrder};
 ghost use Rattle.pon_descr.specs.declared.class.Class.TheVariants.{NonAssured, BestEffort};
-ghost use Rattle.pon_share.specs.Sharing.{member_ids};
+ghost use Rattle.pon_share.specs.Maps.{map_of};
+ghost use Rattle.pon_share.specs.Problems.{AreProblems};
+ghost use Rattle.pon_share.specs.Sharing.{IsCertified, member_ids, surplus_rate};
+ghost use Rattle.pon_state.specs.State.{input_of};
 ghost use Rattle.pon_state.specs.Replay.{grants_of};
 ghost use Rattle.pon_state.specs.Legal.{IsMade};
 
 use crate::reply::MadeMap;
 use crate::state::PortState;
-use pon_share::{ShareInput, pack_grants, share};
+use pon_bwmap::Map;
+use pon_cert::MapCert;
+use pon_share::{Problems, ShareInput, class_problems, grants_under, pack_grants, share};
 use pon_units::{AllocId, Granted};
 use std::alloc::{AllocError, Global};
 
@@ -43,4 +48,42 @@ pub fn next_map(alloc: Global, state: &PortState) -> Result<ReadyMap, AllocError
         na: shares.na,
         be: shares.be,
     })
+}
+
+/// The class problems of the next map, which its certificate is checked against. `Err` only if memory is refused.
+pub fn next_problems(alloc: Global, state: &PortState) -> Result<Problems, AllocError>
+    requires admitted { IsAdmitted state.now.rule state.now.gap state.now.roster }
+    ensures { IfOk result (λ problems. AreProblems (input_of state.now) problems) }
+{
+    class_problems(alloc, &ShareInput::new(&state.roster, &state.loads))
+}
+
+/// A map under a certificate: its structures, and what they grant in map order.
+#[derive(Drop)]
+pub struct MapUnder {
+    pub map: Map,
+    pub grants: Vec<Granted>,
+}
+
+/// The map that the state makes if this is its certificate, whose class problems are given. `Err` only if memory is
+/// refused.
+pub fn map_under(
+    alloc: Global,
+    state: &PortState,
+    problems: &Problems,
+    cert: &MapCert,
+) -> Result<MapUnder, AllocError>
+    requires admitted { IsAdmitted state.now.rule state.now.gap state.now.roster }
+    requires problems { AreProblems (input_of state.now) problems.now }
+    requires certified { IsCertified (input_of state.now) cert.now }
+    ensures map { IfOk result (λ under. under.map ≡ map_of state.now.profile (input_of state.now)
+        (surplus_rate (input_of state.now) cert.now)) }
+    ensures map_order { IfOk result (λ under. AreInMapOrder under.grants.items) }
+    ensures grants { IfOk result (λ under. under.grants.items
+        ≡ grants_of state.now.roster under.map) }
+{
+    let input = ShareInput::new(&state.roster, &state.loads);
+    let grants = grants_under(alloc, &input, problems, cert)?;
+    let map = pack_grants(alloc, state.roster.gap(), state.profile, &grants)?;
+    Ok(MapUnder { map, grants })
 }

@@ -1,6 +1,6 @@
 use Rattle.std.proofs.Common.{◌<◌, ◌^◌, take}
 use Rattle.std.specs.Prelude.{All, IfSome}
-use Rattle.pon_port.proofs.port.are_occupancies.Given as goal
+use Rattle.pon_state.proofs.ranges.are_occupancies.Given as goal
 
 -- the occupancies so far are in range
 abbrev pub invariant-loop-report : goal.invariant-loop-report

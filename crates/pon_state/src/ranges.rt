@@ -1,0 +1,57 @@
+//! The ranges of an event's numbers.
+
+ghost use Rattle.pon_state.specs.Events.{AreOccupancies, IsEvent, IsManaged};
+
+use pon_admit::Row;
+use pon_dbru::Occupancies;
+use pon_event::Event;
+use pon_units::{
+    AllocId, GREATEST_ALLOC_ID, GREATEST_OCCUPANCY, GREATEST_ONU_ID, LEAST_ALLOC_ID, LINE_RATE,
+};
+
+// An Alloc-ID is in range, as its type has it.
+fn is_managed(alloc_id: AllocId)
+    ensures { IsManaged alloc_id }
+{
+    prove!(alloc_id.get() >= LEAST_ALLOC_ID && alloc_id.get() <= GREATEST_ALLOC_ID);
+}
+
+// Occupancies are few and in range, as their types have it.
+fn are_occupancies(occ: &Occupancies)
+    ensures { AreOccupancies occ.now }
+{
+    for report in occ.as_slice() {
+        if let Some(words) = report {
+            prove!(words.get() <= GREATEST_OCCUPANCY);
+        }
+    }
+}
+
+/// The numbers of an event are in range, as their types have it.
+pub fn in_range(event: &Event)
+    ensures { IsEvent event.now }
+{
+    match event {
+        Event::Admit {
+            onu,
+            alloc_id,
+            descriptor,
+        } => {
+            let _row = Row::new(*onu, *alloc_id, *descriptor);
+        }
+        Event::Change {
+            alloc_id,
+            descriptor,
+        } => {
+            is_managed(*alloc_id);
+            prove!(u64::from(descriptor.promised().get()) <= LINE_RATE);
+        }
+        Event::Remove { alloc_id } => is_managed(*alloc_id),
+        Event::Report { frame, onu, occ } => {
+            prove!(frame.get() <= u64::MAX && onu.get() <= GREATEST_ONU_ID);
+            are_occupancies(occ);
+        }
+        Event::Fail { cause } => prove!(cause.get() >= 1 && cause.get() <= 9),
+        Event::MakeMap | Event::Restore => {}
+    }
+}
