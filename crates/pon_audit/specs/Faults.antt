@@ -1,0 +1,54 @@
+-- What is wrong with an entry in the state before it. Of several faults the first counts: the event, the certificate, the words,
+-- the bursts.
+use Rattle.std.specs.Prelude.{ℕ, ◌≡◌, ◌≢◌, ◌+◌, List, map, take, slice_get, Some, None}
+use Rattle.pon_share.specs.Rates.{granted}
+use Rattle.pon_share.specs.Sharing.{IsCertified, surplus_rate}
+use Rattle.pon_state.specs.State.{State, input_of}
+use Rattle.pon_state.specs.Checks.{first_refusal}
+use Rattle.pon_state.specs.Legal.{IsMade}
+use Rattle.pon_state.specs.declared.reply.MadeMap.{MadeMap}
+use Rattle.pon_state.specs.declared.reply.Reply.{Reply}
+use Rattle.pon_state.specs.declared.reply.Reply.TheVariants.{Taken, Map}
+use Rattle.pon_state.specs.declared.reply.Entry.{Entry}
+use Rattle.pon_port.specs.Chapters.{Chapter, IsLawfulChapter, state_before}
+use Rattle.pon_audit.specs.declared.verdict.Why.{Why}
+use Rattle.pon_audit.specs.declared.verdict.Why.TheVariants.{Opening, Number, Event, Certificate, Words, Bursts}
+
+-- the Alloc-IDs of its structures are those of the admitted rows in map order
+abbrev pub ListsAllocs : State → MadeMap → Type 0
+ListsAllocs s m = map (λ a. a.id) m.map ≡ map (λ r. r.alloc_id) s.roster
+
+-- each grant is one more than the payload words that the certificate spells
+abbrev pub GrantsWords : State → MadeMap → Type 0
+GrantsWords s m = map (λ a. a.grant) m.map ≡ map (λ g. 1 + g.words) (granted (input_of s) (surplus_rate (input_of s) m.cert))
+
+-- they are the right Alloc-IDs, and some grant is another
+abbrev pub HasWrongWords : State → MadeMap → Type 0
+HasWrongWords s m = ListsAllocs s m × (GrantsWords s m → ⊥)
+
+-- the map is not the one that the state makes
+abbrev pub MapFails : State → MadeMap → Why → Type 0
+MapFails s m Certificate = IsCertified (input_of s) m.cert → ⊥
+MapFails s m Words = IsCertified (input_of s) m.cert × HasWrongWords s m
+MapFails s m Bursts = IsCertified (input_of s) m.cert × (HasWrongWords s m → ⊥) × (IsMade s m → ⊥)
+MapFails s m why = ⊥
+
+abbrev pub ReplyFails : State → Reply → Why → Type 0
+ReplyFails s (Map m) why = MapFails s m why
+ReplyFails s Taken why = ⊥
+
+-- an entry fails after `kept` entries of its chapter: a check refuses the event, or the map is not the state's
+abbrev pub EntryFails : ℕ → State → Entry → Why → Type 0
+EntryFails kept s e Event = first_refusal kept s e.event ≢ None
+EntryFails kept s e why = (first_refusal kept s e.event ≡ None) × ReplyFails s e.reply why
+
+-- the chapter, of its entries only those before an index
+abbrev pub cut_at : Chapter → ℕ → Chapter
+cut_at c index = record { number = c.number; opening = c.opening; entries = take index c.entries }
+
+-- the entry at an index is the first that fails
+pub record FailsAt (c : Chapter) (index : ℕ) (why : Why) : Type 0 where
+  pub entry : Entry
+  pub here : slice_get c.entries index ≡ Some entry
+  pub lawful : IsLawfulChapter (cut_at c index)
+  pub fails : EntryFails index (state_before c index) entry why

@@ -1,0 +1,4 @@
+pub mod Openings
+pub mod Faults
+pub mod Verdicts
+pub mod Texts

@@ -1,0 +1,74 @@
+-- Which verdict a recording has.
+use Rattle.std.specs.Prelude.{ℕ, ◌≡◌, ◌<◌, ◌⊎◌, All, List, take, slice_get, Some, count_by, sum_by}
+use Rattle.std.specs.List.{AllPairs}
+use Rattle.pon_state.specs.Replay.{makes_map}
+use Rattle.pon_state.specs.declared.reply.Entry.{Entry}
+use Rattle.pon_port.specs.Chapters.{Chapter, IsLawfulChapter, state_before}
+use Rattle.pon_port.specs.FairMaps.{TellsFairMap}
+use Rattle.pon_record.specs.Chapters.{Body, PlacedChapter}
+use Rattle.pon_record.specs.Recordings.{IsBadFormat, IsRecording, IsTruncated}
+use Rattle.pon_audit.specs.Openings.{OpensPort, chapter_of}
+use Rattle.pon_audit.specs.Faults.{FailsAt}
+use Rattle.pon_audit.specs.declared.verdict.Why.{Why}
+use Rattle.pon_audit.specs.declared.verdict.Why.TheVariants as why
+use Rattle.pon_audit.specs.declared.verdict.Verdict.{Verdict}
+use Rattle.pon_audit.specs.declared.verdict.Verdict.TheVariants.{Good, Bad, BadFormat, Truncated}
+
+-- Good chapters.
+
+-- each map is certified, the fairest, in whole words and without overlap, for the state before it
+abbrev pub MapsAreFair : Chapter → Type 0
+MapsAreFair c = (k : ℕ) (e : Entry) → slice_get c.entries k ≡ Some e → TellsFairMap (state_before c k) e.reply
+
+-- the chapter opens its port, and each entry may follow those before it
+pub record IsGoodChapter (c : PlacedChapter) : Type 0 where
+  pub opens : OpensPort c.body
+  pub lawful : IsLawfulChapter (chapter_of c.body)
+  pub fair : MapsAreFair (chapter_of c.body)
+
+-- a chapter before another in the recording: of one port, it has the lesser number
+abbrev pub Rises : PlacedChapter → PlacedChapter → Type 0
+Rises earlier later = earlier.body.port ≡ later.body.port → earlier.body.number < later.body.number
+
+pub record AreGood (chapters : List PlacedChapter) : Type 0 where
+  pub each : All IsGoodChapter chapters
+  pub rising : AllPairs Rises chapters
+
+-- the maps of a chapter
+abbrev pub maps_in : PlacedChapter → ℕ
+maps_in c = count_by (λ e. makes_map e.event) c.body.entries
+
+-- the chapters are good, and have this number of maps in all
+pub record IsGood (chapters : List PlacedChapter) (maps : ℕ) : Type 0 where
+  pub good : AreGood chapters
+  pub count : maps ≡ sum_by maps_in chapters
+
+-- The first chapter that fails.
+
+-- a chapter fails behind earlier ones: its opening, its number, or the entry at an index; the first of these counts
+abbrev pub ChapterFails : List PlacedChapter → PlacedChapter → ℕ → Why → Type 0
+ChapterFails earlier c index why.Opening = (OpensPort c.body → ⊥) × (index ≡ 0)
+ChapterFails earlier c index why.Number = OpensPort c.body × (All (λ d. Rises d c) earlier → ⊥) × (index ≡ 0)
+ChapterFails earlier c index w = OpensPort c.body × All (λ d. Rises d c) earlier × FailsAt (chapter_of c.body) index w
+
+-- the first chapter that fails: its port and number, the index of the entry, and how
+pub record IsFirstFault (chapters : List PlacedChapter) (port number index : ℕ) (w : Why) : Type 0 where
+  pub place : ℕ
+  pub chapter : PlacedChapter
+  pub here : slice_get chapters place ≡ Some chapter
+  pub good : AreGood (take place chapters)
+  pub fails : ChapterFails (take place chapters) chapter index w
+  pub of_port : port ≡ chapter.body.port
+  pub of_number : number ≡ chapter.body.number
+
+-- Verdicts.
+
+-- the whole chapters of a recording, also of one that is cut
+abbrev pub HasChapters : List ℕ → List PlacedChapter → Type 0
+HasChapters bytes chapters = IsRecording bytes chapters ⊎ ((at : ℕ) × IsTruncated bytes at chapters)
+
+abbrev pub IsVerdict : List ℕ → Verdict → Type 0
+IsVerdict bytes (Good maps) = (chapters : List PlacedChapter) × IsRecording bytes chapters × IsGood chapters maps
+IsVerdict bytes (Bad port number index w) = (chapters : List PlacedChapter) × HasChapters bytes chapters × IsFirstFault chapters port number index w
+IsVerdict bytes (BadFormat at) = IsBadFormat bytes at
+IsVerdict bytes (Truncated at) = (whole : List PlacedChapter) × IsTruncated bytes at whole × AreGood whole

@@ -1,0 +1,83 @@
+use pon_units::PortNo;
+use std::fmt;
+
+/// Why a chapter of a recording is bad. Of several faults it is the first: opening, number, entries in order; of one entry
+/// the event, the certificate, the words, the bursts.
+#[derive(Clone, Copy, Debug, PartialEq, Eq)]
+pub enum Why {
+    /// The chapter does not open its port: its number is above 0, or its opening is not that of a port just opened.
+    Opening,
+    /// An earlier chapter of the port has the same number or a greater one.
+    Number,
+    /// A check refuses the event.
+    Event,
+    /// The certificate of a map is not the one of the class problems of the state before it.
+    Certificate,
+    /// A map has the admitted Alloc-IDs in map order, but a grant is not one more than the payload words that its
+    /// certificate spells.
+    Words,
+    /// A map differs otherwise from the one that the state makes under its certificate, or is of another frame.
+    Bursts,
+}
+
+impl fmt::Display for Why {
+    ghost use Rattle.std.specs.Prelude.{Some};
+    ghost use Rattle.pon_audit.specs.Texts.{why_text};
+
+    ghost output = { λ why. Some (why_text why) };
+
+    fn fmt<W: fmt::Write>(&self, f: &mut fmt::Formatter<W>) -> fmt::Result {
+        match *self {
+            Why::Opening => write!(f, "Opening"),
+            Why::Number => write!(f, "Number"),
+            Why::Event => write!(f, "Event"),
+            Why::Certificate => write!(f, "Certificate"),
+            Why::Words => write!(f, "Words"),
+            Why::Bursts => write!(f, "Bursts"),
+        }
+    }
+}
+
+/// What an audit says of a recording.
+#[derive(Clone, Copy, Debug, PartialEq, Eq)]
+pub enum Verdict {
+    /// Each chapter is good; they have this number of maps.
+    Good { maps: u64 },
+    /// The first chapter that fails, in the order of the recording: its port and number, the index of the entry from 0,
+    /// and why. The index is 0 for `Opening` and `Number`.
+    Bad {
+        port: PortNo,
+        chapter: u64,
+        index: usize,
+        why: Why,
+    },
+    /// No recording: the fault is in the magic bytes, at 0, or in the chapter whose first byte is at `at`.
+    BadFormat { at: usize },
+    /// The bytes end inside the magic bytes, at 0, or inside the chapter whose first byte is at `at`; the whole chapters
+    /// before it are good.
+    Truncated { at: usize },
+}
+
+impl fmt::Display for Verdict {
+    ghost use Rattle.std.specs.Prelude.{Some};
+    ghost use Rattle.pon_audit.specs.Texts.{verdict_text};
+
+    ghost output = { λ verdict. Some (verdict_text verdict) };
+
+    fn fmt<W: fmt::Write>(&self, f: &mut fmt::Formatter<W>) -> fmt::Result {
+        match *self {
+            Verdict::Good { maps } => write!(f, "good maps {maps}"),
+            Verdict::Bad {
+                port,
+                chapter,
+                index,
+                why,
+            } => {
+                let port = port.get();
+                write!(f, "bad port {port} chapter {chapter} entry {index} {why}")
+            }
+            Verdict::BadFormat { at } => write!(f, "badformat {at}"),
+            Verdict::Truncated { at } => write!(f, "truncated {at}"),
+        }
+    }
+}
