@@ -1,4 +1,5 @@
 pub mod Openings
 pub mod Faults
+pub mod Judging
 pub mod Verdicts
 pub mod Texts

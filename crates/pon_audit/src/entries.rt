@@ -1,19 +1,17 @@
 //! The entries of a chapter, judged one after another.
 
-ghost use Rattle.std.specs.Prelude.{◌≡◌, ◌↔◌, IfOk, IsTrue, MatchOption, None, map};
+ghost use Rattle.std.specs.Prelude.{◌≡◌, ◌↔◌, ◌+◌, ◌<◌, ◌^◌, IfOk, IsTrue, MatchOption, map};
 ghost use Rattle.pon_admit.specs.Roster.{IsAdmitted};
 ghost use Rattle.pon_window.specs.Window.{LeadsTo};
 ghost use Rattle.pon_share.specs.Maps.{map_of};
 ghost use Rattle.pon_share.specs.Sharing.{IsCertified, surplus_rate};
 ghost use Rattle.pon_state.specs.Accounts.{AccountsFor};
 ghost use Rattle.pon_state.specs.After.{after_entry, after_map};
-ghost use Rattle.pon_state.specs.Checks.{first_refusal};
 ghost use Rattle.pon_state.specs.Legal.{IsMade, MayFollow};
 ghost use Rattle.pon_state.specs.Replay.{grants_of};
 ghost use Rattle.pon_state.specs.State.{input_of};
-ghost use Rattle.pon_event.specs.declared.event.Event.TheVariants.{MakeMap};
 ghost use Rattle.pon_record.specs.Chapters.{reply_to};
-ghost use Rattle.pon_audit.specs.Faults.{EntryFails, MapFails};
+ghost use Rattle.pon_audit.specs.Faults.{EntryFails, HasWrongWords, MapFails};
 
 use crate::verdict::Why;
 use pon_bwmap::{Alloc, Map};
@@ -21,19 +19,128 @@ use pon_check::check_map;
 use pon_state::{
     Entry, MadeMap, PortState, Reply, add_map, in_range, map_under, next_problems, refusal_of, step,
 };
-use pon_units::FrameNo;
 use std::alloc::{AllocError, Global};
 
 // Returns whether both have the same Alloc-IDs in the same order.
 fn same_ids(rows: &[Alloc], others: &[Alloc]) -> bool
     ensures { IsTrue result ↔ (map (λ a. a.id) rows.now ≡ map (λ a. a.id) others.now) }
 {
-    rows.iter().map(|a| a.id()).eq(others.iter().map(|a| a.id()))
+    if rows.len() != others.len() {
+        return false;
+    }
+    for i in 0..rows.len() {
+        if rows[i].id() != others[i].id() {
+            return false;
+        }
+    }
+    true
 }
 
 // Returns whether both have the same grants in the same order.
 fn same_grants(rows: &[Alloc], others: &[Alloc]) -> bool
     ensures { IsTrue result ↔ (map (λ a. a.grant) rows.now ≡ map (λ a. a.grant) others.now) }
 {
-    rows.iter().map(|a| a.grant()).eq(others.iter().map(|a| a.grant()))
+    if rows.len() != others.len() {
+        return false;
+    }
+    for i in 0..rows.len() {
+        if rows[i].grant() != others[i].grant() {
+            return false;
+        }
+    }
+    true
+}
+
+// Returns whether a map with an accepted certificate is the one that the state makes, which has the structures `wanted`.
+fn is_made(state: &PortState, wanted: &Map, made: &MadeMap) -> bool
+    requires certified { IsCertified (input_of state.now) made.now.cert }
+    requires wanted { wanted.now ≡ map_of state.now.profile (input_of state.now)
+        (surplus_rate (input_of state.now) made.now.cert) }
+    ensures { IsTrue result ↔ IsMade state.now made.now }
+{
+    made.map == *wanted && made.frame == state.next_frame()
+}
+
+// Returns whether a map lists the Alloc-IDs of `wanted`, the structures that the state makes, with another grant.
+fn has_wrong_words(state: &PortState, wanted: &Map, made: &MadeMap) -> bool
+    requires wanted { wanted.now ≡ map_of state.now.profile (input_of state.now)
+        (surplus_rate (input_of state.now) made.now.cert) }
+    ensures { IsTrue result ↔ HasWrongWords state.now made.now }
+{
+    let _state = state;
+    let (rows, others) = (made.map.rows(), wanted.rows());
+    same_ids(rows, others) && !same_grants(rows, others)
+}
+
+// Why a map with an accepted certificate is not the one that the state makes, which has the structures `wanted`.
+fn map_fault(state: &PortState, wanted: &Map, made: &MadeMap) -> Option<Why>
+    requires certified { IsCertified (input_of state.now) made.now.cert }
+    requires wanted { wanted.now ≡ map_of state.now.profile (input_of state.now)
+        (surplus_rate (input_of state.now) made.now.cert) }
+    ensures { MatchOption result (IsMade state.now made.now) (MapFails state.now made.now) }
+{
+    if is_made(state, wanted, made) {
+        None
+    } else if has_wrong_words(state, wanted, made) {
+        Some(Why::Words)
+    } else {
+        Some(Why::Bursts)
+    }
+}
+
+// Judges a map, and takes it into the state if it is the one that the state makes. `Err` only if memory is refused.
+fn take_map(
+    alloc: Global,
+    state: &mut PortState,
+    made: &MadeMap,
+) -> Result<Option<Why>, AllocError>
+    requires admitted { IsAdmitted state.old.rule state.old.gap state.old.roster }
+    requires frames { LeadsTo state.old.next state.old.window }
+    requires next { state.old.next + 1 < 2 ^ 64 }
+    requires count { state.old.taken_before + 1 < 2 ^ 64 }
+    ensures { IfOk result (λ found. MatchOption found
+        (IsMade state.old made.now
+            × (state.new ≡ after_map state.old (grants_of state.old.roster made.now.map)))
+        (MapFails state.old made.now)) }
+{
+    let problems = next_problems(alloc, state)?;
+    let (na, be) = (problems.na.items.as_slice(), problems.be.items.as_slice());
+    if check_map(na, be, problems.surplus, &made.cert).is_err() {
+        return Ok(Some(Why::Certificate));
+    }
+    let under = map_under(alloc, state, &problems, &made.cert)?;
+    let fault = map_fault(state, &under.map, made);
+    if fault.is_none() {
+        add_map(state, &under.grants)?;
+    }
+    Ok(fault)
+}
+
+/// Judges an entry after `kept` entries of its chapter, and takes it into the state if it may follow. `Err` only if memory
+/// is refused.
+pub(crate) fn take_entry(
+    alloc: Global,
+    state: &mut PortState,
+    kept: usize,
+    entry: &Entry,
+) -> Result<Option<Why>, AllocError>
+    requires reply { (reply_to entry.now.event).Fits entry.now.reply }
+    requires admitted { IsAdmitted state.old.rule state.old.gap state.old.roster }
+    requires book { AccountsFor state.old.roster state.old.book }
+    requires frames { LeadsTo state.old.next state.old.window }
+    ensures { IfOk result (λ found. MatchOption found
+        (MayFollow kept state.old entry.now × (state.new ≡ after_entry state.old entry.now))
+        (EntryFails kept state.old entry.now)) }
+{
+    if refusal_of(state, kept, &entry.event).is_some() {
+        return Ok(Some(Why::Event));
+    }
+    in_range(&entry.event);
+    match &entry.reply {
+        Reply::Map(made) => take_map(alloc, state, made),
+        Reply::Taken => {
+            step(state, &entry.event)?;
+            Ok(None)
+        }
+    }
 }

@@ -4,7 +4,9 @@
 //! those before it and each map is fair, or the first fault is told. The crate makes no certificate and takes no event.
 #![tactic(auto)]
 
+mod chapters;
 mod entries;
+mod faults;
 mod verdict;
 
 pub use verdict::{Verdict, Why};

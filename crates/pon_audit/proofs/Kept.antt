@@ -1,0 +1,62 @@
+-- A chapter that is judged entry by entry.
+use Rattle.std.proofs.Common.{◌≡◌, ℕ, ◌+◌, ◌<◌, ◌≤◌, List, [], ◌∷◌, ◌++◌, length, take, get_or, Option, Some, None, Result, Ok, Err, refl, ap, sym, ◌∙◌, subst, arith, inl, inr}
+use Rattle.std.specs.Prelude.{slice_get, IfOk, MatchOption}
+use Rattle.std.proofs.lemmas.List.{length-take-le, take_more}
+use Rattle.std.proofs.lemmas.Option.{slice_get-get_or}
+use Rattle.pon_event.specs.declared.event.Event.{Event}
+use Rattle.pon_event.specs.declared.event.Event.TheVariants.{Admit, Change, Remove, Report, MakeMap, Fail, Restore}
+use Rattle.pon_state.specs.State.{State}
+use Rattle.pon_state.specs.After.{after_entry, after_reply}
+use Rattle.pon_state.specs.Legal.{MayFollow}
+use Rattle.pon_state.specs.declared.reply.Reply.{Reply}
+use Rattle.pon_state.specs.declared.reply.Reply.TheVariants.{Taken, Map}
+use Rattle.pon_state.specs.declared.reply.Entry.{Entry}
+use Rattle.pon_port.specs.Chapters.{Chapter, IsLawfulChapter}
+use Rattle.pon_port.specs.Taking.{IsKept, with_entry}
+use Rattle.pon_port.proofs.Kept.{mapped, taken}
+use Rattle.pon_port.proofs.FairMaps.{maps_are_fair}
+use Rattle.pon_record.specs.Chapters.{PlacedChapter}
+use Rattle.pon_audit.specs.Openings.{OpensPort, chapter_of}
+use Rattle.pon_audit.specs.Faults.{EntryFails, FailsAt, cut_at}
+use Rattle.pon_audit.specs.Judging.{IsAnswer}
+use Rattle.pon_audit.specs.declared.chapters.Fault.{Fault}
+use Rattle.pon_audit.specs.declared.verdict.Why.{Why}
+
+-- an entry that may follow is kept
+module _ (c d : Chapter) (s t : State) (k : IsKept c s) where
+  plain : (v : Event) (r : Reply) → d ≡ with_entry c v r → r ≡ Taken → d ≡ with_entry c v Taken
+  plain v r more told = more ∙ ap (with_entry c v) told
+
+  next : (v : Event) (r : Reply) → MayFollow (length c.entries) s (record { event = v; reply = r }) → d ≡ with_entry c v r → t ≡ after_reply s v r → IsKept d t
+  next MakeMap Taken m more after = absurd m.reply
+  next MakeMap (Map made) m more after = mapped c d s t made k m.accepted m.reply more after
+  next (Admit u i ds) r m more after = taken c d s t (Admit u i ds) k m.event refl m.accepted (plain (Admit u i ds) r more m.reply) after
+  next (Change i ds) r m more after = taken c d s t (Change i ds) k m.event refl m.accepted (plain (Change i ds) r more m.reply) after
+  next (Remove i) r m more after = taken c d s t (Remove i) k m.event refl m.accepted (plain (Remove i) r more m.reply) after
+  next (Report f u occ) r m more after = taken c d s t (Report f u occ) k m.event refl m.accepted (plain (Report f u occ) r more m.reply) after
+  next (Fail cause) r m more after = taken c d s t (Fail cause) k m.event refl m.accepted (plain (Fail cause) r more m.reply) after
+  next Restore r m more after = taken c d s t Restore k m.event refl m.accepted (plain Restore r more m.reply) after
+
+-- one entry further
+pub one_further : (c : Chapter) (i : ℕ) (s t : State) (e : Entry) → i < length c.entries → e ≡ get_or c.entries i e → IsKept (cut_at c i) s → MayFollow i s e → t ≡ after_entry s e → IsKept (cut_at c (i + 1)) t
+one_further c i s t e lt here k follows after =
+    let count : i ≡ length (take i c.entries) = sym (length-take-le i c.entries (omega (arith, lt))) in
+    let entries : take (i + 1) c.entries ≡ take i c.entries ++ e ∷ [] = take_more c.entries i e lt ∙ ap (λ x. take i c.entries ++ x ∷ []) (sym here) in
+    let more : cut_at c (i + 1) ≡ with_entry (cut_at c i) e.event e.reply = (λ j. record { number = c.number; opening = c.opening; entries = entries j }) in
+    next (cut_at c i) (cut_at c (i + 1)) s t k e.event e.reply (subst (λ n. MayFollow n s e) count follows) more after
+
+-- the first entry that fails
+pub fails_here : (c : Chapter) (i : ℕ) (s : State) (e : Entry) (w : Why) → i < length c.entries → e ≡ get_or c.entries i e → IsKept (cut_at c i) s → EntryFails i s e w → FailsAt c i w
+fails_here c i s e w lt here k fails = record {
+  entry = e;
+  here = slice_get-get_or c.entries i e lt ∙ ap Option.Some (sym here);
+  lawful = k.lawful;
+  fails = subst (λ s. EntryFails i s e w) k.replayed fails;
+}
+
+-- what is wrong with a chapter that opens its port
+pub answered : {E : Type 0} (c : PlacedChapter) (r : Result (Option Fault) E) → OpensPort c.body →
+    IfOk r (λ found. MatchOption found (IsLawfulChapter (chapter_of c.body)) (λ f. FailsAt (chapter_of c.body) f.index f.why)) → IfOk r (λ answer. IsAnswer c answer)
+answered c (Ok None) opens lawful = record { opens = opens; lawful = lawful; fair = maps_are_fair (chapter_of c.body) lawful }
+answered c (Ok (Some f)) opens fails = inr (record { opens = opens; entry = fails })
+answered c (Err e) opens h = h

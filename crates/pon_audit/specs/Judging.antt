@@ -1,0 +1,31 @@
+-- What is known of a chapter whatever stands before it.
+use Rattle.std.specs.Prelude.{◌≡◌, ◌⊎◌, List, Option, Some, None}
+use Rattle.pon_record.specs.Chapters.{PlacedChapter}
+use Rattle.pon_audit.specs.Openings.{OpensPort, chapter_of}
+use Rattle.pon_audit.specs.Faults.{FailsAt}
+use Rattle.pon_audit.specs.Verdicts.{IsFirstFault, IsGoodChapter}
+use Rattle.pon_audit.specs.declared.chapters.Fault.{Fault}
+use Rattle.pon_audit.specs.declared.verdict.Why.TheVariants.{Opening}
+use Rattle.pon_audit.specs.declared.verdict.Verdict.{Verdict}
+use Rattle.pon_audit.specs.declared.verdict.Verdict.TheVariants.{Bad}
+
+-- it does not open its port
+pub record FailsToOpen (c : PlacedChapter) (f : Fault) : Type 0 where
+  pub other : OpensPort c.body → ⊥
+  pub why : f.why ≡ Opening
+  pub index : f.index ≡ 0
+
+-- it does, and an entry fails
+pub record FailsLater (c : PlacedChapter) (f : Fault) : Type 0 where
+  pub opens : OpensPort c.body
+  pub entry : FailsAt (chapter_of c.body) f.index f.why
+
+-- what is wrong with it, but for its number
+abbrev pub IsAnswer : PlacedChapter → Option Fault → Type 0
+IsAnswer c None = IsGoodChapter c
+IsAnswer c (Some f) = FailsToOpen c f ⊎ FailsLater c f
+
+-- the verdict names the first chapter that fails
+abbrev pub TellsBad : List PlacedChapter → Verdict → Type 0
+TellsBad chapters (Bad port number index w) = IsFirstFault chapters port number index w
+TellsBad chapters _ = ⊥
