@@ -1,2 +1,4 @@
+pub mod FirstFaults
 pub mod Kept
 pub mod Maps
+pub mod Sizes

@@ -7,6 +7,8 @@
 mod chapters;
 mod entries;
 mod faults;
+mod recordings;
 mod verdict;
 
+pub use recordings::audit;
 pub use verdict::{Verdict, Why};

@@ -1,0 +1,111 @@
+ghost use Rattle.std.specs.Prelude.{◌≡◌, ◌<◌, ◌^◌, All, IfOk, MatchOption, sum_by};
+ghost use Rattle.std.specs.List.{AllZip};
+ghost use Rattle.pon_record.specs.Chapters.{FitsChapter};
+ghost use Rattle.pon_record.specs.Recordings.{IsRecording, IsTruncated};
+ghost use Rattle.pon_audit.specs.Judging.{IsAnswer, TellsBad};
+ghost use Rattle.pon_audit.specs.Verdicts.{AreGood, IsVerdict, maps_in};
+
+use crate::chapters::{Fault, judge};
+use crate::faults::first_fault;
+use crate::verdict::Verdict;
+use pon_event::Event;
+use pon_record::{RawChapter, ReadFault, Recording, read_recording};
+use std::alloc::{AllocError, Global};
+
+// The maps of a chapter.
+fn chapter_maps(chapter: &RawChapter) -> u64
+    ensures { result ≡ maps_in chapter.now }
+{
+    let maps = chapter.entries.iter().filter(|e| matches!(e.event, Event::MakeMap));
+    maps.count() as u64
+}
+
+// The maps of all chapters.
+fn map_count(chapters: &[RawChapter]) -> u64
+    requires { sum_by maps_in chapters.now < 2 ^ 64 }
+    ensures { result ≡ sum_by maps_in chapters.now }
+{
+    let mut maps = 0;
+    for chapter in chapters {
+        maps += chapter_maps(chapter);
+    }
+    maps
+}
+
+// What is wrong with each chapter whatever stands before it. `Err` only if memory is refused.
+fn judge_each(
+    alloc: Global,
+    chapters: &[RawChapter],
+) -> Result<Vec<Option<Fault>>, AllocError>
+    requires { All (λ c. FitsChapter c.body) chapters.now }
+    ensures { IfOk result (λ answers. AllZip IsAnswer chapters.now answers.items) }
+{
+    let mut answers = Vec::new(alloc);
+    for chapter in chapters {
+        answers.push(judge(alloc, chapter)?)?;
+    }
+    Ok(answers)
+}
+
+// The first chapter that fails, if one does. `Err` only if memory is refused.
+fn find_fault(alloc: Global, chapters: &[RawChapter]) -> Result<Option<Verdict>, AllocError>
+    requires { All (λ c. FitsChapter c.body) chapters.now }
+    ensures { IfOk result (λ found. MatchOption found (AreGood chapters.now)
+        (TellsBad chapters.now)) }
+{
+    let answers = judge_each(alloc, chapters)?;
+    Ok(first_fault(chapters, &answers))
+}
+
+// The verdict on a recording of these chapters. `Err` only if memory is refused.
+fn judge_recording(
+    alloc: Global,
+    bytes: &[u8],
+    recording: &Recording,
+) -> Result<Verdict, AllocError>
+    requires { IsRecording bytes.now recording.now }
+    ensures { IfOk result (λ verdict. IsVerdict bytes.now verdict) }
+{
+    let chapters = recording.chapters();
+    match find_fault(alloc, chapters)? {
+        Some(verdict) => Ok(verdict),
+        None => Ok(Verdict::Good {
+            maps: map_count(chapters),
+        }),
+    }
+}
+
+// The verdict on a recording that is cut in the chapter that begins at a place, behind whole chapters. `Err` only if memory
+// is refused.
+fn judge_truncated(
+    alloc: Global,
+    bytes: &[u8],
+    at: usize,
+    whole: &Recording,
+) -> Result<Verdict, AllocError>
+    requires { IsTruncated bytes.now at whole.now }
+    ensures { IfOk result (λ verdict. IsVerdict bytes.now verdict) }
+{
+    let _bytes = bytes;
+    match find_fault(alloc, whole.chapters())? {
+        Some(verdict) => Ok(verdict),
+        None => Ok(Verdict::Truncated { at }),
+    }
+}
+
+/// The verdict on the bytes of a recording.
+///
+/// `Good` only if the bytes are a recording, each chapter opens its port, each entry may follow those before it, each map is
+/// fair for the state before it, and the numbers of a port's chapters rise. `Bad` only if a chapter fails and those before it
+/// in the recording are good, also of a recording whose last chapter is cut. `Truncated` only if the whole chapters are good.
+/// `BadFormat` whatever the chapters before the fault. `Err` only if memory is refused.
+pub fn audit(alloc: Global, bytes: &[u8]) -> Result<Verdict, AllocError>
+    ensures { IfOk result (λ verdict. IsVerdict bytes.now verdict) }
+{
+    match read_recording(alloc, bytes) {
+        Ok(recording) => judge_recording(alloc, bytes, &recording),
+        Err(ReadFault::Truncated { at, whole }) => judge_truncated(alloc, bytes, at, &whole),
+        Err(ReadFault::BadFormat { at }) => Ok(Verdict::BadFormat { at }),
+        Err(ReadFault::Memory) => Err(AllocError),
+    }
+}
