@@ -12,3 +12,6 @@ mod verdict;
 
 pub use recordings::audit;
 pub use verdict::{Verdict, Why};
+
+#[cfg(test)]
+mod tests;
