@@ -1,4 +1,6 @@
 pub mod FirstFaults
 pub mod Kept
 pub mod Maps
+pub mod OneFault
+pub mod OneVerdict
 pub mod Sizes

@@ -78,6 +78,6 @@ cut_fit bytes at cs (inr (rest, h, cut, there)) = all_fit cs h.fit
 -- a verdict that names the first chapter that fails
 pub bad_told : (bytes : List ℕ) (cs : List PlacedChapter) (v : Verdict) → HasChapters bytes cs → TellsBad cs v → IsVerdict bytes v
 bad_told bytes cs (Good maps) has told = absurd told
-bad_told bytes cs (Bad port number index w) has told = (cs, has, told)
+bad_told bytes cs (Bad p n i w) has told = (cs, has, told)
 bad_told bytes cs (BadFormat at) has told = absurd told
 bad_told bytes cs (Truncated at) has told = absurd told

@@ -7,6 +7,7 @@
 mod chapters;
 mod entries;
 mod faults;
+pub mod laws;
 mod recordings;
 mod verdict;
 

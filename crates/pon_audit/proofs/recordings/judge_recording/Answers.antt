@@ -9,4 +9,4 @@ pub find_fault-requires : goal.find_fault-requires
 find_fault-requires c = subst (All (λ c. FitsChapter c.body)) (sym c.chapters-chapters.ensures) (all_fit c.args.recording.now c.requires.fit)
 
 pub map_count-requires : goal.map_count-requires
-map_count-requires c = omega (arith, ap (sum_by maps_in) c.chapters-chapters.ensures, maps_fit c.args.bytes.now c.args.recording.now c.requires, c.type_inv.bytes)
+map_count-requires c = omega (arith, ap (sum_by maps_in) c.chapters-chapters.ensures, maps_fit c.args.bytes.now c.args.recording.now c.requires)

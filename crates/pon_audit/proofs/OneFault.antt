@@ -1,0 +1,173 @@
+-- A chapter fails in one way at most, and a good one in none.
+use Rattle.std.proofs.Common.{◌≡◌, ℕ, zero, suc, ◌+◌, ◌<◌, ◌≤◌, List, [], ◌∷◌, length, map, take, get_or, Option, Some, None, refl, ap, sym, ◌∙◌, subst, arith, inl, inr}
+use Rattle.std.specs.Prelude.{◌≢◌, ◌⊎◌, All, slice_get}
+use Rattle.std.proofs.lemmas.Bool.{cases_lt}
+use Rattle.std.proofs.lemmas.List.{take-take}
+use Rattle.pon_event.specs.declared.event.Event.{Event}
+use Rattle.pon_event.specs.declared.event.Event.TheVariants as event
+use Rattle.pon_share.specs.Sharing.{IsCertified, surplus_rate}
+use Rattle.pon_state.specs.State.{State, input_of}
+use Rattle.pon_state.specs.Checks.{first_refusal}
+use Rattle.pon_state.specs.Legal.{IsMade, IsReply, MayFollow}
+use Rattle.pon_state.specs.Loads.{replay}
+use Rattle.pon_state.specs.declared.reply.MadeMap.{MadeMap}
+use Rattle.pon_state.specs.declared.reply.Reply.{Reply}
+use Rattle.pon_state.specs.declared.reply.Reply.TheVariants.{Taken, Map}
+use Rattle.pon_state.specs.declared.reply.Entry.{Entry}
+use Rattle.pon_port.specs.Chapters.{Chapter, state_before}
+use Rattle.pon_record.specs.Chapters.{PlacedChapter}
+use Rattle.pon_audit.specs.Openings.{OpensPort, chapter_of}
+use Rattle.pon_audit.specs.Faults.{EntryFails, FailsAt, GrantsWords, HasWrongWords, MapFails, ReplyFails, cut_at}
+use Rattle.pon_audit.specs.Verdicts.{ChapterFails, IsGoodChapter, Rises}
+use Rattle.pon_audit.specs.declared.verdict.Why.{Why}
+use Rattle.pon_audit.specs.declared.verdict.Why.TheVariants as why
+use Rattle.pon_audit.proofs.Maps.{grants_of_map}
+
+-- A map.
+
+-- the map that the state makes has its words
+made_words : (s : State) (m : MadeMap) → IsMade s m → GrantsWords s m
+made_words s m made = ap (map (λ a. a.grant)) made.map ∙ grants_of_map s.profile (input_of s) (surplus_rate (input_of s) m.cert)
+
+-- and does not fail
+made_holds : (s : State) (m : MadeMap) (w : Why) → IsMade s m → MapFails s m w → ⊥
+made_holds s m why.Opening made f = f
+made_holds s m why.Number made f = f
+made_holds s m why.Event made f = f
+made_holds s m why.Certificate made f = f made.certified
+made_holds s m why.Words made f = f.1.1 (made_words s m made)
+made_holds s m why.Bursts made f = f.2 made
+
+-- what is known of a map that fails: how
+abbrev MapFault : State → MadeMap → Why → Type 0
+MapFault s m w =
+    ((w ≡ why.Certificate) × (IsCertified (input_of s) m.cert → ⊥))
+    ⊎ (IsCertified (input_of s) m.cert × (((w ≡ why.Words) × HasWrongWords s m) ⊎ ((w ≡ why.Bursts) × (HasWrongWords s m → ⊥))))
+
+map_fault : (s : State) (m : MadeMap) (w : Why) → MapFails s m w → MapFault s m w
+map_fault s m why.Opening f = absurd f
+map_fault s m why.Number f = absurd f
+map_fault s m why.Event f = absurd f
+map_fault s m why.Certificate f = inl (refl, f)
+map_fault s m why.Words f = inr (f.0, inl (refl, f.1))
+map_fault s m why.Bursts f = inr (f.0, inr (refl, f.1))
+
+one_map_fault : (s : State) (m : MadeMap) (w v : Why) → MapFault s m w → MapFault s m v → w ≡ v
+one_map_fault s m w v (inl a) (inl b) = a.0 ∙ sym b.0
+one_map_fault s m w v (inl a) (inr b) = absurd (a.1 b.0)
+one_map_fault s m w v (inr a) (inl b) = absurd (b.1 a.0)
+one_map_fault s m w v (inr (c, inl a)) (inr (d, inl b)) = a.0 ∙ sym b.0
+one_map_fault s m w v (inr (c, inl a)) (inr (d, inr b)) = absurd (b.1 a.1)
+one_map_fault s m w v (inr (c, inr a)) (inr (d, inl b)) = absurd (a.1 b.1)
+one_map_fault s m w v (inr (c, inr a)) (inr (d, inr b)) = a.0 ∙ sym b.0
+
+-- An entry.
+
+one_reply_fault : (s : State) (r : Reply) (w v : Why) → ReplyFails s r w → ReplyFails s r v → w ≡ v
+one_reply_fault s Taken w v f g = absurd f
+one_reply_fault s (Map m) w v f g = one_map_fault s m w v (map_fault s m w f) (map_fault s m v g)
+
+-- the event is refused, or the reply fails
+abbrev EntryFault : ℕ → State → Entry → Why → Type 0
+EntryFault k s e w = ((w ≡ why.Event) × (first_refusal k s e.event ≢ None)) ⊎ ((first_refusal k s e.event ≡ None) × ReplyFails s e.reply w)
+
+entry_fault : (k : ℕ) (s : State) (e : Entry) (w : Why) → EntryFails k s e w → EntryFault k s e w
+entry_fault k s e why.Event f = inl (refl, f)
+entry_fault k s e why.Opening f = inr f
+entry_fault k s e why.Number f = inr f
+entry_fault k s e why.Certificate f = inr f
+entry_fault k s e why.Words f = inr f
+entry_fault k s e why.Bursts f = inr f
+
+one_entry_fault : (k : ℕ) (s : State) (e : Entry) (w v : Why) → EntryFault k s e w → EntryFault k s e v → w ≡ v
+one_entry_fault k s e w v (inl a) (inl b) = a.0 ∙ sym b.0
+one_entry_fault k s e w v (inl a) (inr b) = absurd (a.1 b.0)
+one_entry_fault k s e w v (inr a) (inl b) = absurd (b.1 a.0)
+one_entry_fault k s e w v (inr a) (inr b) = one_reply_fault s e.reply w v a.1 b.1
+
+-- the reply of an entry that may follow does not fail
+reply_holds : (s : State) (v : Event) (r : Reply) (w : Why) → IsReply s v r → ReplyFails s r w → ⊥
+reply_holds s v Taken w i f = f
+reply_holds s event.MakeMap (Map m) w i f = made_holds s m w i f
+reply_holds s (event.Admit u a d) (Map m) w i f = absurd cc
+reply_holds s (event.Change a d) (Map m) w i f = absurd cc
+reply_holds s (event.Remove a) (Map m) w i f = absurd cc
+reply_holds s (event.Report n u occ) (Map m) w i f = absurd cc
+reply_holds s (event.Fail c) (Map m) w i f = absurd cc
+reply_holds s event.Restore (Map m) w i f = absurd cc
+
+follower_holds : (k : ℕ) (s : State) (e : Entry) (w : Why) → MayFollow k s e → EntryFault k s e w → ⊥
+follower_holds k s e w h (inl a) = a.1 h.accepted
+follower_holds k s e w h (inr b) = reply_holds s e.event e.reply w h.reply b.1
+
+-- A chapter.
+
+pub some_same : {X : Type 0} (o : Option X) (x y : X) → o ≡ Some x → o ≡ Some y → x ≡ y
+some_same o x y a b = cc
+
+pub get_take : {X : Type 0} (xs : List X) (i j : ℕ) → i < j → slice_get (take j xs) i ≡ slice_get xs i
+get_take [] i zero lt = absurd (omega (arith, lt))
+get_take [] i (suc j) lt = refl
+get_take (x ∷ xs) i zero lt = absurd (omega (arith, lt))
+get_take (x ∷ xs) zero (suc j) lt = refl
+get_take (x ∷ xs) (suc i) (suc j) lt = get_take xs i j (omega (arith, lt))
+
+-- the entry that fails first is not before another that does
+not_before : (c : Chapter) (i j : ℕ) (w v : Why) → FailsAt c i w → FailsAt c j v → i < j → ⊥
+not_before c i j w v f g lt =
+    let follows : MayFollow i (replay c.opening (take i (take j c.entries))) f.entry = g.lawful.legal i f.entry (get_take c.entries i j lt ∙ f.here) in
+    follower_holds i (state_before c i) f.entry w (subst (λ es. MayFollow i (replay c.opening es) f.entry) (take-take i j c.entries (omega (arith, lt))) follows)
+    (entry_fault i (state_before c i) f.entry w f.fails)
+
+abbrev SameFault : ℕ → ℕ → Why → Why → Type 0
+SameFault i j w v = (i ≡ j) × (w ≡ v)
+
+one_failing : (c : Chapter) (i j : ℕ) (w v : Why) → FailsAt c i w → FailsAt c j v → SameFault i j w v
+one_failing c i j w v f g = elim (cases_lt i j) [
+  | inl lt ↦ absurd (not_before c i j w v f g lt)
+  | inr le ↦ elim (cases_lt j i) [
+    | inl lt ↦ absurd (not_before c j i v w g f lt)
+    | inr ge ↦
+        let same : i ≡ j = omega (arith, le, ge) in
+        let entry : f.entry ≡ g.entry = some_same (slice_get c.entries j) f.entry g.entry (ap (slice_get c.entries) (sym same) ∙ f.here) g.here in
+        let moved : EntryFails j (state_before c j) g.entry w = subst (λ e. EntryFails j (state_before c j) e w) entry (subst (λ n. EntryFails n (state_before c n) f.entry w) same f.fails) in
+        (same, one_entry_fault j (state_before c j) g.entry w v (entry_fault j (state_before c j) g.entry w moved) (entry_fault j (state_before c j) g.entry v g.fails))
+  ]
+]
+
+-- what is known of a chapter that fails
+abbrev ChapterFault : List PlacedChapter → PlacedChapter → ℕ → Why → Type 0
+ChapterFault earlier c i w =
+    ((OpensPort c.body → ⊥) × ((i ≡ 0) × (w ≡ why.Opening)))
+    ⊎ (OpensPort c.body × (((All (λ d. Rises d c) earlier → ⊥) × ((i ≡ 0) × (w ≡ why.Number))) ⊎ (All (λ d. Rises d c) earlier × FailsAt (chapter_of c.body) i w)))
+
+chapter_fault : (earlier : List PlacedChapter) (c : PlacedChapter) (i : ℕ) (w : Why) → ChapterFails earlier c i w → ChapterFault earlier c i w
+chapter_fault earlier c i why.Opening f = inl (f.0, (f.1, refl))
+chapter_fault earlier c i why.Number f = inr (f.0, inl (f.1, (f.2, refl)))
+chapter_fault earlier c i why.Event f = inr (f.0, inr (f.1, f.2))
+chapter_fault earlier c i why.Certificate f = inr (f.0, inr (f.1, f.2))
+chapter_fault earlier c i why.Words f = inr (f.0, inr (f.1, f.2))
+chapter_fault earlier c i why.Bursts f = inr (f.0, inr (f.1, f.2))
+
+one_chapter_fault : (earlier : List PlacedChapter) (c : PlacedChapter) (i j : ℕ) (w v : Why) → ChapterFault earlier c i w → ChapterFault earlier c j v → SameFault i j w v
+one_chapter_fault earlier c i j w v (inl a) (inl b) = (a.1.0 ∙ sym b.1.0, a.1.1 ∙ sym b.1.1)
+one_chapter_fault earlier c i j w v (inl a) (inr b) = absurd (a.0 b.0)
+one_chapter_fault earlier c i j w v (inr a) (inl b) = absurd (b.0 a.0)
+one_chapter_fault earlier c i j w v (inr (o, inl a)) (inr (p, inl b)) = (a.1.0 ∙ sym b.1.0, a.1.1 ∙ sym b.1.1)
+one_chapter_fault earlier c i j w v (inr (o, inl a)) (inr (p, inr b)) = absurd (a.0 b.0)
+one_chapter_fault earlier c i j w v (inr (o, inr a)) (inr (p, inl b)) = absurd (b.0 a.0)
+one_chapter_fault earlier c i j w v (inr (o, inr a)) (inr (p, inr b)) = one_failing (chapter_of c.body) i j w v a.1 b.1
+
+pub one_fault_of_chapter : (earlier : List PlacedChapter) (c : PlacedChapter) (i j : ℕ) (w v : Why) → ChapterFails earlier c i w → ChapterFails earlier c j v → (i ≡ j) × (w ≡ v)
+one_fault_of_chapter earlier c i j w v f g = one_chapter_fault earlier c i j w v (chapter_fault earlier c i w f) (chapter_fault earlier c j v g)
+
+-- a good chapter has no fault
+good_holds : (earlier : List PlacedChapter) (c : PlacedChapter) (i : ℕ) (w : Why) → IsGoodChapter c → All (λ d. Rises d c) earlier → ChapterFault earlier c i w → ⊥
+good_holds earlier c i w good rises (inl a) = a.0 good.opens
+good_holds earlier c i w good rises (inr (o, inl a)) = a.0 rises
+good_holds earlier c i w good rises (inr (o, inr a)) =
+    let f = a.1 in
+    follower_holds i (state_before (chapter_of c.body) i) f.entry w (good.lawful.legal i f.entry f.here) (entry_fault i (state_before (chapter_of c.body) i) f.entry w f.fails)
+
+pub good_has_no_fault : (earlier : List PlacedChapter) (c : PlacedChapter) (i : ℕ) (w : Why) → IsGoodChapter c → All (λ d. Rises d c) earlier → ChapterFails earlier c i w → ⊥
+good_has_no_fault earlier c i w good rises f = good_holds earlier c i w good rises (chapter_fault earlier c i w f)
