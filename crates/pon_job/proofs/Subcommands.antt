@@ -5,7 +5,7 @@ use Rattle.std.specs.Box.{box_value}
 use Rattle.clap.specs.Words.{subcommand_rows_of, rows_of}
 use Rattle.clap.specs.Walk.{Row, first_of}
 use Rattle.clap.specs.Matches.{found_of, subcommand_name_of}
-use Rattle.clap.specs.Simple.{App, HasMatchesOf, subcommand_rows}
+use Rattle.clap.specs.Simple.{App, HasMatchesOf, subcommand_of, subcommand_rows}
 use Rattle.clap.specs.Faults.{fault_of, is_simple_and_free}
 use Rattle.clap.specs.Kinds.{HasKind}
 use Rattle.clap.specs.Values.{kind_of}
@@ -15,7 +15,7 @@ use Rattle.clap.specs.declared.parser.matches.ArgMatches.{ArgMatches}
 use Rattle.clap.specs.declared.parser.matches.ArgMatches.TheViews.{out-ArgMatches, out-SubCommand}
 use Rattle.pon_job.specs.Jobs.{HasValues, IsJob, NamesNoJob, RefusesWords, olt_app, word_of}
 use Rattle.pon_job.specs.declared.task.Job.{Job}
-use Rattle.pon_job.specs.declared.task.Job.TheVariants.{Plan, Check, Run}
+use Rattle.pon_job.specs.declared.task.Job.TheVariants.{Plan, Check, Audit, Run}
 
 name_of_rows : (m : ArgMatches) → option_map (λ p. p.0) (subcommand_rows_of m) ≡ subcommand_name_of m
 name_of_rows m = elim (out-ArgMatches m).subcommand as (λ o. option_map (λ p. p.0) (subcommand_rows o) ≡ option_map (λ b. (out-SubCommand (box_value b)).name.now) o) [
@@ -43,14 +43,30 @@ clap_refuses a words e is k = inl (subst (λ a. is_simple_and_free a ≡ true �
 pub names : (r : Option (List ℕ × List Row)) (name : List ℕ) (rows : List Row) (job : Job) → Some (name, rows) ≡ r → name ≡ word_of job → HasValues rows job → IsJob r job
 names r name rows job met word values = subst (λ r. IsJob r job) met (word, values)
 
--- `check` without a file names none
+-- `check` and `audit` without a file name none
 pub no_file : (name : List ℕ) (rows : List Row) (r : Option (List ℕ × List Row)) → Some (name, rows) ≡ r → name ≡ codes "check" → None ≡ first_of (codes "file") rows → NamesNoJob r
 no_file name rows r met check none = subst NamesNoJob met go
   where
     go : NamesNoJob (Some (name, rows))
     go (Plan config) j = absurd (cc (check, j.0))
     go (Check file) j = absurd (cc (none, j.1))
-    go (Run config listen maps operate) j = absurd (cc (check, j.0))
+    go (Audit file) j = absurd (cc (none, j.1))
+    go (Run config listen maps recording operate) j = absurd (cc (check, j.0))
+
+pub no_recording : (name : List ℕ) (rows : List Row) (r : Option (List ℕ × List Row)) → Some (name, rows) ≡ r → name ≡ codes "audit" → None ≡ first_of (codes "file") rows → NamesNoJob r
+no_recording name rows r met audit none = subst NamesNoJob met go
+  where
+    go : NamesNoJob (Some (name, rows))
+    go (Plan config) j = absurd (cc (audit, j.0))
+    go (Check file) j = absurd (cc (none, j.1))
+    go (Audit file) j = absurd (cc (none, j.1))
+    go (Run config listen maps recording operate) j = absurd (cc (audit, j.0))
+
+-- the job that the matches name is that of the words
+pub job_in : (a : App) (words : List (List ℕ)) (m : ArgMatches) (job : Job) → a ≡ olt_app → HasMatchesOf a words m → IsJob (subcommand_rows_of m) job → IsJob (subcommand_of olt_app words) job
+job_in a words m job is has j =
+    let met = subst (λ a. HasMatchesOf a words m) is has refl in
+    subst (λ r. IsJob r job) met.1 j
 
 -- clap finds no fault in the words, and no job in its matches
 pub no_job_in : (a : App) (words : List (List ℕ)) (m : ArgMatches) (e : Error) → a ≡ olt_app → kind_of e ≡ InvalidSubcommand → (is_simple_and_free a ≡ true → fault_of a words ≡ [])

@@ -11,9 +11,9 @@ use Rattle.clap.specs.declared.error.Error.{Error}
 use Rattle.clap.specs.declared.error.kind.ErrorKind.TheVariants.{InvalidSubcommand}
 use Rattle.pon_job.specs.declared.task.TheConstants.{MOST_MAPS}
 use Rattle.pon_job.specs.declared.task.Job.{Job}
-use Rattle.pon_job.specs.declared.task.Job.TheVariants.{Plan, Check, Run}
+use Rattle.pon_job.specs.declared.task.Job.TheVariants.{Plan, Check, Audit, Run}
 
--- the one word of `check`, which it needs
+-- the one word of `check` and of `audit`, which they need
 abbrev pub file_rule : Rule
 file_rule = record (new_rule (codes "file")) { value_names = 1; required = true }
 
@@ -34,6 +34,10 @@ maps_rule = record (new_rule (codes "maps")) {
   required = true;
 }
 
+-- the file of a recording, which `run` may have
+abbrev pub record_rule : Rule
+record_rule = record (new_rule (codes "record")) { long = Some (codes "record"); value_names = 1 }
+
 -- the file of management lines for an operator, which `run` may have
 abbrev pub operate_rule : Rule
 operate_rule = record (new_rule (codes "operate")) { long = Some (codes "operate"); value_names = 1 }
@@ -44,10 +48,13 @@ plan_shape = record (new_shape (codes "plan")) { rules = config_rule ∷ [] }
 abbrev pub check_shape : Shape
 check_shape = record (new_shape (codes "check")) { rules = file_rule ∷ [] }
 
+abbrev pub audit_shape : Shape
+audit_shape = record (new_shape (codes "audit")) { rules = file_rule ∷ [] }
+
 -- `run` needs the settings
 abbrev pub run_shape : Shape
 run_shape = record (new_shape (codes "run")) {
-  rules = record config_rule { required = true } ∷ listen_rule ∷ maps_rule ∷ operate_rule ∷ [];
+  rules = record config_rule { required = true } ∷ listen_rule ∷ maps_rule ∷ record_rule ∷ operate_rule ∷ [];
 }
 
 abbrev pub top_shape : Shape
@@ -62,13 +69,14 @@ top_app = record { top = top_shape; subs = [] }
 
 -- the command line that the program has
 abbrev pub olt_app : App
-olt_app = with_subcommand (with_subcommand (with_subcommand top_app plan_shape) check_shape) run_shape
+olt_app = with_subcommand (with_subcommand (with_subcommand (with_subcommand top_app plan_shape) check_shape) audit_shape) run_shape
 
 -- the word of a job's subcommand
 abbrev pub word_of : Job → List ℕ
 word_of (Plan config) = codes "plan"
 word_of (Check file) = codes "check"
-word_of (Run config listen maps operate) = codes "run"
+word_of (Audit file) = codes "audit"
+word_of (Run config listen maps recording operate) = codes "run"
 
 -- the text spells the number, which is within the range of the maps of a run
 pub record SpellsMaps (text : List ℕ) (maps : ℕ) : Type 0 where
@@ -80,18 +88,20 @@ abbrev pub HasMaps : List Row → ℕ → Type 0
 HasMaps rows maps = IsSomeAnd (first_of (codes "maps") rows) (λ text. SpellsMaps text maps)
 
 -- the matches of `run` have these values
-pub record IsRun (rows : List Row) (config listen : List ℕ) (maps : ℕ) (operate : Option (List ℕ)) : Type 0 where
+pub record IsRun (rows : List Row) (config listen : List ℕ) (maps : ℕ) (recording operate : Option (List ℕ)) : Type 0 where
   pub settings : first_of (codes "config") rows ≡ Some config
   pub address : first_of (codes "listen") rows ≡ Some listen
   pub number : HasMaps rows maps
+  pub recording_file : first_of (codes "record") rows ≡ recording
   pub operator : first_of (codes "operate") rows ≡ operate
 
 -- the matches of a job's subcommand have the values of the job, by the names of its arguments
 abbrev pub HasValues : List Row → Job → Type 0
 HasValues rows (Plan config) = first_of (codes "config") rows ≡ option_map (λ name. name.now) config
 HasValues rows (Check file) = first_of (codes "file") rows ≡ Some file.now
-HasValues rows (Run config listen maps operate) =
-    IsRun rows config.now listen.now maps (option_map (λ name. name.now) operate)
+HasValues rows (Audit file) = first_of (codes "file") rows ≡ Some file.now
+HasValues rows (Run config listen maps recording operate) =
+    IsRun rows config.now listen.now maps (option_map (λ name. name.now) recording) (option_map (λ name. name.now) operate)
 
 -- the job is the one that the subcommand names, with the values of its arguments
 abbrev pub IsJob : Option (List ℕ × List Row) → Job → Type 0

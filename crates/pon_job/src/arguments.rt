@@ -38,11 +38,13 @@ fn run_of<'a>(found: &ArgMatches<'a>) -> Option<Job<'a>>
     let config = found.get_str("config")?;
     let listen = found.get_str("listen")?;
     let maps = maps_of(found)?;
+    let record = found.get_str("record");
     let operate = found.get_str("operate");
     Some(Job::Run {
         config,
         listen,
         maps,
+        record,
         operate,
     })
 }
@@ -60,6 +62,10 @@ fn job_of<'a>(matches: &ArgMatches<'a>) -> Option<Job<'a>>
     if name == "check" {
         let file = found.get_str("file")?;
         return Some(Job::Check { file });
+    }
+    if name == "audit" {
+        let file = found.get_str("file")?;
+        return Some(Job::Audit { file });
     }
     if name == "run" {
         return run_of(found);

@@ -4,8 +4,8 @@ ghost use Rattle.std.specs.Prelude.{◌≡◌, IfOk, false};
 ghost use Rattle.clap.specs.declared.builder.command.Command.TheViews.{out-Command};
 ghost use Rattle.clap.specs.Walk.{rule_of};
 ghost use Rattle.clap.specs.Simple.{app_of, shape_of};
-ghost use Rattle.pon_job.specs.Jobs.{config_rule, file_rule, listen_rule, maps_rule, operate_rule};
-ghost use Rattle.pon_job.specs.Jobs.{check_shape, olt_app, plan_shape, run_shape};
+ghost use Rattle.pon_job.specs.Jobs.{config_rule, file_rule, listen_rule, maps_rule, operate_rule, record_rule};
+ghost use Rattle.pon_job.specs.Jobs.{audit_shape, check_shape, olt_app, plan_shape, run_shape};
 
 use crate::task::MOST_MAPS;
 use clap::builder::ValueParser;
@@ -19,6 +19,16 @@ fn file_arg<'a>(alloc: Global) -> Arg<'a>
     Arg::new(alloc, "file")
         .value_name("FILE")
         .help("The check file: a surplus, its items and their certificate")
+        .required(true)
+}
+
+fn recording_arg<'a>(alloc: Global) -> Arg<'a>
+    ensures rule { rule_of result ≡ file_rule }
+    ensures local { result.global ≡ false }
+{
+    Arg::new(alloc, "file")
+        .value_name("FILE")
+        .help("The recording")
         .required(true)
 }
 
@@ -55,6 +65,16 @@ fn maps_arg<'a>(alloc: Global) -> Arg<'a>
         .required(true)
 }
 
+fn record_arg<'a>(alloc: Global) -> Arg<'a>
+    ensures rule { rule_of result ≡ record_rule }
+    ensures local { result.global ≡ false }
+{
+    Arg::new(alloc, "record")
+        .long("record")
+        .value_name("FILE")
+        .help("The file of a recording, which is made anew")
+}
+
 fn operate_arg<'a>(alloc: Global) -> Arg<'a>
     ensures rule { rule_of result ≡ operate_rule }
     ensures local { result.global ≡ false }
@@ -83,6 +103,15 @@ fn check_command<'a>(alloc: Global) -> Result<Command<'a>, AllocError>
         .arg(file_arg(alloc))
 }
 
+fn audit_command<'a>(alloc: Global) -> Result<Command<'a>, AllocError>
+    ensures shape { IfOk result (λ c. shape_of c ≡ audit_shape) }
+    ensures local { IfOk result (λ c. (out-Command c).has_globals ≡ false) }
+{
+    Command::new(alloc, "audit")
+        .about("Judge a recording: each entry and each map of it")
+        .arg(recording_arg(alloc))
+}
+
 fn run_command<'a>(alloc: Global) -> Result<Command<'a>, AllocError>
     ensures shape { IfOk result (λ c. shape_of c ≡ run_shape) }
     ensures local { IfOk result (λ c. (out-Command c).has_globals ≡ false) }
@@ -92,6 +121,7 @@ fn run_command<'a>(alloc: Global) -> Result<Command<'a>, AllocError>
         .arg(config_arg(alloc).required(true))?
         .arg(listen_arg(alloc))?
         .arg(maps_arg(alloc))?
+        .arg(record_arg(alloc))?
         .arg(operate_arg(alloc))
 }
 
@@ -101,6 +131,7 @@ pub(crate) fn olt_command<'a>(alloc: Global) -> Result<Command<'a>, AllocError>
 {
     let plan = plan_command(alloc)?;
     let check = check_command(alloc)?;
+    let audit = audit_command(alloc)?;
     let run = run_command(alloc)?;
     Command::new(alloc, "olt")
         .bin_name("olt")?
@@ -110,5 +141,6 @@ pub(crate) fn olt_command<'a>(alloc: Global) -> Result<Command<'a>, AllocError>
         .arg_required_else_help(true)
         .subcommand(plan)?
         .subcommand(check)?
+        .subcommand(audit)?
         .subcommand(run)
 }

@@ -13,12 +13,17 @@ pub enum Job<'a> {
     Check {
         file: &'a str,
     },
+    /// Audit the recording of this name.
+    Audit {
+        file: &'a str,
+    },
     /// Make `maps` maps, 1 to `MOST_MAPS`, at each port of the settings file `config`, over sockets of the address `listen`;
-    /// `operate` names a file of management lines for an operator.
+    /// `record` names the file of a recording of their chapters, and `operate` a file of management lines for an operator.
     Run {
         config: &'a str,
         listen: &'a str,
         maps: u64,
+        record: Option<&'a str>,
         operate: Option<&'a str>,
     },
 }

@@ -23,11 +23,16 @@ fn refusal(rt: &impl Abort, alloc: Global, line: &str) -> Option<ErrorKind> {
     }
 }
 
-fn run_of(maps: u64, operate: Option<&'static str>) -> Job<'static> {
+fn run_of(
+    maps: u64,
+    record: Option<&'static str>,
+    operate: Option<&'static str>,
+) -> Job<'static> {
     Job::Run {
         config: "a.toml",
         listen: "127.0.0.1:0",
         maps,
+        record,
         operate,
     }
 }
@@ -39,17 +44,18 @@ fn reads_each_job(rt: HostRuntime) {
         ("olt plan", Job::Plan { config: None }),
         ("olt plan --config a.toml", Job::Plan { config: settings }),
         ("olt check c.txt", Job::Check { file: "c.txt" }),
+        ("olt audit r.bin", Job::Audit { file: "r.bin" }),
         (
             "olt run --config a.toml --listen 127.0.0.1:0 --maps 1",
-            run_of(1, None),
+            run_of(1, None, None),
         ),
         (
             "olt run --maps=1000000000 --listen=127.0.0.1:0 --config=a.toml",
-            run_of(1_000_000_000, None),
+            run_of(1_000_000_000, None, None),
         ),
         (
-            "olt run --config a.toml --operate b.txt --listen 127.0.0.1:0 --maps 3",
-            run_of(3, Some("b.txt")),
+            "olt run --config a.toml --operate b.txt --listen 127.0.0.1:0 --maps 3 --record r.bin",
+            run_of(3, Some("r.bin"), Some("b.txt")),
         ),
     ] {
         let words = words_of(&rt, rt.alloc(), line);
@@ -87,7 +93,7 @@ fn needs_the_arguments_of_a_run(rt: HostRuntime) {
 fn refuses_other_words(rt: HostRuntime) {
     for (line, wanted) in [
         (
-            "olt run --config a.toml --listen 127.0.0.1:0 --maps 3 --record r",
+            "olt run --config a.toml --listen 127.0.0.1:0 --maps 3 --pace r",
             ErrorKind::UnknownArgument,
         ),
         (

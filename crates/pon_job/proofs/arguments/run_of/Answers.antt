@@ -23,6 +23,7 @@ returns-clause-some c =
         settings = sym (c.in_ok-config.ensures ∙ first_value-rows f (codes "config"));
         address = sym (c.in_ok-listen.ensures ∙ first_value-rows f (codes "listen"));
         number = c.in_ok-maps.ensures.some;
+        recording_file = sym (c.get_str-record.ensures ∙ first_value-rows f (codes "record"));
         operator = sym (c.get_str-operate.ensures ∙ first_value-rows f (codes "operate"));
       },
     )
