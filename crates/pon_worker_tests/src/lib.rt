@@ -8,4 +8,6 @@ mod bench;
 #[cfg(test)]
 mod serving;
 #[cfg(test)]
+mod sockets;
+#[cfg(test)]
 mod together;
