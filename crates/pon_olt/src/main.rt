@@ -1,17 +1,20 @@
 //! `olt`: the upstream bandwidth scheduler of an XG-PON optical line terminal, as a program.
 //!
 //! Management lines come in, and the reply or the refusal of each goes out ([`plan`]); a check file is judged
-//! ([`check_file`]); ports are run over sockets ([`run_ports`]). The program adds the standard streams, the files, the settings
-//! and the exit status.
+//! ([`check_file`]), and so is a recording ([`audit`]); ports are run over sockets ([`run_ports`]). The program adds the standard
+//! streams, the files, the settings and the exit status.
 #![tactic(auto)]
 
 ghost use Rattle.std.specs.Prelude.{length};
 ghost use Rattle.pon_plant.specs.Plants.{IsPlantSize};
 
+mod auditing;
 mod opening;
 
+use crate::auditing::audit_file;
 use crate::opening::{NotOpened, Opening, settings_of, with_settings, without_settings};
 use clap::Error;
+pub use pon_audit::audit;
 pub use pon_check_file::check_file;
 use pon_device::{StdRead, StdWrite};
 pub use pon_job::job;
@@ -151,17 +154,20 @@ where
     match job(alloc, words) {
         Ok(Job::Plan { config }) => told(rt, run_plan(rt, alloc, config)),
         Ok(Job::Check { file }) => told(rt, outcome_of_check(judge_file(rt, alloc, file))),
+        Ok(Job::Audit { file }) => told(rt, outcome_of_check(audit_file(rt, alloc, file))),
         Ok(
             Job::Run {
                 config,
                 listen,
                 maps,
+                record,
                 operate,
             },
         ) => {
             let args = RunArgs {
                 listen,
                 maps,
+                record,
                 operate,
             };
             run_settings(rt, alloc, config, args)

@@ -1,3 +1,4 @@
 pub mod Ends
 pub mod Units
 pub mod Runs
+pub mod Recordings

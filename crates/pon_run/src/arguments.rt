@@ -5,6 +5,8 @@ pub struct RunArgs<'a> {
     pub listen: &'a str,
     /// The number of maps that each port makes.
     pub maps: u64,
+    /// The file of a recording of the ports' chapters, which is made anew.
+    pub record: Option<&'a str>,
     /// The file of the management lines that are answered meanwhile.
     pub operate: Option<&'a str>,
 }

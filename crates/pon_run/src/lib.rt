@@ -11,6 +11,7 @@ mod link;
 mod operator;
 mod pace;
 mod ports;
+mod recording;
 mod running;
 mod serving;
 #[cfg(test)]

@@ -1,25 +1,29 @@
 //! A run, from its settings to its last line.
 
-ghost use Rattle.std.specs.Prelude.{◌≡◌, ◌⊎◌, ◌+◌, ◌≤◌, IfOk, IsNone, length, true};
+ghost use Rattle.std.specs.Prelude.{◌≡◌, ◌⊎◌, ◌+◌, ◌≤◌, IfOk, IsNone, OnOk, length, true};
 ghost use Rattle.std.specs.Vec.{vec_len};
+ghost use Rattle.pon_run.specs.Ends.{TellsEnds};
 ghost use Rattle.pon_run.specs.Runs.{TellsPorts};
 
 use crate::arguments::RunArgs;
-use crate::end::write_ends;
+use crate::end::{PortEnd, write_ends};
 use crate::link::{Link, open_links};
 use crate::operator::{answer_lines, open_lines};
 use crate::ports::{OTHER_SEATS, admit_rows, close, ends_of, parted, served_ports};
+use crate::recording::{begin, create_file, record_ports};
 use crate::running::serve_all;
 use crate::thread::Worked;
 use pon_desk::{Desk, Seat};
-use pon_device::DevWrite;
+use pon_device::{DevWrite, StdWrite};
 use pon_job::{exit_status, outcome_of_ports};
 use pon_port::Port;
+use pon_recorder::RecordFile;
 use pon_settings::Settings;
 use pon_stream::PlanFault;
-use pon_worker::{Gate, WorkerEnd};
+use pon_units::MOST_PORTS;
+use pon_worker::Gate;
 use std::alloc::Global;
-use std::io::Read;
+use std::io::{Read, Write};
 use std::marker::Brand;
 use std::net::{Net, TcpListener, TcpStream};
 use std::rt::Files;
@@ -62,29 +66,32 @@ where
     }
 }
 
-// Writes what each port did. Whether these are all ports.
-fn tell_ports<W: DevWrite>(
+// Records the chapters of ports, and writes what each did; these lines are written too if the recording fails.
+fn tell_ports<F: Write + Drop, W: DevWrite>(
     alloc: Global,
-    ports: &[Port],
-    ends: &[WorkerEnd],
+    ports: Vec<Port>,
+    ends: &[PortEnd],
+    recording: Option<RecordFile<StdWrite<F>>>,
     writer: &mut W,
-) -> Result<bool, PlanFault>
-    ensures { IfOk result (λ all. all ≡ true
-        → TellsPorts (length ports.now) (W.contents writer.old) (W.contents writer.new)) }
+) -> Result<(), PlanFault>
+    requires few { length ports.items ≤ MOST_PORTS }
+    ensures { OnOk result (TellsEnds ends.now (W.contents writer.old) (W.contents writer.new) result) }
 {
-    let Ok(ends) = ends_of(alloc, ports, ends) else {
-        return Err(PlanFault::Memory);
+    let recorded = match recording {
+        None => Ok(()),
+        Some(mut recording) => record_ports(&mut recording, ports),
     };
-    write_ends(alloc, ends.as_slice(), writer)?;
-    Ok(ends.len() == ports.len())
+    write_ends(alloc, ends, writer)?;
+    recorded
 }
 
-// Closes the desk, and writes what each port did. Whether each worker made all its turns, and no post was lost.
-fn tell<L: Ledger, M: Ledger, W: DevWrite>(
+// Closes the desk, and tells of each port. Whether each worker made all its turns, and no post was lost.
+fn tell<L: Ledger, M: Ledger, F: Write + Drop, W: DevWrite>(
     alloc: Global,
     desk: Desk<L, M>,
     others: Vec<Seat<L, M>>,
     all: Vec<Worked<L, M>>,
+    recording: Option<RecordFile<StdWrite<F>>>,
     writer: &mut W,
 ) -> Result<bool, PlanFault>
     ensures { IfOk result (λ done. done ≡ true
@@ -93,10 +100,15 @@ fn tell<L: Ledger, M: Ledger, W: DevWrite>(
     let Ok(ended) = parted(alloc, others, all) else {
         return Err(PlanFault::Memory);
     };
+    prove!(desk.ports() <= MOST_PORTS);
     let Some((ports, even)) = close(desk, ended.seats) else {
         return Ok(false);
     };
-    let all = tell_ports(alloc, ports.as_slice(), ended.ends.as_slice(), writer)?;
+    let Ok(ends) = ends_of(alloc, ports.as_slice(), ended.ends.as_slice()) else {
+        return Err(PlanFault::Memory);
+    };
+    let all = ends.len() == ports.len();
+    tell_ports(alloc, ports, ends.as_slice(), recording, writer)?;
     Ok(all && even && ended.finished)
 }
 
@@ -112,13 +124,14 @@ fn run_desk<L, M, G, F, W, R>(
     gate: &G,
     maps: u64,
     lines: Option<F>,
+    recording: Option<RecordFile<StdWrite<F>>>,
     writer: &mut W,
 ) -> Result<bool, PlanFault>
 where
     L: Ledger + Send + Sync,
     M: Ledger + Send + Sync,
     G: Gate + Sync,
-    F: Read + Drop,
+    F: Read + Write + Drop,
     W: DevWrite,
     R: Wait + Threads + Sync,
     requires { OTHER_SEATS ≤ vec_len seats }
@@ -148,7 +161,7 @@ where
     let Ok(others) = Vec::from_array(alloc, [first, operator]) else {
         return Err(PlanFault::Memory);
     };
-    let done = tell(alloc, desk, others, all, writer)?;
+    let done = tell(alloc, desk, others, all, recording, writer)?;
     operated?;
     Ok(done)
 }
@@ -164,13 +177,14 @@ fn run_at<L, M, G, F, W, R>(
     gate: &G,
     maps: u64,
     lines: Option<F>,
+    recording: Option<RecordFile<StdWrite<F>>>,
     writer: &mut W,
 ) -> Result<bool, PlanFault>
 where
     L: Ledger + Send + Sync,
     M: Ledger + Send + Sync,
     G: Gate + Sync,
-    F: Read + Drop,
+    F: Read + Write + Drop,
     W: DevWrite,
     R: Wait + Threads + Sync,
     requires ports { (of_ports.name ≡ L.name) × (of_ports.parts ≡ L.parts)
@@ -187,7 +201,7 @@ where
     match Desk::<L, M>::open(alloc, of_ports, of_seats, openings.as_slice(), seats) {
         Ok((desk, seats)) => {
             run_desk(
-                rt, alloc, desk, seats, settings, links, gate, maps, lines, writer,
+                rt, alloc, desk, seats, settings, links, gate, maps, lines, recording, writer,
             )
         }
         Err(_) => Err(PlanFault::Memory),
@@ -214,6 +228,10 @@ where
         None => None,
         Some(name) => Some(open_lines(rt, name)?),
     };
+    let recording = match args.record {
+        None => None,
+        Some(name) => Some(begin(alloc, create_file(rt, name)?)?),
+    };
     let ports = settings.ports().len();
     let links = open_links(rt, alloc, args.listen, ports)?;
     run_at::<Brand, Brand, G, R::File, W, R>(
@@ -226,18 +244,20 @@ where
         gate,
         args.maps,
         lines,
+        recording,
         writer,
     )
 }
 
-/// Runs the ports of the settings: opens the operator's file and listens on the address, opens a connection for each port,
+/// Runs the ports of the settings: opens the operator's file, makes that of the recording and listens on the address, opens a connection for each port,
 /// admits the rows of the settings, and has each port make this many maps for its simulated units, which answer over the
-/// connection, while the operator's lines are answered. At the end a line about each port is written. The gate may hold workers
-/// back.
+/// connection, while the operator's lines are answered. At the end the chapter of each port is recorded, and a line about each is
+/// written. The gate may hold workers back.
 ///
-/// The answer is the exit status: 0 if each worker made all its turns and the operator's lines were all answered; else 3. Of a
-/// failed device or refused memory standard error is told: `olt: read failed` if the file or the address cannot be read,
-/// bound, connected to or accepted on, `olt: write failed`, or `olt: out of memory`, also for a thread that cannot be made. Of
+/// The answer is the exit status: 0 if each worker made all its turns and the operator's lines were all answered; and the
+/// recording is whole; else 3. Of a failed device or refused memory standard error is told: `olt: read failed` if the operator's
+/// file or the address cannot be read, bound, connected to or accepted on, `olt: write failed`, also if the file of the recording
+/// cannot be made or written, or `olt: out of memory`, also for a thread that cannot be made. Of
 /// a worker that ended early nothing is told. All threads have ended when it returns.
 pub fn run_ports<G, W, R>(
     rt: &R,

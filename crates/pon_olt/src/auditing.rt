@@ -1,0 +1,41 @@
+//! The audit of a recording in a file.
+
+use pon_audit::{Verdict, audit};
+use pon_device::StdWrite;
+use pon_manage::PlanFault;
+use pon_stream::write_text;
+use std::alloc::Global;
+use std::fs;
+use std::io::{self, ErrorKind, Read};
+use std::rt::Files;
+use std::thread::Threads;
+
+// The bytes of the file of this name. A file that cannot be opened cannot be read.
+fn bytes_of<R: Files>(rt: &R, alloc: Global, name: &str) -> Result<Vec<u8>, PlanFault> {
+    let Ok(mut file) = fs::open(rt, name) else {
+        return Err(PlanFault::Read);
+    };
+    let mut bytes = Vec::new(alloc);
+    match file.read_to_end(&mut bytes) {
+        Ok(_) => Ok(bytes),
+        Err(error) if error.kind() == ErrorKind::OutOfMemory => Err(PlanFault::Memory),
+        Err(_) => Err(PlanFault::Read),
+    }
+}
+
+/// Judges the recording of this name, and prints the verdict. `true` if the recording is good.
+pub(crate) fn audit_file<R: Files + Print + Threads + Sync>(
+    rt: &R,
+    alloc: Global,
+    name: &str,
+) -> Result<bool, PlanFault> {
+    let bytes = bytes_of(rt, alloc, name)?;
+    let Ok(verdict) = audit(rt, alloc, bytes.as_slice()) else {
+        return Err(PlanFault::Memory);
+    };
+    let Ok(text) = format!(in alloc; "{verdict}\n") else {
+        return Err(PlanFault::Memory);
+    };
+    write_text(&mut StdWrite::new(io::writer(rt)), text.as_bytes())?;
+    Ok(matches!(verdict, Verdict::Good { .. }))
+}
