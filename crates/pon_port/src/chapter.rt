@@ -23,7 +23,8 @@ impl Model for Chapter {
     } };
 
     ghost invariant = { λ c.
-        IsLawfulChapter (record { number = c.number; opening = c.opening; entries = c.entries.items })
+        IsLawfulChapter
+        (record { number = c.number; opening = c.opening; entries = c.entries.items })
         × IsFirst (record { number = c.number; opening = c.opening; entries = c.entries.items }) };
 }
 

@@ -10,7 +10,8 @@ ghost use Rattle.pon_record.specs.Chapters.{Body, FitsChapter, PlacedChapter, pl
 ghost use Rattle.pon_record.specs.Recordings.{IsReadFault, IsRecording, recording_bytes};
 ghost use Rattle.pon_recorder.specs.Bodies.{IsOfPort, chapter_body};
 
-/// A lawful first chapter of a port fits the format: each field is in its range, and the body is shorter than 2^32 bytes.
+/// A lawful first chapter of a port fits the format: each field is in its range, and the body is shorter than 2^32
+/// bytes.
 pub fn chapters_fit_the_format()
     ensures { (port : ℕ) (c : Chapter) → port < MOST_PORTS → IsLawfulChapter c → IsFirst c
         → FitsChapter (chapter_body port c) }

@@ -32,8 +32,8 @@ impl<W> Model for RecordFile<W> {
 impl<W: DevWrite + Drop> RecordFile<W> {
     ghost use Rattle.pon_recorder.specs.Recorders.{CountsDevice, CountsOpening, Grows, IsTaken, Records, Stays};
 
-    /// Begins a recording: tries once to write the magic bytes to the device. If the device fails, what it did not take of
-    /// them is left. `Err` only if memory is refused.
+    /// Begins a recording: tries once to write the magic bytes to the device. If the device fails, what it did not
+    /// take of them is left. `Err` only if memory is refused.
     pub fn open(alloc: Global, writer: W) -> Result<RecordFile<W>, AllocError>
         ensures recorded { IfOk result (λ file.
             Records (W.contents writer) (W.contents file.device) file.left []) }
@@ -53,14 +53,16 @@ impl<W: DevWrite + Drop> RecordFile<W> {
     /// Appends a chapter of a port. With `Ok` nothing of it is left.
     ///
     /// `Busy` exactly if something of what came before is left, and `Memory` if memory is refused: neither changes
-    /// anything. `Device` exactly if the device failed in this call: the chapter is taken, and what did not go out of it is left.
+    /// anything. `Device` exactly if the device failed in this call: the chapter is taken, and what did not go out of it
+    /// is left.
     pub fn append(&mut self, port: PortNo, chapter: &Chapter) -> Result<(), RecordFault>
         ensures ok { OnOk result (self.new.left ≡ []) }
         ensures taken { IsTaken result → Grows (W.contents self.old.device) self.old.left
             (W.contents self.new.device) self.new.left (chapter_body port chapter.now) }
         ensures unchanged { (IsTaken result → ⊥) → self.new ≡ self.old }
         ensures busy { (result ≡ Err Busy) ↔ (self.old.left ≢ []) }
-        ensures failures { CountsDevice (W.failures self.old.device) (W.failures self.new.device) result }
+        ensures failures { CountsDevice (W.failures self.old.device)
+            (W.failures self.new.device) result }
     {
         if !self.left().is_empty() {
             return Err(RecordFault::Busy);
@@ -81,7 +83,8 @@ impl<W: DevWrite + Drop> RecordFile<W> {
         ensures ok { OnOk result (self.new.left ≡ []) }
         ensures recorded { Stays (W.contents self.old.device) self.old.left
             (W.contents self.new.device) self.new.left }
-        ensures failures { CountsFailure (W.failures self.old.device) (W.failures self.new.device) result }
+        ensures failures { CountsFailure (W.failures self.old.device)
+            (W.failures self.new.device) result }
     {
         self.pending.push(&mut self.writer)?;
         self.writer.flush()
