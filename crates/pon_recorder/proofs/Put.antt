@@ -7,7 +7,7 @@ use Rattle.pon_event.specs.declared.event.Event.{Event}
 use Rattle.pon_event.specs.declared.event.Event.TheVariants.{Admit, Change, Remove, Report, MakeMap, Fail, Restore}
 use Rattle.pon_record.specs.Events.{event}
 use Rattle.pon_record.specs.MadeMaps.{map}
-use Rattle.pon_recorder.specs.Bodies.{event_fields, event_tag}
+use Rattle.pon_recorder.specs.EventParts.{event_fields, event_tag}
 
 pub behind : (old a b x y : List ℕ) → x ≡ old ++ a → y ≡ x ++ b → y ≡ old ++ (a ++ b)
 behind old a b x y first second = second ∙ ap (λ (l : List ℕ). l ++ b) first ∙ append_assoc old a b

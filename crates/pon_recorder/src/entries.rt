@@ -7,7 +7,8 @@ ghost use Rattle.pon_state.specs.declared.checks.TheConstants.{MOST_ENTRIES};
 ghost use Rattle.pon_record.specs.Format.{counted, number};
 ghost use Rattle.pon_record.specs.Events.{admit_fields, change_fields, event, occupancies, occupancy, report_fields};
 ghost use Rattle.pon_record.specs.Chapters.{entry, map_reply, reply_to};
-ghost use Rattle.pon_recorder.specs.Bodies.{HoldsFittingCert, event_fields, event_tag};
+ghost use Rattle.pon_recorder.specs.Bodies.{HoldsFittingCert};
+ghost use Rattle.pon_recorder.specs.EventParts.{event_fields, event_tag};
 
 use crate::fields::{
     put_alloc_id, put_descriptor, put_frame, put_occupancy, put_onu, put_u8, put_u32,

@@ -1,6 +1,6 @@
 use Rattle.std.proofs.Common.{◌++◌, ap, ◌∙◌, List, ℕ}
 use Rattle.std.specs.Int.{w8, to_be_bytes}
-use Rattle.pon_recorder.specs.Bodies.{event_fields, event_tag}
+use Rattle.pon_recorder.specs.EventParts.{event_fields, event_tag}
 use Rattle.pon_recorder.proofs.Put.{behind, tagged}
 use Rattle.pon_recorder.proofs.entries.put_event.Goals as goal
 

@@ -1,0 +1,26 @@
+-- An event in two parts: its tag, and the fields behind it.
+use Rattle.std.specs.Prelude.{ℕ, List, []}
+use Rattle.pon_event.specs.declared.event.Event.{Event}
+use Rattle.pon_event.specs.declared.event.Event.TheVariants.{Admit, Change, Remove, Report, MakeMap, Fail, Restore}
+use Rattle.pon_record.specs.Fields.{alloc_id, cause}
+use Rattle.pon_record.specs.Events.{admit_fields, change_fields, report_fields}
+
+-- the tag of a kind of event
+abbrev pub event_tag : Event → ℕ
+event_tag (Admit u i d) = 1
+event_tag (Change i d) = 2
+event_tag (Remove i) = 3
+event_tag (Report f u occ) = 4
+event_tag MakeMap = 5
+event_tag (Fail c) = 6
+event_tag Restore = 7
+
+-- the bytes of an event behind its tag
+abbrev pub event_fields : Event → List ℕ
+event_fields (Admit u i d) = admit_fields.write (u, (i, d))
+event_fields (Change i d) = change_fields.write (i, d)
+event_fields (Remove i) = alloc_id.write i
+event_fields (Report f u occ) = report_fields.write (f, (u, occ))
+event_fields MakeMap = []
+event_fields (Fail c) = cause.write c
+event_fields Restore = []
