@@ -5,16 +5,23 @@ ghost use Rattle.pon_cert.specs.Texts.{FitsCert};
 ghost use Rattle.pon_record.specs.MadeMaps.{certificate, made_map, map};
 
 use crate::fields::put_frame;
-use pon_bwmap::{Map, encode_map};
+use pon_bwmap::{Map, write_map};
 use pon_cert::MapCert;
 use pon_state::MadeMap;
+use pon_units::MOST_STRUCTURES;
 use std::alloc::AllocError;
+
+/// The bytes of the longest map, one of 512 structures.
+const LONGEST_MAP: usize = 4100;
 
 fn put_map(bytes: &mut Vec<u8>, value: &Map) -> Result<(), AllocError>
     ensures { OnOk result (bytes.new.items ≡ bytes.old.items ++ map.write value.now) }
 {
-    let map = encode_map(*bytes.allocator(), value)?;
-    bytes.extend_from_slice(&map)?;
+    let rows = value.rows();
+    prove!(rows.len() <= MOST_STRUCTURES);
+    let mut room = [0; LONGEST_MAP];
+    let size = write_map(value, &mut room);
+    bytes.extend_from_slice(&room[..size])?;
     Ok(())
 }
 
