@@ -21,7 +21,7 @@ recorded_opening s = record {
   window = [];
 }
 
--- a first chapter of a port
+-- the body that records a first chapter of a port
 abbrev pub chapter_body : ℕ → Chapter → Body
 chapter_body port c = record { port = port; number = c.number; opening = recorded_opening c.opening; entries = c.entries }
 
