@@ -66,6 +66,12 @@ maps_fit bytes cs r =
     let bodies : List ℕ = flat_map chapter_bytes (map (λ c. c.body) cs) in
     omega (arith, maps_fit_bodies cs, ap (λ (l : List ℕ). length l) r.parts, length-append (MAGIC ++ bodies) [], length-append MAGIC bodies)
 
+pub maps_fit_cut : (bytes : List ℕ) (at : ℕ) (cs : List PlacedChapter) → IsTruncated bytes at cs → sum_by maps_in cs ≤ length bytes
+maps_fit_cut bytes at cs (inl none) = omega (arith, ap (λ (l : List PlacedChapter). sum_by maps_in l) none.2)
+maps_fit_cut bytes at cs (inr (rest, h, cut, there)) =
+    let bodies : List ℕ = flat_map chapter_bytes (map (λ c. c.body) cs) in
+    omega (arith, maps_fit_bodies cs, ap (λ (l : List ℕ). length l) h.parts, length-append (MAGIC ++ bodies) rest, length-append MAGIC bodies)
+
 -- each chapter of a recording fits the format
 pub all_fit : (cs : List PlacedChapter) → AllByRecursion FitsChapter (map (λ c. c.body) cs) → All (λ c. FitsChapter c.body) cs
 all_fit [] h = All-nil (λ c. FitsChapter c.body)

@@ -8,10 +8,11 @@ mod chapters;
 mod entries;
 mod faults;
 pub mod laws;
+mod parallel;
 mod recordings;
 mod verdict;
 
-pub use recordings::audit;
+pub use recordings::{PARALLEL_MAPS, audit};
 pub use verdict::{Verdict, Why};
 
 #[cfg(test)]

@@ -7,10 +7,15 @@ ghost use Rattle.pon_audit.specs.Verdicts.{AreGood, IsVerdict, maps_in};
 
 use crate::chapters::{Fault, judge};
 use crate::faults::first_fault;
+use crate::parallel::judge_in_parallel;
 use crate::verdict::Verdict;
 use pon_event::Event;
 use pon_record::{RawChapter, ReadFault, Recording, read_recording};
 use std::alloc::{AllocError, Global};
+use std::thread::Threads;
+
+/// The fewest maps of which the chapters are judged in many threads.
+pub const PARALLEL_MAPS: u64 = 2_048;
 
 // The maps of a chapter.
 fn chapter_maps(chapter: &RawChapter) -> u64
@@ -47,18 +52,28 @@ fn judge_each(
     Ok(answers)
 }
 
-// The first chapter that fails, if one does. `Err` only if memory is refused.
-fn find_fault(alloc: Global, chapters: &[RawChapter]) -> Result<Option<Verdict>, AllocError>
+// The first chapter that fails, if one does, of chapters with this number of maps. `Err` only if memory is refused.
+fn find_fault(
+    rt: &(impl Threads + Sync),
+    alloc: Global,
+    chapters: &[RawChapter],
+    maps: u64,
+) -> Result<Option<Verdict>, AllocError>
     requires { All (λ c. FitsChapter c.body) chapters.now }
     ensures { IfOk result (λ found. MatchOption found (AreGood chapters.now)
         (TellsBad chapters.now)) }
 {
-    let answers = judge_each(alloc, chapters)?;
+    let answers = if maps < PARALLEL_MAPS {
+        judge_each(alloc, chapters)?
+    } else {
+        judge_in_parallel(rt, alloc, chapters)?
+    };
     Ok(first_fault(chapters, &answers))
 }
 
 // The verdict on a recording of these chapters. `Err` only if memory is refused.
 fn judge_recording(
+    rt: &(impl Threads + Sync),
     alloc: Global,
     bytes: &[u8],
     recording: &Recording,
@@ -67,17 +82,17 @@ fn judge_recording(
     ensures { IfOk result (λ verdict. IsVerdict bytes.now verdict) }
 {
     let chapters = recording.chapters();
-    match find_fault(alloc, chapters)? {
+    let maps = map_count(chapters);
+    match find_fault(rt, alloc, chapters, maps)? {
         Some(verdict) => Ok(verdict),
-        None => Ok(Verdict::Good {
-            maps: map_count(chapters),
-        }),
+        None => Ok(Verdict::Good { maps }),
     }
 }
 
 // The verdict on a recording that is cut in the chapter that begins at a place, behind whole chapters. `Err` only if memory
 // is refused.
 fn judge_truncated(
+    rt: &(impl Threads + Sync),
     alloc: Global,
     bytes: &[u8],
     at: usize,
@@ -87,7 +102,9 @@ fn judge_truncated(
     ensures { IfOk result (λ verdict. IsVerdict bytes.now verdict) }
 {
     let _bytes = bytes;
-    match find_fault(alloc, whole.chapters())? {
+    let chapters = whole.chapters();
+    let maps = map_count(chapters);
+    match find_fault(rt, alloc, chapters, maps)? {
         Some(verdict) => Ok(verdict),
         None => Ok(Verdict::Truncated { at }),
     }
@@ -98,13 +115,18 @@ fn judge_truncated(
 /// `Good` only if the bytes are a recording, each chapter opens its port, each entry may follow those before it, each map is
 /// fair for the state before it, and the numbers of a port's chapters rise. `Bad` only if a chapter fails and those before it
 /// in the recording are good, also of a recording whose last chapter is cut. `Truncated` only if the whole chapters are good.
-/// `BadFormat` whatever the chapters before the fault. `Err` only if memory is refused.
-pub fn audit(alloc: Global, bytes: &[u8]) -> Result<Verdict, AllocError>
+/// `BadFormat` whatever the chapters before the fault. Chapters of [`PARALLEL_MAPS`] maps and more are judged in as many
+/// threads as there are processors, with the same verdict. `Err` only if memory is refused.
+pub fn audit(
+    rt: &(impl Threads + Sync),
+    alloc: Global,
+    bytes: &[u8],
+) -> Result<Verdict, AllocError>
     ensures { IfOk result (λ verdict. IsVerdict bytes.now verdict) }
 {
     match read_recording(alloc, bytes) {
-        Ok(recording) => judge_recording(alloc, bytes, &recording),
-        Err(ReadFault::Truncated { at, whole }) => judge_truncated(alloc, bytes, at, &whole),
+        Ok(recording) => judge_recording(rt, alloc, bytes, &recording),
+        Err(ReadFault::Truncated { at, whole }) => judge_truncated(rt, alloc, bytes, at, &whole),
         Err(ReadFault::BadFormat { at }) => Ok(Verdict::BadFormat { at }),
         Err(ReadFault::Memory) => Err(AllocError),
     }

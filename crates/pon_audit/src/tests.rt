@@ -2,6 +2,7 @@ use crate::audit;
 use std::alloc::{AllocError, Global};
 use std::process::Abort;
 use std::test::Fail;
+use std::thread::Threads;
 
 // Port 0 with a gap of 16 words: an Alloc-ID of 2,560 kbit/s, three maps of one structure each, a report for each.
 const RECORDING: &str = "
@@ -41,7 +42,7 @@ fn bytes_of(alloc: Global, text: &str) -> Result<Vec<u8>, AllocError> {
 
 // The text of the verdict on the recording with bytes put in at a place.
 fn verdict_with(
-    rt: &impl Abort,
+    rt: &(impl Abort + Threads + Sync),
     alloc: Global,
     at: usize,
     bytes: &str,
@@ -51,7 +52,7 @@ fn verdict_with(
         assert!(rt; at < recording.len() && i < recording.len() - at);
         recording[at + i] = *byte;
     }
-    format!(in alloc; "{}", audit(alloc, &recording)?)
+    format!(in alloc; "{}", audit(rt, alloc, &recording)?)
 }
 
 #[test]
@@ -88,7 +89,7 @@ fn tells_a_cut_recording(rt: HostRuntime) -> Result<(), Fail> {
         (7, "truncated 0"),
     ] {
         assert!(rt; len <= recording.len());
-        let text = format!(in rt.alloc(); "{}", audit(rt.alloc(), &recording[..len])?)?;
+        let text = format!(in rt.alloc(); "{}", audit(&rt, rt.alloc(), &recording[..len])?)?;
         assert_eq!(rt; text.as_str(), wanted);
     }
     Ok(())
@@ -100,7 +101,7 @@ fn tells_a_number_that_does_not_rise(rt: HostRuntime) -> Result<(), Fail> {
     assert!(rt; recording.len() > 8);
     let again = recording[8..].to_vec(rt.alloc())?;
     recording.extend_from_slice(&again)?;
-    let text = format!(in rt.alloc(); "{}", audit(rt.alloc(), &recording)?)?;
+    let text = format!(in rt.alloc(); "{}", audit(&rt, rt.alloc(), &recording)?)?;
     assert_eq!(rt; text.as_str(), "bad port 0 chapter 0 entry 0 Number");
     Ok(())
 }
