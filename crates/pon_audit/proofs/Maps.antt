@@ -62,12 +62,11 @@ start_decides (Some x) (Some y) = (λ e. ap Option.Some ((unsigned_Decides x y).
 structure_decides : (a b : Structure) → Decides (structure_eq a b) (a ≡ b)
 structure_decides a b =
     let parts = Decides-and _ _ (unsigned_Decides a.id b.id)
-        (Decides-and _ _ (booleans_Decides a.dbru b.dbru)
-        (Decides-and _ _ (booleans_Decides a.ploam b.ploam)
-        (Decides-and _ _ (start_decides a.start b.start)
-        (Decides-and _ _ (unsigned_Decides a.grant b.grant)
-        (Decides-and _ _ (booleans_Decides a.fwi b.fwi) (unsigned_Decides a.profile b.profile)))))) in
-    (
+    (Decides-and _ _ (booleans_Decides a.dbru b.dbru)
+    (Decides-and _ _ (booleans_Decides a.ploam b.ploam)
+    (Decides-and _ _ (start_decides a.start b.start)
+    (Decides-and _ _ (unsigned_Decides a.grant b.grant)
+    (Decides-and _ _ (booleans_Decides a.fwi b.fwi) (unsigned_Decides a.profile b.profile)))))) in (
       λ e. let p = parts.0 e in (λ i. record {
         id = p.0 i;
         dbru = p.1.0 i;

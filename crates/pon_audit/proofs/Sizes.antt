@@ -52,14 +52,28 @@ body_long b =
     let counted : List ℕ = to_be_bytes w32 (length b.entries) ++ es in
     let opened : List ℕ = opening.write b.opening ++ counted in
     let numbered : List ℕ = to_be_bytes w64 b.number ++ opened in
-    omega (arith, entries_long b.entries, length-append (to_be_bytes w32 (length b.entries)) es, length-append (opening.write b.opening) counted, length-append (to_be_bytes w64 b.number) opened,
-    length-append (port.write b.port) numbered, length-append (to_be_bytes w32 (length (body.write b))) (body.write b))
+    omega (
+      arith,
+      entries_long b.entries,
+      length-append (to_be_bytes w32 (length b.entries)) es,
+      length-append (opening.write b.opening) counted,
+      length-append (to_be_bytes w64 b.number) opened,
+      length-append (port.write b.port) numbered,
+      length-append (to_be_bytes w32 (length (body.write b))) (body.write b),
+    )
 
 maps_fit_bodies : (cs : List PlacedChapter) → sum_by maps_in cs ≤ length (flat_map chapter_bytes (map (λ c. c.body) cs))
 maps_fit_bodies [] = omega arith
 maps_fit_bodies (c ∷ cs) =
-    omega (arith, sum_by-cons maps_in c cs, few_maps c.body.entries, body_long c.body, maps_fit_bodies cs,
-    ap (λ (l : List ℕ). length l) (flat_map-cons chapter_bytes c.body (map (λ c. c.body) cs)), length-append (chapter_bytes c.body) (flat_map chapter_bytes (map (λ c. c.body) cs)))
+    omega (
+      arith,
+      sum_by-cons maps_in c cs,
+      few_maps c.body.entries,
+      body_long c.body,
+      maps_fit_bodies cs,
+      ap (λ (l : List ℕ). length l) (flat_map-cons chapter_bytes c.body (map (λ c. c.body) cs)),
+      length-append (chapter_bytes c.body) (flat_map chapter_bytes (map (λ c. c.body) cs)),
+    )
 
 pub maps_fit : (bytes : List ℕ) (cs : List PlacedChapter) → IsRecording bytes cs → sum_by maps_in cs ≤ length bytes
 maps_fit bytes cs r =

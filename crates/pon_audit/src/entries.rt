@@ -89,18 +89,14 @@ fn map_fault(state: &PortState, wanted: &Map, made: &MadeMap) -> Option<Why>
 }
 
 // Judges a map, and takes it into the state if it is the one that the state makes. `Err` only if memory is refused.
-fn take_map(
-    alloc: Global,
-    state: &mut PortState,
-    made: &MadeMap,
-) -> Result<Option<Why>, AllocError>
+fn take_map(alloc: Global, state: &mut PortState, made: &MadeMap) -> Result<Option<Why>, AllocError>
     requires admitted { IsAdmitted state.old.rule state.old.gap state.old.roster }
     requires frames { LeadsTo state.old.next state.old.window }
     requires next { state.old.next + 1 < 2 ^ 64 }
     requires count { state.old.taken_before + 1 < 2 ^ 64 }
     ensures { IfOk result (λ found. MatchOption found
         (IsMade state.old made.now
-            × (state.new ≡ after_map state.old (grants_of state.old.roster made.now.map)))
+        × (state.new ≡ after_map state.old (grants_of state.old.roster made.now.map)))
         (MapFails state.old made.now)) }
 {
     let problems = next_problems(alloc, state)?;

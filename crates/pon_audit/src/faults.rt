@@ -22,20 +22,19 @@ fn rises(earlier: &[RawChapter], chapter: &RawChapter) -> bool
 }
 
 // What is wrong with a chapter behind earlier ones, if `alone` is wrong with it whatever stands before it.
-fn fault_behind(
-    earlier: &[RawChapter],
-    chapter: &RawChapter,
-    alone: Option<Fault>,
-) -> Option<Fault>
+fn fault_behind(earlier: &[RawChapter], chapter: &RawChapter, alone: Option<Fault>) -> Option<Fault>
     requires { IsAnswer chapter.now alone }
     ensures { MatchOption result
         (IsGoodChapter chapter.now × All (λ d. Rises d chapter.now) earlier.now)
         (λ f. ChapterFails earlier.now chapter.now f.index f.why) }
 {
     match alone {
-        Some(Fault {
-            why: Why::Opening, ..
-        }) => alone,
+        Some(
+            Fault {
+                why: Why::Opening,
+                ..
+            },
+        ) => alone,
         _ if rises(earlier, chapter) => alone,
         _ => {
             let why = Why::Number;

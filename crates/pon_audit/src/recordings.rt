@@ -21,7 +21,10 @@ pub const PARALLEL_MAPS: u64 = 2_048;
 fn chapter_maps(chapter: &RawChapter) -> u64
     ensures { result ≡ maps_in chapter.now }
 {
-    let maps = chapter.entries.iter().filter(|e| matches!(e.event, Event::MakeMap));
+    let maps = chapter
+        .entries
+        .iter()
+        .filter(|e| matches!(e.event, Event::MakeMap));
     maps.count() as u64
 }
 
@@ -38,10 +41,7 @@ fn map_count(chapters: &[RawChapter]) -> u64
 }
 
 // What is wrong with each chapter whatever stands before it. `Err` only if memory is refused.
-fn judge_each(
-    alloc: Global,
-    chapters: &[RawChapter],
-) -> Result<Vec<Option<Fault>>, AllocError>
+fn judge_each(alloc: Global, chapters: &[RawChapter]) -> Result<Vec<Option<Fault>>, AllocError>
     requires { All (λ c. FitsChapter c.body) chapters.now }
     ensures { IfOk result (λ answers. AllZip IsAnswer chapters.now answers.items) }
 {
@@ -117,11 +117,7 @@ fn judge_truncated(
 /// in the recording are good, also of a recording whose last chapter is cut. `Truncated` only if the whole chapters are good.
 /// `BadFormat` whatever the chapters before the fault. Chapters of [`PARALLEL_MAPS`] maps and more are judged in as many
 /// threads as there are processors, with the same verdict. `Err` only if memory is refused.
-pub fn audit(
-    rt: &(impl Threads + Sync),
-    alloc: Global,
-    bytes: &[u8],
-) -> Result<Verdict, AllocError>
+pub fn audit(rt: &(impl Threads + Sync), alloc: Global, bytes: &[u8]) -> Result<Verdict, AllocError>
     ensures { IfOk result (λ verdict. IsVerdict bytes.now verdict) }
 {
     match read_recording(alloc, bytes) {

@@ -65,10 +65,22 @@ fn tells_what_is_wrong_with_an_entry(rt: HostRuntime) -> Result<(), Fail> {
         (25, "01", "bad port 0 chapter 0 entry 0 Opening"),
         (41, "01", "bad port 0 chapter 0 entry 0 Opening"),
         (75, "01", "bad port 0 chapter 0 entry 1 Bursts"),
-        (88, "01000000000000000000000000000001", "bad port 0 chapter 0 entry 1 Certificate"),
+        (
+            88,
+            "01000000000000000000000000000001",
+            "bad port 0 chapter 0 entry 1 Certificate",
+        ),
         (80, "10020010000c0787", "bad port 0 chapter 0 entry 1 Words"),
-        (80, "10020011000b15a9", "bad port 0 chapter 0 entry 1 Bursts"),
-        (75, "01002013ac10020010000c0787", "bad port 0 chapter 0 entry 1 Words"),
+        (
+            80,
+            "10020011000b15a9",
+            "bad port 0 chapter 0 entry 1 Bursts",
+        ),
+        (
+            75,
+            "01002013ac10020010000c0787",
+            "bad port 0 chapter 0 entry 1 Words",
+        ),
         (134, "05", "bad port 0 chapter 0 entry 2 Event"),
         (141, "c8", "good maps 3"),
     ] {
@@ -103,5 +115,42 @@ fn tells_a_number_that_does_not_rise(rt: HostRuntime) -> Result<(), Fail> {
     recording.extend_from_slice(&again)?;
     let text = format!(in rt.alloc(); "{}", audit(&rt, rt.alloc(), &recording)?)?;
     assert_eq!(rt; text.as_str(), "bad port 0 chapter 0 entry 0 Number");
+    Ok(())
+}
+
+// A recording of one chapter: an Alloc-ID of 2,560 kbit/s and this number of maps.
+fn many_maps(alloc: Global, maps: u16) -> Result<Vec<u8>, AllocError> {
+    let mut bytes = bytes_of(alloc, "504f4e5245433031 43")?;
+    bytes.extend_from_slice(&(54 + 59 * u32::from(maps)).to_be_bytes())?;
+    let opening = "00 0000000000000000 0010 00 00 0000000000000000 0000000000000000 0000 00";
+    bytes.extend_from_slice(&bytes_of(alloc, opening)?)?;
+    bytes.extend_from_slice(&(1 + u32::from(maps)).to_be_bytes())?;
+    let admit = "01 0005 0400 00000a00 00000000 00000a00 00";
+    bytes.extend_from_slice(&bytes_of(alloc, admit)?)?;
+    let class = "00 0000000000000000 0000000000000000 0000";
+    let mut map = bytes_of(alloc, "002013ac 10020010000b13cb")?;
+    map.extend_from_slice(&bytes_of(alloc, class)?)?;
+    map.extend_from_slice(&bytes_of(alloc, class)?)?;
+    for frame in 0..maps {
+        bytes.push(5)?;
+        bytes.extend_from_slice(&u64::from(frame).to_be_bytes())?;
+        bytes.extend_from_slice(&map)?;
+    }
+    Ok(bytes)
+}
+
+#[test]
+fn judges_many_maps(rt: HostRuntime) -> Result<(), Fail> {
+    let mut recording = many_maps(rt.alloc(), 2048)?;
+    let text = format!(in rt.alloc(); "{}", audit(&rt, rt.alloc(), &recording)?)?;
+    assert_eq!(rt; text.as_str(), "good maps 2048");
+    assert!(rt; recording.len() > 118_045);
+    recording[118_029] = 1;
+    recording[118_045] = 1;
+    let text = format!(in rt.alloc(); "{}", audit(&rt, rt.alloc(), &recording)?)?;
+    assert_eq!(rt;
+        text.as_str(),
+        "bad port 0 chapter 0 entry 2000 Certificate"
+    );
     Ok(())
 }

@@ -42,7 +42,9 @@ impl fmt::Display for Why {
 #[derive(Clone, Copy, Debug, PartialEq, Eq)]
 pub enum Verdict {
     /// Each chapter is good; they have this number of maps.
-    Good { maps: u64 },
+    Good {
+        maps: u64,
+    },
     /// The first chapter that fails, in the order of the recording: its port and number, the index of the entry from 0,
     /// and why. The index is 0 for `Opening` and `Number`.
     Bad {
@@ -52,10 +54,14 @@ pub enum Verdict {
         why: Why,
     },
     /// No recording: the fault is in the magic bytes, at 0, or in the chapter whose first byte is at `at`.
-    BadFormat { at: usize },
+    BadFormat {
+        at: usize,
+    },
     /// The bytes end inside the magic bytes, at 0, or inside the chapter whose first byte is at `at`; the whole chapters
     /// before it are good.
-    Truncated { at: usize },
+    Truncated {
+        at: usize,
+    },
 }
 
 impl fmt::Display for Verdict {

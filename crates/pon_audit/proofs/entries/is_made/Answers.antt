@@ -6,8 +6,7 @@ use Rattle.pon_audit.proofs.entries.is_made.Goals as goal
 pub returns-then-eq : goal.returns-then-eq
 returns-then-eq c =
     let same : c.args.made.now.map ≡ c.args.wanted.now = (maps_decide c.args.made.now.map c.args.wanted.now).0 (sym c.eq.ensures ∙ c.if-eq.true) in
-    let frame = unsigned_Decides c.args.made.now.frame c.next_frame.result in
-    (
+    let frame = unsigned_Decides c.args.made.now.frame c.next_frame.result in (
       λ t. record {
         frame = frame.0 (sym c.eq-then-eq.ensures ∙ t) ∙ c.next_frame.ensures;
         certified = c.requires.certified;
