@@ -13,8 +13,8 @@ use pon_record::RawChapter;
 use pon_state::{PortCfg, PortState};
 use std::alloc::{AllocError, Global};
 
-/// What is wrong with a chapter: the index of the entry that fails, and why; the index is 0 if the opening or the number
-/// is.
+/// What is wrong with a chapter: the index of the entry that fails, and why; the index is 0 if the opening or the
+/// number is.
 #[derive(Clone, Copy, Debug, PartialEq, Eq)]
 pub(crate) struct Fault {
     pub index: usize,

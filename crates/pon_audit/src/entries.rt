@@ -51,7 +51,8 @@ fn same_grants(rows: &[Alloc], others: &[Alloc]) -> bool
     true
 }
 
-// Returns whether a map with an accepted certificate is the one that the state makes, which has the structures `wanted`.
+// Returns whether a map with an accepted certificate is the one that the state makes, which has the structures
+// `wanted`.
 fn is_made(state: &PortState, wanted: &Map, made: &MadeMap) -> bool
     requires certified { IsCertified (input_of state.now) made.now.cert }
     requires wanted { wanted.now ≡ map_of state.now.profile (input_of state.now)
@@ -112,8 +113,8 @@ fn take_map(alloc: Global, state: &mut PortState, made: &MadeMap) -> Result<Opti
     Ok(fault)
 }
 
-/// Judges an entry after `kept` entries of its chapter, and takes it into the state if it may follow. `Err` only if memory
-/// is refused.
+/// Judges an entry after `kept` entries of its chapter, and takes it into the state if it may follow. `Err` only if
+/// memory is refused.
 pub(crate) fn take_entry(
     alloc: Global,
     state: &mut PortState,

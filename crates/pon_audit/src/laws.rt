@@ -18,7 +18,8 @@ pub fn one_first_fault()
         (other_port other_number other_index : ℕ) (other_why : Why)
         → IsFirstFault chapters port number index why
         → IsFirstFault chapters other_port other_number other_index other_why
-        → (port ≡ other_port) × (number ≡ other_number) × (index ≡ other_index) × (why ≡ other_why) }
+        → (port ≡ other_port) × (number ≡ other_number) × (index ≡ other_index)
+        × (why ≡ other_why) }
 {}
 
 /// Bytes have one verdict at most.

@@ -1,7 +1,9 @@
-//! The audit of recordings of the ports of an XG-PON optical line terminal (upstream bandwidth assignment, ITU-T G.987.3).
+//! The audit of recordings of the ports of an XG-PON optical line terminal (upstream bandwidth assignment, ITU-T
+//! G.987.3).
 //!
-//! [`audit`] replays each chapter of a recording and checks each map against its certificate: either each entry may follow
-//! those before it and each map is fair, or the first fault is told. The crate makes no certificate and takes no event.
+//! [`audit`] replays each chapter of a recording and checks each map against its certificate: either each entry may
+//! follow those before it and each map is fair, or the first fault is told. The crate makes no certificate and takes
+//! no event.
 #![tactic(auto)]
 
 mod chapters;

@@ -11,8 +11,8 @@ use rayon::prelude::*;
 use std::alloc::{AllocError, Global};
 use std::thread::Threads;
 
-/// What is wrong with each chapter whatever stands before it, from as many threads as there are processors. `Err` only if
-/// memory is refused.
+/// What is wrong with each chapter whatever stands before it, from as many threads as there are processors. `Err`
+/// only if memory is refused.
 pub(crate) fn judge_in_parallel(
     rt: &(impl Threads + Sync),
     alloc: Global,

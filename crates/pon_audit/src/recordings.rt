@@ -89,8 +89,8 @@ fn judge_recording(
     }
 }
 
-// The verdict on a recording that is cut in the chapter that begins at a place, behind whole chapters. `Err` only if memory
-// is refused.
+// The verdict on a recording that is cut in the chapter that begins at a place, behind whole chapters. `Err` only if
+// memory is refused.
 fn judge_truncated(
     rt: &(impl Threads + Sync),
     alloc: Global,
@@ -113,8 +113,9 @@ fn judge_truncated(
 /// The verdict on the bytes of a recording.
 ///
 /// `Good` only if the bytes are a recording, each chapter opens its port, each entry may follow those before it, each map is
-/// fair for the state before it, and the numbers of a port's chapters rise. `Bad` only if a chapter fails and those before it
-/// in the recording are good, also of a recording whose last chapter is cut. `Truncated` only if the whole chapters are good.
+/// fair for the state before it, and the numbers of a port's chapters rise. `Bad` only if a chapter fails and those
+/// before it in the recording are good, also of a recording whose last chapter is cut. `Truncated` only if the whole
+/// chapters are good.
 /// `BadFormat` whatever the chapters before the fault. Chapters of [`PARALLEL_MAPS`] maps and more are judged in as many
 /// threads as there are processors, with the same verdict. `Err` only if memory is refused.
 pub fn audit(rt: &(impl Threads + Sync), alloc: Global, bytes: &[u8]) -> Result<Verdict, AllocError>

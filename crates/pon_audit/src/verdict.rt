@@ -1,8 +1,8 @@
 use pon_units::PortNo;
 use std::fmt;
 
-/// Why a chapter of a recording is bad. Of several faults it is the first: opening, number, entries in order; of one entry
-/// the event, the certificate, the words, the bursts.
+/// Why a chapter of a recording is bad. Of several faults it is the first: opening, number, entries in order; of one
+/// entry the event, the certificate, the words, the bursts.
 #[derive(Clone, Copy, Debug, PartialEq, Eq)]
 pub enum Why {
     /// The chapter does not open its port: its number is above 0, or its opening is not that of a port just opened.
@@ -57,8 +57,8 @@ pub enum Verdict {
     BadFormat {
         at: usize,
     },
-    /// The bytes end inside the magic bytes, at 0, or inside the chapter whose first byte is at `at`; the whole chapters
-    /// before it are good.
+    /// The bytes end inside the magic bytes, at 0, or inside the chapter whose first byte is at `at`; the whole
+    /// chapters before it are good.
     Truncated {
         at: usize,
     },

@@ -42,8 +42,8 @@ pub fn class_problems(alloc: Global, input: &ShareInput) -> Result<Problems, All
     })
 }
 
-/// What a map grants to each admitted Alloc-ID under a certificate, in map order: the whole words of its guaranteed rate
-/// and of the surplus rate that the certificate spells. `Err` only if memory is refused.
+/// What a map grants to each admitted Alloc-ID under a certificate, in map order: the whole words of its guaranteed
+/// rate and of the surplus rate that the certificate spells. `Err` only if memory is refused.
 pub fn grants_under(
     alloc: Global,
     input: &ShareInput,
