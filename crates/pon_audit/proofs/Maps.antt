@@ -1,5 +1,5 @@
 -- Comparing maps: structures, their Alloc-IDs and their grants.
-use Rattle.std.proofs.Common.{◌≡◌, ℕ, ◌+◌, ◌<◌, Bool, true, false, not, List, ◌∷◌, [], ◌++◌, map, length, take, get_or, Option, Some, None, refl, ap, sym, ◌∙◌, subst, arith}
+use Rattle.std.proofs.Common.{◌≡◌, ℕ, ◌+◌, ◌<◌, Bool, true, false, not, List, ◌∷◌, [], ◌++◌, map, length, take, get_or, Option, Some, None, refl, ap, sym, ◌∙◌}
 use Rattle.std.specs.Prelude.{◌==◌, ◌↔◌}
 use Rattle.std.specs.Bool.{Decides}
 use Rattle.std.specs.Option.{option_eq}
@@ -10,13 +10,12 @@ use Rattle.std.proofs.lemmas.Slice.Eq.{slice_eq-Decides}
 use Rattle.std.specs.Cmp.Lexicographic.{pointwise}
 use Rattle.pon_lists.proofs.Lists.{map-map}
 use Rattle.pon_units.specs.Fraction.{Fraction}
-use Rattle.pon_units.specs.declared.granted.Granted.{Granted}
 use Rattle.pon_bwmap.specs.Structure.{Structure, structure_eq}
 use Rattle.pon_burst.specs.Maps.{structure_of}
 use Rattle.pon_admit.specs.declared.row.Row.{Row}
 use Rattle.pon_share.specs.Input.{Input}
 use Rattle.pon_share.specs.Maps.{map_of}
-use Rattle.pon_share.specs.Rates.{granted, payload}
+use Rattle.pon_share.specs.Rates.{granted}
 use Rattle.pon_share.specs.Sharing.{surplus_rate}
 use Rattle.pon_share.proofs.RosterMaps.{granted_to_row}
 use Rattle.pon_state.specs.State.{State, input_of}

@@ -1,5 +1,5 @@
 -- A chapter fails in one way at most, and a good one in none.
-use Rattle.std.proofs.Common.{◌≡◌, ℕ, zero, suc, ◌+◌, ◌<◌, ◌≤◌, List, [], ◌∷◌, length, map, take, get_or, Option, Some, None, refl, ap, sym, ◌∙◌, subst, arith, inl, inr}
+use Rattle.std.proofs.Common.{◌≡◌, ℕ, zero, suc, ◌<◌, List, [], ◌∷◌, map, take, Option, Some, None, refl, ap, sym, ◌∙◌, subst, arith, inl, inr}
 use Rattle.std.specs.Prelude.{◌≢◌, ◌⊎◌, All, slice_get}
 use Rattle.std.proofs.lemmas.Bool.{cases_lt}
 use Rattle.std.proofs.lemmas.List.{take-take}
@@ -17,7 +17,7 @@ use Rattle.pon_state.specs.declared.reply.Entry.{Entry}
 use Rattle.pon_port.specs.Chapters.{Chapter, state_before}
 use Rattle.pon_record.specs.Chapters.{PlacedChapter}
 use Rattle.pon_audit.specs.Openings.{OpensPort, chapter_of}
-use Rattle.pon_audit.specs.Faults.{EntryFails, FailsAt, GrantsWords, HasWrongWords, MapFails, ReplyFails, cut_at}
+use Rattle.pon_audit.specs.Faults.{EntryFails, FailsAt, GrantsWords, HasWrongWords, MapFails, ReplyFails}
 use Rattle.pon_audit.specs.Verdicts.{ChapterFails, IsGoodChapter, Rises}
 use Rattle.pon_audit.specs.declared.verdict.Why.{Why}
 use Rattle.pon_audit.specs.declared.verdict.Why.TheVariants as why

@@ -1,13 +1,13 @@
 -- Bytes have one verdict at most.
-use Rattle.std.proofs.Common.{◌≡◌, ℕ, zero, suc, ◌+◌, ◌<◌, ◌≤◌, List, [], ◌∷◌, length, take, get_or, Option, Some, None, refl, ap, sym, ◌∙◌, subst, arith, inl, inr}
-use Rattle.std.specs.Prelude.{All, slice_get, sum_by}
+use Rattle.std.proofs.Common.{◌≡◌, ℕ, zero, suc, ◌<◌, List, [], ◌∷◌, length, take, get_or, Some, ap, sym, ◌∙◌, subst, arith, inl, inr}
+use Rattle.std.specs.Prelude.{slice_get, sum_by}
 use Rattle.std.proofs.lemmas.Bool.{cases_lt}
 use Rattle.std.proofs.lemmas.List.{get_or-take, length-take-le, take-take}
 use Rattle.std.proofs.lemmas.Option.{get_or_from_slice_get}
 use Rattle.pon_record.specs.declared.fault.ReadFault.{ReadFault}
 use Rattle.pon_record.specs.declared.fault.ReadFault.TheVariants as read
 use Rattle.pon_record.specs.Chapters.{PlacedChapter}
-use Rattle.pon_record.specs.Recordings.{IsBadFormat, IsReadFault, IsRecording, IsTruncated}
+use Rattle.pon_record.specs.Recordings.{IsBadFormat, IsTruncated}
 use Rattle.pon_record.proofs.OneReading.{no_bad_format, no_truncated, one_fault, one_recording}
 use Rattle.pon_audit.specs.Verdicts.{AreGood, ChapterFails, HasChapters, IsFirstFault, IsGoodChapter, IsVerdict, Rises, maps_in}
 use Rattle.pon_audit.specs.declared.verdict.Verdict.{Verdict}

@@ -1,8 +1,8 @@
 -- A recording has fewer maps than bytes.
-use Rattle.std.proofs.Common.{◌≡◌, ℕ, ◌+◌, ◌≤◌, true, false, List, [], ◌∷◌, ◌++◌, length, map, refl, ap, sym, ◌∙◌, subst, arith, inl, inr}
+use Rattle.std.proofs.Common.{ℕ, ◌≤◌, true, false, List, [], ◌∷◌, ◌++◌, length, map, ap, sym, subst, arith, inl, inr}
 use Rattle.std.specs.Prelude.{All, cond, count_by, sum_by}
 use Rattle.std.specs.List.{flat_map, AllByRecursion}
-use Rattle.std.specs.Int.{w8, w32, w64, to_be_bytes}
+use Rattle.std.specs.Int.{w32, w64, to_be_bytes}
 use Rattle.std.proofs.lemmas.List.{length-append}
 use Rattle.std.proofs.lemmas.List.Concat.{flat_map-cons}
 use Rattle.std.proofs.lemmas.List.Elements.{All-cons, All-nil}
@@ -12,11 +12,10 @@ use Rattle.pon_event.specs.declared.event.Event.TheVariants.{Admit, Change, Remo
 use Rattle.pon_state.specs.Replay.{makes_map}
 use Rattle.pon_state.specs.declared.reply.Entry.{Entry}
 use Rattle.pon_record.specs.declared.limits.TheConstants.{MAGIC}
-use Rattle.pon_record.specs.Format.{number}
 use Rattle.pon_record.specs.Openings.{opening}
 use Rattle.pon_record.specs.Events.{event_bytes}
 use Rattle.pon_record.specs.Chapters.{Body, FitsChapter, PlacedChapter, body, chapter_bytes, entry, port, reply_to}
-use Rattle.pon_record.specs.Recordings.{Holds, IsRecording, IsTruncated}
+use Rattle.pon_record.specs.Recordings.{IsRecording, IsTruncated}
 use Rattle.pon_audit.specs.Judging.{TellsBad}
 use Rattle.pon_audit.specs.Verdicts.{HasChapters, IsVerdict, maps_in}
 use Rattle.pon_audit.specs.declared.verdict.Verdict.{Verdict}

@@ -1,6 +1,6 @@
 -- What is wrong with an entry in the state before it. Of several faults the first counts: the event, the certificate, the words,
 -- the bursts.
-use Rattle.std.specs.Prelude.{ℕ, ◌≡◌, ◌≢◌, ◌+◌, List, map, take, slice_get, Some, None}
+use Rattle.std.specs.Prelude.{ℕ, ◌≡◌, ◌≢◌, ◌+◌, map, take, slice_get, Some, None}
 use Rattle.pon_share.specs.Rates.{granted}
 use Rattle.pon_share.specs.Sharing.{IsCertified, surplus_rate}
 use Rattle.pon_state.specs.State.{State, input_of}
@@ -12,7 +12,7 @@ use Rattle.pon_state.specs.declared.reply.Reply.TheVariants.{Taken, Map}
 use Rattle.pon_state.specs.declared.reply.Entry.{Entry}
 use Rattle.pon_port.specs.Chapters.{Chapter, IsLawfulChapter, state_before}
 use Rattle.pon_audit.specs.declared.verdict.Why.{Why}
-use Rattle.pon_audit.specs.declared.verdict.Why.TheVariants.{Opening, Number, Event, Certificate, Words, Bursts}
+use Rattle.pon_audit.specs.declared.verdict.Why.TheVariants.{Event, Certificate, Words, Bursts}
 
 -- the Alloc-IDs of its structures are those of the admitted rows in map order
 abbrev pub ListsAllocs : State → MadeMap → Type 0

@@ -1,6 +1,6 @@
 -- A recorded chapter as a chapter of a port.
-use Rattle.std.specs.Prelude.{ℕ, ◌≡◌, [], None}
-use Rattle.pon_state.specs.State.{State, just_opened}
+use Rattle.std.specs.Prelude.{◌≡◌, [], None}
+use Rattle.pon_state.specs.State.{just_opened}
 use Rattle.pon_port.specs.Chapters.{Chapter}
 use Rattle.pon_record.specs.Openings.{Opening}
 use Rattle.pon_record.specs.Chapters.{Body}

@@ -5,7 +5,7 @@ use Rattle.pon_state.specs.Replay.{makes_map}
 use Rattle.pon_state.specs.declared.reply.Entry.{Entry}
 use Rattle.pon_port.specs.Chapters.{Chapter, IsLawfulChapter, state_before}
 use Rattle.pon_port.specs.FairMaps.{TellsFairMap}
-use Rattle.pon_record.specs.Chapters.{Body, PlacedChapter}
+use Rattle.pon_record.specs.Chapters.{PlacedChapter}
 use Rattle.pon_record.specs.Recordings.{IsBadFormat, IsRecording, IsTruncated}
 use Rattle.pon_audit.specs.Openings.{OpensPort, chapter_of}
 use Rattle.pon_audit.specs.Faults.{FailsAt}

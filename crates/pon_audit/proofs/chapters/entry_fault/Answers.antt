@@ -1,4 +1,4 @@
-use Rattle.std.proofs.Common.{◌≡◌, rules, arith}
+use Rattle.std.proofs.Common.{◌≡◌, rules}
 use Rattle.pon_state.specs.After.{after_entry}
 use Rattle.pon_state.specs.Legal.{MayFollow}
 use Rattle.pon_port.proofs.Kept.{kept_frames}

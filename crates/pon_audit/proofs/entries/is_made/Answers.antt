@@ -1,4 +1,4 @@
-use Rattle.std.proofs.Common.{◌≡◌, ◌∙◌, ap, sym, true, false}
+use Rattle.std.proofs.Common.{◌≡◌, ◌∙◌, sym, true, false}
 use Rattle.std.specs.Cmp.{unsigned_Decides}
 use Rattle.pon_audit.proofs.Maps.{maps_decide}
 use Rattle.pon_audit.proofs.entries.is_made.Goals as goal

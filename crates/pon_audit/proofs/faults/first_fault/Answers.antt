@@ -1,4 +1,4 @@
-use Rattle.std.proofs.Common.{◌≡◌, length, sym, subst, arith, rules, take, None}
+use Rattle.std.proofs.Common.{sym, subst, arith, rules, take, None}
 use Rattle.std.specs.Prelude.{All, slice_index_or}
 use Rattle.std.proofs.lemmas.Slice.Zip.{AllZip-long}
 use Rattle.pon_audit.specs.Judging.{IsAnswer}

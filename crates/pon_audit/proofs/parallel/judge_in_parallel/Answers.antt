@@ -1,4 +1,4 @@
-use Rattle.std.proofs.Common.{◌≡◌, ◌∙◌, ap}
+use Rattle.std.proofs.Common.{◌∙◌, ap}
 use Rattle.pon_audit.proofs.EachOk.{all_answered}
 use Rattle.pon_audit.proofs.parallel.judge_in_parallel.Goals as goal
 

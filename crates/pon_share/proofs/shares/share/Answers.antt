@@ -1,4 +1,3 @@
-use Rattle.std.proofs.Common.{◌∙◌, sym}
 use Rattle.pon_share.proofs.Dealing.{certified_under}
 use Rattle.pon_share.proofs.shares.share.Goals as goal
 
