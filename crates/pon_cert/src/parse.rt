@@ -191,7 +191,12 @@ fn flags_of(alloc: Global, names: &[AllocId], set: &str) -> Option<Option<Vec<bo
 }
 
 // The class that the words of its level and its set write; as above, memory is the inner `None`.
-fn class_in_text(alloc: Global, names: &[AllocId], level: &str, set: &str) -> Option<Option<ClassCert>>
+fn class_in_text(
+    alloc: Global,
+    names: &[AllocId],
+    level: &str,
+    set: &str,
+) -> Option<Option<ClassCert>>
     requires { AreNames names.now }
     ensures { MatchOption result
         ((cert : ClassCert) → IsClassOf names.now level.now set.now cert → ⊥)

@@ -80,8 +80,8 @@ step payload n rest byte left le h b e =
     rw e (record {
       below = xor_lt 12 rest (remainder generator 12 56 (byte * 2 ^ n * 2 ^ 12)) h.below f.0;
       multiple = subst (IsMultiple generator)
-        (xor_swap (payload % 2 ^ n * 2 ^ 12) rest (byte * 2 ^ n * 2 ^ 12) (remainder generator 12 56 (byte * 2 ^ n * 2 ^ 12)) ∙ ap (λ (m : ℕ). bit_xor m (bit_xor rest (remainder generator 12 56 (byte * 2 ^ n * 2 ^ 12)))) sum)
-        both;
+          (xor_swap (payload % 2 ^ n * 2 ^ 12) rest (byte * 2 ^ n * 2 ^ 12) (remainder generator 12 56 (byte * 2 ^ n * 2 ^ 12)) ∙ ap (λ (m : ℕ). bit_xor m (bit_xor rest (remainder generator 12 56 (byte * 2 ^ n * 2 ^ 12)))) sum)
+          both;
     })
   where
     within : (p n : ℕ) → n ≤ 48 → p < 2 ^ (8 + n + 12) → p < 2 ^ (12 + 56)

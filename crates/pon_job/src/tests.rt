@@ -23,11 +23,7 @@ fn refusal(rt: &impl Abort, alloc: Global, line: &str) -> Option<ErrorKind> {
     }
 }
 
-fn run_of(
-    maps: u64,
-    record: Option<&'static str>,
-    operate: Option<&'static str>,
-) -> Job<'static> {
+fn run_of(maps: u64, record: Option<&'static str>, operate: Option<&'static str>) -> Job<'static> {
     Job::Run {
         config: "a.toml",
         listen: "127.0.0.1:0",
