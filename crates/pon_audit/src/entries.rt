@@ -2,7 +2,7 @@
 
 ghost use Rattle.std.specs.Prelude.{◌≡◌, ◌↔◌, ◌+◌, ◌<◌, ◌^◌, IfOk, IsTrue, MatchOption, map};
 ghost use Rattle.pon_admit.specs.Roster.{IsAdmitted};
-ghost use Rattle.pon_window.specs.Window.{LeadsTo};
+ghost use Rattle.pon_window.specs.Window.{AreConsecutive};
 ghost use Rattle.pon_share.specs.Maps.{map_of};
 ghost use Rattle.pon_share.specs.Sharing.{IsCertified, surplus_rate};
 ghost use Rattle.pon_state.specs.Accounts.{AccountsFor};
@@ -92,7 +92,7 @@ fn map_fault(state: &PortState, wanted: &Map, made: &MadeMap) -> Option<Why>
 // Judges a map, and takes it into the state if it is the one that the state makes. `Err` only if memory is refused.
 fn take_map(alloc: Global, state: &mut PortState, made: &MadeMap) -> Result<Option<Why>, AllocError>
     requires admitted { IsAdmitted state.old.rule state.old.gap state.old.roster }
-    requires frames { LeadsTo state.old.next state.old.window }
+    requires frames { AreConsecutive state.old.next state.old.window }
     requires next { state.old.next + 1 < 2 ^ 64 }
     requires count { state.old.taken_before + 1 < 2 ^ 64 }
     ensures { IfOk result (λ found. MatchOption found
@@ -124,7 +124,7 @@ pub(crate) fn take_entry(
     requires reply { (reply_to entry.now.event).Fits entry.now.reply }
     requires admitted { IsAdmitted state.old.rule state.old.gap state.old.roster }
     requires book { AccountsFor state.old.roster state.old.book }
-    requires frames { LeadsTo state.old.next state.old.window }
+    requires frames { AreConsecutive state.old.next state.old.window }
     ensures { IfOk result (λ found. MatchOption found
         (MayFollow kept state.old entry.now × (state.new ≡ after_entry state.old entry.now))
         (EntryFails kept state.old entry.now)) }

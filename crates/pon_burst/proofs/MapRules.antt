@@ -14,7 +14,7 @@ use Rattle.pon_bwmap.specs.Structure.{Structure}
 use Rattle.pon_bwmap.specs.MapRules.{continues as lacks_start, IsMap}
 use Rattle.pon_bwmap.proofs.SeriesLaw.{map_rules}
 use Rattle.pon_burst.specs.Bursts.{IsInFrame, burst_of, bursts_of, continued}
-use Rattle.pon_burst.specs.Maps.{follows_in_series, frame_words, map_of, start_of, structure_of}
+use Rattle.pon_burst.specs.Maps.{follows_in_series, frame_words, map_granting, start_of, structure_of}
 use Rattle.pon_burst.proofs.MapRows.{follows_in_series-is, has_onu}
 use Rattle.pon_lists.proofs.Order.{in_order-sides}
 use Rattle.pon_burst.proofs.SoundMaps.{sound_of_rising}
@@ -105,11 +105,11 @@ module _ (gap profile : ℕ) (gs : List Granted) (order : AreInMapOrder gs) wher
     no_long_series (suc k) (g ∷ ys) e all =
         seventeen k g [] ys e (λ j lt. let s : suc k + j ≡ suc (k + j) = omega arith in subst (λ n. goes_on (g ∷ ys) n ≡ true) s (all j lt))
 
-pub is_map_of_rising : (gap profile : ℕ) (gs : List Granted) → AreInMapOrder gs → ((u : ℕ) → count_by (λ g. g.onu == u) gs ≤ 16) → length gs ≤ 512 → frame_words gap gs ≤ 9720 → IsMap (map_of gap profile gs)
+pub is_map_of_rising : (gap profile : ℕ) (gs : List Granted) → AreInMapOrder gs → ((u : ℕ) → count_by (λ g. g.onu == u) gs ≤ 16) → length gs ≤ 512 → frame_words gap gs ≤ 9720 → IsMap (map_granting gap profile gs)
 is_map_of_rising gap profile gs order short few fits =
-    (map_rules (map_of gap profile gs)).1 (record {
+    (map_rules (map_granting gap profile gs)).1 (record {
       count = rw (length-map gs (structure_of gap profile gs)) few;
       first = first_starts gap profile gs order gs refl;
-      starts = starts_in_frame gap (map_of gap profile gs) (sound_of_rising gap profile gs order fits).in_frame;
+      starts = starts_in_frame gap (map_granting gap profile gs) (sound_of_rising gap profile gs order fits).in_frame;
       series = λ k all. no_long_series gap profile gs order short k gs refl all;
     })

@@ -10,7 +10,7 @@ use Rattle.pon_units.specs.declared.Granted.{Granted}
 use Rattle.pon_units.specs.Granted.{AreInMapOrder}
 use Rattle.pon_bwmap.specs.Structure.{Structure}
 use Rattle.pon_burst.specs.Maps.{follows_in_series, start_of, structure_of}
-use Rattle.pon_burst.specs.Series.{Series, burst_structures, burst_words, granted, granted_to, polled}
+use Rattle.pon_burst.specs.Series.{Series, burst_structures, burst_words, grants_of_series, granted_to, polled}
 use Rattle.pon_burst.proofs.MapRows.{follows_in_series-is, has_onu, start-is, word_after}
 use Rattle.pon_burst.proofs.SeriesOrder.{Rise, granted_of, in_order, none_before, rise-take, words_after}
 
@@ -49,22 +49,22 @@ series_more series k s lt here =
     let next : k + 1 ≡ suc k = omega arith in
     ap (λ n. take n series) next ∙ take-suc series k s lt ∙ ap (λ t. take k series ++ t ∷ []) (sym here)
 
-pub granted_more : (series : List Series) (k : ℕ) (s : Series) → k < length series → s ≡ get_or series k s → granted (take (k + 1) series) ≡ granted (take k series) ++ granted_to s
+pub granted_more : (series : List Series) (k : ℕ) (s : Series) → k < length series → s ≡ get_or series k s → grants_of_series (take (k + 1) series) ≡ grants_of_series (take k series) ++ granted_to s
 granted_more series k s lt here =
-    ap granted (series_more series k s lt here) ∙ flat_map-append granted_to (take k series) (s ∷ []) ∙ ap (λ gs. granted (take k series) ++ gs) (append-nil (granted_to s))
+    ap grants_of_series (series_more series k s lt here) ∙ flat_map-append granted_to (take k series) (s ∷ []) ∙ ap (λ gs. grants_of_series (take k series) ++ gs) (append-nil (granted_to s))
 
 -- series k is written behind those before it
 pub series_written : (gap profile : ℕ) (series : List Series) (k : ℕ) (s : Series) (start : ℕ) (front : List Structure) → Rise series → k < length series → s ≡ get_or series k s
-    → start ≡ gap + sum_by (burst_words gap) (take k series) → front ≡ map (structure_of gap profile (granted series)) (granted (take k series))
-    → front ++ burst_structures profile start s.1.items ≡ map (structure_of gap profile (granted series)) (granted (take (k + 1) series))
+    → start ≡ gap + sum_by (burst_words gap) (take k series) → front ≡ map (structure_of gap profile (grants_of_series series)) (grants_of_series (take k series))
+    → front ++ burst_structures profile start s.1.items ≡ map (structure_of gap profile (grants_of_series series)) (grants_of_series (take (k + 1) series))
 series_written gap profile series k s start front r lt here begins written =
-    let gs : List Granted = granted series in
-    let xs : List Granted = granted (take k series) in
+    let gs : List Granted = grants_of_series series in
+    let xs : List Granted = grants_of_series (take k series) in
     let cut : series ≡ take k series ++ s ∷ drop (k + 1) series
     = sym (take-append-drop k series) ∙ ap (λ (ss : List Series). take k series ++ ss) (drop_more series k s lt ∙ ap (λ (t : Series). t ∷ drop (k + 1) series) (sym here)) in
-    let parts : gs ≡ xs ++ (granted_to s ++ granted (drop (k + 1) series)) = ap granted cut ∙ flat_map-append granted_to (take k series) (s ∷ drop (k + 1) series) in
+    let parts : gs ≡ xs ++ (granted_to s ++ grants_of_series (drop (k + 1) series)) = ap grants_of_series cut ∙ flat_map-append granted_to (take k series) (s ∷ drop (k + 1) series) in
     let word : start ≡ word_after gap xs = begins ∙ sym (words_after gap (take k series) (rise-take k series r)) in
     ap (λ n. front ++ burst_structures profile n s.1.items) word
-    ∙ (λ i. written i ++ burst gap profile gs (in_order series r) s.0 s.1.items xs (granted (drop (k + 1) series)) parts (none_before (take k series) s (drop (k + 1) series) (subst Rise cut r)) i)
+    ∙ (λ i. written i ++ burst gap profile gs (in_order series r) s.0 s.1.items xs (grants_of_series (drop (k + 1) series)) parts (none_before (take k series) s (drop (k + 1) series) (subst Rise cut r)) i)
     ∙ sym (map-append (structure_of gap profile gs) xs (granted_to s))
     ∙ ap (map (structure_of gap profile gs)) (sym (granted_more series k s lt here))

@@ -14,7 +14,7 @@ use Rattle.pon_lists.proofs.Lists.{All-middle, count_by-append, list_any-map, su
 use Rattle.pon_lists.proofs.Order.{in_order-append}
 use Rattle.pon_lists.proofs.Distinct.{count_once, count_once-append, count_once_agree, count_once_none, occurs}
 use Rattle.pon_burst.specs.Maps.{frame_words, grant}
-use Rattle.pon_burst.specs.Series.{FitsFrame, Series, burst_words, granted, granted_to}
+use Rattle.pon_burst.specs.Series.{FitsFrame, Series, burst_words, grants_of_series, granted_to}
 use Rattle.pon_burst.proofs.MapRows.{has_onu, onus, word_after, words_of}
 
 -- what an Alloc-ID of the ONU is granted
@@ -59,17 +59,17 @@ of_onu_in_order u (b ∷ bs) h = (
   of_onu_in_order u bs (pairs-tail (λ a b. a.0 < b.0) b bs h),
 )
 
-above : (u : ℕ) (ss : List Series) → All (λ t. u < t.0) ss → All (λ g. u < g.onu) (granted ss)
+above : (u : ℕ) (ss : List Series) → All (λ t. u < t.0) ss → All (λ g. u < g.onu) (grants_of_series ss)
 above u [] h = λ k d lt. absurd (omega (arith, lt))
 above u (s ∷ ss) h =
-    All-append (λ g. u < g.onu) (granted_to s) (granted ss) (All-map (λ g. u < g.onu) (granted_of s.0) s.1.items (λ k d lt. All-head (λ t. u < t.0) s ss h)) (above u ss (All-tail (λ t. u < t.0) s ss h))
+    All-append (λ g. u < g.onu) (granted_to s) (grants_of_series ss) (All-map (λ g. u < g.onu) (granted_of s.0) s.1.items (λ k d lt. All-head (λ t. u < t.0) s ss h)) (above u ss (All-tail (λ t. u < t.0) s ss h))
 
-pub in_order : (ss : List Series) → Rise ss → AreInMapOrder (granted ss)
+pub in_order : (ss : List Series) → Rise ss → AreInMapOrder (grants_of_series ss)
 in_order [] r = tt
 in_order (s ∷ ss) r =
-    in_order-append ComesBefore (granted_to s) (granted ss) (of_onu_in_order s.0 s.1.items r.1) (in_order ss r.3)
-    (All-map (λ g. All (ComesBefore g) (granted ss)) (granted_of s.0) s.1.items (λ k d lt. All-weaker (λ g. s.0 < g.onu) (ComesBefore (granted_of s.0 (get_or s.1.items k d)))
-    (λ g l. (omega (arith, l), λ e. absurd (omega (arith, l, e)))) (granted ss) (above s.0 ss r.0)))
+    in_order-append ComesBefore (granted_to s) (grants_of_series ss) (of_onu_in_order s.0 s.1.items r.1) (in_order ss r.3)
+    (All-map (λ g. All (ComesBefore g) (grants_of_series ss)) (granted_of s.0) s.1.items (λ k d lt. All-weaker (λ g. s.0 < g.onu) (ComesBefore (granted_of s.0 (get_or s.1.items k d)))
+    (λ g l. (omega (arith, l), λ e. absurd (omega (arith, l, e)))) (grants_of_series ss) (above s.0 ss r.0)))
 
 -- An ONU has what its series has.
 
@@ -77,11 +77,11 @@ not_of : (u v : ℕ) (bs : List (ℕ × ℕ)) → (u == v) ≡ false → has_onu
 not_of u v [] e = refl
 not_of u v (b ∷ bs) e = (λ i. e i || not_of u v bs e i)
 
-pub none_before : (xs : List Series) (s : Series) (ys : List Series) → Rise (xs ++ s ∷ ys) → has_onu s.0 (granted xs) ≡ false
+pub none_before : (xs : List Series) (s : Series) (ys : List Series) → Rise (xs ++ s ∷ ys) → has_onu s.0 (grants_of_series xs) ≡ false
 none_before [] s ys r = refl
 none_before (x ∷ xs) s ys r =
     let less : x.0 < s.0 = All-middle (λ t. x.0 < t.0) xs ys s r.0 in
-    list_any-append (λ g. g.onu == s.0) (granted_to x) (granted xs)
+    list_any-append (λ g. g.onu == s.0) (granted_to x) (grants_of_series xs)
     ∙ (λ i. not_of x.0 s.0 x.1.items (ne_eqb x.0 s.0 (λ e. omega (arith, less, e))) i || none_before xs s ys r.3 i)
 
 none_counted : (u : ℕ) (gs : List Granted) → All (λ g. (g.onu == u) ≡ false) gs → count_by (λ g. g.onu == u) gs ≡ 0
@@ -91,16 +91,16 @@ none_counted u (g ∷ gs) h =
     let none : bit_is u g ≡ 0 = ap (λ b. cond b 1 0) (All-head (λ g. (g.onu == u) ≡ false) g gs h) in
     omega (arith, sum_by-cons (bit_is u) g gs, none, none_counted u gs (All-tail (λ g. (g.onu == u) ≡ false) g gs h))
 
-pub counted : (most : ℕ) (ss : List Series) → Rise ss → All (λ s. length s.1.items ≤ most) ss → (u : ℕ) → count_by (λ g. g.onu == u) (granted ss) ≤ most
+pub counted : (most : ℕ) (ss : List Series) → Rise ss → All (λ s. length s.1.items ≤ most) ss → (u : ℕ) → count_by (λ g. g.onu == u) (grants_of_series ss) ≤ most
 counted most [] r h u = omega arith
 counted most (s ∷ ss) r h u =
     let test : Granted → Bool = λ g. g.onu == u in
-    let parts : count_by test (granted (s ∷ ss)) ≡ count_by test (granted_to s) + count_by test (granted ss) = count_by-append test (granted_to s) (granted ss) in
+    let parts : count_by test (grants_of_series (s ∷ ss)) ≡ count_by test (granted_to s) + count_by test (grants_of_series ss) = count_by-append test (granted_to s) (grants_of_series ss) in
     elim (eqb_tells s.0 u) [
       | inl e ↦
-          let others : All (λ g. (g.onu == u) ≡ false) (granted ss)
-          = All-weaker (λ g. s.0 < g.onu) (λ g. (g.onu == u) ≡ false) (λ g l. ne_eqb g.onu u (λ k. omega (arith, l, k, e.1))) (granted ss) (above s.0 ss r.0) in
-          omega (arith, parts, none_counted u (granted ss) others, count_by-le-length test (granted_to s), length-map s.1.items (granted_of s.0), All-head (λ s. length s.1.items ≤ most) s ss h)
+          let others : All (λ g. (g.onu == u) ≡ false) (grants_of_series ss)
+          = All-weaker (λ g. s.0 < g.onu) (λ g. (g.onu == u) ≡ false) (λ g l. ne_eqb g.onu u (λ k. omega (arith, l, k, e.1))) (grants_of_series ss) (above s.0 ss r.0) in
+          omega (arith, parts, none_counted u (grants_of_series ss) others, count_by-le-length test (granted_to s), length-map s.1.items (granted_of s.0), All-head (λ s. length s.1.items ≤ most) s ss h)
       | inr e ↦
           let own : All (λ g. (g.onu == u) ≡ false) (granted_to s) = All-map (λ g. (g.onu == u) ≡ false) (granted_of s.0) s.1.items (λ k d lt. e.0) in
           omega (arith, parts, none_counted u (granted_to s) own, counted most ss r.3 (All-tail (λ s. length s.1.items ≤ most) s ss h) u)
@@ -117,40 +117,40 @@ once u (b ∷ bs) h =
     (All-map (λ g. test g.onu ≡ false) (granted_of u) bs (λ k d lt. ap (λ b. not b && true) (eq-eqb u u refl)))) in
     omega (arith, none)
 
-onus_counted : (ss : List Series) → Rise ss → count_once (onus (granted ss)) (λ _. true) ≡ length ss
+onus_counted : (ss : List Series) → Rise ss → count_once (onus (grants_of_series ss)) (λ _. true) ≡ length ss
 onus_counted [] r = refl
 onus_counted (s ∷ ss) r =
     let test : ℕ → Bool = λ y. not (occurs y (onus (granted_to s))) && true in
-    let parts : count_once (onus (granted (s ∷ ss))) (λ _. true) ≡ count_once (onus (granted_to s)) (λ _. true) + count_once (onus (granted ss)) test
-    = ap (λ us. count_once us (λ _. true)) (map-append (λ g. g.onu) (granted_to s) (granted ss)) ∙ count_once-append (onus (granted_to s)) (onus (granted ss)) (λ _. true) in
-    let others : All (λ g. test g.onu ≡ true) (granted ss)
+    let parts : count_once (onus (grants_of_series (s ∷ ss))) (λ _. true) ≡ count_once (onus (granted_to s)) (λ _. true) + count_once (onus (grants_of_series ss)) test
+    = ap (λ us. count_once us (λ _. true)) (map-append (λ g. g.onu) (granted_to s) (grants_of_series ss)) ∙ count_once-append (onus (granted_to s)) (onus (grants_of_series ss)) (λ _. true) in
+    let others : All (λ g. test g.onu ≡ true) (grants_of_series ss)
     = All-weaker (λ g. s.0 < g.onu) (λ g. test g.onu ≡ true)
-    (λ g l. ap (λ b. not b && true) (list_any-map (λ u. u == g.onu) (λ g. g.onu) (granted_to s) ∙ not_of s.0 g.onu s.1.items (ne_eqb s.0 g.onu (λ e. omega (arith, l, e))))) (granted ss) (above s.0 ss r.0) in
-    let same : count_once (onus (granted ss)) test ≡ count_once (onus (granted ss)) (λ _. true)
-    = count_once_agree (onus (granted ss)) test (λ _. true) (All-map (λ y. test y ≡ true) (λ g. g.onu) (granted ss) others) in
+    (λ g l. ap (λ b. not b && true) (list_any-map (λ u. u == g.onu) (λ g. g.onu) (granted_to s) ∙ not_of s.0 g.onu s.1.items (ne_eqb s.0 g.onu (λ e. omega (arith, l, e))))) (grants_of_series ss) (above s.0 ss r.0) in
+    let same : count_once (onus (grants_of_series ss)) test ≡ count_once (onus (grants_of_series ss)) (λ _. true)
+    = count_once_agree (onus (grants_of_series ss)) test (λ _. true) (All-map (λ y. test y ≡ true) (λ g. g.onu) (grants_of_series ss) others) in
     omega (arith, parts, once s.0 s.1.items r.2, same, onus_counted ss r.3)
 
-burst_sum : (gap : ℕ) (ss : List Series) → sum_by (burst_words gap) ss ≡ (gap + 2) * length ss + sum_by grant (granted ss)
+burst_sum : (gap : ℕ) (ss : List Series) → sum_by (burst_words gap) ss ≡ (gap + 2) * length ss + sum_by grant (grants_of_series ss)
 burst_sum gap [] = omega arith
 burst_sum gap (s ∷ ss) =
-    omega (arith, sum_by-cons (burst_words gap) s ss, sum_by-append grant (granted_to s) (granted ss), sum_by-map grant (granted_of s.0) s.1.items, burst_sum gap ss)
+    omega (arith, sum_by-cons (burst_words gap) s ss, sum_by-append grant (granted_to s) (grants_of_series ss), sum_by-map grant (granted_of s.0) s.1.items, burst_sum gap ss)
 
 -- the next burst starts behind the gap and the bursts before it
-pub words_after : (gap : ℕ) (ss : List Series) → Rise ss → word_after gap (granted ss) ≡ gap + sum_by (burst_words gap) ss
+pub words_after : (gap : ℕ) (ss : List Series) → Rise ss → word_after gap (grants_of_series ss) ≡ gap + sum_by (burst_words gap) ss
 words_after gap ss r =
-    let gaps : (gap + 2) * count_once (onus (granted ss)) (λ _. true) ≡ (gap + 2) * length ss = ap (λ n. (gap + 2) * n) (onus_counted ss r) in
+    let gaps : (gap + 2) * count_once (onus (grants_of_series ss)) (λ _. true) ≡ (gap + 2) * length ss = ap (λ n. (gap + 2) * n) (onus_counted ss r) in
     omega (arith, gaps, burst_sum gap ss)
 
-pub fits : (gap : ℕ) (ss : List Series) → FitsFrame gap ss → frame_words gap (granted ss) ≤ 9720
-fits gap ss fit = omega (arith, words_after gap ss (rise gap ss fit), words_of gap (granted ss), fit.words)
+pub fits : (gap : ℕ) (ss : List Series) → FitsFrame gap ss → frame_words gap (grants_of_series ss) ≤ 9720
+fits gap ss fit = omega (arith, words_after gap ss (rise gap ss fit), words_of gap (grants_of_series ss), fit.words)
 
 -- series that rise fit a frame where what they are granted does
-pub fits_from : (gap : ℕ) (ss : List Series) → Rise ss → frame_words gap (granted ss) ≤ 9720 → FitsFrame gap ss
+pub fits_from : (gap : ℕ) (ss : List Series) → Rise ss → frame_words gap (grants_of_series ss) ≤ 9720 → FitsFrame gap ss
 fits_from gap ss r fit = record {
   onus_rise = onus ss r;
   alloc_ids_rise = alloc_ids ss r;
   none_empty = some ss r;
-  words = omega (arith, words_after gap ss r, words_of gap (granted ss), fit);
+  words = omega (arith, words_after gap ss r, words_of gap (grants_of_series ss), fit);
 }
   where
     onus : (ss : List Series) → Rise ss → AllPairs (λ s t. s.0 < t.0) ss

@@ -6,7 +6,7 @@ use Rattle.pon_units.specs.declared.Granted.{Granted}
 use Rattle.pon_units.specs.Granted.{AreInMapOrder}
 use Rattle.pon_lists.proofs.Distinct.{bit, count_once}
 use Rattle.pon_burst.specs.Bursts.{AreSound}
-use Rattle.pon_burst.specs.Maps.{frame_words, grant, map_of, start_of, structure_of}
+use Rattle.pon_burst.specs.Maps.{frame_words, grant, map_granting, start_of, structure_of}
 use Rattle.pon_burst.proofs.Laid.{AreLaid, BeginsAt, behind, end_of, laid_sound}
 use Rattle.pon_burst.proofs.MapRows.{follows_in_series-is, has_onu, onus, start-is, word_after, word_push, words_of}
 
@@ -48,10 +48,10 @@ module _ (gap profile : ℕ) (gs : List Granted) (order : AreInMapOrder gs) wher
         ap (λ n. end_of gap n (map (structure_of gap profile gs) ys)) here.1 ∙ rest.1,
       )
 
-  pub sound_of_rising : frame_words gap gs ≤ 9720 → AreSound gap (map_of gap profile gs)
+  pub sound_of_rising : frame_words gap gs ≤ 9720 → AreSound gap (map_granting gap profile gs)
   sound_of_rising fits =
-      let both : AreLaid gap (word_after gap []) (map_of gap profile gs) × (end_of gap (word_after gap []) (map_of gap profile gs) ≡ word_after gap gs) = rest_laid [] gs refl in
+      let both : AreLaid gap (word_after gap []) (map_granting gap profile gs) × (end_of gap (word_after gap []) (map_granting gap profile gs) ≡ word_after gap gs) = rest_laid [] gs refl in
       let start : word_after gap [] ≡ gap = omega arith in
       let end : word_after gap gs ≤ gap + 9720 = omega (arith, words_of gap gs, fits) in
-      laid_sound gap (map_of gap profile gs) (subst (λ w. AreLaid gap w (map_of gap profile gs)) start both.0)
-      (subst (λ w. end_of gap w (map_of gap profile gs) ≤ gap + 9720) start (subst (λ w. w ≤ gap + 9720) (sym both.1) end))
+      laid_sound gap (map_granting gap profile gs) (subst (λ w. AreLaid gap w (map_granting gap profile gs)) start both.0)
+      (subst (λ w. end_of gap w (map_granting gap profile gs) ≤ gap + 9720) start (subst (λ w. w ≤ gap + 9720) (sym both.1) end))

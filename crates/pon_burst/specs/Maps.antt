@@ -37,5 +37,5 @@ module _ (gap profile : ℕ) (gs : List Granted) where
   }
 
   -- a structure for each Alloc-ID that is granted something, in order
-  abbrev pub map_of : List Structure
-  map_of = map structure_of gs
+  abbrev pub map_granting : List Structure
+  map_granting = map structure_of gs

@@ -14,8 +14,8 @@ abbrev pub granted_to : Series → List Granted
 granted_to s = map (λ a. record { onu = s.0; alloc_id = a.0; words = a.1 }) s.1.items
 
 -- what all series are granted, in order
-abbrev pub granted : List Series → List Granted
-granted series = flat_map granted_to series
+abbrev pub grants_of_series : List Series → List Granted
+grants_of_series series = flat_map granted_to series
 
 -- the words of a burst and of the gap before it: gap, header and trailer, and for each Alloc-ID its report and payload
 abbrev pub burst_words : ℕ → Series → ℕ

@@ -5,19 +5,19 @@ ghost use Rattle.pon_units.specs.declared.Granted.{Granted};
 ghost use Rattle.pon_units.specs.Granted.{AreInMapOrder};
 ghost use Rattle.pon_bwmap.specs.MapRules.{IsMap};
 ghost use Rattle.pon_burst.specs.Bursts.{AreSound};
-ghost use Rattle.pon_burst.specs.Maps.{frame_words, map_of};
+ghost use Rattle.pon_burst.specs.Maps.{frame_words, map_granting};
 
 use pon_units::{FRAME_WORDS, LONGEST_SERIES, MOST_STRUCTURES};
 
 /// Grants in map order that fit a frame with their gaps have sound bursts.
 pub fn grants_in_map_order_have_sound_bursts()
     ensures { (gap profile : ℕ) (gs : List Granted) → AreInMapOrder gs
-        → frame_words gap gs ≤ FRAME_WORDS → AreSound gap (map_of gap profile gs) }
+        → frame_words gap gs ≤ FRAME_WORDS → AreSound gap (map_granting gap profile gs) }
 {}
 
 /// Their structures are a map, where there are at most 512 of them, and at most 16 of each ONU.
 pub fn map_rules()
     ensures { (gap profile : ℕ) (gs : List Granted) → AreInMapOrder gs
         → ((u : ℕ) → count_by (λ g. g.onu == u) gs ≤ LONGEST_SERIES) → length gs ≤ MOST_STRUCTURES
-        → frame_words gap gs ≤ FRAME_WORDS → IsMap (map_of gap profile gs) }
+        → frame_words gap gs ≤ FRAME_WORDS → IsMap (map_granting gap profile gs) }
 {}

@@ -1,8 +1,8 @@
 ghost use Rattle.std.specs.Prelude.{◌≡◌, ◌+◌, ◌≤◌, ◌++◌, length, take, drop, sum_by};
 ghost use Rattle.pon_bwmap.specs.MapRules.{IsMap};
 ghost use Rattle.pon_burst.specs.Bursts.{AreSound};
-ghost use Rattle.pon_burst.specs.Maps.{map_of};
-ghost use Rattle.pon_burst.specs.Series.{FitsFrame, burst_structures, granted};
+ghost use Rattle.pon_burst.specs.Maps.{map_granting};
+ghost use Rattle.pon_burst.specs.Series.{FitsFrame, burst_structures, grants_of_series};
 
 use arrayvec::ArrayVec;
 use pon_bwmap::Alloc;
@@ -22,9 +22,9 @@ pub fn pack(
     out: &mut [Alloc],
 ) -> usize
     requires fit { FitsFrame gap onus.now }
-    requires room { length (granted onus.now) ≤ length out.old }
-    ensures count { result ≡ length (granted onus.now) }
-    ensures structures { take result out.new ≡ map_of gap profile (granted onus.now) }
+    requires room { length (grants_of_series onus.now) ≤ length out.old }
+    ensures count { result ≡ length (grants_of_series onus.now) }
+    ensures structures { take result out.new ≡ map_granting gap profile (grants_of_series onus.now) }
     ensures rest { drop result out.new ≡ drop result out.old }
     ensures sound { AreSound gap (take result out.new) }
     ensures map { result ≤ MOST_STRUCTURES → IsMap (take result out.new) }

@@ -1,5 +1,5 @@
 ghost use Rattle.std.specs.Prelude.{◌≡◌, IfOk};
-ghost use Rattle.pon_port.specs.Last.{Suits, last_map};
+ghost use Rattle.pon_port.specs.Last.{MatchesMembers, last_map};
 ghost use Rattle.pon_desk.specs.Views.{view_of};
 
 use pon_descr::Cause;
@@ -18,20 +18,20 @@ pub struct LastView {
 }
 
 impl Model for LastView {
-    ghost use Rattle.pon_port.specs.Last.{LastMap, Suits};
+    ghost use Rattle.pon_port.specs.Last.{LastMap, MatchesMembers};
 
     ghost Value = { LastMap };
 
     ghost view = { λ l. record { made = l.made; na = l.na.items; be = l.be.items } };
 
-    ghost invariant = { λ l. Suits l.made.cert l.na.items l.be.items };
+    ghost invariant = { λ l. MatchesMembers l.made.cert l.na.items l.be.items };
 }
 
 impl LastView {
     /// The map, with its frame and its certificate.
     pub fn made(&self) -> &MadeMap
         ensures value { result.now ≡ self.now.made }
-        ensures suits { Suits self.now.made.cert self.now.na self.now.be }
+        ensures members { MatchesMembers self.now.made.cert self.now.na self.now.be }
     {
         &self.made
     }

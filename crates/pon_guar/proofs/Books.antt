@@ -9,7 +9,7 @@ use Rattle.std.proofs.lemmas.List.Sums.{sum_by-cons}
 use Rattle.pon_units.specs.declared.granted.Granted.{Granted}
 use Rattle.pon_lists.proofs.Lists.{flat_map-map, list_any-map, map_filter, map-map, none_any, sum_by-map, sum_by_agree}
 use Rattle.pon_guar.specs.Book.{Account, AreRising, Counted, alloc_ids, with_alloc}
-use Rattle.pon_window.specs.Window.{IsPlaceOf, LeadsTo, WindowMap, grants_at, is_of, words_to, words_to_from}
+use Rattle.pon_window.specs.Window.{IsPlaceOf, AreConsecutive, WindowMap, grants_at, is_of, words_to, words_to_from}
 use Rattle.pon_window.specs.Reports.{with_report}
 use Rattle.pon_guar.specs.Reports.{after_occupancies, counting}
 use Rattle.pon_guar.specs.Loads.{afresh, with_account, without_account}
@@ -71,7 +71,7 @@ reported_rise granted f gs ns accounts h = subst AreRising (sym (occupancies_ids
 
 -- Words granted from a place of the window on.
 
-pub words_at : (n u i f : ℕ) (ms : List WindowMap) → LeadsTo n ms → (k : ℕ) (d : WindowMap) → k < length ms → (get_or ms k d).frame ≡ f → sum_by (words_to u i) (drop k ms) ≡ words_to_from u i f ms
+pub words_at : (n u i f : ℕ) (ms : List WindowMap) → AreConsecutive n ms → (k : ℕ) (d : WindowMap) → k < length ms → (get_or ms k d).frame ≡ f → sum_by (words_to u i) (drop k ms) ≡ words_to_from u i f ms
 words_at n u i f [] h k d l e = absurd (omega (arith, l))
 words_at n u i f (m ∷ ms) h zero d l e =
     sum_by_agree (words_to u i) (λ m. if nat_le f m.frame then words_to u i m else 0) (m ∷ ms)
@@ -84,7 +84,7 @@ words_at n u i f (m ∷ ms) h (suc k) d l e =
     words_at n u i f ms h.1 k d (omega (arith, l)) e ∙ (let same : words_to_from u i f ms ≡ words_to_from u i f (m ∷ ms) = omega (arith, all, none) in same)
 
 -- what a map and those after it in the window tell is what the window tells
-pub counted_in_window : (n f u : ℕ) (ms : List WindowMap) → LeadsTo n ms → (k : ℕ) → IsPlaceOf f ms k → (d m : WindowMap) (maps : List WindowMap) → m ≡ get_or ms k d → maps ≡ drop k ms → (ns : List (Option ℕ)) (book : List Account) →
+pub counted_in_window : (n f u : ℕ) (ms : List WindowMap) → AreConsecutive n ms → (k : ℕ) → IsPlaceOf f ms k → (d m : WindowMap) (maps : List WindowMap) → m ≡ get_or ms k d → maps ≡ drop k ms → (ns : List (Option ℕ)) (book : List Account) →
     after_occupancies (λ i. sum_by (words_to u i) maps) m.frame (filter (λ g. g.onu == u) m.grants) ns book ≡ after_occupancies (λ i. words_to_from u i f ms) f (grants_at f u ms) ns book
 counted_in_window n f u ms h k place d m maps there later ns book =
     (λ j. after_occupancies (λ i. sum_by (words_to u i) (later j)) (there j).frame (filter (λ g. g.onu == u) (there j).grants) ns book)

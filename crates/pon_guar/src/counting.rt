@@ -8,7 +8,7 @@ ghost use Rattle.pon_guar.specs.Reports.{after_occupancies, counting, taking};
 ghost use Rattle.pon_guar.specs.Loads.{afresh};
 
 use crate::account::{Account, Counted, index_of};
-use crate::lessening::words_left;
+use crate::deduction::words_left;
 use pon_units::{AllocId, BufOcc, FrameNo, OnuId};
 use pon_window::{Window, WindowMap};
 

@@ -7,7 +7,7 @@
 
 mod account;
 mod counting;
-mod lessening;
+mod deduction;
 mod loads;
 mod rates;
 

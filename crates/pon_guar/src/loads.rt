@@ -3,7 +3,7 @@ ghost use Rattle.pon_guar.specs.Book.{load_of_counted};
 
 use crate::account::{Account, Counted, account_of, add_account, index_near, remove_account};
 use crate::counting::{count_report, forget};
-use crate::lessening::{lessen, noted};
+use crate::deduction::{deduct_grants, noted};
 use pon_descr::Refusal;
 use pon_units::{AllocId, BufOcc, FrameNo, Granted, Kbps, OnuId};
 use pon_window::{Window, WindowMap};
@@ -54,7 +54,7 @@ impl Loads {
     ghost use Rattle.pon_units.specs.Granted.{AreInMapOrder};
     ghost use Rattle.pon_descr.specs.Checks.{IsTold};
     ghost use Rattle.pon_guar.specs.Book.{account_of, alloc_ids, known_report, known_since, load_of};
-    ghost use Rattle.pon_window.specs.Window.{IsWindow, LeadsTo};
+    ghost use Rattle.pon_window.specs.Window.{IsWindow, AreConsecutive};
     ghost use Rattle.pon_window.specs.Reports.{refuses_report};
     ghost use Rattle.pon_guar.specs.Loads.{after_admitted, after_cleared, after_mapped, after_removed, after_reported};
 
@@ -167,7 +167,7 @@ impl Loads {
     /// what the map grants its Alloc-ID. The grants are in map order, and the frame is that of the last map plus 1, or
     /// any where the window is empty. `OutOfMemory` if a growth is refused, and then nothing changes.
     pub fn mapped(&mut self, frame: FrameNo, grants: &[Granted]) -> Result<(), Refusal>
-        requires next { LeadsTo frame self.old.window }
+        requires next { AreConsecutive frame self.old.window }
         requires map_order { AreInMapOrder grants.now }
         ensures ok { OnOk result (self.new ≡ after_mapped self.old frame grants.now) }
         ensures refused { IfErr result (IsTold None) }
@@ -176,7 +176,7 @@ impl Loads {
         if self.places.resize(grants.len(), 0).is_err() || self.window.add(frame, grants).is_err() {
             return Err(Refusal::OutOfMemory);
         }
-        lessen(&mut self.accounts, grants, &mut self.places);
+        deduct_grants(&mut self.accounts, grants, &mut self.places);
         Ok(())
     }
 

@@ -10,7 +10,7 @@ use Rattle.pon_bwmap.specs.declared.fault.MapFault.TheVariants as map_fault
 use Rattle.pon_bwmap.proofs.OneMap.{one_head}
 use Rattle.pon_lists.specs.Bytes.{AreBytes}
 use Rattle.pon_link.specs.DownRecords.{IsDownRecord, KeepsDown, GivesDown}
-use Rattle.pon_link.specs.Reading.{Reading, KeepsForm, IsWhole, HasFault}
+use Rattle.pon_link.specs.Reading.{ReaderState, KeepsForm, IsWhole, HasFault}
 use Rattle.pon_link.specs.declared.direction.Direction.{Direction}
 use Rattle.pon_link.specs.declared.direction.Direction.TheVariants.{Down}
 use Rattle.pon_link.specs.declared.fault.LinkFault.{LinkFault}
@@ -20,18 +20,18 @@ use Rattle.pon_link.specs.declared.fault.DownFault.TheVariants.{Link, Memory}
 use Rattle.pon_lists.proofs.Bytes.{bytes-drop}
 
 -- the fault of the form is the reader's, where the input has not ended
-pub form_fault_shown : (s : Reading) (r : Option LinkFault) → s.ended ≡ false → MatchOption r (KeepsForm s.direction s.held) (λ f. HasFault (record { direction = s.direction; held = s.held; ended = false }) f) → MatchOption r (KeepsForm s.direction s.held × (s.ended ≡ false)) (λ f. HasFault s f)
+pub form_fault_shown : (s : ReaderState) (r : Option LinkFault) → s.ended ≡ false → MatchOption r (KeepsForm s.direction s.held) (λ f. HasFault (record { direction = s.direction; held = s.held; ended = false }) f) → MatchOption r (KeepsForm s.direction s.held × (s.ended ≡ false)) (λ f. HasFault s f)
 form_fault_shown s None e m = (m, e)
 form_fault_shown s (Some f) e m =
     let back : false ≡ s.ended = sym e in
-    subst (λ (r : Reading). HasFault r f) (λ i. record { direction = s.direction; held = s.held; ended = back i }) m
+    subst (λ (r : ReaderState). HasFault r f) (λ i. record { direction = s.direction; held = s.held; ended = back i }) m
 
 -- the rest of a slice
 rest_of : (bytes : List ℕ) → take (length bytes - 9) (drop 9 bytes) ≡ drop 9 bytes
 rest_of bytes = between_to_end bytes 9 (length bytes) (omega arith)
 
 -- a map that is refused is the reader's fault
-pub refused_shown : (s : Reading) (bytes : List ℕ) (f : MapFault) → bytes ≡ s.held → s.direction ≡ Down → IsWhole s.direction s.held → IsFirstMapFault (take (length bytes - 9) (drop 9 bytes)) f → f ≢ map_fault.Memory → HasFault s BadMap
+pub refused_shown : (s : ReaderState) (bytes : List ℕ) (f : MapFault) → bytes ≡ s.held → s.direction ≡ Down → IsWhole s.direction s.held → IsFirstMapFault (take (length bytes - 9) (drop 9 bytes)) f → f ≢ map_fault.Memory → HasFault s BadMap
 refused_shown s bytes f is down whole first other =
     let here : IsFirstMapFault (drop 9 s.held) f = subst (λ (t : List ℕ). IsFirstMapFault (drop 9 t) f) is (subst (λ (t : List ℕ). IsFirstMapFault t f) (rest_of bytes) first) in
     (down, inr (subst (λ (d : Direction). IsWhole d s.held) down whole, (f, here, other)))
@@ -61,6 +61,6 @@ down_fault bytes f told w first cases =
     ]
 
 -- a reader that gives none stays as it was
-pub down_kept : (s : Reading) (fault : DownFault) → s.direction ≡ Down → KeepsDown s.held fault → GivesDown s s (Err fault)
+pub down_kept : (s : ReaderState) (fault : DownFault) → s.direction ≡ Down → KeepsDown s.held fault → GivesDown s s (Err fault)
 down_kept s (Link fault) down k = (subst (λ (f : LinkFault). HasFault s f) (sym k.0) (down, inr k.1), refl)
 down_kept s Memory down k = (k, refl)

@@ -3,21 +3,21 @@ use Rattle.std.proofs.Common.{◌≡◌, ℕ, ◌+◌, ◌-◌, ◌<◌, ◌≤�
 use Rattle.std.proofs.lemmas.Bool.{cases_lt}
 use Rattle.std.proofs.lemmas.List.{append-nil, length-take}
 use Rattle.std.proofs.Math.Seq.{take-add}
-use Rattle.pon_link.specs.Reading.{Reading, IsOpen, IsWithinRecord, Announces, telling, holds_more}
+use Rattle.pon_link.specs.Reading.{ReaderState, IsOpen, IsWithinRecord, Announces, header_len, holds_more}
 use Rattle.pon_link.specs.declared.direction.Direction.{Direction}
 use Rattle.pon_link.proofs.Sizes.{begins_more}
 
 -- a part of a piece, behind what was taken of it, is held
-pub hold_part : (old mid new : Reading) (piece part : List ℕ) (k n : ℕ) → part ≡ take n (drop k piece) → mid ≡ holds_more old (take k piece) → new ≡ holds_more mid part → new ≡ holds_more old (take (k + n) piece)
+pub hold_part : (old mid new : ReaderState) (piece part : List ℕ) (k n : ℕ) → part ≡ take n (drop k piece) → mid ≡ holds_more old (take k piece) → new ≡ holds_more mid part → new ≡ holds_more old (take (k + n) piece)
 hold_part old mid new piece part k n is e one =
     let grown : (old.held ++ take k piece) ++ part ≡ old.held ++ take (k + n) piece
     = append_assoc old.held (take k piece) part ∙ ap (λ (t : List ℕ). old.held ++ t) (ap (λ (t : List ℕ). take k piece ++ t) is ∙ sym (take-add k n piece)) in
-    let both : holds_more mid part ≡ holds_more (holds_more old (take k piece)) part = ap (λ (m : Reading). holds_more m part) e in
+    let both : holds_more mid part ≡ holds_more (holds_more old (take k piece)) part = ap (λ (m : ReaderState). holds_more m part) e in
     let seam : holds_more (holds_more old (take k piece)) part ≡ holds_more old (take (k + n) piece) = λ i. record { direction = old.direction; held = grown i; ended = old.ended } in
     one ∙ both ∙ seam
 
 -- a reader that is open up to byte k of a piece, and from there with fewer than n bytes more, is open up to byte k + n
-pub open_further : (old mid : Reading) (piece : List ℕ) (k n : ℕ) → mid ≡ holds_more old (take k piece) → ((more : List ℕ) → length more < n → IsOpen (holds_more mid more)) → ((j : ℕ) → j < k → IsOpen (holds_more old (take j piece))) → (j : ℕ) → j < k + n → IsOpen (holds_more old (take j piece))
+pub open_further : (old mid : ReaderState) (piece : List ℕ) (k n : ℕ) → mid ≡ holds_more old (take k piece) → ((more : List ℕ) → length more < n → IsOpen (holds_more mid more)) → ((j : ℕ) → j < k → IsOpen (holds_more old (take j piece))) → (j : ℕ) → j < k + n → IsOpen (holds_more old (take j piece))
 open_further old mid piece k n e begins before j lt = elim (cases_lt j k) [
   | inl less ↦ before j less
   | inr ge ↦
@@ -33,11 +33,11 @@ pub taken_within : (n needed : ℕ) (bytes room : List ℕ) → n ≤ length (ta
 taken_within n needed bytes room le = omega (arith, le, length-take n bytes, length-take needed room)
 
 -- with fewer bytes than it surely still needs a reader that holds some is open
-pub open_with : (s : Reading) (needed : ℕ) → IsOpen s → 0 < length s.held → (length s.held < telling s.direction → length s.held + needed ≡ telling s.direction) → (telling s.direction ≤ length s.held → Announces s.direction s.held (length s.held + needed)) → (more : List ℕ) → length more < needed → IsOpen (holds_more s more)
+pub open_with : (s : ReaderState) (needed : ℕ) → IsOpen s → 0 < length s.held → (length s.held < header_len s.direction → length s.held + needed ≡ header_len s.direction) → (header_len s.direction ≤ length s.held → Announces s.direction s.held (length s.held + needed)) → (more : List ℕ) → length more < needed → IsOpen (holds_more s more)
 open_with s needed o some untold told more lt = record { unended = o.unended; beginning = begins_more s.direction s.held more needed some o.beginning untold told lt }
 
 -- a reader with no bytes more is as it was
-pub open_still : (s : Reading) (more : List ℕ) → IsOpen s → length more < 1 → IsOpen (holds_more s more)
+pub open_still : (s : ReaderState) (more : List ℕ) → IsOpen s → length more < 1 → IsOpen (holds_more s more)
 open_still s [] o lt = subst (λ (held : List ℕ). IsOpen (record { direction = s.direction; held = held; ended = s.ended })) (sym (append-nil s.held)) o
 open_still s (b ∷ more) o lt = absurd (omega (arith, lt))
 

@@ -3,7 +3,7 @@ use Rattle.std.proofs.Common.{◌≡◌, ℕ, ◌+◌, ◌<◌, ◌≤◌, Bool,
 use Rattle.std.proofs.lemmas.List.{append-nil, get_or_append_left}
 use Rattle.pon_link.specs.UpRecords.{IsRecord}
 use Rattle.pon_link.specs.DownRecords.{IsDownRecord}
-use Rattle.pon_link.specs.Reading.{Reading, empty, holds_more, tag_of, telling, Announces, MayBecomeRecord, HasFault}
+use Rattle.pon_link.specs.Reading.{ReaderState, empty, holds_more, tag_of, header_len, Announces, MayBecomeRecord, HasFault}
 use Rattle.pon_link.specs.declared.direction.Direction.{Direction}
 use Rattle.pon_link.specs.declared.direction.Direction.TheVariants.{Up, Down}
 use Rattle.pon_link.specs.declared.fault.LinkFault.{LinkFault}
@@ -16,23 +16,23 @@ use Rattle.pon_link.proofs.Outcomes.{sound as up_sound, down_sound}
 use Rattle.pon_link.proofs.RunEnds.{Ends, Cut, Tag, Form, ends, one_end}
 use Rattle.pon_link.proofs.Sizes.{one_size, size_kept, size_before, more_needed, some_told, no_size}
 
-leads_reads : {R : Type 0} (Is : List ℕ → R → Type 0) (s : Reading) (steps : List (ReaderStep R)) (t : Reading) → Leads Is s steps t → AreRecords Is (s.held ++ bytes_taken steps) (given steps) t.held
-leads_reads Is s [] t e = append-nil s.held ∙ ap (λ (r : Reading). r.held) e
+leads_reads : {R : Type 0} (Is : List ℕ → R → Type 0) (s : ReaderState) (steps : List (ReaderStep R)) (t : ReaderState) → Leads Is s steps t → AreRecords Is (s.held ++ bytes_taken steps) (given steps) t.held
+leads_reads Is s [] t e = append-nil s.held ∙ ap (λ (r : ReaderState). r.held) e
 leads_reads Is s (Took piece ∷ steps) t h =
     subst (λ (bytes : List ℕ). AreRecords Is bytes (given steps) t.held) (append_assoc s.held piece (bytes_taken steps)) (leads_reads Is (holds_more s piece) steps t h)
 leads_reads Is s (Gave r ∷ steps) t h = (s.held, bytes_taken steps, refl, h.0, leads_reads Is (empty s.direction) steps t h.1)
 leads_reads Is s (Ended ∷ steps) t h = leads_reads Is (at_end s) steps t h.2
 
-pub nothing_is_lost : {R : Type 0} (Is : List ℕ → R → Type 0) (d : Direction) (steps : List (ReaderStep R)) (s : Reading) → Leads Is (empty d) steps s → AreRecords Is (bytes_taken steps) (given steps) s.held
+pub nothing_is_lost : {R : Type 0} (Is : List ℕ → R → Type 0) (d : Direction) (steps : List (ReaderStep R)) (s : ReaderState) → Leads Is (empty d) steps s → AreRecords Is (bytes_taken steps) (given steps) s.held
 nothing_is_lost Is d steps s h = leads_reads Is (empty d) steps s h
 
 -- What makes a direction's records unambiguous: each has the tag and tells its size, and bytes are one at most.
 pub record AreTold {R : Type 0} (Is : List ℕ → R → Type 0) (d : Direction) : Type 0 where
   pub tag : (bytes : List ℕ) (r : R) → Is bytes r → get_or bytes 0 0 ≡ tag_of d
-  pub told : (bytes : List ℕ) (r : R) → Is bytes r → telling d ≤ length bytes
+  pub told : (bytes : List ℕ) (r : R) → Is bytes r → header_len d ≤ length bytes
   pub size : (bytes : List ℕ) (r : R) → Is bytes r → Announces d bytes (length bytes)
   pub one : (bytes rest : List ℕ) (r s : R) → AreBytes (bytes ++ rest) → Is bytes r → Is bytes s → r ≡ s
-  pub sound : (s : Reading) (r : R) (f : LinkFault) → s.direction ≡ d → AreBytes s.held → Is s.held r → HasFault s f → ⊥
+  pub sound : (s : ReaderState) (r : R) (f : LinkFault) → s.direction ≡ d → AreBytes s.held → Is s.held r → HasFault s f → ⊥
 
 pub up_told : AreTold IsRecord Up
 up_told = record {
@@ -68,7 +68,7 @@ record_cut Is d t a b x y r s small h k e =
 no_record_yet : {R : Type 0} (Is : List ℕ → R → Type 0) (d : Direction) → AreTold Is d → (held first rest : List ℕ) (r : R) → AreBytes held → MayBecomeRecord d held → held ≡ first ++ rest → Is first r → ⊥
 no_record_yet Is d t held first rest r small b e h =
     let size : length held ≡ length first + length rest = ap (λ (s : List ℕ). length s) e ∙ length-append first rest in
-    let long : telling d ≤ length held = omega (arith, size, t.told first r h) in
+    let long : header_len d ≤ length held = omega (arith, size, t.told first r h) in
     omega (arith, size, more_needed d held (length first) small long (size_behind Is d t held first rest r e h) b)
 
 -- no record stands at the front of these bytes
@@ -107,8 +107,8 @@ held_bytes : {R : Type 0} (Is : List ℕ → R → Type 0) (bytes : List ℕ) (r
 held_bytes Is bytes [] held small h = subst AreBytes h small
 held_bytes Is bytes (r ∷ rs) held small h = held_bytes Is h.1 rs held (bytes-back h.0 h.1 (subst AreBytes h.2 small)) h.4
 
-direction_kept : {R : Type 0} (Is : List ℕ → R → Type 0) (s : Reading) (steps : List (ReaderStep R)) (t : Reading) → Leads Is s steps t → t.direction ≡ s.direction
-direction_kept Is s [] t h = sym (ap (λ (r : Reading). r.direction) h)
+direction_kept : {R : Type 0} (Is : List ℕ → R → Type 0) (s : ReaderState) (steps : List (ReaderStep R)) (t : ReaderState) → Leads Is s steps t → t.direction ≡ s.direction
+direction_kept Is s [] t h = sym (ap (λ (r : ReaderState). r.direction) h)
 direction_kept Is s (Took piece ∷ steps) t h = direction_kept Is (holds_more s piece) steps t h
 direction_kept Is s (Gave r ∷ steps) t h = direction_kept Is (empty s.direction) steps t h.1
 direction_kept Is s (Ended ∷ steps) t h = direction_kept Is (at_end s) steps t h.2
@@ -120,7 +120,7 @@ none_begun Is d t held rest small b none first more r e h =
     no_record_yet Is d t held first more r (subst AreBytes same small) b (sym same ∙ e) h
 
 -- nor does what has a fault
-none_faulty : {R : Type 0} (Is : List ℕ → R → Type 0) (d : Direction) → AreTold Is d → (s : Reading) (rest : List ℕ) (f : LinkFault) → s.direction ≡ d → AreBytes (s.held ++ rest) → Ends d s f → (IsTrue s.ended → rest ≡ []) → HasFault s f → NoRecord Is (s.held ++ rest)
+none_faulty : {R : Type 0} (Is : List ℕ → R → Type 0) (d : Direction) → AreTold Is d → (s : ReaderState) (rest : List ℕ) (f : LinkFault) → s.direction ≡ d → AreBytes (s.held ++ rest) → Ends d s f → (IsTrue s.ended → rest ≡ []) → HasFault s f → NoRecord Is (s.held ++ rest)
 none_faulty Is d t s rest f is small (Cut b some over e) end fault first more r same h = none_begun Is d t s.held rest small b (end over) first more r same h
 none_faulty Is d t s rest f is small (Tag bad e) end fault first more r same h =
     let long : 0 < length first = omega (arith, t.told first r h, some_told d) in
@@ -135,11 +135,11 @@ none_faulty Is d t s rest f is small (Form ge tag (inr whole) e) end fault first
     let cut = same_cut s.held first rest more (one_size d all (length s.held) (length first) small size (size_behind Is d t all first more r same h)) same in
     t.sound s r f is (bytes-front s.held rest small) (subst (λ (x : List ℕ). Is x r) (sym cut.0) h) fault
 
-no_record_left : {R : Type 0} (Is : List ℕ → R → Type 0) (d : Direction) → AreTold Is d → (over : Bool) (s : Reading) (rest : List ℕ) (f : Option LinkFault) → s.direction ≡ d → AreBytes (s.held ++ rest) → ComesTo over s rest f → NoRecord Is (s.held ++ rest)
+no_record_left : {R : Type 0} (Is : List ℕ → R → Type 0) (d : Direction) → AreTold Is d → (over : Bool) (s : ReaderState) (rest : List ℕ) (f : Option LinkFault) → s.direction ≡ d → AreBytes (s.held ++ rest) → ComesTo over s rest f → NoRecord Is (s.held ++ rest)
 no_record_left Is d t over s rest None is small c = none_begun Is d t s.held rest small (subst (λ (e : Direction). MayBecomeRecord e s.held) is c.0.beginning) c.1
 no_record_left Is d t over s rest (Some f) is small c = none_faulty Is d t s rest f is small (ends d s f is c.0) (λ ended. (c.1 ended).1) c.0
 
-pub whatever_the_pieces : {R : Type 0} (Is : List ℕ → R → Type 0) (d : Direction) → AreTold Is d → (stream : List ℕ) (over : Bool) (steps others : List (ReaderStep R)) (s t : Reading) (f g : Option LinkFault) → AreBytes stream → RunsOver Is d stream over steps s f → RunsOver Is d stream over others t g → (given steps ≡ given others) × (f ≡ g) × (f ≡ None → s.held ≡ t.held)
+pub whatever_the_pieces : {R : Type 0} (Is : List ℕ → R → Type 0) (d : Direction) → AreTold Is d → (stream : List ℕ) (over : Bool) (steps others : List (ReaderStep R)) (s t : ReaderState) (f g : Option LinkFault) → AreBytes stream → RunsOver Is d stream over steps s f → RunsOver Is d stream over others t g → (given steps ≡ given others) × (f ≡ g) × (f ≡ None → s.held ≡ t.held)
 whatever_the_pieces Is d told stream over steps others s t f g small a b =
     let first : AreRecords Is stream (given steps) (s.held ++ a.rest) = subst (λ (x : List ℕ). AreRecords Is x (given steps) (s.held ++ a.rest)) a.stream_is (records_behind Is (bytes_taken steps) a.rest (given steps) s.held (nothing_is_lost Is d steps s a.leads)) in
     let second : AreRecords Is stream (given others) (t.held ++ b.rest) = subst (λ (x : List ℕ). AreRecords Is x (given others) (t.held ++ b.rest)) b.stream_is (records_behind Is (bytes_taken others) b.rest (given others) t.held (nothing_is_lost Is d others t b.leads)) in
@@ -156,7 +156,7 @@ pub no_record_is_refused : {R : Type 0} (Is : List ℕ → R → Type 0) (d : Di
 no_record_is_refused Is d t bytes rest r more h =
     let whole = length (bytes ++ rest) in
     let size : length (bytes ++ rest) ≡ length bytes + length rest = length-append bytes rest in
-    let told : telling d ≤ length bytes → Announces d bytes (length (bytes ++ rest)) = λ le. size_before d bytes rest whole le (t.size (bytes ++ rest) r h) in
+    let told : header_len d ≤ length bytes → Announces d bytes (length (bytes ++ rest)) = λ le. size_before d bytes rest whole le (t.size (bytes ++ rest) r h) in
     record {
       form = record {
         tag = λ lt. sym (get_or_append_left bytes rest 0 0 lt) ∙ t.tag (bytes ++ rest) r h;

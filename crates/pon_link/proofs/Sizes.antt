@@ -10,7 +10,7 @@ use Rattle.pon_bwmap.proofs.OneMap.{one_head}
 use Rattle.pon_link.specs.UpRecords.{count_in}
 use Rattle.pon_lists.specs.Bytes.{AreBytes}
 use Rattle.pon_lists.proofs.Bytes.{bytes-drop}
-use Rattle.pon_link.specs.Reading.{Announces, AnnouncesMap, HasBadSize, KeepsForm, MayBecomeRecord, IsWhole, IsWithinRecord, tag_of, telling, longest}
+use Rattle.pon_link.specs.Reading.{Announces, AnnouncesMap, HasBadSize, KeepsForm, MayBecomeRecord, IsWhole, IsWithinRecord, tag_of, header_len, longest}
 use Rattle.pon_link.specs.declared.direction.Direction.{Direction}
 use Rattle.pon_link.specs.declared.direction.Direction.TheVariants.{Up, Down}
 
@@ -66,14 +66,14 @@ map_size_before map more n long a = (
   a.5,
 )
 
-pub size_before : (d : Direction) (bytes more : List ℕ) (n : ℕ) → telling d ≤ length bytes → Announces d (bytes ++ more) n → Announces d bytes n
+pub size_before : (d : Direction) (bytes more : List ℕ) (n : ℕ) → header_len d ≤ length bytes → Announces d (bytes ++ more) n → Announces d bytes n
 size_before Up bytes more n long a =
     let count : count_in (bytes ++ more) ≡ count_in bytes = get_or_append_left bytes more 0 13 (omega (arith, long)) in
     (omega (arith, count, a.0), omega (arith, count, a.1), omega (arith, count, a.2))
 size_before Down bytes more n long a =
     map_size_before (drop 9 bytes) more n (omega (arith, long, length-drop 9 bytes)) (subst (λ (t : List ℕ). AnnouncesMap t n) (drop-append-le 9 bytes more (omega (arith, long))) a)
 
-pub size_kept : (d : Direction) (bytes more : List ℕ) (n : ℕ) → telling d ≤ length bytes → Announces d bytes n → Announces d (bytes ++ more) n
+pub size_kept : (d : Direction) (bytes more : List ℕ) (n : ℕ) → header_len d ≤ length bytes → Announces d bytes n → Announces d (bytes ++ more) n
 size_kept Up bytes more n long a =
     let count : count_in (bytes ++ more) ≡ count_in bytes = get_or_append_left bytes more 0 13 (omega (arith, long)) in
     (omega (arith, count, a.0), omega (arith, count, a.1), omega (arith, count, a.2))
@@ -90,34 +90,34 @@ pub size_limit : (d : Direction) (bytes : List ℕ) (n : ℕ) → Announces d by
 size_limit Up bytes n a = omega (arith, a.1, a.2)
 size_limit Down bytes n a = omega (arith, a.3, a.5)
 
-told_least : (d : Direction) (bytes : List ℕ) (n : ℕ) → Announces d bytes n → telling d ≤ n
+told_least : (d : Direction) (bytes : List ℕ) (n : ℕ) → Announces d bytes n → header_len d ≤ n
 told_least Up bytes n a = omega (arith, a.2)
 told_least Down bytes n a = omega (arith, a.5)
 
-pub told_early : (d : Direction) → telling d ≤ longest d
+pub told_early : (d : Direction) → header_len d ≤ longest d
 told_early Up = omega arith
 told_early Down = omega arith
 
-pub some_told : (d : Direction) → 0 < telling d
+pub some_told : (d : Direction) → 0 < header_len d
 some_told Up = omega arith
 some_told Down = omega arith
 
 -- bytes within a record are no longer than the longest
 pub within_limit : (d : Direction) (bytes : List ℕ) → IsWithinRecord d bytes → length bytes ≤ longest d
-within_limit d bytes w = elim (cases_lt (telling d) (length bytes)) [
+within_limit d bytes w = elim (cases_lt (header_len d) (length bytes)) [
   | inl lt ↦ let size = w.size lt in omega (arith, size.2, size_limit d bytes size.0 size.1)
   | inr ge ↦ omega (arith, ge, told_early d)
 ]
 
 -- the beginning of a record is shorter than the longest
 pub begun_limit : (d : Direction) (bytes : List ℕ) → MayBecomeRecord d bytes → length bytes < longest d
-begun_limit d bytes b = elim (cases_lt (length bytes) (telling d)) [
+begun_limit d bytes b = elim (cases_lt (length bytes) (header_len d)) [
   | inl lt ↦ omega (arith, lt, told_early d)
   | inr ge ↦ let more = b.more ge in omega (arith, more.2, size_limit d bytes more.0 more.1)
 ]
 
 -- the form is kept if bytes are added after those that give the size
-form_kept : (d : Direction) (bytes more : List ℕ) → telling d ≤ length bytes → KeepsForm d bytes → KeepsForm d (bytes ++ more)
+form_kept : (d : Direction) (bytes more : List ℕ) → header_len d ≤ length bytes → KeepsForm d bytes → KeepsForm d (bytes ++ more)
 form_kept d bytes more long form =
     let some : 0 < length bytes = omega (arith, long, some_told d) in
     let size = form.size long in
@@ -127,10 +127,10 @@ form_kept d bytes more long form =
     }
 
 -- bytes that a record surely still needs do not go past it
-pub within_more : (d : Direction) (held piece : List ℕ) (needed : ℕ) → MayBecomeRecord d held → (length held < telling d → length held + needed ≡ telling d) → (telling d ≤ length held → Announces d held (length held + needed)) → length piece ≤ needed → IsWithinRecord d (held ++ piece)
+pub within_more : (d : Direction) (held piece : List ℕ) (needed : ℕ) → MayBecomeRecord d held → (length held < header_len d → length held + needed ≡ header_len d) → (header_len d ≤ length held → Announces d held (length held + needed)) → length piece ≤ needed → IsWithinRecord d (held ++ piece)
 within_more d held piece needed b untold told le =
     let size : length (held ++ piece) ≡ length held + length piece = length-append held piece in
-    elim (cases_lt (length held) (telling d)) [
+    elim (cases_lt (length held) (header_len d)) [
       | inl lt ↦ record {
         form = λ past. absurd (omega (arith, past, size, untold lt, le));
         size = λ past. absurd (omega (arith, past, size, untold lt, le));
@@ -142,12 +142,12 @@ within_more d held piece needed b untold told le =
     ]
 
 -- the beginning of a record needs more than it has
-pub more_needed : (d : Direction) (bytes : List ℕ) (n : ℕ) → AreBytes bytes → telling d ≤ length bytes → Announces d bytes n → MayBecomeRecord d bytes → length bytes < n
+pub more_needed : (d : Direction) (bytes : List ℕ) (n : ℕ) → AreBytes bytes → header_len d ≤ length bytes → Announces d bytes n → MayBecomeRecord d bytes → length bytes < n
 more_needed d bytes n small ge a b = let more = b.more ge in omega (arith, more.2, one_size d bytes n more.0 small a more.1)
 
 -- bytes within a record are no more than they tell
-pub told_enough : (d : Direction) (bytes : List ℕ) (n : ℕ) → AreBytes bytes → telling d ≤ length bytes → Announces d bytes n → IsWithinRecord d bytes → length bytes ≤ n
-told_enough d bytes n small ge a w = elim (cases_lt (telling d) (length bytes)) [
+pub told_enough : (d : Direction) (bytes : List ℕ) (n : ℕ) → AreBytes bytes → header_len d ≤ length bytes → Announces d bytes n → IsWithinRecord d bytes → length bytes ≤ n
+told_enough d bytes n small ge a w = elim (cases_lt (header_len d) (length bytes)) [
   | inl lt ↦ let size = w.size lt in omega (arith, size.2, one_size d bytes n size.0 small a size.1)
   | inr le ↦ omega (arith, ge, le, told_least d bytes n a)
 ]
@@ -158,7 +158,7 @@ some_size None d bytes n a m = absurd (no_size d bytes n m a)
 some_size (Some k) d bytes n a m = refl
 
 -- where none is found, the bytes are not the beginning of a record
-pub none_begun : (r : Option ℕ) (d : Direction) (bytes : List ℕ) → telling d ≤ length bytes → IsNone r → MatchOption r (HasBadSize d bytes) (Announces d bytes) → MayBecomeRecord d bytes → ⊥
+pub none_begun : (r : Option ℕ) (d : Direction) (bytes : List ℕ) → header_len d ≤ length bytes → IsNone r → MatchOption r (HasBadSize d bytes) (Announces d bytes) → MayBecomeRecord d bytes → ⊥
 none_begun None d bytes ge none m b = let size = b.form.size ge in no_size d bytes size.0 m size.1
 none_begun (Some k) d bytes ge none m b = let both : true ≡ false = none in cc
 
@@ -176,23 +176,23 @@ big_head map h k n small r big a =
     elim big [ inl rows ↦ omega (arith, rows, same.0, a.3) | inr messages ↦ omega (arith, messages, same.1, a.4) ]
 
 -- a reader that needs nothing more holds a whole record
-pub whole_now : (d e : Direction) (held bytes : List ℕ) (n : ℕ) → e ≡ d → bytes ≡ held → KeepsForm d held → (length bytes < telling e → length bytes + n ≡ telling e) → (telling e ≤ length bytes → Announces e bytes (length bytes + n)) → n ≡ 0 → IsWhole d held
+pub whole_now : (d e : Direction) (held bytes : List ℕ) (n : ℕ) → e ≡ d → bytes ≡ held → KeepsForm d held → (length bytes < header_len e → length bytes + n ≡ header_len e) → (header_len e ≤ length bytes → Announces e bytes (length bytes + n)) → n ≡ 0 → IsWhole d held
 whole_now d e held bytes n same is form untold told none =
-    let ge : telling e ≤ length bytes = elim (cases_lt (length bytes) (telling e)) [ inl lt ↦ omega (arith, none, lt, untold lt) | inr ge ↦ ge ] in
+    let ge : header_len e ≤ length bytes = elim (cases_lt (length bytes) (header_len e)) [ inl lt ↦ omega (arith, none, lt, untold lt) | inr ge ↦ ge ] in
     let whole : length bytes + n ≡ length bytes = omega (arith, none) in
     let size : Announces e bytes (length bytes) = subst (λ (k : ℕ). Announces e bytes k) whole (told ge) in
     record {
       form = form;
-      told = subst (λ (c : Direction). telling c ≤ length held) same (subst (λ (t : List ℕ). telling e ≤ length t) is ge);
+      told = subst (λ (c : Direction). header_len c ≤ length held) same (subst (λ (t : List ℕ). header_len e ≤ length t) is ge);
       size = subst (λ (c : Direction). Announces c held (length held)) same (subst (λ (t : List ℕ). Announces e t (length t)) is size);
     }
 
 -- fewer bytes than a record surely still needs leave it a beginning
-pub begins_more : (d : Direction) (held more : List ℕ) (needed : ℕ) → 0 < length held → MayBecomeRecord d held → (length held < telling d → length held + needed ≡ telling d) → (telling d ≤ length held → Announces d held (length held + needed)) → length more < needed → MayBecomeRecord d (held ++ more)
+pub begins_more : (d : Direction) (held more : List ℕ) (needed : ℕ) → 0 < length held → MayBecomeRecord d held → (length held < header_len d → length held + needed ≡ header_len d) → (header_len d ≤ length held → Announces d held (length held + needed)) → length more < needed → MayBecomeRecord d (held ++ more)
 begins_more d held more needed some b untold told lt =
     let size : length (held ++ more) ≡ length held + length more = length-append held more in
     let tag : get_or (held ++ more) 0 0 ≡ tag_of d = get_or_append_left held more 0 0 some ∙ b.form.tag some in
-    elim (cases_lt (length held) (telling d)) [
+    elim (cases_lt (length held) (header_len d)) [
       | inl less ↦ record {
         form = record { tag = λ _. tag; size = λ past. absurd (omega (arith, past, size, untold less, lt)) };
         more = λ past. absurd (omega (arith, past, size, untold less, lt));

@@ -4,7 +4,7 @@ use Rattle.std.specs.List.{list_any}
 use Rattle.std.proofs.lemmas.List.{append-nil, drop_all}
 use Rattle.std.proofs.Math.Seq.{take-nil}
 use Rattle.pon_bwmap.specs.Structure.{Structure}
-use Rattle.pon_link.specs.Units.{asks, answered, waiting, queue_after, served, reports}
+use Rattle.pon_link.specs.Units.{asks, answered, waiting, queue_after, served, reported_occupancies}
 
 -- the Alloc-IDs of queues stay
 id_kept : (a : Structure) (q : ℕ × ℕ) → (queue_after a q).0 ≡ q.0
@@ -18,17 +18,17 @@ own_kept a (q ∷ queues) id = ap (λ (n : ℕ). (n == id) || list_any (λ p. p.
 pub record HasAnswered (first : List (ℕ × ℕ)) (rows : List Structure) (k : ℕ) (queues : List (ℕ × ℕ)) (occ : List (Option ℕ)) : Type 0 where
   pub few : length occ ≤ 16
   pub own : (id : ℕ) → list_any (λ q. q.0 == id) queues ≡ list_any (λ q. q.0 == id) first
-  pub reports_are : occ ++ reports queues (take (16 - length occ) (filter (asks first) (drop k rows))) ≡ reports first (answered first rows)
+  pub reports_are : occ ++ reported_occupancies queues (take (16 - length occ) (filter (asks first) (drop k rows))) ≡ reported_occupancies first (answered first rows)
   pub queues_are : served queues (take (16 - length occ) (filter (asks first) (drop k rows))) ≡ served first (answered first rows)
 
 pub none_answered : (first : List (ℕ × ℕ)) (rows : List Structure) → HasAnswered first rows 0 first []
 none_answered first rows = record { few = omega arith; own = λ id. refl; reports_are = refl; queues_are = refl }
 
-pub all_answered : (first : List (ℕ × ℕ)) (rows : List Structure) (k : ℕ) (queues : List (ℕ × ℕ)) (occ : List (Option ℕ)) → HasAnswered first rows k queues occ → length rows ≤ k → (occ ≡ reports first (answered first rows)) × (queues ≡ served first (answered first rows))
+pub all_answered : (first : List (ℕ × ℕ)) (rows : List Structure) (k : ℕ) (queues : List (ℕ × ℕ)) (occ : List (Option ℕ)) → HasAnswered first rows k queues occ → length rows ≤ k → (occ ≡ reported_occupancies first (answered first rows)) × (queues ≡ served first (answered first rows))
 all_answered first rows k queues occ h end =
     let none : drop k rows ≡ [] = drop_all k rows end in
     let rest : take (16 - length occ) (filter (asks first) (drop k rows)) ≡ [] = ap (λ (t : List Structure). take (16 - length occ) (filter (asks first) t)) none ∙ take-nil (16 - length occ) in (
-      sym (append-nil occ) ∙ ap (λ (t : List Structure). occ ++ reports queues t) (sym rest) ∙ h.reports_are,
+      sym (append-nil occ) ∙ ap (λ (t : List Structure). occ ++ reported_occupancies queues t) (sym rest) ∙ h.reports_are,
       ap (λ (t : List Structure). served queues t) (sym rest) ∙ h.queues_are,
     )
 
@@ -46,7 +46,7 @@ passed_over first rows k queues occ a h lt is not =
     record {
       few = h.few;
       own = h.own;
-      reports_are = ap (λ (t : List Structure). occ ++ reports queues (take (16 - length occ) t)) (sym others) ∙ h.reports_are;
+      reports_are = ap (λ (t : List Structure). occ ++ reported_occupancies queues (take (16 - length occ) t)) (sym others) ∙ h.reports_are;
       queues_are = ap (λ (t : List Structure). served queues (take (16 - length occ) t)) (sym others) ∙ h.queues_are;
     }
 
@@ -64,7 +64,7 @@ is_answered first rows k queues occ a h lt is room asked =
     record {
       few = omega (arith, grown, room);
       own = λ id. own_kept a queues id ∙ h.own id;
-      reports_are = append_assoc occ (report ∷ []) _ ∙ ap (λ (t : List Structure). occ ++ reports queues t) (sym next) ∙ h.reports_are;
+      reports_are = append_assoc occ (report ∷ []) _ ∙ ap (λ (t : List Structure). occ ++ reported_occupancies queues t) (sym next) ∙ h.reports_are;
       queues_are = ap (λ (t : List Structure). served queues t) (sym next) ∙ h.queues_are;
     }
 
@@ -77,7 +77,7 @@ no_room first rows k queues occ h full =
     record {
       few = h.few;
       own = h.own;
-      reports_are = ap (λ (t : List Structure). occ ++ reports queues t) same ∙ h.reports_are;
+      reports_are = ap (λ (t : List Structure). occ ++ reported_occupancies queues t) same ∙ h.reports_are;
       queues_are = ap (λ (t : List Structure). served queues t) same ∙ h.queues_are;
     }
 

@@ -7,7 +7,7 @@ use Rattle.pon_bwmap.specs.MapBytes.{map_bytes}
 use Rattle.pon_bwmap.specs.MapReading.{ReadsMap}
 use Rattle.pon_bwmap.specs.MapFaults.{IsFirstMapFault}
 use Rattle.pon_bwmap.specs.declared.fault.MapFault.TheVariants as map_fault
-use Rattle.pon_link.specs.Reading.{Reading, Returns, IsWhole, HasRefusedMap}
+use Rattle.pon_link.specs.Reading.{ReaderState, Returns, IsWhole, HasRefusedMap}
 use Rattle.pon_link.specs.declared.direction.Direction.TheVariants.{Down}
 use Rattle.pon_link.specs.declared.record.DownRecord.{DownRecord}
 use Rattle.pon_link.specs.declared.fault.DownFault.{DownFault}
@@ -36,7 +36,7 @@ KeepsDown bytes (Link fault) = (fault ≡ BadMap) × HasRefusedMap bytes
 KeepsDown bytes Memory = WantsMemory bytes
 
 -- A reader of downstream records gives one as each reader does; or memory is wanting, and it stays as it was.
-abbrev pub GivesDown : Reading → Reading → Result (Option DownRecord) DownFault → Type 0
+abbrev pub GivesDown : ReaderState → ReaderState → Result (Option DownRecord) DownFault → Type 0
 GivesDown old new (Ok given) = Returns IsDownRecord old new (Ok given)
 GivesDown old new (Err (Link fault)) = Returns IsDownRecord old new (Err fault)
 GivesDown old new (Err Memory) = WantsMemory old.held × (new ≡ old)

@@ -18,13 +18,13 @@ use Rattle.pon_link.specs.declared.pull.PullFault.{PullFault}
 use Rattle.pon_link.specs.declared.pull.PullFault.TheVariants.{Device, Link}
 
 -- a reader: the direction of its records, the bytes of the present one, and whether the input ended among them
-pub record Reading : Type 0 where
+pub record ReaderState : Type 0 where
   pub direction : Direction
   pub held : List ℕ
   pub ended : Bool
 
 -- a reader that holds nothing
-abbrev pub empty : Direction → Reading
+abbrev pub empty : Direction → ReaderState
 empty d = record { direction = d; held = []; ended = false }
 
 -- the tag of a direction's records, their first byte
@@ -33,9 +33,9 @@ tag_of Up = 0x55
 tag_of Down = 0x44
 
 -- how many bytes of a record tell its size: those up to the count byte, or up to the end of the map's head
-abbrev pub telling : Direction → ℕ
-telling Up = 14
-telling Down = 13
+abbrev pub header_len : Direction → ℕ
+header_len Up = 14
+header_len Down = 13
 
 -- the bytes of a longest record: of 16 reports, or of a map of 512 structures
 abbrev pub longest : Direction → ℕ
@@ -55,17 +55,17 @@ Announces Down bytes n = AnnouncesMap (drop 9 bytes) n
 -- The tag, if it is there, is the direction's, and the bytes that give a size, if they are there, give one.
 pub record KeepsForm (d : Direction) (bytes : List ℕ) : Type 0 where
   pub tag : 0 < length bytes → slice_index bytes 0 ≡ tag_of d
-  pub size : telling d ≤ length bytes → (n : ℕ) × Announces d bytes n
+  pub size : header_len d ≤ length bytes → (n : ℕ) × Announces d bytes n
 
 -- The bytes may still become a record, and are none yet.
 pub record MayBecomeRecord (d : Direction) (bytes : List ℕ) : Type 0 where
   pub form : KeepsForm d bytes
-  pub more : telling d ≤ length bytes → (n : ℕ) × Announces d bytes n × (length bytes < n)
+  pub more : header_len d ≤ length bytes → (n : ℕ) × Announces d bytes n × (length bytes < n)
 
 -- As many bytes as they tell, in a record's form.
 pub record IsWhole (d : Direction) (bytes : List ℕ) : Type 0 where
   pub form : KeepsForm d bytes
-  pub told : telling d ≤ length bytes
+  pub told : header_len d ≤ length bytes
   pub size : Announces d bytes (length bytes)
 
 -- the bytes that should give a size give none
@@ -84,7 +84,7 @@ HasBadTag d bytes = (0 < length bytes) × (slice_index bytes 0 ≢ tag_of d)
 
 -- The tag is right, and the bytes that should give a size are there and give none.
 abbrev pub HasBadForm : Direction → List ℕ → Type 0
-HasBadForm d bytes = (telling d ≤ length bytes) × (slice_index bytes 0 ≡ tag_of d) × HasBadSize d bytes
+HasBadForm d bytes = (header_len d ≤ length bytes) × (slice_index bytes 0 ≡ tag_of d) × HasBadSize d bytes
 
 -- All bytes of a downstream record are there, and the map in them is refused.
 abbrev pub HasRefusedMap : List ℕ → Type 0
@@ -98,35 +98,35 @@ IsReady Down bytes = IsWhole Down bytes × BeginsWithMap (drop 9 bytes)
 -- The bytes do not go past one record: not past those that tell its size where the form is not kept, and else not
 -- past the size that they tell.
 pub record IsWithinRecord (d : Direction) (bytes : List ℕ) : Type 0 where
-  pub form : telling d < length bytes → KeepsForm d bytes
-  pub size : telling d < length bytes → (n : ℕ) × Announces d bytes n × (length bytes ≤ n)
+  pub form : header_len d < length bytes → KeepsForm d bytes
+  pub size : header_len d < length bytes → (n : ℕ) × Announces d bytes n × (length bytes ≤ n)
 
 -- The reader takes bytes: those of a record that is not whole, with no fault.
-pub record IsOpen (s : Reading) : Type 0 where
+pub record IsOpen (s : ReaderState) : Type 0 where
   pub unended : s.ended ≡ false
   pub beginning : MayBecomeRecord s.direction s.held
 
 -- This is the fault that a reader met.
-abbrev pub HasFault : Reading → LinkFault → Type 0
+abbrev pub HasFault : ReaderState → LinkFault → Type 0
 HasFault s BadTag = HasBadTag s.direction s.held
 HasFault s BadCount = (s.direction ≡ Up) × HasBadForm Up s.held
 HasFault s BadMap = (s.direction ≡ Down) × (HasBadForm Down s.held ⊎ HasRefusedMap s.held)
 HasFault s (Truncated left) = IsTrue s.ended × MayBecomeRecord s.direction s.held × (0 < left) × (left ≡ length s.held)
 
 -- A reader with these bytes behind those that it held.
-abbrev pub holds_more : Reading → List ℕ → Reading
+abbrev pub holds_more : ReaderState → List ℕ → ReaderState
 holds_more s bytes = record { direction = s.direction; held = s.held ++ bytes; ended = s.ended }
 
 -- A reader of records that bytes are as `Is` says gives the one that it held and holds nothing then; or it stays as it
 -- was, with the beginning of a record or with a fault.
-abbrev pub Returns : {R : Type 0} → (List ℕ → R → Type 0) → Reading → Reading → Result (Option R) LinkFault → Type 0
+abbrev pub Returns : {R : Type 0} → (List ℕ → R → Type 0) → ReaderState → ReaderState → Result (Option R) LinkFault → Type 0
 Returns Is old new (Ok (Some r)) = Is old.held r × (new ≡ empty old.direction)
 Returns Is old new (Ok None) = IsOpen old × (new ≡ old)
 Returns Is old new (Err fault) = HasFault old fault × (new ≡ old)
 
 -- A pull added bytes from the device, or none where a whole record waits; or it found the end between two records;
 -- or the device failed; or there was a fault, or the input ended inside a record.
-abbrev pub Pulls : Reading → Reading → Option (List ℕ) → Option (List ℕ) → Result Pulled PullFault → Type 0
+abbrev pub Pulls : ReaderState → ReaderState → Option (List ℕ) → Option (List ℕ) → Result Pulled PullFault → Type 0
 Pulls old new left rest (Ok (Bytes n)) = (bytes : List ℕ) × (length bytes ≡ n) × (new ≡ holds_more old bytes) × Consumes left rest bytes × ((IsReady old.direction old.held × (n ≡ 0)) ⊎ (IsOpen old × (0 < n)))
 Pulls old new left rest (Ok End) = (old.held ≡ []) × IsOpen old × (new ≡ old) × Keeps left rest × IsAtEnd rest
 Pulls old new left rest (Err Device) = IsOpen old × (new ≡ old) × Keeps left rest

@@ -1,6 +1,6 @@
 -- What a reader of a link's records does over a time: it takes bytes in pieces, and gives records between them.
 use Rattle.std.specs.Prelude.{◌≡◌, ℕ, ◌<◌, Bool, true, IsTrue, List, [], ◌∷◌, ◌++◌, length, Option, Some, None}
-use Rattle.pon_link.specs.Reading.{Reading, empty, holds_more, IsOpen, HasFault}
+use Rattle.pon_link.specs.Reading.{ReaderState, empty, holds_more, IsOpen, HasFault}
 use Rattle.pon_link.specs.declared.direction.Direction.{Direction}
 use Rattle.pon_link.specs.declared.fault.LinkFault.{LinkFault}
 
@@ -11,12 +11,12 @@ pub data ReaderStep (R : Type 0) : Type 0 where
   Ended : ReaderStep R
 
 -- a reader whose input ended
-abbrev pub at_end : Reading → Reading
+abbrev pub at_end : ReaderState → ReaderState
 at_end s = record { direction = s.direction; held = s.held; ended = true }
 
 -- The steps lead from the first reader to the second: a piece is held behind the rest, a record is what was held, as
 -- `Is` says, and the input ends with a part of a record held.
-abbrev pub Leads : {R : Type 0} → (List ℕ → R → Type 0) → Reading → List (ReaderStep R) → Reading → Type 0
+abbrev pub Leads : {R : Type 0} → (List ℕ → R → Type 0) → ReaderState → List (ReaderStep R) → ReaderState → Type 0
 Leads Is s [] t = s ≡ t
 Leads Is s (Took piece ∷ steps) t = Leads Is (holds_more s piece) steps t
 Leads Is s (Gave r ∷ steps) t = Is s.held r × Leads Is (empty s.direction) steps t
@@ -43,12 +43,12 @@ AreRecords Is bytes (r ∷ rs) held = (first rest : List ℕ) × (bytes ≡ firs
 
 -- What a run came to, before the bytes `rest`: no fault, and then every byte is taken and no record waits, nor is a part of
 -- one held at the end of the input; or this fault, which is `Truncated` only at the end of the input.
-abbrev pub ComesTo : Bool → Reading → List ℕ → Option LinkFault → Type 0
+abbrev pub ComesTo : Bool → ReaderState → List ℕ → Option LinkFault → Type 0
 ComesTo over s rest None = IsOpen s × (rest ≡ []) × (IsTrue over → s.held ≡ [])
 ComesTo over s rest (Some fault) = HasFault s fault × (IsTrue s.ended → IsTrue over × (rest ≡ []))
 
 -- A run of a new reader over the bytes of a stream, in any pieces; `over` says whether the input ends behind them.
-pub record RunsOver {R : Type 0} (Is : List ℕ → R → Type 0) (d : Direction) (stream : List ℕ) (over : Bool) (steps : List (ReaderStep R)) (s : Reading) (fault : Option LinkFault) : Type 0 where
+pub record RunsOver {R : Type 0} (Is : List ℕ → R → Type 0) (d : Direction) (stream : List ℕ) (over : Bool) (steps : List (ReaderStep R)) (s : ReaderState) (fault : Option LinkFault) : Type 0 where
   pub leads : Leads Is (empty d) steps s
   pub rest : List ℕ
   pub stream_is : bytes_taken steps ++ rest ≡ stream

@@ -37,6 +37,6 @@ served queues (a ∷ rows) = served (map (queue_after a) queues) rows
 
 -- The reports for these structures, one after the other: the words that wait then, or the greatest number that a
 -- report can say.
-abbrev pub reports : List (ℕ × ℕ) → List Structure → List (Option ℕ)
-reports queues [] = []
-reports queues (a ∷ rows) = Some (min (waiting queues a.id) GREATEST_OCCUPANCY) ∷ reports (map (queue_after a) queues) rows
+abbrev pub reported_occupancies : List (ℕ × ℕ) → List Structure → List (Option ℕ)
+reported_occupancies queues [] = []
+reported_occupancies queues (a ∷ rows) = Some (min (waiting queues a.id) GREATEST_OCCUPANCY) ∷ reported_occupancies (map (queue_after a) queues) rows

@@ -25,11 +25,11 @@ pub struct DownReader {
 
 impl Model for DownReader {
     ghost use Rattle.std.specs.Prelude.{◌≡◌};
-    ghost use Rattle.pon_link.specs.Reading.{Reading};
+    ghost use Rattle.pon_link.specs.Reading.{ReaderState};
     ghost use Rattle.pon_link.specs.declared.direction.Direction.{Direction};
     ghost use Rattle.pon_link.specs.declared.direction.Direction.TheVariants.{Down};
 
-    ghost Value = { Reading };
+    ghost Value = { ReaderState };
 
     ghost view = { λ s. s.reading };
 

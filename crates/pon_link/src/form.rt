@@ -1,6 +1,6 @@
 // What the bytes of the present record tell before it is whole.
 ghost use Rattle.std.specs.Prelude.{◌≡◌, ◌+◌, ◌*◌, ◌≤◌, ◌<◌, ◌⊎◌, ℕ, length, false, MatchOption, OnSome};
-ghost use Rattle.pon_link.specs.Reading.{KeepsForm, HasFault, HasBadSize, MayBecomeRecord, IsWithinRecord, Announces, AnnouncesMap, tag_of, telling as told_by, bad_size as fault_of};
+ghost use Rattle.pon_link.specs.Reading.{KeepsForm, HasFault, HasBadSize, MayBecomeRecord, IsWithinRecord, Announces, AnnouncesMap, tag_of, header_len, bad_size as fault_of};
 
 use crate::direction::Direction;
 use crate::fault::LinkFault;
@@ -23,8 +23,8 @@ fn tag(direction: Direction) -> u8
 }
 
 // The number of bytes that give the size of a record.
-fn telling(direction: Direction) -> usize
-    ensures value { result ≡ told_by direction }
+fn header_len(direction: Direction) -> usize
+    ensures value { result ≡ header_len direction }
     ensures limit { result ≤ 14 }
 {
     match direction {
@@ -35,7 +35,7 @@ fn telling(direction: Direction) -> usize
 
 // The size that the bytes tell.
 fn announced(direction: Direction, bytes: &[u8]) -> Option<usize>
-    requires { told_by direction ≤ length bytes.now }
+    requires { header_len direction ≤ length bytes.now }
     ensures { MatchOption result (HasBadSize direction bytes.now) (Announces direction bytes.now) }
 {
     match direction {
@@ -82,7 +82,7 @@ pub(crate) fn form_fault(direction: Direction, bytes: &[u8]) -> Option<LinkFault
     if bytes[0] != tag(direction) {
         return Some(LinkFault::BadTag);
     }
-    if bytes.len() >= telling(direction) && announced(direction, bytes).is_none() {
+    if bytes.len() >= header_len(direction) && announced(direction, bytes).is_none() {
         return Some(bad_size(direction));
     }
     None
@@ -101,15 +101,15 @@ fn bad_size(direction: Direction) -> LinkFault
 pub(crate) fn needed(direction: Direction, bytes: &[u8]) -> usize
     requires form { KeepsForm direction bytes.now }
     requires within { IsWithinRecord direction bytes.now }
-    ensures untold { length bytes.now < told_by direction
-        → length bytes.now + result ≡ told_by direction }
-    ensures told { told_by direction ≤ length bytes.now
+    ensures untold { length bytes.now < header_len direction
+        → length bytes.now + result ≡ header_len direction }
+    ensures told { header_len direction ≤ length bytes.now
         → Announces direction bytes.now (length bytes.now + result) }
     ensures more { MayBecomeRecord direction bytes.now → 0 < result }
 {
-    let telling = telling(direction);
-    if bytes.len() < telling {
-        return telling - bytes.len();
+    let head = header_len(direction);
+    if bytes.len() < head {
+        return head - bytes.len();
     }
     announced(direction, bytes).unwrap() - bytes.len()
 }

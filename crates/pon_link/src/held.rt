@@ -2,7 +2,7 @@
 ghost use Rattle.std.specs.Prelude.{◌≡◌, ◌<◌, ◌≤◌, ◌+◌, ℕ, List, false, [], ◌++◌, length, take, MatchOption, OnSome};
 ghost use Rattle.pon_lists.specs.Bytes.{AreBytes};
 ghost use Rattle.pon_device.specs.Device.{CountsCall};
-ghost use Rattle.pon_link.specs.Reading.{Reading, empty, longest, telling, Announces, IsOpen, HasFault, KeepsForm, MayBecomeRecord, IsWhole, IsReady, IsWithinRecord, Pulls, CountsDevice, holds_more};
+ghost use Rattle.pon_link.specs.Reading.{ReaderState, empty, longest, header_len, Announces, IsOpen, HasFault, KeepsForm, MayBecomeRecord, IsWhole, IsReady, IsWithinRecord, Pulls, CountsDevice, holds_more};
 
 use crate::buffer::{append, are_bytes};
 use crate::direction::Direction;
@@ -24,9 +24,9 @@ pub(crate) struct Held<const N: usize> {
 
 impl<const N: usize> Model for Held<N> {
     ghost use Rattle.std.specs.Prelude.{◌<◌, ◌≤◌, IsTrue, length};
-    ghost use Rattle.pon_link.specs.Reading.{Reading, MayBecomeRecord, IsWithinRecord, longest};
+    ghost use Rattle.pon_link.specs.Reading.{ReaderState, MayBecomeRecord, IsWithinRecord, longest};
 
-    ghost Value = { Reading };
+    ghost Value = { ReaderState };
 
     ghost view = { λ s. record { direction = s.direction; held = s.bytes.items; ended = s.ended } };
 
@@ -121,9 +121,9 @@ impl<const N: usize> Held<N> {
     // The number of bytes that the record surely still needs, 0 exactly when it is whole.
     pub(crate) fn needed(&self) -> usize
         requires { KeepsForm self.now.direction self.now.held }
-        ensures untold { length self.now.held < telling self.now.direction
-            → length self.now.held + result ≡ telling self.now.direction }
-        ensures told { telling self.now.direction ≤ length self.now.held
+        ensures untold { length self.now.held < header_len self.now.direction
+            → length self.now.held + result ≡ header_len self.now.direction }
+        ensures told { header_len self.now.direction ≤ length self.now.held
             → Announces self.now.direction self.now.held (length self.now.held + result) }
         ensures some { 0 < result → MayBecomeRecord self.now.direction self.now.held }
         ensures none { result ≡ 0 → IsWhole self.now.direction self.now.held }

@@ -4,7 +4,7 @@ ghost use Rattle.std.specs.Prelude.{◌≡◌, ◌<◌, ◌^◌, ◌↔◌, ℕ,
 ghost use Rattle.pon_bwmap.specs.Structure.{Structure};
 ghost use Rattle.pon_bwmap.specs.MapRules.{IsMap};
 ghost use Rattle.pon_bwmap.specs.MapReading.{FitsStructure};
-ghost use Rattle.pon_link.specs.Reading.{Reading, empty, MayBecomeRecord, HasFault, IsOpen};
+ghost use Rattle.pon_link.specs.Reading.{ReaderState, empty, MayBecomeRecord, HasFault, IsOpen};
 ghost use Rattle.pon_link.specs.UpRecords.{IsRecord, ReadsReport};
 ghost use Rattle.pon_link.specs.DownRecords.{IsDownRecord, WantsMemory, down_bytes};
 ghost use Rattle.pon_link.specs.Runs.{ReaderStep, Leads, bytes_taken, given, AreRecords, RunsOver};
@@ -17,10 +17,10 @@ ghost use Rattle.pon_link.specs.declared.fault.LinkFault.{LinkFault};
 /// Nothing is lost and nothing is added: the records that were given, and then the bytes that are held, are
 /// the bytes that were taken.
 pub fn nothing_is_lost()
-    ensures up { (steps : List (ReaderStep UpRecord)) (s : Reading)
+    ensures up { (steps : List (ReaderStep UpRecord)) (s : ReaderState)
         → Leads IsRecord (empty Direction.Up) steps s →
         AreRecords IsRecord (bytes_taken steps) (given steps) s.held }
-    ensures down { (steps : List (ReaderStep DownRecord)) (s : Reading)
+    ensures down { (steps : List (ReaderStep DownRecord)) (s : ReaderState)
         → Leads IsDownRecord (empty Direction.Down) steps s →
         AreRecords IsDownRecord (bytes_taken steps) (given steps) s.held }
 {}
@@ -28,12 +28,12 @@ pub fn nothing_is_lost()
 /// Whatever the pieces of a stream, and whether the input ends behind it or not: a reader gives the same records and
 /// meets the same fault, or none, and then holds the same bytes.
 pub fn whatever_the_pieces()
-    ensures up { (stream : List ℕ) (over : Bool) (steps others : List (ReaderStep UpRecord)) (s t : Reading)
+    ensures up { (stream : List ℕ) (over : Bool) (steps others : List (ReaderStep UpRecord)) (s t : ReaderState)
         (f g : Option LinkFault) → AreBytes stream → RunsOver IsRecord Direction.Up stream over steps s f
         → RunsOver IsRecord Direction.Up stream over others t g
         → (given steps ≡ given others) × (f ≡ g) × (f ≡ None → s.held ≡ t.held) }
     ensures down { (stream : List ℕ) (over : Bool) (steps others : List (ReaderStep DownRecord))
-        (s t : Reading) (f g : Option LinkFault) → AreBytes stream
+        (s t : ReaderState) (f g : Option LinkFault) → AreBytes stream
         → RunsOver IsDownRecord Direction.Down stream over steps s f
         → RunsOver IsDownRecord Direction.Down stream over others t g
         → (given steps ≡ given others) × (f ≡ g) × (f ≡ None → s.held ≡ t.held) }
@@ -42,22 +42,22 @@ pub fn whatever_the_pieces()
 /// What a reader answers is one thing alone: it holds a record, or the beginning of one, or one fault. Memory is refused
 /// only for a record.
 pub fn one_outcome()
-    ensures waits { (s : Reading) (r : UpRecord) → s.direction ≡ Direction.Up → IsRecord s.held r
+    ensures waits { (s : ReaderState) (r : UpRecord) → s.direction ≡ Direction.Up → IsRecord s.held r
         → IsOpen s → ⊥ }
-    ensures sound { (s : Reading) (r : UpRecord) (f : LinkFault) → s.direction ≡ Direction.Up
+    ensures sound { (s : ReaderState) (r : UpRecord) (f : LinkFault) → s.direction ≡ Direction.Up
         → IsRecord s.held r → HasFault s f → ⊥ }
-    ensures down_waits { (s : Reading) (r : DownRecord) → s.direction ≡ Direction.Down
+    ensures down_waits { (s : ReaderState) (r : DownRecord) → s.direction ≡ Direction.Down
         → AreBytes s.held → IsDownRecord s.held r → IsOpen s → ⊥ }
-    ensures down_sound { (s : Reading) (r : DownRecord) (f : LinkFault)
+    ensures down_sound { (s : ReaderState) (r : DownRecord) (f : LinkFault)
         → s.direction ≡ Direction.Down → AreBytes s.held → IsDownRecord s.held r → HasFault s f
         → ⊥ }
-    ensures faultless { (s : Reading) (f : LinkFault)
+    ensures faultless { (s : ReaderState) (f : LinkFault)
         → (s.direction ≡ Direction.Down → AreBytes s.held) → IsOpen s → HasFault s f → ⊥ }
-    ensures one_fault { (s : Reading) (f g : LinkFault)
+    ensures one_fault { (s : ReaderState) (f g : LinkFault)
         → (s.direction ≡ Direction.Down → AreBytes s.held) → HasFault s f → HasFault s g → f ≡ g }
-    ensures memory_waits { (s : Reading) → s.direction ≡ Direction.Down → AreBytes s.held
+    ensures memory_waits { (s : ReaderState) → s.direction ≡ Direction.Down → AreBytes s.held
         → WantsMemory s.held → IsOpen s → ⊥ }
-    ensures memory_sound { (s : Reading) (f : LinkFault) → s.direction ≡ Direction.Down
+    ensures memory_sound { (s : ReaderState) (f : LinkFault) → s.direction ≡ Direction.Down
         → AreBytes s.held → WantsMemory s.held → HasFault s f → ⊥ }
 {}
 

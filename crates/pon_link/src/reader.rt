@@ -23,11 +23,11 @@ pub struct UpReader {
 
 impl Model for UpReader {
     ghost use Rattle.std.specs.Prelude.{◌≡◌};
-    ghost use Rattle.pon_link.specs.Reading.{Reading};
+    ghost use Rattle.pon_link.specs.Reading.{ReaderState};
     ghost use Rattle.pon_link.specs.declared.direction.Direction.{Direction};
     ghost use Rattle.pon_link.specs.declared.direction.Direction.TheVariants.{Up};
 
-    ghost Value = { Reading };
+    ghost Value = { ReaderState };
 
     ghost view = { λ s. s.reading };
 

@@ -1,6 +1,6 @@
 ghost use Rattle.std.specs.Prelude.{◌≡◌, ◌<◌, ◌==◌, ◌↔◌, ◌++◌, [], ◌∷◌, true, false, min, map, length, Some, IsNone, IfSome, MatchOption};
 ghost use Rattle.std.specs.List.{list_any};
-ghost use Rattle.pon_link.specs.Units.{owns, asks, answered, waiting, queue_after, served, reports};
+ghost use Rattle.pon_link.specs.Units.{owns, asks, answered, waiting, queue_after, served, reported_occupancies};
 
 use crate::record::UpRecord;
 use arrayvec::ArrayVec;
@@ -53,7 +53,7 @@ impl Unit {
         ensures burst { IfSome result (λ burst. burst ≡ record {
           frame = frame;
           head = Some (record { onu_raw = self.old.onu; ind = 0 });
-          occ = reports self.old.queues (answered self.old.queues map.now);
+          occ = reported_occupancies self.old.queues (answered self.old.queues map.now);
         }) }
         ensures queues { self.new ≡ record {
           onu = self.old.onu;
@@ -71,7 +71,7 @@ impl Unit {
         ensures burst { IfSome result (λ burst. burst ≡ record {
           frame = frame;
           head = Some (record { onu_raw = self.old.onu; ind = 0 });
-          occ = reports self.old.queues (answered self.old.queues rows.now);
+          occ = reported_occupancies self.old.queues (answered self.old.queues rows.now);
         }) }
         ensures queues { self.new ≡ record {
           onu = self.old.onu;
@@ -89,7 +89,7 @@ impl Unit {
 
 // Answers the first 16 structures that ask.
 fn answer_all(queues: &mut [(AllocId, u32)], rows: &[Alloc]) -> Occupancies
-    ensures reports { result ≡ reports queues.old (answered queues.old rows.now) }
+    ensures reports { result ≡ reported_occupancies queues.old (answered queues.old rows.now) }
     ensures queues { queues.new ≡ served queues.old (answered queues.old rows.now) }
 {
     let mut occ = Occupancies::new();
@@ -115,7 +115,7 @@ fn answer_one(queues: &mut [(AllocId, u32)], occ: &mut Occupancies, row: &Alloc)
     }
     if let Some(words) = words_waiting(queues, row.id()) {
         occ.push(BufOcc::new(words.min(GREATEST_OCCUPANCY)));
-        lessen(queues, row);
+        deduct_grant(queues, row);
     }
 }
 
@@ -133,7 +133,7 @@ fn words_waiting(queues: &[(AllocId, u32)], id: u16) -> Option<u32>
 }
 
 // Takes what the structure grants from the words that wait.
-fn lessen(queues: &mut [(AllocId, u32)], row: &Alloc)
+fn deduct_grant(queues: &mut [(AllocId, u32)], row: &Alloc)
     ensures { queues.new ≡ map (queue_after row.now) queues.old }
 {
     for queue in queues.iter_mut() {

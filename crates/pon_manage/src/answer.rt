@@ -27,7 +27,7 @@ fn kept_entries(plant: &Plant, port: PortNo) -> usize
 }
 
 // The text of an event at a port: its reply, or its refusal.
-fn post(alloc: Global, plant: &mut Plant, port: PortNo, event: Event) -> Result<String, AllocError>
+fn answer_event(alloc: Global, plant: &mut Plant, port: PortNo, event: Event) -> Result<String, AllocError>
     requires { port < length plant.old }
     ensures { IfOk result (λ text. Answers plant.old (Reading.Asks port event)
         (string_bytes text) plant.new) }
@@ -95,7 +95,7 @@ pub(crate) fn answer(
         Reading::Refused(fault) => refusal_text_line(alloc, fault),
         Reading::Asks { port, event } => {
             let port = port_no(plant, port);
-            post(alloc, plant, port, event)
+            answer_event(alloc, plant, port, event)
         }
         Reading::AsksCert { port } => show_cert(alloc, port_at(plant, port)),
         Reading::AsksState { port } => show_state(alloc, port_at(plant, port)),

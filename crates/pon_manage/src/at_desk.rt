@@ -19,7 +19,7 @@ use std::sync::Wait;
 use std::sync::ledger::Ledger;
 
 // The text of an event that is posted: its reply, or its refusal.
-fn post<L: Ledger, M: Ledger, H: Wait>(
+fn answer_event<L: Ledger, M: Ledger, H: Wait>(
     rt: &H,
     alloc: Global,
     desk: &Desk<L, M>,
@@ -111,7 +111,7 @@ pub(crate) fn answer_at_desk<L: Ledger, M: Ledger, H: Wait>(
         Reading::Refused(fault) => refusal_text_line(alloc, fault),
         Reading::Asks { port, event } => {
             let port = port_no(desk, port);
-            post(rt, alloc, desk, seat, port, event)
+            answer_event(rt, alloc, desk, seat, port, event)
         }
         Reading::AsksCert { port } => {
             let view = view_at(rt, alloc, desk, port_no(desk, port))?;

@@ -3,7 +3,7 @@
 ghost use Rattle.std.specs.Prelude.{◌≡◌, ◌∷◌, ◌++◌, [], IfOk, Some, codes, decimal, string_bytes};
 ghost use Rattle.hex.specs.Hex.{encode_lower};
 ghost use Rattle.pon_bwmap.specs.MapBytes.{map_bytes};
-ghost use Rattle.pon_port.specs.Last.{Suits};
+ghost use Rattle.pon_port.specs.Last.{MatchesMembers};
 ghost use Rattle.pon_manage.specs.Text.{cert_line, refusal_line, reply_line};
 
 use pon_bwmap::{Map, encode_map};
@@ -75,7 +75,7 @@ pub(crate) fn cert_text_line(
     na: &[AllocId],
     be: &[AllocId],
 ) -> Result<String, AllocError>
-    requires { Suits made.now.cert na.now be.now }
+    requires { MatchesMembers made.now.cert na.now be.now }
     ensures { IfOk result (λ line. string_bytes line
         ≡ cert_line (Some (record { made = made.now; na = na.now; be = be.now }))) }
 {

@@ -10,7 +10,7 @@ use Rattle.pon_descr.specs.Checks.{or_else, when}
 use Rattle.pon_guar.specs.declared.account.Account.{Account}
 use Rattle.pon_guar.specs.declared.account.Counted.{Counted}
 use Rattle.pon_guar.specs.Book.{account_of, alloc_ids, counted_of_account, since_of_account}
-use Rattle.pon_window.specs.Window.{LeadsTo, WindowMap, words_from, words_in, is_of}
+use Rattle.pon_window.specs.Window.{AreConsecutive, WindowMap, words_from, words_in, is_of}
 use Rattle.pon_window.specs.Reports.{refuses_report}
 use Rattle.pon_guar.specs.Reports.{latest}
 use Rattle.pon_guar.specs.Loads.{less}
@@ -42,21 +42,21 @@ report_in_window kept s frame onu count h =
     not-false (list_any (is_of frame) s.window) (when_none (not (list_any (is_of frame) s.window)) _ (or_else_none (when (not (list_any (is_of frame) s.window)) _) _ report).0)
 
 -- a frame of a list of maps that follow each other
-frame_within : (n frame : ℕ) (ms : List WindowMap) → LeadsTo n ms → list_any (is_of frame) ms ≡ true → (frame < n) × (n ≤ frame + length ms)
+frame_within : (n frame : ℕ) (ms : List WindowMap) → AreConsecutive n ms → list_any (is_of frame) ms ≡ true → (frame < n) × (n ≤ frame + length ms)
 frame_within n frame [] h k = absurd cc
 frame_within n frame (m ∷ ms) h k = (elim (m.frame == frame) as (λ b. (m.frame == frame) ≡ b → (b || list_any (is_of frame) ms) ≡ true → (frame < n) × (n ≤ frame + length (m ∷ ms))) [
   | true ↦ λ e k. (omega (arith, h.0, eqb-true m.frame frame e), omega (arith, h.0, eqb-true m.frame frame e))
   | false ↦ λ e k. let r : (frame < n) × (n ≤ frame + length ms) = frame_within n frame ms h.1 k in (r.0, omega (arith, r.1))
 ]) refl k
 
-pub window_leads : (o : State) (es : List Entry) → LeadsTo o.next o.window → LeadsTo (next_of o.next es) (window_of o es)
+pub window_leads : (o : State) (es : List Entry) → AreConsecutive o.next o.window → AreConsecutive (next_of o.next es) (window_of o es)
 window_leads o es h =
     let c : ℕ = frame_at_last (λ e. forgets e.event) 0 o.next es in
     let kept : List WindowMap = filter (λ m. nat_le c m.frame) (all_maps o es) in
     leads_drop (next_of o.next es) (length kept - 64) kept (leads-filter (next_of o.next es) c (all_maps o es) (all_maps_lead o es h))
 
 -- the reports of a legal history are of frames that were made
-pub legal_below : (o : State) (done es : List Entry) (n : ℕ) → LeadsTo o.next o.window → IsLegalAfter o done es → next_of o.next (done ++ es) ≤ n → AreBelow n es
+pub legal_below : (o : State) (done es : List Entry) (n : ℕ) → AreConsecutive o.next o.window → IsLegalAfter o done es → next_of o.next (done ++ es) ≤ n → AreBelow n es
 legal_below o done [] n h l b = tt
 legal_below o done (e ∷ es) n h l b = (one e.event l.0.accepted, legal_below o (done ++ e ∷ []) es n h l.1 (subst (λ t. next_of o.next t ≤ n) (sym (append_assoc done (e ∷ []) es)) b))
   where
@@ -86,7 +86,7 @@ length_window o ys =
     )
 
 -- after a cut, reports are of frames from the window's first on
-pub legal_within : (o : State) (xs done es : List Entry) → LeadsTo o.next o.window → IsLegalAfter o (xs ++ done) es → AreWithin (next_of o.next xs) (length (window_of o xs)) es
+pub legal_within : (o : State) (xs done es : List Entry) → AreConsecutive o.next o.window → IsLegalAfter o (xs ++ done) es → AreWithin (next_of o.next xs) (length (window_of o xs)) es
 legal_within o xs done [] h l = tt
 legal_within o xs done (e ∷ es) h l = (one e.event l.0.accepted, legal_within o xs (done ++ e ∷ []) es h (subst (λ t. IsLegalAfter o t es) (append_assoc xs done (e ∷ [])) l.1))
   where
@@ -139,7 +139,7 @@ opening-append o xs ys i k =
       | false ↦ map_same (less (a + w)) (λ c. less w (less a c)) (λ c. (λ j. record { frame = c.frame; words = sub_sub c.words a w j })) base ∙ sym (map-map (less w) (less a) base)
     ]
 
-module _ (o : State) (xs ys : List Entry) (leads : LeadsTo o.next o.window)
+module _ (o : State) (xs ys : List Entry) (leads : AreConsecutive o.next o.window)
     (below : AreBelow (next_of o.next xs) xs) (within : AreWithin (next_of o.next xs) (length (window_of o xs)) ys) where
   was_there : (i : ℕ) → has_id i (allocs_of (allocs_of (alloc_ids o.book) xs) ys) ≡ true → list_any (begins i) ys ≡ false → has_id i (allocs_of (alloc_ids o.book) xs) ≡ true
   was_there i h b = had_alloc_all i (allocs_of (alloc_ids o.book) xs) ys b h
@@ -209,7 +209,7 @@ pub alloc_ids-replay : (o : State) (xs : List Entry) → alloc_ids (replay o xs)
 alloc_ids-replay o xs = map-map (λ a. a.alloc_id) (account_after o xs) (allocs_of (alloc_ids o.book) xs) ∙ map-id (allocs_of (alloc_ids o.book) xs)
 
 -- the law of cutting
-pub replay-append : (o : State) (xs ys : List Entry) → LeadsTo o.next o.window → IsLegalAfter o [] (xs ++ ys) → replay o (xs ++ ys) ≡ replay (replay o xs) ys
+pub replay-append : (o : State) (xs ys : List Entry) → AreConsecutive o.next o.window → IsLegalAfter o [] (xs ++ ys) → replay o (xs ++ ys) ≡ replay (replay o xs) ys
 replay-append o xs ys leads legal =
     let two : IsLegalAfter o [] xs × IsLegalAfter o xs ys = legal_split o [] xs ys legal in
     let below : AreBelow (next_of o.next xs) xs = legal_below o [] xs (next_of o.next xs) leads two.0 (omega arith) in
@@ -245,7 +245,7 @@ fewer_kept more fewer s e l m =
     record { event = m.event; accepted = (λ i. or_else (two.0 i) (when (here i || room.1 i) ChapterFull)); reply = m.reply }
 
 -- entries that may follow a list may follow its replay
-pub follow_replay : (o : State) (xs done ys : List Entry) → LeadsTo o.next o.window → IsLegalAfter o [] (xs ++ done) → IsLegalAfter o (xs ++ done) ys → IsLegalAfter (replay o xs) done ys
+pub follow_replay : (o : State) (xs done ys : List Entry) → AreConsecutive o.next o.window → IsLegalAfter o [] (xs ++ done) → IsLegalAfter o (xs ++ done) ys → IsLegalAfter (replay o xs) done ys
 follow_replay o xs done [] leads before legal = tt
 follow_replay o xs done (e ∷ ys) leads before legal =
     let same : replay o (xs ++ done) ≡ replay (replay o xs) done = replay-append o xs done leads before in (
@@ -256,7 +256,7 @@ follow_replay o xs done (e ∷ ys) leads before legal =
     )
 
 -- the second part of a legal chapter is legal as the next chapter
-pub legal_rest : (n : ℕ) (o : State) (xs ys : List Entry) → LeadsTo o.next o.window →
+pub legal_rest : (n : ℕ) (o : State) (xs ys : List Entry) → AreConsecutive o.next o.window →
     IsLegal (record { number = n; opening = o; entries = xs ++ ys }) → IsLegal (record { number = n + 1; opening = replay o xs; entries = ys })
 legal_rest n o xs ys leads legal =
     let two : IsLegalAfter o [] xs × IsLegalAfter o xs ys = legal_split o [] xs ys (after_from_legal o (xs ++ ys) n legal) in

@@ -20,11 +20,11 @@ use Rattle.pon_state.specs.declared.reply.Entry.{Entry}
 use Rattle.pon_guar.specs.declared.account.Account.{Account}
 use Rattle.pon_guar.specs.Book.{AreRising, account_of, alloc_ids, counted_of_account, since_of_account}
 use Rattle.pon_guar.specs.declared.account.Counted.{Counted}
-use Rattle.pon_window.specs.Window.{LeadsTo, WindowMap, last_64, words_in}
+use Rattle.pon_window.specs.Window.{AreConsecutive, WindowMap, last_64, words_in}
 use Rattle.pon_guar.specs.Reports.{latest}
 use Rattle.pon_guar.specs.Loads.{afresh, less, lessened, with_account, without_account}
 use Rattle.pon_state.specs.State.{State}
-use Rattle.pon_state.specs.Replay.{admits, allocs_after, begins, cause_after, forgets, grants_of, makes_map, new_map, next_of, reports, roster_after, structures, window_of, with_reports}
+use Rattle.pon_state.specs.Replay.{admits, allocs_after, begins, cause_after, forgets, grants_of, makes_map, new_map, next_of, is_report_for, roster_after, structures, window_of, with_reports}
 use Rattle.pon_state.specs.Loads.{account_after, candidates_in, counted_of, replay, since_of}
 use Rattle.pon_state.specs.Checks.{first_refusal, when_full}
 use Rattle.pon_state.specs.Events.{IsEvent, IsManaged, IsReported}
@@ -111,7 +111,7 @@ module _ (s : State) (e : Entry) (m : makes_map e.event ≡ false) (none : (ms :
 abbrev taken_entry : Event → Entry
 taken_entry v = record { event = v; reply = Taken }
 
-roster_step : (o : State) (es : List Entry) (v : Event) (book : List Account) → ((frame onu : ℕ) → reports frame onu v ≡ false) → makes_map v ≡ false → forgets v ≡ false →
+roster_step : (o : State) (es : List Entry) (v : Event) (book : List Account) → ((frame onu : ℕ) → is_report_for frame onu v ≡ false) → makes_map v ≡ false → forgets v ≡ false →
     ((cause : Option ℕ) → cause_after cause v ≡ cause) → map (account_after (replay o es) (taken_entry v ∷ [])) (allocs_after (alloc_ids (replay o es).book) v) ≡ book →
     after_roster (replay o es) (roster_after (replay o es).roster v) book ≡ replay (replay o es) (taken_entry v ∷ [])
 roster_step o es v book quiet m f up same =
@@ -173,7 +173,7 @@ remove_step o es i rising =
 
 -- The step of a fault, and of its end: the reports and the window are forgotten.
 
-cut_step : (o : State) (es : List Entry) (v : Event) (cause : Option ℕ) → LeadsTo o.next o.window → makes_map v ≡ false → forgets v ≡ true → ((ms : List WindowMap) (since i : ℕ) → candidates_in ms since i v ≡ []) →
+cut_step : (o : State) (es : List Entry) (v : Event) (cause : Option ℕ) → AreConsecutive o.next o.window → makes_map v ≡ false → forgets v ≡ true → ((ms : List WindowMap) (since i : ℕ) → candidates_in ms since i v ≡ []) →
     roster_after (replay o es).roster v ≡ (replay o es).roster → allocs_after (alloc_ids (replay o es).book) v ≡ alloc_ids (replay o es).book → cause_after (replay o es).cause v ≡ cause →
     after_cut (replay o es) cause ≡ replay (replay o es) (taken_entry v ∷ [])
 cut_step o es v cause leads m f none rows ids told =
@@ -223,8 +223,8 @@ next_chapter c s t event reply k follows step =
     }
 
 -- the frames of its window lead to the next
-pub kept_frames : (c : Chapter) (s : State) → IsKept c s → LeadsTo s.next s.window
-kept_frames c s k = subst (λ s. LeadsTo s.next s.window) (sym k.replayed) (present_lawful c k.lawful).steady.frames
+pub kept_frames : (c : Chapter) (s : State) → IsKept c s → AreConsecutive s.next s.window
+kept_frames c s k = subst (λ s. AreConsecutive s.next s.window) (sym k.replayed) (present_lawful c k.lawful).steady.frames
 
 -- a map is kept
 pub mapped : (c d : Chapter) (s t : State) (made : MadeMap) → IsKept c s → first_refusal (length c.entries) s MakeMap ≡ None → IsMade s made →

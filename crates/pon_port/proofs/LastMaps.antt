@@ -17,7 +17,7 @@ use Rattle.pon_share.specs.Sharing.{item_of, items, member_ids, members, surplus
 use Rattle.pon_state.specs.Legal.{IsMade}
 use Rattle.pon_state.specs.Replay.{roster_after, roster_of}
 use Rattle.pon_port.specs.Chapters.{Chapter}
-use Rattle.pon_port.specs.Last.{KeepsLast, LastMap, Suits, last_map, last_told, told_last}
+use Rattle.pon_port.specs.Last.{KeepsLast, LastMap, MatchesMembers, last_map, last_told, told_last}
 use Rattle.pon_port.specs.Taking.{IsKept, with_entry}
 use Rattle.pon_share.proofs.Dealing.{few_members}
 use Rattle.pon_event.specs.declared.event.Event.{Event}
@@ -57,7 +57,7 @@ last_kept c d v place na be more h = subst (λ d. KeepsLast d place na be) (sym 
       at = get_old c.entries e k h.entry h.at;
       is_map = h.is_map;
       is_last = same ∙ h.is_last;
-      suits = h.suits;
+      members = h.members;
     }
 
 -- the certificate of a map has a truth value for each Alloc-ID of its class
@@ -68,7 +68,7 @@ counted s class cert surplus k =
 few_ids : (class : Class) (rows : List Row) → length rows ≤ 512 → length (member_ids class rows) ≤ 512
 few_ids class rows few = omega (arith, length-map (members class rows) (λ r. r.alloc_id), few_members class rows, few)
 
-suits_made : (s : State) (made : MadeMap) → IsAdmitted s.rule s.gap s.roster → IsMade s made → Suits made.cert (member_ids NonAssured s.roster) (member_ids BestEffort s.roster)
+suits_made : (s : State) (made : MadeMap) → IsAdmitted s.rule s.gap s.roster → IsMade s made → MatchesMembers made.cert (member_ids NonAssured s.roster) (member_ids BestEffort s.roster)
 suits_made s made a m = record {
   non_assured = counted (input_of s) NonAssured made.cert.na (surplus (input_of s)) m.certified.non_assured;
   best_effort = counted (input_of s) BestEffort made.cert.be (left_surplus made.cert.na.level (items NonAssured (input_of s)) (surplus (input_of s))) m.certified.best_effort;
@@ -85,6 +85,6 @@ last_made c d s made place na be k m more here na_is be_is =
     let told : last_map (with_entry c MakeMap (Map made)) ≡ Some (record { made = made; na = na; be = be })
     = last_push None c.opening.roster c.entries e
     ∙ (λ i. Some (record { made = made; na = (ap (member_ids NonAssured) (sym rows) ∙ sym na_is) i; be = (ap (member_ids BestEffort) (sym rows) ∙ sym be_is) i })) in
-    let suits : Suits made.cert na be = rw (na_is, be_is) (suits_made s made k.admitted m) in
+    let members : MatchesMembers made.cert na be = rw (na_is, be_is) (suits_made s made k.admitted m) in
     let at : slice_get (c.entries ++ e ∷ []) place ≡ Some e = ap (slice_get (c.entries ++ e ∷ [])) here ∙ get_new c.entries e in
-    subst (λ d. KeepsLast d (Some place) na be) (sym more) (record { made = made; entry = e; at = at; is_map = refl; is_last = told; suits = suits })
+    subst (λ d. KeepsLast d (Some place) na be) (sym more) (record { made = made; entry = e; at = at; is_map = refl; is_last = told; members = members })

@@ -14,12 +14,12 @@ use Rattle.pon_guar.specs.declared.account.Account.{Account}
 use Rattle.pon_guar.specs.declared.account.Counted.{Counted}
 use Rattle.pon_guar.specs.Book.{account_of, alloc_ids, counted_of_account, since_of_account}
 use Rattle.pon_units.specs.declared.granted.Granted.{Granted}
-use Rattle.pon_window.specs.Window.{LeadsTo, WindowMap, grants_at, polled, last_64, words_from, words_in, is_of, IsLawfulMap}
+use Rattle.pon_window.specs.Window.{AreConsecutive, WindowMap, grants_at, onus_polled, last_64, words_from, words_in, is_of, IsLawfulMap}
 use Rattle.pon_window.specs.Reports.{refuses_report}
 use Rattle.pon_guar.specs.Reports.{later, latest, occupancies}
 use Rattle.pon_guar.specs.Loads.{less}
 use Rattle.pon_state.specs.State.{State}
-use Rattle.pon_state.specs.Replay.{admits, allocs_after, begins, forgets, makes_map, new_map, reports, roster_after, structures, window_of, with_reports}
+use Rattle.pon_state.specs.Replay.{admits, allocs_after, begins, forgets, makes_map, new_map, is_report_for, roster_after, structures, window_of, with_reports}
 use Rattle.pon_state.specs.Loads.{account_after, candidates_in, counted_of, replay, since_of}
 use Rattle.pon_state.specs.Checks.{first_refusal, when_down, when_full}
 use Rattle.pon_state.specs.Legal.{MayFollow}
@@ -65,7 +65,7 @@ map_as_it_was : (m : WindowMap) → IsLawfulMap m → with_reports [] m ≡ m
 map_as_it_was m l = (λ i. record {
   frame = m.frame;
   grants = m.grants;
-  reported = (filter_agree (λ u. occurs u m.reported || false) (λ u. occurs u m.reported) (λ u. or-false (occurs u m.reported)) (polled m) ∙ sym l.reported) i;
+  reported = (filter_agree (λ u. occurs u m.reported || false) (λ u. occurs u m.reported) (λ u. or-false (occurs u m.reported)) (onus_polled m) ∙ sym l.reported) i;
 })
 
 pub replay_none : (s : State) → IsSteady s → replay s [] ≡ s
@@ -106,7 +106,7 @@ replay_none s k = (λ i. record {
 
 -- What each entry keeps, a legal list keeps.
 pub entries_carry : (P : State → Type 0) → ((kept : ℕ) (s : State) (e : Entry) → MayFollow kept s e → P s → P (replay s (e ∷ []))) →
-    (o : State) (done es : List Entry) → LeadsTo o.next o.window → IsLegalAfter o [] done → IsLegalAfter o done es → P (replay o done) → P (replay o (done ++ es))
+    (o : State) (done es : List Entry) → AreConsecutive o.next o.window → IsLegalAfter o [] done → IsLegalAfter o done es → P (replay o done) → P (replay o (done ++ es))
 entries_carry P step o done [] h legal l k = subst (λ t. P (replay o t)) (sym (append-nil done)) k
 entries_carry P step o done (e ∷ es) h legal l k =
     let more : IsLegalAfter o [] (done ++ e ∷ []) = legal_push o [] done e legal l.0 in
@@ -230,11 +230,11 @@ module _ (s : State) (e : Entry) (k : IsSteady s) (i : ℕ) (b : begins i e ≡ 
   -- an ONU that reported has reported still
   reported_stays : (m : WindowMap) → IsLawfulMap m → (u : ℕ) → Contains m.reported u → Contains (with_reports (e ∷ []) m).reported u
   reported_stays m l u c =
-      let said : ℕ → Bool = λ u. occurs u m.reported || list_any (λ e. reports m.frame u e.event) (e ∷ []) in
+      let said : ℕ → Bool = λ u. occurs u m.reported || list_any (λ e. is_report_for m.frame u e.event) (e ∷ []) in
       let was : occurs u m.reported ≡ true = contains_any u m.reported c in
-      let kept : (occurs u m.reported && occurs u (polled m)) ≡ true = sym (any_eq-filter (λ u. occurs u m.reported) u (polled m)) ∙ ap (occurs u) (sym l.reported) ∙ was in
-      any_contains u (filter said (polled m))
-      (any_eq-filter said u (polled m) ∙ and_from (said u) (occurs u (polled m)) (or_left (occurs u m.reported) (list_any (λ e. reports m.frame u e.event) (e ∷ [])) was) (and_parts (occurs u m.reported) (occurs u (polled m)) kept).1)
+      let kept : (occurs u m.reported && occurs u (onus_polled m)) ≡ true = sym (any_eq-filter (λ u. occurs u m.reported) u (onus_polled m)) ∙ ap (occurs u) (sym l.reported) ∙ was in
+      any_contains u (filter said (onus_polled m))
+      (any_eq-filter said u (onus_polled m) ∙ and_from (said u) (occurs u (onus_polled m)) (or_left (occurs u m.reported) (list_any (λ e. is_report_for m.frame u e.event) (e ∷ [])) was) (and_parts (occurs u m.reported) (occurs u (onus_polled m)) kept).1)
 
   -- a report that counted may count still
   carried : (c d : Counted) → d.frame ≡ c.frame → CountedIsLawful s a c → CountedIsLawful (replay s (e ∷ [])) (account_after s (e ∷ []) i) d
@@ -293,11 +293,11 @@ no_occupancies i (g ∷ gs) (Some n ∷ ns) h =
     (λ j. if two.0 j then n ∷ occupancies i gs ns else occupancies i gs ns) ∙ no_occupancies i gs ns two.1
 
 -- a polled ONU whose report is taken has reported
-reported_now : (e : Entry) (m : WindowMap) (u : ℕ) → reports m.frame u e.event ≡ true → occurs u (polled m) ≡ true → Contains (with_reports (e ∷ []) m).reported u
+reported_now : (e : Entry) (m : WindowMap) (u : ℕ) → is_report_for m.frame u e.event ≡ true → occurs u (onus_polled m) ≡ true → Contains (with_reports (e ∷ []) m).reported u
 reported_now e m u now there =
-    let said : ℕ → Bool = λ u. occurs u m.reported || (reports m.frame u e.event || false) in
-    let here : said u ≡ true = or_right (occurs u m.reported) (reports m.frame u e.event || false) (or_left (reports m.frame u e.event) false now) in
-    any_contains u (filter said (polled m)) (any_eq-filter said u (polled m) ∙ and_from (said u) (occurs u (polled m)) here there)
+    let said : ℕ → Bool = λ u. occurs u m.reported || (is_report_for m.frame u e.event || false) in
+    let here : said u ≡ true = or_right (occurs u m.reported) (is_report_for m.frame u e.event || false) (or_left (is_report_for m.frame u e.event) false now) in
+    any_contains u (filter said (onus_polled m)) (any_eq-filter said u (onus_polled m) ∙ and_from (said u) (occurs u (onus_polled m)) here there)
 
 -- where its owner has reported, the ONU of an Alloc-ID has
 owner_reported : (rows : List Row) (reported : List ℕ) (j i v u : ℕ) → Owns rows j v → j ≡ i → v ≡ u → Contains reported u → All (λ r. r.alloc_id ≡ i → Contains reported r.onu) rows
@@ -326,7 +326,7 @@ granted_onu p u (g ∷ gs) h = (elim (g.onu == u) as (λ b. list_any p (cond b (
 ]) h
 
 module _ (s : State) (e : Entry) (k : IsSteady s) (i : ℕ) (b : begins i e ≡ false) (a : Account) (found : account_of s.book i ≡ Some a) (same : a.alloc_id ≡ i) (lawful : AccountIsLawful s a)
-    (f u : ℕ) (told : reports f u e.event ≡ true) (stays : roster_after s.roster e.event ≡ s.roster) (no_map : makes_map e.event ≡ false) (below : f < s.next) where
+    (f u : ℕ) (told : is_report_for f u e.event ≡ true) (stays : roster_after s.roster e.event ≡ s.roster) (no_map : makes_map e.event ≡ false) (below : f < s.next) where
   abbrev seen : List WindowMap
   seen = map (with_reports (e ∷ [])) s.window
 
@@ -356,7 +356,7 @@ module _ (s : State) (e : Entry) (k : IsSteady s) (i : ℕ) (b : begins i e ≡ 
           let of_it : g.0.alloc_id ≡ i = eqb-true g.0.alloc_id i g.1 in
           let by_it : g.0.onu ≡ u = eqb-true g.0.onu u g.2 in
           let owns : Owns s.roster g.0.alloc_id g.0.onu = g.3 (of_it ∙ sym same) in
-          let now : reports m.frame u e.event ≡ true = subst (λ x. reports x u e.event ≡ true) (sym p) told in
+          let now : is_report_for m.frame u e.event ≡ true = subst (λ x. is_report_for x u e.event ≡ true) (sym p) told in
           let reported : Contains (with_reports (e ∷ []) m).reported u
           = reported_now e m u now (occurs-distinct u (map (λ g. g.onu) m.grants) (granted_onu (λ g. g.alloc_id == i) u m.grants any)) in
           subst (λ rows. All (λ r. r.alloc_id ≡ i → Contains (with_reports (e ∷ []) m).reported r.onu) rows) (sym stays)

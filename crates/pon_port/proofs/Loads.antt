@@ -8,7 +8,7 @@ use Rattle.std.proofs.lemmas.Bool.{lt-leb, eqb-true, ne_eqb, or_left, or_right, 
 use Rattle.std.proofs.lemmas.Bool.Decides.{leb_tells, nat_tests}
 use Rattle.pon_guar.specs.declared.account.Counted.{Counted}
 use Rattle.pon_guar.specs.Book.{account_of, counted_of_account, since_of_account}
-use Rattle.pon_window.specs.Window.{LeadsTo, WindowMap, grants_at, last_64, words_from, words_in}
+use Rattle.pon_window.specs.Window.{AreConsecutive, WindowMap, grants_at, last_64, words_from, words_in}
 use Rattle.pon_guar.specs.Reports.{later, latest, occupancies}
 use Rattle.pon_guar.specs.Loads.{less}
 use Rattle.pon_state.specs.State.{State}
@@ -54,13 +54,13 @@ from-from c f ms l = filter-filter (λ m. nat_le f m.frame) (λ m. nat_le c m.fr
     both : (k : ℕ) → (nat_le c k && nat_le f k) ≡ nat_le f k
     both k = grind (arith, nat_tests, l)
 
-from-drop : (n f k : ℕ) (ms : List WindowMap) → LeadsTo n ms → n ≤ f + (length ms - k) → from f (drop k ms) ≡ from f ms
+from-drop : (n f k : ℕ) (ms : List WindowMap) → AreConsecutive n ms → n ≤ f + (length ms - k) → from f (drop k ms) ≡ from f ms
 from-drop n f zero ms h l = refl
 from-drop n f (suc k) [] h l = refl
 from-drop n f (suc k) (m ∷ ms) h l = from-drop n f k ms h.1 (omega arith) ∙ sym (rw (lt-leb f m.frame (omega (arith, h.0))) refl)
 
 -- from a frame on, a filter leaves no more maps than frames
-filter_short : (n c : ℕ) (ms : List WindowMap) → LeadsTo n ms → c ≤ n → c + length (filter (λ m. nat_le c m.frame) ms) ≤ n
+filter_short : (n c : ℕ) (ms : List WindowMap) → AreConsecutive n ms → c ≤ n → c + length (filter (λ m. nat_le c m.frame) ms) ≤ n
 filter_short n c [] h l = omega arith
 filter_short n c (m ∷ ms) h l =
     elim (leb_tells c m.frame) [
@@ -69,7 +69,7 @@ filter_short n c (m ∷ ms) h l =
     ]
 
 -- from a frame of the window on, the window has all maps
-pub from_window : (n c f : ℕ) (ms : List WindowMap) → LeadsTo n ms → c ≤ n → n ≤ f + length (last_64 (filter (λ m. nat_le c m.frame) ms)) →
+pub from_window : (n c f : ℕ) (ms : List WindowMap) → AreConsecutive n ms → c ≤ n → n ≤ f + length (last_64 (filter (λ m. nat_le c m.frame) ms)) →
     from f (last_64 (filter (λ m. nat_le c m.frame) ms)) ≡ from f ms
 from_window n c f ms h l b =
     let kept : List WindowMap = filter (λ m. nat_le c m.frame) ms in
@@ -138,11 +138,11 @@ candidates_late n ms since i (e ∷ es) l w = (λ j. one e.event w.0 j ++ candid
     one Restore w = refl
 
 -- no map of a later list is of an earlier frame
-frame_absent : (n f : ℕ) (ms : List WindowMap) → LeadsTo n ms → f + length ms < n → filter (λ m. m.frame == f) ms ≡ []
+frame_absent : (n f : ℕ) (ms : List WindowMap) → AreConsecutive n ms → f + length ms < n → filter (λ m. m.frame == f) ms ≡ []
 frame_absent n f [] h l = refl
 frame_absent n f (m ∷ ms) h l = rw (ne_eqb m.frame f (λ e. omega (arith, h.0, l, e))) (frame_absent n f ms h.1 (omega arith))
 
-words_from_all : (n i f : ℕ) (ms : List WindowMap) → LeadsTo n ms → f + length ms ≤ n → words_from i f ms ≡ words_from i 0 ms
+words_from_all : (n i f : ℕ) (ms : List WindowMap) → AreConsecutive n ms → f + length ms ≤ n → words_from i f ms ≡ words_from i 0 ms
 words_from_all n i f ms h l = words_from_is i f ms ∙ ap (λ t. sum_by (words_in i) t) (filter_high n f ms h l ∙ sym (filter_high n 0 ms h (omega arith))) ∙ sym (words_from_is i 0 ms)
 
 pub words_from-map : (i f : ℕ) (ys : List Entry) (ms : List WindowMap) → words_from i f (map (with_reports ys) ms) ≡ words_from i f ms
@@ -156,7 +156,7 @@ pub sub_sub : (c a b : ℕ) → c - (a + b) ≡ (c - a) - b
 sub_sub c a b = omega arith
 
 -- candidates of earlier entries have less by what later maps grant
-pub candidates_less : (nx n : ℕ) (ys : List Entry) (ms bs : List WindowMap) → LeadsTo n bs → nx + length bs ≡ n →
+pub candidates_less : (nx n : ℕ) (ys : List Entry) (ms bs : List WindowMap) → AreConsecutive n bs → nx + length bs ≡ n →
     (since i : ℕ) (es : List Entry) → AreBelow nx es →
     flat_map (λ e. candidates_in (map (with_reports ys) ms ++ bs) since i e.event) es
     ≡ map (less (words_from i 0 bs)) (flat_map (λ e. candidates_in ms since i e.event) es)

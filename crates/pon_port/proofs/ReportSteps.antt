@@ -15,7 +15,7 @@ use Rattle.pon_admit.specs.Roster.{has_alloc}
 use Rattle.pon_guar.specs.declared.account.Account.{Account}
 use Rattle.pon_guar.specs.declared.account.Counted.{Counted}
 use Rattle.pon_guar.specs.Book.{account_of, alloc_ids, counted_of_account, since_of_account}
-use Rattle.pon_window.specs.Window.{IsLawfulMap, WindowMap, grants_at, polled, words_among, words_from, words_granted, words_in, words_to, words_to_from}
+use Rattle.pon_window.specs.Window.{IsLawfulMap, WindowMap, grants_at, onus_polled, words_among, words_from, words_granted, words_in, words_to, words_to_from}
 use Rattle.pon_window.specs.Reports.{with_report}
 use Rattle.pon_guar.specs.Reports.{after_occupancies, counting, latest, occupancies, taking, with_latest}
 use Rattle.pon_guar.proofs.Accounts.{found_each}
@@ -262,7 +262,7 @@ module _ (s : State) (l : IsLawfulState s) (f u : ℕ) (ns : List (Option ℕ)) 
     where
       reporters : (m : WindowMap) → (with_report f u m).reported ≡ (with_reports (entry ∷ []) m).reported
       reporters m = filter_agree (λ v. list_any (λ w. w == v) m.reported || (f == m.frame && u == v)) (λ v. list_any (λ w. w == v) m.reported || ((f == m.frame && u == v) || false))
-          (λ v. ap (λ b. list_any (λ w. w == v) m.reported || b) (sym (or-false (f == m.frame && u == v)))) (polled m)
+          (λ v. ap (λ b. list_any (λ w. w == v) m.reported || b) (sym (or-false (f == m.frame && u == v)))) (onus_polled m)
 
   pub report_step : after_report s f u ns ≡ replay s (entry ∷ [])
   report_step =

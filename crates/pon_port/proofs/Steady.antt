@@ -12,11 +12,11 @@ use Rattle.pon_admit.specs.declared.row.Row.{Row}
 use Rattle.pon_guar.specs.declared.account.Account.{Account}
 use Rattle.pon_guar.specs.Book.{AreRising, account_of, alloc_ids, counted_of_account, since_of_account}
 use Rattle.pon_units.specs.declared.granted.Granted.{Granted}
-use Rattle.pon_window.specs.Window.{LeadsTo, WindowMap, last_64, IsLawfulMap}
+use Rattle.pon_window.specs.Window.{AreConsecutive, WindowMap, last_64, IsLawfulMap}
 use Rattle.pon_window.specs.Reports.{refuses_report}
 use Rattle.pon_guar.specs.Reports.{latest}
 use Rattle.pon_state.specs.State.{State}
-use Rattle.pon_state.specs.Replay.{admits, all_maps, allocs_after, begins, cause_after, forgets, frame_at_last, grants_of, makes_map, maps_of, new_map, reports, roster_after, structures, window_of, with_reports}
+use Rattle.pon_state.specs.Replay.{admits, all_maps, allocs_after, begins, cause_after, forgets, frame_at_last, grants_of, makes_map, maps_of, new_map, is_report_for, roster_after, structures, window_of, with_reports}
 use Rattle.pon_state.specs.Loads.{account_after, candidates_in, counted_of, replay}
 use Rattle.pon_state.specs.Checks.{at_limit, first_refusal, when_down, when_full}
 use Rattle.pon_state.specs.Legal.{MayFollow}
@@ -44,7 +44,7 @@ pub record IsSteady (s : State) : Type 0 where
   pub admitted : IsAdmitted s.rule s.gap s.roster
   pub book : AccountsFor s.roster s.book
   pub few_maps : length s.window ≤ 64
-  pub frames : LeadsTo s.next s.window
+  pub frames : AreConsecutive s.next s.window
   pub maps : All IsLawfulMap s.window
   pub failed : IfSome s.cause (λ cause. IsSilent s)
 
@@ -71,7 +71,7 @@ window_all P s e old new =
 -- Lawful maps.
 
 pub reported_lawful : (es : List Entry) (m : WindowMap) → AreInMapOrder m.grants → IsLawfulMap (with_reports es m)
-reported_lawful es m h = said_lawful (λ u. list_any (λ v. v == u) m.reported || list_any (λ e. reports m.frame u e.event) es) m h
+reported_lawful es m h = said_lawful (λ u. list_any (λ v. v == u) m.reported || list_any (λ e. is_report_for m.frame u e.event) es) m h
 
 -- what holds of each row's grant
 pub grants_all : (P : Granted → Type 0) (rows : List Row) (more : List Structure) → All (λ r. (w : ℕ) → P (record { onu = r.onu; alloc_id = r.alloc_id; words = w })) rows → All P (grants_of rows more)
@@ -165,7 +165,7 @@ not_down None h = refl
 not_down (Some c) h = absurd cc
 
 -- a fault empties the window and forgets the reports
-cut_silent : (s : State) (e : Entry) → LeadsTo s.next s.window → makes_map e.event ≡ false → forgets e.event ≡ true → ((ms : List WindowMap) (since i : ℕ) → candidates_in ms since i e.event ≡ []) → IsSilent (replay s (e ∷ []))
+cut_silent : (s : State) (e : Entry) → AreConsecutive s.next s.window → makes_map e.event ≡ false → forgets e.event ≡ true → ((ms : List WindowMap) (since i : ℕ) → candidates_in ms since i e.event ≡ []) → IsSilent (replay s (e ∷ []))
 cut_silent s e leads m c none = (
   empty,
   All-map (λ a. a.counted ≡ None) (account_after s (e ∷ [])) (allocs_after (alloc_ids s.book) e.event)

@@ -8,11 +8,11 @@ use Rattle.std.proofs.lemmas.Bool.{le-leb}
 use Rattle.pon_admit.specs.declared.row.Row.{Row}
 use Rattle.pon_guar.specs.declared.account.Counted.{Counted}
 use Rattle.pon_guar.specs.Book.{account_of, counted_of_account, since_of_account}
-use Rattle.pon_window.specs.Window.{LeadsTo, WindowMap, polled, last_64, words_from, words_in}
+use Rattle.pon_window.specs.Window.{AreConsecutive, WindowMap, onus_polled, last_64, words_from, words_in}
 use Rattle.pon_guar.specs.Reports.{latest}
 use Rattle.pon_guar.specs.Loads.{less}
 use Rattle.pon_state.specs.State.{State}
-use Rattle.pon_state.specs.Replay.{all_maps, begins, forgets, frame_at_last, makes_map, map_made, maps_of, new_map, next_of, reports, roster_after, window_of, with_reports}
+use Rattle.pon_state.specs.Replay.{all_maps, begins, forgets, frame_at_last, makes_map, map_made, maps_of, new_map, next_of, is_report_for, roster_after, window_of, with_reports}
 use Rattle.pon_state.specs.Loads.{candidates_in, counted_of, replay, since_of}
 use Rattle.pon_event.specs.declared.event.Event.{Event}
 use Rattle.pon_event.specs.declared.event.Event.TheVariants.{MakeMap}
@@ -24,17 +24,17 @@ use Rattle.pon_port.proofs.Cutting.{window_leads}
 
 -- an event that is no report
 abbrev pub IsQuiet : Event → Type 0
-IsQuiet v = (frame onu : ℕ) → reports frame onu v ≡ false
+IsQuiet v = (frame onu : ℕ) → is_report_for frame onu v ≡ false
 
 quiet_map : (e : Entry) → IsQuiet e.event → (xs : List Entry) (m : WindowMap) → with_reports (e ∷ []) (with_reports xs m) ≡ with_reports xs m
 quiet_map e q xs m = with_reports-append xs (e ∷ []) m ∙ (λ i. record {
   frame = m.frame;
   grants = m.grants;
   reported = filter_same_in
-      (λ u. list_any (λ v. v == u) m.reported || list_any (λ e. reports m.frame u e.event) (xs ++ e ∷ []))
-      (λ u. list_any (λ v. v == u) m.reported || list_any (λ e. reports m.frame u e.event) xs)
-      (polled m)
-      (λ u _. ap (λ b. list_any (λ v. v == u) m.reported || b) (list_any-append (λ e. reports m.frame u e.event) xs (e ∷ []) ∙ ap (λ b. list_any (λ e. reports m.frame u e.event) xs || (b || false)) (q m.frame u) ∙ or-false (list_any (λ e. reports m.frame u e.event) xs))) i;
+      (λ u. list_any (λ v. v == u) m.reported || list_any (λ e. is_report_for m.frame u e.event) (xs ++ e ∷ []))
+      (λ u. list_any (λ v. v == u) m.reported || list_any (λ e. is_report_for m.frame u e.event) xs)
+      (onus_polled m)
+      (λ u _. ap (λ b. list_any (λ v. v == u) m.reported || b) (list_any-append (λ e. is_report_for m.frame u e.event) xs (e ∷ []) ∙ ap (λ b. list_any (λ e. is_report_for m.frame u e.event) xs || (b || false)) (q m.frame u) ∙ or-false (list_any (λ e. is_report_for m.frame u e.event) xs))) i;
 })
 
 quiet_maps : (e : Entry) → IsQuiet e.event → (xs : List Entry) (ms : List WindowMap) → map (with_reports (e ∷ [])) (map (with_reports xs) ms) ≡ map (with_reports xs) ms
@@ -102,11 +102,11 @@ last_64-window o es =
     last_64-short (last_64 kept) (omega (arith, length-drop (length kept - 64) kept))
 
 -- a fault or its end empties the window
-pub window_of-cut : (o : State) (es : List Entry) (e : Entry) → LeadsTo o.next o.window → makes_map e.event ≡ false → forgets e.event ≡ true → window_of (replay o es) (e ∷ []) ≡ []
+pub window_of-cut : (o : State) (es : List Entry) (e : Entry) → AreConsecutive o.next o.window → makes_map e.event ≡ false → forgets e.event ≡ true → window_of (replay o es) (e ∷ []) ≡ []
 window_of-cut o es e h m c =
     let nx : ℕ = next_of o.next es in
     let new : WindowMap = new_map ((replay o es).roster) nx e.reply in
-    let leads : LeadsTo nx (map (with_reports (e ∷ [])) (window_of o es)) = leads-map (e ∷ []) nx (window_of o es) (window_leads o es h) in
+    let leads : AreConsecutive nx (map (with_reports (e ∷ [])) (window_of o es)) = leads-map (e ∷ []) nx (window_of o es) (window_leads o es h) in
     (λ i. last_64 (filter (λ w. nat_le (if c i then nx else 0) w.frame) (map (with_reports (e ∷ [])) (window_of o es) ++ (map (with_reports []) (if m i then new ∷ [] else []) ++ []))))
     ∙ ap last_64 (ap (filter (λ w. nat_le nx w.frame)) (append-nil (map (with_reports (e ∷ [])) (window_of o es))) ∙ filter_low nx nx (map (with_reports (e ∷ [])) (window_of o es)) leads (omega arith))
 

@@ -19,7 +19,7 @@ pub record LastMap : Type 0 where
   pub be : List ℕ
 
 -- as many truth values as Alloc-IDs in each class, and 512 at most
-pub record Suits (cert : MapCert) (na be : List ℕ) : Type 0 where
+pub record MatchesMembers (cert : MapCert) (na be : List ℕ) : Type 0 where
   pub non_assured : length cert.na.saturated ≡ length na
   pub best_effort : length cert.be.saturated ≡ length be
   pub few_non_assured : length na ≤ MOST_ITEMS
@@ -45,7 +45,7 @@ pub record KeepsLastAt (c : Chapter) (k : ℕ) (na be : List ℕ) : Type 0 where
   pub at : slice_get c.entries k ≡ Some entry
   pub is_map : entry.reply ≡ Map made
   pub is_last : last_map c ≡ Some (record { made = made; na = na; be = be })
-  pub suits : Suits made.cert na be
+  pub members : MatchesMembers made.cert na be
 
 -- where the last map stands among the entries, if there is one
 abbrev pub KeepsLast : Chapter → Option ℕ → List ℕ → List ℕ → Type 0

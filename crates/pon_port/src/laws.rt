@@ -16,7 +16,7 @@ ghost use Rattle.pon_state.specs.Loads.{counted_of, replay};
 ghost use Rattle.pon_state.specs.After.{after_entry};
 ghost use Rattle.pon_state.specs.Events.{IsEvent};
 ghost use Rattle.pon_state.specs.Legal.{MayFollow};
-ghost use Rattle.pon_window.specs.Window.{LeadsTo};
+ghost use Rattle.pon_window.specs.Window.{AreConsecutive};
 ghost use Rattle.pon_cert.specs.declared.cert.MapCert.{MapCert};
 ghost use Rattle.pon_share.specs.Input.{Input};
 ghost use Rattle.pon_share.specs.Sharing.{IsCertified, surplus_rate};
@@ -34,10 +34,10 @@ ghost use Rattle.pon_state.specs.declared.reply.Reply.{Reply};
 /// A legal history may be cut anywhere: the second part, opened with the replay of the first, leaves the same state, and
 /// is legal as the next chapter.
 pub fn cutting()
-    ensures state { (n : ℕ) (o : State) (xs ys : List Entry) → LeadsTo o.next o.window →
+    ensures state { (n : ℕ) (o : State) (xs ys : List Entry) → AreConsecutive o.next o.window →
         IsLegal (record { number = n; opening = o; entries = xs ++ ys })
         → replay o (xs ++ ys) ≡ replay (replay o xs) ys }
-    ensures rest { (n : ℕ) (o : State) (xs ys : List Entry) → LeadsTo o.next o.window →
+    ensures rest { (n : ℕ) (o : State) (xs ys : List Entry) → AreConsecutive o.next o.window →
         IsLegal (record { number = n; opening = o; entries = xs ++ ys }) →
         IsLegal (record { number = n + 1; opening = replay o xs; entries = ys }) }
 {}

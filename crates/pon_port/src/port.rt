@@ -51,7 +51,7 @@ impl Port {
     ghost use Rattle.pon_descr.specs.Descriptor.{IsLawful};
     ghost use Rattle.pon_admit.specs.Roster.{IsAdmitted, IsInRange};
     ghost use Rattle.pon_port.specs.Chapters.{IsLawfulChapter, present_state};
-    ghost use Rattle.pon_port.specs.Last.{Suits, last_map};
+    ghost use Rattle.pon_port.specs.Last.{MatchesMembers, last_map};
     ghost use Rattle.pon_port.specs.Taking.{Takes, refusal_of};
     ghost use Rattle.pon_port.specs.FairMaps.{IsFairMap, TellsFairMap};
     ghost use Rattle.pon_descr.specs.Checks.{IsTold};
@@ -108,7 +108,7 @@ impl Port {
     /// The last map of the kept chapter, with the Alloc-IDs of the non-assured and of the best-effort class as they were at
     /// that map, in map order: those that its certificate speaks of. `None` before any map of the chapter.
     pub fn last(&self) -> Option<(&MadeMap, &[AllocId], &[AllocId])>
-        ensures suits { IfSome result (λ l. Suits l.0.now.cert l.1.now l.2.now) }
+        ensures members { IfSome result (λ l. MatchesMembers l.0.now.cert l.1.now l.2.now) }
         ensures last { MatchOption result (last_map self.now ≡ None)
             (λ l. last_map self.now
             ≡ Some (record { made = l.0.now; na = l.1.now; be = l.2.now })) }

@@ -93,9 +93,9 @@ exact_grant = told (as_value Openings.grant_of) Openings.grant_parts _
     (λ x r fits e. ap Openings.grant_parts (sym (some_is (Openings.grant_of x) r e)))
 
 pub exact_map : IsExact Openings.window_map
-exact_map = told (as_value Openings.map_of) Openings.map_parts _
+exact_map = told (as_value Openings.window_map_of) Openings.map_parts _
     (both _ _ n64 (both _ _ (lists _ 256 _ n16 exact_grant) (lists _ 255 _ n8 exact_onu)))
-    (λ x r fits e. ap Openings.map_parts (sym (some_is (Openings.map_of x) r e)))
+    (λ x r fits e. ap Openings.map_parts (sym (some_is (Openings.window_map_of x) r e)))
 
 pub exact_opening : IsExact Openings.opening
 exact_opening = told (as_value Openings.opening_of) Openings.opening_parts _

@@ -35,11 +35,11 @@ grant = told_by (as_value grant_of) grant_parts (onu_id & alloc_id & words)
 abbrev pub map_parts : WindowMap → ℕ × (List Granted × List ℕ)
 map_parts m = (m.frame, (m.grants, m.reported))
 
-abbrev pub map_of : ℕ × (List Granted × List ℕ) → WindowMap
-map_of x = record { frame = x.0; grants = x.1.0; reported = x.1.1 }
+abbrev pub window_map_of : ℕ × (List Granted × List ℕ) → WindowMap
+window_map_of x = record { frame = x.0; grants = x.1.0; reported = x.1.1 }
 
 abbrev pub window_map : Format WindowMap
-window_map = told_by (as_value map_of) map_parts (frame & counted (number w16) MOST_GRANTS grant & counted (number w8) MOST_REPORTED onu_id)
+window_map = told_by (as_value window_map_of) map_parts (frame & counted (number w16) MOST_GRANTS grant & counted (number w8) MOST_REPORTED onu_id)
 
 -- the gap, the profile, the cause of a failure, the next frame, the entries taken before, the rows, and the window
 pub record Opening : Type 0 where

@@ -80,7 +80,7 @@ fn read_rows(alloc: Global, cursor: &mut Cursor<'_>) -> Result<Vec<Alloc>, Stop>
 }
 
 // The map of these structures.
-fn map_of(rows: Vec<Alloc>) -> Result<Map, Malformed>
+fn checked_map(rows: Vec<Alloc>) -> Result<Map, Malformed>
     ensures { Reads (λ m. m) result (passing is_map rows.items) }
 {
     match Map::from_rows(rows) {
@@ -94,7 +94,7 @@ impl Recorded for Map {
 
     fn read(alloc: Global, cursor: &mut Cursor<'_>) -> Result<Self, Stop> {
         let rows = read_rows(alloc, cursor)?;
-        Ok(map_of(rows)?)
+        Ok(checked_map(rows)?)
     }
 }
 

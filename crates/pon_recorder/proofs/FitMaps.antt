@@ -15,7 +15,7 @@ use Rattle.pon_bwmap.specs.MapReading.{FitsStructure}
 use Rattle.pon_bwmap.specs.MapRules.{IsMap}
 use Rattle.pon_bwmap.proofs.ReadsBack.{flag_small, start_small}
 use Rattle.pon_bwmap.proofs.SeriesLaw.{map_rules}
-use Rattle.pon_burst.specs.Maps.{grant, map_of, structure_of as structure_granting}
+use Rattle.pon_burst.specs.Maps.{grant, map_granting, structure_of as structure_granting}
 use Rattle.pon_burst.proofs.MapRules.{is_map_of_rising}
 use Rattle.pon_admit.specs.declared.row.Row.{Row}
 use Rattle.pon_admit.specs.Roster.{IsAdmitted, IsInRange}
@@ -137,11 +137,11 @@ made_fits s made k p next f =
     let t : Input = input_of s in
     let gs : List Granted = granted t (surplus_rate t made.cert) in
     let one : AreOneMap s.gap gs = one_map t made.cert k f.certificate in
-    let m : IsMap (map_of s.gap s.profile gs) = is_map_of_rising s.gap s.profile gs one.in_map_order one.short_series one.few one.fitting in
+    let m : IsMap (map_granting s.gap s.profile gs) = is_map_of_rising s.gap s.profile gs one.in_map_order one.short_series one.few one.fitting in
     let grants : sum_by grant gs ≤ 9720 = omega (arith, one.fitting) in
     let each = rest_fits s.gap s.profile gs gs p (ids_fit t (surplus_rate t made.cert) s.roster (recursion_from_All IsInRange s.roster k.in_range)) (each_below grant gs 9720 grants) in
     let is_map : IsMap made.map = subst IsMap (sym f.map) m in
-    let fit : AllByRecursion structure.Fits made.map = subst (λ (rows : List Structure). AllByRecursion structure.Fits rows) (sym f.map) (rows_fit (map_of s.gap s.profile gs) m each) in (
+    let fit : AllByRecursion structure.Fits made.map = subst (λ (rows : List Structure). AllByRecursion structure.Fits rows) (sym f.map) (rows_fit (map_granting s.gap s.profile gs) m each) in (
       (
         subst (λ (n : ℕ). n < 2 ^ 64) (sym f.frame) next,
         (

@@ -12,7 +12,7 @@ use Rattle.pon_units.specs.declared.granted.Granted.{Granted}
 use Rattle.pon_units.specs.Granted.{AreInMapOrder, ComesBefore}
 use Rattle.pon_lists.proofs.Lists.{count_by-append, flat_map-append}
 use Rattle.pon_burst.specs.Maps.{frame_words}
-use Rattle.pon_burst.specs.Series.{FitsFrame, Series, granted, granted_to}
+use Rattle.pon_burst.specs.Series.{FitsFrame, Series, grants_of_series, granted_to}
 use Rattle.pon_burst.proofs.SeriesOrder.{Rise, fits_from, granted_of}
 use Rattle.pon_lists.proofs.Order.{in_order-back, in_order-front}
 use Rattle.pon_share.specs.Packing.{AreOneMap}
@@ -75,7 +75,7 @@ others_above u gs low order = go (drop (front_len u gs) gs) (All-drop (λ g. u �
 
 -- What is gathered so far: the series are the grants before the rest, and all that rests is of greater ONUs.
 pub record Gathered (grants : List Granted) (series : List Series) (rest : List Granted) : Type 0 where
-  pub whole : granted series ++ rest ≡ grants
+  pub whole : grants_of_series series ++ rest ≡ grants
   pub rise : Rise series
   pub above : All (λ s. All (λ g. s.0 < g.onu) rest) series
 
@@ -99,7 +99,7 @@ module _ (grants : List Granted) (order : AreInMapOrder grants) (series : List S
   len = front_len first.onu rest
 
   rest_order : AreInMapOrder rest
-  rest_order = in_order-back ComesBefore (granted series) rest (subst AreInMapOrder (sym g.whole) order)
+  rest_order = in_order-back ComesBefore (grants_of_series series) rest (subst AreInMapOrder (sym g.whole) order)
 
   pub some_own : 0 < len
   some_own = omega (arith, front_more first.onu first more refl)
@@ -107,11 +107,11 @@ module _ (grants : List Granted) (order : AreInMapOrder grants) (series : List S
   -- one series more
   pub gathered_push : (s : Series) → s.0 ≡ first.onu → granted_to s ≡ take len rest → Gathered grants (series ++ s ∷ []) (drop len rest)
   gathered_push s onu own =
-      let whole : granted (series ++ s ∷ []) ++ drop len rest ≡ grants
+      let whole : grants_of_series (series ++ s ∷ []) ++ drop len rest ≡ grants
       = (λ i. flat_map-append granted_to series (s ∷ []) i ++ drop len rest)
-      ∙ (λ i. (granted series ++ append-nil (own i) i) ++ drop len rest)
-      ∙ append_assoc (granted series) (take len rest) (drop len rest)
-      ∙ ap (λ t. granted series ++ t) (take-append-drop len rest)
+      ∙ (λ i. (grants_of_series series ++ append-nil (own i) i) ++ drop len rest)
+      ∙ append_assoc (grants_of_series series) (take len rest) (drop len rest)
+      ∙ ap (λ t. grants_of_series series ++ t) (take-append-drop len rest)
       ∙ g.whole in
       let below : All (λ t. t.0 < s.0) series
       = All-weaker (λ t. All (λ g. t.0 < g.onu) rest) (λ t. t.0 < s.0) (λ t a. omega (arith, onu, All-head (λ g. t.0 < g.onu) first more a)) series g.above in
@@ -153,10 +153,10 @@ counted_own u (g ∷ gs) h =
 pub few_own : (gap : ℕ) (grants : List Granted) → AreOneMap gap grants → (series : List Series) (rest : List Granted) (u : ℕ) → Gathered grants series rest → length (take (front_len u rest) rest) ≤ 16
 few_own gap grants one series rest u g =
     let own : List Granted = take (front_len u rest) rest in
-    let all : count_by (λ g. g.onu == u) grants ≡ count_by (λ g. g.onu == u) (granted series) + (count_by (λ g. g.onu == u) own + count_by (λ g. g.onu == u) (drop (front_len u rest) rest))
-    = ap (count_by (λ g. g.onu == u)) (sym g.whole ∙ ap (λ t. granted series ++ t) (sym (take-append-drop (front_len u rest) rest)))
-    ∙ count_by-append (λ g. g.onu == u) (granted series) (own ++ drop (front_len u rest) rest)
-    ∙ ap (λ n. count_by (λ g. g.onu == u) (granted series) + n) (count_by-append (λ g. g.onu == u) own (drop (front_len u rest) rest)) in
+    let all : count_by (λ g. g.onu == u) grants ≡ count_by (λ g. g.onu == u) (grants_of_series series) + (count_by (λ g. g.onu == u) own + count_by (λ g. g.onu == u) (drop (front_len u rest) rest))
+    = ap (count_by (λ g. g.onu == u)) (sym g.whole ∙ ap (λ t. grants_of_series series ++ t) (sym (take-append-drop (front_len u rest) rest)))
+    ∙ count_by-append (λ g. g.onu == u) (grants_of_series series) (own ++ drop (front_len u rest) rest)
+    ∙ ap (λ n. count_by (λ g. g.onu == u) (grants_of_series series) + n) (count_by-append (λ g. g.onu == u) own (drop (front_len u rest) rest)) in
     omega (arith, all, one.short_series u, counted_own u own (own_front u rest))
 
 -- fewer rest
@@ -174,7 +174,7 @@ no_rest [] e = refl
 no_rest (x ∷ more) e = absurd cc
 
 -- all is gathered
-pub all_gathered : (gap : ℕ) (grants : List Granted) (series : List Series) (rest : List Granted) → AreOneMap gap grants → Gathered grants series rest → slice_get rest 0 ≡ None → (granted series ≡ grants) × FitsFrame gap series
+pub all_gathered : (gap : ℕ) (grants : List Granted) (series : List Series) (rest : List Granted) → AreOneMap gap grants → Gathered grants series rest → slice_get rest 0 ≡ None → (grants_of_series series ≡ grants) × FitsFrame gap series
 all_gathered gap grants series rest one g none =
-    let whole : granted series ≡ grants = sym (append-nil (granted series)) ∙ ap (λ t. granted series ++ t) (sym (no_rest rest none)) ∙ g.whole in
+    let whole : grants_of_series series ≡ grants = sym (append-nil (grants_of_series series)) ∙ ap (λ t. grants_of_series series ++ t) (sym (no_rest rest none)) ∙ g.whole in
     (whole, fits_from gap series g.rise (subst (λ t. frame_words gap t ≤ 9720) (sym whole) one.fitting))

@@ -2,7 +2,7 @@
 use Rattle.std.specs.Prelude.{ℕ, List}
 use Rattle.pon_units.specs.Fraction.{Fraction}
 use Rattle.pon_bwmap.specs.Structure.{Structure}
-use Rattle.pon_burst.specs.Maps.{map_of as map_granting}
+use Rattle.pon_burst.specs.Maps.{map_granting}
 use Rattle.pon_share.specs.Input.{Input}
 use Rattle.pon_admit.specs.declared.row.Row.{Row}
 use Rattle.pon_share.specs.Rates.{granted}

@@ -2,10 +2,10 @@
 
 ghost use Rattle.std.specs.Prelude.{◌≡◌, IfOk};
 ghost use Rattle.pon_bwmap.specs.MapRules.{IsMap};
-ghost use Rattle.pon_burst.specs.Maps.{map_of};
+ghost use Rattle.pon_burst.specs.Maps.{map_granting};
 ghost use Rattle.pon_share.specs.Packing.{AreOneMap};
 
-use crate::series::gather;
+use crate::series::group_by_onu;
 use pon_burst::pack;
 use pon_bwmap::{Alloc, Map};
 use pon_units::{Gap, Granted, Profile};
@@ -20,10 +20,10 @@ fn structures(
 ) -> Result<Vec<Alloc>, AllocError>
     requires { AreOneMap gap grants.now }
     ensures structures { IfOk result (λ structures. structures.items
-        ≡ map_of gap profile grants.now) }
+        ≡ map_granting gap profile grants.now) }
     ensures map { IfOk result (λ structures. IsMap structures.items) }
 {
-    let series = gather(alloc, gap, grants)?;
+    let series = group_by_onu(alloc, gap, grants)?;
     let blank = Alloc::polled(0, None, 0, 0);
     let mut structures = Vec::from_elem(alloc, blank, grants.len())?;
     pack(gap, profile, series.as_slice(), structures.as_mut_slice());
@@ -40,7 +40,7 @@ pub fn pack_grants(
     grants: &[Granted],
 ) -> Result<Map, AllocError>
     requires { AreOneMap gap grants.now }
-    ensures { IfOk result (λ map. map ≡ map_of gap profile grants.now) }
+    ensures { IfOk result (λ map. map ≡ map_granting gap profile grants.now) }
 {
     Ok(Map::of_rows(structures(alloc, gap, profile, grants)?))
 }

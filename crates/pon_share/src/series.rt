@@ -2,7 +2,7 @@
 
 ghost use Rattle.std.specs.Prelude.{◌≡◌, ◌≤◌, ◌<◌, ◌∷◌, [], All, IfOk, length, map, not, ◌==◌};
 ghost use Rattle.std.specs.List.{position, position_or_len};
-ghost use Rattle.pon_burst.specs.Series.{FitsFrame, granted, granted_to};
+ghost use Rattle.pon_burst.specs.Series.{FitsFrame, granted_to, grants_of_series};
 ghost use Rattle.pon_share.specs.Packing.{AreOneMap};
 
 use arrayvec::ArrayVec;
@@ -45,9 +45,9 @@ fn series_of_onu(onu: OnuId, grants: &[Granted]) -> Series
 }
 
 /// The series of grants that one map holds. `Err` only if memory is refused.
-pub(crate) fn gather(alloc: Global, gap: Gap, grants: &[Granted]) -> Result<Vec<Series>, AllocError>
+pub(crate) fn group_by_onu(alloc: Global, gap: Gap, grants: &[Granted]) -> Result<Vec<Series>, AllocError>
     requires { AreOneMap gap grants.now }
-    ensures granted { IfOk result (λ series. granted series.items ≡ grants.now) }
+    ensures granted { IfOk result (λ series. grants_of_series series.items ≡ grants.now) }
     ensures fits { IfOk result (λ series. FitsFrame gap series.items) }
 {
     let mut series = Vec::new(alloc);

@@ -3,7 +3,7 @@ ghost use Rattle.std.specs.Prelude.{◌≡◌, ◌==◌, true, false};
 ghost use Rattle.std.specs.List.{list_any};
 ghost use Rattle.pon_units.specs.Granted.{AreInMapOrder, ComesBefore};
 ghost use Rattle.pon_guar.specs.Book.{alloc_ids};
-ghost use Rattle.pon_window.specs.Window.{LeadsTo};
+ghost use Rattle.pon_window.specs.Window.{AreConsecutive};
 
 mod history;
 
@@ -42,7 +42,7 @@ fn is_free(loads: &Loads, alloc_id: AllocId) -> bool
 }
 
 fn is_next(loads: &Loads, frame: FrameNo) -> bool
-    ensures { result ≡ true → LeadsTo frame loads.now.window }
+    ensures { result ≡ true → AreConsecutive frame loads.now.window }
 {
     let len = loads.window_len();
     match loads.window_at(0) {

@@ -2,18 +2,18 @@
 use Rattle.std.proofs.Common.{◌≡◌, ◌≢◌, ℕ, zero, suc, ◌<◌, ◌≤◌, List, [], ◌∷◌, length, All, map, IsSome, Option, Some, inl, inr, refl, sym, ap, subst, arith}
 use Rattle.std.proofs.lemmas.List.{length-take}
 use Rattle.pon_bwmap.specs.Structure.{Structure}
-use Rattle.pon_link.specs.Units.{UnitState, answered, queue_after, reports}
+use Rattle.pon_link.specs.Units.{UnitState, answered, queue_after, reported_occupancies}
 use Rattle.pon_link.specs.declared.record.UpRecord.{UpRecord}
 use Rattle.pon_simulator.specs.Answers.{AnswersSeries, UnitAnswers, foreign_answer, unit_reports}
 use Rattle.pon_simulator.specs.Outputs.{IsWritable}
 
 -- ---- occupancies
 
-length-reports : (queues : List (ℕ × ℕ)) (rows : List Structure) → length (reports queues rows) ≡ length rows
+length-reports : (queues : List (ℕ × ℕ)) (rows : List Structure) → length (reported_occupancies queues rows) ≡ length rows
 length-reports queues [] = refl
 length-reports queues (a ∷ rows) = ap suc (length-reports (map (queue_after a) queues) rows)
 
-all_reported : (queues : List (ℕ × ℕ)) (rows : List Structure) → All IsSome (reports queues rows)
+all_reported : (queues : List (ℕ × ℕ)) (rows : List Structure) → All IsSome (reported_occupancies queues rows)
 all_reported queues [] k d lt = absurd (omega (arith, lt))
 all_reported queues (a ∷ rows) zero d lt = refl
 all_reported queues (a ∷ rows) (suc k) d lt = all_reported (map (queue_after a) queues) rows k d (omega (arith, lt))

@@ -2,7 +2,7 @@
 use Rattle.std.specs.Prelude.{◌≡◌, ◌≢◌, ℕ, ◌⊎◌, true, false, List, [], ◌∷◌, ◌++◌, All, map, Some, slice_get, slice_set}
 use Rattle.pon_bwmap.specs.Structure.{Structure}
 use Rattle.pon_bwmap.specs.MapRules.{continues}
-use Rattle.pon_link.specs.Units.{UnitState, owns, answered, reports, served}
+use Rattle.pon_link.specs.Units.{UnitState, owns, answered, reported_occupancies, served}
 use Rattle.pon_link.specs.declared.record.DownRecord.{DownRecord}
 use Rattle.pon_link.specs.declared.record.UpRecord.{UpRecord}
 use Rattle.pon_simulator.specs.Series.{AreSeries}
@@ -14,7 +14,7 @@ foreign_answer frame series = record { frame = frame; head = Some (record { onu_
 
 -- the reports of a unit to a series of a frame alone
 abbrev pub unit_reports : ℕ → UnitState → List Structure → UpRecord
-unit_reports frame unit series = record { frame = frame; head = Some (record { onu_raw = unit.onu; ind = 0 }); occ = reports unit.queues (answered unit.queues series) }
+unit_reports frame unit series = record { frame = frame; head = Some (record { onu_raw = unit.onu; ind = 0 }); occ = reported_occupancies unit.queues (answered unit.queues series) }
 
 -- the unit after it
 abbrev pub after_series : UnitState → List Structure → UnitState

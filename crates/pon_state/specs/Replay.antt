@@ -5,7 +5,7 @@ use Rattle.pon_bwmap.specs.Structure.{Structure}
 use Rattle.pon_admit.specs.declared.row.Row.{Row}
 use Rattle.pon_admit.specs.Roster.{with_row, with_descriptor, without}
 use Rattle.pon_guar.specs.Book.{with_alloc, without_alloc}
-use Rattle.pon_window.specs.Window.{WindowMap, last_64, polled}
+use Rattle.pon_window.specs.Window.{WindowMap, last_64, onus_polled}
 use Rattle.pon_units.specs.declared.granted.Granted.{Granted}
 use Rattle.pon_state.specs.State.{State}
 use Rattle.pon_event.specs.declared.event.Event.{Event}
@@ -30,9 +30,9 @@ abbrev pub admits : ℕ → Event → Bool
 admits i (Admit onu alloc_id descriptor) = alloc_id == i
 admits i _ = false
 
-abbrev pub reports : ℕ → ℕ → Event → Bool
-reports frame u (Report of_frame onu occ) = of_frame == frame && onu == u
-reports frame u _ = false
+abbrev pub is_report_for : ℕ → ℕ → Event → Bool
+is_report_for frame u (Report of_frame onu occ) = of_frame == frame && onu == u
+is_report_for frame u _ = false
 
 -- an entry after which an Alloc-ID's reports count afresh
 abbrev pub begins : ℕ → Entry → Bool
@@ -90,11 +90,11 @@ grants_of (r ∷ rows) [] = []
 
 -- an ONU that the map names already, or that an entry reports for
 abbrev pub has_reported : List Entry → WindowMap → ℕ → Bool
-has_reported es m u = list_any (λ v. v == u) m.reported || list_any (λ e. reports m.frame u e.event) es
+has_reported es m u = list_any (λ v. v == u) m.reported || list_any (λ e. is_report_for m.frame u e.event) es
 
 -- a map, with the ONUs that later entries report for
 abbrev pub with_reports : List Entry → WindowMap → WindowMap
-with_reports es m = record { frame = m.frame; grants = m.grants; reported = filter (has_reported es m) (polled m) }
+with_reports es m = record { frame = m.frame; grants = m.grants; reported = filter (has_reported es m) (onus_polled m) }
 
 abbrev pub structures : Reply → List Structure
 structures Taken = []

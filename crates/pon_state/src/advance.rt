@@ -5,7 +5,7 @@ ghost use Rattle.std.specs.List.{list_any};
 ghost use Rattle.pon_units.specs.Granted.{AreInMapOrder};
 ghost use Rattle.pon_admit.specs.Roster.{refuses_admit, refuses_change, refuses_remove};
 ghost use Rattle.pon_guar.specs.Book.{AreRising, alloc_ids};
-ghost use Rattle.pon_window.specs.Window.{LeadsTo};
+ghost use Rattle.pon_window.specs.Window.{AreConsecutive};
 ghost use Rattle.pon_window.specs.Reports.{refuses_report};
 ghost use Rattle.pon_state.specs.Accounts.{AccountsFor};
 ghost use Rattle.pon_state.specs.Checks.{refuses};
@@ -23,7 +23,7 @@ use std::alloc::AllocError;
 /// Takes a map of the next frame into the state; `Err` if memory is refused, and then the state is as it was.
 pub fn add_map(state: &mut PortState, grants: &[Granted]) -> Result<(), AllocError>
     requires map_order { AreInMapOrder grants.now }
-    requires frames { LeadsTo state.old.next state.old.window }
+    requires frames { AreConsecutive state.old.next state.old.window }
     requires next { state.old.next + 1 < 2 ^ 64 }
     requires count { state.old.taken_before + 1 < 2 ^ 64 }
     ensures ok { OnOk result (state.new ≡ after_map state.old grants.now) }
@@ -109,7 +109,7 @@ fn take_report(
 }
 
 // Forgets the reports and the window at a fault, told by its cause, or at its end.
-fn cut(state: &mut PortState, cause: Option<Cause>)
+fn forget_reports(state: &mut PortState, cause: Option<Cause>)
     requires count { state.old.taken_before + 1 < 2 ^ 64 }
     ensures { state.new ≡ after_cut state.old cause }
 {
@@ -141,8 +141,8 @@ pub fn step(state: &mut PortState, event: &Event) -> Result<(), AllocError>
         Event::Remove { alloc_id } => remove_row(state, *alloc_id),
         Event::Report { frame, onu, occ } => return take_report(state, *frame, *onu, occ),
         Event::MakeMap => unreachable!(),
-        Event::Fail { cause } => cut(state, Some(*cause)),
-        Event::Restore => cut(state, None),
+        Event::Fail { cause } => forget_reports(state, Some(*cause)),
+        Event::Restore => forget_reports(state, None),
     }
     Ok(())
 }

@@ -13,13 +13,13 @@ use Rattle.pon_descr.specs.declared.refusal.Refusal.{Refusal}
 use Rattle.pon_descr.specs.declared.refusal.Refusal.TheVariants.{StaleFrame, NotPolled, ReportCount, AlreadyReported}
 use Rattle.pon_lists.proofs.Lists.{or-false}
 use Rattle.pon_window.specs.Reports.{refuses_report}
-use Rattle.pon_window.specs.Window.{Granted, IsPlaceOf, LeadsTo, WindowMap, frame_after, grants_at, is_of}
+use Rattle.pon_window.specs.Window.{Granted, IsPlaceOf, AreConsecutive, WindowMap, frame_after, grants_at, is_of}
 
-pub leads_below : (n : ℕ) (ms : List WindowMap) → LeadsTo n ms → All (λ m. m.frame < n) ms
+pub leads_below : (n : ℕ) (ms : List WindowMap) → AreConsecutive n ms → All (λ m. m.frame < n) ms
 leads_below n [] h = All-nil (λ m. m.frame < n)
 leads_below n (m ∷ ms) h = All-cons (λ m. m.frame < n) m ms (omega (arith, h.0)) (leads_below n ms h.1)
 
-pub leads_above : (n : ℕ) (ms : List WindowMap) → LeadsTo n ms → All (λ m. n ≤ m.frame + length ms) ms
+pub leads_above : (n : ℕ) (ms : List WindowMap) → AreConsecutive n ms → All (λ m. n ≤ m.frame + length ms) ms
 leads_above n [] h = All-nil (λ m. n ≤ m.frame + 0)
 leads_above n (m ∷ ms) h = All-cons (λ q. n ≤ q.frame + length (m ∷ ms)) m ms (omega (arith, h.0))
     (All-weaker (λ q. n ≤ q.frame + length ms) (λ q. n ≤ q.frame + length (m ∷ ms)) (λ q l. omega (arith, l)) ms (leads_above n ms h.1))
@@ -29,7 +29,7 @@ no_frame f [] h = refl
 no_frame f (m ∷ ms) h = (λ i. cond (All-head (λ m. (m.frame == f) ≡ false) m ms h i) (m ∷ filter (λ m. m.frame == f) ms) (filter (λ m. m.frame == f) ms)) ∙ no_frame f ms (All-tail (λ m. (m.frame == f) ≡ false) m ms h)
 
 -- one map of a frame at most
-pub one_of_frame : (n f : ℕ) (ms : List WindowMap) → LeadsTo n ms → All (λ m. m.frame ≡ f → filter (λ m. m.frame == f) ms ≡ m ∷ []) ms
+pub one_of_frame : (n f : ℕ) (ms : List WindowMap) → AreConsecutive n ms → All (λ m. m.frame ≡ f → filter (λ m. m.frame == f) ms ≡ m ∷ []) ms
 one_of_frame n f [] h = All-nil (λ m. m.frame ≡ f → filter (λ m. m.frame == f) [] ≡ m ∷ [])
 one_of_frame n f (x ∷ ms) h = All-cons (λ m. m.frame ≡ f → filter (λ m. m.frame == f) (x ∷ ms) ≡ m ∷ []) x ms
     (λ e. ap (λ b. cond b (x ∷ filter (λ m. m.frame == f) ms) (filter (λ m. m.frame == f) ms)) (eq-eqb x.frame f e)
@@ -45,18 +45,18 @@ grants_of_one f u ms m h = ap (λ ms. filter (λ g. g.onu == u) (flat_map (λ m.
 
 -- A frame's place is its distance from the first.
 
-pub frame_at : (n : ℕ) (m : WindowMap) (ms : List WindowMap) → LeadsTo n (m ∷ ms) → (k : ℕ) (d : WindowMap) → k < length (m ∷ ms) → (get_or (m ∷ ms) k d).frame ≡ m.frame + k
+pub frame_at : (n : ℕ) (m : WindowMap) (ms : List WindowMap) → AreConsecutive n (m ∷ ms) → (k : ℕ) (d : WindowMap) → k < length (m ∷ ms) → (get_or (m ∷ ms) k d).frame ≡ m.frame + k
 frame_at n m ms h zero d l = omega arith
 frame_at n m [] h (suc k) d l = absurd (omega (arith, l))
 frame_at n m (q ∷ ms) h (suc k) d l =
     let rest : (get_or (q ∷ ms) k d).frame ≡ q.frame + k = frame_at n q ms h.1 k d (omega (arith, l)) in
     omega (arith, rest, h.0, h.1.0)
 
-module _ (n f : ℕ) (ms : List WindowMap) (m : WindowMap) (h : LeadsTo n ms) (first : slice_get ms 0 ≡ Some m) where
+module _ (n f : ℕ) (ms : List WindowMap) (m : WindowMap) (h : AreConsecutive n ms) (first : slice_get ms 0 ≡ Some m) where
   pub place_found : (k : ℕ) → m.frame + k ≡ f → k < length ms → IsPlaceOf f ms k
   place_found k e l = go ms h first l
     where
-      go : (xs : List WindowMap) → LeadsTo n xs → slice_get xs 0 ≡ Some m → k < length xs → IsPlaceOf f xs k
+      go : (xs : List WindowMap) → AreConsecutive n xs → slice_get xs 0 ≡ Some m → k < length xs → IsPlaceOf f xs k
       go [] h first l = absurd cc
       go (x ∷ xs) h first l = record {
         within = l;
@@ -66,7 +66,7 @@ module _ (n f : ℕ) (ms : List WindowMap) (m : WindowMap) (h : LeadsTo n ms) (f
   length_is : m.frame + length ms ≡ n
   length_is = go ms h first
     where
-      go : (xs : List WindowMap) → LeadsTo n xs → slice_get xs 0 ≡ Some m → m.frame + length xs ≡ n
+      go : (xs : List WindowMap) → AreConsecutive n xs → slice_get xs 0 ≡ Some m → m.frame + length xs ≡ n
       go [] h first = absurd cc
       go (x ∷ xs) h first = ap (λ q. q.frame + length (x ∷ xs)) (sym (same_Some x m first)) ∙ h.0
 
@@ -87,7 +87,7 @@ any_filtered p q (x ∷ xs) = elim (p x) as (λ b. ((b && q x) || list_any (λ x
   | false ↦ any_filtered p q xs
 ]
 
-module _ (n f u : ℕ) (ms : List WindowMap) (h : LeadsTo n ms) (k : ℕ) (place : IsPlaceOf f ms k) (d : WindowMap) where
+module _ (n f u : ℕ) (ms : List WindowMap) (h : AreConsecutive n ms) (k : ℕ) (place : IsPlaceOf f ms k) (d : WindowMap) where
   pub map_alone : filter (λ m. m.frame == f) ms ≡ get_or ms k d ∷ []
   map_alone = one_of_frame n f ms h k d place.within (place.is d)
 
@@ -111,7 +111,7 @@ module _ (n f u : ℕ) (ms : List WindowMap) (h : LeadsTo n ms) (k : ℕ) (place
       ∷ []))
 
 -- The checks of a report, by the map at the place and its grants to the ONU.
-module _ (n f u count : ℕ) (ms : List WindowMap) (h : LeadsTo n ms) (k : ℕ) (place : IsPlaceOf f ms k) (m : WindowMap) (there : m ≡ get_or ms k m) (own : List Granted) (series : own ≡ filter (λ g. g.onu == u) m.grants) where
+module _ (n f u count : ℕ) (ms : List WindowMap) (h : AreConsecutive n ms) (k : ℕ) (place : IsPlaceOf f ms k) (m : WindowMap) (there : m ≡ get_or ms k m) (own : List Granted) (series : own ≡ filter (λ g. g.onu == u) m.grants) where
   abbrev checks_left : Bool → Bool → Bool → Option Refusal
   checks_left none other again = first_of (when none NotPolled ∷ when (not other) ReportCount ∷ when again AlreadyReported ∷ [])
 
@@ -136,20 +136,20 @@ module _ (n f u count : ℕ) (ms : List WindowMap) (h : LeadsTo n ms) (k : ℕ) 
 
 -- Windows that grow, lose their oldest maps, or hear reports.
 
-pub leads_push : (f : ℕ) (ms : List WindowMap) (m : WindowMap) → LeadsTo f ms → m.frame ≡ f → LeadsTo (f + 1) (ms ++ m ∷ [])
+pub leads_push : (f : ℕ) (ms : List WindowMap) (m : WindowMap) → AreConsecutive f ms → m.frame ≡ f → AreConsecutive (f + 1) (ms ++ m ∷ [])
 leads_push f [] m h e = (omega (arith, e), tt)
 leads_push f (x ∷ ms) m h e = (omega (arith, h.0, length_push ms m), leads_push f ms m h.1 e)
 
-pub leads_drop : (n k : ℕ) (ms : List WindowMap) → LeadsTo n ms → LeadsTo n (drop k ms)
+pub leads_drop : (n k : ℕ) (ms : List WindowMap) → AreConsecutive n ms → AreConsecutive n (drop k ms)
 leads_drop n zero ms h = h
 leads_drop n (suc k) [] h = tt
 leads_drop n (suc k) (m ∷ ms) h = leads_drop n k ms h.1
 
-pub leads_after : (n : ℕ) (ms : List WindowMap) → LeadsTo n ms → LeadsTo (frame_after ms) ms
+pub leads_after : (n : ℕ) (ms : List WindowMap) → AreConsecutive n ms → AreConsecutive (frame_after ms) ms
 leads_after n [] h = tt
-leads_after n (m ∷ ms) h = subst (λ n. LeadsTo n (m ∷ ms)) (sym h.0) h
+leads_after n (m ∷ ms) h = subst (λ n. AreConsecutive n (m ∷ ms)) (sym h.0) h
 
-pub leads_mapped : (f : WindowMap → WindowMap) → ((m : WindowMap) → (f m).frame ≡ m.frame) → (n : ℕ) (ms : List WindowMap) → LeadsTo n ms → LeadsTo n (map f ms)
+pub leads_mapped : (f : WindowMap → WindowMap) → ((m : WindowMap) → (f m).frame ≡ m.frame) → (n : ℕ) (ms : List WindowMap) → AreConsecutive n ms → AreConsecutive n (map f ms)
 leads_mapped f same n [] h = tt
 leads_mapped f same n (m ∷ ms) h = (omega (arith, h.0, same m, length-map ms f), leads_mapped f same n ms h.1)
 
@@ -168,7 +168,7 @@ module _ (f u count : ℕ) (ms : List WindowMap) (accepted : refuses_report ms f
   pub frame_there : list_any (is_of f) ms ≡ true
   frame_there = not-false (list_any (is_of f) ms) (when_none (not (list_any (is_of f) ms)) StaleFrame passed.0)
 
-  module _ (n : ℕ) (h : LeadsTo n ms) (k : ℕ) (place : IsPlaceOf f ms k) (d : WindowMap) where
+  module _ (n : ℕ) (h : AreConsecutive n ms) (k : ℕ) (place : IsPlaceOf f ms k) (d : WindowMap) where
     pub polled_some : (length (filter (λ g. g.onu == u) (get_or ms k d).grants) == 0) ≡ false
     polled_some = ap (λ gs. length gs == 0) (sym (polled_there n f u ms h k place d)) ∙ when_none (length (grants_at f u ms) == 0) NotPolled passed.1.0
 

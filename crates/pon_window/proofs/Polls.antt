@@ -14,7 +14,7 @@ use Rattle.pon_lists.specs.Distinct.{distinct}
 use Rattle.pon_lists.proofs.Distinct.{occurs}
 use Rattle.pon_lists.proofs.Lists.{any_eq-filter, filter_agree, filter_same_in, or-false}
 use Rattle.pon_lists.specs.Order.{AreRising, with_number}
-use Rattle.pon_window.specs.Window.{IsLawfulMap, LeadsTo, WindowMap, polled}
+use Rattle.pon_window.specs.Window.{IsLawfulMap, AreConsecutive, WindowMap, onus_polled}
 use Rattle.pon_window.specs.Reports.{with_report}
 use Rattle.pon_lists.proofs.Order.{in_order-filter, in_order_at}
 use Rattle.pon_window.proofs.Frames.{frame_at, leads_above}
@@ -131,28 +131,28 @@ placed p u (x ∷ xs) h t n = elim (eqb_tells x u) [
 -- A map's reporters.
 
 pub reporters_rise : (m : WindowMap) → IsLawfulMap m → AreRising m.reported
-reporters_rise m l = subst AreRising (sym l.reported) (in_order-filter (λ i j. i < j) (λ u. occurs u m.reported) (polled m) (onus_rise m.grants l.rising))
+reporters_rise m l = subst AreRising (sym l.reported) (in_order-filter (λ i j. i < j) (λ u. occurs u m.reported) (onus_polled m) (onus_rise m.grants l.rising))
 
-pub noted : (m : WindowMap) (u : ℕ) → IsLawfulMap m → occurs u (polled m) ≡ true → occurs u m.reported ≡ false → with_number u m.reported ≡ (with_report m.frame u m).reported
+pub noted : (m : WindowMap) (u : ℕ) → IsLawfulMap m → occurs u (onus_polled m) ≡ true → occurs u m.reported ≡ false → with_number u m.reported ≡ (with_report m.frame u m).reported
 noted m u l there first =
     ap (with_number u) l.reported
-    ∙ placed (λ v. occurs v m.reported) u (polled m) (onus_rise m.grants l.rising) there first
+    ∙ placed (λ v. occurs v m.reported) u (onus_polled m) (onus_rise m.grants l.rising) there first
     ∙ filter_agree (λ v. occurs v m.reported || (u == v)) (λ v. occurs v m.reported || (m.frame == m.frame && u == v))
-    (λ v. ap (λ b. occurs v m.reported || (b && u == v)) (sym (eq-eqb m.frame m.frame refl))) (polled m)
+    (λ v. ap (λ b. occurs v m.reported || (b && u == v)) (sym (eq-eqb m.frame m.frame refl))) (onus_polled m)
 
 -- a map with one reporter more
 abbrev pub noting : ℕ → WindowMap → WindowMap
 noting u m = record { frame = m.frame; grants = m.grants; reported = with_number u m.reported }
 
-pub noting_is : (m : WindowMap) (u : ℕ) → IsLawfulMap m → occurs u (polled m) ≡ true → occurs u m.reported ≡ false → noting u m ≡ with_report m.frame u m
+pub noting_is : (m : WindowMap) (u : ℕ) → IsLawfulMap m → occurs u (onus_polled m) ≡ true → occurs u m.reported ≡ false → noting u m ≡ with_report m.frame u m
 noting_is m u l there first = (λ j. record { frame = m.frame; grants = m.grants; reported = noted m u l there first j })
 
 -- what passes a test among those that a lawful map polls may have reported
-pub said_lawful : (said : ℕ → Bool) (m : WindowMap) → AreInMapOrder m.grants → IsLawfulMap (record { frame = m.frame; grants = m.grants; reported = filter said (polled m) })
+pub said_lawful : (said : ℕ → Bool) (m : WindowMap) → AreInMapOrder m.grants → IsLawfulMap (record { frame = m.frame; grants = m.grants; reported = filter said (onus_polled m) })
 said_lawful said m h = record {
   rising = h;
-  reported = filter_same_in said (λ u. occurs u (filter said (polled m))) (polled m)
-      (λ u k. sym (any_eq-filter said u (polled m) ∙ ap (λ b. said u && b) k ∙ and-true (said u)));
+  reported = filter_same_in said (λ u. occurs u (filter said (onus_polled m))) (onus_polled m)
+      (λ u k. sym (any_eq-filter said u (onus_polled m) ∙ ap (λ b. said u && b) k ∙ and-true (said u)));
 }
 
 -- A report in a window.
@@ -163,7 +163,7 @@ other_frame f u m l e = (λ j. record { frame = m.frame; grants = m.grants; repo
   where
     same : (with_report f u m).reported ≡ m.reported
     same = filter_agree (λ v. occurs v m.reported || (f == m.frame && u == v)) (λ v. occurs v m.reported)
-        (λ v. ap (λ b. occurs v m.reported || (b && u == v)) e ∙ or-false (occurs v m.reported)) (polled m)
+        (λ v. ap (λ b. occurs v m.reported || (b && u == v)) e ∙ or-false (occurs v m.reported)) (onus_polled m)
         ∙ sym l.reported
 
 others_kept : (f u : ℕ) (ms : List WindowMap) → All IsLawfulMap ms → All (λ m. (f == m.frame) ≡ false) ms → map (with_report f u) ms ≡ ms
@@ -171,7 +171,7 @@ others_kept f u [] l h = refl
 others_kept f u (m ∷ ms) l h = (λ j. other_frame f u m (All-head IsLawfulMap m ms l) (All-head (λ m. (f == m.frame) ≡ false) m ms h) j
     ∷ others_kept f u ms (All-tail IsLawfulMap m ms l) (All-tail (λ m. (f == m.frame) ≡ false) m ms h) j)
 
-pub reported_at : (n f u : ℕ) (ms : List WindowMap) → LeadsTo n ms → All IsLawfulMap ms → (k : ℕ) (d new : WindowMap) → k < length ms → (get_or ms k d).frame ≡ f →
+pub reported_at : (n f u : ℕ) (ms : List WindowMap) → AreConsecutive n ms → All IsLawfulMap ms → (k : ℕ) (d new : WindowMap) → k < length ms → (get_or ms k d).frame ≡ f →
     new ≡ with_report (get_or ms k d).frame u (get_or ms k d) → set ms k new ≡ map (with_report f u) ms
 reported_at n f u [] h l k d new b e is = absurd (omega (arith, b))
 reported_at n f u (m ∷ ms) h l zero d new b e is =
@@ -200,5 +200,5 @@ granted_onu u (g ∷ gs) h = (elim (g.onu == u) as (λ b. (length (cond b (g ∷
   | false ↦ λ h. granted_onu u gs h
 ]) h
 
-pub granted_polled : (u : ℕ) (m : WindowMap) → (length (filter (λ g. g.onu == u) m.grants) == 0) ≡ false → occurs u (polled m) ≡ true
+pub granted_polled : (u : ℕ) (m : WindowMap) → (length (filter (λ g. g.onu == u) m.grants) == 0) ≡ false → occurs u (onus_polled m) ≡ true
 granted_polled u m h = occurs-distinct u (map (λ g. g.onu) m.grants) (granted_onu u m.grants h)

@@ -6,7 +6,7 @@ use Rattle.std.proofs.lemmas.List.{length-map, length-drop}
 use Rattle.std.proofs.lemmas.List.Elements.{All-nil, All-cons, All-append, All-drop, All-map, All-weaker}
 use Rattle.pon_units.specs.Granted.{AreInMapOrder}
 use Rattle.pon_units.specs.declared.granted.Granted.{Granted}
-use Rattle.pon_window.specs.Window.{IsLawfulMap, IsWindow, LeadsTo, WindowMap, frame_after, last_64, polled, with_map}
+use Rattle.pon_window.specs.Window.{IsLawfulMap, IsWindow, AreConsecutive, WindowMap, frame_after, last_64, onus_polled, with_map}
 use Rattle.pon_window.specs.Reports.{with_report}
 use Rattle.pon_window.proofs.Frames.{leads_after, leads_drop, leads_mapped, leads_push}
 use Rattle.pon_window.proofs.Polls.{said_lawful}
@@ -15,14 +15,14 @@ pub no_maps : IsWindow []
 no_maps = record { few_maps = omega arith; frames = tt; maps = All-nil IsLawfulMap }
 
 module _ (window : List WindowMap) (k : IsWindow window) where
-  pub one_more : (frame : ℕ) (gs : List Granted) → LeadsTo frame window → AreInMapOrder gs → IsWindow (with_map frame gs window)
+  pub one_more : (frame : ℕ) (gs : List Granted) → AreConsecutive frame window → AreInMapOrder gs → IsWindow (with_map frame gs window)
   one_more frame gs next order =
       let new : WindowMap = record { frame = frame; grants = gs; reported = [] } in
       let all : List WindowMap = window ++ new ∷ [] in
       record {
         few_maps = omega (arith, length-drop (length all - 64) all);
         frames = leads_after (frame + 1) (last_64 all) (leads_drop (frame + 1) (length all - 64) all (leads_push frame window new next refl));
-        maps = All-drop IsLawfulMap (length all - 64) all (All-append IsLawfulMap window (new ∷ []) k.maps (All-cons IsLawfulMap new [] (record { rising = order; reported = sym (nobody (polled new)) }) (All-nil IsLawfulMap)));
+        maps = All-drop IsLawfulMap (length all - 64) all (All-append IsLawfulMap window (new ∷ []) k.maps (All-cons IsLawfulMap new [] (record { rising = order; reported = sym (nobody (onus_polled new)) }) (All-nil IsLawfulMap)));
       }
     where
       nobody : (xs : List ℕ) → filter (λ u. list_any (λ v. v == u) []) xs ≡ []

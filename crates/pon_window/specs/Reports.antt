@@ -4,7 +4,7 @@ use Rattle.std.specs.List.{list_any}
 use Rattle.pon_descr.specs.Checks.{when, first_of}
 use Rattle.pon_descr.specs.declared.refusal.Refusal.{Refusal}
 use Rattle.pon_descr.specs.declared.refusal.Refusal.TheVariants.{StaleFrame, NotPolled, ReportCount, AlreadyReported}
-use Rattle.pon_window.specs.Window.{WindowMap, grants_at, is_of, polled}
+use Rattle.pon_window.specs.Window.{WindowMap, grants_at, is_of, onus_polled}
 
 -- the first check that refuses a report of `count` occupancies
 abbrev pub refuses_report : List WindowMap → ℕ → ℕ → ℕ → Option Refusal
@@ -20,5 +20,5 @@ abbrev pub with_report : ℕ → ℕ → WindowMap → WindowMap
 with_report frame u m = record {
   frame = m.frame;
   grants = m.grants;
-  reported = filter (λ v. list_any (λ w. w == v) m.reported || (frame == m.frame && u == v)) (polled m);
+  reported = filter (λ v. list_any (λ w. w == v) m.reported || (frame == m.frame && u == v)) (onus_polled m);
 }

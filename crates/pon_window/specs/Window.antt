@@ -18,13 +18,13 @@ abbrev pub grants_at : ℕ → ℕ → List WindowMap → List Granted
 grants_at frame u window = filter (λ g. g.onu == u) (flat_map (λ m. m.grants) (filter (λ m. m.frame == frame) window))
 
 -- the ONUs that a map polls, in its order
-abbrev pub polled : WindowMap → List ℕ
-polled m = onus_granted m.grants
+abbrev pub onus_polled : WindowMap → List ℕ
+onus_polled m = onus_granted m.grants
 
 -- frames follow each other up to the next frame
-abbrev pub LeadsTo : ℕ → List WindowMap → Type 0
-LeadsTo next [] = Unit {0}
-LeadsTo next (m ∷ ms) = (m.frame + length (m ∷ ms) ≡ next) × LeadsTo next ms
+abbrev pub AreConsecutive : ℕ → List WindowMap → Type 0
+AreConsecutive next [] = Unit {0}
+AreConsecutive next (m ∷ ms) = (m.frame + length (m ∷ ms) ≡ next) × AreConsecutive next ms
 
 -- the map at a place is of a frame
 pub record IsPlaceOf (frame : ℕ) (ms : List WindowMap) (k : ℕ) : Type 0 where
@@ -39,12 +39,12 @@ frame_after (m ∷ ms) = m.frame + length (m ∷ ms)
 -- the ONUs that reported are some of those that the map polls, in its order
 pub record IsLawfulMap (m : WindowMap) : Type 0 where
   pub rising : AreInMapOrder m.grants
-  pub reported : m.reported ≡ filter (λ u. list_any (λ v. v == u) m.reported) (polled m)
+  pub reported : m.reported ≡ filter (λ u. list_any (λ v. v == u) m.reported) (onus_polled m)
 
 -- at most 64 lawful maps, whose frames follow each other
 pub record IsWindow (window : List WindowMap) : Type 0 where
   pub few_maps : length window ≤ 64
-  pub frames : LeadsTo (frame_after window) window
+  pub frames : AreConsecutive (frame_after window) window
   pub maps : All IsLawfulMap window
 
 abbrev pub last_64 : {T : Type 0} → List T → List T

@@ -73,7 +73,7 @@ fn add_onu(onus: &mut Vec<OnuId>, onu: OnuId) -> Result<(), AllocError>
 }
 
 impl WindowMap {
-    ghost use Rattle.pon_window.specs.Window.{polled};
+    ghost use Rattle.pon_window.specs.Window.{onus_polled};
     ghost use Rattle.pon_window.specs.Reports.{with_report};
 
     /// The frame of the map.
@@ -135,7 +135,7 @@ impl WindowMap {
     /// Notes that an ONU reported. `Err` only if memory is refused, and then nothing changes.
     pub(crate) fn note(&mut self, onu: OnuId) -> Result<(), AllocError>
         requires lawful { IsLawfulMap self.old }
-        requires polled { list_any (λ v. v == onu) (polled self.old) ≡ true }
+        requires polled { list_any (λ v. v == onu) (onus_polled self.old) ≡ true }
         requires first { list_any (λ v. v == onu) self.old.reported ≡ false }
         ensures ok { OnOk result (self.new ≡ with_report self.old.frame onu self.old) }
         ensures err { OnErr result (self.new ≡ self.old) }

@@ -2,14 +2,14 @@
 
 ghost use Rattle.std.specs.Prelude.{◌≡◌, false, None, IfSome};
 ghost use Rattle.std.specs.List.{list_any};
-ghost use Rattle.pon_window.specs.Window.{IsPlaceOf, LeadsTo, frame_after, is_of};
+ghost use Rattle.pon_window.specs.Window.{IsPlaceOf, AreConsecutive, frame_after, is_of};
 
 use crate::map::WindowMap;
 use pon_units::FrameNo;
 
 /// The index of the map of a frame, by its distance from the first; `None` if no map is of it.
 pub(crate) fn place_of(window: &[WindowMap], frame: FrameNo) -> Option<usize>
-    requires { LeadsTo (frame_after window.now) window.now }
+    requires { AreConsecutive (frame_after window.now) window.now }
     ensures none { result ≡ None → list_any (is_of frame) window.now ≡ false }
     ensures some { IfSome result (IsPlaceOf frame window.now) }
 {

@@ -1,7 +1,7 @@
 //! Reports for the maps of a window: the checks that refuse one, and the note that it came.
 
 ghost use Rattle.std.specs.Prelude.{◌≡◌, ℕ, None, All, OnOk, OnErr, map};
-ghost use Rattle.pon_window.specs.Window.{IsLawfulMap, LeadsTo, frame_after};
+ghost use Rattle.pon_window.specs.Window.{IsLawfulMap, AreConsecutive, frame_after};
 ghost use Rattle.pon_window.specs.Reports.{refuses_report, with_report};
 
 use crate::map::WindowMap;
@@ -17,7 +17,7 @@ pub(crate) fn report_refusal(
     onu: OnuId,
     count: usize,
 ) -> Option<Refusal>
-    requires frames { LeadsTo (frame_after window.now) window.now }
+    requires frames { AreConsecutive (frame_after window.now) window.now }
     requires maps { All IsLawfulMap window.now }
     ensures { result ≡ refuses_report window.now frame onu count }
 {
@@ -44,7 +44,7 @@ pub(crate) fn note_report(
     frame: FrameNo,
     onu: OnuId,
 ) -> Result<(), AllocError>
-    requires frames { LeadsTo (frame_after window.old) window.old }
+    requires frames { AreConsecutive (frame_after window.old) window.old }
     requires maps { All IsLawfulMap window.old }
     requires accepted { (count : ℕ) × (refuses_report window.old frame onu count ≡ None) }
     ensures ok { OnOk result (window.new ≡ map (with_report frame onu) window.old) }

@@ -74,7 +74,7 @@ impl Window {
     ghost use Rattle.std.specs.Prelude.{◌==◌, ℕ, None, false, drop, map, sum_by, IfSome, OnOk, OnErr};
     ghost use Rattle.std.specs.List.{list_any};
     ghost use Rattle.pon_units.specs.Granted.{AreInMapOrder};
-    ghost use Rattle.pon_window.specs.Window.{IsPlaceOf, IsWindow, LeadsTo, is_of, with_map, words_to};
+    ghost use Rattle.pon_window.specs.Window.{IsPlaceOf, IsWindow, AreConsecutive, is_of, with_map, words_to};
     ghost use Rattle.pon_window.specs.Reports.{refuses_report, with_report};
 
     /// A window of no maps. It takes no memory; what it holds later comes from this allocator.
@@ -146,7 +146,7 @@ impl Window {
     /// Adds the map of a frame, and drops the oldest of more than 64. The grants are in map order, and the frame is that
     /// of the last map plus 1, or any if the window is empty. `Err` only if memory is refused, and then nothing changes.
     pub fn add(&mut self, frame: FrameNo, grants: &[Granted]) -> Result<(), AllocError>
-        requires next { LeadsTo frame self.old }
+        requires next { AreConsecutive frame self.old }
         requires map_order { AreInMapOrder grants.now }
         ensures ok { OnOk result (self.new ≡ with_map frame grants.now self.old) }
         ensures err { OnErr result (self.new ≡ self.old) }

@@ -6,8 +6,8 @@ use Rattle.std.proofs.lemmas.List.Folds.{length-flat_map-take}
 use Rattle.std.proofs.lemmas.List.Sums.{sum_by_push}
 use Rattle.pon_bwmap.specs.MapRules.{IsMap}
 use Rattle.pon_burst.specs.Bursts.{AreSound}
-use Rattle.pon_burst.specs.Maps.{map_of, structure_of}
-use Rattle.pon_burst.specs.Series.{Series, burst_structures, burst_words, granted, granted_to}
+use Rattle.pon_burst.specs.Maps.{map_granting, structure_of}
+use Rattle.pon_burst.specs.Series.{Series, burst_structures, burst_words, grants_of_series, granted_to}
 use Rattle.pon_burst.proofs.MapRules.{is_map_of_rising}
 use Rattle.pon_burst.proofs.SoundMaps.{sound_of_rising}
 use Rattle.pon_burst.proofs.SeriesMaps.{granted_more, series_more, series_written}
@@ -37,8 +37,8 @@ loop-allocs-preserved c =
     let items : c.deref.result.now ≡ s.1.items = c.deref.ensures.0 in
     let n : ℕ = length c.deref.result.now in
     let len : c.len-count.result ≡ n = c.len-count.ensures.value ∙ sym (ap length items) in
-    let count : length (granted (take (k + 1) onus)) ≡ length (granted (take k onus)) + length (granted_to s)
-    = ap length (granted_more onus k s c.loop-allocs-test.true c.loop-allocs-item.is) ∙ length-append (granted (take k onus)) (granted_to s) in
+    let count : length (grants_of_series (take (k + 1) onus)) ≡ length (grants_of_series (take k onus)) + length (granted_to s)
+    = ap length (granted_more onus k s c.loop-allocs-test.true c.loop-allocs-item.is) ∙ length-append (grants_of_series (take k onus)) (granted_to s) in
     let grants : c.write_burst-grants.result ≡ sum_by (λ a. 1 + a.1) s.1.items = c.write_burst-grants.ensures.grants ∙ ap (sum_by (λ (a : ℕ × ℕ). 1 + a.1)) items in
     let next : take (k + 1) onus ≡ take k onus ++ s ∷ [] = series_more onus k s c.loop-allocs-test.true c.loop-allocs-item.is in
     record {
@@ -60,19 +60,19 @@ loop-allocs-preserved c =
 all_onus : (c : goal.After-loop-allocs) → take c.loop-allocs.allocs-index c.args.onus.now ≡ c.args.onus.now
 all_onus c = take_all c.loop-allocs.allocs-index c.args.onus.now c.loop-allocs-test.false
 
-written : (c : goal.After-loop-allocs) → take c.loop-allocs.filled c.loop-allocs.out ≡ map_of c.args.gap c.args.profile (granted c.args.onus.now)
-written c = c.loop-allocs.invariant.structures ∙ ap (λ onus. map (structure_of c.args.gap c.args.profile (granted c.args.onus.now)) (granted onus)) (all_onus c)
+written : (c : goal.After-loop-allocs) → take c.loop-allocs.filled c.loop-allocs.out ≡ map_granting c.args.gap c.args.profile (grants_of_series c.args.onus.now)
+written c = c.loop-allocs.invariant.structures ∙ ap (λ onus. map (structure_of c.args.gap c.args.profile (grants_of_series c.args.onus.now)) (grants_of_series onus)) (all_onus c)
 
 pub returns-clause-sound : goal.returns-clause-sound
 returns-clause-sound c =
     let onus : List Series = c.args.onus.now in
-    subst (AreSound c.args.gap) (sym (written c)) (sound_of_rising c.args.gap c.args.profile (granted onus) (in_order onus (rise c.args.gap onus c.requires.fit)) (fits c.args.gap onus c.requires.fit))
+    subst (AreSound c.args.gap) (sym (written c)) (sound_of_rising c.args.gap c.args.profile (grants_of_series onus) (in_order onus (rise c.args.gap onus c.requires.fit)) (fits c.args.gap onus c.requires.fit))
 
 pub returns-clause-map : goal.returns-clause-map
 returns-clause-map c = λ few.
     let onus : List Series = c.args.onus.now in
     let r : Rise onus = rise c.args.gap onus c.requires.fit in
-    let count : c.loop-allocs.filled ≡ length (granted onus) = c.loop-allocs.invariant.filled ∙ ap (λ ss. length (granted ss)) (all_onus c) in
+    let count : c.loop-allocs.filled ≡ length (grants_of_series onus) = c.loop-allocs.invariant.filled ∙ ap (λ ss. length (grants_of_series ss)) (all_onus c) in
     subst IsMap (sym (written c))
-    (is_map_of_rising c.args.gap c.args.profile (granted onus) (in_order onus r) (counted 16 onus r (subst (All (λ s. length s.1.items ≤ 16)) (all_onus c) c.loop-allocs.invariant.short))
+    (is_map_of_rising c.args.gap c.args.profile (grants_of_series onus) (in_order onus r) (counted 16 onus r (subst (All (λ s. length s.1.items ≤ 16)) (all_onus c) c.loop-allocs.invariant.short))
     (omega (arith, few, count)) (fits c.args.gap onus c.requires.fit))

@@ -1,19 +1,19 @@
 use Rattle.std.proofs.Common.{◌≡◌, ℕ, ◌+◌, ◌-◌, ◌≤◌, length, Option, MatchOption, arith, subst}
-use Rattle.pon_link.specs.Reading.{Announces, HasBadSize, telling}
+use Rattle.pon_link.specs.Reading.{Announces, HasBadSize, header_len}
 use Rattle.pon_lists.specs.Bytes.{AreBytes}
 use Rattle.pon_link.proofs.Sizes.{some_size, more_needed, told_enough}
 use Rattle.pon_link.proofs.form.needed.Goals as goal
 
 pub unwrap-requires : goal.unwrap-requires
 unwrap-requires c =
-    let ge : telling c.args.direction ≤ length c.args.bytes.now = omega (arith, c.telling-telling.ensures.value, c.if-bytes-telling.false) in
+    let ge : header_len c.args.direction ≤ length c.args.bytes.now = omega (arith, c.header_len-head.ensures.value, c.if-bytes-head.false) in
     let size = c.requires.form.size ge in
     some_size c.announced.result c.args.direction c.args.bytes.now size.0 size.1 c.announced.ensures
 
 -- the size that the bytes tell, and that they are no more
 enough : (c : goal.After-unwrap) → Announces c.args.direction c.args.bytes.now c.unwrap.result × (length c.args.bytes.now ≤ c.unwrap.result)
 enough c =
-    let ge : telling c.args.direction ≤ length c.args.bytes.now = omega (arith, c.telling-telling.ensures.value, c.if-bytes-telling.false) in
+    let ge : header_len c.args.direction ≤ length c.args.bytes.now = omega (arith, c.header_len-head.ensures.value, c.if-bytes-head.false) in
     let told : Announces c.args.direction c.args.bytes.now c.unwrap.result
     = subst (λ (o : Option ℕ). MatchOption o (HasBadSize c.args.direction c.args.bytes.now) (Announces c.args.direction c.args.bytes.now)) c.unwrap.ensures c.announced.ensures in
     let small : AreBytes c.args.bytes.now = λ k. omega (arith, c.type_inv.bytes k) in
@@ -30,7 +30,7 @@ returns-clause-told c _ =
 
 pub returns-clause-more : goal.returns-clause-more
 returns-clause-more c begun =
-    let ge : telling c.args.direction ≤ length c.args.bytes.now = omega (arith, c.telling-telling.ensures.value, c.if-bytes-telling.false) in
+    let ge : header_len c.args.direction ≤ length c.args.bytes.now = omega (arith, c.header_len-head.ensures.value, c.if-bytes-head.false) in
     let small : AreBytes c.args.bytes.now = λ k. omega (arith, c.type_inv.bytes k) in
     let lt = more_needed c.args.direction c.args.bytes.now c.unwrap.result small ge (enough c).0 begun in
     omega (arith, lt)

@@ -6,8 +6,8 @@ use Rattle.pon_guar.proofs.loads.Loads.mapped.Goals as goal
 
 pub invariant_of-self-2 : goal.invariant_of-self-2
 invariant_of-self-2 c =
-    let lessened : c.lessen.new.accounts ≡ map (lessened c.args.grants.now) c.self.inside.accounts.items = search rules in
-    let long : length c.lessen.new.accounts ≡ length c.self.inside.accounts.items = search rules in
+    let lessened : c.deduct_grants.new.accounts ≡ map (lessened c.args.grants.now) c.self.inside.accounts.items = search rules in
+    let long : length c.deduct_grants.new.accounts ≡ length c.self.inside.accounts.items = search rules in
     let len : c.self.inside.accounts.len ≡ length c.self.inside.accounts.items = search rules in
-    rw (written c.self.inside.accounts.items c.lessen.new.accounts c.self.inside.accounts.len len long, lessened)
+    rw (written c.self.inside.accounts.items c.deduct_grants.new.accounts c.self.inside.accounts.len len long, lessened)
     (lessened_rising c.args.grants.now c.self.inside.accounts.items c.self.invariant)

@@ -1,7 +1,7 @@
 use Rattle.std.proofs.Common.{◌≡◌, ◌≤◌, ◌++◌, ◌∷◌, [], ◌∙◌, ap, sym, subst, rules, length, take, drop}
 use Rattle.std.specs.Prelude.{All}
 use Rattle.pon_share.proofs.Gathering.{Gathered, all_gathered, few_own, front_len, gathered_next, own_front}
-use Rattle.pon_share.proofs.series.gather.Goals as goal
+use Rattle.pon_share.proofs.series.group_by_onu.Goals as goal
 
 pub series_of_onu-requires-clause-few : goal.series_of_onu-requires-clause-few
 series_of_onu-requires-clause-few c =

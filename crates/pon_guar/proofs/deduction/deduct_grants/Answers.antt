@@ -3,8 +3,8 @@ use Rattle.std.proofs.lemmas.List.{take_more}
 use Rattle.pon_guar.proofs.Accounts.{change_absent, change_at, changing}
 use Rattle.pon_guar.specs.Loads.{lessened, less_by}
 use Rattle.pon_guar.proofs.LessByGrants.{less_more, lessened_none, lessened_rising}
-use Rattle.pon_guar.proofs.lessening.lessen.Goals as goal
-use Rattle.pon_guar.proofs.lessening.lessen.Goals.{in-Some, in_default}
+use Rattle.pon_guar.proofs.deduction.deduct_grants.Goals as goal
+use Rattle.pon_guar.proofs.deduction.deduct_grants.Goals.{in-Some, in_default}
 
 pub loop-granted-init : goal.loop-granted-init
 loop-granted-init c = sym (lessened_none c.args.accounts.now)

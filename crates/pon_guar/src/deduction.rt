@@ -60,7 +60,7 @@ fn note(places: &mut [usize], index: usize, found: Option<usize>) {
 
 /// Lessens the reports that count by what a map grants. The places are hints where the account of each grant stands, and
 /// are set right.
-pub(crate) fn lessen(accounts: &mut [Account], grants: &[Granted], places: &mut [usize])
+pub(crate) fn deduct_grants(accounts: &mut [Account], grants: &[Granted], places: &mut [usize])
     requires { AreRising (alloc_ids accounts.old) }
     ensures { accounts.new ≡ map (lessened grants.now) accounts.old }
 {

@@ -1,7 +1,7 @@
 use Rattle.std.proofs.Common.{String, Global}
 use Rattle.std.specs.Prelude.{string_bytes}
 use Rattle.pon_manage.proofs.AnswerLaws.{refused_text}
-use Rattle.pon_manage.proofs.answer.post.Goals as goal
+use Rattle.pon_manage.proofs.answer.answer_event.Goals as goal
 
 pub returns-in_default : goal.returns-in_default
 returns-in_default c =

@@ -1,6 +1,6 @@
 use Rattle.std.proofs.Common.{◌≡◌, map, take}
 use Rattle.pon_guar.specs.Loads.{lessened}
-use Rattle.pon_guar.proofs.lessening.lessen.Given as goal
+use Rattle.pon_guar.proofs.deduction.deduct_grants.Given as goal
 
 -- the accounts are lessened by the grants so far
 abbrev pub invariant-loop-granted : goal.invariant-loop-granted

@@ -2,7 +2,7 @@ use Rattle.std.proofs.Common.{◌≡◌, refl, ◌∙◌, ap, sym}
 use Rattle.std.specs.Prelude.{Some, false, true}
 use Rattle.pon_bwmap.specs.MapRules.{IsMap}
 use Rattle.pon_record.proofs.MapRules.{fails, passes}
-use Rattle.pon_record.proofs.made.map_of.Goals as goal
+use Rattle.pon_record.proofs.made.checked_map.Goals as goal
 
 pub returns-in-Ok : goal.returns-in-Ok
 returns-in-Ok c =

@@ -1,7 +1,7 @@
 use Rattle.std.proofs.Common.{arith, get_or, ap}
 use Rattle.std.proofs.lemmas.List.Edits.{map_over_more}
 use Rattle.pon_link.specs.Units.{queue_after}
-use Rattle.pon_link.proofs.unit.lessen.Goals as goal
+use Rattle.pon_link.proofs.unit.deduct_grant.Goals as goal
 
 pub loop-queue-preserved : goal.loop-queue-preserved
 loop-queue-preserved c =
