@@ -1,4 +1,4 @@
-use crate::audit;
+use crate::{Verdict, Why, audit};
 use std::alloc::{AllocError, Global};
 use std::process::Abort;
 use std::test::Fail;
@@ -139,18 +139,101 @@ fn many_maps(alloc: Global, maps: u16) -> Result<Vec<u8>, AllocError> {
     Ok(bytes)
 }
 
+// The same verdict whether the chapter is judged in one thread or, from 2,048 maps, in many.
 #[test]
 fn judges_many_maps(rt: HostRuntime) -> Result<(), Fail> {
-    let mut recording = many_maps(rt.alloc(), 2048)?;
+    for maps in [2047u16, 2048, 2049, 65_535] {
+        let mut recording = many_maps(rt.alloc(), maps)?;
+        let wanted = Verdict::Good {
+            maps: u64::from(maps),
+        };
+        assert_eq!(rt; audit(&rt, rt.alloc(), &recording)?, wanted);
+        assert!(rt; recording.len() > 118_045);
+        recording[118_029] = 1;
+        recording[118_045] = 1;
+        let text = format!(in rt.alloc(); "{}", audit(&rt, rt.alloc(), &recording)?)?;
+        assert_eq!(rt;
+            text.as_str(),
+            "bad port 0 chapter 0 entry 2000 Certificate"
+        );
+    }
+    Ok(())
+}
+
+// The chapter of each of three ports; a fault in each of the last two.
+#[test]
+fn judges_the_ports_in_order(rt: HostRuntime) -> Result<(), Fail> {
+    let mut recording = bytes_of(rt.alloc(), RECORDING)?;
+    assert_eq!(rt; recording.len(), 292);
+    let mut chapter = recording[8..].to_vec(rt.alloc())?;
+    assert_eq!(rt; chapter.len(), 284);
+    for port in 1..3u8 {
+        chapter[5] = port;
+        recording.extend_from_slice(&chapter)?;
+    }
+    assert_eq!(rt; audit(&rt, rt.alloc(), &recording)?, Verdict::Good { maps: 9 });
+    assert_eq!(rt; recording.len(), 860);
+    recording[75 + 2 * 284] = 1;
     let text = format!(in rt.alloc(); "{}", audit(&rt, rt.alloc(), &recording)?)?;
-    assert_eq!(rt; text.as_str(), "good maps 2048");
-    assert!(rt; recording.len() > 118_045);
-    recording[118_029] = 1;
-    recording[118_045] = 1;
+    assert_eq!(rt; text.as_str(), "bad port 2 chapter 0 entry 1 Bursts");
+    recording[41 + 284] = 1;
     let text = format!(in rt.alloc(); "{}", audit(&rt, rt.alloc(), &recording)?)?;
-    assert_eq!(rt;
-        text.as_str(),
-        "bad port 0 chapter 0 entry 2000 Certificate"
-    );
+    assert_eq!(rt; text.as_str(), "bad port 1 chapter 0 entry 0 Opening");
+    Ok(())
+}
+
+// The verdict on the recording with each of its bits flipped, one at a time.
+fn flipped(rt: &(impl Abort + Threads + Sync), alloc: Global) -> Result<Vec<Verdict>, AllocError> {
+    let mut recording = bytes_of(alloc, RECORDING)?;
+    let mut verdicts = Vec::new(alloc);
+    for at in 0..recording.len() {
+        for bit in [1, 2, 4, 8, 16, 32, 64, 128] {
+            let byte = recording[at];
+            recording[at] = byte ^ bit;
+            verdicts.push(audit(rt, alloc, &recording)?)?;
+            recording[at] = byte;
+        }
+    }
+    Ok(verdicts)
+}
+
+// The number of verdicts that are bad for this reason.
+fn bad_for(verdicts: &[Verdict], wanted: Why) -> usize {
+    verdicts
+        .iter()
+        .filter(|v| matches!(v, Verdict::Bad { why, .. } if *why == wanted))
+        .count()
+}
+
+// Of 2,336 bits those of the magic bytes are no recording; those of the ONU-ID of the admission make another burst header
+// of each map; and those of an occupancy change no word, since the Alloc-ID shares no surplus.
+#[test]
+fn judges_each_flipped_bit(rt: HostRuntime) -> Result<(), Fail> {
+    let verdicts = flipped(&rt, rt.alloc())?;
+    let no_recording = |v: &&Verdict| matches!(v, Verdict::BadFormat { .. });
+    assert_eq!(rt; verdicts.iter().filter(no_recording).count(), 0);
+    let cut = |v: &&Verdict| matches!(v, Verdict::Truncated { .. });
+    assert_eq!(rt; verdicts.iter().filter(cut).count(), 0);
+    for (why, wanted) in [
+        (Why::Opening, 0),
+        (Why::Number, 0),
+        (Why::Event, 0),
+        (Why::Certificate, 0),
+        (Why::Words, 0),
+        (Why::Bursts, 0),
+    ] {
+        assert_eq!(rt; bad_for(&verdicts, why), wanted);
+    }
+    let good = |v: &&Verdict| matches!(v, Verdict::Good { .. });
+    assert_eq!(rt; verdicts.iter().filter(good).count(), 0);
+    Ok(())
+}
+
+// One allocation that fails (`rt try --test --fail-alloc N`) is an `Err`, and changes no verdict.
+#[test]
+fn judges_again_what_memory_refused(rt: HostRuntime) -> Result<(), Fail> {
+    let recording = bytes_of(rt.alloc(), RECORDING).or(bytes_of(rt.alloc(), RECORDING))?;
+    let verdict = audit(&rt, rt.alloc(), &recording).or(audit(&rt, rt.alloc(), &recording))?;
+    assert_eq!(rt; verdict, Verdict::Good { maps: 3 });
     Ok(())
 }

@@ -255,3 +255,15 @@ fn tells_each_field_out_of_its_range(rt: HostRuntime) -> Result<(), Fail> {
     }
     Ok(())
 }
+
+// One allocation that fails (`rt try --test --fail-alloc N`) is `Memory`, and changes no reading.
+#[test]
+fn reads_again_what_memory_refused(rt: HostRuntime) -> Result<(), Fail> {
+    let bytes = bytes_of(rt.alloc(), ALL_FIELDS).or(bytes_of(rt.alloc(), ALL_FIELDS))?;
+    let mut verdict = told(rt.alloc(), &bytes);
+    if verdict == Verdict::OutOfMemory {
+        verdict = told(rt.alloc(), &bytes);
+    }
+    assert_eq!(rt; verdict, Verdict::Whole(1));
+    Ok(())
+}

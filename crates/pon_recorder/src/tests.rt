@@ -165,3 +165,49 @@ fn is_busy_while_something_is_left(rt: HostRuntime) -> Result<(), Fail> {
     );
     Ok(())
 }
+
+// Takes an event, and again if memory was refused.
+fn take_again(rt: &impl Abort, port: &mut Port, event: Event, again: Event) {
+    if port.take(event).is_err() {
+        let _taken = port.take(again).expect(rt, "taken");
+    }
+}
+
+// Appends the chapter, again if memory was refused, and has the device take what it left.
+fn append_again(rt: &impl Abort, file: &mut RecordFile<MemWrite>, chapter: &Chapter) {
+    if !file.left().is_empty() {
+        assert!(rt; file.flush().is_ok());
+    }
+    match file.append(number(rt, 0), chapter) {
+        Ok(()) => {}
+        Err(RecordFault::Memory) => assert_eq!(rt; file.append(number(rt, 0), chapter), Ok(())),
+        Err(_) => assert!(rt; file.flush().is_ok()),
+    }
+}
+
+// One allocation that fails (`rt try --test --fail-alloc N`) takes nothing from the recording and puts nothing into it.
+#[test]
+fn appends_again_what_memory_refused(rt: HostRuntime) -> Result<(), Fail> {
+    let alloc = rt.alloc();
+    let wanted = bytes_of(alloc, RECORDING).or(bytes_of(alloc, RECORDING))?;
+    let cfg = PortCfg {
+        gap: Gap::new(16).ok_or("a gap")?,
+        profile: Profile::new(0).ok_or("a profile")?,
+    };
+    let first = FrameNo::new(0);
+    let mut port = Port::open(alloc, cfg, first).or(Port::open(alloc, cfg, first))?;
+    take_again(&rt, &mut port, admission(&rt), admission(&rt));
+    for frame in 0..3u64 {
+        take_again(&rt, &mut port, Event::MakeMap, Event::MakeMap);
+        take_again(&rt, &mut port, report(&rt, frame), report(&rt, frame));
+    }
+    let chapter = port.into_chapter();
+    let device = MemWrite::new(alloc, 64, Vec::new(alloc));
+    let mut file = match RecordFile::open(alloc, device) {
+        Ok(file) => file,
+        Err(_) => RecordFile::open(alloc, MemWrite::new(alloc, 64, Vec::new(alloc)))?,
+    };
+    append_again(&rt, &mut file, &chapter);
+    assert_eq!(rt; file.writer().bytes(), wanted.as_slice());
+    Ok(())
+}

@@ -77,6 +77,7 @@ fn args(maps: u64) -> RunArgs<'static> {
         listen: HERE,
         maps,
         operate: None,
+        record: None,
     }
 }
 
@@ -135,6 +136,10 @@ fn refuses_what_cannot_be_opened(rt: HostRuntime) -> Result<(), Fail> {
         RunArgs { operate, ..args(1) },
         &OpenGate,
     )?;
+    assert_eq!(rt; status, 3);
+    assert!(rt; writer.bytes().is_empty());
+    let record = Some("no/such/file");
+    let (status, writer) = ran(&rt, rt.alloc(), 1, RunArgs { record, ..args(1) }, &OpenGate)?;
     assert_eq!(rt; status, 3);
     assert!(rt; writer.bytes().is_empty());
     Ok(())
