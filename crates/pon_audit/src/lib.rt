@@ -2,7 +2,7 @@
 //! G.987.3).
 //!
 //! [`audit`] replays each chapter of a recording and checks each map against its certificate: either each entry may
-//! follow those before it and each map is fair, or the first fault is told. The crate makes no certificate and takes
+//! follow those before it and each map is fair, or the first fault is returned. The crate makes no certificate and takes
 //! no event.
 #![tactic(auto)]
 

@@ -171,7 +171,10 @@ fn judges_the_ports_in_order(rt: HostRuntime) -> Result<(), Fail> {
         chapter[5] = port;
         recording.extend_from_slice(&chapter)?;
     }
-    assert_eq!(rt; audit(&rt, rt.alloc(), &recording)?, Verdict::Good { maps: 9 });
+    assert_eq!(rt;
+        audit(&rt, rt.alloc(), &recording)?,
+        Verdict::Good { maps: 9 }
+    );
     assert_eq!(rt; recording.len(), 860);
     recording[75 + 2 * 284] = 1;
     let text = format!(in rt.alloc(); "{}", audit(&rt, rt.alloc(), &recording)?)?;

@@ -11,7 +11,7 @@ use Rattle.pon_check_file.specs.CheckLines.{surplus_of, item_on_line, level_on_l
 use Rattle.pon_check_file.specs.CheckFiles.{Filed, and_others, are_empty, file_of, file_with, first_spells, items_in_row, items_of, on_line}
 use Rattle.pon_check_file.specs.Unfit.{AreProblem, HasMore, IsFirstUnfit, LacksLevel, LacksSet, LacksSurplus}
 
--- ---- the items in a row, at most so many, and the lines behind them
+-- ---- the items in a row, up to a number of them, and the lines behind them
 pub record Row (most : ℕ) (ls : List (List ℕ)) (items : List Item) : Type 0 where
   pub lines : List (List ℕ)
   pub rest : List (List ℕ)

@@ -54,7 +54,7 @@ pub record HasMore (before rest : List (List ℕ)) : Type 0 where
   pub others : List (List ℕ)
   pub not_empty : rest ≡ (byte ∷ bytes) ∷ others
 
--- the lines before line n fit, and line n is not what has to stand behind them
+-- the lines before line n fit, and line n is not what has to follow them
 pub record IsFirstUnfit (ls : List (List ℕ)) (n : ℕ) : Type 0 where
   pub before : List (List ℕ)
   pub rest : List (List ℕ)

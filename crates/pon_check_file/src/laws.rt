@@ -14,7 +14,7 @@ pub fn sets_name_items()
         → (flags_from 0 n parts ≡ Some flags) ↔ WritesFlags n parts flags }
 {}
 
-/// A line is the first that does not fit exactly when the lines before it fit and it is not what has to stand behind
+/// A line is the first that does not fit exactly when the lines before it fit and it is not what has to follow
 /// them: a surplus, an item or a level, a level where there are 512 items, a set of the items, or an empty line.
 pub fn first_unfit_line()
     ensures { (ls : List (List ℕ)) (n : ℕ) → (file_of ls ≡ Err n) ↔ IsFirstUnfit ls n }

@@ -1,4 +1,4 @@
--- Checks in order: the refusal is that of the first that refuses.
+-- Checks in order: the first check that refuses gives the refusal.
 use Rattle.std.specs.Prelude.{◌≡◌, Bool, true, false, List, [], ◌∷◌, Option, Some, None}
 use Rattle.pon_descr.specs.declared.refusal.Refusal.{Refusal}
 use Rattle.pon_descr.specs.declared.refusal.Refusal.TheVariants.{OutOfMemory}

@@ -1,5 +1,5 @@
 pub mod DownRecords
-pub mod ReaderState
+pub mod Reading
 pub mod Runs
 pub mod Units
 pub mod UpRecords

@@ -27,7 +27,7 @@ impl Model for Unit {
 }
 
 impl Unit {
-    /// The unit of this ONU-ID, with the words that wait for each Alloc-ID; of an Alloc-ID that stands there
+    /// The unit of this ONU-ID, with the words that wait for each Alloc-ID; of an Alloc-ID that is listed
     /// twice the first number is reported.
     pub fn open(onu: OnuId, queues: ArrayVec<(AllocId, u32), 16>) -> Self
         ensures { result ≡ record { onu = onu; queues = queues.items } }

@@ -18,7 +18,7 @@ use Rattle.pon_manage.specs.Text.{Answers, AsksPort, Posts, refusal_line, reply_
 abbrev at : ℕ → Event → Step
 at port event = record { port = port; event = event }
 
--- the text of a refused event is that of the first check that refuses it, unless memory was refused
+-- the text of a refused event is the text of the first check to refuse it, unless memory was refused
 refused_at : (old : List Chapter) (port : ℕ) (event : Event) (told : Refusal) (text : List ℕ) (o : Option Chapter) →
     IsAnswer o event (Err (Refused told)) → told ≢ OutOfMemory → text ≡ refusal_line (Port told) → AsksPort old port o event text old
 refused_at old port event told text None h other is = absurd (cc)

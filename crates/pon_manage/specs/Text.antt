@@ -31,7 +31,7 @@ abbrev pub reply_line : ℕ → Reply → List ℕ
 reply_line index Taken = codes "ok " ++ decimal index ++ 10 ∷ []
 reply_line index (Map made) = codes "map " ++ (decimal made.frame ++ (32 ∷ encode_lower (map_bytes made.map) ++ 10 ∷ []))
 
--- a port is asked to take an event: the text is that of the first check that refuses, or the entry is kept and the text is its reply
+-- a port is asked to take an event: the first check that refuses gives the text, or the entry is kept and the text is its reply
 abbrev pub Posts : List Chapter → ℕ → Chapter → Event → Option Refusal → List ℕ → List Chapter → Type 0
 Posts old port c event (Some refusal) text new = (text ≡ refusal_line (Port refusal)) × (new ≡ old)
 Posts old port c event None text new =

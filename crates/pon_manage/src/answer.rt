@@ -27,7 +27,12 @@ fn kept_entries(plant: &Plant, port: PortNo) -> usize
 }
 
 // The text of an event at a port: its reply, or its refusal.
-fn answer_event(alloc: Global, plant: &mut Plant, port: PortNo, event: Event) -> Result<String, AllocError>
+fn answer_event(
+    alloc: Global,
+    plant: &mut Plant,
+    port: PortNo,
+    event: Event,
+) -> Result<String, AllocError>
     requires { port < length plant.old }
     ensures { IfOk result (λ text. Answers plant.old (Reading.Asks port event)
         (string_bytes text) plant.new) }

@@ -59,7 +59,7 @@ both f g F G = record {
 
 -- ---- a value told by another
 
--- no two values tell the same
+-- no two values have the same bytes
 abbrev pub IsOneCode : {A B : Type 0} → Format A → (A → Option B) → (B → A) → Type 0
 IsOneCode {A} {B} f meaning code = (a : A) (b : B) → f.Fits a → meaning a ≡ Some b → code b ≡ a
 

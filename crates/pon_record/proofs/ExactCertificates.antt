@@ -17,7 +17,7 @@ use Rattle.pon_cert.proofs.ReadsBack.{cert_back}
 use Rattle.pon_record.specs.MadeMaps.{certificate}
 use Rattle.pon_record.proofs.Exact.{IsExact}
 
--- the rest is what stands behind some of the bytes
+-- the rest is what follows some of the bytes
 record Leaves (bytes rest : List ℕ) : Type 0 where
   used : ℕ
   within : used ≤ length bytes

@@ -51,7 +51,7 @@ fn read_occupancies(cursor: &mut Cursor<'_>) -> Result<Occupancies, Malformed>
     occupancies_in(cursor, count)
 }
 
-// So many occupancies.
+// This number of occupancies.
 fn occupancies_in(cursor: &mut Cursor<'_>, count: u8) -> Result<Occupancies, Malformed>
     requires { count ≤ 16 }
     ensures { Reads (λ x. (x, cursor.new)) result (read_times occupancy count cursor.old) }

@@ -11,7 +11,7 @@ pub record Recorder (W : Type 0) : Type 0 where
   pub device : W
   pub left : List ℕ
 
--- bytes went out to a device that tells what it holds, and with what is left they are these
+-- bytes went out to a device that shows what it holds; with what is left they are these
 pub record GoesOut (before after : Option (List ℕ)) (left bytes : List ℕ) : Type 0 where
   pub sent : List ℕ
   pub appends : Appends before after sent

@@ -18,7 +18,7 @@ abbrev pub lines_from : ℕ → List PortEnd → List ℕ
 lines_from port [] = []
 lines_from port (end ∷ ends) = line_of port end ++ lines_from (suc port) ends
 
--- the lines of all ports were written, or a beginning of them, or none for want of memory
+-- the lines of all ports were written, or a beginning of them, or none if memory was refused
 abbrev pub TellsEnds : List PortEnd → Option (List ℕ) → Option (List ℕ) → Result (Unit {0}) PlanFault → Type 0
 TellsEnds ends old new (Err Memory) = new ≡ old
 TellsEnds ends old new (Err Read) = TellsLine (lines_from 0 ends) old new (Err Read)

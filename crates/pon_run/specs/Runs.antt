@@ -5,7 +5,7 @@ use Rattle.pon_stream.specs.declared.fault.PlanFault.{PlanFault}
 use Rattle.pon_run.specs.declared.end.PortEnd.{PortEnd}
 use Rattle.pon_run.specs.Ends.{lines_from}
 
--- a line for each of so many ports was written, and nothing else
+-- a line for each of this number of ports was written, and nothing else
 pub record TellsPorts (ports : ℕ) (old new : Option (List ℕ)) : Type 0 where
   pub ends : List PortEnd
   pub one_each : length ends ≡ ports

@@ -1,4 +1,4 @@
-//! What is told of each port at the end of a run.
+//! The line about each port at the end of a run.
 
 ghost use Rattle.std.specs.Prelude.{◌≡◌, ◌≤◌, ◌++◌, [], IfOk, OnOk, string_bytes};
 ghost use Rattle.pon_stream.specs.Streams.{TellsWrite};

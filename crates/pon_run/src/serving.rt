@@ -249,16 +249,16 @@ where
     )
 }
 
-/// Runs the ports of the settings: opens the operator's file, makes that of the recording and listens on the address, opens a connection for each port,
-/// admits the rows of the settings, and has each port make this many maps for its simulated units, which answer over the
-/// connection, while the operator's lines are answered. At the end the chapter of each port is recorded, and a line about each is
-/// written. The gate may hold workers back.
+/// Runs the ports of the settings: opens the operator's file, makes the file of the recording, listens on the address, opens a
+/// connection for each port, and admits the rows of the settings. Then each port makes this many maps for its simulated units,
+/// which answer over the connection, while the operator's lines are answered. At the end the chapter of each port is recorded,
+/// and a line about each port is written. The gate may hold workers back.
 ///
-/// The answer is the exit status: 0 if each worker made all its turns and the operator's lines were all answered; and the
-/// recording is whole; else 3. Of a failed device or refused memory standard error is told: `olt: read failed` if the operator's
-/// file or the address cannot be read, bound, connected to or accepted on, `olt: write failed`, also if the file of the recording
-/// cannot be made or written, or `olt: out of memory`, also for a thread that cannot be made. Of
-/// a worker that ended early nothing is told. All threads have ended when it returns.
+/// Returns the exit status: 0 if each worker made all its turns, the operator's lines were all answered and the recording is
+/// whole; else 3. Standard error has a text if a device failed or memory was refused: `olt: read failed` if the operator's file or
+/// the address cannot be read, bound, connected to or accepted on; `olt: write failed`, also if the file of the recording cannot
+/// be made or written; or `olt: out of memory`, also for a thread that cannot be made. A worker that ended early has no text.
+/// All threads have ended when it returns.
 pub fn run_ports<G, W, R>(
     rt: &R,
     alloc: Global,

@@ -20,7 +20,7 @@ const PORT: &str = "\
 // An address of this machine, with a free port.
 const HERE: &str = "127.0.0.1:0";
 
-// How often a worker that is held looks for the other before it is told no.
+// How often a worker that is held looks for the other before the answer is no.
 const LOOKS: u32 = 1_000;
 
 // Holds each port's worker at `Send` until the other port's worker has asked there too.
@@ -46,7 +46,7 @@ impl Gate for Both {
     }
 }
 
-// Runs so many such ports: the exit status, and what was written.
+// Runs this number of such ports: the exit status, and what was written.
 fn ran<G, R>(
     rt: &R,
     alloc: Global,
@@ -71,7 +71,7 @@ where
     Ok((status, writer))
 }
 
-// A run of so many maps a port, without an operator.
+// A run of this number of maps a port, without an operator.
 fn args(maps: u64) -> RunArgs<'static> {
     RunArgs {
         listen: HERE,

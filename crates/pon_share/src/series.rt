@@ -45,7 +45,11 @@ fn series_of_onu(onu: OnuId, grants: &[Granted]) -> Series
 }
 
 /// The series of grants that one map holds. `Err` only if memory is refused.
-pub(crate) fn group_by_onu(alloc: Global, gap: Gap, grants: &[Granted]) -> Result<Vec<Series>, AllocError>
+pub(crate) fn group_by_onu(
+    alloc: Global,
+    gap: Gap,
+    grants: &[Granted],
+) -> Result<Vec<Series>, AllocError>
     requires { AreOneMap gap grants.now }
     ensures granted { IfOk result (λ series. grants_of_series series.items ≡ grants.now) }
     ensures fits { IfOk result (λ series. FitsFrame gap series.items) }

@@ -80,7 +80,7 @@ pub record Stopped (old new : Counts) (held_old held_new left_old left_new : Opt
   pub held : List ℕ
   pub worked : Worked made sent records held old new held_old held_new left_old left_new
 
--- The posts at a port are the maps and the reports that were counted meanwhile, and so many others.
+-- The posts at a port are the maps and the reports that were counted meanwhile, and a number of others.
 pub record PostsAt (port others : ℕ) (seat_old seat_new : SeatCounts) (old new : Counts) : Type 0 where
   pub posts : ℕ
   pub raised : RaisedAt port posts seat_old seat_new

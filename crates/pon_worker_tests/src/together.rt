@@ -16,7 +16,7 @@ use std::test::*;
 use std::thread;
 use std::thread::Threads;
 
-// How often a worker that is held looks for the other before it is told no.
+// How often a worker that is held looks for the other before the answer is no.
 const LOOKS: u32 = 1_000;
 
 // Holds each port's worker at `Send` until the other port's worker has asked there too.
