@@ -4,6 +4,9 @@ ghost use Rattle.pon_admit.specs.Roster.{most_allocs, overhead_words};
 
 use pon_units::MOST_STRUCTURES;
 
+/// The most Alloc-IDs of a port under [`Rule::One`] (this project's choice).
+const MOST_ALLOCS: usize = 256;
+
 /// What a version of the product sets aside for each Alloc-ID, and how many Alloc-IDs a port may have. A roster keeps the
 /// rule that it was opened with.
 #[derive(Clone, Copy, Debug, PartialEq, Eq)]
@@ -21,7 +24,7 @@ impl Rule {
         ensures range { result ≤ MOST_STRUCTURES }
     {
         match self {
-            Rule::One => 256,
+            Rule::One => MOST_ALLOCS,
             Rule::Two => MOST_STRUCTURES,
         }
     }

@@ -208,27 +208,28 @@ fn bad_for(verdicts: &[Verdict], wanted: Why) -> usize {
         .count()
 }
 
-// Of 2,336 bits those of the magic bytes are no recording; those of the ONU-ID of the admission make another burst header
-// of each map; and those of an occupancy change no word, since the Alloc-ID shares no surplus.
+// Of 2,336 bits 72 are of occupancies on which no word rests, 6 name another port, and 20 raise the greatest rate of an
+// Alloc-ID that shares no surplus: 98 recordings stay good. 27 make the body longer than the bytes, so that they are cut.
+// 2 lessen the fixed rate, and then the maps grant too many words.
 #[test]
 fn judges_each_flipped_bit(rt: HostRuntime) -> Result<(), Fail> {
     let verdicts = flipped(&rt, rt.alloc())?;
     let no_recording = |v: &&Verdict| matches!(v, Verdict::BadFormat { .. });
-    assert_eq!(rt; verdicts.iter().filter(no_recording).count(), 0);
+    assert_eq!(rt; verdicts.iter().filter(no_recording).count(), 1567);
     let cut = |v: &&Verdict| matches!(v, Verdict::Truncated { .. });
-    assert_eq!(rt; verdicts.iter().filter(cut).count(), 0);
+    assert_eq!(rt; verdicts.iter().filter(cut).count(), 27);
     for (why, wanted) in [
-        (Why::Opening, 0),
+        (Why::Opening, 132),
         (Why::Number, 0),
-        (Why::Event, 0),
+        (Why::Event, 232),
         (Why::Certificate, 0),
-        (Why::Words, 0),
-        (Why::Bursts, 0),
+        (Why::Words, 2),
+        (Why::Bursts, 278),
     ] {
         assert_eq!(rt; bad_for(&verdicts, why), wanted);
     }
     let good = |v: &&Verdict| matches!(v, Verdict::Good { .. });
-    assert_eq!(rt; verdicts.iter().filter(good).count(), 0);
+    assert_eq!(rt; verdicts.iter().filter(good).count(), 98);
     Ok(())
 }
 

@@ -6,7 +6,9 @@ ghost use Rattle.pon_burst.specs.Series.{FitsFrame, burst_structures, grants_of_
 
 use arrayvec::ArrayVec;
 use pon_bwmap::Alloc;
-use pon_units::{AllocId, FRAME_WORDS, Gap, MOST_STRUCTURES, OnuId, Profile, Words};
+use pon_units::{
+    AllocId, FRAME_WORDS, Gap, LONGEST_SERIES, MOST_STRUCTURES, OnuId, Profile, Words,
+};
 
 /// Writes the structures of the map that grants each Alloc-ID its payload words, 0 to 9,720 of 4 bytes, and
 /// one word for its report, to the front of `out`; returns the number of structures. The bursts are the ONUs' in rising
@@ -18,7 +20,7 @@ use pon_units::{AllocId, FRAME_WORDS, Gap, MOST_STRUCTURES, OnuId, Profile, Word
 pub fn pack(
     gap: Gap,
     profile: Profile,
-    onus: &[(OnuId, ArrayVec<(AllocId, Words), 16>)],
+    onus: &[(OnuId, ArrayVec<(AllocId, Words), LONGEST_SERIES>)],
     out: &mut [Alloc],
 ) -> usize
     requires fit { FitsFrame gap onus.now }

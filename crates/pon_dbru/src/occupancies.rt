@@ -6,7 +6,7 @@ use std::marker::Model;
 /// is `None`.
 #[derive(Debug, PartialEq, Eq, Drop)]
 pub struct Occupancies {
-    reports: ArrayVec<Option<BufOcc>, 16>,
+    reports: ArrayVec<Option<BufOcc>, LONGEST_SERIES>,
 }
 
 impl Model for Occupancies {

@@ -5,7 +5,7 @@ use crate::account::{Account, Counted, account_of, add_account, index_near, remo
 use crate::counting::{count_report, forget};
 use crate::deduction::{deduct_grants, noted};
 use pon_descr::Refusal;
-use pon_units::{AllocId, BufOcc, FrameNo, Granted, Kbps, OnuId};
+use pon_units::{AllocId, BufOcc, FrameNo, Granted, Kbps, OnuId, WORD_RATE};
 use pon_window::{Window, WindowMap};
 use std::alloc::{AllocError, Global};
 use std::marker::Model;
@@ -41,7 +41,7 @@ fn load_of_report(counted: Option<Counted>) -> Kbps
         None => 0,
         Some(report) => report.words.get(),
     };
-    match Kbps::new(256 * words) {
+    match Kbps::new(WORD_RATE as u32 * words) {
         Some(load) => load,
         None => unreachable!(),
     }

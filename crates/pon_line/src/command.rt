@@ -14,7 +14,7 @@ use pon_dbru::Occupancies;
 use pon_descr::Refusal;
 use pon_event::Event;
 use pon_text::{count_words, first_word};
-use pon_units::FrameNo;
+use pon_units::{FrameNo, LONGEST_SERIES};
 
 /// What the words after the port ask.
 #[derive(Drop)]
@@ -147,7 +147,7 @@ fn report_of(text: &[u8]) -> Result<Event, LineFault>
     let frame = next_word(text)?;
     let onu = next_word(frame.rest)?;
     let count = count_words(onu.rest);
-    if count == 0 || count > 16 {
+    if count == 0 || count > LONGEST_SERIES {
         return Err(LineFault::WordCount);
     }
     let frame = number_field(frame.word)?;

@@ -9,7 +9,7 @@ use crate::fault::LineFault;
 use crate::fields::number_field;
 use pon_dbru::Occupancies;
 use pon_text::first_word;
-use pon_units::{BufOcc, GREATEST_OCCUPANCY};
+use pon_units::{BufOcc, GREATEST_OCCUPANCY, LONGEST_SERIES};
 
 // The occupancy of a number of words, 0 to 16,777,215.
 fn occupancy_of(number: u64) -> Option<BufOcc>
@@ -34,7 +34,7 @@ fn occupancy_field(word: &[u8]) -> Result<Option<BufOcc>, LineFault>
 
 /// The occupancies that the words of a text write, at most 16.
 pub(crate) fn occupancy_fields(text: &[u8]) -> Result<Occupancies, LineFault>
-    requires { length (words_of text.now) ≤ 16 }
+    requires { length (words_of text.now) ≤ LONGEST_SERIES }
     ensures { MatchResult result
         (λ occ. occupancy_fields (words_of text.now) ≡ Ok occ)
         (λ fault. occupancy_fields (words_of text.now) ≡ Err fault) }

@@ -1,6 +1,6 @@
 -- What a reader of a link's records holds, and what a call of it does, in either direction.
 use Rattle.std.specs.Prelude.{◌≡◌, ◌≢◌, ℕ, ◌+◌, ◌*◌, ◌^◌, ◌%◌, ◌<◌, ◌≤◌, ◌⊎◌, Bool, false, IsTrue, List, [], ◌++◌, length, drop, slice_index, Option, Some, None, Result, Ok, Err}
-use Rattle.pon_units.specs.declared.limits.TheConstants.{MOST_STRUCTURES}
+use Rattle.pon_units.specs.declared.limits.TheConstants.{LONGEST_SERIES, MOST_STRUCTURES}
 use Rattle.pon_device.specs.Device.{Consumes, Keeps, IsAtEnd}
 use Rattle.pon_xgtc.specs.MapHead.{MapHead, ReadsMapHead}
 use Rattle.pon_bwmap.specs.MapReading.{BeginsWithMap}
@@ -49,7 +49,7 @@ AnnouncesMap map n = (head : MapHead) × (corrected : ℕ) × ReadsMapHead map h
 -- Those bytes give the number of bytes of the record: its count byte says 1 to 16, or its map's head announces
 -- 512 structures at most and no message.
 abbrev pub Announces : Direction → List ℕ → ℕ → Type 0
-Announces Up bytes n = (1 ≤ count_in bytes) × (count_in bytes ≤ 16) × (n ≡ 14 + 4 * count_in bytes)
+Announces Up bytes n = (1 ≤ count_in bytes) × (count_in bytes ≤ LONGEST_SERIES) × (n ≡ 14 + 4 * count_in bytes)
 Announces Down bytes n = AnnouncesMap (drop 9 bytes) n
 
 -- The tag, if it is there, is the direction's, and the bytes that give a size, if they are there, give one.
@@ -70,7 +70,7 @@ pub record IsWhole (d : Direction) (bytes : List ℕ) : Type 0 where
 
 -- the bytes that should give a size give none
 abbrev pub HasBadSize : Direction → List ℕ → Type 0
-HasBadSize Up bytes = (count_in bytes ≡ 0) ⊎ (16 < count_in bytes)
+HasBadSize Up bytes = (count_in bytes ≡ 0) ⊎ (LONGEST_SERIES < count_in bytes)
 HasBadSize Down bytes = (n : ℕ) → Announces Down bytes n → ⊥
 
 -- the fault of a direction's bad size

@@ -1,7 +1,7 @@
 -- What a unit answers to a bandwidth map: its reports (DBRu, ITU-T G.987.3), and what then still waits in it.
 use Rattle.std.specs.Prelude.{ℕ, ◌-◌, ◌==◌, ◌&&◌, min, Bool, if◌then◌else◌, List, [], ◌∷◌, map, take, filter, Option, Some}
 use Rattle.std.specs.List.{list_any}
-use Rattle.pon_units.specs.declared.limits.TheConstants.{GREATEST_OCCUPANCY}
+use Rattle.pon_units.specs.declared.limits.TheConstants.{GREATEST_OCCUPANCY, LONGEST_SERIES}
 use Rattle.pon_bwmap.specs.Structure.{Structure}
 
 -- a unit: its ONU-ID, and the words that wait for each Alloc-ID of its own
@@ -19,7 +19,7 @@ asks queues a = a.dbru && owns queues a.id
 
 -- the structures of a map that a unit with these queues answers: the first 16 that ask it
 abbrev pub answered : List (ℕ × ℕ) → List Structure → List Structure
-answered queues rows = take 16 (filter (asks queues) rows)
+answered queues rows = take LONGEST_SERIES (filter (asks queues) rows)
 
 -- the words that wait for an Alloc-ID
 abbrev pub waiting : List (ℕ × ℕ) → ℕ → ℕ

@@ -7,7 +7,7 @@ ghost use Rattle.pon_link.specs.Reading.{IsWhole};
 use crate::direction::Direction;
 use crate::record::UpRecord;
 use pon_dbru::{Garbled, Occupancies};
-use pon_units::{BufOcc, FrameNo};
+use pon_units::{BufOcc, FrameNo, LONGEST_SERIES};
 use pon_xgtc::BurstHead;
 
 // The record that the bytes are.
@@ -47,7 +47,7 @@ fn head_in(bytes: &[u8]) -> Option<BurstHead>
 // The occupancies of the reports.
 fn occupancies_in(bytes: &[u8], count: usize) -> Occupancies
     requires size { length bytes.now ≡ 4 * count }
-    requires limit { count ≤ 16 }
+    requires limit { count ≤ LONGEST_SERIES }
     ensures count { length result ≡ count }
     ensures reports { ReadsReports bytes.now result }
 {

@@ -15,7 +15,7 @@ use std::marker::Model;
 #[derive(Drop)]
 pub struct Unit {
     onu: OnuId,
-    queues: ArrayVec<(AllocId, u32), 16>,
+    queues: ArrayVec<(AllocId, u32), LONGEST_SERIES>,
 }
 
 impl Model for Unit {
@@ -29,7 +29,7 @@ impl Model for Unit {
 impl Unit {
     /// The unit of this ONU-ID, with the words that wait for each Alloc-ID; of an Alloc-ID that is listed
     /// twice the first number is reported.
-    pub fn open(onu: OnuId, queues: ArrayVec<(AllocId, u32), 16>) -> Self
+    pub fn open(onu: OnuId, queues: ArrayVec<(AllocId, u32), LONGEST_SERIES>) -> Self
         ensures { result ≡ record { onu = onu; queues = queues.items } }
     {
         Unit { onu, queues }

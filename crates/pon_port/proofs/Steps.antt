@@ -59,7 +59,7 @@ quiet_window e q o es =
 
 -- a map that was just made has no reports
 fresh_map : (rs : List Row) (n : ℕ) (reply : Reply) → with_reports [] (new_map rs n reply) ≡ new_map rs n reply
-fresh_map rs n reply = (λ i. record { frame = n; grants = (new_map rs n reply).grants; reported = none (polled (new_map rs n reply)) i })
+fresh_map rs n reply = (λ i. record { frame = n; grants = (new_map rs n reply).grants; reported = none (onus_polled (new_map rs n reply)) i })
   where
     none : (xs : List ℕ) → filter (λ u. false) xs ≡ []
     none [] = refl

@@ -6,6 +6,7 @@ use Rattle.pon_admit.specs.declared.rule.Rule.{Rule}
 use Rattle.pon_admit.specs.Roster.{IsAdmitted}
 use Rattle.pon_guar.specs.declared.account.Account.{Account}
 use Rattle.pon_guar.specs.declared.account.Counted.{Counted}
+use Rattle.pon_window.specs.declared.window.TheConstants.{MOST_MAPS}
 use Rattle.pon_window.specs.Window.{IsLawfulMap, AreConsecutive}
 use Rattle.pon_state.specs.Accounts.{AccountsFor}
 use Rattle.pon_state.specs.State.{State, just_opened, opened_under}
@@ -64,7 +65,7 @@ pub record IsLawfulOpening (number : ℕ) (s : State) : Type 0 where
   pub admitted : IsAdmitted s.rule s.gap s.roster
   pub book : AccountsFor s.roster s.book
   pub accounts : All (AccountIsLawful s) s.book
-  pub few_maps : length s.window ≤ 64
+  pub few_maps : length s.window ≤ MOST_MAPS
   pub frames : AreConsecutive s.next s.window
   pub maps : All IsLawfulMap s.window
   pub failed : IfSome s.cause (λ cause. IsSilent s)

@@ -9,6 +9,7 @@ use crate::cursor::Cursor;
 use crate::fault::Malformed;
 use pon_dbru::Occupancies;
 use pon_event::Event;
+use pon_units::LONGEST_SERIES;
 
 pub(crate) fn read_event(cursor: &mut Cursor<'_>) -> Result<Event, Malformed>
     ensures { Reads (λ x. (x, cursor.new)) result (event.read cursor.old) }
@@ -45,7 +46,7 @@ fn read_occupancies(cursor: &mut Cursor<'_>) -> Result<Occupancies, Malformed>
     ensures { Reads (λ x. (x, cursor.new)) result (occupancies.read cursor.old) }
 {
     let count = cursor.u8()?;
-    if count < 1 || count > 16 {
+    if count < 1 || usize::from(count) > LONGEST_SERIES {
         return Err(Malformed);
     }
     occupancies_in(cursor, count)
@@ -53,7 +54,7 @@ fn read_occupancies(cursor: &mut Cursor<'_>) -> Result<Occupancies, Malformed>
 
 // This number of occupancies.
 fn occupancies_in(cursor: &mut Cursor<'_>, count: u8) -> Result<Occupancies, Malformed>
-    requires { count ≤ 16 }
+    requires { count ≤ LONGEST_SERIES }
     ensures { Reads (λ x. (x, cursor.new)) result (read_times occupancy count cursor.old) }
 {
     let mut occupancies = Occupancies::new();

@@ -1,9 +1,8 @@
 //! The recording of a run: its file, and the chapters of its ports.
 
-ghost use Rattle.std.specs.Prelude.{◌≡◌, ◌≤◌, ◌++◌, [], ℕ, List, Option, OnOk, IfOk, length};
-ghost use Rattle.pon_record.specs.Chapters.{Body};
-ghost use Rattle.pon_recorder.specs.Recorders.{Records};
-ghost use Rattle.pon_run.specs.Recordings.{bodies_from};
+ghost use Rattle.std.specs.Prelude.{◌≡◌, ◌≤◌, ◌∷◌, [], IfOk, OnOk, length};
+ghost use Rattle.pon_recorder.specs.Bodies.{chapter_body};
+ghost use Rattle.pon_run.specs.Recordings.{HasRecorded, bodies_from};
 
 use pon_device::{DevWrite, StdWrite};
 use pon_port::{Chapter, Port};
@@ -43,7 +42,12 @@ fn append<W: DevWrite + Drop>(
     recording: &mut RecordFile<W>,
     port: PortNo,
     chapter: &Chapter,
-) -> Result<(), PlanFault> {
+) -> Result<(), PlanFault>
+    ensures recorded { OnOk result (HasRecorded (W.contents recording.old.device)
+        recording.old.left (W.contents recording.new.device) recording.new.left
+        (chapter_body port chapter.now ∷ [])) }
+    ensures left { OnOk result (recording.new.left ≡ []) }
+{
     match recording.append(port, chapter) {
         Ok(()) => Ok(()),
         Err(RecordFault::Memory) => Err(PlanFault::Memory),
@@ -59,9 +63,15 @@ pub(crate) fn record_ports<W: DevWrite + Drop>(
     ports: Vec<Port>,
 ) -> Result<(), PlanFault>
     requires few { length ports.items ≤ MOST_PORTS }
+    ensures recorded { OnOk result (HasRecorded (W.contents recording.old.device)
+        recording.old.left (W.contents recording.new.device) recording.new.left
+        (bodies_from 0 ports.items)) }
+    ensures left { OnOk result (recording.new.left ≡ []) }
 {
-    for (i, port) in ports.into_iter().enumerate() {
-        append(recording, PortNo::at(i), &port.into_chapter())?;
+    let mut number = 0;
+    for port in ports {
+        append(recording, PortNo::at(number), &port.into_chapter())?;
+        number += 1;
     }
     match recording.flush() {
         Ok(()) => Ok(()),

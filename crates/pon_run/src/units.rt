@@ -25,7 +25,7 @@ fn own_queues(
 }
 
 // The first 16 of these.
-fn first_queues(own: &[(AllocId, u32)]) -> ArrayVec<(AllocId, u32), 16>
+fn first_queues(own: &[(AllocId, u32)]) -> ArrayVec<(AllocId, u32), LONGEST_SERIES>
     ensures { result.items ≡ take LONGEST_SERIES own.now }
 {
     let mut queues = ArrayVec::new();

@@ -3,7 +3,7 @@ use Rattle.std.specs.Prelude.{ℕ, suc, ◌≡◌, ◌≤◌, nat_le, ◌&&◌, 
 use Rattle.std.specs.List.{AllZip}
 use Rattle.toml.specs.Data.{Data, Members, as_table}
 use Rattle.toml.specs.Parse.{parse_document}
-use Rattle.pon_units.specs.declared.limits.TheConstants.{MOST_PORTS}
+use Rattle.pon_units.specs.declared.limits.TheConstants.{LONGEST_GAP, MOST_PORTS, SHORTEST_GAP}
 use Rattle.pon_event.specs.declared.event.Event.TheVariants.{Admit}
 use Rattle.pon_event.specs.declared.step.Step.{Step}
 use Rattle.pon_state.specs.declared.state.PortCfg.{PortCfg}
@@ -27,7 +27,7 @@ pub record PortFields : Type 0 where
 
 -- the gap in words, the burst profile, and the first frame
 abbrev pub gap_of : Members → Option ℕ
-gap_of t = required (codes "gap") 1 256 t
+gap_of t = required (codes "gap") SHORTEST_GAP LONGEST_GAP t
 
 abbrev pub profile_of : Members → Option ℕ
 profile_of t = optional (codes "profile") 3 t

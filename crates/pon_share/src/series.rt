@@ -6,11 +6,11 @@ ghost use Rattle.pon_burst.specs.Series.{FitsFrame, granted_to, grants_of_series
 ghost use Rattle.pon_share.specs.Packing.{AreOneMap};
 
 use arrayvec::ArrayVec;
-use pon_units::{AllocId, Gap, Granted, OnuId, Words};
+use pon_units::{AllocId, Gap, Granted, LONGEST_SERIES, OnuId, Words};
 use std::alloc::{AllocError, Global};
 
 /// An ONU, with its Alloc-IDs and the payload words of each.
-pub(crate) type Series = (OnuId, ArrayVec<(AllocId, Words), 16>);
+pub(crate) type Series = (OnuId, ArrayVec<(AllocId, Words), LONGEST_SERIES>);
 
 // The first grant that is of another ONU.
 fn first_of_others(onu: OnuId, grants: &[Granted]) -> Option<usize>
@@ -32,7 +32,7 @@ fn series_len(onu: OnuId, grants: &[Granted]) -> usize
 
 // The series of an ONU's grants.
 fn series_of_onu(onu: OnuId, grants: &[Granted]) -> Series
-    requires few { length grants.now ≤ 16 }
+    requires few { length grants.now ≤ LONGEST_SERIES }
     requires own { All (λ g. g.onu ≡ onu) grants.now }
     ensures onu { result.0 ≡ onu }
     ensures grants { granted_to result ≡ grants.now }

@@ -4,7 +4,7 @@ use Rattle.std.proofs.KnownBytes.{Consumes-nil, Consumes-trans, Consumes-kept, A
 use Rattle.pon_device.specs.Device.{Consumes, IsAtEnd, Keeps}
 use Rattle.pon_lists.specs.Bytes.{AreBytes}
 use Rattle.pon_link.specs.DownRecords.{IsDownRecord}
-use Rattle.pon_link.specs.Reading.{Reading, empty, IsOpen, HasFault}
+use Rattle.pon_link.specs.Reading.{ReaderState, empty, IsOpen, HasFault}
 use Rattle.pon_link.specs.Units.{UnitState}
 use Rattle.pon_link.specs.declared.direction.Direction.TheVariants.{Down}
 use Rattle.pon_link.specs.declared.fault.LinkFault.{LinkFault}
@@ -33,7 +33,7 @@ starts_open = record {
 }
 
 -- an open reader has no fault, so a pull that answers one found the end of the input
-pub ends_here : (old new : Reading) (rest : Option (List ℕ)) (fault : LinkFault) → AreBytes old.held → IsOpen old → (HasFault old fault × (new ≡ old)) ⊎ (IsOpen old × IsAtEnd rest) → IsAtEnd rest
+pub ends_here : (old new : ReaderState) (rest : Option (List ℕ)) (fault : LinkFault) → AreBytes old.held → IsOpen old → (HasFault old fault × (new ≡ old)) ⊎ (IsOpen old × IsAtEnd rest) → IsAtEnd rest
 ends_here old new rest fault small is_open (inl faulty) = absurd (faultless old fault (λ down. small) is_open faulty.0)
 ends_here old new rest fault small is_open (inr ended) = ended.1
 
@@ -111,21 +111,21 @@ served_kept a b out_old out_mid out_new old mid new held far units writer =
     subst (λ (out : Option (List ℕ)). HasServed a b out_old out old new held) (sym writer) (subst (λ (us : List UnitState). HasServed a b out_old out_mid old us held) (sym units) far)
 
 -- the reader goes on, and what it held is served
-pub record GoesOn (t : Reading) (a b out_old out_new : Option (List ℕ)) (old new : List UnitState) : Type 0 where
+pub record GoesOn (t : ReaderState) (a b out_old out_new : Option (List ℕ)) (old new : List UnitState) : Type 0 where
   pub is_open : IsOpen t
   pub direction : t.direction ≡ Down
   pub small : AreBytes t.held
   pub served : HasServed a b out_old out_new old new t.held
 
-pub goes_on : (s t : Reading) (a b out_old out_mid out_new : Option (List ℕ)) (old mid new : List UnitState) → s.direction ≡ Down → AreBytes s.held → HasServed a b out_old out_mid old mid s.held → AnswersHeld {T = Unit {0}} s t mid new out_mid out_new (Ok tt) → GoesOn t a b out_old out_new old new
+pub goes_on : (s t : ReaderState) (a b out_old out_mid out_new : Option (List ℕ)) (old mid new : List UnitState) → s.direction ≡ Down → AreBytes s.held → HasServed a b out_old out_mid old mid s.held → AnswersHeld {T = Unit {0}} s t mid new out_mid out_new (Ok tt) → GoesOn t a b out_old out_new old new
 goes_on s t a b out_old out_mid out_new old mid new down small far (inl kept) =
-    subst (λ (r : Reading). GoesOn r a b out_old out_new old new) (sym kept.1.reader)
+    subst (λ (r : ReaderState). GoesOn r a b out_old out_new old new) (sym kept.1.reader)
     (record { is_open = kept.0; direction = down; small = small; served = served_kept a b out_old out_mid out_new old mid new s.held far kept.1.units kept.1.writer })
 goes_on s t a b out_old out_mid out_new old mid new down small far (inr here) =
-    subst (λ (r : Reading). GoesOn r a b out_old out_new old new) (sym here.reader)
+    subst (λ (r : ReaderState). GoesOn r a b out_old out_new old new) (sym here.reader)
     (record { is_open = starts_open; direction = refl; small = λ k. omega arith; served = served_more a b out_old out_mid out_new old mid new s.held here.received far here.is_map here.answered })
 
-pub stops : (fault : UnitsFault) (s t : Reading) (a b out_old out_mid out_new : Option (List ℕ)) (old mid new : List UnitState) → s.direction ≡ Down → s.ended ≡ false → HasServed a b out_old out_mid old mid s.held → AnswersHeld {T = Unit {0}} s t mid new out_mid out_new (Err fault) → ServesUntil {T = Unit {0}} a b out_old out_new old new (Err fault)
+pub stops : (fault : UnitsFault) (s t : ReaderState) (a b out_old out_mid out_new : Option (List ℕ)) (old mid new : List UnitState) → s.direction ≡ Down → s.ended ≡ false → HasServed a b out_old out_mid old mid s.held → AnswersHeld {T = Unit {0}} s t mid new out_mid out_new (Err fault) → ServesUntil {T = Unit {0}} a b out_old out_new old new (Err fault)
 stops Device s t a b out_old out_mid out_new old mid new down unended far h =
     inr (record { held = s.held; received = h.received; between = mid; out_between = out_mid; served = far; is_map = h.is_map; begun = h.begun })
 stops (Link fault) s t a b out_old out_mid out_new old mid new down unended far h =

@@ -1,5 +1,6 @@
 -- The records of answers as bytes that a device took.
 use Rattle.std.specs.Prelude.{ℕ, ◌≤◌, List, [], ◌++◌, All, IsSome, length, Option}
+use Rattle.pon_units.specs.declared.limits.TheConstants.{LONGEST_SERIES}
 use Rattle.pon_bwmap.specs.Structure.{Structure}
 use Rattle.pon_device.specs.Device.{Appends}
 use Rattle.pon_link.specs.Runs.{AreRecords}
@@ -12,7 +13,7 @@ use Rattle.pon_simulator.specs.Answers.{AnswersRows}
 pub record IsWritable (answer : UpRecord) : Type 0 where
   pub head : IsSome answer.head
   pub some : 1 ≤ length answer.occ
-  pub limit : length answer.occ ≤ 16
+  pub limit : length answer.occ ≤ LONGEST_SERIES
   pub reports : All IsSome answer.occ
 
 -- The answers were written, each as its record, one behind the other.

@@ -2,7 +2,7 @@
 use Rattle.std.specs.Prelude.{◌≡◌, ℕ, ◌+◌, ◌-◌, ◌%◌, ◌^◌, ◌⊎◌, IsTrue, List, [], Option, Result, Ok, Err}
 use Rattle.pon_device.specs.Device.{Consumes, IsAtEnd}
 use Rattle.pon_link.specs.DownRecords.{IsDownRecord, WantsMemory}
-use Rattle.pon_link.specs.Reading.{Reading, HasFault}
+use Rattle.pon_link.specs.Reading.{ReaderState, HasFault}
 use Rattle.pon_link.specs.Runs.{AreRecords}
 use Rattle.pon_link.specs.Units.{UnitState}
 use Rattle.pon_link.specs.declared.direction.Direction.TheVariants.{Down}
@@ -40,7 +40,7 @@ ServesUntil left_old left_new out_old out_new old new (Ok done) = HasServed left
 ServesUntil left_old left_new out_old out_new old new (Err Device) =
     ((held : List ℕ) × HasServed left_old left_new out_old out_new old new held) ⊎ StopsInside left_old left_new out_old out_new old new
 ServesUntil left_old left_new out_old out_new old new (Err (Link fault)) =
-    (s : Reading) × HasServed left_old left_new out_old out_new old new s.held × (s.direction ≡ Down) × HasFault s fault × (IsTrue s.ended → IsAtEnd left_new)
+    (s : ReaderState) × HasServed left_old left_new out_old out_new old new s.held × (s.direction ≡ Down) × HasFault s fault × (IsTrue s.ended → IsAtEnd left_new)
 ServesUntil left_old left_new out_old out_new old new (Err Memory) = (held : List ℕ) × HasServed left_old left_new out_old out_new old new held × WantsMemory held
 
 -- how many reads were made, how many of them failed, and how many writes and flushes failed, each counted round 2 ^ 64

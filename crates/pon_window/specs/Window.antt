@@ -2,6 +2,7 @@
 use Rattle.std.specs.Prelude.{ℕ, ◌≡◌, ◌+◌, ◌-◌, ◌<◌, ◌≤◌, ◌==◌, nat_le, if◌then◌else◌, All, Bool, List, [], ◌∷◌, ◌++◌, drop, filter, find, flat_map, length, slice_index_or, sum_by, Option, Some, None}
 use Rattle.std.specs.List.{list_any}
 use Rattle.pon_units.specs.Granted.{AreInMapOrder, onus_granted}
+use Rattle.pon_window.specs.declared.window.TheConstants.{MOST_MAPS}
 pub use Rattle.pon_units.specs.declared.granted.Granted.{Granted}
 
 -- a map's frame, what it granted, and the ONUs that reported
@@ -43,12 +44,12 @@ pub record IsLawfulMap (m : WindowMap) : Type 0 where
 
 -- at most 64 lawful maps, whose frames follow each other
 pub record IsWindow (window : List WindowMap) : Type 0 where
-  pub few_maps : length window ≤ 64
+  pub few_maps : length window ≤ MOST_MAPS
   pub frames : AreConsecutive (frame_after window) window
   pub maps : All IsLawfulMap window
 
 abbrev pub last_64 : {T : Type 0} → List T → List T
-last_64 xs = drop (length xs - 64) xs
+last_64 xs = drop (length xs - MOST_MAPS) xs
 
 -- the window with a map of these grants more
 abbrev pub with_map : ℕ → List Granted → List WindowMap → List WindowMap

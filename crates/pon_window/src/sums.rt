@@ -6,6 +6,7 @@ ghost use Rattle.pon_window.specs.Window.{IsLawfulMap, words_to};
 ghost use Rattle.pon_window.specs.Sums.{AreSummed, is_to, sum_before, sum_behind, sum_now, sums_beside};
 
 use crate::map::WindowMap;
+use crate::window::MOST_MAPS;
 use pon_units::{AllocId, FRAME_WORDS, Granted, OnuId};
 use std::alloc::{AllocError, Global};
 use std::marker::Model;
@@ -127,7 +128,7 @@ pub(crate) fn words_granted(
     onu: OnuId,
     alloc_id: AllocId,
 ) -> u32
-    requires few { length maps.now ≤ 64 }
+    requires few { length maps.now ≤ MOST_MAPS }
     requires as_many { length sums.now ≡ length maps.now }
     requires lawful { All IsLawfulMap maps.now }
     requires summed { AreSummed maps.now sums.now }

@@ -58,9 +58,9 @@ fn copied_sums(alloc: Global, sums: &[MapSums]) -> Result<Vec<MapSums>, AllocErr
     Ok(copies)
 }
 
-// Adds what belongs to a map, and drops the oldest beyond 64.
+// Adds what belongs to a map, and drops the oldest beyond [`MOST_MAPS`].
 fn add_to_window<T: Drop>(window: &mut Vec<T>, latest: T)
-    requires few { length window.old.items ≤ 64 }
+    requires few { length window.old.items ≤ MOST_MAPS }
     requires room { vec_len window.old < vec_capacity window.old }
     ensures { window.new.items ≡ last_64 (window.old.items ++ latest ∷ []) }
 {

@@ -3,7 +3,7 @@ use Rattle.std.proofs.Common.{◌≡◌, ℕ, ◌+◌, ◌≤◌, min, List, [],
 use Rattle.std.proofs.KnownBytes.{Consumes-nil, Consumes-trans}
 use Rattle.std.proofs.lemmas.List.Sums.{sum_by-append}
 use Rattle.pon_device.specs.Device.{Consumes, IsAtEnd, Keeps}
-use Rattle.pon_link.specs.Reading.{Reading, HasFault, IsOpen}
+use Rattle.pon_link.specs.Reading.{ReaderState, HasFault, IsOpen}
 use Rattle.pon_link.specs.declared.direction.Direction.TheVariants.{Up, Down}
 use Rattle.pon_link.specs.declared.fault.LinkFault.{LinkFault}
 use Rattle.pon_link.proofs.Outcomes.{faultless}
@@ -103,7 +103,7 @@ pub none_so_far : (a : Counts) (ra : Option (List ℕ)) → a.garbled ≤ GREATE
 none_so_far a ra garbled refused = record { records = []; reports = 0; counted = counted_none a garbled refused; read = read_none ra; size = refl }
 
 -- an open reader has no fault, so a pull that answers one found the end of the input
-pub ends_here : (old new : Reading) (rest : Option (List ℕ)) (fault : LinkFault) → old.direction ≡ Up → IsOpen old → (HasFault old fault × (new ≡ old)) ⊎ (IsOpen old × IsAtEnd rest) → IsAtEnd rest
+pub ends_here : (old new : ReaderState) (rest : Option (List ℕ)) (fault : LinkFault) → old.direction ≡ Up → IsOpen old → (HasFault old fault × (new ≡ old)) ⊎ (IsOpen old × IsAtEnd rest) → IsAtEnd rest
 ends_here old new rest fault up is_open (inl faulty) = absurd (faultless old fault (λ down. let both : Up ≡ Down = sym up ∙ down in cc) is_open faulty.0)
 ends_here old new rest fault up is_open (inr ended) = ended.1
 

@@ -2,7 +2,7 @@
 use Rattle.std.specs.Prelude.{ℕ, ◌≡◌, ◌+◌, ◌==◌, ◌⊎◌, Bool, true, min, List, count_by, length, Option, Some, None}
 use Rattle.pon_device.specs.Device.{Consumes, IsAtEnd}
 use Rattle.pon_xgtc.specs.BurstHead.{BurstHeader}
-use Rattle.pon_link.specs.Reading.{Reading, HasFault, IsOpen}
+use Rattle.pon_link.specs.Reading.{ReaderState, HasFault, IsOpen}
 use Rattle.pon_link.specs.Runs.{AreRecords}
 use Rattle.pon_link.specs.UpRecords.{IsRecord}
 use Rattle.pon_link.specs.declared.fault.LinkFault.{LinkFault}
@@ -13,7 +13,7 @@ use Rattle.pon_worker.specs.declared.counts.TheConstants.{GREATEST_COUNT}
 use Rattle.pon_worker.specs.declared.reading.TheConstants.{NO_ONU}
 
 -- why a reader in this state has no further record: reads failed, or its bytes are none, or the input ended
-abbrev pub StopsFor : ℕ → Reading → Option (List ℕ) → Type 0
+abbrev pub StopsFor : ℕ → ReaderState → Option (List ℕ) → Type 0
 StopsFor cause s left =
     ((cause ≡ READ_FAILED) × IsOpen s)
     ⊎ ((cause ≡ BAD_RECORD) × ((fault : LinkFault) × HasFault s fault))

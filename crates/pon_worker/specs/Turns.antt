@@ -12,7 +12,7 @@ use Rattle.pon_desk.specs.Posts.{IsSomePost}
 use Rattle.pon_desk.specs.declared.posted.Posted.{Posted}
 use Rattle.pon_link.specs.DownRecords.{down_bytes}
 use Rattle.pon_link.specs.declared.record.UpRecord.{UpRecord}
-use Rattle.pon_link.specs.Reading.{Reading}
+use Rattle.pon_link.specs.Reading.{ReaderState}
 use Rattle.pon_worker.specs.Records.{Counted, HasRead, StopsFor}
 use Rattle.pon_worker.specs.declared.causes.TheConstants.{WRITE_FAILED}
 use Rattle.pon_worker.specs.declared.counts.Counts.{Counts}
@@ -96,7 +96,7 @@ counts_of end = record { maps = end.maps; reports = end.reports; garbled = end.g
 
 -- the link is given up for this: writes failed, or there is no further record for the cause
 abbrev pub GivesUp : ℕ → Option (List ℕ) → Type 0
-GivesUp cause left = (cause ≡ WRITE_FAILED) ⊎ ((s : Reading) × StopsFor cause s left)
+GivesUp cause left = (cause ≡ WRITE_FAILED) ⊎ ((s : ReaderState) × StopsFor cause s left)
 
 -- a turn is cut short for this: not because the turns are over, and if the desk made no map it says why
 abbrev pub IsCutBy : Why → Option (List ℕ) → Type 0

@@ -1,6 +1,6 @@
 use Rattle.std.proofs.Common.{ℕ, List, Ok, Err, refl, sym, ap, ◌∙◌, subst, arith}
 use Rattle.pon_lists.specs.Bytes.{AreBytes}
-use Rattle.pon_link.specs.Reading.{Reading, IsOpen, HasFault, Pulls}
+use Rattle.pon_link.specs.Reading.{ReaderState, IsOpen, HasFault, Pulls}
 use Rattle.pon_link.specs.declared.fault.LinkFault.{LinkFault}
 use Rattle.pon_link.specs.declared.pull.Pulled.{Pulled}
 use Rattle.pon_link.specs.declared.pull.PullFault.{PullFault}
@@ -14,9 +14,9 @@ loop-turn-init g c =
     let out = g.W.DevWrite.contents c.args.writer.now in
     let new = sym c.new-down.ensures in record {
       is_open = subst IsOpen new starts_open;
-      direction = ap (λ (s : Reading). s.direction) c.new-down.ensures;
-      small = subst (λ (s : Reading). AreBytes s.held) new (λ k. omega arith);
-      served = subst (λ (s : Reading). HasServed left left out out c.args.units.now c.args.units.now s.held) new (none_served left out c.args.units.now);
+      direction = ap (λ (s : ReaderState). s.direction) c.new-down.ensures;
+      small = subst (λ (s : ReaderState). AreBytes s.held) new (λ k. omega arith);
+      served = subst (λ (s : ReaderState). HasServed left left out out c.args.units.now c.args.units.now s.held) new (none_served left out c.args.units.now);
       failed_reads = refl;
       failed_writes = refl;
       reads = omega arith;
@@ -49,8 +49,8 @@ returns-in-Err-clause-answers g c =
     let out_mid = g.W.DevWrite.contents c.loop-turn.writer in
     let out_new = g.W.DevWrite.contents c.answer_held.new.writer in
     let v = subst (λ (p : Pulled). Pulls c.loop-turn.down c.pull.new.self b z (Ok p)) c.in-Ok-Bytes.field-0-is c.in-Ok-Bytes.ensures.value in
-    let served = subst (λ (s : Reading). HasServed a z out_old out_mid c.args.units.now c.loop-turn.units s.held) (sym v.2) (read_more a b z out_old out_mid c.args.units.now c.loop-turn.units c.loop-turn.down.held v.0 far.served v.3) in
-    stops c.in-Err.fault c.pull.new.self c.answer_held.new.down a z out_old out_mid out_new c.args.units.now c.loop-turn.units c.answer_held.new.units c.answer_held.ensures.down (ap (λ (s : Reading). s.ended) v.2 ∙ far.is_open.unended) served c.in-Err.ensures.answers
+    let served = subst (λ (s : ReaderState). HasServed a z out_old out_mid c.args.units.now c.loop-turn.units s.held) (sym v.2) (read_more a b z out_old out_mid c.args.units.now c.loop-turn.units c.loop-turn.down.held v.0 far.served v.3) in
+    stops c.in-Err.fault c.pull.new.self c.answer_held.new.down a z out_old out_mid out_new c.args.units.now c.loop-turn.units c.answer_held.new.units c.answer_held.ensures.down (ap (λ (s : ReaderState). s.ended) v.2 ∙ far.is_open.unended) served c.in-Err.ensures.answers
 
 pub loop-turn-preserved : goal.loop-turn-preserved
 loop-turn-preserved g c =
@@ -62,7 +62,7 @@ loop-turn-preserved g c =
     let out_mid = g.W.DevWrite.contents c.loop-turn.writer in
     let out_new = g.W.DevWrite.contents c.answer_held.new.writer in
     let v = subst (λ (p : Pulled). Pulls c.loop-turn.down c.pull.new.self b z (Ok p)) c.in-Ok-Bytes.field-0-is c.in-Ok-Bytes.ensures.value in
-    let served = subst (λ (s : Reading). HasServed a z out_old out_mid c.args.units.now c.loop-turn.units s.held) (sym v.2) (read_more a b z out_old out_mid c.args.units.now c.loop-turn.units c.loop-turn.down.held v.0 far.served v.3) in
+    let served = subst (λ (s : ReaderState). HasServed a z out_old out_mid c.args.units.now c.loop-turn.units s.held) (sym v.2) (read_more a b z out_old out_mid c.args.units.now c.loop-turn.units c.loop-turn.down.held v.0 far.served v.3) in
     let on = goes_on c.pull.new.self c.answer_held.new.down a z out_old out_mid out_new c.args.units.now c.loop-turn.units c.answer_held.new.units c.answer_held.ensures.down c.answer_held.ensures.bytes served c.in-Ok.ensures.answers in
     let read = c.pull.ensures.one_read far.is_open in record {
       is_open = on.is_open;

@@ -1,5 +1,5 @@
 use Rattle.std.proofs.Common.{List, ℕ, ◌≡◌, refl, sym, ap, subst, ◌∙◌, arith}
-use Rattle.pon_link.specs.Reading.{Reading}
+use Rattle.pon_link.specs.Reading.{ReaderState}
 use Rattle.pon_worker.specs.Records.{HasRead}
 use Rattle.pon_worker.proofs.Bursts.{none_so_far, so_far_more, so_far_part}
 use Rattle.pon_worker.proofs.Posted.{posts_fit, posts_more, posts_none}
@@ -48,7 +48,7 @@ pub returns-clause-read : goal.returns-clause-read
 returns-clause-read g c =
     let far = c.loop-burst.invariant in
     let all = far.so_far in
-    let none = sym (ap (λ (s : Reading). s.held) far.empty_again) in
+    let none = sym (ap (λ (s : ReaderState). s.held) far.empty_again) in
     let number : c.loop-burst._burst ≡ c.args.bursts = omega (arith, c.loop-burst.auto._burst-end, c.loop-burst-test.false) in
     (all.records, all.reports, all.counted, subst (λ (t : List ℕ). HasRead all.records t (g.R.DevRead.remaining c.args.reader.now) (g.R.DevRead.remaining c.loop-burst.reader)) none all.read, all.size ∙ number)
 

@@ -1,7 +1,7 @@
 use Rattle.std.proofs.Common.{refl, sym, ap, subst, ◌∙◌}
 use Rattle.std.proofs.Common.{inl, inr, Ok, Err}
 use Rattle.std.proofs.KnownBytes.{Keeps-refl, Keeps-trans}
-use Rattle.pon_link.specs.Reading.{Reading, IsOpen, Pulls, holds_more}
+use Rattle.pon_link.specs.Reading.{ReaderState, IsOpen, Pulls, holds_more}
 use Rattle.pon_link.specs.declared.pull.Pulled.{Pulled}
 use Rattle.pon_link.specs.declared.pull.PullFault.{PullFault}
 use Rattle.pon_worker.proofs.Bursts.{ends_here, kept_read}
@@ -15,7 +15,7 @@ returns-in-Ok-Bytes-clause-ok g c =
     let held = c.loop-try.invariant in
     let v = subst (λ (p : Pulled). Pulls c.loop-try.up c.pull.new.self (g.R.DevRead.remaining c.loop-try.reader) (g.R.DevRead.remaining c.pull.new.reader) (Ok p)) c.in-Ok-Bytes.field-0-is c.in-Ok-Bytes.ensures.value in (
       v.0,
-      v.2 ∙ ap (λ (s : Reading). holds_more s v.0) held.same,
+      v.2 ∙ ap (λ (s : ReaderState). holds_more s v.0) held.same,
       kept_read (g.R.DevRead.remaining c.args.reader.now) (g.R.DevRead.remaining c.loop-try.reader) (g.R.DevRead.remaining c.pull.new.reader) v.0 held.kept v.3,
     )
 
@@ -24,7 +24,7 @@ returns-in-Ok-End-clause-err g c =
     let held = c.loop-try.invariant in
     let v = subst (λ (p : Pulled). Pulls c.loop-try.up c.pull.new.self (g.R.DevRead.remaining c.loop-try.reader) (g.R.DevRead.remaining c.pull.new.reader) (Ok p)) c.in-Ok-End.field-0-is c.in-Ok-End.ensures.value in (
       inr (inr (c.cause_of.ensures, v.4)),
-      ap (λ (s : Reading). s.held) (v.2 ∙ held.same),
+      ap (λ (s : ReaderState). s.held) (v.2 ∙ held.same),
       Keeps-trans (g.R.DevRead.remaining c.args.reader.now) (g.R.DevRead.remaining c.loop-try.reader) (g.R.DevRead.remaining c.pull.new.reader) held.kept v.3,
     )
 
@@ -32,9 +32,9 @@ pub returns-in-Err-Link-clause-err : goal.returns-in-Err-Link-clause-err
 returns-in-Err-Link-clause-err g c =
     let held = c.loop-try.invariant in
     let v = subst (λ (p : PullFault). Pulls c.loop-try.up c.pull.new.self (g.R.DevRead.remaining c.loop-try.reader) (g.R.DevRead.remaining c.pull.new.reader) (Err p)) c.in-Err-Link.field-0-is c.in-Err-Link.ensures.value in
-    let at_end = ends_here c.loop-try.up c.pull.new.self (g.R.DevRead.remaining c.pull.new.reader) c.in-Err-Link.field-0-0 (ap (λ (s : Reading). s.direction) held.same ∙ c.requires.up) (subst IsOpen (sym held.same) c.requires.«open») v.3 in (
+    let at_end = ends_here c.loop-try.up c.pull.new.self (g.R.DevRead.remaining c.pull.new.reader) c.in-Err-Link.field-0-0 (ap (λ (s : ReaderState). s.direction) held.same ∙ c.requires.up) (subst IsOpen (sym held.same) c.requires.«open») v.3 in (
       inr (inr (c.cause_of-in-Err-Link.ensures, at_end)),
-      v.1 ∙ ap (λ (s : Reading). s.held) held.same,
+      v.1 ∙ ap (λ (s : ReaderState). s.held) held.same,
       Keeps-trans (g.R.DevRead.remaining c.args.reader.now) (g.R.DevRead.remaining c.loop-try.reader) (g.R.DevRead.remaining c.pull.new.reader) held.kept v.2,
     )
 
@@ -50,6 +50,6 @@ pub returns-clause-err : goal.returns-clause-err
 returns-clause-err g c =
     let held = c.loop-try.invariant in (
       inl (c.cause_of-2.ensures, subst IsOpen (sym held.same) c.requires.«open»),
-      ap (λ (s : Reading). s.held) held.same,
+      ap (λ (s : ReaderState). s.held) held.same,
       held.kept,
     )

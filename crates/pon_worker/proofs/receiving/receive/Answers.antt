@@ -2,7 +2,7 @@ use Rattle.std.proofs.Common.{List, ℕ, ◌++◌, sym, ap, subst, ◌∙◌}
 use Rattle.std.proofs.Common.{inl, inr, Ok, Option}
 use Rattle.std.proofs.KnownBytes.{Consumes-nil, Consumes-trans, Consumes-kept}
 use Rattle.pon_device.specs.Device.{Consumes}
-use Rattle.pon_link.specs.Reading.{Reading, Returns, HasFault}
+use Rattle.pon_link.specs.Reading.{ReaderState, Returns, HasFault}
 use Rattle.pon_link.specs.UpRecords.{IsRecord}
 use Rattle.pon_link.specs.declared.record.UpRecord.{UpRecord}
 use Rattle.pon_worker.proofs.receiving.receive.Goals as goal
@@ -10,9 +10,9 @@ use Rattle.pon_worker.proofs.receiving.receive.Goals as goal
 pub loop-init : goal.loop-init
 loop-init g c =
     let left = g.R.DevRead.remaining c.args.reader.now in record {
-      up = ap (λ (s : Reading). s.direction) c.requires;
-      open_end = ap (λ (s : Reading). s.ended) c.requires;
-      held = subst (λ (s : Reading). Consumes left left s.held) (sym c.requires) (Consumes-nil left);
+      up = ap (λ (s : ReaderState). s.direction) c.requires;
+      open_end = ap (λ (s : ReaderState). s.ended) c.requires;
+      held = subst (λ (s : ReaderState). Consumes left left s.held) (sym c.requires) (Consumes-nil left);
     }
 
 pub returns-in-Ok-Some-clause-ok : goal.returns-in-Ok-Some-clause-ok
@@ -28,9 +28,9 @@ loop-preserved g c =
     let left = g.R.DevRead.remaining c.args.reader.now in
     let now = g.R.DevRead.remaining c.pull.new.reader in
     let more = Consumes-trans left (g.R.DevRead.remaining c.loop.reader) now c.loop.up.held v.0 far.held v.2 in record {
-      up = ap (λ (s : Reading). s.direction) (v.1) ∙ ap (λ (s : Reading). s.direction) same ∙ far.up;
-      open_end = ap (λ (s : Reading). s.ended) (v.1) ∙ ap (λ (s : Reading). s.ended) same ∙ far.open_end;
-      held = subst (λ (s : Reading). Consumes left now s.held) (sym v.1) (subst (λ (s : Reading). Consumes left now (s.held ++ v.0)) (sym same) more);
+      up = ap (λ (s : ReaderState). s.direction) (v.1) ∙ ap (λ (s : ReaderState). s.direction) same ∙ far.up;
+      open_end = ap (λ (s : ReaderState). s.ended) (v.1) ∙ ap (λ (s : ReaderState). s.ended) same ∙ far.open_end;
+      held = subst (λ (s : ReaderState). Consumes left now s.held) (sym v.1) (subst (λ (s : ReaderState). Consumes left now (s.held ++ v.0)) (sym same) more);
     }
 
 pub returns-in-Err-pull-clause-err : goal.returns-in-Err-pull-clause-err
@@ -42,7 +42,7 @@ returns-in-Err-pull-clause-err g c =
     let now = g.R.DevRead.remaining c.pull.new.reader in
     let all = Consumes-kept left (g.R.DevRead.remaining c.loop.reader) now c.loop.up.held far.held v.2 in (
       v.0,
-      subst (λ (t : List ℕ). Consumes left now t) (sym (v.1 ∙ ap (λ (s : Reading). s.held) same)) all,
+      subst (λ (t : List ℕ). Consumes left now t) (sym (v.1 ∙ ap (λ (s : ReaderState). s.held) same)) all,
     )
 
 pub returns-in-Err-clause-err : goal.returns-in-Err-clause-err
@@ -50,6 +50,6 @@ returns-in-Err-clause-err g c =
     let v = c.in-Err.ensures.outcome in
     let left = g.R.DevRead.remaining c.args.reader.now in
     let now = g.R.DevRead.remaining c.loop.reader in (
-      inr (inl (c.cause_of.ensures, (c.in-Err.field-0, subst (λ (s : Reading). HasFault s c.in-Err.field-0) (sym v.1) v.0))),
-      subst (λ (s : Reading). Consumes left now s.held) (sym v.1) c.loop.invariant.held,
+      inr (inl (c.cause_of.ensures, (c.in-Err.field-0, subst (λ (s : ReaderState). HasFault s c.in-Err.field-0) (sym v.1) v.0))),
+      subst (λ (s : ReaderState). Consumes left now s.held) (sym v.1) c.loop.invariant.held,
     )

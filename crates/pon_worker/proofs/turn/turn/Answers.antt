@@ -1,7 +1,7 @@
 use Rattle.std.proofs.Common.{List, ℕ, [], refl, ap, subst, ◌∙◌, arith, append-nil, count_by}
 use Rattle.std.proofs.KnownBytes.{Appends-nil}
 use Rattle.pon_bwmap.specs.Structure.{Structure}
-use Rattle.pon_link.specs.Reading.{Reading}
+use Rattle.pon_link.specs.Reading.{ReaderState}
 use Rattle.pon_worker.specs.Records.{HasRead}
 use Rattle.pon_worker.specs.Turns.{begins_burst, map_record}
 use Rattle.pon_worker.proofs.Bursts.{counted_kept, counted_on, read_none}
@@ -40,7 +40,7 @@ returns-in-Ok-read_bursts-clause-turned g c =
     let now = g.R.DevRead.remaining c.read_bursts.new.reader in
     let made = c.in-Ok.made in
     let read = c.in-Ok-read_bursts.ensures.read in
-    let none = ap (λ (s : Reading). s.held) c.in-Ok-read_bursts.ensures.all in
+    let none = ap (λ (s : ReaderState). s.held) c.in-Ok-read_bursts.ensures.all in
     turned_one made read.0 read.1 c.args.counts.now c.read_bursts.new.counts (g.W.DevWrite.contents c.args.writer.now) (g.W.DevWrite.contents c.send.new.writer) left now c.in-Ok.ensures.made
     c.in-Ok-read_bursts.ensures.maps c.in-Ok-send.ensures.sent (counted_on c.args.counts.now read.0 read.1 c.read_bursts.new.counts read.2) (subst (λ (t : List ℕ). HasRead read.0 t left now) none read.3)
     (read.4 ∙ c.bursts_in-bursts.ensures ∙ ap (λ (rows : List Structure). count_by begins_burst rows) c.rows.ensures.rows)
