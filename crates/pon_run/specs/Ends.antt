@@ -1,6 +1,5 @@
 -- The lines that tell at the end of a run what each port did.
 use Rattle.std.specs.Prelude.{ℕ, suc, ◌≡◌, List, [], ◌∷◌, ◌++◌, codes, decimal, Option, Result, Ok, Err}
-use Rattle.pon_device.specs.Device.{Appends, Keeps}
 use Rattle.pon_stream.specs.Streams.{TellsLine}
 use Rattle.pon_stream.specs.declared.fault.PlanFault.{PlanFault}
 use Rattle.pon_stream.specs.declared.fault.PlanFault.TheVariants.{Read, Write, Memory}

@@ -1,7 +1,6 @@
 -- What a run says of itself: the text that it writes, and its exit status.
-use Rattle.std.specs.Prelude.{ℕ, ◌≡◌, List, length, Option, Result, Ok, Err, Bool, true, false}
+use Rattle.std.specs.Prelude.{ℕ, ◌≡◌, List, length, Option}
 use Rattle.pon_device.specs.Device.{Appends}
-use Rattle.pon_stream.specs.declared.fault.PlanFault.{PlanFault}
 use Rattle.pon_run.specs.declared.end.PortEnd.{PortEnd}
 use Rattle.pon_run.specs.Ends.{lines_from}
 

@@ -1,5 +1,5 @@
 -- The simulated units of a port.
-use Rattle.std.specs.Prelude.{ℕ, ◌≡◌, ◌==◌, ◌++◌, not, Bool, if◌then◌else◌, List, [], ◌∷◌, map, filter, take}
+use Rattle.std.specs.Prelude.{ℕ, ◌==◌, ◌++◌, Bool, if◌then◌else◌, List, [], ◌∷◌, map, filter, take}
 use Rattle.std.specs.List.{list_any}
 use Rattle.pon_units.specs.declared.limits.TheConstants.{LONGEST_SERIES}
 use Rattle.pon_link.specs.Units.{UnitState}

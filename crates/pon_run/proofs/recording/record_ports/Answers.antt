@@ -1,4 +1,4 @@
-use Rattle.std.proofs.Common.{rules, ◌≡◌, ℕ, List, [], ◌∷◌, length, ap, arith, sym, subst, ◌∙◌}
+use Rattle.std.proofs.Common.{rules, ℕ, List, [], ◌∷◌, length, ap, arith, sym, subst, ◌∙◌}
 use Rattle.pon_port.specs.Chapters.{Chapter}
 use Rattle.pon_recorder.specs.Bodies.{chapter_body}
 use Rattle.pon_run.specs.Recordings.{HasRecorded}
