@@ -11,7 +11,7 @@ use crate::link::{Link, open_links};
 use crate::operator::{answer_lines, open_lines};
 use crate::ports::{OTHER_SEATS, admit_rows, close, ends_of, parted, served_ports};
 use crate::recording::{begin, create_file, record_ports};
-use crate::running::serve_all;
+use crate::running::{Served, serve_all};
 use crate::thread::Worked;
 use pon_desk::{Desk, Seat};
 use pon_device::{DevWrite, StdWrite};
@@ -36,10 +36,8 @@ fn serve<L, M, G, F, W, R>(
     rt: &R,
     alloc: Global,
     desk: &Desk<L, M>,
-    settings: &Settings,
-    seats: Vec<Seat<L, M>>,
+    all: Vec<Served<L, M>>,
     operator: &mut Seat<L, M>,
-    links: Vec<Link>,
     gate: &G,
     maps: u64,
     lines: Option<F>,
@@ -55,9 +53,6 @@ where
     ensures quiet { IsNone lines → W.contents writer.new ≡ W.contents writer.old }
     ensures failures { IsNone lines → W.failures writer.new ≡ W.failures writer.old }
 {
-    let Ok(all) = served_ports(alloc, settings, seats, links) else {
-        return Err(PlanFault::Memory);
-    };
     match lines {
         None => serve_all(rt, alloc, desk, all, gate, maps, || Ok(())),
         Some(file) => serve_all(rt, alloc, desk, all, gate, maps, || {
@@ -144,14 +139,15 @@ where
     if admit_rows(rt, alloc, &desk, &mut first, settings).is_err() {
         return Err(PlanFault::Memory);
     }
+    let Ok(all) = served_ports(alloc, settings, seats, links) else {
+        return Err(PlanFault::Memory);
+    };
     let served = serve(
         rt,
         alloc,
         &desk,
-        settings,
-        seats,
+        all,
         &mut operator,
-        links,
         gate,
         maps,
         lines,
