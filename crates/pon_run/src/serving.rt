@@ -133,7 +133,8 @@ where
     ensures { IsNone lines → IfOk result (λ done. done ≡ true
         → TellsPorts desk.ports (W.contents writer.old) (W.contents writer.new)) }
 {
-    let (Some(mut operator), Some(mut first)) = (seats.pop(), seats.pop()) else {
+    // The operator has the last seat.
+    let (Some(mut seat), Some(mut first)) = (seats.pop(), seats.pop()) else {
         unreachable!()
     };
     if admit_rows(rt, alloc, &desk, &mut first, settings).is_err() {
@@ -142,19 +143,9 @@ where
     let Ok(all) = served_ports(alloc, settings, seats, links) else {
         return Err(PlanFault::Memory);
     };
-    let served = serve(
-        rt,
-        alloc,
-        &desk,
-        all,
-        &mut operator,
-        gate,
-        maps,
-        lines,
-        writer,
-    );
+    let served = serve(rt, alloc, &desk, all, &mut seat, gate, maps, lines, writer);
     let (all, operated) = served?;
-    let Ok(others) = Vec::from_array(alloc, [first, operator]) else {
+    let Ok(others) = Vec::from_array(alloc, [first, seat]) else {
         return Err(PlanFault::Memory);
     };
     let done = tell(alloc, desk, others, all, recording, writer)?;
