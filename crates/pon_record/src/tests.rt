@@ -48,25 +48,16 @@ enum Verdict {
     OutOfMemory,
 }
 
-// The bytes of pairs of hexadecimal digits; anything else is left out.
+// The bytes of pairs of hexadecimal digits, parted by blanks.
 fn bytes_of(alloc: Global, text: &str) -> Result<Vec<u8>, AllocError> {
-    let mut bytes = Vec::new(alloc);
-    let mut high = None;
-    for digit in text.bytes() {
-        let value = match digit {
-            b'0'..=b'9' => digit - b'0',
-            b'a'..=b'f' => digit - b'a' + 10,
-            _ => continue,
-        };
-        high = match high {
-            None => Some(value),
-            Some(first) => {
-                bytes.push((first << 4) | value)?;
-                None
-            }
-        };
+    let digits: Vec<u8> = text
+        .bytes()
+        .filter(|byte| !byte.is_ascii_whitespace())
+        .collect(alloc)?;
+    match hex::decode(alloc, digits) {
+        Ok(bytes) => Ok(bytes),
+        Err(_) => Err(AllocError),
     }
-    Ok(bytes)
 }
 
 fn told(alloc: Global, bytes: &[u8]) -> Verdict {
