@@ -130,10 +130,10 @@ fn many_maps(alloc: Global, maps: u16) -> Result<Vec<u8>, AllocError> {
     Ok(bytes)
 }
 
-// The same verdict whether the chapter is judged in one thread or, from 2,048 maps, in many.
+// The same verdict whether the chapter is judged in one thread or, from 2,048 maps, in many, and whatever follows the fault.
 #[test]
 fn judges_many_maps(rt: HostRuntime) -> Result<(), Fail> {
-    for maps in [2047u16, 2048, 2049, 65_535] {
+    for maps in [2000u16, 2047, 2048, 2049, 65_535] {
         let mut recording = many_maps(rt.alloc(), maps)?;
         let wanted = Verdict::Good {
             maps: u64::from(maps),

@@ -1,6 +1,6 @@
 -- What a port answers to an event, as a text.
 use Rattle.std.proofs.Common.{◌≡◌, ℕ, List, refl, ap, sym, ◌∙◌, subst, length}
-use Rattle.std.specs.Prelude.{Option, Some, None, Result, Ok, Err, IfOk, IfSome, ◌≢◌, slice_get, slice_set}
+use Rattle.std.specs.Prelude.{Option, Some, None, Result, Ok, Err, OnOk, ◌++◌, ◌≢◌, slice_get, slice_set}
 use Rattle.pon_descr.specs.Checks.{IsTold}
 use Rattle.pon_descr.specs.declared.refusal.Refusal.{Refusal}
 use Rattle.pon_descr.specs.declared.refusal.Refusal.TheVariants.{OutOfMemory}
@@ -13,7 +13,7 @@ use Rattle.pon_plant.specs.Answers.{IsAnswer, after_entry, after_step}
 use Rattle.pon_plant.specs.declared.fault.StepFault.TheVariants.{NoSuchPort, Refused}
 use Rattle.pon_line.specs.declared.fault.LineFault.TheVariants.{Port}
 use Rattle.pon_line.specs.declared.reading.Reading.TheVariants.{Asks}
-use Rattle.pon_manage.specs.Text.{Answers, AsksPort, Posts, refusal_line, reply_line}
+use Rattle.pon_manage.specs.Text.{AddsAnswer, Answers, AsksPort, Posts, refusal_line, reply_line}
 
 abbrev at : ℕ → Event → Step
 at port event = record { port = port; event = event }
@@ -28,9 +28,12 @@ refused_at old port event told text (Some c) h other is = by_check (refusal_of c
     by_check None h = absurd (other h)
     by_check (Some r) h = (subst (λ r. text ≡ refusal_line (Port r)) h is, refl)
 
-pub refused_text : {T E : Type 0} (bytes : T → List ℕ) (old new : List Chapter) (port : ℕ) (event : Event) (told : Refusal) (r : Result T E) →
+pub refused_text : {T E : Type 0} (old new : List Chapter) (port : ℕ) (event : Event) (told : Refusal) (replies_old replies_new : List ℕ) (r : Result T E) →
     IsAnswer (slice_get old port) event (Err (Refused told)) → told ≢ OutOfMemory → new ≡ after_step old (at port event) (Err (Refused told)) →
-    IfOk r (λ text. bytes text ≡ refusal_line (Port told)) → IfOk r (λ text. Answers old (Asks port event) (bytes text) new)
-refused_text bytes old new port event told (Ok text) h other after is =
-    subst (λ ports. Answers old (Asks port event) (bytes text) ports) (sym after) (refused_at old port event told (bytes text) (slice_get old port) h other is)
-refused_text bytes old new port event told (Err e) h other after is = tt
+    OnOk r (replies_new ≡ replies_old ++ refusal_line (Port told)) → OnOk r (AddsAnswer old (Asks port event) new replies_old replies_new)
+refused_text old new port event told replies_old replies_new (Ok done) h other after is = (
+  refusal_line (Port told),
+  subst (λ ports. Answers old (Asks port event) (refusal_line (Port told)) ports) (sym after) (refused_at old port event told (refusal_line (Port told)) (slice_get old port) h other refl),
+  is,
+)
+refused_text old new port event told replies_old replies_new (Err e) h other after is = tt

@@ -1,4 +1,5 @@
 mod AnswerLaws
+mod DeskRefusals
 mod EachOutput
 mod OneOutput
 mod ReadEvents

@@ -1,5 +1,5 @@
 -- The text that lines give at a desk, where other threads post between them: that of some port with a lawful chapter.
-use Rattle.std.specs.Prelude.{ℕ, ◌≡◌, ◌≢◌, ◌⊎◌, List, []}
+use Rattle.std.specs.Prelude.{ℕ, ◌≡◌, ◌≢◌, ◌⊎◌, List, [], ◌++◌}
 use Rattle.pon_event.specs.declared.event.Event.{Event}
 use Rattle.pon_descr.specs.declared.refusal.Refusal.{Refusal}
 use Rattle.pon_descr.specs.declared.refusal.Refusal.TheVariants.{OutOfMemory}
@@ -22,6 +22,10 @@ TellsPosted event text = (posted : Posted) × IsSomePost event posted × (text �
 -- a check of a port with a lawful chapter refused the event, or the desk is full, and the text is the refusal
 abbrev pub TellsRefused : Event → List ℕ → Type 0
 TellsRefused event text = (told : Refusal) × IsSomeRefusal event told × (told ≢ OutOfMemory) × (text ≡ refusal_line (Port told))
+
+-- a text of this kind follows the replies
+abbrev pub AddsText : (List ℕ → Type 0) → List ℕ → List ℕ → Type 0
+AddsText IsText replies_old replies_new = (text : List ℕ) × IsText text × (replies_new ≡ replies_old ++ text)
 
 -- what is asked of a desk gives a text
 abbrev pub DeskAnswers : Reading → List ℕ → Type 0

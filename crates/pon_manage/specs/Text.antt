@@ -101,6 +101,10 @@ Answers old (Asks port event) text new = AsksPort old port (slice_get old port) 
 Answers old (AsksCert port) text new = TellsCert (slice_get old port) text × (new ≡ old)
 Answers old (AsksState port) text new = TellsState (slice_get old port) text × (new ≡ old)
 
+-- the text of what is asked follows the replies
+abbrev pub AddsAnswer : List Chapter → Reading → List Chapter → List ℕ → List ℕ → Type 0
+AddsAnswer old reading new replies_old replies_new = (text : List ℕ) × Answers old reading text new × (replies_new ≡ replies_old ++ text)
+
 -- a line gives a text
 abbrev pub Gives : List Chapter → List ℕ → List ℕ → List Chapter → Type 0
 Gives old line text new = Answers old (read_line (length old) line) text new

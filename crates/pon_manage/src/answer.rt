@@ -1,19 +1,19 @@
 //! The text that one line gives at a plant.
 
-ghost use Rattle.std.specs.Prelude.{◌≡◌, ◌<◌, IfOk, IfSome, Some, length, slice_get, string_bytes};
+ghost use Rattle.std.specs.Prelude.{◌≡◌, ◌<◌, ◌++◌, IfSome, OnOk, OnErr, Some, length, slice_get};
 ghost use Rattle.pon_port.specs.Chapters.{present_state};
 ghost use Rattle.pon_port.specs.Last.{last_map};
 ghost use Rattle.pon_line.specs.Reading.{AsksWithin};
-ghost use Rattle.pon_manage.specs.Text.{Answers, cert_line, state_line};
+ghost use Rattle.pon_manage.specs.Text.{AddsAnswer, cert_line, state_line};
 
-use crate::show::{shown_line, shown_of};
-use crate::texts::{cert_text_line, refusal_text_line, reply_text_line};
+use crate::show::{append_shown, shown_of};
+use crate::texts::{append_cert, append_refusal, append_reply};
 use pon_descr::Refusal;
 use pon_line::{LineFault, Reading};
 use pon_plant::{Plant, Step, StepFault};
 use pon_port::{Event, Port};
 use pon_units::{MOST_PORTS, PortNo};
-use std::alloc::{AllocError, Global};
+use std::alloc::AllocError;
 
 // The number of entries that a port keeps.
 fn kept_entries(plant: &Plant, port: PortNo) -> usize
@@ -26,43 +26,49 @@ fn kept_entries(plant: &Plant, port: PortNo) -> usize
     }
 }
 
-// The text of an event at a port: its reply, or its refusal.
+// Has a port take an event, and appends its reply, or its refusal.
 fn answer_event(
-    alloc: Global,
     plant: &mut Plant,
     port: PortNo,
     event: Event,
-) -> Result<String, AllocError>
+    room: &mut Vec<u8>,
+    replies: &mut Vec<u8>,
+) -> Result<(), AllocError>
     requires { port < length plant.old }
-    ensures { IfOk result (λ text. Answers plant.old (Reading.Asks port event)
-        (string_bytes text) plant.new) }
+    ensures ok { OnOk result (AddsAnswer plant.old (Reading.Asks port event)
+        plant.new replies.old.items replies.new.items) }
+    ensures err { OnErr result (replies.new.items ≡ replies.old.items) }
 {
     let index = kept_entries(plant, port);
     match plant.step(Step { port, event }) {
-        Ok(reply) => reply_text_line(alloc, index, &reply),
+        Ok(reply) => append_reply(replies, room, index, &reply),
         Err(StepFault::Refused(refusal)) => match refusal {
             Refusal::OutOfMemory => Err(AllocError),
-            told => refusal_text_line(alloc, LineFault::Port(told)),
+            told => append_refusal(replies, LineFault::Port(told)),
         },
         Err(StepFault::NoSuchPort) => unreachable!(),
     }
 }
 
-// The certificate of the last map.
-fn show_cert(alloc: Global, port: &Port) -> Result<String, AllocError>
-    ensures { IfOk result (λ text. string_bytes text ≡ cert_line (last_map port.now)) }
+// Appends the certificate of the last map.
+fn show_cert(port: &Port, replies: &mut Vec<u8>) -> Result<(), AllocError>
+    ensures ok { OnOk result (replies.new.items
+        ≡ replies.old.items ++ cert_line (last_map port.now)) }
+    ensures err { OnErr result (replies.new.items ≡ replies.old.items) }
 {
     match port.last() {
-        None => refusal_text_line(alloc, LineFault::NoMap),
-        Some((made, na, be)) => cert_text_line(alloc, made, na, be),
+        None => append_refusal(replies, LineFault::NoMap),
+        Some((made, na, be)) => append_cert(replies, made, na, be),
     }
 }
 
-// The present state.
-fn show_state(alloc: Global, port: &Port) -> Result<String, AllocError>
-    ensures { IfOk result (λ text. string_bytes text ≡ state_line (present_state port.now)) }
+// Appends the present state.
+fn show_state(port: &Port, replies: &mut Vec<u8>) -> Result<(), AllocError>
+    ensures ok { OnOk result (replies.new.items
+        ≡ replies.old.items ++ state_line (present_state port.now)) }
+    ensures err { OnErr result (replies.new.items ≡ replies.old.items) }
 {
-    shown_line(alloc, &shown_of(port.state()))
+    append_shown(replies, &shown_of(port.state()))
 }
 
 // The number of the port at a place.
@@ -85,24 +91,27 @@ fn port_at(plant: &Plant, place: usize) -> &Port
     }
 }
 
-/// The text that a reading gives. After an `Err`, which comes only if memory is refused, nothing is known of the plant but
-/// that the history of each port is lawful.
+/// Appends the text that a reading gives; the room is for the bytes of a map. After an `Err`, which comes only if memory is
+/// refused, the replies are unchanged, and nothing is known of the plant but that the history of each port is lawful.
 pub(crate) fn answer(
-    alloc: Global,
     plant: &mut Plant,
     reading: Reading,
-) -> Result<String, AllocError>
+    room: &mut Vec<u8>,
+    replies: &mut Vec<u8>,
+) -> Result<(), AllocError>
     requires { AsksWithin (length plant.old) reading }
-    ensures { IfOk result (λ text. Answers plant.old reading (string_bytes text) plant.new) }
+    ensures ok { OnOk result (AddsAnswer plant.old reading plant.new
+        replies.old.items replies.new.items) }
+    ensures err { OnErr result (replies.new.items ≡ replies.old.items) }
 {
     match reading {
-        Reading::Nothing => Ok(String::new(alloc)),
-        Reading::Refused(fault) => refusal_text_line(alloc, fault),
+        Reading::Nothing => Ok(()),
+        Reading::Refused(fault) => append_refusal(replies, fault),
         Reading::Asks { port, event } => {
             let port = port_no(plant, port);
-            answer_event(alloc, plant, port, event)
+            answer_event(plant, port, event, room, replies)
         }
-        Reading::AsksCert { port } => show_cert(alloc, port_at(plant, port)),
-        Reading::AsksState { port } => show_state(alloc, port_at(plant, port)),
+        Reading::AsksCert { port } => show_cert(port_at(plant, port), replies),
+        Reading::AsksState { port } => show_state(port_at(plant, port), replies),
     }
 }

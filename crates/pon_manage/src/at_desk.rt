@@ -1,14 +1,14 @@
 //! The text that one line gives at a desk.
 
-ghost use Rattle.std.specs.Prelude.{◌≡◌, ◌<◌, ◌⊎◌, IfOk, string_bytes};
+ghost use Rattle.std.specs.Prelude.{◌≡◌, ◌<◌, ◌⊎◌, ◌++◌, IfOk, OnOk, OnErr};
 ghost use Rattle.pon_port.specs.Chapters.{Chapter, IsLawfulChapter};
 ghost use Rattle.pon_line.specs.Reading.{AsksWithin};
 ghost use Rattle.pon_desk.specs.Views.{view_of};
-ghost use Rattle.pon_manage.specs.Desks.{DeskAnswers, TellsPosted, TellsRefused, shown_in};
+ghost use Rattle.pon_manage.specs.Desks.{AddsText, DeskAnswers, TellsPosted, TellsRefused, shown_in};
 ghost use Rattle.pon_manage.specs.Text.{cert_line};
 
-use crate::show::{Shown, shown_line};
-use crate::texts::{cert_text_line, refusal_text_line, reply_text_line};
+use crate::show::{Shown, append_shown};
+use crate::texts::{append_cert, append_refusal, append_reply};
 use pon_descr::Refusal;
 use pon_desk::{Desk, PortView, Seat, StepFault};
 use pon_line::{LineFault, Reading};
@@ -18,24 +18,26 @@ use std::alloc::{AllocError, Global};
 use std::sync::Wait;
 use std::sync::ledger::Ledger;
 
-// The text of an event that is posted: its reply, or its refusal.
+// Posts an event, and appends its reply, or its refusal.
 fn answer_event<L: Ledger, M: Ledger, H: Wait>(
     rt: &H,
-    alloc: Global,
     desk: &Desk<L, M>,
     seat: &mut Seat<L, M>,
     port: PortNo,
     event: Event,
-) -> Result<String, AllocError>
+    room: &mut Vec<u8>,
+    replies: &mut Vec<u8>,
+) -> Result<(), AllocError>
     requires { port < desk.now.ports }
-    ensures { IfOk result (λ text. TellsPosted event (string_bytes text)
-        ⊎ TellsRefused event (string_bytes text)) }
+    ensures ok { OnOk result (AddsText (λ text. TellsPosted event text ⊎ TellsRefused event text)
+        replies.old.items replies.new.items) }
+    ensures err { OnErr result (replies.new.items ≡ replies.old.items) }
 {
     match desk.post(rt, seat, port, event) {
-        Ok(posted) => reply_text_line(alloc, posted.index, &posted.reply),
+        Ok(posted) => append_reply(replies, room, posted.index, &posted.reply),
         Err(StepFault::Refused(refusal)) => match refusal {
             Refusal::OutOfMemory => Err(AllocError),
-            told => refusal_text_line(alloc, LineFault::Port(told)),
+            told => append_refusal(replies, LineFault::Port(told)),
         },
         Err(StepFault::NoSuchPort) => unreachable!(),
     }
@@ -58,16 +60,14 @@ fn view_at<L: Ledger, M: Ledger, H: Wait>(
     }
 }
 
-// The certificate of the last map.
-fn cert_of(alloc: Global, view: &PortView) -> Result<String, AllocError>
-    ensures { IfOk result (λ text. string_bytes text ≡ cert_line view.now.last) }
+// Appends the certificate of the last map.
+fn show_cert(view: &PortView, replies: &mut Vec<u8>) -> Result<(), AllocError>
+    ensures ok { OnOk result (replies.new.items ≡ replies.old.items ++ cert_line view.now.last) }
+    ensures err { OnErr result (replies.new.items ≡ replies.old.items) }
 {
     match &view.last {
-        None => refusal_text_line(alloc, LineFault::NoMap),
-        Some(last) => {
-            let (na, be) = (last.non_assured(), last.best_effort());
-            cert_text_line(alloc, last.made(), na, be)
-        }
+        None => append_refusal(replies, LineFault::NoMap),
+        Some(last) => append_cert(replies, last.made(), last.non_assured(), last.best_effort()),
     }
 }
 
@@ -94,32 +94,35 @@ fn port_no<L: Ledger, M: Ledger>(desk: &Desk<L, M>, place: usize) -> PortNo
     PortNo::at(place)
 }
 
-/// The text that a reading gives: an event is posted, and what is shown is copied, each under the lock of its port alone.
-/// `Err` comes only if memory is refused.
+/// Appends the text that a reading gives: an event is posted, and what is shown is copied, each under the lock of its port
+/// alone. The room is for the bytes of a map. `Err` only if memory is refused, and then the replies are unchanged.
 pub(crate) fn answer_at_desk<L: Ledger, M: Ledger, H: Wait>(
     rt: &H,
-    alloc: Global,
     desk: &Desk<L, M>,
     seat: &mut Seat<L, M>,
     reading: Reading,
-) -> Result<String, AllocError>
+    room: &mut Vec<u8>,
+    replies: &mut Vec<u8>,
+) -> Result<(), AllocError>
     requires { AsksWithin desk.now.ports reading }
-    ensures { IfOk result (λ text. DeskAnswers reading (string_bytes text)) }
+    ensures ok { OnOk result (AddsText (DeskAnswers reading) replies.old.items replies.new.items) }
+    ensures err { OnErr result (replies.new.items ≡ replies.old.items) }
 {
+    let alloc = *replies.allocator();
     match reading {
-        Reading::Nothing => Ok(String::new(alloc)),
-        Reading::Refused(fault) => refusal_text_line(alloc, fault),
+        Reading::Nothing => Ok(()),
+        Reading::Refused(fault) => append_refusal(replies, fault),
         Reading::Asks { port, event } => {
             let port = port_no(desk, port);
-            answer_event(rt, alloc, desk, seat, port, event)
+            answer_event(rt, desk, seat, port, event, room, replies)
         }
         Reading::AsksCert { port } => {
             let view = view_at(rt, alloc, desk, port_no(desk, port))?;
-            cert_of(alloc, &view)
+            show_cert(&view, replies)
         }
         Reading::AsksState { port } => {
             let view = view_at(rt, alloc, desk, port_no(desk, port))?;
-            shown_line(alloc, &shown_in(&view))
+            append_shown(replies, &shown_in(&view))
         }
     }
 }

@@ -18,12 +18,14 @@ use std::marker::Model;
 use std::sync::Wait;
 use std::sync::ledger::Ledger;
 
-// A desk that answers lines, with the seat that posts for them. Contracts see the number of its ports.
+// A desk that answers lines, with the seat that posts for them and room for the bytes of a map. Contracts see the number of
+// its ports.
 #[derive(Drop)]
 struct AtDesk<'a, L: Ledger, M: Ledger, H: Wait> {
     rt: &'a H,
     desk: &'a Desk<L, M>,
     seat: &'a mut Seat<L, M>,
+    room: Vec<u8>,
 }
 
 impl<'a, L: Ledger, M: Ledger, H: Wait> Model for AtDesk<'a, L, M, H> {
@@ -37,9 +39,16 @@ impl<'a, L: Ledger, M: Ledger, H: Wait> Model for AtDesk<'a, L, M, H> {
 impl<'a, L: Ledger, M: Ledger, H: Wait> Answers for AtDesk<'a, L, M, H> {
     ghost gives = { DeskGives };
 
-    fn answer_line(&mut self, alloc: Global, line: &[u8]) -> Result<String, AllocError> {
+    fn answer_line(&mut self, line: &[u8], replies: &mut Vec<u8>) -> Result<(), AllocError> {
         let reading = read_line(self.desk.ports(), line);
-        answer_at_desk(self.rt, alloc, self.desk, self.seat, reading)
+        answer_at_desk(
+            self.rt,
+            self.desk,
+            self.seat,
+            reading,
+            &mut self.room,
+            replies,
+        )
     }
 
     ghost reads_first = { desk_gives_first };
@@ -71,6 +80,12 @@ pub fn operate<L: Ledger, M: Ledger, H: Wait, R: DevRead, W: DevWrite>(
         (R.failures reader.new) result }
     ensures write { TellsWrite (W.failures writer.old) (W.failures writer.new) result }
 {
-    let mut at = AtDesk { rt, desk, seat };
+    let room = Vec::new(alloc);
+    let mut at = AtDesk {
+        rt,
+        desk,
+        seat,
+        room,
+    };
     answer_input(alloc, &mut at, reader, writer)
 }

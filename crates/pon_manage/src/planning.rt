@@ -20,10 +20,11 @@ use pon_units::FrameNo;
 use std::alloc::{AllocError, Global};
 use std::marker::Model;
 
-// A plant that answers lines. Contracts see the list of its ports' chapters.
+// A plant that answers lines, with room for the bytes of a map. Contracts see the list of its ports' chapters.
 #[derive(Drop)]
 struct AtPlant {
     plant: Plant,
+    room: Vec<u8>,
 }
 
 impl Model for AtPlant {
@@ -38,9 +39,9 @@ impl Model for AtPlant {
 impl Answers for AtPlant {
     ghost gives = { Gives };
 
-    fn answer_line(&mut self, alloc: Global, line: &[u8]) -> Result<String, AllocError> {
+    fn answer_line(&mut self, line: &[u8], replies: &mut Vec<u8>) -> Result<(), AllocError> {
         let reading = read_line(self.plant.count(), line);
-        answer(alloc, &mut self.plant, reading)
+        answer(&mut self.plant, reading, &mut self.room, replies)
     }
 
     ghost reads_first = { gives_first };
@@ -75,7 +76,8 @@ pub fn plan<H, R: DevRead, W: DevWrite>(
 {
     match start(alloc, ports, steps.as_slice()) {
         Ok(plant) => {
-            let mut plant = AtPlant { plant };
+            let room = Vec::new(alloc);
+            let mut plant = AtPlant { plant, room };
             answer_input(alloc, &mut plant, reader, writer)
         }
         Err(_) => Err(PlanFault::Memory),

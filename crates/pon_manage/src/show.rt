@@ -1,6 +1,6 @@
 //! The text that shows the state of a port.
 
-ghost use Rattle.std.specs.Prelude.{◌≡◌, IfOk, string_bytes};
+ghost use Rattle.std.specs.Prelude.{◌≡◌, ◌++◌, IfOk, OnOk, OnErr, string_bytes};
 ghost use Rattle.pon_manage.specs.Text.{shown_line, shown_numbers, shown_of};
 
 use pon_descr::Cause;
@@ -54,9 +54,8 @@ fn numbers_text(alloc: Global, shown: &Shown) -> Result<String, AllocError>
     )
 }
 
-/// The line that shows a port: whether its line is up, its next frame, how many Alloc-IDs and ONUs its roster has, and in
-/// kbit/s the sum of their guaranteed rates and the capacity. `Err` only if memory is refused.
-pub(crate) fn shown_line(alloc: Global, shown: &Shown) -> Result<String, AllocError>
+// The line that shows a port.
+fn shown_line(alloc: Global, shown: &Shown) -> Result<String, AllocError>
     ensures { IfOk result (λ text. string_bytes text ≡ shown_line shown.now) }
 {
     let numbers = numbers_text(alloc, shown)?;
@@ -67,4 +66,15 @@ pub(crate) fn shown_line(alloc: Global, shown: &Shown) -> Result<String, AllocEr
             format!(in alloc; "show down {number}{numbers}")
         }
     }
+}
+
+/// Appends the line that shows a port: whether its line is up, its next frame, how many Alloc-IDs and ONUs its roster has,
+/// and in kbit/s the sum of their guaranteed rates and the capacity. `Err` only if memory is refused, and then the replies
+/// are unchanged.
+pub(crate) fn append_shown(replies: &mut Vec<u8>, shown: &Shown) -> Result<(), AllocError>
+    ensures ok { OnOk result (replies.new.items ≡ replies.old.items ++ shown_line shown.now) }
+    ensures err { OnErr result (replies.new.items ≡ replies.old.items) }
+{
+    let text = shown_line(*replies.allocator(), shown)?;
+    replies.extend_from_slice(text.as_bytes())
 }

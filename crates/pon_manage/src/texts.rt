@@ -1,85 +1,123 @@
-//! The texts of replies and refusals, each spelled once.
+//! The texts of replies and refusals, each spelled once. Each is appended to the replies before it.
 
-ghost use Rattle.std.specs.Prelude.{◌≡◌, ◌∷◌, ◌++◌, [], IfOk, Some, codes, decimal, string_bytes};
+ghost use Rattle.std.specs.Prelude.{◌≡◌, ◌+◌, ◌*◌, ◌≤◌, ◌++◌, ◌∷◌, [], OnOk, OnErr, Some, codes, decimal, length, vec_len, vec_capacity};
 ghost use Rattle.hex.specs.Hex.{encode_lower};
 ghost use Rattle.pon_bwmap.specs.MapBytes.{map_bytes};
 ghost use Rattle.pon_port.specs.Last.{MatchesMembers};
 ghost use Rattle.pon_manage.specs.Text.{cert_line, refusal_line, reply_line};
 
-use pon_bwmap::{Map, encode_map};
+use itoa::Buffer;
+use pon_bwmap::{Map, write_map};
 use pon_line::LineFault;
 use pon_port::{MadeMap, Reply};
-use pon_units::AllocId;
-use std::alloc::{AllocError, Global};
+use pon_units::{AllocId, FrameNo, MOST_STRUCTURES};
+use std::alloc::AllocError;
 
-// The refusal of a line.
-pub(crate) fn refusal_text_line(alloc: Global, fault: LineFault) -> Result<String, AllocError>
-    ensures { IfOk result (λ text. string_bytes text ≡ refusal_line fault) }
+/// Appends the refusal of a line. `Err` only if memory is refused, and then the replies are unchanged.
+pub(crate) fn append_refusal(replies: &mut Vec<u8>, fault: LineFault) -> Result<(), AllocError>
+    ensures ok { OnOk result (replies.new.items ≡ replies.old.items ++ refusal_line fault) }
+    ensures err { OnErr result (replies.new.items ≡ replies.old.items) }
 {
-    format!(in alloc; "err {fault}\n")
+    let text = format!(in *replies.allocator(); "err {fault}\n")?;
+    replies.extend_from_slice(text.as_bytes())
 }
 
-// The bytes of a map in lower-case hexadecimal.
-fn hex_of_map(alloc: Global, map: &Map) -> Result<String, AllocError>
-    ensures { IfOk result (λ text. string_bytes text ≡ encode_lower (map_bytes map.now)) }
+// Writes the bytes of a map, and nothing else, into the room.
+fn write_bytes(room: &mut Vec<u8>, map: &Map) -> Result<(), AllocError>
+    ensures bytes { OnOk result (room.new.items ≡ map_bytes map.now) }
+    ensures count { OnOk result (vec_len room.new ≤ 4 + 8 * MOST_STRUCTURES) }
 {
-    let bytes = encode_map(alloc, map)?;
-    hex::encode(alloc, bytes.as_slice())
+    room.resize(4 + 8 * map.rows().len(), 0)?;
+    write_map(map, room.as_mut_slice());
+    Ok(())
 }
 
-// The room for the words of a map's line: its name, its frame and three separators.
-const ROOM_FOR_FRAME: usize = 26;
-
-fn map_text(alloc: Global, frame: u64, hex: &String) -> Result<String, AllocError>
-    ensures { IfOk result (λ text. string_bytes text
-        ≡ codes "map " ++ (decimal frame ++ (32 ∷ string_bytes hex.now ++ 10 ∷ []))) }
+// Appends bytes in lower-case hexadecimal. There must be room for them.
+fn append_hex(replies: &mut Vec<u8>, bytes: &[u8])
+    requires { vec_len replies.old + 2 * length bytes.now ≤ vec_capacity replies.old }
+    ensures text { replies.new.items ≡ replies.old.items ++ encode_lower bytes.now }
+    ensures count { vec_len replies.new ≡ vec_len replies.old + 2 * length bytes.now }
+    ensures capacity { vec_capacity replies.old ≤ vec_capacity replies.new }
 {
-    let mut text = String::with_capacity(alloc, hex.len().saturating_add(ROOM_FOR_FRAME))?;
-    write!(text, "map {frame} {hex}\n")?;
-    Ok(text)
+    let from = replies.len();
+    replies.resize(from + 2 * bytes.len(), 0).unwrap();
+    hex::encode_to_slice(bytes, &mut replies.as_mut_slice()[from..]).unwrap();
 }
 
-fn map_line(alloc: Global, made: &MadeMap) -> Result<String, AllocError>
-    ensures { IfOk result (λ text. string_bytes text ≡ reply_line 0 (Reply.Map made.now)) }
+// Appends the line of a map of a frame that has these bytes.
+fn append_bytes(replies: &mut Vec<u8>, frame: FrameNo, bytes: &[u8]) -> Result<(), AllocError>
+    requires { length bytes.now ≤ 4 + 8 * MOST_STRUCTURES }
+    ensures ok { OnOk result (replies.new.items ≡ replies.old.items
+        ++ (codes "map " ++ (decimal frame ++ (32 ∷ encode_lower bytes.now ++ 10 ∷ [])))) }
+    ensures err { OnErr result (replies.new.items ≡ replies.old.items) }
 {
-    let hex = hex_of_map(alloc, &made.map)?;
-    map_text(alloc, made.frame.get(), &hex)
+    let mut digits = Buffer::new();
+    let frame = digits.format(frame.get()).as_bytes();
+    replies.reserve(b"map  \n".len() + frame.len() + 2 * bytes.len())?;
+    replies.extend_from_slice(b"map ")?;
+    replies.extend_from_slice(frame)?;
+    replies.extend_from_slice(b" ")?;
+    append_hex(replies, bytes);
+    replies.extend_from_slice(b"\n")
 }
 
-fn taken_line(alloc: Global, index: usize) -> Result<String, AllocError>
-    ensures { IfOk result (λ text. string_bytes text ≡ reply_line index Reply.Taken) }
+// Appends the line of a map. The room is for the bytes of the map.
+fn append_map(replies: &mut Vec<u8>, room: &mut Vec<u8>, made: &MadeMap) -> Result<(), AllocError>
+    ensures ok { OnOk result (replies.new.items
+        ≡ replies.old.items ++ reply_line 0 (Reply.Map made.now)) }
+    ensures err { OnErr result (replies.new.items ≡ replies.old.items) }
 {
-    let mut text = String::with_capacity(alloc, ROOM_FOR_FRAME)?;
-    write!(text, "ok {index}\n")?;
-    Ok(text)
+    write_bytes(room, &made.map)?;
+    append_bytes(replies, made.frame, room.as_slice())
 }
 
-// The reply to an event, whose entry has this index.
-pub(crate) fn reply_text_line(
-    alloc: Global,
+// Appends the reply to an event that makes no map, whose entry has this index.
+fn append_taken(replies: &mut Vec<u8>, index: usize) -> Result<(), AllocError>
+    ensures ok { OnOk result (replies.new.items
+        ≡ replies.old.items ++ reply_line index Reply.Taken) }
+    ensures err { OnErr result (replies.new.items ≡ replies.old.items) }
+{
+    let mut digits = Buffer::new();
+    let index = digits.format(index).as_bytes();
+    replies.reserve(b"ok \n".len() + index.len())?;
+    replies.extend_from_slice(b"ok ")?;
+    replies.extend_from_slice(index)?;
+    replies.extend_from_slice(b"\n")
+}
+
+/// Appends the reply to an event, whose entry has this index. The room is for the bytes of a map, and need not hold any.
+/// `Err` only if memory is refused, and then the replies are unchanged.
+pub(crate) fn append_reply(
+    replies: &mut Vec<u8>,
+    room: &mut Vec<u8>,
     index: usize,
     reply: &Reply,
-) -> Result<String, AllocError>
-    ensures { IfOk result (λ text. string_bytes text ≡ reply_line index reply.now) }
+) -> Result<(), AllocError>
+    ensures ok { OnOk result (replies.new.items ≡ replies.old.items ++ reply_line index reply.now) }
+    ensures err { OnErr result (replies.new.items ≡ replies.old.items) }
 {
     match reply {
-        Reply::Taken => taken_line(alloc, index),
-        Reply::Map(made) => map_line(alloc, made),
+        Reply::Taken => append_taken(replies, index),
+        Reply::Map(made) => append_map(replies, room, made),
     }
 }
 
-// The certificate of a map, by the Alloc-IDs of the two classes at it.
-pub(crate) fn cert_text_line(
-    alloc: Global,
+/// Appends the certificate of a map, by the Alloc-IDs of the two classes at it. `Err` only if memory is refused, and then
+/// the replies are unchanged.
+pub(crate) fn append_cert(
+    replies: &mut Vec<u8>,
     made: &MadeMap,
     na: &[AllocId],
     be: &[AllocId],
-) -> Result<String, AllocError>
+) -> Result<(), AllocError>
     requires { MatchesMembers made.now.cert na.now be.now }
-    ensures { IfOk result (λ line. string_bytes line
-        ≡ cert_line (Some (record { made = made.now; na = na.now; be = be.now }))) }
+    ensures ok { OnOk result (replies.new.items ≡ replies.old.items
+        ++ cert_line (Some (record { made = made.now; na = na.now; be = be.now }))) }
+    ensures err { OnErr result (replies.new.items ≡ replies.old.items) }
 {
+    let alloc = *replies.allocator();
     let text = made.cert.to_text(alloc, na, be)?;
     let frame = made.frame.get();
-    format!(in alloc; "cert {frame} {text}\n")
+    let line = format!(in alloc; "cert {frame} {text}\n")?;
+    replies.extend_from_slice(line.as_bytes())
 }

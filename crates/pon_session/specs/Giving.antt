@@ -11,6 +11,10 @@ abbrev pub ReadsFirst : {S : Type 0} → Giving S → Type 0
 ReadsFirst {S} gives =
     (old : S) (line text : List ℕ) (new : S) → (gives old (take 4097 line) text new → gives old line text new) × (gives old line text new → gives old (take 4097 line) text new)
 
+-- the reply of a line follows the others
+abbrev pub AddsReply : {S : Type 0} → Giving S → S → S → List ℕ → List ℕ → List ℕ → Type 0
+AddsReply gives old new line replies_old replies_new = (text : List ℕ) × gives old line text new × (replies_new ≡ replies_old ++ text)
+
 -- lines one after the other give a text
 abbrev pub GivesLines : {S : Type 0} → Giving S → S → List (List ℕ) → List ℕ → S → Type 0
 GivesLines {S} gives old [] text new = (text ≡ []) × (new ≡ old)

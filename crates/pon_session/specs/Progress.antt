@@ -31,10 +31,6 @@ abbrev pub MayBegin : {S : Type 0} → Giving S → S → List ℕ → List ℕ 
 MayBegin {S} gives old kept bytes text =
     (first : S) (input written part : List ℕ) → Answered gives first old input written kept → IsBeginning part text → BeginsText gives first (input ++ bytes) (written ++ part)
 
--- the reply of a line follows the others
-abbrev pub AddsReply : {S : Type 0} → Giving S → S → S → List ℕ → List ℕ → List ℕ → Type 0
-AddsReply gives old new line replies_old replies_new = (text : List ℕ) × gives old line text new × (replies_new ≡ replies_old ++ text)
-
 -- the bytes are answered: part of the text is written, and the rest is gathered
 pub record Gathers {S : Type 0} (gives : Giving S) (old : S) (kept : List ℕ) (new : S) (line bytes gathered : List ℕ) (held_old held_new : Option (List ℕ)) : Type 0 where
   pub text : List ℕ

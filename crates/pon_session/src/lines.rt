@@ -5,7 +5,7 @@ ghost use Rattle.std.specs.List.{list_any};
 ghost use Rattle.pon_device.specs.Device.{IsAtEnd};
 ghost use Rattle.pon_stream.specs.Streams.{TellsLine, TellsRead, TellsWrite};
 ghost use Rattle.pon_session.specs.Planning.{Planned, PrintsLine};
-ghost use Rattle.pon_session.specs.Progress.{AddsReply, AnswersPiece, Continues, PrintsPiece};
+ghost use Rattle.pon_session.specs.Progress.{AnswersPiece, Continues, PrintsPiece};
 
 use crate::answers::Answers;
 use pon_device::{DevRead, DevWrite, write_all};
@@ -35,26 +35,8 @@ fn keep_part(line: &mut Vec<u8>, part: &[u8]) -> Result<(), AllocError>
     line.extend_from_slice(&part[..room.min(part.len())])
 }
 
-// Answers a line, and puts its reply behind the others.
-fn answer_line<A: Answers>(
-    alloc: Global,
-    answers: &mut A,
-    line: &[u8],
-    replies: &mut Vec<u8>,
-) -> Result<(), AllocError>
-    ensures ok { OnOk result (AddsReply A.gives answers.old answers.new line.now
-        replies.old.items replies.new.items) }
-    ensures err { OnErr result (replies.new.items ≡ replies.old.items) }
-{
-    match answers.answer_line(alloc, line) {
-        Ok(text) => replies.extend_from_slice(text.as_bytes()),
-        Err(refused) => Err(refused),
-    }
-}
-
 // Ends the open line by this part, and answers it.
 fn end_line<A: Answers>(
-    alloc: Global,
     answers: &mut A,
     line: &mut Vec<u8>,
     part: &[u8],
@@ -68,12 +50,12 @@ fn end_line<A: Answers>(
     ensures err { OnErr result (replies.new.items ≡ replies.old.items) }
 {
     if line.is_empty() {
-        return answer_line(alloc, answers, part, replies);
+        return answers.answer_line(part, replies);
     }
     if keep_part(line, part).is_err() {
         return Err(AllocError);
     }
-    let answered = answer_line(alloc, answers, line.as_slice(), replies);
+    let answered = answers.answer_line(line.as_slice(), replies);
     line.clear();
     answered
 }
@@ -95,7 +77,6 @@ fn send<W: DevWrite>(replies: &mut Vec<u8>, writer: &mut W) -> Result<(), PlanFa
 
 // Answers the lines that end in a piece, keeps what follows, and gathers the replies.
 fn answer_piece<A: Answers, W: DevWrite>(
-    alloc: Global,
     answers: &mut A,
     line: &mut Vec<u8>,
     piece: &[u8],
@@ -110,7 +91,7 @@ fn answer_piece<A: Answers, W: DevWrite>(
 {
     let mut rest = piece;
     'lines: while let Some((part, after)) = cut(rest, b'\n') {
-        if end_line(alloc, answers, line, part, replies).is_err() {
+        if end_line(answers, line, part, replies).is_err() {
             return Err(PlanFault::Memory);
         }
         if replies.len() >= FULL {
@@ -129,7 +110,6 @@ fn answer_piece<A: Answers, W: DevWrite>(
 
 // Answers the lines that end in a piece, and writes their replies; those before a refusal of memory are written too.
 fn print_piece<A: Answers, W: DevWrite>(
-    alloc: Global,
     answers: &mut A,
     line: &mut Vec<u8>,
     piece: &[u8],
@@ -143,7 +123,7 @@ fn print_piece<A: Answers, W: DevWrite>(
     ensures failures { TellsWrite (W.failures writer.old) (W.failures writer.new) result }
     ensures empty { OnOk result (replies.new.items ≡ []) }
 {
-    match answer_piece(alloc, answers, line, piece, replies, writer) {
+    match answer_piece(answers, line, piece, replies, writer) {
         Ok(()) => send(replies, writer),
         Err(PlanFault::Memory) => match send(replies, writer) {
             Ok(()) => Err(PlanFault::Memory),
@@ -155,7 +135,6 @@ fn print_piece<A: Answers, W: DevWrite>(
 
 // Answers the last line, which has no line feed, and writes its text or a beginning of it.
 fn print_line<A: Answers, W: DevWrite>(
-    alloc: Global,
     answers: &mut A,
     line: &[u8],
     replies: &mut Vec<u8>,
@@ -166,7 +145,7 @@ fn print_line<A: Answers, W: DevWrite>(
         (W.contents writer.new) result }
     ensures failures { TellsWrite (W.failures writer.old) (W.failures writer.new) result }
 {
-    match answer_line(alloc, answers, line, replies) {
+    match answers.answer_line(line, replies) {
         Ok(()) => send(replies, writer),
         Err(_) => Err(PlanFault::Memory),
     }
@@ -197,16 +176,9 @@ fn answer_lines<A: Answers, R: DevRead, W: DevWrite>(
             if line.is_empty() {
                 return Ok(());
             }
-            return print_line(alloc, answers, line.as_slice(), &mut replies, writer);
+            return print_line(answers, line.as_slice(), &mut replies, writer);
         }
-        match print_piece(
-            alloc,
-            answers,
-            &mut line,
-            &piece[..len],
-            &mut replies,
-            writer,
-        ) {
+        match print_piece(answers, &mut line, &piece[..len], &mut replies, writer) {
             Ok(()) => {}
             Err(fault) => return Err(fault),
         }

@@ -1,9 +1,7 @@
-use Rattle.std.proofs.Common.{String, Global}
-use Rattle.std.specs.Prelude.{string_bytes}
 use Rattle.pon_manage.proofs.ShownViews.{shown_text}
 use Rattle.pon_manage.proofs.at_desk.answer_at_desk.Goals as goal
 
-pub returns-in_ok-view-in-AsksState : goal.returns-in_ok-view-in-AsksState
-returns-in_ok-view-in-AsksState g c =
+pub returns-in_ok-view-in-AsksState-clause-ok : goal.returns-in_ok-view-in-AsksState-clause-ok
+returns-in_ok-view-in-AsksState-clause-ok g c =
     rw c.in-AsksState.is
-    (shown_text (λ (text : String Global). string_bytes text) c.shown_line.result c.in_ok-view-in-AsksState.view c.shown_in.result c.in_ok-view-in-AsksState.ensures c.shown_in.ensures c.shown_line.ensures)
+    (shown_text c.args.replies.now.items c.append_shown.new.replies.items c.append_shown.result c.in_ok-view-in-AsksState.view c.shown_in.result c.in_ok-view-in-AsksState.ensures c.shown_in.ensures c.append_shown.ensures.ok)
