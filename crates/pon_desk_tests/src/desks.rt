@@ -63,7 +63,7 @@ fn fail(rt: &impl Abort) -> Event {
     Event::Fail { cause }
 }
 
-// Number of events of a port: all seven kinds, each accepted after those before it by a port that starts at this frame.
+// Number of events: all seven kinds, each accepted after those before it, if the report is for the port's first frame.
 const EVENTS: u8 = 8;
 
 fn event(rt: &impl Abort, first: u64, k: u8) -> Event {
