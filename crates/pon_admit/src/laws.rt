@@ -16,7 +16,8 @@ pub fn checks_keep_admitted_sets()
         IsAdmitted rule gap rows → IsAdmitted rule gap (without i rows) }
 {}
 
-/// The set after a refused step would not be admitted. So a step is accepted exactly when the set after it is admitted.
+/// The set after a refused admission, or after a refused change of an admitted Alloc-ID, would not be admitted. So such
+/// a step is accepted exactly when the set after it is admitted.
 pub fn refused_sets_are_not_admitted()
     ensures admit { (rule : Rule) (gap : ℕ) (rows : List Row) (r : Row) (why : Refusal) →
         IsAdmitted rule gap rows → refuses_admit rule gap rows r ≡ Some why → IsAdmitted rule gap (with_row r rows) → ⊥ }

@@ -8,8 +8,8 @@ use pon_units::{AllocId, FrameNo, Kbps, Words};
 use std::alloc::{AllocError, Global};
 use std::marker::Model;
 
-/// A copy of the last map of a port, with the Alloc-IDs of the non-assured and of the best-effort class as they were at that
-/// map, in map order.
+/// A copy of the last map of a port, with the Alloc-IDs of the non-assured and of the best-effort class at that map, in
+/// map order.
 #[derive(Debug, Drop)]
 pub struct LastView {
     made: MadeMap,

@@ -1,4 +1,4 @@
-//! Each problem has a certificate.
+//! The law that each problem has a certificate.
 
 ghost use Rattle.std.specs.Prelude.{ℕ, List};
 ghost use Rattle.pon_cert.specs.declared.problem.Item.{Item};

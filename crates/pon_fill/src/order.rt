@@ -6,8 +6,8 @@ ghost use Rattle.pon_fill.specs.Order.{IsOrder};
 use pon_cert::{Item, MOST_ITEMS};
 use pon_units::LINE_RATE;
 
-// The square of the maximum weight. Two different fractions with denominators up to that weight differ by at least 1 /
-// PARTS.
+// The square of the maximum weight. Fractions with denominators up to that weight are equal or differ by 1 / PARTS or
+// more.
 const PARTS: u64 = LINE_RATE * LINE_RATE;
 
 // Writes the indexes of the items, sorted by cap over weight.
