@@ -24,7 +24,7 @@ pub record FitsCert (cert : MapCert) : Type 0 where
   pub non_assured : FitsClass cert.na
   pub best_effort : FitsClass cert.be
 
--- the names of the items of a class, all different
+-- the names of the items of a class, at most MOST_ITEMS and all different
 pub record AreNames (names : List ℕ) : Type 0 where
   pub count : length names ≤ MOST_ITEMS
   pub different : AllPairs (λ m n. m ≡ n → ⊥) names

@@ -64,7 +64,7 @@ fn cut(text: &str, at: char) -> Option<(&str, &str)>
     text.split_once(at)
 }
 
-// Returns whether a word may be a number: it begins with a digit, which is 0 only if it is the whole word.
+// Returns whether a word is not empty and begins neither with a plus sign nor with a 0 before other characters.
 fn is_plain(word: &str) -> bool
     ensures { IsTrue result ↔ ((0 < length word.now) × (slice_index word.now 0 ≢ 43)
         × (slice_index word.now 0 ≡ 48 → length word.now ≡ 1)) }
