@@ -1,4 +1,4 @@
--- Admitted sets stay admitted where no check refuses a change, and where one is removed.
+-- Admitted sets stay admitted after an admission or change that no check refuses, and after a removal.
 use Rattle.std.proofs.Common.{◌≡◌, ℕ, suc, ◌+◌, ◌*◌, ◌<◌, ◌≤◌, Bool, true, false, cond, not, ◌||◌, ◌&&◌, List, [], ◌∷◌, ◌++◌, map, length, refl, ap, sym, ◌∙◌, subst, arith, inl, inr}
 use Rattle.std.specs.Prelude.{◌==◌, ◌⊎◌, nat_lt, nat_le, if◌then◌else◌, filter, sum_by, All, None}
 use Rattle.std.proofs.Math.Nat.{mul-le-mul_left}
@@ -20,7 +20,7 @@ use Rattle.pon_lists.proofs.Distinct.{bit, count_once, count_once-append, count_
 
 -- Map order.
 
--- of lesser ONU, or of the same ONU and lesser Alloc-ID
+-- a lesser ONU, or the same ONU and a lesser Alloc-ID
 abbrev pub Precedes : Row → Row → Type 0
 Precedes r s = (r.onu < s.onu) ⊎ ((r.onu ≡ s.onu) × (r.alloc_id < s.alloc_id))
 
@@ -36,14 +36,14 @@ before_from r s h = elim h [
   | inr a ↦ or_right (nat_lt r.onu s.onu) (r.onu == s.onu && nat_lt r.alloc_id s.alloc_id) (and_from (r.onu == s.onu) (nat_lt r.alloc_id s.alloc_id) (eq-eqb r.onu s.onu a.0) (lt-ltb r.alloc_id s.alloc_id a.1))
 ]
 
--- it is transitive
+-- map order is transitive
 before_before : (r s t : Row) → comes_before r s ≡ true → comes_before s t ≡ true → comes_before r t ≡ true
 before_before r s t h k = before_from r t (elim (precedes r s h) [
   | inl a ↦ elim (precedes s t k) [ inl b ↦ inl (omega (arith, a, b)) | inr b ↦ inl (omega (arith, a, b.0)) ]
   | inr a ↦ elim (precedes s t k) [ inl b ↦ inl (omega (arith, a.0, b)) | inr b ↦ inr (omega (arith, a.0, b.0), omega (arith, a.1, b.1)) ]
 ])
 
--- and total on different Alloc-IDs
+-- map order is total on different Alloc-IDs
 not_before : (r s : Row) → comes_before s r ≡ false → (s.alloc_id == r.alloc_id) ≡ false → comes_before r s ≡ true
 not_before r s h d = elim (cases_order r.onu s.onu) [
   | inl e ↦ elim (cases_order r.alloc_id s.alloc_id) [
@@ -59,13 +59,13 @@ not_before r s h d = elim (cases_order r.onu s.onu) [
   ]
 ]
 
--- A list in map order, cut where a row belongs.
+-- A list in map order, split where a row belongs.
 
 pub split_in_order : (r : Row) (rows : List Row) → IsInMapOrder rows → filter (λ s. comes_before s r) rows ++ filter (λ s. not (comes_before s r)) rows ≡ rows
 split_in_order r rows h = rejoined (λ s. comes_before s r) (λ x y. comes_before x y ≡ true)
     (λ x y b e. false_from_ne_true (comes_before y r) (λ t. let u : true ≡ false = sym (before_before x y r b t) ∙ e in absurd cc)) rows h
 
--- One row more, between the rows that come before it and those that come after.
+-- One more row, between the rows that come before it and those that come after it.
 
 no_alloc_between : (j : ℕ) (r : Row) (xs ys : List Row) → has_alloc j (xs ++ ys) ≡ false → (r.alloc_id == j) ≡ false → has_alloc j (xs ++ r ∷ ys) ≡ false
 no_alloc_between j r [] ys h d = or_from (r.alloc_id == j) (has_alloc j ys) d h
@@ -81,7 +81,7 @@ apart_between r (x ∷ xs) ys h d =
       apart_between r xs ys h.1 two.1,
     )
 
--- the rows that don't come before one of another Alloc-ID come after it
+-- rows with other Alloc-IDs that do not come before r come after it
 after_row : (r : Row) (ys : List Row) → All (λ s. not (comes_before s r) ≡ true) ys → has_alloc r.alloc_id ys ≡ false → All (λ s. comes_before r s ≡ true) ys
 after_row r [] h d = All-nil (λ s. comes_before r s ≡ true)
 after_row r (y ∷ ys) h d =
@@ -90,12 +90,12 @@ after_row r (y ∷ ys) h d =
     (not_before r y (not-true (comes_before y r) (All-head (λ s. not (comes_before s r) ≡ true) y ys h)) two.0)
     (after_row r ys (All-tail (λ s. not (comes_before s r) ≡ true) y ys h) two.1)
 
--- The ONUs, counted.
+-- The number of ONUs.
 
 abbrev pub onus : List Row → List ℕ
 onus rows = map (λ r. r.onu) rows
 
--- how many ONUs own an Alloc-ID
+-- the number of ONUs that own an Alloc-ID
 pub length-onus_of : (rows : List Row) → length (onus_of rows) ≡ count_once (onus rows) (λ _. true)
 length-onus_of rows = length-distinct (onus rows)
 
@@ -109,7 +109,7 @@ absent u (x ∷ xs) p h =
     let two : ((x == u) ≡ false) × (occurs u xs ≡ false) = or_parts (x == u) (occurs u xs) h in
     All-cons (λ y. p y ≡ (not (y == u) && p y)) x xs (ap (λ b. not b && p x) (sym two.0)) (absent u xs p two.1)
 
--- a number counts one where it passes and stands in the list
+-- u adds one to the count exactly when it passes p and occurs in the list
 count_once_taken : (xs : List ℕ) (p : ℕ → Bool) (u : ℕ) → count_once xs p ≡ bit (p u && occurs u xs) + count_once xs (λ y. not (y == u) && p y)
 count_once_taken xs p u = elim (cases_Bool (occurs u xs)) [
   | inl e ↦
@@ -128,7 +128,7 @@ count_once_taken xs p u = elim (cases_Bool (occurs u xs)) [
     and_false true = refl
     and_false false = refl
 
--- an ONU is new where it owns no other row
+-- an ONU is new exactly when it owns no other row
 pub onus-between : (xs ys : List Row) (r : Row) → length (onus_of (xs ++ r ∷ ys)) ≡ bit (not (has_onu r.onu (xs ++ ys))) + length (onus_of (xs ++ ys))
 onus-between xs ys r =
     let q : ℕ → Bool = λ y. not (occurs y (onus xs)) && true in
@@ -146,7 +146,7 @@ onus-between xs ys r =
     bits false true = omega arith
     bits false false = omega arith
 
--- fewer rows are no more ONUs
+-- a filtered list has at most as many ONUs
 onus_filter : (t : Row → Bool) (rows : List Row) (p : ℕ → Bool) → count_once (onus (filter t rows)) p ≤ count_once (onus rows) p
 onus_filter t [] p = omega arith
 onus_filter t (r ∷ rows) p = elim (t r) as (λ b. count_once (onus (cond b (r ∷ filter t rows) (filter t rows))) p ≤ count_once (onus (r ∷ rows)) p) [
@@ -154,14 +154,14 @@ onus_filter t (r ∷ rows) p = elim (t r) as (λ b. count_once (onus (cond b (r 
   | false ↦ omega (arith, onus_filter t rows p, count_once_split (onus rows) p r.onu)
 ]
 
--- What fits.
+-- Sets that fit a frame.
 
 pub fits_parts : (rule : Rule) (gap : ℕ) (rows : List Row) → fits rule gap rows ≡ true → (overhead rule gap rows ≤ 9720) × (promised_sum rows ≤ 256 * capacity rule gap rows)
 fits_parts rule gap rows h =
     let two : (nat_le (overhead rule gap rows) 9720 ≡ true) × (nat_le (promised_sum rows) (256 * capacity rule gap rows) ≡ true) = and_parts _ _ h in
     (leb-true _ _ two.0, leb-true _ _ two.1)
 
--- fewer ONUs, rows and promises fit too
+-- a set with no more ONUs, rows and promised rates fits too
 fewer_fit : (rule : Rule) (gap : ℕ) (rows less : List Row) → length (onus_of less) ≤ length (onus_of rows) → length less ≤ length rows → promised_sum less ≤ promised_sum rows →
     fits rule gap rows ≡ true → fits rule gap less ≡ true
 fewer_fit rule gap rows less few_onus few_rows few_promised h =
@@ -195,7 +195,7 @@ module _ (t : Row → Bool) where
   sum_filter : (f : Row → ℕ) (rows : List Row) → sum_by f (filter t rows) ≤ sum_by f rows
   sum_filter f rows = omega (arith, sum_by-filter_both t (λ r. not (t r)) (λ r. refl) f rows)
 
-  -- fewer rows of an admitted set are one
+  -- a filtered admitted set is admitted
   pub filter_admitted : (rule : Rule) (gap : ℕ) (rows : List Row) → IsAdmitted rule gap rows → IsAdmitted rule gap (filter t rows)
   filter_admitted rule gap rows k =
       let shorter : length (filter t rows) ≤ length rows = omega (arith, length-filter_both t (λ r. not (t r)) (λ r. refl) rows) in
@@ -216,7 +216,7 @@ remove_keeps rule gap rows i k = filter_admitted (λ r. not (r.alloc_id == i)) r
 
 -- A row is admitted.
 
--- what the checks of an admission say
+-- the checks of an admission
 pub record Passes (rule : Rule) (gap : ℕ) (rows : List Row) (r : Row) : Type 0 where
   pub free : has_alloc r.alloc_id rows ≡ false
   pub few_allocs : length rows < (most_allocs rule)
@@ -235,7 +235,7 @@ passes rule gap rows r h =
       fitting = not-false (fits rule gap (with_row r rows)) (when_none (not (fits rule gap (with_row r rows))) Capacity p.1.1.1.1.0);
     }
 
--- the set with a row between, where the checks pass
+-- the set with a row inserted, if the checks pass
 between_admitted : (rule : Rule) (gap : ℕ) (r : Row) (xs ys : List Row) → Passes rule gap (xs ++ ys) r → fits rule gap (xs ++ r ∷ ys) ≡ true → IsInRange r →
     All (λ s. comes_before s r ≡ true) xs → All (λ s. not (comes_before s r) ≡ true) ys → IsAdmitted rule gap (xs ++ ys) → IsAdmitted rule gap (xs ++ r ∷ ys)
 between_admitted rule gap r xs ys p fitting i before after k =

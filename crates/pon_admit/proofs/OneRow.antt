@@ -1,4 +1,4 @@
--- A set with one row more or one row less, and its sums.
+-- A set with one row added or removed, and its sums.
 use Rattle.std.proofs.Common.{◌≡◌, ℕ, suc, ◌+◌, ◌<◌, ◌≤◌, Bool, true, false, cond, not, ◌||◌, List, [], ◌∷◌, ◌++◌, length, take, drop, get_or, set, refl, ap, sym, ◌∙◌, subst, arith, inl, inr}
 use Rattle.std.specs.Prelude.{◌==◌, filter, count_by, Some, None, position}
 use Rattle.std.specs.List.{list_any, insert, remove, prefix_len}
@@ -16,9 +16,9 @@ use Rattle.pon_lists.proofs.Lists.{sum_by-between}
 use Rattle.pon_admit.specs.Roster.{IsDistinct, IsInMapOrder, Row, comes_before, has_alloc, has_onu, onus_of, owned, promised_sum, with_descriptor, with_row, without}
 use Rattle.pon_admit.proofs.AdmittedSets.{changed, onus-between, split_in_order, with_new}
 
--- What a row adds to the count of ONUs.
+-- What a row adds to the number of ONUs.
 
--- an ONU is known where it owns a row
+-- an ONU is known exactly when it owns a row
 pub not-has_onu : (u : ℕ) (rows : List Row) → not (has_onu u rows) ≡ (owned u rows == 0)
 not-has_onu u [] = refl
 not-has_onu u (r ∷ rows) =
@@ -31,7 +31,7 @@ not-has_onu u (r ∷ rows) =
 
 -- A row is admitted.
 
--- it goes in behind the rows that come before it
+-- the row is inserted after the rows that come before it
 pub insert_in_order : (r : Row) (rows : List Row) (k : ℕ) → IsInMapOrder rows → k ≡ count_by (λ s. comes_before s r) rows → insert rows k r ≡ with_row r rows
 insert_in_order r rows k order place = insert_inserted (λ s. comes_before s r) r rows (split_in_order r rows order) k place
 
@@ -51,7 +51,7 @@ onus-with_row r rows order =
 
 -- A row is found by its Alloc-ID.
 
--- x stands at k, and its Alloc-ID is i
+-- x is at index k, and its Alloc-ID is i
 pub record Stands (i k : ℕ) (x : Row) (rows : List Row) : Type 0 where
   pub whole : take k rows ++ x ∷ drop (suc k) rows ≡ rows
   pub here : x.alloc_id ≡ i
@@ -73,7 +73,7 @@ none_passes p (x ∷ xs) h = (elim (p x) as (λ b. suc (length xs) ≤ cond (not
   | false ↦ λ k. none_passes p xs (omega (arith, k))
 ]) h
 
--- there is no place if no row has the Alloc-ID
+-- if no index is found, no row has the Alloc-ID
 pub has_alloc-none : (i : ℕ) (rows : List Row) → position (λ r. r.alloc_id == i) rows ≡ None → has_alloc i rows ≡ false
 has_alloc-none i rows h = elim (cases_lt (prefix_len (λ r. not (r.alloc_id == i)) rows) (length rows)) [
   | inl lt ↦ absurd (let e = ap (λ b. cond b (Some (prefix_len (λ r. not (r.alloc_id == i)) rows)) None) (sym (lt-ltb (prefix_len (λ r. not (r.alloc_id == i)) rows) (length rows) lt)) ∙ h in cc)
@@ -95,7 +95,7 @@ others i (y ∷ xs) ys x h e =
     (ne_eqb y.alloc_id i (λ k. let t : true ≡ false = sym (eq-eqb x.alloc_id y.alloc_id (e ∙ sym k)) ∙ unlike in absurd cc))
     (others i xs ys x h.1 e)
 
--- A row is taken out.
+-- A row is removed.
 
 module _ (i k : ℕ) (x : Row) (rows : List Row) (s : Stands i k x rows) where
   pub remove_found : remove rows k ≡ without i rows

@@ -1,4 +1,4 @@
--- What refuses a step, by the sums that a roster keeps, and the roster after a step.
+-- The refusal of a step, from the sums that a roster keeps, and the roster after a step.
 use Rattle.std.proofs.Common.{◌≡◌, ℕ, ◌+◌, ◌-◌, ◌<◌, ◌≤◌, Bool, true, false, not, ◌&&◌, List, [], ◌∷◌, length, get_or, set, refl, ap, sym, ◌∙◌, subst, arith, inl, inr}
 use Rattle.std.specs.Prelude.{◌==◌, nat_le, nat_lt, Option, Some, None, count_by, position}
 use Rattle.std.specs.List.{insert, remove}
@@ -20,14 +20,14 @@ use Rattle.std.proofs.lemmas.List.{length-map}
 fits-sums : (rule : Rule) (gap n m s : ℕ) (rows : List Row) → AreSums n s rows → m ≡ length rows → fits rule gap rows ≡ sums_fit rule gap n m s
 fits-sums rule gap n m s rows are len = (λ i. sums_fit rule gap (sym are.onus i) (sym len i) (sym are.promised i))
 
--- the check of the capacity as the only one
+-- the capacity check as the only check
 alone : (b : Bool) → first_of (when (not b) Capacity ∷ []) ≡ when (not b) Capacity
 alone true = refl
 alone false = refl
 
 -- A row is admitted.
 
--- what one pass over the rows tells of a row, and the roster t that they are of
+-- the result of one pass over the rows of the roster t, for the row r
 pub record Sees (t : Roster) (r : Row) (rule : Rule) (g n s : ℕ) (rows seen : List Row) (taken : Bool) (len owns : ℕ) : Type 0 where
   pub kept : IsKeptRoster rule g n s rows
   pub view : record { rule = rule; gap = g; rows = rows } ≡ t
@@ -75,7 +75,7 @@ module _ {t : Roster} {r : Row} {rule : Rule} {g n s : ℕ} {rows seen : List Ro
         | false ↦ sym (le-ltb 128 (n + 0) (omega (arith, few)))
       ]
 
-  -- the checks, by their tests
+  -- the refusal, from the results of the tests
   by_tests : (long many full unfit : Bool) → nat_le (most_allocs rule) (length rows) ≡ long → (nat_le most_onus (length (onus_of rows)) && not (has_onu r.onu rows)) ≡ many →
       nat_le longest_series (owned r.onu rows) ≡ full → not (fits rule g (with_row r rows)) ≡ unfit →
       refuses_admit t.rule t.gap t.rows r ≡ first_of (when taken AllocTaken ∷ when long TooManyAllocs ∷ when many TooManyOnus ∷ when full SeriesFull ∷ when unfit Capacity ∷ [])
@@ -130,7 +130,7 @@ told q why h = subst (λ q. IsTold q why) (sym h) refl
 
 -- A row is found by its Alloc-ID.
 
--- the row x stands at k of the rows, and they are of the roster t
+-- the row x is at index k of the rows of the roster t
 pub record Finds (t : Roster) (rule : Rule) (i g n s : ℕ) (rows : List Row) (k : ℕ) (x : Row) : Type 0 where
   pub kept : IsKeptRoster rule g n s rows
   pub view : record { rule = rule; gap = g; rows = rows } ≡ t
@@ -175,7 +175,7 @@ module _ {t : Roster} {rule : Rule} {i g n s : ℕ} {rows : List Row} {k : ℕ} 
       subst (λ u. refuses_change u.rule u.gap u.rows i d ≡ when (not b) Capacity) h.view
       ((λ j. first_of (when (not (has_alloc-some i k x rows h.found j)) NoSuchAlloc ∷ when (not (same j)) Capacity ∷ [])) ∙ alone b)
 
-  -- It is taken out.
+  -- It is removed.
 
   pub remove_seen : remove t.rows k ≡ without i t.rows
   remove_seen = subst (λ u. remove u.rows k ≡ without i u.rows) h.view (remove_found i k x rows stands_here)
@@ -183,7 +183,7 @@ module _ {t : Roster} {rule : Rule} {i g n s : ℕ} {rows : List Row} {k : ℕ} 
   pub refuses_remove-found : refuses_remove t.rows i ≡ None
   refuses_remove-found = subst (λ u. refuses_remove u.rows i ≡ None) h.view (ap (λ b. when (not b) NoSuchAlloc) (has_alloc-some i k x rows h.found))
 
-  -- the ONU of a lone row is one that is counted
+  -- the ONU of a removed row is counted if that row is its only one
   pub last_counted : (owns last : ℕ) → owns ≡ owned x.onu rows → last ≡ bool_byte (owns == 1) → last ≤ n
   last_counted owns last own e =
       let one : last ≡ bit (owned x.onu rows == 1) = e ∙ byte_bit (owns == 1) ∙ ap (λ m. bit (m == 1)) own in
@@ -204,7 +204,7 @@ kept_changed {t = t} {rule = rule} {g = g} {n' = n'} {s' = s'} {rows = rows} i d
     let after : AreSums n' s' (with_descriptor i d rows) = subst (λ u. AreSums n' s' (with_descriptor i d u.rows)) (sym view) sums in
     subst (IsKeptRoster rule g n' s') (sym e) (record { admitted = admitted; sums = after })
 
--- what stands in the place of the row found
+-- the row that replaces the one found
 pub replaced : {t : Roster} {rule : Rule} {g n s : ℕ} {rows : List Row} (i k : ℕ) (d : Descriptor) (x : Row) → IsKeptRoster rule g n s rows → record { rule = rule; gap = g; rows = rows } ≡ t → position (λ r. r.alloc_id == i) t.rows ≡ Some k →
     k < length t.rows → x ≡ get_or rows k x → set rows k (with_new d x) ≡ with_descriptor i d rows
 replaced {rows = rows} i k d x kept view found lt here =

@@ -1,4 +1,4 @@
--- Where the set after a step is admitted, no check refuses the step.
+-- If the set after a step is admitted, no check refuses the step.
 use Rattle.std.proofs.Common.{◌≡◌, ℕ, ◌+◌, true, false, cond, not, ◌&&◌, List, [], ◌∷◌, length, refl, ap, sym, ◌∙◌, subst, arith, inl, inr}
 use Rattle.std.specs.Prelude.{◌==◌, filter, nat_le, Some, None}
 use Rattle.std.proofs.lemmas.Bool.{and_right, cases_Bool, eq-eqb, lt-leb}

@@ -1,4 +1,4 @@
--- The roster of a port: its admitted Alloc-IDs in map order, and which sets of them are admitted.
+-- The roster of a port: its admitted Alloc-IDs in map order, and the sets that are admitted.
 use Rattle.std.specs.Prelude.{ℕ, ◌≡◌, ◌+◌, ◌-◌, ◌*◌, ◌≤◌, Bool, true, false, not, ◌&&◌, ◌||◌, ◌==◌, nat_lt, nat_le, if◌then◌else◌, List, [], ◌∷◌, map, length, All, sum_by, count_by, Option}
 use Rattle.std.specs.List.{list_any}
 use Rattle.pon_units.specs.declared.limits.TheConstants.{FRAME_WORDS, GREATEST_ALLOC_ID, GREATEST_ONU_ID, LEAST_ALLOC_ID, WORD_RATE}
@@ -12,7 +12,7 @@ use Rattle.pon_descr.specs.Descriptor.{Descriptor, IsLawful, promised}
 use Rattle.pon_descr.specs.declared.refusal.Refusal.{Refusal}
 use Rattle.pon_descr.specs.declared.refusal.Refusal.TheVariants.{NoSuchAlloc, AllocTaken, TooManyAllocs, TooManyOnus, SeriesFull, Capacity}
 
--- the ONUs that own an Alloc-ID
+-- the ONUs that own an Alloc-ID, each once
 abbrev pub onus_of : List Row → List ℕ
 onus_of rows = distinct (map (λ r. r.onu) rows)
 
@@ -22,23 +22,23 @@ has_alloc i rows = list_any (λ r. r.alloc_id == i) rows
 abbrev pub has_onu : ℕ → List Row → Bool
 has_onu u rows = list_any (λ r. r.onu == u) rows
 
--- how many Alloc-IDs an ONU owns
+-- the number of Alloc-IDs that an ONU owns
 abbrev pub owned : ℕ → List Row → ℕ
 owned u rows = count_by (λ r. r.onu == u) rows
 
--- What a rule sets aside and allows.
+-- The overhead and the limit of Alloc-IDs of each rule.
 
--- the words of a frame that each Alloc-ID takes beside its payload
+-- the words of a frame that each Alloc-ID takes in addition to its payload
 abbrev pub overhead_words : Rule → ℕ
 overhead_words One = 1
 overhead_words Two = 2
 
--- the most Alloc-IDs of a port
+-- the maximum number of Alloc-IDs of a port
 abbrev pub most_allocs : Rule → ℕ
 most_allocs One = 256
 most_allocs Two = 512
 
--- the rule of a roster that is opened under no other
+-- the rule of a roster that is opened without naming a rule
 abbrev pub rule_in_force : Rule
 rule_in_force = One
 
@@ -65,11 +65,11 @@ overhead rule gap rows = overhead_of rule gap (length (onus_of rows)) (length ro
 abbrev pub capacity : Rule → ℕ → List Row → ℕ
 capacity rule gap rows = FRAME_WORDS - overhead rule gap rows
 
--- the promised rates, added up
+-- the sum of the promised rates
 abbrev pub promised_sum : List Row → ℕ
 promised_sum rows = sum_by (λ r. promised r.descriptor) rows
 
--- the overhead of n ONUs and m Alloc-IDs fits a frame, and s kbit/s fit what is left
+-- the overhead of n ONUs and m Alloc-IDs fits a frame, and s kbit/s fit the remaining words
 abbrev pub sums_fit : Rule → ℕ → ℕ → ℕ → ℕ → Bool
 sums_fit rule gap n m s = nat_le (overhead_of rule gap n m) FRAME_WORDS && nat_le s (WORD_RATE * (FRAME_WORDS - overhead_of rule gap n m))
 
@@ -77,11 +77,11 @@ sums_fit rule gap n m s = nat_le (overhead_of rule gap n m) FRAME_WORDS && nat_l
 abbrev pub fits : Rule → ℕ → List Row → Bool
 fits rule gap rows = sums_fit rule gap (length (onus_of rows)) (length rows) (promised_sum rows)
 
--- map order: ONUs in rising number, and the Alloc-IDs of an ONU in rising number
+-- map order: ONUs in ascending order, and the Alloc-IDs of an ONU in ascending order
 abbrev pub comes_before : Row → Row → Bool
 comes_before r s = nat_lt r.onu s.onu || (r.onu == s.onu && nat_lt r.alloc_id s.alloc_id)
 
--- the rows with one more in its place
+-- the rows with one row inserted at its place in map order
 abbrev pub with_row : Row → List Row → List Row
 with_row r rows = with_inserted (λ s. comes_before s r) r rows
 
@@ -117,7 +117,7 @@ pub record IsAdmitted (rule : Rule) (gap : ℕ) (rows : List Row) : Type 0 where
   pub short_series : (u : ℕ) → owned u rows ≤ longest_series
   pub fitting : fits rule gap rows ≡ true
 
--- The checks of a change of the set, in order, and the first that refuses.
+-- The checks of a step of the roster, in order, and the first refusal.
 
 abbrev pub admit_checks : Rule → ℕ → List Row → Row → List (Option Refusal)
 admit_checks rule gap rows r =

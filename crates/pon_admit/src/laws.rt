@@ -5,8 +5,8 @@ ghost use Rattle.pon_descr.specs.Descriptor.{Descriptor, IsLawful};
 ghost use Rattle.pon_descr.specs.declared.refusal.Refusal.{Refusal};
 ghost use Rattle.pon_admit.specs.Roster.{IsAdmitted, IsInRange, Row, Rule, has_alloc, refuses_admit, refuses_change, with_descriptor, with_row, without};
 
-/// An admitted set stays admitted: with one row more that no check refuses, with a new descriptor that no check refuses, and with an Alloc-ID removed.
-/// This holds for each rule and any gap.
+/// An admitted set stays admitted when a row that no check refuses is added, when a descriptor is replaced by one that
+/// no check refuses, and when an Alloc-ID is removed. This holds for each rule and any gap.
 pub fn checks_keep_admitted_sets()
     ensures admit { (rule : Rule) (gap : ℕ) (rows : List Row) (r : Row) →
         refuses_admit rule gap rows r ≡ None → IsInRange r → IsAdmitted rule gap rows → IsAdmitted rule gap (with_row r rows) }
@@ -16,7 +16,8 @@ pub fn checks_keep_admitted_sets()
         IsAdmitted rule gap rows → IsAdmitted rule gap (without i rows) }
 {}
 
-/// What a check refuses would leave no admitted set: a step is taken exactly when the set afterwards is one.
+/// The set after a refused admission, or after a refused change of an admitted Alloc-ID, would not be admitted. So such
+/// a step is accepted exactly when the set after it is admitted.
 pub fn refused_sets_are_not_admitted()
     ensures admit { (rule : Rule) (gap : ℕ) (rows : List Row) (r : Row) (why : Refusal) →
         IsAdmitted rule gap rows → refuses_admit rule gap rows r ≡ Some why → IsAdmitted rule gap (with_row r rows) → ⊥ }

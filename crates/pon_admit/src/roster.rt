@@ -1,4 +1,4 @@
-// The roster of a port, and what it tells.
+// The roster of a port, and its getters.
 ghost use Rattle.std.specs.Prelude.{◌≡◌, ◌≤◌, [], length, IfOk};
 ghost use Rattle.pon_admit.specs.Roster.{IsAdmitted, capacity, onus_of, promised_sum, rule_in_force};
 
@@ -11,15 +11,15 @@ use std::marker::Model;
 
 mod steps;
 
-/// The rule of a roster that is opened under no other.
+/// Rule of a roster that is opened without naming a rule.
 const RULE_IN_FORCE: Rule = Rule::One;
 
-/// The most ONUs of a port.
+/// Maximum number of ONUs of a port.
 const MOST_ONUS: usize = 128;
 
-/// The admitted Alloc-IDs of a port in map order, an admitted set under its rule at any time: at most 256 Alloc-IDs (512
-/// under [`Rule::Two`]) of at most 128 ONUs, at most 16 of an ONU, no Alloc-ID twice, and the promised rates fit the words
-/// that the overhead leaves of a frame.
+/// The admitted Alloc-IDs of a port in map order, at all times an admitted set under its rule: at most 256 Alloc-IDs
+/// (512 under [`Rule::Two`]) of at most 128 ONUs, at most 16 of one ONU, no Alloc-ID twice, and promised rates that fit
+/// the words that the overhead leaves of a frame.
 #[derive(Drop)]
 pub struct Roster {
     rule: Rule,
@@ -41,8 +41,8 @@ impl Model for Roster {
 }
 
 impl Roster {
-    /// A roster with no rows, for bursts with this gap before each, under the rule in force, [`Rule::One`]. It takes
-    /// the memory of 256 rows, and fails where that is refused.
+    /// Opens a roster with no rows, for bursts with this gap before each, under the rule in force, [`Rule::One`]. It
+    /// allocates memory for 256 rows, and fails if that is refused.
     pub fn open(alloc: Global, gap: Gap) -> Result<Roster, AllocError>
         ensures { IfOk result
             (λ roster. roster ≡ record { rule = rule_in_force; gap = gap; rows = [] }) }
@@ -50,8 +50,8 @@ impl Roster {
         Roster::open_with(alloc, gap, RULE_IN_FORCE)
     }
 
-    /// A roster with no rows, for bursts with this gap before each, under a rule. It takes the memory of as many rows
-    /// as the rule allows, and fails where that is refused.
+    /// Opens a roster with no rows, for bursts with this gap before each, under the given rule. It allocates memory for
+    /// the maximum number of rows of the rule, and fails if that is refused.
     pub fn open_with(alloc: Global, gap: Gap, rule: Rule) -> Result<Roster, AllocError>
         ensures { IfOk result (λ roster. roster ≡ record { rule = rule; gap = gap; rows = [] }) }
     {
@@ -65,7 +65,7 @@ impl Roster {
         })
     }
 
-    /// An equal roster. It takes the memory of its rows, and fails where that is refused.
+    /// Makes an equal roster. It allocates memory for the rows, and fails if that is refused.
     pub fn try_copy(&self, alloc: Global) -> Result<Roster, AllocError>
         ensures { IfOk result (λ roster. roster ≡ self.now) }
     {
@@ -79,21 +79,21 @@ impl Roster {
         })
     }
 
-    /// The rule that the rows are admitted under.
+    /// Rule under which the rows are admitted.
     pub fn rule(&self) -> Rule
         ensures { result ≡ self.now.rule }
     {
         self.rule
     }
 
-    /// The words of 4 bytes that are kept free before each burst, 1 to 256.
+    /// Gap before each burst, in words of 4 bytes, 1 to 256.
     pub fn gap(&self) -> Gap
         ensures { result ≡ self.now.gap }
     {
         self.gap
     }
 
-    /// The rows in map order, at most as many as the rule allows.
+    /// Rows in map order, at most as many as the rule allows.
     pub fn rows(&self) -> &[Row]
         ensures value { result.now ≡ self.now.rows }
         ensures admitted { IsAdmitted self.now.rule self.now.gap self.now.rows }
@@ -101,7 +101,7 @@ impl Roster {
         &self.rows
     }
 
-    /// How many ONUs own an Alloc-ID, at most 128.
+    /// Number of ONUs that own an Alloc-ID, 0 to 128.
     pub fn onus(&self) -> usize
         ensures value { result ≡ length (onus_of self.now.rows) }
         ensures range { result ≤ MOST_ONUS }
@@ -109,7 +109,7 @@ impl Roster {
         self.onus
     }
 
-    /// The words of 4 bytes of a frame, 0 to 9,720, that gaps, headers, trailers and reports leave for payload.
+    /// Words of a frame that gaps, headers, trailers and reports leave for payload, 0 to 9,720.
     pub fn capacity(&self) -> Words
         ensures value { result ≡ capacity self.now.rule self.now.gap self.now.rows }
         ensures range { result ≤ FRAME_WORDS }
@@ -117,7 +117,7 @@ impl Roster {
         words(usize::from(FRAME_WORDS) - overhead(self.rule, self.gap, self.onus, self.rows.len()))
     }
 
-    /// The fixed and assured rates of all rows, added up: 0 to 2,488,320 kbit/s.
+    /// Sum of the fixed and assured rates of all rows, 0 to 2,488,320 kbit/s.
     pub fn guaranteed_sum(&self) -> Kbps
         ensures value { result ≡ promised_sum self.now.rows }
         ensures range { result ≤ LINE_RATE }

@@ -13,7 +13,7 @@ impl Row {
     ghost use Rattle.std.specs.Prelude.{◌≡◌};
     ghost use Rattle.pon_admit.specs.Roster.{IsInRange};
 
-    /// The row of these values.
+    /// Makes a row of an ONU, an Alloc-ID and its descriptor.
     pub fn new(onu: OnuId, alloc_id: AllocId, descriptor: Descriptor) -> Row
         ensures row { result ≡ record { onu = onu; alloc_id = alloc_id; descriptor = descriptor } }
         ensures in_range { IsInRange result }

@@ -1,24 +1,24 @@
-// What a rule sets aside and allows.
+// The overhead and the limit of Alloc-IDs of each rule.
 ghost use Rattle.std.specs.Prelude.{◌≡◌, ◌*◌, ◌≤◌};
 ghost use Rattle.pon_admit.specs.Roster.{most_allocs, overhead_words};
 
 use pon_units::MOST_STRUCTURES;
 
-/// The most Alloc-IDs of a port under [`Rule::One`] (this project's choice).
+/// Maximum number of Alloc-IDs of a port under [`Rule::One`] (this project's choice).
 const MOST_ALLOCS: usize = 256;
 
-/// What a version of the product sets aside for each Alloc-ID, and how many Alloc-IDs a port may have. A roster keeps the
-/// rule that it was opened with.
+/// The overhead words of each Alloc-ID, and the maximum number of Alloc-IDs of a port, by version of the product. A
+/// roster keeps the rule that it was opened with.
 #[derive(Clone, Copy, Debug, PartialEq, Eq)]
 pub enum Rule {
-    /// At most 256 Alloc-IDs of a port, and one word of overhead for each: its report.
+    /// At most 256 Alloc-IDs on a port, and one word of overhead for each: its report.
     One,
-    /// At most 512 Alloc-IDs of a port, and two words of overhead for each.
+    /// At most 512 Alloc-IDs on a port, and two words of overhead for each.
     Two,
 }
 
 impl Rule {
-    /// The most Alloc-IDs of a port: 256 or 512.
+    /// Maximum number of Alloc-IDs of a port: 256 or 512.
     pub fn most_allocs(self) -> usize
         ensures value { result ≡ most_allocs self }
         ensures range { result ≤ MOST_STRUCTURES }
@@ -29,7 +29,7 @@ impl Rule {
         }
     }
 
-    /// The words of a frame that are set aside for this number of Alloc-IDs.
+    /// Computes the overhead of a number of Alloc-IDs, in words of a frame, 0 to 1,024.
     pub(crate) fn overhead(self, allocs: usize) -> usize
         requires { allocs ≤ most_allocs self }
         ensures value { result ≡ overhead_words self * allocs }

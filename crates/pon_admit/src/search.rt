@@ -5,25 +5,25 @@ ghost use Rattle.pon_admit.specs.Roster.{comes_before, has_alloc, owned};
 use crate::row::Row;
 use pon_units::{AllocId, OnuId};
 
-/// What one pass over the rows tells of a row that is not there yet.
+/// The result of one pass over the rows for a row to be admitted.
 #[derive(Drop)]
 pub(crate) struct Survey {
-    /// How many rows come before it in map order.
+    /// Number of rows that come before it in map order.
     pub place: usize,
-    /// Whether its Alloc-ID is there.
+    /// Whether its Alloc-ID is admitted already.
     pub taken: bool,
-    /// How many Alloc-IDs its ONU owns.
+    /// Number of Alloc-IDs that its ONU owns.
     pub owned: usize,
 }
 
-// Whether a row comes before another in map order.
+// Returns whether a row comes before another in map order.
 fn comes_first(row: &Row, other: &Row) -> bool
     ensures { result ≡ comes_before row.now other.now }
 {
     row.onu < other.onu || (row.onu == other.onu && row.alloc_id < other.alloc_id)
 }
 
-/// Looks through the rows once.
+/// Surveys the rows for a row to be admitted, in one pass.
 pub(crate) fn look_through(rows: &[Row], row: &Row) -> Survey
     ensures place { result.place ≡ count_by (λ s. comes_before s row.now) rows.now }
     ensures taken { result.taken ≡ has_alloc row.now.alloc_id rows.now }
@@ -44,14 +44,14 @@ pub(crate) fn look_through(rows: &[Row], row: &Row) -> Survey
     }
 }
 
-/// The index of the row of an Alloc-ID.
+/// Finds the index of the row of an Alloc-ID.
 pub(crate) fn place_of(rows: &[Row], alloc_id: AllocId) -> Option<usize>
     ensures { result ≡ position (λ r. r.alloc_id == alloc_id) rows.now }
 {
     rows.iter().position(|row| row.alloc_id == alloc_id)
 }
 
-/// How many Alloc-IDs an ONU owns.
+/// Counts the Alloc-IDs that an ONU owns.
 pub(crate) fn count_owned(rows: &[Row], onu: OnuId) -> usize
     ensures { result ≡ owned onu rows.now }
 {

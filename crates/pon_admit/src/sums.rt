@@ -5,8 +5,8 @@ ghost use Rattle.pon_admit.specs.Roster.{most_allocs, most_onus, overhead_of, su
 use crate::rule::Rule;
 use pon_units::{FRAME_WORDS, GREATEST_RATE, Gap, Kbps, WORD_RATE, Words};
 
-/// The words of a frame that gaps, headers, trailers and reports take: for each ONU the gap, a header and a trailer, and
-/// for each Alloc-ID the overhead of the rule.
+/// Computes the words of a frame that gaps, headers, trailers and reports take: for each ONU the gap, a header and a
+/// trailer, and for each Alloc-ID the overhead of the rule.
 pub(crate) fn overhead(rule: Rule, gap: Gap, onus: usize, allocs: usize) -> usize
     requires onus { onus ≤ most_onus }
     requires allocs { allocs ≤ most_allocs rule }
@@ -15,7 +15,7 @@ pub(crate) fn overhead(rule: Rule, gap: Gap, onus: usize, allocs: usize) -> usiz
     (usize::from(gap.get()) + 2) * onus + rule.overhead(allocs)
 }
 
-/// Whether the overhead fits a frame, and the promised rates fit what is left.
+/// Returns whether the overhead fits a frame, and the promised rates fit the remaining words.
 pub(crate) fn fits(rule: Rule, gap: Gap, onus: usize, allocs: usize, promised: Kbps) -> bool
     requires onus { onus ≤ most_onus }
     requires allocs { allocs ≤ most_allocs rule }
@@ -26,7 +26,7 @@ pub(crate) fn fits(rule: Rule, gap: Gap, onus: usize, allocs: usize, promised: K
     taken <= frame && u64::from(promised.get()) <= WORD_RATE * (frame - taken) as u64
 }
 
-/// The rate of this number of kbit/s.
+/// Converts a number of kbit/s to a rate.
 pub(crate) fn rate(n: u32) -> Kbps
     requires { n ≤ GREATEST_RATE }
     ensures { result ≡ n }
@@ -37,7 +37,7 @@ pub(crate) fn rate(n: u32) -> Kbps
     }
 }
 
-/// This number of words of a frame.
+/// Converts a number of words of a frame.
 pub(crate) fn words(n: usize) -> Words
     requires { n ≤ FRAME_WORDS }
     ensures { result ≡ n }

@@ -1,4 +1,4 @@
--- The answers that many threads give.
+-- The answers of many threads.
 use Rattle.std.proofs.Common.{◌≡◌, List, [], ◌∷◌, map, Option, Result, Ok, Err, subst, sym}
 use Rattle.std.specs.Prelude.{IfOk, MatchResult}
 use Rattle.std.specs.Borrow.{Bor}
@@ -8,14 +8,14 @@ use Rattle.pon_record.specs.Chapters.{PlacedChapter}
 use Rattle.pon_audit.specs.Judging.{IsAnswer}
 use Rattle.pon_audit.specs.declared.chapters.Fault.{Fault}
 
--- what holds of the value of each `Ok`
+-- a fact of the value of each `Ok`
 each_ok : (E : Type 0) {Z X : Type 0} (R : Z → X → Type 0) (zs : List Z) (ys : List X) → AllZip (λ z (r : Result X E). IfOk r (R z)) zs (map Result.Ok ys) → AllZip R zs ys
 each_ok E R [] [] h = tt
 each_ok E R [] (y ∷ ys) h = absurd h
 each_ok E R (z ∷ zs) [] h = absurd h
 each_ok E R (z ∷ zs) (y ∷ ys) h = (h.0, each_ok E R zs ys h.1)
 
--- where each is `Ok`, these are the answers of the chapters
+-- if each answer is `Ok`, the values are the answers of the chapters
 pub all_answered : (E : Type 0) {V : Type 0} (items : V → List (Option Fault)) (cs : List PlacedChapter) (zs : List (Bor PlacedChapter)) (xs : List (Result (Option Fault) E)) (r : Result V E) (P : E → Type 0) →
     map (λ (z : Bor PlacedChapter). z.now) zs ≡ cs → AllZip (λ z x. IfOk x (IsAnswer z.now)) zs xs → MatchResult r (λ v. (ys : List (Option Fault)) × (xs ≡ map Result.Ok ys) × (items v ≡ ys)) P →
     IfOk r (λ v. AllZip IsAnswer cs (items v))

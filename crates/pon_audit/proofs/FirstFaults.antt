@@ -10,7 +10,7 @@ use Rattle.pon_record.specs.Chapters.{PlacedChapter}
 use Rattle.pon_audit.specs.Verdicts.{AreGood, ChapterFails, IsFirstFault, IsGoodChapter, Rises}
 use Rattle.pon_audit.specs.declared.chapters.Fault.{Fault}
 
--- what holds at each place of two lists
+-- a fact of the items of two lists at one index
 pub at_place : {A B : Type 0} (R : A → B → Type 0) (xs : List A) (ys : List B) (i : ℕ) (x : A) (y : B) → AllZip R xs ys → i < length xs → R (get_or xs i x) (get_or ys i y)
 at_place R [] [] i x y h lt = absurd (omega (arith, lt))
 at_place R [] (b ∷ ys) i x y h lt = absurd h
@@ -39,7 +39,7 @@ one_more_good cs i c lt here good fits =
       rising = all_pairs_push Rises (take i cs) c good.rising fits.1;
     })
 
--- a chapter that fails behind good ones
+-- a chapter that fails after good ones
 pub first_here : (cs : List PlacedChapter) (i : ℕ) (c : PlacedChapter) (port number : ℕ) (f : Fault) → i < length cs → c ≡ get_or cs i c → AreGood (take i cs) → port ≡ c.body.port → number ≡ c.body.number →
     ChapterFails (take i cs) c f.index f.why → IsFirstFault cs port number f.index f.why
 first_here cs i c port number f lt here good is_port is_number fails = record {

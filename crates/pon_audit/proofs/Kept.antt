@@ -1,4 +1,4 @@
--- A chapter that is judged entry by entry.
+-- The audit of a chapter, entry by entry.
 use Rattle.std.proofs.Common.{◌≡◌, ℕ, ◌+◌, ◌<◌, [], ◌∷◌, ◌++◌, length, take, get_or, Option, Some, None, Result, Ok, Err, refl, ap, sym, ◌∙◌, subst, arith, inr}
 use Rattle.std.specs.Prelude.{IfOk, MatchOption}
 use Rattle.std.proofs.lemmas.List.{length-take-le, take_more}
@@ -37,7 +37,7 @@ module _ (c d : Chapter) (s t : State) (k : IsKept c s) where
   next (Fail cause) r m more after = taken c d s t (Fail cause) k m.event refl m.accepted (plain (Fail cause) r more m.reply) after
   next Restore r m more after = taken c d s t Restore k m.event refl m.accepted (plain Restore r more m.reply) after
 
--- one entry further
+-- one more entry
 pub one_further : (c : Chapter) (i : ℕ) (s t : State) (e : Entry) → i < length c.entries → e ≡ get_or c.entries i e → IsKept (cut_at c i) s → MayFollow i s e → t ≡ after_entry s e → IsKept (cut_at c (i + 1)) t
 one_further c i s t e lt here k follows after =
     let count : i ≡ length (take i c.entries) = sym (length-take-le i c.entries (omega (arith, lt))) in
@@ -54,7 +54,7 @@ fails_here c i s e w lt here k fails = record {
   fails = subst (λ s. EntryFails i s e w) k.replayed fails;
 }
 
--- what is wrong with a chapter that opens its port
+-- the fault of a chapter that opens its port
 pub answered : {E : Type 0} (c : PlacedChapter) (r : Result (Option Fault) E) → OpensPort c.body →
     IfOk r (λ found. MatchOption found (IsLawfulChapter (chapter_of c.body)) (λ f. FailsAt (chapter_of c.body) f.index f.why)) → IfOk r (λ answer. IsAnswer c answer)
 answered c (Ok None) opens lawful = record { opens = opens; lawful = lawful; fair = maps_are_fair (chapter_of c.body) lawful }

@@ -1,4 +1,4 @@
--- Comparing maps: structures, their Alloc-IDs and their grants.
+-- The comparison of maps: structures, their Alloc-IDs and their grants.
 use Rattle.std.proofs.Common.{◌≡◌, ℕ, ◌+◌, ◌<◌, Bool, true, false, not, List, ◌∷◌, [], ◌++◌, map, length, take, get_or, Option, Some, None, refl, ap, sym, ◌∙◌}
 use Rattle.std.specs.Prelude.{◌==◌, ◌↔◌}
 use Rattle.std.specs.Bool.{Decides}
@@ -25,13 +25,13 @@ use Rattle.pon_audit.specs.Faults.{GrantsWords, ListsAllocs}
 -- Fields of structures.
 
 module _ (f : Structure → ℕ) (xs ys : List Structure) where
-  -- one structure further
+  -- one more structure
   pub more_same : (i : ℕ) (x y : Structure) → i < length xs → i < length ys → x ≡ get_or xs i x → y ≡ get_or ys i y → f x ≡ f y →
       map f (take i xs) ≡ map f (take i ys) → map f (take (i + 1) xs) ≡ map f (take (i + 1) ys)
   more_same i x y lx ly hx hy same so_far =
       map_more f xs i x lx ∙ (λ j. so_far j ++ (ap f (sym hx) ∙ same ∙ ap f hy) j ∷ []) ∙ sym (map_more f ys i y ly)
 
-  -- other fields at a place
+  -- different fields at an index
   pub not_same : (i : ℕ) (x y : Structure) → i < length xs → i < length ys → x ≡ get_or xs i x → y ≡ get_or ys i y → (f x ≡ f y → ⊥) → map f xs ≡ map f ys → ⊥
   not_same i x y lx ly hx hy other e =
       other (ap f hx ∙ sym (get_or-map f xs i x 0 lx) ∙ ap (λ (l : List ℕ). get_or l i 0) e ∙ get_or-map f ys i y 0 ly ∙ ap f (sym hy))
@@ -42,11 +42,11 @@ module _ (f : Structure → ℕ) (xs ys : List Structure) where
 -- The map of an input.
 
 module _ (profile : ℕ) (s : Input) (surplus : Row → Fraction) where
-  -- its Alloc-IDs are those of the rows
+  -- the Alloc-IDs of the map are those of the rows
   pub ids_of_map : map (λ a. a.id) (map_of profile s surplus) ≡ map (λ r. r.alloc_id) s.roster
   ids_of_map = map-map (λ a. a.id) (structure_of s.gap profile (granted s surplus)) (granted s surplus) ∙ map-map (λ g. g.alloc_id) (granted_to_row s surplus) s.roster
 
-  -- and its grants one more than the payload words
+  -- the grants of the map are one more than the payload words
   pub grants_of_map : map (λ a. a.grant) (map_of profile s surplus) ≡ map (λ g. 1 + g.words) (granted s surplus)
   grants_of_map = map-map (λ a. a.grant) (structure_of s.gap profile (granted s surplus)) (granted s surplus)
 
@@ -81,7 +81,7 @@ structure_decides a b =
 pub maps_decide : (xs ys : List Structure) → Decides (pointwise structure_eq xs ys) (xs ≡ ys)
 maps_decide xs ys = slice_eq-Decides structure_decides xs ys _ refl
 
--- The structures of a map beside those that the state makes.
+-- The structures of a map compared with those that the state makes.
 
 module _ (s : State) (m : MadeMap) (rows others : List Structure) (of_made : rows ≡ m.map) (of_state : others ≡ map_of s.profile (input_of s) (surplus_rate (input_of s) m.cert)) where
   pub lists_allocs : (map (λ a. a.id) rows ≡ map (λ a. a.id) others) ↔ ListsAllocs s m

@@ -1,4 +1,4 @@
--- A chapter fails in one way at most, and a good one in none.
+-- A chapter fails in at most one way, and a good chapter in none.
 use Rattle.std.proofs.Common.{◌≡◌, ℕ, zero, suc, ◌<◌, List, [], ◌∷◌, map, take, Option, Some, None, refl, ap, sym, ◌∙◌, subst, arith, inl, inr}
 use Rattle.std.specs.Prelude.{◌≢◌, ◌⊎◌, All, slice_get}
 use Rattle.std.proofs.lemmas.Bool.{cases_lt}
@@ -25,11 +25,11 @@ use Rattle.pon_audit.proofs.Maps.{grants_of_map}
 
 -- A map.
 
--- the map that the state makes has its words
+-- the map that the state makes has the words of its certificate
 made_words : (s : State) (m : MadeMap) → IsMade s m → GrantsWords s m
 made_words s m made = ap (map (λ a. a.grant)) made.map ∙ grants_of_map s.profile (input_of s) (surplus_rate (input_of s) m.cert)
 
--- and does not fail
+-- the map that the state makes does not fail
 made_holds : (s : State) (m : MadeMap) (w : Why) → IsMade s m → MapFails s m w → ⊥
 made_holds s m why.Opening made f = f
 made_holds s m why.Number made f = f
@@ -38,7 +38,7 @@ made_holds s m why.Certificate made f = f made.certified
 made_holds s m why.Words made f = f.1.1 (made_words s m made)
 made_holds s m why.Bursts made f = f.2 made
 
--- what is known of a map that fails: how
+-- the reason why a map fails
 abbrev MapFault : State → MadeMap → Why → Type 0
 MapFault s m w =
     ((w ≡ why.Certificate) × (IsCertified (input_of s) m.cert → ⊥))
@@ -112,7 +112,7 @@ get_take (x ∷ xs) i zero lt = absurd (omega (arith, lt))
 get_take (x ∷ xs) zero (suc j) lt = refl
 get_take (x ∷ xs) (suc i) (suc j) lt = get_take xs i j (omega (arith, lt))
 
--- the entry that fails first is not before another that does
+-- the first entry that fails is not before another such entry
 not_before : (c : Chapter) (i j : ℕ) (w v : Why) → FailsAt c i w → FailsAt c j v → i < j → ⊥
 not_before c i j w v f g lt =
     let follows : MayFollow i (replay c.opening (take i (take j c.entries))) f.entry = g.lawful.legal i f.entry (get_take c.entries i j lt ∙ f.here) in
@@ -135,7 +135,7 @@ one_failing c i j w v f g = elim (cases_lt i j) [
   ]
 ]
 
--- what is known of a chapter that fails
+-- the reason why a chapter fails
 abbrev ChapterFault : List PlacedChapter → PlacedChapter → ℕ → Why → Type 0
 ChapterFault earlier c i w =
     ((OpensPort c.body → ⊥) × ((i ≡ 0) × (w ≡ why.Opening)))

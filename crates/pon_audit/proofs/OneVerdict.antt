@@ -1,4 +1,4 @@
--- Bytes have one verdict at most.
+-- Bytes have at most one verdict.
 use Rattle.std.proofs.Common.{◌≡◌, ℕ, zero, suc, ◌<◌, List, [], ◌∷◌, length, take, get_or, Some, ap, sym, ◌∙◌, subst, arith, inl, inr}
 use Rattle.std.specs.Prelude.{slice_get, sum_by}
 use Rattle.std.proofs.lemmas.Bool.{cases_lt}
@@ -20,7 +20,7 @@ within [] i x h = absurd cc
 within (y ∷ xs) zero x h = omega arith
 within (y ∷ xs) (suc i) x h = omega (arith, within xs i x h)
 
--- of good chapters none fails behind those before it
+-- if all chapters are good, none fails after those before it
 pub none_fails : (cs : List PlacedChapter) (k : ℕ) (c : PlacedChapter) (i : ℕ) (w : Why) → AreGood cs → slice_get cs k ≡ Some c → ChapterFails (take k cs) c i w → ⊥
 none_fails cs k c i w good here fails =
     let lt : k < length cs = within cs k c here in
@@ -106,7 +106,7 @@ module _ (bytes : List ℕ) where
   no_format_fault cs at (inl r) b = no_bad_format bytes cs at r b
   no_format_fault cs at (inr (at2, t)) b = never_both at2 at cs t b
 
-  -- chapters that are good have no fault, told of the same bytes
+  --   good chapters of the same bytes have no fault
   good_and_bad : (cs ds : List PlacedChapter) (p m i : ℕ) (w : Why) → HasChapters bytes cs → AreGood cs → HasChapters bytes ds → IsFirstFault ds p m i w → ⊥
   good_and_bad cs ds p m i w h good k f = good_no_fault ds p m i w (subst AreGood (same_chapters cs ds h k) good) f
 

@@ -94,7 +94,7 @@ pub cut_fit : (bytes : List ℕ) (at : ℕ) (cs : List PlacedChapter) → IsTrun
 cut_fit bytes at cs (inl none) = subst (All (λ c. FitsChapter c.body)) (sym none.2) (All-nil (λ c. FitsChapter c.body))
 cut_fit bytes at cs (inr (rest, h, cut, there)) = all_fit cs h.fit
 
--- a verdict that names the first chapter that fails
+-- a verdict that gives the first chapter that fails
 pub bad_told : (bytes : List ℕ) (cs : List PlacedChapter) (v : Verdict) → HasChapters bytes cs → TellsBad cs v → IsVerdict bytes v
 bad_told bytes cs (Good maps) has told = absurd told
 bad_told bytes cs (Bad p n i w) has told = (cs, has, told)

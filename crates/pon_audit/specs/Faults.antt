@@ -1,5 +1,5 @@
--- What is wrong with an entry in the state before it. Of several faults the first counts: the event, the certificate, the words,
--- the bursts.
+-- The fault of an entry in the state before it. Of several faults the first counts, in this order: event, certificate,
+-- words, bursts.
 use Rattle.std.specs.Prelude.{ℕ, ◌≡◌, ◌≢◌, ◌+◌, map, take, slice_get, Some, None}
 use Rattle.pon_share.specs.Rates.{granted}
 use Rattle.pon_share.specs.Sharing.{IsCertified, surplus_rate}
@@ -18,15 +18,15 @@ use Rattle.pon_audit.specs.declared.verdict.Why.TheVariants.{Event, Certificate,
 abbrev pub ListsAllocs : State → MadeMap → Type 0
 ListsAllocs s m = map (λ a. a.id) m.map ≡ map (λ r. r.alloc_id) s.roster
 
--- each grant is one more than the payload words that the certificate spells
+-- each grant is one more than the payload words that the certificate gives
 abbrev pub GrantsWords : State → MadeMap → Type 0
 GrantsWords s m = map (λ a. a.grant) m.map ≡ map (λ g. 1 + g.words) (granted (input_of s) (surplus_rate (input_of s) m.cert))
 
--- they are the right Alloc-IDs, and some grant is another
+-- the Alloc-IDs are the right ones, and some grant is wrong
 abbrev pub HasWrongWords : State → MadeMap → Type 0
 HasWrongWords s m = ListsAllocs s m × (GrantsWords s m → ⊥)
 
--- the map is not the one that the state makes
+-- the map is not the one that the state makes, for this reason
 abbrev pub MapFails : State → MadeMap → Why → Type 0
 MapFails s m Certificate = IsCertified (input_of s) m.cert → ⊥
 MapFails s m Words = IsCertified (input_of s) m.cert × HasWrongWords s m
@@ -37,16 +37,17 @@ abbrev pub ReplyFails : State → Reply → Why → Type 0
 ReplyFails s (Map m) why = MapFails s m why
 ReplyFails s Taken why = ⊥
 
--- an entry fails after `kept` entries of its chapter: a check refuses the event, or the map is not the state's
+-- an entry fails after `kept` entries of its chapter: a check refuses the event, or its map is not the one that the
+-- state makes
 abbrev pub EntryFails : ℕ → State → Entry → Why → Type 0
 EntryFails kept s e Event = first_refusal kept s e.event ≢ None
 EntryFails kept s e why = (first_refusal kept s e.event ≡ None) × ReplyFails s e.reply why
 
--- the chapter, of its entries only those before an index
+-- the chapter with only its entries before an index
 abbrev pub cut_at : Chapter → ℕ → Chapter
 cut_at c index = record { number = c.number; opening = c.opening; entries = take index c.entries }
 
--- the entry at an index is the first that fails
+-- the entry at an index is the first that fails, for this reason
 pub record FailsAt (c : Chapter) (index : ℕ) (why : Why) : Type 0 where
   pub entry : Entry
   pub here : slice_get c.entries index ≡ Some entry

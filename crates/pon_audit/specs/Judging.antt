@@ -1,4 +1,4 @@
--- What is known of a chapter whatever stands before it.
+-- The fault of a chapter, regardless of the chapters before it.
 use Rattle.std.specs.Prelude.{◌≡◌, ◌⊎◌, List, Option, Some, None}
 use Rattle.pon_record.specs.Chapters.{PlacedChapter}
 use Rattle.pon_audit.specs.Openings.{OpensPort, chapter_of}
@@ -9,23 +9,23 @@ use Rattle.pon_audit.specs.declared.verdict.Why.TheVariants.{Opening}
 use Rattle.pon_audit.specs.declared.verdict.Verdict.{Verdict}
 use Rattle.pon_audit.specs.declared.verdict.Verdict.TheVariants.{Bad}
 
--- it does not open its port
+-- the chapter does not open its port
 pub record FailsToOpen (c : PlacedChapter) (f : Fault) : Type 0 where
   pub other : OpensPort c.body → ⊥
   pub why : f.why ≡ Opening
   pub index : f.index ≡ 0
 
--- it does, and an entry fails
+-- the chapter opens its port, and an entry fails
 pub record FailsLater (c : PlacedChapter) (f : Fault) : Type 0 where
   pub opens : OpensPort c.body
   pub entry : FailsAt (chapter_of c.body) f.index f.why
 
--- what is wrong with it, but for its number
+-- this is the fault of the chapter, except one of its number
 abbrev pub IsAnswer : PlacedChapter → Option Fault → Type 0
 IsAnswer c None = IsGoodChapter c
 IsAnswer c (Some f) = FailsToOpen c f ⊎ FailsLater c f
 
--- the verdict names the first chapter that fails
+-- the verdict gives the first chapter that fails
 abbrev pub TellsBad : List PlacedChapter → Verdict → Type 0
 TellsBad chapters (Bad port number index w) = IsFirstFault chapters port number index w
 TellsBad chapters _ = ⊥

@@ -1,4 +1,4 @@
--- Which verdict a recording has.
+-- The verdict of a recording.
 use Rattle.std.specs.Prelude.{ℕ, ◌≡◌, ◌<◌, ◌⊎◌, All, List, take, slice_get, Some, count_by, sum_by}
 use Rattle.std.specs.List.{AllPairs}
 use Rattle.pon_state.specs.Replay.{makes_map}
@@ -26,7 +26,7 @@ pub record IsGoodChapter (c : PlacedChapter) : Type 0 where
   pub lawful : IsLawfulChapter (chapter_of c.body)
   pub fair : MapsAreFair (chapter_of c.body)
 
--- a chapter before another in the recording: of one port, it has the lesser number
+-- if both are chapters of one port, the earlier one in the recording has the lesser number
 abbrev pub Rises : PlacedChapter → PlacedChapter → Type 0
 Rises earlier later = earlier.body.port ≡ later.body.port → earlier.body.number < later.body.number
 
@@ -34,24 +34,25 @@ pub record AreGood (chapters : List PlacedChapter) : Type 0 where
   pub each : All IsGoodChapter chapters
   pub rising : AllPairs Rises chapters
 
--- the maps of a chapter
+-- the number of maps of a chapter
 abbrev pub maps_in : PlacedChapter → ℕ
 maps_in c = count_by (λ e. makes_map e.event) c.body.entries
 
--- the chapters are good, and have this number of maps in all
+-- the chapters are good, and have this number of maps together
 pub record IsGood (chapters : List PlacedChapter) (maps : ℕ) : Type 0 where
   pub good : AreGood chapters
   pub count : maps ≡ sum_by maps_in chapters
 
 -- The first chapter that fails.
 
--- a chapter fails behind earlier ones: its opening, its number, or the entry at an index; the first of these counts
+-- a chapter that follows earlier ones fails by its opening, its number, or the entry at an index; the first of these
+-- counts
 abbrev pub ChapterFails : List PlacedChapter → PlacedChapter → ℕ → Why → Type 0
 ChapterFails earlier c index why.Opening = (OpensPort c.body → ⊥) × (index ≡ 0)
 ChapterFails earlier c index why.Number = OpensPort c.body × (All (λ d. Rises d c) earlier → ⊥) × (index ≡ 0)
 ChapterFails earlier c index w = OpensPort c.body × All (λ d. Rises d c) earlier × FailsAt (chapter_of c.body) index w
 
--- the first chapter that fails: its port and number, the index of the entry, and how
+-- the first chapter that fails: its port and number, the index of the entry, and why
 pub record IsFirstFault (chapters : List PlacedChapter) (port number index : ℕ) (w : Why) : Type 0 where
   pub place : ℕ
   pub chapter : PlacedChapter
@@ -63,7 +64,7 @@ pub record IsFirstFault (chapters : List PlacedChapter) (port number index : ℕ
 
 -- Verdicts.
 
--- the whole chapters of a recording, also of one that is cut
+-- the whole chapters of a recording, or of a recording that is cut
 abbrev pub HasChapters : List ℕ → List PlacedChapter → Type 0
 HasChapters bytes chapters = IsRecording bytes chapters ⊎ ((at : ℕ) × IsTruncated bytes at chapters)
 

@@ -1,4 +1,4 @@
-//! A chapter of a recording, judged whatever stands before it.
+//! The audit of one chapter, regardless of the chapters before it.
 
 ghost use Rattle.std.specs.Prelude.{◌↔◌, IfOk, IsTrue, MatchOption};
 ghost use Rattle.pon_port.specs.Chapters.{IsLawfulChapter};
@@ -13,8 +13,8 @@ use pon_record::RawChapter;
 use pon_state::{PortCfg, PortState};
 use std::alloc::{AllocError, Global};
 
-/// What is wrong with a chapter: the index of the entry that fails, and why; the index is 0 if the opening or the
-/// number is.
+/// The fault of a chapter: the index of the entry that fails, and why. The index is 0 for a fault of the opening or of
+/// the number.
 #[derive(Clone, Copy, Debug, PartialEq, Eq)]
 pub(crate) struct Fault {
     pub index: usize,
@@ -33,7 +33,7 @@ fn opens_port(chapter: &RawChapter) -> bool
         && opening.taken_before == 0
 }
 
-// The first entry that fails, of a chapter that opens its port. `Err` only if memory is refused.
+// Finds the first entry that fails, of a chapter that opens its port. `Err` only if memory is refused.
 fn entry_fault(alloc: Global, chapter: &RawChapter) -> Result<Option<Fault>, AllocError>
     requires fits { FitsChapter chapter.now.body }
     requires opens { OpensPort chapter.now.body }
@@ -55,7 +55,7 @@ fn entry_fault(alloc: Global, chapter: &RawChapter) -> Result<Option<Fault>, All
     Ok(None)
 }
 
-/// What is wrong with a chapter, but for its number. `Err` only if memory is refused.
+/// Finds the fault of a chapter, except one of its number against earlier chapters. `Err` only if memory is refused.
 pub(crate) fn judge(alloc: Global, chapter: &RawChapter) -> Result<Option<Fault>, AllocError>
     requires { FitsChapter chapter.now.body }
     ensures { IfOk result (λ answer. IsAnswer chapter.now answer) }

@@ -1,4 +1,4 @@
-//! The entries of a chapter, judged one after another.
+//! The audit of the entries of a chapter, one after another.
 
 ghost use Rattle.std.specs.Prelude.{◌≡◌, ◌↔◌, ◌+◌, ◌<◌, ◌^◌, IfOk, IsTrue, MatchOption, map};
 ghost use Rattle.pon_admit.specs.Roster.{IsAdmitted};
@@ -73,7 +73,8 @@ fn has_wrong_words(state: &PortState, wanted: &Map, made: &MadeMap) -> bool
     same_ids(rows, others) && !same_grants(rows, others)
 }
 
-// Why a map with an accepted certificate is not the one that the state makes, which has the structures `wanted`.
+// Returns why a map with an accepted certificate differs from the map that the state makes, which has the structures
+// `wanted`.
 fn map_fault(state: &PortState, wanted: &Map, made: &MadeMap) -> Option<Why>
     requires certified { IsCertified (input_of state.now) made.now.cert }
     requires wanted { wanted.now ≡ map_of state.now.profile (input_of state.now)
@@ -89,7 +90,7 @@ fn map_fault(state: &PortState, wanted: &Map, made: &MadeMap) -> Option<Why>
     }
 }
 
-// Judges a map, and takes it into the state if it is the one that the state makes. `Err` only if memory is refused.
+// Checks a map, and applies it to the state if it is the one that the state makes. `Err` only if memory is refused.
 fn take_map(alloc: Global, state: &mut PortState, made: &MadeMap) -> Result<Option<Why>, AllocError>
     requires admitted { IsAdmitted state.old.rule state.old.gap state.old.roster }
     requires frames { AreConsecutive state.old.next state.old.window }
@@ -113,8 +114,8 @@ fn take_map(alloc: Global, state: &mut PortState, made: &MadeMap) -> Result<Opti
     Ok(fault)
 }
 
-/// Judges an entry after `kept` entries of its chapter, and takes it into the state if it may follow. `Err` only if
-/// memory is refused.
+/// Checks an entry that follows `kept` entries of its chapter, and applies it to the state if it may follow. `Err` only
+/// if memory is refused.
 pub(crate) fn take_entry(
     alloc: Global,
     state: &mut PortState,

@@ -1,4 +1,4 @@
-//! The first chapter that fails, from what is wrong with each.
+//! The first chapter that fails, from the fault of each chapter.
 
 ghost use Rattle.std.specs.Prelude.{◌↔◌, All, IsTrue, MatchOption};
 ghost use Rattle.std.specs.List.{AllZip};
@@ -21,7 +21,7 @@ fn rises(earlier: &[RawChapter], chapter: &RawChapter) -> bool
     true
 }
 
-// What is wrong with a chapter behind earlier ones, if `alone` is wrong with it whatever stands before it.
+// Returns the fault of a chapter that follows earlier ones; `alone` is its fault regardless of them.
 fn fault_behind(earlier: &[RawChapter], chapter: &RawChapter, alone: Option<Fault>) -> Option<Fault>
     requires { IsAnswer chapter.now alone }
     ensures { MatchOption result
@@ -43,7 +43,7 @@ fn fault_behind(earlier: &[RawChapter], chapter: &RawChapter, alone: Option<Faul
     }
 }
 
-/// The first chapter that fails, if one does, from what is wrong with each whatever stands before it.
+/// Finds the first chapter that fails, from the fault of each chapter regardless of those before it.
 pub(crate) fn first_fault(chapters: &[RawChapter], answers: &[Option<Fault>]) -> Option<Verdict>
     requires { AllZip IsAnswer chapters.now answers.now }
     ensures { MatchOption result (AreGood chapters.now) (TellsBad chapters.now) }

@@ -12,7 +12,7 @@ pub fn good_chapters_have_no_fault()
         → IsFirstFault chapters port number index why → ⊥ }
 {}
 
-/// Chapters have one first fault at most.
+/// Chapters have at most one first fault.
 pub fn one_first_fault()
     ensures { (chapters : List PlacedChapter) (port number index : ℕ) (why : Why)
         (other_port other_number other_index : ℕ) (other_why : Why)
@@ -22,7 +22,7 @@ pub fn one_first_fault()
         × (why ≡ other_why) }
 {}
 
-/// Bytes have one verdict at most.
+/// Bytes have at most one verdict.
 pub fn one_verdict()
     ensures { (bytes : List ℕ) (verdict other : Verdict) → IsVerdict bytes verdict
         → IsVerdict bytes other → verdict ≡ other }

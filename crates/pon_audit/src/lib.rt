@@ -2,8 +2,8 @@
 //! G.987.3).
 //!
 //! [`audit`] replays each chapter of a recording and checks each map against its certificate: either each entry may
-//! follow those before it and each map is fair, or the first fault is returned. The crate makes no certificate and takes
-//! no event.
+//! follow those before it and each map is fair, or the first fault is returned. The crate computes no certificate and
+//! applies no event to a port.
 #![tactic(auto)]
 
 mod chapters;

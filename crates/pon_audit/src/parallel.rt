@@ -1,4 +1,4 @@
-//! Chapters judged in many threads.
+//! The audit of chapters in many threads.
 
 ghost use Rattle.std.specs.Prelude.{All, IfOk};
 ghost use Rattle.std.specs.List.{AllZip};
@@ -11,7 +11,7 @@ use rayon::prelude::*;
 use std::alloc::{AllocError, Global};
 use std::thread::Threads;
 
-/// What is wrong with each chapter whatever stands before it, from as many threads as there are processors. `Err`
+/// Finds the fault of each chapter regardless of those before it, in as many threads as there are processors. `Err`
 /// only if memory is refused.
 pub(crate) fn judge_in_parallel(
     rt: &(impl Threads + Sync),

@@ -14,10 +14,10 @@ use pon_record::{RawChapter, ReadFault, Recording, read_recording};
 use std::alloc::{AllocError, Global};
 use std::thread::Threads;
 
-/// The fewest maps of which the chapters are judged in many threads.
+/// Minimum number of maps for an audit in many threads.
 pub const PARALLEL_MAPS: u64 = 2_048;
 
-// The maps of a chapter.
+// Counts the maps of a chapter.
 fn chapter_maps(chapter: &RawChapter) -> u64
     ensures { result ≡ maps_in chapter.now }
 {
@@ -28,7 +28,7 @@ fn chapter_maps(chapter: &RawChapter) -> u64
     maps.count() as u64
 }
 
-// The maps of all chapters.
+// Counts the maps of all chapters.
 fn map_count(chapters: &[RawChapter]) -> u64
     requires { sum_by maps_in chapters.now < 2 ^ 64 }
     ensures { result ≡ sum_by maps_in chapters.now }
@@ -40,7 +40,7 @@ fn map_count(chapters: &[RawChapter]) -> u64
     maps
 }
 
-// What is wrong with each chapter whatever stands before it. `Err` only if memory is refused.
+// Finds the fault of each chapter regardless of those before it. `Err` only if memory is refused.
 fn judge_each(alloc: Global, chapters: &[RawChapter]) -> Result<Vec<Option<Fault>>, AllocError>
     requires { All (λ c. FitsChapter c.body) chapters.now }
     ensures { IfOk result (λ answers. AllZip IsAnswer chapters.now answers.items) }
@@ -52,7 +52,7 @@ fn judge_each(alloc: Global, chapters: &[RawChapter]) -> Result<Vec<Option<Fault
     Ok(answers)
 }
 
-// The first chapter that fails, if one does, of chapters with this number of maps. `Err` only if memory is refused.
+// Finds the first of the chapters that fails; they have this number of maps. `Err` only if memory is refused.
 fn find_fault(
     rt: &(impl Threads + Sync),
     alloc: Global,
@@ -71,7 +71,7 @@ fn find_fault(
     Ok(first_fault(chapters, &answers))
 }
 
-// The verdict on a recording of these chapters. `Err` only if memory is refused.
+// Returns the verdict on a recording of these chapters. `Err` only if memory is refused.
 fn judge_recording(
     rt: &(impl Threads + Sync),
     alloc: Global,
@@ -89,8 +89,8 @@ fn judge_recording(
     }
 }
 
-// The verdict on a recording that is cut in the chapter that begins at a place, behind whole chapters. `Err` only if
-// memory is refused.
+// Returns the verdict on a recording that ends inside the chapter that begins at `at`, after whole chapters. `Err` only
+// if memory is refused.
 fn judge_truncated(
     rt: &(impl Threads + Sync),
     alloc: Global,
@@ -110,14 +110,14 @@ fn judge_truncated(
     }
 }
 
-/// The verdict on the bytes of a recording.
+/// Audits the bytes of a recording.
 ///
-/// `Good` only if the bytes are a recording, each chapter opens its port, each entry may follow those before it, each map is
-/// fair for the state before it, and the numbers of a port's chapters rise. `Bad` only if a chapter fails and those
-/// before it in the recording are good, also of a recording whose last chapter is cut. `Truncated` only if the whole
-/// chapters are good.
-/// `BadFormat` whatever the chapters before the fault. Chapters of [`PARALLEL_MAPS`] maps and more are judged in as many
-/// threads as there are processors, with the same verdict. `Err` only if memory is refused.
+/// `Good` only if the bytes are a recording, each chapter opens its port, each entry may follow those before it, each
+/// map is fair for the state before it, and the numbers of a port's chapters ascend. `Bad` only if a chapter fails and
+/// those before it in the recording are good, also if the recording is cut in its last chapter. `Truncated` only if the
+/// whole chapters are good.
+/// `BadFormat` regardless of the chapters before the fault. Chapters with [`PARALLEL_MAPS`] maps or more are audited in
+/// as many threads as there are processors, with the same verdict. `Err` only if memory is refused.
 pub fn audit(rt: &(impl Threads + Sync), alloc: Global, bytes: &[u8]) -> Result<Verdict, AllocError>
     ensures { IfOk result (λ verdict. IsVerdict bytes.now verdict) }
 {

@@ -19,7 +19,7 @@ const RECORDING: &str = "
     00 0000000000000000 0000000000000000 0000 00 0000000000000000 0000000000000000 0000
     04 0000000000000002 0005 01 00000064";
 
-// The bytes of pairs of hexadecimal digits, parted by blanks.
+// Converts pairs of hexadecimal digits, separated by blanks, to bytes.
 fn bytes_of(alloc: Global, text: &str) -> Result<Vec<u8>, AllocError> {
     let digits: Vec<u8> = text
         .bytes()
@@ -31,7 +31,7 @@ fn bytes_of(alloc: Global, text: &str) -> Result<Vec<u8>, AllocError> {
     }
 }
 
-// The text of the verdict on the recording with bytes put in at a place.
+// Returns the text of the verdict on the recording with some bytes replaced.
 fn verdict_with(
     rt: &(impl Abort + Threads + Sync),
     alloc: Global,
@@ -109,7 +109,7 @@ fn tells_a_number_that_does_not_rise(rt: HostRuntime) -> Result<(), Fail> {
     Ok(())
 }
 
-// A recording of one chapter: an Alloc-ID of 2,560 kbit/s and this number of maps.
+// Makes a recording of one chapter: an Alloc-ID of 2,560 kbit/s and this number of maps.
 fn many_maps(alloc: Global, maps: u16) -> Result<Vec<u8>, AllocError> {
     let mut bytes = bytes_of(alloc, "504f4e5245433031 43")?;
     bytes.extend_from_slice(&(54 + 59 * u32::from(maps)).to_be_bytes())?;
@@ -130,7 +130,7 @@ fn many_maps(alloc: Global, maps: u16) -> Result<Vec<u8>, AllocError> {
     Ok(bytes)
 }
 
-// The same verdict whether the chapter is judged in one thread or, from 2,048 maps, in many, and whatever follows the fault.
+// The verdict is the same whether the chapter is audited in one thread or, from 2,048 maps, in many, and whatever follows the fault.
 #[test]
 fn judges_many_maps(rt: HostRuntime) -> Result<(), Fail> {
     for maps in [2000u16, 2047, 2048, 2049, 65_535] {
@@ -151,7 +151,7 @@ fn judges_many_maps(rt: HostRuntime) -> Result<(), Fail> {
     Ok(())
 }
 
-// The chapter of each of three ports; a fault in each of the last two.
+// One chapter for each of three ports, with a fault in each of the last two.
 #[test]
 fn judges_the_ports_in_order(rt: HostRuntime) -> Result<(), Fail> {
     let mut recording = bytes_of(rt.alloc(), RECORDING)?;
@@ -176,7 +176,7 @@ fn judges_the_ports_in_order(rt: HostRuntime) -> Result<(), Fail> {
     Ok(())
 }
 
-// The verdict on the recording with each of its bits flipped, one at a time.
+// Returns the verdict on the recording with each of its bits flipped, one at a time.
 fn flipped(rt: &(impl Abort + Threads + Sync), alloc: Global) -> Result<Vec<Verdict>, AllocError> {
     let mut recording = bytes_of(alloc, RECORDING)?;
     let mut verdicts = Vec::new(alloc);
@@ -191,7 +191,7 @@ fn flipped(rt: &(impl Abort + Threads + Sync), alloc: Global) -> Result<Vec<Verd
     Ok(verdicts)
 }
 
-// The number of verdicts that are bad for this reason.
+// Counts the verdicts that are bad for this reason.
 fn bad_for(verdicts: &[Verdict], wanted: Why) -> usize {
     verdicts
         .iter()
@@ -199,9 +199,9 @@ fn bad_for(verdicts: &[Verdict], wanted: Why) -> usize {
         .count()
 }
 
-// Of 2,336 bits 72 are of occupancies on which no word rests, 6 name another port, and 20 raise the greatest rate of an
-// Alloc-ID that shares no surplus: 98 recordings stay good. 27 make the body longer than the bytes, so that they are cut.
-// 2 lessen the fixed rate, and then the maps grant too many words.
+// Of the 2,336 bits, 72 belong to occupancies that no granted word depends on, 6 name another port, and 20 raise the
+// maximum rate of an Alloc-ID that shares no surplus: these 98 recordings stay good. 27 make the body longer than the
+// bytes, so they are cut. 2 reduce the fixed rate, and then the maps grant too many words.
 #[test]
 fn judges_each_flipped_bit(rt: HostRuntime) -> Result<(), Fail> {
     let verdicts = flipped(&rt, rt.alloc())?;
@@ -224,7 +224,7 @@ fn judges_each_flipped_bit(rt: HostRuntime) -> Result<(), Fail> {
     Ok(())
 }
 
-// One allocation that fails (`rt try --test --fail-alloc N`) is an `Err`, and changes no verdict.
+// One failed allocation (`rt try --test --fail-alloc N`) is an `Err`, and changes no verdict.
 #[test]
 fn judges_again_what_memory_refused(rt: HostRuntime) -> Result<(), Fail> {
     let recording = bytes_of(rt.alloc(), RECORDING).or(bytes_of(rt.alloc(), RECORDING))?;

@@ -1,8 +1,8 @@
 use pon_units::PortNo;
 use std::fmt;
 
-/// Why a chapter of a recording is bad. Of several faults it is the first: opening, number, entries in order; of one
-/// entry the event, the certificate, the words, the bursts.
+/// Why a chapter of a recording is bad. Of several faults the first counts, in this order: opening, number, entries in
+/// order; for one entry: event, certificate, words, bursts.
 #[derive(Clone, Copy, Debug, PartialEq, Eq)]
 pub enum Why {
     /// The chapter does not open its port: its number is above 0, or its opening is not that of a port just opened.
@@ -11,12 +11,12 @@ pub enum Why {
     Number,
     /// A check refuses the event.
     Event,
-    /// The certificate of a map is not the one of the class problems of the state before it.
+    /// The certificate of a map is not that of the class problems of the state before it.
     Certificate,
     /// A map has the admitted Alloc-IDs in map order, but a grant is not one more than the payload words that its
-    /// certificate spells.
+    /// certificate gives.
     Words,
-    /// A map differs otherwise from the one that the state makes under its certificate, or is of another frame.
+    /// A map differs in another way from the one that the state makes with its certificate, or is of another frame.
     Bursts,
 }
 
@@ -38,10 +38,10 @@ impl fmt::Display for Why {
     }
 }
 
-/// What an audit says of a recording.
+/// Result of the audit of a recording.
 #[derive(Clone, Copy, Debug, PartialEq, Eq)]
 pub enum Verdict {
-    /// Each chapter is good; they have this number of maps.
+    /// Each chapter is good; together they have this number of maps.
     Good {
         maps: u64,
     },
@@ -53,7 +53,8 @@ pub enum Verdict {
         index: usize,
         why: Why,
     },
-    /// No recording: the fault is in the magic bytes, at 0, or in the chapter whose first byte is at `at`.
+    /// The bytes are not a recording: the fault is in the magic bytes, at 0, or in the chapter whose first byte is at
+    /// `at`.
     BadFormat {
         at: usize,
     },

@@ -6,11 +6,11 @@ use Rattle.std.proofs.lemmas.List.Concat.{flat_map-cons}
 use Rattle.pon_bwmap.specs.Structure.{Structure}
 use Rattle.pon_bwmap.specs.MapBytes.{structure_bytes}
 
--- the place behind a structure
+-- the index after a structure
 place_behind : (k : ℕ) (piece : List ℕ) (row : Structure) → piece ≡ structure_bytes row → 4 + 8 * (k + 1) ≡ (4 + 8 * k) + length piece
 place_behind k piece row is = let eight : length piece ≡ 8 = ap (λ (t : List ℕ). length t) is in omega (arith, eight)
 
--- the bytes from a structure on
+-- the bytes from structure k on
 from_structure : (rows : List Structure) (k : ℕ) (d : Structure) → k < length rows → flat_map structure_bytes (drop k rows) ≡ structure_bytes (get_or rows k d) ++ flat_map structure_bytes (drop (k + 1) rows)
 from_structure rows k d lt =
     let first : drop k rows ≡ get_or rows k d ∷ drop (k + 1) rows = rw add-one (drop-cons rows k d lt) in

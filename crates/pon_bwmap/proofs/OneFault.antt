@@ -1,4 +1,4 @@
--- Bytes have one first fault as a map at most.
+-- Bytes have at most one first fault as a map.
 use Rattle.std.proofs.Common.{◌≡◌, ℕ, ◌<◌, ◌≤◌, List, length, drop, All, Some, None, inl, inr, refl, ap, sym, ◌∙◌, subst, arith}
 use Rattle.std.proofs.lemmas.Bool.{cases_lt}
 use Rattle.pon_lists.specs.Bytes.{AreBytes}
@@ -18,7 +18,7 @@ use Rattle.pon_bwmap.proofs.RowReading.{fault-append}
 
 -- ---- the structures
 
--- the ends of a row of structures: one is lost, one breaks a rule, or all are read
+-- the outcomes of reading the structures: one is lost, one breaks a rule, or all are read
 pub data RowsEnd (bytes : List ℕ) (count : ℕ) (f : MapFault) : Type 0 where
   Lost : (k : ℕ) → k < count → LosesStructure bytes k → f ≡ StructHec k → RowsEnd bytes count f
   Broken : (k : ℕ) → k < count → BreaksRule bytes k f → RowsEnd bytes count f
@@ -34,11 +34,11 @@ rows_end bytes count Short h = absurd h
 rows_end bytes count HeadHec h = absurd h
 rows_end bytes count TooMany h = absurd h
 
--- a structure that is read is not lost
+-- a structure that reads is not lost
 not_lost : (bytes : List ℕ) (rows : List Structure) (corrected k : ℕ) → ReadsRows bytes rows corrected → k < length rows → LosesStructure bytes k → ⊥
 not_lost bytes rows corrected k r lt l = let at = row_at bytes rows corrected k r lt in l.lost (structure_payload at.0) at.1 at.2.word
 
--- a structure that keeps the rules breaks none
+-- a structure that keeps the rules does not break one
 not_broken : (bytes : List ℕ) (rows : List Structure) (corrected k : ℕ) (fault : MapFault) → AreBytes bytes → ReadsRows bytes rows corrected → k < length rows → row_fault rows k ≡ None → BreaksRule bytes k fault → ⊥
 not_broken bytes rows corrected k fault are r lt none b =
     let first = first_rows bytes b.rows rows b.corrected corrected are b.reads r (omega (arith, b.counted, lt)) in
@@ -95,13 +95,13 @@ one_end bytes count f g are (Read rows corrected r e) (Read rows2 corrected2 r2 
 
 -- ---- the whole map
 
--- a head is there, and what comes of it: too many structures, too few bytes, or this of the structures
+-- the outcomes after the head: too many structures, too few bytes, or a fault of the structures
 pub data HeadEnd (bytes : List ℕ) (head : MapHead) (f : MapFault) : Type 0 where
   Many : 512 < head.n → f ≡ TooMany → HeadEnd bytes head f
   Cut : head.n ≤ 512 → length bytes < map_size head → f ≡ Short → HeadEnd bytes head f
   Rows : head.n ≤ 512 → map_size head ≤ length bytes → IsRowsFirstFault (drop 4 bytes) head.n f → HeadEnd bytes head f
 
--- the ends of a map: no head is there, its word is lost, or it reads
+-- the outcomes of reading a map: no whole head, a head that is lost, or a head that reads
 pub data MapEnd (bytes : List ℕ) (f : MapFault) : Type 0 where
   NoHead : length bytes < 4 → f ≡ Short → MapEnd bytes f
   LostHead : IsHeaderFault bytes Hec → f ≡ HeadHec → MapEnd bytes f

@@ -1,4 +1,4 @@
--- Bytes read as one map at most, and bytes that read as a map have no fault.
+-- Bytes read as at most one map, and bytes that read as a map have no fault.
 use Rattle.std.proofs.Common.{◌≡◌, ℕ, zero, suc, ◌+◌, ◌*◌, ◌^◌, ◌<◌, ◌≤◌, Bool, true, false, List, [], ◌∷◌, ◌++◌, length, drop, All, Option, Some, None, IfSome, inl, inr, refl, ap, sym, ◌∙◌, subst, arith}
 use Rattle.std.specs.Int.{w32, w64, from_be_bytes}
 use Rattle.std.proofs.lemmas.List.{drop-drop}
@@ -63,7 +63,7 @@ one_structure bytes a b k l all r s =
 
 -- ---- structures in a row
 
--- fewer structures that are read are the first of those that are
+-- if two lists of structures read from the same bytes, the shorter one is a prefix of the longer one
 pub first_rows : (bytes : List ℕ) (rows all : List Structure) (k l : ℕ) → AreBytes bytes → ReadsRows bytes rows k → ReadsRows bytes all l → length rows ≤ length all → (more : List Structure) × (all ≡ rows ++ more)
 first_rows bytes [] all k l are r s le = (all, refl)
 first_rows bytes (a ∷ rows) [] k l are r s le = absurd (omega (arith, le))
@@ -81,7 +81,7 @@ one_rows bytes (a ∷ rows) (b ∷ rows2) k l are r s e =
     let rest = one_rows (drop 8 bytes) rows rows2 r.1 s.1 (bytes-drop 8 bytes are) r.3 s.3 (omega (arith, e)) in
     (λ i. one.0 i ∷ rest.0 i, omega (arith, r.4, s.4, one.1, rest.1))
 
--- the structure at a place
+-- the structure at an index
 pub row_at : (bytes : List ℕ) (rows : List Structure) (corrected k : ℕ) → ReadsRows bytes rows corrected → k < length rows → (a : Structure) × (places : ℕ) × ReadsStructure (drop (8 * k) bytes) a places
 row_at bytes [] corrected k r lt = absurd (omega (arith, lt))
 row_at bytes (a ∷ rows) corrected zero r lt = (a, r.0, r.2)

@@ -48,7 +48,7 @@ rows_length : (rows : List Structure) → length (flat_map structure_bytes rows)
 rows_length [] = refl
 rows_length (a ∷ rows) = ap (λ (bs : List ℕ). length bs) (flat_map-cons structure_bytes a rows) ∙ omega (arith, rows_length rows)
 
--- how many bytes a map has
+-- the number of bytes of a map
 pub map_length : (rows : List Structure) → length (map_bytes rows) ≡ 4 + 8 * length rows
 unfolding map_bytes
 map_length rows = omega (arith, length-append (header_bytes (map_head_payload (record { n = length rows; p = 0 }))) (flat_map structure_bytes rows), rows_length rows)

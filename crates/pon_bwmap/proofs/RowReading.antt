@@ -1,4 +1,4 @@
--- Structures that are read one after the other.
+-- Structures that are read in order.
 use Rattle.std.proofs.Common.{◌≡◌, ℕ, zero, suc, ◌+◌, ◌-◌, ◌*◌, ◌<◌, ◌≤◌, Bool, true, false, leb, ltb, List, [], ◌∷◌, ◌++◌, length, drop, get_or, Option, Some, None, IsNone, IsSome, IfSome, refl, ap, sym, ◌∙◌, subst, arith}
 use Rattle.std.specs.Prelude.{slice_get, if◌then◌else◌, eqb}
 use Rattle.std.proofs.lemmas.List.{drop-drop, length-append}
@@ -59,7 +59,7 @@ no_rows bytes = record {
   few = omega arith;
 }
 
--- the last place is known with one more structure too
+-- the last place is unchanged by one more structure
 last_place : (rows more : List Structure) (k place : ℕ) → length rows ≡ k → place ≡ place_in_series rows (k - 1) → place ≡ place_in_series (rows ++ more) (k - 1)
 last_place rows more zero place counted is = is ∙ first_place rows ∙ sym (first_place (rows ++ more))
 last_place rows more (suc k) place counted is =
@@ -70,7 +70,7 @@ last_place rows more (suc k) place counted is =
 keep-append : (rows more : List Structure) (k : ℕ) → length rows ≡ k → FirstKeepRules rows k → FirstKeepRules (rows ++ more) k
 keep-append rows more k counted keep i lt = fault-append rows more i (omega (arith, lt, counted)) ∙ keep i lt
 
--- what the code finds at structure k
+-- the fault that the code finds at structure k is its fault
 pub found_at : (bytes : List ℕ) (k corrected place next : ℕ) (a : Structure) (start : Option ℕ) (fault : Option MapFault) (g : GoodRows bytes k corrected place) → start ≡ a.start
     → (k ≡ 0 → next ≡ 0) → (IsSome start → next ≡ 0) → (0 < k → IsNone start → next ≡ place + 1) → fault ≡ start_fault k start next
     → (next ≡ place_in_series (g.rows ++ a ∷ []) k) × (row_fault (g.rows ++ a ∷ []) k ≡ fault)
@@ -82,7 +82,7 @@ found_at bytes k corrected place next a start fault g is first starts goes_on fo
 here_reads : (bytes : List ℕ) (k corrected place here : ℕ) (a : Structure) (g : GoodRows bytes k corrected place) → ReadsStructure (drop (8 * k) bytes) a here → ReadsRows bytes (g.rows ++ a ∷ []) (corrected + here)
 here_reads bytes k corrected place here a g s = reads_more bytes g.rows corrected a here g.reads (subst (λ (n : ℕ). ReadsStructure (drop (8 * n) bytes) a here) (sym g.counted) s)
 
--- one more that keeps the rules
+-- one more structure that keeps the rules
 pub one_more : (bytes : List ℕ) (k corrected place next here : ℕ) (a : Structure) (start : Option ℕ) (g : GoodRows bytes k corrected place) → ReadsStructure (drop (8 * k) bytes) a here → start ≡ a.start
     → (k ≡ 0 → next ≡ 0) → (IsSome start → next ≡ 0) → (0 < k → IsNone start → next ≡ place + 1) → start_fault k start next ≡ None
     → (h : GoodRows bytes (k + 1) (corrected + here) next) × (h.rows ≡ g.rows ++ a ∷ [])

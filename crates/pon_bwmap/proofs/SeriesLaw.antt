@@ -1,4 +1,4 @@
--- A list of structures is a map where it keeps the rules of series, and only there.
+-- A list of structures is a map exactly when it keeps the rules of series.
 use Rattle.std.proofs.Common.{◌≡◌, ℕ, zero, suc, ◌+◌, ◌<◌, ◌≤◌, Bool, true, false, leb, ltb, List, Option, Some, None, inl, inr, refl, ap, sym, ◌∙◌, arith, rules}
 use Rattle.std.specs.Prelude.{slice_get, if◌then◌else◌, is_none}
 use Rattle.std.proofs.lemmas.Bool.{cases_lt, le-ltb, lt-leb}
@@ -66,7 +66,7 @@ no_long_series rows (suc k) map all =
 
 -- ---- from the rules to maps
 
--- m structures up to k continue
+-- the m structures up to k continue a series
 abbrev WentOn : List Structure → ℕ → ℕ → Type 0
 WentOn rows k m = (from : ℕ) × (k ≡ from + m) × ((j : ℕ) → j < m → continues (slice_get rows (from + suc j)) ≡ true)
 

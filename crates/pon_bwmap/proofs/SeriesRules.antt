@@ -1,4 +1,4 @@
--- The rules of series, one structure after the other.
+-- The rules of series, structure by structure.
 use Rattle.std.proofs.Common.{◌≡◌, ℕ, zero, suc, ◌+◌, ◌-◌, ◌<◌, ◌≤◌, Bool, true, false, leb, ltb, List, length, get_or, Option, Some, None, IsNone, IsSome, IfSome, refl, ap, sym, ◌∙◌, arith, rules}
 use Rattle.std.specs.Prelude.{slice_get, if◌then◌else◌, is_none, is_some, eqb}
 use Rattle.std.proofs.lemmas.Option.{slice_get_read}
@@ -30,13 +30,13 @@ next_place rows (suc k) before place a here was first starts goes_on =
 
 -- ---- faults
 
--- what the code finds at structure k is what is wrong with it
+-- the fault that the code finds at structure k is its fault
 pub row_fault_is : (rows : List Structure) (k place : ℕ) (a : Structure) (start : Option ℕ) (fault : Option MapFault) → slice_get rows k ≡ Some a → start ≡ a.start → place ≡ place_in_series rows k
     → fault ≡ start_fault k start place → row_fault rows k ≡ fault
 row_fault_is rows k place a start fault here is at found =
     rw here (ap (start_fault k a.start) (sym at) ∙ ap (λ (o : Option ℕ). start_fault k o place) (sym is) ∙ sym found)
 
--- what the code knows at structure k
+-- the facts that the code has at structure k
 pub at_structure : (rows : List Structure) (k before place : ℕ) (a : Structure) (start : Option ℕ) (fault : Option MapFault) → k < length rows → a ≡ get_or rows k a → start ≡ a.start
     → before ≡ place_in_series rows (k - 1) → (k ≡ 0 → place ≡ 0) → (IsSome start → place ≡ 0) → (0 < k → IsNone start → place ≡ before + 1) → fault ≡ start_fault k start place
     → (place ≡ place_in_series rows k) × (row_fault rows k ≡ fault)
@@ -49,7 +49,7 @@ pub is_nothing : (fault : Option MapFault) → is_some fault ≡ false → fault
 is_nothing None e = refl
 is_nothing (Some fault) e = absurd (cc)
 
--- a structure with which nothing is wrong is not the seventeenth
+-- a structure without a fault is not the seventeenth of its series
 pub short : (k : ℕ) (start : Option ℕ) (place : ℕ) → (IsSome start → place ≡ 0) → start_fault k start place ≡ None → place ≤ 15
 short k (Some s) place starts none = omega (arith, starts refl)
 short k None place starts none = by_tests (eqb k 0) (ltb 15 place) refl none
@@ -62,7 +62,7 @@ short k None place starts none = by_tests (eqb k 0) (ltb 15 place) refl none
 pub keep_more : (rows : List Structure) (k : ℕ) → FirstKeepRules rows k → row_fault rows k ≡ None → FirstKeepRules rows (k + 1)
 keep_more rows k before here i lt = grind (arith, before i)
 
--- the first structure with which something is wrong
+-- the first structure with a fault
 first_fault_at : (rows : List Structure) (k : ℕ) (start : Option ℕ) (place : ℕ) → length rows ≤ 512 → k < length rows → FirstKeepRules rows k → row_fault rows k ≡ start_fault k start place
     → IfSome (start_fault k start place) (IsRowsFault rows)
 first_fault_at rows k (Some s) place count within before here = by_test (leb FRAME_WORDS s) here

@@ -1,4 +1,4 @@
--- The bytes of a bandwidth map (ITU-T G.987.3): its head, then 8 bytes a structure.
+-- The bytes of a bandwidth map (ITU-T G.987.3): its head, then 8 bytes for each structure.
 use Rattle.std.specs.Prelude.{ℕ, ◌+◌, ◌*◌, ◌^◌, Bool, List, ◌++◌, length, if◌then◌else◌, Option, Some, None}
 use Rattle.std.specs.List.{flat_map}
 use Rattle.std.specs.Int.{w64, to_be_bytes}
@@ -20,7 +20,7 @@ start_field None = 0xffff
 abbrev pub structure_payload : Structure → ℕ
 structure_payload a = a.id * 2 ^ 37 + flag_bit a.dbru * 2 ^ 36 + flag_bit a.ploam * 2 ^ 35 + start_field a.start * 2 ^ 19 + a.grant * 2 ^ 3 + flag_bit a.fwi * 2 ^ 2 + a.profile
 
--- the 8 bytes of a structure: those of its codeword, the greatest place first
+-- the 8 bytes of a structure: those of its codeword, most significant byte first
 abbrev pub structure_bytes : Structure → List ℕ
 structure_bytes a = to_be_bytes w64 (sealed (structure_payload a))
 

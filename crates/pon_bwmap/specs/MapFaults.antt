@@ -1,4 +1,4 @@
--- The first thing that is wrong with the bytes of a bandwidth map, from left to right.
+-- The first fault of the bytes of a bandwidth map, from left to right.
 use Rattle.std.specs.Prelude.{◌≡◌, ℕ, ◌+◌, ◌*◌, ◌^◌, ◌<◌, ◌≤◌, ◌⊎◌, List, length, drop, Some}
 use Rattle.std.specs.Int.{w64, from_be_bytes}
 use Rattle.pon_units.specs.declared.limits.TheConstants.{MOST_STRUCTURES}
@@ -12,7 +12,7 @@ use Rattle.pon_bwmap.specs.MapReading.{ReadsRows, ReadsMapRows, ReadsWholeHead, 
 use Rattle.pon_bwmap.specs.declared.fault.MapFault.{MapFault}
 use Rattle.pon_bwmap.specs.declared.fault.MapFault.TheVariants.{Short, HeadHec, TooMany, StructHec, SeriesStart, StartRange, SeriesLong, Memory}
 
--- the k structures that begin the bytes read and keep the rules, and the word of the next has no reading
+-- the first k structures of the bytes read and keep the rules, and the word of the next one has no reading
 pub record LosesStructure (bytes : List ℕ) (k : ℕ) : Type 0 where
   pub rows : List Structure
   pub corrected : ℕ
@@ -21,7 +21,7 @@ pub record LosesStructure (bytes : List ℕ) (k : ℕ) : Type 0 where
   pub keep : FirstKeepRules rows k
   pub lost : (payload places : ℕ) → Reads (2 ^ 64) (from_be_bytes w64 (drop (8 * k) bytes)) payload places → ⊥
 
--- the structures up to structure k read, and it is the first that breaks a rule, this one
+-- the structures up to structure k read, and k is the first that breaks a rule, with this fault
 pub record BreaksRule (bytes : List ℕ) (k : ℕ) (fault : MapFault) : Type 0 where
   pub rows : List Structure
   pub corrected : ℕ
@@ -30,7 +30,7 @@ pub record BreaksRule (bytes : List ℕ) (k : ℕ) (fault : MapFault) : Type 0 w
   pub keep : FirstKeepRules rows k
   pub breaks : row_fault rows k ≡ Some fault
 
--- this is the first fault of the `n` structures that begin the bytes; out of memory comes only if nothing else is wrong
+-- this is the first fault of the leading `count` structures; `Memory` only if they form a valid map
 abbrev pub IsRowsFirstFault : List ℕ → ℕ → MapFault → Type 0
 IsRowsFirstFault bytes count (StructHec k) = (k < count) × LosesStructure bytes k
 IsRowsFirstFault bytes count (SeriesStart k) = (k < count) × BreaksRule bytes k (SeriesStart k)
@@ -41,7 +41,7 @@ IsRowsFirstFault bytes count Short = ⊥
 IsRowsFirstFault bytes count HeadHec = ⊥
 IsRowsFirstFault bytes count TooMany = ⊥
 
--- nothing is wrong with the head and the number of bytes, and this is first wrong with the structures
+-- the head and the number of bytes have no fault, and this is the first fault of the structures
 pub record IsFaultOfRows (bytes : List ℕ) (fault : MapFault) : Type 0 where
   pub head : MapHead
   pub corrected : ℕ
@@ -52,7 +52,7 @@ pub record IsFaultOfRows (bytes : List ℕ) (fault : MapFault) : Type 0 where
 abbrev pub IsShort : List ℕ → Type 0
 IsShort bytes = (length bytes < 4) ⊎ ((head : MapHead) × (corrected : ℕ) × ReadsMapHead bytes head corrected × (head.n ≤ MOST_STRUCTURES) × (length bytes < map_size head))
 
--- this is the first thing that is wrong
+-- this is the first fault of the bytes
 abbrev pub IsFirstMapFault : List ℕ → MapFault → Type 0
 IsFirstMapFault bytes Short = IsShort bytes
 IsFirstMapFault bytes HeadHec = IsHeaderFault bytes Hec

@@ -7,7 +7,7 @@ use Rattle.std.specs.Cmp.Lexicographic.{options_equiv}
 use Rattle.std.proofs.Math.Bool.{beq}
 use Rattle.pon_units.specs.declared.limits.TheConstants.{GREATEST_ALLOC_ID, GREATEST_PROFILE}
 
--- the fields of an allocation structure; one with no start continues the series before it
+-- the fields of an allocation structure; one without a start continues the series before it
 pub record Structure : Type 0 where
   pub id : ℕ
   pub dbru : Bool
@@ -17,7 +17,7 @@ pub record Structure : Type 0 where
   pub fwi : Bool
   pub profile : ℕ
 
--- what the fields of a structure can hold, but for its start
+-- the ranges of the fields of a structure, except its start
 pub record FitsFields (a : Structure) : Type 0 where
   pub id : a.id ≤ GREATEST_ALLOC_ID
   pub grant : a.grant ≤ 65535

@@ -1,7 +1,7 @@
 use pon_units::{GREATEST_ALLOC_ID, GREATEST_PROFILE};
 use std::marker::Model;
 
-/// An allocation structure of a bandwidth map (ITU-T G.987.3): what one Alloc-ID is granted.
+/// An allocation structure of a bandwidth map (ITU-T G.987.3): the grant of one Alloc-ID.
 #[derive(Clone, Copy, Debug, PartialEq, Eq)]
 pub struct Alloc {
     id: u16,
@@ -47,8 +47,7 @@ impl Alloc {
     ghost use Rattle.std.specs.Prelude.{◌≡◌, ◌≤◌, true, false};
     ghost use Rattle.std.specs.Option.{SomeIff};
 
-    /// The structure with these fields; `None` exactly when the Alloc-ID is above 16,383 or the
-    /// profile above 3.
+    /// Makes a structure of these fields; `None` exactly when the Alloc-ID is above 16,383 or the profile above 3.
     pub fn new(
         id: u16,
         dbru: bool,
@@ -82,7 +81,7 @@ impl Alloc {
         })
     }
 
-    /// A structure that asks for a report and for no message.
+    /// Makes a structure that requests a report and no message.
     pub fn polled(id: u16, start: Option<u16>, grant: u16, profile: u8) -> Self
         requires id { id ≤ GREATEST_ALLOC_ID }
         requires profile { profile ≤ GREATEST_PROFILE }
@@ -107,7 +106,7 @@ impl Alloc {
         }
     }
 
-    /// The Alloc-ID, at most 16,383.
+    /// Alloc-ID, 0 to 16,383.
     pub fn id(&self) -> u16
         ensures value { result ≡ self.now.id }
         ensures range { result ≤ GREATEST_ALLOC_ID }
@@ -115,29 +114,29 @@ impl Alloc {
         self.id
     }
 
-    /// Whether a report of the occupancy (DBRu) is asked for.
+    /// Whether the structure requests a report of the occupancy (DBRu).
     pub fn dbru(&self) -> bool
         ensures { result ≡ self.now.dbru }
     {
         self.dbru
     }
 
-    /// Whether an upstream message (PLOAMu) is asked for.
+    /// Whether the structure requests an upstream message (PLOAMu).
     pub fn ploam(&self) -> bool
         ensures { result ≡ self.now.ploam }
     {
         self.ploam
     }
 
-    /// The first word of the burst, in words of 4 bytes from the beginning of the frame; `None` where
-    /// the structure continues the series before it.
+    /// First word of the burst, in words of 4 bytes from the start of the frame; `None` if the structure continues the
+    /// series before it.
     pub fn start(&self) -> Option<u16>
         ensures { result ≡ self.now.start }
     {
         self.start
     }
 
-    /// The words of 4 bytes that are granted, a report's word among them.
+    /// Granted words of 4 bytes, including the word of a report, 0 to 65,535.
     pub fn grant(&self) -> u16
         ensures value { result ≡ self.now.grant }
         ensures range { result ≤ 65535 }
@@ -145,14 +144,14 @@ impl Alloc {
         self.grant
     }
 
-    /// Whether a forced wake-up is indicated (FWI).
+    /// Whether the structure indicates a forced wake-up (FWI).
     pub fn fwi(&self) -> bool
         ensures { result ≡ self.now.fwi }
     {
         self.fwi
     }
 
-    /// The burst profile, at most 3.
+    /// Burst profile, 0 to 3.
     pub fn profile(&self) -> u8
         ensures value { result ≡ self.now.profile }
         ensures range { result ≤ GREATEST_PROFILE }

@@ -17,12 +17,11 @@ use pon_units::MOST_STRUCTURES;
 use pon_xgtc::{HLend, HeadFault};
 use std::alloc::Global;
 
-/// The map that the bytes begin with, how many wrong places were corrected in all its headers, and
-/// how many bytes it uses: 4, then 8 for each structure, then 48 for each message that it announces.
-/// The messages are skipped, and later bytes are not looked at. An `Err` is the first fault: `Short`
-/// for fewer than 4 bytes, `HeadHec`, `TooMany`, `Short` for fewer bytes than the map uses, then of
-/// each structure in turn `StructHec`, `SeriesStart`, `StartRange` and `SeriesLong`. `Memory` comes
-/// last, where a map does stand in the bytes.
+/// Decodes the map at the start of the bytes, and returns it with the number of corrected bits in its header words and
+/// the number of bytes that it uses: 4, 8 for each structure, and 48 for each announced message. Messages are skipped,
+/// and later bytes are not read. An `Err` is the first fault: `Short` for fewer than 4 bytes, `HeadHec`, `TooMany`,
+/// `Short` for fewer bytes than the map uses, then for each structure in order `StructHec`, `SeriesStart`, `StartRange`
+/// and `SeriesLong`. `Memory` only if the bytes begin with a valid map.
 pub fn decode_map(alloc: Global, bytes: &[u8]) -> Result<(Map, u32, usize), MapFault>
     ensures ok { IfOk result (λ r. ReadsMap bytes.now r.0 r.1 r.2) }
     ensures fault { IfErr result (λ f. IsFirstMapFault bytes.now f) }
@@ -33,8 +32,8 @@ pub fn decode_map(alloc: Global, bytes: &[u8]) -> Result<(Map, u32, usize), MapF
     Ok((map, u32::from(in_head) + in_rows, size(&head)))
 }
 
-/// Why the bytes begin with no map: the first fault, as [`decode_map`] tells it, but for `Memory`, since this takes
-/// none. `None` exactly when a map does stand in the bytes.
+/// Returns the first fault that [`decode_map`] finds, except `Memory`, since this allocates no memory. `None` exactly
+/// when the bytes begin with a valid map.
 pub fn map_fault(bytes: &[u8]) -> Option<MapFault>
     ensures none { IsNone result → BeginsWithMap bytes.now }
     ensures fault { IfSome result (λ f. IsFirstMapFault bytes.now f × (f ≢ MapFault.Memory)) }
@@ -50,7 +49,7 @@ pub fn map_fault(bytes: &[u8]) -> Option<MapFault>
     }
 }
 
-// The head, where all that it announces is there.
+// Decodes the head, if the bytes contain all that it announces.
 fn read_head(bytes: &[u8]) -> Result<(HLend, u8), MapFault>
     ensures ok { IfOk result (λ r. ReadsWholeHead bytes.now r.0 r.1) }
     ensures fault { IfErr result (λ f. IsFirstMapFault bytes.now f) }
@@ -76,15 +75,15 @@ fn size(head: &HLend) -> usize
     4 + 8 * usize::from(head.n()) + 48 * usize::from(head.p())
 }
 
-// Room for `count` structures; `None` if memory is refused.
+// Allocates room for `count` structures; `None` if memory is refused.
 fn room_for(alloc: Global, count: usize) -> Option<Vec<Alloc>>
     ensures { IfSome result (λ v. v.items ≡ []) }
 {
     Vec::with_capacity(alloc, count).ok()
 }
 
-// The map of these structures, in this room, and the number of places corrected in them. It reads all of them even
-// without room, since a fault of theirs comes first.
+// Decodes `count` structures into `room`, and returns their map with the number of corrected bits in them. It reads all
+// of them even without room, since a fault of a structure is returned before `Memory`.
 fn read_rows(room: Option<Vec<Alloc>>, bytes: &[u8], count: usize) -> Result<(Map, u32), MapFault>
     requires room { IfSome room (λ v. v.items ≡ []) }
     requires count { count ≤ MOST_STRUCTURES }
@@ -112,7 +111,7 @@ fn read_rows(room: Option<Vec<Alloc>>, bytes: &[u8], count: usize) -> Result<(Ma
     }
 }
 
-// The rows with one more; `None` if memory was refused, now or before.
+// Appends a row; `None` if memory was refused, now or before.
 fn push_row(rows: Option<Vec<Alloc>>, row: Alloc) -> Option<Vec<Alloc>>
     ensures { (before : List Structure) → IfSome rows (λ v. v.items ≡ before) →
         IfSome result (λ v. v.items ≡ before ++ row ∷ []) }
@@ -124,7 +123,7 @@ fn push_row(rows: Option<Vec<Alloc>>, row: Alloc) -> Option<Vec<Alloc>>
     }
 }
 
-// Structure k, and how many places were corrected in it.
+// Decodes structure k, and counts the corrected bits in it.
 fn read_structure(bytes: &[u8], k: usize) -> Result<(Alloc, u8), MapFault>
     requires { 8 * k + 8 ≤ length bytes.now }
     ensures ok { IfOk result (λ r. ReadsStructure (drop (8 * k) bytes.now) r.0 r.1) }
@@ -138,7 +137,7 @@ fn read_structure(bytes: &[u8], k: usize) -> Result<(Alloc, u8), MapFault>
     }
 }
 
-// The structure with this payload.
+// Converts a payload to its structure.
 fn structure(payload: u64) -> Alloc
     requires { payload < 2 ^ 51 }
     ensures fits { FitsStructure result }

@@ -9,9 +9,8 @@ use pon_units::MOST_STRUCTURES;
 use pon_xgtc::HLend;
 use std::alloc::{AllocError, Global};
 
-/// The bytes of the map: its head with N structures and no messages, then 8 bytes a structure. With any bytes behind
-/// them they read as the map, with nothing corrected.
-/// `AllocError` if memory is refused; it is asked for once.
+/// Encodes a map: its head with N structures and no messages, then 8 bytes for each structure. The bytes, followed by
+/// any others, read as the map, with nothing corrected. `AllocError` if memory is refused; there is one allocation.
 pub fn encode_map(alloc: Global, map: &Map) -> Result<Vec<u8>, AllocError>
     ensures spelled { IfOk result (λ bytes. bytes.items ≡ map_bytes map.now) }
     ensures reads_back { IfOk result (λ bytes. (rest : List ℕ)
@@ -22,8 +21,8 @@ pub fn encode_map(alloc: Global, map: &Map) -> Result<Vec<u8>, AllocError>
     Ok(bytes)
 }
 
-/// Writes the bytes of the map, those of [`encode_map`], to the front of `room`, and returns their number: 4,
-/// and 8 for each structure. There must be room for them; the bytes after them stay. It takes no memory.
+/// Writes the bytes of [`encode_map`] to the front of `room`, and returns their number: 4, and 8 for each structure.
+/// `room` must hold them; later bytes are unchanged. It allocates no memory.
 #[tactic(auto, unfolding(crate::specs::MapBytes::map_bytes))]
 pub fn write_map(map: &Map, room: &mut [u8]) -> usize
     requires { 4 + 8 * length map.now ≤ length room.old }
@@ -38,7 +37,7 @@ pub fn write_map(map: &Map, room: &mut [u8]) -> usize
     4 + 8 * rows.len()
 }
 
-// Writes the piece at this place.
+// Writes a piece at index `at`.
 fn put(room: &mut [u8], at: usize, piece: &[u8])
     requires { at + length piece.now ≤ length room.old }
     ensures front { take (at + length piece.now) room.new ≡ take at room.old ++ piece.now }

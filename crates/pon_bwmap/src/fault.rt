@@ -1,15 +1,15 @@
 use thiserror::Error;
 
-/// Why bytes or allocation structures are no map. `k` is the index of the structure, from 0.
+/// Why bytes or allocation structures are not a map. `k` is the index of the structure, from 0.
 #[derive(Clone, Copy, Debug, PartialEq, Eq, Error)]
 pub enum MapFault {
-    /// Fewer bytes than the head has, or than it announces.
+    /// There are fewer bytes than the head has, or than it announces.
     #[error("fewer bytes than the map has")]
     Short,
     /// The head is more than two bits away from every codeword.
     #[error("the head cannot be corrected")]
     HeadHec,
-    /// More than 512 structures.
+    /// There are more than 512 structures.
     #[error("more than 512 allocation structures")]
     TooMany,
     /// The structure is more than two bits away from every codeword.

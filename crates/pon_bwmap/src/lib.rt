@@ -1,8 +1,7 @@
-//! Bandwidth maps of XG-PON (ITU-T G.987.3): what grants the upstream frame to the ONUs' Alloc-IDs.
-//! A map is a list of allocation structures that keeps the rules of series; it is written as its head
-//! and 8 bytes a structure, each a codeword of the header code, and read with the wrong places of its
-//! headers corrected. Who is granted what is for the
-//! crates above.
+//! Bandwidth maps of XG-PON (ITU-T G.987.3), which grant the upstream frame to the Alloc-IDs of the ONUs. A map is a
+//! list of allocation structures that keeps the rules of series. It is written as its head and 8 bytes for each
+//! structure, each of them a codeword of the header code, and is read with bit errors in its header words corrected.
+//! Which Alloc-ID is granted what is decided by other crates.
 #![tactic(auto)]
 
 mod alloc;

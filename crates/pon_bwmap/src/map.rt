@@ -4,8 +4,8 @@ use crate::rules::{fit_ranges, rows_fault};
 use std::alloc::{AllocError, Global};
 use std::marker::Model;
 
-/// A bandwidth map: at most 512 allocation structures, of which the first has a start, each start is at
-/// most 9,719, and no series (a structure with a start and those after it that have none) is longer than 16.
+/// A bandwidth map: at most 512 allocation structures, of which the first has a start, each start is at most 9,719, and
+/// no series (a structure with a start and those after it without one) is longer than 16.
 #[derive(Debug, Drop)]
 pub struct Map {
     rows: Vec<Alloc>,
@@ -50,9 +50,9 @@ impl Map {
     ghost use Rattle.pon_bwmap.specs.MapReading.{FitsStructure};
     ghost use Rattle.pon_bwmap.specs.MapRules.{IsMap, IsRowsFault};
 
-    /// The map of these structures. An `Err` hands them back with the first thing that is wrong:
-    /// `TooMany`, or of the first structure that breaks a rule `SeriesStart`, `StartRange` or
-    /// `SeriesLong`; a start of 65,535 is a `StartRange`. It takes no memory.
+    /// Makes a map of these structures. An `Err` returns them with the first fault: `TooMany`, or `SeriesStart`,
+    /// `StartRange` or `SeriesLong` of the first structure that breaks a rule; a start of 65,535 is a `StartRange`. It
+    /// allocates no memory.
     pub fn from_rows(rows: Vec<Alloc>) -> Result<Map, (Vec<Alloc>, MapFault)>
         ensures made { IsOk result ↔ IsMap rows.items }
         ensures ok { IfOk result (λ map. map ≡ rows.items) }
@@ -65,7 +65,7 @@ impl Map {
         }
     }
 
-    /// The map of structures that are known to make one.
+    /// Makes a map of structures that keep the rules of maps.
     pub fn of_rows(rows: Vec<Alloc>) -> Map
         requires { IsMap rows.items }
         ensures { result ≡ rows.items }
@@ -74,7 +74,7 @@ impl Map {
         Map { rows }
     }
 
-    /// Its structures, in order. They keep the rules of maps, and each fits its ranges.
+    /// Structures, in order. They keep the rules of maps, and each fits its ranges.
     pub fn rows(&self) -> &[Alloc]
         ensures rows { result.now ≡ self.now }
         ensures map { IsMap result.now }
@@ -83,7 +83,7 @@ impl Map {
         self.rows.as_slice()
     }
 
-    /// An equal map; `AllocError` if memory is refused.
+    /// Makes an equal map; `AllocError` if memory is refused.
     pub fn try_copy(&self, alloc: Global) -> Result<Map, AllocError>
         ensures { IfOk result (λ copy. copy ≡ self.now) }
     {

@@ -6,7 +6,7 @@ use crate::alloc::Alloc;
 use crate::fault::MapFault;
 use pon_units::{FRAME_WORDS, LONGEST_SERIES, MOST_STRUCTURES};
 
-// The first thing that is wrong with the structures.
+// Finds the first fault of the structures.
 pub(crate) fn rows_fault(rows: &[Alloc]) -> Option<MapFault>
     ensures none { IsNone result ↔ IsMap rows.now }
     ensures fault { IfSome result (IsRowsFault rows.now) }
@@ -26,7 +26,7 @@ pub(crate) fn rows_fault(rows: &[Alloc]) -> Option<MapFault>
     None
 }
 
-// Each structure of a map fits its ranges, which is known of one once its fields are read. It computes nothing.
+// Proves that each structure of a map fits its ranges, by reading its fields. It computes nothing.
 pub(crate) fn fit_ranges(rows: &[Alloc])
     requires { IsMap rows.now }
     ensures { All FitsStructure rows.now }
@@ -36,7 +36,7 @@ pub(crate) fn fit_ranges(rows: &[Alloc])
     }
 }
 
-// The place in its series of structure k, after one at the place `before`.
+// Computes the place in its series of structure k, which follows one at the place `before`.
 pub(crate) fn next_place(k: usize, start: Option<u16>, before: usize) -> usize
     requires { before < LONGEST_SERIES }
     ensures first { k ≡ 0 → result ≡ 0 }
@@ -50,7 +50,7 @@ pub(crate) fn next_place(k: usize, start: Option<u16>, before: usize) -> usize
     }
 }
 
-// What is wrong with a structure at this place in its series.
+// Returns the fault of structure k, if it has this start and this place in its series.
 pub(crate) fn start_fault(k: usize, start: Option<u16>, place: usize) -> Option<MapFault>
     ensures { result ≡ start_fault k start place }
 {

@@ -31,7 +31,7 @@ class_made names lw sw l fs are fits e found =
       set_spelled = is.1;
     }
 
--- ---- no space stands in a word
+-- ---- no word has a space
 
 -- a digit or a letter
 glyph_lacks_if : (b : Bool) (d : ℕ) → eqb (if b then 48 + d else 87 + d) 32 ≡ false
@@ -125,7 +125,7 @@ pub read_class : (names lw sw : List ℕ) (o : Option ClassCert) (a : ClassCert)
 read_class names lw sw None a is h = absurd (cc)
 read_class names lw sw (Some c) a is h = let same : h.0 ≡ a = sym h.2 ∙ some_same c a is in subst (IsClassOf names lw sw) same h.1
 
--- ---- a space behind the last word
+-- ---- a space after the last word
 
 pub no_space : (s a b z : List ℕ) → slice_split (λ x. x == 32) s ≡ a ∷ slice_split (λ x. x == 32) b → slice_split (λ x. x == 32) s ≡ z ∷ [] → ⊥
 no_space s a b z cut whole = some_part 32 b (cc)

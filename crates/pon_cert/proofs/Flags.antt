@@ -1,4 +1,4 @@
--- Truth values read from bytes, all at once.
+-- Flags read from bytes, all at once.
 use Rattle.std.proofs.Common.{◌≡◌, ℕ, zero, suc, ◌<◌, ◌≤◌, ◌==◌, Bool, true, false, List, [], ◌∷◌, length, take, drop, refl, sym, ap, ◌∙◌, inl, inr, arith}
 use Rattle.std.specs.Prelude.{nat_lt, map, Ok, Err, ◌&&◌, min}
 use Rattle.std.proofs.lemmas.Bool.{and_parts, cases_lt}
@@ -51,7 +51,7 @@ flags_short (suc n) (b ∷ bs) l h =
     let both = and_parts (nat_lt b 2) (list_all (λ x. nat_lt x 2) bs) h in
     more_err n b bs Short both.0 (flags_short n bs (omega arith) both.1)
 
--- the bytes that are there, at most n, decide
+-- only the bytes that are present, at most n, matter
 least_is : (k n : ℕ) (bs : List ℕ) → k ≡ min n (length bs) → take k bs ≡ take n bs
 least_is k n bs e = elim (cases_lt (length bs) n) [
   | inl short ↦ let whole : k ≡ length bs = omega arith in rw whole (take-length bs ∙ sym (take_all n bs (omega arith)))

@@ -1,4 +1,4 @@
--- What a class leaves of its surplus is what its spelled rates do not take.
+-- The surplus that a class leaves is its surplus less the rates of its certificate.
 use Rattle.std.proofs.Common.{◌≡◌, ℕ, ◌+◌, ◌*◌, Bool, List, [], ◌∷◌, refl, arith}
 use Rattle.std.specs.Prelude.{sum, sum_by}
 use Rattle.std.specs.List.{zip, AllZip}
@@ -8,7 +8,7 @@ use Rattle.pon_cert.specs.declared.cert.Level.{Level}
 use Rattle.pon_cert.specs.declared.cert.Level.TheVariants as level
 use Rattle.pon_cert.specs.Certificate.{IsCertificate, RuleHolds, amount, denominator, left_surplus, spelled}
 
--- the caps are spelled where all get them
+-- at a level of all the rates are the caps
 caps_spelled : (items : List Item) (saturated : List Bool) → AllZip (RuleHolds level.All) items saturated → sum_by (λ p. amount level.All p.0 p.1) (zip items saturated) ≡ sum_by (λ item. item.cap) items
 caps_spelled [] [] rules = refl
 caps_spelled (item ∷ items) (flag ∷ flags) rules =

@@ -1,4 +1,5 @@
--- Which items' names a set holds: each item in turn meets the first name that is left, and that finds exactly the set.
+-- The flags that a set of names gives: each item in order takes the first remaining name if it is its own, which finds
+-- exactly the set.
 use Rattle.std.proofs.Common.{◌≡◌, ◌≢◌, ℕ, ◌<◌, ◌^◌, Bool, true, false, List, [], ◌∷◌, length, refl, sym, ap, arith, Option, Some, None, inl, inr}
 use Rattle.std.specs.Prelude.{map, decimal}
 use Rattle.std.specs.Str.{bytes_eq}
@@ -9,7 +10,7 @@ use Rattle.std.proofs.lemmas.Fmt.{decimal_injective}
 use Rattle.pon_cert.specs.Spelling.{saturated_names}
 use Rattle.pon_cert.specs.Parts.{starts, behind, with_first, met}
 
--- no two of the names are alike
+-- no two of the names are equal
 abbrev pub AreDifferent : List ℕ → Type 0
 AreDifferent [] = Unit {0}
 AreDifferent (n ∷ ns) = AllByRecursion (λ m. n ≢ m) ns × AreDifferent ns
@@ -17,7 +18,7 @@ AreDifferent (n ∷ ns) = AllByRecursion (λ m. n ≢ m) ns × AreDifferent ns
 abbrev pub AreSmall : List ℕ → Type 0
 AreSmall names = AllByRecursion (λ n. n < 2 ^ 64) names
 
--- ---- what is found is the set
+-- ---- the flags found are those of the set
 
 sound_step : (n : ℕ) (ns : List ℕ) (ps : List (List ℕ)) (fs : List Bool) (b : Bool) (o : Option (List Bool)) → starts n ps ≡ b → met ns (behind b ps) ≡ o → with_first b o ≡ Some fs →
     ((gs : List Bool) → met ns (behind b ps) ≡ Some gs → (length gs ≡ length ns) × (behind b ps ≡ map decimal (saturated_names ns gs))) →
@@ -39,7 +40,7 @@ met_sound [] [] fs e = let none : fs ≡ [] = cc in rw none (refl, refl)
 met_sound [] (p ∷ ps) fs e = absurd (cc)
 met_sound (n ∷ ns) ps fs e = sound_step n ns ps fs (starts n ps) (met ns (behind (starts n ps) ps)) refl refl e (met_sound ns (behind (starts n ps) ps))
 
--- ---- the set is found
+-- ---- the flags of the set are found
 
 other_name : (n m : ℕ) → n < 2 ^ 64 → m < 2 ^ 64 → n ≢ m → bytes_eq (decimal m) (decimal n) ≡ false
 other_name n m ln lm ne = elim (cases_Bool (bytes_eq (decimal m) (decimal n))) [

@@ -1,4 +1,4 @@
--- What reads as a certificate is spelled as it is.
+-- Bytes that read as a certificate are the bytes of that certificate.
 use Rattle.std.proofs.Common.{◌≡◌, ℕ, zero, suc, ◌<◌, ◌≤◌, ◌^◌, ◌==◌, Bool, true, false, List, [], ◌∷◌, ◌++◌, length, take, drop, refl, sym, ap, ◌∙◌, subst, inl, inr, arith, append_assoc, length-append}
 use Rattle.std.specs.Prelude.{map, Ok, Err, Result, nat_lt, ◌&&◌}
 use Rattle.std.specs.Int.{Width, w8, w16, w64, to_be_bytes, from_be_bytes, byte_len}
@@ -21,7 +21,7 @@ use Rattle.pon_cert.proofs.Flags.{byte_at}
 
 -- Steps.
 
--- a step that gave a value, and what gave the last one from it
+-- the value of a step, and that of the next step for it
 record Came {A B : Type 0} (r : Result A CertReadFault) (f : A → Result B CertReadFault) (v : B) : Type 0 where
   value : A
   first : r ≡ Ok value
@@ -70,7 +70,7 @@ is_number w bytes n rest e =
         let pair : (n, rest) ≡ (from_be_bytes w (take (byte_len w) bytes), drop (byte_len w) bytes) = same_value _ _ (sym e ∙ whole h) in
         record { enough = enough; value = ap (λ (p : ℕ × List ℕ). p.0) pair; behind = ap (λ (p : ℕ × List ℕ). p.1) pair }
 
--- the bytes are those of the number, and those behind
+-- the bytes are those of the number, followed by the rest
 record Spells (w : Width) (bytes : List ℕ) (n : ℕ) (rest : List ℕ) : Type 0 where
   spelled : bytes ≡ to_be_bytes w n ++ rest
   still : AreBytes rest
@@ -117,7 +117,7 @@ byte_is (b ∷ bs) n rest e =
     let pair : (b, bs) ≡ (n, rest) = same_value _ _ (sym (byte_at b bs) ∙ e) in
     record { spelled = rw (← ap (λ (p : ℕ × List ℕ). p.0) pair, ← ap (λ (p : ℕ × List ℕ). p.1) pair) refl }
 
--- Truth values.
+-- Flags.
 
 record SpellsFlags (n : ℕ) (bytes : List ℕ) (fs : List Bool) (rest : List ℕ) : Type 0 where
   count : length fs ≡ n

@@ -1,4 +1,4 @@
--- One text has one certificate.
+-- A text has at most one certificate.
 use Rattle.std.proofs.Common.{◌≡◌, ℕ, Bool, List, [], ◌∷◌, refl, sym, ap, ◌∙◌}
 use Rattle.std.specs.Prelude.{decimal, ◌==◌, codes}
 use Rattle.std.specs.List.{slice_split}

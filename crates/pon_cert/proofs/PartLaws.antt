@@ -1,4 +1,4 @@
--- The parts of texts between separators, and numbers as they are written.
+-- The parts of texts between separators, and numbers in decimal digits.
 use Rattle.std.proofs.Common.{◌≡◌, ◌≢◌, ℕ, zero, suc, ◌<◌, ◌^◌, false, List, [], ◌∷◌, ◌++◌, length, get_or, refl, sym, ap, ◌∙◌, arith, eqb, lit<, Option, Some, None, append_assoc}
 use Rattle.std.specs.Prelude.{decimal, ◌==◌, MatchOption, codes}
 use Rattle.std.specs.Borrow.{Bor}
@@ -25,7 +25,7 @@ use Rattle.pon_cert.specs.Texts.{FitsLevel}
 pub own : IsNumeralModel (AllDigits 10) (digits_value 10)
 own = numerals_by_value (AllDigits 10) tells_digits
 
--- ---- cutting
+-- ---- splitting
 
 pub whole_part : (c : ℕ) (bs part : List ℕ) → slice_split (λ b. b == c) bs ≡ part ∷ [] → bs ≡ part
 whole_part c bs part e = sym (join_with_byte-slice_split c bs) ∙ ap (join_with_byte c) e
@@ -71,7 +71,7 @@ same_number w a n la ln e =
     let two = bytes_eq-Decides w (decimal n) in
     same_Bool (eqb a n) (bytes_eq w (decimal n)) (λ t. two.1 (sym e ∙ ap decimal (one.0 t))) (λ t. one.1 (decimal_injective a n la ln (e ∙ two.0 t)))
 
--- ---- levels; 47 is the stroke between the numbers
+-- ---- levels; 47 is the slash between the numbers
 
 level_parts : (num den : ℕ) → num < 2 ^ 64 → den < 2 ^ 64 → slice_split (λ b. b == 47) (decimal num ++ 47 ∷ decimal den) ≡ decimal num ∷ decimal den ∷ []
 level_parts num den ln ld =
@@ -105,7 +105,7 @@ level_of_parts num den w a b ld ea eb cut =
     append_assoc (decimal num) (codes "/") (decimal den) ∙ ap (λ (xs : List ℕ). xs ++ 47 ∷ decimal den) ea ∙ ap (λ (xs : List ℕ). a ++ 47 ∷ xs) eb
     ∙ sym (ap (join_with_byte 47) all) ∙ join_with_byte-slice_split 47 w
 
--- no denominator of 0
+-- a denominator of 0 is refused
 pub level_result : (num den : ℕ) (w a b : List ℕ) (r : Option Level) → num < 2 ^ 64 → den < 2 ^ 64 → decimal num ≡ a → decimal den ≡ b → (w ≡ codes "all" → ⊥) → slice_split (λ x. x == 47) w ≡ a ∷ slice_split (λ x. x == 47) b →
     MatchOption r (den ≡ 0) (λ l. (0 < den) × (l ≡ level.At (record { num = num; den = den }))) → MatchOption r ((l : Level) → FitsLevel l → level_text l ≡ w → ⊥) (λ l. FitsLevel l × (level_text l ≡ w))
 level_result num den w a b None ln ld ea eb other cut h =

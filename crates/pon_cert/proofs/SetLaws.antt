@@ -1,4 +1,4 @@
--- A set's word, and the flags that are found in it.
+-- The word of a set, and the flags that it gives.
 use Rattle.std.proofs.Common.{◌≡◌, ◌≢◌, ℕ, zero, suc, ◌+◌, ◌<◌, ◌≤◌, ◌^◌, Bool, true, false, List, [], ◌∷◌, ◌++◌, length, drop, get_or, subst, refl, sym, ap, ◌∙◌, arith, eqb, lit<, Option, Some, None, append_assoc, add-one}
 use Rattle.std.specs.Prelude.{map, decimal, ◌==◌, codes, if◌then◌else◌}
 use Rattle.std.specs.Str.{bytes_eq}
@@ -110,7 +110,7 @@ pub none_done : (o : Option (List Bool)) → o ≡ after_flags [] o
 none_done None = refl
 none_done (Some fs) = refl
 
--- one truth value more, in front of those to come and behind those that were
+-- one more flag, appended to the earlier ones and put before the later ones
 pub one_more : (done : List Bool) (b : Bool) (o : Option (List Bool)) → after_flags done (with_first b o) ≡ after_flags (done ++ b ∷ []) o
 one_more done b None = refl
 one_more done b (Some fs) = ap Some (sym (append_assoc done (b ∷ []) fs))
@@ -125,7 +125,7 @@ pub met_more : (i x : ℕ) (names : List ℕ) (ps qs : List (List ℕ)) (done : 
 met_more i x names ps qs done b found l is so first left =
     rw (add-one, left, first) (so ∙ ap (after_flags done) (met_drop i x names ps l is) ∙ one_more done (starts x ps) (met (drop (suc i) names) (behind (starts x ps) ps)))
 
--- ---- behind the last item
+-- ---- after the last item
 
 met_none : (ps : List (List ℕ)) → (ps ≡ [] → ⊥) → met [] ps ≡ None
 met_none [] h = absurd (h refl)

@@ -1,4 +1,4 @@
--- The text of a set of names, one name further.
+-- The text of a set of names, name by name.
 use Rattle.std.proofs.Common.{◌≡◌, ℕ, zero, suc, ◌+◌, ◌<◌, Bool, true, false, cond, List, [], ◌∷◌, ◌++◌, length, take, get_or, refl, sym, ap, ◌∙◌, arith, append_assoc, add-one}
 use Rattle.std.specs.Prelude.{map, decimal}
 use Rattle.std.specs.List.{join_with_byte}
@@ -35,7 +35,7 @@ pub set_text_of : (t : List ℕ) (ns : List ℕ) → t ≡ joined ns → 0 < len
 set_text_of t [] e l = absurd (omega (arith, ap length e))
 set_text_of t (n ∷ ns) e l = e
 
--- a name put behind the others
+-- a name appended to the others
 add_name : (ns : List ℕ) (x : ℕ) (old new : List ℕ) → old ≡ joined ns → (old ≡ [] → ns ≡ []) → (old ≡ [] → new ≡ decimal x) → (0 < length old → new ≡ old ++ 44 ∷ decimal x) → new ≡ joined (ns ++ x ∷ [])
 add_name [] x old new e none first later = first e
 add_name (n ∷ ns) x [] new e none first later = let bad : (n ∷ ns) ≡ [] = none refl in cc

@@ -1,4 +1,4 @@
--- What the readings of two classes say of the reading of a certificate.
+-- The reading of a certificate, from the readings of its two classes.
 use Rattle.std.proofs.Common.{◌≡◌, ℕ, ◌-◌, Bool, true, false, List, zero, suc, length, take, drop, refl, ap, ◌∙◌, arith}
 use Rattle.std.proofs.lemmas.List.{drop-drop}
 use Rattle.std.specs.Prelude.{Result, Ok, Err, if◌then◌else◌, nat_lt, ◌==◌, ◌&&◌}
@@ -11,7 +11,7 @@ use Rattle.pon_cert.specs.declared.cert.CertReadFault.TheVariants.{Short, Form, 
 use Rattle.pon_lists.specs.ResultSteps.{◌>>=◌}
 use Rattle.pon_cert.specs.Reading.{number_at, wanted, level_in_bytes, level_at, flags_at, class_in_bytes, cert_at, ReadsCert, IsByteFault, IsTail}
 
--- a reading of bytes wants no memory
+-- reading the bytes does not fail with `Memory`
 abbrev WantsNone : {A : Type 0} → Result A CertReadFault → Type 0
 WantsNone r = r ≡ Err Memory → ⊥
 

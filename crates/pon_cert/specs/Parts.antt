@@ -1,4 +1,4 @@
--- The parts of a text between separators, and what of a set of names is met by which item.
+-- The parts of a text between separators, and the flags that a set of names gives to items.
 use Rattle.std.specs.Prelude.{◌≡◌, ℕ, Bool, true, false, List, [], ◌∷◌, ◌++◌, Option, Some, None, decimal, ◌==◌, codes, length, IfSome, if◌then◌else◌}
 use Rattle.std.specs.Borrow.{Bor}
 use Rattle.std.specs.Str.{bytes_eq}
@@ -8,7 +8,7 @@ use Rattle.pon_cert.specs.declared.cert.ClassCert.{ClassCert}
 use Rattle.pon_cert.specs.Spelling.{level_text, names_text, saturated_names}
 use Rattle.pon_cert.specs.Texts.{FitsClass}
 
--- the names that are left of a set, as they are written
+-- the remaining names of a set, as they are written
 abbrev pub left_of : Option (Bor (List ℕ)) → List (List ℕ)
 left_of None = []
 left_of (Some t) = slice_split (λ b. b == 44) t.now
@@ -17,7 +17,7 @@ left_of (Some t) = slice_split (λ b. b == 44) t.now
 abbrev pub parts_of : List ℕ → List (List ℕ)
 parts_of set = if bytes_eq set (codes "-") then [] else slice_split (λ b. b == 44) set
 
--- the first of the names that are left is this one
+-- whether the first remaining name is this one
 abbrev pub starts : ℕ → List (List ℕ) → Bool
 starts n [] = false
 starts n (p ∷ ps) = bytes_eq p (decimal n)
@@ -31,22 +31,22 @@ abbrev pub with_first : Bool → Option (List Bool) → Option (List Bool)
 with_first b None = None
 with_first b (Some fs) = Some (b ∷ fs)
 
--- each item in turn meets the first name that is left, or does not
+-- for each item in order, whether its name is the first remaining one; none if a name remains after the last item
 abbrev pub met : List ℕ → List (List ℕ) → Option (List Bool)
 met [] [] = Some []
 met [] (p ∷ ps) = None
 met (n ∷ ns) ps = with_first (starts n ps) (met ns (behind (starts n ps) ps))
 
--- behind items that are done
+-- the flags of earlier items, followed by those of the others
 abbrev pub after_flags : List Bool → Option (List Bool) → Option (List Bool)
 after_flags fs None = None
 after_flags fs (Some gs) = Some (fs ++ gs)
 
--- the flags are those that were found, where memory was there for them
+-- these flags were found, and the vector, unless memory was refused, contains them
 abbrev pub HaveFlags : Option (Vec Bool) → Option (List Bool) → Type 0
 HaveFlags flags found = (fs : List Bool) × (found ≡ Some fs) × IfSome flags (λ v. v.items ≡ fs)
 
--- the level and the set are those of the class
+-- the level and the set spell the class
 pub record IsClassOf (names level set : List ℕ) (cert : ClassCert) : Type 0 where
   pub fits : FitsClass cert
   pub count : length cert.saturated ≡ length names

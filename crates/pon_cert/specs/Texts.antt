@@ -1,4 +1,4 @@
--- Which certificates there are, and which texts are theirs.
+-- The ranges of certificates, and their texts.
 use Rattle.std.specs.Prelude.{◌≡◌, ℕ, ◌<◌, ◌≤◌, ◌^◌, List, length}
 use Rattle.std.specs.List.{AllPairs}
 use Rattle.pon_cert.specs.declared.problem.TheConstants.{MOST_ITEMS}
@@ -15,7 +15,7 @@ abbrev pub FitsLevel : Level → Type 0
 FitsLevel level.All = Unit {0}
 FitsLevel (level.At f) = (f.num < 2 ^ 64) × (0 < f.den) × (f.den < 2 ^ 64)
 
--- what a class problem can have for a certificate
+-- a level in range, and flags of at most as many items as a class problem has
 pub record FitsClass (cert : ClassCert) : Type 0 where
   pub level : FitsLevel cert.level
   pub count : length cert.saturated ≤ MOST_ITEMS
@@ -24,7 +24,7 @@ pub record FitsCert (cert : MapCert) : Type 0 where
   pub non_assured : FitsClass cert.na
   pub best_effort : FitsClass cert.be
 
--- names of a class, no two of them alike
+-- the names of the items of a class, at most MOST_ITEMS and all different
 pub record AreNames (names : List ℕ) : Type 0 where
   pub count : length names ≤ MOST_ITEMS
   pub different : AllPairs (λ m n. m ≡ n → ⊥) names
@@ -36,7 +36,7 @@ pub record IsTextOf (na be : List ℕ) (cert : MapCert) (text : List ℕ) : Type
   pub best_effort : length cert.be.saturated ≡ length be
   pub spelled : text ≡ cert_text na be cert
 
--- no certificate has the text; memory is only wanted where one has
+-- no certificate has the text; `Memory` only if a certificate has it
 abbrev pub IsTextFault : List ℕ → List ℕ → List ℕ → CertReadFault → Type 0
 IsTextFault na be text Short = ⊥
 IsTextFault na be text Form = (cert : MapCert) → IsTextOf na be cert text → ⊥

@@ -4,26 +4,26 @@ use crate::Sat;
 use pon_units::Frac;
 use std::alloc::{AllocError, Global};
 
-/// How much an unsaturated item gets for each unit of its weight.
+/// The rate of an unsaturated item for each unit of its weight.
 #[derive(Clone, Copy, Debug, PartialEq, Eq)]
 pub enum Level {
     /// Every item gets its cap.
     All,
-    /// The kbit/s for each unit of weight. The fraction is kept as it is written, and not reduced.
+    /// The kbit/s for each unit of weight. The fraction is kept as it is written, not reduced.
     At(Frac),
 }
 
-/// What shows how the surplus of a class is shared: the level, and which of its items are saturated.
+/// The certificate of a class: the level, and which of its items are saturated.
 #[derive(Debug, PartialEq, Eq, Drop)]
 pub struct ClassCert {
-    /// What the unsaturated items get.
+    /// The level of the unsaturated items.
     pub level: Level,
-    /// The items that get their cap, a truth value for each item of the class in map order.
+    /// A flag for each item of the class, in map order: whether it gets its cap.
     pub saturated: Sat,
 }
 
 impl ClassCert {
-    /// An equal certificate; `AllocError` if memory is refused.
+    /// Makes an equal certificate; `AllocError` if memory is refused.
     pub fn try_copy(&self, alloc: Global) -> Result<Self, AllocError>
         ensures { IfOk result (λ copy. copy ≡ self.now) }
     {
@@ -35,18 +35,18 @@ impl ClassCert {
     }
 }
 
-/// The certificate of a map: how its surplus is shared in the non-assured class, and what that leaves in the
-/// best-effort class.
+/// The certificate of a map: how its surplus is shared in the non-assured class, and how the surplus that this class
+/// leaves is shared in the best-effort class.
 #[derive(Debug, PartialEq, Eq, Drop)]
 pub struct MapCert {
-    /// The non-assured class.
+    /// Certificate of the non-assured class.
     pub na: ClassCert,
-    /// The best-effort class.
+    /// Certificate of the best-effort class.
     pub be: ClassCert,
 }
 
 impl MapCert {
-    /// An equal certificate; `AllocError` if memory is refused.
+    /// Makes an equal certificate; `AllocError` if memory is refused.
     pub fn try_copy(&self, alloc: Global) -> Result<Self, AllocError>
         ensures { IfOk result (λ copy. copy ≡ self.now) }
     {
@@ -56,13 +56,13 @@ impl MapCert {
     }
 }
 
-/// Why bytes or a text are no certificate.
+/// Why bytes or a text are not a certificate.
 #[derive(Clone, Copy, Debug, PartialEq, Eq)]
 pub enum CertReadFault {
-    /// Bytes of the certificate are absent. A text is never short.
+    /// The bytes end inside the certificate. A text is never short.
     Short,
-    /// The bytes or the text have no certificate's form.
+    /// The bytes or the text do not have the form of a certificate.
     Form,
-    /// Memory was refused for a certificate that is there.
+    /// Memory was refused for a valid certificate.
     Memory,
 }

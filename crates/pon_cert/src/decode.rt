@@ -13,10 +13,10 @@ use std::alloc::{AllocError, Global};
 use std::marker::Model;
 
 impl MapCert {
-    /// The certificate that the bytes begin with, and how many bytes it takes. Later bytes are not looked at. An
-    /// `Err` is the first fault from the left: `Short` if a number or a truth value is not there whole, `Form` for
-    /// a kind of level above 1, numbers at a level that is all, a denominator of 0, more than 512 items, or a truth
-    /// value other than 0 and 1. `Memory` comes last, where a certificate does stand in the bytes.
+    /// Decodes the certificate at the start of the bytes, and returns it with the number of its bytes. Later bytes are
+    /// not read. An `Err` is the first fault from left to right: `Short` if the bytes end inside a number or the flags,
+    /// `Form` for a kind of level above 1, numbers at a level of all, a denominator of 0, more than 512 items, or a
+    /// flag other than 0 and 1. `Memory` only if the bytes begin with a valid certificate.
     pub fn from_bytes(alloc: Global, bytes: &[u8]) -> Result<(MapCert, usize), CertReadFault>
         ensures ok { IfOk result (λ r. ReadsCert bytes.now r.0 r.1) }
         ensures fault { IfErr result (λ f. IsByteFault bytes.now f) }
@@ -28,7 +28,7 @@ impl MapCert {
     }
 }
 
-// A class as it stands in the bytes, with a byte of 0 or 1 for each item.
+// A class as slices of the bytes, with a byte of 0 or 1 for each item.
 #[derive(Drop)]
 struct LentClass<'a> {
     level: Level,
@@ -45,7 +45,7 @@ impl<'a> Model for LentClass<'a> {
 }
 
 impl LentClass<'_> {
-    // The class with truth values of its own.
+    // Copies the class with its flags.
     fn owned(&self, alloc: Global) -> Result<ClassCert, AllocError>
         ensures { IfOk result (λ class. class ≡ self.now) }
     {
@@ -62,7 +62,7 @@ fn truth_values(alloc: Global, bytes: &[u8]) -> Result<Vec<bool>, AllocError>
     bytes.iter().map(|byte| *byte == 1).collect(alloc)
 }
 
-// The certificate of two classes, with truth values of its own.
+// Copies both classes with their flags into a certificate.
 fn owned(alloc: Global, na: &LentClass<'_>, be: &LentClass<'_>) -> Result<MapCert, CertReadFault>
     ensures ok { IfOk result (λ cert. cert ≡ record { na = na.now; be = be.now }) }
     ensures err { IfErr result (λ f. f ≡ CertReadFault.Memory) }
@@ -73,7 +73,7 @@ fn owned(alloc: Global, na: &LentClass<'_>, be: &LentClass<'_>) -> Result<MapCer
     }
 }
 
-// A class, and the bytes after it.
+// Decodes a class, and returns it with the bytes after it.
 #[tactic(auto, unfolding(crate::specs::Reading::class_in_bytes))]
 fn read_class(bytes: &[u8]) -> Result<(LentClass<'_>, &[u8]), CertReadFault>
     ensures value { ReadsAs (class_in_bytes bytes.now) result }
@@ -106,7 +106,7 @@ fn read_level(bytes: &[u8]) -> Result<(Level, &[u8]), CertReadFault>
     Ok((level_in_bytes(kind, num, den)?, rest))
 }
 
-// The level of this kind with these numbers.
+// Returns the level of this kind with these numbers.
 fn level_in_bytes(kind: u8, num: u64, den: u64) -> Result<Level, CertReadFault>
     ensures { result ≡ level_in_bytes kind num den }
 {
@@ -128,7 +128,7 @@ fn fraction(num: u64, den: u64) -> Result<Level, CertReadFault>
     Ok(Level::At(Frac::new(num, den)))
 }
 
-// The next `count` bytes, each 0 or 1, and the bytes after them.
+// Returns the next `count` bytes, each of which must be 0 or 1, and the bytes after them.
 fn read_flags(bytes: &[u8], count: usize) -> Result<(&[u8], &[u8]), CertReadFault>
     ensures value { MatchResult result
         (λ r. flags_at count bytes.now ≡ Ok (map (λ b. b == 1) r.0.now, r.1.now))

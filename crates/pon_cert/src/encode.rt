@@ -1,4 +1,4 @@
-// Certificates as bytes.
+// Encoding of certificates as bytes.
 ghost use Rattle.std.specs.Prelude.{◌≡◌, ◌≤◌, ◌∷◌, ◌++◌, IsOk, IfOk, length, map};
 ghost use Rattle.std.specs.Int.{w64, to_be_bytes};
 ghost use Rattle.pon_cert.specs.Spelling.{flag_byte, level_bytes, class_bytes, cert_bytes};
@@ -8,8 +8,8 @@ use crate::problem::MOST_ITEMS;
 use std::alloc::{AllocError, Global};
 
 impl MapCert {
-    /// The bytes of the certificate: its non-assured class, then its best-effort class. A class has 19 bytes and one
-    /// for each item. There are to be at most 512 items in each. `AllocError` if memory is refused.
+    /// Encodes the certificate: its non-assured class, then its best-effort class. A class has 19 bytes, and one for
+    /// each item. Each class must have at most 512 items. `AllocError` if memory is refused.
     pub fn to_bytes(&self, alloc: Global) -> Result<Vec<u8>, AllocError>
         requires non_assured { length self.now.na.saturated ≤ MOST_ITEMS }
         requires best_effort { length self.now.be.saturated ≤ MOST_ITEMS }
@@ -52,7 +52,7 @@ fn put_numbers(bytes: &mut Vec<u8>, kind: u8, num: u64, den: u64) -> Result<(), 
     bytes.extend_from_slice(&den.to_be_bytes())
 }
 
-// Appends a byte for each truth value.
+// Appends a byte for each flag.
 fn put_flags(bytes: &mut Vec<u8>, flags: &[bool]) -> Result<(), AllocError>
     ensures { IsOk result → bytes.new.items ≡ bytes.old.items ++ map flag_byte flags.now }
 {

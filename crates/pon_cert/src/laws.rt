@@ -1,4 +1,4 @@
-//! What a certificate shows, and that it reads back as it was written.
+//! Laws of certificates, over the definitions alone.
 
 ghost use Rattle.std.specs.Prelude.{◌≡◌, ◌<◌, ◌^◌, ◌+◌, ◌*◌, ℕ, List, ◌++◌, length, sum, take};
 ghost use Rattle.std.specs.List.{AllByRecursion};
@@ -12,19 +12,19 @@ ghost use Rattle.pon_cert.specs.Spelling.{cert_bytes};
 ghost use Rattle.pon_cert.specs.Reading.{ReadsCert};
 ghost use Rattle.pon_cert.specs.Texts.{FitsCert, AreNames, IsTextOf};
 
-/// What a certificate spells is feasible, no feasible assignment is better, and each other one is worse.
+/// The assignment of a certificate is feasible, no feasible assignment is better, and each other one is worse.
 pub fn certified_is_fairest()
     ensures { (items : List Item) (surplus : ℕ) (cert : ClassCert) → AreWeighted items →
         IsCertificate items surplus cert → IsFairest items surplus (spelled items cert) }
 {}
 
-/// A surplus has one certificate.
+/// A class problem has at most one certificate.
 pub fn one_certificate()
     ensures { (items : List Item) (surplus : ℕ) (a b : ClassCert) → AreWeighted items →
         IsCertificate items surplus a → IsCertificate items surplus b → a ≡ b }
 {}
 
-/// What a class leaves of its surplus is the surplus less the rates that its certificate spells, over their denominator.
+/// The surplus that a class leaves is its surplus less the rates of its certificate, over their denominator.
 pub fn left_is_the_rest()
     ensures { (items : List Item) (surplus : ℕ) (cert : ClassCert) →
         IsCertificate items surplus cert →
@@ -33,7 +33,7 @@ pub fn left_is_the_rest()
         ≡ denominator cert.level * surplus }
 {}
 
-/// The bytes of a certificate, with any bytes behind them, read as that certificate, and the bytes behind are not its.
+/// The bytes of a certificate, followed by any others, read as that certificate, and the other bytes are not used.
 pub fn reads_back()
     ensures { (cert : MapCert) (rest : List ℕ) → FitsCert cert →
         ReadsCert (cert_bytes cert ++ rest) cert (length (cert_bytes cert)) }
@@ -45,7 +45,7 @@ pub fn only_its_bytes()
         ReadsCert bytes cert used → FitsCert cert × (take used bytes ≡ cert_bytes cert) }
 {}
 
-/// With the same Alloc-IDs, one text has one certificate, so that a text that was written reads back as the very
+/// With the same Alloc-IDs, a text has at most one certificate, so a text that was written reads back as the same
 /// certificate.
 pub fn one_text()
     ensures { (na be : List ℕ) (a b : MapCert) (text : List ℕ) → AreNames na → AreNames be →

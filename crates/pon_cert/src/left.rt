@@ -1,4 +1,4 @@
-// What a class leaves of its surplus.
+// The surplus that a class leaves.
 ghost use Rattle.std.specs.Prelude.{◌≡◌, ◌+◌, ◌*◌, ◌≤◌, All, length, sum_by};
 ghost use Rattle.pon_cert.specs.Problem.{IsItem, IsProblem};
 ghost use Rattle.pon_cert.specs.Certificate.{left_surplus};
@@ -6,7 +6,7 @@ ghost use Rattle.pon_cert.specs.Certificate.{left_surplus};
 use crate::cert::Level;
 use crate::problem::{Item, MOST_ITEMS};
 
-// The caps of the items, added up.
+// Computes the sum of the caps of the items.
 fn caps_sum(items: &[Item]) -> u64
     requires few { length items.now ≤ MOST_ITEMS }
     requires each { All IsItem items.now }
@@ -19,11 +19,11 @@ fn caps_sum(items: &[Item]) -> u64
     sum
 }
 
-/// What a class at this level leaves of its surplus to the class after it, in kbit/s: nothing where the level is a fraction,
-/// else the surplus less the caps, and never below 0.
+/// Computes the surplus that a class at this level leaves to the next class, in kbit/s: 0 if the level is a fraction,
+/// otherwise the surplus less the caps, and never below 0.
 ///
-/// The caller's conditions: at most 512 items, each weight 1 to 2,488,320, each cap and the surplus 0 to 2,488,320 kbit/s.
-/// It takes no memory.
+/// Requires at most 512 items, each weight 1 to 2,488,320, each cap and the surplus 0 to 2,488,320 kbit/s. It allocates
+/// no memory.
 pub fn left_surplus(level: &Level, items: &[Item], surplus: u64) -> u64
     requires { IsProblem items.now surplus }
     ensures value { result ≡ left_surplus level.now items.now surplus }

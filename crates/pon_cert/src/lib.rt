@@ -1,8 +1,8 @@
 //! Certificates of a fair share: how the surplus of an XG-PON upstream line (the reference model of ITU-T G.987.3) is
-//! shared in a class, as a level and the items that get their cap, and what that shows.
+//! shared in a class, as a level and the items that get their cap, and what a certificate guarantees.
 //!
-//! A certificate spells one assignment, and no other is as fair. Its bytes and its text are the project's own. This crate
-//! makes no certificate and checks none.
+//! A certificate stands for one assignment, and no other is as fair. Its bytes and its text are the project's own. This
+//! crate neither computes nor checks certificates.
 #![tactic(auto)]
 
 mod cert;

@@ -15,9 +15,9 @@ use pon_units::{AllocId, Frac};
 use std::alloc::Global;
 
 impl MapCert {
-    /// The certificate whose text this is, the inverse of `to_text`, where the classes have these Alloc-IDs, in map
-    /// order. The Alloc-IDs of a class are to be different from one another, and at most 512. `Form` if no certificate
-    /// has the text. `Memory` comes last, where one has it. A text is never `Short`.
+    /// Parses the text of a certificate, the inverse of `to_text`, for classes with these Alloc-IDs in map order. The
+    /// Alloc-IDs of a class must be different from one another, and at most 512. `Form` if no certificate has the text;
+    /// `Memory` only if a certificate has it. A text is never `Short`.
     pub fn from_text(
         alloc: Global,
         na: &[AllocId],
@@ -45,7 +45,7 @@ impl MapCert {
     }
 }
 
-// The words that differ from text to text.
+// The words of a text that vary: both levels and both sets.
 #[derive(Drop)]
 struct Words<'a> {
     na_level: &'a str,
@@ -54,7 +54,7 @@ struct Words<'a> {
     be_set: &'a str,
 }
 
-// The text before and after the first such character; `None` if there is none.
+// Splits a text at the first occurrence of a character; `None` if there is none.
 fn cut(text: &str, at: char) -> Option<(&str, &str)>
     requires { at < 128 }
     ensures { MatchOption result
@@ -64,7 +64,7 @@ fn cut(text: &str, at: char) -> Option<(&str, &str)>
     text.split_once(at)
 }
 
-// Whether a word may be a number: it begins with a digit, which is 0 only if it is the whole word.
+// Returns whether a word is not empty and begins neither with a plus sign nor with a 0 before other characters.
 fn is_plain(word: &str) -> bool
     ensures { IsTrue result ↔ ((0 < length word.now) × (slice_index word.now 0 ≢ 43)
         × (slice_index word.now 0 ≡ 48 → length word.now ≡ 1)) }
@@ -73,7 +73,7 @@ fn is_plain(word: &str) -> bool
     !bytes.is_empty() && bytes[0] != b'+' && (bytes[0] != b'0' || bytes.len() == 1)
 }
 
-// The number that a word writes without leading zeros, `None` for another word and from 2^64 on.
+// Parses a number below 2^64 without leading zeros; `None` for any other word.
 fn number_of(word: &str) -> Option<u64>
     ensures value { MatchOption result ((n : ℕ) → n < 2 ^ 64 → decimal n ≡ word.now → ⊥)
         (λ n. decimal n ≡ word.now) }
@@ -99,7 +99,7 @@ fn is_name(word: &str, name: AllocId) -> bool
     }
 }
 
-// The level that a word writes.
+// Parses the level that a word spells.
 fn level_in_text(word: &str) -> Option<Level>
     ensures { MatchOption result
         ((l : Level) → FitsLevel l → level_text l ≡ word.now → ⊥)
@@ -122,7 +122,7 @@ fn fraction(num: u64, den: u64) -> Option<Level>
     Some(Level::At(Frac::new(num, den)))
 }
 
-// The names of a set that are still to be met.
+// The remaining names of a set.
 #[derive(Drop)]
 struct Names<'a> {
     rest: Option<&'a str>,
@@ -138,7 +138,7 @@ impl<'a> Names<'a> {
         Names { rest: Some(set) }
     }
 
-    // Whether the first of them is this one; it is then met.
+    // Removes the first remaining name if it is this one, and returns whether it was.
     fn take(&mut self, name: AllocId) -> bool
         ensures met { result ≡ starts name (left_of self.old.rest) }
         ensures small { name < 2 ^ 64 }
@@ -159,7 +159,7 @@ impl<'a> Names<'a> {
     }
 }
 
-// The flags with one more; `None` if memory was refused, now or before.
+// Appends a flag; `None` if memory was refused, now or before.
 fn push_flag(flags: Option<Vec<bool>>, flag: bool) -> Option<Vec<bool>>
     ensures { (before : List Bool) → IfSome flags (λ v. v.items ≡ before) →
         IfSome result (λ v. v.items ≡ before ++ flag ∷ []) }
@@ -171,8 +171,8 @@ fn push_flag(flags: Option<Vec<bool>>, flag: bool) -> Option<Vec<bool>>
     }
 }
 
-// The flags that the names of a set give the items, one flag each; the outer `None` if the word is no set of these
-// items, the inner one where memory was refused.
+// Parses a set into a flag for each item. The outer `None` if the word is not a set of these items, the inner `None` if
+// memory was refused for one that is.
 fn flags_of(alloc: Global, names: &[AllocId], set: &str) -> Option<Option<Vec<bool>>>
     ensures small { AllByRecursion (λ n. n < 2 ^ 64) names.now }
     ensures value { MatchOption result (met names.now (parts_of set.now) ≡ None)
@@ -190,7 +190,7 @@ fn flags_of(alloc: Global, names: &[AllocId], set: &str) -> Option<Option<Vec<bo
     Some(flags)
 }
 
-// The class that the words of its level and its set write; as above, memory is the inner `None`.
+// Parses the words of the level and of the set of a class; as above, the inner `None` if memory was refused.
 fn class_in_text(
     alloc: Global,
     names: &[AllocId],
@@ -217,7 +217,7 @@ fn with_flags(level: Level, flags: Option<Vec<bool>>) -> Option<ClassCert>
     })
 }
 
-// The words of both levels and both sets.
+// Splits a text into the words of both levels and both sets.
 fn words_of(text: &str) -> Option<Words<'_>>
     ensures { MatchOption result
         ((w x y z : List ℕ) → slice_split (λ b. b == 32) text.now ≡ six_words w x y z → ⊥)

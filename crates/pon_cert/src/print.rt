@@ -1,4 +1,4 @@
-// Certificates as texts.
+// Printing of certificates as texts.
 ghost use Rattle.std.specs.Prelude.{◌≡◌, ◌≤◌, ◌<◌, ◌++◌, ◌∷◌, [], IsOk, IfOk, length, decimal, string_bytes};
 ghost use Rattle.pon_cert.specs.Spelling.{level_text, saturated_names, names_text, class_text, cert_text};
 
@@ -8,9 +8,9 @@ use pon_units::AllocId;
 use std::alloc::{AllocError, Global};
 
 impl MapCert {
-    /// The text of the certificate, `na <level> <set> be <level> <set>`, where the classes have these Alloc-IDs, in map
-    /// order. A level is `all` or a fraction as it is written, a set the saturated Alloc-IDs, joined by commas, or `-`.
-    /// There are to be as many Alloc-IDs as items, at most 512 in each class. `AllocError` if memory is refused.
+    /// Prints the certificate as `na <level> <set> be <level> <set>`, for classes with these Alloc-IDs in map order. A
+    /// level is `all` or a fraction as it is written, a set the saturated Alloc-IDs, joined by commas, or `-`. Each
+    /// class must have as many Alloc-IDs as items, at most 512. `AllocError` if memory is refused.
     pub fn to_text(
         &self,
         alloc: Global,
@@ -53,7 +53,7 @@ fn fraction_text(alloc: Global, num: u64, den: u64) -> Result<String, AllocError
     format!(in alloc; "{num}/{den}")
 }
 
-// The names of the saturated items.
+// Prints the names of the saturated items.
 fn set_text(alloc: Global, names: &[AllocId], saturated: &[bool]) -> Result<String, AllocError>
     requires { length saturated.now ≡ length names.now }
     ensures { IfOk result (λ text. string_bytes text

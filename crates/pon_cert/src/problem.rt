@@ -3,12 +3,12 @@ ghost use Rattle.pon_cert.specs.Problem.{IsItem, IsProblem};
 
 use pon_units::LINE_RATE;
 
-/// The most items of a class problem (this project's choice).
+/// Maximum number of items of a class problem (this project's choice).
 pub const MOST_ITEMS: usize = 512;
 
-/// What shares a surplus: a weight above 0, and a cap in kbit/s up to which it can use its share.
+/// An item of a class problem: a weight above 0, and a cap in kbit/s, the most surplus that it can use.
 ///
-/// Both are at most 2,488,320, the rate of the line, where a problem of a port is filled or checked.
+/// Both are at most 2,488,320, the rate of the line, in a problem that is filled or checked.
 #[derive(Clone, Copy, Debug, PartialEq, Eq)]
 pub struct Item {
     pub weight: u64,
@@ -21,8 +21,8 @@ fn is_item(item: Item) -> bool
     0 < item.weight && item.weight <= LINE_RATE && item.cap <= LINE_RATE
 }
 
-/// Whether items and a surplus in kbit/s are a class problem: at most 512 items, each weight 1 to 2,488,320, each cap and the
-/// surplus 0 to 2,488,320. That is what filling and checking ask of their caller.
+/// Returns whether items and a surplus in kbit/s are a class problem: at most 512 items, each weight 1 to 2,488,320,
+/// each cap and the surplus 0 to 2,488,320. Filling and checking require this of their caller.
 pub fn is_problem(items: &[Item], surplus: u64) -> bool
     ensures { IsTrue result ↔ IsProblem items.now surplus }
 {

@@ -1,8 +1,8 @@
 use std::alloc::{AllocError, Global};
 use std::marker::Model;
 
-/// Which items of a class are saturated, that is, get their cap: a truth value for each item, in order. Contracts see
-/// it as the list of its truth values.
+/// The flags of a class: for each item in map order, whether it is saturated, that is, gets its cap. Contracts see it
+/// as the list of its flags.
 #[derive(Debug, Drop)]
 pub struct Sat {
     flags: Vec<bool>,
@@ -40,21 +40,21 @@ impl Eq for Sat {
 impl Sat {
     ghost use Rattle.std.specs.Prelude.{◌≡◌, IfOk};
 
-    /// Takes the truth values as they are. It takes no memory.
+    /// Makes a `Sat` of these flags. It allocates no memory.
     pub fn new(flags: Vec<bool>) -> Self
         ensures { result ≡ flags.items }
     {
         Sat { flags }
     }
 
-    /// The truth values, in order.
+    /// Flags, in map order.
     pub fn as_slice(&self) -> &[bool]
         ensures { result.now ≡ self.now }
     {
         self.flags.as_slice()
     }
 
-    /// Equal truth values; `AllocError` if memory is refused.
+    /// Makes an equal copy; `AllocError` if memory is refused.
     pub fn try_copy(&self, alloc: Global) -> Result<Self, AllocError>
         ensures { IfOk result (λ copy. copy ≡ self.now) }
     {

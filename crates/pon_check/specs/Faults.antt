@@ -1,4 +1,4 @@
--- Why a certificate is refused: the first fault, by counts, denominator, items in order, and sum.
+-- Why a certificate is refused: the first fault, in the order length, denominator, items in order, sum.
 use Rattle.std.specs.Prelude.{◌≡◌, ◌≢◌, ℕ, ◌*◌, ◌<◌, Bool, true, false, List, ◌++◌, length, take, sum, Some, slice_get, codes, decimal}
 use Rattle.std.specs.List.{AllZip}
 use Rattle.pon_cert.specs.declared.problem.Item.{Item}
@@ -12,12 +12,12 @@ use Rattle.pon_check.specs.declared.fault.CertFault.TheVariants.{Length, Denomin
 use Rattle.pon_check.specs.declared.fault.MapCertFault.{MapCertFault}
 use Rattle.pon_check.specs.declared.fault.MapCertFault.TheVariants.{NonAssured, BestEffort}
 
--- as many flags as items, and the denominator is right
+-- there are as many flags as items, and the denominator is right
 pub record IsAligned (items : List Item) (cert : ClassCert) : Type 0 where
   pub lengths : length items ≡ length cert.saturated
   pub denominator : DenominatorHolds cert.level items cert.saturated
 
--- item i, which is saturated or not, is the first whose rule fails
+-- item i, saturated or not as given, is the first that breaks its rule
 pub record FailsFirst (level : Level) (items : List Item) (flags : List Bool) (i : ℕ) (saturated : Bool) : Type 0 where
   pub item : Item
   pub is_item : slice_get items i ≡ Some item
@@ -34,7 +34,7 @@ abbrev pub IsFraction : Level → Type 0
 IsFraction level.All = ⊥
 IsFraction (level.At f) = Unit {0}
 
--- the sum is not what the level asks for
+-- the sum of the rates is above the surplus, or below it at a fraction
 abbrev pub IsSumFault : Level → ℕ → ℕ → CertFault → Type 0
 IsSumFault l total surplus Overspent = denominator l * surplus < total
 IsSumFault l total surplus NotExhausted = IsFraction l × (total < denominator l * surplus)
@@ -51,13 +51,13 @@ IsFirstClassFault items surplus cert (Unsaturated i) = IsAligned items cert × F
 IsFirstClassFault items surplus cert Overspent = KeepsRules items cert × IsSumFault cert.level (sum (spelled items cert).amounts) surplus Overspent
 IsFirstClassFault items surplus cert NotExhausted = KeepsRules items cert × IsSumFault cert.level (sum (spelled items cert).amounts) surplus NotExhausted
 
--- of a map, the non-assured class is looked at first, and best effort against what that leaves
+-- the first fault of a map: the non-assured class is checked first, best effort against what that class leaves
 abbrev pub IsFirstMapCertFault : List Item → List Item → ℕ → MapCert → MapCertFault → Type 0
 IsFirstMapCertFault na be surplus cert (NonAssured fault) = IsFirstClassFault na surplus cert.na fault
 IsFirstMapCertFault na be surplus cert (BestEffort fault) =
     IsCertificate na surplus cert.na × IsFirstClassFault be (left_surplus cert.na.level na surplus) cert.be fault
 
--- its name, and the item where it has one
+-- the name of the fault, and the index of the item if it has one
 abbrev pub cert_fault_text : CertFault → List ℕ
 cert_fault_text Length = codes "Length"
 cert_fault_text Denominator = codes "Denominator"

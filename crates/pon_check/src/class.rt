@@ -1,4 +1,4 @@
-// One class: a level and a set of saturated items, against items and surplus.
+// The check of one class: a level and its saturated items, against items and surplus.
 ghost use Rattle.std.specs.Prelude.{◌≡◌, ◌<◌, ◌≤◌, ◌↔◌, All, Bool, if◌then◌else◌, length, IsTrue, IsOk, IfErr, OnOk, IfSome, IfNone};
 ghost use Rattle.std.specs.List.{AllZip};
 ghost use Rattle.pon_cert.specs.declared.cert.ClassCert.{ClassCert};
@@ -11,8 +11,8 @@ use crate::fault::CertFault;
 use crate::sums::{total_of, weight_left};
 use pon_cert::{ClassCert, Item, Level, MOST_ITEMS};
 
-// Whether an item keeps the rule of its side: its cap is at most its share at the level where it is saturated, above it
-// elsewhere.
+// Returns whether an item keeps the rule of its flag: at a fraction, a saturated item's cap is at most its share at the
+// level, and the cap of any other item is above it; at a level of all each item is saturated.
 fn rule_holds(level: &Level, item: Item, saturated: bool) -> bool
     requires { IsItem item }
     ensures { IsTrue result ↔ RuleHolds level.now item saturated }
@@ -27,7 +27,7 @@ fn rule_holds(level: &Level, item: Item, saturated: bool) -> bool
     }
 }
 
-// The first item that breaks its rule.
+// Finds the first item that breaks its rule.
 fn first_failing(level: &Level, items: &[Item], saturated: &[bool]) -> Option<usize>
     requires lengths { length items.now ≡ length saturated.now }
     requires each { All IsItem items.now }
@@ -43,7 +43,7 @@ fn first_failing(level: &Level, items: &[Item], saturated: &[bool]) -> Option<us
     None
 }
 
-// Whether a fraction is over the weight of the unsaturated items.
+// Returns whether the denominator of a fraction is the weight of the unsaturated items, and above 0.
 fn denominator_holds(level: &Level, items: &[Item], saturated: &[bool]) -> bool
     requires lengths { length items.now ≡ length saturated.now }
     requires count { length items.now ≤ MOST_ITEMS }
@@ -56,7 +56,7 @@ fn denominator_holds(level: &Level, items: &[Item], saturated: &[bool]) -> bool
     }
 }
 
-// The fault of an item that breaks its rule.
+// Returns the fault of an item that breaks its rule.
 fn item_fault(i: usize, saturated: bool) -> CertFault
     ensures { result ≡ (if saturated then Saturated i else Unsaturated i) }
 {
@@ -67,7 +67,7 @@ fn item_fault(i: usize, saturated: bool) -> CertFault
     }
 }
 
-// Whether the total is what the level asks for: within the surplus, or all of it.
+// Checks the sum of the rates: at most the surplus at a level of all, exactly the surplus at a fraction.
 fn check_sum(level: &Level, total: u128, surplus: u64) -> Result<(), CertFault>
     ensures ok { IsOk result ↔ SumHolds level.now total surplus }
     ensures fault { IfErr result (IsSumFault level.now total surplus) }
@@ -85,12 +85,12 @@ fn check_sum(level: &Level, total: u128, surplus: u64) -> Result<(), CertFault>
     Ok(())
 }
 
-/// Whether the certificate is that of these items and this surplus; else the first fault.
+/// Checks that the certificate is that of these items and this surplus, or returns the first fault.
 ///
-/// The caller's conditions: at most 512 items, each weight 1 to 2,488,320, each cap and the surplus 0 to 2,488,320 kbit/s.
-/// None on the certificate, whose numbers may be any: products are of 128 bits. Where it answers `Ok`, what the certificate
-/// spells is within capacity and demand, no other such assignment is fairer, and each other one is less fair; and no other
-/// certificate is accepted for these items and this surplus. It takes no memory.
+/// Requires at most 512 items, each weight 1 to 2,488,320, each cap and the surplus 0 to 2,488,320 kbit/s. The numbers
+/// of the certificate may be any: products are of 128 bits. On `Ok`, the assignment of the certificate is within
+/// surplus and caps, no other such assignment is fairer, and each other one is less fair; and no other certificate is
+/// accepted for these items and this surplus. It allocates no memory.
 pub fn check_class(items: &[Item], surplus: u64, cert: &ClassCert) -> Result<(), CertFault>
     requires { IsProblem items.now surplus }
     ensures accepted { IsOk result ↔ IsCertificate items.now surplus cert.now }

@@ -1,17 +1,18 @@
 use std::fmt;
 
-/// Why a class's certificate is refused. Of several faults it is the first: counts, denominator, items in order, sum.
+/// Why the certificate of a class is refused. Of several faults the first counts, in this order: length, denominator,
+/// items in order, sum.
 #[derive(Clone, Copy, Debug, PartialEq, Eq)]
 pub enum CertFault {
-    /// There are not as many truth values as items.
+    /// The numbers of flags and of items differ.
     Length,
-    /// The denominator is not the weight of the unsaturated items.
+    /// The denominator is not the weight of the unsaturated items, or is 0.
     Denominator,
-    /// Item `i`, from 0, is saturated, and its cap is above its share at the level. Never told at a level of all.
+    /// Item `i`, from 0, is saturated, and its cap is above its share at the level. Not returned at a level of all.
     Saturated { i: usize },
-    /// Item `i`, from 0, is not saturated, and its cap is not above its share at the level, or the level is all.
+    /// Item `i`, from 0, is not saturated, and its cap is at most its share at the level, or the level is all.
     Unsaturated { i: usize },
-    /// The rates leave some of the surplus, and the level is a fraction.
+    /// The rates are less than the surplus, and the level is a fraction.
     NotExhausted,
     /// The rates are more than the surplus.
     Overspent,
@@ -35,7 +36,7 @@ impl fmt::Display for CertFault {
     }
 }
 
-/// Why a map's certificate is refused: the class, and its first fault. The non-assured class is checked first.
+/// Why the certificate of a map is refused: the class, and its first fault. The non-assured class is checked first.
 #[derive(Clone, Copy, Debug, PartialEq, Eq)]
 pub enum MapCertFault {
     /// The non-assured class is refused.

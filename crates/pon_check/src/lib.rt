@@ -1,9 +1,9 @@
-//! Checks certificates of a fair share (the rate-proportional reference model of ITU-T G.987.3): whether a level and a set
-//! of saturated items are what a surplus and its items have, and else the first fault.
+//! A checker of certificates of a fair share (the rate-proportional reference model of ITU-T G.987.3): it accepts the
+//! certificate of a surplus and its items, and returns the first fault of any other.
 //!
-//! A yes is more than agreement with a program: what an accepted certificate spells is the fairest share, no other certificate
-//! is accepted, and the contracts say so. The crate makes no certificate, takes no memory, and stands on no crate that shares a
-//! surplus.
+//! The contracts state more than agreement with a program: the assignment of an accepted certificate is the fairest
+//! share, and no other certificate is accepted. The crate computes no certificate, allocates no memory, and depends on
+//! no crate that shares a surplus.
 #![tactic(auto)]
 
 mod class;

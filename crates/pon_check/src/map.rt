@@ -1,4 +1,4 @@
-// Both classes of a map.
+// The check of both classes of a map.
 ghost use Rattle.std.specs.Prelude.{◌≡◌, ◌↔◌, IsOk, IfErr, OnOk};
 ghost use Rattle.pon_cert.specs.declared.cert.MapCert.{MapCert};
 ghost use Rattle.pon_cert.specs.Problem.{IsProblem, IsFairest};
@@ -9,12 +9,12 @@ use crate::class::check_class;
 use crate::fault::MapCertFault;
 use pon_cert::{Item, MapCert, left_surplus};
 
-/// Whether the certificate is that of a map with these items of the two classes and this surplus; else the first fault, the
-/// non-assured class first. The best-effort class is checked against what the non-assured one leaves: nothing where its
-/// level is a fraction, else the surplus less its caps. Where it answers `Ok`, both spell the fairest share, and no other
-/// certificate of a map is accepted for these items and this surplus.
+/// Checks that the certificate is that of a map with these items of the two classes and this surplus, or returns the
+/// first fault, the non-assured class first. The best-effort class is checked against what the non-assured class
+/// leaves: 0 if its level is a fraction, otherwise the surplus less its caps. On `Ok`, the assignment of each class is
+/// the fairest, and no other certificate of a map is accepted for these items and this surplus.
 ///
-/// The caller's conditions are those of [`check_class`] for each class. It takes no memory.
+/// The requirements are those of [`check_class`] for each class. It allocates no memory.
 pub fn check_map(na: &[Item], be: &[Item], surplus: u64, cert: &MapCert) -> Result<(), MapCertFault>
     requires non_assured { IsProblem na.now surplus }
     requires best_effort { IsProblem be.now surplus }

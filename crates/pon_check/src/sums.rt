@@ -1,4 +1,4 @@
-// Sums over a class: the weight of its unsaturated items, and what a certificate spells in all.
+// Sums over a class: the weight of its unsaturated items, and the rates of its certificate.
 ghost use Rattle.std.specs.Prelude.{◌≡◌, ◌+◌, ◌*◌, ◌^◌, ◌<◌, ◌≤◌, All, length, map, sum};
 ghost use Rattle.std.specs.List.{zip};
 ghost use Rattle.pon_cert.specs.Problem.{IsItem};
@@ -6,7 +6,7 @@ ghost use Rattle.pon_cert.specs.Certificate.{amount, unsaturated_weight};
 
 use pon_cert::{Item, Level, MOST_ITEMS};
 
-// The weight of the items that are not saturated.
+// Computes the sum of the weights of the unsaturated items.
 pub fn weight_left(items: &[Item], saturated: &[bool]) -> u64
     requires lengths { length items.now ≡ length saturated.now }
     requires count { length items.now ≤ MOST_ITEMS }
@@ -22,7 +22,7 @@ pub fn weight_left(items: &[Item], saturated: &[bool]) -> u64
     total
 }
 
-// What the certificate spells for an item, times the denominator.
+// Computes the rate of an item, times the denominator.
 fn amount_of(level: &Level, item: Item, saturated: bool) -> u128
     requires { IsItem item }
     ensures value { result ≡ amount level.now item saturated }
@@ -40,7 +40,7 @@ fn amount_of(level: &Level, item: Item, saturated: bool) -> u128
     }
 }
 
-// What the certificate spells in all, times the denominator.
+// Computes the sum of the rates of all items, times the denominator.
 pub fn total_of(level: &Level, items: &[Item], saturated: &[bool]) -> u128
     requires lengths { length items.now ≡ length saturated.now }
     requires count { length items.now ≤ MOST_ITEMS }

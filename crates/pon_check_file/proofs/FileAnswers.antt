@@ -1,4 +1,4 @@
--- The answer line of a file, where it is written.
+-- The answer line of a file, if it is written.
 use Rattle.std.proofs.Common.{◌≡◌, ℕ, Bool, true, false, List, [], ◌++◌, Option, sym, ◌∙◌, subst, Ok, Err, inl, inr}
 use Rattle.pon_device.specs.Device.{Consumes, IsAtEnd}
 use Rattle.pon_cert.specs.Problem.{IsProblem}
@@ -11,19 +11,19 @@ use Rattle.pon_stream.specs.Streams.{TellsLine}
 use Rattle.pon_stream.specs.declared.fault.PlanFault.{PlanFault}
 use Rattle.pon_stream.specs.declared.fault.PlanFault.TheVariants.{Read, Write, Memory}
 
--- some lines spell what is read
+-- a result of bytes is a result of some lines
 pub is_said : (input : List ℕ) (left : Option (List ℕ)) (p : Parsed) → Decides input left p → IsSaid p
 is_said input left p (inl d) = (file_lines input, d.1)
 is_said input left p (inr d) = (file_lines (input ++ []), d.2 [] ∙ sym d.1)
 
--- a file that is read is a problem
+-- a file that parses is a problem
 pub is_problem : (ls : List (List ℕ)) (f : Filed) → file_of ls ≡ Ok f → IsProblem f.items f.surplus
 is_problem ls f e = (read_is_printable ls f e).problem
 
 refused : (n : ℕ) (accepted : Bool) (line : List ℕ) → IsAnswer (Err n) accepted line → accepted ≡ false
 refused n accepted line a = a.0
 
--- what is read has its answer
+-- a parsed file has its answer
 pub answered : (input : List ℕ) (left : Option (List ℕ)) (p : Parsed) (accepted : Bool) (line : List ℕ) → Decides input left p → IsAnswer (said p) accepted line → IsDecided input left accepted line
 answered input left p accepted line (inl d) a = inl (d.0, subst (λ r. IsAnswer r accepted line) (sym d.1) a)
 answered input left p accepted line (inr d) a =
@@ -34,7 +34,7 @@ pub at_end : (input : List ℕ) (left : Option (List ℕ)) (line : List ℕ) →
 at_end input left line (inl d) = d.0
 at_end input left line (inr d) = let wrong : true ≡ false = d.0 in absurd (cc)
 
--- it was not all written
+-- the answer was not written whole
 pub not_told : (l0 l h0 h : Option (List ℕ)) (input bytes line : List ℕ) (accepted : Bool) (f : PlanFault) → Consumes l0 l input → IsDecided input l accepted line → bytes ≡ line → TellsLine bytes h0 h (Err f) → Checked l0 l h0 h (Err f)
 not_told l0 l h0 h input bytes line accepted Read c a s t = absurd t
 not_told l0 l h0 h input bytes line accepted Memory c a s t = absurd t

@@ -1,4 +1,4 @@
--- A line that fits is not long.
+-- A line that fits is short.
 use Rattle.std.proofs.Common.{◌≡◌, ℕ, suc, ◌+◌, ◌*◌, ◌^◌, ◌<◌, ◌≤◌, Bool, true, false, cond, List, [], ◌∷◌, length, take, drop, map, refl, ap, arith, Option, Some, None, Err}
 use Rattle.std.specs.Prelude.{codes, if◌then◌else◌, ◌&&◌, ◌==◌, not, nat_lt, nat_le, option_map}
 use Rattle.std.specs.Char.{is_ascii_digit}
@@ -165,7 +165,7 @@ flags_short n l fs few e = go (follows (codes "saturated ") l) refl e
     go None is e = absurd (cc)
     go (Some w) is e = omega (arith, follows_short (codes "saturated ") l w is, set_short n w fs few e)
 
--- ---- so a long line does not fit
+-- ---- a long line does not fit
 spells_none : {T : Type 0} (most : ℕ) (l : List ℕ) (o : Option T) → ((x : T) → o ≡ Some x → length l ≤ most) → most < length l → o ≡ None
 spells_none most l None short long = refl
 spells_none most l (Some x) short long = absurd (omega (arith, long, short x refl))

@@ -6,7 +6,7 @@ use Rattle.pon_cert.specs.Parts.{behind, with_first}
 use Rattle.pon_text.specs.Lines.{number_of}
 use Rattle.pon_check_file.specs.CheckLines.{WritesFlags, flags_from, indexes_from, is_index, is_next}
 
--- a flag before others
+-- a flag put before others
 named_then : (k : ℕ) (b : Bool) (ps : List (List ℕ)) (gs : List Bool) → is_next k ps ≡ b → map number_of (behind b ps) ≡ map Some (indexes_from (suc k) gs) → map number_of ps ≡ map Some (indexes_from k (b ∷ gs))
 named_then k true [] gs e m = absurd (cc)
 named_then k true (p ∷ ps) gs e m = this (number_of p) refl e
@@ -33,7 +33,7 @@ written k (suc n) ps fs e = by (λ b gs. written (suc k) n (behind b ps) gs) (is
         let same : b ∷ gs ≡ fs = ap (λ b. b ∷ gs) (sym is) ∙ same_list (is_next k ps ∷ gs) fs e in
         (ap length (sym same) ∙ ap suc two.0, named_then k b ps gs is two.1 ∙ ap (λ fs. map Some (indexes_from k fs)) same)
 
--- the first index of items from item k on is not below k
+-- the first index of items from item k on is at least k
 above : (k i : ℕ) (is : List ℕ) (fs : List Bool) → indexes_from k fs ≡ i ∷ is → k ≤ i
 above k i is [] e = absurd (cc)
 above k i is (true ∷ fs) e = let same : k ≡ i = cc in omega (arith, same)

@@ -7,7 +7,7 @@ use Rattle.std.proofs.lemmas.List.Splits.{length-slice_split}
 use Rattle.pon_cert.specs.Parts.{behind, left_of, with_first, after_flags}
 use Rattle.pon_check_file.specs.CheckLines.{is_next, flags_from}
 
--- what the items from item k on are given, behind flags that are there
+-- the flags of the items from item k on, after the flags found already
 pub record Given (k n : ℕ) (all : Option (List Bool)) (done : List Bool) (left : List (List ℕ)) : Type 0 where
   pub more : ℕ
   pub count : k + more ≡ n
@@ -21,7 +21,7 @@ after_one : (done : List Bool) (b : Bool) (r : Option (List Bool)) → after_fla
 after_one done b None = refl
 after_one done b (Some fs) = ap Some (sym (append_assoc done (b ∷ []) fs))
 
--- nothing is given yet
+-- no flag is found yet
 pub none_given : (n : ℕ) (parts left : List (List ℕ)) → left ≡ parts → Given 0 n (flags_from 0 n parts) [] left
 none_given n parts left e = record {
   more = n;
@@ -39,7 +39,7 @@ step_given k n (suc more) all done left count l rest = record {
   rest = rest ∙ after_one done (is_next k left) (flags_from (suc k) more (behind (is_next k left) left));
 }
 
--- one item more
+-- one more item
 pub one_given : (k n : ℕ) (all : Option (List Bool)) (done new : List Bool) (left after : List (List ℕ)) (b : Bool) → Given k n all done left → k < n →
     b ≡ is_next k left → after ≡ behind b left → new ≡ done ++ b ∷ [] → Given (k + 1) n all new after
 one_given k n all done new left after b g l named rest pushed =
@@ -51,7 +51,7 @@ end_given : (k n more : ℕ) (all : Option (List Bool)) (done : List Bool) (left
 end_given k n zero all done left count l rest = rest
 end_given k n (suc more) all done left count l rest = absurd (omega (arith, count, l))
 
--- all items are there, and no index is left
+-- all items have flags, and no index remains
 no_index : (left : Option (Bor (List ℕ))) → is_some left ≡ false → left_of left ≡ []
 no_index None e = refl
 no_index (Some t) e = absurd (cc)
@@ -70,7 +70,7 @@ some_index : (left : Option (Bor (List ℕ))) → is_some left ≡ true → 0 < 
 some_index None e = absurd (cc)
 some_index (Some t) e = omega (arith, length-slice_split (λ b. b == 44) t.now)
 
--- an index is left over
+-- an index remains
 pub one_over : (k n : ℕ) (all : Option (List Bool)) (done : List Bool) (left : Option (Bor (List ℕ))) → Given k n all done (left_of left) → n ≤ k → is_some left ≡ true → all ≡ None
 one_over k n all done left g l e =
     end_given k n g.more all done (left_of left) g.count l g.rest ∙ over k done (left_of left) (some_index left e)

@@ -1,4 +1,4 @@
--- A check file whose last line is open, by what is read next.
+-- A check file with an open last line, and the next byte.
 use Rattle.std.proofs.Common.{◌≡◌, ℕ, ◌+◌, ◌-◌, ◌<◌, ◌≤◌, Bool, true, false, List, [], ◌∷◌, ◌++◌, length, take, map, refl, ap, sym, ◌∙◌, arith, append_assoc, Option, Result, Ok, Err, inl, inr}
 use Rattle.std.specs.Prelude.{◌==◌, ◌||◌, if◌then◌else◌, slice_index, IfOk}
 use Rattle.std.specs.Global.{Vec}
@@ -110,7 +110,7 @@ pub last_line : (o : Open) → IsOpen o → 0 < length o.line.items → goes_on 
 last_line o p some = ap (λ ls. goes_on o.stage (map without_return ls)) (last_open o.line.items p.no_feed some)
 
 -- ---- the loop
--- some bytes were read, and this is open
+-- some bytes were read, and this is the open line
 pub record Progress (old new : Option (List ℕ)) (o : Open) : Type 0 where
   pub input : List ℕ
   pub read : Consumes old new input
@@ -123,7 +123,7 @@ feed_ended o (Err x) p e = e
 abbrev pub Reads : Option (List ℕ) → Option (List ℕ) → Parsed → Type 0
 Reads old new p = (x : List ℕ) × Consumes old new x × Decides x new p
 
--- the input ended
+-- the end of the input
 pub ended_file : (old mid new : Option (List ℕ)) (o : Open) (p : Parsed) → Progress old mid o → Consumes mid new [] × IsAtEnd new → goes_on o.stage (file_lines o.line.items) ≡ said p → Reads old new p
 ended_file old mid new o p g c e = (
   g.input ++ [],
@@ -139,7 +139,7 @@ unfit_file old mid new o b n g c e = (
   inr (n, refl, λ rest. ap (λ t. file_of (file_lines t)) (append_assoc g.input (b ∷ []) rest) ∙ g.same (b ∷ rest) ∙ e rest),
 )
 
--- one byte more was read
+-- one more byte was read
 pub byte_read : (old mid new : Option (List ℕ)) (o : Open) (b : ℕ) → Progress old mid o → Consumes mid new (b ∷ []) → (x : List ℕ) × Consumes old new x
 byte_read old mid new o b g c = (g.input ++ b ∷ [], consumes_more old mid new g.input (b ∷ []) g.read c)
 

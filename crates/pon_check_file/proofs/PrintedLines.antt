@@ -1,4 +1,4 @@
--- Printed lines read back.
+-- Printed lines parse back.
 use Rattle.std.proofs.Common.{◌≡◌, ℕ, zero, suc, ◌+◌, ◌^◌, ◌<◌, ◌≤◌, Bool, true, false, List, [], ◌∷◌, ◌++◌, length, map, drop, replicate, refl, ap, sym, ◌∙◌, arith, rules, append_assoc, eqb, lit<, Option, Some, None, Ok}
 use Rattle.std.specs.Prelude.{codes, decimal, if◌then◌else◌, ◌==◌, nat_lt, nat_le}
 use Rattle.std.specs.Char.{is_ascii_digit}
@@ -51,7 +51,7 @@ within_back least most n l m h =
     let two : nat_le n most ≡ true = le-leb n most m in
     rw (number, one, two) refl
 
--- ---- cuts
+-- ---- splitting
 place_back : (c : ℕ) (a t : List ℕ) → Lacks c a → eqb c c ≡ true → position_or_len (λ b. eqb b c) (a ++ c ∷ t) ≡ length a
 place_back c [] t lack same = rw same refl
 place_back c (x ∷ a) t lack same =

@@ -19,7 +19,7 @@ use Rattle.pon_check_file.specs.CheckFiles.{Filed, file_of}
 use Rattle.pon_check_file.specs.Printed.{IsPrintable, ended, item_line, printed}
 use Rattle.pon_check_file.proofs.PrintedLines.{reads_back, small_indexes}
 
--- no control bytes, so neither a line feed nor a carriage return
+-- no control bytes, so neither line feed nor carriage return
 abbrev IsPlain : List ℕ → Type 0
 IsPlain l = (c : ℕ) → c < 32 → Lacks c l
 

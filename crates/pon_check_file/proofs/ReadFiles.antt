@@ -1,4 +1,4 @@
--- What is read can be printed.
+-- The content of a file can be printed.
 use Rattle.std.proofs.Common.{◌≡◌, ℕ, ◌^◌, ◌<◌, ◌≤◌, Bool, true, false, List, [], ◌∷◌, length, map, refl, arith, subst, Option, Some, None}
 use Rattle.std.specs.Prelude.{codes, if◌then◌else◌, ◌&&◌, nat_lt, nat_le}
 use Rattle.std.specs.List.{AllByRecursion}

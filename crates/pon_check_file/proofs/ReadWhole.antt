@@ -1,4 +1,4 @@
--- A file that is read can be printed.
+-- A file that parses can be printed.
 use Rattle.std.proofs.Common.{◌≡◌, ℕ, ◌+◌, ◌≤◌, Bool, List, [], ◌∷◌, length, drop, refl, subst, Option, Some, None, Result, Ok, Err}
 use Rattle.std.proofs.lemmas.List.Elements.{All-from_recursion}
 use Rattle.pon_lists.specs.ResultSteps.{◌>>=◌}

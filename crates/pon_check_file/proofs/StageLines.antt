@@ -1,4 +1,4 @@
--- What a line changes at each stage of a check file.
+-- How a line changes each stage of a check file.
 use Rattle.std.proofs.Common.{◌≡◌, ℕ, zero, suc, ◌+◌, ◌-◌, ◌<◌, Bool, List, [], ◌∷◌, ◌++◌, length, take, drop, refl, ap, sym, ◌∙◌, arith, append_assoc, Option, Some, None, Result, Ok, Err}
 use Rattle.std.proofs.lemmas.List.{append-nil, length_push}
 use Rattle.pon_lists.specs.ResultSteps.{◌>>=◌}

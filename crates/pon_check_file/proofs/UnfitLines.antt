@@ -11,7 +11,7 @@ use Rattle.pon_check_file.specs.CheckLines.{surplus_of, item_on_line, level_on_l
 use Rattle.pon_check_file.specs.CheckFiles.{Filed, and_others, are_empty, file_of, file_with, first_spells, items_in_row, items_of, on_line}
 use Rattle.pon_check_file.specs.Unfit.{AreProblem, HasMore, IsFirstUnfit, LacksLevel, LacksSet, LacksSurplus}
 
--- ---- the items in a row, up to a number of them, and the lines behind them
+-- ---- the items in a row, up to a number of them, and the lines after them
 pub record Row (most : ℕ) (ls : List (List ℕ)) (items : List Item) : Type 0 where
   pub lines : List (List ℕ)
   pub rest : List (List ℕ)
@@ -38,7 +38,7 @@ row zero ls = record { lines = []; rest = ls; all = refl; are_items = refl; coun
 row (suc most) [] = record { lines = []; rest = []; all = refl; are_items = refl; count = omega arith; left = refl; ends = λ l. refl }
 row (suc most) (l ∷ ls) = row_step most l ls (item_on_line l) refl (row most ls)
 
--- ---- told, so not fitting
+-- ---- a line that is returned does not fit
 row_length : (lines : List (List ℕ)) (items : List Item) → map item_on_line lines ≡ map Some items → length lines ≡ length items
 row_length [] [] e = refl
 row_length [] (i ∷ is) e = absurd (cc)
@@ -68,7 +68,7 @@ length_empty : (n : ℕ) → length (replicate {A = List ℕ} n []) ≡ n
 length_empty zero = refl
 length_empty (suc n) = ap suc (length_empty n)
 
--- what the lines behind the items spell, by what each does
+-- the content of a file, from the result of its last lines
 abbrev pub with_end : ℕ → List Item → Level → List Bool → Result (Unit {0}) ℕ → Result Filed ℕ
 with_end s items level flags r = r >>= λ end. Ok (record { surplus = s; items = items; cert = record { level = level; saturated = flags } })
 
@@ -78,7 +78,7 @@ with_set s items level ls o = on_line (length items + 3) o >>= λ flags. with_en
 abbrev pub with_level : ℕ → List Item → List (List ℕ) → Option Level → Result Filed ℕ
 with_level s items ls o = on_line (length items + 2) o >>= λ level. on_line (length items + 3) (first_spells (flags_of (length items)) (drop 1 ls)) >>= λ flags. with_end s items level flags (are_empty (length items + 4) (drop 2 ls))
 
--- behind the problem
+-- a line that does not fit after the problem
 unfit_behind : (s : ℕ) (items : List Item) (lines rest : List (List ℕ)) (n : ℕ) → AreProblem lines items → length lines ≡ length items + 1 →
     (length items < 512 → first_spells item_on_line rest ≡ None) → file_with s items rest ≡ Err n → IsFirstUnfit (lines ++ rest) n
 unfolding file_with
@@ -155,7 +155,7 @@ told (l ∷ ls) n e = at_surplus (surplus_of l) refl e
         (omega (arith, row_length r.lines (items_of ls) r.are_items)) r.ends (ap (file_with s (items_of ls)) (sym r.left) ∙ e) in
         subst (λ ls. IsFirstUnfit (l ∷ ls) n) (sym r.all) behind
 
--- ---- not fitting, so told
+-- ---- a line that does not fit is returned
 row_back : (most : ℕ) (lines rest : List (List ℕ)) (items : List Item) → map item_on_line lines ≡ map Some items → length items ≤ most →
     (length items < most → first_spells item_on_line rest ≡ None) → take most (items_in_row (lines ++ rest)) ≡ items
 row_back most (l ∷ ls) rest [] e c ends = absurd (cc)
@@ -175,7 +175,7 @@ drop_lines n [] b e = rw (sym e) refl
 drop_lines zero (x ∷ a) b e = absurd (omega (arith, e))
 drop_lines (suc n) (x ∷ a) b e = drop_lines n a b (omega (arith, e))
 
--- behind a problem
+-- the content of a file with these lines after a problem
 pub behind_problem : (lines rest : List (List ℕ)) (items : List Item) (p : AreProblem lines items) → (length items < 512 → first_spells item_on_line rest ≡ None) →
     (file_of (lines ++ rest) ≡ file_with p.surplus items rest) × (length lines ≡ length items + 1)
 unfolding file_of
@@ -194,7 +194,7 @@ are_not_empty : (n k b : ℕ) (l : List ℕ) (ls : List (List ℕ)) → are_empt
 are_not_empty n zero b l ls = ap Err (omega arith)
 are_not_empty n (suc k) b l ls = are_not_empty (suc n) k b l ls ∙ ap Err (omega arith)
 
--- a level is no item
+-- a level is not an item
 starts_with : (first l : List ℕ) (x : List ℕ) → follows first l ≡ Some x → take (length first) l ≡ first
 starts_with first l x e = go (bytes_eq (take (length first) l) first) refl e
   where

@@ -1,4 +1,4 @@
--- The lines of a check file: what each spells, where it fits.
+-- The lines of a check file: the value of each, if it fits.
 use Rattle.std.specs.Prelude.{◌≡◌, ℕ, zero, suc, ◌==◌, ◌&&◌, nat_le, nat_lt, Bool, true, false, if◌then◌else◌, List, [], ◌∷◌, length, map, codes, Option, Some, None}
 use Rattle.std.specs.Str.{bytes_eq}
 use Rattle.pon_lists.specs.OptionSteps.{◌>>=◌}
@@ -29,7 +29,7 @@ item_on_line l = do
   cap ← number_within 0 LINE_RATE parts.1
   Some (record { weight = weight; cap = cap })
 
--- `<p>/<q>` with q above 0; 47 is the stroke
+-- `<p>/<q>` with q above 0; 47 is the slash
 unfoldable pub fraction_of : List ℕ → Option Level
 fraction_of w = do
   parts ← cut_at 47 w
@@ -41,7 +41,7 @@ fraction_of w = do
 unfoldable pub level_on_line : List ℕ → Option Level
 level_on_line l = follows (codes "level ") l >>= λ w. if bytes_eq w (codes "all") then Some level.All else fraction_of w
 
--- whether the first of the indexes that are left is this one
+-- whether the first remaining index is this one
 abbrev pub is_index : ℕ → Option ℕ → Bool
 is_index k None = false
 is_index k (Some n) = n == k
@@ -50,22 +50,22 @@ abbrev pub is_next : ℕ → List (List ℕ) → Bool
 is_next k [] = false
 is_next k (p ∷ ps) = is_index k (number_of p)
 
--- of n items from item k on, each is saturated where it is the next index, and no index is left over
+-- for n items from item k on, each is saturated if it is the next index; none if an index remains
 unfoldable pub flags_from : ℕ → ℕ → List (List ℕ) → Option (List Bool)
 flags_from k zero [] = Some []
 flags_from k zero (p ∷ ps) = None
 flags_from k (suc n) ps = with_first (is_next k ps) (flags_from (suc k) n (behind (is_next k ps) ps))
 
--- the indexes of the saturated items, where the first is item k
+-- the indexes of the saturated items, if the first flag is that of item k
 abbrev pub indexes_from : ℕ → List Bool → List ℕ
 indexes_from k [] = []
 indexes_from k (true ∷ fs) = k ∷ indexes_from (suc k) fs
 indexes_from k (false ∷ fs) = indexes_from (suc k) fs
 
--- the parts of a set write the indexes of the saturated ones of n items
+-- the parts of a set write the indexes of the saturated items of n items
 abbrev pub WritesFlags : ℕ → List (List ℕ) → List Bool → Type 0
 WritesFlags n parts flags = (length flags ≡ n) × (map number_of parts ≡ map Some (indexes_from 0 flags))
 
--- `saturated -` or `saturated <i>,<j>,..`, so of n items
+-- `saturated -` or `saturated <i>,<j>,..`, as flags of n items
 unfoldable pub flags_of : ℕ → List ℕ → Option (List Bool)
 flags_of n l = follows (codes "saturated ") l >>= λ set. flags_from 0 n (parts_of set)

@@ -1,4 +1,4 @@
--- The lines of a check file that is printed.
+-- The printed lines of a check file.
 use Rattle.std.specs.Prelude.{◌≡◌, ℕ, List, [], ◌∷◌, ◌++◌, length, map, codes, decimal}
 use Rattle.pon_cert.specs.declared.problem.Item.{Item}
 use Rattle.pon_cert.specs.Problem.{IsProblem}
@@ -26,7 +26,7 @@ problem_lines f = surplus_line f.surplus ∷ map item_line f.items
 abbrev pub printed : Filed → List (List ℕ)
 printed f = problem_lines f ++ (codes "level " ++ level_text f.cert.level) ∷ (codes "saturated " ++ names_text (indexes_from 0 f.cert.saturated)) ∷ []
 
--- lines, each ended by a line feed
+-- lines, each followed by a line feed
 abbrev pub ended : List (List ℕ) → List ℕ
 ended [] = []
 ended (l ∷ ls) = l ++ 10 ∷ ended ls

@@ -1,4 +1,4 @@
--- How far the lines of a check file have come, and what the lines behind them change.
+-- The parsed part of a check file, and how the lines after it change it.
 use Rattle.std.specs.Prelude.{◌≡◌, ◌⊎◌, ℕ, ◌+◌, ◌-◌, ◌≤◌, ◌==◌, false, List, [], ◌∷◌, ◌++◌, length, take, drop, Option, Some, None, Result, Ok, Err}
 use Rattle.std.specs.List.{list_any}
 use Rattle.pon_lists.specs.ResultSteps.{◌>>=◌}
@@ -20,22 +20,22 @@ use Rattle.pon_check_file.specs.declared.reading.Taken.TheVariants as taken
 use Rattle.pon_check_file.specs.declared.stage.Stage.{Stage}
 use Rattle.pon_check_file.specs.declared.stage.Stage.TheVariants as stage
 
--- what the file spells that goes on with these lines: behind a surplus and items
+-- the content of a file with these lines after a surplus and items
 unfoldable pub behind_items : ℕ → List Item → List (List ℕ) → Result Filed ℕ
 behind_items surplus is ls = file_with surplus (is ++ take (MOST_ITEMS - length is) (items_in_row ls)) (drop (length (take (MOST_ITEMS - length is) (items_in_row ls))) ls)
 
--- behind a level
+-- the content of a file with these lines after a level
 unfoldable pub behind_level : ℕ → List Item → Level → List (List ℕ) → Result Filed ℕ
 behind_level surplus is level ls = do
   flags ← on_line (length is + 3) (first_spells (flags_of (length is)) ls)
   end ← are_empty (length is + 4) (drop 1 ls)
   Ok (record { surplus = surplus; items = is; cert = record { level = level; saturated = flags } })
 
--- behind a whole file of n lines
+-- the content of a file with these lines after a whole file of n lines
 unfoldable pub behind_file : Filed → ℕ → List (List ℕ) → Result Filed ℕ
 behind_file f n ls = are_empty (n + 1) ls >>= λ end. Ok f
 
--- what a file spells
+-- the content of a check file
 abbrev pub filed : CheckFile → Filed
 filed f = record { surplus = f.surplus; items = f.items.items; cert = f.cert }
 
@@ -43,7 +43,7 @@ abbrev pub said : Parsed → Result Filed ℕ
 said (parsed.File f) = Ok (filed f)
 said (parsed.Syntax line) = Err line
 
--- at any stage
+-- the content of a file with these lines after a stage
 abbrev pub goes_on : Stage → List (List ℕ) → Result Filed ℕ
 goes_on stage.First ls = file_of ls
 goes_on (stage.Items s) ls = behind_items s.surplus s.items.items ls
@@ -57,35 +57,35 @@ lines_before (stage.Items s) = length s.items.items + 1
 lines_before (stage.Level l) = length l.shared.items.items + 2
 lines_before (stage.Whole w) = w.lines
 
--- there are no more items than there may be
+-- the items are at most MOST_ITEMS
 abbrev pub IsFew : Stage → Type 0
 IsFew stage.First = Unit {0}
 IsFew (stage.Items s) = length s.items.items ≤ MOST_ITEMS
 IsFew (stage.Level l) = length l.shared.items.items ≤ MOST_ITEMS
 IsFew (stage.Whole w) = Unit {0}
 
--- a line that fits makes this of a stage
+-- a line that fits leads from the old stage to the new one
 pub record Fits (old : Stage) (line : List ℕ) (new : Stage) : Type 0 where
   pub same : (ls : List (List ℕ)) → goes_on old (line ∷ ls) ≡ goes_on new ls
   pub few : IsFew new
   pub lines : lines_before new ≡ lines_before old + 1
 
--- a line fits, or it does not whatever follows
+-- the line fits, or it does not fit whatever lines follow
 abbrev pub Takes : Stage → List ℕ → Option Stage → Type 0
 Takes old line None = (ls : List (List ℕ)) → goes_on old (line ∷ ls) ≡ Err (lines_before old + 1)
 Takes old line (Some new) = Fits old line new
 
 -- ---- the open line
--- there are no more items than there may be, and no line feed in the open line
+-- the items are at most MOST_ITEMS, and the open line has no line feed
 pub record IsOpen (o : Open) : Type 0 where
   pub few : IsFew o.stage
   pub no_feed : list_any (λ b. b == 10) o.line.items ≡ false
 
--- what the file spells that goes on with these bytes
+-- the content of a file with these bytes after the open line
 abbrev pub opens : Open → List ℕ → Result Filed ℕ
 opens o rest = goes_on o.stage (file_lines (o.line.items ++ rest))
 
--- the whole lines and the bytes behind them
+-- the number of whole lines and of bytes after them
 abbrev pub size : Open → ℕ
 size o = lines_before o.stage + length o.line.items
 
@@ -98,7 +98,7 @@ abbrev pub EndsLine : Open → Taken → Type 0
 EndsLine old (taken.Open new) = Ends old new
 EndsLine old (taken.Syntax n) = (ls : List (List ℕ)) → goes_on old.stage (without_return old.line.items ∷ ls) ≡ Err n
 
--- a byte more
+-- one more byte
 pub record Grows (old new : Open) (byte : ℕ) : Type 0 where
   pub is_open : IsOpen new
   pub small : size new ≤ size old + 1
@@ -109,11 +109,11 @@ TakesByte old byte (taken.Open new) = Grows old new byte
 TakesByte old byte (taken.Syntax n) = (rest : List ℕ) → opens old (byte ∷ rest) ≡ Err n
 
 -- ---- a file that is read
--- some lines spell this
+-- this is the result of parsing some lines
 abbrev pub IsSaid : Parsed → Type 0
 IsSaid p = (ls : List (List ℕ)) × (file_of ls ≡ said p)
 
--- the bytes spell this: at their end, or whatever follows them
+-- this is the result of parsing the bytes: at the end of the input, or a line that does not fit whatever bytes follow
 abbrev pub Decides : List ℕ → Option (List ℕ) → Parsed → Type 0
 Decides input left p =
     (IsAtEnd left × (file_of (file_lines input) ≡ said p))

@@ -6,26 +6,26 @@ use Rattle.pon_check_file.specs.CheckLines.{surplus_of, item_on_line, level_on_l
 use Rattle.pon_check_file.specs.CheckFiles.{first_spells}
 use Rattle.pon_cert.specs.declared.problem.TheConstants.{MOST_ITEMS}
 
--- a line with a surplus, and then one for each item
+-- the lines are a surplus and one line for each item
 pub record AreProblem (lines : List (List ℕ)) (items : List Item) : Type 0 where
   pub surplus : ℕ
   pub is_surplus : first_spells surplus_of lines ≡ Some surplus
   pub are_items : map item_on_line (drop 1 lines) ≡ map Some items
   pub count : length items ≤ MOST_ITEMS
 
--- the file begins with no surplus
+-- no lines yet, and then no surplus
 pub record LacksSurplus (before rest : List (List ℕ)) : Type 0 where
   pub first : before ≡ []
   pub no_surplus : first_spells surplus_of rest ≡ None
 
--- a problem, and behind it neither a level nor, where there may be more of them, an item
+-- a problem, and then neither a level nor, if there may be more items, an item
 pub record LacksLevel (before rest : List (List ℕ)) : Type 0 where
   pub items : List Item
   pub problem : AreProblem before items
   pub no_level : first_spells level_on_line rest ≡ None
   pub no_item : length items < MOST_ITEMS → first_spells item_on_line rest ≡ None
 
--- a problem and a level, and behind them no set of its items
+-- a problem and a level, and then no set of its items
 pub record LacksSet (before rest : List (List ℕ)) : Type 0 where
   pub lines : List (List ℕ)
   pub items : List Item
@@ -36,7 +36,7 @@ pub record LacksSet (before rest : List (List ℕ)) : Type 0 where
   pub all_before : before ≡ lines ++ level_line ∷ []
   pub no_set : first_spells (flags_of (length items)) rest ≡ None
 
--- a problem, a level, a set and empty lines, and behind them a line that is not empty
+-- a problem, a level, a set and empty lines, and then a line that is not empty
 pub record HasMore (before rest : List (List ℕ)) : Type 0 where
   pub lines : List (List ℕ)
   pub items : List Item
@@ -54,7 +54,7 @@ pub record HasMore (before rest : List (List ℕ)) : Type 0 where
   pub others : List (List ℕ)
   pub not_empty : rest ≡ (byte ∷ bytes) ∷ others
 
--- the lines before line n fit, and line n is not what has to follow them
+-- the lines before line n fit, and line n is not one that may follow them
 pub record IsFirstUnfit (ls : List (List ℕ)) (n : ℕ) : Type 0 where
   pub before : List (List ℕ)
   pub rest : List (List ℕ)

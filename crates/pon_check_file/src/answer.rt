@@ -40,7 +40,7 @@ fn yes_line(alloc: Global) -> Result<String, AllocError>
     format!(in alloc; "yes\n")
 }
 
-// The answer to a problem and a certificate.
+// Checks the certificate of a file, and makes the answer.
 fn judge(alloc: Global, file: &CheckFile) -> Result<Answer, AllocError>
     requires { IsProblem file.now.items.items file.now.surplus }
     ensures { IfOk result
@@ -62,7 +62,7 @@ fn judge(alloc: Global, file: &CheckFile) -> Result<Answer, AllocError>
     }
 }
 
-// The answer to what the lines of a file spell.
+// Makes the answer to a parsed file.
 fn answer_of(alloc: Global, parsed: Parsed) -> Result<Answer, AllocError>
     requires { IsSaid parsed }
     ensures { IfOk result (λ a. IsAnswer (said parsed) a.accepted (string_bytes a.line)) }
@@ -76,21 +76,21 @@ fn answer_of(alloc: Global, parsed: Parsed) -> Result<Answer, AllocError>
     }
 }
 
-/// Reads a check file to the end of the input or to the first line that does not fit, and writes its answer: whether its
-/// certificate is that of its items and its surplus, or why not. Returns `true` exactly for the answer `yes`, which comes
-/// only at the end of the input.
+/// Reads a check file to the end of the input or to the first line that does not fit, and writes its answer: whether
+/// its certificate is that of its items and its surplus, or why not. Returns `true` exactly for the answer `yes`, which
+/// is given only at the end of the input.
 ///
-/// The answer is one line: `yes`; `no` with the first fault of the certificate, as [`CertFault`] prints it; or `no Syntax`
-/// with the number, counted from 1, of the first line that does not fit. A file is the line `surplus <S>`, at most 512 lines
-/// `item <weight> <cap>`, a line `level all` or `level <p>/<q>`, a line `saturated -` or `saturated <i>,<j>,..`, and then
-/// only empty lines. Rates are in kbit/s, 0 to 2,488,320; a weight is 1 to 2,488,320; the saturated items are named by their
-/// indexes, counted from 0, in rising order.
+/// The answer is one line: `yes`; `no` with the first fault of the certificate, as [`CertFault`] prints it; or `no
+/// Syntax` with the number, from 1, of the first line that does not fit. A file is the line `surplus <S>`, at most 512
+/// lines `item <weight> <cap>`, a line `level all` or `level <p>/<q>`, a line `saturated -` or `saturated <i>,<j>,..`,
+/// and then only empty lines. Rates are in kbit/s, 0 to 2,488,320; a weight is 1 to 2,488,320; the saturated items are
+/// given by their indexes, from 0, in ascending order.
 ///
-/// At most 512 items and one line are kept, of which no more than [`LONGEST_LINE`](crate::LONGEST_LINE) + 1 bytes: a
+/// At most 512 items and one line are kept, and of the line at most [`LONGEST_LINE`](crate::LONGEST_LINE) + 1 bytes: a
 /// longer line does not fit.
 ///
-/// `Read` if the reader fails or 2^64 - 1 reads decide nothing, and `Memory` if memory is refused: nothing is written.
-/// `Write` if the writer fails: a beginning of the answer is written. The writer is flushed once, after the answer.
+/// `Read` if the reader fails or 2^64 - 1 reads reach no answer, and `Memory` if memory is refused: nothing is written.
+/// `Write` if the writer fails: a prefix of the answer is written. The writer is flushed once, after the answer.
 pub fn check_file<R: DevRead, W: DevWrite>(
     alloc: Global,
     reader: &mut R,

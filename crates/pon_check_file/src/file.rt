@@ -1,23 +1,23 @@
-//! What the lines of a check file spell.
+//! The content of a check file.
 
 use pon_cert::{ClassCert, Item};
 
-/// A problem, and what is said to be its certificate.
+/// A problem, and a certificate to be checked for it.
 #[derive(Drop)]
 pub struct CheckFile {
-    /// What the items share, 0 to 2,488,320 kbit/s.
+    /// Surplus that the items share, 0 to 2,488,320 kbit/s.
     pub surplus: u64,
-    /// At most 512 items.
+    /// Items, 0 to 512.
     pub items: Vec<Item>,
-    /// The certificate, not judged yet.
+    /// Certificate, not checked yet.
     pub cert: ClassCert,
 }
 
-/// What the lines of a file spell.
+/// The result of parsing the lines of a check file.
 #[derive(Drop)]
 pub enum Parsed {
     /// A problem and a certificate.
     File(CheckFile),
-    /// Nothing: this line, counted from 1, is the first that does not fit.
+    /// This line, from 1, is the first that does not fit.
     Syntax(u64),
 }

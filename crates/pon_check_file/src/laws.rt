@@ -7,21 +7,21 @@ ghost use Rattle.pon_check_file.specs.CheckFiles.{Filed, file_of};
 ghost use Rattle.pon_check_file.specs.Printed.{IsPrintable, ended, printed};
 ghost use Rattle.pon_check_file.specs.Unfit.{IsFirstUnfit};
 
-/// The set of a check file gives its items their flags exactly when its parts write, in order, the indexes of the
-/// saturated ones: so they rise, and each is that of an item.
+/// A set gives the items of a check file their flags exactly when its parts write, in order, the indexes of the
+/// saturated items: so the indexes ascend, and each is that of an item.
 pub fn sets_name_items()
     ensures { (n : ℕ) (parts : List (List ℕ)) (flags : List Bool)
         → (flags_from 0 n parts ≡ Some flags) ↔ WritesFlags n parts flags }
 {}
 
-/// A line is the first that does not fit exactly when the lines before it fit and it is not what has to follow
-/// them: a surplus, an item or a level, a level where there are 512 items, a set of the items, or an empty line.
+/// A line is the first that does not fit exactly when the lines before it fit and it is not one that may follow them: a
+/// surplus, an item or a level, a level after 512 items, a set of the items, or an empty line.
 pub fn first_unfit_line()
     ensures { (ls : List (List ℕ)) (n : ℕ) → (file_of ls ≡ Err n) ↔ IsFirstUnfit ls n }
 {}
 
-/// The lines that are printed for a problem and a certificate spell them, with any number of empty lines behind, and so does
-/// the text of these lines, each ended by a line feed.
+/// The printed lines of a problem and a certificate, followed by any number of empty lines, parse as that problem and
+/// certificate, and so does the text of these lines, each ended by a line feed.
 pub fn printed_reads_back()
     ensures lines { (f : Filed) (empty : ℕ) → IsPrintable f
         → file_of (printed f ++ replicate empty []) ≡ Ok f }
@@ -29,7 +29,7 @@ pub fn printed_reads_back()
         → file_of (file_lines (ended (printed f ++ replicate empty []))) ≡ Ok f }
 {}
 
-/// What a check file spells is a problem of a class with a level, and a flag for each of its items: so it can be printed.
+/// A parsed check file is a class problem with a level, and a flag for each of its items, so it can be printed.
 pub fn files_are_printable()
     ensures { (ls : List (List ℕ)) (f : Filed) → file_of ls ≡ Ok f → IsPrintable f }
 {}

@@ -1,8 +1,8 @@
-//! Check files: a text with a surplus, the items that share it and a certificate comes in, and the verdict goes out as one
+//! Check files: reads a text with a surplus, the items that share it and a certificate, and writes the verdict as one
 //! line.
 //!
-//! The text is judged by the checker of `pon_check` alone, so a yes is worth as much as its promise: the certificate spells
-//! the fairest share. The crate makes no certificate and stands on no crate that shares a surplus.
+//! The text is judged by the checker of `pon_check` only, so `yes` has the same guarantee: the assignment of the
+//! certificate is the fairest share. The crate computes no certificate and depends on no crate that shares a surplus.
 #![tactic(auto)]
 
 mod answer;

@@ -1,4 +1,4 @@
-//! The lines of a check file, and what each spells.
+//! Parsing of the lines of a check file.
 
 ghost use Rattle.std.specs.Prelude.{◌≡◌, ◌≤◌, IfSome};
 ghost use Rattle.pon_cert.specs.Problem.{IsItem};
@@ -8,7 +8,7 @@ use pon_cert::{Item, Level};
 use pon_text::{cut, follows, number_of};
 use pon_units::{Frac, LINE_RATE};
 
-// The number from `least` to `most` that a word writes.
+// Parses a number from `least` to `most`.
 #[tactic(auto, unfolding(crate::specs::CheckLines::number_within))]
 fn number_within(least: u64, most: u64, word: &[u8]) -> Option<u64>
     ensures value { result ≡ number_within least most word.now }
@@ -22,7 +22,7 @@ fn number_within(least: u64, most: u64, word: &[u8]) -> Option<u64>
     }
 }
 
-/// The surplus of a line `surplus <S>`, 0 to 2,488,320 kbit/s.
+/// Parses a line `surplus <S>`, 0 to 2,488,320 kbit/s.
 #[tactic(auto, unfolding(crate::specs::CheckLines::surplus_of))]
 pub(crate) fn surplus_of(line: &[u8]) -> Option<u64>
     ensures value { result ≡ surplus_of line.now }
@@ -31,7 +31,7 @@ pub(crate) fn surplus_of(line: &[u8]) -> Option<u64>
     number_within(0, LINE_RATE, follows(b"surplus ", line)?)
 }
 
-/// The item of a line `item <weight> <cap>`, weight 1 to 2,488,320 and cap 0 to 2,488,320 kbit/s.
+/// Parses a line `item <weight> <cap>`, weight 1 to 2,488,320 and cap 0 to 2,488,320 kbit/s.
 #[tactic(auto, unfolding(crate::specs::CheckLines::item_on_line))]
 pub(crate) fn item_on_line(line: &[u8]) -> Option<Item>
     ensures value { result ≡ item_on_line line.now }
@@ -43,7 +43,7 @@ pub(crate) fn item_on_line(line: &[u8]) -> Option<Item>
     Some(Item { weight, cap })
 }
 
-// The level that `<p>/<q>` writes, with q above 0.
+// Parses a fraction `<p>/<q>`, with q above 0, as a level.
 #[tactic(auto, unfolding(crate::specs::CheckLines::fraction_of))]
 fn fraction_of(word: &[u8]) -> Option<Level>
     ensures { result ≡ fraction_of word.now }
@@ -58,7 +58,7 @@ fn fraction_of(word: &[u8]) -> Option<Level>
     }
 }
 
-/// The level of a line `level all` or `level <p>/<q>`.
+/// Parses a line `level all` or `level <p>/<q>`.
 #[tactic(auto, unfolding(crate::specs::CheckLines::level_on_line))]
 pub(crate) fn level_on_line(line: &[u8]) -> Option<Level>
     ensures { result ≡ level_on_line line.now }

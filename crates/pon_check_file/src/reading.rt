@@ -1,4 +1,4 @@
-//! The bytes of a check file, gathered to lines.
+//! The bytes of a check file, split into lines.
 
 ghost use Rattle.std.specs.Prelude.{◌≡◌, ◌<◌, ◌-◌, ◌^◌, IfOk, length};
 ghost use Rattle.pon_stream.specs.Streams.{TellsRead};
@@ -12,23 +12,23 @@ use pon_stream::{PlanFault, next_byte};
 use pon_text::without_return;
 use std::alloc::{AllocError, Global};
 
-/// The greatest number of bytes of a line that fits, without its carriage return and line feed: a set of 512 indexes of
-/// 20 digits. What is longer fits nowhere.
+/// Maximum number of bytes of a line that fits, without its carriage return and line feed: a set of 512 indexes of 20
+/// digits. No longer line fits anywhere.
 pub const LONGEST_LINE: usize = 10_761;
 
-// What the whole lines spell, and the open line behind them.
+// The parsed whole lines, and the bytes of the open line after them.
 #[derive(Drop)]
 struct Open {
     stage: Stage,
     line: Vec<u8>,
 }
 
-// What a byte more makes of the file.
+// The result of one more byte.
 #[derive(Drop)]
 enum Taken {
-    // It may still fit.
+    // The file may still fit.
     Open(Open),
-    // This line does not fit, whatever follows.
+    // This line does not fit, whatever bytes follow.
     Syntax(u64),
 }
 
@@ -50,7 +50,7 @@ impl Open {
         }
     }
 
-    // Takes the next byte.
+    // Reads the next byte.
     fn take(self, alloc: Global, byte: u8) -> Result<Taken, AllocError>
         requires open { IsOpen self }
         requires lines { size self < 2 ^ 64 - 1 }
@@ -70,7 +70,7 @@ impl Open {
         }))
     }
 
-    // Ends the file; an open line counts where it is not empty.
+    // Ends the file; the open line counts if it is not empty.
     fn end(self, alloc: Global) -> Result<Parsed, AllocError>
         requires open { IsOpen self }
         requires lines { size self < 2 ^ 64 - 1 }
@@ -88,7 +88,7 @@ impl Open {
 
 /// Reads a check file, one byte a call, to the end of the input or until a line does not fit.
 ///
-/// `Read` if the reader fails or 2^64 - 1 reads decide nothing, and `Memory` if memory is refused.
+/// `Read` if the reader fails or 2^64 - 1 reads reach no result, and `Memory` if memory is refused.
 pub(crate) fn read_file<R: DevRead>(alloc: Global, reader: &mut R) -> Result<Parsed, PlanFault>
     ensures text { ReadsFile (R.remaining reader.old) (R.remaining reader.new) result }
     ensures read { TellsRead (R.calls reader.old) (R.calls reader.new) (R.failures reader.old)

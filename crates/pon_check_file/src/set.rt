@@ -10,13 +10,13 @@ use pon_cert::Sat;
 use pon_text::{cut, follows, number_of};
 use std::alloc::{AllocError, Global};
 
-// The indexes of a set that are left.
+// The remaining indexes of a set.
 #[derive(Drop)]
 struct Indexes<'a> {
     left: Option<&'a [u8]>,
 }
 
-// The first index of those that are written, and the others.
+// Splits a text after its first index, at the comma.
 fn first_index(text: &[u8]) -> (&[u8], Option<&[u8]>)
     ensures { slice_split (λ b. b == 44) text.now ≡ result.0.now ∷ left_of result.1 }
 {
@@ -45,7 +45,7 @@ impl<'a> Indexes<'a> {
         Indexes { left: Some(set) }
     }
 
-    // Whether the first of them is that of this item; it is then taken.
+    // Removes the first remaining index if it is that of this item, and returns whether it was.
     fn take(&mut self, item: usize) -> bool
         ensures named { result ≡ is_next item (left_of self.old.left) }
         ensures left { left_of self.new.left ≡ behind result (left_of self.old.left) }
@@ -62,7 +62,8 @@ impl<'a> Indexes<'a> {
     }
 }
 
-// The flags that a set gives `count` items, `None` if its indexes do not rise or one is that of no item.
+// Parses a set into a flag for each of `count` items; `None` if its indexes do not ascend or one is not that of an
+// item.
 fn flags_from(alloc: Global, count: usize, set: &[u8]) -> Result<Option<Sat>, AllocError>
     ensures { IfOk result (λ r. r ≡ flags_from 0 count (parts_of set.now)) }
 {
@@ -78,8 +79,8 @@ fn flags_from(alloc: Global, count: usize, set: &[u8]) -> Result<Option<Sat>, Al
     Ok(Some(Sat::new(flags)))
 }
 
-/// The flags of a line `saturated -` or `saturated <i>,<j>,..` for `count` items: the indexes rise, and each is that of
-/// an item. `None` for any other line.
+/// Parses a line `saturated -` or `saturated <i>,<j>,..` into a flag for each of `count` items: the indexes ascend, and
+/// each is that of an item. `None` for any other line.
 #[tactic(auto, unfolding(crate::specs::CheckLines::flags_of))]
 pub(crate) fn flags_of(alloc: Global, count: usize, line: &[u8]) -> Result<Option<Sat>, AllocError>
     ensures { IfOk result (λ r. r ≡ flags_of count line.now) }

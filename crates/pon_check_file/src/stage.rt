@@ -1,4 +1,4 @@
-//! How far the lines of a check file have come, and what the next line changes.
+//! The parsed part of a check file, and how the next line changes it.
 
 ghost use Rattle.std.specs.Prelude.{◌≡◌, ◌<◌, ◌≤◌, ◌+◌, ◌-◌, ◌^◌, [], None, IfOk, length};
 ghost use Rattle.pon_check_file.specs.CheckLines.{item_on_line};
@@ -11,12 +11,12 @@ use crate::set::flags_of;
 use pon_cert::{ClassCert, Item, Level, MOST_ITEMS};
 use std::alloc::{AllocError, Global};
 
-/// A surplus, and the items so far that share it.
+/// A surplus, and the items that share it so far.
 #[derive(Drop)]
 pub(crate) struct Shared {
-    /// What the items share, in kbit/s.
+    /// Surplus that the items share, in kbit/s.
     pub surplus: u64,
-    /// At most 512 items.
+    /// Items so far, 0 to 512.
     pub items: Vec<Item>,
 }
 
@@ -34,24 +34,24 @@ pub(crate) struct Levelled {
 pub(crate) struct Filled {
     /// The file.
     pub file: CheckFile,
-    /// The number of lines so far.
+    /// Number of lines so far.
     pub lines: u64,
 }
 
-/// What the lines so far spell, and so what the next may be.
+/// The parsed lines so far, which decide what the next line may be.
 #[derive(Drop)]
 pub(crate) enum Stage {
-    /// No line yet: a surplus.
+    /// No line yet: the next is a surplus.
     First,
-    /// A surplus and items: an item or the level.
+    /// A surplus and items: the next is an item or the level.
     Items(Shared),
-    /// A level behind them: the set.
+    /// A level after them: the next is the set.
     Level(Levelled),
-    /// All of a file: an empty line.
+    /// A whole file: the next is an empty line.
     Whole(Filled),
 }
 
-// Takes the line of the surplus.
+// Parses the line of the surplus.
 fn take_surplus(alloc: Global, line: &[u8]) -> Option<Stage>
     ensures { Takes stage.First line.now result }
 {
@@ -64,7 +64,7 @@ fn take_surplus(alloc: Global, line: &[u8]) -> Option<Stage>
     }
 }
 
-// Takes the line of the level.
+// Parses the line of the level.
 fn take_level(shared: Shared, line: &[u8]) -> Option<Stage>
     requires few { length shared.items.items ≤ MOST_ITEMS }
     requires no_item { length shared.items.items < MOST_ITEMS → item_on_line line.now ≡ None }
@@ -76,7 +76,7 @@ fn take_level(shared: Shared, line: &[u8]) -> Option<Stage>
     }
 }
 
-// Takes the line of an item, where there may be more of them, or of the level.
+// Parses the line of an item, if there may be more of them, or of the level.
 fn take_item(shared: Shared, line: &[u8]) -> Result<Option<Stage>, AllocError>
     requires { length shared.items.items ≤ MOST_ITEMS }
     ensures { IfOk result (Takes (stage.Items shared) line.now) }
@@ -94,7 +94,7 @@ fn take_item(shared: Shared, line: &[u8]) -> Result<Option<Stage>, AllocError>
     Ok(take_level(shared, line))
 }
 
-// Takes the line of the set.
+// Parses the line of the set.
 fn take_set(alloc: Global, levelled: Levelled, line: &[u8]) -> Result<Option<Stage>, AllocError>
     ensures { IfOk result (Takes (stage.Level levelled) line.now) }
 {
@@ -117,7 +117,7 @@ fn take_set(alloc: Global, levelled: Levelled, line: &[u8]) -> Result<Option<Sta
     })))
 }
 
-// Takes an empty line.
+// Accepts an empty line.
 fn take_empty(filled: Filled, line: &[u8]) -> Option<Stage>
     requires { filled.lines < 2 ^ 64 - 1 }
     ensures { Takes (stage.Whole filled) line.now result }
@@ -133,7 +133,7 @@ fn take_empty(filled: Filled, line: &[u8]) -> Option<Stage>
 }
 
 impl Stage {
-    /// The number of the next line, counted from 1.
+    /// Number of the next line, from 1.
     pub(crate) fn line(&self) -> u64
         requires { lines_before self.now < 2 ^ 64 - 1 }
         ensures { result ≡ lines_before self.now + 1 }
@@ -146,7 +146,7 @@ impl Stage {
         }
     }
 
-    /// Takes the next line, which has no line feed and no carriage return behind it; `None` if it does not fit.
+    /// Parses the next line, given without line feed and carriage return; `None` if it does not fit.
     pub(crate) fn take(self, alloc: Global, line: &[u8]) -> Result<Option<Stage>, AllocError>
         requires few { IsFew self }
         requires lines { lines_before self < 2 ^ 64 - 1 }
@@ -160,7 +160,7 @@ impl Stage {
         }
     }
 
-    /// What the file spells that has no line more.
+    /// Returns the result of a file that ends here.
     pub(crate) fn end(self) -> Parsed
         requires few { IsFew self }
         requires lines { lines_before self < 2 ^ 64 - 1 }

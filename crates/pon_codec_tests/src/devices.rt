@@ -73,7 +73,7 @@ fn wraps_the_readers_and_writers_of_std(rt: HostRuntime) -> Result<(), Fail> {
     Ok(())
 }
 
-/// Fails in each read and flush, and takes nothing in a write.
+/// Device that fails in each read and flush, and writes nothing.
 #[derive(Drop)]
 struct Broken;
 

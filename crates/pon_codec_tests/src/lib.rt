@@ -1,6 +1,6 @@
-//! Tests of what is read and written: numbers in range, devices, maps and their bytes, the records of a link.
+//! Tests of reading and writing: numbers in range, devices, maps and their bytes, the records of a link.
 //!
-//! They stand here, above the crates that they test, so that each of these is proved once.
+//! They are in a crate above those that they test, so that each of these is proved once.
 #![tactic(auto)]
 
 #[cfg(test)]

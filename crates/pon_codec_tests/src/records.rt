@@ -1,4 +1,4 @@
-// The records of a link, and the units that answer them.
+// The records of a link, and the simulated ONUs that answer them.
 
 mod down;
 mod unit;

@@ -1,4 +1,4 @@
--- Checks in order, of which none refuses.
+-- Lists of checks of which none refuses.
 use Rattle.std.proofs.Common.{◌≡◌, Bool, true, false, List, [], ◌∷◌, refl}
 use Rattle.std.specs.Prelude.{Option, Some, None}
 use Rattle.pon_descr.specs.Checks.{when, or_else, first_of}

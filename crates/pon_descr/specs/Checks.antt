@@ -3,12 +3,12 @@ use Rattle.std.specs.Prelude.{◌≡◌, Bool, true, false, List, [], ◌∷◌,
 use Rattle.pon_descr.specs.declared.refusal.Refusal.{Refusal}
 use Rattle.pon_descr.specs.declared.refusal.Refusal.TheVariants.{OutOfMemory}
 
--- a check that refuses where its test holds
+-- a check that refuses if its test holds
 abbrev pub when : Bool → Refusal → Option Refusal
 when true r = Some r
 when false r = None
 
--- the first that refuses
+-- the first of two refusals
 abbrev pub or_else : Option Refusal → Option Refusal → Option Refusal
 or_else None r = r
 or_else (Some q) r = Some q
@@ -17,7 +17,7 @@ abbrev pub first_of : List (Option Refusal) → Option Refusal
 first_of [] = None
 first_of (r ∷ rs) = or_else r (first_of rs)
 
--- the refusal of the check that refuses, and out of memory only if none does
+-- the refusal of the checks, and `OutOfMemory` only if none refuses
 abbrev pub IsTold : Option Refusal → Refusal → Type 0
 IsTold None told = told ≡ OutOfMemory
 IsTold (Some refusal) told = told ≡ refusal

@@ -1,4 +1,4 @@
--- The words of a refusal: its number, its name, and a cause.
+-- The text of a refusal: its number, its name, and a cause.
 use Rattle.std.specs.Prelude.{ℕ, List, ◌++◌, codes, decimal}
 use Rattle.pon_descr.specs.declared.refusal.Refusal.{Refusal}
 use Rattle.pon_descr.specs.declared.refusal.Refusal.TheVariants.{NoSuchAlloc, AllocTaken, AllocRange, OnuRange, RateRange, MaxBelowGuaranteed, NeedsGuarantee, NoSurplusRoom, TooManyAllocs, TooManyOnus, SeriesFull, Capacity, StaleFrame, NotPolled, ReportCount, AlreadyReported, PortDown, PortUp, FrameLimit, ChapterFull, OutOfMemory}

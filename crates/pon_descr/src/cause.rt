@@ -3,7 +3,7 @@ ghost use Rattle.std.specs.Option.{SomeIff};
 
 use std::marker::Model;
 
-/// Why a port is failed: 1 operator, 2 read, 3 write, 4 bad record, 5 input ended, 6 to 9 free for the caller.
+/// Why a port is failed: 1 operator, 2 read, 3 write, 4 bad record, 5 end of input, 6 to 9 free for the caller.
 #[derive(Clone, Copy, Debug, PartialEq, Eq)]
 pub struct Cause {
     number: u8,
@@ -22,7 +22,7 @@ impl Model for Cause {
 }
 
 impl Cause {
-    /// The cause of this number, `None` outside 1 to 9.
+    /// Makes the cause of a number; `None` outside 1 to 9.
     pub fn new(n: u8) -> Option<Self>
         ensures { SomeIff result ((1 ≤ n) × (n ≤ 9)) n }
     {
@@ -33,7 +33,7 @@ impl Cause {
         }
     }
 
-    /// Its number, 1 to 9.
+    /// Number of the cause, 1 to 9.
     pub fn get(self) -> u8
         ensures value { result ≡ self }
         ensures range { (1 ≤ self) × (self ≤ 9) }

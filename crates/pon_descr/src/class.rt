@@ -1,7 +1,7 @@
 ghost use Rattle.std.specs.Prelude.{◌≡◌};
 ghost use Rattle.pon_descr.specs.Classes.{class_of};
 
-/// How surplus is shared with an Alloc-ID: not at all, with the non-assured class, or with best effort.
+/// How an Alloc-ID shares surplus: not at all, in the non-assured class, or as best effort.
 #[derive(Clone, Copy, Debug, PartialEq, Eq)]
 pub enum Class {
     Plain,
@@ -10,7 +10,7 @@ pub enum Class {
 }
 
 impl Class {
-    /// The class of a word of settings and management lines: `none`, `na` or `be`. `None` for any other word.
+    /// Parses the word of a class in settings and management lines: `none`, `na` or `be`. `None` for any other word.
     pub fn of_word(word: &[u8]) -> Option<Class>
         ensures { result ≡ class_of word.now }
     {

@@ -26,7 +26,7 @@ impl Model for Descriptor {
     ghost inverse = { λ t. record { fixed = t.fixed; assured = t.assured; max = t.max; class = t.class } };
 }
 
-// A rate of a descriptor in kbit/s.
+// Converts a number of kbit/s to a rate of a descriptor.
 fn rate(n: u64) -> Kbps
     requires { n ≤ LINE_RATE }
     ensures { result ≡ n }
@@ -41,11 +41,11 @@ impl Descriptor {
     ghost use Rattle.std.specs.Prelude.{◌≡◌, ◌≤◌, ◌↔◌, IsOk, IfOk, IfErr, Some, None};
     ghost use Rattle.pon_descr.specs.Descriptor.{Descriptor, IsLawful, descriptor_refusal, promised};
 
-    /// The descriptor of these rates in kbit/s.
+    /// Makes a descriptor of these rates in kbit/s.
     ///
-    /// Refused, in this order: `RateRange` for a rate above 2,488,320, `MaxBelowGuaranteed` for a maximum below fixed
-    /// and assured rate together, `NeedsGuarantee` for the non-assured class without them, `NoSurplusRoom` for a class
-    /// that shares surplus with no room above them.
+    /// Fails with the first of: `RateRange` for a rate above 2,488,320, `MaxBelowGuaranteed` for a maximum below fixed
+    /// and assured rate together, `NeedsGuarantee` for the non-assured class if both are 0, `NoSurplusRoom` for a class
+    /// that shares surplus if the maximum is not above both together.
     pub fn new(fixed: u64, assured: u64, max: u64, class: Class) -> Result<Self, Refusal>
         ensures ok { IfOk result
             (λ d. d ≡ record { fixed = fixed; assured = assured; max = max; class = class }) }
@@ -75,7 +75,7 @@ impl Descriptor {
         })
     }
 
-    /// The fixed rate: it is granted whatever the load.
+    /// Fixed rate, 0 to 2,488,320 kbit/s: it is granted whatever the load.
     pub fn fixed(&self) -> Kbps
         ensures value { result ≡ self.now.fixed }
         ensures range { result ≤ LINE_RATE }
@@ -83,7 +83,7 @@ impl Descriptor {
         self.fixed
     }
 
-    /// The assured rate: it is granted as far as the load asks for it.
+    /// Assured rate, 0 to 2,488,320 kbit/s: it is granted up to the load.
     pub fn assured(&self) -> Kbps
         ensures value { result ≡ self.now.assured }
         ensures range { result ≤ LINE_RATE }
@@ -91,7 +91,7 @@ impl Descriptor {
         self.assured
     }
 
-    /// The maximum rate: nothing above it is granted.
+    /// Maximum rate, 0 to 2,488,320 kbit/s: no more is granted.
     pub fn max(&self) -> Kbps
         ensures value { result ≡ self.now.max }
         ensures range { result ≤ LINE_RATE }
@@ -99,14 +99,14 @@ impl Descriptor {
         self.max
     }
 
-    /// How surplus is shared.
+    /// Class by which surplus is shared.
     pub fn class(&self) -> Class
         ensures { result ≡ self.now.class }
     {
         self.class
     }
 
-    /// What is promised under load: fixed and assured rate together.
+    /// Promised rate, fixed and assured rate together, 0 to 2,488,320 kbit/s.
     pub fn promised(&self) -> Kbps
         ensures sum { result ≡ promised self.now }
         ensures range { result ≤ LINE_RATE }

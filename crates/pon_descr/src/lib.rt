@@ -1,8 +1,8 @@
 //! Traffic descriptors of the rate-proportional reference model of dynamic bandwidth assignment (ITU-T G.987.3), and
-//! the refusals that a descriptor or an event meets.
+//! the refusals of descriptors and events.
 //!
-//! A [`Descriptor`] holds, by its type, exactly the rates and the class that the model allows. A [`Refusal`] has a
-//! number and a name. Nothing here takes memory.
+//! A [`Descriptor`] has, by its type, exactly the rates and the class that the model allows. A [`Refusal`] has a number
+//! and a name. Nothing here allocates memory.
 #![tactic(auto)]
 
 mod cause;

@@ -1,40 +1,41 @@
 use crate::cause::Cause;
 use std::fmt;
 
-/// Why a descriptor or an event is refused. Each has a number, E01 to E21, and the name that the lines print.
+/// Why a descriptor or an event is refused. Each refusal has a number, E01 to E21, and a name, as printed in output
+/// lines.
 #[derive(Clone, Copy, Debug, PartialEq, Eq)]
 pub enum Refusal {
-    /// E01: the Alloc-ID is not admitted here.
+    /// E01: the Alloc-ID is not admitted on this port.
     NoSuchAlloc,
-    /// E02: the Alloc-ID is admitted, to whatever ONU.
+    /// E02: the Alloc-ID is admitted already, for whatever ONU.
     AllocTaken,
-    /// E03: the Alloc-ID is outside 1024 to 16383; told where the number is read.
+    /// E03: the Alloc-ID is outside 1024 to 16383; returned when the number is read.
     AllocRange,
-    /// E04: the ONU-ID is outside 0 to 1022; told where the number is read.
+    /// E04: the ONU-ID is outside 0 to 1022; returned when the number is read.
     OnuRange,
     /// E05: a rate is above 2,488,320 kbit/s.
     RateRange,
-    /// E06: the maximum is below fixed and assured rate together.
+    /// E06: the maximum rate is below fixed and assured rate together.
     MaxBelowGuaranteed,
     /// E07: a non-assured Alloc-ID has neither fixed nor assured rate.
     NeedsGuarantee,
-    /// E08: an Alloc-ID that shares surplus has no room above fixed and assured rate.
+    /// E08: an Alloc-ID that shares surplus has no maximum rate above fixed and assured rate together.
     NoSurplusRoom,
-    /// E09: the port has as many Alloc-IDs as it may.
+    /// E09: the port has the maximum number of Alloc-IDs.
     TooManyAllocs,
     /// E10: the port has 128 ONUs, and this ONU is new.
     TooManyOnus,
     /// E11: the ONU has 16 Alloc-IDs.
     SeriesFull,
-    /// E12: the set afterwards would not fit the frame.
+    /// E12: the set after the step would not fit the frame.
     Capacity,
-    /// E13: the frame is none of the window's maps.
+    /// E13: no map of the window has the frame.
     StaleFrame,
     /// E14: that map has no structure of the ONU.
     NotPolled,
-    /// E15: not one occupancy for each structure of the ONU in that map.
+    /// E15: the number of occupancies is not that of the ONU's structures in that map.
     ReportCount,
-    /// E16: a report of that frame and ONU was accepted.
+    /// E16: a report of that frame and ONU was accepted already.
     AlreadyReported,
     /// E17: the port is failed.
     PortDown { cause: Cause },
@@ -42,9 +43,9 @@ pub enum Refusal {
     PortUp,
     /// E19: the next frame is 18,446,744,073,709,551,615.
     FrameLimit,
-    /// E20: 65,536 entries are kept, or the count of entries is at its last value.
+    /// E20: 65,536 entries are kept, or the number of entries is at its maximum.
     ChapterFull,
-    /// E21: a growth of memory was refused.
+    /// E21: an allocation was refused.
     OutOfMemory,
 }
 

@@ -1,4 +1,4 @@
-//! A descriptor that is read from a table of settings.
+//! Descriptors read from a table of settings.
 
 ghost use Rattle.std.specs.Prelude.{◌≡◌, Some, IfOk, IfErr, option_and_then, option_map};
 ghost use Rattle.toml.specs.Data.{as_integer, as_str, get_member};
@@ -10,17 +10,17 @@ use crate::descriptor::Descriptor;
 use crate::refusal::Refusal;
 use toml::{Table, Value};
 
-/// Why a table gives no descriptor.
+/// Why a table has no descriptor.
 #[derive(Clone, Copy, Debug, PartialEq, Eq)]
 pub enum DescrFault {
-    /// `fixed`, `assured`, `max` or `class` is absent or of another type, a rate is negative, or the class is none of
-    /// `none`, `na` and `be`.
+    /// `fixed`, `assured`, `max` or `class` is absent or of another type, a rate is negative, or the class is not one
+    /// of `none`, `na` and `be`.
     Field,
-    /// All four are there, and [`Descriptor::new`] refuses them.
+    /// All four are present, and [`Descriptor::new`] refuses them.
     Refused(Refusal),
 }
 
-// The value at a key.
+// Returns the value of a key.
 fn value_at<'a>(table: &'a Table, key: &str) -> Option<&'a Value>
     ensures { option_map (λ value. view value.now) result
         ≡ get_member key.now (table_view table.now) }
@@ -28,7 +28,7 @@ fn value_at<'a>(table: &'a Table, key: &str) -> Option<&'a Value>
     table.get(key)
 }
 
-// The whole number at a key.
+// Returns the integer of a key.
 fn integer_at(table: &Table, key: &str) -> Option<i64>
     ensures { result ≡ option_and_then as_integer (get_member key.now (table_view table.now)) }
 {
@@ -38,7 +38,7 @@ fn integer_at(table: &Table, key: &str) -> Option<i64>
     }
 }
 
-// The text at a key.
+// Returns the text of a key.
 fn text_at<'a>(table: &'a Table, key: &str) -> Option<&'a str>
     ensures { option_map (λ text. text.now) result
         ≡ option_and_then as_str (get_member key.now (table_view table.now)) }
@@ -49,14 +49,14 @@ fn text_at<'a>(table: &'a Table, key: &str) -> Option<&'a str>
     }
 }
 
-// A number that is not negative.
+// Converts a number; `None` if it is negative.
 fn natural(n: i64) -> Option<u64>
     ensures { result ≡ natural n }
 {
     if n < 0 { None } else { Some(n as u64) }
 }
 
-// The rate at a key, where it is a number that is not negative.
+// Returns the rate of a key, if it is a number that is not negative.
 fn rate_at(table: &Table, key: &str) -> Option<u64>
     ensures { result ≡ rate_at key.now (table_view table.now) }
 {
@@ -66,7 +66,7 @@ fn rate_at(table: &Table, key: &str) -> Option<u64>
     }
 }
 
-// The class that a table names.
+// Returns the class of a table.
 fn class_in_table(table: &Table) -> Option<Class>
     ensures { result ≡ class_in_table (table_view table.now) }
 {
@@ -76,10 +76,10 @@ fn class_in_table(table: &Table) -> Option<Class>
     }
 }
 
-/// The descriptor that a table spells with its keys `fixed`, `assured`, `max` (whole numbers, kbit/s) and `class`
-/// (`none`, `na` or `be`). No other key is looked at.
+/// Reads the descriptor of a table from its keys `fixed`, `assured`, `max` (integers, kbit/s) and `class` (`none`, `na`
+/// or `be`). Other keys are ignored.
 ///
-/// `Field` if one of the four is not there as it should be, then what [`Descriptor::new`] refuses.
+/// `Field` if one of the four is absent or has no such value, then the refusal of [`Descriptor::new`].
 pub fn from_toml(table: &Table) -> Result<Descriptor, DescrFault>
     ensures ok { IfOk result (λ d. described (table_view table.now) ≡ Some d) }
     ensures fault { IfErr result (IsDescrFault (described (table_view table.now))) }

@@ -2,7 +2,7 @@
 use Rattle.std.specs.Prelude.{ℕ, ◌≡◌, ◌≢◌, ◌+◌, ◌<◌, ◌≤◌, List, length, map, replicate, slice_index, slice_set, sum, sum_by}
 use Rattle.pon_port.specs.Chapters.{Chapter}
 
--- the number of a desk's ports, and of the seats that were opened
+-- the number of ports of a desk, and of the seats that were opened
 pub record DeskSize : Type 0 where
   pub ports : ℕ
   pub seats : ℕ
@@ -15,7 +15,7 @@ pub record SeatCounts : Type 0 where
 abbrev pub unused_seat : ℕ → SeatCounts
 unused_seat ports = record { counts = replicate ports 0 }
 
--- a seat after one post more at a port
+-- a seat after one more post at a port
 abbrev pub one_more_at : ℕ → SeatCounts → SeatCounts
 one_more_at port seat = record { counts = slice_set seat.counts port (slice_index seat.counts port + 1) }
 
@@ -23,7 +23,7 @@ one_more_at port seat = record { counts = slice_set seat.counts port (slice_inde
 abbrev pub taken_of : Chapter → ℕ
 taken_of port = port.opening.taken_before + length port.entries
 
--- the number of posts at a port, over all seats
+-- the number of posts at a port, of all seats
 abbrev pub posts_at : ℕ → List SeatCounts → ℕ
 posts_at port seats = sum_by (λ seat. slice_index seat.counts port) seats
 
@@ -31,17 +31,17 @@ posts_at port seats = sum_by (λ seat. slice_index seat.counts port) seats
 abbrev pub IsEven : List Chapter → List SeatCounts → Type 0
 IsEven ports seats = (p : ℕ) → p < length ports → slice_index (map taken_of ports) p ≡ posts_at p seats
 
--- the sums of the seats' counts, port by port
+-- the sums of the seats' counts, for each port
 pub record AreSums (counts : List ℕ) (ports : ℕ) (seats : List SeatCounts) : Type 0 where
   pub one_each : length counts ≡ ports
   pub sums : (p : ℕ) → p < ports → slice_index counts p ≡ posts_at p seats
 
--- the port of a number took more or fewer entries than are counted at it
+-- the port of this number took more or fewer entries than are counted at it
 pub record DiffersAt (ports : List Chapter) (counts : List ℕ) (p : ℕ) : Type 0 where
   pub is_port : p < length ports
   pub differs : slice_index (map taken_of ports) p ≢ slice_index counts p
 
--- some port differs, though over all ports both numbers are equal; so there are two ports at least
+-- some port differs, though the sums over all ports are equal; so at least two ports differ
 pub record IsUneven (ports : List Chapter) (counts : List ℕ) : Type 0 where
   pub somewhere : (p : ℕ) × DiffersAt ports counts p
   pub balanced : sum_by taken_of ports ≡ sum counts

@@ -1,4 +1,4 @@
--- What a desk answers if it does not do what was asked.
+-- The faults of a desk.
 use Rattle.std.specs.Prelude.{ℕ, ◌≡◌, ◌<◌, List, length, Result, Ok, Err}
 use Rattle.pon_event.specs.declared.event.Event.{Event}
 use Rattle.pon_port.specs.Chapters.{Chapter}
@@ -9,20 +9,20 @@ use Rattle.pon_desk.specs.Posts.{IsSomeRefusal}
 use Rattle.pon_desk.specs.declared.fault.CloseFault.{CloseFault}
 use Rattle.pon_desk.specs.declared.fault.CloseFault.TheVariants.{Missing, Uneven}
 
--- a seat is absent: the desk and the seats come back
+-- a seat is missing: the desk and the seats are returned
 pub record IsMissing (size : DeskSize) (seats : List SeatCounts) (desk : DeskSize) (back : List SeatCounts) : Type 0 where
   pub fewer : length seats < size.seats
   pub same_desk : desk ≡ size
   pub same_seats : back ≡ seats
 
--- all seats are there, and some port differs from the sum of their counts at it
+-- all seats are given, and some port differs from the sum of their counts at it
 pub record IsNotEven (size : DeskSize) (seats : List SeatCounts) (ports : List Chapter) (counts : List ℕ) : Type 0 where
   pub all_seats : length seats ≡ size.seats
   pub all_ports : length ports ≡ size.ports
   pub sums : AreSums counts size.ports seats
   pub uneven : IsUneven ports counts
 
--- why a desk of this size is not closed with these seats
+-- the fault if a desk of this size is not closed with these seats
 abbrev pub TellsClosing : {L M : Type 0} → DeskSize → List SeatCounts → CloseFault L M → Type 0
 TellsClosing size seats (Missing desk back) = IsMissing size seats desk back.items
 TellsClosing size seats (Uneven ports counts) = IsNotEven size seats ports.items counts.items
@@ -32,7 +32,7 @@ IsNoSuchPort (Ok t) = ⊥
 IsNoSuchPort (Err NoSuchPort) = Unit {0}
 IsNoSuchPort (Err (Refused refusal)) = ⊥
 
--- why an event is not posted; that there is no such port is said apart
+-- the fault if an event is not posted; when there is no such port is stated elsewhere
 abbrev pub TellsRefusal : Event → StepFault → Type 0
 TellsRefusal event NoSuchPort = Unit {0}
 TellsRefusal event (Refused told) = IsSomeRefusal event told

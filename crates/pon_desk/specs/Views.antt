@@ -1,4 +1,4 @@
--- What a look shows of a port.
+-- The view of a port.
 use Rattle.std.specs.Prelude.{length}
 use Rattle.pon_admit.specs.Roster.{capacity, onus_of, promised_sum}
 use Rattle.pon_port.specs.Chapters.{Chapter, present_state}

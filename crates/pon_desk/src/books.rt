@@ -2,14 +2,15 @@ ghost use Rattle.std.specs.Prelude.{◌≡◌, ◌+◌, ◌<◌, ◌^◌, true, 
 
 use std::sync::ledger::{Book, Ledger, Share};
 
-/// The books of both ledgers, under one lock: the posts of all ports, and the posts of all seats. The two totals are equal.
+/// The books of both ledgers, under one lock: the posts of all ports, and the posts of all seats. The two totals are
+/// equal.
 #[derive(Drop)]
 pub struct Books<L: Ledger, M: Ledger> {
-    // The number of entries that all ports of the desk took.
+    // Number of entries that all ports of the desk took.
     pub(crate) entries: u64,
     pub(crate) of_ports: Book<L>,
     pub(crate) of_seats: Book<M>,
-    // Shares with no part, to which the closing desk joins those of all ports and of all seats.
+    // Shares without parts, to which those of all ports and of all seats are joined when the desk is closed.
     pub(crate) all_ports: Share<L>,
     pub(crate) all_seats: Share<M>,
     ghost counted: { entries ≡ of_ports.total },
@@ -19,7 +20,7 @@ pub struct Books<L: Ledger, M: Ledger> {
 }
 
 impl<L: Ledger, M: Ledger> Books<L, M> {
-    // Books with nothing counted.
+    // Makes books with nothing counted.
     pub(crate) fn new(
         of_ports: Book<L>,
         of_seats: Book<M>,
@@ -39,7 +40,7 @@ impl<L: Ledger, M: Ledger> Books<L, M> {
         }
     }
 
-    // Counts a post at its port and at its seat. `false` if the number of all entries is at its last value.
+    // Counts a post at its port and at its seat. `false` if the number of all entries is at its maximum.
     pub(crate) fn count(&mut self, port: &mut Share<L>, seat: &mut Share<M>) -> bool
         requires port { 0 < port.old.parts }
         requires seat { 0 < seat.old.parts }
@@ -67,7 +68,7 @@ impl<L: Ledger, M: Ledger> Books<L, M> {
         true
     }
 
-    // Takes back the count of a post that its port refused.
+    // Reverses the count of a post that its port refused.
     pub(crate) fn uncount(&mut self, port: &mut Share<L>, seat: &mut Share<M>)
         requires port { 0 < port.old.amount }
         requires seat { 0 < seat.old.amount }

@@ -2,9 +2,9 @@ use pon_port::Port;
 use pon_units::PortNo;
 use std::marker::Model;
 
-/// The ports of a closed desk, by their numbers.
+/// The ports of a closed desk, in the order of their numbers.
 ///
-/// Contracts see the list of the chapters that they keep.
+/// Contracts see the list of the chapters that the ports keep.
 #[derive(Drop)]
 pub struct Closed {
     pub(crate) ports: Vec<Port>,
@@ -22,7 +22,7 @@ impl Model for Closed {
 impl Closed {
     ghost use Rattle.std.specs.Prelude.{◌≡◌, ◌≤◌, length, MatchOption, Some, slice_get};
 
-    /// The port of a number. `None` exactly if the desk had no such port.
+    /// Port of a number, or `None` exactly if the desk had no such port.
     pub fn port(&self, port: PortNo) -> Option<&Port>
         ensures { MatchOption result (length self.now ≤ port)
             (λ p. slice_get self.now port ≡ Some p.now) }
@@ -30,7 +30,7 @@ impl Closed {
         self.ports.get(usize::from(port.get()))
     }
 
-    /// All ports, in the order of their numbers.
+    /// Returns all ports, in the order of their numbers.
     pub fn into_ports(self) -> Vec<Port>
         ensures { result.items ≡ self }
     {

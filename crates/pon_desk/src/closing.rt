@@ -9,7 +9,7 @@ use pon_port::Port;
 use std::sync::Mutex;
 use std::sync::ledger::{Book, Ledger, Share};
 
-// Joins the shares of all ports, and moves the ports to the room made for them.
+// Joins the shares of all ports, and moves the ports to the room reserved for them.
 fn join_ports<L: Ledger>(
     ports: Vec<Mutex<Held<L>>>,
     all: &mut Share<L>,
@@ -41,7 +41,7 @@ fn add_counts(sums: &mut [u64], counts: &[u64])
     }
 }
 
-// Joins the shares of all seats, and adds up their counts port by port.
+// Joins the shares of all seats, and adds their counts port by port.
 fn join_seats<M: Ledger, L: Ledger>(
     seats: Vec<Seat<L, M>>,
     book: &mut Book<M>,
@@ -69,7 +69,7 @@ fn join_seats<M: Ledger, L: Ledger>(
     }
 }
 
-// The first port that took another number of entries than the seats count at it.
+// Finds the first port that took another number of entries than the seats count at it.
 fn first_uneven(ports: &[Port], counts: &[u64]) -> Option<usize>
     requires { length ports.now ≡ length counts.now }
     ensures { MatchOption result
@@ -86,8 +86,8 @@ fn first_uneven(ports: &[Port], counts: &[u64]) -> Option<usize>
     None
 }
 
-// Compares the counts of a desk whose seats are all back, port by port: the ports if each took as many entries as the
-// seats count at it, else the ports with the sums of the seats' counts.
+// Compares the entries of each port with the counts of all seats of its desk: returns the ports if these are equal at
+// each port, otherwise the ports with the sums of the seats' counts.
 pub(crate) fn settle<L: Ledger, M: Ledger>(
     books: Books<L, M>,
     ports: Vec<Mutex<Held<L>>>,

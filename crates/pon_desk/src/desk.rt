@@ -17,15 +17,15 @@ use std::marker::Model;
 use std::sync::ledger::{Blank, Ledger};
 use std::sync::{Mutex, Wait};
 
-/// The ports of a line terminal, 1 to 64, each under a lock of its own, for threads that post to them.
+/// The ports of a line terminal, 1 to 64, each under its own lock, for threads that post to them.
 ///
-/// Contracts see the number of its ports, and the number of seats that were opened.
+/// Contracts see the number of ports, and the number of seats that were opened.
 #[derive(Drop)]
 pub struct Desk<L: Ledger, M: Ledger> {
     ports: Vec<Mutex<Held<L>>>,
     books: Mutex<Books<L, M>>,
     seats: usize,
-    // Room for what `close` hands out.
+    // Room for the ports that `close` returns.
     room: Vec<Port>,
     counts: Vec<u64>,
 }
@@ -54,11 +54,12 @@ impl<L: Ledger, M: Ledger> Desk<L, M> {
     ghost use Rattle.pon_desk.specs.Posts.{IsSomePost};
     ghost use Rattle.pon_desk.specs.Views.{view_of};
 
-    /// Opens a port for each configuration and first frame, numbered from 0 in their order, and gives this number of seats.
+    /// Opens a port for each configuration and first frame, numbered from 0 in their order, and returns the desk with
+    /// the seats.
     ///
-    /// The caller's conditions: there is a seat; the blank of the ports' ledger has a part for each port, that of the seats'
+    /// Requires at least one seat; the blank of the ports' ledger must have one part for each port, that of the seats'
     /// ledger one for each seat. `Ports` exactly if there are no ports or more than 64; `Memory` only if memory is
-    /// refused. A refusal gives the blanks up.
+    /// refused. On an error the blanks are dropped.
     pub fn open(
         alloc: Global,
         of_ports: Blank,
@@ -96,7 +97,7 @@ impl<L: Ledger, M: Ledger> Desk<L, M> {
         Ok((desk, opened))
     }
 
-    /// The number of its ports, 1 to 64. A seat of the desk counts as many.
+    /// Number of ports, 1 to 64. A seat of the desk has as many counts.
     pub fn ports(&self) -> usize
         ensures value { result ≡ self.now.ports }
         ensures ledger { result ≡ L.parts }
@@ -105,7 +106,7 @@ impl<L: Ledger, M: Ledger> Desk<L, M> {
         self.ports.len()
     }
 
-    /// Posts an event at a port, under that port's lock: one call of [`Held::post`], with its refusals.
+    /// Posts an event at a port, under that port's lock, by one call of [`Held::post`], with its refusals.
     ///
     /// `NoSuchPort` exactly if the desk has no such port. Only an accepted post is counted at the seat.
     pub fn post<R: Wait>(
@@ -116,7 +117,7 @@ impl<L: Ledger, M: Ledger> Desk<L, M> {
         event: Event,
     ) -> Result<Posted, StepFault>
         ensures no_such { IsNoSuchPort result ↔ self.now.ports ≤ port }
-        // What the port was at that moment is not said, but that it was lawful.
+        // The state of the port at that moment is not stated, only that it was lawful.
         ensures posted { IfOk result (λ posted. IsSomePost event posted) }
         ensures refused { IfErr result (λ fault. TellsRefusal event fault) }
         ensures counted { OnOk result (seat.new ≡ one_more_at port seat.old) }
@@ -134,8 +135,7 @@ impl<L: Ledger, M: Ledger> Desk<L, M> {
         }
     }
 
-    /// Calls `look` on a port under that port's lock alone, and returns its answer. The caller's condition: `look` may be
-    /// called on any port.
+    /// Calls `look` on a port under that port's lock only, and returns its result. `look` must accept any port.
     ///
     /// `Err` is `NoSuchPort`, exactly if the desk has no such port.
     pub fn inspect<T, F: FnOnce(&Port) -> T, R: Wait>(
@@ -157,10 +157,10 @@ impl<L: Ledger, M: Ledger> Desk<L, M> {
         Ok(look(held.port()))
     }
 
-    /// What a port shows at some moment, copied under its lock.
+    /// Copies the view of a port, as it is at some moment, under that port's lock.
     ///
-    /// `NoSuchPort` exactly if the desk has no such port; else `Refused` with `OutOfMemory`, only if memory for the copy
-    /// is refused.
+    /// `NoSuchPort` exactly if the desk has no such port; otherwise `Refused` with `OutOfMemory`, only if memory for
+    /// the copy is refused.
     pub fn look<R: Wait>(&self, rt: &R, alloc: Global, port: PortNo) -> Result<PortView, StepFault>
         ensures no_such { IsNoSuchPort result ↔ self.now.ports ≤ port }
         ensures view { IfOk result (λ view.
@@ -178,10 +178,10 @@ impl<L: Ledger, M: Ledger> Desk<L, M> {
         }
     }
 
-    /// Closes the desk: each port took as many entries as the seats count at it. It takes no memory.
+    /// Closes the desk: each port took as many entries as the seats count at it. It allocates no memory.
     ///
-    /// `Missing` exactly if there are fewer seats than were opened; seats of another desk do not compile. `Uneven` exactly
-    /// if all are there and some port took another number of entries than they count at it.
+    /// `Missing` exactly if there are fewer seats than were opened; seats of another desk do not compile. `Uneven`
+    /// exactly if all seats are given and some port took another number of entries than they count at it.
     pub fn close(self, seats: Vec<Seat<L, M>>) -> Result<Closed, CloseFault<L, M>>
         ensures ports { IfOk result (λ closed. length closed ≡ self.ports) }
         ensures seats { IfOk result (λ closed. length seats.items ≡ self.seats) }

@@ -16,7 +16,7 @@ use std::marker::Model;
 use std::sync::ledger::{Ledger, Share};
 use std::sync::{Mutex, Wait};
 
-/// A port as it lies under its lock: with a share of the ports' ledger whose amount is the number of entries that it took.
+/// A port under its lock, with a share of the ports' ledger whose amount is the number of entries that the port took.
 ///
 /// Contracts see the chapter that the port keeps.
 #[derive(Drop)]
@@ -38,7 +38,7 @@ impl<L: Ledger> Model for Held<L> {
 }
 
 impl<L: Ledger> Held<L> {
-    /// The port.
+    /// Returns the port.
     pub fn port(&self) -> &Port
         ensures value { result.now ≡ self.now }
         ensures lawful { IsLawfulChapter self.now }
@@ -47,12 +47,12 @@ impl<L: Ledger> Held<L> {
         &self.port
     }
 
-    /// Posts an event at this port, and counts the post at the port and at the seat. The caller's condition: the seat
-    /// counts a port of this number.
+    /// Posts an event at this port, and counts the post at the port and at the seat. The seat must count a port of this
+    /// number.
     ///
-    /// `ChapterFull` first if the number of entries of all ports of the desk is at its last value (2^64 - 1); else the
-    /// first check of the port that refuses the event; `OutOfMemory` only if none does. A refusal changes neither the
-    /// port nor the seat.
+    /// `ChapterFull` first if the number of entries of all ports of the desk is at its maximum (2^64 - 1); otherwise
+    /// the first refusal of the port; `OutOfMemory` only if no other applies. A refusal changes neither the port nor
+    /// the seat.
     pub fn post<M: Ledger, R: Wait>(
         &mut self,
         rt: &R,

@@ -1,9 +1,9 @@
 //! A desk: many threads post events to the ports of one XG-PON optical line terminal (upstream bandwidth assignment,
 //! ITU-T G.987.3).
 //!
-//! Each port is under a lock of its own. Each post is counted twice, at its port and at the seat that made it, and a ledger
-//! for each keeps the two totals equal: once all seats are back, no post was lost and none was kept twice. The crate
-//! starts no thread, and has no clock or device.
+//! Each port is under its own lock. Each post is counted twice, at its port and at the seat that made it, and a ledger
+//! for each keeps the two totals equal: once all seats are given back, no post was lost and none was kept twice. The
+//! crate starts no thread, and has no clock or device.
 #![tactic(auto)]
 
 mod books;

@@ -44,7 +44,7 @@ fn open_each<L: Ledger>(
     Ok(opened)
 }
 
-// Puts each port under a lock of its own, in their order.
+// Puts each port under its own lock, in their order.
 fn lock_each<L: Ledger>(
     alloc: Global,
     ports: Vec<Held<L>>,
@@ -58,7 +58,7 @@ fn lock_each<L: Ledger>(
     Ok(locks)
 }
 
-// Opens the ports, each under a lock of its own. `Err` only if memory is refused.
+// Opens the ports, each under its own lock. `Err` only if memory is refused.
 pub(crate) fn open_ports<L: Ledger>(
     alloc: Global,
     ports: &[(PortCfg, FrameNo)],
@@ -72,7 +72,7 @@ pub(crate) fn open_ports<L: Ledger>(
     lock_each(alloc, opened)
 }
 
-// A seat without posts at this number of ports, with its part of the ledger.
+// Opens a seat without posts at this number of ports, with its part of the ledger.
 fn open_seat<L: Ledger, M: Ledger>(
     alloc: Global,
     ports: usize,

@@ -7,18 +7,18 @@ use pon_descr::Refusal;
 use pon_event::Event;
 use pon_port::{Port, Reply};
 
-/// Where the entry of an accepted post stands in the history of its port, and the port's reply.
+/// The place of the entry of an accepted post in the history of its port, and the port's reply.
 #[derive(Debug, PartialEq, Eq, Drop)]
 pub struct Posted {
-    /// The number of the port's kept chapter, counted from 0 in that port.
+    /// Number of the port's kept chapter, from 0 for each port.
     pub chapter: u64,
-    /// The place of the entry in that chapter, counted from 0.
+    /// Index of the entry in that chapter, from 0.
     pub index: usize,
-    /// What the port returned for the event.
+    /// Reply of the port to the event.
     pub reply: Reply,
 }
 
-// The port takes the event, or returns the first check that refuses it.
+// Applies the event to the port, or returns the first refusal.
 pub(crate) fn take(port: &mut Port, event: Event) -> Result<Posted, Refusal>
     ensures ok { IfOk result (λ posted. IsPosted port.old event posted port.new) }
     ensures refused { IfErr result (λ told. IsTold (refusal_of port.old event) told) }

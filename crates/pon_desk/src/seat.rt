@@ -4,10 +4,10 @@ use pon_units::PortNo;
 use std::marker::{Model, PhantomData};
 use std::sync::ledger::{Ledger, Share};
 
-/// The right to post at the ports of one desk, with the number of posts made with it at each port.
+/// The right to post at the ports of one desk, with the number of its posts at each port.
 ///
-/// Contracts see a seat as these numbers. They are as many as the desk has ports, since the ledger of the ports is in the
-/// type.
+/// Contracts see a seat as these numbers. There is one for each port of the desk, since the ledger of the ports is in
+/// the type.
 #[derive(Drop)]
 pub struct Seat<L: Ledger, M: Ledger> {
     pub(crate) counts: Vec<u64>,
@@ -30,7 +30,7 @@ impl<L: Ledger, M: Ledger> Model for Seat<L, M> {
 impl<L: Ledger, M: Ledger> Seat<L, M> {
     ghost use Rattle.std.specs.Prelude.{◌≡◌, length};
 
-    /// The number of posts made with this seat at each port, by the ports' numbers.
+    /// Number of posts made with this seat at each port, in the order of the ports' numbers.
     pub fn counts(&self) -> &[u64]
         ensures value { result.now ≡ self.now.counts }
         ensures one_each { length self.now.counts ≡ L.parts }
@@ -39,7 +39,7 @@ impl<L: Ledger, M: Ledger> Seat<L, M> {
     }
 }
 
-// Counts one post more at a port.
+// Adds one to the count of a port.
 pub(crate) fn count_at(counts: &mut Vec<u64>, port: PortNo)
     requires is_port { port < length counts.old.items }
     requires fits { sum counts.old.items + 1 < 2 ^ 64 }

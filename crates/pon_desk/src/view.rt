@@ -8,8 +8,8 @@ use pon_units::{AllocId, FrameNo, Kbps, Words};
 use std::alloc::{AllocError, Global};
 use std::marker::Model;
 
-/// A copy of the last map of a port, with the Alloc-IDs of the non-assured and of the best-effort class as they were at that
-/// map, in map order.
+/// A copy of the last map of a port, with the Alloc-IDs of the non-assured and of the best-effort class at that map, in
+/// map order.
 #[derive(Debug, Drop)]
 pub struct LastView {
     made: MadeMap,
@@ -36,14 +36,14 @@ impl LastView {
         &self.made
     }
 
-    /// The Alloc-IDs of the non-assured class at that map, in map order.
+    /// Alloc-IDs of the non-assured class at that map, in map order.
     pub fn non_assured(&self) -> &[AllocId]
         ensures { result.now ≡ self.now.na }
     {
         self.na.as_slice()
     }
 
-    /// The Alloc-IDs of the best-effort class at that map, in map order.
+    /// Alloc-IDs of the best-effort class at that map, in map order.
     pub fn best_effort(&self) -> &[AllocId]
         ensures { result.now ≡ self.now.be }
     {
@@ -51,26 +51,26 @@ impl LastView {
     }
 }
 
-/// What a look shows of a port: numbers of its present state, and a copy of its last map.
+/// The view of a port: numbers of its present state, and a copy of its last map.
 #[derive(Debug, Drop)]
 pub struct PortView {
-    /// The frame of the next map.
+    /// Frame of the next map.
     pub next: FrameNo,
     /// Why the port is failed, if it is.
     pub cause: Option<Cause>,
-    /// The number of admitted Alloc-IDs.
+    /// Number of admitted Alloc-IDs.
     pub allocs: usize,
-    /// The number of ONUs that own one of them, at most 128.
+    /// Number of ONUs that own one of them, 0 to 128.
     pub onus: usize,
-    /// The sum of the promised rates (fixed and assured), in kbit/s.
+    /// Sum of the promised rates (fixed and assured), in kbit/s.
     pub guaranteed: Kbps,
-    /// The words of a frame that the overhead leaves, 0 to 9,720.
+    /// Words of a frame that the overhead leaves, 0 to 9,720.
     pub capacity: Words,
-    /// The last map of the kept chapter, or `None` before any map of the chapter.
+    /// Last map of the kept chapter, or `None` before any map of the chapter.
     pub last: Option<LastView>,
 }
 
-// A copy of the last map of a port. `Err` only if memory is refused.
+// Copies the last map of a port. `Err` only if memory is refused.
 fn last_of(alloc: Global, port: &Port) -> Result<Option<LastView>, AllocError>
     ensures { IfOk result (λ last. last ≡ last_map port.now) }
 {
@@ -84,7 +84,7 @@ fn last_of(alloc: Global, port: &Port) -> Result<Option<LastView>, AllocError>
     }))
 }
 
-// What a port shows now. The numbers are kept, so none is counted anew. `Err` only if memory is refused.
+// Makes the view of a port. The numbers are kept by the port, so none is recomputed. `Err` only if memory is refused.
 pub(crate) fn view_of(alloc: Global, port: &Port) -> Result<PortView, AllocError>
     ensures { IfOk result (λ view. view ≡ view_of port.now) }
 {

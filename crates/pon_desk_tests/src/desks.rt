@@ -1,4 +1,5 @@
-// Desks of two ports and two seats. Port 0 has a gap of 16 words and begins at frame 0, port 1 one of 32 words and frame 7.
+// Desks of two ports and two seats. Port 0 has a gap of 16 words and starts at frame 0, port 1 a gap of 32 words and
+// frame 7.
 ghost use Rattle.std.specs.Prelude.{◌≡◌, ◌<◌, length};
 
 use pon_dbru::Occupancies;
@@ -16,7 +17,7 @@ use std::test::*;
 use std::thread;
 use std::thread::Threads;
 
-// The gap and the first frame of each port.
+// Gap and first frame of each port.
 const PORTS: [(u16, u64); 2] = [(16, 0), (32, 7)];
 
 fn cfg(rt: &impl Abort, gap: u16, first: u64) -> (PortCfg, FrameNo) {
@@ -33,7 +34,7 @@ fn id(rt: &impl Abort) -> AllocId {
     AllocId::new(1024).expect(rt, "an Alloc-ID")
 }
 
-// A fixed rate of 10 words a frame, and a share of the surplus up to 100.
+// Makes a descriptor with this fixed rate and a maximum rate of 100 words a frame, of the best-effort class.
 fn descriptor(rt: &impl Abort, fixed: u64) -> Descriptor {
     Descriptor::new(fixed, 0, 25_600, Class::BestEffort).expect(rt, "a descriptor")
 }
@@ -46,7 +47,7 @@ fn admission(rt: &impl Abort) -> Event {
     }
 }
 
-// A hundred words in answer to the map of a frame.
+// Makes a report of 100 words for the map of a frame.
 fn report(rt: &impl Abort, frame: u64) -> Event {
     let mut occ = Occupancies::new();
     occ.push(BufOcc::new(100));
@@ -62,7 +63,7 @@ fn fail(rt: &impl Abort) -> Event {
     Event::Fail { cause }
 }
 
-// Eight events of all seven kinds, each accepted after those before it by a port that begins at this frame.
+// Number of events: all seven kinds, each accepted after those before it, if the report is for the port's first frame.
 const EVENTS: u8 = 8;
 
 fn event(rt: &impl Abort, first: u64, k: u8) -> Event {
@@ -96,7 +97,7 @@ fn open<L: Ledger, M: Ledger>(
     Desk::<L, M>::open(alloc, of_ports, of_seats, &ports, 2)
 }
 
-// Posts maps at both ports in turn, and hands the seat back. None is refused.
+// Posts maps at both ports in turn, and returns the seat. No post is refused.
 fn post_maps<L: Ledger, M: Ledger, R: Wait + Abort>(
     rt: &R,
     desk: &Desk<L, M>,
@@ -110,7 +111,7 @@ fn post_maps<L: Ledger, M: Ledger, R: Wait + Abort>(
     seat
 }
 
-// Two threads post 400 maps each. The desk is closed when both seats are back, and not before.
+// Posts 400 maps from each of two threads. The desk can be closed when both seats are back, and not before.
 fn post_from_two_threads<
     L: Ledger + Send + Sync,
     M: Ledger + Send + Sync,
@@ -152,7 +153,7 @@ fn two_seats_post_from_two_threads(rt: HostRuntime) -> Result<(), Fail> {
     )
 }
 
-// Posts each event in turn at both ports, by the two seats in turn, and returns what each post gave.
+// Posts each event in turn at both ports, with the two seats in turn, and returns the result of each post.
 fn post_in_turn<L: Ledger, M: Ledger, R: Wait + Abort>(
     rt: &R,
     alloc: Global,
@@ -173,7 +174,8 @@ fn post_in_turn<L: Ledger, M: Ledger, R: Wait + Abort>(
     Ok(posted)
 }
 
-// The port has its gap, and its entries are the events with the replies of their posts, each at its index.
+// Asserts that the port has its gap, and that its entries are the events with the replies of their posts, each at its
+// index.
 fn assert_kept(rt: &impl Abort, port: &Port, number: usize, posted: &[Posted])
     requires { number < 2 }
 {
@@ -222,7 +224,7 @@ fn kept_is_posted(rt: HostRuntime) -> Result<(), Fail> {
     post_all_kinds::<Brand, Brand, HostRuntime>(&rt, rt.alloc(), Blank::new(2), Blank::new(2))
 }
 
-// What a look shows: next frame, cause, Alloc-IDs, ONUs, guaranteed rates in kbit/s, capacity in words.
+// Returns the numbers of a view: next frame, cause, Alloc-IDs, ONUs, guaranteed rates in kbit/s, capacity in words.
 fn numbers(view: &PortView) -> (u64, Option<u8>, usize, usize, u32, u16) {
     (
         view.next.get(),
@@ -234,7 +236,7 @@ fn numbers(view: &PortView) -> (u64, Option<u8>, usize, usize, u32, u16) {
     )
 }
 
-// Port 0 failed after one map, with one Alloc-ID.
+// Asserts that port 0 failed after one map, with one Alloc-ID.
 fn assert_failed(rt: &impl Abort, view: &PortView) {
     assert_eq!(rt; numbers(view), (1, Some(4), 1, 1, 2560, 9701));
     match &view.last {
@@ -248,7 +250,7 @@ fn assert_failed(rt: &impl Abort, view: &PortView) {
     }
 }
 
-// Port 1 is as it was opened.
+// Asserts that port 1 is as it was opened.
 fn assert_unused(rt: &impl Abort, view: &PortView) {
     assert_eq!(rt; numbers(view), (7, None, 0, 0, 0, 9720));
     assert!(rt; view.last.is_none());
@@ -340,7 +342,7 @@ fn has_1_to_64_ports(rt: HostRuntime) -> Result<(), Fail> {
     Ok(())
 }
 
-// Posts an event or, if memory is refused, the same event again.
+// Posts an event, and posts it again if memory is refused.
 fn post_again<L: Ledger, M: Ledger, R: Wait + Abort>(
     rt: &R,
     desk: &Desk<L, M>,
@@ -357,7 +359,7 @@ fn post_again<L: Ledger, M: Ledger, R: Wait + Abort>(
     }
 }
 
-// Looks at a port or, if memory is refused, again.
+// Looks at a port, and again if memory is refused.
 fn look_again<L: Ledger, M: Ledger, R: Wait + Abort>(
     rt: &R,
     alloc: Global,
@@ -372,7 +374,7 @@ fn look_again<L: Ledger, M: Ledger, R: Wait + Abort>(
     }
 }
 
-// Opens, posts, looks and closes. `false` if memory is refused to the opening.
+// Opens a desk, posts, looks and closes. `false` if memory is refused to the opening.
 fn run<L: Ledger, M: Ledger, R: Wait + Abort>(
     rt: &R,
     alloc: Global,
@@ -403,7 +405,7 @@ fn run<L: Ledger, M: Ledger, R: Wait + Abort>(
     true
 }
 
-// One allocation that fails (`rt try --test --fail-alloc N`) changes no result.
+// One failed allocation (`rt try --test --fail-alloc N`) changes no result.
 #[test]
 fn posts_again_what_memory_refused(rt: HostRuntime) {
     let done = run::<Brand, Brand, HostRuntime>(&rt, rt.alloc(), Blank::new(2), Blank::new(2));

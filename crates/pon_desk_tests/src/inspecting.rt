@@ -1,4 +1,4 @@
-// An inspection of one port does not keep another thread from posting at another.
+// An inspection of one port does not block a post of another thread at another port.
 ghost use Rattle.std.specs.Prelude.{◌≡◌};
 
 use pon_desk::{Desk, Seat};
@@ -16,14 +16,14 @@ use std::thread;
 use std::thread::Threads;
 use std::time::{Clock, Duration};
 
-// How often a thread asks for the other's flag, a millisecond apart.
+// Maximum number of times that a thread reads the other's flag, a millisecond apart.
 const ASKS: u32 = 10_000;
 
 fn number(rt: &impl Abort, port: u8) -> PortNo {
     PortNo::new(port).expect(rt, "a port")
 }
 
-// Waits until the flag is set. Whether it was.
+// Waits until the flag is set, and returns whether it was.
 fn is_set<R: Clock>(rt: &R, flag: &AtomicBool) -> bool {
     for _ask in 0..ASKS {
         if flag.load(Ordering::SeqCst) {
@@ -34,7 +34,7 @@ fn is_set<R: Clock>(rt: &R, flag: &AtomicBool) -> bool {
     false
 }
 
-// Inspects port 0 until a post was answered, which is made once the inspection has begun.
+// Inspects port 0 until a post has returned that is made after the inspection began.
 fn inspect<L: Ledger, M: Ledger, R: Wait + Clock + Abort>(
     rt: &R,
     desk: &Desk<L, M>,
@@ -48,7 +48,7 @@ fn inspect<L: Ledger, M: Ledger, R: Wait + Clock + Abort>(
     seen.ok().expect(rt, "a port")
 }
 
-// Posts at port 1 once the inspection has begun.
+// Posts at port 1 after the inspection began.
 fn post<L: Ledger, M: Ledger, R: Wait + Clock + Abort>(
     rt: &R,
     desk: &Desk<L, M>,

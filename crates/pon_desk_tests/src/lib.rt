@@ -1,6 +1,6 @@
-//! Tests of the desk: posts from threads, kept entries, looks and inspections, refused memory, and management lines at a desk.
+//! Tests of the desk: posts from threads, kept entries, looks and inspections, refused memory, and management lines.
 //!
-//! They stand here, above the crate that they test, so that it is proved once.
+//! They are in a crate above the one that they test, so that it is proved once.
 #![tactic(auto)]
 
 #[cfg(test)]

@@ -1,5 +1,5 @@
-// Management lines at desks: the text is that of a plant with the same ports. Each port has a gap of 16 words and begins at
-// frame 0.
+// Management lines at desks: the text is that of a plant with the same ports. Each port has a gap of 16 words and
+// starts at frame 0.
 ghost use Rattle.std.specs.Prelude.{◌≡◌, ◌<◌, length};
 
 use pon_descr::{Class, Descriptor};
@@ -16,7 +16,7 @@ use std::sync::Wait;
 use std::sync::ledger::{Blank, Ledger};
 use std::test::*;
 
-// The most bytes that a device gives or takes in a call.
+// Maximum number of bytes that a device reads or writes in a call.
 const ALL: usize = 4096;
 
 fn port(rt: &impl Abort) -> (PortCfg, FrameNo) {
@@ -25,7 +25,7 @@ fn port(rt: &impl Abort) -> (PortCfg, FrameNo) {
     (PortCfg { gap, profile }, FrameNo::new(0))
 }
 
-// Alloc-ID 1024 of ONU 5, with a fixed rate of 10 words a frame.
+// Makes an admission of Alloc-ID 1024 of ONU 5, with a fixed rate of 10 words a frame.
 fn admission(rt: &impl Abort) -> Event {
     Event::Admit {
         onu: OnuId::new(5).expect(rt, "an ONU-ID"),
@@ -34,7 +34,7 @@ fn admission(rt: &impl Abort) -> Event {
     }
 }
 
-// The steps that admit it at the first ports. `None` if memory is refused.
+// Makes the steps that admit it at the first `count` ports. `None` if memory is refused.
 fn admissions(rt: &impl Abort, alloc: Global, count: u8) -> Option<Vec<Step>> {
     let mut steps = Vec::new(alloc);
     for number in 0..count {
@@ -45,14 +45,14 @@ fn admissions(rt: &impl Abort, alloc: Global, count: u8) -> Option<Vec<Step>> {
     Some(steps)
 }
 
-// What a run gave, and what its writer holds.
+// The result of a run, and the bytes in its writer.
 #[derive(Drop)]
 struct Answered {
     result: Result<PlanEnd, PlanFault>,
     text: Vec<u8>,
 }
 
-// Devices that give and take at most `most` bytes in a call, and fail in the given calls.
+// Devices that read and write at most `most` bytes in a call, and fail in the given calls.
 #[derive(Drop)]
 struct Devices {
     reader: MemRead,
@@ -74,8 +74,8 @@ fn make_devices(
     })
 }
 
-// Answers the input at a desk of two ports, after posts that admit at the first ports. `None` if memory is refused to the
-// test itself.
+// Answers the input at a desk of two ports, after posts that admit at the first ports. `None` if memory is refused to
+// the test itself.
 fn operate_at<L: Ledger, M: Ledger, R: Wait + Abort>(
     rt: &R,
     alloc: Global,
@@ -116,7 +116,7 @@ fn plan_at(rt: &impl Abort, alloc: Global, admitted: u8, devices: Devices) -> Op
     Some(Answered { result, text })
 }
 
-// Lines, after an admission at this number of ports, and their text.
+// Number of admissions at the first ports, the lines that follow, and their text.
 static WORKED: [(u8, &[u8], &[u8]); 6] = [
     (
         0,
@@ -171,7 +171,7 @@ const FIRST_MAP: &[u8] = b"0 admit 5 1024 2560 0 2560 none\n0 map\n";
 
 const FIRST_TEXT: &[u8] = b"ok 0\nmap 0 002013ac10020010000b13cb\n";
 
-// The reader gives one byte a call: call k fails behind k bytes.
+// The reader reads one byte a call: call k fails after k bytes.
 #[test]
 fn a_failed_read_leaves_the_whole_lines(rt: HostRuntime) -> Result<(), Fail> {
     for (call, written) in [(0, 0), (31, 0), (32, 5), (37, 5), (38, 36)] {
@@ -192,7 +192,7 @@ fn a_failed_read_leaves_the_whole_lines(rt: HostRuntime) -> Result<(), Fail> {
     Ok(())
 }
 
-// The writer takes one byte a call: call b fails behind b bytes, and call 36 is the flush.
+// The writer writes one byte a call: call b fails after b bytes, and call 36 is the flush.
 #[test]
 fn a_failed_write_leaves_a_beginning(rt: HostRuntime) -> Result<(), Fail> {
     for call in [0, 4, 5, 35, 36] {
@@ -213,7 +213,7 @@ fn a_failed_write_leaves_a_beginning(rt: HostRuntime) -> Result<(), Fail> {
     Ok(())
 }
 
-// One allocation that fails (`rt try --test --fail-alloc N`) leaves a beginning of the text, and no refusal is printed for it.
+// One failed allocation (`rt try --test --fail-alloc N`) leaves a prefix of the text, and no refusal is printed for it.
 #[test]
 fn refused_memory_leaves_a_beginning(rt: HostRuntime) -> Result<(), Fail> {
     let Some(at) = make_devices(rt.alloc(), FIRST_MAP, ALL, &[], &[]) else {

@@ -31,7 +31,7 @@ appends_kept (Some o) None new xs a b = absurd a
 appends_kept (Some o) (Some m) None xs a b = absurd b
 appends_kept (Some o) (Some m) (Some n) xs a b = b ∙ a
 
--- a piece more of a list is sent
+-- one more piece of a list is written
 pub sent_more : (old mid new : Option (List ℕ)) (bs : List ℕ) (at n : ℕ) → Appends old mid (take at bs) → Appends mid new (take n (take (length bs - at) (drop at bs))) → Appends old new (take (at + n) bs)
 sent_more old mid new bs at n a b =
     let rest : take (length bs - at) (drop at bs) ≡ drop at bs = ap (λ k. take k (drop at bs)) (sym (length-drop at bs)) ∙ take-length (drop at bs) in

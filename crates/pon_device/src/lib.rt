@@ -1,7 +1,8 @@
-//! Devices that bytes are read from and written to, as the code above sees them.
+//! Devices that bytes are read from and written to.
 //!
-//! Each device counts its failures, and a reader its reads too, so that a contract can say that a fault was
-//! answered only if the device failed. A device over memory also tells its bytes, and only [`MemWrite`] takes memory.
+//! Each device counts its failures, and a reader also its reads, so a contract can state that a fault was returned only
+//! if the device failed. The contracts of a device over memory also give its bytes, and only [`MemWrite`] allocates
+//! memory.
 #![tactic(auto)]
 
 mod memory;

@@ -1,4 +1,5 @@
-// A reader and a writer over memory, whose contracts say their bytes; the calls that fail are chosen when they are made.
+// A reader and a writer over memory, whose contracts give their bytes. The calls that fail are chosen when the device
+// is made.
 ghost use Rattle.std.specs.Prelude.{◌≡◌, ◌<◌, ◌≤◌, ◌↔◌, ◌⊎◌, ℕ, Some, [], length, min, IfOk, IsErr, Contains};
 ghost use Rattle.pon_device.specs.Device.{CountsCall, CountsFailure, ReadConsumes, WriteAppends, Keeps};
 ghost use Rattle.pon_device.specs.Memory.{LacksRoom};
@@ -7,7 +8,7 @@ use crate::traits::{DevRead, DevWrite, Failed, fail};
 use std::alloc::Global;
 use std::marker::Model;
 
-/// Bytes in memory as a device that is read. Its calls are numbered from 0.
+/// A reader over bytes in memory. Its calls are numbered from 0.
 #[derive(Drop)]
 pub struct MemRead {
     bytes: Vec<u8>,
@@ -36,7 +37,8 @@ impl Model for MemRead {
 }
 
 impl MemRead {
-    /// Gives the bytes, at most `most` in a call, and fails in the calls of the numbers in `failing`.
+    /// Makes a reader of the bytes that reads at most `most` in a call, and fails in the calls with the numbers in
+    /// `failing`.
     pub fn new(bytes: Vec<u8>, most: usize, failing: Vec<u64>) -> MemRead
         requires { 0 < most }
         ensures { result ≡ record {
@@ -65,8 +67,8 @@ impl DevRead for MemRead {
 
     ghost remaining = { λ s. Some s.left };
 
-    /// Fails in the calls that it was told to fail in, and in no other. In every other call it gives as many
-    /// bytes as are left, fit `buf` and are allowed in a call.
+    /// Fails in the chosen calls, and in no other. Every other call reads as many bytes as remain, fit `buf` and are
+    /// allowed in a call.
     fn read(&mut self, buf: &mut [u8]) -> Result<usize, Failed>
         ensures count { IfOk result (λ n. n ≤ length buf.old) }
         ensures calls { CountsCall self.old.calls self.new.calls }
@@ -89,7 +91,7 @@ impl DevRead for MemRead {
     }
 }
 
-/// A device that writes into memory. Its calls are numbered from 0, those of `write` and of `flush` together.
+/// A writer into memory. Its calls are numbered from 0, those of `write` and of `flush` together.
 #[derive(Drop)]
 pub struct MemWrite {
     bytes: Vec<u8>,
@@ -118,7 +120,7 @@ impl Model for MemWrite {
 }
 
 impl MemWrite {
-    /// Takes at most `most` bytes in a call, and fails in the calls of the numbers in `failing`.
+    /// Makes a writer that writes at most `most` bytes in a call, and fails in the calls with the numbers in `failing`.
     pub fn new(alloc: Global, most: usize, failing: Vec<u64>) -> MemWrite
         requires { 0 < most }
         ensures taken { result.taken ≡ [] }
@@ -134,7 +136,7 @@ impl MemWrite {
         }
     }
 
-    /// The bytes that it took.
+    /// Bytes written so far.
     pub fn bytes(&self) -> &[u8]
         ensures { result.now ≡ self.now.taken }
     {
@@ -147,8 +149,8 @@ impl DevWrite for MemWrite {
 
     ghost contents = { λ s. Some s.taken };
 
-    /// Fails in the calls that it was told to fail in, and if it lacks room and memory is refused. In every other
-    /// call it takes as many bytes as are there and are allowed in a call.
+    /// Fails in the chosen calls, and if it lacks room and memory is refused. Every other call writes as many bytes as
+    /// are given and are allowed in a call.
     fn write(&mut self, buf: &[u8]) -> Result<usize, Failed>
         ensures count { IfOk result (λ n. n ≤ length buf.now) }
         ensures some { IfOk result (λ n. 0 < length buf.now → 0 < n) }
@@ -171,7 +173,7 @@ impl DevWrite for MemWrite {
         Ok(n)
     }
 
-    /// Fails in the calls that it was told to fail in, and in no other.
+    /// Fails in the chosen calls, and in no other.
     fn flush(&mut self) -> Result<(), Failed>
         ensures failures { CountsFailure self.old.failures self.new.failures result }
         ensures bytes { Keeps (Some self.old.taken) (Some self.new.taken) }

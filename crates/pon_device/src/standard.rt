@@ -1,11 +1,11 @@
-// The readers and writers of std as devices: where std says which bytes they hold, the device says so too.
+// Readers and writers of std as devices: if std specifies which bytes they contain, so does the device.
 ghost use Rattle.std.specs.Prelude.{◌≡◌};
 
 use crate::traits::{DevRead, DevWrite, Failed, fail};
 use std::io;
 use std::marker::Model;
 
-/// A reader of std as a device: each error that it answers is a failure, an interrupted read too.
+/// A reader of std as a device: each error that it returns is a failure, including an interrupted read.
 #[derive(Drop)]
 pub struct StdRead<R> {
     inner: R,
@@ -22,7 +22,7 @@ impl<R> Model for StdRead<R> {
 }
 
 impl<R> StdRead<R> {
-    /// The reader as a device that was not read yet.
+    /// Makes a device of a reader, with no reads counted.
     pub fn new(inner: R) -> Self
         ensures { result ≡ record { inner = inner; calls = 0; failures = 0 } }
     {
@@ -50,8 +50,8 @@ impl<R: io::Read> DevRead for StdRead<R> {
     }
 }
 
-/// A writer of std as a device: each error that it answers is a failure, an interrupted write too, and so is
-/// a write that takes nothing of a piece that is not empty.
+/// A writer of std as a device: each error that it returns is a failure, including an interrupted write, and so is a
+/// write that takes no byte of a piece that is not empty.
 #[derive(Drop)]
 pub struct StdWrite<W> {
     inner: W,
@@ -67,7 +67,7 @@ impl<W> Model for StdWrite<W> {
 }
 
 impl<W> StdWrite<W> {
-    /// The writer as a device that has not failed yet.
+    /// Makes a device of a writer, with no failures counted.
     pub fn new(inner: W) -> Self
         ensures { result ≡ record { inner = inner; failures = 0 } }
     {

@@ -1,4 +1,4 @@
-// What a device promises, and the writing of a whole piece.
+// The contracts of devices, and the writing of a whole piece.
 ghost use Rattle.std.specs.Prelude.{◌≡◌, ◌<◌, ◌≤◌, ◌++◌, ℕ, List, Option, length, IfOk, OnOk, OnErr};
 ghost use Rattle.pon_device.specs.Device.{CountsCall, CountsFailure, ReadConsumes, WriteAppends, Appends, Keeps};
 
@@ -6,7 +6,7 @@ ghost use Rattle.pon_device.specs.Device.{CountsCall, CountsFailure, ReadConsume
 #[derive(Clone, Copy, Debug, PartialEq, Eq)]
 pub struct Failed;
 
-/// Counts one failure more, round 2^64.
+/// Adds one to the number of failures, modulo 2^64.
 pub(crate) fn fail(failures: &mut u64) -> Failed
     ensures { CountsCall failures.old failures.new }
 {
@@ -14,20 +14,21 @@ pub(crate) fn fail(failures: &mut u64) -> Failed
     Failed
 }
 
-/// A device that gives bytes.
+/// A device that bytes are read from.
 pub trait DevRead {
-    /// How many reads were made, counted round 2^64.
+    /// Number of reads, modulo 2^64.
     ghost calls: { Self → ℕ };
 
-    /// How many reads have failed, counted round 2^64.
+    /// Number of failed reads, modulo 2^64.
     ghost failures: { Self → ℕ };
 
-    /// The bytes that are left, where the device tells them.
+    /// Remaining bytes, if the device specifies them.
     ghost remaining: { Self → Option (List ℕ) };
 
-    /// Puts bytes into the front of `buf`, and returns their number: 0 only at the end, or with no room.
+    /// Reads bytes to the front of `buf`, and returns their number: 0 only at the end of the bytes, or if `buf` is
+    /// empty.
     ///
-    /// `Failed` if the device failed in this call, which then gave nothing.
+    /// `Failed` if the device failed in this call; then no byte is read.
     fn read(&mut self, buf: &mut [u8]) -> Result<usize, Failed>
         ensures count { IfOk result (λ n. n ≤ length buf.old) }
         ensures calls { CountsCall (calls self.old) (calls self.new) }
@@ -35,25 +36,25 @@ pub trait DevRead {
         ensures bytes { ReadConsumes (remaining self.old) (remaining self.new) result buf.new };
 }
 
-/// A device that takes bytes.
+/// A device that bytes are written to.
 pub trait DevWrite {
-    /// How many calls have failed, counted round 2^64.
+    /// Number of failed calls, modulo 2^64.
     ghost failures: { Self → ℕ };
 
-    /// The bytes that were taken, where the device tells them.
+    /// Bytes written so far, if the device specifies them.
     ghost contents: { Self → Option (List ℕ) };
 
-    /// Takes bytes from the front of `buf`, and returns their number.
+    /// Writes bytes from the front of `buf`, and returns their number.
     ///
-    /// `Failed` if the device failed in this call, which then took nothing. To take nothing of a piece
-    /// that is not empty is a failure.
+    /// `Failed` if the device failed in this call; then no byte is written. To write no byte of a piece that is not
+    /// empty is a failure.
     fn write(&mut self, buf: &[u8]) -> Result<usize, Failed>
         ensures count { IfOk result (λ n. n ≤ length buf.now) }
         ensures some { IfOk result (λ n. 0 < length buf.now → 0 < n) }
         ensures failures { CountsFailure (failures self.old) (failures self.new) result }
         ensures bytes { WriteAppends (contents self.old) (contents self.new) result buf.now };
 
-    /// Sends on what was taken.
+    /// Flushes the bytes written so far.
     ///
     /// `Failed` if the device failed in this call.
     fn flush(&mut self) -> Result<(), Failed>
@@ -61,7 +62,7 @@ pub trait DevWrite {
         ensures bytes { Keeps (contents self.old) (contents self.new) };
 }
 
-/// Writes all of the bytes, or a beginning of them and then fails, as the writer did. It flushes nothing.
+/// Writes all of the bytes, or fails after a prefix of them, exactly if the writer failed. It does not flush.
 pub fn write_all<W: DevWrite>(writer: &mut W, bytes: &[u8]) -> Result<(), Failed>
     ensures ok { OnOk result (Appends (W.contents writer.old) (W.contents writer.new) bytes.now) }
     ensures err { OnErr result ((sent rest : List ℕ)

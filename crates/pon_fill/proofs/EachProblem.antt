@@ -18,7 +18,7 @@ saturated : (is : List Item) (surplus p q : ℕ) (bs : List Bool) → q ≤ 0 �
 saturated is surplus p zero bs le w f = (record { level = level.All; saturated = bs }, all_saturated is surplus p bs w f)
 saturated is surplus p (suc q) bs le w f = absurd (omega (arith, le))
 
--- each round in which an item comes in leaves less weight than the one before
+-- each round that saturates an item leaves less weight than the one before
 rounds : (most : ℕ) (is : List Item) (surplus p q : ℕ) (bs : List Bool) → q ≤ most → AreWeighted is → Filling is surplus p q bs → HasCertificate is surplus
 rounds zero is surplus p q bs le w f = saturated is surplus p q bs le w f
 rounds (suc most) is surplus p q bs le w f = elim (cases_lt 0 q) [

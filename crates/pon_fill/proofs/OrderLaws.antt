@@ -1,4 +1,4 @@
--- Sorted by rounded parts, the items stand by cap over weight, each once.
+-- Items sorted by rounded parts are in the order of cap over weight, each once.
 use Rattle.std.proofs.Common.{◌≡◌, ℕ, ◌+◌, ◌*◌, ◌/◌, ◌<◌, ◌≤◌, List, length, get_or, eqb, ap, sym, ◌∙◌, inl, inr, arith}
 use Rattle.std.specs.Prelude.{All, bit_and}
 use Rattle.std.specs.List.{IsDistinct}
@@ -14,11 +14,11 @@ use Rattle.pon_cert.specs.declared.problem.Item.{Item}
 use Rattle.pon_cert.specs.Problem.{IsItem}
 use Rattle.pon_fill.specs.Order.{IsOrder}
 
--- the level that meets a cap, in parts
+-- the level that meets a cap, in parts, rounded down
 abbrev pub parts : Item → ℕ
 parts item = item.cap * 6191736422400 / item.weight
 
--- no fewer parts, no lower level: two levels that differ, differ by a part at least
+-- if a has at most as many parts as b, its level is at most that of b: different levels differ by at least one part
 no_lower : (ca wa cb wb qa qb : ℕ) → 0 < wa → 0 < wb → wa ≤ 2488320 → wb ≤ 2488320 → ca * 6191736422400 < (qa + 1) * wa → qb * wb ≤ cb * 6191736422400 → qa ≤ qb → ca * wb ≤ cb * wa
 no_lower ca wa cb wb qa qb pa pb la lb ha hb le = elim (cases_lt (cb * wa) (ca * wb)) [
   | inr ge ↦ ge

@@ -1,4 +1,4 @@
--- A round of filling keeps what the certificate needs, and the last one leaves it.
+-- A round of filling keeps the facts that the certificate needs, and the last round leaves the certificate.
 use Rattle.std.proofs.Common.{◌≡◌, ℕ, zero, suc, ◌+◌, ◌-◌, ◌*◌, ◌<◌, ◌≤◌, Bool, true, false, cond, ◌||◌, List, [], ◌∷◌, length, replicate, inl, inr, refl, ap, sym, ◌∙◌, arith}
 use Rattle.std.specs.Prelude.{sum, sum_by, map, nat_le, if◌then◌else◌}
 use Rattle.std.specs.List.{zip, AllZip, AllByRecursion}
@@ -10,14 +10,14 @@ use Rattle.pon_cert.specs.declared.cert.Level.TheVariants as level
 use Rattle.pon_cert.specs.Certificate.{amount, unsaturated_weight, RuleHolds, IsCertificate}
 use Rattle.pon_fill.specs.Rounds.{taken_in, saturated_caps}
 
--- a saturated item's cap is met at the level p / q
+-- if an item is saturated, its cap is met at the level p / q
 abbrev pub Met : ℕ → ℕ → Item → Bool → Type 0
 Met p q i b = b ≡ true → i.cap * q ≤ i.weight * p
 
 abbrev pub met : ℕ → ℕ → Item → Bool
 met p q i = nat_le (i.cap * q) (i.weight * p)
 
--- what comes in during a round
+-- whether a round saturates an item
 abbrev pub comes : ℕ → ℕ → Item → Bool → Bool
 comes p q i b = cond b false (met p q i)
 
@@ -79,7 +79,7 @@ met_after p q (i ∷ is) (b ∷ bs) h = (or_met b h.0, met_after p q is bs h.1)
     or_met true h e = h refl
     or_met false h e = leb-true _ _ e
 
--- what is met at a level is met at a higher one
+-- a cap that is met at a level is met at a higher one
 pub met_higher : (p q r s : ℕ) (is : List Item) (bs : List Bool) → 0 < q → p * s ≤ r * q → AllZip (Met p q) is bs → AllZip (Met r s) is bs
 met_higher p q r s [] [] hq le h = tt
 met_higher p q r s [] (b ∷ bs) hq le h = absurd h
@@ -116,7 +116,7 @@ taken-length p q [] (b ∷ bs) e = e
 taken-length p q (i ∷ is) [] e = e
 taken-length p q (i ∷ is) (b ∷ bs) e = ap suc (taken-length p q is bs (omega (arith, e)))
 
--- what the caps of those that come in take from what is left
+-- the caps of the items that a round saturates fit the remaining surplus
 pub fits : (is : List Item) (surplus p q came : ℕ) (bs : List Bool) → 0 < q → Filling is surplus p q bs
     → saturated_caps is (taken_in p q is bs) ≡ saturated_caps is bs + came
     → (came ≤ p) × (p * unsaturated_weight is (taken_in p q is bs) ≤ (p - came) * q)
@@ -171,7 +171,7 @@ first_round is surplus weight n e total = record {
 abbrev pub AreWeighted : List Item → Type 0
 AreWeighted is = AllByRecursion (λ i. 0 < i.weight) is
 
--- a round in which no weight comes in changes nothing: the others are above the level
+-- a round that saturates no weight changes nothing: the caps of the others are above the level
 unmet : (p q : ℕ) (is : List Item) (bs : List Bool) → AreWeighted is → unsaturated_weight is (taken_in p q is bs) ≡ unsaturated_weight is bs → AllZip (Met p q) is bs
     → AllZip (RuleHolds (level.At (record { num = p; den = q }))) is bs
 unmet p q [] [] w e h = tt

@@ -5,7 +5,7 @@ use Rattle.pon_cert.specs.Certificate.{unsaturated_weight}
 use Rattle.pon_fill.specs.Rounds.{taken_in, saturated_caps}
 use Rattle.pon_fill.proofs.RoundLaws.{caps-cons, weight-cons}
 
--- the flags as a round leaves those before k, and the rest of the round
+-- the flags after a round before item k, and the rest of the round
 abbrev pub so_far : ℕ → ℕ → List Item → List Bool → ℕ → List Bool
 so_far p q is bs k = take k bs ++ taken_in p q (drop k is) (drop k bs)
 
@@ -23,7 +23,7 @@ so_far-takes p q (i ∷ is) [] k d e h g test out = absurd (omega arith)
 so_far-takes p q (i ∷ is) (b ∷ bs) zero d e h g test out = rw (out, test) refl
 so_far-takes p q (i ∷ is) (b ∷ bs) (suc k) d e h g test out = ap (λ (x : List Bool). b ∷ x) (so_far-takes p q is bs k d e (omega (arith, h)) (omega (arith, g)) test out)
 
--- an item comes in: its weight is no longer outside, its cap is inside
+-- an item is saturated: its weight is subtracted, and its cap is added
 pub weight-set : (is : List Item) (bs : List Bool) (k : ℕ) (d : Item) (e : Bool) → k < length is → k < length bs → get_or bs k e ≡ false
     → unsaturated_weight is (set bs k true) + (get_or is k d).weight ≡ unsaturated_weight is bs
 weight-set [] bs k d e h g out = absurd (omega arith)

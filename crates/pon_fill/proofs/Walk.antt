@@ -1,4 +1,4 @@
--- One item after another in the order of the levels that meet their caps, up to the first that is not met.
+-- Items in the order of the levels that meet their caps, up to the first whose cap is not met.
 use Rattle.std.proofs.Common.{◌≡◌, ◌≢◌, ℕ, zero, suc, ◌+◌, ◌-◌, ◌*◌, ◌<◌, ◌≤◌, Bool, true, false, List, [], ◌∷◌, length, replicate, get_or, set, refl, ap, sym, ◌∙◌, inl, inr, arith, get_or-set_other, get_or-set_same, length-set}
 use Rattle.std.specs.List.{AllZip}
 use Rattle.std.proofs.lemmas.Bool.{cases_lt}
@@ -33,7 +33,7 @@ walked_step items numbers j i flags o long lt is w = record {
     fits : i < length flags
     fits = omega (arith, o.below j lt, is, long)
 
--- ---- an item comes in
+-- ---- an item is saturated
 
 met_here : (p q c w : ℕ) → c * q ≤ w * p → c ≤ p → w ≤ q → c * (q - w) ≤ w * (p - c)
 met_here p q c w met fits inside =
@@ -78,14 +78,14 @@ filling_step items surplus p q i flags d heavy lt f out met =
 
 -- ---- the end
 
--- what is above the level of an item is above a lower level
+-- a cap that is above an item's share at its level is above it at a lower level
 above : (p q ca wa cb wb : ℕ) → 0 < wa → 0 < wb → wa * p < ca * q → ca * wb ≤ cb * wa → wb * p < cb * q
 above p q ca wa cb wb pa pb out le = elim (cases_lt (wb * p) (cb * q)) [
   | inl lt ↦ lt
   | inr ge ↦ absurd (omega (arith, mul-lt-mul_of_pos_left out pb, mul-le-mul_left wa ge, mul-le-mul_left q le))
 ]
 
--- where an item is not met, nor is any from there on
+-- if the cap of an item is not met, nor is that of any later one
 pub unmet : (items : List Item) (numbers : List ℕ) (p q j : ℕ) (flags : List Bool) → IsOrder items numbers → ((k : ℕ) (d : Item) → k < length items → 0 < (get_or items k d).weight) → IsWalked numbers j flags → j < length numbers
     → ((d : Item) → (get_or items (get_or numbers j 0) d).weight * p < (get_or items (get_or numbers j 0) d).cap * q)
     → (i : ℕ) (d : Item) → i < length items → get_or flags i false ≡ false → (get_or items i d).weight * p < (get_or items i d).cap * q
@@ -101,7 +101,7 @@ unmet items numbers p q j flags o heavy w lt out i d lti unsaturated =
           (heavy (get_or numbers j 0) d (o.below j lt)) (heavy i d lti) (out d) (rw high at le)
     ]
 
--- the rules, from what is met and what is not
+-- the rules, from the caps that are met and those that are not
 rules_from : (p q : ℕ) (is : List Item) (bs : List Bool) → AllZip (Met p q) is bs
     → ((i : ℕ) (d : Item) → i < length is → get_or bs i false ≡ false → (get_or is i d).weight * p < (get_or is i d).cap * q)
     → AllZip (RuleHolds (level.At (record { num = p; den = q }))) is bs
@@ -120,7 +120,7 @@ at_the_first_unmet items surplus p q flags hq f out = record {
   total = fraction_total p q items flags ∙ omega (arith, ap (λ (n : ℕ). q * n) f.spent, ap (λ (n : ℕ). p * n) f.weight);
 }
 
--- after the last item no weight is left
+-- after the last item no weight remains
 pub all_walked : (items : List Item) (numbers : List ℕ) (j : ℕ) (flags : List Bool) → IsOrder items numbers → length flags ≡ length items → IsWalked numbers j flags → length numbers ≤ j → unsaturated_weight items flags ≡ 0
 all_walked items numbers j flags o long w le = none items flags long (λ i lt. let at = o.each i lt in ap (λ (n : ℕ). get_or flags n false) (sym at.2) ∙ w.inside at.0 (omega (arith, at.1, le)) at.1)
   where

@@ -1,8 +1,8 @@
--- The order in which caps are met as the level rises.
+-- The order in which caps are met as the level increases.
 use Rattle.std.specs.Prelude.{◌≡◌, ◌≢◌, ℕ, ◌*◌, ◌<◌, ◌≤◌, List, length, slice_index, slice_index_or}
 use Rattle.pon_cert.specs.declared.problem.Item.{Item}
 
--- each item's number once, by cap divided by weight
+-- the index of each item once, sorted by cap over weight
 pub record IsOrder (items : List Item) (numbers : List ℕ) : Type 0 where
   pub long : length numbers ≡ length items
   pub below : (k : ℕ) → k < length numbers → slice_index numbers k < length items

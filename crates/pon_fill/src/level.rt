@@ -20,7 +20,7 @@ pub(crate) fn total_weight(items: &[Item]) -> u64
     total
 }
 
-// Takes the items in the order in which their caps are met, up to the first whose cap is not.
+// Saturates the items in the order in which their caps are met, up to the first whose cap is not met.
 fn fill_sorted(items: &[Item], surplus: u64, scratch: &mut [u16], saturated: &mut [bool]) -> Level
     requires problem { IsProblem items.now surplus }
     requires flags { length saturated.old ≡ length items.now }
@@ -44,19 +44,20 @@ fn fill_sorted(items: &[Item], surplus: u64, scratch: &mut [u16], saturated: &mu
     Level::All
 }
 
-// The most rounds of filling before the items are sorted.
+// Maximum number of rounds before the items are sorted.
 const MOST_ROUNDS: u32 = 4;
 
-/// Shares the surplus among the items in proportion to their weights, no item getting more than its cap:
-/// leaves in `saturated` which items are, and answers the level, how much another item gets for each unit
-/// of its weight. What it leaves is the certificate of the problem, of which there is one: the fairest share.
+/// Shares the surplus among the items in proportion to their weights, none above its cap: writes to `saturated` which
+/// items are, and returns the level, the rate of an unsaturated item for each unit of its weight. Both together are the
+/// only certificate of the problem: the fairest share.
 ///
-/// The caller's conditions: `items`, `scratch` and `saturated` are of one length, 512 at most; each weight is 1
-/// to 2,488,320, each cap and the surplus 0 to 2,488,320 kbit/s. It always succeeds and takes no memory: what
-/// stood in `saturated` is written over, and `scratch` is lent room that it may use.
+/// Requires `items`, `scratch` and `saturated` of one length, at most 512; each weight 1 to 2,488,320, each cap and the
+/// surplus 0 to 2,488,320 kbit/s. It always succeeds and allocates no memory: `saturated` is overwritten, and `scratch`
+/// is working space.
 ///
-/// In proportion to weight until saturated: the rate-proportional reference model of ITU-T G.987.3. Filling in rounds, and
-/// sorting the items by the level that meets their caps where a few rounds do not end it, is this crate's own.
+/// Sharing in proportion to weight until saturated is the rate-proportional reference model of ITU-T G.987.3. Filling
+/// in rounds, and sorting the items by the level that meets their caps if a few rounds do not suffice, is this crate's
+/// own method.
 pub fn fill(items: &[Item], surplus: u64, scratch: &mut [u16], saturated: &mut [bool]) -> Level
     requires problem { IsProblem items.now surplus }
     requires flags { length saturated.old ≡ length items.now }

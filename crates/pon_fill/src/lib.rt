@@ -1,8 +1,9 @@
-//! Shares a surplus among weighted items with caps, in whole numbers. A round takes in every item whose cap is met if what is
-//! left is shared by weight; when none comes in, the level is what is left over the weight that is left. A few rounds end
-//! most problems. Otherwise the items are sorted by the level that meets their caps, their caps over their weights, and taken
-//! in that order up to the first whose cap is not met. It takes no memory, and the fraction is not reduced.
-//! What shows that a share is fair, and that it is the fairest, is of the crate `pon_cert`.
+//! Shares a surplus among weighted items with caps, in whole numbers. A round saturates every item whose cap is met if
+//! the remaining surplus is shared by weight; when none is saturated any more, the level is the remaining surplus over
+//! the remaining weight. A few rounds solve most problems. Otherwise the items are sorted by the level that meets their
+//! caps, their caps over their weights, and saturated in that order up to the first whose cap is not met. It allocates
+//! no memory, and the fraction is not reduced. The certificate of a fair share, and the proof that it is the fairest,
+//! are in the crate `pon_cert`.
 #![tactic(auto)]
 
 pub mod laws;

@@ -7,14 +7,14 @@ use crate::level::total_weight;
 use pon_cert::{Item, Level, MOST_ITEMS};
 use pon_units::{Frac, LINE_RATE};
 
-// What the items that come in during a round have together.
+// The sums over the items that a round saturates.
 #[derive(Clone, Copy)]
 struct Taken {
     weight: u64,
     caps: u64,
 }
 
-// One round at the level `left / weight`: every item whose cap is met there comes in.
+// Makes one round at the level `left / weight`: saturates every item whose cap is met there.
 fn take_in(items: &[Item], left: u64, weight: u64, saturated: &mut [bool]) -> Taken
     requires lengths { length items.now ≡ length saturated.old }
     requires count { length items.now ≤ MOST_ITEMS }
@@ -38,7 +38,8 @@ fn take_in(items: &[Item], left: u64, weight: u64, saturated: &mut [bool]) -> Ta
     taken
 }
 
-/// Fills in rounds until none comes in, and leaves in `saturated` what came in; `None` if `most` rounds do not end it.
+/// Fills in rounds until a round saturates no item, and writes the flags to `saturated`; `None` if `most` rounds do not
+/// suffice.
 pub(crate) fn fill_in_rounds(
     items: &[Item],
     surplus: u64,

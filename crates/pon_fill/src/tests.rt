@@ -1,4 +1,5 @@
-// Worked shares, problems at the limits, and `fill` beside the definition of a certificate and beside filling in rounds.
+// Worked shares, problems at the limits, and `fill` compared with the definition of a certificate and with filling in
+// rounds.
 ghost use Rattle.std.specs.Prelude.{◌≡◌, ◌<◌, length, true};
 
 use crate::fill;
@@ -19,7 +20,7 @@ fn at(num: u64, den: u64) -> Level
     Level::At(Frac::new(num, den))
 }
 
-// What `fill` answers and leaves.
+// Calls `fill`, and returns the level.
 fn share(rt: &impl Abort, items: &[Item], surplus: u64, saturated: &mut [bool]) -> Level
     ensures { length saturated.new ≡ length saturated.old }
 {
@@ -72,7 +73,7 @@ fn greatest_problem(rt: HostRuntime) {
     assert_share(&rt, &items, LINE, level, &[false; 512]);
 }
 
-// The certificate in which these items are saturated, where there is one, by its definition.
+// Computes the certificate in which these items are saturated, if there is one, from its definition.
 fn certified(items: &[Item], saturated: &[bool], surplus: u64) -> Option<Level> {
     let mut weight = 0u64;
     let mut caps = 0u64;
@@ -98,7 +99,7 @@ fn product(a: u64, b: u64) -> u128 {
     u128::from(a) * u128::from(b)
 }
 
-// Whether exactly the saturated items have their caps met at the level.
+// Returns whether the saturated items are exactly those whose caps are met at the level.
 fn keeps_rules(items: &[Item], saturated: &[bool], left: u64, weight: u64) -> bool {
     for (item, flag) in items.iter().zip(saturated) {
         if *flag != (product(item.cap, weight) <= product(item.weight, left)) {
@@ -112,7 +113,7 @@ fn some_where(holds: bool, level: &Level) -> Option<Level> {
     if holds { Some(*level) } else { None }
 }
 
-// Of all sets of three items at most, `fill` leaves the one that has a certificate.
+// Asserts that, of all sets of at most three items, `fill` saturates the one that has a certificate.
 fn assert_certified(rt: &impl Abort, items: &[Item], surplus: u64) {
     assert!(rt; items.len() <= 3);
     let mut saturated = [false; 3];
@@ -126,7 +127,7 @@ fn assert_certified(rt: &impl Abort, items: &[Item], surplus: u64) {
     }
 }
 
-// `fill` and filling in rounds answer one level and leave one set.
+// Asserts that `fill` and filling in rounds return the same level and the same flags.
 fn assert_as_rounds(rt: &impl Abort, items: &[Item], surplus: u64) {
     assert!(rt; is_problem(items, surplus));
     let mut saturated = [false; 512];
@@ -138,7 +139,7 @@ fn assert_as_rounds(rt: &impl Abort, items: &[Item], surplus: u64) {
     assert!(rt; *saturated == *in_rounds);
 }
 
-// One of twelve items of weights 1 to 3 and caps 0 to 3.
+// Makes one of twelve items of weights 1 to 3 and caps 0 to 3.
 fn small_item(n: u64) -> Item {
     item(1 + n % 3, n / 3 % 4)
 }
@@ -156,7 +157,7 @@ fn all_small_problems(rt: HostRuntime) {
     }
 }
 
-// A number of a fixed sequence.
+// Returns the next number of a fixed pseudo-random sequence.
 fn next_number(seed: &mut u64) -> u64 {
     *seed = seed
         .wrapping_mul(6364136223846793005)
@@ -179,7 +180,7 @@ fn long_problems(rt: HostRuntime) {
     }
 }
 
-// Random weights and caps, most of them far below the greatest.
+// Writes random weights and caps, most of them far below the maximum.
 fn write_random(items: &mut [Item], seed: &mut u64) {
     let weights = LINE >> (next_number(seed) % 21);
     let caps = LINE >> (next_number(seed) % 21);

@@ -1,4 +1,4 @@
--- Division by the generator: what each byte of a payload leaves, and their sum.
+-- Division by the generator: the remainder of each byte of a payload, and their sum.
 use Rattle.std.proofs.Common.{◌≡◌, ℕ, zero, suc, ◌+◌, ◌-◌, ◌*◌, ◌/◌, ◌%◌, ◌^◌, ◌<◌, ◌≤◌, Bool, true, ◌&&◌, List, [], ◌∷◌, length, get_or, eqb, refl, ap, sym, ◌∙◌, subst, arith, lit<}
 use Rattle.std.specs.Prelude.{bit_xor}
 use Rattle.std.specs.Int.Bits.{xor_shifted}
@@ -14,7 +14,7 @@ use Rattle.pon_hec.proofs.HeaderLaws.{generator_degree, remainder_only}
 
 -- ---- the table
 
--- each number of the list is what is left of its byte at its place, times x^12
+-- each number of the list is the remainder of its byte at its position, times x^12
 unfoldable pub are_left : ℕ → List ℕ → Bool
 are_left n [] = true
 are_left n (r ∷ rs) = eqb (remainder generator 12 56 (n % 256 * 2 ^ (8 * (n / 256)) * 2 ^ 12)) r && are_left (n + 1) rs
@@ -52,7 +52,7 @@ xor_times n a b =
 
 -- ---- the bytes of a payload
 
--- the lower `n` bits, as a number, leave `rest`
+-- the lower `n` bits, as a number, have the remainder `rest`
 pub record Leaves (payload n rest : ℕ) : Type 0 where
   pub below : rest < 2 ^ 12
   pub multiple : IsMultiple generator (bit_xor (payload % 2 ^ n * 2 ^ 12) rest)
@@ -63,7 +63,7 @@ leaves_none payload n =
     let whole : payload % 2 ^ 0 * 2 ^ 12 ≡ 0 = omega arith in
     rw none (record { below = lit< tt; multiple = subst (λ (m : ℕ). IsMultiple generator (bit_xor m 0)) (sym whole) (multiple_zero generator) })
 
--- one byte more above the lower bits
+-- one more byte above the lower bits
 one_more : (payload n : ℕ) → bit_xor (payload % 2 ^ n * 2 ^ 12) (payload / 2 ^ n % 2 ^ 8 * 2 ^ n * 2 ^ 12) ≡ payload % 2 ^ (8 + n) * 2 ^ 12
 one_more payload n =
     sym (xor_times 12 (payload % 2 ^ n) (payload / 2 ^ n % 2 ^ 8 * 2 ^ n))

@@ -1,4 +1,4 @@
--- The codeword of a payload: sealed gives it, and there is no other.
+-- The codeword of a payload: `sealed` gives it, and there is no other.
 use Rattle.std.proofs.Common.{◌≡◌, ℕ, zero, suc, ◌+◌, ◌*◌, ◌/◌, ◌%◌, ◌^◌, ◌<◌, ◌≤◌, refl, ap, sym, ◌∙◌, subst, arith, lit<, lit≤}
 use Rattle.std.specs.Prelude.{bit_xor}
 use Rattle.std.specs.Int.Bits.{xor_self, xor_zero_l, xor_zero_r, xor_shifted}
@@ -15,7 +15,7 @@ generator_degree = record { low = lit≤ tt; high = lit< tt }
 pub xor_same : (a b : ℕ) → bit_xor a b ≡ 0 → a ≡ b
 xor_same a b e = sym (xor_zero_r a) ∙ ap (bit_xor a) (sym e) ∙ xor_back a b
 
--- the remainder is the only number below x^12 that differs from the polynomial by a multiple
+-- the remainder is the only number below x^12 that differs from the polynomial by a multiple of the generator
 pub remainder_only : (n p r : ℕ) → p < 2 ^ (12 + n) → r < 2 ^ 12 → IsMultiple generator (bit_xor p r) → remainder generator 12 n p ≡ r
 remainder_only n p r lt low m =
     let f = remainder_is generator 12 n p generator_degree lt in
@@ -61,7 +61,7 @@ pub with_parity_is : (body : ℕ) → body < 2 ^ 63 → with_parity body ≡ 2 *
 unfolding with_parity
 with_parity_is body lt = ap (λ (x : ℕ). 2 * body + x % 2) (ones_within 63 body lt)
 
--- ---- what is sealed is a codeword with that payload
+-- ---- the sealed word is a codeword with that payload
 
 pub sealed_is : (m : ℕ) → m < 2 ^ 51 → sealed m ≡ 2 * (m * 2 ^ 12 + check m) + ones (m * 2 ^ 12 + check m) % 2
 unfolding sealed
@@ -80,7 +80,7 @@ sealed_codeword limit m lt fits =
       omega (arith, e, facts.0),
     )
 
--- ---- each codeword is the sealed one
+-- ---- each codeword is the sealed word of its payload
 
 pub codeword_sealed : (limit c : ℕ) → limit ≤ 2 ^ 64 → IsCodeword limit c → c ≡ sealed (c / 2 ^ 13)
 codeword_sealed limit c le h =

@@ -1,4 +1,4 @@
--- The steps of opening: the wrong places of a word, by what they leave.
+-- The steps of opening: the bit errors of a word, from its syndrome.
 use Rattle.std.proofs.Common.{◌≡◌, ℕ, ◌+◌, ◌*◌, ◌/◌, ◌%◌, ◌^◌, ◌<◌, ◌≤◌, get_or, inl, inr, refl, ap, sym, ◌∙◌, subst, arith}
 use Rattle.std.specs.Prelude.{bit_xor, bit_and, Option, Some}
 use Rattle.std.specs.Int.Bits.{xor_assoc, xor_self, xor_zero_r}
@@ -16,9 +16,9 @@ use Rattle.pon_hec.proofs.Syndromes.{table, places_at}
 use Rattle.pon_hec.proofs.Unique.{rest_of, rest_xor, rest_none, rest_zero, parity-xor, one_pattern, pair_found, below_64}
 use Rattle.pon_hec.proofs.PlaceTable.{IsPair, entry_is}
 
--- ---- the rest of a word
+-- ---- the remainder of a word
 
--- by the check bits of its payload, and the check bits that it has
+-- from the check bits of its payload, and the check bits that it has
 pub rest_by_check : (w r : ℕ) → w < 2 ^ 64 → r ≡ check (w / 2 ^ 13) → bit_xor r (bit_and (w / 2) 4095) ≡ rest_of w
 rest_by_check w r lt e =
     let low : bit_and (w / 2) 4095 ≡ w / 2 % 2 ^ 12 = and_mask (w / 2) 12 in
@@ -40,9 +40,9 @@ rest_by_check w r lt e =
 pub rest_small : (w : ℕ) → w < 2 ^ 64 → rest_of w < 2 ^ 12
 rest_small w lt = (remainder_is generator 12 51 (w / 2) generator_degree (omega (arith, lt))).0
 
--- ---- wrong places, and what they leave of a word
+-- ---- bit errors, and the syndrome of a word
 
--- what leaves as much as the word leads to a codeword
+-- an error pattern with the syndrome of the word leads to a codeword
 pub near_codeword : (w wrong : ℕ) → w < 2 ^ 64 → Leaves wrong (rest_of w) (ones w % 2) → IsCodeword (2 ^ 64) (bit_xor w wrong)
 near_codeword w wrong lt h =
     let below = xor_lt 64 w wrong lt h.below in
@@ -55,7 +55,7 @@ near_codeword w wrong lt h =
       even = omega (arith, parity-xor 64 w wrong lt h.below, h.parity);
     }
 
--- a codeword within two places is as far away as the places that leave as much as the word
+-- a codeword within two bit errors differs from the word by a pattern with the syndrome of the word
 pub codeword_leaves : (w c : ℕ) → w < 2 ^ 64 → IsCodeword (2 ^ 64) c → ones (bit_xor w c) ≤ 2 → Leaves (bit_xor w c) (rest_of w) (ones w % 2)
 codeword_leaves w c lt h few =
     record {
@@ -68,7 +68,7 @@ codeword_leaves w c lt h few =
 pub leaves_once : (d e r p : ℕ) → Leaves d r p → Leaves e r p → d ≡ e
 leaves_once d e r p h k = one_pattern d e h.below k.below h.few k.few (h.rest ∙ sym k.rest) (h.parity ∙ sym k.parity)
 
--- ---- the wrong places, by the table
+-- ---- the bit errors, from the table
 
 rest_one : rest_of 1 ≡ 0
 unfolding remainder
@@ -77,7 +77,7 @@ rest_one = refl
 rest_odd : (odd : ℕ) → odd < 2 → rest_of odd ≡ 0
 rest_odd odd lt = let none : odd / 2 ≡ 0 = omega (arith, lt) in ap (remainder generator 12 51) none ∙ rest_zero
 
--- nothing but the parity bit is wrong
+-- only the parity bit is wrong
 pub only_parity : (odd : ℕ) → odd < 2 → Leaves odd 0 odd
 only_parity odd lt = record {
   below = omega (arith, lt);
@@ -86,7 +86,7 @@ only_parity odd lt = record {
   parity = omega (arith, ones_bit odd lt, lt);
 }
 
--- what leaves something is a pair of places, with the parity bit where the number is odd
+-- a pattern with a remainder is a pair of bit positions, with the parity bit if the number of bits is odd
 pub has_pair : (d s odd : ℕ) → Leaves d s odd → (s ≡ 0 → ⊥) → (a b : ℕ) × (b < a) × (a < 64) × (places_at table s ≡ a * 64 + b) × (d ≡ bit_xor (bit_xor (2 ^ a) (2 ^ b)) odd)
 has_pair d s odd h some = elim (two_places 64 d h.below h.few) [
   | inl none ↦ absurd (some (sym h.rest ∙ ap rest_of none ∙ rest_zero))
@@ -117,11 +117,11 @@ has_pair d s odd h some = elim (two_places 64 d h.below h.few) [
       )
 ]
 
--- the pair of places, with the parity bit where the number is odd
+-- the pair of bit positions, with the parity bit if the number of bits is odd
 abbrev pub places_of : ℕ → ℕ → ℕ
 places_of pair odd = bit_xor (bit_xor (2 ^ (pair / 64)) (2 ^ (pair % 64))) odd
 
--- as the code spells it
+-- the pattern as the code computes it
 pub spelled : (pair odd : ℕ) → pair < 4096 → bit_xor (bit_xor (1 * 2 ^ (pair / 64) % 2 ^ 64) (1 * 2 ^ (pair % 64) % 2 ^ 64)) odd ≡ places_of pair odd
 spelled pair odd lt =
     let high : 1 * 2 ^ (pair / 64) % 2 ^ 64 ≡ 2 ^ (pair / 64) = omega (arith, below_64 (pair / 64) (omega (arith, lt))) in
@@ -134,7 +134,7 @@ entry_small s pair lt same = elim ((entry_is s pair lt same).1) [
   | inr some ↦ some.below
 ]
 
--- where the table has no pair, nothing leaves the number
+-- if the table has no pair, no pattern has the remainder
 pub no_pair : (d s odd pair : ℕ) → s < 4096 → (s ≡ 0 → ⊥) → pair ≡ get_or PLACES s 0 → pair ≡ 0 → Leaves d s odd → ⊥
 no_pair d s odd pair lt some same none h =
     let p = has_pair d s odd h some in
@@ -164,7 +164,7 @@ pair_leaves s pair odd lt h few =
       parity = omega (arith, parity-xor 64 (bit_xor (2 ^ (pair / 64)) (2 ^ (pair % 64))) odd both small, ones_pows (pair / 64) (pair % 64) h.order, ones_bit odd lt, lt);
     }
 
--- the pair of the table, as the code spells it, leaves the number, unless there are three places
+-- the pair of the table, as the code computes it, has the remainder, unless there are three bits
 pub pair_found_leaves : (s odd pair : ℕ) → s < 4096 → odd < 2 → pair ≡ get_or PLACES s 0 → (pair ≡ 0 → ⊥)
     → ones (bit_xor (bit_xor (1 * 2 ^ (pair / 64) % 2 ^ 64) (1 * 2 ^ (pair % 64) % 2 ^ 64)) odd) ≤ 2
     → Leaves (bit_xor (bit_xor (1 * 2 ^ (pair / 64) % 2 ^ 64) (1 * 2 ^ (pair % 64) % 2 ^ 64)) odd) s odd
@@ -175,7 +175,7 @@ pair_found_leaves s odd pair lt small same some few =
       | inr is ↦ rw e (pair_leaves s pair odd small is (rw e at few))
     ]
 
--- and then nothing does
+-- if there are three bits, no pattern has the remainder
 pub three_places : (d s odd pair : ℕ) → s < 4096 → (s ≡ 0 → ⊥) → pair ≡ get_or PLACES s 0
     → 2 < ones (bit_xor (bit_xor (1 * 2 ^ (pair / 64) % 2 ^ 64) (1 * 2 ^ (pair % 64) % 2 ^ 64)) odd) → Leaves d s odd → ⊥
 three_places d s odd pair lt some same many h =
@@ -188,7 +188,7 @@ three_places d s odd pair lt some same many h =
 pub reads_none : (n w : ℕ) → IsCodeword (2 ^ n) w → Reads (2 ^ n) w (w / 2 ^ 13) 0
 reads_none n w h = record { codeword = w; is_codeword = h; has_payload = refl; differs = ap ones (xor_self w) ∙ ones_zero; few = omega arith }
 
--- the codeword that the wrong places lead to is read
+-- the codeword that the error pattern leads to is read
 pub found : (limit w wrong : ℕ) → w < 2 ^ 64 → Leaves wrong (rest_of w) (ones w % 2) → bit_xor w wrong < limit → Reads limit w (bit_xor w wrong / 2 ^ 13) (ones wrong)
 found limit w wrong lt h le =
     let c = near_codeword w wrong lt h in
@@ -206,17 +206,17 @@ widen limit c le h = record { below = omega (arith, h.below, le); multiple = h.m
 reading_leaves : (limit w m k : ℕ) → limit ≤ 2 ^ 64 → w < 2 ^ 64 → (r : Reads limit w m k) → Leaves (bit_xor w r.codeword) (rest_of w) (ones w % 2)
 reading_leaves limit w m k le lt r = codeword_leaves w r.codeword lt (widen limit r.codeword le r.is_codeword) (omega (arith, r.differs, r.few))
 
--- where no wrong places leave what the word leaves, nothing is read
+-- if no error pattern has the syndrome of the word, nothing is read
 pub found_none : (limit w : ℕ) → limit ≤ 2 ^ 64 → w < 2 ^ 64 → ((d : ℕ) → Leaves d (rest_of w) (ones w % 2) → ⊥) → (m k : ℕ) → Reads limit w m k → ⊥
 found_none limit w le lt none m k r = none (bit_xor w r.codeword) (reading_leaves limit w m k le lt r)
 
--- nor where they lead past the limit
+-- if the pattern leads past the limit, nothing is read
 pub found_past : (limit w wrong : ℕ) → limit ≤ 2 ^ 64 → w < 2 ^ 64 → Leaves wrong (rest_of w) (ones w % 2) → limit ≤ bit_xor w wrong → (m k : ℕ) → Reads limit w m k → ⊥
 found_past limit w wrong le lt h past m k r =
     let same : bit_xor w r.codeword ≡ wrong = leaves_once (bit_xor w r.codeword) wrong (rest_of w) (ones w % 2) (reading_leaves limit w m k le lt r) h in
     omega (arith, sym (xor_back w r.codeword) ∙ ap (bit_xor w) same, r.is_codeword.below, past)
 
--- a codeword has no wrong places
+-- a codeword has no bit errors
 pub codeword_clean : (limit w wrong : ℕ) → limit ≤ 2 ^ 64 → IsCodeword limit w → Leaves wrong (rest_of w) (ones w % 2) → wrong ≡ 0
 codeword_clean limit w wrong le c h =
     let wide = widen limit w le c in

@@ -1,4 +1,4 @@
--- A number with at most two ones, and words that differ in the places of its ones.
+-- Numbers with at most two ones, and words that differ in the bits of its ones.
 use Rattle.std.proofs.Common.{◌≡◌, ℕ, zero, suc, ◌+◌, ◌-◌, ◌*◌, ◌^◌, ◌<◌, ◌≤◌, ◌⊎◌, inl, inr, refl, ap, sym, ◌∙◌, arith}
 use Rattle.std.specs.Prelude.{bit_xor}
 use Rattle.std.specs.Int.Bits.{xor_shifted}
@@ -21,7 +21,7 @@ ones_top n r lt = let e : 1 * 2 ^ n + r ≡ 2 ^ n + r = omega arith in ap ones (
 pub ones_pow : (n : ℕ) → ones (2 ^ n) ≡ 1
 ones_pow n = let e : 2 ^ n + 0 ≡ 2 ^ n = omega arith in ap ones (sym e) ∙ ones_top n 0 (pow_pos n) ∙ ap (λ (x : ℕ). 1 + x) ones_zero
 
--- two places apart
+-- the number with two ones at different positions
 pub xor_pows : (i j : ℕ) → j < i → bit_xor (2 ^ i) (2 ^ j) ≡ 2 ^ i + 2 ^ j
 xor_pows i j lt = let e : 1 * 2 ^ i ≡ 2 ^ i = omega arith in rw e at (xor_shifted 1 i (2 ^ j) (pow_below j i lt))
 
@@ -37,7 +37,7 @@ top_split n d lt =
       | inr high ↦ inr (d - 2 ^ n, omega (arith, lt, two, high), omega (arith, high))
     ]
 
--- at most one one
+-- a number with at most one 1 is 0 or a power of 2
 pub one_place : (n d : ℕ) → d < 2 ^ n → ones d ≤ 1 → (d ≡ 0) ⊎ ((i : ℕ) × (i < n) × (d ≡ 2 ^ i))
 one_place zero d lt few = inl (omega (arith, lt))
 one_place (suc n) d lt few = elim (top_split n d lt) [
@@ -50,7 +50,7 @@ one_place (suc n) d lt few = elim (top_split n d lt) [
       inr (n, omega arith, omega (arith, top.2, rest))
 ]
 
--- at most two
+-- a number with at most two ones is 0, a power of 2 or the sum of two
 pub two_places : (n d : ℕ) → d < 2 ^ n → ones d ≤ 2 → (d ≡ 0) ⊎ (((i : ℕ) × (i < n) × (d ≡ 2 ^ i)) ⊎ ((i j : ℕ) × (i < n) × (j < i) × (d ≡ bit_xor (2 ^ i) (2 ^ j))))
 two_places zero d lt few = inl (omega (arith, lt))
 two_places (suc n) d lt few = elim (top_split n d lt) [

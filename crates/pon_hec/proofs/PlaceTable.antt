@@ -1,4 +1,4 @@
--- The table of the code: each entry is right, and no pair of places lacks one.
+-- The table of the code: each entry is right, and no pair of bit positions lacks one.
 use Rattle.std.proofs.Common.{◌≡◌, ℕ, zero, suc, ◌+◌, ◌-◌, ◌/◌, ◌%◌, ◌^◌, ◌<◌, ◌≤◌, Bool, true, false, ◌&&◌, ◌||◌, List, [], ◌∷◌, length, get_or, eqb, ltb, ◌⊎◌, inl, inr, refl, ap, sym, ◌∙◌, arith}
 use Rattle.std.specs.Prelude.{bit_xor}
 use Rattle.std.proofs.lemmas.Bool.{and_parts, eqb-true, ltb-true, cases_lt}
@@ -6,7 +6,7 @@ use Rattle.pon_hec.specs.declared.places.TheConstants.{PLACES}
 use Rattle.pon_hec.proofs.Syndromes.{rests, are_rests, rests_checked, table, places_at}
 use Rattle.pon_hec.proofs.Unique.{rest_of, rests-length}
 
--- ---- the rests of single places
+-- ---- the remainders of single bits
 
 rest_entry : (n : ℕ) (xs : List ℕ) → are_rests n xs ≡ true → length xs ≡ suc n → (i : ℕ) → i ≤ n → get_or xs (n - i) 0 ≡ rest_of (2 ^ i)
 unfolding are_rests
@@ -26,7 +26,7 @@ rest_at_is i lt = rest_entry 63 rests rests_checked rests-length i (omega (arith
 
 -- ---- the entries
 
--- two places, the higher one first, that leave the number; or 0
+-- 0, or two bit positions, the higher one first, that have the remainder
 unfoldable pub is_right : ℕ → ℕ → Bool
 is_right s pair = eqb pair 0 || (ltb pair 4096 && (ltb (pair % 64) (pair / 64) && eqb (bit_xor (get_or rests (63 - pair / 64) 0) (get_or rests (63 - pair % 64) 0)) s))
 
@@ -60,7 +60,7 @@ either : (x y : Bool) → (x || y) ≡ true → (x ≡ true) ⊎ (y ≡ true)
 either true y e = inl refl
 either false y e = inr e
 
--- an entry that is not 0 is a pair of places that leave the number
+-- an entry that is not 0 is a pair of bit positions that have the remainder
 pub record IsPair (s pair : ℕ) : Type 0 where
   pub below : pair < 4096
   pub order : pair % 64 < pair / 64

@@ -1,4 +1,4 @@
--- A word has one reading at most.
+-- A word has at most one reading.
 use Rattle.std.proofs.Common.{◌≡◌, ℕ, zero, suc, ◌+◌, ◌-◌, ◌*◌, ◌/◌, ◌%◌, ◌^◌, ◌<◌, ◌≤◌, true, List, [], ◌∷◌, length, inl, inr, refl, ap, sym, ◌∙◌, subst, arith, lit<}
 use Rattle.std.specs.Prelude.{bit_xor}
 use Rattle.std.specs.Int.Bits.{xor_self, xor_zero_l, xor_zero_r}
@@ -13,7 +13,7 @@ use Rattle.pon_hec.proofs.HeaderLaws.{generator_degree, remainder_only, ones_dou
 use Rattle.pon_hec.proofs.Patterns.{two_places, ones_zero, ones_pow, ones_pows}
 use Rattle.pon_hec.proofs.Syndromes.{rests, are_rests, rests_checked, table, places_at, row_back, all_back, found_again}
 
--- what is left of a pattern of wrong bits
+-- the remainder of an error pattern
 abbrev pub rest_of : ℕ → ℕ
 rest_of d = remainder generator 12 51 (d / 2)
 
@@ -51,13 +51,13 @@ rests-length = refl
 pub pair_found : (a b : ℕ) → b < a → a < 64 → places_at table (bit_xor (rest_of (2 ^ a)) (rest_of (2 ^ b))) ≡ a * 64 + b
 pair_found a b lt le = all_found table 63 rests (and_parts _ _ found_again).0 rests_checked rests-length a b lt (omega (arith, le))
 
--- two places leave something
+-- two bit errors have a remainder other than 0
 pair_left : (a b : ℕ) → b < a → a < 64 → bit_xor (rest_of (2 ^ a)) (rest_of (2 ^ b)) ≡ 0 → ⊥
 pair_left a b lt le e =
     let none : a * 64 + b ≡ 0 = sym (pair_found a b lt le) ∙ ap (places_at table) e ∙ eqb-true _ _ (and_parts _ _ found_again).1 in
     omega (arith, lt, none)
 
--- ---- what is left is linear
+-- ---- the remainder is linear
 
 half_of : (d : ℕ) → d < 2 ^ 64 → d / 2 < 2 ^ 63
 half_of d lt = omega (arith, lt)
@@ -75,7 +75,7 @@ pub rest_zero : rest_of 0 ≡ 0
 unfolding remainder
 rest_zero = refl
 
--- a multiple leaves nothing
+-- a multiple of the generator has the remainder 0
 pub rest_none : (d : ℕ) → d < 2 ^ 64 → IsMultiple generator (d / 2) → rest_of d ≡ 0
 rest_none d lt m = remainder_only 51 (d / 2) 0 (half_of d lt) (lit< tt) (subst (IsMultiple generator) (sym (xor_zero_r (d / 2))) m)
 
@@ -110,7 +110,7 @@ parity-xor (suc k) a b la lb =
     let cx : 2 * bit_xor (a / 2) (b / 2) + bit_xor (a % 2) (b % 2) ≡ bit_xor a b = omega (arith, block) in
     omega (arith, sym (ap ones ca) ∙ wa, sym (ap ones cb) ∙ wb, sym (ap ones cx) ∙ wx, parity-xor k (a / 2) (b / 2) (omega (arith, la, two)) (omega (arith, lb, two)), xor_bits (a % 2) (b % 2) (omega arith) (omega arith))
 
--- ---- one pattern
+-- ---- one error pattern
 
 pub below_64 : (i : ℕ) → i < 64 → 2 ^ i < 2 ^ 64
 below_64 i lt = pow_below i 64 lt

@@ -1,9 +1,10 @@
--- What wrong places show of themselves in a word, the 13 bits of a syndrome.
+-- The syndrome of bit errors in a word, 13 bits.
 use Rattle.std.specs.Prelude.{◌≡◌, ℕ, ◌/◌, ◌%◌, ◌^◌, ◌<◌, ◌≤◌, count_ones}
 use Rattle.pon_units.specs.Polynomial.{remainder}
 use Rattle.pon_hec.specs.HeaderCode.{generator}
 
--- at most two wrong places: all but the last leave this rest after division, and their number is odd (1) or even (0)
+-- an error pattern of at most two bits: all its bits but the last have this remainder, and their number is odd (1) or
+-- even (0)
 pub record Leaves (wrong left odd : ℕ) : Type 0 where
   pub below : wrong < 2 ^ 64
   pub few : count_ones wrong ≤ 2

@@ -1,9 +1,8 @@
-//! The header error control of XG-PON transmission convergence (ITU-T G.987.3): each header word ends
-//! with 12 check bits and a parity bit, so that a reader can correct two wrong bits.
-//! The check bits are what is left of the payload, as a polynomial, after division by the generator:
-//! a table has what each byte leaves at each of its places, and their sum is what the payload leaves. A word that differs
-//! from its sealed form by a syndrome is corrected at the places that a second table has for it. What a payload means is
-//! for the crates above.
+//! The header error control of XG-PON transmission convergence (ITU-T G.987.3): each header word ends with 12 check
+//! bits and a parity bit, so that a reader can correct up to two bit errors. The check bits are the remainder of the
+//! payload, as a polynomial, after division by the generator: a table has the remainder of each byte at each of its
+//! positions, and their sum is the remainder of the payload. A second table has the two bit positions of each syndrome,
+//! at which a word is corrected. The meaning of a payload is left to other crates.
 #![tactic(auto)]
 
 mod fault;

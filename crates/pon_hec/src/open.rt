@@ -7,8 +7,8 @@ use crate::fault::HecFault;
 use crate::places::PLACES;
 use crate::seal::check_bits;
 
-/// The payload of a header word of 4 bytes, below 2^19, and how many wrong places were corrected, at
-/// most two. `HecFault` exactly when the word is more than two places away from every codeword.
+/// Opens a header word of 4 bytes, and returns its payload, below 2^19, and the number of corrected bits, 0 to 2.
+/// `HecFault` exactly when the word is more than two bit errors away from every codeword.
 pub fn open32(word: u32) -> Result<(u32, u8), HecFault>
     ensures ok { IfOk result (λ p. Reads (2 ^ 32) word p.0 p.1) }
     ensures only { IfOk result (λ p. (payload places : ℕ) → Reads (2 ^ 32) word payload places →
@@ -22,8 +22,8 @@ pub fn open32(word: u32) -> Result<(u32, u8), HecFault>
     }
 }
 
-/// The payload of a header word of 8 bytes, below 2^51, and how many wrong places were corrected, at
-/// most two. `HecFault` exactly when the word is more than two places away from every codeword.
+/// Opens a header word of 8 bytes, and returns its payload, below 2^51, and the number of corrected bits, 0 to 2.
+/// `HecFault` exactly when the word is more than two bit errors away from every codeword.
 pub fn open64(word: u64) -> Result<(u64, u8), HecFault>
     ensures ok { IfOk result (λ p. Reads (2 ^ 64) word p.0 p.1) }
     ensures only { IfOk result (λ p. (payload places : ℕ) → Reads (2 ^ 64) word payload places →
@@ -37,7 +37,7 @@ pub fn open64(word: u64) -> Result<(u64, u8), HecFault>
     }
 }
 
-// The payload of the codeword up to `last` within two places, and in how many places it differs.
+// Returns the payload of the codeword up to `last` within two bit errors, and the number of corrected bits.
 fn open(word: u64, last: u64) -> Option<(u64, u8)>
     requires { word ≤ last }
     ensures some { IfSome result (λ p. Reads (last + 1) word p.0 p.1) }
@@ -53,14 +53,14 @@ fn open(word: u64, last: u64) -> Option<(u64, u8)>
     }
 }
 
-// What is left of all places but the last after division by the generator: of a codeword nothing.
+// Computes the remainder of all bits but the last after division by the generator; it is 0 for a codeword.
 fn rest_of(word: u64) -> u16
     ensures { result ≡ remainder generator 12 51 (word / 2) }
 {
     check_bits(word >> 13, 7) ^ ((word >> 1) & 0xfff) as u16
 }
 
-// The wrong places, two at most, that leave this rest, and are `odd` in number.
+// Finds the error pattern of at most two bits with this remainder, and with an odd number of bits if `odd` is 1.
 fn wrong_places(rest: u16, odd: u64) -> Option<u64>
     requires rest { rest < 2 ^ 12 }
     requires odd { odd < 2 }
@@ -82,7 +82,7 @@ fn wrong_places(rest: u16, odd: u64) -> Option<u64>
     }
 }
 
-// The table's entry: the two places that together leave this rest, or 0.
+// Returns the entry of the table: the two bit positions that together have this remainder, or 0.
 fn pair_of(rest: u16) -> u16
     requires { rest < 2 ^ 12 }
     ensures { result ≡ slice_index PLACES rest }

@@ -1,5 +1,6 @@
-// By what two wrong places together leave after division by the generator: the higher place times 64, and the lower one.
-// Place 0 is the parity bit and leaves nothing; where no two places leave the number, the entry is 0.
+// The two bit positions of each syndrome, the sum of their remainders after division by the generator: the higher
+// position times 64, plus the lower one. Position 0 is the parity bit, whose remainder is 0; an entry is 0 if no two
+// positions have the syndrome.
 pub(crate) static PLACES: [u16; 4096] = [
     0, 0x040, 0x080, 0x081, 0x0c0, 0x0c1, 0x0c2, 0, 0x100, 0x101, 0x102, 0xe97, 0x103, 0, 0, 0,
     0x140, 0x141, 0x142, 0, 0x143, 0, 0xed8, 0xa8e, 0x144, 0xd9f, 0, 0xb68, 0, 0, 0, 0x719, 0x180,

@@ -4,7 +4,7 @@ ghost use Rattle.pon_hec.specs.HeaderCode.{generator, IsCodeword, sealed};
 
 use crate::table::{BYTE_VALUES, REMAINDERS};
 
-/// The codeword of 8 bytes with this payload of 51 bits. The caller keeps the payload below 2^51.
+/// Computes the codeword of 8 bytes of a payload of 51 bits, which must be below 2^51.
 pub fn seal64(payload: u64) -> u64
     requires { payload < 2 ^ 51 }
     ensures codeword { IsCodeword (2 ^ 64) result }
@@ -14,7 +14,7 @@ pub fn seal64(payload: u64) -> u64
     seal(payload, 7)
 }
 
-/// The codeword of 4 bytes with this payload of 19 bits. The caller keeps the payload below 2^19.
+/// Computes the codeword of 4 bytes of a payload of 19 bits, which must be below 2^19.
 pub fn seal32(payload: u32) -> u32
     requires { payload < 2 ^ 19 }
     ensures codeword { IsCodeword (2 ^ 32) result }
@@ -24,7 +24,7 @@ pub fn seal32(payload: u32) -> u32
     seal(u64::from(payload), 3) as u32
 }
 
-// The codeword of a payload of `bytes` bytes.
+// Computes the codeword of a payload of `bytes` bytes.
 fn seal(payload: u64, bytes: u32) -> u64
     requires payload { payload < 2 ^ 51 }
     requires bytes { payload < 2 ^ (8 * bytes) }
@@ -35,7 +35,8 @@ fn seal(payload: u64, bytes: u32) -> u64
     (body << 1) | u64::from(body.count_ones() & 1)
 }
 
-// The 12 check bits of a payload of `bytes` bytes: the sum of what its bytes leave. No look-up waits for another.
+// Computes the 12 check bits of a payload of `bytes` bytes: the sum of the remainders of its bytes. The look-ups are
+// independent.
 pub(crate) fn check_bits(payload: u64, bytes: u32) -> u16
     requires payload { payload < 2 ^ 51 }
     requires bytes { payload < 2 ^ (8 * bytes) }
@@ -50,7 +51,7 @@ pub(crate) fn check_bits(payload: u64, bytes: u32) -> u16
     rest
 }
 
-// What is left of a byte at this place of a payload.
+// Returns the remainder of a byte at this position of a payload.
 fn left_of(place: u32, byte: u8) -> u16
     requires { place < 7 }
     ensures { result ≡ remainder generator 12 56 (byte * 2 ^ (8 * place) * 2 ^ 12) }

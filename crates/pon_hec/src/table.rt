@@ -1,8 +1,8 @@
-/// The number of values of a byte.
+/// Number of values of a byte.
 pub(crate) const BYTE_VALUES: usize = 256;
 
-// What is left of each byte at each place of a payload, times x^12, after division by the generator: an entry for each value of
-// the byte, for each of the seven places, the lowest byte first.
+// Remainder of each byte at each position of a payload, times x^12, after division by the generator: an entry for each
+// value of the byte, for each of the seven byte positions, the lowest byte first.
 pub(crate) static REMAINDERS: [u16; 1792] = [
     0x000, 0x539, 0xa72, 0xf4b, 0x1dd, 0x4e4, 0xbaf, 0xe96, 0x3ba, 0x683, 0x9c8, 0xcf1, 0x267,
     0x75e, 0x815, 0xd2c, 0x774, 0x24d, 0xd06, 0x83f, 0x6a9, 0x390, 0xcdb, 0x9e2, 0x4ce, 0x1f7,

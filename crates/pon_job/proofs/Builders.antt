@@ -1,4 +1,4 @@
--- What a command has after each step of its building.
+-- A command after each step of its building.
 use Rattle.std.proofs.Common.{◌≡◌, ap, ◌∙◌, true, false, Result, Ok, Err, IfOk}
 use Rattle.std.specs.Prelude.{Bool, ◌||◌}
 use Rattle.clap.specs.Built.{AddsArg, AddsSubcommand}
@@ -8,7 +8,7 @@ use Rattle.clap.specs.declared.builder.arg.Arg.{Arg}
 use Rattle.clap.specs.declared.builder.command.Command.{Command}
 use Rattle.clap.specs.declared.builder.command.Command.TheViews.{out-Command}
 
--- the command has no global argument, and a parse reads this of it
+-- the command has no global argument, and this is its definition
 pub record Has (app : App) (c : Command) : Type 0 where
   pub reads : app_of c ≡ app
   pub local : (out-Command c).has_globals ≡ false
@@ -30,7 +30,7 @@ pub with_last_arg : {E : Type 0} (app : App) (rule : Rule) (old : Command) (a : 
 with_last_arg app rule old a (Ok new) h is local adds = with_arg app rule old new a h is local adds
 with_last_arg app rule old a (Err e) h is local adds = tt
 
--- each part of what a command has
+-- each part of the definition of a command
 pub each : {E : Type 0} (app : App) (r : Result Command E) → IfOk r (Has app) → IfOk r (λ c. shape_of c ≡ app.top) × IfOk r (λ c. (out-Command c).has_globals ≡ false)
 each app (Ok c) h = (ap (λ a. a.top) h.reads, h.local)
 each app (Err e) h = (tt, tt)

@@ -5,7 +5,7 @@ use Rattle.clap.specs.Walk.{Row, first_of}
 use Rattle.pon_job.specs.Jobs.{HasMaps, IsRun, NamesNoJob, SpellsMaps}
 use Rattle.pon_job.specs.declared.task.Job.TheVariants.{Plan, Check, Audit, Run}
 
--- the number that is read of the text
+-- the number that is parsed from the text
 pub number_read : (rows : List Row) (text : List ℕ) (r : Option ℕ) → Some text ≡ first_of (codes "maps") rows → MatchOption r ((maps : ℕ) → ¬ SpellsMaps text maps) (SpellsMaps text) → IfSome r (HasMaps rows)
 number_read rows text None is spells = tt
 number_read rows text (Some maps) is spells = subst (λ o. IsSomeAnd o (λ t. SpellsMaps t maps)) is spells
@@ -17,7 +17,7 @@ number_refused rows text (Some n) is spells none maps has = absurd (cc none)
 pub number_missing : (rows : List Row) → None ≡ first_of (codes "maps") rows → (maps : ℕ) → ¬ HasMaps rows maps
 number_missing rows none maps has = subst (λ o. IsSomeAnd o (λ t. SpellsMaps t maps)) (sym none) has
 
--- a value that is missing
+-- if a value is missing, there is no run
 no_run : (rows : List Row) → ((config listen : List ℕ) (maps : ℕ) (recording operate : Option (List ℕ)) → ¬ IsRun rows config listen maps recording operate) → NamesNoJob (Some (codes "run", rows))
 no_run rows none (Plan config) j = absurd (cc (j.0))
 no_run rows none (Check file) j = absurd (cc (j.0))

@@ -1,4 +1,4 @@
--- The subcommand that clap matched, with what it matched of its arguments.
+-- The subcommand that clap matched, and the matches of its arguments.
 use Rattle.std.proofs.Common.{◌≡◌, ℕ, List, [], refl, sym, ap, ◌∙◌, true, subst, inl, inr, Option, Some, None}
 use Rattle.std.specs.Prelude.{codes, option_map}
 use Rattle.std.specs.Box.{box_value}
@@ -30,7 +30,7 @@ paired (Some met) name rows n e =
     let same_rows : rows ≡ met.1 = cc in
     ap (λ x. Some (x, rows)) same_name ∙ ap (λ x. Some (met.0, x)) same_rows
 
--- the name and the rows that clap gives are those of the subcommand
+-- the name and the matches that clap returns are those of the subcommand
 pub met_is : (m found : ArgMatches) (name : List ℕ) → Some name ≡ subcommand_name_of m → Some (rows_of (found_of found)) ≡ option_map (λ p. p.1) (subcommand_rows_of m) →
     Some (name, rows_of (found_of found)) ≡ subcommand_rows_of m
 met_is m found name n e = paired (subcommand_rows_of m) name (rows_of (found_of found)) (n ∙ sym (name_of_rows m)) e
@@ -39,11 +39,11 @@ met_is m found name n e = paired (subcommand_rows_of m) name (rows_of (found_of 
 pub clap_refuses : (a : App) (words : List (List ℕ)) (e : Error) → a ≡ olt_app → (is_simple_and_free a ≡ true → HasKind (fault_of a words) e) → RefusesWords words e
 clap_refuses a words e is k = inl (subst (λ a. is_simple_and_free a ≡ true → HasKind (fault_of a words) e) is k refl)
 
--- the job that the subcommand names
+-- the job of the subcommand
 pub names : (r : Option (List ℕ × List Row)) (name : List ℕ) (rows : List Row) (job : Job) → Some (name, rows) ≡ r → name ≡ word_of job → HasValues rows job → IsJob r job
 names r name rows job met word values = subst (λ r. IsJob r job) met (word, values)
 
--- `check` and `audit` without a file name none
+-- `check` and `audit` without a file name no job
 pub no_file : (name : List ℕ) (rows : List Row) (r : Option (List ℕ × List Row)) → Some (name, rows) ≡ r → name ≡ codes "check" → None ≡ first_of (codes "file") rows → NamesNoJob r
 no_file name rows r met check none = subst NamesNoJob met go
   where
@@ -62,13 +62,13 @@ no_recording name rows r met audit none = subst NamesNoJob met go
     go (Audit file) j = absurd (cc (none, j.1))
     go (Run config listen maps recording operate) j = absurd (cc (audit, j.0))
 
--- the job that the matches name is that of the words
+-- the job of the matches is that of the words
 pub job_in : (a : App) (words : List (List ℕ)) (m : ArgMatches) (job : Job) → a ≡ olt_app → HasMatchesOf a words m → IsJob (subcommand_rows_of m) job → IsJob (subcommand_of olt_app words) job
 job_in a words m job is has j =
     let met = subst (λ a. HasMatchesOf a words m) is has refl in
     subst (λ r. IsJob r job) met.1 j
 
--- clap finds no fault in the words, and no job in its matches
+-- clap finds no fault in the words, and its matches name no job
 pub no_job_in : (a : App) (words : List (List ℕ)) (m : ArgMatches) (e : Error) → a ≡ olt_app → kind_of e ≡ InvalidSubcommand → (is_simple_and_free a ≡ true → fault_of a words ≡ [])
     → HasMatchesOf a words m → NamesNoJob (subcommand_rows_of m) → RefusesWords words e
 no_job_in a words m e is kind clean has none =

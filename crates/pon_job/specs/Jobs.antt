@@ -1,4 +1,4 @@
--- The jobs of the program, by the words of its command line.
+-- The jobs of the program, from the words of its command line.
 use Rattle.std.specs.Prelude.{◌≡◌, ◌⊎◌, ℕ, List, [], ◌∷◌, codes, Option, Some, None, IsSomeAnd, option_map, true}
 use Rattle.std.specs.Str.Parse.{digits_value, without_leading_plus}
 use Rattle.clap.specs.Walk.{Row, Rule, first_of}
@@ -13,19 +13,19 @@ use Rattle.pon_job.specs.declared.task.TheConstants.{MOST_MAPS}
 use Rattle.pon_job.specs.declared.task.Job.{Job}
 use Rattle.pon_job.specs.declared.task.Job.TheVariants.{Plan, Check, Audit, Run}
 
--- the one word of `check` and of `audit`, which they need
+-- the file of `check` and of `audit`, which is required
 abbrev pub file_rule : Rule
 file_rule = record (new_rule (codes "file")) { value_names = 1; required = true }
 
--- the settings, which `plan` may have
+-- the settings of `plan`, which are optional
 abbrev pub config_rule : Rule
 config_rule = record (new_rule (codes "config")) { long = Some (codes "config"); value_names = 1 }
 
--- the address of the sockets of `run`, which it needs
+-- the address of the sockets of `run`, which is required
 abbrev pub listen_rule : Rule
 listen_rule = record (new_rule (codes "listen")) { long = Some (codes "listen"); value_names = 1; required = true }
 
--- the number of maps of `run`, which it needs, within its range
+-- the number of maps of `run`, which is required, within its range
 abbrev pub maps_rule : Rule
 maps_rule = record (new_rule (codes "maps")) {
   long = Some (codes "maps");
@@ -34,11 +34,11 @@ maps_rule = record (new_rule (codes "maps")) {
   required = true;
 }
 
--- the file of a recording, which `run` may have
+-- the file of a recording of `run`, which is optional
 abbrev pub record_rule : Rule
 record_rule = record (new_rule (codes "record")) { long = Some (codes "record"); value_names = 1 }
 
--- the file of management lines for an operator, which `run` may have
+-- the file of management lines for an operator of `run`, which is optional
 abbrev pub operate_rule : Rule
 operate_rule = record (new_rule (codes "operate")) { long = Some (codes "operate"); value_names = 1 }
 
@@ -51,7 +51,7 @@ check_shape = record (new_shape (codes "check")) { rules = file_rule ∷ [] }
 abbrev pub audit_shape : Shape
 audit_shape = record (new_shape (codes "audit")) { rules = file_rule ∷ [] }
 
--- `run` needs the settings
+-- `run`, for which the settings are required
 abbrev pub run_shape : Shape
 run_shape = record (new_shape (codes "run")) {
   rules = record config_rule { required = true } ∷ listen_rule ∷ maps_rule ∷ record_rule ∷ operate_rule ∷ [];
@@ -67,18 +67,18 @@ top_shape = record (new_shape (codes "olt")) {
 abbrev pub top_app : App
 top_app = record { top = top_shape; subs = [] }
 
--- the command line that the program has
+-- the command line of the program
 abbrev pub olt_app : App
 olt_app = with_subcommand (with_subcommand (with_subcommand (with_subcommand top_app plan_shape) check_shape) audit_shape) run_shape
 
--- the word of a job's subcommand
+-- the subcommand of a job
 abbrev pub word_of : Job → List ℕ
 word_of (Plan config) = codes "plan"
 word_of (Check file) = codes "check"
 word_of (Audit file) = codes "audit"
 word_of (Run config listen maps recording operate) = codes "run"
 
--- the text spells the number, which is within the range of the maps of a run
+-- the text is this number, in decimal digits after an optional plus sign, in the range of the maps of a run
 pub record SpellsMaps (text : List ℕ) (maps : ℕ) : Type 0 where
   pub in_range : IsUnsignedIn 1 MOST_MAPS text
   pub number : digits_value 10 (without_leading_plus text) ≡ maps
@@ -103,21 +103,22 @@ HasValues rows (Audit file) = first_of (codes "file") rows ≡ Some file.now
 HasValues rows (Run config listen maps recording operate) =
     IsRun rows config.now listen.now maps (option_map (λ name. name.now) recording) (option_map (λ name. name.now) operate)
 
--- the job is the one that the subcommand names, with the values of its arguments
+-- the job is that of the subcommand, with the values of its arguments
 abbrev pub IsJob : Option (List ℕ × List Row) → Job → Type 0
 IsJob None job = ⊥
 IsJob (Some met) job = (met.0 ≡ word_of job) × HasValues met.1 job
 
--- a subcommand that names no job
+-- the subcommand names no job
 abbrev pub NamesNoJob : Option (List ℕ × List Row) → Type 0
 NamesNoJob met = (job : Job) → ¬ IsJob met job
 
--- the error of words in which clap finds no fault, but whose subcommand names no job
+-- the error for words in which clap finds no fault, but whose subcommand names no job
 pub record IsNoSuchJob (words : List (List ℕ)) (e : Error) : Type 0 where
   pub kind : kind_of e ≡ InvalidSubcommand
   pub no_fault : fault_of olt_app words ≡ []
   pub no_job : NamesNoJob (subcommand_of olt_app words)
 
--- why words give no job: a fault that clap finds in them, refused memory, or a subcommand that names no job
+-- the error of words that give no job: a fault that clap finds in them, refused memory, or a subcommand that names no
+-- job
 abbrev pub RefusesWords : List (List ℕ) → Error → Type 0
 RefusesWords words e = HasKind (fault_of olt_app words) e ⊎ IsNoSuchJob words e

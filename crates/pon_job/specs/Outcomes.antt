@@ -1,4 +1,4 @@
--- How a run of the program ends, and its exit status.
+-- The outcome of a run of the program, and its exit status.
 use Rattle.std.specs.Prelude.{ℕ, Bool, true, false, Result, Ok, Err}
 use Rattle.clap.specs.declared.error.kind.ErrorKind.{ErrorKind}
 use Rattle.clap.specs.declared.error.kind.ErrorKind.TheVariants.{DisplayHelp, DisplayVersion, OutOfMemory}
@@ -17,18 +17,18 @@ exit_status Settings = 2
 exit_status (Failed fault) = 3
 exit_status Unfinished = 3
 
--- a job without a verdict is done, or has failed
+-- a job without a verdict is done, or failed
 abbrev pub outcome_of_run : {T : Type 0} → Result T PlanFault → Outcome
 outcome_of_run (Ok end) = Done
 outcome_of_run (Err fault) = Failed fault
 
--- a check says yes or no, or has failed
+-- a check accepts or refuses, or failed
 abbrev pub outcome_of_check : Result Bool PlanFault → Outcome
 outcome_of_check (Ok true) = Done
 outcome_of_check (Ok false) = Refused
 outcome_of_check (Err fault) = Failed fault
 
--- a run at ports serves each of them to its last map, or not, or has failed
+-- a run at ports serves each of them to its last map, or does not, or failed
 abbrev pub outcome_of_ports : Result Bool PlanFault → Outcome
 outcome_of_ports (Ok true) = Done
 outcome_of_ports (Ok false) = Unfinished

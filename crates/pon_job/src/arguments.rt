@@ -11,7 +11,7 @@ use clap::error::ErrorKind;
 use clap::{ArgMatches, Error};
 use std::alloc::Global;
 
-// The number of maps that a text spells.
+// Parses the number of maps of a run.
 fn maps_in(text: &str) -> Option<u64>
     ensures { MatchOption result ((maps : ℕ) → ¬ SpellsMaps text.now maps) (SpellsMaps text.now) }
 {
@@ -21,7 +21,7 @@ fn maps_in(text: &str) -> Option<u64>
     }
 }
 
-// The number of maps of a run.
+// Returns the number of maps of a run.
 fn maps_of(found: &ArgMatches<'_>) -> Option<u64>
     ensures some { IfSome result (HasMaps (rows_of (found_of found.now))) }
     ensures none { IsNone result → (maps : ℕ) → ¬ HasMaps (rows_of (found_of found.now)) maps }
@@ -30,7 +30,7 @@ fn maps_of(found: &ArgMatches<'_>) -> Option<u64>
     maps_in(text)
 }
 
-// The run that the matches of its subcommand name.
+// Returns the run that the matches of its subcommand give.
 fn run_of<'a>(found: &ArgMatches<'a>) -> Option<Job<'a>>
     ensures some { IfSome result (IsJob (Some (codes "run", rows_of (found_of found.now)))) }
     ensures none { IsNone result → NamesNoJob (Some (codes "run", rows_of (found_of found.now))) }
@@ -49,7 +49,7 @@ fn run_of<'a>(found: &ArgMatches<'a>) -> Option<Job<'a>>
     })
 }
 
-// The job that the subcommand of the matches names.
+// Returns the job that the subcommand of the matches gives.
 fn job_of<'a>(matches: &ArgMatches<'a>) -> Option<Job<'a>>
     ensures some { IfSome result (IsJob (subcommand_rows_of matches.now)) }
     ensures none { IsNone result → NamesNoJob (subcommand_rows_of matches.now) }
@@ -73,11 +73,11 @@ fn job_of<'a>(matches: &ArgMatches<'a>) -> Option<Job<'a>>
     None
 }
 
-/// Reads the words of the command line, the program's name first, and returns the job that their subcommand names, with the
+/// Parses the words of the command line, the program's name first, and returns the job of their subcommand, with the
 /// values of its arguments.
 ///
-/// The error is clap's: the first fault of the words, the help or the version that they ask for, or out of memory. Words in
-/// which clap finds no fault, but whose subcommand names no job, are `InvalidSubcommand`.
+/// The error is clap's: the first fault of the words, the help or the version if they request it, or out of memory. It
+/// is `InvalidSubcommand` for words in which clap finds no fault, but whose subcommand names no job.
 pub fn job<'a>(alloc: Global, words: &'a [String]) -> Result<Job<'a>, Error>
     ensures job { IfOk result (IsJob (subcommand_of olt_app (map string_bytes words.now))) }
     ensures refused { IfErr result (RefusesWords (map string_bytes words.now)) }

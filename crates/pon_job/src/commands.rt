@@ -1,4 +1,4 @@
-//! The command line that the program has.
+//! The command line of the program.
 
 ghost use Rattle.std.specs.Prelude.{◌≡◌, IfOk, false};
 ghost use Rattle.clap.specs.declared.builder.command.Command.TheViews.{out-Command};
@@ -125,7 +125,7 @@ fn run_command<'a>(alloc: Global) -> Result<Command<'a>, AllocError>
         .arg(operate_arg(alloc))
 }
 
-/// The program's command, with its subcommands.
+/// Builds the program's command, with its subcommands.
 pub(crate) fn olt_command<'a>(alloc: Global) -> Result<Command<'a>, AllocError>
     ensures { IfOk result (λ c. app_of c ≡ olt_app) }
 {

@@ -1,5 +1,5 @@
-//! The command line of the program `olt`, and its exit status: which job the words name, how a run ended, and the number
-//! that says so.
+//! The command line of the program `olt`, and its exit status: the job that the words of the command line name, the
+//! outcome of a run, and the exit status of an outcome.
 //!
 //! Nothing here does a job, prints a text or ends a process.
 #![tactic(auto)]

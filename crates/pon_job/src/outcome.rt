@@ -1,4 +1,4 @@
-//! How a run of the program ended.
+//! The outcome of a run of the program, and its exit status.
 
 ghost use Rattle.std.specs.Prelude.{◌≡◌};
 ghost use Rattle.clap.specs.Values.{kind_of};
@@ -8,12 +8,12 @@ use clap::Error;
 use clap::error::ErrorKind;
 use pon_stream::PlanFault;
 
-/// How a run of the program ended.
+/// Outcome of a run of the program.
 #[derive(Clone, Copy, Debug, PartialEq, Eq)]
 pub enum Outcome {
-    /// The job is done; a check or an audit accepted. Also help and the version, if they were asked for.
+    /// The job is done; a check or an audit accepted. Also help and the version, if they were requested.
     Done,
-    /// A check or an audit refused what it was given.
+    /// A check or an audit refused its input.
     Refused,
     /// The words of the command line name no job.
     CommandLine,
@@ -25,8 +25,8 @@ pub enum Outcome {
     Unfinished,
 }
 
-/// The exit status of an outcome: 0 if the job is done, 1 for a refusal by a check or an audit, 2 for a command line or
-/// settings that are refused, 3 for a failed device, refused memory, or a port that was not served to its last map.
+/// Returns the exit status of an outcome: 0 if the job is done, 1 if a check or an audit refused, 2 if the command line
+/// or the settings are refused, 3 if a device failed, memory was refused, or a port was not served to its last map.
 pub fn exit_status(outcome: Outcome) -> u8
     ensures { result ≡ exit_status outcome }
 {
@@ -39,7 +39,7 @@ pub fn exit_status(outcome: Outcome) -> u8
     }
 }
 
-/// The outcome of a job that has no verdict, as answering management lines.
+/// Returns the outcome of a job without a verdict, such as answering management lines.
 pub fn outcome_of_run<T: Drop>(ended: Result<T, PlanFault>) -> Outcome
     ensures { result ≡ outcome_of_run ended }
 {
@@ -49,7 +49,7 @@ pub fn outcome_of_run<T: Drop>(ended: Result<T, PlanFault>) -> Outcome
     }
 }
 
-/// The outcome of a check or an audit, where `true` is its yes.
+/// Returns the outcome of a check or an audit; `true` is acceptance.
 pub fn outcome_of_check(verdict: Result<bool, PlanFault>) -> Outcome
     ensures { result ≡ outcome_of_check verdict }
 {
@@ -59,7 +59,7 @@ pub fn outcome_of_check(verdict: Result<bool, PlanFault>) -> Outcome
     }
 }
 
-/// The outcome of a run at ports, where `true` says that each was served to its last map.
+/// Returns the outcome of a run at ports; `true` means that each port was served to its last map.
 pub fn outcome_of_ports(ended: Result<bool, PlanFault>) -> Outcome
     ensures { result ≡ outcome_of_ports ended }
 {
@@ -69,7 +69,7 @@ pub fn outcome_of_ports(ended: Result<bool, PlanFault>) -> Outcome
     }
 }
 
-/// The outcome of a run whose words name no job, by clap's error.
+/// Returns the outcome of a command line that names no job, from clap's error.
 pub fn outcome_of_words(error: &Error) -> Outcome
     ensures { result ≡ outcome_of_words (kind_of error.now) }
 {

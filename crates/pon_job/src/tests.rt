@@ -1,10 +1,10 @@
-//! What clap's command line answers to whole lines of words.
+//! The results of whole command lines, as clap parses them.
 use super::*;
 use clap::error::ErrorKind;
 use std::alloc::Global;
 use std::process::Abort;
 
-// The words of a line, the program's name first.
+// Returns the words of a command line, the program's name first.
 fn words_of(rt: &impl Abort, alloc: Global, line: &str) -> Vec<String> {
     let mut words = Vec::new(alloc);
     for word in line.split_whitespace() {
@@ -14,7 +14,7 @@ fn words_of(rt: &impl Abort, alloc: Global, line: &str) -> Vec<String> {
     words
 }
 
-// The kind of the error that the words of a line give, if they give one.
+// Returns the kind of the error of a command line, if there is one.
 fn refusal(rt: &impl Abort, alloc: Global, line: &str) -> Option<ErrorKind> {
     let words = words_of(rt, alloc, line);
     match job(alloc, words.as_slice()) {

@@ -1,4 +1,4 @@
--- What a reader answers of the bytes that it holds.
+-- The result of a reader for the bytes that it holds.
 use Rattle.std.proofs.Common.{◌≡◌, ◌≢◌, ℕ, ◌+◌, ◌-◌, ◌*◌, ◌⊎◌, false, List, length, take, drop, Option, Some, None, Err, MatchOption, refl, sym, subst, inl, inr, arith}
 use Rattle.std.specs.Int.{w64, from_be_bytes}
 use Rattle.std.proofs.lemmas.Slice.{between_to_end}
@@ -19,7 +19,7 @@ use Rattle.pon_link.specs.declared.fault.DownFault.{DownFault}
 use Rattle.pon_link.specs.declared.fault.DownFault.TheVariants.{Link, Memory}
 use Rattle.pon_lists.proofs.Bytes.{bytes-drop}
 
--- the fault of the form is the reader's, where the input has not ended
+-- the fault of the form is the reader's, if the input has not ended
 pub form_fault_shown : (s : ReaderState) (r : Option LinkFault) → s.ended ≡ false → MatchOption r (KeepsForm s.direction s.held) (λ f. HasFault (record { direction = s.direction; held = s.held; ended = false }) f) → MatchOption r (KeepsForm s.direction s.held × (s.ended ≡ false)) (λ f. HasFault s f)
 form_fault_shown s None e m = (m, e)
 form_fault_shown s (Some f) e m =
@@ -30,7 +30,7 @@ form_fault_shown s (Some f) e m =
 rest_of : (bytes : List ℕ) → take (length bytes - 9) (drop 9 bytes) ≡ drop 9 bytes
 rest_of bytes = between_to_end bytes 9 (length bytes) (omega arith)
 
--- a map that is refused is the reader's fault
+-- a refused map is the reader's fault
 pub refused_shown : (s : ReaderState) (bytes : List ℕ) (f : MapFault) → bytes ≡ s.held → s.direction ≡ Down → IsWhole s.direction s.held → IsFirstMapFault (take (length bytes - 9) (drop 9 bytes)) f → f ≢ map_fault.Memory → HasFault s BadMap
 refused_shown s bytes f is down whole first other =
     let here : IsFirstMapFault (drop 9 s.held) f = subst (λ (t : List ℕ). IsFirstMapFault (drop 9 t) f) is (subst (λ (t : List ℕ). IsFirstMapFault t f) (rest_of bytes) first) in
@@ -51,7 +51,7 @@ down_record bytes frame rows corrected used small w read here =
       map = subst (λ (k : ℕ). ReadsMap (drop 9 bytes) rows corrected k) all r;
     }
 
--- why a whole record's bytes give none
+-- why a whole record's bytes have no record
 pub down_fault : (bytes : List ℕ) (f : MapFault) (told : DownFault) → IsWhole Down bytes → IsFirstMapFault (take (length bytes - 9) (drop 9 bytes)) f → ((f ≡ map_fault.Memory) × (told ≡ Memory)) ⊎ ((f ≢ map_fault.Memory) × (told ≡ Link BadMap)) → KeepsDown bytes told
 down_fault bytes f told w first cases =
     let here : IsFirstMapFault (drop 9 bytes) f = subst (λ (t : List ℕ). IsFirstMapFault t f) (rest_of bytes) first in
@@ -60,7 +60,7 @@ down_fault bytes f told w first cases =
       | inr other ↦ subst (λ (t : DownFault). KeepsDown bytes t) (sym other.1) (refl, (w, (f, here, other.0)))
     ]
 
--- a reader that gives none stays as it was
+-- a reader that returns no record is unchanged
 pub down_kept : (s : ReaderState) (fault : DownFault) → s.direction ≡ Down → KeepsDown s.held fault → GivesDown s s (Err fault)
 down_kept s (Link fault) down k = (subst (λ (f : LinkFault). HasFault s f) (sym k.0) (down, inr k.1), refl)
 down_kept s Memory down k = (k, refl)

@@ -1,4 +1,4 @@
--- Downstream bytes have one reading as a record at most, and a record tells its size.
+-- Downstream bytes have at most one reading as a record, and a record gives its size.
 use Rattle.std.proofs.Common.{◌≡◌, ◌≢◌, ℕ, ◌+◌, ◌*◌, ◌<◌, List, ◌++◌, length, drop, All, sym, ◌∙◌, arith}
 use Rattle.pon_bwmap.specs.MapFaults.{IsFirstMapFault}
 use Rattle.pon_bwmap.specs.declared.fault.MapFault.{MapFault}
@@ -10,7 +10,7 @@ use Rattle.pon_link.specs.Reading.{AnnouncesMap}
 use Rattle.pon_link.specs.declared.record.DownRecord.{DownRecord}
 use Rattle.pon_lists.proofs.Bytes.{All-from_bytes, bytes-drop, bytes-front}
 
--- a record tells its own size
+-- a record gives its own size
 pub down_size : (bytes : List ℕ) (r : DownRecord) → IsDownRecord bytes r → AnnouncesMap (drop 9 bytes) (length bytes)
 down_size bytes r h = (
   h.map.head,
@@ -24,7 +24,7 @@ down_size bytes r h = (
 all_bytes : (bytes : List ℕ) → AreBytes bytes → All (λ b. b < 256) (drop 9 bytes)
 all_bytes bytes small = All-from_bytes (drop 9 bytes) (bytes-drop 9 bytes small)
 
--- a record's bytes are that record alone, whatever follows them
+-- the bytes of a record are only that record, whatever follows them
 pub one_down_record : (bytes rest : List ℕ) (r s : DownRecord) → AreBytes (bytes ++ rest) → IsDownRecord bytes r → IsDownRecord bytes s → r ≡ s
 one_down_record bytes rest r s small h k =
     let same = one_map (drop 9 bytes) r.map s.map h.corrected k.corrected (4 + 8 * length r.map) (4 + 8 * length s.map) (all_bytes bytes (bytes-front bytes rest small)) h.map k.map in

@@ -1,4 +1,4 @@
--- What a writer of downstream records holds, and what of it is left.
+-- The bytes that a writer of downstream records holds, and those that remain.
 use Rattle.std.proofs.Common.{◌≡◌, ℕ, ◌+◌, ◌-◌, ◌<◌, ◌≤◌, ◌==◌, true, false, List, [], ◌∷◌, ◌++◌, length, take, drop, set, Option, Some, None, refl, ap, sym, ◌∙◌, append_assoc, length-append, length-set, arith}
 use Rattle.std.proofs.lemmas.Grind.{take-set_at}
 use Rattle.std.proofs.lemmas.List.{append-nil, drop-take, drop-drop, length-take, take-append-drop, take_at}
@@ -7,13 +7,13 @@ use Rattle.std.proofs.Math.Seq.{take-append-add}
 use Rattle.pon_device.specs.Device.{Appends, Keeps}
 use borrow.Rule.Slice.PartMut.{put_mid, post_of}
 
--- the part of a buffer that is left once more of it has gone out
+-- the part of a buffer that remains after more of it is written
 pub left_after : (bytes : List ℕ) (begin end n : ℕ) → n ≤ length (take (end - begin) (drop begin bytes)) → take (end - (begin + n)) (drop (begin + n) bytes) ≡ drop n (take (end - begin) (drop begin bytes))
 left_after bytes begin end n le =
     let rest : end - begin ≡ n + (end - (begin + n)) = omega (arith, le, length-take (end - begin) (drop begin bytes)) in
     sym (ap (λ (k : ℕ). drop n (take k (drop begin bytes))) rest ∙ drop-take n (end - (begin + n)) (drop begin bytes) ∙ ap (λ (t : List ℕ). take (end - (begin + n)) t) (drop-drop n begin bytes))
 
--- a buffer that a tag, a frame and a map's bytes were written to begins with them
+-- a buffer to whose front a tag, a frame and a map's bytes were written has them as a prefix
 pub record_spelled : (room frame map_part map rest : List ℕ) (tag n k : ℕ) → 0 < length room → length frame ≡ 8 → length map ≡ n → map_part ≡ map ++ rest → take (9 + n) (put_mid 9 k (put_mid 1 8 (set room 0 tag) frame) map_part) ≡ tag ∷ (frame ++ map)
 record_spelled room frame map_part map rest tag n k some eight size is =
     let tagged = set room 0 tag in
@@ -32,7 +32,7 @@ record_spelled room frame map_part map rest tag n k some eight size is =
 all_sent : (sent left all : List ℕ) (n : ℕ) → sent ++ left ≡ all → (sent ++ take n left) ++ drop n left ≡ all
 all_sent sent left all n e = append_assoc sent (take n left) (drop n left) ∙ ap (λ (t : List ℕ). sent ++ t) (take-append-drop n left) ∙ e
 
--- What went out, and then what is left: this is all that there was.
+-- the written bytes, followed by the remaining ones, are all bytes
 pub record Sends (old new : Option (List ℕ)) (all left : List ℕ) : Type 0 where
   pub sent : List ℕ
   pub appends : Appends old new sent
@@ -42,7 +42,7 @@ pub none_sent : (old : Option (List ℕ)) (all : List ℕ) → Sends old old all
 none_sent None all = record { sent = []; appends = tt; together = refl }
 none_sent (Some o) all = record { sent = []; appends = sym (append-nil o); together = refl }
 
--- a piece more has gone out
+-- one more piece is written
 pub sent_more : (old mid new : Option (List ℕ)) (all left : List ℕ) (n : ℕ) → Sends old mid all left → Appends mid new (take n left) → Sends old new all (drop n left)
 sent_more None mid new all left n s a = record { sent = s.sent ++ take n left; appends = tt; together = all_sent s.sent left all n s.together }
 sent_more (Some o) None new all left n s a = absurd s.appends
@@ -53,14 +53,14 @@ sent_more (Some o) (Some m) (Some w) all left n s a = record {
   together = all_sent s.sent left all n s.together;
 }
 
--- nothing more has gone out
+-- nothing more is written
 pub sent_kept : (old mid new : Option (List ℕ)) (all left : List ℕ) → Sends old mid all left → Keeps mid new → Sends old new all left
 sent_kept None mid new all left s k = record { sent = s.sent; appends = tt; together = s.together }
 sent_kept (Some o) None new all left s k = absurd s.appends
 sent_kept (Some o) (Some m) None all left s k = absurd k
 sent_kept (Some o) (Some m) (Some w) all left s k = record { sent = s.sent; appends = k ∙ s.appends; together = s.together }
 
--- where something is left, there was something at first
+-- if bytes remain, there were bytes at first
 pub not_idle : (old new : Option (List ℕ)) (all left shown : List ℕ) → Sends old new all left → shown ≡ left → false ≡ (length shown == 0) → all ≡ [] → ⊥
 not_idle old new all left shown s is some none =
     let both : length s.sent + length left ≡ 0 = sym (length-append s.sent left) ∙ ap (λ (t : List ℕ). length t) (s.together ∙ none) in

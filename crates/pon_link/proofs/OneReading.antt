@@ -1,4 +1,4 @@
--- Bytes have one reading as a record at most.
+-- Bytes have at most one reading as a record.
 use Rattle.std.proofs.Common.{◌≡◌, ℕ, ◌+◌, ◌^◌, ◌<◌, ◌≤◌, List, [], ◌∷◌, ◌++◌, length, take, drop, get_or, Option, Some, None, refl, ap, sym, ◌∙◌, subst, length-append, arith}
 use Rattle.std.specs.Int.{w32, from_be_bytes}
 use Rattle.std.proofs.lemmas.List.{get_or_append_left, get_or-take, get_or-drop}
@@ -11,7 +11,7 @@ use Rattle.pon_link.specs.UpRecords.{IsRecord, ReadsHead, ReadsReport, ReadsRepo
 use Rattle.pon_lists.specs.Bytes.{AreBytes}
 use Rattle.pon_link.specs.declared.record.UpRecord.{UpRecord}
 
--- two cuts of a list at one place are the same
+-- two splits of a list at one index are equal
 pub same_cut : (a b x y : List ℕ) → length a ≡ length b → a ++ x ≡ b ++ y → (a ≡ b) × (x ≡ y)
 same_cut a b x y long e = (
   sym (take-append_seam a x) ∙ ap (λ (t : List ℕ). take (length a) t) e ∙ ap (λ (n : ℕ). take n (b ++ y)) long ∙ take-append_seam b y,
@@ -61,7 +61,7 @@ head_byte bytes rest i small long lt =
     let whole : get_or (bytes ++ rest) (9 + i) 0 ≡ get_or bytes (9 + i) 0 = get_or_append_left bytes rest 0 (9 + i) (omega (arith, long, lt)) in
     omega (arith, place, whole, small (9 + i))
 
--- a record's bytes are that record alone, whatever follows them
+-- the bytes of a record are only that record, whatever follows them
 pub one_record : (bytes rest : List ℕ) (r s : UpRecord) → AreBytes (bytes ++ rest) → IsRecord bytes r → IsRecord bytes s → r ≡ s
 one_record bytes rest r s small h k =
     let long : 14 ≤ length bytes = omega (arith, h.size) in

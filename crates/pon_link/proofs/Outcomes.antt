@@ -1,4 +1,4 @@
--- A reader answers one thing alone.
+-- The outcome of a reader is unique.
 use Rattle.std.proofs.Common.{◌≡◌, ◌+◌, ◌⊎◌, List, ℕ, length, drop, Option, Some, None, Result, Ok, Err, refl, ap, sym, ◌∙◌, subst, inl, inr, true, false, arith}
 use Rattle.pon_bwmap.specs.MapReading.{BeginsWithMap, map_size}
 use Rattle.pon_bwmap.specs.MapFaults.{IsFirstMapFault}
@@ -34,7 +34,7 @@ waits s r up h o = not_begun s.held r h (subst (λ (d : Direction). MayBecomeRec
 down_not_begun : (bytes : List ℕ) (r : DownRecord) → AreBytes bytes → IsDownRecord bytes r → MayBecomeRecord Down bytes → ⊥
 down_not_begun bytes r small h b = omega (arith, more_needed Down bytes (length bytes) small (omega (arith, h.size)) (down_size bytes r h) b)
 
--- upward is not downward
+-- the upstream direction is not the downstream one
 not_down : (s : ReaderState) → s.direction ≡ Up → s.direction ≡ Down → ⊥
 not_down s up down = let both : Up ≡ Down = sym up ∙ down in cc
 
@@ -44,11 +44,11 @@ sound s r BadCount up h f = elim f.1.2 [ inl none ↦ omega (arith, none, h.coun
 sound s r BadMap up h f = not_down s up f.0
 sound s r (Truncated left) up h f = not_begun s.held r h (subst (λ (d : Direction). MayBecomeRecord d s.held) up f.1)
 
--- a beginning has no bad form
+-- a proper prefix of a record has no bad form
 pub form_begun : (d : Direction) (bytes : List ℕ) → MayBecomeRecord d bytes → HasBadForm d bytes → ⊥
 form_begun d bytes b f = let size = b.form.size f.0 in no_size d bytes size.0 f.2 size.1
 
--- nor a whole record's size
+-- a proper prefix of a record is not a whole one
 whole_begun : (d : Direction) (bytes : List ℕ) → AreBytes bytes → MayBecomeRecord d bytes → IsWhole d bytes → ⊥
 whole_begun d bytes small b w = omega (arith, more_needed d bytes (length bytes) small w.told w.size b)
 
@@ -74,7 +74,7 @@ tag_there s f t =
     let bad : HasBadTag Down s.held = subst (λ (d : Direction). HasBadTag d s.held) f.0 t in
     elim f.1 [ inl form ↦ bad.1 form.1 | inr refused ↦ bad.1 (refused.0.form.tag bad.0) ]
 
--- a record of a map is whole
+-- the bytes of a map's record are whole
 pub down_waits : (s : ReaderState) (r : DownRecord) → s.direction ≡ Down → AreBytes s.held → IsDownRecord s.held r → IsOpen s → ⊥
 down_waits s r down small h o = down_not_begun s.held r small h (subst (λ (d : Direction). MayBecomeRecord d s.held) down o.beginning)
 
@@ -100,7 +100,7 @@ one_fault s BadMap BadMap small h k = refl
 one_fault s BadCount BadMap small h k = absurd (not_down s h.0 k.0)
 one_fault s BadMap BadCount small h k = absurd (not_down s k.0 h.0)
 
--- ---- a record that waits, and memory
+-- ---- a whole record, and memory
 
 whole_sound : (s : ReaderState) (d : Direction) (f : LinkFault) → s.direction ≡ d → AreBytes s.held → IsWhole d s.held → HasFault s f → (f ≡ BadMap) × HasRefusedMap s.held
 whole_sound s d BadTag is small w f = let bad : HasBadTag d s.held = subst (λ (e : Direction). HasBadTag e s.held) is f in absurd (bad.1 (w.form.tag bad.0))
@@ -115,14 +115,14 @@ whole_sound s d BadMap is small w f =
     ]
 whole_sound s d (Truncated left) is small w f = absurd (whole_begun d s.held small (subst (λ (e : Direction). MayBecomeRecord e s.held) is f.1) w)
 
--- where a whole record waits that is not refused, there is no fault
+-- a whole record that is not refused has no fault
 ready_sound : (s : ReaderState) (d : Direction) (f : LinkFault) → s.direction ≡ d → AreBytes s.held → IsReady d s.held → HasFault s f → ⊥
 ready_sound s Up f is small w h = let bad = whole_sound s Up f is small w h in not_down s is (subst (λ (g : LinkFault). HasFault s g) bad.0 h).0
 ready_sound s Down f is small w h =
     let bad = (whole_sound s Down f is small w.0 h).1 in
     bad.1.2 (no_fault (drop 9 s.held) w.1.0 w.1.1 w.1.2 bad.1.0 (All-from_bytes (drop 9 s.held) (bytes-drop 9 s.held small)) w.1.3 bad.1.1)
 
--- memory is wanting for a record that waits
+-- memory is needed for a whole record
 begins_map : (bytes : List ℕ) → IsFirstMapFault bytes map_fault.Memory → BeginsWithMap bytes
 begins_map bytes f = (
   f.in_rows.0,
@@ -145,7 +145,7 @@ memory_sound s f down small m h = ready_sound s Down f down small (m.0, begins_m
 pub memory_waits : (s : ReaderState) → s.direction ≡ Down → AreBytes s.held → WantsMemory s.held → IsOpen s → ⊥
 memory_waits s down small m o = whole_begun Down s.held small (subst (λ (d : Direction). MayBecomeRecord d s.held) down o.beginning) m.0
 
--- ---- once a fault, always that fault
+-- ---- a fault is kept by all later calls
 
 pub sticky_next : (s t : ReaderState) (r : Result (Option UpRecord) LinkFault) (f : LinkFault) → s.direction ≡ Up → AreBytes s.held → Returns IsRecord s t r → HasFault s f → r ≡ Err f
 sticky_next s t (Ok (Some r)) f up small g h = absurd (sound s r f up g.0 h)

@@ -1,4 +1,4 @@
--- Reports one after another, and the header that four bytes hold.
+-- Reports in order, and the header of four bytes.
 use Rattle.std.proofs.Common.{◌≡◌, ℕ, ◌+◌, ◌*◌, List, [], ◌∷◌, ◌++◌, length, take, drop, Option, refl, ap, sym, ◌∙◌, subst, append_assoc, arith}
 use Rattle.std.proofs.lemmas.List.{append-nil}
 use Rattle.std.proofs.Math.Seq.{take-add}
@@ -7,12 +7,12 @@ use Rattle.pon_xgtc.specs.declared.fault.HeadFault.{HeadFault}
 use Rattle.pon_xgtc.specs.declared.fault.HeadFault.TheVariants.{Short, Hec}
 use Rattle.pon_link.specs.UpRecords.{ReadsReport, ReadsReports}
 
--- four bytes with no header are refused by their HEC
+-- four bytes without a header are refused by their HEC
 pub head_refused : (bytes : List ℕ) (f : HeadFault) → length bytes ≡ 4 → IsHeaderFault bytes f → IsHeaderFault bytes Hec
 head_refused bytes Short e l = absurd (omega (arith, e, l))
 head_refused bytes Hec e r = r
 
--- one report more behind the others
+-- one more report after the others
 pub reports_more : (bytes report : List ℕ) (os : List (Option ℕ)) (o : Option ℕ) → ReadsReports bytes os → ReadsReport report o → ReadsReports (bytes ++ report) (os ++ o ∷ [])
 reports_more bytes report [] o e r = (report, [], ap (λ t. t ++ report) e ∙ sym (append-nil report), r, refl)
 reports_more bytes report (p ∷ os) o h r =

@@ -1,4 +1,4 @@
--- How a reader's run ends: the same for every run over a stream.
+-- The end of a reader's run: equal for every run over a stream.
 use Rattle.std.proofs.Common.{◌≡◌, ℕ, ◌+◌, ◌<◌, ◌≤◌, ◌⊎◌, Bool, IsTrue, List, [], ◌++◌, length, get_or, Option, Some, None, inl, inr, refl, ap, sym, ◌∙◌, subst, length-append, arith}
 use Rattle.std.proofs.lemmas.List.{append-nil, get_or_append_left}
 use Rattle.pon_lists.specs.Bytes.{AreBytes}
@@ -10,7 +10,7 @@ use Rattle.pon_link.specs.declared.fault.LinkFault.{LinkFault}
 use Rattle.pon_link.specs.declared.fault.LinkFault.TheVariants.{BadTag, BadCount, BadMap, Truncated}
 use Rattle.pon_link.proofs.Sizes.{no_size, size_kept, size_before, more_needed, some_told}
 
--- the ends of a reader that met a fault: the input ended, the tag is wrong, or what follows it
+-- the ends of a reader with a fault: the input ended, the tag is wrong, or the size or the map is
 pub data Ends (d : Direction) (s : ReaderState) (f : LinkFault) : Type 0 where
   Cut : MayBecomeRecord d s.held → 0 < length s.held → IsTrue s.ended → f ≡ Truncated (length s.held) → Ends d s f
   Tag : HasBadTag d s.held → f ≡ BadTag → Ends d s f
@@ -34,7 +34,7 @@ ends d s BadCount is h = late s d Up BadCount is h.0 refl h.1
 ends d s BadMap is h = elim h.1 [ inl form ↦ late s d Down BadMap is h.0 refl form | inr map ↦ refused s d is h.0 map ]
 ends d s (Truncated left) is h = Cut (subst (λ (x : Direction). MayBecomeRecord x s.held) is h.1) (omega (arith, h.2, h.3)) h.0 (ap (λ (n : ℕ). Truncated n) h.3)
 
--- what begins with bytes of a bad form is no beginning
+-- bytes that begin with a bad form or a whole record are not a proper prefix of a record
 form_stays : (d : Direction) (held rest : List ℕ) → AreBytes (held ++ rest) → header_len d ≤ length held → HasBadSize d held ⊎ Announces d held (length held) → MayBecomeRecord d (held ++ rest) → ⊥
 form_stays d held rest small ge bad b =
     let size : length (held ++ rest) ≡ length held + length rest = length-append held rest in
@@ -44,7 +44,7 @@ form_stays d held rest small ge bad b =
       | inr whole ↦ omega (arith, size, more_needed d (held ++ rest) (length held) small (omega (arith, ge, size)) (size_kept d held rest (length held) ge whole) b)
     ]
 
--- nor is what begins with a wrong tag
+-- nor are bytes that begin with a wrong tag
 first_byte : (a b x y : List ℕ) → 0 < length a → 0 < length b → a ++ x ≡ b ++ y → get_or a 0 0 ≡ get_or b 0 0
 first_byte a b x y la lb e = sym (get_or_append_left a x 0 0 la) ∙ ap (λ (t : List ℕ). get_or t 0 0) e ∙ get_or_append_left b y 0 0 lb
 
@@ -53,17 +53,17 @@ tag_stays d held rest bad b =
     let size : length (held ++ rest) ≡ length held + length rest = length-append held rest in
     bad.1 (sym (get_or_append_left held rest 0 0 bad.0) ∙ b.form.tag (omega (arith, bad.0, size)))
 
--- a fault before the end of the bytes leaves them no beginning
+-- if all bytes are a proper prefix of a record, the only fault is `Truncated`
 not_cut : (d : Direction) (s : ReaderState) (rest all : List ℕ) (f : LinkFault) → AreBytes all → s.held ++ rest ≡ all → MayBecomeRecord d all → Ends d s f → f ≡ Truncated (length s.held)
 not_cut d s rest all f small e b (Cut c some over is) = is
 not_cut d s rest all f small e b (Tag bad is) = absurd (tag_stays d s.held rest bad (subst (λ (t : List ℕ). MayBecomeRecord d t) (sym e) b))
 not_cut d s rest all f small e b (Form ge tag bad is) = absurd (form_stays d s.held rest (subst AreBytes (sym e) small) ge bad (subst (λ (t : List ℕ). MayBecomeRecord d t) (sym e) b))
 
--- the whole rest of the stream, where the input ended or all was taken
+-- the held bytes are all bytes if none remain
 all_held : (held rest all : List ℕ) → held ++ rest ≡ all → rest ≡ [] → held ≡ all
 all_held held rest all e none = sym (append-nil held) ∙ ap (λ (t : List ℕ). held ++ t) (sym none) ∙ e
 
--- a fault at the end of the input is the same number of bytes
+-- the fault of a bad size is not `Truncated`
 late_cut : (d : Direction) (n : ℕ) → bad_size d ≡ Truncated n → ⊥
 late_cut Up n e = cc
 late_cut Down n e = cc

@@ -1,4 +1,4 @@
--- The records that a reader gives are those of the bytes that it took, whatever the pieces.
+-- The records that a reader returns are those of the bytes that it took, whatever the pieces.
 use Rattle.std.proofs.Common.{◌≡◌, ℕ, ◌+◌, ◌<◌, ◌≤◌, Bool, IsTrue, List, [], ◌∷◌, ◌++◌, length, get_or, Option, Some, None, inl, inr, refl, ap, sym, ◌∙◌, subst, append_assoc, length-append, arith}
 use Rattle.std.proofs.lemmas.List.{append-nil, get_or_append_left}
 use Rattle.pon_link.specs.UpRecords.{IsRecord}
@@ -26,7 +26,8 @@ leads_reads Is s (Ended ∷ steps) t h = leads_reads Is (at_end s) steps t h.2
 pub nothing_is_lost : {R : Type 0} (Is : List ℕ → R → Type 0) (d : Direction) (steps : List (ReaderStep R)) (s : ReaderState) → Leads Is (empty d) steps s → AreRecords Is (bytes_taken steps) (given steps) s.held
 nothing_is_lost Is d steps s h = leads_reads Is (empty d) steps s h
 
--- What makes a direction's records unambiguous: each has the tag and tells its size, and bytes are one at most.
+-- The facts that make a direction's records unambiguous: each has the tag and gives its size, and bytes are at most one
+-- record.
 pub record AreTold {R : Type 0} (Is : List ℕ → R → Type 0) (d : Direction) : Type 0 where
   pub tag : (bytes : List ℕ) (r : R) → Is bytes r → get_or bytes 0 0 ≡ tag_of d
   pub told : (bytes : List ℕ) (r : R) → Is bytes r → header_len d ≤ length bytes
@@ -52,26 +53,26 @@ down_told = record {
   sound = down_sound;
 }
 
--- the size of a record, with any bytes behind it
+-- the size of a record that is followed by any bytes
 size_behind : {R : Type 0} (Is : List ℕ → R → Type 0) (d : Direction) → AreTold Is d → (bytes first rest : List ℕ) (r : R) → bytes ≡ first ++ rest → Is first r → Announces d bytes (length first)
 size_behind Is d t bytes first rest r e h =
     subst (λ (b : List ℕ). Announces d b (length first)) (sym e) (size_kept d first rest (length first) (t.told first r h) (t.size first r h))
 
--- two records with bytes behind them are cut at one place
+-- two records followed by bytes are split at the same index
 record_cut : {R : Type 0} (Is : List ℕ → R → Type 0) (d : Direction) → AreTold Is d → (a b x y : List ℕ) (r s : R) → AreBytes (a ++ x) → Is a r → Is b s → a ++ x ≡ b ++ y → (a ≡ b) × (x ≡ y)
 record_cut Is d t a b x y r s small h k e =
     let first = size_behind Is d t (a ++ x) a x r refl h in
     let second = size_behind Is d t (a ++ x) b y s e k in
     same_cut a b x y (one_size d (a ++ x) (length a) (length b) small first second) e
 
--- the beginning of a record does not begin with a whole one
+-- a proper prefix of a record does not begin with a whole one
 no_record_yet : {R : Type 0} (Is : List ℕ → R → Type 0) (d : Direction) → AreTold Is d → (held first rest : List ℕ) (r : R) → AreBytes held → MayBecomeRecord d held → held ≡ first ++ rest → Is first r → ⊥
 no_record_yet Is d t held first rest r small b e h =
     let size : length held ≡ length first + length rest = ap (λ (s : List ℕ). length s) e ∙ length-append first rest in
     let long : header_len d ≤ length held = omega (arith, size, t.told first r h) in
     omega (arith, size, more_needed d held (length first) small long (size_behind Is d t held first rest r e h) b)
 
--- no record stands at the front of these bytes
+-- no prefix of these bytes is a record
 abbrev NoRecord : {R : Type 0} → (List ℕ → R → Type 0) → List ℕ → Type 0
 NoRecord {R = R} Is bytes = (first more : List ℕ) (r : R) → bytes ≡ first ++ more → Is first r → ⊥
 
@@ -86,19 +87,19 @@ one_way Is d t bytes (r ∷ rs) (s ∷ ss) held kept small b c h k =
     let rest = one_way Is d t k.1 rs ss held kept (bytes-back k.0 k.1 here) b c (subst (λ (a : List ℕ). AreRecords Is a rs held) cut.1 h.4) k.4 in
     (λ i. first i ∷ rest.0 i, rest.1)
 
--- ---- where a run ends
+-- ---- the end of a run
 
--- bytes behind those that a run took are behind what it holds
+-- bytes appended to those that a run took are appended to those that it holds
 pub records_behind : {R : Type 0} (Is : List ℕ → R → Type 0) (bytes rest : List ℕ) (rs : List R) (held : List ℕ) → AreRecords Is bytes rs held → AreRecords Is (bytes ++ rest) rs (held ++ rest)
 records_behind Is bytes rest [] held h = ap (λ (t : List ℕ). t ++ rest) h
 records_behind Is bytes rest (r ∷ rs) held h = (h.0, h.1 ++ rest, ap (λ (t : List ℕ). t ++ rest) h.2 ∙ append_assoc h.0 h.1 rest, h.3, records_behind Is h.1 rest rs held h.4)
 
--- records, and then others
+-- records, followed by others
 pub records_joined : {R : Type 0} (Is : List ℕ → R → Type 0) (bytes more : List ℕ) (rs others : List R) (held : List ℕ) → AreRecords Is bytes rs [] → AreRecords Is more others held → AreRecords Is (bytes ++ more) (rs ++ others) held
 records_joined Is bytes more [] others held h k = subst (λ (t : List ℕ). AreRecords Is (t ++ more) others held) (sym h) k
 records_joined Is bytes more (r ∷ rs) others held h k = (h.0, h.1 ++ more, ap (λ (t : List ℕ). t ++ more) h.2 ∙ append_assoc h.0 h.1 more, h.3, records_joined Is h.1 more rs others held h.4 k)
 
--- the bytes behind the records are one more
+-- the bytes after the records are one more record
 pub held_record : {R : Type 0} (Is : List ℕ → R → Type 0) (bytes : List ℕ) (rs : List R) (held : List ℕ) (r : R) → AreRecords Is bytes rs held → Is held r → AreRecords Is bytes (rs ++ r ∷ []) []
 held_record Is bytes [] held r h is = (held, [], h ∙ sym (append-nil held), is, refl)
 held_record Is bytes (s ∷ rs) held r h is = (h.0, h.1, h.2, h.3, held_record Is h.1 rs held r h.4 is)
@@ -113,13 +114,13 @@ direction_kept Is s (Took piece ∷ steps) t h = direction_kept Is (holds_more s
 direction_kept Is s (Gave r ∷ steps) t h = direction_kept Is (empty s.direction) steps t h.1
 direction_kept Is s (Ended ∷ steps) t h = direction_kept Is (at_end s) steps t h.2
 
--- a beginning holds no record
+-- no prefix of a proper prefix of a record is a record
 none_begun : {R : Type 0} (Is : List ℕ → R → Type 0) (d : Direction) → AreTold Is d → (held rest : List ℕ) → AreBytes (held ++ rest) → MayBecomeRecord d held → rest ≡ [] → NoRecord Is (held ++ rest)
 none_begun Is d t held rest small b none first more r e h =
     let same : held ++ rest ≡ held = ap (λ (x : List ℕ). held ++ x) none ∙ append-nil held in
     no_record_yet Is d t held first more r (subst AreBytes same small) b (sym same ∙ e) h
 
--- nor does what has a fault
+-- no prefix of bytes with a fault is a record
 none_faulty : {R : Type 0} (Is : List ℕ → R → Type 0) (d : Direction) → AreTold Is d → (s : ReaderState) (rest : List ℕ) (f : LinkFault) → s.direction ≡ d → AreBytes (s.held ++ rest) → Ends d s f → (IsTrue s.ended → rest ≡ []) → HasFault s f → NoRecord Is (s.held ++ rest)
 none_faulty Is d t s rest f is small (Cut b some over e) end fault first more r same h = none_begun Is d t s.held rest small b (end over) first more r same h
 none_faulty Is d t s rest f is small (Tag bad e) end fault first more r same h =
@@ -151,7 +152,7 @@ whatever_the_pieces Is d told stream over steps others s t f g small a b =
     let end = one_end d over s t a.rest b.rest f g up down here same.1 a.comes_to b.comes_to in
     (same.0, end.0, end.1)
 
--- what a record begins with is a beginning
+-- a proper prefix of a record may become a record
 pub no_record_is_refused : {R : Type 0} (Is : List ℕ → R → Type 0) (d : Direction) → AreTold Is d → (bytes rest : List ℕ) (r : R) → 0 < length rest → Is (bytes ++ rest) r → MayBecomeRecord d bytes
 no_record_is_refused Is d t bytes rest r more h =
     let whole = length (bytes ++ rest) in
@@ -165,6 +166,6 @@ no_record_is_refused Is d t bytes rest r more h =
       more = λ le. (whole, told le, omega (arith, size, more));
     }
 
--- bytes are one record at most
+-- bytes are at most one record
 pub one_reading : {R : Type 0} (Is : List ℕ → R → Type 0) (d : Direction) → AreTold Is d → (bytes : List ℕ) (r s : R) → AreBytes bytes → Is bytes r → Is bytes s → r ≡ s
 one_reading Is d t bytes r s small h k = t.one bytes [] r s (subst AreBytes (sym (append-nil bytes)) small) h k

@@ -1,4 +1,4 @@
--- What bytes tell of a record's size, and how that stays.
+-- The size of a record that bytes give, and how it is kept.
 use Rattle.std.proofs.Common.{◌≡◌, ℕ, ◌+◌, ◌-◌, ◌^◌, ◌<◌, ◌≤◌, ◌⊎◌, true, false, List, ◌++◌, length, take, drop, get_or, Option, Some, None, IsSome, IsNone, MatchOption, refl, sym, ◌∙◌, subst, length-append, inl, inr, arith}
 use Rattle.std.specs.Int.{w32, from_be_bytes}
 use Rattle.std.proofs.lemmas.Bool.{cases_lt}
@@ -14,18 +14,18 @@ use Rattle.pon_link.specs.Reading.{Announces, AnnouncesMap, HasBadSize, KeepsFor
 use Rattle.pon_link.specs.declared.direction.Direction.{Direction}
 use Rattle.pon_link.specs.declared.direction.Direction.TheVariants.{Up, Down}
 
--- the bytes of a map tell one size at most
+-- the bytes of a map give at most one size
 pub one_map_size : (map : List ℕ) (n m : ℕ) → AreBytes map → AnnouncesMap map n → AnnouncesMap map m → n ≡ m
 one_map_size map n m small a b =
     let same = one_head map a.0 b.0 a.1 b.1 small a.2 b.2 in
     omega (arith, same.0, a.5, b.5)
 
--- bytes tell one size at most
+-- bytes give at most one size
 pub one_size : (d : Direction) (bytes : List ℕ) (n m : ℕ) → AreBytes bytes → Announces d bytes n → Announces d bytes m → n ≡ m
 one_size Up bytes n m small a b = a.2 ∙ sym b.2
 one_size Down bytes n m small a b = one_map_size (drop 9 bytes) n m (bytes-drop 9 bytes small) a b
 
--- bytes after those that give a size change nothing
+-- bytes after those that give a size do not change it
 word_kept : (b more : List ℕ) → 4 ≤ length b → from_be_bytes w32 (b ++ more) ≡ from_be_bytes w32 b
 word_kept b more long =
     let e0 : get_or (b ++ more) 0 0 ≡ get_or b 0 0 = get_or_append_left b more 0 0 (omega (arith, long)) in
@@ -80,12 +80,12 @@ size_kept Up bytes more n long a =
 size_kept Down bytes more n long a =
     subst (λ (t : List ℕ). AnnouncesMap t n) (sym (drop-append-le 9 bytes more (omega (arith, long)))) (map_size_kept (drop 9 bytes) more n (omega (arith, long, length-drop 9 bytes)) a)
 
--- a bad size is none
+-- a bad size is not a size
 pub no_size : (d : Direction) (bytes : List ℕ) (n : ℕ) → HasBadSize d bytes → Announces d bytes n → ⊥
 no_size Up bytes n bad a = elim bad [ inl none ↦ omega (arith, none, a.0) | inr more ↦ omega (arith, more, a.1) ]
 no_size Down bytes n bad a = bad n a
 
--- no record is longer than the longest
+-- no record is longer than the maximum
 pub size_limit : (d : Direction) (bytes : List ℕ) (n : ℕ) → Announces d bytes n → n ≤ longest d
 size_limit Up bytes n a = omega (arith, a.1, a.2)
 size_limit Down bytes n a = omega (arith, a.3, a.5)
@@ -102,21 +102,21 @@ pub some_told : (d : Direction) → 0 < header_len d
 some_told Up = omega arith
 some_told Down = omega arith
 
--- bytes within a record are no longer than the longest
+-- bytes within a record are at most as long as the longest record
 pub within_limit : (d : Direction) (bytes : List ℕ) → IsWithinRecord d bytes → length bytes ≤ longest d
 within_limit d bytes w = elim (cases_lt (header_len d) (length bytes)) [
   | inl lt ↦ let size = w.size lt in omega (arith, size.2, size_limit d bytes size.0 size.1)
   | inr ge ↦ omega (arith, ge, told_early d)
 ]
 
--- the beginning of a record is shorter than the longest
+-- a proper prefix of a record is shorter than the longest record
 pub begun_limit : (d : Direction) (bytes : List ℕ) → MayBecomeRecord d bytes → length bytes < longest d
 begun_limit d bytes b = elim (cases_lt (length bytes) (header_len d)) [
   | inl lt ↦ omega (arith, lt, told_early d)
   | inr ge ↦ let more = b.more ge in omega (arith, more.2, size_limit d bytes more.0 more.1)
 ]
 
--- the form is kept if bytes are added after those that give the size
+-- the form is kept if bytes are appended to those that give the size
 form_kept : (d : Direction) (bytes more : List ℕ) → header_len d ≤ length bytes → KeepsForm d bytes → KeepsForm d (bytes ++ more)
 form_kept d bytes more long form =
     let some : 0 < length bytes = omega (arith, long, some_told d) in
@@ -126,7 +126,7 @@ form_kept d bytes more long form =
       size = λ _. (size.0, size_kept d bytes more size.0 long size.1);
     }
 
--- bytes that a record surely still needs do not go past it
+-- the bytes that a record still needs at least do not go past it
 pub within_more : (d : Direction) (held piece : List ℕ) (needed : ℕ) → MayBecomeRecord d held → (length held < header_len d → length held + needed ≡ header_len d) → (header_len d ≤ length held → Announces d held (length held + needed)) → length piece ≤ needed → IsWithinRecord d (held ++ piece)
 within_more d held piece needed b untold told le =
     let size : length (held ++ piece) ≡ length held + length piece = length-append held piece in
@@ -141,11 +141,11 @@ within_more d held piece needed b untold told le =
       }
     ]
 
--- the beginning of a record needs more than it has
+-- a proper prefix of a record needs more bytes than it has
 pub more_needed : (d : Direction) (bytes : List ℕ) (n : ℕ) → AreBytes bytes → header_len d ≤ length bytes → Announces d bytes n → MayBecomeRecord d bytes → length bytes < n
 more_needed d bytes n small ge a b = let more = b.more ge in omega (arith, more.2, one_size d bytes n more.0 small a more.1)
 
--- bytes within a record are no more than they tell
+-- bytes within a record are at most as many as they give
 pub told_enough : (d : Direction) (bytes : List ℕ) (n : ℕ) → AreBytes bytes → header_len d ≤ length bytes → Announces d bytes n → IsWithinRecord d bytes → length bytes ≤ n
 told_enough d bytes n small ge a w = elim (cases_lt (header_len d) (length bytes)) [
   | inl lt ↦ let size = w.size lt in omega (arith, size.2, one_size d bytes n size.0 small a size.1)
@@ -157,12 +157,12 @@ pub some_size : (r : Option ℕ) (d : Direction) (bytes : List ℕ) (n : ℕ) �
 some_size None d bytes n a m = absurd (no_size d bytes n m a)
 some_size (Some k) d bytes n a m = refl
 
--- where none is found, the bytes are not the beginning of a record
+-- if no size is found, the bytes are not a prefix of a record
 pub none_begun : (r : Option ℕ) (d : Direction) (bytes : List ℕ) → header_len d ≤ length bytes → IsNone r → MatchOption r (HasBadSize d bytes) (Announces d bytes) → MayBecomeRecord d bytes → ⊥
 none_begun None d bytes ge none m b = let size = b.form.size ge in no_size d bytes size.0 m size.1
 none_begun (Some k) d bytes ge none m b = let both : true ≡ false = none in cc
 
--- a map's size in the words of the direction
+-- the size of a map, for the direction
 pub down_told : (d : Direction) (bytes : List ℕ) (r : Option ℕ) → d ≡ Down → MatchOption r ((n : ℕ) → AnnouncesMap (take (length bytes - 9) (drop 9 bytes)) n → ⊥) (AnnouncesMap (take (length bytes - 9) (drop 9 bytes))) → MatchOption r (HasBadSize d bytes) (Announces d bytes)
 down_told d bytes r down m =
     let rest : take (length bytes - 9) (drop 9 bytes) ≡ drop 9 bytes = between_to_end bytes 9 (length bytes) (omega arith) in
@@ -175,7 +175,7 @@ big_head map h k n small r big a =
     let same = one_head map h a.0 k a.1 small r a.2 in
     elim big [ inl rows ↦ omega (arith, rows, same.0, a.3) | inr messages ↦ omega (arith, messages, same.1, a.4) ]
 
--- a reader that needs nothing more holds a whole record
+-- a reader that needs no more bytes holds a whole record
 pub whole_now : (d e : Direction) (held bytes : List ℕ) (n : ℕ) → e ≡ d → bytes ≡ held → KeepsForm d held → (length bytes < header_len e → length bytes + n ≡ header_len e) → (header_len e ≤ length bytes → Announces e bytes (length bytes + n)) → n ≡ 0 → IsWhole d held
 whole_now d e held bytes n same is form untold told none =
     let ge : header_len e ≤ length bytes = elim (cases_lt (length bytes) (header_len e)) [ inl lt ↦ omega (arith, none, lt, untold lt) | inr ge ↦ ge ] in
@@ -187,7 +187,7 @@ whole_now d e held bytes n same is form untold told none =
       size = subst (λ (c : Direction). Announces c held (length held)) same (subst (λ (t : List ℕ). Announces e t (length t)) is size);
     }
 
--- fewer bytes than a record surely still needs leave it a beginning
+-- fewer bytes than a record still needs at least leave it a proper prefix
 pub begins_more : (d : Direction) (held more : List ℕ) (needed : ℕ) → 0 < length held → MayBecomeRecord d held → (length held < header_len d → length held + needed ≡ header_len d) → (header_len d ≤ length held → Announces d held (length held + needed)) → length more < needed → MayBecomeRecord d (held ++ more)
 begins_more d held more needed some b untold told lt =
     let size : length (held ++ more) ≡ length held + length more = length-append held more in

@@ -1,4 +1,4 @@
--- The steps of a unit's answer, one structure after another.
+-- The steps of the answer of a simulated ONU, structure by structure.
 use Rattle.std.proofs.Common.{◌≡◌, ℕ, ◌+◌, ◌-◌, ◌<◌, ◌≤◌, ◌==◌, ◌&&◌, ◌||◌, min, Bool, true, false, if◌then◌else◌, List, [], ◌∷◌, ◌++◌, length, take, drop, suc, get_or, map, filter, Option, Some, refl, ap, sym, ◌∙◌, subst, append_assoc, length-append, add-one, drop-cons, arith}
 use Rattle.std.specs.List.{list_any}
 use Rattle.std.proofs.lemmas.List.{append-nil, drop_all}
@@ -6,7 +6,7 @@ use Rattle.std.proofs.Math.Seq.{take-nil}
 use Rattle.pon_bwmap.specs.Structure.{Structure}
 use Rattle.pon_link.specs.Units.{asks, answered, waiting, queue_after, served, reported_occupancies}
 
--- the Alloc-IDs of queues stay
+-- the Alloc-IDs of queues are unchanged
 id_kept : (a : Structure) (q : ℕ × ℕ) → (queue_after a q).0 ≡ q.0
 id_kept a q = elim (q.0 == a.id) as (λ b. (if b then (q.0, q.1 - (a.grant - 1)) else q).0 ≡ q.0) [ true ↦ refl | false ↦ refl ]
 
@@ -14,7 +14,7 @@ own_kept : (a : Structure) (queues : List (ℕ × ℕ)) (id : ℕ) → list_any 
 own_kept a [] id = refl
 own_kept a (q ∷ queues) id = ap (λ (n : ℕ). (n == id) || list_any (λ p. p.0 == id) (map (queue_after a) queues)) (id_kept a q) ∙ ap (λ (b : Bool). (q.0 == id) || b) (own_kept a queues id)
 
--- After k structures: what was answered, and then what the others ask for, is the whole answer.
+-- After k structures, the reports so far, followed by those for the other structures, are the whole answer.
 pub record HasAnswered (first : List (ℕ × ℕ)) (rows : List Structure) (k : ℕ) (queues : List (ℕ × ℕ)) (occ : List (Option ℕ)) : Type 0 where
   pub few : length occ ≤ 16
   pub own : (id : ℕ) → list_any (λ q. q.0 == id) queues ≡ list_any (λ q. q.0 == id) first
@@ -38,7 +38,7 @@ from_row rows k a lt is =
     let next : drop k rows ≡ get_or rows k a ∷ drop (k + 1) rows = rw add-one (drop-cons rows k a lt) in
     next ∙ ap (λ (x : Structure). x ∷ drop (k + 1) rows) (sym is)
 
--- a structure that does not ask is passed over
+-- a structure that requests no report is skipped
 pub passed_over : (first : List (ℕ × ℕ)) (rows : List Structure) (k : ℕ) (queues : List (ℕ × ℕ)) (occ : List (Option ℕ)) (a : Structure) → HasAnswered first rows k queues occ → k < length rows → a ≡ get_or rows k a → asks first a ≡ false → HasAnswered first rows (k + 1) queues occ
 passed_over first rows k queues occ a h lt is not =
     let others : filter (asks first) (drop k rows) ≡ filter (asks first) (drop (k + 1) rows)
@@ -50,7 +50,7 @@ passed_over first rows k queues occ a h lt is not =
       queues_are = ap (λ (t : List Structure). served queues (take (16 - length occ) t)) (sym others) ∙ h.queues_are;
     }
 
--- a structure that asks is answered
+-- a structure that requests a report is answered
 pub is_answered : (first : List (ℕ × ℕ)) (rows : List Structure) (k : ℕ) (queues : List (ℕ × ℕ)) (occ : List (Option ℕ)) (a : Structure) → HasAnswered first rows k queues occ → k < length rows → a ≡ get_or rows k a → length occ < 16 → asks first a ≡ true → HasAnswered first rows (k + 1) (map (queue_after a) queues) (occ ++ Some (min (waiting queues a.id) 16777215) ∷ [])
 is_answered first rows k queues occ a h lt is room asked =
     let report = Some (min (waiting queues a.id) 16777215) in
@@ -81,11 +81,11 @@ no_room first rows k queues occ h full =
       queues_are = ap (λ (t : List Structure). served queues t) same ∙ h.queues_are;
     }
 
--- what a structure is to queues that were lessened, it is to those at first
+-- a structure requests a report of the reduced queues exactly when it requests one of the first queues
 pub asks_alike : (first queues : List (ℕ × ℕ)) (a : Structure) → ((id : ℕ) → list_any (λ q. q.0 == id) queues ≡ list_any (λ q. q.0 == id) first) → asks queues a ≡ asks first a
 asks_alike first queues a own = ap (λ (b : Bool). a.dbru && b) (own a.id)
 
--- one structure more
+-- one more structure
 pub one_more : (first : List (ℕ × ℕ)) (rows : List Structure) (k : ℕ) (queues queues2 : List (ℕ × ℕ)) (occ occ2 : List (Option ℕ)) (a : Structure) → HasAnswered first rows k queues occ → k < length rows → a ≡ get_or rows k a → length occ < 16 → (asks queues a ≡ true → (occ2 ≡ occ ++ Some (min (waiting queues a.id) 16777215) ∷ []) × (queues2 ≡ map (queue_after a) queues)) → (asks queues a ≡ false → (occ2 ≡ occ) × (queues2 ≡ queues)) → HasAnswered first rows (k + 1) queues2 occ2
 one_more first rows k queues queues2 occ occ2 a h lt is room if_asked if_not =
     let alike = asks_alike first queues a h.own in

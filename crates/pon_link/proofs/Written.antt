@@ -1,4 +1,4 @@
--- The bytes that are written are the record.
+-- The written bytes are the record.
 use Rattle.std.proofs.Common.{◌≡◌, ℕ, ◌+◌, ◌*◌, ◌^◌, ◌<◌, ◌≤◌, List, [], ◌∷◌, ◌++◌, length, take, drop, get_or, Option, Some, ap, sym, ◌∙◌, subst, arith}
 use Rattle.std.specs.Int.{w64, to_be_bytes, from_be_bytes}
 use Rattle.std.proofs.lemmas.Nat.{from_be_bytes-to_be_bytes_8}
@@ -10,7 +10,7 @@ use Rattle.pon_link.specs.UpRecords.{IsRecord, ReadsHead, ReadsReport, ReadsRepo
 use Rattle.pon_link.specs.declared.record.UpRecord.{UpRecord}
 use Rattle.pon_link.proofs.Reports.{reports_more}
 
--- one report more is written
+-- one more report is written
 pub report_written : (bytes report more : List ℕ) (os : List (Option ℕ)) (o : Option ℕ) (i : ℕ) → 14 ≤ length bytes → more ≡ bytes ++ report → i < length os → get_or os i o ≡ o → ReadsReports (drop 14 bytes) (take i os) → ReadsReport report o → ReadsReports (drop 14 more) (take (i + 1) os)
 report_written bytes report more os o i long is lt here h r =
     let behind : drop 14 bytes ++ report ≡ drop 14 more = sym (ap (λ (t : List ℕ). drop 14 t) is ∙ drop-append-le 14 bytes report long) in

@@ -1,4 +1,4 @@
--- The bytes of a downstream record are that record, and no other.
+-- The written bytes of a downstream record are that record, and no other.
 use Rattle.std.proofs.Common.{◌≡◌, ℕ, zero, suc, ◌+◌, ◌*◌, ◌^◌, ◌<◌, List, [], ◌∷◌, ◌++◌, length, All, sym, subst, refl, arith}
 use Rattle.std.specs.List.{flat_map}
 use Rattle.std.specs.Int.{w32, w64, to_be_bytes}
@@ -27,7 +27,7 @@ written_record frame rows lt map fits = record {
   map = subst (λ (t : List ℕ). ReadsMap t rows 0 (4 + 8 * length rows)) (append-nil (map_bytes rows)) (reads_back rows [] map fits);
 }
 
--- ---- what is written is bytes
+-- ---- the written numbers are bytes
 
 bytes_joined : (xs ys : List ℕ) → AreBytes xs → AreBytes ys → AreBytes (xs ++ ys)
 bytes_joined [] ys a b k = b k

@@ -9,17 +9,17 @@ use Rattle.pon_xgtc.specs.BurstHead.{BurstHeader, ReadsBurstHead}
 use Rattle.pon_xgtc.specs.declared.fault.HeadFault.TheVariants.{Hec}
 use Rattle.pon_link.specs.declared.record.UpRecord.{UpRecord}
 
--- Four bytes read as this burst header, with some places corrected, or as none, where the HEC is refused.
+-- Four bytes read as this burst header, with some bits corrected, or as none if the HEC is refused.
 abbrev pub ReadsHead : List ℕ → Option BurstHeader → Type 0
 ReadsHead bytes (Some h) = (places : ℕ) × ReadsBurstHead bytes h places
 ReadsHead bytes None = IsHeaderFault bytes Hec
 
--- Four bytes report this occupancy, or none, where they are garbled.
+-- Four bytes report this occupancy, or none if they are garbled.
 abbrev pub ReadsReport : List ℕ → Option ℕ → Type 0
 ReadsReport bytes (Some words) = Reports bytes words
 ReadsReport bytes None = (length bytes ≡ 4) × ((words : ℕ) → Reports bytes words → ⊥)
 
--- The bytes are reports one after another, which report these occupancies in turn.
+-- The bytes are reports of these occupancies, in order.
 abbrev pub ReadsReports : List ℕ → List (Option ℕ) → Type 0
 ReadsReports bytes [] = bytes ≡ []
 ReadsReports bytes (o ∷ os) = (report rest : List ℕ) × (bytes ≡ report ++ rest) × ReadsReport report o × ReadsReports rest os
@@ -28,7 +28,7 @@ ReadsReports bytes (o ∷ os) = (report rest : List ℕ) × (bytes ≡ report ++
 abbrev pub count_in : List ℕ → ℕ
 count_in bytes = slice_index bytes 13
 
--- The bytes are one whole upstream record, place by place.
+-- The bytes are one whole upstream record, field by field.
 pub record IsRecord (bytes : List ℕ) (r : UpRecord) : Type 0 where
   pub size : length bytes ≡ 14 + 4 * length r.occ
   pub tag : slice_index bytes 0 ≡ 0x55

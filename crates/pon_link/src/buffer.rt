@@ -3,7 +3,7 @@ ghost use Rattle.pon_lists.specs.Bytes.{AreBytes};
 
 use arrayvec::ArrayVec;
 
-// Appends bytes that there is room for.
+// Appends bytes for which there is room.
 pub(crate) fn append<const N: usize>(bytes: &mut ArrayVec<u8, N>, more: &[u8])
     requires { length bytes.old.items + length more.now ≤ N }
     ensures { bytes.new.items ≡ bytes.old.items ++ more.now }
@@ -14,7 +14,7 @@ pub(crate) fn append<const N: usize>(bytes: &mut ArrayVec<u8, N>, more: &[u8])
     }
 }
 
-// Each number of a slice of bytes is below 256. It computes nothing.
+// Proves that each number of a slice of bytes is below 256. It computes nothing.
 pub(crate) fn are_bytes(bytes: &[u8])
     ensures { AreBytes bytes.now }
 {

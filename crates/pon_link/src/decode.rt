@@ -1,4 +1,4 @@
-// A whole record's bytes as the record.
+// Decoding of whole upstream records.
 ghost use Rattle.std.specs.Prelude.{◌≡◌, ◌*◌, ◌≤◌, length};
 ghost use Rattle.std.specs.Int.{w64, from_be_bytes};
 ghost use Rattle.pon_link.specs.UpRecords.{IsRecord, ReadsHead, ReadsReport, ReadsReports};
@@ -10,7 +10,7 @@ use pon_dbru::{Garbled, Occupancies};
 use pon_units::{BufOcc, FrameNo, LONGEST_SERIES};
 use pon_xgtc::BurstHead;
 
-// The record that the bytes are.
+// Decodes the bytes of a whole record.
 pub(crate) fn decode_up(bytes: &[u8]) -> UpRecord
     requires { IsWhole Direction.Up bytes.now }
     ensures { IsRecord bytes.now result }
@@ -22,7 +22,7 @@ pub(crate) fn decode_up(bytes: &[u8]) -> UpRecord
     }
 }
 
-// The frame of 8 bytes, the most significant first.
+// Decodes a frame of 8 bytes, the most significant first.
 pub(crate) fn frame_in(bytes: &[u8]) -> FrameNo
     requires { length bytes.now ≡ 8 }
     ensures { from_be_bytes w64 bytes.now ≡ result }
@@ -33,7 +33,7 @@ pub(crate) fn frame_in(bytes: &[u8]) -> FrameNo
     FrameNo::new(u64::from_be_bytes(*number))
 }
 
-// The burst header of 4 bytes, and `None` if its HEC is refused.
+// Decodes the burst header of 4 bytes; `None` if its HEC is refused.
 fn head_in(bytes: &[u8]) -> Option<BurstHead>
     requires { length bytes.now ≡ 4 }
     ensures { ReadsHead bytes.now result }
@@ -44,7 +44,7 @@ fn head_in(bytes: &[u8]) -> Option<BurstHead>
     }
 }
 
-// The occupancies of the reports.
+// Decodes the occupancies of `count` reports.
 fn occupancies_in(bytes: &[u8], count: usize) -> Occupancies
     requires size { length bytes.now ≡ 4 * count }
     requires limit { count ≤ LONGEST_SERIES }
@@ -58,7 +58,7 @@ fn occupancies_in(bytes: &[u8], count: usize) -> Occupancies
     occupancies
 }
 
-// The occupancy that 4 bytes report, and `None` if they are garbled.
+// Decodes the occupancy of a report of 4 bytes; `None` if they are garbled.
 fn report_in(bytes: &[u8]) -> Option<BufOcc>
     requires { length bytes.now ≡ 4 }
     ensures { ReadsReport bytes.now result }

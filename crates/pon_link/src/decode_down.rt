@@ -1,4 +1,4 @@
-// A whole downstream record's bytes as the record.
+// Decoding of whole downstream records.
 ghost use Rattle.std.specs.Prelude.{◌≡◌, ◌≢◌, ◌⊎◌, IfOk, IfErr};
 ghost use Rattle.pon_link.specs.DownRecords.{IsDownRecord, KeepsDown};
 ghost use Rattle.pon_link.specs.Reading.{IsWhole};
@@ -10,7 +10,7 @@ use crate::record::DownRecord;
 use pon_bwmap::{MapFault, decode_map};
 use std::alloc::Global;
 
-// The record that the bytes are.
+// Decodes the bytes of a whole record.
 pub(crate) fn decode_down(alloc: Global, bytes: &[u8]) -> Result<DownRecord, DownFault>
     requires { IsWhole Direction.Down bytes.now }
     ensures ok { IfOk result (IsDownRecord bytes.now) }
@@ -25,7 +25,7 @@ pub(crate) fn decode_down(alloc: Global, bytes: &[u8]) -> Result<DownRecord, Dow
     }
 }
 
-// The fault of a record whose map has this fault.
+// Returns the fault of a record whose map has this fault.
 fn told(fault: MapFault) -> DownFault
     ensures { ((fault ≡ MapFault.Memory) × (result ≡ DownFault.Memory))
         ⊎ ((fault ≢ MapFault.Memory) × (result ≡ DownFault.Link LinkFault.BadMap)) }

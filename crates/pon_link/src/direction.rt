@@ -1,8 +1,8 @@
 /// The two directions of a link.
 #[derive(Clone, Copy, Debug, PartialEq, Eq)]
 pub enum Direction {
-    /// From the units: what their bursts brought.
+    /// From the ONUs: the content of their bursts.
     Up,
-    /// To the units: the bandwidth maps.
+    /// To the ONUs: the bandwidth maps.
     Down,
 }

@@ -15,8 +15,8 @@ use pon_device::DevRead;
 use std::alloc::Global;
 use std::marker::Model;
 
-/// A reader of downstream records, which takes their bytes in pieces of any size. It holds the bytes of the
-/// present record, at most 4,109, and takes memory for the map that [`DownReader::next`] gives alone.
+/// A reader of downstream records, which takes their bytes in pieces of any size. It holds the bytes of the present
+/// record, at most 4,109, and allocates memory only for the map that [`DownReader::next`] returns.
 #[derive(Drop)]
 pub struct DownReader {
     reading: Held<4109>,
@@ -37,7 +37,7 @@ impl Model for DownReader {
 }
 
 impl DownReader {
-    /// A reader that holds no bytes, and takes the memory of maps from `alloc`.
+    /// Makes a reader that holds no bytes, and allocates maps from `alloc`.
     pub fn new(alloc: Global) -> Self
         ensures { result ≡ empty Direction.Down }
     {
@@ -47,8 +47,9 @@ impl DownReader {
         }
     }
 
-    /// Takes bytes from the front of the piece until one record is whole, a fault is met or the piece ends, and
-    /// returns their number. It takes none while a whole record waits for [`DownReader::next`], and none after a fault.
+    /// Takes bytes from the front of the piece until one record is whole, a fault is found or the piece ends, and
+    /// returns their number. It takes none while a whole record is held for [`DownReader::next`], and none after a
+    /// fault.
     pub fn feed(&mut self, piece: &[u8]) -> usize
         ensures count { result ≤ length piece.now }
         ensures held { self.new ≡ holds_more self.old (take result piece.now) }
@@ -59,13 +60,13 @@ impl DownReader {
         self.reading.feed(piece)
     }
 
-    /// The record, exactly when a whole one is held; it is then no longer held. `None` if the bytes that are
-    /// held are the beginning of one.
+    /// Returns the record and clears the reader, exactly when a whole record is held. `None` if the held bytes are a
+    /// prefix of a record.
     ///
-    /// `BadTag` as soon as the first byte is there and is no tag; `BadMap` as soon as the head of the map is there
-    /// and is refused, or announces messages or more than 512 structures, and where the whole map is refused;
-    /// `Truncated` if the input ended inside the record. Every later call answers the same fault. `Memory`
-    /// if memory is refused for the map of a whole record; it changes nothing, and the next call tries again.
+    /// `BadTag` as soon as the first byte is held and is not the tag; `BadMap` as soon as the head of the map is held
+    /// and is refused, or announces messages or more than 512 structures, and if the whole map is refused; `Truncated`
+    /// if the input ended inside the record. Every later call returns the same fault. `Memory` if memory is refused for
+    /// the map of a whole record; then the reader is unchanged, and the next call tries again.
     pub fn next(&mut self) -> Result<Option<DownRecord>, DownFault>
         ensures outcome { GivesDown self.old self.new result }
         ensures sticky { (f : LinkFault) → HasFault self.old f → result ≡ Err (DownFault.Link f) }
@@ -88,12 +89,12 @@ impl DownReader {
         }
     }
 
-    /// Reads once from the device, and never past the present record: at most up to the end of its map's head, and
-    /// then at most its rest. It reads nothing while a whole record waits for [`DownReader::next`], and nothing
-    /// after a fault; each other pull that succeeds gives at least one byte.
+    /// Reads once from the device, and never past the present record: at most up to the end of its map's head, and then
+    /// at most its rest. It reads nothing while a whole record is held for [`DownReader::next`], and nothing after a
+    /// fault; each other pull that succeeds adds at least one byte, or finds the end.
     ///
-    /// `Device` exactly when the device failed in this call. `Link` for a fault of [`DownReader::next`], and
-    /// where the input ended inside a record.
+    /// `Device` exactly when the device failed in this call. `Link` for a fault of [`DownReader::next`], and if the
+    /// input ended inside a record.
     pub fn pull<R: DevRead>(&mut self, reader: &mut R) -> Result<Pulled, PullFault>
         ensures value { Pulls self.old self.new (R.remaining reader.old)
             (R.remaining reader.new) result }

@@ -11,8 +11,8 @@ use arrayvec::ArrayVec;
 use pon_units::{FrameNo, LONGEST_SERIES};
 use pon_xgtc::BurstHead;
 
-/// The 18 to 78 bytes of a record that has a burst header and 1 to 16 occupancies, none of them garbled. The
-/// header is written with no wrong place.
+/// Encodes a record that has a burst header and 1 to 16 occupancies, none of them garbled, in 18 to 78 bytes. The
+/// header is written without bit errors.
 pub fn encode_up(burst: &UpRecord) -> ArrayVec<u8, 78>
     requires head { IsSome burst.now.head }
     requires some { 1 ≤ length burst.now.occ }
@@ -36,7 +36,7 @@ pub fn encode_up(burst: &UpRecord) -> ArrayVec<u8, 78>
     bytes
 }
 
-// The bytes of a record up to its reports.
+// Encodes the bytes of a record before its reports.
 fn front(frame: FrameNo, head: &BurstHead, count: usize) -> ArrayVec<u8, 78>
     requires { count ≤ LONGEST_SERIES }
     ensures frame { frame < 2 ^ 64 }

@@ -1,23 +1,23 @@
-/// Why the bytes of a link are no records.
+/// Why the bytes of a link are not records.
 #[derive(Clone, Copy, Debug, PartialEq, Eq)]
 pub enum LinkFault {
     /// The first byte of a record is not the tag of its direction.
     BadTag,
-    /// The count byte of an upstream record says no occupancy, or more than 16.
+    /// The count byte of an upstream record is 0 or above 16.
     BadCount,
-    /// The bytes behind the frame number of a downstream record are no bandwidth map.
+    /// The bytes after the frame number of a downstream record are not a bandwidth map.
     BadMap,
-    /// The input ended inside a record, of which `left` bytes were there.
+    /// The input ended inside a record, after `left` of its bytes.
     Truncated {
-        /// How many bytes of the record were there.
+        /// Number of bytes of the record before the end.
         left: usize,
     },
 }
 
-/// Why a reader of downstream records gives none.
+/// Why a reader of downstream records returns none.
 #[derive(Clone, Copy, Debug, PartialEq, Eq)]
 pub enum DownFault {
-    /// The bytes are no records; every later call answers the same.
+    /// The bytes are not records; every later call returns the same fault.
     Link(LinkFault),
     /// Memory was refused for the map of a whole record, which is still held.
     Memory,

@@ -1,4 +1,4 @@
-// What the bytes of the present record tell before it is whole.
+// The size and the faults of the present record, before it is whole.
 ghost use Rattle.std.specs.Prelude.{◌≡◌, ◌+◌, ◌*◌, ◌≤◌, ◌<◌, ◌⊎◌, ℕ, length, false, MatchOption, OnSome};
 ghost use Rattle.pon_link.specs.Reading.{KeepsForm, HasFault, HasBadSize, MayBecomeRecord, IsWithinRecord, Announces, AnnouncesMap, tag_of, header_len, bad_size as fault_of};
 
@@ -7,10 +7,10 @@ use crate::fault::LinkFault;
 use pon_units::{LONGEST_SERIES, MOST_STRUCTURES};
 use pon_xgtc::HLend;
 
-/// The tag of an upstream record.
+/// Tag of an upstream record.
 pub(crate) const UP_TAG: u8 = 0x55;
 
-/// The tag of a downstream record.
+/// Tag of a downstream record.
 pub(crate) const DOWN_TAG: u8 = 0x44;
 
 fn tag(direction: Direction) -> u8
@@ -22,7 +22,7 @@ fn tag(direction: Direction) -> u8
     }
 }
 
-// The number of bytes that give the size of a record.
+// Returns the number of bytes from which the size of a record is known.
 fn header_len(direction: Direction) -> usize
     ensures value { result ≡ header_len direction }
     ensures limit { result ≤ 14 }
@@ -33,7 +33,7 @@ fn header_len(direction: Direction) -> usize
     }
 }
 
-// The size that the bytes tell.
+// Returns the size of a record, in bytes, from its first bytes.
 fn announced(direction: Direction, bytes: &[u8]) -> Option<usize>
     requires { header_len direction ≤ length bytes.now }
     ensures { MatchOption result (HasBadSize direction bytes.now) (Announces direction bytes.now) }
@@ -44,7 +44,7 @@ fn announced(direction: Direction, bytes: &[u8]) -> Option<usize>
     }
 }
 
-// The size of a record with this count byte.
+// Returns the size of a record with this count byte, in bytes.
 fn up_size(count: u8) -> Option<usize>
     ensures { MatchOption result ((count ≡ 0) ⊎ (LONGEST_SERIES < count))
         (λ n. (1 ≤ count) × (count ≤ LONGEST_SERIES) × (n ≡ 14 + 4 * count)) }
@@ -55,7 +55,7 @@ fn up_size(count: u8) -> Option<usize>
     Some(14 + 4 * usize::from(count))
 }
 
-// The size of a record with these bytes of a map.
+// Returns the size of a record with these bytes of a map, in bytes.
 fn down_size(map: &[u8]) -> Option<usize>
     requires { 4 ≤ length map.now }
     ensures { MatchOption result ((n : ℕ) → AnnouncesMap map.now n → ⊥) (AnnouncesMap map.now) }
@@ -70,7 +70,7 @@ fn down_size(map: &[u8]) -> Option<usize>
     Some(13 + 8 * usize::from(head.n()))
 }
 
-// Why the bytes begin no record.
+// Returns why the bytes are not a prefix of a record.
 pub(crate) fn form_fault(direction: Direction, bytes: &[u8]) -> Option<LinkFault>
     ensures value { MatchOption result (KeepsForm direction bytes.now)
         (λ f. HasFault record { direction = direction; held = bytes.now; ended = false } f) }
@@ -97,7 +97,7 @@ fn bad_size(direction: Direction) -> LinkFault
     }
 }
 
-// How many bytes the record surely still needs: those that tell its size, and from there on all.
+// Returns the minimum number of bytes that the record still needs: those up to its size, and after that all.
 pub(crate) fn needed(direction: Direction, bytes: &[u8]) -> usize
     requires form { KeepsForm direction bytes.now }
     requires within { IsWithinRecord direction bytes.now }

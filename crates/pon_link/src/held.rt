@@ -1,4 +1,4 @@
-// The bytes of the present record of a link, in either direction, and how they grow.
+// The bytes of the present record of a link, in either direction, and their growth.
 ghost use Rattle.std.specs.Prelude.{◌≡◌, ◌<◌, ◌≤◌, ◌+◌, ℕ, List, false, [], ◌++◌, length, take, MatchOption, OnSome};
 ghost use Rattle.pon_lists.specs.Bytes.{AreBytes};
 ghost use Rattle.pon_device.specs.Device.{CountsCall};
@@ -35,7 +35,7 @@ impl<const N: usize> Model for Held<N> {
 }
 
 impl<const N: usize> Held<N> {
-    // A reader that holds no bytes.
+    // Makes a reader that holds no bytes.
     pub(crate) fn new(direction: Direction) -> Self
         requires { longest direction ≤ N }
         ensures { result ≡ empty direction }
@@ -47,7 +47,7 @@ impl<const N: usize> Held<N> {
         }
     }
 
-    // The bytes that are held.
+    // Returns the held bytes.
     pub(crate) fn bytes(&self) -> &[u8]
         ensures value { result.now ≡ self.now.held }
         ensures bytes { AreBytes self.now.held }
@@ -57,7 +57,7 @@ impl<const N: usize> Held<N> {
         bytes
     }
 
-    // Lets the bytes go.
+    // Clears the held bytes.
     pub(crate) fn clear(&mut self)
         ensures { self.new ≡ empty self.old.direction }
     {
@@ -65,8 +65,8 @@ impl<const N: usize> Held<N> {
         self.ended = false;
     }
 
-    // Takes bytes from the front of the piece until one record is whole, a fault is met or the piece ends, and
-    // returns their number. In one piece it looks at a record at most four times: before and after the tag, after the
+    // Takes bytes from the front of the piece until one record is whole, a fault is found or the piece ends, and
+    // returns their number. For one piece it examines a record at most four times: before and after the tag, after the
     // bytes that give the size, and at the end.
     pub(crate) fn feed(&mut self, piece: &[u8]) -> usize
         ensures count { result ≤ length piece.now }
@@ -87,7 +87,7 @@ impl<const N: usize> Held<N> {
         taken
     }
 
-    // How many bytes can be taken before the reader has to look at them again; 0 if it is not open.
+    // Returns the number of bytes that can be taken before the reader must examine them again; 0 if it is not open.
     fn safe_size(&self) -> usize
         ensures open { IsOpen self.now → 0 < result }
         ensures some { 0 < result → IsOpen self.now }
@@ -103,7 +103,7 @@ impl<const N: usize> Held<N> {
         if held == 0 { needed.min(1) } else { needed }
     }
 
-    // The fault that was met, but for a map that is refused.
+    // Returns the fault of the reader, except that of a refused map.
     pub(crate) fn fault(&self) -> Option<LinkFault>
         ensures within { IsWithinRecord self.now.direction self.now.held }
         ensures bytes { AreBytes self.now.held }
@@ -118,7 +118,7 @@ impl<const N: usize> Held<N> {
         form_fault(self.direction, bytes)
     }
 
-    // The number of bytes that the record surely still needs, 0 exactly when it is whole.
+    // Returns the minimum number of bytes that the record still needs, 0 exactly when it is whole.
     pub(crate) fn needed(&self) -> usize
         requires { KeepsForm self.now.direction self.now.held }
         ensures untold { length self.now.held < header_len self.now.direction
@@ -133,7 +133,7 @@ impl<const N: usize> Held<N> {
         needed(self.direction, self.bytes.as_slice())
     }
 
-    // The fault of a whole record, of which the map is refused.
+    // Returns the fault of a whole record whose map is refused.
     fn refused(&self) -> Option<LinkFault>
         requires { IsWhole self.now.direction self.now.held }
         ensures { MatchOption result (IsReady self.now.direction self.now.held)
@@ -148,7 +148,7 @@ impl<const N: usize> Held<N> {
         }
     }
 
-    // Takes bytes that do not go past the present record.
+    // Appends bytes that do not go past the present record.
     fn hold_all(&mut self, piece: &[u8])
         requires open { IsOpen self.old }
         requires within { IsWithinRecord self.old.direction (self.old.held ++ piece.now) }
@@ -158,7 +158,7 @@ impl<const N: usize> Held<N> {
         append(&mut self.bytes, piece);
     }
 
-    // The input ended here: the fault, where that is inside a record.
+    // Ends the input, and returns the fault if that is inside a record.
     fn end(&mut self) -> Option<LinkFault>
         requires { IsOpen self.old }
         ensures value { MatchOption result ((self.old.held ≡ []) × (self.new ≡ self.old))

@@ -1,4 +1,4 @@
-//! What holds of readers of a link's records, whatever the pieces.
+//! Laws of readers of a link's records, over the definitions alone.
 
 ghost use Rattle.std.specs.Prelude.{◌≡◌, ◌<◌, ◌^◌, ◌↔◌, ℕ, Bool, Option, List, ◌++◌, length, All};
 ghost use Rattle.pon_bwmap.specs.Structure.{Structure};
@@ -14,8 +14,8 @@ ghost use Rattle.pon_link.specs.declared.record.UpRecord.{UpRecord};
 ghost use Rattle.pon_link.specs.declared.record.DownRecord.{DownRecord};
 ghost use Rattle.pon_link.specs.declared.fault.LinkFault.{LinkFault};
 
-/// Nothing is lost and nothing is added: the records that were given, and then the bytes that are held, are
-/// the bytes that were taken.
+/// No byte is lost or added: the bytes of the returned records, followed by the held bytes, are the bytes that were
+/// taken.
 pub fn nothing_is_lost()
     ensures up { (steps : List (ReaderStep UpRecord)) (s : ReaderState)
         → Leads IsRecord (empty Direction.Up) steps s →
@@ -25,8 +25,8 @@ pub fn nothing_is_lost()
         AreRecords IsDownRecord (bytes_taken steps) (given steps) s.held }
 {}
 
-/// Whatever the pieces of a stream, and whether the input ends behind it or not: a reader gives the same records and
-/// meets the same fault, or none, and then holds the same bytes.
+/// For any split of a stream into pieces, and whether the input ends after it or not, a reader returns the same records
+/// and finds the same fault, or none, and in that case holds the same bytes.
 pub fn whatever_the_pieces()
     ensures up { (stream : List ℕ) (over : Bool) (steps others : List (ReaderStep UpRecord)) (s t : ReaderState)
         (f g : Option LinkFault) → AreBytes stream → RunsOver IsRecord Direction.Up stream over steps s f
@@ -39,8 +39,8 @@ pub fn whatever_the_pieces()
         → (given steps ≡ given others) × (f ≡ g) × (f ≡ None → s.held ≡ t.held) }
 {}
 
-/// What a reader answers is one thing alone: it holds a record, or the beginning of one, or one fault. Memory is refused
-/// only for a record.
+/// The outcome of a reader is unique: it holds a whole record, a prefix of one, or one fault. `Memory` is returned only
+/// for a whole record.
 pub fn one_outcome()
     ensures waits { (s : ReaderState) (r : UpRecord) → s.direction ≡ Direction.Up → IsRecord s.held r
         → IsOpen s → ⊥ }
@@ -61,7 +61,7 @@ pub fn one_outcome()
         → AreBytes s.held → WantsMemory s.held → HasFault s f → ⊥ }
 {}
 
-/// What a record begins with, and is not all of it, is a beginning: no reader refuses it.
+/// A proper prefix of a record may become a record: no reader refuses it.
 pub fn no_record_is_refused()
     ensures up { (bytes rest : List ℕ) (r : UpRecord) → 0 < length rest → IsRecord (bytes ++ rest) r
         → MayBecomeRecord Direction.Up bytes }
@@ -69,7 +69,7 @@ pub fn no_record_is_refused()
         → IsDownRecord (bytes ++ rest) r → MayBecomeRecord Direction.Down bytes }
 {}
 
-/// Bytes are one record of a direction at most, so what was written reads back as it was.
+/// Bytes are at most one record of a direction, so a written record reads back unchanged.
 pub fn one_reading()
     ensures up { (bytes : List ℕ) (r s : UpRecord) → AreBytes bytes → IsRecord bytes r
         → IsRecord bytes s → r ≡ s }
@@ -77,14 +77,14 @@ pub fn one_reading()
         → IsDownRecord bytes s → r ≡ s }
 {}
 
-/// The bytes that are written of a frame and its map are the record of these, and of nothing else.
+/// The bytes written for a frame and its map are the record of these, and no other.
 pub fn written_down()
     ensures { (frame : ℕ) (rows : List Structure) (r : DownRecord) → frame < 2 ^ 64 → IsMap rows
         → All FitsStructure rows
         → (IsDownRecord (down_bytes frame rows) r ↔ (r ≡ record { frame = frame; map = rows })) }
 {}
 
-/// Four bytes report one number at most, and none if they are garbled.
+/// Four bytes report at most one number, and none if they are garbled.
 pub fn one_report()
     ensures { (bytes : List ℕ) (words words2 : Option ℕ) → ReadsReport bytes words
         → ReadsReport bytes words2 → words ≡ words2 }

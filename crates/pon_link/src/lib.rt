@@ -1,10 +1,10 @@
-//! The records of a link between the ends of an XG-PON line, as values and as bytes: upstream what a burst brought (a
-//! frame, the burst header and the occupancies that were reported), downstream the map of a frame. Readers take the
-//! bytes in pieces of any size, from memory or from a device; a writer keeps what has not gone out; a simulated unit
+//! The records of a link between the ends of an XG-PON line, as values and as bytes: upstream the content of a burst (a
+//! frame, the burst header and the reported occupancies), downstream the map of a frame. Readers take the bytes in
+//! pieces of any size, from memory or from a device; a writer keeps the bytes that are not written yet; a simulated ONU
 //! answers maps.
 //!
 //! The records are this project's own; the map, the burst header and a report in them are those of ITU-T G.987.3.
-//! Nothing here takes memory but the reader that gives maps.
+//! Nothing here allocates memory except the reader of downstream records.
 #![tactic(auto)]
 
 mod buffer;

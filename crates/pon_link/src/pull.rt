@@ -1,19 +1,19 @@
 use crate::fault::LinkFault;
 
-/// What a pull found.
+/// Result of a pull.
 #[derive(Clone, Copy, Debug, PartialEq, Eq)]
 pub enum Pulled {
-    /// The number of bytes that were added; 0 if a whole record waits.
+    /// The number of bytes that were added; 0 if a whole record is held already.
     Bytes(usize),
     /// The input ended, with no bytes of a record held.
     End,
 }
 
-/// Why a pull got no bytes.
+/// Why a pull added no bytes.
 #[derive(Clone, Copy, Debug, PartialEq, Eq)]
 pub enum PullFault {
-    /// The device failed. The reader is unchanged, and may pull again.
+    /// The device failed. The reader is unchanged, and can pull again.
     Device,
-    /// The bytes are no records, or the input ended inside one; every later call answers the same.
+    /// The bytes are not records, or the input ended inside one; every later call returns the same fault.
     Link(LinkFault),
 }

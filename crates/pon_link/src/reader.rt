@@ -14,8 +14,8 @@ use crate::record::UpRecord;
 use pon_device::DevRead;
 use std::marker::Model;
 
-/// A reader of upstream records, which takes their bytes in pieces of any size. It holds the bytes of the
-/// present record, at most 78.
+/// A reader of upstream records, which takes their bytes in pieces of any size. It holds the bytes of the present
+/// record, at most 78.
 #[derive(Drop)]
 pub struct UpReader {
     reading: Held<78>,
@@ -35,7 +35,7 @@ impl Model for UpReader {
 }
 
 impl UpReader {
-    /// A reader that holds no bytes.
+    /// Makes a reader that holds no bytes.
     pub fn new() -> Self
         ensures { result ≡ empty Direction.Up }
     {
@@ -44,8 +44,8 @@ impl UpReader {
         }
     }
 
-    /// Takes bytes from the front of the piece until one record is whole, a fault is met or the piece ends, and
-    /// returns their number. It takes none while a whole record waits for [`UpReader::next`], and none after a fault.
+    /// Takes bytes from the front of the piece until one record is whole, a fault is found or the piece ends, and
+    /// returns their number. It takes none while a whole record is held for [`UpReader::next`], and none after a fault.
     pub fn feed(&mut self, piece: &[u8]) -> usize
         ensures count { result ≤ length piece.now }
         ensures held { self.new ≡ holds_more self.old (take result piece.now) }
@@ -56,12 +56,11 @@ impl UpReader {
         self.reading.feed(piece)
     }
 
-    /// The record, exactly when a whole one is held; it is then no longer held. `None` if the bytes that are
-    /// held are the beginning of one.
+    /// Returns the record and clears the reader, exactly when a whole record is held. `None` if the held bytes are a
+    /// prefix of a record.
     ///
-    /// `BadTag` as soon as the first byte is there and is no tag, `BadCount` as soon as the count byte is there
-    /// and is not 1 to 16, `Truncated` if the input ended inside the record. Every later call answers the
-    /// same fault.
+    /// `BadTag` as soon as the first byte is held and is not the tag, `BadCount` as soon as the count byte is held and
+    /// is not 1 to 16, `Truncated` if the input ended inside the record. Every later call returns the same fault.
     pub fn next(&mut self) -> Result<Option<UpRecord>, LinkFault>
         ensures outcome { Returns IsRecord self.old self.new result }
         ensures sticky { (f : LinkFault) → HasFault self.old f → result ≡ Err f }
@@ -80,12 +79,12 @@ impl UpReader {
         Ok(Some(record))
     }
 
-    /// Reads once from the device, and never past the present record: at most up to its count byte, and then
-    /// at most its rest. It reads nothing while a whole record waits for [`UpReader::next`], and nothing after a
-    /// fault; each other pull that succeeds gives at least one byte.
+    /// Reads once from the device, and never past the present record: at most up to its count byte, and then at most
+    /// its rest. It reads nothing while a whole record is held for [`UpReader::next`], and nothing after a fault; each
+    /// other pull that succeeds adds at least one byte, or finds the end.
     ///
-    /// `Device` exactly when the device failed in this call. `Link` after a fault of [`UpReader::next`], and
-    /// where the input ended inside a record.
+    /// `Device` exactly when the device failed in this call. `Link` for a fault of [`UpReader::next`], and if the input
+    /// ended inside a record.
     pub fn pull<R: DevRead>(&mut self, reader: &mut R) -> Result<Pulled, PullFault>
         ensures value { Pulls self.old self.new (R.remaining reader.old)
             (R.remaining reader.new) result }

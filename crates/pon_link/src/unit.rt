@@ -10,8 +10,8 @@ use pon_units::{AllocId, BufOcc, FrameNo, GREATEST_OCCUPANCY, LONGEST_SERIES, On
 use pon_xgtc::BurstHead;
 use std::marker::Model;
 
-/// A simulated unit: an ONU that has words waiting for each Alloc-ID of its own, and answers maps with reports of
-/// them. It takes no memory.
+/// A simulated ONU: it has words waiting for each of its own Alloc-IDs, and answers maps with reports of them. It
+/// allocates no memory.
 #[derive(Drop)]
 pub struct Unit {
     onu: OnuId,
@@ -27,7 +27,7 @@ impl Model for Unit {
 }
 
 impl Unit {
-    /// The unit of this ONU-ID, with the words that wait for each Alloc-ID; of an Alloc-ID that is listed
+    /// Makes a simulated ONU with this ONU-ID, and with the words that wait for each Alloc-ID; for an Alloc-ID listed
     /// twice the first number is reported.
     pub fn open(onu: OnuId, queues: ArrayVec<(AllocId, u32), LONGEST_SERIES>) -> Self
         ensures { result ≡ record { onu = onu; queues = queues.items } }
@@ -35,17 +35,16 @@ impl Unit {
         Unit { onu, queues }
     }
 
-    /// Whether the Alloc-ID is one of its own.
+    /// Returns whether the Alloc-ID is one of its own.
     pub fn owns(&self, alloc_id: u16) -> bool
         ensures { result ≡ owns self.now.queues alloc_id }
     {
         words_waiting(self.queues.as_slice(), alloc_id).is_some()
     }
 
-    /// The burst that answers the map of a frame: for each of the first 16 structures that ask for a report of an
-    /// Alloc-ID of its own, in order, the words that wait, at most 16,777,215. Of the words that wait then go as
-    /// many as the structure grants beside the report's one. The burst header has the unit's ONU-ID and no
-    /// indications.
+    /// Answers the map of a frame with a burst. For each of the first 16 structures that request a report for an
+    /// Alloc-ID of its own, in order, it reports the words that wait, at most 16,777,215; the waiting words are then
+    /// reduced by the grant less the word of the report. The burst header has the ONU-ID and no indications.
     ///
     /// `None` exactly when there is no such structure.
     pub fn answer(&mut self, frame: FrameNo, map: &Map) -> Option<UpRecord>
@@ -63,9 +62,9 @@ impl Unit {
         self.answer_rows(frame, map.rows())
     }
 
-    /// The burst that answers these structures of a map of the frame, as [`Unit::answer`] answers a whole map.
+    /// Answers these structures of a map of the frame, as [`Unit::answer`] answers a whole map.
     ///
-    /// `None` exactly when none of them asks for a report of an Alloc-ID of its own.
+    /// `None` exactly when none of them requests a report for an Alloc-ID of its own.
     pub fn answer_rows(&mut self, frame: FrameNo, rows: &[Alloc]) -> Option<UpRecord>
         ensures none { IsNone result ↔ (answered self.old.queues rows.now ≡ []) }
         ensures burst { IfSome result (λ burst. burst ≡ record {
@@ -87,7 +86,7 @@ impl Unit {
     }
 }
 
-// Answers the first 16 structures that ask.
+// Answers the first 16 structures that request a report.
 fn answer_all(queues: &mut [(AllocId, u32)], rows: &[Alloc]) -> Occupancies
     ensures reports { result ≡ reported_occupancies queues.old (answered queues.old rows.now) }
     ensures queues { queues.new ≡ served queues.old (answered queues.old rows.now) }
@@ -101,7 +100,7 @@ fn answer_all(queues: &mut [(AllocId, u32)], rows: &[Alloc]) -> Occupancies
     occ
 }
 
-// Answers a structure, if it asks.
+// Answers a structure, if it requests a report.
 fn answer_one(queues: &mut [(AllocId, u32)], occ: &mut Occupancies, row: &Alloc)
     requires { length occ.old < LONGEST_SERIES }
     ensures asks { asks queues.old row.now ≡ true
@@ -119,7 +118,7 @@ fn answer_one(queues: &mut [(AllocId, u32)], occ: &mut Occupancies, row: &Alloc)
     }
 }
 
-// The words that wait for the Alloc-ID, if it is one of these.
+// Returns the words that wait for the Alloc-ID, if it is one of these.
 fn words_waiting(queues: &[(AllocId, u32)], id: u16) -> Option<u32>
     ensures { MatchOption result (list_any (λ q. q.0 == id) queues.now ≡ false)
         (λ words. (list_any (λ q. q.0 == id) queues.now ≡ true) × (words ≡ waiting queues.now id)) }
@@ -132,7 +131,7 @@ fn words_waiting(queues: &[(AllocId, u32)], id: u16) -> Option<u32>
     None
 }
 
-// Takes what the structure grants from the words that wait.
+// Subtracts the payload words that the structure grants from the words that wait.
 fn deduct_grant(queues: &mut [(AllocId, u32)], row: &Alloc)
     ensures { queues.new ≡ map (queue_after row.now) queues.old }
 {
@@ -141,7 +140,7 @@ fn deduct_grant(queues: &mut [(AllocId, u32)], row: &Alloc)
     }
 }
 
-// The queue after the structure.
+// Computes the queue after the structure.
 fn lessened_queue(queue: (AllocId, u32), row: &Alloc) -> (AllocId, u32)
     ensures { result ≡ queue_after row.now queue }
 {

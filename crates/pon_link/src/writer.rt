@@ -8,10 +8,10 @@ use pon_device::DevWrite;
 use pon_units::{FrameNo, MOST_STRUCTURES};
 use std::marker::Model;
 
-/// The bytes of the longest downstream record, one of 512 structures.
+/// Number of bytes of the longest downstream record, with 512 structures.
 const LONGEST: usize = 4109;
 
-/// The record before has not gone out whole.
+/// The previous record is not written whole yet.
 #[derive(Clone, Copy, Debug, PartialEq, Eq)]
 pub struct Busy;
 
@@ -19,8 +19,8 @@ pub struct Busy;
 #[derive(Clone, Copy, Debug, PartialEq, Eq)]
 pub struct Device;
 
-/// A writer of downstream records: it holds what is left of one, at most 4,109 bytes, until a device has taken
-/// it. It takes no memory.
+/// A writer of downstream records: it holds the remaining bytes of one record, at most 4,109, until a device has
+/// written them. It allocates no memory.
 #[derive(Drop)]
 pub struct DownWriter {
     bytes: [u8; LONGEST],
@@ -39,7 +39,7 @@ impl Model for DownWriter {
 }
 
 impl DownWriter {
-    /// A writer that has nothing to write.
+    /// Makes a writer that has nothing to write.
     pub fn new() -> Self
         ensures { result ≡ [] }
     {
@@ -50,10 +50,10 @@ impl DownWriter {
         }
     }
 
-    /// Takes the record of the frame and its map, to be written next: a tag byte, the frame in 8 bytes, the most
-    /// significant first, and the bytes of the map. A reader reads them as this record.
+    /// Encodes the record of the frame and its map, to be written next: a tag byte, the frame in 8 bytes, the most
+    /// significant first, and the bytes of the map. A reader decodes them to this record.
     ///
-    /// `Busy` exactly when something of the record before is left; it changes nothing.
+    /// `Busy` exactly when bytes of the previous record remain; then the writer is unchanged.
     pub fn put(&mut self, frame: FrameNo, map: &Map) -> Result<(), Busy>
         ensures ok { OnOk result ((self.old ≡ []) × (self.new ≡ down_bytes frame map.now)) }
         ensures reads { OnOk result (IsDownRecord self.new record { frame = frame; map = map.now }) }
@@ -67,9 +67,9 @@ impl DownWriter {
         Ok(())
     }
 
-    /// Writes what is left, in as many writes as the device wants.
+    /// Writes the remaining bytes, in as many writes as the device needs.
     ///
-    /// `Device` exactly when the device failed in this call; what it had not taken then is left, and may be
+    /// `Device` exactly when the device failed in this call; the bytes that it had not written remain, and can be
     /// pushed again.
     pub fn push<W: DevWrite>(&mut self, writer: &mut W) -> Result<(), Device>
         ensures sent { (sent : List ℕ) × Appends (W.contents writer.old)
@@ -87,14 +87,14 @@ impl DownWriter {
         Ok(())
     }
 
-    /// The bytes that have not gone out, in order.
+    /// Remaining bytes, in order.
     pub fn left(&self) -> &[u8]
         ensures { result.now ≡ self.now }
     {
         &self.bytes[self.begin..self.end]
     }
 
-    // Notes that `n` of the bytes that were left have gone out.
+    // Removes the first `n` remaining bytes, which are written.
     fn went_out(&mut self, n: usize)
         requires { n ≤ length self.old }
         ensures { self.new ≡ drop n self.old }
@@ -103,7 +103,7 @@ impl DownWriter {
     }
 }
 
-// Writes the record to the front of the room, and returns the number of its bytes.
+// Writes the record to the front of `room`, and returns the number of its bytes.
 fn write_record(frame: FrameNo, map: &Map, room: &mut [u8]) -> usize
     requires { length room.old ≡ 4109 }
     ensures count { result ≤ 4109 }

@@ -1,4 +1,4 @@
-// The steps of a roster: admissions, changes and removals, and what refuses them.
+// The steps of a roster (admissions, changes and removals), and their refusals.
 ghost use Rattle.std.specs.Prelude.{◌≡◌, ◌<◌, ◌≤◌, ◌==◌, position, Some, None, length, IfOk, IfErr, OnOk, OnErr};
 ghost use Rattle.std.specs.List.{insert, remove};
 ghost use Rattle.pon_descr.specs.Checks.{IsTold};
@@ -13,7 +13,7 @@ use crate::sums::{fits, rate};
 use pon_descr::{Descriptor, Refusal};
 use pon_units::{AllocId, Kbps, LONGEST_SERIES, OnuId};
 
-// Where a change of the set takes place, and the sums afterwards.
+// The index at which the rows change, and the sums after the change.
 #[derive(Drop)]
 struct RosterStep {
     place: usize,
@@ -22,7 +22,7 @@ struct RosterStep {
 }
 
 impl Roster {
-    // Where a row goes in, or the first check that refuses it.
+    // Finds the index at which a row is inserted, or returns the first refusal.
     fn admission(&self, row: &Row) -> Result<RosterStep, Refusal>
         ensures accepted { OnOk result
             (refuses_admit self.now.rule self.now.gap self.now.rows row.now ≡ None) }
@@ -61,7 +61,7 @@ impl Roster {
         })
     }
 
-    // Where a descriptor is replaced, or the first check that refuses it.
+    // Finds the row whose descriptor is replaced, or returns the first refusal.
     fn alteration(&self, alloc_id: AllocId, descriptor: &Descriptor) -> Result<RosterStep, Refusal>
         ensures accepted { OnOk result
             (refuses_change self.now.rule self.now.gap self.now.rows alloc_id descriptor.now
@@ -91,7 +91,7 @@ impl Roster {
         })
     }
 
-    // Where a row is taken out, or the check that refuses it.
+    // Finds the row to remove, or returns the refusal.
     fn removal(&self, alloc_id: AllocId) -> Result<RosterStep, Refusal>
         ensures accepted { OnOk result (refuses_remove self.now.rows alloc_id ≡ None) }
         ensures refused { IfErr result (λ told. refuses_remove self.now.rows alloc_id ≡ Some told) }
@@ -113,17 +113,17 @@ impl Roster {
         })
     }
 
-    /// What refuses the admission of a row, memory aside: the first of `AllocTaken` (the Alloc-ID is there, whatever its
-    /// ONU), `TooManyAllocs` (there are as many rows as the rule allows), `TooManyOnus` (128 ONUs own rows, and this is
-    /// none of them), `SeriesFull` (the ONU owns 16 rows) and `Capacity` (the set with the row would not fit a frame).
+    /// Returns the first refusal of an admission, except `OutOfMemory`: `AllocTaken` (the Alloc-ID is admitted, for
+    /// whatever ONU), `TooManyAllocs` (there are as many rows as the rule allows), `TooManyOnus` (128 other ONUs own
+    /// rows), `SeriesFull` (the ONU owns 16 rows) or `Capacity` (the set with the row would not fit a frame).
     pub fn admit_refusal(&self, row: &Row) -> Option<Refusal>
         ensures { result ≡ refuses_admit self.now.rule self.now.gap self.now.rows row.now }
     {
         self.admission(row).err()
     }
 
-    /// What refuses a new descriptor: the first of `NoSuchAlloc` (the Alloc-ID is not there) and `Capacity` (the set with
-    /// the descriptor would not fit a frame).
+    /// Returns the first refusal of a new descriptor: `NoSuchAlloc` (the Alloc-ID is not admitted) or `Capacity` (the
+    /// set with the descriptor would not fit a frame).
     pub fn change_refusal(&self, alloc_id: AllocId, descriptor: &Descriptor) -> Option<Refusal>
         ensures { result ≡ refuses_change self.now.rule self.now.gap self.now.rows alloc_id
             descriptor.now }
@@ -131,17 +131,17 @@ impl Roster {
         self.alteration(alloc_id, descriptor).err()
     }
 
-    /// What refuses the removal of an Alloc-ID: `NoSuchAlloc`, where it is not there.
+    /// Returns the refusal of a removal: `NoSuchAlloc` if the Alloc-ID is not admitted.
     pub fn remove_refusal(&self, alloc_id: AllocId) -> Option<Refusal>
         ensures { result ≡ refuses_remove self.now.rows alloc_id }
     {
         self.removal(alloc_id).err()
     }
 
-    /// Puts a row in its place in map order.
+    /// Inserts a row at its place in map order.
     ///
-    /// Refused as [`Roster::admit_refusal`] tells, and, where no check refuses, with `OutOfMemory` if the rows cannot
-    /// grow. What is refused leaves the roster as it was.
+    /// Fails with [`Roster::admit_refusal`] if that is a refusal, otherwise with `OutOfMemory` if the rows cannot grow.
+    /// On an error the roster is unchanged.
     pub fn admit(
         &mut self,
         onu: OnuId,
@@ -175,9 +175,9 @@ impl Roster {
         Ok(())
     }
 
-    /// Gives an Alloc-ID a new descriptor. Its row keeps its place.
+    /// Replaces the descriptor of an Alloc-ID. Its row keeps its place.
     ///
-    /// Refused as [`Roster::change_refusal`] tells, and then the roster stays as it was. It takes no memory.
+    /// Fails with [`Roster::change_refusal`]; then the roster is unchanged. It allocates no memory.
     pub fn change(&mut self, alloc_id: AllocId, descriptor: Descriptor) -> Result<(), Refusal>
         ensures ok { OnOk result
             (self.new ≡ record {
@@ -199,9 +199,9 @@ impl Roster {
         Ok(())
     }
 
-    /// Takes an Alloc-ID out.
+    /// Removes an Alloc-ID.
     ///
-    /// Refused as [`Roster::remove_refusal`] tells, and then the roster stays as it was. It takes no memory.
+    /// Fails with [`Roster::remove_refusal`]; then the roster is unchanged. It allocates no memory.
     pub fn remove(&mut self, alloc_id: AllocId) -> Result<(), Refusal>
         ensures ok { OnOk result
             (self.new ≡ record {

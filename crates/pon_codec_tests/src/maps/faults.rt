@@ -12,7 +12,7 @@ const SEVENTEEN: u32 = 0x0220_046b;
 
 const TOO_MANY: u32 = 0x4020_18a9;
 
-// Structures: one with start 16, one that continues, one with start 9,720, one with three wrong places.
+// Structures: one with start 16, one that continues, one with start 9,720, one with three bit errors.
 const STARTS: u64 = 0x1002_0010_000b_13cb;
 
 const CONTINUES: u64 = 0x1006_ffff_0002_176f;

@@ -1,4 +1,4 @@
-// One allocation that fails (`rt try --test --fail-alloc N`) changes no result: what memory refused is asked for again.
+// One failed allocation (`rt try --test --fail-alloc N`) changes no result: the call is made again.
 
 use pon_bwmap::{Alloc, Map, MapFault, decode_map, encode_map};
 use std::alloc::Global;

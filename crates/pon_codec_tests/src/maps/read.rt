@@ -7,7 +7,7 @@ const ONE: [u8; 13] = [
     0x00, 0x20, 0x13, 0xac, 0x10, 0x02, 0x00, 0x10, 0x00, 0x0b, 0x13, 0xcb, 0xff,
 ];
 
-// The bytes read as the map of one structure, with this number of places corrected.
+// Asserts that the bytes read as the map of one structure, with this number of corrected bits.
 fn reads_one(rt: &impl Abort, alloc: Global, bytes: &[u8], corrected: u32) -> Result<(), Fail> {
     let (map, places, used) = decode_map(alloc, bytes).map_err(|_| "a map")?;
     let first = Alloc::polled(1024, Some(16), 11, 0);

@@ -11,7 +11,7 @@ fn continuing() -> Alloc {
     Alloc::polled(1025, None, 1, 0)
 }
 
-// A start, then `later` structures that continue its series.
+// Makes a structure with a start, followed by `later` structures that continue its series.
 fn series(alloc: Global, later: usize) -> Result<Vec<Alloc>, Fail> {
     let mut rows = vec![in alloc; continuing(); later]?;
     rows.insert(0, starting(16)).map_err(|_| "memory")?;

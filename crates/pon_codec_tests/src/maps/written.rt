@@ -49,7 +49,7 @@ fn writes_into_room(rt: HostRuntime) -> Result<(), Fail> {
     Ok(())
 }
 
-// The map that the bytes of a map are.
+// Decodes the bytes of a map.
 fn read_whole(alloc: Global, bytes: &[u8]) -> Result<Map, MapFault>
     ensures ok { (rows : List Structure) (corrected used : ℕ) → ReadsMap bytes.now rows corrected used
         → IfOk result (λ map. map ≡ rows) }
@@ -62,7 +62,7 @@ fn read_whole(alloc: Global, bytes: &[u8]) -> Result<Map, MapFault>
     }
 }
 
-// A map, written and read again: it is the same by the contracts, and only memory can be refused.
+// Writes a map and reads it again: the result is equal by the contracts, and only memory can be refused.
 fn read_again(alloc: Global, map: &Map) -> Result<Map, MapFault>
     ensures ok { IfOk result (λ again. again ≡ map.now) }
     ensures err { IfErr result (λ fault. fault ≡ MapFault.Memory) }

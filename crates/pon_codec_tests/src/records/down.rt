@@ -8,7 +8,7 @@ use std::test::Fail;
 // The record of frame 0 and a map that grants 11 words to Alloc-ID 1024.
 const BYTES: &[u8; 21] = b"\x44\0\0\0\0\0\0\0\0\x00\x20\x13\xac\x10\x02\x00\x10\x00\x0b\x13\xcb";
 
-// The bytes with one of them changed.
+// Returns the bytes with one of them changed.
 fn changed(at: usize, byte: u8) -> [u8; 21] {
     let mut bytes = *BYTES;
     if at < 21 {
@@ -17,7 +17,7 @@ fn changed(at: usize, byte: u8) -> [u8; 21] {
     bytes
 }
 
-// The reader gives the record of the bytes.
+// Asserts that the reader returns the record of the bytes.
 fn gives_the_record(rt: &impl Abort, reader: &mut DownReader) -> Result<(), Fail> {
     let record = reader.next().map_err(|_| "no fault")?.ok_or("a record")?;
     let row = Alloc::polled(1024, Some(16), 11, 0);
@@ -26,7 +26,7 @@ fn gives_the_record(rt: &impl Abort, reader: &mut DownReader) -> Result<(), Fail
     Ok(())
 }
 
-// What the reader answers, if it gives no record.
+// Returns the reader's fault, if it returns no record.
 fn fault_of(reader: &mut DownReader) -> Option<DownFault> {
     reader.next().err()
 }
@@ -99,7 +99,7 @@ fn tells_a_refused_map_at_the_pull_after_its_last_byte(rt: HostRuntime) -> Resul
     Ok(())
 }
 
-// One allocation that fails (`rt try --test --fail-alloc N`) leaves the record held, and the next call gives it.
+// One failed allocation (`rt try --test --fail-alloc N`) leaves the record in the reader, and the next call returns it.
 #[test]
 fn keeps_a_record_where_memory_is_refused(rt: HostRuntime) -> Result<(), Fail> {
     let mut reader = DownReader::new(rt.alloc());
@@ -166,7 +166,7 @@ fn tells_where_the_input_ended(rt: HostRuntime) -> Result<(), Fail> {
     Ok(())
 }
 
-// A map of `count` structures, each a burst of its own.
+// Makes a map of `count` structures, each a burst of its own.
 fn long_map(rt: &HostRuntime, count: usize) -> Result<Map, Fail> {
     let mut rows = Vec::new(rt.alloc());
     for _ in 0..count {

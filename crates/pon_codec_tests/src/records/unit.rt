@@ -6,7 +6,7 @@ use pon_units::{AllocId, BufOcc, FrameNo, OnuId};
 use pon_xgtc::BurstHead;
 use std::test::Fail;
 
-// A unit of ONU-ID 5 with `words` waiting for Alloc-ID 1024, and 7 for Alloc-ID 1025.
+// Makes a simulated ONU with ONU-ID 5, `words` waiting for Alloc-ID 1024, and 7 for Alloc-ID 1025.
 fn unit(words: u32) -> Option<Unit> {
     let mut queues = ArrayVec::new();
     queues.push((AllocId::new(1024)?, words));
@@ -14,7 +14,7 @@ fn unit(words: u32) -> Option<Unit> {
     Some(Unit::open(OnuId::new(5)?, queues))
 }
 
-// The unit's answer in frame 3, with `words` waiting for its first Alloc-ID.
+// Returns the ONU's answer in frame 3, with `words` waiting for its first Alloc-ID.
 fn answer_of(words: u32) -> UpRecord {
     let mut occ = Occupancies::new();
     occ.push(BufOcc::new(words));

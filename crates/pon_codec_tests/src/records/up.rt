@@ -7,7 +7,7 @@ use std::test::Fail;
 
 const BYTES: &[u8; 18] = b"\x55\0\0\0\0\0\0\0\0\x01\x40\x13\xf1\x01\0\0\x64\x3b";
 
-// The record of frame 0 with this burst header and this occupancy.
+// Makes a record of frame 0 with this burst header and this occupancy.
 fn record(head: Option<BurstHead>, words: Option<BufOcc>) -> UpRecord {
     let mut occ = Occupancies::new();
     occ.push(words);
@@ -18,12 +18,12 @@ fn record(head: Option<BurstHead>, words: Option<BufOcc>) -> UpRecord {
     }
 }
 
-// The record of the bytes: ONU 5 reports 100 words.
+// Makes the record of the bytes: ONU 5 reports 100 words.
 fn onu_five() -> UpRecord {
     record(BurstHead::new(5, 0), BufOcc::new(100))
 }
 
-// The bytes with one of them changed.
+// Returns the bytes with one of them changed.
 fn changed(at: usize, byte: u8) -> [u8; 18] {
     let mut bytes = *BYTES;
     if at < 18 {

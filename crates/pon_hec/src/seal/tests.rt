@@ -1,7 +1,7 @@
 use super::*;
 use std::test::Fail;
 
-// What is left of x^12, x^13 and so on.
+// Remainders of x^12, x^13 and so on.
 const LEFT: [u64; 51] = [
     0x539, 0xa72, 0x1dd, 0x3ba, 0x774, 0xee8, 0x8e9, 0x4eb, 0x9d6, 0x695, 0xd2a, 0xf6d, 0xbe3,
     0x2ff, 0x5fe, 0xbfc, 0x2c1, 0x582, 0xb04, 0x331, 0x662, 0xcc4, 0xcb1, 0xc5b, 0xd8f, 0xe27,
@@ -11,7 +11,7 @@ const LEFT: [u64; 51] = [
 
 const GENERATOR: u64 = 0b1_0101_0011_1001;
 
-// The word of 8 bytes by long division, a bit at a time.
+// Computes the codeword of 8 bytes by long division, one bit at a time.
 fn divided_by_bits(payload: u64) -> u64 {
     let mut rest = payload << 12;
     for k in 0..51u32 {

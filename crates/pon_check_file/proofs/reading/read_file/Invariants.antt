@@ -4,7 +4,7 @@ use Rattle.pon_check_file.specs.Stages.{IsOpen, size}
 use Rattle.pon_check_file.proofs.OpenLines.{Progress}
 use Rattle.pon_check_file.proofs.reading.read_file.Given as goal
 
--- the bytes that were read and what is open, and that no read has failed yet
+-- the bytes read so far and the open line, and no read has failed yet
 abbrev pub invariant-loop-turn : goal.invariant-loop-turn
 invariant-loop-turn g l = record {
   progress : Progress (g.R.DevRead.remaining l.initial.reader) (g.R.DevRead.remaining l.reader) l.open;

@@ -1,7 +1,7 @@
 use Rattle.std.proofs.Common.{◌≡◌, ◌+◌, ◌<◌, ◌≤◌, ℕ, length, slice_index}
 use Rattle.pon_desk.proofs.closing.add_counts.Given as goal
 
--- below p both counts, from p on the sums as they were
+-- below p the sums of both counts, from p on the former sums
 abbrev pub invariant-loop-p : goal.invariant-loop-p
 invariant-loop-p l =
     (length l.sums ≡ length l.fn.sums)

@@ -2,7 +2,7 @@ use Rattle.std.proofs.Common.{◌≡◌, ◌+◌, ◌≤◌, length, take, vec_l
 use Rattle.pon_plant.specs.Plants.{opened_ports}
 use Rattle.pon_desk.proofs.opening.open_each.Given as goal
 
--- the ports so far are open, there is room for all, and the other parts are left
+-- the ports so far are open, there is room for all, and the other parts remain
 abbrev pub invariant-loop-cfg : goal.invariant-loop-cfg
 invariant-loop-cfg g l = record {
   opened : l.opened.items ≡ opened_ports (take l.cfg-index l.ports);

@@ -2,7 +2,7 @@ use Rattle.std.proofs.Common.{◌≡◌, ◌-◌, ◌≤◌, take, length}
 use Rattle.pon_device.specs.Device.{Appends}
 use Rattle.pon_device.proofs.traits.write_all.Given as goal
 
--- what is sent so far
+-- the bytes written so far
 abbrev pub invariant-loop-at : goal.invariant-loop-at
 invariant-loop-at g l = record {
   inside : l.at ≤ length l.bytes;

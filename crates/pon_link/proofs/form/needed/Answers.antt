@@ -10,7 +10,7 @@ unwrap-requires c =
     let size = c.requires.form.size ge in
     some_size c.announced.result c.args.direction c.args.bytes.now size.0 size.1 c.announced.ensures
 
--- the size that the bytes tell, and that they are no more
+-- the bytes give this size, and are not longer
 enough : (c : goal.After-unwrap) → Announces c.args.direction c.args.bytes.now c.unwrap.result × (length c.args.bytes.now ≤ c.unwrap.result)
 enough c =
     let ge : header_len c.args.direction ≤ length c.args.bytes.now = omega (arith, c.header_len-head.ensures.value, c.if-bytes-head.false) in
