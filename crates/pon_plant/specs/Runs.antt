@@ -18,7 +18,7 @@ with_entries es c = record { number = c.number; opening = c.opening; entries = c
 abbrev pub chapter_after : List Chapter → ℕ → List Step → List (Result Reply StepFault) → Option Chapter
 chapter_after old port steps answers = option_map (with_entries (accepted port steps answers)) (slice_get old port)
 
--- steps taken one after the other: each has an answer, that of its port in the state that the accepted steps before it
+-- steps taken one after another: each has an answer, that of its port in the state that the accepted steps before it
 -- leave there, and each port has the chapter that its own steps leave
 pub record Ran (old : List Chapter) (steps : List Step) (answers : List (Result Reply StepFault)) (new : List Chapter) : Type 0 where
   pub one_each : length answers ≡ length steps
