@@ -47,7 +47,7 @@ impl PortSettings {
     }
 }
 
-/// Reads the gap in words, 1 to 256. `None` if it is absent or not such a number.
+/// Reads the gap in words, 1 to 256. `None` if the key is absent, or its value is not such a number.
 pub(crate) fn gap_of(table: &Table) -> Option<Gap>
     ensures { result ≡ gap_of (table_view table.now) }
 {
@@ -68,7 +68,7 @@ pub(crate) fn profile_of(table: &Table) -> Option<Profile>
     Profile::new(profile as u8)
 }
 
-/// Reads the first frame, or 0 if the key is absent. `None` for a value that is not such a number.
+/// Reads the first frame, or 0 if the key is absent. `None` if its value is not a whole number of 0 or more.
 pub(crate) fn first_frame(table: &Table) -> Option<FrameNo>
     ensures { result ≡ first_frame_of (table_view table.now) }
 {
