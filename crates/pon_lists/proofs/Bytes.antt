@@ -18,7 +18,7 @@ bytes-front xs ys small k = elim (cases_lt k (length xs)) [
 pub bytes-back : (xs ys : List ℕ) → AreBytes (xs ++ ys) → AreBytes ys
 bytes-back xs ys small k = let e : get_or (xs ++ ys) (length xs + k) 0 ≡ get_or ys k 0 = get_or-append-add xs ys k 0 in omega (arith, e, small (length xs + k))
 
--- the same said of each element
+-- from the statement on each element
 pub bytes-from_All : (bytes : List ℕ) → All (λ b. b < 256) bytes → AreBytes bytes
 bytes-from_All bytes all k = elim (cases_lt k (length bytes)) [
   | inl lt ↦ all k 0 lt

@@ -1,4 +1,4 @@
--- How many different numbers of a list pass a test.
+-- The number of distinct numbers of a list that pass a test.
 use Rattle.std.proofs.Common.{◌≡◌, ℕ, ◌+◌, ◌≤◌, Bool, true, false, cond, not, ◌||◌, ◌&&◌, List, [], ◌∷◌, ◌++◌, length, refl, ap, sym, ◌∙◌, subst, arith, inl, inr}
 use Rattle.std.specs.Prelude.{◌==◌, filter, All}
 use Rattle.std.specs.List.{list_any}
@@ -8,20 +8,20 @@ use Rattle.std.proofs.lemmas.Bool.Decides.{eqb_tells}
 use Rattle.pon_lists.specs.Distinct.{distinct}
 use Rattle.pon_lists.proofs.Lists.{filter-filter}
 
--- a number stands in a list
+-- whether a list contains a number
 abbrev pub occurs : ℕ → List ℕ → Bool
 occurs u xs = list_any (λ v. v == u) xs
 
--- 1 where a test passes
+-- 1 if a test passes, otherwise 0
 abbrev pub bit : Bool → ℕ
 bit b = cond b 1 0
 
--- how many of the numbers pass, each counted once
+-- the number of distinct numbers that pass
 abbrev pub count_once : List ℕ → (ℕ → Bool) → ℕ
 count_once [] p = 0
 count_once (x ∷ xs) p = bit (p x) + count_once xs (λ y. not (y == x) && p y)
 
--- it counts what passes of the numbers kept once
+-- it is the length of the filtered distinct numbers
 pub length-filter_distinct : (xs : List ℕ) (p : ℕ → Bool) → length (filter p (distinct xs)) ≡ count_once xs p
 length-filter_distinct [] p = refl
 length-filter_distinct (x ∷ xs) p =
@@ -37,7 +37,7 @@ filter_true : (xs : List ℕ) → filter (λ _. true) xs ≡ xs
 filter_true [] = refl
 filter_true (x ∷ xs) = ap (λ t. x ∷ t) (filter_true xs)
 
--- how many different numbers there are
+-- the number of distinct numbers
 pub length-distinct : (xs : List ℕ) → length (distinct xs) ≡ count_once xs (λ _. true)
 length-distinct xs = ap (λ t. length t) (sym (filter_true (distinct xs))) ∙ length-filter_distinct xs (λ _. true)
 
@@ -71,9 +71,9 @@ without_both : (xs : List ℕ) (p : ℕ → Bool) (u z : ℕ) →
     count_once xs (λ y. not (y == z) && (not (y == u) && p y)) ≡ count_once xs (λ y. not (y == u) && (not (y == z) && p y))
 without_both xs p u z = count_once_same xs _ _ (λ y. and_swap (not (y == z)) (not (y == u)) (p y))
 
--- One number taken out.
+-- One number removed.
 
--- it counts one at most
+-- a number counts at most once
 pub count_once_split : (xs : List ℕ) (p : ℕ → Bool) (u : ℕ) → count_once xs p ≤ bit (p u) + count_once xs (λ y. not (y == u) && p y)
 count_once_split [] p u = omega arith
 count_once_split (z ∷ zs) p u =
@@ -93,7 +93,7 @@ count_once_split (z ∷ zs) p u =
           omega (arith, here, there, count_once_split zs (λ y. not (y == z) && p y) u, without_both zs p u z)
     ]
 
--- it counts one where it stands in the list
+-- a number that the list contains counts once if it passes
 pub count_once_known : (xs : List ℕ) (p : ℕ → Bool) (u : ℕ) → occurs u xs ≡ true → bit (p u) + count_once xs (λ y. not (y == u) && p y) ≤ count_once xs p
 count_once_known [] p u h = absurd cc
 count_once_known (z ∷ zs) p u h =
@@ -116,11 +116,11 @@ count_once_known (z ∷ zs) p u h =
           omega (arith, here, there, count_once_known zs (λ y. not (y == z) && p y) u later, without_both zs p u z)
     ]
 
--- fewer pass without it
+-- without a number, at most as many pass
 pub count_once_without : (xs : List ℕ) (p : ℕ → Bool) (u : ℕ) → count_once xs (λ y. not (y == u) && p y) ≤ count_once xs p
 count_once_without xs p u = count_once_le xs (λ y. not (y == u) && p y) p (λ y k. (and_parts (not (y == u)) (p y) k).1)
 
--- Two lists in a row: the second counts what doesn't stand in the first.
+-- Two concatenated lists: of the second, the numbers that the first does not contain count.
 
 eq_swap : (x y : ℕ) → (x == y) ≡ (y == x)
 eq_swap x y = elim (eqb_tells x y) [ inl e ↦ (λ i. e.1 i == sym e.1 i) | inr e ↦ e.0 ∙ sym (ne_eqb y x (λ k. e.1 (sym k))) ]
@@ -140,9 +140,9 @@ count_once-append (x ∷ xs) ys p =
     = count_once_same ys _ _ (λ y. ap (λ b. not (occurs y xs) && (not b && p y)) (eq_swap y x) ∙ not_or (occurs y xs) (x == y) (p y)) in
     omega (arith, rest, same)
 
--- Lists all of whose numbers are known to a test.
+-- Lists on all of whose numbers a test is known.
 
--- none passes
+-- no number passes
 pub count_once_none : (xs : List ℕ) (p : ℕ → Bool) → All (λ y. p y ≡ false) xs → count_once xs p ≡ 0
 count_once_none [] p h = refl
 count_once_none (x ∷ xs) p h =
@@ -151,7 +151,7 @@ count_once_none (x ∷ xs) p h =
     = count_once_none xs (λ y. not (y == x) && p y) (All-weaker (λ y. p y ≡ false) (λ y. (not (y == x) && p y) ≡ false) (λ y k. and_right (not (y == x)) (p y) k) xs (All-tail (λ y. p y ≡ false) x xs h)) in
     omega (arith, here, rest)
 
--- two tests agree
+-- two tests agree on all numbers
 pub count_once_agree : (xs : List ℕ) (p q : ℕ → Bool) → All (λ y. p y ≡ q y) xs → count_once xs p ≡ count_once xs q
 count_once_agree [] p q h = refl
 count_once_agree (x ∷ xs) p q h =
@@ -161,6 +161,6 @@ count_once_agree (x ∷ xs) p q h =
     (All-weaker (λ y. p y ≡ q y) (λ y. (not (y == x) && p y) ≡ (not (y == x) && q y)) (λ y k. ap (λ b. not (y == x) && b) k) xs (All-tail (λ y. p y ≡ q y) x xs h)) in
     omega (arith, here, rest)
 
--- one more at the end counts where it passes and isn't there yet
+-- one more number at the end counts if it passes and is new
 pub count_once_push : (xs : List ℕ) (p : ℕ → Bool) (u : ℕ) → count_once (xs ++ u ∷ []) p ≡ count_once xs p + bit (not (occurs u xs) && p u)
 count_once_push xs p u = omega (arith, count_once-append xs (u ∷ []) p)

@@ -1,4 +1,4 @@
--- An element put in its place in a list in an order, and one taken out.
+-- An element inserted in its place in a list in an order, and one removed.
 use Rattle.std.proofs.Common.{◌≡◌, ℕ, ◌+◌, ◌<◌, Bool, true, false, cond, not, ◌||◌, List, [], ◌∷◌, ◌++◌, length, take, drop, refl, ap, sym, ◌∙◌, subst, arith}
 use Rattle.std.specs.Prelude.{◌==◌, nat_lt, filter, sum_by, count_by, All}
 use Rattle.std.specs.List.{insert, list_any}
@@ -12,7 +12,7 @@ use Rattle.pon_lists.specs.Order.{IsInOrder, with_inserted, without_key}
 use Rattle.pon_lists.proofs.Lists.{or_assoc, sum_by-between}
 use Rattle.pon_lists.proofs.Order.{in_order-between}
 
--- A list in an order, cut where an element belongs.
+-- A list in an order, split where an element belongs.
 
 module _ {X : Type 0} (p : X → Bool) where
   none_passes : (xs : List X) → All (λ x. p x ≡ false) xs → (filter p xs ≡ []) × (filter (λ x. not (p x)) xs ≡ xs)
@@ -34,14 +34,14 @@ module _ {X : Type 0} (p : X → Bool) where
         (λ i. later.0 i ++ x ∷ later.1 i)
   ]) refl
 
--- elements whose keys rise, cut at a number
+-- elements with ascending keys, split at a number
 pub rejoined_at : {X : Type 0} (i : ℕ) (key : X → ℕ) (xs : List X) → IsInOrder (λ x y. key x < key y) xs → filter (λ x. nat_lt (key x) i) xs ++ filter (λ x. not (nat_lt (key x) i)) xs ≡ xs
 rejoined_at i key xs h = rejoined (λ x. nat_lt (key x) i) (λ x y. key x < key y) (λ x y l e. le-ltb (key y) i (omega (arith, l, ltb-false (key x) i e))) xs h
 
--- An element put in its place.
+-- An element inserted in its place.
 
 module _ {X : Type 0} (p : X → Bool) (x : X) (xs : List X) (whole : filter p xs ++ filter (λ y. not (p y)) xs ≡ xs) where
-  -- it comes after those that pass
+  -- its place is after the elements that pass the test
   pub insert_inserted : (k : ℕ) → k ≡ count_by p xs → insert xs k x ≡ with_inserted p x xs
   insert_inserted k place =
       let behind : k ≡ length (filter p xs) = place ∙ sym (length-filter p xs) in
@@ -59,7 +59,7 @@ module _ {X : Type 0} (p : X → Bool) (x : X) (xs : List X) (whole : filter p x
   pub in_order-inserted : (Before : X → X → Type 0) → IsInOrder Before xs → All (λ y. Before y x) (filter p xs) → All (Before x) (filter (λ y. not (p y)) xs) → IsInOrder Before (with_inserted p x xs)
   in_order-inserted Before h before after = in_order-between Before x (filter p xs) (filter (λ y. not (p y)) xs) (subst (IsInOrder Before) (sym whole) h) before after
 
--- what a test finds in the list with one element more
+-- a test on a list with one inserted element
 pub list_any-inserted : {X : Type 0} (q p : X → Bool) (x : X) (xs : List X) → list_any q (with_inserted p x xs) ≡ (q x || list_any q xs)
 list_any-inserted {X = X} q p x xs =
     list_any-append q (filter p xs) (x ∷ filter (λ y. not (p y)) xs)
@@ -78,7 +78,7 @@ list_any-inserted {X = X} q p x xs =
       | false ↦ or_swap (list_any q (filter p xs)) (q y) (list_any q (filter (λ y. not (p y)) xs)) ∙ ap (λ b. q y || b) (both xs)
     ]
 
--- The element of a key taken out.
+-- The element of a key removed.
 
 module _ {X : Type 0} (key : X → ℕ) (i : ℕ) where
   pub without_absent : (xs : List X) → list_any (λ x. key x == i) xs ≡ false → without_key key i xs ≡ xs
@@ -94,7 +94,7 @@ module _ {X : Type 0} (key : X → ℕ) (i : ℕ) where
       ∙ sym (filter-append (λ x. not (key x == i)) xs ys)
       ∙ without_absent (xs ++ ys) h
 
--- an element put in and taken out again
+-- an element inserted and removed again
 pub without_inserted : {X : Type 0} (key : X → ℕ) (p : X → Bool) (x : X) (xs : List X) → filter p xs ++ filter (λ y. not (p y)) xs ≡ xs → list_any (λ y. key y == key x) xs ≡ false → without_key key (key x) (with_inserted p x xs) ≡ xs
 without_inserted key p x xs whole free =
     without_between key (key x) (filter p xs) (filter (λ y. not (p y)) xs) x (ap (list_any (λ y. key y == key x)) whole ∙ free) refl ∙ whole

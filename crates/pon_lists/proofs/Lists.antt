@@ -1,4 +1,4 @@
--- Lists: counts, sums, filters and tests over them, and what holds of all their elements.
+-- Lists: counts, sums, filters and tests over them, and properties of all elements.
 use Rattle.std.proofs.Common.{◌≡◌, ℕ, ◌+◌, ◌≤◌, Bool, true, false, cond, not, ltb, ◌||◌, ◌&&◌, List, [], ◌∷◌, ◌++◌, map, length, refl, ap, sym, ◌∙◌, arith, inl, inr, Option, Some, None}
 use Rattle.std.specs.Prelude.{◌==◌, filter, sum_by, count_by, All}
 use Rattle.std.specs.List.{list_any, position, position_or_len}
@@ -14,7 +14,7 @@ use Rattle.std.proofs.lemmas.List.Elements.{All-nil, All-cons, All-head, All-tai
 use Rattle.std.proofs.lemmas.Bool.{eq-eqb, or_left, or_parts, or_right}
 use Rattle.std.proofs.lemmas.Bool.Decides.{eqb_tells}
 
--- a count over a list in two parts
+-- the count over two concatenated lists
 pub count_by-append : {X : Type 0} (p : X → Bool) (xs ys : List X) → count_by p (xs ++ ys) ≡ count_by p xs + count_by p ys
 count_by-append p xs ys = sum_by-append (λ x. cond (p x) 1 0) xs ys
 
@@ -26,7 +26,7 @@ pub or_assoc : (a b c : Bool) → ((a || b) || c) ≡ (a || (b || c))
 or_assoc true b c = refl
 or_assoc false b c = refl
 
--- two tests' answers that follow from each other
+-- two test results that imply each other are equal
 pub same_Bool : (a b : Bool) → (a ≡ true → b ≡ true) → (b ≡ true → a ≡ true) → a ≡ b
 same_Bool true b there back = sym (there refl)
 same_Bool false true there back = back refl
@@ -50,7 +50,7 @@ map_filter f p (x ∷ xs) = elim (p (f x)) as (λ b. cond b (f x ∷ filter p (m
   | false ↦ map_filter f p xs
 ]
 
--- a number is found in a list that keeps it
+-- whether a filtered list contains a number
 pub any_eq-filter : (p : ℕ → Bool) (u : ℕ) (xs : List ℕ) → list_any (λ v. v == u) (filter p xs) ≡ (p u && list_any (λ v. v == u) xs)
 any_eq-filter p u [] = elim (p u) as (λ b. false ≡ (b && false)) [ true ↦ refl | false ↦ refl ]
 any_eq-filter p u (x ∷ xs) =
@@ -65,7 +65,7 @@ any_eq-filter p u (x ∷ xs) =
       ])
     ]
 
--- two tests that agree on a list's numbers keep the same of them
+-- two tests that agree on the numbers of a list keep the same numbers
 pub filter_same_in : (p q : ℕ → Bool) (xs : List ℕ) → ((u : ℕ) → list_any (λ v. v == u) xs ≡ true → p u ≡ q u) → filter p xs ≡ filter q xs
 filter_same_in p q [] h = refl
 filter_same_in p q (x ∷ xs) h =
@@ -85,7 +85,7 @@ pub sum_by_same : {X : Type 0} (f g : X → ℕ) → ((x : X) → f x ≡ g x) �
 sum_by_same f g h [] = refl
 sum_by_same f g h (x ∷ xs) = sum_by-cons f x xs ∙ (λ i. h x i + sum_by_same f g h xs i) ∙ sym (sum_by-cons g x xs)
 
--- the place that `position` tells
+-- the index that `position` returns
 pub position-Some_or_len : {X : Type 0} (p : X → Bool) (t : List X) (r : Option ℕ) (n : ℕ) → r ≡ position p t → r ≡ Some n → n ≡ position_or_len p t
 position-Some_or_len p t r n e s = go (ltb (position_or_len p t) (length t)) (sym e ∙ s)
   where
@@ -114,11 +114,11 @@ pub list_any_agree : {X : Type 0} (p q : X → Bool) (xs : List X) → All (λ x
 list_any_agree p q [] h = refl
 list_any_agree p q (x ∷ xs) h = (λ i. All-head (λ x. p x ≡ q x) x xs h i || list_any_agree p q xs (All-tail (λ x. p x ≡ q x) x xs h) i)
 
--- what an element between others adds to a sum
+-- the contribution of one element to a sum
 pub sum_by-between : {X : Type 0} (f : X → ℕ) (xs ys : List X) (x : X) → sum_by f (xs ++ x ∷ ys) ≡ f x + sum_by f (xs ++ ys)
 sum_by-between f xs ys x = omega (arith, sum_by-append f xs (x ∷ ys), sum_by-append f xs ys, sum_by-cons f x ys)
 
--- What holds of all elements of a list.
+-- Properties of all elements of a list.
 
 pub All-front : {X : Type 0} (P : X → Type 0) (xs ys : List X) → All P (xs ++ ys) → All P xs
 All-front P [] ys h = All-nil P

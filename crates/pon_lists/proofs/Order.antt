@@ -20,7 +20,7 @@ module _ {X : Type 0} (Before : X → X → Type 0) where
     | false ↦ in_order-filter p xs h.1
   ]
 
-  -- two lists, one after the other
+  -- two concatenated lists
   pub in_order-append : (xs ys : List X) → IsInOrder Before xs → IsInOrder Before ys → All (λ x. All (Before x) ys) xs → IsInOrder Before (xs ++ ys)
   in_order-append [] ys h k l = k
   in_order-append (x ∷ xs) ys h k l = (All-append (Before x) xs ys h.0 (All-head (λ x. All (Before x) ys) x xs l), in_order-append xs ys h.1 k (All-tail (λ x. All (Before x) ys) x xs l))

@@ -1,7 +1,7 @@
--- A list of numbers with each of them once.
+-- The distinct numbers of a list.
 use Rattle.std.specs.Prelude.{ℕ, not, ◌==◌, List, [], ◌∷◌, filter}
 
--- the numbers, each once, where it stands first
+-- the distinct numbers, in the order of their first occurrences
 abbrev pub distinct : List ℕ → List ℕ
 distinct [] = []
 distinct (x ∷ xs) = x ∷ filter (λ y. not (y == x)) (distinct xs)

@@ -1,4 +1,4 @@
--- Lists in an order, an element put in its place, and one taken out.
+-- Lists in an order, an element inserted in its place, and one removed.
 use Rattle.std.specs.Prelude.{ℕ, ◌<◌, Bool, not, ◌==◌, nat_lt, List, [], ◌∷◌, ◌++◌, filter, All}
 
 -- each element comes before all later ones
@@ -10,15 +10,15 @@ IsInOrder Before (x ∷ xs) = All (Before x) xs × IsInOrder Before xs
 abbrev pub with_inserted : {X : Type 0} → (X → Bool) → X → List X → List X
 with_inserted before x xs = filter before xs ++ x ∷ filter (λ y. not (before y)) xs
 
--- the elements of another key than `i`
+-- the elements whose key is not `i`
 abbrev pub without_key : {X : Type 0} → (X → ℕ) → ℕ → List X → List X
 without_key key i xs = filter (λ x. not (key x == i)) xs
 
--- numbers that rise
+-- numbers in ascending order
 abbrev pub AreRising : List ℕ → Type 0
 AreRising ns = IsInOrder (λ m n. m < n) ns
 
--- rising numbers with one more in its place, and with one taken out
+-- ascending numbers with one more in its place, and with one removed
 abbrev pub with_number : ℕ → List ℕ → List ℕ
 with_number n ns = with_inserted (λ m. nat_lt m n) n ns
 

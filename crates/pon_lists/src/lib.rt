@@ -1,5 +1,5 @@
-//! What contracts and proofs of several crates say of lists: an order, an element put in its place, bytes, the numbers
-//! of a list with each of them once, and decoders that read step by step.
+//! Definitions and lemmas on lists for several crates: a list in an order, an element inserted in its place, bytes, the
+//! distinct numbers of a list, and decoders that read step by step.
 //!
-//! It holds definitions (`specs/`) and lemmas (`proofs/`), and no code that runs.
+//! It has definitions (`specs/`) and lemmas (`proofs/`), and no code that runs.
 #![tactic(auto)]

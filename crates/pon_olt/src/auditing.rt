@@ -10,7 +10,7 @@ use std::io::{self, ErrorKind, Read};
 use std::rt::Files;
 use std::thread::Threads;
 
-// The bytes of the file of this name. A file that cannot be opened cannot be read.
+// Reads the file `name`. Returns `Read` if the file cannot be opened.
 fn bytes_of<R: Files>(rt: &R, alloc: Global, name: &str) -> Result<Vec<u8>, PlanFault> {
     let Ok(mut file) = fs::open(rt, name) else {
         return Err(PlanFault::Read);
@@ -23,7 +23,7 @@ fn bytes_of<R: Files>(rt: &R, alloc: Global, name: &str) -> Result<Vec<u8>, Plan
     }
 }
 
-/// Judges the recording of this name, and prints the verdict. `true` if the recording is good.
+/// Judges the recording in the file `name`, and prints the verdict. Returns `true` if the recording is good.
 pub(crate) fn audit_file<R: Files + Print + Threads + Sync>(
     rt: &R,
     alloc: Global,

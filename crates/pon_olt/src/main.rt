@@ -1,8 +1,8 @@
 //! `olt`: the upstream bandwidth scheduler of an XG-PON optical line terminal, as a program.
 //!
-//! Management lines come in, and the reply or the refusal of each goes out ([`plan`]); a check file is judged
-//! ([`check_file`]), and so is a recording ([`audit`]); ports are run over sockets ([`run_ports`]). The program adds the standard
-//! streams, the files, the settings and the exit status.
+//! The program executes management lines and prints a reply or a refusal for each ([`plan`]), judges a check file
+//! ([`check_file`]) or a recording ([`audit`]), or runs ports over sockets ([`run_ports`]). This crate adds the
+//! standard streams, the files, the settings and the exit status.
 #![tactic(auto)]
 
 ghost use Rattle.std.specs.Prelude.{length};
@@ -33,7 +33,7 @@ use std::rt::Files;
 use std::sync::Wait;
 use std::thread::Threads;
 
-// Answers the lines of standard input.
+// Executes the management lines of standard input.
 fn plan_lines<R: Input + Print>(
     rt: &R,
     alloc: Global,
@@ -50,7 +50,7 @@ fn plan_lines<R: Input + Print>(
     plan(rt, alloc, ports.as_slice(), steps, &mut reader, &mut writer)
 }
 
-// Says why settings are refused.
+// Prints why settings are refused, and returns the outcome of the run.
 fn outcome_of_opening<R: Eprint>(rt: &R, why: NotOpened) -> Outcome {
     match why {
         NotOpened::Failed(fault) => Outcome::Failed(fault),
@@ -61,7 +61,7 @@ fn outcome_of_opening<R: Eprint>(rt: &R, why: NotOpened) -> Outcome {
     }
 }
 
-// Answers the lines of standard input at the ports of the settings file, or at one port without settings.
+// Executes the lines of standard input at the ports of the settings file, or at one port without settings.
 fn run_plan<R: Input + Print + Eprint + Files>(
     rt: &R,
     alloc: Global,
@@ -77,7 +77,7 @@ fn run_plan<R: Input + Print + Eprint + Files>(
     }
 }
 
-// Runs the ports of the settings file over sockets. The answer is the exit status.
+// Runs the ports of the settings file over sockets. Returns the exit status.
 fn run_settings<R>(rt: &R, alloc: Global, config: &str, args: RunArgs<'_>) -> u8
 where
     R: Net<Listener = TcpListener, Stream = TcpStream>
@@ -97,7 +97,7 @@ where
     }
 }
 
-// Judges the certificate of a check file. A file that cannot be opened cannot be read.
+// Judges the certificate of a check file. Returns `Read` if the file cannot be opened.
 fn judge_file<R: Files + Print>(rt: &R, alloc: Global, name: &str) -> Result<bool, PlanFault> {
     let Ok(file) = fs::open(rt, name) else {
         return Err(PlanFault::Read);
@@ -110,7 +110,7 @@ fn judge_file<R: Files + Print>(rt: &R, alloc: Global, name: &str) -> Result<boo
     check_file(alloc, &mut reader, &mut writer)
 }
 
-// Prints what clap says of the words. Help and version that cannot be written are a failed write.
+// Prints clap's message for the command line. The outcome is a failed write if help or version cannot be written.
 fn show<R: Print + Eprint>(rt: &R, error: &Error) -> Outcome {
     let outcome = outcome_of_words(error);
     if let Outcome::Failed(_) = outcome {
@@ -122,7 +122,7 @@ fn show<R: Print + Eprint>(rt: &R, error: &Error) -> Outcome {
     }
 }
 
-// Says of a failed device or refused memory that it was met. The answer is the exit status.
+// Prints the fault if a device failed or memory was refused. Returns the exit status.
 fn told(rt: &impl Eprint, outcome: Outcome) -> u8 {
     if let Outcome::Failed(fault) = outcome {
         let _ = eprintln!(rt; "olt: {fault}");
@@ -130,7 +130,7 @@ fn told(rt: &impl Eprint, outcome: Outcome) -> u8 {
     exit_status(outcome)
 }
 
-// The outcome where the words cannot be read: a word is not UTF-8, or memory was refused.
+// Returns the outcome if the command line cannot be read: a word is not UTF-8, or memory was refused.
 fn without_words(rt: &impl Eprint, error: &io::Error) -> Outcome {
     if error.kind() != io::ErrorKind::InvalidData {
         return Outcome::Failed(PlanFault::Memory);
@@ -139,7 +139,7 @@ fn without_words(rt: &impl Eprint, error: &io::Error) -> Outcome {
     Outcome::CommandLine
 }
 
-// Does the job that the words name. The answer is the exit status.
+// Does the job of the command line. Returns the exit status.
 fn run<R>(rt: &R, alloc: Global, words: &[String]) -> u8
 where
     R: Net<Listener = TcpListener, Stream = TcpStream>

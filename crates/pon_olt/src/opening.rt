@@ -1,4 +1,4 @@
-//! What `plan` begins with: the ports and the steps of the settings, or one port without settings.
+//! What `plan` starts from: the ports and the steps of the settings, or one port without settings.
 
 ghost use Rattle.std.specs.Prelude.{◌≡◌, ℕ, List, [], IfOk, length};
 ghost use Rattle.pon_plant.specs.Plants.{IsPlantSize};
@@ -17,28 +17,28 @@ use std::rt::Files;
 /// The gap before each burst of the port that is opened without settings, in words.
 const GAP_WITHOUT_SETTINGS: u16 = 16;
 
-/// The burst profile of that port.
+/// The burst profile of the port that is opened without settings.
 const PROFILE_WITHOUT_SETTINGS: u8 = 0;
 
-/// The first frame of that port.
+/// The first frame of the port that is opened without settings.
 const FRAME_WITHOUT_SETTINGS: u64 = 0;
 
-/// The most bytes of a settings file. 64 ports with 256 Alloc-IDs each take about two million.
+/// Maximum size of a settings file, in bytes. 64 ports with 256 Alloc-IDs each take about two million bytes.
 const MOST_BYTES: u64 = 16_777_216;
 
-/// The ports that are opened, 1 to 64, and the steps that are taken before the first line.
+/// The 1 to 64 ports to open, and the steps to take before the first line.
 #[derive(Drop)]
 pub(crate) struct Opening {
     pub(crate) ports: Vec<(PortCfg, FrameNo)>,
     pub(crate) steps: Vec<Step>,
 }
 
-/// Why there is nothing to begin with.
+/// Why nothing can be opened.
 #[derive(Drop)]
 pub(crate) enum NotOpened {
     /// The settings file cannot be read, or memory was refused.
     Failed(PlanFault),
-    /// The settings are refused. The text says where, and which rule they break.
+    /// The settings are refused. The text names the place, and the rule that is broken.
     Refused(String),
 }
 
@@ -54,7 +54,7 @@ impl From<AllocError> for NotOpened {
     }
 }
 
-// The port that is opened without settings.
+// Returns the port that is opened without settings.
 fn only_port() -> (PortCfg, FrameNo)
     ensures gap { result.0.gap ≡ GAP_WITHOUT_SETTINGS }
     ensures profile { result.0.profile ≡ PROFILE_WITHOUT_SETTINGS }
@@ -68,7 +68,7 @@ fn only_port() -> (PortCfg, FrameNo)
     )
 }
 
-/// One port without Alloc-IDs. `Err` only if memory is refused.
+/// Returns one port without Alloc-IDs. `Err` only if memory is refused.
 pub(crate) fn without_settings(alloc: Global) -> Result<Opening, AllocError>
     ensures ports { IfOk result (λ opening. IsPlantSize (length opening.ports.items)) }
     ensures steps { IfOk result (λ opening. opening.steps.items ≡ []) }
@@ -78,7 +78,7 @@ pub(crate) fn without_settings(alloc: Global) -> Result<Opening, AllocError>
     Ok(Opening { ports, steps })
 }
 
-// What settings open, and the steps that admit their rows.
+// Returns the ports of settings, and the steps that admit their rows. `Err` only if memory is refused.
 fn opening_of(alloc: Global, settings: &Settings) -> Result<Opening, AllocError>
     ensures size { IfOk result (λ opening. IsPlantSize (length opening.ports.items)) }
     ensures ports { IfOk result (λ opening. opening.ports.items ≡ openings settings.now) }
@@ -107,7 +107,7 @@ fn refused_as(alloc: Global, rule: &str) -> NotOpened {
     }
 }
 
-// The text of a settings file of this name. A file that cannot be opened cannot be read.
+// Reads the settings file `name`. Returns `Failed` with `Read` if the file cannot be opened.
 fn text_of<R: Files>(rt: &R, alloc: Global, name: &str) -> Result<String, NotOpened> {
     let Ok(file) = fs::open(rt, name) else {
         return Err(NotOpened::Failed(PlanFault::Read));
@@ -123,7 +123,7 @@ fn text_of<R: Files>(rt: &R, alloc: Global, name: &str) -> Result<String, NotOpe
     }
 }
 
-/// The settings of the file of this name: those that its text spells.
+/// Reads the settings file `name` and returns the settings that its text spells.
 pub(crate) fn settings_of<R: Files>(
     rt: &R,
     alloc: Global,
@@ -138,7 +138,7 @@ pub(crate) fn settings_of<R: Files>(
     }
 }
 
-/// The ports and the steps of the settings file of this name: those that its text spells.
+/// Reads the settings file `name` and returns the ports and the steps that its text spells.
 pub(crate) fn with_settings<R: Files>(
     rt: &R,
     alloc: Global,

@@ -1,4 +1,4 @@
--- One more step of a run is one more entry of its own port, if it is accepted.
+-- An accepted step of a run adds one entry at its own port, and none elsewhere.
 use Rattle.std.proofs.Common.{◌≡◌, ◌≢◌, ℕ, ◌<◌, suc, zero, ◌==◌, Bool, true, false, cond, List, [], ◌∷◌, ◌++◌, length, map, take, set, refl, ap, sym, ◌∙◌, subst, arith, append_assoc, length-append, inl, inr}
 use Rattle.std.specs.Prelude.{◌⊎◌, if◌then◌else◌, Option, Some, None, Result, Ok, Err, slice_get}
 use Rattle.std.specs.List.{filter}
@@ -67,7 +67,7 @@ module _ (p : ℕ) where
   abbrev is_here : Step → Bool
   is_here s = s.port == p
 
-  -- the first step's entry, then the others'
+  -- the accepted steps of a list: the entry of the first step, then those of the others
   pub accepted-cons : (s : Step) (ss : List Step) (a : Result Reply StepFault) (rs : List (Result Reply StepFault)) →
       accepted p (s ∷ ss) (a ∷ rs) ≡ accepted p (s ∷ []) (a ∷ []) ++ accepted p ss rs
   accepted-cons s ss a rs = elim (s.port == p) as (λ b.
@@ -94,7 +94,7 @@ module _ (p : ℕ) where
     | false ↦ refl
   ]
 
-  -- the last step's entry is the last
+  -- the entry of the last step comes last
   pub accepted-push : (ss : List Step) (rs : List (Result Reply StepFault)) (s : Step) (a : Result Reply StepFault) → length rs ≡ length ss →
       accepted p (ss ++ s ∷ []) (rs ++ a ∷ []) ≡ accepted p ss rs ++ accepted p (s ∷ []) (a ∷ [])
   accepted-push [] [] s a n = refl
@@ -106,7 +106,7 @@ module _ (p : ℕ) where
       ∙ sym (append_assoc (accepted p (t ∷ []) (b ∷ [])) (accepted p ss rs) (accepted p (s ∷ []) (a ∷ [])))
       ∙ ap (λ (es : List Entry). es ++ accepted p (s ∷ []) (a ∷ [])) (sym (accepted-cons t ss b rs))
 
--- a step adds its accepted entry at each port: at its own, if it is accepted, and none at the others
+-- a step adds its accepted entry at its own port, and none at the others
 after_step_at : (p : ℕ) (mid : List Chapter) (s : Step) (a : Result Reply StepFault) → IsAnswer (slice_get mid s.port) s.event a →
     slice_get (after_step mid s a) p ≡ option_map (with_entries (accepted p (s ∷ []) (a ∷ []))) (slice_get mid p)
 after_step_at p mid s (Err fault) h =
@@ -143,7 +143,7 @@ no_steps old = record {
 }
 
 module _ (old mid : List Chapter) (ss : List Step) (rs : List (Result Reply StepFault)) (s : Step) (a : Result Reply StepFault) (ran : Ran old ss rs mid) (answer : IsAnswer (slice_get mid s.port) s.event a) where
-  -- what is said of the k-th step
+  -- the property of the k-th step of a run
   abbrev IsAnswered : List Step → List (Result Reply StepFault) → Step → Result Reply StepFault → Type 0
   IsAnswered before answers t b = IsAnswer (chapter_after old t.port before answers) t.event b
 

@@ -1,4 +1,4 @@
--- What becomes of a port depends on its own steps alone.
+-- The history of a port depends on its own steps alone.
 use Rattle.std.proofs.Common.{◌≡◌, ◌≢◌, ℕ, suc, zero, ◌==◌, true, false, List, [], ◌∷◌, ◌++◌, length, map, take, refl, ap, sym, ◌∙◌, subst, arith}
 use Rattle.std.specs.Prelude.{◌↔◌, ◌≤◌, cond, if◌then◌else◌, Option, Some, None, Result, Ok, Err, slice_get}
 use Rattle.std.specs.List.{filter}
@@ -43,7 +43,7 @@ one_told : (q : Option Refusal) (a b : Refusal) → IsTold q a → IsTold q b �
 one_told None a b h k = h ∙ sym k
 one_told (Some r) a b h k = h ∙ sym k
 
--- if no check refuses, a refusal is that of memory
+-- if no check refuses, the only refusal is that of memory
 not_refused : (c : Chapter) (v : Event) (told : Refusal) → refusal_of c v ≡ None → IsTold (refusal_of c v) told → told ≡ OutOfMemory
 not_refused c v told e h = subst (λ q. IsTold q told) e h
 
@@ -78,7 +78,7 @@ one_history c (v ∷ vs) (a ∷ rs) (b ∷ bs) l h k na nb =
 -- A port of a plant.
 
 module _ (p : ℕ) where
-  -- the answers to the steps of the port, as a run has them
+  -- the answers to the steps of the port in a run
   abbrev AnswersHere : Chapter → List Step → List (Result Reply StepFault) → Type 0
   AnswersHere c ss rs = (k : ℕ) (s : Step) (a : Result Reply StepFault) → slice_get ss k ≡ Some s → slice_get rs k ≡ Some a → s.port ≡ p →
       IsAnswer (Some (with_entries (accepted p (take k ss) (take k rs)) c)) s.event a

@@ -1,4 +1,4 @@
--- What a step leaves, from what the port promises of it.
+-- What a step leaves, from the port's contract.
 use Rattle.std.proofs.Common.{◌≡◌, ℕ, ◌<◌, List, [], ◌∷◌, ◌++◌, length, get_or, set, refl, ap, sym, ◌∙◌, subst, arith, length-set, take, ◌+◌}
 use Rattle.std.specs.Prelude.{IfErr, IfOk, IsErrAnd, MatchResult, OnErr, Some, Result, Ok, Err, slice_get}
 use Rattle.std.proofs.lemmas.List.{map-append, set-get_or, take_more}
@@ -30,19 +30,19 @@ at_port plant p i c e lt is = subst (λ q. slice_get plant q ≡ Some c) e (slic
 pub chapter_at : (plant : List Chapter) (i : ℕ) (c : Chapter) → IsPlant plant → i < length plant → c ≡ get_or plant i c → IsLawfulChapter c
 chapter_at plant i c k lt is = subst IsLawfulChapter (sym is) (All-get_or IsLawfulChapter plant i c lt k.lawful)
 
--- a port that is asked stays lawful
+-- an event keeps the chapter of a port lawful
 pub stays_lawful : (c d : Chapter) (v : Event) (r : Result Reply Refusal) → IsLawfulChapter c → IfOk r (λ reply. Takes c v reply d) → OnErr r (d ≡ c) → IsLawfulChapter d
 stays_lawful c d v (Ok reply) l taken kept = taken_lawful c d v reply l taken
 stays_lawful c d v (Err told) l taken kept = subst IsLawfulChapter (sym kept) l
 
--- a plant stays one
+-- replacing a chapter by a lawful one keeps a plant a plant
 pub stays_plant : (plant : List Chapter) (i : ℕ) (d : Chapter) → IsPlant plant → IsLawfulChapter d → IsPlant (set plant i d)
 stays_plant plant i d k l = record {
   size = (omega (arith, length-set plant i d, k.size), omega (arith, length-set plant i d, k.size));
   lawful = All-set IsLawfulChapter plant i d l k.lawful;
 }
 
--- what a port gives, as the answer to a step
+-- the result of a port as the answer to a step
 abbrev pub answer_of : Result Reply Refusal → Result Reply StepFault
 answer_of (Ok reply) = Ok reply
 answer_of (Err refusal) = Err (Refused refusal)
@@ -51,13 +51,13 @@ pub told_by : (r : Result Reply Refusal) (a : Result Reply StepFault) → MatchR
 told_by (Ok reply) a h = h
 told_by (Err refusal) a h = let p = err_from_is_err_and a h in p.1 ∙ ap Err p.2
 
--- it answers the step
+-- the result of the port is the answer to the step
 pub asked : (plant : List Chapter) (s : Step) (c d : Chapter) (r : Result Reply Refusal) → slice_get plant s.port ≡ Some c → IfOk r (λ reply. Takes c s.event reply d) →
     IfOk r (λ reply. TellsFairMap (present_state c) reply) → IfErr r (λ told. IsTold (refusal_of c s.event) told) → IsAnswer (slice_get plant s.port) s.event (answer_of r)
 asked plant s c d (Ok reply) found taken fair told = subst (λ o. IsAnswer o s.event (Ok reply)) (sym found) (record { follows = taken.follows; fair = fair })
 asked plant s c d (Err refusal) found taken fair told = subst (λ o. IsAnswer o s.event (Err (Refused refusal))) (sym found) told
 
--- and leaves the plant after it
+-- the new chapter at its port gives the plant after the step
 pub left : (plant : List Chapter) (s : Step) (i : ℕ) (c d : Chapter) (r : Result Reply Refusal) → slice_get plant s.port ≡ Some c → i ≡ s.port → c ≡ get_or plant i c →
     IfOk r (λ reply. Takes c s.event reply d) → OnErr r (d ≡ c) → set plant i d ≡ after_step plant s (answer_of r)
 left plant s i c d (Ok reply) found e is taken kept =

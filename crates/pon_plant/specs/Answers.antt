@@ -1,4 +1,4 @@
--- What a step is answered, and what it leaves.
+-- The answer to a step, and the plant after it.
 use Rattle.std.specs.Prelude.{◌≡◌, ◌≢◌, List, length, All, Option, Some, None, Result, Ok, Err, slice_get, slice_set}
 use Rattle.pon_descr.specs.Checks.{IsTold}
 use Rattle.pon_descr.specs.declared.refusal.Refusal.TheVariants.{OutOfMemory}
@@ -17,8 +17,8 @@ pub record IsAccepted (c : Chapter) (event : Event) (reply : Reply) : Type 0 whe
   pub follows : MayFollow (length c.entries) (present_state c) (record { event = event; reply = reply })
   pub fair : TellsFairMap (present_state c) reply
 
--- an answer to an event at a port with this chapter, if there is such a port: the reply of an entry that may follow, or the
--- first check that refuses, or out of memory if none does
+-- the answer to an event at a port with this chapter (`None`: no such port): the reply of an entry that may follow, or
+-- the first refusal, or out of memory if no check refuses
 abbrev pub IsAnswer : Option Chapter → Event → Result Reply StepFault → Type 0
 IsAnswer None event answer = answer ≡ Err NoSuchPort
 IsAnswer (Some c) event (Ok reply) = IsAccepted c event reply
@@ -28,12 +28,12 @@ IsAnswer (Some c) event (Err (Refused told)) = IsTold (refusal_of c event) told
 abbrev pub NoneIsOutOfMemory : List (Result Reply StepFault) → Type 0
 NoneIsOutOfMemory answers = All (λ answer. answer ≢ Err (Refused OutOfMemory)) answers
 
--- the port has one entry more
+-- the port gets one more entry
 abbrev pub after_entry : List Chapter → Step → Reply → Option Chapter → List Chapter
 after_entry plant step reply None = plant
 after_entry plant step reply (Some c) = slice_set plant step.port (with_entry c step.event reply)
 
--- the plant after a step: an accepted one adds its entry at its port, another leaves the plant as it is
+-- the plant after a step: an accepted step adds its entry at its port, any other leaves the plant unchanged
 abbrev pub after_step : List Chapter → Step → Result Reply StepFault → List Chapter
 after_step plant step (Ok reply) = after_entry plant step reply (slice_get plant step.port)
 after_step plant step (Err fault) = plant

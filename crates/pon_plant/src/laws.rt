@@ -1,4 +1,4 @@
-//! Laws of runs, over the definitions alone.
+//! Laws on runs, stated over the definitions alone.
 
 ghost use Rattle.std.specs.Prelude.{◌≡◌, ◌≤◌, ◌↔◌, ℕ, List, [], ◌∷◌, ◌++◌, Err, Some, Result, length, slice_get};
 ghost use Rattle.pon_event.specs.declared.step.Step.{Step};
@@ -9,8 +9,8 @@ ghost use Rattle.pon_plant.specs.Projections.{answers_at, events_at, steps_alone
 ghost use Rattle.pon_plant.specs.Answers.{IsAnswer, after_step};
 ghost use Rattle.pon_plant.specs.Runs.{Ran, RanFrom};
 
-/// Runs go step by step: no steps leave the plant as it was, and one more step is answered by the plant that the steps
-/// before it leave.
+/// A run proceeds step by step: a run without steps leaves the plant unchanged, and an additional step is answered in
+/// the plant that the earlier steps leave.
 pub fn runs_go_step_by_step()
     ensures none { (old : List Chapter) → Ran old [] [] old }
     ensures one_more { (old mid : List Chapter) (steps : List Step)
@@ -20,14 +20,14 @@ pub fn runs_go_step_by_step()
         Ran old (steps ++ step ∷ []) (answers ++ answer ∷ []) (after_step mid step answer) }
 {}
 
-/// A run leaves each port as it was at which it has no step.
+/// A port without a step in a run is unchanged by the run.
 pub fn steps_at_one_port_change_no_other()
     ensures { (old new : List Chapter) (steps : List Step)
         (answers : List (Result Reply StepFault)) (port : ℕ) → Ran old steps answers new
         → events_at port steps ≡ [] → slice_get new port ≡ slice_get old port }
 {}
 
-/// A run answers `NoSuchPort` to exactly those steps whose port the plant does not have.
+/// A run answers `NoSuchPort` to exactly the steps whose port the plant does not have.
 pub fn no_such_port_exactly_if_there_is_none()
     ensures { (old new : List Chapter) (steps : List Step)
         (answers : List (Result Reply StepFault)) (k : ℕ) (step : Step)
@@ -36,8 +36,8 @@ pub fn no_such_port_exactly_if_there_is_none()
         → answer ≡ Err StepFault.NoSuchPort ↔ length old ≤ step.port }
 {}
 
-/// A port runs as if it were alone: its part of a run, which is its steps with their answers, is a run of a plant with that
-/// port only, and leaves it the same chapter.
+/// A port runs as if it were alone: its steps with their answers are a run of a plant that has only this port, and that
+/// run leaves the same chapter.
 pub fn a_port_runs_as_if_alone()
     ensures { (old new : List Chapter) (steps : List Step)
         (answers : List (Result Reply StepFault)) (port : ℕ) (c : Chapter)
@@ -46,9 +46,9 @@ pub fn a_port_runs_as_if_alone()
         (steps_alone (events_at port steps)) (answers_at port steps answers) (d ∷ []) }
 {}
 
-/// What becomes of a port depends on its own steps alone. Take any two runs in which a port begins with the same lawful
-/// chapter and has the same steps in the same order, between whatever steps at other ports. If neither answers a step at
-/// that port as out of memory, both give it the same answers and leave it the same chapter.
+/// The history of a port depends on its own steps alone. In any two runs, let a port begin with the same lawful chapter
+/// and have the same steps in the same order, among any steps at other ports. If neither run answers a step at that
+/// port as out of memory, both give the same answers to these steps and leave the same chapter at the port.
 pub fn ports_depend_on_their_own_steps_alone()
     ensures answers { (port : ℕ) (c : Chapter) (steps other : List Step)
         (answers told : List (Result Reply StepFault)) (old new old2 new2 : List Chapter)

@@ -7,7 +7,7 @@ use pon_state::PortCfg;
 use pon_units::FrameNo;
 use std::alloc::{AllocError, Global};
 
-// Opens a port. Its history, which has no entries, is lawful.
+// Opens a port without entries. Its history is lawful. `Err` only if memory is refused.
 fn open_port(alloc: Global, cfg: PortCfg, first: FrameNo) -> Result<Port, AllocError>
     ensures opened { IfOk result (λ port. port ≡ opened_port (cfg, first)) }
     ensures lawful { IfOk result (λ port. IsLawfulChapter port) }
@@ -17,7 +17,7 @@ fn open_port(alloc: Global, cfg: PortCfg, first: FrameNo) -> Result<Port, AllocE
     Ok(port)
 }
 
-/// Opens a port for each configuration and first frame, in their order. `Err` only if memory is refused.
+/// Opens a port for each configuration and first frame, in order. `Err` only if memory is refused.
 pub(crate) fn open_ports(
     alloc: Global,
     ports: &[(PortCfg, FrameNo)],

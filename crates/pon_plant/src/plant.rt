@@ -7,9 +7,9 @@ use pon_units::{FrameNo, MOST_PORTS, PortNo};
 use std::alloc::{AllocError, Global};
 use std::marker::Model;
 
-/// The ports of a line terminal, 1 to 64, by their numbers from 0.
+/// The ports of a line terminal, 1 to 64, numbered from 0.
 ///
-/// Contracts see a plant as the list of its ports' chapters. The type keeps that each of them is lawful.
+/// Contracts see a plant as the list of its ports' chapters. The type guarantees that each chapter is lawful.
 #[derive(Drop)]
 pub struct Plant {
     ports: Vec<Port>,
@@ -33,7 +33,7 @@ impl Plant {
     ghost use Rattle.pon_plant.specs.Answers.{IsAnswer, after_step};
     ghost use Rattle.pon_plant.specs.Runs.{Ran};
 
-    /// Opens a port for each configuration and first frame, numbered from 0 in their order.
+    /// Opens a port for each configuration and first frame, numbered from 0 in this order.
     ///
     /// `Ports` exactly if there are none or more than 64; `Memory` only if memory is refused.
     pub fn open(alloc: Global, ports: &[(PortCfg, FrameNo)]) -> Result<Plant, PlantFault>
@@ -48,7 +48,7 @@ impl Plant {
         Ok(Plant { ports })
     }
 
-    /// The number of ports, 1 to 64.
+    /// Number of ports, 1 to 64.
     pub fn count(&self) -> usize
         ensures count { result ≡ length self.now }
         ensures lawful { IsPlant self.now }
@@ -56,7 +56,7 @@ impl Plant {
         self.ports.len()
     }
 
-    /// The port of a number. `None` exactly if the plant has no such port.
+    /// Returns the port with this number. `None` exactly if the plant has no such port.
     pub fn port(&self, port: PortNo) -> Option<&Port>
         ensures { MatchOption result (length self.now ≤ port)
             (λ p. slice_get self.now port ≡ Some p.now) }
@@ -64,10 +64,11 @@ impl Plant {
         self.ports.get(usize::from(port.get()))
     }
 
-    /// Asks the port of a step to take its event.
+    /// Takes the event of a step at its port.
     ///
-    /// `NoSuchPort` exactly if the plant has no such port; `Refused` with the first check that refuses the event, or with
-    /// `OutOfMemory` if none does and memory is refused. Only an accepted step changes the plant, and only at its own port.
+    /// Returns `NoSuchPort` exactly if the plant has no such port; `Refused` with the first refusal of the event, or
+    /// with `OutOfMemory` if no check refuses but memory does. Only an accepted step changes the plant, and only its
+    /// own port.
     pub fn step(&mut self, step: Step) -> Result<Reply, StepFault>
         ensures answer { IsAnswer (slice_get self.old step.port) step.event result }
         ensures plant { self.new ≡ after_step self.old step result }
@@ -79,9 +80,9 @@ impl Plant {
         port.take(step.event).map_err(StepFault::Refused)
     }
 
-    /// Takes steps in their order and returns the answer to each, in the same order. A refused step does not stop the run.
+    /// Takes steps in order and returns their answers in the same order. A refused step does not stop the run.
     ///
-    /// Room for all answers is made first, so that `Err`, which comes only if that memory is refused, changes nothing.
+    /// Reserves room for all answers first: `Err`, only if this memory is refused, leaves the plant unchanged.
     pub fn run(
         &mut self,
         alloc: Global,
@@ -91,7 +92,7 @@ impl Plant {
         ensures err { OnErr result (self.new ≡ self.old) }
         ensures lawful { IsPlant self.new }
     {
-        // Also a run without steps, or without room, leaves lawful histories.
+        // The histories are lawful, also after a run without steps or without room.
         prove!(self.count() <= MOST_PORTS);
         let mut answers = Vec::with_capacity(alloc, steps.len())?;
         for step in steps {

@@ -28,7 +28,7 @@ fn at(rt: &impl Abort, port: u8, event: Event) -> Step {
     Step { port, event }
 }
 
-// An Alloc-ID with a fixed rate of 10 words a frame, and up to 20 more while it has a load.
+// Admits an Alloc-ID with a fixed rate of 10 words a frame, and up to 20 more while it has a load.
 fn admission(rt: &impl Abort) -> Event {
     let descriptor = Descriptor::new(2560, 5120, 7680, Class::Plain);
     Event::Admit {
@@ -38,7 +38,7 @@ fn admission(rt: &impl Abort) -> Event {
     }
 }
 
-// A hundred words in answer to the map of frame 0.
+// Reports 100 words for the map of frame 0.
 fn report(rt: &impl Abort) -> Event {
     let mut occ = Occupancies::new();
     occ.push(BufOcc::new(100));
@@ -54,7 +54,7 @@ fn fail(rt: &impl Abort) -> Event {
     Event::Fail { cause }
 }
 
-// The words that the one grant of a map gives, or the fault.
+// Returns the words that the one grant of a map gives, or the fault.
 fn summary(answer: &Result<Reply, StepFault>) -> (Option<u16>, Option<StepFault>) {
     match answer {
         Ok(Reply::Taken) => (None, None),

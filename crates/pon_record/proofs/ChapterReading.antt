@@ -20,7 +20,7 @@ module _ {A : Type 0} (f : Format A) where
   abbrev tagged_value : A × List ℕ → Option ((ℕ × A) × List ℕ)
   tagged_value b = Some ((CHAPTER_TAG, b.0), b.1)
 
-  -- what is read behind the tag and the length
+  -- what is read after the tag and the length
   abbrev behind_head : ℕ → List ℕ → Option ((ℕ × A) × List ℕ)
   behind_head size rest = cond (ltb (length rest) size) None (all_of (f.read (take size rest)) >>= λ x. sized_value x (drop size rest)) >>= tagged_value
 
@@ -43,7 +43,7 @@ module _ {A : Type 0} (f : Format A) where
       ∙ ap (λ (n : ℕ). behind_head n (drop 4 more)) (sym size)
       ∙ rw (inside, whole, e, after) refl
 
--- a chapter whose body is read
+-- a chapter whose body is read begins the bytes
 pub begins_with : (bytes piece : List ℕ) (at : ℕ) (c : PlacedChapter) → HasBody bytes piece → all_of (body.read piece) ≡ Some c.body → c.at ≡ at → BeginsWith bytes at c (HEAD_BYTES + length piece)
 begins_with bytes piece at c has e place = record {
   place = place;

@@ -1,4 +1,4 @@
--- Formats whose two directions agree: what fits is read back, whatever follows, and what is read fits and was written so.
+-- Formats whose two directions agree: what fits is read back, whatever follows; what is read fits and has these bytes.
 use Rattle.std.proofs.Common.{◌≡◌, ℕ, zero, suc, ◌^◌, ◌<◌, ◌≤◌, Bool, true, false, cond, ltb, leb, eqb, List, [], ◌∷◌, ◌++◌, length, take, drop, Option, Some, None, refl, sym, ap, subst, ◌∙◌, append_assoc, arith}
 use Rattle.std.specs.Int.{Width, w8, w16, w32, w64, byte_len, from_be_bytes, to_be_bytes}
 use Rattle.std.specs.List.{flat_map, AllByRecursion}
@@ -14,7 +14,7 @@ use Rattle.pon_record.specs.Format.{Format, ◌&◌, number, told_by, only, pass
 bytes-take : (n : ℕ) (bytes : List ℕ) → AreBytes bytes → AreBytes (take n bytes)
 bytes-take n bytes h = bytes-front (take n bytes) (drop n bytes) (subst AreBytes (sym (take-append-drop n bytes)) h)
 
--- what is left of bytes is bytes
+-- the rest of bytes is bytes
 pub rest_fits : (text rest bytes : List ℕ) → bytes ≡ text ++ rest → AreBytes bytes → AreBytes rest
 rest_fits text rest bytes e h = bytes-back text rest (subst AreBytes e h)
 
@@ -57,7 +57,7 @@ both f g F G = record {
       ((s.0, t.0), s.1 ∙ ap (λ t. f.write a.0.0 ++ t) t.1 ∙ sym (append_assoc (f.write a.0.0) (g.write b.0.0) b.0.1));
 }
 
--- ---- a value told by another
+-- ---- a value encoded by another
 
 -- no two values have the same bytes
 abbrev pub IsOneCode : {A B : Type 0} → Format A → (A → Option B) → (B → A) → Type 0
@@ -176,7 +176,7 @@ one_reading f F o p x y ho hp e =
     let same : (o, x) ≡ (p, y) = some_is (o, x) (p, y) (sym (F.again o x ho) ∙ ap f.read e ∙ F.again p y hp) in
     (ap (λ z. z.0) same, ap (λ z. z.1) same)
 
--- ---- forms that rest on what was read before
+-- ---- formats that depend on what was read before
 
 pub followed_by : {A B : Type 0} (f : Format A) (g : A → Format B) → IsExact f → ((a : A) → IsExact (g a)) → IsExact (followed f g)
 followed_by f g F G = record {

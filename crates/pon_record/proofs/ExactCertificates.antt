@@ -1,4 +1,4 @@
--- The format of a certificate agrees in its two directions.
+-- The two directions of the format of a certificate agree.
 use Rattle.std.proofs.Common.{◌≡◌, ℕ, zero, suc, ◌+◌, ◌≤◌, Bool, true, false, cond, List, ◌∷◌, ◌++◌, length, take, drop, Some, refl, sym, ap, subst, ◌∙◌, arith}
 use Rattle.std.specs.Prelude.{Result, Ok, Err, nat_lt, ◌==◌}
 use Rattle.std.specs.Int.{Width, w8, w16, w64, byte_len, from_be_bytes}
@@ -17,7 +17,7 @@ use Rattle.pon_cert.proofs.ReadsBack.{cert_back}
 use Rattle.pon_record.specs.MadeMaps.{certificate}
 use Rattle.pon_record.proofs.Exact.{IsExact}
 
--- the rest is what follows some of the bytes
+-- the rest is what follows a prefix of the bytes
 record Leaves (bytes rest : List ℕ) : Type 0 where
   used : ℕ
   within : used ≤ length bytes
@@ -59,7 +59,7 @@ wanted_is : {A : Type 0} (holds : Bool) (a x : A) → wanted holds a ≡ Ok x �
 wanted_is true a x e = same a x e
 wanted_is false a x e = absurd cc
 
--- a number of which something is wanted
+-- a number that must satisfy a condition
 known_leaves : (w : Width) (bytes : List ℕ) (n x : ℕ × List ℕ) (holds : Bool) → number_at w bytes ≡ Ok n → wanted holds n ≡ Ok x → Leaves bytes x.1
 known_leaves w bytes n x holds e k = subst (λ (p : ℕ × List ℕ). Leaves bytes p.1) (wanted_is holds n x k) (number_leaves w bytes n e)
 

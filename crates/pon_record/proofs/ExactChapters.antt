@@ -1,4 +1,4 @@
--- The formats of made maps, entries and chapters agree in their two directions.
+-- The two directions of the formats of made maps, entries and chapters agree.
 use Rattle.std.proofs.Common.{◌≡◌, ℕ, List, ◌++◌, Some, refl, sym, ap, subst}
 use Rattle.pon_event.specs.declared.event.Event.{Event}
 use Rattle.pon_event.specs.declared.event.Event.TheVariants.{Admit, Change, Remove, Report, MakeMap, Fail, Restore}

@@ -1,4 +1,4 @@
--- The format of events agrees in its two directions.
+-- The two directions of the format of events agree.
 use Rattle.std.proofs.Common.{◌≡◌, ℕ, Bool, true, false, cond, eqb, List, ◌∷◌, ◌++◌, Option, Some, None, refl, sym, ap, subst, ◌∙◌, lit<, ◌<◌, arith}
 use Rattle.std.specs.Int.{w8}
 use Rattle.std.proofs.lemmas.Bool.{eqb-true}
@@ -29,7 +29,7 @@ exact_change = both _ _ exact_alloc exact_descriptor
 exact_told : IsExact report_fields
 exact_told = both _ _ n64 (both _ _ exact_onu exact_occupancies)
 
--- written and read with its tag
+-- an event is read back from its tag and fields
 event_again : (e : Event) (rest : List ℕ) → EventFits e → event.read (event_bytes e ++ rest) ≡ Some (e, rest)
 event_again (Admit u i d) rest fits = rw (n8.again 1 (admit_fields.write (u, (i, d)) ++ rest) (lit< tt), exact_admit.again (u, (i, d)) rest fits) refl
 event_again (Change i d) rest fits = rw (n8.again 2 (change_fields.write (i, d) ++ rest) (lit< tt), exact_change.again (i, d) rest fits) refl
@@ -39,11 +39,11 @@ event_again MakeMap rest fits = rw (n8.again 5 rest (lit< tt)) refl
 event_again (Fail c) rest fits = rw (n8.again 6 (cause.write c ++ rest) (lit< tt), exact_cause.again c rest fits) refl
 event_again Restore rest fits = rw (n8.again 7 rest (lit< tt)) refl
 
--- what an event was read from
+-- the bytes from which an event was read
 abbrev IsFrom : ℕ → List ℕ → Event × List ℕ → Type 0
 IsFrom t bytes x = EventFits x.0 × (t ∷ bytes ≡ event_bytes x.0 ++ x.1)
 
--- the fields behind a tag
+-- the fields after a tag
 behind : {A : Type 0} (f : Format A) → IsExact f → (make : A → Event) (t : ℕ) → ((a : A) → f.Fits a → EventFits (make a)) → ((a : A) → event_bytes (make a) ≡ t ∷ f.write a) →
     (bytes : List ℕ) (x : Event × List ℕ) → AreBytes bytes → (f.read bytes >>= λ a. Some (make a.0, a.1)) ≡ Some x → IsFrom t bytes x
 behind f F make t fits writes bytes x h e =

@@ -1,4 +1,4 @@
--- Reading a number of values one after another, as a loop does: for any format.
+-- Reading a number of values one after another in a loop, for any format.
 use Rattle.std.proofs.Common.{◌≡◌, ℕ, suc, ◌-◌, ◌+◌, ◌≤◌, ◌<◌, List, [], ◌∷◌, ◌++◌, Option, Some, None, refl, sym, ap, subst, ◌∙◌, append_assoc, arith}
 use Rattle.std.specs.Prelude.{Result, Ok, Err}
 use Rattle.std.specs.Result.{IsErrAnd}
@@ -9,7 +9,7 @@ use Rattle.pon_record.specs.declared.fault.Stop.TheVariants.{Malformed, Memory}
 use Rattle.pon_record.specs.Format.{Format, read_times}
 use Rattle.pon_record.specs.Reading.{ReadsValue, StopsAt}
 
--- what was read before, and what is still read
+-- the values read before, followed by those still to be read
 abbrev pub with_front : {A : Type 0} → List A → Option (List A × List ℕ) → Option (List A × List ℕ)
 with_front front read = read >>= λ x. Some (front ++ x.0, x.1)
 
@@ -32,7 +32,7 @@ ends f front count i bytes total Malformed lt h so_far =
     let one : with_front front (read_times f (count - i) bytes) ≡ None = rw (k, h) refl in
     sym so_far ∙ one
 
--- a value that is not read ends the list
+-- if a value cannot be read, neither can the list
 pub stops : {A X : Type 0} (f : Format A) (front : List A) (count i : ℕ) (bytes : List ℕ) (total : Option (List A × List ℕ)) (view : X → List A × List ℕ) (r : Result X Stop) (e : Stop) → i < count → StopsAt e (f.read bytes)
     → with_front front (read_times f (count - i) bytes) ≡ total → IsErrAnd r (λ x. x ≡ e) → ReadsValue view r total
 stops f front count i bytes total view (Ok x) e lt h so_far is = absurd is

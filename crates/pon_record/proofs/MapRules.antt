@@ -1,4 +1,4 @@
--- The test of the rules of maps, and the rules.
+-- The test of the rules of maps agrees with the rules.
 use Rattle.std.proofs.Common.{◌≡◌, ℕ, zero, suc, Bool, true, false, cond, leb, List, length, Option, Some, None, refl, subst, arith, inl, inr}
 use Rattle.std.specs.Prelude.{is_none}
 use Rattle.std.proofs.lemmas.Bool.{and_parts, cases_lt, le-leb, leb-true}
@@ -26,7 +26,7 @@ pub keep : (rows : List Structure) (n : ℕ) → FirstKeepRules rows n → keeps
 keep rows zero h = refl
 keep rows (suc n) h = rw (keep rows n (λ k lt. h k (omega arith)), h n (omega arith)) refl
 
--- structures that make a map pass, and others do not
+-- structures pass the test exactly when they make a map
 pub passes : (rows : List Structure) → IsMap rows → passing is_map rows ≡ Some rows
 passes rows map = rw (le-leb (length rows) MOST_STRUCTURES map.count, keep rows (length rows) map.keep_rules) refl
 

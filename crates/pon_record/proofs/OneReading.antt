@@ -1,4 +1,4 @@
--- Bytes begin with one list of chapters, if what is behind it begins with none.
+-- Bytes begin with at most one list of chapters, if the rest begins with no chapter.
 use Rattle.std.proofs.Common.{◌≡◌, ℕ, ◌+◌, List, [], ◌∷◌, ◌++◌, length, take, drop, refl, sym, ap, subst, ◌∙◌, append_assoc, arith, inl, inr}
 use Rattle.std.specs.Prelude.{map}
 use Rattle.std.specs.List.{flat_map, AllByRecursion}
@@ -15,14 +15,14 @@ use Rattle.pon_record.proofs.Exact.{one_reading}
 use Rattle.pon_record.proofs.ExactChapters.{exact_chapter}
 use Rattle.pon_record.proofs.Reading.{bodies, place}
 
--- no chapter begins here
+-- no chapter begins the bytes
 pub record BeginsWithNone (rest : List ℕ) : Type 0 where
   pub none : (b : Body) (after : List ℕ) → FitsChapter b → rest ≡ chapter_bytes b ++ after → ⊥
 
 chapter_length : (b : Body) → length (chapter_bytes b) ≡ 5 + length (body.write b)
 chapter_length b = omega (arith, length-append (to_be_bytes w32 (length (body.write b))) (body.write b))
 
--- a chapter does not end behind the bytes that it begins
+-- the bytes of a chapter have the number of bytes of its body after the tag
 size_told : (b : Body) (after : List ℕ) → FitsChapter b → body_size (chapter_bytes b ++ after) ≡ length (body.write b)
 size_told b after fits =
     let size = length (body.write b) in
@@ -65,7 +65,7 @@ one_list (b ∷ bs) (c ∷ cs) x y f g h k e =
     let rest = one_list bs cs x y f.1 g.1 h k p.1 in
     record { list = λ i. (p.0 i).1 ∷ rest.list i; rest = rest.rest }
 
--- what bytes hold, up to a rest that begins with no chapter
+-- equal chapters, and equal rests
 pub record SameHold (whole whole2 : List PlacedChapter) (rest rest2 : List ℕ) : Type 0 where
   pub chapters : whole ≡ whole2
   pub left : rest ≡ rest2
@@ -97,7 +97,7 @@ no_bad_format bytes cs at r (inr (whole, rest, h, none, there)) =
     let same = one_hold bytes cs whole [] rest r h nothing_begins_none (other_begins_none rest none) in
     none.more (sym same.left)
 
--- and other bytes one
+-- truncated bytes have one fault
 both_truncated : (bytes : List ℕ) (at at2 : ℕ) (whole whole2 : List PlacedChapter) → IsTruncated bytes at whole → IsTruncated bytes at2 whole2 → Truncated at whole ≡ Truncated at2 whole2
 both_truncated bytes at at2 whole whole2 (inl a) (inl b) = λ i. Truncated ((a.1 ∙ sym b.1) i) ((a.2 ∙ sym b.2) i)
 both_truncated bytes at at2 whole whole2 (inl a) (inr (rest, h, cut, there)) = absurd (omega (arith, a.0, place bytes rest whole2 h))

@@ -1,4 +1,4 @@
--- Chapters that are read one after another make a recording.
+-- Chapters that are read one after another are a recording.
 use Rattle.std.proofs.Common.{◌≡◌, ℕ, ◌+◌, ◌-◌, ◌<◌, List, [], ◌∷◌, ◌++◌, length, take, drop, Some, None, refl, sym, ap, subst, ◌∙◌, append_assoc, arith, inr}
 use Rattle.std.specs.Prelude.{map}
 use Rattle.std.specs.List.{flat_map, AllByRecursion}
@@ -43,11 +43,11 @@ place bytes rest whole h =
       length-append MAGIC (flat_map chapter_bytes (bodies whole)),
     )
 
--- behind the magic bytes
+-- after the magic bytes
 pub holds_none : (bytes : List ℕ) → take 8 bytes ≡ MAGIC → Holds bytes [] (drop 8 bytes)
 holds_none bytes magic = record { parts = sym (take-append-drop 8 bytes) ∙ ap (λ (l : List ℕ). l ++ drop 8 bytes) magic; fit = tt; places = refl }
 
--- one chapter more
+-- one more chapter
 pub holds_more : (bytes rest : List ℕ) (whole : List PlacedChapter) (c : PlacedChapter) (at size : ℕ) → AreBytes bytes → Holds bytes whole rest → at ≡ length bytes - length rest → BeginsWith rest at c size → Holds bytes (whole ++ c ∷ []) (drop size rest)
 holds_more bytes rest whole c at size are h here begins =
     let front = recording_bytes (bodies whole) in
@@ -66,7 +66,7 @@ holds_more bytes rest whole c at size are h here begins =
           ∙ sym (placed_more 8 (bodies whole) c.body) ∙ ap (placed 8) (sym list);
     }
 
--- no chapter here
+-- the bytes begin with no chapter
 pub no_chapter : (rest : List ℕ) → 0 < length rest → tagged_body.read rest ≡ None → (IsCutShort rest → ⊥) → IsNoChapter rest
 no_chapter rest some none ends = record {
   more = λ e. absurd (omega (arith, some, ap (λ (l : List ℕ). length l) e));

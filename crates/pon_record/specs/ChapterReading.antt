@@ -1,4 +1,4 @@
--- What reading a chapter returns.
+-- The result of reading a chapter.
 use Rattle.std.specs.Prelude.{◌≡◌, ◌≢◌, ℕ, ◌+◌, ◌<◌, ◌≤◌, List, drop, length, slice_index, take, Some, None, Result, Ok, Err}
 use Rattle.std.specs.Borrow.{Bor}
 use Rattle.pon_record.specs.declared.limits.TheConstants.{CHAPTER_TAG, HEAD_BYTES}
@@ -12,7 +12,7 @@ abbrev pub fault_of : Stop → ChapterFault
 fault_of stop.Malformed = chapter.Malformed
 fault_of stop.Memory = chapter.Memory
 
--- the body of the chapter that the bytes begin with: its bytes, or why there is none
+-- the body of the chapter at the front of the bytes: its bytes, or why there is none
 abbrev pub HasNoBody : List ℕ → ChapterFault → Type 0
 HasNoBody bytes chapter.CutShort = IsCutShort bytes
 HasNoBody bytes chapter.Malformed = slice_index bytes 0 ≢ CHAPTER_TAG
@@ -28,14 +28,14 @@ abbrev pub IsBodyOf : List ℕ → Result (Bor (List ℕ)) ChapterFault → Type
 IsBodyOf bytes (Ok piece) = HasBody bytes piece.now
 IsBodyOf bytes (Err fault) = HasNoBody bytes fault
 
--- the chapter that the bytes begin with, and the number of its bytes
+-- the chapter at the front of the bytes, and its number of bytes
 pub record BeginsWith (bytes : List ℕ) (at : ℕ) (c : PlacedChapter) (size : ℕ) : Type 0 where
   pub place : c.at ≡ at
   pub some : 0 < size
   pub within : size ≤ length bytes
   pub read : tagged_body.read bytes ≡ Some ((CHAPTER_TAG, c.body), drop size bytes)
 
--- why the bytes begin with no chapter
+-- why no chapter begins the bytes
 abbrev pub HasNoChapter : List ℕ → ChapterFault → Type 0
 HasNoChapter bytes chapter.CutShort = IsCutShort bytes
 HasNoChapter bytes chapter.Malformed = (tagged_body.read bytes ≡ None) × (IsCutShort bytes → ⊥)

@@ -54,14 +54,14 @@ body_of x = record { port = x.0; number = x.1.0; opening = x.1.1.0; entries = x.
 abbrev pub body : Format Body
 body = told_by (as_value body_of) body_parts (port & number w64 & opening & counted (number w32) MOST_ENTRIES entry)
 
--- the tag of a chapter, the number of the bytes of its body, and these
+-- the tag of a chapter, the number of bytes of its body, and the body
 abbrev pub tagged_body : Format (ℕ × Body)
 tagged_body = only (λ n. n == CHAPTER_TAG) (number w8) & sized w32 body
 
 abbrev pub chapter_bytes : Body → List ℕ
 chapter_bytes b = tagged_body.write (CHAPTER_TAG, b)
 
--- what the format can hold
+-- the chapters that the format can represent
 abbrev pub FitsChapter : Body → Type 0
 FitsChapter b = tagged_body.Fits (CHAPTER_TAG, b)
 
@@ -70,16 +70,16 @@ pub record PlacedChapter : Type 0 where
   pub at : ℕ
   pub body : Body
 
--- chapters that stand one after another from a place on
+-- chapters one after another, from a place on
 abbrev pub placed : ℕ → List Body → List PlacedChapter
 placed at [] = []
 placed at (b ∷ bs) = record { at = at; body = b } ∷ placed (at + length (chapter_bytes b)) bs
 
--- the number of the bytes of the body, as the 4 bytes behind the tag tell it
+-- the number of bytes of the body: the 4 bytes after the tag
 abbrev pub body_size : List ℕ → ℕ
 body_size bytes = from_be_bytes w32 (take 4 (drop 1 bytes))
 
--- a chapter begins here and does not end inside the bytes, whatever its body
+-- a chapter begins here and the bytes end inside it, whatever its body
 pub record IsCutShort (bytes : List ℕ) : Type 0 where
   pub more : 0 < length bytes
   pub tag : slice_index bytes 0 ≡ CHAPTER_TAG

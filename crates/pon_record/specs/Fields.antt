@@ -32,11 +32,11 @@ rate = number w32
 abbrev pub words : Format ℕ
 words = only (λ n. nat_le n FRAME_WORDS) (number w16)
 
--- why a port is failed
+-- the cause of the failure of a port
 abbrev pub cause : Format ℕ
 cause = only (λ n. nat_le 1 n && nat_le n 9) (number w8)
 
--- why a port is failed, or 0 if it is up
+-- the cause of the failure of a port, or 0 if it is up
 abbrev pub cause_meaning : ℕ → Option (Option ℕ)
 cause_meaning n = if n == 0 then Some None else if nat_le n 9 then Some (Some n) else None
 
@@ -74,7 +74,7 @@ descriptor_code d = (d.fixed, (d.assured, (d.max, d.class)))
 abbrev pub descriptor : Format Descriptor
 descriptor = told_by descriptor_meaning descriptor_code (rate & rate & rate & class)
 
--- 1, its frame and its words that were not granted yet, of a report that counts; three times 0 if none counts
+-- for a report that counts: 1, its frame and its words that are not granted yet; three zeros if none counts
 abbrev pub report_meaning : ℕ × (ℕ × ℕ) → Option (Option Counted)
 report_meaning x =
     if x.0 == 0 then (if (x.1.0 == 0) && (x.1.1 == 0) then Some None else None)

@@ -1,15 +1,15 @@
--- Formats of bytes: how a value is written, and how one is read from the front of bytes. A format is put together from its
--- parts, and both directions follow.
+-- Formats of bytes: how a value is written, and how it is read from the front of bytes. A format is composed of its
+-- parts, in both directions.
 use Rattle.std.specs.Prelude.{◌≡◌, ℕ, zero, suc, ◌^◌, ◌<◌, ◌≤◌, Bool, nat_le, nat_lt, ◌==◌, if◌then◌else◌, List, [], ◌∷◌, ◌++◌, length, take, drop, Option, Some, None}
 use Rattle.std.specs.Int.{Width, byte_len, from_be_bytes, to_be_bytes}
 use Rattle.std.specs.List.{flat_map, AllByRecursion}
 use Rattle.pon_lists.specs.OptionSteps.{◌>>=◌}
 
 pub record Format (A : Type 0) : Type 1 where
-  -- the values that are written
+  -- the values that the format can represent
   pub Fits : A → Type 0
   pub write : A → List ℕ
-  -- the value that the bytes begin with, and the bytes after it
+  -- the value at the front of the bytes, and the bytes after it
   pub read : List ℕ → Option (A × List ℕ)
 
 -- a number of this width, most significant byte first
@@ -29,7 +29,7 @@ f & g = record {
   read = λ bytes. f.read bytes >>= λ a. g.read a.1 >>= λ b. Some ((a.0, b.0), b.1);
 }
 
--- a value that another stands for: its code. Not each code has a meaning
+-- a value that is represented by another, its code; not every code has a meaning
 abbrev pub told_by : {A B : Type 0} → (A → Option B) → (B → A) → Format A → Format B
 told_by meaning code f = record {
   Fits = λ x. f.Fits (code x) × (meaning (code x) ≡ Some x);
@@ -37,7 +37,7 @@ told_by meaning code f = record {
   read = λ bytes. f.read bytes >>= λ a. meaning a.0 >>= λ b. Some (b, a.1);
 }
 
--- each value of the format stands for one
+-- every code has a meaning
 abbrev pub as_value : {A B : Type 0} → (A → B) → A → Option B
 as_value f x = Option.Some (f x)
 
@@ -53,7 +53,7 @@ abbrev pub read_times : {A : Type 0} → Format A → ℕ → List ℕ → Optio
 read_times f zero bytes = Some ([], bytes)
 read_times f (suc n) bytes = f.read bytes >>= λ first. read_times f n first.1 >>= λ others. Some (first.0 ∷ others.0, others.1)
 
--- a count that is at most `most`, and as many values
+-- a count that is at most `most`, and this number of values
 abbrev pub counted : {A : Type 0} → Format ℕ → ℕ → Format A → Format (List A)
 counted count most f = record {
   Fits = λ xs. count.Fits (length xs) × (length xs ≤ most) × AllByRecursion f.Fits xs;
@@ -69,16 +69,16 @@ followed f g = record {
   read = λ bytes. f.read bytes >>= λ a. (g a.0).read a.1 >>= λ b. Some ((a.0, b.0), b.1);
 }
 
--- no byte, for a value that is known
+-- no bytes, for a value that is known
 abbrev pub constant : {A : Type 0} → A → Format A
 constant a = record { Fits = λ x. x ≡ a; write = λ x. []; read = λ bytes. Some (a, bytes) }
 
--- the value, if no byte is after it
+-- the value, if no byte follows it
 abbrev pub all_of : {A : Type 0} → Option (A × List ℕ) → Option A
 all_of None = None
 all_of (Some x) = if length x.1 == 0 then Some x.0 else None
 
--- the number of the bytes of a value, and these bytes
+-- the number of bytes of a value, and these bytes
 abbrev pub sized : {A : Type 0} → Width → Format A → Format A
 sized w f = record {
   Fits = λ x. f.Fits x × (length (f.write x) < 256 ^ byte_len w);

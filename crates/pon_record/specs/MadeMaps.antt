@@ -1,4 +1,4 @@
--- A map that was made: its frame, its bytes as on the line (ITU-T G.987.3, BWmap) with exact header codes and no messages, and
+-- A made map: its frame, its bytes as on the line (ITU-T G.987.3, BWmap) with exact header codes and no messages, and
 -- the bytes of its certificate.
 use Rattle.std.specs.Prelude.{ℕ, zero, suc, ◌/◌, ◌%◌, ◌^◌, ◌&&◌, ◌==◌, nat_le, Bool, true, if◌then◌else◌, List, length, Option, Some, None, is_none}
 use Rattle.std.specs.Int.{w32, w64}
@@ -17,7 +17,7 @@ use Rattle.pon_state.specs.declared.reply.MadeMap.{MadeMap}
 use Rattle.pon_record.specs.Format.{Format, ◌&◌, as_value, counted, number, only, told_by}
 use Rattle.pon_record.specs.Fields.{frame}
 
--- the head of a map of n structures and no messages: its codeword
+-- the head of a map with n structures and no messages: its codeword
 abbrev pub head_code : ℕ → ℕ
 head_code n = sealed (map_head_payload (record { n = n; p = 0 }))
 
@@ -27,7 +27,7 @@ head_meaning word = let n = word / 2 ^ 21 in if head_code n == word then Some n 
 abbrev pub head : Format ℕ
 head = told_by head_meaning head_code (number w32)
 
--- the field StartTime: all ones in a structure that continues a series
+-- the StartTime field: all ones in a structure that continues a series
 abbrev pub start_of : ℕ → Option ℕ
 start_of field = if field == 0xffff then None else Some field
 
@@ -53,7 +53,7 @@ structure_meaning word = if sealed (word / 2 ^ 13) == word then Some (structure_
 abbrev pub structure : Format Structure
 structure = told_by structure_meaning structure_code (number w64)
 
--- no structure before the n-th breaks a rule of maps
+-- none of the first n structures breaks a rule of maps
 abbrev pub keeps_rules : List Structure → ℕ → Bool
 keeps_rules rows zero = true
 keeps_rules rows (suc k) = keeps_rules rows k && is_none (row_fault rows k)

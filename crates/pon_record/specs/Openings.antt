@@ -11,7 +11,7 @@ use Rattle.pon_record.specs.declared.row.RawRow.{RawRow}
 use Rattle.pon_record.specs.Format.{Format, ◌&◌, as_value, counted, number, told_by}
 use Rattle.pon_record.specs.Fields.{alloc_id, descriptor, failure, frame, gap, onu_id, profile, report, words}
 
--- a row: the ONU, the Alloc-ID, its descriptor, the frame since which its reports count, and the report that counts
+-- a row: the ONU, the Alloc-ID, its descriptor, its since-frame, and its counted report
 abbrev pub row_parts : RawRow → ℕ × (ℕ × (Descriptor × (ℕ × Option Counted)))
 row_parts r = (r.onu, (r.alloc_id, (r.descriptor, (r.since, r.counted))))
 
@@ -41,7 +41,7 @@ window_map_of x = record { frame = x.0; grants = x.1.0; reported = x.1.1 }
 abbrev pub window_map : Format WindowMap
 window_map = told_by (as_value window_map_of) map_parts (frame & counted (number w16) MOST_GRANTS grant & counted (number w8) MOST_REPORTED onu_id)
 
--- the gap, the profile, the cause of a failure, the next frame, the entries taken before, the rows, and the window
+-- the gap, the profile, the cause of a failure, the next frame, the number of earlier entries, the rows, and the window
 pub record Opening : Type 0 where
   pub gap : ℕ
   pub profile : ℕ

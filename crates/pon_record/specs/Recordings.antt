@@ -10,7 +10,7 @@ use Rattle.pon_record.specs.Chapters.{Body, FitsChapter, IsCutShort, PlacedChapt
 abbrev pub recording_bytes : List Body → List ℕ
 recording_bytes bodies = MAGIC ++ flat_map chapter_bytes bodies
 
--- the bytes are the magic, these chapters at their places, and a rest
+-- the bytes are the magic bytes, these chapters at their places, and a rest
 pub record Holds (bytes : List ℕ) (chapters : List PlacedChapter) (rest : List ℕ) : Type 0 where
   pub parts : bytes ≡ recording_bytes (map (λ c. c.body) chapters) ++ rest
   pub fit : AllByRecursion FitsChapter (map (λ c. c.body) chapters)
@@ -19,19 +19,19 @@ pub record Holds (bytes : List ℕ) (chapters : List PlacedChapter) (rest : List
 abbrev pub IsRecording : List ℕ → List PlacedChapter → Type 0
 IsRecording bytes chapters = Holds bytes chapters []
 
--- the bytes do not begin with a chapter of this format, and do not end inside one
+-- the bytes neither begin with a chapter of this format nor end inside one
 pub record IsNoChapter (rest : List ℕ) : Type 0 where
   pub more : rest ≢ []
   pub ends : IsCutShort rest → ⊥
   pub other : (b : Body) (after : List ℕ) → FitsChapter b → rest ≡ chapter_bytes b ++ after → ⊥
 
--- the bytes are fewer than the magic, or end inside the chapter that begins at a place, behind these whole ones
+-- the bytes are fewer than the magic bytes, or end inside the chapter at a place, after these whole chapters
 abbrev pub IsTruncated : List ℕ → ℕ → List PlacedChapter → Type 0
 IsTruncated bytes at whole =
     ((length bytes < length MAGIC) × (at ≡ 0) × (whole ≡ []))
     ⊎ ((rest : List ℕ) × Holds bytes whole rest × IsCutShort rest × (at + length rest ≡ length bytes))
 
--- the bytes begin with another magic, or no chapter begins at a place, behind whole ones
+-- the bytes begin with other magic bytes, or no chapter begins at a place after whole chapters
 abbrev pub IsBadFormat : List ℕ → ℕ → Type 0
 IsBadFormat bytes at =
     ((length MAGIC ≤ length bytes) × (at ≡ 0) × (take (length MAGIC) bytes ≢ MAGIC))

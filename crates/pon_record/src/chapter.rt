@@ -4,8 +4,8 @@ use pon_units::PortNo;
 use std::alloc::{AllocError, Global};
 use std::marker::Model;
 
-/// A recorded chapter of a port: the place of its first byte in the recording, the port, the number of the chapter, the
-/// state that it opens with, and its entries.
+/// A recorded chapter of a port: the place of its first byte in the recording, the port, the number of the chapter, its
+/// opening, and its entries.
 #[derive(Debug, Drop)]
 pub struct RawChapter {
     pub at: usize,
@@ -26,7 +26,7 @@ impl Model for RawChapter {
     } };
 }
 
-/// The chapters of a recording, in its order. Contracts see it as their list.
+/// The chapters of a recording, in order. Contracts see it as the list of chapters.
 #[derive(Debug, Drop)]
 pub struct Recording {
     chapters: Vec<RawChapter>,
@@ -44,7 +44,7 @@ impl Model for Recording {
 impl Recording {
     ghost use Rattle.std.specs.Prelude.{◌≡◌, ◌∷◌, ◌++◌, [], OnOk, OnErr};
 
-    // No chapters.
+    // Creates a recording without chapters.
     pub(crate) fn new(alloc: Global) -> Recording
         ensures { result ≡ [] }
     {

@@ -1,4 +1,4 @@
-//! The reading of a chapter.
+//! Reads chapters.
 
 ghost use Rattle.std.specs.Prelude.{◌≡◌, ◌<◌, IfOk, length};
 ghost use Rattle.pon_record.specs.Format.{all_of};
@@ -15,7 +15,7 @@ use crate::openings::read_opening;
 use pon_state::MOST_ENTRIES;
 use std::alloc::Global;
 
-// The body of the chapter that begins at a place.
+// Reads the body of the chapter that begins at the place `at` of the recording.
 fn read_body(alloc: Global, at: usize, cursor: &mut Cursor<'_>) -> Result<RawChapter, Stop>
     ensures body { ReadsValue (λ c. (c.body, cursor.new)) result (body.read cursor.old) }
     ensures at { IfOk result (λ c. c.at ≡ at) }
@@ -29,7 +29,7 @@ fn read_body(alloc: Global, at: usize, cursor: &mut Cursor<'_>) -> Result<RawCha
     })
 }
 
-// The body that all these bytes are.
+// Reads a body that takes all of `bytes`.
 fn read_whole(alloc: Global, at: usize, bytes: &[u8]) -> Result<RawChapter, Stop>
     ensures body { ReadsValue (λ c. c.body) result (all_of (body.read bytes.now)) }
     ensures at { IfOk result (λ c. c.at ≡ at) }
@@ -42,7 +42,7 @@ fn read_whole(alloc: Global, at: usize, bytes: &[u8]) -> Result<RawChapter, Stop
     Ok(chapter)
 }
 
-// The body of the chapter that the bytes begin with.
+// Returns the bytes of the body of the chapter at the front of `bytes`.
 fn body_of(bytes: &[u8]) -> Result<&[u8], ChapterFault>
     requires { 0 < length bytes.now }
     ensures { IsBodyOf bytes.now result }
@@ -61,7 +61,7 @@ fn body_of(bytes: &[u8]) -> Result<&[u8], ChapterFault>
     Ok(&bytes[HEAD_BYTES..HEAD_BYTES + size])
 }
 
-/// The chapter that the bytes begin with, which stands at a place of a recording, and the number of its bytes.
+/// Reads the chapter at the front of `bytes`, at the place `at` of the recording. Returns it with its size in bytes.
 pub(crate) fn read_chapter(
     alloc: Global,
     at: usize,

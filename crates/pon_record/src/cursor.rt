@@ -1,4 +1,4 @@
-//! Fields, read one after another from the front of bytes.
+//! Reads fields from the front of bytes, one after another.
 
 ghost use Rattle.std.specs.Prelude.{◌≡◌, ◌≤◌, ◌==◌, drop, length, nat_le, nat_lt, take};
 ghost use Rattle.std.specs.Int.{w8, w16, w32, w64};
@@ -15,7 +15,7 @@ use pon_guar::Counted;
 use pon_units::{AllocId, BufOcc, FrameNo, Gap, OnuId, PortNo, Profile, Words};
 use std::marker::Model;
 
-/// Bytes that are not read yet.
+/// The bytes that are not read yet.
 #[derive(Drop)]
 pub(crate) struct Cursor<'a> {
     rest: &'a [u8],
@@ -36,21 +36,21 @@ impl<'a> Cursor<'a> {
         Cursor { rest }
     }
 
-    /// No byte is left.
+    /// Returns whether no byte is left.
     pub(crate) fn is_at_end(&self) -> bool
         ensures { result ≡ (length self.now == 0) }
     {
         self.rest.is_empty()
     }
 
-    /// The bytes that are not read yet.
+    /// Returns the bytes that are not read yet.
     pub(crate) fn rest(&self) -> &'a [u8]
         ensures { result.now ≡ self.now }
     {
         self.rest
     }
 
-    /// Leaves out the next `n` bytes.
+    /// Skips the next `n` bytes.
     pub(crate) fn skip(&mut self, n: usize)
         requires { n ≤ length self.old }
         ensures { self.new ≡ drop n self.old }
@@ -106,7 +106,7 @@ impl<'a> Cursor<'a> {
         }
     }
 
-    /// A count in 1 byte.
+    /// Reads a count of 1 byte, at most `most`.
     pub(crate) fn count8(&mut self, most: u8) -> Result<usize, Malformed>
         ensures { Reads (λ x. (x, self.new)) result
             ((only (λ n. nat_le n most) (number w8)).read self.old) }
@@ -118,7 +118,7 @@ impl<'a> Cursor<'a> {
         Ok(usize::from(count))
     }
 
-    /// A count in 2 bytes.
+    /// Reads a count of 2 bytes, at most `most`.
     pub(crate) fn count16(&mut self, most: u16) -> Result<usize, Malformed>
         ensures { Reads (λ x. (x, self.new)) result
             ((only (λ n. nat_le n most) (number w16)).read self.old) }
@@ -130,7 +130,7 @@ impl<'a> Cursor<'a> {
         Ok(usize::from(count))
     }
 
-    /// A count in 4 bytes.
+    /// Reads a count of 4 bytes, at most `most`.
     pub(crate) fn count32(&mut self, most: u32) -> Result<usize, Malformed>
         ensures { Reads (λ x. (x, self.new)) result
             ((only (λ n. nat_le n most) (number w32)).read self.old) }
@@ -190,7 +190,7 @@ impl<'a> Cursor<'a> {
         Ok(FrameNo::new(self.u64()?))
     }
 
-    /// Why a port is failed, or that it is up.
+    /// Reads the cause of a failed port. `None` if the port is up.
     pub(crate) fn failure(&mut self) -> Result<Option<Cause>, Malformed>
         ensures { Reads (λ x. (x, self.new)) result (failure.read self.old) }
     {
@@ -226,7 +226,7 @@ impl<'a> Cursor<'a> {
         }
     }
 
-    /// The report that counts, where one does.
+    /// Reads a counted report. `None` if no report counts.
     pub(crate) fn report(&mut self) -> Result<Option<Counted>, Malformed>
         ensures { Reads (λ x. (x, self.new)) result (report.read self.old) }
     {
@@ -239,7 +239,7 @@ impl<'a> Cursor<'a> {
         }
     }
 
-    /// An occupancy, `None` where it was garbled.
+    /// Reads an occupancy. `None` if it was garbled.
     pub(crate) fn occupancy(&mut self) -> Result<Option<BufOcc>, Malformed>
         ensures { Reads (λ x. (x, self.new)) result (occupancy.read self.old) }
     {
@@ -252,7 +252,7 @@ impl<'a> Cursor<'a> {
     }
 }
 
-// What a flag, a frame and a number of words say of the report that counts.
+// Decodes a flag, a frame and a number of words as a counted report, or as none (`Some(None)`). `None` if neither fits.
 fn report_of(flag: u8, frame: FrameNo, words: u32) -> Option<Option<Counted>>
     ensures { result ≡ report_meaning (flag, (frame, words)) }
 {

@@ -1,4 +1,4 @@
-//! The reading of an entry: an event and its reply.
+//! Reads entries: an event and its reply.
 
 ghost use Rattle.std.specs.Prelude.{◌≡◌};
 ghost use Rattle.pon_record.specs.Reading.{ReadsValue};
@@ -12,7 +12,7 @@ use pon_event::Event;
 use pon_state::{Entry, MadeMap, Reply};
 use std::alloc::Global;
 
-// The reply to an event.
+// Reads the reply to an event.
 fn read_reply(alloc: Global, cursor: &mut Cursor<'_>, event: &Event) -> Result<Reply, Stop>
     ensures { ReadsValue (λ x. (x, cursor.new)) result ((reply_to event.now).read cursor.old) }
 {

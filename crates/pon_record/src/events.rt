@@ -41,7 +41,7 @@ pub(crate) fn read_event(cursor: &mut Cursor<'_>) -> Result<Event, Malformed>
     }
 }
 
-// A count of 1 to 16, and as many occupancies.
+// Reads a count of 1 to 16, and this number of occupancies.
 fn read_occupancies(cursor: &mut Cursor<'_>) -> Result<Occupancies, Malformed>
     ensures { Reads (λ x. (x, cursor.new)) result (occupancies.read cursor.old) }
 {
@@ -52,7 +52,7 @@ fn read_occupancies(cursor: &mut Cursor<'_>) -> Result<Occupancies, Malformed>
     occupancies_in(cursor, count)
 }
 
-// This number of occupancies.
+// Reads `count` occupancies.
 fn occupancies_in(cursor: &mut Cursor<'_>, count: u8) -> Result<Occupancies, Malformed>
     requires { count ≤ LONGEST_SERIES }
     ensures { Reads (λ x. (x, cursor.new)) result (read_times occupancy count cursor.old) }

@@ -4,14 +4,14 @@ ghost use Rattle.pon_record.specs.declared.fault.Stop.TheVariants.{Malformed, Me
 use crate::chapter::Recording;
 use std::alloc::{AllocError, AllocFailed};
 
-/// Why bytes are no recording. `at` is the place of the first byte of a chapter, from 0.
+/// Why bytes are not a recording. `at` is the place of the first byte of a chapter, from 0.
 #[derive(Debug, Drop)]
 pub enum ReadFault {
-    /// Other magic bytes (at 0), or in the chapter that begins at `at` another tag, a field out of its range, a refused
-    /// descriptor, or a body that does not end where its length says.
+    /// The magic bytes are wrong (at 0), or the chapter that begins at `at` has a wrong tag, a field out of its range,
+    /// a refused descriptor, or a body that does not end where its length says.
     BadFormat { at: usize },
-    /// The bytes end inside the chapter that begins at `at`, or inside the magic bytes (at 0); the whole chapters before
-    /// it.
+    /// The bytes end inside the chapter that begins at `at`, or inside the magic bytes (at 0). `whole` has the chapters
+    /// before it.
     Truncated { at: usize, whole: Recording },
     /// Memory was refused.
     Memory,
@@ -27,11 +27,11 @@ impl From<AllocError> for ReadFault {
     }
 }
 
-/// The bytes begin with no value of the format that is read.
+/// The bytes do not begin with a value of the format.
 #[derive(Clone, Copy, Debug, PartialEq, Eq)]
 pub(crate) struct Malformed;
 
-/// Why a value that takes memory was not read.
+/// Why a value that needs memory was not read.
 #[derive(Clone, Copy, Debug, PartialEq, Eq)]
 pub(crate) enum Stop {
     Malformed,
@@ -41,7 +41,7 @@ pub(crate) enum Stop {
 /// Why a chapter was not read.
 #[derive(Clone, Copy, Debug, PartialEq, Eq)]
 pub(crate) enum ChapterFault {
-    /// The bytes end inside it.
+    /// The bytes end inside the chapter.
     CutShort,
     Malformed,
     Memory,

@@ -1,8 +1,8 @@
-//! Recordings of the ports of an XG-PON optical line terminal (upstream bandwidth assignment, ITU-T G.987.3): the chapters
-//! of their histories as bytes.
+//! Recordings of the ports of an XG-PON optical line terminal (upstream bandwidth assignment, ITU-T G.987.3): the
+//! chapters of their histories as bytes.
 //!
-//! The format is given once, in `specs/`: each value has one spelling, and [`read_recording`] accepts exactly those. The
-//! crate does not judge what a recording tells: whether its entries follow from its openings is for others.
+//! The format is defined once, in `specs/`: each value has one encoding, and [`read_recording`] accepts exactly these.
+//! The crate does not judge the content of a recording, such as whether its entries follow from its openings.
 #![tactic(auto)]
 
 mod chapter;

@@ -1,4 +1,4 @@
-//! Lists of values of one format, whatever it is.
+//! Lists of values of any one format.
 
 ghost use Rattle.std.specs.Prelude.{◌≡◌};
 ghost use Rattle.std.specs.Int.{w8, w16, w32};
@@ -9,16 +9,16 @@ use crate::cursor::Cursor;
 use crate::fault::Stop;
 use std::alloc::Global;
 
-/// A value of a recording.
+/// A type of values in a recording.
 pub(crate) trait Recorded: Drop + Sized {
-    /// Its format.
+    /// The format of the type.
     ghost form: { Format Self };
 
     fn read(alloc: Global, cursor: &mut Cursor<'_>) -> Result<Self, Stop>
         ensures { ReadsValue (λ x. (x, cursor.new)) result (form.read cursor.old) };
 }
 
-/// `count` values, one after another.
+/// Reads `count` values, one after another.
 pub(crate) fn read_list<T: Recorded>(
     alloc: Global,
     cursor: &mut Cursor<'_>,
@@ -34,7 +34,7 @@ pub(crate) fn read_list<T: Recorded>(
     Ok(values)
 }
 
-/// A count in 1 byte, and as many values.
+/// Reads a count of 1 byte, at most `most`, and this number of values.
 pub(crate) fn read_few<T: Recorded>(
     alloc: Global,
     cursor: &mut Cursor<'_>,
@@ -47,7 +47,7 @@ pub(crate) fn read_few<T: Recorded>(
     read_list(alloc, cursor, count)
 }
 
-/// A count in 2 bytes, and as many values.
+/// Reads a count of 2 bytes, at most `most`, and this number of values.
 pub(crate) fn read_some<T: Recorded>(
     alloc: Global,
     cursor: &mut Cursor<'_>,
@@ -60,7 +60,7 @@ pub(crate) fn read_some<T: Recorded>(
     read_list(alloc, cursor, count)
 }
 
-/// A count in 4 bytes, and as many values.
+/// Reads a count of 4 bytes, at most `most`, and this number of values.
 pub(crate) fn read_many<T: Recorded>(
     alloc: Global,
     cursor: &mut Cursor<'_>,

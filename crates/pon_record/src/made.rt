@@ -1,4 +1,4 @@
-//! The reading of a map that was made.
+//! Reads made maps.
 
 ghost use Rattle.std.specs.Prelude.{◌≡◌, ◌<◌, ◌^◌};
 ghost use Rattle.pon_record.specs.Format.{counted, passing};
@@ -15,10 +15,10 @@ use pon_state::MadeMap;
 use pon_units::MOST_STRUCTURES;
 use std::alloc::Global;
 
-/// The field StartTime of a structure without a start.
+/// The StartTime field of a structure without a start.
 const NO_START: u16 = 0xffff;
 
-// The number of structures in the head of a map without messages.
+// Reads the head of a map without messages, and returns its number of structures.
 fn read_head(cursor: &mut Cursor<'_>) -> Result<u32, Malformed>
     ensures { Reads (λ x. (x, cursor.new)) result (head.read cursor.old) }
 {
@@ -30,7 +30,7 @@ fn read_head(cursor: &mut Cursor<'_>) -> Result<u32, Malformed>
     Ok(count)
 }
 
-// The structure with this payload.
+// Returns the structure with this payload of 51 bits.
 fn structure_of(payload: u64) -> Alloc
     requires { payload < 2 ^ 51 }
     ensures { result ≡ structure_of payload }
@@ -67,7 +67,7 @@ impl Recorded for Alloc {
     }
 }
 
-// The structures of a map, and the head before them.
+// Reads the head of a map and its structures.
 fn read_rows(alloc: Global, cursor: &mut Cursor<'_>) -> Result<Vec<Alloc>, Stop>
     ensures { ReadsValue (λ x. (x.items, cursor.new)) result
         ((counted head MOST_STRUCTURES structure).read cursor.old) }
@@ -79,7 +79,7 @@ fn read_rows(alloc: Global, cursor: &mut Cursor<'_>) -> Result<Vec<Alloc>, Stop>
     read_list(alloc, cursor, count)
 }
 
-// The map of these structures.
+// Returns the map of these structures. `Malformed` if they break a rule of maps.
 fn checked_map(rows: Vec<Alloc>) -> Result<Map, Malformed>
     ensures { Reads (λ m. m) result (passing is_map rows.items) }
 {

@@ -19,8 +19,8 @@ impl Model for RawMap {
     ghost view = { λ m. record { frame = m.frame; grants = m.grants.items; reported = m.reported.items } };
 }
 
-/// The state that a recorded chapter opens with: the gap, the burst profile, why the port is failed, the next frame,
-/// the number of the entries before the chapter, the rows of the admitted Alloc-IDs, and the window.
+/// The state that a recorded chapter opens with: gap, burst profile, cause of the failure if the port is failed, next
+/// frame, number of entries before the chapter, rows of the admitted Alloc-IDs, and window.
 #[derive(Debug, Drop)]
 pub struct Opening {
     pub gap: Gap,

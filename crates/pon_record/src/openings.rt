@@ -1,4 +1,4 @@
-//! The reading of an opening.
+//! Reads openings.
 
 ghost use Rattle.std.specs.Prelude.{◌≡◌};
 ghost use Rattle.pon_record.specs.Reading.{ReadsValue, Reads};

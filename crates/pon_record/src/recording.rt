@@ -7,13 +7,13 @@ use crate::fault::{ChapterFault, ReadFault};
 use crate::limits::MAGIC;
 use std::alloc::Global;
 
-/// The chapters of a recording.
+/// Reads the chapters of a recording.
 ///
-/// `Ok` exactly if the bytes are the magic bytes and then whole chapters, one after another, each field in its range. An
-/// `Err` is the fault of the first chapter that has one. `Truncated` if the bytes end inside the magic bytes, or inside
-/// a chapter that begins with its tag, whatever its body. `BadFormat` for other magic bytes, another tag, a field out of
-/// its range, a refused descriptor, or a body that does not end where its length says. `Memory` if memory is refused
-/// before a fault is met.
+/// `Ok` exactly if the bytes are the magic bytes and then whole chapters, one after another, with each field in its
+/// range. An `Err` is the fault of the first chapter that has one. `Truncated` if the bytes end inside the magic bytes,
+/// or inside a chapter that begins with its tag, whatever its body. `BadFormat` for wrong magic bytes, a wrong tag, a
+/// field out of its range, a refused descriptor, or a body that does not end where its length says. `Memory` if memory
+/// is refused before a fault is found.
 pub fn read_recording(alloc: Global, bytes: &[u8]) -> Result<Recording, ReadFault>
     ensures ok { IfOk result (λ r. IsRecording bytes.now r) }
     ensures fault { IfErr result (λ f. IsReadFault bytes.now f) }
@@ -28,7 +28,7 @@ pub fn read_recording(alloc: Global, bytes: &[u8]) -> Result<Recording, ReadFaul
     read_chapters(alloc, bytes)
 }
 
-// The chapters behind the magic bytes.
+// Reads the chapters that follow the magic bytes.
 fn read_chapters(alloc: Global, bytes: &[u8]) -> Result<Recording, ReadFault>
     requires long { length MAGIC ≤ length bytes.now }
     requires magic { take (length MAGIC) bytes.now ≡ MAGIC }

@@ -8,8 +8,7 @@ use pon_descr::Descriptor;
 use pon_guar::Counted;
 use pon_units::{AllocId, FrameNo, OnuId};
 
-/// A row of a recorded opening: an admitted Alloc-ID, the frame since which its reports count, and the report that
-/// counts, if any.
+/// A row of a recorded opening: an admitted Alloc-ID, its since-frame, and its counted report, if any.
 #[derive(Clone, Copy, Debug, PartialEq, Eq)]
 pub struct RawRow {
     pub onu: OnuId,

@@ -24,7 +24,7 @@ const RECORDING: &str = "
     00 0000000000000000 0000000000000000 0000 00 0000000000000000 0000000000000000 0000
     04 0000000000000002 0001 01 00000064";
 
-// Port 63, failed by cause 9, with two rows, a map in its window, and all seven events, a map with certificate among them.
+// Port 63, failed by cause 9, with two rows, a map in its window, and all seven events, with a map and certificate.
 const ALL_FIELDS: &str = "
     504f4e5245433031 43 0000010b 3f 0000000000000005
     0100 03 09 0000000000000007 000000000000000b 0002
@@ -48,7 +48,7 @@ enum Verdict {
     OutOfMemory,
 }
 
-// The bytes of pairs of hexadecimal digits, parted by blanks.
+// Decodes pairs of hexadecimal digits that are separated by blanks.
 fn bytes_of(alloc: Global, text: &str) -> Result<Vec<u8>, AllocError> {
     let digits: Vec<u8> = text
         .bytes()
@@ -69,7 +69,7 @@ fn told(alloc: Global, bytes: &[u8]) -> Verdict {
     }
 }
 
-// The verdict on the bytes with one of them changed.
+// Returns the verdict on the bytes with the byte at `at` changed.
 fn changed(rt: &impl Abort, bytes: &mut [u8], alloc: Global, at: usize, byte: u8) -> Verdict {
     assert!(rt; at < bytes.len());
     let before = bytes[at];
@@ -247,7 +247,7 @@ fn tells_each_field_out_of_its_range(rt: HostRuntime) -> Result<(), Fail> {
     Ok(())
 }
 
-// One allocation that fails (`rt try --test --fail-alloc N`) is `Memory`, and changes no reading.
+// If one allocation fails (`rt try --test --fail-alloc N`), the fault is `Memory`, and no result of a reading changes.
 #[test]
 fn reads_again_what_memory_refused(rt: HostRuntime) -> Result<(), Fail> {
     let bytes = bytes_of(rt.alloc(), ALL_FIELDS).or(bytes_of(rt.alloc(), ALL_FIELDS))?;

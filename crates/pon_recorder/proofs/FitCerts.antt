@@ -14,7 +14,7 @@ use Rattle.pon_cert.specs.Certificate.{DenominatorHolds, IsCertificate, RuleHold
 use Rattle.pon_cert.specs.Problem.{IsItem, IsProblem}
 use Rattle.pon_cert.specs.Texts.{FitsClass, FitsLevel}
 
--- the weight of an item that is not saturated
+-- the weight of an item that is not saturated, otherwise 0
 abbrev open_weight : Item × Bool → ℕ
 open_weight p = cond p.1 0 p.0.weight
 

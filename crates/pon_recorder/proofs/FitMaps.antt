@@ -31,7 +31,7 @@ use Rattle.pon_record.specs.MadeMaps.{head, head_code, made_map, start_of, struc
 use Rattle.pon_record.proofs.MapRules.{passes}
 use Rattle.pon_recorder.proofs.FitCerts.{class_cert_fits}
 
--- ---- what is read from the words of a map
+-- ---- fields read from the words of a map
 
 head_if : (n word : ℕ) → head_code n ≡ word → cond (eqb (head_code n) word) (Some n) None ≡ Some n
 head_if n word e = ap (λ (b : Bool). cond b (Some n) None) (eq-eqb (head_code n) word e)
@@ -92,7 +92,7 @@ structure_fits a fits =
 
 -- ---- the structures of a map
 
--- what the fields but the start can hold
+-- the fields except the start are in range
 record FitsRest (a : Structure) : Type 0 where
   id : a.id ≤ 16383
   grants : a.grant ≤ 65535
@@ -107,7 +107,7 @@ pub from_places : {A : Type 0} (P : A → Type 0) (xs : List A) → ((k : ℕ) (
 from_places P [] h = tt
 from_places P (x ∷ xs) h = (h 0 x refl, from_places P xs (λ k y e. h (suc k) y e))
 
--- a number of a list is at most the sum
+-- if a sum is at most n, so is each summand
 each_below : {A : Type 0} (f : A → ℕ) (xs : List A) (n : ℕ) → sum_by f xs ≤ n → AllByRecursion (λ x. f x ≤ n) xs
 each_below f [] n le = tt
 each_below f (x ∷ xs) n le =
@@ -131,7 +131,7 @@ ids_fit : (s : Input) (surplus : Row → Fraction) (rows : List Row) → AllByRe
 ids_fit s surplus [] a = tt
 ids_fit s surplus (r ∷ rows) a = (a.0.alloc_id, ids_fit s surplus rows a.1)
 
--- a fair map of an admitted set
+-- a fair map of an admitted set fits the format
 pub made_fits : (s : State) (made : MadeMap) → IsAdmitted s.rule s.gap s.roster → s.profile ≤ 3 → s.next < 2 ^ 64 → IsFairMap s made → made_map.Fits made
 made_fits s made k p next f =
     let t : Input = input_of s in

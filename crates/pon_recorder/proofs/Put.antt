@@ -1,4 +1,4 @@
--- Fields written one after another behind bytes.
+-- Fields that are appended to bytes, one after another.
 use Rattle.std.proofs.Common.{◌≡◌, ℕ, ◌+◌, ◌*◌, List, ◌++◌, length, take, refl, ap, ◌∙◌, append_assoc, arith}
 use Rattle.std.specs.Int.{w8, to_be_bytes}
 use Rattle.std.proofs.lemmas.List.{take_at}
@@ -29,7 +29,7 @@ pub map_written : (rows : List Structure) → map_bytes rows ≡ map.write rows
 unfolding map_bytes
 map_written rows = refl
 
--- the bytes of a map at the front of a room
+-- the bytes of a map at the front of a buffer
 pub map_in_room : (room rest : List ℕ) (rows : List Structure) (n : ℕ) → n ≡ 4 + 8 * length rows → room ≡ map_bytes rows ++ rest → take n room ≡ map.write rows
 map_in_room room rest rows n size is =
     ap (λ (l : List ℕ). take n l) is ∙ take_at (map_bytes rows) rest n (omega (arith, map_length rows, size)) ∙ map_written rows

@@ -1,4 +1,4 @@
--- A recording that goes out to a device, call by call.
+-- A recording that is written to a device, call by call.
 use Rattle.std.proofs.Common.{◌≡◌, ℕ, List, [], ◌∷◌, ◌++◌, ap, sym, ◌∙◌, append_assoc}
 use Rattle.std.specs.Prelude.{Option}
 use Rattle.std.specs.List.{flat_map}
@@ -11,7 +11,7 @@ use Rattle.pon_record.specs.Chapters.{Body, chapter_bytes}
 use Rattle.pon_record.specs.Recordings.{recording_bytes}
 use Rattle.pon_recorder.specs.Recorders.{GoesOut, Grows, Stays}
 
--- more of what was left went out
+-- writing more of what was left keeps the recording
 pub stays : (mid new : Option (List ℕ)) (left rest : List ℕ) → GoesOut mid new rest left → Stays mid left new rest
 stays mid new left rest h before bodies r = record {
   sent = r.sent ++ h.sent;
@@ -19,7 +19,7 @@ stays mid new left rest h before bodies r = record {
   together = append_assoc r.sent h.sent rest ∙ ap (λ (t : List ℕ). r.sent ++ t) h.together ∙ r.together;
 }
 
--- nothing more went out
+-- writing nothing keeps the recording
 pub keeps : (mid new : Option (List ℕ)) (left : List ℕ) → Keeps mid new → Stays mid left new left
 keeps mid new left k before bodies r = record {
   sent = r.sent;
@@ -27,7 +27,7 @@ keeps mid new left k before bodies r = record {
   together = r.together;
 }
 
--- what went out, and then what the device kept
+-- bytes written, and then none
 pub stays_kept : (mid more new : Option (List ℕ)) (left rest : List ℕ) → GoesOut mid more rest left → Keeps more new → Stays mid left new rest
 stays_kept mid more new left rest h k before bodies r = keeps more new rest k before bodies (stays mid more left rest h before bodies r)
 
@@ -37,7 +37,7 @@ one_more bodies b =
     ∙ ap (λ (t : List ℕ). MAGIC ++ (flat_map chapter_bytes bodies ++ t)) (sym (append-nil (chapter_bytes b)))
     ∙ ap (λ (t : List ℕ). MAGIC ++ t) (sym (flat_map-append chapter_bytes bodies (b ∷ [])))
 
--- a chapter goes out where nothing was left
+-- a chapter is written when nothing was left
 pub grows : (mid new : Option (List ℕ)) (left rest : List ℕ) (b : Body) → left ≡ [] → GoesOut mid new rest (chapter_bytes b) → Grows mid left new rest b
 grows mid new left rest b none h before bodies r =
     let all : r.sent ≡ recording_bytes bodies = sym (append-nil r.sent) ∙ ap (λ (t : List ℕ). r.sent ++ t) (sym none) ∙ r.together in

@@ -1,4 +1,4 @@
--- How many bytes a recorded chapter takes.
+-- The number of bytes of a recorded chapter.
 use Rattle.std.proofs.Common.{◌≡◌, ℕ, ◌+◌, ◌*◌, ◌≤◌, Bool, List, [], ◌∷◌, ◌++◌, length, refl, ap, ◌∙◌, arith, length-append}
 use Rattle.std.specs.Prelude.{Option, map}
 use Rattle.std.specs.Int.{w16, to_be_bytes}

@@ -1,4 +1,4 @@
--- The chapters of ports as a recording has them.
+-- The chapters of ports, as a recording has them.
 use Rattle.std.specs.Prelude.{◌≡◌, ℕ, ◌<◌, []}
 use Rattle.pon_units.specs.declared.limits.TheConstants.{MOST_PORTS}
 use Rattle.pon_cert.specs.Texts.{FitsCert}
@@ -34,7 +34,7 @@ pub record IsOfPort (b : Body) : Type 0 where
   pub first : IsFirst chapter
   pub is : b ≡ chapter_body port chapter
 
--- the certificate of a map that is replied fits the format
+-- the certificate of a replied map fits the format
 abbrev pub HoldsFittingCert : Reply → Type 0
 HoldsFittingCert Taken = Unit {0}
 HoldsFittingCert (Map made) = FitsCert made.cert

@@ -1,4 +1,4 @@
--- An event in two parts: its tag, and the fields behind it.
+-- An event in two parts: its tag, and the fields after it.
 use Rattle.std.specs.Prelude.{ℕ, List, []}
 use Rattle.pon_event.specs.declared.event.Event.{Event}
 use Rattle.pon_event.specs.declared.event.Event.TheVariants.{Admit, Change, Remove, Report, MakeMap, Fail, Restore}
@@ -15,7 +15,7 @@ event_tag MakeMap = 5
 event_tag (Fail c) = 6
 event_tag Restore = 7
 
--- the bytes of an event behind its tag
+-- the bytes of an event after its tag
 abbrev pub event_fields : Event → List ℕ
 event_fields (Admit u i d) = admit_fields.write (u, (i, d))
 event_fields (Change i d) = change_fields.write (i, d)

@@ -1,4 +1,4 @@
--- What a writer of recordings holds, and what has gone out of it.
+-- A writer of recordings: the bytes that it has written, and those that it has left.
 use Rattle.std.specs.Prelude.{◌≡◌, ℕ, ◌+◌, ◌%◌, ◌^◌, List, [], ◌∷◌, ◌++◌, Option, Result, Ok, Err}
 use Rattle.pon_device.specs.Device.{Appends}
 use Rattle.pon_record.specs.Chapters.{Body}
@@ -11,21 +11,21 @@ pub record Recorder (W : Type 0) : Type 0 where
   pub device : W
   pub left : List ℕ
 
--- bytes went out to a device that shows what it holds; with what is left they are these
+-- bytes were written to a device that shows its bytes; these and the bytes that are left are the given ones
 pub record GoesOut (before after : Option (List ℕ)) (left bytes : List ℕ) : Type 0 where
   pub sent : List ℕ
   pub appends : Appends before after sent
   pub together : sent ++ left ≡ bytes
 
--- what went out since the device held `before`, and then what is left, is the recording of these chapters
+-- the bytes written since the device had `before`, and then those that are left, are the recording of these chapters
 abbrev pub Records : Option (List ℕ) → Option (List ℕ) → List ℕ → List Body → Type 0
 Records before now left bodies = GoesOut before now left (recording_bytes bodies)
 
--- the recording has one chapter more
+-- the recording has one more chapter
 abbrev pub Grows : Option (List ℕ) → List ℕ → Option (List ℕ) → List ℕ → Body → Type 0
 Grows old left new rest b = (before : Option (List ℕ)) (bodies : List Body) → Records before old left bodies → Records before new rest (bodies ++ b ∷ [])
 
--- the recording stays the same
+-- the recording is unchanged
 abbrev pub Stays : Option (List ℕ) → List ℕ → Option (List ℕ) → List ℕ → Type 0
 Stays old left new rest = (before : Option (List ℕ)) (bodies : List Body) → Records before old left bodies → Records before new rest bodies
 
@@ -36,14 +36,14 @@ IsTaken (Err Device) = Unit {0}
 IsTaken (Err Busy) = ⊥
 IsTaken (Err Memory) = ⊥
 
--- one more failure exactly if the device failed, counted round 2 ^ 64
+-- one more failure exactly if the device failed, modulo 2 ^ 64
 abbrev pub CountsDevice : {T : Type 0} → ℕ → ℕ → Result T RecordFault → Type 0
 CountsDevice old new (Ok t) = new ≡ old
 CountsDevice old new (Err Device) = new ≡ (old + 1) % 2 ^ 64
 CountsDevice old new (Err Busy) = new ≡ old
 CountsDevice old new (Err Memory) = new ≡ old
 
--- one more failure exactly if something of the magic bytes is left
+-- one more failure exactly if some of the magic bytes are left
 abbrev pub CountsOpening : ℕ → ℕ → List ℕ → Type 0
 CountsOpening old new [] = new ≡ old
 CountsOpening old new (b ∷ bs) = new ≡ (old + 1) % 2 ^ 64

@@ -1,4 +1,4 @@
-//! The bytes of a chapter.
+//! Functions that append the parts of a chapter to bytes.
 
 ghost use Rattle.std.specs.Prelude.{◌≡◌, ◌++◌, IfOk, OnOk};
 ghost use Rattle.pon_record.specs.Openings.{opening};
@@ -14,10 +14,10 @@ use pon_record::CHAPTER_TAG;
 use pon_units::PortNo;
 use std::alloc::{AllocError, Global};
 
-/// The tag of a chapter, and room for the number of the bytes of its body.
+/// The tag of a chapter, and room for the length of its body in 4 bytes.
 const HEAD: [u8; 5] = [CHAPTER_TAG, 0, 0, 0, 0];
 
-// The opening of a port just opened: no rows and no window.
+// Appends the opening of a port just opened, which has no rows and no window.
 fn put_opening(bytes: &mut Vec<u8>, value: &PortState) -> Result<(), AllocError>
     ensures { OnOk result (bytes.new.items
         ≡ bytes.old.items ++ opening.write (recorded_opening value.now)) }
@@ -33,7 +33,7 @@ fn put_opening(bytes: &mut Vec<u8>, value: &PortState) -> Result<(), AllocError>
     Ok(())
 }
 
-// The port, and the chapter behind it.
+// Appends the port, and its chapter.
 fn put_body(bytes: &mut Vec<u8>, port: PortNo, chapter: &Chapter) -> Result<(), AllocError>
     ensures { OnOk result (bytes.new.items
         ≡ bytes.old.items ++ body.write (chapter_body port chapter.now)) }
@@ -45,7 +45,7 @@ fn put_body(bytes: &mut Vec<u8>, port: PortNo, chapter: &Chapter) -> Result<(), 
     Ok(())
 }
 
-// A chapter of a port fits the format. It computes nothing.
+// Proves that a chapter of a port fits the format. Computes nothing.
 fn chapter_fits(port: PortNo, chapter: &Chapter)
     ensures { FitsChapter (chapter_body port chapter.now) }
 {
@@ -54,7 +54,7 @@ fn chapter_fits(port: PortNo, chapter: &Chapter)
     let _entries = chapter.entries();
 }
 
-/// The bytes of a chapter of a port. `Err` only if memory is refused.
+/// Returns the bytes of a chapter of a port. `Err` only if memory is refused.
 pub(crate) fn chapter_bytes(
     alloc: Global,
     port: PortNo,

@@ -1,4 +1,4 @@
-//! Entries, each written behind bytes: an event, and its reply if that is a map.
+//! Functions that append an entry to bytes: an event, and its reply if that is a map.
 
 ghost use Rattle.std.specs.Prelude.{◌≡◌, ◌≤◌, ◌++◌, All, OnOk, length};
 ghost use Rattle.std.specs.Int.{w32};
@@ -31,7 +31,7 @@ fn put_reports(bytes: &mut Vec<u8>, reports: &[Option<BufOcc>]) -> Result<(), Al
     Ok(())
 }
 
-// The number of the occupancies, and these.
+// Appends the number of the occupancies, and the occupancies.
 fn put_occupancies(bytes: &mut Vec<u8>, value: &Occupancies) -> Result<(), AllocError>
     ensures { OnOk result (bytes.new.items ≡ bytes.old.items ++ occupancies.write value.now) }
 {
@@ -84,7 +84,7 @@ fn put_change(
     Ok(())
 }
 
-// The tag of the kind of event.
+// Returns the tag of the kind of event.
 fn tag_of(event: &Event) -> u8
     ensures { result ≡ event_tag event.now }
 {
@@ -99,7 +99,7 @@ fn tag_of(event: &Event) -> u8
     }
 }
 
-// The fields behind the tag.
+// Appends the fields that follow the tag.
 fn put_fields(bytes: &mut Vec<u8>, event: &Event) -> Result<(), AllocError>
     ensures { OnOk result (bytes.new.items ≡ bytes.old.items ++ event_fields event.now) }
 {
@@ -128,7 +128,7 @@ fn put_event(bytes: &mut Vec<u8>, value: &Event) -> Result<(), AllocError>
     Ok(())
 }
 
-// The reply to MakeMap.
+// Appends the reply to MakeMap.
 fn put_map_reply(bytes: &mut Vec<u8>, reply: &Reply) -> Result<(), AllocError>
     requires { HoldsFittingCert reply.now }
     ensures { OnOk result (bytes.new.items ≡ bytes.old.items ++ map_reply.write reply.now) }
@@ -139,7 +139,7 @@ fn put_map_reply(bytes: &mut Vec<u8>, reply: &Reply) -> Result<(), AllocError>
     }
 }
 
-// The reply to an event.
+// Appends the reply to an event.
 fn put_reply(bytes: &mut Vec<u8>, event: &Event, reply: &Reply) -> Result<(), AllocError>
     requires { HoldsFittingCert reply.now }
     ensures { OnOk result (bytes.new.items
@@ -171,7 +171,7 @@ fn put_all(bytes: &mut Vec<u8>, values: &[Entry]) -> Result<(), AllocError>
     Ok(())
 }
 
-/// The number of the entries, and these.
+/// Appends the number of the entries, and the entries.
 pub(crate) fn put_entries(bytes: &mut Vec<u8>, values: &[Entry]) -> Result<(), AllocError>
     requires few { length values.now ≤ MOST_ENTRIES }
     requires certs { All (λ e. HoldsFittingCert e.reply) values.now }

@@ -1,4 +1,4 @@
-//! Fields, each written behind bytes. An `Err` only if memory is refused.
+//! Functions that append a field to bytes. Each returns `Err` only if memory is refused.
 
 ghost use Rattle.std.specs.Prelude.{◌≡◌, ◌++◌, OnOk};
 ghost use Rattle.std.specs.Int.{to_be_bytes, w8, w16, w32, w64};
@@ -71,7 +71,7 @@ pub(crate) fn put_frame(bytes: &mut Vec<u8>, value: FrameNo) -> Result<(), Alloc
     put_u64(bytes, value.get())
 }
 
-// The number of a cause, 0 for none.
+// Returns the number of a cause, 0 for none.
 fn cause_code(cause: Option<Cause>) -> u8
     ensures { result ≡ cause_code cause }
 {
@@ -81,7 +81,7 @@ fn cause_code(cause: Option<Cause>) -> u8
     }
 }
 
-/// Why a port is failed, or that it is up.
+/// Appends the cause of a failed port, or 0 if the port is up.
 pub(crate) fn put_failure(bytes: &mut Vec<u8>, value: Option<Cause>) -> Result<(), AllocError>
     ensures { OnOk result (bytes.new.items ≡ bytes.old.items ++ failure.write value) }
 {
@@ -117,7 +117,7 @@ fn occupancy_code(occupancy: Option<BufOcc>) -> u32
     }
 }
 
-/// The words of an occupancy, or that its report was garbled.
+/// Appends the words of an occupancy, or the mark of a garbled one.
 pub(crate) fn put_occupancy(bytes: &mut Vec<u8>, value: Option<BufOcc>) -> Result<(), AllocError>
     ensures { OnOk result (bytes.new.items ≡ bytes.old.items ++ occupancy.write value) }
 {

@@ -1,4 +1,4 @@
-//! What holds of the recordings of ports, over the definitions alone.
+//! Laws on the recordings of ports, stated over the definitions alone.
 
 ghost use Rattle.std.specs.Prelude.{◌≡◌, ◌<◌, ℕ, List, length};
 ghost use Rattle.std.specs.List.{AllByRecursion};
@@ -17,8 +17,8 @@ pub fn chapters_fit_the_format()
         → FitsChapter (chapter_body port c) }
 {}
 
-/// The recording of chapters of ports is read back as these chapters, each at its place and in this order, and has no
-/// fault: only memory may be refused.
+/// The recording of chapters of ports is read back as these chapters, each at its place and in this order. It has no
+/// fault, except that memory may be refused.
 pub fn recordings_are_read_back()
     ensures whole { (bodies : List Body) → AllByRecursion IsOfPort bodies
         → IsRecording (recording_bytes bodies) (placed (length MAGIC) bodies) }
@@ -29,7 +29,7 @@ pub fn recordings_are_read_back()
         → IsReadFault (recording_bytes bodies) fault → fault ≡ ReadFault.Memory }
 {}
 
-/// A body is that of one port and one first chapter at most.
+/// A body is that of at most one port and one first chapter.
 pub fn bodies_have_one_chapter()
     ensures { (p q : ℕ) (c d : Chapter) → IsFirst c → IsFirst d
         → chapter_body p c ≡ chapter_body q d → (p ≡ q) × (c ≡ d) }

@@ -1,8 +1,8 @@
-//! The writer of recordings: the chapters that ports of an XG-PON optical line terminal hand out (upstream bandwidth
+//! The writer of recordings: the chapters that ports of an XG-PON optical line terminal return (upstream bandwidth
 //! assignment, ITU-T G.987.3), as bytes on a device.
 //!
-//! A [`RecordFile`] writes the format of `pon_record`. What a failed device did not take stays, and goes out before
-//! anything else. The crate opens no file and reads none.
+//! A [`RecordFile`] writes the format of `pon_record`. It keeps the bytes that a failed device did not take, and writes
+//! them before anything else. The crate opens no file and reads none.
 #![tactic(auto)]
 
 mod chapters;

@@ -1,4 +1,4 @@
-//! A map that was made, written behind bytes.
+//! Appends a made map to bytes.
 
 ghost use Rattle.std.specs.Prelude.{◌≡◌, ◌++◌, OnOk};
 ghost use Rattle.pon_cert.specs.Texts.{FitsCert};
@@ -11,7 +11,7 @@ use pon_state::MadeMap;
 use pon_units::MOST_STRUCTURES;
 use std::alloc::AllocError;
 
-/// The bytes of the longest map, one of 512 structures.
+/// Number of bytes of the longest map, one of 512 structures.
 const LONGEST_MAP: usize = 4100;
 
 fn put_map(bytes: &mut Vec<u8>, value: &Map) -> Result<(), AllocError>
@@ -33,7 +33,7 @@ fn put_cert(bytes: &mut Vec<u8>, value: &MapCert) -> Result<(), AllocError>
     bytes.extend_from_slice(&cert)
 }
 
-/// The frame of the map, the map and its certificate.
+/// Appends the frame of the map, the map and its certificate.
 pub(crate) fn put_made(bytes: &mut Vec<u8>, value: &MadeMap) -> Result<(), AllocError>
     requires { FitsCert value.now.cert }
     ensures { OnOk result (bytes.new.items ≡ bytes.old.items ++ made_map.write value.now) }

@@ -1,4 +1,4 @@
-//! Bytes on their way to a device.
+//! Bytes to be written to a device.
 
 ghost use Rattle.std.specs.Prelude.{◌≡◌, ◌≢◌, ◌≤◌, [], OnErr, OnOk, drop, length};
 ghost use Rattle.pon_device.specs.Device.{CountsFailure};
@@ -6,7 +6,7 @@ ghost use Rattle.pon_device.specs.Device.{CountsFailure};
 use pon_device::{DevWrite, Failed};
 use std::marker::Model;
 
-/// Bytes of which the first have gone out. Contracts see it as the list of those that are left.
+/// Bytes of which a prefix has been written. Contracts see it as the list of the bytes that are left.
 #[derive(Drop)]
 pub(crate) struct Pending {
     bytes: Vec<u8>,
@@ -26,21 +26,21 @@ impl Model for Pending {
 impl Pending {
     ghost use Rattle.pon_recorder.specs.Recorders.{GoesOut};
 
-    /// Bytes of which none has gone out.
+    /// Wraps bytes of which none has been written.
     pub(crate) fn new(bytes: Vec<u8>) -> Pending
         ensures { result ≡ bytes.items }
     {
         Pending { bytes, sent: 0 }
     }
 
-    /// The bytes that have not gone out, in order.
+    /// Returns the bytes that have not been written, in order.
     pub(crate) fn left(&self) -> &[u8]
         ensures { result.now ≡ self.now }
     {
         &self.bytes[self.sent..]
     }
 
-    // Notes that `n` of the bytes that were left have gone out.
+    // Marks the first `n` of the bytes that are left as written.
     fn went_out(&mut self, n: usize)
         requires { n ≤ length self.old }
         ensures { self.new ≡ drop n self.old }
@@ -48,8 +48,8 @@ impl Pending {
         self.sent += n;
     }
 
-    /// Writes what is left, in as many writes as the device wants. `Failed` if the device failed in this call; what it
-    /// had not taken then is left.
+    /// Writes what is left, in as many calls as the device needs. `Failed` if the device failed in this call; the bytes
+    /// that it had not taken by then are left.
     pub(crate) fn push<W: DevWrite>(&mut self, writer: &mut W) -> Result<(), Failed>
         ensures sent { GoesOut (W.contents writer.old) (W.contents writer.new) self.new self.old }
         ensures ok { OnOk result (self.new ≡ []) }

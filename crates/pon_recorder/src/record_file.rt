@@ -13,7 +13,7 @@ use pon_units::PortNo;
 use std::alloc::{AllocError, Global};
 use std::marker::Model;
 
-/// A recording on its way to a device. Contracts see it as the device and the bytes that it has not taken yet.
+/// A recording being written to a device. Contracts see it as the device and the bytes that it has not taken yet.
 #[derive(Drop)]
 pub struct RecordFile<W> {
     alloc: Global,
@@ -32,8 +32,8 @@ impl<W> Model for RecordFile<W> {
 impl<W: DevWrite + Drop> RecordFile<W> {
     ghost use Rattle.pon_recorder.specs.Recorders.{CountsDevice, CountsOpening, Grows, IsTaken, Records, Stays};
 
-    /// Begins a recording: tries once to write the magic bytes to the device. If the device fails, what it did not
-    /// take of them is left. `Err` only if memory is refused.
+    /// Begins a recording: tries once to write the magic bytes to the device. If the device fails, the bytes that it
+    /// did not take are left. `Err` only if memory is refused.
     pub fn open(alloc: Global, writer: W) -> Result<RecordFile<W>, AllocError>
         ensures recorded { IfOk result (λ file.
             Records (W.contents writer) (W.contents file.device) file.left []) }
@@ -50,11 +50,11 @@ impl<W: DevWrite + Drop> RecordFile<W> {
         })
     }
 
-    /// Appends a chapter of a port. With `Ok` nothing of it is left.
+    /// Appends a chapter of a port. After `Ok` nothing is left.
     ///
-    /// `Busy` exactly if something of what came before is left, and `Memory` if memory is refused: neither changes
-    /// anything. `Device` exactly if the device failed in this call: the chapter is taken, and what did not go out of it
-    /// is left.
+    /// Returns `Busy` exactly if bytes from earlier calls are left, and `Memory` if memory is refused; neither changes
+    /// anything. Returns `Device` exactly if the device failed in this call: the chapter is taken, and the bytes of it
+    /// that were not written are left.
     pub fn append(&mut self, port: PortNo, chapter: &Chapter) -> Result<(), RecordFault>
         ensures ok { OnOk result (self.new.left ≡ []) }
         ensures taken { IsTaken result → Grows (W.contents self.old.device) self.old.left
@@ -77,8 +77,8 @@ impl<W: DevWrite + Drop> RecordFile<W> {
         }
     }
 
-    /// Writes what is left, and then has the device send on what it took. `Failed` exactly if the device failed in this
-    /// call; what it had not taken then is left.
+    /// Writes what is left, and then flushes the device. `Failed` exactly if the device failed in this call; the bytes
+    /// that it had not taken by then are left.
     pub fn flush(&mut self) -> Result<(), Failed>
         ensures ok { OnOk result (self.new.left ≡ []) }
         ensures recorded { Stays (W.contents self.old.device) self.old.left
@@ -90,14 +90,14 @@ impl<W: DevWrite + Drop> RecordFile<W> {
         self.writer.flush()
     }
 
-    /// The bytes that the device has not taken yet, in order.
+    /// Returns the bytes that the device has not taken yet, in order.
     pub fn left(&self) -> &[u8]
         ensures { result.now ≡ self.now.left }
     {
         self.pending.left()
     }
 
-    /// The device.
+    /// Returns the device.
     pub fn writer(&self) -> &W
         ensures { result.now ≡ self.now.device }
     {

@@ -31,7 +31,7 @@ const EMPTY_CHAPTER: &str = "
     504f4e5245433031 43 00000024 3f 0000000000000000
     0100 03 00 0000000000000007 0000000000000000 0000 00 00000000";
 
-// The bytes of pairs of hexadecimal digits, parted by blanks.
+// Decodes pairs of hexadecimal digits that are separated by blanks.
 fn bytes_of(alloc: Global, text: &str) -> Result<Vec<u8>, AllocError> {
     let digits: Vec<u8> = text
         .bytes()
@@ -62,7 +62,7 @@ fn admission(rt: &impl Abort) -> Event {
     }
 }
 
-// A hundred words in answer to the map of a frame.
+// Reports 100 words for the map of a frame.
 fn report(rt: &impl Abort, frame: u64) -> Event {
     let mut occ = Occupancies::new();
     occ.push(BufOcc::new(100));
@@ -83,7 +83,7 @@ fn chapter_of(rt: &impl Abort, alloc: Global) -> Chapter {
     port.into_chapter()
 }
 
-// A recording on a device that takes 64 bytes in a call and fails in one of them.
+// Opens a recording on a device that takes 64 bytes in a call and fails in one of its calls.
 fn failing_in(rt: &impl Abort, alloc: Global, call: u64) -> RecordFile<MemWrite> {
     let mut failing = Vec::new(alloc);
     failing.push(call).expect(rt, "memory");
@@ -157,14 +157,14 @@ fn is_busy_while_something_is_left(rt: HostRuntime) -> Result<(), Fail> {
     Ok(())
 }
 
-// Takes an event, and again if memory was refused.
+// Takes an event, with a second attempt if memory was refused.
 fn take_again(rt: &impl Abort, port: &mut Port, event: Event, again: Event) {
     if port.take(event).is_err() {
         let _taken = port.take(again).expect(rt, "taken");
     }
 }
 
-// Appends the chapter, again if memory was refused, and has the device take what it left.
+// Appends the chapter, with a second attempt if memory was refused. Flushes bytes that are left before or after.
 fn append_again(rt: &impl Abort, file: &mut RecordFile<MemWrite>, chapter: &Chapter) {
     if !file.left().is_empty() {
         assert!(rt; file.flush().is_ok());
@@ -176,7 +176,7 @@ fn append_again(rt: &impl Abort, file: &mut RecordFile<MemWrite>, chapter: &Chap
     }
 }
 
-// One allocation that fails (`rt try --test --fail-alloc N`) takes nothing from the recording and puts nothing into it.
+// If one allocation fails (`rt try --test --fail-alloc N`), the recording has the same bytes.
 #[test]
 fn appends_again_what_memory_refused(rt: HostRuntime) -> Result<(), Fail> {
     let alloc = rt.alloc();

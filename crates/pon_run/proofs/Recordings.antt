@@ -1,4 +1,4 @@
--- Chapters that a recording gets one after the other.
+-- Chapters that a recording gets one after another.
 use Rattle.std.proofs.Common.{◌≡◌, ℕ, suc, ◌+◌, List, [], ◌∷◌, ◌++◌, length, ◌<◌, ap, arith, refl, subst, sym, ◌∙◌, append_assoc}
 use Rattle.std.specs.Prelude.{Option}
 use Rattle.std.proofs.lemmas.List.{append-nil, length-append}
@@ -8,7 +8,7 @@ use Rattle.pon_recorder.specs.Bodies.{chapter_body}
 use Rattle.pon_recorder.specs.Recorders.{Records, Stays}
 use Rattle.pon_run.specs.Recordings.{HasRecorded, bodies_from}
 
--- where the chapters of the first ports are recorded, this number of them, and the others are not
+-- the chapters of the first `number` ports are recorded, and those of the others are not
 pub record Underway (old : Option (List ℕ)) (left : List ℕ) (now : Option (List ℕ)) (rest : List ℕ) (ports : List Chapter) (number : ℕ) (others : List Chapter) : Type 0 where
   pub first : List Chapter
   pub whole : first ++ others ≡ ports
@@ -46,7 +46,7 @@ next_recorded old left mid rest new more ports number c others u h = record {
       (h before (bodies ++ bs) (u.recorded before bodies r));
 }
 
--- the chapters of all ports are recorded, and the device sent on what it took
+-- the chapters of all ports are recorded, and the device is flushed
 pub all_recorded : (old : Option (List ℕ)) (left : List ℕ) (mid : Option (List ℕ)) (rest : List ℕ) (new : Option (List ℕ)) (more : List ℕ) (ports : List Chapter) (number : ℕ)
     → Underway old left mid rest ports number [] → Stays mid rest new more → HasRecorded old left new more (bodies_from 0 ports)
 all_recorded old left mid rest new more ports number u s before bodies r =

@@ -1,4 +1,4 @@
--- The lines that tell at the end of a run what each port did.
+-- The lines at the end of a run: what each port did.
 use Rattle.std.specs.Prelude.{ℕ, suc, ◌≡◌, List, [], ◌∷◌, ◌++◌, codes, decimal, Option, Result, Ok, Err}
 use Rattle.pon_stream.specs.Streams.{TellsLine}
 use Rattle.pon_stream.specs.declared.fault.PlanFault.{PlanFault}
@@ -12,12 +12,12 @@ line_of port end =
     ++ (codes " entries " ++ (decimal end.entries ++ (codes " reports " ++ (decimal end.reports
     ++ (codes " dropped " ++ (decimal end.dropped ++ 10 ∷ [])))))))))
 
--- a line for each port, of which the first has this number
+-- a line for each port, numbered from this number on
 abbrev pub lines_from : ℕ → List PortEnd → List ℕ
 lines_from port [] = []
 lines_from port (end ∷ ends) = line_of port end ++ lines_from (suc port) ends
 
--- the lines of all ports were written, or a beginning of them, or none if memory was refused
+-- the lines of all ports were written, or a prefix of them, or none if memory was refused
 abbrev pub TellsEnds : List PortEnd → Option (List ℕ) → Option (List ℕ) → Result (Unit {0}) PlanFault → Type 0
 TellsEnds ends old new (Err Memory) = new ≡ old
 TellsEnds ends old new (Err Read) = TellsLine (lines_from 0 ends) old new (Err Read)

@@ -9,15 +9,15 @@ use Rattle.pon_settings.specs.declared.row.SettingsRow.{SettingsRow}
 abbrev pub is_row_of : ℕ → SettingsRow → Bool
 is_row_of onu r = r.row.onu == onu
 
--- the words that wait for each Alloc-ID of an ONU, in the order of the rows
+-- the number of waiting words of each Alloc-ID of an ONU, in the order of the rows
 abbrev pub own_queues : List SettingsRow → ℕ → List (ℕ × ℕ)
 own_queues rows onu = map (λ r. (r.row.alloc_id, r.queue)) (filter (is_row_of onu) rows)
 
--- the first 16 of them
+-- the first 16 queues of an ONU
 abbrev pub queues_of : List SettingsRow → ℕ → List (ℕ × ℕ)
 queues_of rows onu = take LONGEST_SERIES (own_queues rows onu)
 
--- the units of the ONUs that have their first row in this part of all rows, behind these rows
+-- the units of the ONUs whose first row is in this part of all rows, given the rows before this part
 abbrev pub units_behind : List SettingsRow → List SettingsRow → List SettingsRow → List UnitState
 units_behind all before [] = []
 units_behind all before (r ∷ rs) =

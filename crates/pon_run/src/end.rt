@@ -11,13 +11,13 @@ use std::alloc::{AllocError, Global};
 /// What one port did in a run.
 #[derive(Clone, Copy, Debug, PartialEq, Eq)]
 pub(crate) struct PortEnd {
-    /// The number of maps that its worker had it make.
+    /// The number of maps that its worker had made.
     pub(crate) maps: u64,
     /// The number of entries that it took.
     pub(crate) entries: u64,
     /// The number of reports of its units that it took.
     pub(crate) reports: u64,
-    /// The number of its chapters that were dropped.
+    /// The number of its dropped chapters.
     pub(crate) dropped: u64,
 }
 
@@ -48,7 +48,7 @@ fn lines_of(alloc: Global, ends: &[PortEnd]) -> Result<String, AllocError>
 
 /// Writes the line of each port, in order, and flushes the writer.
 ///
-/// `Memory` if memory is refused: nothing is written then. `Write` if the writer fails.
+/// Returns `Memory` if memory is refused, and then writes nothing; `Write` if the writer fails.
 pub(crate) fn write_ends<W: DevWrite>(
     alloc: Global,
     ends: &[PortEnd],

@@ -1,8 +1,8 @@
-//! A run of a terminal: each port is served over a socket of its own for a number of maps, beside simulated units that answer
-//! it, and a line about each port is written at the end.
+//! A run of a terminal: each port is served over its own socket for a number of maps, together with simulated units
+//! that answer it, and a line about each port is written at the end.
 //!
 //! Sockets are opened before the first thread is started. Each port has two threads, one for its worker and one for its
-//! units; all of them have ended when a run returns, however it ends.
+//! units; all threads have ended when a run returns, in every case.
 #![tactic(auto)]
 
 mod arguments;

@@ -1,4 +1,4 @@
-//! The sockets of a run: one connection for each port, whose two ends are both here.
+//! The sockets of a run: one connection for each port, with both ends in this process.
 
 ghost use Rattle.std.specs.Prelude.{◌≡◌, IfOk};
 ghost use Rattle.std.specs.Vec.{vec_len};
@@ -8,7 +8,7 @@ use std::alloc::Global;
 use std::io::{self, ErrorKind};
 use std::net::{Net, SocketAddr, TcpListener, TcpStream};
 
-/// How many connections of others are dropped before a port's own is accepted.
+/// Maximum number of foreign connections that are dropped before the port's own is accepted.
 const MOST_STRANGERS: usize = 64;
 
 /// A connection: the end of the port, and the end of its units.
@@ -18,7 +18,7 @@ pub(crate) struct Link {
     pub(crate) units: TcpStream,
 }
 
-// Accepts the connection from this address.
+// Accepts the connection from this address, and drops others.
 fn accept_from(listener: &TcpListener, address: SocketAddr) -> io::Result<TcpStream> {
     for _stranger in 0..=MOST_STRANGERS {
         let (stream, peer) = listener.accept()?;
@@ -57,9 +57,9 @@ fn listen_on<R: Net<Listener = TcpListener, Stream = TcpStream>>(
     Ok(links)
 }
 
-/// Listens on the address, and opens a connection for each port, in order. The address is free again afterwards.
+/// Listens on the address, opens a connection for each port, in order, and stops listening.
 ///
-/// `Memory` if memory is refused; else `Read`: the address cannot be read, bound, connected to or accepted on.
+/// Returns `Memory` if memory is refused, and `Read` if the address cannot be read, bound, connected to or accepted on.
 pub(crate) fn open_links<R: Net<Listener = TcpListener, Stream = TcpStream>>(
     rt: &R,
     alloc: Global,

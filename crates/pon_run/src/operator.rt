@@ -1,4 +1,4 @@
-//! The operator of a run: management lines of a file, answered while the workers run.
+//! The operator of a run: the management lines of a file, executed while the workers run.
 
 use pon_desk::{Desk, Seat};
 use pon_device::{DevWrite, StdRead};
@@ -11,7 +11,7 @@ use std::rt::Files;
 use std::sync::Wait;
 use std::sync::ledger::Ledger;
 
-/// Opens the file of the operator's lines. A file that cannot be opened cannot be read.
+/// Opens the file of the operator's lines. Returns `Read` if it cannot be opened.
 pub(crate) fn open_lines<R: Files>(rt: &R, name: &str) -> Result<R::File, PlanFault> {
     match fs::open(rt, name) {
         Ok(file) => Ok(file),
@@ -19,7 +19,7 @@ pub(crate) fn open_lines<R: Files>(rt: &R, name: &str) -> Result<R::File, PlanFa
     }
 }
 
-/// Answers the lines of the file, as [`operate`] does.
+/// Executes the lines of the file, as [`operate`] does.
 pub(crate) fn answer_lines<L: Ledger, M: Ledger, F: Read + Drop, W: DevWrite, R: Wait>(
     rt: &R,
     alloc: Global,

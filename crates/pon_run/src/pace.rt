@@ -1,9 +1,9 @@
-//! The turns of a worker in a run, which end early if the run is given up.
+//! The turns of a worker in a run, which end early if the run is stopped.
 
 use pon_worker::{Pace, Turns};
 use std::sync::atomic::{AtomicBool, Ordering};
 
-/// A number of turns, while a flag is not set.
+/// A number of turns, made while a flag is not set.
 #[derive(Drop)]
 pub(crate) struct UntilStopped<'a> {
     turns: Turns,

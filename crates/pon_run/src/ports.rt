@@ -1,4 +1,4 @@
-//! The ports of a run, at a desk: opened, filled from the settings, and closed.
+//! The ports of a run at a desk: opened, filled from the settings, and closed.
 
 ghost use Rattle.std.specs.Prelude.{◌≡◌, ◌+◌, ◌≤◌, IfOk, IfSome, length};
 ghost use Rattle.std.specs.Vec.{vec_len};
@@ -17,10 +17,10 @@ use std::alloc::{AllocError, Global};
 use std::sync::Wait;
 use std::sync::ledger::Ledger;
 
-/// The seats beside those of the workers: one for the rows of the settings, and one for the operator.
+/// Number of seats besides those of the workers: one for the rows of the settings, and one for the operator.
 pub(crate) const OTHER_SEATS: usize = 2;
 
-/// Admits the rows of the settings, whose roster took each of them. `Err` only if memory is refused.
+/// Admits the rows of the settings, each of which a roster has accepted. `Err` only if memory is refused.
 pub(crate) fn admit_rows<L: Ledger, M: Ledger, R: Wait>(
     rt: &R,
     alloc: Global,
@@ -36,7 +36,7 @@ pub(crate) fn admit_rows<L: Ledger, M: Ledger, R: Wait>(
     Ok(())
 }
 
-/// What serves each port of the settings, in order. `Err` only if memory is refused.
+/// Combines what serves each port of the settings, in order. `Err` only if memory is refused.
 pub(crate) fn served_ports<L: Ledger, M: Ledger>(
     alloc: Global,
     settings: &Settings,
@@ -58,7 +58,7 @@ pub(crate) fn served_ports<L: Ledger, M: Ledger>(
     Ok(all)
 }
 
-// What a port did, by its worker's end.
+// Returns what a port did, from the end of its worker.
 fn end_of(port: &Port, end: &WorkerEnd) -> PortEnd
     ensures maps { result.maps ≡ end.now.maps }
     ensures reports { result.reports ≡ end.now.reports }
@@ -81,11 +81,12 @@ pub(crate) struct Ended<L: Ledger, M: Ledger> {
     pub(crate) seats: Vec<Seat<L, M>>,
     /// How each worker ended.
     pub(crate) ends: Vec<WorkerEnd>,
-    /// Whether each made all its turns.
+    /// Whether each worker made all its turns.
     pub(crate) finished: bool,
 }
 
-/// Parts what the threads of the workers gave, and puts their seats to the other ones. `Err` if memory was refused, here or in one of them.
+/// Splits the results of the workers' threads, and adds their seats to `seats`. `Err` if memory was refused, here or in
+/// one of the threads.
 pub(crate) fn parted<L: Ledger, M: Ledger>(
     alloc: Global,
     mut seats: Vec<Seat<L, M>>,
@@ -106,7 +107,7 @@ pub(crate) fn parted<L: Ledger, M: Ledger>(
     })
 }
 
-/// What each port did. `Err` only if memory is refused.
+/// Returns what each port did, in order. `Err` only if memory is refused.
 pub(crate) fn ends_of(
     alloc: Global,
     ports: &[Port],
@@ -119,8 +120,8 @@ pub(crate) fn ends_of(
         .collect(alloc)
 }
 
-/// Closes the desk of a run: its ports, and whether each took as many entries as the seats count at it. `None` if a seat is
-/// missing.
+/// Closes the desk of a run. Returns its ports, and whether each took as many entries as the seats count at it. `None`
+/// if a seat is missing.
 pub(crate) fn close<L: Ledger, M: Ledger>(
     desk: Desk<L, M>,
     seats: Vec<Seat<L, M>>,

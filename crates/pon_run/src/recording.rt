@@ -14,7 +14,7 @@ use std::fs;
 use std::io::Write;
 use std::rt::Files;
 
-/// Makes the file of a recording, empty if it is there already. `Write` if it cannot be made.
+/// Creates the file of a recording, or empties it if it exists. Returns `Write` if that fails.
 pub(crate) fn create_file<R: Files>(rt: &R, name: &str) -> Result<R::File, PlanFault> {
     match fs::create(rt, name) {
         Ok(file) => Ok(file),
@@ -22,8 +22,8 @@ pub(crate) fn create_file<R: Files>(rt: &R, name: &str) -> Result<R::File, PlanF
     }
 }
 
-/// Begins a recording in a file: its magic bytes are written. `Write` if the file does not take them, `Memory` if memory is
-/// refused.
+/// Begins a recording in a file, and writes its magic bytes. Returns `Write` if the file does not take them, and
+/// `Memory` if memory is refused.
 pub(crate) fn begin<F: Write + Drop>(
     alloc: Global,
     file: F,
@@ -55,9 +55,10 @@ fn append<W: DevWrite + Drop>(
     }
 }
 
-/// Appends the chapter of each port, in order, and has the device send on what it took.
+/// Appends the chapter of each port, in order, and flushes the device.
 ///
-/// `Write` if the device fails, and `Memory` if memory is refused: the chapters of the ports before are in the recording then.
+/// Returns `Write` if the device fails, and `Memory` if memory is refused; the recording then has the chapters of the
+/// earlier ports.
 pub(crate) fn record_ports<W: DevWrite + Drop>(
     recording: &mut RecordFile<W>,
     ports: Vec<Port>,

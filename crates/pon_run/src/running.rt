@@ -1,4 +1,4 @@
-//! The threads of a run: each port's two, started and joined.
+//! The threads of a run, two for each port: started and joined.
 
 use crate::link::Link;
 use crate::thread::{Worked, answer, work};
@@ -31,8 +31,8 @@ pub(crate) struct Running<L: Ledger, M: Ledger> {
     units: JoinHandle<Result<(), UnitsFault>>,
 }
 
-// Starts the threads of a port. `None` if one of the two cannot be made: then the other one finds its connection closed, and
-// ends.
+// Starts the threads of a port. `None` if one of the two cannot be created; the other then finds its connection closed,
+// and ends.
 fn start<'s, E, L, M, G, R>(
     scope: &Scope<'s, E>,
     rt: &'s R,
@@ -66,7 +66,7 @@ where
     Some(Running { worker, units })
 }
 
-// Starts the threads of all ports. `Memory` if one cannot be made.
+// Starts the threads of all ports. Returns `Memory` if one cannot be created.
 fn start_all<'s, E, L, M, G, R>(
     scope: &Scope<'s, E>,
     rt: &'s R,
@@ -97,7 +97,7 @@ where
     Ok(running)
 }
 
-// Waits for the threads of all ports to end.
+// Waits for the threads of all ports to end, and returns the results of the workers.
 fn join_all<L: Ledger, M: Ledger, R: Threads>(
     rt: &R,
     alloc: Global,
@@ -115,10 +115,10 @@ fn join_all<L: Ledger, M: Ledger, R: Threads>(
     Ok(all)
 }
 
-/// Serves each port in threads of its own, and does something else `meanwhile`, whose answer comes second. All threads have ended
-/// when it returns.
+/// Serves each port in its own threads, and calls `meanwhile` during that time. Returns the results of the workers and
+/// of `meanwhile`. All threads have ended when it returns.
 ///
-/// `Memory` if memory is refused, or a thread: the workers that run make no further turn then.
+/// Returns `Memory` if memory is refused or a thread cannot be created; running workers then make no further turn.
 pub(crate) fn serve_all<L, M, G, R, O>(
     rt: &R,
     alloc: Global,

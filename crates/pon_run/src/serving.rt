@@ -31,7 +31,8 @@ use std::sync::Wait;
 use std::sync::ledger::{Blank, Ledger};
 use std::thread::Threads;
 
-// Serves the ports of a desk, while the operator's lines are answered. The workers, and how the operator ended.
+// Serves the ports of a desk while the operator's lines are executed. Returns the workers' results, and how the
+// operator ended.
 fn serve<L, M, G, F, W, R>(
     rt: &R,
     alloc: Global,
@@ -61,7 +62,7 @@ where
     }
 }
 
-// Records the chapters of ports, and writes what each did; these lines are written too if the recording fails.
+// Records the chapters of ports, and writes what each port did, also if the recording fails.
 fn tell_ports<F: Write + Drop, W: DevWrite>(
     alloc: Global,
     ports: Vec<Port>,
@@ -80,7 +81,7 @@ fn tell_ports<F: Write + Drop, W: DevWrite>(
     recorded
 }
 
-// Closes the desk, and tells of each port. Whether each worker made all its turns, and no post was lost.
+// Closes the desk, and writes what each port did. Returns whether each worker made all its turns and no post was lost.
 fn tell<L: Ledger, M: Ledger, F: Write + Drop, W: DevWrite>(
     alloc: Global,
     desk: Desk<L, M>,
@@ -107,8 +108,8 @@ fn tell<L: Ledger, M: Ledger, F: Write + Drop, W: DevWrite>(
     Ok(all && even && ended.finished)
 }
 
-// Admits the rows of the settings at an open desk, serves its ports, and writes what each did. Whether each worker made all its
-// turns, and no post was lost.
+// Admits the rows of the settings at an open desk, serves its ports, and writes what each did. Returns whether each
+// worker made all its turns and no post was lost.
 fn run_desk<L, M, G, F, W, R>(
     rt: &R,
     alloc: Global,
@@ -236,16 +237,18 @@ where
     )
 }
 
-/// Runs the ports of the settings: opens the operator's file, makes the file of the recording, listens on the address, opens a
-/// connection for each port, and admits the rows of the settings. Then each port makes this many maps for its simulated units,
-/// which answer over the connection, while the operator's lines are answered. At the end the chapter of each port is recorded,
-/// and a line about each port is written. The gate may hold workers back.
+/// Runs the ports of the settings.
 ///
-/// Returns the exit status: 0 if each worker made all its turns, the operator's lines were all answered and the recording is
-/// whole; else 3. Standard error has a text if a device failed or memory was refused: `olt: read failed` if the operator's file or
-/// the address cannot be read, bound, connected to or accepted on; `olt: write failed`, also if the file of the recording cannot
-/// be made or written; or `olt: out of memory`, also for a thread that cannot be made. A worker that ended early has no text.
-/// All threads have ended when it returns.
+/// Opens the operator's file, creates the file of the recording, listens on the address, opens a connection for each
+/// port, and admits the rows of the settings. Then each port makes `maps` maps for its simulated units, which answer
+/// over the connection, while the operator's lines are executed. At the end the chapter of each port is recorded, and a
+/// line about each port is written. The gate may hold workers back.
+///
+/// Returns the exit status: 0 if each worker made all its turns, all the operator's lines were executed and the
+/// recording is whole; otherwise 3. Standard error has a text if a device failed or memory was refused: `olt: read
+/// failed` if the operator's file cannot be read, or the address cannot be read, bound, connected to or accepted on;
+/// `olt: write failed`, also if the file of the recording cannot be created or written; or `olt: out of memory`, also
+/// if a thread cannot be created. A worker that ended early has no text. All threads have ended when it returns.
 pub fn run_ports<G, W, R>(
     rt: &R,
     alloc: Global,
@@ -259,7 +262,7 @@ where
     W: DevWrite,
     R: Net<Listener = TcpListener, Stream = TcpStream> + Files + Threads + Wait + Eprint + Sync,
     ensures status { (result ≡ 0) ⊎ (result ≡ 3) }
-    // Without an operator nothing but these lines is written.
+    // Without an operator only these lines are written.
     ensures lines { IsNone args.entry.operate → result ≡ 0
         → TellsPorts (length settings) (W.contents writer.old) (W.contents writer.new) }
 {

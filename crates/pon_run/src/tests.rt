@@ -20,10 +20,10 @@ const PORT: &str = "\
 // An address of this machine, with a free port.
 const HERE: &str = "127.0.0.1:0";
 
-// How often a worker that is held looks for the other before the answer is no.
+// How often a held worker checks for the other one before the gate refuses it.
 const LOOKS: u32 = 1_000;
 
-// Holds each port's worker at `Send` until the other port's worker has asked there too.
+// Holds the worker of each port at `Send` until the worker of the other port is there too.
 #[derive(Drop)]
 struct Both {
     asked: [AtomicU64; 2],
@@ -46,7 +46,7 @@ impl Gate for Both {
     }
 }
 
-// Runs this number of such ports: the exit status, and what was written.
+// Runs this number of such ports. Returns the exit status and the text that was written.
 fn ran<G, R>(
     rt: &R,
     alloc: Global,
@@ -71,7 +71,7 @@ where
     Ok((status, writer))
 }
 
-// A run of this number of maps a port, without an operator.
+// Arguments of a run of this number of maps for each port, without an operator.
 fn args(maps: u64) -> RunArgs<'static> {
     RunArgs {
         listen: HERE,

@@ -1,4 +1,4 @@
-//! What the two threads of a port do: its worker's, and its units'.
+//! The work of the two threads of a port: that of its worker, and that of its units.
 
 use crate::pace::UntilStopped;
 use pon_desk::{Desk, Seat};
@@ -14,7 +14,8 @@ use std::sync::Wait;
 use std::sync::atomic::AtomicBool;
 use std::sync::ledger::Ledger;
 
-/// A worker that has ended: its seat, and how it ended. `Err` if memory for what it reads was refused, and it did nothing.
+/// The result of a worker: its seat, and how it ended. `end` is `Err` if memory for its buffer was refused; the worker
+/// then did nothing.
 #[derive(Drop)]
 pub(crate) struct Worked<L: Ledger, M: Ledger> {
     pub(crate) seat: Seat<L, M>,
@@ -52,7 +53,7 @@ fn serve<L: Ledger, M: Ledger, G: Gate, R: Wait>(
     ))
 }
 
-/// The thread of a port's worker. It closes its end of the connection when it ends.
+/// Runs the worker of a port, and closes its end of the connection.
 pub(crate) fn work<L: Ledger, M: Ledger, G: Gate, R: Wait>(
     rt: &R,
     alloc: Global,
@@ -68,7 +69,7 @@ pub(crate) fn work<L: Ledger, M: Ledger, G: Gate, R: Wait>(
     Worked { seat, end }
 }
 
-/// The thread of a port's units. It closes their end of the connection when it ends.
+/// Runs the units of a port, and closes their end of the connection.
 pub(crate) fn answer(
     alloc: Global,
     mut units: Vec<Unit>,

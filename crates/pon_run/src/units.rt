@@ -10,7 +10,7 @@ use pon_settings::SettingsRow;
 use pon_units::{AllocId, LONGEST_SERIES, OnuId};
 use std::alloc::{AllocError, Global};
 
-// The words that wait for each Alloc-ID of an ONU, in the order of the rows.
+// Returns the number of waiting words of each Alloc-ID of an ONU, in the order of the rows.
 fn own_queues(
     alloc: Global,
     rows: &[SettingsRow],
@@ -24,7 +24,7 @@ fn own_queues(
         .collect(alloc)
 }
 
-// The first 16 of these.
+// Returns the first 16 queues.
 fn first_queues(own: &[(AllocId, u32)]) -> ArrayVec<(AllocId, u32), LONGEST_SERIES>
     ensures { result.items ≡ take LONGEST_SERIES own.now }
 {
@@ -39,15 +39,15 @@ fn first_queues(own: &[(AllocId, u32)]) -> ArrayVec<(AllocId, u32), LONGEST_SERI
     queues
 }
 
-// Whether one of these rows is of the ONU.
+// Returns whether one of the rows is of the ONU.
 fn has_onu(rows: &[SettingsRow], onu: OnuId) -> bool
     ensures { result ≡ list_any (is_row_of onu) rows.now }
 {
     rows.iter().any(|settings_row| settings_row.row.onu == onu)
 }
 
-/// A unit for each ONU that has rows, in the order of the first row of each, whose queues are those of its rows. `Err` only
-/// if memory is refused.
+/// Returns a unit for each ONU that has rows, in the order of the first row of each, with the queues of its rows. `Err`
+/// only if memory is refused.
 pub(crate) fn units_of(alloc: Global, rows: &[SettingsRow]) -> Result<Vec<Unit>, AllocError>
     ensures { IfOk result (λ units. units.items ≡ units_of rows.now) }
 {

@@ -1,4 +1,4 @@
--- Rows that are admitted one after the other.
+-- Rows that are admitted one after another.
 use Rattle.std.proofs.Common.{◌≡◌, ℕ, zero, suc, ◌<◌, List, [], ◌∷◌, ◌++◌, map, length, take, get_or, refl, ap, ◌∙◌, sym, inl, inr, ◌⊎◌}
 use Rattle.std.specs.Prelude.{Option, Some, None, option_map, slice_get, fold}
 use Rattle.std.proofs.lemmas.List.{map-append}
@@ -12,7 +12,7 @@ use Rattle.pon_descr.specs.declared.refusal.Refusal.{Refusal}
 use Rattle.toml.specs.declared.value.Value.{Value}
 use Rattle.toml.specs.View.{view}
 
--- the first k + 1 of a list
+-- the first k + 1 elements of a list
 pub take_one_more : {A : Type 0} (xs : List A) (k : ℕ) (x : A) → slice_get xs k ≡ Some x → take (suc k) xs ≡ take k xs ++ x ∷ []
 take_one_more [] k x is = absurd cc
 take_one_more (y ∷ xs) zero x is = ap (λ z. z ∷ []) (same_Some y x is)
@@ -46,7 +46,7 @@ still_admitted gap rows r all last k x is =
       | inr h ↦ rw (h.1, h.0) last
     ]
 
--- one more table that spells a row, which is admitted after the others
+-- one more table, whose row is admitted after the others
 pub one_more_row : (gap : ℕ) (tables : List Data) (rows : List SettingsRow) (k : ℕ) (d : Data) (r : SettingsRow) → SpellsRows gap (take k tables) rows → slice_get tables k ≡ Some d
     → row_at d ≡ Some r → row_refusal (roster_after gap rows) r.row ≡ None → SpellsRows gap (take (suc k) tables) (rows ++ r ∷ [])
 one_more_row gap tables rows k d r so_far here spelled accepted = record {

@@ -1,4 +1,4 @@
--- Tables and arrays beside the maps and the lists that they stand for.
+-- Tables and arrays as the maps and lists that they represent.
 use Rattle.std.proofs.Common.{◌≡◌, ℕ, Bool, ◌&&◌, List, [], ◌∷◌, map, String, Global, string_bytes, refl, ap, ◌∙◌, sym}
 use Rattle.std.specs.Prelude.{Some, option_and_then}
 use Rattle.std.specs.List.{list_all}
@@ -23,6 +23,6 @@ pub all_view : (test : Data → Bool) (vs : List Value) → list_all (λ v. test
 all_view test [] = refl
 all_view test (v ∷ vs) = ap (λ b. test (view v) && b) (all_view test vs)
 
--- a list of values is one of tables or not
+-- a list of values is a list of tables or not
 pub tables_of : (d : Data) (vs : List Value) → Some (items_view vs) ≡ as_array d → tables d ≡ if_tables (map view vs)
 tables_of d vs is = ap (option_and_then (λ ds. if_tables (elements ds))) (sym is) ∙ ap if_tables (same_elements vs)

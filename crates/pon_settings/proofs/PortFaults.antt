@@ -9,7 +9,7 @@ use Rattle.pon_settings.specs.declared.fault.SettingsFault.TheVariants as fault
 use Rattle.pon_settings.specs.Rows.{IsRowsFault}
 use Rattle.pon_settings.specs.Ports.{PortFields, PortSettings, SpellsPort, port_fields_at, port_tables, IsPortFault, IsPortsFault, IsFirstSettingsFault}
 
--- the first fault of the rows is that of a port whose fields are in form
+-- if the fields of a port are well formed, the first fault of its rows is that of the port
 pub in_rows : (port : ℕ) (d : Data) (own : PortFields) (f : SettingsFault) → port_fields_at d ≡ Some own → IsRowsFault port own.opening.0.gap own.tables f → IsPortFault port d f
 in_rows port d own fault.Text fields h = h
 in_rows port d own fault.Ports fields h = h
@@ -18,7 +18,7 @@ in_rows port d own (fault.Row p k) fields h = record { own = own; fields = field
 in_rows port d own (fault.Refused p k why) fields h = record { own = own; fields = fields; first = h }
 in_rows port d own fault.Memory fields h = tt
 
--- a port at fault after ports that are spelled
+-- the fault of a port is the first fault of the ports, if the ports before it are spelled
 pub at_port : (tables : List Data) (port : ℕ) (d : Data) (before : List PortSettings) (f : SettingsFault) → slice_get tables port ≡ Some d → AllZip SpellsPort (take port tables) before → IsPortFault port d f → IsPortsFault tables f
 at_port tables port d before fault.Text here earlier h = h
 at_port tables port d before fault.Ports here earlier h = h

@@ -1,4 +1,4 @@
--- Why a row is refused: the descriptor's fault, and what a roster tells.
+-- Why a row is refused: the fault of its descriptor, and the refusal of a roster.
 use Rattle.std.proofs.Common.{◌≡◌, Bool, true, false, [], ◌∷◌, refl, ap, ◌∙◌, sym}
 use Rattle.std.specs.Prelude.{Option, Some, None}
 use Rattle.toml.specs.Data.{Data}
@@ -35,7 +35,7 @@ told_as : (o : Option Refusal) (told : Refusal) → (o ≡ Some OutOfMemory → 
 told_as None told h is = ap admission_fault is
 told_as (Some why) told h is = ap admission_fault is ∙ sym (other_refusal why (λ e. h (ap Some e)))
 
--- what a roster tells of a row whose numbers are in range
+-- the refusal by a roster of a row whose numbers are in range
 pub refused_row : (roster : Roster) (d : Data) (r : SettingsRow) (told : Refusal) → row_at d ≡ Some r → number_refusal r.row ≡ None
     → IsTold (refuses_admit roster.rule roster.gap roster.rows r.row) told → IsAdmissionFault roster (row_at d) (admission_fault told)
 refused_row roster d r told spelled numbers is =

@@ -7,7 +7,7 @@ use Rattle.toml.specs.Data.{Data, Items, no_items, item, Members, get_member, as
 abbrev pub greatest_integer : ℕ
 greatest_integer = 9223372036854775807
 
--- a number within a range
+-- a number in a range
 abbrev pub whole : ℕ → ℕ → ℤ → Option ℕ
 whole least most (pos n) = if nat_le least n && nat_le n most then Some n else None
 whole least most _ = None
@@ -19,11 +19,11 @@ abbrev pub number_or_zero : ℕ → Option Data → Option ℕ
 number_or_zero most None = Some 0
 number_or_zero most (Some d) = number 0 most d
 
--- the number at a key, within a range
+-- the number at a key, in a range
 abbrev pub required : List ℕ → ℕ → ℕ → Members → Option ℕ
 required key least most t = option_and_then (number least most) (get_member key t)
 
--- the number at a key, and 0 where the key is absent
+-- the number at a key, or 0 if the key is absent
 abbrev pub optional : List ℕ → ℕ → Members → Option ℕ
 optional key most t = number_or_zero most (get_member key t)
 
@@ -32,7 +32,7 @@ abbrev pub elements : Items → List Data
 elements no_items = []
 elements (item d ds) = d ∷ elements ds
 
--- the elements, where each is a table
+-- the elements, if each is a table
 abbrev pub if_tables : List Data → Option (List Data)
 if_tables ds = if list_all (λ d. is_some (as_table d)) ds then Some ds else None
 
@@ -43,7 +43,7 @@ abbrev pub tables_or_none : Option Data → Option (List Data)
 tables_or_none None = Some []
 tables_or_none (Some d) = tables d
 
--- the tables at a key, and none where the key is absent
+-- the tables at a key; for an optional key, no tables if it is absent
 abbrev pub required_tables : List ℕ → Members → Option (List Data)
 required_tables key t = option_and_then tables (get_member key t)
 

@@ -4,11 +4,11 @@ use Rattle.pon_descr.specs.Refusal.{refusal_text}
 use Rattle.pon_settings.specs.declared.fault.SettingsFault.{SettingsFault}
 use Rattle.pon_settings.specs.declared.fault.SettingsFault.TheVariants.{Text, Ports, Field, Row, Refused, Memory}
 
--- the line that names a port, and then these words
+-- the line that names a port, followed by a text
 abbrev pub port_line : ℕ → List ℕ → List ℕ
 port_line port words = codes "  port " ++ (decimal port ++ words)
 
--- the line that names a row, and then these words
+-- the line that names a row, followed by a text
 abbrev pub row_line : ℕ → ℕ → List ℕ → List ℕ
 row_line port row words = port_line port (codes ", alloc " ++ (decimal row ++ words))
 
@@ -18,7 +18,7 @@ NamesPort port line = (words : List ℕ) × (line ≡ port_line port words)
 abbrev pub NamesRow : ℕ → ℕ → List ℕ → Type 0
 NamesRow port row line = (words : List ℕ) × (line ≡ row_line port row words)
 
--- the line names the place of the fault, and the refusal where it is one
+-- the line names the place of the fault, and its refusal if it is one
 abbrev pub Explains : SettingsFault → List ℕ → Type 0
 Explains Text line = Unit {0}
 Explains Ports line = Unit {0}

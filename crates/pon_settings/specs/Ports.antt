@@ -1,4 +1,4 @@
--- The ports of settings (TOML): what each spells, and the first fault of one.
+-- The ports of settings (TOML): the port of each table, and the first fault.
 use Rattle.std.specs.Prelude.{ℕ, suc, ◌≡◌, ◌≤◌, nat_le, ◌&&◌, if◌then◌else◌, List, [], ◌∷◌, ◌++◌, map, length, take, slice_get, codes, Option, Some, None, option_and_then}
 use Rattle.std.specs.List.{AllZip}
 use Rattle.toml.specs.Data.{Data, Members, as_table}
@@ -39,7 +39,7 @@ abbrev pub opening_from : Option ℕ → Option ℕ → Option ℕ → Option (P
 opening_from (Some gap) (Some profile) (Some first) = Some (record { gap = gap; profile = profile }, first)
 opening_from _ _ _ = None
 
--- what a port is opened with; no other key is allowed
+-- the configuration and the first frame of a port; no other key is allowed
 abbrev pub opening_of : Members → Option (PortCfg × ℕ)
 opening_of t = if has_known_keys place.Port t then opening_from (gap_of t) (profile_of t) (first_frame_of t) else None
 
@@ -60,7 +60,7 @@ pub record SpellsPort (table : Data) (port : PortSettings) : Type 0 where
   pub fields : port_fields_at table ≡ Some (record { opening = port.opening; tables = tables })
   pub rows : SpellsRows port.opening.0.gap tables port.rows
 
--- the fields of the port are in form, and this is the first fault of its rows
+-- the fields of the port are well formed, and this is the first fault of its rows
 pub record StandsInRows (port : ℕ) (table : Data) (fault : SettingsFault) : Type 0 where
   pub own : PortFields
   pub fields : port_fields_at table ≡ Some own
@@ -77,7 +77,7 @@ IsPortFault port found fault.Memory = Unit {0}
 
 -- The list of the ports.
 
--- as many ports as there may be
+-- the permitted number of ports
 abbrev pub IsPortCount : ℕ → Type 0
 IsPortCount n = (1 ≤ n) × (n ≤ MOST_PORTS)
 
@@ -106,9 +106,9 @@ IsPortsFault tables (fault.Row p k) = StandsAtPort tables (fault.Row p k)
 IsPortsFault tables (fault.Refused p k why) = StandsAtPort tables (fault.Refused p k why)
 IsPortsFault tables fault.Memory = Unit {0}
 
--- Whole texts. A document is the table of a text, or none where the text is no TOML.
+-- Whole texts. A document is the table of a text, or `None` if the text is not TOML.
 
--- the document's table has a list of ports, and each spells one
+-- the document's table has a list of ports, and its tables spell these ports
 pub record Spells (document : Option Members) (ports : List PortSettings) : Type 0 where
   pub table : Members
   pub is_toml : document ≡ Some table
@@ -139,7 +139,7 @@ IsFirstSettingsFault document (fault.Row p k) = StandsInPorts document (fault.Ro
 IsFirstSettingsFault document (fault.Refused p k why) = StandsInPorts document (fault.Refused p k why)
 IsFirstSettingsFault document fault.Memory = Unit {0}
 
--- What the ports are opened with, and the steps that admit their rows.
+-- The configuration and first frame of each port, and the steps that admit their rows.
 
 abbrev pub openings : List PortSettings → List (PortCfg × ℕ)
 openings ports = map (λ p. p.opening) ports
@@ -147,7 +147,7 @@ openings ports = map (λ p. p.opening) ports
 abbrev pub admission : ℕ → SettingsRow → Step
 admission port r = record { port = port; event = Admit r.row.onu r.row.alloc_id r.row.descriptor }
 
--- the rows of the ports, numbered from this one on
+-- the steps that admit the rows of the ports, numbered from this number on
 abbrev pub steps_from : ℕ → List PortSettings → List Step
 steps_from port [] = []
 steps_from port (p ∷ ports) = map (admission port) p.rows ++ steps_from (suc port) ports

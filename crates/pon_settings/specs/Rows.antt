@@ -1,4 +1,4 @@
--- The rows of a port in settings (TOML): what each spells, and their admission in order.
+-- The rows of a port in settings (TOML): the row of each table, and their admission in order.
 use Rattle.std.specs.Prelude.{ℕ, ◌≡◌, nat_lt, ◌||◌, if◌then◌else◌, List, [], ◌∷◌, map, take, fold, slice_get, codes, Option, Some, None, option_and_then}
 use Rattle.pon_units.specs.declared.limits.TheConstants.{GREATEST_ALLOC_ID, GREATEST_ONU_ID, LEAST_ALLOC_ID}
 use Rattle.toml.specs.Data.{Data, Members, as_table}
@@ -21,7 +21,7 @@ pub use Rattle.pon_settings.specs.declared.row.SettingsRow.{SettingsRow}
 use Rattle.pon_settings.specs.Keys.{has_known_keys}
 use Rattle.pon_settings.specs.Fields.{required, optional, greatest_integer}
 
--- the most words that wait in a simulated unit
+-- the maximum number of words that wait in a simulated unit
 abbrev pub most_queue : ℕ
 most_queue = 4294967295
 
@@ -29,7 +29,7 @@ abbrev pub numbers_from : Option ℕ → Option ℕ → Option ℕ → Option Nu
 numbers_from (Some onu) (Some alloc) (Some queue) = Some (record { onu = onu; alloc_id = alloc; queue = queue })
 numbers_from _ _ _ = None
 
--- the numbers of a row beside its descriptor; no other key is allowed
+-- the numbers of a row, except those of its descriptor; no unknown key is allowed
 abbrev pub numbers_of : Members → Option Numbers
 numbers_of t = if has_known_keys place.Row t
     then numbers_from (required (codes "onu") 0 greatest_integer t) (required (codes "alloc") 0 greatest_integer t) (optional (codes "queue") most_queue t)
@@ -39,21 +39,21 @@ abbrev pub row_from : Option Numbers → Option Descriptor → Option SettingsRo
 row_from (Some n) (Some d) = Some (record { row = record { onu = n.onu; alloc_id = n.alloc_id; descriptor = d }; queue = n.queue })
 row_from _ _ = None
 
--- the row that a table spells, its identifiers and rates in range or not
+-- the row that a table spells, with identifiers and rates in range or not
 abbrev pub row_of : Members → Option SettingsRow
 row_of t = row_from (numbers_of t) (described t)
 
 abbrev pub row_at : Data → Option SettingsRow
 row_at d = option_and_then row_of (as_table d)
 
--- what refuses the numbers of a row: the Alloc-ID is checked first, then the ONU-ID, then the descriptor
+-- the refusal of the numbers of a row: the Alloc-ID is checked first, then the ONU-ID, then the descriptor
 abbrev pub id_refusal : ℕ → ℕ → Option Refusal
 id_refusal alloc onu = first_of (when (nat_lt alloc LEAST_ALLOC_ID || nat_lt GREATEST_ALLOC_ID alloc) AllocRange ∷ when (nat_lt GREATEST_ONU_ID onu) OnuRange ∷ [])
 
 abbrev pub number_refusal : Row → Option Refusal
 number_refusal r = or_else (id_refusal r.alloc_id r.onu) (descriptor_refusal r.descriptor)
 
--- what refuses a row: its numbers, then its admission to the roster
+-- the refusal of a row: by its numbers, then by its admission to the roster
 abbrev pub row_refusal : Roster → Row → Option Refusal
 row_refusal roster r = or_else (number_refusal r) (refuses_admit roster.rule roster.gap roster.rows r)
 
@@ -65,7 +65,7 @@ roster_after gap rows = record { rule = rule_in_force; gap = gap; rows = fold (�
 abbrev pub AreAdmitted : ℕ → List SettingsRow → Type 0
 AreAdmitted gap rows = (k : ℕ) (r : SettingsRow) → slice_get rows k ≡ Some r → row_refusal (roster_after gap (take k rows)) r.row ≡ None
 
--- the tables spell the rows, and these are admitted in order
+-- the tables spell the rows, and the rows are admitted in order
 pub record SpellsRows (gap : ℕ) (tables : List Data) (rows : List SettingsRow) : Type 0 where
   pub each : map row_at tables ≡ map Some rows
   pub admitted : AreAdmitted gap rows
@@ -95,7 +95,7 @@ IsRowsFault port gap tables (fault.Row p k) = (p ≡ port) × StandsAtRow gap ta
 IsRowsFault port gap tables (fault.Refused p k why) = (p ≡ port) × StandsAtRow gap tables k (IsRefusedRow why)
 IsRowsFault port gap tables fault.Memory = Unit {0}
 
--- What the parts of the reader return.
+-- The results of the parts of the reader.
 
 abbrev pub descriptor_fault : DescrFault → RowFault
 descriptor_fault descr.Field = Form
@@ -110,17 +110,17 @@ fault_at port k Form = fault.Row port k
 fault_at port k (Refused why) = fault.Refused port k why
 fault_at port k Memory = fault.Memory
 
--- a table spells no row, or one whose numbers are refused
+-- the table spells no row, or one whose numbers are refused
 abbrev pub IsRowFault : Option SettingsRow → RowFault → Type 0
 IsRowFault None fault = fault ≡ Form
 IsRowFault (Some r) fault = (why : Refusal) × (number_refusal r.row ≡ Some why) × (fault ≡ Refused why)
 
--- the refusal, and out of memory only if there is none
+-- the refusal; out of memory only if there is none
 abbrev pub IsToldAs : Option Refusal → RowFault → Type 0
 IsToldAs None fault = fault ≡ Memory
 IsToldAs (Some why) fault = fault ≡ Refused why
 
--- a table spells no row, or one that is not admitted
+-- the table spells no row, or one that is not admitted
 abbrev pub IsAdmissionFault : Roster → Option SettingsRow → RowFault → Type 0
 IsAdmissionFault roster None fault = fault ≡ Form
 IsAdmissionFault roster (Some r) fault = IsToldAs (row_refusal roster r.row) fault

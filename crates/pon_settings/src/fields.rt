@@ -10,7 +10,7 @@ use toml::{Table, Value};
 /// The greatest whole number of TOML.
 pub(crate) const GREATEST_INTEGER: u64 = 9_223_372_036_854_775_807;
 
-// A number within a range.
+// Returns `n` if it is in the range.
 fn whole(least: u64, most: u64, n: i64) -> Option<u64>
     ensures { result ≡ whole least most n }
 {
@@ -25,7 +25,7 @@ fn whole(least: u64, most: u64, n: i64) -> Option<u64>
     }
 }
 
-// The number that a value is, within a range.
+// Returns the whole number of a value if it is in the range.
 fn number(least: u64, most: u64, value: &Value) -> Option<u64>
     ensures { result ≡ number least most (view value.now) }
 {
@@ -35,7 +35,7 @@ fn number(least: u64, most: u64, value: &Value) -> Option<u64>
     }
 }
 
-// The value at a key.
+// Returns the value at a key. `None` if the key is absent.
 fn value_at<'a>(table: &'a Table, key: &str) -> Option<&'a Value>
     ensures { option_map (λ value. view value.now) result
         ≡ get_member key.now (table_view table.now) }
@@ -43,7 +43,7 @@ fn value_at<'a>(table: &'a Table, key: &str) -> Option<&'a Value>
     table.get(key)
 }
 
-/// The number at a key, within a range.
+/// Returns the number at a key. `None` if the key is absent, or its value is not a whole number in the range.
 pub(crate) fn required(table: &Table, key: &str, least: u64, most: u64) -> Option<u64>
     ensures { result ≡ required key.now least most (table_view table.now) }
 {
@@ -53,7 +53,7 @@ pub(crate) fn required(table: &Table, key: &str, least: u64, most: u64) -> Optio
     }
 }
 
-/// The number at a key, 0 to `most`, and 0 where the key is absent.
+/// Returns the number at a key, 0 to `most`, or 0 if the key is absent. `None` for any other value.
 pub(crate) fn optional(table: &Table, key: &str, most: u64) -> Option<u64>
     ensures { result ≡ optional key.now most (table_view table.now) }
 {
@@ -63,7 +63,7 @@ pub(crate) fn optional(table: &Table, key: &str, most: u64) -> Option<u64>
     }
 }
 
-// The elements of an array of tables.
+// Returns the elements of an array of tables. `None` for any other value.
 fn tables(value: &Value) -> Option<&[Value]>
     ensures { option_map (λ values. map view values.now) result ≡ tables (view value.now) }
 {
@@ -78,7 +78,7 @@ fn tables(value: &Value) -> Option<&[Value]>
     }
 }
 
-/// The tables at a key.
+/// Returns the tables at a key. `None` if the key is absent, or its value is not an array of tables.
 pub(crate) fn required_tables<'a>(table: &'a Table, key: &str) -> Option<&'a [Value]>
     ensures { option_map (λ values. map view values.now) result
         ≡ required_tables key.now (table_view table.now) }
@@ -89,7 +89,7 @@ pub(crate) fn required_tables<'a>(table: &'a Table, key: &str) -> Option<&'a [Va
     }
 }
 
-/// The tables at a key, none where the key is absent.
+/// Returns the tables at a key, or no tables if the key is absent. `None` if its value is not an array of tables.
 pub(crate) fn optional_tables<'a>(table: &'a Table, key: &str) -> Option<&'a [Value]>
     ensures { option_map (λ values. map view values.now) result
         ≡ optional_tables key.now (table_view table.now) }

@@ -1,7 +1,7 @@
 //! The settings of a terminal, in TOML: its ports, and the Alloc-IDs that are admitted before the first line.
 //!
-//! A [`Settings`] holds what a text spells, key by key; each fault stands in the text at its place and is the first in order.
-//! Opening a port, running a step and filling a simulated unit are for the crates above.
+//! A [`Settings`] has the values of a text, key by key. A fault names its place in the text and is the first in order.
+//! Opening a port, running a step and filling a simulated unit are left to other crates.
 #![tactic(auto)]
 
 mod fault;

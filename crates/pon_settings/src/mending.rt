@@ -1,4 +1,4 @@
-//! What a person needs to mend settings: where a fault is, and which rule is broken there.
+//! Explains faults of settings to a person: where a fault is, and which rule is broken there.
 
 ghost use Rattle.std.specs.Prelude.{IfOk, string_bytes};
 ghost use Rattle.pon_settings.specs.Lines.{Explains, NamesPort, NamesRow};
@@ -9,7 +9,7 @@ use pon_units::PortNo;
 use std::alloc::{AllocError, Global};
 use toml::Table;
 
-// The table of a text, where it is TOML.
+// Returns the table of a text. `None` if the text is not TOML.
 fn table_of(alloc: Global, text: &str) -> Result<Option<Table>, AllocError> {
     match toml::table_from_str(alloc, text) {
         Ok(table) => Ok(Some(table)),
@@ -23,7 +23,7 @@ fn table_of(alloc: Global, text: &str) -> Result<Option<Table>, AllocError> {
     }
 }
 
-// The table of this index in the list at a key.
+// Returns the table at this index of the list at a key.
 fn table_at<'a>(table: &'a Table, key: &str, index: usize) -> Option<&'a Table> {
     let Some(list) = table.get(key) else {
         return None;
@@ -37,7 +37,7 @@ fn table_at<'a>(table: &'a Table, key: &str, index: usize) -> Option<&'a Table> 
     }
 }
 
-// The rule that a port breaks.
+// Returns the rule that a port breaks.
 fn rule_at_port(table: &Table, port: PortNo) -> Option<Rule<'_>> {
     match table_at(table, "port", usize::from(port.get())) {
         Some(found) => port_rule(found),
@@ -45,7 +45,7 @@ fn rule_at_port(table: &Table, port: PortNo) -> Option<Rule<'_>> {
     }
 }
 
-// The rule that a row of a port breaks.
+// Returns the rule that a row of a port breaks.
 fn rule_at_row(table: &Table, port: PortNo, row: usize) -> Option<Rule<'_>> {
     let Some(found) = table_at(table, "port", usize::from(port.get())) else {
         return None;
@@ -56,7 +56,7 @@ fn rule_at_row(table: &Table, port: PortNo, row: usize) -> Option<Rule<'_>> {
     }
 }
 
-// What follows the place in a line.
+// Returns the text of a rule that follows the place in a line.
 fn words_of(alloc: Global, rule: Option<Rule<'_>>) -> Result<String, AllocError> {
     match rule {
         Some(rule) => format!(in alloc; ": {rule}"),
@@ -64,7 +64,7 @@ fn words_of(alloc: Global, rule: Option<Rule<'_>>) -> Result<String, AllocError>
     }
 }
 
-// The line and the column where a text is no TOML, and why.
+// Returns the line and the column where a text stops being TOML, and why.
 fn explain_text(alloc: Global, text: &str) -> Result<String, AllocError> {
     let Err(fault) = toml::table_from_str(alloc, text) else {
         return Ok(String::new(alloc));
@@ -78,7 +78,7 @@ fn explain_text(alloc: Global, text: &str) -> Result<String, AllocError> {
     format!(in alloc; "  {place}: {why}")
 }
 
-// The rule that is broken at the top.
+// Returns the text of the rule that is broken at the top.
 fn explain_ports(alloc: Global, text: &str) -> Result<String, AllocError> {
     match table_of(alloc, text)? {
         Some(table) => {
@@ -89,7 +89,7 @@ fn explain_ports(alloc: Global, text: &str) -> Result<String, AllocError> {
     }
 }
 
-// The rule that is broken at a port, in words.
+// Returns the text of the rule that is broken at a port.
 fn words_at_port(alloc: Global, text: &str, port: PortNo) -> Result<String, AllocError> {
     match table_of(alloc, text)? {
         Some(table) => words_of(alloc, rule_at_port(&table, port)),
@@ -97,7 +97,7 @@ fn words_at_port(alloc: Global, text: &str, port: PortNo) -> Result<String, Allo
     }
 }
 
-// The rule that is broken at a row, in words.
+// Returns the text of the rule that is broken at a row.
 fn words_at_row(alloc: Global, text: &str, port: PortNo, row: usize) -> Result<String, AllocError> {
     match table_of(alloc, text)? {
         Some(table) => words_of(alloc, rule_at_row(&table, port, row)),
@@ -105,7 +105,7 @@ fn words_at_row(alloc: Global, text: &str, port: PortNo, row: usize) -> Result<S
     }
 }
 
-// The line of a port.
+// Returns the line of a faulty port.
 fn explain_port(alloc: Global, text: &str, port: PortNo) -> Result<String, AllocError>
     ensures { IfOk result (λ line. NamesPort port (string_bytes line)) }
 {
@@ -114,7 +114,7 @@ fn explain_port(alloc: Global, text: &str, port: PortNo) -> Result<String, Alloc
     format!(in alloc; "  port {number}{words}")
 }
 
-// The line of a row.
+// Returns the line of a faulty row.
 fn explain_row(alloc: Global, text: &str, port: PortNo, row: usize) -> Result<String, AllocError>
     ensures { IfOk result (λ line. NamesRow port row (string_bytes line)) }
 {
@@ -123,11 +123,11 @@ fn explain_row(alloc: Global, text: &str, port: PortNo, row: usize) -> Result<St
     format!(in alloc; "  port {number}, alloc {row}{words}")
 }
 
-/// A line, without its end, that says where this fault of a text is and which rule is broken there. Ports and
-/// rows are counted from 0.
+/// Returns a line, without a line feed, that says where the fault of a text is and which rule is broken there. Ports
+/// and rows are counted from 0.
 ///
-/// The fault is one that [`settings`](crate::settings) gave for this text; for another the line may name the place alone.
-/// The line of `Memory` is empty. `Err` only if memory is refused.
+/// `fault` is the fault that [`settings`](crate::settings) returned for this text; for another fault the line may name
+/// only the place. The line of `Memory` is empty. `Err` only if memory is refused.
 pub fn explain(alloc: Global, text: &str, fault: &SettingsFault) -> Result<String, AllocError>
     ensures { IfOk result (λ line. Explains fault.now (string_bytes line)) }
 {

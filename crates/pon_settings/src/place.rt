@@ -15,7 +15,7 @@ pub(crate) enum Place {
 }
 
 impl Place {
-    /// Whether a table of this kind may have the key.
+    /// Returns whether a table of this kind may have the key.
     pub(crate) fn knows(self, key: &str) -> bool
         ensures { result ≡ is_known self key.now }
     {
@@ -40,7 +40,7 @@ impl Place {
         }
     }
 
-    /// Whether all keys of the table are such.
+    /// Returns whether a table of this kind may have all keys of the table.
     pub(crate) fn knows_keys(self, table: &Table) -> bool
         ensures { result ≡ has_known_keys self (table_view table.now) }
     {

@@ -15,8 +15,8 @@ use std::alloc::Global;
 use std::marker::Model;
 use toml::{Table, Value};
 
-/// A port of settings: what it is opened with, its first frame, 0 to 9,223,372,036,854,775,807, and its rows in the order
-/// of the text.
+/// A port of settings: its configuration, its first frame, 0 to 9,223,372,036,854,775,807, and its rows in the order of
+/// the text.
 #[derive(Drop)]
 pub struct PortSettings {
     opening: (PortCfg, FrameNo),
@@ -32,14 +32,14 @@ impl Model for PortSettings {
 }
 
 impl PortSettings {
-    /// The gap and the profile of the port, and its first frame.
+    /// Gap, profile and first frame of the port.
     pub fn opening(&self) -> (PortCfg, FrameNo)
         ensures { result ≡ self.now.opening }
     {
         self.opening
     }
 
-    /// The rows, to be admitted in this order.
+    /// The rows of the port, to be admitted in this order.
     pub fn rows(&self) -> &[SettingsRow]
         ensures { result.now ≡ self.now.rows }
     {
@@ -47,7 +47,7 @@ impl PortSettings {
     }
 }
 
-/// The gap in words of 4 bytes, 1 to 256.
+/// Reads the gap in words, 1 to 256. `None` if the key is absent, or its value is not such a number.
 pub(crate) fn gap_of(table: &Table) -> Option<Gap>
     ensures { result ≡ gap_of (table_view table.now) }
 {
@@ -60,7 +60,7 @@ pub(crate) fn gap_of(table: &Table) -> Option<Gap>
     Gap::new(gap as u16)
 }
 
-/// The profile, 0 to 3.
+/// Reads the profile, 0 to 3, or 0 if the key is absent. `None` for any other value.
 pub(crate) fn profile_of(table: &Table) -> Option<Profile>
     ensures { result ≡ profile_of (table_view table.now) }
 {
@@ -68,7 +68,7 @@ pub(crate) fn profile_of(table: &Table) -> Option<Profile>
     Profile::new(profile as u8)
 }
 
-/// The first frame, 0 where the key is absent.
+/// Reads the first frame, or 0 if the key is absent. `None` if its value is not a whole number of 0 or more.
 pub(crate) fn first_frame(table: &Table) -> Option<FrameNo>
     ensures { result ≡ first_frame_of (table_view table.now) }
 {
@@ -76,7 +76,7 @@ pub(crate) fn first_frame(table: &Table) -> Option<FrameNo>
     Some(FrameNo::new(first))
 }
 
-// What a table with the keys of a port says of its opening.
+// Reads the configuration and the first frame of a port. `None` if a key is unknown or a value is not in its range.
 fn opening_of(table: &Table) -> Option<(PortCfg, FrameNo)>
     ensures { result ≡ opening_of (table_view table.now) }
 {
@@ -89,7 +89,7 @@ fn opening_of(table: &Table) -> Option<(PortCfg, FrameNo)>
     Some((PortCfg { gap, profile }, first))
 }
 
-/// The port that a table spells. Else the first fault: its own fields, then row by row.
+/// Reads a port from a table. Otherwise returns the first fault: that of the port's own fields, then row by row.
 pub(crate) fn port_of(
     alloc: Global,
     port: PortNo,

@@ -1,4 +1,4 @@
-//! Reads a text: the ports in order.
+//! Reads a text: its ports, in order.
 
 ghost use Rattle.std.specs.Prelude.{◌≡◌, ◌≤◌, length, map, option_map, IfOk, IfErr, IfSome};
 ghost use Rattle.std.specs.List.{AllZip};
@@ -15,7 +15,7 @@ use pon_units::{MOST_PORTS, PortNo};
 use std::alloc::Global;
 use toml::{Table, Value};
 
-// The tables of the ports.
+// Returns the tables of the ports, 1 to 64. `None` if there is no such list or the top has another key.
 fn port_tables(table: &Table) -> Option<&[Value]>
     ensures list { option_map (λ values. map view values.now) result
         ≡ port_tables (table_view table.now) }
@@ -35,7 +35,7 @@ fn port_tables(table: &Table) -> Option<&[Value]>
     }
 }
 
-// The ports that tables spell. Else the first fault, port by port.
+// Reads the ports from tables. Otherwise returns the first fault, port by port.
 fn ports_of(alloc: Global, tables: &[Value]) -> Result<Vec<PortSettings>, SettingsFault>
     requires { length tables.now ≤ MOST_PORTS }
     ensures ok { IfOk result (λ ports. AllZip SpellsPort (map view tables.now) ports.items) }
@@ -54,11 +54,11 @@ fn ports_of(alloc: Global, tables: &[Value]) -> Result<Vec<PortSettings>, Settin
     Ok(ports)
 }
 
-/// The settings that a text spells (TOML).
+/// Reads settings from a text (TOML).
 ///
-/// Else its first fault: `Text` if it is no TOML, `Ports` if its table has no list of 1 to 64 `port` tables or has another
-/// key, then port by port: `Field` for its own fields, then row by row `Row` for the row's fields and `Refused` for its
-/// admission after the rows before it. `Memory` if a growth was refused, wherever the reader then stood.
+/// Otherwise returns the first fault: `Text` if the text is not TOML; `Ports` if its table has no list of 1 to 64
+/// `port` tables or has another key; then port by port: `Field` for the port's own fields, then row by row `Row` for
+/// the row's fields and `Refused` for its admission after the rows before it. `Memory` if memory was refused.
 pub fn settings(alloc: Global, text: &str) -> Result<Settings, SettingsFault>
     ensures ok { IfOk result (Spells (parse_document text.now)) }
     ensures fault { IfErr result (IsFirstSettingsFault (parse_document text.now)) }

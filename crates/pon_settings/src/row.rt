@@ -1,4 +1,4 @@
-//! A row of settings: an Alloc-ID to be admitted, and what waits in its simulated unit.
+//! A row of settings: an Alloc-ID to be admitted, and the words that wait in its simulated unit.
 
 ghost use Rattle.std.specs.Prelude.{◌≡◌, ◌≤◌, Some, None, IfOk, IfErr};
 ghost use Rattle.std.specs.Option.{SomeIff};
@@ -14,18 +14,18 @@ use pon_descr::{DescrFault, Refusal, from_toml};
 use pon_units::{AllocId, GREATEST_ALLOC_ID, GREATEST_ONU_ID, LEAST_ALLOC_ID, OnuId};
 use toml::{Table, Value};
 
-/// The most words that wait in a simulated unit.
+/// Maximum number of words that wait in a simulated unit.
 pub(crate) const MOST_QUEUE: u64 = 4_294_967_295;
 
-/// An Alloc-ID that is admitted before the first line, and the words of 4 bytes that wait for it in its simulated unit, 0
-/// to 4,294,967,295.
+/// An Alloc-ID that is admitted before the first line, and the number of words that wait for it in its simulated unit,
+/// 0 to 4,294,967,295.
 #[derive(Clone, Copy, Debug, PartialEq, Eq)]
 pub struct SettingsRow {
     pub row: Row,
     pub queue: u32,
 }
 
-/// Why a table is no row, or is not admitted.
+/// Why a table is not a row, or its row is not admitted.
 #[derive(Clone, Copy)]
 pub(crate) enum RowFault {
     Form,
@@ -33,7 +33,7 @@ pub(crate) enum RowFault {
     Memory,
 }
 
-/// The numbers of a row beside its descriptor.
+/// The numbers of a row, except those of its descriptor.
 #[derive(Clone, Copy)]
 pub(crate) struct Numbers {
     pub(crate) onu: u64,
@@ -41,7 +41,8 @@ pub(crate) struct Numbers {
     pub(crate) queue: u32,
 }
 
-// The numbers of a table that has the keys of a row.
+// Reads the numbers of a row. `None` if the table has an unknown key, or a number is absent, of another type or out of
+// range.
 fn numbers_of(table: &Table) -> Option<Numbers>
     ensures { result ≡ numbers_of (table_view table.now) }
 {
@@ -58,21 +59,21 @@ fn numbers_of(table: &Table) -> Option<Numbers>
     })
 }
 
-// A managed Alloc-ID, 1024 to 16383.
+// Returns a managed Alloc-ID, 1024 to 16383. `None` outside this range.
 fn alloc_id_of(number: u64) -> Option<AllocId>
     ensures { SomeIff result ((LEAST_ALLOC_ID ≤ number) × (number ≤ GREATEST_ALLOC_ID)) number }
 {
     AllocId::new(u16::try_from(number).ok()?)
 }
 
-// An ONU-ID, 0 to 1022.
+// Returns an ONU-ID, 0 to 1022. `None` outside this range.
 fn onu_id_of(number: u64) -> Option<OnuId>
     ensures { SomeIff result (number ≤ GREATEST_ONU_ID) number }
 {
     OnuId::new(u16::try_from(number).ok()?)
 }
 
-// The Alloc-ID and the ONU-ID of a row, or the refusal of the first that is out of range.
+// Returns the Alloc-ID and the ONU-ID of a row, or the refusal of the first that is out of range.
 fn ids_of(numbers: &Numbers) -> Result<(AllocId, OnuId), Refusal>
     ensures ok { IfOk result
         (λ ids. (ids ≡ (numbers.now.alloc_id, numbers.now.onu))
@@ -89,7 +90,7 @@ fn ids_of(numbers: &Numbers) -> Result<(AllocId, OnuId), Refusal>
     Ok((alloc_id, onu))
 }
 
-// The fault of a row that has this fault in its descriptor.
+// Returns the fault of a row for the fault of its descriptor.
 fn descriptor_fault(fault: DescrFault) -> RowFault
     ensures { result ≡ descriptor_fault fault }
 {
@@ -99,7 +100,7 @@ fn descriptor_fault(fault: DescrFault) -> RowFault
     }
 }
 
-// The fault of a row that a roster refuses.
+// Returns the fault of a row for the refusal of a roster.
 fn admission_fault(refusal: Refusal) -> RowFault
     ensures { result ≡ admission_fault refusal }
 {
@@ -109,7 +110,7 @@ fn admission_fault(refusal: Refusal) -> RowFault
     }
 }
 
-// The row that a table spells, its numbers in range.
+// Reads a row from a table, and checks that its numbers are in range.
 fn row_of(table: &Table) -> Result<SettingsRow, RowFault>
     ensures ok { IfOk result
         (λ r. (row_of (table_view table.now) ≡ Some r) × (number_refusal r.row ≡ None)) }
@@ -135,7 +136,7 @@ fn row_of(table: &Table) -> Result<SettingsRow, RowFault>
     }
 }
 
-/// Admits the row that a table spells.
+/// Reads a row from a table, and admits it.
 pub(crate) fn admit(roster: &mut Roster, value: &Value) -> Result<SettingsRow, RowFault>
     ensures ok { IfOk result (Admits roster.old (view value.now) roster.new) }
     ensures fault { IfErr result (IsAdmissionFault roster.old (row_at (view value.now))) }

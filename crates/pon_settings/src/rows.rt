@@ -11,7 +11,7 @@ use pon_units::{Gap, PortNo};
 use std::alloc::Global;
 use toml::Value;
 
-// The fault of a row at its place.
+// Returns the fault of the settings for the fault of a row.
 fn fault_at(port: PortNo, row: usize, fault: RowFault) -> SettingsFault
     ensures { result ≡ fault_at port row fault }
 {
@@ -22,7 +22,7 @@ fn fault_at(port: PortNo, row: usize, fault: RowFault) -> SettingsFault
     }
 }
 
-/// The rows that tables spell, each admitted after those before it. Else the first fault, row by row.
+/// Reads the rows from tables, and admits each after the rows before it. Otherwise returns the first fault, row by row.
 pub(crate) fn rows_of(
     alloc: Global,
     port: PortNo,

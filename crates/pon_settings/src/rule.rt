@@ -1,4 +1,4 @@
-//! The rule that a table of settings breaks, in words.
+//! The rule that a table of settings breaks, as a text.
 
 use crate::fields::{GREATEST_INTEGER, optional, optional_tables, required};
 use crate::place::Place;
@@ -8,12 +8,12 @@ use pon_descr::Class;
 use std::fmt;
 use toml::Table;
 
-/// What is wrong in a table.
+/// What is wrong with a table.
 #[derive(Clone, Copy)]
 pub(crate) enum Rule<'a> {
-    /// It has a key that it may not have.
+    /// The table has a key that it may not have.
     UnknownKey(&'a str),
-    /// A value is not as this says.
+    /// A value does not satisfy this rule.
     Broken(&'static str),
 }
 
@@ -26,7 +26,7 @@ impl fmt::Display for Rule<'_> {
     }
 }
 
-// The first key that a table of this kind may not have.
+// Returns the first key that a table of this kind may not have.
 fn unknown_key(place: Place, table: &Table) -> Option<Rule<'_>> {
     for key in table.keys() {
         if !place.knows(key.as_str()) {
@@ -36,7 +36,7 @@ fn unknown_key(place: Place, table: &Table) -> Option<Rule<'_>> {
     None
 }
 
-/// The rule that the table at the top breaks, where its ports are no list of 1 to 64 tables.
+/// Returns the rule that the table at the top breaks, if it does not have a list of 1 to 64 port tables.
 pub(crate) fn top_rule(table: &Table) -> Rule<'_> {
     match unknown_key(Place::Top, table) {
         Some(rule) => rule,
@@ -44,7 +44,7 @@ pub(crate) fn top_rule(table: &Table) -> Rule<'_> {
     }
 }
 
-/// The first rule that a port's own fields break.
+/// Returns the first rule that a port's own fields break.
 pub(crate) fn port_rule(table: &Table) -> Option<Rule<'_>> {
     if let Some(rule) = unknown_key(Place::Port, table) {
         return Some(rule);
@@ -63,12 +63,12 @@ pub(crate) fn port_rule(table: &Table) -> Option<Rule<'_>> {
     Some(Rule::Broken(rule))
 }
 
-// Whether there is a whole number that is not negative.
+// Returns whether a whole number of 0 or more is at the key.
 fn has_number(table: &Table, key: &str) -> bool {
     required(table, key, 0, GREATEST_INTEGER).is_some()
 }
 
-// Whether there is a class.
+// Returns whether the table has a valid class.
 fn has_class(table: &Table) -> bool {
     let Some(value) = table.get("class") else {
         return false;
@@ -79,7 +79,7 @@ fn has_class(table: &Table) -> bool {
     }
 }
 
-/// The first rule that the fields of a row break.
+/// Returns the first rule that the fields of a row break.
 pub(crate) fn row_rule(table: &Table) -> Option<Rule<'_>> {
     if let Some(rule) = unknown_key(Place::Row, table) {
         return Some(rule);

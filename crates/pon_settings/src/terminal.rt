@@ -29,7 +29,7 @@ impl Model for Settings {
     ghost invariant = { λ a. IsPortCount (length a.ports.items) };
 }
 
-// Adds the steps that admit the rows of a port.
+// Appends the steps that admit the rows of a port. `Err` only if memory is refused.
 fn add_steps(steps: &mut Vec<Step>, port: PortNo, rows: &[SettingsRow]) -> Result<(), AllocError>
     ensures { OnOk result
         (steps.new.items ≡ steps.old.items ++ map (admission port) rows.now) }
@@ -59,14 +59,14 @@ impl Settings {
         &self.ports
     }
 
-    /// What each port is opened with, in order. `Err` only if memory is refused.
+    /// Returns the configuration and the first frame of each port, in order. `Err` only if memory is refused.
     pub fn openings(&self, alloc: Global) -> Result<Vec<(PortCfg, FrameNo)>, AllocError>
         ensures { IfOk result (λ all. all.items ≡ openings self.now) }
     {
         self.ports.iter().map(|port| port.opening()).collect(alloc)
     }
 
-    /// The steps that admit the rows, port by port in their order. `Err` only if memory is refused.
+    /// Returns the steps that admit the rows, port by port, in order. `Err` only if memory is refused.
     pub fn steps(&self, alloc: Global) -> Result<Vec<Step>, AllocError>
         ensures { IfOk result (λ steps. steps.items ≡ steps_from 0 self.now) }
     {

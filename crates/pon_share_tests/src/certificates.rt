@@ -7,7 +7,7 @@ use std::alloc::{AllocError, Global};
 use std::process::Abort;
 use std::test::Fail;
 
-// Level 90/3 and the first of three items.
+// A certificate at level 90/3, with the first of three items saturated.
 const FIRST_OF_THREE: [u8; 22] = [
     0x01, 0, 0, 0, 0, 0, 0, 0, 0x5a, 0, 0, 0, 0, 0, 0, 0, 0x03, 0, 0x03, 0x01, 0, 0,
 ];
@@ -27,7 +27,7 @@ fn at(num: u64, den: u64) -> Level
     Level::At(Frac::new(num, den))
 }
 
-// The first of three items in the non-assured class, and no best-effort item.
+// Returns a certificate with the first of three items saturated in the non-assured class, and no best-effort item.
 fn first_of_three(alloc: Global) -> Result<MapCert, AllocError>
     ensures { IfOk result (λ cert. (length cert.na.saturated ≡ 3)
         × (length cert.be.saturated ≡ 0)) }
@@ -44,7 +44,7 @@ fn same(rt: &impl Abort, a: &MapCert, b: &MapCert) {
     assert_eq!(rt; a.be.saturated.as_slice(), b.be.saturated.as_slice());
 }
 
-// Out of memory by its own name.
+// Converts the fault, with its own kind for out of memory.
 fn refused(fault: CertReadFault) -> Fail {
     match fault {
         CertReadFault::Memory => AllocError.into(),
@@ -56,7 +56,7 @@ fn fault(alloc: Global, bytes: &[u8]) -> Option<CertReadFault> {
     MapCert::from_bytes(alloc, bytes).err()
 }
 
-// The bytes of the certificate of the first of three items, with these bytes behind.
+// Returns the bytes of the certificate of the first of three items, followed by `rest`.
 fn with_rest(alloc: Global, rest: &[u8]) -> Result<Vec<u8>, AllocError> {
     let mut bytes = Vec::from_slice(alloc, &FIRST_OF_THREE)?;
     bytes.extend_from_slice(&[0; 19])?;
@@ -107,7 +107,7 @@ fn each_beginning_is_short(rt: HostRuntime) -> Result<(), Fail> {
     Ok(())
 }
 
-// One byte of the certificate of the first of three items is another.
+// Returns the fault of the certificate of the first of three items with one byte changed.
 fn changed(alloc: Global, place: usize, byte: u8) -> Result<Option<CertReadFault>, AllocError> {
     let mut bytes = with_rest(alloc, &[])?;
     if let Some(changed) = bytes.get_mut(place) {
@@ -193,7 +193,7 @@ fn two_names() -> Result<[AllocId; 2], Fail>
     Ok([name(1024)?, name(1025)?])
 }
 
-// A text for which both classes have these Alloc-IDs.
+// Returns the fault of a text in which both classes have these Alloc-IDs.
 fn text_fault(alloc: Global, names: &[AllocId], text: &str) -> Option<CertReadFault>
     requires { AreNames names.now }
 {

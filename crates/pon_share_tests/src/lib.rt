@@ -1,6 +1,6 @@
-//! Tests of what a map's shares rest on: the roster, the report book, the rates, and certificates.
+//! Tests of the inputs of a map's shares: the roster, the report book, the rates, and certificates.
 //!
-//! They stand here, above the crates that they test, so that each of these is proved once.
+//! They are in a crate above those that they test, so that each of these is proved once.
 #![tactic(auto)]
 
 #[cfg(test)]

@@ -26,7 +26,7 @@ fn occupancy(rt: &impl Abort, words: u32) -> Option<BufOcc> {
     Some(BufOcc::new(words).expect(rt, "an occupancy"))
 }
 
-// A number of payload words to an Alloc-ID of an ONU.
+// Returns a grant of payload words to an Alloc-ID of an ONU.
 fn grant(rt: &impl Abort, owner: u16, alloc_id: u16, words: u16) -> Granted {
     Granted {
         onu: onu(rt, owner),
@@ -69,7 +69,7 @@ fn are_in_map_order(grants: &[Granted]) -> bool
     }
 }
 
-// Admits an Alloc-ID that is not there.
+// Admits an Alloc-ID that is not admitted.
 fn admit(rt: &impl Abort, loads: &mut Loads, alloc_id: u16, since: u64) {
     let alloc_id = id(rt, alloc_id);
     assert!(rt; is_free(loads, alloc_id));
@@ -90,7 +90,7 @@ fn map(rt: &impl Abort, loads: &mut Loads, frame: u64, grants: &[Granted]) {
     assert_eq!(rt; mapped, Ok(()));
 }
 
-// Takes maps of the frames from one to before another, each with a grant to Alloc-ID 1024 of ONU 5.
+// Takes maps of the frames `first` to `end - 1`, each with a grant to Alloc-ID 1024 of ONU 5.
 fn map_all(rt: &impl Abort, loads: &mut Loads, first: u64, end: u64, words: u16) {
     let grants = [grant(rt, 5, 1024, words)];
     for frame in first..end {
@@ -98,7 +98,7 @@ fn map_all(rt: &impl Abort, loads: &mut Loads, first: u64, end: u64, words: u16)
     }
 }
 
-// An ONU's report, with the result that it should have.
+// Reports for an ONU, and compares the result with the expected one.
 fn assert_reported(
     rt: &impl Abort,
     loads: &mut Loads,
@@ -111,7 +111,7 @@ fn assert_reported(
     assert_eq!(rt; told, wanted);
 }
 
-// A report of ONU 5 on its one Alloc-ID, which is taken.
+// Reports for ONU 5 on its one Alloc-ID, and expects the report to be taken.
 fn report(rt: &impl Abort, loads: &mut Loads, frame: u64, words: u32) {
     assert_reported(rt, loads, frame, 5, &[occupancy(rt, words)], Ok(()));
 }
@@ -126,7 +126,7 @@ fn assert_since(rt: &impl Abort, loads: &Loads, alloc_id: u16, wanted: Option<u6
     assert_eq!(rt; since, wanted, "{alloc_id}");
 }
 
-// The frame and the words of the report that counts.
+// Compares the frame and the words of the counted report with the expected ones.
 fn assert_counted(rt: &impl Abort, loads: &Loads, alloc_id: u16, wanted: Option<(u64, u32)>) {
     let counted = loads.counted(id(rt, alloc_id));
     let told = counted.map(|report| (report.frame.get(), report.words.get()));
@@ -137,7 +137,7 @@ fn copy_of(rt: &impl Abort, alloc: Global, loads: &Loads) -> Loads {
     loads.try_copy(alloc).expect(rt, "memory")
 }
 
-// The map of the window at an index: its frame, its grants, and who reported.
+// Compares the map of the window at an index: its frame, its grants, and the ONUs that reported.
 fn assert_map(
     rt: &impl Abort,
     map: Option<&WindowMap>,
@@ -151,7 +151,7 @@ fn assert_map(
     assert_eq!(rt; map.reported(), reported);
 }
 
-// Two books with the same accounts of Alloc-IDs 1024 to 1031, and the same window.
+// Compares two books: the accounts of Alloc-IDs 1024 to 1031, and the window.
 fn assert_same(rt: &impl Abort, loads: &Loads, other: &Loads) {
     for number in 1024..1032 {
         let alloc_id = id(rt, number);
@@ -202,7 +202,7 @@ fn keeps_an_account_of_each_admitted_alloc_id(rt: HostRuntime) {
     assert_since(&rt, &loads, 1030, Some(7));
 }
 
-// 100 words reported for a map that granted 10 are 90; then each map takes its own off.
+// 100 words reported for a map that granted 10 leave 90; each later map then subtracts its own grant.
 #[test]
 fn lessens_a_report_by_its_own_map_and_later_ones(rt: HostRuntime) {
     let mut loads = Loads::open(rt.alloc());
@@ -233,7 +233,8 @@ fn the_report_of_the_greatest_frame_counts(rt: HostRuntime) {
     assert_load(&rt, &loads, 1024, 10_240);
 }
 
-// One occupancy a structure, in map order; a garbled one leaves the earlier report, and no other Alloc-ID is changed.
+// One occupancy for each structure, in map order; a garbled one leaves the earlier report, and no other Alloc-ID
+// changes.
 #[test]
 fn counts_each_occupancy_for_its_alloc_id(rt: HostRuntime) {
     let mut loads = Loads::open(rt.alloc());
@@ -271,7 +272,7 @@ fn a_readmitted_alloc_id_has_no_report(rt: HostRuntime) {
     admit(&rt, &mut loads, 1024, 2);
     assert_load(&rt, &loads, 1024, 0);
     map_all(&rt, &mut loads, 2, 3, 10);
-    // The map of frame 1 granted the Alloc-ID of before.
+    // The map of frame 1 granted the earlier Alloc-ID.
     report(&rt, &mut loads, 1, 100);
     assert_counted(&rt, &loads, 1024, None);
     report(&rt, &mut loads, 2, 100);
@@ -296,7 +297,7 @@ fn a_cleared_book_keeps_its_alloc_ids_alone(rt: HostRuntime) {
     assert_load(&rt, &loads, 1024, 256);
 }
 
-// A refused report: `report_refusal` has the same answer, and nothing changes.
+// Expects a report to be refused: `report_refusal` returns the same refusal, and nothing changes.
 fn assert_refused(
     rt: &impl Abort,
     loads: &mut Loads,

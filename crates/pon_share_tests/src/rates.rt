@@ -8,7 +8,7 @@ fn kbps(rt: &impl Abort, rate: u32) -> Kbps {
     Kbps::new(rate).expect(rt, "a rate")
 }
 
-// Best effort with these rates and a maximum of 25,600 kbit/s.
+// Returns a best-effort descriptor with these rates and a maximum of 25,600 kbit/s.
 fn best_effort(rt: &impl Abort, fixed: u64, assured: u64) -> Descriptor {
     Descriptor::new(fixed, assured, 25_600, Class::BestEffort).expect(rt, "a descriptor")
 }

@@ -1,4 +1,4 @@
-// Each step with ample memory, at the limits of an admitted set.
+// Each step of a roster with ample memory, at the limits of an admitted set.
 use pon_admit::{Roster, Row, Rule};
 use pon_descr::{Class, Descriptor, Refusal};
 use pon_units::{AllocId, Gap, OnuId};
@@ -17,7 +17,7 @@ fn alloc_id(rt: &impl Abort, number: u16) -> AllocId {
     AllocId::new(number).expect(rt, "an Alloc-ID")
 }
 
-// The descriptor of an assured rate in kbit/s alone.
+// Returns a descriptor with only an assured rate, in kbit/s.
 fn assured(rt: &impl Abort, rate: u64) -> Descriptor {
     Descriptor::new(0, rate, 2_488_320, Class::Plain).expect(rt, "a descriptor")
 }

@@ -1,4 +1,4 @@
--- Bytes more are read, and a map more is answered.
+-- More bytes are read, and one more map is answered.
 use Rattle.std.proofs.Common.{◌≡◌, ℕ, ◌⊎◌, true, false, List, [], ◌∷◌, ◌++◌, Option, Ok, Err, inl, inr, refl, sym, ap, ◌∙◌, subst, append_assoc, append-nil, arith}
 use Rattle.std.proofs.KnownBytes.{Consumes-nil, Consumes-trans, Consumes-kept, Appends-nil}
 use Rattle.pon_device.specs.Device.{Consumes, IsAtEnd, Keeps}
@@ -32,7 +32,7 @@ starts_open = record {
   };
 }
 
--- an open reader has no fault, so a pull that answers one found the end of the input
+-- an open reader has no fault, so a pull that returns one found the end of the input
 pub ends_here : (old new : ReaderState) (rest : Option (List ℕ)) (fault : LinkFault) → AreBytes old.held → IsOpen old → (HasFault old fault × (new ≡ old)) ⊎ (IsOpen old × IsAtEnd rest) → IsAtEnd rest
 ends_here old new rest fault small is_open (inl faulty) = absurd (faultless old fault (λ down. small) is_open faulty.0)
 ends_here old new rest fault small is_open (inr ended) = ended.1
@@ -68,7 +68,7 @@ none_served left out old = record {
   written = record { bytes = []; records = refl; written = Appends-nil out };
 }
 
--- bytes more are read
+-- more bytes are read
 pub read_more : (a b c out_old out_new : Option (List ℕ)) (old new : List UnitState) (held bytes : List ℕ) → HasServed a b out_old out_new old new held → Consumes b c bytes → HasServed a c out_old out_new old new (held ++ bytes)
 read_more a b c out_old out_new old new held bytes far read = record {
   input = far.input ++ bytes;
@@ -80,7 +80,7 @@ read_more a b c out_old out_new old new held bytes far read = record {
   written = far.written;
 }
 
--- nothing more is read
+-- no more bytes are read
 pub read_kept : (a b c out_old out_new : Option (List ℕ)) (old new : List UnitState) (held : List ℕ) → HasServed a b out_old out_new old new held → Keeps b c → HasServed a c out_old out_new old new held
 read_kept a b c out_old out_new old new held far kept = record {
   input = far.input;
@@ -92,7 +92,7 @@ read_kept a b c out_old out_new old new held far kept = record {
   written = far.written;
 }
 
--- the map that is held is answered
+-- the held map is answered
 pub served_more : (a b out_old out_mid out_new : Option (List ℕ)) (old mid new : List UnitState) (held : List ℕ) (r : DownRecord) → HasServed a b out_old out_mid old mid held → IsDownRecord held r → HasAnswered r.frame r.map [] mid new out_mid out_new → HasServed a b out_old out_new old new []
 served_more a b out_old out_mid out_new old mid new held r far is here = record {
   input = far.input;
@@ -110,7 +110,7 @@ served_kept : (a b out_old out_mid out_new : Option (List ℕ)) (old mid new : L
 served_kept a b out_old out_mid out_new old mid new held far units writer =
     subst (λ (out : Option (List ℕ)). HasServed a b out_old out old new held) (sym writer) (subst (λ (us : List UnitState). HasServed a b out_old out_mid old us held) (sym units) far)
 
--- the reader goes on, and what it held is served
+-- the reader continues, and the map that it held is answered
 pub record GoesOn (t : ReaderState) (a b out_old out_new : Option (List ℕ)) (old new : List UnitState) : Type 0 where
   pub is_open : IsOpen t
   pub direction : t.direction ≡ Down

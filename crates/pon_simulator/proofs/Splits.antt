@@ -1,4 +1,4 @@
--- The series that structures begin with, and what is left behind it.
+-- The first series of structures, and the rest after it.
 use Rattle.std.proofs.Common.{◌≡◌, ℕ, zero, suc, ◌+◌, ◌<◌, ◌≤◌, Bool, true, false, not, List, [], ◌∷◌, length, take, drop, get_or, Option, Some, None, inl, inr, refl, ap, sym, ◌∙◌, arith}
 use Rattle.std.specs.Prelude.{slice_get, is_none, is_some}
 use Rattle.std.proofs.lemmas.Bool.{cases_lt}
@@ -24,7 +24,7 @@ get_behind (suc n) k (x ∷ xs) = let e : suc n + k ≡ suc (n + k) = omega arit
 
 -- ---- the first series
 
--- the structures from the second to number `len` go on
+-- the structures from the second to number `len` continue the series
 abbrev pub GoesOn : List Structure → ℕ → Type 0
 GoesOn rows len = (k : ℕ) → 0 < k → k < len → continues (slice_get rows k) ≡ true
 
@@ -58,7 +58,7 @@ one_more rows len goes here k after lt = elim (cases_lt k len) [
   | inr ge ↦ (let e : k ≡ len = omega (arith, lt, ge) in ap (λ (i : ℕ). continues (slice_get rows i)) e ∙ here)
 ]
 
--- there is no structure to go on with
+-- no structure is left to continue the series
 pub stops_at_end : (rows : List Structure) (len : ℕ) → length rows ≤ len → continues (slice_get rows len) ≡ false
 stops_at_end rows len past = ap continues (slice_get_past rows len past)
 
@@ -68,7 +68,7 @@ map_keeps rows map =
     let keeps = (map_rules rows).0 map in
     record { first = keeps.first; short = keeps.series }
 
--- whether the structure that was looked at goes on
+-- whether the tested structure continues the series
 tested : (start : Option ℕ) (none v : Bool) → is_some start ≡ not none → none ≡ v → is_none start ≡ v
 tested (Some s) true v e shown = absurd (cc)
 tested (Some s) false v e shown = shown

@@ -1,4 +1,4 @@
--- One series more is answered, and its answer written or begun.
+-- One more series is answered, and its answer written whole or in part.
 use Rattle.std.proofs.Common.{◌≡◌, ℕ, List, [], ◌∷◌, ◌++◌, take, drop, Option, Result, Ok, Err, OnErr, refl, sym, ◌∙◌, subst, append_assoc, append-nil}
 use Rattle.std.proofs.lemmas.List.{take-append-drop}
 use Rattle.std.proofs.KnownBytes.{Appends-trans}
@@ -15,7 +15,7 @@ use Rattle.pon_simulator.specs.Series.{IsSeries, AreSeries, KeepsSeries}
 
 -- ---- what is written
 
--- a beginning of one record
+-- a prefix of one record
 pub part_written : {T E : Type 0} (r : Result T E) (old new : Option (List ℕ)) (bytes : List ℕ) (answer : UpRecord) → IsRecord bytes answer → OnErr r ((sent rest : List ℕ) × Appends old new sent × (sent ++ rest ≡ bytes)) → OnErr r (WritesPart old new (answer ∷ []))
 part_written (Ok x) old new bytes answer is h = tt
 part_written (Err e) old new bytes answer is h = record { sent = h.0; unsent = h.1; records = (bytes, [], h.3 ∙ sym (append-nil bytes), is, refl); written = h.2 }
@@ -47,7 +47,7 @@ turn_more frame [] series old mid new (a ∷ answers) answer h k = absurd h
 turn_more frame (p ∷ parts) series old mid new [] answer h k = absurd h
 turn_more frame (p ∷ parts) series old mid new (a ∷ answers) answer h k = (h.0, h.1, turn_more frame parts series h.0 mid new answers answer h.2 k)
 
--- the structures are cut behind their first series
+-- the structures are split after their first series
 pub record IsCut (rest series later : List Structure) : Type 0 where
   pub seam : rest ≡ series ++ later
   pub one : IsSeries series

@@ -1,4 +1,4 @@
--- The records of answers as bytes that a device took.
+-- The records of answers as bytes on a device.
 use Rattle.std.specs.Prelude.{ℕ, ◌≤◌, List, [], ◌++◌, All, IsSome, length, Option}
 use Rattle.pon_units.specs.declared.limits.TheConstants.{LONGEST_SERIES}
 use Rattle.pon_bwmap.specs.Structure.{Structure}
@@ -16,26 +16,26 @@ pub record IsWritable (answer : UpRecord) : Type 0 where
   pub limit : length answer.occ ≤ LONGEST_SERIES
   pub reports : All IsSome answer.occ
 
--- The answers were written, each as its record, one behind the other.
+-- the records of the answers were written, one after another
 pub record Writes (old new : Option (List ℕ)) (answers : List UpRecord) : Type 0 where
   pub bytes : List ℕ
   pub records : AreRecords IsRecord bytes answers []
   pub written : Appends old new bytes
 
--- A beginning of the records of the answers was written.
+-- a prefix of the records of the answers was written
 pub record WritesPart (old new : Option (List ℕ)) (answers : List UpRecord) : Type 0 where
   pub sent : List ℕ
   pub unsent : List ℕ
   pub records : AreRecords IsRecord (sent ++ unsent) answers []
   pub written : Appends old new sent
 
--- The structures of a frame, but the rest, are answered, and the answers written.
+-- the structures of a frame, except the rest, are answered, and the answers are written
 pub record HasAnswered (frame : ℕ) (rows rest : List Structure) (old new : List UnitState) (out_old out_new : Option (List ℕ)) : Type 0 where
   pub answers : List UpRecord
   pub answered : AnswersRows frame rows rest old new answers
   pub written : Writes out_old out_new answers
 
--- The first series of a frame are answered, and a beginning of the answers' records is written.
+-- the first series of a frame are answered, and a prefix of the answers' records is written
 pub record HasBegun (frame : ℕ) (rows : List Structure) (old new : List UnitState) (out_old out_new : Option (List ℕ)) : Type 0 where
   pub answers : List UpRecord
   pub rest : List Structure

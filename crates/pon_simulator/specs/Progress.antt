@@ -1,4 +1,4 @@
--- What becomes of the bytes that the reader of maps holds after a read.
+-- The bytes that the reader of maps holds, after a read.
 use Rattle.std.specs.Prelude.{◌≡◌, ℕ, ◌+◌, ◌%◌, ◌^◌, ◌⊎◌, List, [], Option, Result, Ok, Err}
 use Rattle.pon_link.specs.DownRecords.{IsDownRecord, WantsMemory}
 use Rattle.pon_link.specs.Reading.{ReaderState, empty, IsOpen, HasFault}
@@ -22,13 +22,13 @@ pub record IsAnswered (s t : ReaderState) (old new : List UnitState) (out_old ou
   pub reader : t ≡ empty Down
   pub answered : HasAnswered received.frame received.map [] old new out_old out_new
 
--- a whole map was held, and a beginning of its answers was written
+-- a whole map was held, and a prefix of its answers was written
 pub record IsBegun (s : ReaderState) (old new : List UnitState) (out_old out_new : Option (List ℕ)) : Type 0 where
   pub received : DownRecord
   pub is_map : IsDownRecord s.held received
   pub begun : HasBegun received.frame received.map old new out_old out_new
 
--- a whole map was answered, or the bytes held are the beginning of one; or why not
+-- a whole map was answered, or the held bytes are a prefix of one; or why not
 abbrev pub AnswersHeld : {T : Type 0} → ReaderState → ReaderState → List UnitState → List UnitState → Option (List ℕ) → Option (List ℕ) → Result T UnitsFault → Type 0
 AnswersHeld s t old new out_old out_new (Ok done) = (IsOpen s × IsUntouched s t old new out_old out_new) ⊎ IsAnswered s t old new out_old out_new
 AnswersHeld s t old new out_old out_new (Err Device) = IsBegun s old new out_old out_new

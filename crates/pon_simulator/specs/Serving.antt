@@ -1,4 +1,4 @@
--- Maps read from one device, and their answers written to another, until the input ends or a fault comes.
+-- Maps read from one device, and their answers written to another, until the input ends or a fault occurs.
 use Rattle.std.specs.Prelude.{◌≡◌, ℕ, ◌+◌, ◌-◌, ◌%◌, ◌^◌, ◌⊎◌, IsTrue, List, [], Option, Result, Ok, Err}
 use Rattle.pon_device.specs.Device.{Consumes, IsAtEnd}
 use Rattle.pon_link.specs.DownRecords.{IsDownRecord, WantsMemory}
@@ -13,7 +13,7 @@ use Rattle.pon_simulator.specs.Outputs.{Writes, HasBegun}
 use Rattle.pon_simulator.specs.declared.fault.UnitsFault.{UnitsFault}
 use Rattle.pon_simulator.specs.declared.fault.UnitsFault.TheVariants.{Device, Link, Memory}
 
--- Maps were read and each answered whole, and all answers were written; the bytes `held` were read behind the maps.
+-- maps were read and answered whole, and all answers were written; the bytes `held` were read after these maps
 pub record HasServed (left_old left_new out_old out_new : Option (List ℕ)) (old new : List UnitState) (held : List ℕ) : Type 0 where
   pub input : List ℕ
   pub maps : List DownRecord
@@ -23,7 +23,7 @@ pub record HasServed (left_old left_new out_old out_new : Option (List ℕ)) (ol
   pub answered : AnswersMaps maps old new answers
   pub written : Writes out_old out_new answers
 
--- One map more was read; its first series are answered, and a beginning of their answers is written.
+-- one more map was read; its first series are answered, and a prefix of their answers is written
 pub record StopsInside (left_old left_new out_old out_new : Option (List ℕ)) (old new : List UnitState) : Type 0 where
   pub held : List ℕ
   pub received : DownRecord
@@ -33,8 +33,8 @@ pub record StopsInside (left_old left_new out_old out_new : Option (List ℕ)) (
   pub is_map : IsDownRecord held received
   pub begun : HasBegun received.frame received.map between new out_between out_new
 
--- What was read, answered and written, by how it ended: the input ended behind a map; a device failed; the bytes that are
--- held are no map, or the input ended inside one; or memory was wanting for the map that is held.
+-- the bytes read and written, by how the run ended: the input ended after a map; a device failed; the held bytes are
+-- not a map, or the input ended inside one; or memory was refused for the held map
 abbrev pub ServesUntil : {T : Type 0} → Option (List ℕ) → Option (List ℕ) → Option (List ℕ) → Option (List ℕ) → List UnitState → List UnitState → Result T UnitsFault → Type 0
 ServesUntil left_old left_new out_old out_new old new (Ok done) = HasServed left_old left_new out_old out_new old new [] × IsAtEnd left_new
 ServesUntil left_old left_new out_old out_new old new (Err Device) =
@@ -43,7 +43,7 @@ ServesUntil left_old left_new out_old out_new old new (Err (Link fault)) =
     (s : ReaderState) × HasServed left_old left_new out_old out_new old new s.held × (s.direction ≡ Down) × HasFault s fault × (IsTrue s.ended → IsAtEnd left_new)
 ServesUntil left_old left_new out_old out_new old new (Err Memory) = (held : List ℕ) × HasServed left_old left_new out_old out_new old new held × WantsMemory held
 
--- how many reads were made, how many of them failed, and how many writes and flushes failed, each counted round 2 ^ 64
+-- the number of reads, of failed reads, and of failed writes and flushes, each modulo 2 ^ 64
 pub record DeviceCounts : Type 0 where
   pub reads : ℕ
   pub failed_reads : ℕ
@@ -65,7 +65,7 @@ FailsToWrite old new = (new.failed_reads ≡ old.failed_reads) × (new.failed_wr
 abbrev pub ReadsOn : DeviceCounts → DeviceCounts → Type 0
 ReadsOn old new = FailsNever old new × (new.reads ≡ (old.reads + (2 ^ 64 - 1)) % 2 ^ 64)
 
--- `Device` only if one call failed or the reads are counted out
+-- `Device` only if one call failed, or 2 ^ 64 - 1 reads were made
 abbrev pub CountsServing : {T : Type 0} → DeviceCounts → DeviceCounts → Result T UnitsFault → Type 0
 CountsServing old new (Ok done) = FailsNever old new
 CountsServing old new (Err Device) = FailsToRead old new ⊎ FailsToWrite old new ⊎ ReadsOn old new

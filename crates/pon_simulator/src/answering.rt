@@ -9,8 +9,8 @@ use pon_bwmap::Alloc;
 use pon_link::{Unit, UpRecord};
 use pon_units::{FrameNo, LONGEST_SERIES};
 
-// Has the unit that owns a series answer it, or answers it as foreign. `next` is the unit after the last owner, which is tried
-// first: maps name the units in their order.
+// Answers a series by the unit that owns it, or as foreign. `next` is the index after that of the last owner; this unit
+// is tried first, since maps name the units in order.
 pub(crate) fn answer_series(
     units: &mut [Unit],
     next: &mut usize,

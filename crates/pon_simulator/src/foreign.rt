@@ -9,10 +9,10 @@ use pon_link::UpRecord;
 use pon_units::{BufOcc, FrameNo, LONGEST_SERIES};
 use pon_xgtc::BurstHead;
 
-/// The ONU-ID of no unit (ITU-T G.987.3, ONU-ID).
+/// The ONU-ID that no unit has (ITU-T G.987.3, ONU-ID).
 pub(crate) const NO_ONU: u16 = 1023;
 
-// The record without a sender, with an occupancy of 0 for each structure.
+// Returns a record without a sender, with an occupancy of 0 for each structure.
 pub(crate) fn foreign(frame: FrameNo, series: &[Alloc]) -> UpRecord
     requires { length series.now ≤ LONGEST_SERIES }
     ensures { result ≡ foreign_answer frame series.now }

@@ -1,7 +1,8 @@
-//! Simulated units of an XG-PON line (ITU-T G.987.3) that answer the bandwidth maps which they read from a device: each series of
-//! a map, the burst that one ONU is granted, with one record.
+//! Simulated units of an XG-PON line (ITU-T G.987.3) that answer the bandwidth maps that they read from a device: one
+//! record for each series of a map, the burst that one ONU is granted.
 //!
-//! A unit itself is of `pon_link`; here its series are found for it. It opens no device, starts no thread and has no clock.
+//! The units themselves are those of `pon_link`; this crate finds the series of each unit. It opens no device, starts
+//! no thread and has no clock.
 #![tactic(auto)]
 
 mod answering;

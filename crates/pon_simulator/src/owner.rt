@@ -5,14 +5,14 @@ ghost use Rattle.pon_link.specs.Units.{owns};
 
 use pon_link::Unit;
 
-// The place of the first unit that owns the Alloc-ID.
+// Returns the index of the first unit that owns the Alloc-ID.
 fn first_owner(units: &[Unit], alloc_id: u16) -> Option<usize>
     ensures { result ≡ position (λ unit. owns unit.queues alloc_id) units.now }
 {
     units.iter().position(|unit| unit.owns(alloc_id))
 }
 
-// The place of a unit that owns the Alloc-ID: `next`, or else the first one.
+// Returns the index of a unit that owns the Alloc-ID: `next`, or otherwise the first one.
 pub(crate) fn owner(units: &[Unit], next: usize, alloc_id: u16) -> Option<usize>
     ensures within { IfSome result (λ place. place < length units.now) }
     ensures owns { IfSome result (λ place.

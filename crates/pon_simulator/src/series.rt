@@ -1,4 +1,4 @@
-//! The series that the structures of a map begin with.
+//! The series at the front of the structures of a map.
 
 ghost use Rattle.std.specs.Prelude.{◌≤◌, ◌<◌, length, take, drop};
 ghost use Rattle.pon_simulator.specs.Series.{IsSeries, KeepsSeries};
@@ -6,7 +6,7 @@ ghost use Rattle.pon_simulator.specs.Series.{IsSeries, KeepsSeries};
 use pon_bwmap::Alloc;
 use pon_units::LONGEST_SERIES;
 
-// The number of structures of the first series, at most 16.
+// Returns the number of structures of the first series, 1 to 16.
 pub(crate) fn series_len(rows: &[Alloc]) -> usize
     requires some { 0 < length rows.now }
     requires series { KeepsSeries rows.now }

@@ -1,4 +1,4 @@
-//! Maps read to the end of the input, and answered.
+//! Reads maps until the end of the input, and answers them.
 
 ghost use Rattle.std.specs.Prelude.{◌≡◌};
 ghost use Rattle.pon_lists.specs.Bytes.{AreBytes};
@@ -35,17 +35,18 @@ fn answer_held<W: DevWrite>(
     }
 }
 
-/// Reads maps to the end of the input, and answers each series of a map with one record, in order: a series is a structure with a
-/// start and those after it without one. A unit that owns the Alloc-ID of the first structure answers for that series alone, as
-/// [`Unit::answer_rows`]. A series of no unit, or one whose unit has no report, is answered with ONU-ID 1023, no indications and
-/// an occupancy of 0 for each structure. The answers to a map are written before the next map is read, and then the writer is
-/// flushed once.
+/// Reads maps until the end of the input, and answers each series of a map with one record, in order. A series is a
+/// structure with a start and those after it without one. A unit that owns the Alloc-ID of the first structure answers
+/// for that series only, as [`Unit::answer_rows`] does. A series that no unit owns, or whose unit has no report, is
+/// answered with ONU-ID 1023, no indications and an occupancy of 0 for each structure. The answers to a map are written
+/// before the next map is read, and then the writer is flushed once.
 ///
-/// Of units that own one Alloc-ID, the one behind the last owner in the slice answers, or else the first.
+/// If several units own an Alloc-ID, the one after the last owner in the slice answers if it is one of them, otherwise
+/// the first of them.
 ///
-/// `Device` if a read, a write or a flush failed, or 2^64 - 1 reads were made: a beginning of the answers to the maps that were
-/// read is written. `Link` if the bytes that were read are no map, or the input ended inside one, and `Memory` if memory was
-/// refused for a map: the answers to all maps before it are written.
+/// Returns `Device` if a read, a write or a flush failed, or 2^64 - 1 reads were made: a prefix of the answers to the
+/// maps that were read is written. Returns `Link` if the bytes that were read are not a map, or the input ended inside
+/// one, and `Memory` if memory was refused for a map: the answers to all earlier maps are written.
 pub fn serve_units<R: DevRead, W: DevWrite>(
     alloc: Global,
     units: &mut [Unit],

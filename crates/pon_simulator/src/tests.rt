@@ -7,25 +7,25 @@ use pon_units::{AllocId, FrameNo, OnuId};
 use std::process::Abort;
 use std::test::Fail;
 
-// What the units answer in frame 0: ONU 5 reports 100 and 7 words, no unit reports for a series of two, ONU 6 reports 50 words.
+// The answers in frame 0: ONU 5 reports 100 and 7 words, no unit reports for a series of two, ONU 6 reports 50 words.
 const FIRST: &[u8; 62] = b"\
     \x55\0\0\0\0\0\0\0\0\x01\x40\x13\xf1\x02\0\0\x64\x3b\0\0\x07\x15\
     \x55\0\0\0\0\0\0\0\0\xff\xc0\x1f\x16\x02\0\0\0\0\0\0\0\0\
     \x55\0\0\0\0\0\0\0\0\x01\x80\x04\x8f\x01\0\0\x32\x9e";
 
-// What they answer in frame 1: 10, 4 and 2 words are gone.
+// The answers in frame 1: 10, 4 and 2 words less.
 const SECOND: &[u8; 62] = b"\
     \x55\0\0\0\0\0\0\0\x01\x01\x40\x13\xf1\x02\0\0\x5a\x81\0\0\x03\x09\
     \x55\0\0\0\0\0\0\0\x01\xff\xc0\x1f\x16\x02\0\0\0\0\0\0\0\0\
     \x55\0\0\0\0\0\0\0\x01\x01\x80\x04\x8f\x01\0\0\x30\x90";
 
-// What is answered in frame 0 where there are no units.
+// The answers in frame 0 if there are no units.
 const NOBODYS: &[u8; 62] = b"\
     \x55\0\0\0\0\0\0\0\0\xff\xc0\x1f\x16\x02\0\0\0\0\0\0\0\0\
     \x55\0\0\0\0\0\0\0\0\xff\xc0\x1f\x16\x02\0\0\0\0\0\0\0\0\
     \x55\0\0\0\0\0\0\0\0\xff\xc0\x1f\x16\x01\0\0\0\0";
 
-// ONU 5 with 100 words for Alloc-ID 1024 and 7 for 1025, and ONU 6 with 50 words for Alloc-ID 1026.
+// Returns ONU 5 with 100 words for Alloc-ID 1024 and 7 for 1025, and ONU 6 with 50 words for Alloc-ID 1026.
 fn two_units() -> Option<[Unit; 2]> {
     let mut first = ArrayVec::new();
     first.push((AllocId::new(1024)?, 100));
@@ -38,7 +38,7 @@ fn two_units() -> Option<[Unit; 2]> {
     ])
 }
 
-// The records of the first frames, of 53 bytes each: a series of ONU 5, one of no unit and one of ONU 6.
+// Returns the records of the first frames, of 53 bytes each: a series of ONU 5, one of no unit and one of ONU 6.
 fn maps(rt: &HostRuntime, frames: u64) -> Result<Vec<u8>, Fail> {
     let mut rows = Vec::new(rt.alloc());
     rows.push(Alloc::polled(1024, Some(16), 11, 0))?;
@@ -57,12 +57,12 @@ fn maps(rt: &HostRuntime, frames: u64) -> Result<Vec<u8>, Fail> {
     Ok(bytes)
 }
 
-// The call in which a device fails; 99 is none.
+// Returns the call in which a device fails; 99 means none.
 fn failing(rt: &HostRuntime, call: u64) -> Result<Vec<u64>, Fail> {
     Ok(vec![in rt.alloc(); call]?)
 }
 
-// Has the units answer the input: how that ended, and what was written.
+// Runs the units on the input. Returns how the run ended, and the device that they wrote to.
 fn answered(
     rt: &HostRuntime,
     units: &mut [Unit],
@@ -76,7 +76,7 @@ fn answered(
     Ok((end, writer))
 }
 
-// The bytes are the first of the answers in frames 0 and 1.
+// Checks that the bytes are a prefix of the answers in frames 0 and 1.
 fn is_beginning(rt: &impl Abort, bytes: &[u8], size: usize) {
     assert_eq!(rt; bytes.len(), size);
     let first = size.min(62);
@@ -96,7 +96,7 @@ fn answers_each_series(rt: HostRuntime) -> Result<(), Fail> {
     Ok(())
 }
 
-// Three writes and a flush a map, two reads a map and one at the end.
+// Each map takes three writes, a flush and two reads; one more read finds the end.
 #[test]
 fn stops_where_a_device_fails(rt: HostRuntime) -> Result<(), Fail> {
     let device = Err(UnitsFault::Device);
@@ -150,8 +150,8 @@ fn answers_for_no_unit(rt: HostRuntime) -> Result<(), Fail> {
     Ok(())
 }
 
-// One allocation that fails (`rt try --test --fail-alloc N`) is a fault of the map or of the device, and what is written before
-// it is a beginning.
+// If one allocation fails (`rt try --test --fail-alloc N`), the fault is that of the map or of the device, and a prefix
+// of the answers is written.
 #[test]
 fn stops_where_memory_is_refused(rt: HostRuntime) -> Result<(), Fail> {
     let mut units = two_units().ok_or("numbers in range")?;

@@ -1,4 +1,4 @@
-//! The answers to one map, written.
+//! Writes the answers to one map.
 
 ghost use Rattle.std.specs.Prelude.{◌≡◌, ◌≤◌, ◌<◌, ◌∷◌, [], length, OnOk, OnErr};
 ghost use Rattle.pon_device.specs.Device.{CountsFailure};
@@ -25,7 +25,7 @@ fn write_answer<W: DevWrite>(writer: &mut W, answer: &UpRecord) -> Result<(), Fa
     write_all(writer, bytes.as_slice())
 }
 
-// Answers the series one after the other, and writes each answer before the next.
+// Answers the series one after another, and writes each answer before the next.
 fn write_answers<W: DevWrite>(
     units: &mut [Unit],
     next: &mut usize,
@@ -52,7 +52,7 @@ fn write_answers<W: DevWrite>(
     Ok(())
 }
 
-// Answers a map, and sends all of its answers on.
+// Answers a map, writes all of its answers, and flushes the writer.
 pub(crate) fn answer_map<W: DevWrite>(
     units: &mut [Unit],
     next: &mut usize,

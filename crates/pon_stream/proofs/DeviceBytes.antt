@@ -1,4 +1,4 @@
--- What a device gave and took in two steps.
+-- The bytes that a device gave and took in two steps.
 use Rattle.std.proofs.Common.{ℕ, List, [], ◌++◌, refl, ap, sym, ◌∙◌, append_assoc}
 use Rattle.std.specs.Prelude.{Option, Some, None}
 use Rattle.std.proofs.lemmas.List.{append-nil}

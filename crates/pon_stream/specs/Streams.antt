@@ -1,10 +1,10 @@
--- What reading and writing a text does to a device, by how it ends.
+-- The effect of reading and writing a text on a device, by the result.
 use Rattle.std.specs.Prelude.{◌≡◌, ℕ, ◌+◌, ◌-◌, ◌%◌, ◌^◌, ◌⊎◌, List, [], ◌∷◌, ◌++◌, Option, Some, None, Result, Ok, Err}
 use Rattle.pon_device.specs.Device.{Appends, Consumes, Keeps, IsAtEnd}
 use Rattle.pon_stream.specs.declared.fault.PlanFault.{PlanFault}
 use Rattle.pon_stream.specs.declared.fault.PlanFault.TheVariants.{Read, Write, Memory}
 
--- the first bytes of a text, none or all of them included
+-- a prefix of a text, possibly empty or the whole text
 abbrev pub IsBeginning : List ℕ → List ℕ → Type 0
 IsBeginning part text = (rest : List ℕ) × (part ++ rest ≡ text)
 
@@ -14,7 +14,7 @@ GivesByte old new (Ok None) = Consumes old new [] × IsAtEnd new
 GivesByte old new (Ok (Some b)) = Consumes old new (b ∷ [])
 GivesByte old new (Err e) = Keeps old new
 
--- the text was written, or a beginning of it
+-- the text was written, or a prefix of it if the writer failed
 abbrev pub TellsLine : List ℕ → Option (List ℕ) → Option (List ℕ) → Result (Unit {0}) PlanFault → Type 0
 TellsLine line old new (Ok done) = Appends old new line
 TellsLine line old new (Err Write) = (sent : List ℕ) × Appends old new sent × IsBeginning sent line

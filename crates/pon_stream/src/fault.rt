@@ -1,6 +1,6 @@
 use thiserror::Error;
 
-/// Why a text is not all read or not all written.
+/// Why a text was not wholly read or not wholly written.
 #[derive(Clone, Copy, Debug, PartialEq, Eq, Error)]
 pub enum PlanFault {
     /// The reader failed, or 2^64 - 1 reads were made.

@@ -1,7 +1,7 @@
-//! Bytes read from a device, and texts written whole to one, with what a contract says of each.
+//! Reads bytes from a device, and writes whole texts to one, with contracts on both.
 //!
-//! A fault of reading or writing is returned only if the device failed. A failed read is never taken for the end of the input,
-//! and a failed write leaves a beginning of the text.
+//! A read or write fault is returned only if the device failed. A failed read is never taken for the end of the input,
+//! and a failed write leaves a prefix of the text.
 #![tactic(auto)]
 
 mod fault;

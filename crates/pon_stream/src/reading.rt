@@ -1,11 +1,11 @@
-//! Bytes read one by one.
+//! Reads bytes one by one.
 
 ghost use Rattle.pon_device.specs.Device.{CountsFailure, CountsCall};
 ghost use Rattle.pon_stream.specs.Streams.{GivesByte};
 
 use pon_device::{DevRead, Failed};
 
-/// Reads the next byte; `None` at the end of the input. `Failed` if the reader fails.
+/// Reads the next byte. `None` at the end of the input. `Failed` if the reader fails.
 pub fn next_byte<R: DevRead>(reader: &mut R) -> Result<Option<u8>, Failed>
     ensures byte { GivesByte (R.remaining reader.old) (R.remaining reader.new) result }
     ensures calls { CountsCall (R.calls reader.old) (R.calls reader.new) }

@@ -1,4 +1,4 @@
-//! Whole texts written to a device.
+//! Writes whole texts to a device.
 
 ghost use Rattle.pon_stream.specs.Streams.{TellsLine, TellsWrite};
 
@@ -7,7 +7,7 @@ use pon_device::{DevWrite, write_all};
 
 /// Writes a text, and flushes the writer.
 ///
-/// `Write` if the writer fails: a beginning of the text is written then, or all of it if only the flush fails.
+/// Returns `Write` if the writer fails: a prefix of the text is then written, or all of it if only the flush fails.
 pub fn write_text<W: DevWrite>(writer: &mut W, text: &[u8]) -> Result<(), PlanFault>
     ensures text { TellsLine text.now (W.contents writer.old) (W.contents writer.new) result }
     ensures write { TellsWrite (W.failures writer.old) (W.failures writer.new) result }

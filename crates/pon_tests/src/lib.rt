@@ -1,6 +1,6 @@
-//! Tests that run long histories through the public functions of several crates: of a port, and of `plan`.
+//! Tests that run long histories through the public functions of several crates: those of a port, and `plan`.
 //!
-//! They stand here, above those crates, so that each of these is proved once and its wrong programs wait for no test.
+//! They are in a crate above these, so that each of these is proved once and its wrong programs wait for no test.
 #![tactic(auto)]
 
 #[cfg(test)]

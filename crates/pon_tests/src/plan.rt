@@ -13,7 +13,7 @@ const FIRST_MAP: &[u8] = b"0 admit 5 1024 2560 0 2560 none\n0 map\n";
 
 const FIRST_TEXT: &[u8] = b"ok 0\nmap 0 002013ac10020010000b13cb\n";
 
-// What a run gave, and what its writer holds.
+// The result of a run, and the bytes of its writer.
 #[derive(Drop)]
 struct Answered {
     result: Result<PlanEnd, PlanFault>,
@@ -26,15 +26,15 @@ fn port(gap: u16) -> Option<(PortCfg, FrameNo)> {
     Some((PortCfg { gap, profile }, FrameNo::new(0)))
 }
 
-// Answers the input over devices that give and take at most `most` bytes a call, and fail in the given calls. `None`
-// if memory is refused to the test itself.
+// Runs `plan` over devices that give and take at most `most` bytes in a call, and fail in the given calls. `None` if
+// memory is refused to the test itself.
 fn run(alloc: Global, input: &[u8], most: usize, reads: &[u64], writes: &[u64]) -> Option<Answered>
     requires { 0 < most }
 {
     run_at(alloc, 16, input, most, reads, writes)
 }
 
-// The same at a port of this gap.
+// Runs `plan` at a port with this gap.
 fn run_at(
     alloc: Global,
     gap: u16,
@@ -181,7 +181,7 @@ fn worked_lines_in_pieces(rt: HostRuntime) -> Result<(), Fail> {
     Ok(())
 }
 
-// Admissions of rate 0, each ONU with the same number of Alloc-IDs.
+// Returns admissions with all rates 0, with the same number of Alloc-IDs for each ONU.
 fn admissions(alloc: Global, count: u16, of_an_onu: u16) -> Result<Vec<u8>, Fail>
     requires some { 0 < of_an_onu }
     requires few { count ≤ 256 }
@@ -196,7 +196,7 @@ fn admissions(alloc: Global, count: u16, of_an_onu: u16) -> Result<Vec<u8>, Fail
     Ok(input)
 }
 
-// The last admission is the first that is refused.
+// The last admission is the first refused one.
 #[test]
 fn the_limits_of_a_port(rt: HostRuntime) -> Result<(), Fail> {
     for (gap, count, of_an_onu, text) in [
@@ -212,7 +212,7 @@ fn the_limits_of_a_port(rt: HostRuntime) -> Result<(), Fail> {
     Ok(())
 }
 
-// Maps whose text does not fit the room for gathered replies are the same as those of an input read byte by byte.
+// Maps whose text does not fit the buffer of replies equal those of an input that is read byte by byte.
 #[test]
 fn full_room_for_replies_is_written(rt: HostRuntime) -> Result<(), Fail> {
     let mut input = admissions(rt.alloc(), 256, 16)?;
@@ -228,7 +228,7 @@ fn full_room_for_replies_is_written(rt: HostRuntime) -> Result<(), Fail> {
     Ok(())
 }
 
-// A line of this number of bytes, a comment but for its length, and then a map.
+// Returns a line of this number of bytes, a comment if it is not too long, and then a map.
 fn long_line(alloc: Global, bytes: usize) -> Result<Vec<u8>, Fail> {
     let mut input = vec![in alloc; b'#'; bytes]?;
     input.extend_from_slice(b"\n0 map\n")?;
@@ -251,7 +251,7 @@ fn long_lines_are_skipped(rt: HostRuntime) -> Result<(), Fail> {
     Ok(())
 }
 
-// The reader gives one byte a call: call k fails behind k bytes.
+// The reader gives one byte in a call: call k fails after k bytes.
 #[test]
 fn a_failed_read_leaves_the_whole_lines(rt: HostRuntime) -> Result<(), Fail> {
     for call in 0..39u64 {
@@ -269,7 +269,7 @@ fn a_failed_read_leaves_the_whole_lines(rt: HostRuntime) -> Result<(), Fail> {
     Ok(())
 }
 
-// The writer takes one byte a call: call b fails behind b bytes, and call 36 is the flush.
+// The writer takes one byte in a call: call b fails after b bytes, and call 36 is the flush.
 #[test]
 fn a_failed_write_leaves_a_beginning(rt: HostRuntime) -> Result<(), Fail> {
     assert_eq!(rt; FIRST_TEXT.len(), 36);
@@ -282,7 +282,7 @@ fn a_failed_write_leaves_a_beginning(rt: HostRuntime) -> Result<(), Fail> {
     Ok(())
 }
 
-// With each allocation refused in turn a beginning of the text is written, and no refusal is printed for it.
+// With each allocation refused in turn, a prefix of the text is written, and no refusal is printed for it.
 #[test]
 fn refused_memory_leaves_a_beginning(rt: HostRuntime) -> Result<(), Fail> {
     let Some(run) = run(rt.alloc(), FIRST_MAP, 4096, &[], &[]) else {
@@ -296,7 +296,7 @@ fn refused_memory_leaves_a_beginning(rt: HostRuntime) -> Result<(), Fail> {
     Ok(())
 }
 
-// A full port refuses, and stays as it is.
+// A full port refuses, and is unchanged.
 #[test]
 fn a_full_chapter_is_told(rt: HostRuntime) -> Result<(), Fail> {
     let maps = 65_537usize;

@@ -1,4 +1,4 @@
-// A port under its events, with ample memory.
+// A port that takes its events, with ample memory.
 use pon_bwmap::Alloc;
 use pon_descr::{Class, Descriptor, Refusal};
 use pon_event::Event;
@@ -11,14 +11,14 @@ mod full;
 mod reports;
 mod sharing;
 
-// A port with profile 0.
+// Opens a port with profile 0.
 fn open_with(rt: &impl Abort, alloc: Global, gap: u16, first: u64) -> Port {
     let gap = Gap::new(gap).expect(rt, "a gap");
     let profile = Profile::new(0).expect(rt, "a profile");
     Port::open(alloc, PortCfg { gap, profile }, FrameNo::new(first)).expect(rt, "memory")
 }
 
-// A port with a gap of 16 words.
+// Opens a port with a gap of 16 words.
 fn open(rt: &impl Abort, alloc: Global, first: u64) -> Port {
     open_with(rt, alloc, 16, first)
 }
@@ -27,7 +27,7 @@ fn id(rt: &impl Abort, number: u16) -> AllocId {
     AllocId::new(number).expect(rt, "an Alloc-ID")
 }
 
-// A fixed rate alone.
+// Returns a descriptor with only a fixed rate.
 fn fixed(rt: &impl Abort, rate: u64) -> Descriptor {
     Descriptor::new(rate, 0, rate, Class::Plain).expect(rt, "a descriptor")
 }
@@ -64,7 +64,7 @@ fn told_map(reply: Reply) -> Option<MadeMap> {
     }
 }
 
-// Takes an event that is no map.
+// Takes an event other than MakeMap.
 fn take(rt: &impl Abort, port: &mut Port, event: Event) {
     let reply = port.take(event).expect(rt, "taken");
     assert!(rt; told_map(reply).is_none());
@@ -80,7 +80,7 @@ fn made_map(rt: &impl Abort, port: &mut Port) -> MadeMap {
     told_map(port.take(Event::MakeMap).expect(rt, "taken")).expect(rt, "a map")
 }
 
-// What a caller sees of a port: how many entries are kept, how many were taken, and the next frame.
+// Returns what a caller sees of a port: the number of kept entries, the number of taken entries, and the next frame.
 fn shown(port: &Port) -> (usize, u64, u64) {
     (
         port.history().len(),
@@ -89,7 +89,7 @@ fn shown(port: &Port) -> (usize, u64, u64) {
     )
 }
 
-// The structure of an Alloc-ID alone on its port.
+// Returns the structure of the only Alloc-ID of a port.
 fn lone_row(rt: &impl Abort, alloc_id: u16, words: u16) -> Alloc {
     Alloc::new(alloc_id, true, false, Some(16), words, false, 0).expect(rt, "in range")
 }
@@ -162,7 +162,7 @@ fn refuses_admissions(rt: HostRuntime) {
     assert_made(&rt, &made, 0, [lone_row(&rt, 1024, 9702)].as_slice());
 }
 
-// Takes an event; if memory is refused the port is as it was, and takes the same event again.
+// Takes an event. If memory is refused, the port is unchanged, and takes the same event again.
 fn take_again(rt: &impl Abort, port: &mut Port, event: Event, again: Event) -> Reply {
     let before = shown(port);
     match port.take(event) {
@@ -179,7 +179,7 @@ fn map_again(rt: &impl Abort, port: &mut Port) -> MadeMap {
     told_map(take_again(rt, port, Event::MakeMap, Event::MakeMap)).expect(rt, "a map")
 }
 
-// One allocation that fails (`rt try --test --fail-alloc N`) changes no result.
+// If one allocation fails (`rt try --test --fail-alloc N`), no result changes.
 #[test]
 fn takes_again_what_memory_refused(rt: HostRuntime) {
     let mut port = open(&rt, rt.alloc(), 7);
@@ -197,7 +197,7 @@ fn takes_again_what_memory_refused(rt: HostRuntime) {
     assert_eq!(rt; shown(&port), (6, 6, 12));
 }
 
-// What a map grants: Alloc-ID, start and words of each structure.
+// Makes a map, and compares the Alloc-ID, the start and the words of each structure.
 fn assert_map(rt: &impl Abort, port: &mut Port, wanted: &[(u16, Option<u16>, u16)]) {
     let made = made_map(rt, port);
     assert_eq!(rt; made.map.rows().len(), wanted.len());
@@ -210,7 +210,7 @@ fn assert_map(rt: &impl Abort, port: &mut Port, wanted: &[(u16, Option<u16>, u16
     }
 }
 
-// ONUs come in rising number, the Alloc-IDs of an ONU in rising number, whatever the order of admission.
+// Grants are in ascending order of ONU, and within an ONU of Alloc-ID, whatever the order of admission.
 #[test]
 fn lays_the_bursts_of_many_onus(rt: HostRuntime) {
     let mut port = open(&rt, rt.alloc(), 0);
@@ -222,7 +222,7 @@ fn lays_the_bursts_of_many_onus(rt: HostRuntime) {
     ] {
         take(&rt, &mut port, admission_at(&rt, onu, alloc_id, rate));
     }
-    // ONU 5 has 11 + 2 words behind its header; ONU 7 starts behind trailer and gap.
+    // ONU 5 has 11 + 2 words after its header; ONU 7 starts after trailer and gap.
     let first = [
         (1024, Some(16), 11),
         (1025, None, 2),
@@ -256,7 +256,7 @@ fn refuses_changes_and_removals(rt: HostRuntime) {
     assert_eq!(rt; port.state().roster().rows().len(), 0);
 }
 
-// Admits an Alloc-ID of no rate.
+// Admits an Alloc-ID with all rates 0.
 fn take_empty(rt: &impl Abort, port: &mut Port, onu: u16, alloc_id: u16) {
     take(rt, port, admission_at(rt, onu, alloc_id, 0));
 }
@@ -265,7 +265,7 @@ fn refuse_empty(rt: &impl Abort, port: &mut Port, onu: u16, alloc_id: u16, wante
     assert_refused(rt, port, admission_at(rt, onu, alloc_id, 0), wanted);
 }
 
-// With a gap of 256 words each ONU takes 259 words of 9,720 before it is granted any.
+// With a gap of 256 words each ONU takes 259 of the 9,720 words before any grant.
 #[test]
 fn admits_37_onus_at_the_longest_gap(rt: HostRuntime) {
     let mut port = open_with(&rt, rt.alloc(), 256, 0);

@@ -1,4 +1,4 @@
--- Texts that are cut at a byte, and the lines of a file.
+-- Texts split at a byte, and the lines of a file.
 use Rattle.std.proofs.Common.{◌≡◌, ℕ, suc, ◌+◌, ◌-◌, ◌<◌, Bool, true, false, cond, not, eqb, List, [], ◌∷◌, length, take, drop, map, refl, ap, sym, ◌∙◌, arith, Some, None}
 use Rattle.std.specs.Prelude.{◌==◌, nat_lt, option_map}
 use Rattle.std.specs.List.{before_first, after_first, onto_first, position_or_len, prefix_len, slice_split}
@@ -10,7 +10,7 @@ use Rattle.pon_lists.proofs.Splits.{slice_split_absent}
 use Rattle.pon_text.specs.Lines.{file_lines, lines_of, onto, without_return}
 use Rattle.pon_text.specs.Cuts.{cut_at}
 
--- what is left behind a place
+-- all that is left after a place
 pub behind_all : (n : ℕ) (t : List ℕ) → take (length t - n) (drop n t) ≡ drop n t
 behind_all n t = take_all (length t - n) (drop n t) (omega (arith, length-drop n t))
 
@@ -21,7 +21,7 @@ place c t = position_or_len (λ b. b == c) t
 same_value : {A : Type 0} (x y : A) → Some x ≡ Some y → x ≡ y
 same_value x y e = cc
 
--- A cut parts a text as its first separator does.
+-- A cut splits a text at its first separator.
 pub parts_some : (c : ℕ) (t a b : List ℕ) → cut_at c t ≡ Some (a, b) → slice_split (λ x. x == c) t ≡ a ∷ slice_split (λ x. x == c) b
 parts_some c t a b e = go (nat_lt (place c t) (length t)) refl e
   where
@@ -38,7 +38,7 @@ parts_none c t e = go (nat_lt (place c t) (length t)) refl e
     go true k h = absurd (cc)
     go false k h = slice_split_absent c t (omega (arith, ltb-false (place c t) (length t) k, prefix_len-le-length (λ x. not (x == c)) t))
 
--- Lines are the parts between line feeds, but for an empty last one.
+-- Lines are the parts between line feeds, except an empty last part.
 abbrev alone : List ℕ → List (List ℕ)
 alone [] = []
 alone (b ∷ l) = (b ∷ l) ∷ []

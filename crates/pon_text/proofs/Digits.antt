@@ -1,4 +1,4 @@
--- The value of digits, one digit more.
+-- The value of digits with one more digit.
 use Rattle.std.proofs.Common.{◌≡◌, ℕ, ◌+◌, ◌-◌, ◌*◌, ◌^◌, ◌<◌, ◌≤◌, true, List, length, take, get_or, arith, rules}
 use Rattle.std.specs.Prelude.{IsTrue}
 use Rattle.std.specs.Char.{is_ascii_digit}
@@ -16,13 +16,13 @@ own = numerals_by_value (λ ds. list_all is_ascii_digit ds ≡ true) (search rul
 pub digit_in : (ds : List ℕ) (i : ℕ) → IsTrue (list_all is_ascii_digit ds) → i < length ds → IsInRange 48 57 (get_or ds i 0)
 digit_in ds i h l = digit_at ds i (own.to ds h) l
 
--- the value with one digit more
+-- the value with one more digit
 pub value_more : (ds : List ℕ) (i n : ℕ) → IsTrue (list_all is_ascii_digit ds) → i < length ds → n ≡ digits_value 10 (take i ds) →
     digits_value 10 (take (i + 1) ds) ≡ n * 10 + (get_or ds i 0 - 48)
 value_more ds i n h l e =
     omega (arith, digits_value_more 10 ds i l, digit_value_digit (get_or ds i 0) (digit_in ds i h l), e)
 
--- where the first digits are worth 2 ^ 64 or more, all of them are
+-- if the first digits have a value of 2 ^ 64 or more, so have all
 pub value_too_large : (ds : List ℕ) (i n m : ℕ) → IsTrue (list_all is_ascii_digit ds) → i < length ds → n ≡ digits_value 10 (take i ds) →
     m ≤ n * 10 + (get_or ds i 0 - 48) → (m < 2 ^ 64 → ⊥) → digits_value 10 ds < 2 ^ 64 → ⊥
 value_too_large ds i n m h l e le large small =

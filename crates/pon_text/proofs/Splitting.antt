@@ -1,9 +1,9 @@
--- How a text is parted into words.
+-- The splitting of a text into words.
 use Rattle.std.proofs.Common.{◌≡◌, ℕ, suc, ◌<◌, Bool, true, false, not, List, [], ◌∷◌, length, take, drop, refl, ap, sym, subst, ◌∙◌, arith}
 use Rattle.std.specs.List.{position_or_len}
 use Rattle.pon_text.specs.Lines.{words_of, is_blank, onto}
 
--- where a word ends, and where blanks end
+-- the end of a word, and the end of blanks
 abbrev pub word_end : List ℕ → ℕ
 word_end t = position_or_len is_blank t
 
@@ -42,7 +42,7 @@ no_blank b bs more true h =
     skipped ∙ more ∙ ap (λ m. words_of (drop m (b ∷ bs))) (sym (blanks_end-more b bs h))
 no_blank b bs more false h = ap (λ m. words_of (drop m (b ∷ bs))) (sym (blanks_end-none b bs h))
 
--- a text without its first blanks has the same words
+-- a text without its leading blanks has the same words
 pub words_of-blanks : (t : List ℕ) → words_of t ≡ words_of (drop (blanks_end t) t)
 words_of-blanks [] = refl
 words_of-blanks (b ∷ bs) = no_blank b bs (words_of-blanks bs) (is_blank b) refl
@@ -55,17 +55,17 @@ one_more b bs more true h l =
     skipped ∙ subst (λ u. BeginsWithFirst bs u) same (more (omega (arith, ap length same, l)))
 one_more b bs more false h l = subst (λ m. BeginsWithFirst (b ∷ bs) (drop m (b ∷ bs))) (sym (blanks_end-none b bs h)) (words_of-word b bs h)
 
--- without its first blanks it begins with its first word
+-- without its leading blanks it begins with its first word
 pub words_of-first : (t : List ℕ) → 0 < length (drop (blanks_end t) t) → BeginsWithFirst t (drop (blanks_end t) t)
 words_of-first [] l = absurd (omega arith)
 words_of-first (b ∷ bs) l = one_more b bs (words_of-first bs) (is_blank b) refl l
 
--- nothing is left after the first blanks
+-- nothing is left after the leading blanks
 pub words_of-none : (t u : List ℕ) (m : ℕ) → m ≡ blanks_end t → u ≡ drop m t → length u ≡ 0 → words_of t ≡ []
 words_of-none t [] m at_end e l = words_of-blanks t ∙ ap (λ n. words_of (drop n t)) (sym at_end) ∙ ap words_of (sym e)
 words_of-none t (b ∷ u) m at_end e l = absurd (omega arith)
 
--- something is left: the first word, and what follows it
+-- otherwise the rest is the first word and what follows it
 pub words_of-some : (t u word rest : List ℕ) (m n : ℕ) → m ≡ blanks_end t → u ≡ drop m t → 0 < length u →
     n ≡ word_end u → word ≡ take n u → rest ≡ drop n u → words_of t ≡ word ∷ words_of rest
 words_of-some t u word rest m n starts e l ends front back =

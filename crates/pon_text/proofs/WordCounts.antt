@@ -7,7 +7,7 @@ onto_length : (b : ℕ) (ws : List (List ℕ)) → length (onto b ws) ≤ 1 + le
 onto_length b [] = omega arith
 onto_length b (w ∷ ws) = omega arith
 
--- no more words than bytes
+-- a text has at most as many words as bytes
 pub few_words : (t : List ℕ) → length (words_of t) ≤ length t
 few_words [] = omega arith
 few_words (b ∷ bs) = elim (is_blank b) as (λ v. length (if v then words_of bs else (if ends_word bs then (b ∷ []) ∷ words_of bs else onto b (words_of bs))) ≤ length (b ∷ bs)) [

@@ -1,7 +1,7 @@
-//! The text of management lines and check files: lines, words parted by blanks, decimal numbers and separators.
+//! The text of management lines and check files: lines, words separated by blanks, decimal numbers and separators.
 //!
-//! Nothing is copied and no memory is taken: a line or a word is a part of its text. The texts are bytes; nothing here
-//! asks that they are ASCII or UTF-8.
+//! Nothing is copied and no memory is allocated: a line or a word is a slice of its text. The texts are bytes, not
+//! necessarily ASCII or UTF-8.
 #![tactic(auto)]
 
 mod cuts;

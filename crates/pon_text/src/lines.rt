@@ -3,7 +3,7 @@
 ghost use Rattle.std.specs.Prelude.{◌≡◌};
 ghost use Rattle.pon_text.specs.Lines.{without_return};
 
-/// A line without the one carriage return at its end, if it has one.
+/// Returns a line without the carriage return at its end, if it has one. Removes at most one.
 pub fn without_return(line: &[u8]) -> &[u8]
     ensures { result.now ≡ without_return line.now }
 {

@@ -7,7 +7,7 @@ ghost use Rattle.std.specs.Option.{SomeIff};
 ghost use Rattle.std.specs.Str.Parse.{digits_value};
 ghost use Rattle.pon_text.specs.Lines.{number_of, is_numeral};
 
-/// The greatest number of digits of a number: as many as 2^64 - 1 has. Leading zeros count.
+/// Maximum number of digits of a number, that of 2^64 - 1. Leading zeros count.
 pub const MOST_DIGITS: usize = 20;
 
 fn all_digits(word: &[u8]) -> bool
@@ -16,14 +16,14 @@ fn all_digits(word: &[u8]) -> bool
     word.iter().all(|byte| byte.is_ascii_digit())
 }
 
-// Whether a word consists of 1 to 20 decimal digits.
+// Returns whether a word consists of 1 to 20 decimal digits.
 fn is_numeral(word: &[u8]) -> bool
     ensures { result ≡ is_numeral word.now }
 {
     !word.is_empty() && word.len() <= MOST_DIGITS && all_digits(word)
 }
 
-// The value of digits, `None` if it is 2^64 or more.
+// Returns the value of digits. `None` if it is 2^64 or more.
 fn value_of(digits: &[u8]) -> Option<u64>
     requires { IsTrue (list_all is_ascii_digit digits.now) }
     ensures { SomeIff result (digits_value 10 digits.now < 2 ^ 64) (digits_value 10 digits.now) }
@@ -37,7 +37,7 @@ fn value_of(digits: &[u8]) -> Option<u64>
     Some(value)
 }
 
-/// The number that a word writes with 1 to 20 decimal digits; `None` for any other word, and for a value of 2^64 or more.
+/// Returns the value of a word of 1 to 20 decimal digits. `None` for any other word, and for a value of 2^64 or more.
 pub fn number_of(word: &[u8]) -> Option<u64>
     ensures { result ≡ number_of word.now }
 {

@@ -1,4 +1,4 @@
-//! The words of a text, parted by spaces and tabs.
+//! The words of a text, separated by spaces and tabs.
 
 ghost use Rattle.std.specs.Prelude.{◌≡◌, ◌≤◌, ◌∷◌, [], not, MatchOption, length};
 ghost use Rattle.std.specs.List.{position, position_or_len};
@@ -7,7 +7,7 @@ ghost use Rattle.pon_text.specs.Lines.{words_of, is_blank};
 /// The first word of a text, and the text after it.
 #[derive(Clone, Copy)]
 pub struct Word<'a> {
-    /// The bytes of the word, at least one, and no blank among them.
+    /// The bytes of the word, at least one and none a blank.
     pub word: &'a [u8],
     /// The text after the word, with the blank that ends it.
     pub rest: &'a [u8],
@@ -31,7 +31,7 @@ fn first_blank(text: &[u8]) -> Option<usize>
     text.iter().position(|byte| is_blank(*byte))
 }
 
-// The number of blanks that a text begins with.
+// Returns the number of blanks at the front of a text.
 fn blanks_len(text: &[u8]) -> usize
     ensures len { result ≡ position_or_len (λ b. not (is_blank b)) text.now }
     ensures within { result ≤ length text.now }
@@ -42,7 +42,7 @@ fn blanks_len(text: &[u8]) -> usize
     }
 }
 
-// The number of bytes before the first blank.
+// Returns the number of bytes before the first blank.
 fn word_len(text: &[u8]) -> usize
     ensures len { result ≡ position_or_len is_blank text.now }
     ensures within { result ≤ length text.now }
@@ -53,7 +53,7 @@ fn word_len(text: &[u8]) -> usize
     }
 }
 
-/// The first word of a text, `None` if it has no word.
+/// Returns the first word of a text. `None` if it has no word.
 pub fn first_word(text: &[u8]) -> Option<Word<'_>>
     ensures { MatchOption result
         (words_of text.now ≡ [])
@@ -67,7 +67,7 @@ pub fn first_word(text: &[u8]) -> Option<Word<'_>>
     Some(Word { word, rest })
 }
 
-/// The number of words of a text.
+/// Returns the number of words of a text.
 pub fn count_words(text: &[u8]) -> usize
     ensures { result ≡ length (words_of text.now) }
 {

@@ -5,15 +5,15 @@ use pon_device::{DevRead, MemRead, MemWrite};
 use std::alloc::{AllocError, Global};
 use std::test::Fail;
 
-// What a run gave, and what its writer holds.
+// The result of a run, and the bytes of its writer.
 #[derive(Drop)]
 struct Checked {
     result: Result<bool, PlanFault>,
     text: Vec<u8>,
 }
 
-// Checks the file over devices that give and take at most `most` bytes a call, and fail in the given calls. `None` where
-// memory is refused to the test itself.
+// Checks the file over devices that give and take at most `most` bytes in a call, and fail in the given calls. `None`
+// if memory is refused to the test itself.
 fn run(alloc: Global, input: &[u8], most: usize, reads: &[u64], writes: &[u64]) -> Option<Checked>
     requires { 0 < most }
 {
@@ -93,7 +93,7 @@ static VERDICTS: [(&[u8], &[u8]); 17] = [
     ),
 ];
 
-// Forms of files, and the first line that does not fit.
+// Files of various forms, and the first line that does not fit.
 static FORMS: [(&[u8], &[u8]); 38] = [
     (b"surplus 0\r\nlevel all\r\nsaturated -\r\n", b"yes\n"),
     (b"surplus 0\nlevel all\nsaturated -", b"yes\n"),
@@ -209,7 +209,7 @@ fn the_first_line_that_does_not_fit_is_told(rt: HostRuntime) {
     }
 }
 
-// A file of `count` items of weight 1 and cap 0.
+// Returns a file of `count` items of weight 1 and cap 0.
 fn many_items(alloc: Global, count: usize) -> Result<Vec<u8>, AllocError> {
     let mut input = Vec::new(alloc);
     input.extend_from_slice(b"surplus 5\n")?;
@@ -235,7 +235,7 @@ fn the_513th_item_does_not_fit(rt: HostRuntime) {
     }
 }
 
-// How many bytes of the file are not read. `None` where memory is refused to the test itself.
+// Returns the number of unread bytes of the file. `None` if memory is refused to the test itself.
 fn unread(alloc: Global, input: &[u8]) -> Option<usize> {
     let mut rest = input.to_vec(alloc).ok()?;
     let bytes = input.to_vec(alloc).ok()?;
@@ -245,7 +245,7 @@ fn unread(alloc: Global, input: &[u8]) -> Option<usize> {
     reader.read(&mut rest).ok()
 }
 
-// The bytes of the longest line with its carriage return are kept, and one byte more is read.
+// The bytes of the longest line and its carriage return are kept, and one more byte is read.
 #[test]
 fn a_first_line_without_an_end_is_told(rt: HostRuntime) {
     let input = [0u8; 100_000];
@@ -277,7 +277,7 @@ fn many_empty_lines_may_follow(rt: HostRuntime) {
     assert_eq!(rt; run.text.as_slice(), b"yes\n".as_slice());
 }
 
-// A file whose set has 512 indexes of 20 digits, and this behind it.
+// Returns a file whose set has 512 indexes of 20 digits, followed by `behind`.
 fn longest_set(alloc: Global, behind: &[u8]) -> Result<Vec<u8>, AllocError> {
     let mut input = Vec::new(alloc);
     input.extend_from_slice(b"surplus 0\n")?;
@@ -311,7 +311,7 @@ fn the_longest_line_fits(rt: HostRuntime) {
     }
 }
 
-// The reader gives one byte a call, and its last call is the end.
+// Each read gives one byte, and the last one finds the end of the input; each fails in turn.
 #[test]
 fn a_failed_read_leaves_nothing(rt: HostRuntime) {
     for call in 0..ACCEPTED.len() as u64 + 1 {
@@ -321,7 +321,7 @@ fn a_failed_read_leaves_nothing(rt: HostRuntime) {
     }
 }
 
-// The writer takes one byte a call: call b fails behind b bytes, and call 4 is the flush.
+// The writer takes one byte in a call: call b fails after b bytes, and call 4 is the flush.
 #[test]
 fn a_failed_write_leaves_a_beginning(rt: HostRuntime) {
     for call in 0..5u64 {
@@ -332,7 +332,7 @@ fn a_failed_write_leaves_a_beginning(rt: HostRuntime) {
     }
 }
 
-// With each allocation refused in turn the answer is as it is, or there is none.
+// With each allocation refused in turn, the answer is the same, or there is none.
 #[test]
 fn refused_memory_leaves_nothing_wrong(rt: HostRuntime) -> Result<(), Fail> {
     let Some(run) = run(rt.alloc(), ACCEPTED, 4096, &[], &[]) else {

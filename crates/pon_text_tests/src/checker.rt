@@ -59,7 +59,7 @@ fn caps_that_are_met_exactly(rt: HostRuntime) -> Result<(), Fail> {
     Ok(())
 }
 
-// 300/7 and 400/7 are the rates. Dealt as whole numbers, 42 and 57, they leave 1, and are no level times the weights.
+// 300/7 and 400/7 are the rates. Rounded down to 42 and 57, they leave 1, and are not a level times the weights.
 #[test]
 fn no_whole_numbers(rt: HostRuntime) -> Result<(), Fail> {
     let items = [item(3, 1000), item(4, 1000)];
@@ -180,7 +180,7 @@ fn map_answer(
     check_map(na, be, 30, cert)
 }
 
-// A level of a fraction leaves nothing to best effort.
+// A level that is a fraction leaves nothing to best effort.
 #[test]
 fn nothing_left_to_best_effort(rt: HostRuntime) -> Result<(), Fail> {
     let na = [item(1, 10), item(1, 10), item(1, 20)];
@@ -214,7 +214,7 @@ fn nothing_left_to_best_effort(rt: HostRuntime) -> Result<(), Fail> {
     Ok(())
 }
 
-// Where all caps are met, best effort has the surplus less these.
+// If all non-assured items get their caps, best effort has the surplus less these caps.
 #[test]
 fn surplus_less_the_caps_to_best_effort(rt: HostRuntime) -> Result<(), Fail> {
     let be = [item(2, 25)];

@@ -1,6 +1,6 @@
-//! Tests of what text asks and judges: management lines, check files, and the checker of certificates.
+//! Tests of texts that are read and judged: management lines, check files, and the checker of certificates.
 //!
-//! They stand here, above the crates that they test, so that each of these is proved once.
+//! They are in a crate above those that they test, so that each of these is proved once.
 #![tactic(auto)]
 
 #[cfg(test)]

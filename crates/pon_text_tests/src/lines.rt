@@ -36,7 +36,7 @@ fn port_of_admit(line: &[u8]) -> Option<usize> {
     }
 }
 
-// Most of these lines break two checks, and the refusal is the earlier one.
+// Most of these lines fail two checks, and the fault is that of the earlier check.
 #[test]
 fn tells_the_first_check_that_fails(rt: HostRuntime) {
     for (line, fault) in [

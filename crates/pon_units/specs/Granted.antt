@@ -1,14 +1,14 @@
--- What a map grants, and the order in which it does (ITU-T G.987.3: the allocation structures of a bandwidth map).
+-- The grants of a map, and their order (ITU-T G.987.3: the allocation structures of a bandwidth map).
 use Rattle.std.specs.Prelude.{ℕ, ◌≡◌, ◌<◌, ◌≤◌, List, map}
 pub use Rattle.pon_units.specs.declared.granted.Granted.{Granted}
 use Rattle.pon_lists.specs.Distinct.{distinct}
 use Rattle.pon_lists.specs.Order.{IsInOrder}
 
--- the ONUs that are granted something, each once
+-- the ONUs that have a grant, each once
 abbrev pub onus_granted : List Granted → List ℕ
 onus_granted gs = distinct (map (λ g. g.onu) gs)
 
--- of a lesser ONU-ID, or of the same ONU and a lesser Alloc-ID
+-- a smaller ONU-ID, or the same ONU and a smaller Alloc-ID
 abbrev pub ComesBefore : Granted → Granted → Type 0
 ComesBefore g h = (g.onu ≤ h.onu) × (g.onu ≡ h.onu → g.alloc_id < h.alloc_id)
 

@@ -1,4 +1,4 @@
-// How much: rates, words and occupancies.
+// Amounts: rates, words and occupancies.
 ghost use Rattle.std.specs.Prelude.{◌≡◌, ◌≤◌};
 ghost use Rattle.std.specs.Option.{SomeIff};
 
@@ -26,7 +26,7 @@ impl Model for Kbps {
 }
 
 impl Kbps {
-    /// `None` above [`GREATEST_RATE`].
+    /// Returns `None` above [`GREATEST_RATE`].
     pub fn new(n: u32) -> Option<Self>
         ensures { SomeIff result (n ≤ GREATEST_RATE) n }
     {
@@ -37,7 +37,7 @@ impl Kbps {
         }
     }
 
-    /// The rate in kbit/s.
+    /// Rate in kbit/s, 0 to 4,294,967,040.
     pub fn get(self) -> u32
         ensures value { result ≡ self }
         ensures range { self ≤ GREATEST_RATE }
@@ -67,7 +67,7 @@ impl Model for Words {
 }
 
 impl Words {
-    /// `None` above [`FRAME_WORDS`].
+    /// Returns `None` above [`FRAME_WORDS`].
     pub fn new(n: u16) -> Option<Self>
         ensures { SomeIff result (n ≤ FRAME_WORDS) n }
     {
@@ -78,7 +78,7 @@ impl Words {
         }
     }
 
-    /// The number of words.
+    /// Number of words, 0 to 9,720.
     pub fn get(self) -> u16
         ensures value { result ≡ self }
         ensures range { self ≤ FRAME_WORDS }
@@ -98,7 +98,7 @@ impl Default for Words {
     }
 }
 
-/// A buffer occupancy, 0 to 16,777,215: the words of 4 bytes that wait at an allocation, as it reports
+/// A buffer occupancy, 0 to 16,777,215: the number of words of 4 bytes that wait at an allocation, as it reports
 /// them in 24 bits (ITU-T G.987.3, BufOcc of the dynamic bandwidth report).
 #[derive(Clone, Copy, Debug, PartialEq, Eq, PartialOrd, Ord)]
 pub struct BufOcc {
@@ -119,7 +119,7 @@ impl Model for BufOcc {
 }
 
 impl BufOcc {
-    /// `None` above [`GREATEST_OCCUPANCY`].
+    /// Returns `None` above [`GREATEST_OCCUPANCY`].
     pub fn new(n: u32) -> Option<Self>
         ensures { SomeIff result (n ≤ GREATEST_OCCUPANCY) n }
     {
@@ -130,7 +130,7 @@ impl BufOcc {
         }
     }
 
-    /// The number of words.
+    /// Number of words, 0 to 16,777,215.
     pub fn get(self) -> u32
         ensures value { result ≡ self }
         ensures range { self ≤ GREATEST_OCCUPANCY }

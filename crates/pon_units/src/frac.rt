@@ -5,9 +5,9 @@ ghost use Rattle.std.specs.Ordering.{nat_cmp};
 use std::cmp::Ordering;
 use std::marker::Model;
 
-/// A fraction with a denominator above 0, which need not be reduced.
+/// A fraction with a denominator above 0, not necessarily reduced.
 ///
-/// `==` compares the numbers as they are written, so 90/3 is not 30/1. [`cmp_frac`] compares the values.
+/// `==` compares numerators and denominators, so 90/3 is not equal to 30/1. [`cmp_frac`] compares values.
 #[derive(Clone, Copy, Debug, PartialEq, Eq)]
 pub struct Frac {
     numerator: u64,
@@ -28,7 +28,7 @@ impl Model for Frac {
 }
 
 impl Frac {
-    /// The fraction `num / den`, as it is written.
+    /// Returns the fraction `num / den`, not reduced.
     pub fn new(num: u64, den: u64) -> Self
         requires { 0 < den }
         ensures { result ≡ record { num = num; den = den } }
@@ -39,14 +39,14 @@ impl Frac {
         }
     }
 
-    /// The numerator.
+    /// Numerator.
     pub fn num(self) -> u64
         ensures { result ≡ self.num }
     {
         self.numerator
     }
 
-    /// The denominator.
+    /// Denominator, above 0.
     pub fn den(self) -> u64
         ensures value { result ≡ self.den }
         ensures positive { 0 < result }
@@ -55,7 +55,7 @@ impl Frac {
     }
 }
 
-/// How the values of two fractions compare. Each product of a numerator and the other's denominator is
+/// Compares the values of two fractions. Each product of a numerator and the other's denominator is
 /// exact in 128 bits.
 pub fn cmp_frac(a: Frac, b: Frac) -> Ordering
     ensures { result ≡ nat_cmp (a.num * b.den) (b.num * a.den) }
@@ -65,7 +65,7 @@ pub fn cmp_frac(a: Frac, b: Frac) -> Ordering
     left.cmp(&right)
 }
 
-/// The whole part of `num / den`: the greatest whole number that is not above it.
+/// Returns the greatest whole number that is at most `num / den`.
 pub fn whole(num: u64, den: u64) -> u64
     requires { 0 < den }
     ensures value { result ≡ num / den }

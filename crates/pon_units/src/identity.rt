@@ -1,4 +1,4 @@
-// Who and where: the units of a line, their allocations, and the ports of the terminal.
+// Identifiers: the ONUs of a line, their Alloc-IDs, and the ports of the terminal.
 ghost use Rattle.std.specs.Prelude.{◌≡◌, ◌<◌, ◌≤◌};
 ghost use Rattle.std.specs.Option.{SomeIff};
 
@@ -25,7 +25,7 @@ impl Model for OnuId {
 }
 
 impl OnuId {
-    /// `None` above [`GREATEST_ONU_ID`].
+    /// Returns `None` above [`GREATEST_ONU_ID`].
     pub fn new(n: u16) -> Option<Self>
         ensures { SomeIff result (n ≤ GREATEST_ONU_ID) n }
     {
@@ -36,7 +36,7 @@ impl OnuId {
         }
     }
 
-    /// The number.
+    /// Number of the ONU, 0 to 1022.
     pub fn get(self) -> u16
         ensures value { result ≡ self }
         ensures range { self ≤ GREATEST_ONU_ID }
@@ -46,7 +46,7 @@ impl OnuId {
 }
 
 /// A managed Alloc-ID, 1024 to 16383: the number of one bearer of upstream traffic (ITU-T G.987.3,
-/// Alloc-ID). The default Alloc-IDs below 1024, which equal ONU-IDs, are none of these.
+/// Alloc-ID). The default Alloc-IDs below 1024, which equal ONU-IDs, are not managed.
 #[derive(Clone, Copy, Debug, PartialEq, Eq, PartialOrd, Ord)]
 pub struct AllocId {
     alloc_id: u16,
@@ -66,7 +66,7 @@ impl Model for AllocId {
 }
 
 impl AllocId {
-    /// `None` outside [`LEAST_ALLOC_ID`] to [`GREATEST_ALLOC_ID`].
+    /// Returns `None` outside [`LEAST_ALLOC_ID`] to [`GREATEST_ALLOC_ID`].
     pub fn new(n: u16) -> Option<Self>
         ensures { SomeIff result ((LEAST_ALLOC_ID ≤ n) × (n ≤ GREATEST_ALLOC_ID)) n }
     {
@@ -77,7 +77,7 @@ impl AllocId {
         }
     }
 
-    /// The number.
+    /// Number of the Alloc-ID, 1024 to 16383.
     pub fn get(self) -> u16
         ensures value { result ≡ self }
         ensures range { (LEAST_ALLOC_ID ≤ self) × (self ≤ GREATEST_ALLOC_ID) }
@@ -86,7 +86,7 @@ impl AllocId {
     }
 }
 
-/// The least one.
+/// The least Alloc-ID.
 impl Default for AllocId {
     ghost use Rattle.std.specs.Prelude.{◌≡◌};
     ghost use Rattle.pon_units.specs.declared.limits.TheConstants.{LEAST_ALLOC_ID};
@@ -100,7 +100,7 @@ impl Default for AllocId {
     }
 }
 
-/// The number of a port of the line terminal, 0 to 63: its place in the list of the ports.
+/// The number of a port of the line terminal, 0 to 63: its index in the list of ports.
 #[derive(Clone, Copy, Debug, PartialEq, Eq, PartialOrd, Ord)]
 pub struct PortNo {
     port: u8,
@@ -120,7 +120,7 @@ impl Model for PortNo {
 }
 
 impl PortNo {
-    /// `None` from [`MOST_PORTS`] on.
+    /// Returns `None` from [`MOST_PORTS`] on.
     pub fn new(n: u8) -> Option<Self>
         ensures { SomeIff result (n < MOST_PORTS) n }
     {
@@ -131,7 +131,7 @@ impl PortNo {
         }
     }
 
-    /// The number of the port at a place of a list of ports. The caller's condition: the place is below [`MOST_PORTS`].
+    /// Returns the number of the port at an index of a list of ports. The index must be below [`MOST_PORTS`].
     pub fn at(place: usize) -> Self
         requires { place < MOST_PORTS }
         ensures { result ≡ place }
@@ -139,7 +139,7 @@ impl PortNo {
         PortNo { port: place as u8 }
     }
 
-    /// The number.
+    /// Number of the port, 0 to 63.
     pub fn get(self) -> u8
         ensures value { result ≡ self }
         ensures range { self < MOST_PORTS }

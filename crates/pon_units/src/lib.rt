@@ -1,8 +1,8 @@
 //! The units of upstream scheduling on an XG-PON line (ITU-T G.987.3): identifiers, rates, words, gaps,
 //! frames and grants, and exact fractions.
 //!
-//! A number in range is a type of its own, made by `new` and read by `get`, so no function above tests a
-//! range again. Nothing here rounds but [`whole`], and nothing takes memory.
+//! A number in range is a type of its own, created by `new` and read by `get`, so its users never test the range
+//! again. Only [`whole`] rounds, and nothing allocates memory.
 #![tactic(auto)]
 
 mod amount;

@@ -1,12 +1,12 @@
-// What holds on a line: the gap before a burst, the burst's profile, and the numbers of frames.
+// Quantities of a line: the gap before a burst, the burst profile, and the frame number.
 ghost use Rattle.std.specs.Prelude.{◌≡◌, ◌≤◌};
 ghost use Rattle.std.specs.Option.{SomeIff};
 
 use crate::limits::{GREATEST_PROFILE, LONGEST_GAP, SHORTEST_GAP};
 use std::marker::Model;
 
-/// The words of 4 bytes that are kept free before each burst, 1 to 256: guard time, preamble and
-/// delimiter (ITU-T G.987.3, PSBu).
+/// Gap before each burst, in words of 4 bytes, 1 to 256: guard time, preamble and delimiter (ITU-T G.987.3,
+/// PSBu).
 #[derive(Clone, Copy, Debug, PartialEq, Eq, PartialOrd, Ord)]
 pub struct Gap {
     gap: u16,
@@ -26,7 +26,7 @@ impl Model for Gap {
 }
 
 impl Gap {
-    /// `None` outside [`SHORTEST_GAP`] to [`LONGEST_GAP`].
+    /// Returns `None` outside [`SHORTEST_GAP`] to [`LONGEST_GAP`].
     pub fn new(n: u16) -> Option<Self>
         ensures { SomeIff result ((SHORTEST_GAP ≤ n) × (n ≤ LONGEST_GAP)) n }
     {
@@ -37,7 +37,7 @@ impl Gap {
         }
     }
 
-    /// The number of words.
+    /// Number of words, 1 to 256.
     pub fn get(self) -> u16
         ensures value { result ≡ self }
         ensures range { (SHORTEST_GAP ≤ self) × (self ≤ LONGEST_GAP) }
@@ -66,7 +66,7 @@ impl Model for Profile {
 }
 
 impl Profile {
-    /// `None` above [`GREATEST_PROFILE`].
+    /// Returns `None` above [`GREATEST_PROFILE`].
     pub fn new(n: u8) -> Option<Self>
         ensures { SomeIff result (n ≤ GREATEST_PROFILE) n }
     {
@@ -77,7 +77,7 @@ impl Profile {
         }
     }
 
-    /// The index.
+    /// Index of the profile, 0 to 3.
     pub fn get(self) -> u8
         ensures value { result ≡ self }
         ensures range { self ≤ GREATEST_PROFILE }
@@ -86,7 +86,7 @@ impl Profile {
     }
 }
 
-/// The number of a frame of 125 µs, counted from any start: each `u64` is one.
+/// The number of a frame of 125 µs, counted from any start: any `u64`.
 #[derive(Clone, Copy, Debug, PartialEq, Eq, PartialOrd, Ord)]
 pub struct FrameNo {
     frame: u64,
@@ -103,14 +103,14 @@ impl Model for FrameNo {
 }
 
 impl FrameNo {
-    /// The frame of that number.
+    /// Returns the frame with this number.
     pub fn new(n: u64) -> Self
         ensures { result ≡ n }
     {
         FrameNo { frame: n }
     }
 
-    /// The number.
+    /// Number of the frame.
     pub fn get(self) -> u64
         ensures { result ≡ self }
     {

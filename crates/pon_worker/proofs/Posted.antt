@@ -1,4 +1,4 @@
--- Posts one after the other.
+-- Posts one after another.
 use Rattle.std.proofs.Common.{◌≡◌, ℕ, ◌+◌, ◌<◌, ◌≤◌, List, length, refl, sym, ap, subst, ◌∙◌, arith}
 use Rattle.std.specs.Prelude.{slice_index, slice_set}
 use Rattle.std.proofs.lemmas.List.{get_or-set_same, get_or-set_other, length-set}
@@ -28,7 +28,7 @@ raised_none port s = record {
   others = λ k other. refl;
 }
 
--- the posts of one part, and then those of another
+-- the posts of one part, followed by those of another
 pub posts_more : (port x y : ℕ) (a b c : SeatCounts) (old mid new : Counts) → PostsAt port x a b old mid → PostsAt port y b c mid new → PostsAt port (x + y) a c old new
 posts_more port x y a b c old mid new p q = record {
   posts = p.posts + q.posts;
@@ -36,7 +36,7 @@ posts_more port x y a b c old mid new p q = record {
   are = omega (arith, p.are, q.are);
 }
 
--- no post, and nothing counted of maps and reports
+-- no post, and no map or report counted
 pub posts_none : (port : ℕ) (s : SeatCounts) (old new : Counts) → new.maps ≡ old.maps → new.reports ≡ old.reports → PostsAt port 0 s s old new
 posts_none port s old new maps reports = record {
   posts = 0;
@@ -44,7 +44,7 @@ posts_none port s old new maps reports = record {
   are = omega (arith, maps, reports);
 }
 
--- one post, which is one map or one report more, or is counted as another
+-- one post, which is counted as one more map or report, or as another post
 pub posts_one : (port others : ℕ) (a b : SeatCounts) (old new : Counts) → RaisedAt port 1 a b → new.maps + new.reports + others ≡ old.maps + old.reports + 1 → PostsAt port others a b old new
 posts_one port others a b old new raised counted = record {
   posts = 1;
@@ -52,22 +52,22 @@ posts_one port others a b old new raised counted = record {
   are = omega (arith, counted);
 }
 
--- there are still as many posts as are counted
+-- the seat counts at least as many posts as maps and reports are counted
 pub posts_fit : (port : ℕ) (a b : SeatCounts) (old new : Counts) → PostsAt port 0 a b old new → old.maps + old.reports ≤ slice_index a.counts port → new.maps + new.reports ≤ slice_index b.counts port
 posts_fit port a b old new p fits = omega (arith, p.are, p.raised.here, fits)
 
--- a post that was taken or not, and what is counted of it
+-- a post that the port took, counted as a report
 pub posts_taken : (port : ℕ) (a b : SeatCounts) (old new : Counts) → RaisedAt port 1 a b → new.maps ≡ old.maps → new.reports ≡ old.reports + 1 → PostsAt port 0 a b old new
 posts_taken port a b old new raised maps reports = posts_one port 0 a b old new raised (omega (arith, maps, reports))
 
 pub posts_refused : (port : ℕ) (a b : SeatCounts) (old new : Counts) → b ≡ a → new.maps ≡ old.maps → new.reports ≡ old.reports → PostsAt port 0 a b old new
 posts_refused port a b old new same maps reports = subst (λ (s : SeatCounts). PostsAt port 0 a s old new) (sym same) (posts_none port a old new maps reports)
 
--- a map more is counted
+-- one more map counted
 abbrev pub with_map : Counts → Counts
 with_map a = record { maps = a.maps + 1; reports = a.reports; garbled = a.garbled; refused = a.refused }
 
--- the post of a map, and then those of reports
+-- the post of a map, followed by those of its reports
 pub posts_made : (port : ℕ) (a b c : SeatCounts) (old new : Counts) → RaisedAt port 1 a b → PostsAt port 0 b c (with_map old) new → PostsAt port 0 a c old new
 posts_made port a b c old new raised p = record {
   posts = 1 + p.posts;
@@ -75,7 +75,7 @@ posts_made port a b c old new raised p = record {
   are = omega (arith, p.are);
 }
 
--- posts, and then others that are not counted
+-- posts, followed by others that are not counted
 pub posts_beside : (port others : ℕ) (a b c : SeatCounts) (old new : Counts) → PostsAt port 0 a b old new → RaisedAt port others b c → PostsAt port others a c old new
 posts_beside port others a b c old new p raised = record {
   posts = p.posts + others;

@@ -1,10 +1,10 @@
--- A record that goes out in several tries.
+-- A record that is sent in several attempts.
 use Rattle.std.proofs.Common.{◌≡◌, ℕ, List, [], ◌++◌, Option, sym, ap, subst, ◌∙◌, append_assoc, append-nil}
 use Rattle.std.proofs.KnownBytes.{Appends-trans}
 use Rattle.pon_device.specs.Device.{Appends}
 use Rattle.pon_link.proofs.Left.{Sends}
 
--- after a part, more went out, and this is left
+-- after a part, more was sent, and this is left
 pub sent_again : (a b c : Option (List ℕ)) (all left rest sent : List ℕ) → Sends a b all left → Appends b c sent → sent ++ rest ≡ left → Sends a c all rest
 sent_again a b c all left rest sent far more is = record {
   sent = far.sent ++ sent;

@@ -1,4 +1,4 @@
--- Turns one after the other.
+-- Turns one after another.
 use Rattle.std.proofs.Common.{◌≡◌, ℕ, ◌+◌, ◌≤◌, List, [], ◌∷◌, ◌++◌, Option, flat_map, length, refl, sym, ap, subst, ◌∙◌, arith, rules, append_assoc, append-nil, length-append}
 use Rattle.std.proofs.KnownBytes.{Appends-nil, Appends-trans}
 use Rattle.std.proofs.lemmas.Grind.{flat_map-append}
@@ -15,7 +15,7 @@ use Rattle.pon_worker.specs.declared.counts.Counts.{Counts}
 use Rattle.pon_worker.specs.declared.counts.TheConstants.{GREATEST_COUNT}
 use Rattle.pon_worker.proofs.Bursts.{counted_more, counted_none, read_more, read_none}
 
--- whole turns, and then others
+-- whole turns, followed by others
 pub worked_more : (xs ys : List MadeMap) (sent sent2 : List ℕ) (rs ss : List UpRecord) (none held : List ℕ) (a b c : Counts) (wa wb wc ra rb rc : Option (List ℕ))
     → AreWhole xs sent rs none → Worked xs sent rs none a b wa wb ra rb → Worked ys sent2 ss held b c wb wc rb rc → Worked (xs ++ ys) (sent ++ sent2) (rs ++ ss) held a c wa wc ra rc
 worked_more xs ys sent sent2 rs ss none held a b c wa wb wc ra rb rc whole p q = record {
@@ -79,7 +79,7 @@ turned_none a wa ra garbled refused = record {
   whole = record { wrote = refl; read = refl; between = refl };
 }
 
--- turns that are cut short end so
+-- turns of which the last was cut short end for this reason
 pub ends_cut : (why : Why) (a b : Counts) (wa wb ra rb : Option (List ℕ)) → IsCutBy why rb → Stopped a b wa wb ra rb → EndsAs why a b wa wb ra rb
 ends_cut Finished a b wa wb ra rb cut stopped = absurd cut
 ends_cut (Gave cause) a b wa wb ra rb cut stopped = (cut, stopped)
@@ -89,7 +89,7 @@ ends_cut (Refused fault) a b wa wb ra rb cut stopped = (cut, stopped)
 pub stopped_none : (a : Counts) (wa ra : Option (List ℕ)) → a.garbled ≤ GREATEST_COUNT → a.refused ≤ GREATEST_COUNT → Stopped a a wa wa ra ra
 stopped_none a wa ra garbled refused = record { made = []; sent = []; records = []; held = []; worked = worked_none a wa ra garbled refused }
 
--- one map, of which a beginning was sent, and what was read then
+-- one map, of which a prefix was sent, and the records read then
 pub worked_one : (m : MadeMap) (sent rest : List ℕ) (rs : List UpRecord) (n : ℕ) (held : List ℕ) (a b : Counts) (wa wb ra rb : Option (List ℕ))
     → IsSomeMap m → b.maps ≡ a.maps + 1 → Appends wa wb sent → sent ++ rest ≡ map_record m → Counted rs n a b → HasRead rs held ra rb → Worked (m ∷ []) sent rs held a b wa wb ra rb
 worked_one m sent rest rs n held a b wa wb ra rb is maps wrote begins counted read = record {
@@ -124,6 +124,6 @@ turned_one m rs n a b wa wb ra rb is maps wrote counted read size = record {
   whole = record { wrote = sym (append-nil (map_record m)); read = omega (arith, size); between = refl };
 }
 
--- the same end, as its fields tell it
+-- the same end, given by its fields
 pub ends_with : (why told : Why) (a b end : Counts) (wa wb ra rb : Option (List ℕ)) → told ≡ why → end ≡ b → EndsAs why a b wa wb ra rb → EndsAs told a end wa wb ra rb
 ends_with why told a b end wa wb ra rb same counts ends = subst (λ (v : Why). EndsAs v a end wa wb ra rb) (sym same) (subst (λ (k : Counts). EndsAs why a k wa wb ra rb) (sym counts) ends)

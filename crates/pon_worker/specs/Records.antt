@@ -1,4 +1,4 @@
--- The records that a worker reads from its link, and what becomes of them.
+-- The records that a worker reads from its link, and how they are counted.
 use Rattle.std.specs.Prelude.{ℕ, ◌≡◌, ◌+◌, ◌==◌, ◌⊎◌, Bool, true, min, List, count_by, length, Option, Some, None}
 use Rattle.pon_device.specs.Device.{Consumes, IsAtEnd}
 use Rattle.pon_xgtc.specs.BurstHead.{BurstHeader}
@@ -12,7 +12,7 @@ use Rattle.pon_worker.specs.declared.counts.Counts.{Counts}
 use Rattle.pon_worker.specs.declared.counts.TheConstants.{GREATEST_COUNT}
 use Rattle.pon_worker.specs.declared.reading.TheConstants.{NO_ONU}
 
--- why a reader in this state has no further record: reads failed, or its bytes are none, or the input ended
+-- why a reader in this state has no further record: reads failed, its bytes are not a record, or the input ended
 abbrev pub StopsFor : ℕ → ReaderState → Option (List ℕ) → Type 0
 StopsFor cause s left =
     ((cause ≡ READ_FAILED) × IsOpen s)
@@ -28,7 +28,7 @@ is_nobodys (Some head) = head.onu_raw == NO_ONU
 abbrev pub is_garbled : UpRecord → Bool
 is_garbled burst = is_nobodys burst.head
 
--- what counting these records came to: this number of reports was taken, and the others were without a sender or refused
+-- the counts of these records: this number of reports was taken, and the others were without a sender or refused
 pub record Counted (records : List UpRecord) (reports : ℕ) (old new : Counts) : Type 0 where
   pub refusals : ℕ
   pub all : reports + count_by is_garbled records + refusals ≡ length records
@@ -36,7 +36,7 @@ pub record Counted (records : List UpRecord) (reports : ℕ) (old new : Counts) 
   pub garbled : new.garbled ≡ min (old.garbled + count_by is_garbled records) GREATEST_COUNT
   pub refused : new.refused ≡ min (old.refused + refusals) GREATEST_COUNT
 
--- records that were read, and bytes of a next one
+-- records that were read, and bytes of the next one
 pub record HasRead (records : List UpRecord) (held : List ℕ) (left_old left_new : Option (List ℕ)) : Type 0 where
   pub input : List ℕ
   pub read : Consumes left_old left_new input

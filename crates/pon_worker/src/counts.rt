@@ -6,21 +6,21 @@ use pon_plant::StepFault;
 /// Why a worker ended.
 #[derive(Clone, Copy, Debug, PartialEq, Eq)]
 pub enum Why {
-    /// Its pace gave it no further turn.
+    /// Its pace gave it no more turns.
     Finished,
     /// It gave up its link, and posted that the port is failed, with this cause: 2 if three reads in a row failed, 3 if
-    /// three writes in a row failed, 4 if what it read is no record, 5 if the input ended.
+    /// three writes in a row failed, 4 if what it read is not a record, 5 if the input ended.
     Gave { cause: Cause },
-    /// Its gate held it back 10,000 times in a row.
+    /// Its gate refused it 10,000 times in a row.
     GateLimit,
     /// The desk made no map.
     Refused(StepFault),
 }
 
-/// How a worker ended, and what it did. Of the counts the last two stay at 2^64 - 1 once they are there.
+/// How a worker ended, and what it did. `garbled` and `refused` stay at 2^64 - 1 once they reach it.
 #[derive(Clone, Copy, Debug, PartialEq, Eq)]
 pub struct WorkerEnd {
-    /// The number of maps that it had its port make.
+    /// The number of maps that its port made for it.
     pub maps: u64,
     /// The number of reports that its port took.
     pub reports: u64,
@@ -32,10 +32,10 @@ pub struct WorkerEnd {
     pub why: Why,
 }
 
-/// The last value of a count.
+/// The greatest value of a count.
 pub(crate) const GREATEST_COUNT: u64 = u64::MAX;
 
-/// What a worker has counted so far.
+/// The counts of a worker so far.
 #[derive(Clone, Copy, Debug, PartialEq, Eq)]
 pub(crate) struct Counts {
     pub(crate) maps: u64,
@@ -44,7 +44,7 @@ pub(crate) struct Counts {
     pub(crate) refused: u64,
 }
 
-// One more, or the last value.
+// Returns the next count, at most the greatest value.
 pub(crate) fn count(number: u64) -> u64
     ensures { result ≡ min (number + 1) GREATEST_COUNT }
 {
@@ -55,7 +55,7 @@ impl Counts {
     ghost use Rattle.pon_worker.specs.Turns.{counts_of, no_counts};
     ghost use Rattle.std.specs.Prelude.{◌≡◌};
 
-    // Nothing counted.
+    // Returns counts of 0.
     pub(crate) fn new() -> Counts
         ensures { result ≡ no_counts }
     {
@@ -67,7 +67,7 @@ impl Counts {
         }
     }
 
-    // The end of a worker that counted this.
+    // Returns the end of a worker with these counts.
     pub(crate) fn end(&self, why: Why) -> WorkerEnd
         ensures counts { counts_of result ≡ self.now }
         ensures why { result.why ≡ why }

@@ -3,7 +3,7 @@ ghost use Rattle.std.specs.Prelude.{◌≡◌, ◌+◌, true, MatchBool};
 use pon_units::PortNo;
 use std::marker::Model;
 
-/// A place in a worker's turn where its gate is asked.
+/// A point of a worker's turn where its gate is called.
 #[derive(Clone, Copy, Debug, PartialEq, Eq)]
 pub enum Point {
     /// The map is made, and not sent yet.
@@ -14,7 +14,7 @@ pub enum Point {
 
 /// Holds workers back, or lets them pass.
 pub trait Gate {
-    /// Whether the worker of this port may pass this point now.
+    /// Returns whether the worker of this port may pass this point now.
     fn pass(&self, port: PortNo, point: Point) -> bool;
 }
 
@@ -32,11 +32,11 @@ impl Gate for OpenGate {
 
 /// Gives a worker its turns.
 pub trait Pace {
-    /// Whether the worker makes another turn.
+    /// Returns whether the worker makes another turn.
     fn next(&mut self) -> bool;
 }
 
-/// A number of turns, one after the other. Contracts see those that are left.
+/// A number of turns. Contracts see the number of turns that are left.
 #[derive(Clone, Copy, Debug, PartialEq, Eq)]
 pub struct Turns {
     left: u64,
@@ -53,7 +53,7 @@ impl Model for Turns {
 }
 
 impl Turns {
-    /// This number of turns.
+    /// Creates this number of turns.
     pub fn new(number: u64) -> Turns
         ensures { result ≡ number }
     {
@@ -71,10 +71,10 @@ impl Pace for Turns {
     }
 }
 
-/// The most times in a row that a gate is asked at one point.
+/// Maximum number of calls in a row of a gate at one point.
 const MOST_ASKS: usize = 10_000;
 
-// Asks the gate until the worker may pass, and gives up after 10,000 answers of no.
+// Calls the gate until the worker may pass, and gives up after 10,000 refusals.
 pub(crate) fn pass<G: Gate>(gate: &G, port: PortNo, point: Point) -> bool {
     for _ask in 0..MOST_ASKS {
         if gate.pass(port, point) {

@@ -1,8 +1,8 @@
 //! The worker of one port of an XG-PON optical line terminal (upstream bandwidth assignment, ITU-T G.987.3).
 //!
-//! In each turn a worker has its port make the map of the next frame, sends it to the units of the line, reads one record
-//! for each burst of the map, and posts what the bursts report. It posts at a desk, which other threads may use meanwhile,
-//! and holds no lock while it asks its gate, writes or reads. The crate starts no thread and opens no device.
+//! In each turn a worker has its port make the map of the next frame, sends it to the units of the line, reads one
+//! record for each burst of the map, and posts the reports of the bursts. It posts at a desk, which other threads may
+//! use meanwhile. It holds no lock while it calls its gate, writes or reads, starts no thread and opens no device.
 #![tactic(auto)]
 
 mod causes;

@@ -1,4 +1,4 @@
-// What a worker posts, with what each post does to its seat.
+// The posts of a worker, and their effect on its seat.
 ghost use Rattle.std.specs.Prelude.{◌≡◌, ◌+◌, ◌<◌, ◌^◌, length, slice_index, IfOk, IfErr, MatchBool, OnOk, OnErr};
 ghost use Rattle.pon_desk.specs.Faults.{TellsRefusal};
 ghost use Rattle.pon_desk.specs.Posts.{IsSomePost};
@@ -11,7 +11,7 @@ use pon_units::PortNo;
 use std::sync::Wait;
 use std::sync::ledger::Ledger;
 
-// The number of posts that a seat counts at a port of the desk.
+// Returns the number of posts that a seat counts at a port of the desk.
 fn posts_at<L: Ledger, M: Ledger>(desk: &Desk<L, M>, seat: &Seat<L, M>, port: PortNo) -> u64
     requires { port < desk.now.ports }
     ensures value { result ≡ slice_index seat.now.counts port }
@@ -54,7 +54,7 @@ pub(crate) fn is_posted<L: Ledger, M: Ledger, T: Wait>(
     post(rt, desk, seat, port, event).is_ok()
 }
 
-// The port makes the map of its next frame.
+// Posts `MakeMap` at a port, and returns the map of its next frame.
 pub(crate) fn make_map<L: Ledger, M: Ledger, T: Wait>(
     rt: &T,
     desk: &Desk<L, M>,

@@ -1,4 +1,4 @@
-// How a worker reads the bursts of a map, and posts what they report.
+// How a worker reads the bursts of a map, and posts their reports.
 ghost use Rattle.std.specs.Prelude.{◌≡◌, ◌+◌, ◌∷◌, ◌≤◌, [], ℕ, List, false, true, length, slice_index, IfErr, IfOk, IfSome, MatchOption, OnOk};
 ghost use Rattle.pon_link.specs.Reading.{empty};
 ghost use Rattle.pon_link.specs.declared.record.UpRecord.{UpRecord};
@@ -18,10 +18,10 @@ use pon_xgtc::BurstHead;
 use std::sync::Wait;
 use std::sync::ledger::Ledger;
 
-/// The ONU-ID of no unit (ITU-T G.987.3, ONU-ID).
+/// The ONU-ID that no unit has (ITU-T G.987.3, ONU-ID).
 pub(crate) const NO_ONU: u16 = 1023;
 
-// The unit that sent a burst, if its header names one.
+// Returns the ONU that sent a burst. `None` if its header names none.
 fn sender(head: Option<BurstHead>) -> Option<OnuId>
     ensures { MatchOption result (is_nobodys head ≡ true)
         (λ onu. (is_nobodys head ≡ false) × IfSome head (λ h. h.onu_raw ≡ onu)) }
@@ -29,7 +29,7 @@ fn sender(head: Option<BurstHead>) -> Option<OnuId>
     OnuId::new(head?.onu_raw())
 }
 
-// Posts what a burst reports, and counts what became of it.
+// Posts the report of a burst, and counts the result.
 fn post_record<L: Ledger, M: Ledger, T: Wait>(
     rt: &T,
     desk: &Desk<L, M>,
@@ -59,7 +59,7 @@ fn post_record<L: Ledger, M: Ledger, T: Wait>(
     }
 }
 
-// Reads this number of bursts, and posts what each reports. Else the cause why one was not read.
+// Reads this number of bursts, and posts their reports. Otherwise returns the cause why a burst was not read.
 pub(crate) fn read_bursts<L: Ledger, M: Ledger, R: DevRead, T: Wait>(
     rt: &T,
     desk: &Desk<L, M>,

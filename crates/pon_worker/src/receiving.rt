@@ -12,8 +12,8 @@ use pon_device::DevRead;
 use pon_link::{Direction, PullFault, Pulled, UpReader, UpRecord};
 use std::sync::Wait;
 
-// Reads once, and again if the device failed, at most three times. Else the cause: the device failed in each, or the input
-// ended.
+// Reads once, or up to three times if the device fails. Otherwise returns the cause: the device failed each time, or
+// the input ended.
 fn pull<R: DevRead>(up: &mut UpReader, reader: &mut R) -> Result<(), Cause>
     requires up { up.old.direction ≡ Direction.Up }
     requires open { IsOpen up.old }
@@ -34,7 +34,7 @@ fn pull<R: DevRead>(up: &mut UpReader, reader: &mut R) -> Result<(), Cause>
     Err(cause_of(READ_FAILED))
 }
 
-// Reads the next record. Else the cause, and what was read of a record is held.
+// Reads the next record. Otherwise returns the cause; the bytes read of a record are held.
 pub(crate) fn receive<R: DevRead, T: Wait>(
     rt: &T,
     up: &mut UpReader,

@@ -8,10 +8,10 @@ use pon_device::DevWrite;
 use pon_link::{Device, DownWriter};
 use pon_port::MadeMap;
 
-/// The most tries in a row of a write or of a read that fails.
+/// Maximum number of attempts in a row of a write or a read that fails.
 pub(crate) const MOST_TRIES: u32 = 3;
 
-// Writes the record of a map whole; or a beginning of it, if the device failed three times in a row.
+// Writes the record of a map; or only a prefix of it, if the device failed three times in a row.
 pub(crate) fn send<W: DevWrite>(writer: &mut W, made: &MadeMap) -> Result<(), Device>
     ensures sent { OnOk result (Appends (W.contents writer.old) (W.contents writer.new)
         (map_record made.now)) }

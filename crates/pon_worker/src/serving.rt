@@ -16,7 +16,7 @@ use pon_units::PortNo;
 use std::sync::Wait;
 use std::sync::ledger::Ledger;
 
-// Makes the turns that the pace gives, and counts what they did.
+// Makes the turns that the pace gives, and counts their results.
 fn make_turns<L: Ledger, M: Ledger, G: Gate, P: Pace, R: DevRead, W: DevWrite, T: Wait>(
     rt: &T,
     desk: &Desk<L, M>,
@@ -70,14 +70,14 @@ fn give_up<L: Ledger, M: Ledger, T: Wait>(
     }
 }
 
-/// Serves the port of this number over its link, for as many turns as the pace gives. In each turn it posts `MakeMap`, asks
-/// the gate at `Send`, writes the record of the map, asks the gate at `Read`, and reads one record for each burst of the map
-/// and posts it as a report. It holds no lock while it asks the gate, writes or reads.
+/// Serves a port over its link, for as many turns as the pace gives. In each turn it posts `MakeMap`, calls the gate at
+/// `Send`, writes the record of the map, calls the gate at `Read`, reads one record for each burst of the map, and
+/// posts it as a report. It holds no lock while it calls the gate, writes or reads.
 ///
-/// A record whose burst header is refused, or has the ONU-ID 1023, is counted as garbled and dropped; a report that the port
-/// refuses is counted. It ends as [`Why`] says. A write or read that fails is tried three times in a row; then, and if what
-/// it read is no record or the input ended, it posts that the port is failed. It flushes nothing, so the writer is to send
-/// what it takes.
+/// A record whose burst header is refused, or has the ONU-ID 1023, is counted as garbled and dropped; a report that the
+/// port refuses is counted. It ends as [`Why`] says. A write or read that fails is tried three times in a row; then it
+/// posts that the port is failed, and so it does if what it read is not a record, or the input ended. It flushes
+/// nothing, so the writer must send what it takes by itself.
 pub fn serve_port<L: Ledger, M: Ledger, G: Gate, P: Pace, R: DevRead, W: DevWrite, T: Wait>(
     rt: &T,
     desk: &Desk<L, M>,
@@ -89,8 +89,8 @@ pub fn serve_port<L: Ledger, M: Ledger, G: Gate, P: Pace, R: DevRead, W: DevWrit
     writer: &mut W,
     _sink: &mut Sink,
 ) -> WorkerEnd
-    // Of the devices, as far as they tell their bytes: what was written are the maps that the port made, each with the whole
-    // promise of a map, and what was counted are the records that were read.
+    // For devices that show their bytes: the bytes written are the maps that the port made, each with the whole promise
+    // of a map, and the records counted are those that were read.
     ensures ended { EndsAs result.why no_counts (counts_of result) (W.contents writer.old)
         (W.contents writer.new) (R.remaining reader.old) (R.remaining reader.new) }
     ensures posts { (others : ℕ) × (others ≤ most_others result.why)

@@ -1,9 +1,9 @@
-/// Where a worker hands the chapters of its port.
+/// Where a worker passes the chapters of its port.
 #[derive(Clone, Copy, Debug, PartialEq, Eq)]
 pub struct Sink;
 
 impl Sink {
-    /// A sink for a port that keeps its chapter to the end: it is handed none.
+    /// Returns the sink of a port that keeps its chapter to the end: it gets no chapters.
     pub fn none() -> Sink {
         Sink
     }

@@ -17,14 +17,14 @@ use pon_units::PortNo;
 use std::sync::Wait;
 use std::sync::ledger::Ledger;
 
-// The number of bursts of a map: each structure with a start begins one.
+// Returns the number of bursts of a map: the number of structures with a start.
 fn bursts_in(rows: &[Alloc]) -> usize
     ensures { result ≡ count_by begins_burst rows.now }
 {
     rows.iter().filter(|row| row.start().is_some()).count()
 }
 
-// The port makes a map, which is sent, and then its bursts are read and posted. Else why not.
+// Has the port make a map, sends it, and then reads and posts its bursts. Otherwise returns why the turn ended.
 pub(crate) fn turn<L: Ledger, M: Ledger, G: Gate, R: DevRead, W: DevWrite, T: Wait>(
     rt: &T,
     desk: &Desk<L, M>,

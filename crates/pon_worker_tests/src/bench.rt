@@ -1,4 +1,4 @@
-// A desk of two ports with a gap of 16 words, each with one Alloc-ID of 10 words a frame, and what their links bring.
+// A desk of two ports with a gap of 16 words, each with one Alloc-ID of 10 words a frame, and the bytes of their links.
 ghost use Rattle.std.specs.Prelude.{◌≡◌};
 
 use pon_dbru::Occupancies;
@@ -35,7 +35,7 @@ fn admission(rt: &impl Abort) -> Event {
     }
 }
 
-/// A desk of two ports and three seats, the first of which has admitted the Alloc-ID at both.
+/// Opens a desk of two ports and three seats, the first of which has admitted the Alloc-ID at both ports.
 pub(crate) fn open<L: Ledger, M: Ledger, R: Wait + Abort>(
     rt: &R,
     alloc: Global,
@@ -60,7 +60,7 @@ pub(crate) fn open<L: Ledger, M: Ledger, R: Wait + Abort>(
     (desk, seats)
 }
 
-/// A burst of the unit of this ONU-ID in a frame, which reports 100 words.
+/// Returns a burst of the unit with this ONU-ID in a frame. It reports 100 words.
 pub(crate) fn burst(rt: &impl Abort, alloc: Global, frame: u64, onu: u16) -> Result<Vec<u8>, Fail> {
     let mut occ = Occupancies::new();
     occ.push(BufOcc::new(100));
@@ -74,7 +74,7 @@ pub(crate) fn burst(rt: &impl Abort, alloc: Global, frame: u64, onu: u16) -> Res
     Ok(encode_up(&record).as_slice().to_vec(alloc)?)
 }
 
-/// The bursts of the unit in the first frames, one behind the other.
+/// Returns the bursts of the unit in the first frames, concatenated.
 pub(crate) fn bursts(rt: &impl Abort, alloc: Global, frames: u64) -> Result<Vec<u8>, Fail> {
     let mut bytes = Vec::new(alloc);
     for frame in 0..frames {
@@ -84,7 +84,7 @@ pub(crate) fn bursts(rt: &impl Abort, alloc: Global, frames: u64) -> Result<Vec<
     Ok(bytes)
 }
 
-/// The records of the maps of the first frames, one behind the other.
+/// Returns the records of the maps of the first frames, concatenated.
 pub(crate) fn maps(alloc: Global, frames: u64) -> Result<Vec<u8>, Fail> {
     let mut bytes = Vec::new(alloc);
     for frame in 0..frames {

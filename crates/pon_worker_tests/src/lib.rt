@@ -1,6 +1,6 @@
-//! Tests of the worker: what it writes and reads over memory, how it ends, and workers of two ports at the same time.
+//! Tests of the worker: the bytes that it writes and reads over memory, how it ends, and workers of two ports at once.
 //!
-//! They stand here, above the crate that they test, so that it is proved once.
+//! They are in a crate above the one that they test, so that it is proved once.
 #![tactic(auto)]
 
 #[cfg(test)]

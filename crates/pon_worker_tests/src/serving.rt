@@ -13,7 +13,7 @@ use std::sync::Wait;
 use std::sync::ledger::{Blank, Ledger};
 use std::test::*;
 
-// What a worker did, what it wrote, and what its port then kept.
+// The end of a worker, the bytes that it wrote, and what its port then kept.
 #[derive(Drop)]
 struct Served {
     end: WorkerEnd,
@@ -82,12 +82,12 @@ fn serve<G: Gate, R: Wait + Abort>(
     )
 }
 
-// Bytes that are read three at a time, where the calls of these numbers fail.
+// Returns a reader of these bytes, three at a time, whose calls with these numbers fail.
 fn reader(alloc: Global, bytes: Vec<u8>, failing: &[u64]) -> Result<MemRead, Fail> {
     Ok(MemRead::new(bytes, 3, failing.to_vec(alloc)?))
 }
 
-// Takes five bytes at a time, where the calls of these numbers fail.
+// Returns a writer that takes five bytes at a time, whose calls with these numbers fail.
 fn writer(alloc: Global, failing: &[u64]) -> Result<MemWrite, Fail> {
     Ok(MemWrite::new(alloc, 5, failing.to_vec(alloc)?))
 }
@@ -158,7 +158,7 @@ fn tries_each_read_three_times(rt: HostRuntime) -> Result<(), Fail> {
     Ok(())
 }
 
-// Two bursts, of which the second has this wrong byte at this place; or as many bytes as `len`.
+// Returns two bursts, the second with this wrong byte at this place, truncated to `len` bytes.
 fn damaged(
     rt: &impl Abort,
     alloc: Global,

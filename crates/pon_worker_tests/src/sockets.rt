@@ -1,4 +1,4 @@
-// Workers of two ports over real sockets: one whose link breaks, and one that goes on.
+// Workers of two ports over real sockets: one whose link breaks, and one that continues.
 ghost use Rattle.std.specs.Prelude.{◌≡◌};
 
 use crate::bench::{bursts, maps, number, open};
@@ -18,7 +18,7 @@ use std::test::*;
 use std::thread;
 use std::thread::Threads;
 
-// A connection within this machine: the end of a worker, and that of its units, which send these bytes and then end.
+// Opens a connection within this machine. The end of the units sends these bytes and then ends.
 fn link<R: Net<Listener = TcpListener, Stream = TcpStream> + Abort>(
     rt: &R,
     bytes: &[u8],
@@ -56,7 +56,7 @@ fn serve<L: Ledger, M: Ledger, R: Wait>(
     )
 }
 
-// Port 0 is given up for this cause at these bytes, and port 1 goes on.
+// Checks that port 0 is given up for this cause at these bytes, and that port 1 continues.
 fn break_link<L, M, R>(
     rt: &R,
     alloc: Global,

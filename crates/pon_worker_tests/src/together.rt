@@ -1,4 +1,4 @@
-// Workers of two ports in two threads, held by a gate until both have asked at it.
+// Workers of two ports in two threads, held by a gate until both have called it.
 ghost use Rattle.std.specs.Prelude.{◌≡◌};
 
 use crate::bench::{bursts, maps, number, open};
@@ -16,10 +16,10 @@ use std::test::*;
 use std::thread;
 use std::thread::Threads;
 
-// How often a worker that is held looks for the other before the answer is no.
+// How often a held worker checks for the other one before the gate refuses it.
 const LOOKS: u32 = 1_000;
 
-// Holds each port's worker at `Send` until the other port's worker has asked there too.
+// Holds the worker of each port at `Send` until the worker of the other port is there too.
 #[derive(Drop)]
 struct Both {
     asked: [AtomicU64; 2],
@@ -42,7 +42,7 @@ impl Gate for Both {
     }
 }
 
-// Serves a port for some turns, and hands the seat back with what was written.
+// Serves a port for some turns, and returns the seat with the bytes that were written.
 fn serve<L: Ledger, M: Ledger, G: Gate, R: Wait>(
     rt: &R,
     desk: &Desk<L, M>,
@@ -67,7 +67,7 @@ fn serve<L: Ledger, M: Ledger, G: Gate, R: Wait>(
     (seat, end, writer)
 }
 
-// Two workers whose gate lets neither pass alone: each makes its maps.
+// Runs two workers whose gate lets neither pass alone: each makes its maps.
 fn serve_both<L: Ledger + Send + Sync, M: Ledger + Send + Sync, R: Threads + Wait + Abort + Sync>(
     rt: &R,
     alloc: Global,

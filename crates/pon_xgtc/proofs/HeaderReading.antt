@@ -1,4 +1,4 @@
--- A header that was written reads as it was, and bytes with a reading have no fault.
+-- An encoded header decodes to the same header, and bytes with a reading have no fault.
 use Rattle.std.proofs.Common.{◌≡◌, ℕ, ◌+◌, ◌-◌, ◌*◌, ◌/◌, ◌%◌, ◌^◌, ◌<◌, List, ◌++◌, bit_and, Result, Ok, IfOk, refl, ap, sym, ◌∙◌, subst, arith}
 use Rattle.std.specs.Int.{w32, from_be_bytes}
 use Rattle.std.proofs.lemmas.Nat.{from_be_bytes-to_be_bytes_4, and_mask, shr_high, mod_low}
@@ -16,7 +16,7 @@ use Rattle.pon_xgtc.specs.declared.fault.HeadFault.TheVariants.{Short, Hec}
 pub payload_small : (bytes : List ℕ) (m k : ℕ) → ReadsHeader bytes m k → m < 2 ^ 19
 payload_small bytes m k r = omega (arith, r.word.has_payload, r.word.is_codeword.below)
 
--- what is written reads back
+-- an encoded header reads back
 pub header_reads : (m : ℕ) (rest : List ℕ) → m < 2 ^ 19 → ReadsHeader (header_bytes m ++ rest) m 0
 header_reads m rest lt =
     let code = sealed_codeword (2 ^ 32) m (omega (arith, lt)) (omega (arith, lt)) in
@@ -29,11 +29,11 @@ pub no_fault : (bytes : List ℕ) (fault : HeadFault) (m k : ℕ) → ReadsHeade
 no_fault bytes Short m k r short = omega (arith, r.whole, short)
 no_fault bytes Hec m k r hec = hec.1 m k r.word
 
--- there is one reading at most
+-- bytes have at most one reading
 pub one_header : (bytes : List ℕ) (m k n l : ℕ) → from_be_bytes w32 bytes < 2 ^ 32 → ReadsHeader bytes m k → ReadsHeader bytes n l → (m ≡ n) × (k ≡ l)
 one_header bytes m k n l lt r s = one_reading (2 ^ 32) (from_be_bytes w32 bytes) m k n l (omega arith) lt r.word s.word
 
--- what opens where a written header stands
+-- decoding an encoded header returns it
 pub written_opens : (bytes : List ℕ) (opened : ℕ × ℕ) → from_be_bytes w32 bytes < 2 ^ 32 → ReadsHeader bytes opened.0 opened.1
     → (m : ℕ) (rest : List ℕ) → m < 2 ^ 19 → bytes ≡ header_bytes m ++ rest → opened ≡ (m, 0)
 written_opens bytes opened lt r m rest small is =
@@ -43,16 +43,16 @@ written_opens bytes opened lt r m rest small is =
 pub written_has_no_fault : (bytes : List ℕ) (fault : HeadFault) → IsHeaderFault bytes fault → (m : ℕ) (rest : List ℕ) → m < 2 ^ 19 → bytes ≡ header_bytes m ++ rest → ⊥
 written_has_no_fault bytes fault f m rest small is = no_fault bytes fault m 0 (subst (λ (bs : List ℕ). ReadsHeader bs m 0) (sym is) (header_reads m rest small)) f
 
--- the parts of what opened
+-- the parts of a decoded header
 opened_parts : (a b m n : ℕ) (r : Result (ℕ × ℕ) HeadFault) → r ≡ Ok (a, b) → r ≡ Ok (m, n) → (a ≡ m) × (b ≡ n)
 opened_parts a b m n r is written =
     let P : Result (ℕ × ℕ) HeadFault → Type 0 = λ o. IfOk o (λ p. (p.0 ≡ m) × (p.1 ≡ n)) in subst P (sym written ∙ is) (refl, refl)
 
--- a payload split into its high part and its low bits
+-- the high part and the low bits of a payload
 parts_of : (k payload high low : ℕ) → payload ≡ high * 2 ^ k + low → low < 2 ^ k → (payload / 2 ^ k ≡ high) × (bit_and payload (2 ^ k - 1) ≡ low)
 parts_of k payload high low e lt = (ap (λ n. n / 2 ^ k) e ∙ shr_high high k low lt, and_mask payload k ∙ ap (λ n. n % 2 ^ k) e ∙ mod_low high k low lt)
 
--- a header that was written opens as it was
+-- an encoded head of a map decodes to the same head
 pub map_head_opened : (payload places : ℕ) (h : MapHead) (r : Result (ℕ × ℕ) HeadFault) → FitsMapHead h → r ≡ Ok (payload, places) → r ≡ Ok (map_head_payload h, 0)
     → (payload / 2 ^ 8 ≡ h.n) × (bit_and payload (2 ^ 8 - 1) ≡ h.p) × (places ≡ 0)
 map_head_opened payload places h r fits is written =

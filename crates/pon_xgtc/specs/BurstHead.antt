@@ -2,7 +2,7 @@
 use Rattle.std.specs.Prelude.{ℕ, ◌+◌, ◌*◌, ◌^◌, ◌≤◌, List}
 use Rattle.pon_xgtc.specs.Header.{ReadsHeader}
 
--- the ONU-ID, as it stands on the line, and the indications (Ind) of the ONU that sends the burst
+-- the ONU-ID, as on the line, and the indications (Ind) of the ONU that sends the burst
 pub record BurstHeader : Type 0 where
   pub onu_raw : ℕ
   pub ind : ℕ
@@ -11,12 +11,12 @@ pub record BurstHeader : Type 0 where
 abbrev pub burst_head_payload : BurstHeader → ℕ
 burst_head_payload h = h.onu_raw * 2 ^ 9 + h.ind
 
--- the numbers that the 10 bits and the 9 can hold
+-- the numbers that fit in 10 bits and in 9
 pub record FitsBurstHead (h : BurstHeader) : Type 0 where
   pub onu_raw : h.onu_raw ≤ 1023
   pub ind : h.ind ≤ 511
 
--- the bytes begin with this header of a burst, with this number of places corrected
+-- the bytes begin with this header of a burst, with this number of corrected bits
 pub record ReadsBurstHead (bytes : List ℕ) (h : BurstHeader) (places : ℕ) : Type 0 where
   pub fits : FitsBurstHead h
   pub header : ReadsHeader bytes (burst_head_payload h) places

@@ -5,17 +5,17 @@ use Rattle.pon_hec.specs.HeaderCode.{Reads, sealed}
 use Rattle.pon_xgtc.specs.declared.fault.HeadFault.{HeadFault}
 use Rattle.pon_xgtc.specs.declared.fault.HeadFault.TheVariants.{Short, Hec}
 
--- the bytes of the header with this payload: those of its codeword, the greatest place first
+-- the bytes of the header with this payload: those of its codeword, most significant byte first
 abbrev pub header_bytes : ℕ → List ℕ
 header_bytes payload = to_be_bytes w32 (sealed payload)
 
--- The bytes begin with a header: its 4 bytes are there, and their word, the greatest place first, reads
--- as this payload with this number of places corrected.
+-- the bytes begin with a header: there are at least 4, and their word, most significant byte first, reads
+-- as this payload with this number of corrected bits
 pub record ReadsHeader (bytes : List ℕ) (payload places : ℕ) : Type 0 where
   pub whole : 4 ≤ length bytes
   pub word : Reads (2 ^ 32) (from_be_bytes w32 bytes) payload places
 
--- Why the bytes begin with no header: there are fewer than 4, or their word has no reading.
+-- why the bytes begin with no header: there are fewer than 4, or their word has no reading
 abbrev pub IsHeaderFault : List ℕ → HeadFault → Type 0
 IsHeaderFault bytes Short = length bytes < 4
 IsHeaderFault bytes Hec = (4 ≤ length bytes) × ((payload places : ℕ) → Reads (2 ^ 32) (from_be_bytes w32 bytes) payload places → ⊥)

@@ -3,7 +3,7 @@ use crate::header::open_header;
 use pon_hec::seal32;
 use std::marker::Model;
 
-/// The header of an upstream burst (ITU-T G.987.3): which ONU sends it, and what it indicates.
+/// The header of an upstream burst (ITU-T G.987.3): the ONU that sends it, and its indications.
 #[derive(Clone, Copy, Debug, PartialEq, Eq)]
 pub struct BurstHead {
     onu: u16,
@@ -29,7 +29,7 @@ impl BurstHead {
     ghost use Rattle.pon_xgtc.specs.BurstHead.{BurstHeader, FitsBurstHead, ReadsBurstHead, burst_head_payload};
     ghost use Rattle.pon_xgtc.specs.Header.{IsHeaderFault, header_bytes};
 
-    /// The header of a burst of this ONU-ID with these indications (Ind); `None` exactly when the
+    /// Returns the header of a burst of this ONU-ID with these indications (Ind); `None` exactly when the
     /// ONU-ID is above 1,023 or the indications are above 511.
     pub fn new(onu_raw: u16, ind: u16) -> Option<Self>
         ensures { SomeIff result ((onu_raw ≤ 1023) × (ind ≤ 511))
@@ -44,7 +44,7 @@ impl BurstHead {
         })
     }
 
-    /// The ONU-ID as it stands on the line, at most 1,023; 1,023 is no ONU's.
+    /// ONU-ID as on the line, 0 to 1,023; no ONU has 1,023.
     pub fn onu_raw(&self) -> u16
         ensures value { result ≡ self.now.onu_raw }
         ensures range { result ≤ 1023 }
@@ -52,7 +52,7 @@ impl BurstHead {
         self.onu
     }
 
-    /// The indications (Ind), at most 511.
+    /// Indications (Ind), 0 to 511.
     pub fn ind(&self) -> u16
         ensures value { result ≡ self.now.ind }
         ensures range { result ≤ 511 }
@@ -60,16 +60,16 @@ impl BurstHead {
         self.indications
     }
 
-    /// The four bytes of the header, the ONU-ID first.
+    /// Returns the four bytes of the header, the ONU-ID first.
     pub fn encode(&self) -> [u8; 4]
         ensures { result ≡ header_bytes (burst_head_payload self.now) }
     {
         seal32(self.payload()).to_be_bytes()
     }
 
-    /// The burst header that the bytes begin with, and how many wrong places were corrected, at most
-    /// two. `Short` exactly when there are fewer than 4 bytes, else `Hec` exactly when the first four
-    /// are more than two places away from every codeword. Later bytes are not looked at.
+    /// Decodes the burst header at the front of the bytes. Returns it with the number of corrected bits, at most
+    /// two. `Short` exactly when there are fewer than 4 bytes, otherwise `Hec` exactly when the first four
+    /// differ in more than two bits from every codeword. Later bytes are not read.
     pub fn decode(bytes: &[u8]) -> Result<(Self, u8), HeadFault>
         ensures ok { IfOk result (λ r. ReadsBurstHead bytes.now r.0 r.1) }
         ensures fault { IfErr result (λ f. IsHeaderFault bytes.now f) }

@@ -4,7 +4,7 @@ ghost use Rattle.pon_xgtc.specs.Header.{ReadsHeader, IsHeaderFault, header_bytes
 use crate::fault::HeadFault;
 use pon_hec::open32;
 
-// The payload of the header that the bytes begin with, and how many places were corrected.
+// Decodes the header at the front of the bytes. Returns its payload of 19 bits and the number of corrected bits.
 pub(crate) fn open_header(bytes: &[u8]) -> Result<(u32, u8), HeadFault>
     ensures ok { IfOk result (λ p. ReadsHeader bytes.now p.0 p.1) }
     ensures payload { IfOk result (λ p. p.0 < 2 ^ 19) }

@@ -3,8 +3,8 @@ use crate::header::open_header;
 use pon_hec::seal32;
 use std::marker::Model;
 
-/// The head of a downstream bandwidth map, HLend of ITU-T G.987.3: how many allocation structures (N)
-/// and how many messages (P) follow it.
+/// The head of a downstream bandwidth map, HLend of ITU-T G.987.3: the number of allocation structures (N)
+/// and the number of messages (P) that follow it.
 #[derive(Clone, Copy, Debug, PartialEq, Eq)]
 pub struct HLend {
     structures: u16,
@@ -30,7 +30,7 @@ impl HLend {
     ghost use Rattle.pon_xgtc.specs.MapHead.{MapHead, FitsMapHead, ReadsMapHead, map_head_payload};
     ghost use Rattle.pon_xgtc.specs.Header.{IsHeaderFault, header_bytes};
 
-    /// The head of a map with N structures and P messages; `None` exactly when N is above 2,047.
+    /// Returns the head of a map with N structures and P messages; `None` exactly when N is above 2,047.
     pub fn new(n: u16, p: u8) -> Option<Self>
         ensures { SomeIff result (n ≤ 2047) record { n = n; p = p } }
     {
@@ -43,7 +43,7 @@ impl HLend {
         })
     }
 
-    /// N, the number of allocation structures, at most 2,047.
+    /// N, the number of allocation structures, 0 to 2,047.
     pub fn n(&self) -> u16
         ensures value { result ≡ self.now.n }
         ensures range { result ≤ 2047 }
@@ -51,23 +51,23 @@ impl HLend {
         self.structures
     }
 
-    /// P, the number of messages of 48 bytes.
+    /// P, the number of messages of 48 bytes, 0 to 255.
     pub fn p(&self) -> u8
         ensures { result ≡ self.now.p }
     {
         self.messages
     }
 
-    /// The four bytes of the head, N first.
+    /// Returns the four bytes of the head, N first.
     pub fn encode(&self) -> [u8; 4]
         ensures { result ≡ header_bytes (map_head_payload self.now) }
     {
         seal32(self.payload()).to_be_bytes()
     }
 
-    /// The head that the bytes begin with, and how many wrong places were corrected, at most two.
-    /// `Short` exactly when there are fewer than 4 bytes, else `Hec` exactly when the first four are
-    /// more than two places away from every codeword. Later bytes are not looked at.
+    /// Decodes the head at the front of the bytes. Returns it with the number of corrected bits, at most two.
+    /// `Short` exactly when there are fewer than 4 bytes, otherwise `Hec` exactly when the first four differ in
+    /// more than two bits from every codeword. Later bytes are not read.
     pub fn decode(bytes: &[u8]) -> Result<(Self, u8), HeadFault>
         ensures ok { IfOk result (λ r. ReadsMapHead bytes.now r.0 r.1) }
         ensures fault { IfErr result (λ f. IsHeaderFault bytes.now f) }

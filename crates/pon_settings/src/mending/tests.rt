@@ -4,7 +4,7 @@ use std::test::Fail;
 
 const LAWFUL: &str = "fixed = 0\nassured = 0\nmax = 0\nclass = \"none\"";
 
-// What a person reads of a text: its fault is explained.
+// Returns the explanation of the fault of a text, or an empty text if it has no fault.
 fn told(alloc: Global, text: &str) -> Result<String, AllocError> {
     let Some(fault) = settings(alloc, text).err() else {
         return Ok(String::new(alloc));

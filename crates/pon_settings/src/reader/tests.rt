@@ -140,7 +140,7 @@ fn tells_the_port_of_a_fault(rt: HostRuntime) -> Result<(), Fail> {
     Ok(())
 }
 
-// A port with two rows, the second of these values.
+// Returns the text of a port with two rows, the second with these values.
 fn with_row(alloc: Global, ids: &str, rates: &str) -> Result<String, AllocError> {
     let first = "onu = 1\nalloc = 1024\nfixed = 0\nassured = 0\nmax = 0\nclass = \"none\"";
     format!(in alloc;

@@ -1,4 +1,4 @@
-// The book beside a plain, slow computation of every load anew from the whole history, over a script of 700 calls.
+// Compares the book with a plain, slow computation of every load from the whole history, over a script of 700 calls.
 use super::*;
 
 // The Alloc-IDs of three ONUs, in map order. 1026 and 1027 belong to one ONU or another.
@@ -13,7 +13,7 @@ const PLACES: [(u16, u16); 8] = [
     (9, 1029),
 ];
 
-// An Alloc-ID under an ONU, and its since-frame where it is admitted.
+// An Alloc-ID under an ONU, and its since-frame if it is admitted.
 #[derive(Drop)]
 struct Place {
     onu: OnuId,
@@ -29,7 +29,7 @@ struct Taken {
     words: u64,
 }
 
-// A book, the next frame, and all that was ever told to the book.
+// A book, the next frame, and the whole history of the book's calls.
 #[derive(Drop)]
 struct Run {
     loads: Loads,
@@ -46,7 +46,7 @@ fn push<T: Drop>(rt: &impl Abort, items: &mut Vec<T>, item: T) {
     assert!(rt; items.push(item).is_ok());
 }
 
-// The places; no Alloc-ID is admitted yet.
+// Returns the places, with no Alloc-ID admitted.
 fn places(rt: &impl Abort, alloc: Global) -> Vec<Place> {
     let mut places = Vec::new(alloc);
     for (owner, number) in PLACES {
@@ -73,7 +73,7 @@ fn open(rt: &impl Abort, alloc: Global) -> Run {
     }
 }
 
-// The frame and words of the report that counts: of the greatest frame not below a since-frame.
+// Returns the frame and words of the counted report: that of the greatest frame not below the since-frame.
 fn counted_report(run: &Run, alloc_id: AllocId, since: u64) -> Option<(u64, u64)> {
     let mut counted = None;
     for report in &run.taken {
@@ -88,7 +88,7 @@ fn counted_report(run: &Run, alloc_id: AllocId, since: u64) -> Option<(u64, u64)
     counted
 }
 
-// The load by its definition.
+// Computes the load by its definition.
 fn slow_load(run: &Run, alloc_id: AllocId, since: u64) -> u64 {
     let (frame, reported) = match counted_report(run, alloc_id, since) {
         None => return 0,
@@ -103,7 +103,7 @@ fn slow_load(run: &Run, alloc_id: AllocId, since: u64) -> u64 {
     left.saturating_mul(256)
 }
 
-// The grants of an ONU in the map of a frame.
+// Returns the grants of an ONU in the map of a frame.
 fn series(
     rt: &impl Abort,
     alloc: Global,
@@ -120,7 +120,7 @@ fn series(
     own
 }
 
-// The refusal of a report by its definition.
+// Computes the refusal of a report by its definition.
 fn slow_refusal(run: &Run, frame: u64, onu: OnuId, count: usize, polled: usize) -> Option<Refusal> {
     let oldest = run.window.max(run.next.saturating_sub(64));
     if frame < oldest || frame >= run.next {
@@ -142,7 +142,7 @@ fn slow_refusal(run: &Run, frame: u64, onu: OnuId, count: usize, polled: usize) 
     None
 }
 
-// A number below a limit above 0, from a linear congruential generator.
+// Returns a number below `limit`, which is above 0, from a linear congruential generator.
 fn draw(run: &mut Run, limit: u64) -> u64 {
     run.seed = (run.seed % 4_294_967_296) * 1_664_525 + 1_013_904_223;
     ((run.seed % 4_294_967_296) / 65_536)
@@ -183,7 +183,7 @@ fn clear(run: &mut Run) {
     }
 }
 
-// The same number of words to each admitted Alloc-ID.
+// Returns a grant of the same number of words for each admitted Alloc-ID.
 fn grants_of(rt: &impl Abort, alloc: Global, places: &[Place], words: Words) -> Vec<Granted> {
     let mut grants = Vec::new(alloc);
     for place in places {
@@ -204,7 +204,7 @@ fn grants_of(rt: &impl Abort, alloc: Global, places: &[Place], words: Words) -> 
     grants
 }
 
-// A map that grants some words to each admitted Alloc-ID.
+// Makes a map that grants some words to each admitted Alloc-ID.
 fn map_one(rt: &impl Abort, alloc: Global, run: &mut Run) {
     let drawn = u16::try_from(draw(run, 90)).expect(rt, "words");
     let words = Words::new(drawn).expect(rt, "words");
@@ -216,7 +216,7 @@ fn map_one(rt: &impl Abort, alloc: Global, run: &mut Run) {
     run.next = run.next.saturating_add(1);
 }
 
-// An occupancy, garbled once in five times.
+// Returns an occupancy, garbled one time in five.
 fn draw_occupancy(rt: &impl Abort, run: &mut Run) -> Option<BufOcc> {
     let words = u32::try_from(draw(run, 3000)).expect(rt, "words");
     if draw(run, 5) == 0 {
@@ -226,7 +226,7 @@ fn draw_occupancy(rt: &impl Abort, run: &mut Run) -> Option<BufOcc> {
     }
 }
 
-// An occupancy for each polled structure; now and then one too many.
+// Returns an occupancy for each polled structure; sometimes one too many.
 fn draw_occupancies(
     rt: &impl Abort,
     alloc: Global,
@@ -244,14 +244,14 @@ fn draw_occupancies(
     occupancies
 }
 
-// A frame of late, now and then of before the window or to come.
+// Returns a recent frame; sometimes one before the window or in the future.
 fn draw_frame(run: &mut Run) -> u64 {
     let past = if draw(run, 8) == 0 { 70 } else { 6 };
     let back = draw(run, past);
     run.next.saturating_sub(back)
 }
 
-// A report for a map of such a frame.
+// Reports for the map of such a frame.
 fn report_one(rt: &impl Abort, alloc: Global, run: &mut Run) {
     let frame = draw_frame(run);
     let place = draw_place(rt, run);
@@ -294,7 +294,7 @@ fn note_taken(
     }
 }
 
-// Compares each load with the slow one, and returns the number of those above 0.
+// Compares each load with the slow one, and returns the number of loads above 0.
 fn compare(rt: &impl Abort, run: &Run, call: u32) -> u32 {
     let mut above: u32 = 0;
     for place in &run.places {
@@ -307,7 +307,7 @@ fn compare(rt: &impl Abort, run: &Run, call: u32) -> u32 {
     above
 }
 
-// One call of the script.
+// Makes one call of the script.
 fn call_one(rt: &impl Abort, alloc: Global, run: &mut Run) {
     match draw(run, 64) {
         0..=23 => map_one(rt, alloc, run),
@@ -326,6 +326,6 @@ fn loads_are_those_of_the_whole_history(rt: HostRuntime) {
         call_one(&rt, rt.alloc(), &mut run);
         above = above.saturating_add(compare(&rt, &run, call));
     }
-    // The script has something to compare.
+    // The script compares enough loads above 0.
     assert!(rt; above > 700);
 }

@@ -1,4 +1,4 @@
-// Many ports: each line is answered by its own port, and what one port answers does not depend on the lines of another.
+// Many ports: each line is answered by its own port, and the answers of a port do not depend on the lines of another.
 ghost use Rattle.std.specs.Prelude.{◌<◌};
 
 use super::*;
@@ -7,7 +7,7 @@ use pon_event::Event;
 use pon_manage::Step;
 use pon_units::{AllocId, OnuId, PortNo};
 
-// Answers the input at two ports, after these steps.
+// Runs `plan` on the input at two ports, after these steps.
 fn run_two(alloc: Global, steps: Vec<Step>, input: &[u8]) -> Result<Vec<u8>, Fail> {
     let ports = [port(16).ok_or("gap")?, port(16).ok_or("gap")?];
     let mut reader = MemRead::new(input.to_vec(alloc)?, 4096, Vec::new(alloc));
@@ -29,7 +29,7 @@ fn each_line_is_of_its_port(rt: HostRuntime) -> Result<(), Fail> {
     Ok(())
 }
 
-// A failure of port 0 refuses its own maps and forgets its own reports.
+// A failure of port 0 refuses its own maps and drops its own reports.
 #[test]
 fn a_failed_port_leaves_the_other(rt: HostRuntime) -> Result<(), Fail> {
     let alloc = rt.alloc();
@@ -54,7 +54,7 @@ fn admission(port: u8, id: u16) -> Option<Step> {
     })
 }
 
-// The steps of the settings write nothing, count as entries of their ports, and a refused one changes nothing.
+// The steps of the settings write nothing and count as entries of their ports; a refused step changes nothing.
 #[test]
 fn steps_come_before_the_first_line(rt: HostRuntime) -> Result<(), Fail> {
     let alloc = rt.alloc();
@@ -68,7 +68,7 @@ fn steps_come_before_the_first_line(rt: HostRuntime) -> Result<(), Fail> {
     Ok(())
 }
 
-// A number of a fixed sequence, below `below`.
+// Returns the next number of a fixed sequence, below `below`.
 fn next_below(seed: &mut u64, below: u64) -> u64
     requires { 0 < below }
     ensures { result < below }
@@ -79,7 +79,8 @@ fn next_below(seed: &mut u64, below: u64) -> u64
     (*seed >> 33) % below
 }
 
-// A line of a port: an admission, a change, a removal, a failure, its end, a report of an early frame, or a map.
+// Returns a line of a port: an admission, a change, a removal, a failure, a restoration, a report of an early frame, a
+// `show`, or a map.
 fn any_line(alloc: Global, port: u64, seed: &mut u64) -> Result<String, Fail> {
     let onu = next_below(seed, 4);
     let id = 1024 + next_below(seed, 8);
@@ -98,7 +99,7 @@ fn any_line(alloc: Global, port: u64, seed: &mut u64) -> Result<String, Fail> {
     })
 }
 
-// The lines of a text whose place in another text has a line that begins with this byte.
+// Returns the lines of `text` that stand at the places of the lines of `places` that begin with this byte.
 fn lines_at(alloc: Global, text: &[u8], places: &[u8], port: u8) -> Result<Vec<u8>, Fail> {
     let mut found = Vec::new(alloc);
     let mut of_places = places.split(|b| *b == b'\n');
@@ -113,7 +114,7 @@ fn lines_at(alloc: Global, text: &[u8], places: &[u8], port: u8) -> Result<Vec<u
     Ok(found)
 }
 
-// Lines of two ports in a mixed order give each port the replies that its own lines give alone.
+// Lines of two ports in a mixed order give each port the same replies as its own lines alone.
 #[test]
 fn mixed_lines_are_answered_as_alone(rt: HostRuntime) -> Result<(), Fail> {
     let alloc = rt.alloc();

@@ -1,5 +1,5 @@
-// A full port: 256 Alloc-IDs of 16 ONUs in all three classes, whose ONUs report all their buffers after each map. What a
-// map has to hold is computed here from descriptors and reports alone; the checker judges its certificate.
+// A full port: 256 Alloc-IDs of 16 ONUs in all three classes, whose ONUs report all their buffers after each map. The
+// expected map is computed here from descriptors and reports alone; the checker judges its certificate.
 
 use super::*;
 use pon_cert::{Item, Level, MapCert, is_problem};
@@ -9,10 +9,10 @@ use pon_units::BufOcc;
 
 const LINE: u64 = 2_488_320;
 
-// The words of a frame less gap, header and trailer of 16 ONUs and a report of each Alloc-ID, at 256 kbit/s a word.
+// The words of a frame, less gap, header and trailer of 16 ONUs and a report of each Alloc-ID, at 256 kbit/s a word.
 const CAPACITY: u64 = 256 * (9720 - 16 * 18 - 256);
 
-// An Alloc-ID with its descriptor, and the words that were reported and not granted since.
+// An Alloc-ID with its descriptor, and its reported words that are not granted yet.
 #[derive(Clone, Copy)]
 struct Buffer {
     onu: u16,
@@ -95,7 +95,7 @@ fn items(rt: &impl Abort, alloc: Global, buffers: &[Buffer], class: Class) -> Ve
     items
 }
 
-// The certificate is that of both classes, by the checker.
+// Checks with the checker that the certificate is that of both classes.
 fn assert_certified(rt: &impl Abort, alloc: Global, buffers: &[Buffer], cert: &MapCert) {
     let na = items(rt, alloc, buffers, Class::NonAssured);
     let be = items(rt, alloc, buffers, Class::BestEffort);
@@ -116,7 +116,7 @@ fn rate(item: &Item, level: &Level, saturated: bool) -> u64 {
     }
 }
 
-// The payload words of each Alloc-ID.
+// Returns the payload words of each Alloc-ID.
 fn words(rt: &impl Abort, alloc: Global, buffers: &[Buffer], cert: &MapCert) -> Vec<u64> {
     let mut na = cert.na.saturated.as_slice().iter();
     let mut be = cert.be.saturated.as_slice().iter();
@@ -142,7 +142,7 @@ fn words(rt: &impl Abort, alloc: Global, buffers: &[Buffer], cert: &MapCert) -> 
     words
 }
 
-// One structure an Alloc-ID, one burst an ONU: header, grants and trailer, with a gap of 16 words before it.
+// Expects a structure for each Alloc-ID and a burst for each ONU: header, grants and trailer, after a gap of 16 words.
 fn assert_rows(rt: &impl Abort, rows: &[Alloc], buffers: &[Buffer], words: &[u64]) {
     assert_eq!(rt; rows.len(), buffers.len());
     let mut at = 0u64;
@@ -167,7 +167,7 @@ fn assert_rows(rt: &impl Abort, rows: &[Alloc], buffers: &[Buffer], words: &[u64
     assert!(rt; at <= 9720);
 }
 
-// What waits at an Alloc-ID, 0 to 1999 words.
+// Returns the number of words that wait at an Alloc-ID, 0 to 1999.
 fn waiting(alloc_id: u16, frame: u64) -> u64 {
     (u64::from(alloc_id)
         .wrapping_mul(2_654_435_761)
@@ -176,7 +176,7 @@ fn waiting(alloc_id: u16, frame: u64) -> u64 {
         % 2000
 }
 
-// Each ONU reports what waits at its Alloc-IDs, in answer to the map of a frame that granted these words.
+// Reports for each ONU the words that wait at its Alloc-IDs, for the map of a frame that granted these words.
 fn report(rt: &impl Abort, port: &mut Port, frame: u64, buffers: &mut [Buffer], words: &[u64]) {
     let mut occ = Occupancies::new();
     for (buffer, words) in buffers.iter_mut().zip(words.iter()) {
@@ -204,7 +204,7 @@ fn maps_a_full_port_under_load(rt: HostRuntime) {
         let made = made_map(&rt, &mut port);
         assert_eq!(rt; made.frame.get(), frame);
         assert_certified(&rt, rt.alloc(), buffers.as_slice(), &made.cert);
-        // From the first report on, best effort wants more than is left for it.
+        // From the first report on, best effort requests more than is left for it.
         assert_eq!(rt; matches!(made.cert.be.level, Level::At(_)), frame > 0);
         let words = words(&rt, rt.alloc(), buffers.as_slice(), &made.cert);
         assert_rows(&rt, made.map.rows(), buffers.as_slice(), words.as_slice());

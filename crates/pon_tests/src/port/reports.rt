@@ -3,7 +3,7 @@ use pon_dbru::Occupancies;
 use pon_descr::Cause;
 use pon_units::BufOcc;
 
-// An Alloc-ID of ONU 5 with a fixed rate of 10 words a frame, and up to 20 more while it has a load.
+// Admits an Alloc-ID of ONU 5 with a fixed rate of 10 words a frame, and up to 20 more while it has a load.
 fn loaded(rt: &impl Abort) -> Event {
     Event::Admit {
         onu: OnuId::new(5).expect(rt, "an ONU-ID"),
@@ -12,7 +12,7 @@ fn loaded(rt: &impl Abort) -> Event {
     }
 }
 
-// A port with that Alloc-ID.
+// Opens a port with that Alloc-ID.
 fn loaded_port(rt: &impl Abort, alloc: Global) -> Port {
     let mut port = open(rt, alloc, 0);
     take(rt, &mut port, loaded(rt));
@@ -34,7 +34,7 @@ fn report_of_all(rt: &impl Abort, frame: u64, onu: u16, occ: Occupancies) -> Eve
     }
 }
 
-// A report of one occupancy, or of a garbled one.
+// Returns a report of one occupancy, garbled if `None`.
 fn report_of(rt: &impl Abort, frame: u64, onu: u16, words: Option<u32>) -> Event {
     let mut occ = Occupancies::new();
     occ.push(occupancy(rt, words));
@@ -59,7 +59,7 @@ fn report(rt: &impl Abort, port: &mut Port, frame: u64, words: Option<u32>) {
     take(rt, port, report_of(rt, frame, 5, words));
 }
 
-// Makes maps, each of one structure with these payload words.
+// Makes maps, each with one structure and these payload words.
 fn assert_words(rt: &impl Abort, port: &mut Port, wanted: &[u16]) {
     for words in wanted {
         let made = made_map(rt, port);
@@ -130,7 +130,7 @@ fn a_fault_forgets_the_report(rt: HostRuntime) {
     assert_forgotten(&rt, &mut port);
 }
 
-// A change of descriptor keeps the report: 90 words of it are left, and the next map grants 1.
+// A change of descriptor keeps the report: 90 words are left, and the next map grants 1.
 #[test]
 fn a_change_keeps_the_report(rt: HostRuntime) {
     let mut port = loaded_port(&rt, rt.alloc());
@@ -195,13 +195,13 @@ fn a_failed_port_takes_descriptors(rt: HostRuntime) {
     assert_words(&rt, &mut port, &[2]);
 }
 
-// Takes an event or, if memory is refused, the same event again.
+// Takes an event, and again if memory is refused.
 fn again(rt: &impl Abort, port: &mut Port, event: Event, same: Event) {
     let reply = take_again(rt, port, event, same);
     assert!(rt; told_map(reply).is_none());
 }
 
-// One allocation that fails (`rt try --test --fail-alloc N`) changes no result.
+// If one allocation fails (`rt try --test --fail-alloc N`), no result changes.
 #[test]
 fn takes_reports_again_where_memory_was_refused(rt: HostRuntime) {
     let mut port = open(&rt, rt.alloc(), 0);

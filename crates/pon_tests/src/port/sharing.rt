@@ -1,7 +1,7 @@
 use super::*;
 use pon_cert::Level;
 
-// An Alloc-ID of ONU 5 that shares surplus.
+// Admits an Alloc-ID of ONU 5 that shares surplus.
 fn shared(rt: &impl Abort, number: u16, assured: u64, max: u64, class: Class) -> Event {
     Event::Admit {
         onu: OnuId::new(5).expect(rt, "an ONU-ID"),
@@ -14,7 +14,7 @@ fn first_of(ids: &[AllocId]) -> Option<u16> {
     Some(ids.first()?.get())
 }
 
-// The Alloc-IDs of the two classes in the last map, where each has one, and its frame.
+// Returns the frame of the last map, and the first Alloc-ID of each class. `None` if a class has none.
 fn last_ids(port: &Port) -> Option<(u64, u16, u16)> {
     let (made, na, be) = port.last()?;
     Some((made.frame.get(), first_of(na)?, first_of(be)?))

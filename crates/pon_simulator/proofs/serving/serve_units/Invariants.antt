@@ -5,7 +5,7 @@ use Rattle.pon_link.specs.declared.direction.Direction.TheVariants.{Down}
 use Rattle.pon_simulator.specs.Serving.{HasServed}
 use Rattle.pon_simulator.proofs.serving.serve_units.Given as goal
 
--- the maps so far are answered; each turn was one read, and no call failed
+-- the maps so far are answered; each round made one read, and no call failed
 abbrev pub invariant-loop-turn : goal.invariant-loop-turn
 invariant-loop-turn g l = record {
   is_open : IsOpen l.down;

@@ -5,7 +5,7 @@ use Rattle.pon_worker.specs.Turns.{PostsAt}
 use Rattle.pon_worker.proofs.Bursts.{ReadSoFar}
 use Rattle.pon_worker.proofs.reading.read_bursts.Given as goal
 
--- the bursts so far are read and counted, and no byte of a next one
+-- the bursts so far are read and counted, and no byte of the next one is read
 abbrev pub invariant-loop-burst : goal.invariant-loop-burst
 invariant-loop-burst g l = record {
   empty_again : l.up ≡ empty Up;

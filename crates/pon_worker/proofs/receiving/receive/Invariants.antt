@@ -3,7 +3,7 @@ use Rattle.pon_device.specs.Device.{Consumes}
 use Rattle.pon_link.specs.declared.direction.Direction.TheVariants.{Up}
 use Rattle.pon_worker.proofs.receiving.receive.Given as goal
 
--- what was read so far is held
+-- the bytes read so far are held
 abbrev pub invariant-loop : goal.invariant-loop
 invariant-loop g l = record {
   up : l.up.direction ≡ Up;

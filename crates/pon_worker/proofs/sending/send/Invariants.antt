@@ -3,7 +3,7 @@ use Rattle.pon_link.proofs.Left.{Sends}
 use Rattle.pon_worker.specs.Turns.{map_record}
 use Rattle.pon_worker.proofs.sending.send.Given as goal
 
--- what went out so far, and then what is left; each push so far failed
+-- the bytes written so far, followed by those that are left; each attempt so far failed
 abbrev pub invariant-loop-try : goal.invariant-loop-try
 invariant-loop-try g l = record {
   sent : Sends (g.W.DevWrite.contents l.initial.writer) (g.W.DevWrite.contents l.writer) (map_record l.made) l.down;

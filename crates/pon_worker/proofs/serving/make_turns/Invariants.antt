@@ -4,7 +4,7 @@ use Rattle.pon_link.specs.declared.direction.Direction.TheVariants.{Up}
 use Rattle.pon_worker.specs.Turns.{PostsAt, Turned, no_counts}
 use Rattle.pon_worker.proofs.serving.make_turns.Given as goal
 
--- whole turns so far
+-- all turns so far are whole
 abbrev pub invariant-loop : goal.invariant-loop
 invariant-loop g l = record {
   empty_again : l.up ≡ empty Up;

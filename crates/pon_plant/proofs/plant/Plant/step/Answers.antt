@@ -5,14 +5,14 @@ use Rattle.pon_plant.specs.Plants.{IsPlant}
 use Rattle.pon_plant.proofs.Stepping.{asked, at_port, chapter_at, left, stays_lawful, stays_plant, told_by}
 use Rattle.pon_plant.proofs.plant.Plant.step.Goals as goal
 
--- the port was lawful, and is
+-- the plant has a lawful chapter at each port, before and after
 still_lawful : (c : goal.After-map_err) → IsPlant (set c.self.inside.ports.items c.from.result c.take.new.self)
 still_lawful c =
     let was : IsLawfulChapter c.in-Some.port.now = chapter_at c.self.inside.ports.items c.from.result c.in-Some.port.now c.self.invariant (search rules) c.in-Some.ensures.value in
     stays_plant c.self.inside.ports.items c.from.result c.take.new.self c.self.invariant
     (stays_lawful c.in-Some.port.now c.take.new.self c.args.step.event c.take.result was c.take.ensures.ok c.take.ensures.err)
 
--- it is the port of the step
+-- the port is the one of the step
 found : (c : goal.After-map_err) → slice_get c.args.self.now c.args.step.port ≡ Some c.in-Some.port.now
 found c =
     subst (λ (plant : List Chapter). slice_get plant c.args.step.port ≡ Some c.in-Some.port.now) c.self.view_is

@@ -2,7 +2,7 @@ use Rattle.std.proofs.Common.{◌≡◌, length}
 use Rattle.pon_link.proofs.Left.{Sends}
 use Rattle.pon_recorder.proofs.pending.Pending.push.Given as goal
 
--- what went out so far, and then what is left
+-- the bytes written so far, followed by those that are left
 abbrev pub invariant-loop-writer : goal.invariant-loop-writer
 invariant-loop-writer g l = record {
   sent : Sends (g.W.DevWrite.contents l.initial.writer) (g.W.DevWrite.contents l.writer) l.initial.self l.self;
