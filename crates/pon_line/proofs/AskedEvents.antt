@@ -5,10 +5,8 @@ use Rattle.std.specs.Str.{bytes_eq}
 use Rattle.std.specs.List.{list_all}
 use Rattle.pon_event.specs.declared.event.Event.{Event}
 use Rattle.pon_text.specs.Lines.{words_of, without_return}
-use Rattle.pon_line.specs.Commands.{no_arguments, event_of, to_take, command_of}
-use Rattle.pon_line.specs.Reading.{read_line, read_words, reading, port_of, is_comment, is_text}
-use Rattle.pon_line.specs.declared.command.Command.{Command}
-use Rattle.pon_line.specs.declared.command.Command.TheVariants.{Take, ShowCert, ShowState}
+use Rattle.pon_line.specs.Commands.{no_arguments, event_of}
+use Rattle.pon_line.specs.Reading.{read_line, read_words, request_of, by_port, shows, takes, port_of, is_comment, is_text}
 use Rattle.pon_line.specs.declared.fault.LineFault.{LineFault}
 use Rattle.pon_line.specs.declared.fault.LineFault.TheVariants.{LineLong, NotText}
 use Rattle.pon_line.specs.declared.reading.Reading.{Reading}
@@ -23,9 +21,9 @@ pub chosen : {A : Type 0} (P : A → Type 0) (b : Bool) (r s : Result A LineFaul
 chosen P true r s p q = p
 chosen P false r s p q = q
 
-pub alone : {A : Type 0} (P : A → Type 0) (asked : A) (ws : List (List ℕ)) → P asked → Reads P (no_arguments asked ws)
-alone P asked [] p = p
-alone P asked (w ∷ ws) p = tt
+pub alone : (P : Event → Type 0) (event : Event) (ws : List (List ℕ)) → P event → Reads P (no_arguments event ws)
+alone P event [] p = p
+alone P event (w ∷ ws) p = tt
 
 -- P holds of an event that is asked for
 abbrev pub AsksFor : (Event → Type 0) → Reading → Type 0
@@ -35,38 +33,34 @@ AsksFor P (Asks port event) = P event
 AsksFor P (AsksCert port) = Unit {0}
 AsksFor P (AsksState port) = Unit {0}
 
-abbrev TakesOne : (Event → Type 0) → Command → Type 0
-TakesOne P (Take event) = P event
-TakesOne P ShowCert = Unit {0}
-TakesOne P ShowState = Unit {0}
+asks_taken : (P : Event → Type 0) (port : ℕ) (r : Result Event LineFault) → Reads P r → AsksFor P (takes port r)
+asks_taken P port (Ok event) h = h
+asks_taken P port (Err fault) h = tt
+
+asks_shown : (P : Event → Type 0) (asked : Reading) (ws : List (List ℕ)) → AsksFor P asked → AsksFor P (shows asked ws)
+asks_shown P asked [] h = h
+asks_shown P asked (w ∷ ws) h = tt
 
 module _ (P : Event → Type 0) (events : (ws : List (List ℕ)) → Reads P (event_of ws)) where
-  taken : (r : Result Event LineFault) → Reads P r → Reads (TakesOne P) (to_take r)
-  taken (Ok event) h = h
-  taken (Err fault) h = tt
-
-  commands : (ws : List (List ℕ)) → Reads (TakesOne P) (command_of ws)
-  unfolding command_of
-  commands [] = tt
-  commands (name ∷ ws) =
-      chosen (TakesOne P) (bytes_eq name (codes "cert")) _ _ (alone (TakesOne P) ShowCert ws tt) (
-      chosen (TakesOne P) (bytes_eq name (codes "show")) _ _ (alone (TakesOne P) ShowState ws tt) (
-      taken (event_of (name ∷ ws)) (events (name ∷ ws))))
-
-  reading_asks : (r : Result ℕ LineFault) (asked : Result Command LineFault) → Reads (TakesOne P) asked → AsksFor P (reading r asked)
-  reading_asks (Err fault) asked h = tt
-  reading_asks (Ok port) (Err fault) h = tt
-  reading_asks (Ok port) (Ok (Take event)) h = h
-  reading_asks (Ok port) (Ok ShowCert) h = tt
-  reading_asks (Ok port) (Ok ShowState) h = tt
-
-  words_ask : (ports : ℕ) (ws : List (List ℕ)) → AsksFor P (read_words ports ws)
-  words_ask ports [] = tt
-  words_ask ports (w ∷ ws) = reading_asks (port_of ports w) (command_of ws) (commands ws)
-
   either : (b : Bool) (r s : Reading) → AsksFor P r → AsksFor P s → AsksFor P (if b then r else s)
   either true r s p q = p
   either false r s p q = q
+
+  request_asks : (port : ℕ) (ws : List (List ℕ)) → AsksFor P (request_of port ws)
+  unfolding request_of
+  request_asks port [] = tt
+  request_asks port (name ∷ ws) =
+      either (bytes_eq name (codes "cert")) _ _ (asks_shown P (AsksCert port) ws tt) (
+      either (bytes_eq name (codes "show")) _ _ (asks_shown P (AsksState port) ws tt) (
+      asks_taken P port (event_of (name ∷ ws)) (events (name ∷ ws))))
+
+  port_asks : (r : Result ℕ LineFault) (ws : List (List ℕ)) → AsksFor P (by_port r ws)
+  port_asks (Err fault) ws = tt
+  port_asks (Ok port) ws = request_asks port ws
+
+  words_ask : (ports : ℕ) (ws : List (List ℕ)) → AsksFor P (read_words ports ws)
+  words_ask ports [] = tt
+  words_ask ports (w ∷ ws) = port_asks (port_of ports w) ws
 
   pub read_line-asks : (ports : ℕ) (line : List ℕ) → AsksFor P (read_line ports line)
   unfolding read_line

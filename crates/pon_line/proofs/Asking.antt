@@ -1,18 +1,19 @@
 -- A line asks only ports that are there.
-use Rattle.std.proofs.Common.{◌≡◌, ℕ, ◌<◌, true, false, List, [], ◌∷◌, length, refl}
-use Rattle.std.specs.Prelude.{nat_lt, not, if◌then◌else◌, Result, Ok, Err}
+use Rattle.std.proofs.Common.{◌≡◌, ℕ, ◌<◌, Bool, true, false, List, [], ◌∷◌, length, refl}
+use Rattle.std.specs.Prelude.{nat_lt, not, codes, if◌then◌else◌, Result, Ok, Err}
 use Rattle.std.specs.List.{list_all}
+use Rattle.std.specs.Str.{bytes_eq}
+use Rattle.pon_event.specs.declared.event.Event.{Event}
 use Rattle.std.proofs.lemmas.Bool.{ltb-true}
-use Rattle.pon_line.specs.declared.command.Command.{Command}
-use Rattle.pon_line.specs.declared.command.Command.TheVariants.{Take, ShowCert, ShowState}
 use Rattle.pon_text.specs.Lines.{words_of, without_return}
 use Rattle.pon_lists.specs.ResultSteps.{◌>>=◌}
 use Rattle.pon_line.specs.Fields.{number_field}
-use Rattle.pon_line.specs.Commands.{command_of}
-use Rattle.pon_line.specs.Reading.{AsksWithin, read_line, read_words, reading, port_of, is_comment, is_text}
+use Rattle.pon_line.specs.Commands.{event_of}
+use Rattle.pon_line.specs.Reading.{AsksWithin, read_line, read_words, request_of, by_port, shows, takes, port_of, is_comment, is_text}
 use Rattle.pon_line.specs.declared.fault.LineFault.{LineFault}
 use Rattle.pon_line.specs.declared.fault.LineFault.TheVariants.{LineLong, NotText, NoSuchPort}
-use Rattle.pon_line.specs.declared.reading.Reading.TheVariants.{Nothing, Refused}
+use Rattle.pon_line.specs.declared.reading.Reading.{Reading}
+use Rattle.pon_line.specs.declared.reading.Reading.TheVariants.{Nothing, Refused, AsksCert, AsksState}
 
 -- a port that a word names is there
 IsThere : ℕ → Result ℕ LineFault → Type 0
@@ -30,29 +31,39 @@ port_there ports w = by_number (number_field w)
       | false ↦ λ t. tt
     ]) refl
 
-reading_within : (ports : ℕ) (r : Result ℕ LineFault) (asked : Result Command LineFault) → IsThere ports r → AsksWithin ports (reading r asked)
+takes_within : (ports port : ℕ) (r : Result Event LineFault) → port < ports → AsksWithin ports (takes port r)
+takes_within ports port (Ok event) h = h
+takes_within ports port (Err fault) h = tt
+
+shows_within : (ports : ℕ) (asked : Reading) (ws : List (List ℕ)) → AsksWithin ports asked → AsksWithin ports (shows asked ws)
+shows_within ports asked [] h = h
+shows_within ports asked (w ∷ ws) h = tt
+
+either : (ports : ℕ) (b : Bool) (r s : Reading) → AsksWithin ports r → AsksWithin ports s → AsksWithin ports (if b then r else s)
+either ports true r s p q = p
+either ports false r s p q = q
+
+request_within : (ports port : ℕ) (ws : List (List ℕ)) → port < ports → AsksWithin ports (request_of port ws)
+unfolding request_of
+request_within ports port [] h = tt
+request_within ports port (name ∷ ws) h =
+    either ports (bytes_eq name (codes "cert")) _ _ (shows_within ports (AsksCert port) ws h) (
+    either ports (bytes_eq name (codes "show")) _ _ (shows_within ports (AsksState port) ws h) (
+    takes_within ports port (event_of (name ∷ ws)) h))
+
+port_within : (ports : ℕ) (r : Result ℕ LineFault) (ws : List (List ℕ)) → IsThere ports r → AsksWithin ports (by_port r ws)
 unfolding IsThere
-reading_within ports (Err fault) asked h = tt
-reading_within ports (Ok port) (Err fault) h = tt
-reading_within ports (Ok port) (Ok (Take event)) h = h
-reading_within ports (Ok port) (Ok ShowCert) h = h
-reading_within ports (Ok port) (Ok ShowState) h = h
+port_within ports (Err fault) ws h = tt
+port_within ports (Ok port) ws h = request_within ports port ws h
 
 words_within : (ports : ℕ) (ws : List (List ℕ)) → AsksWithin ports (read_words ports ws)
 words_within ports [] = tt
-words_within ports (w ∷ ws) = reading_within ports (port_of ports w) (command_of ws) (port_there ports w)
+words_within ports (w ∷ ws) = port_within ports (port_of ports w) ws (port_there ports w)
 
 pub read_line-within : (ports : ℕ) (line : List ℕ) → AsksWithin ports (read_line ports line)
 unfolding read_line
 read_line-within ports line =
-    let ws : List (List ℕ) = words_of (without_return line) in
-    elim (nat_lt 4096 (length line)) as (λ b. AsksWithin ports (if b then Refused LineLong else (if is_comment ws then Nothing else (if not (list_all is_text (without_return line)) then Refused NotText else read_words ports ws)))) [
-      | true ↦ tt
-      | false ↦ elim (is_comment ws) as (λ b. AsksWithin ports (if b then Nothing else (if not (list_all is_text (without_return line)) then Refused NotText else read_words ports ws))) [
-        | true ↦ tt
-        | false ↦ elim (not (list_all is_text (without_return line))) as (λ b. AsksWithin ports (if b then Refused NotText else read_words ports ws)) [
-          | true ↦ tt
-          | false ↦ words_within ports ws
-        ]
-      ]
-    ]
+    either ports (nat_lt 4096 (length line)) (Refused LineLong) _ tt (
+    either ports (is_comment (words_of (without_return line))) Nothing _ tt (
+    either ports (not (list_all is_text (without_return line))) (Refused NotText) (read_words ports (words_of (without_return line))) tt
+    (words_within ports (words_of (without_return line)))))

@@ -10,8 +10,6 @@ use Rattle.pon_event.specs.declared.event.Event.{Event}
 use Rattle.pon_event.specs.declared.event.Event.TheVariants.{Admit, Change, Fail, MakeMap, Remove, Report, Restore}
 use Rattle.pon_lists.specs.ResultSteps.{◌>>=◌}
 use Rattle.pon_line.specs.Fields.{number_field, descriptor_words, rate_fields}
-use Rattle.pon_line.specs.declared.command.Command.{Command}
-use Rattle.pon_line.specs.declared.command.Command.TheVariants.{Take, ShowCert, ShowState}
 use Rattle.pon_line.specs.declared.fault.LineFault.{LineFault}
 use Rattle.pon_line.specs.declared.fault.LineFault.TheVariants.{BadField, UnknownCommand, WordCount, Port}
 
@@ -92,30 +90,19 @@ fail_of (cause ∷ []) = do
   if nat_lt n 1 || nat_lt 9 n then Err BadField else Ok (Fail n)
 fail_of _ = Err WordCount
 
--- no word follows `map`, `restore`, `cert` and `show`
-abbrev pub no_arguments : {A : Type 0} → A → List (List ℕ) → Result A LineFault
-no_arguments asked [] = Ok asked
-no_arguments asked (w ∷ ws) = Err WordCount
+-- no word follows `map` and `restore`
+abbrev pub no_arguments : Event → List (List ℕ) → Result Event LineFault
+no_arguments event [] = Ok event
+no_arguments event (w ∷ ws) = Err WordCount
 
--- the words after the port, where they ask for an event: a command and its fields
+-- the event that the words after the port request: a command and its fields
 unfoldable pub event_of : List (List ℕ) → Result Event LineFault
 event_of [] = Err WordCount
 event_of (name ∷ ws) =
-    if bytes_eq name (codes "admit") then admit_of ws else
+    if bytes_eq name (codes "map") then no_arguments MakeMap ws else
+    (if bytes_eq name (codes "report") then report_of ws else
+    (if bytes_eq name (codes "admit") then admit_of ws else
     (if bytes_eq name (codes "change") then change_of ws else
     (if bytes_eq name (codes "remove") then remove_of ws else
-    (if bytes_eq name (codes "report") then report_of ws else
-    (if bytes_eq name (codes "map") then no_arguments MakeMap ws else
     (if bytes_eq name (codes "fail") then fail_of ws else
     (if bytes_eq name (codes "restore") then no_arguments Restore ws else Err UnknownCommand))))))
-
-abbrev pub to_take : Result Event LineFault → Result Command LineFault
-to_take (Ok event) = Ok (Take event)
-to_take (Err fault) = Err fault
-
--- the words after the port: the last certificate or the state is asked for, or an event is to be taken
-unfoldable pub command_of : List (List ℕ) → Result Command LineFault
-command_of [] = Err WordCount
-command_of (name ∷ ws) =
-    if bytes_eq name (codes "cert") then no_arguments ShowCert ws else
-    (if bytes_eq name (codes "show") then no_arguments ShowState ws else to_take (event_of (name ∷ ws)))

@@ -1,14 +1,14 @@
 -- What a management line asks.
-use Rattle.std.specs.Prelude.{ℕ, ◌<◌, ◌==◌, ◌||◌, ◌&&◌, not, nat_le, nat_lt, Bool, true, false, if◌then◌else◌, List, [], ◌∷◌, length, Result, Ok, Err}
+use Rattle.std.specs.Prelude.{ℕ, ◌<◌, ◌==◌, ◌||◌, ◌&&◌, not, nat_le, nat_lt, Bool, true, false, if◌then◌else◌, List, [], ◌∷◌, length, codes, Result, Ok, Err}
 use Rattle.std.specs.List.{list_all}
+use Rattle.std.specs.Str.{bytes_eq}
 use Rattle.pon_text.specs.Lines.{words_of, without_return}
 use Rattle.pon_lists.specs.ResultSteps.{◌>>=◌}
 use Rattle.pon_line.specs.Fields.{number_field}
-use Rattle.pon_line.specs.Commands.{command_of}
-use Rattle.pon_line.specs.declared.command.Command.{Command}
-use Rattle.pon_line.specs.declared.command.Command.TheVariants.{Take, ShowCert, ShowState}
+use Rattle.pon_event.specs.declared.event.Event.{Event}
+use Rattle.pon_line.specs.Commands.{event_of}
 use Rattle.pon_line.specs.declared.fault.LineFault.{LineFault}
-use Rattle.pon_line.specs.declared.fault.LineFault.TheVariants.{NoSuchPort, LineLong, NotText}
+use Rattle.pon_line.specs.declared.fault.LineFault.TheVariants.{NoSuchPort, LineLong, NotText, WordCount}
 use Rattle.pon_line.specs.declared.reading.Reading.{Reading}
 use Rattle.pon_line.specs.declared.reading.Reading.TheVariants.{Nothing, Refused, Asks, AsksCert, AsksState}
 
@@ -16,18 +16,32 @@ use Rattle.pon_line.specs.declared.reading.Reading.TheVariants.{Nothing, Refused
 unfoldable pub port_of : ℕ → List ℕ → Result ℕ LineFault
 port_of ports w = number_field w >>= λ n. if nat_lt n ports then Ok n else Err NoSuchPort
 
--- the port is read before the command
-abbrev pub reading : Result ℕ LineFault → Result Command LineFault → Reading
-reading (Err fault) asked = Refused fault
-reading (Ok port) (Err fault) = Refused fault
-reading (Ok port) (Ok (Take event)) = Asks port event
-reading (Ok port) (Ok ShowCert) = AsksCert port
-reading (Ok port) (Ok ShowState) = AsksState port
+-- a port is requested to take an event
+abbrev pub takes : ℕ → Result Event LineFault → Reading
+takes port (Ok event) = Asks port event
+takes port (Err fault) = Refused fault
 
--- no words ask nothing; else the first is the port, and the others are its command
+-- no word follows `cert` and `show`
+abbrev pub shows : Reading → List (List ℕ) → Reading
+shows asked [] = asked
+shows asked (w ∷ ws) = Refused WordCount
+
+-- what the words after a port request of it: its last certificate, its state, or that it takes an event
+unfoldable pub request_of : ℕ → List (List ℕ) → Reading
+request_of port [] = Refused WordCount
+request_of port (name ∷ ws) =
+    if bytes_eq name (codes "cert") then shows (AsksCert port) ws else
+    (if bytes_eq name (codes "show") then shows (AsksState port) ws else takes port (event_of (name ∷ ws)))
+
+-- the port is read before the command
+abbrev pub by_port : Result ℕ LineFault → List (List ℕ) → Reading
+by_port (Err fault) ws = Refused fault
+by_port (Ok port) ws = request_of port ws
+
+-- a line without words requests nothing; otherwise its first word is the port, and the others are the request
 abbrev pub read_words : ℕ → List (List ℕ) → Reading
 read_words ports [] = Nothing
-read_words ports (w ∷ ws) = reading (port_of ports w) (command_of ws)
+read_words ports (w ∷ ws) = by_port (port_of ports w) ws
 
 -- a tab, or a printable character of ASCII
 abbrev pub is_text : ℕ → Bool

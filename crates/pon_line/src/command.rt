@@ -1,8 +1,10 @@
 //! The commands of management lines: what the words after the port ask.
 
-ghost use Rattle.std.specs.Prelude.{◌≡◌};
+ghost use Rattle.std.specs.Prelude.{◌≡◌, [], ◌∷◌, Ok, Err, MatchResult, codes, false};
+ghost use Rattle.std.specs.Str.{bytes_eq};
 ghost use Rattle.pon_text.specs.Lines.{words_of};
-ghost use Rattle.pon_line.specs.Commands.{admit, admit_of, no_arguments, change, change_of, command_of, event_of, fail_of, remove, remove_of, report, report_of};
+ghost use Rattle.pon_line.specs.Commands.{admit, admit_of, no_arguments, change, change_of, event_of, fail_of, remove, remove_of, report_of};
+ghost use Rattle.pon_line.specs.Reading.{request_of, shows, takes};
 
 use crate::fault::LineFault;
 use crate::fields::{
@@ -10,22 +12,12 @@ use crate::fields::{
     onu_id_of, rate_fields,
 };
 use crate::occupancies::occupancy_fields;
+use crate::reading::Reading;
 use pon_dbru::Occupancies;
 use pon_descr::Refusal;
 use pon_event::Event;
-use pon_text::{count_words, first_word};
-use pon_units::{FrameNo, LONGEST_SERIES};
-
-/// What the words after the port ask.
-#[derive(Drop)]
-pub(crate) enum Command {
-    /// The port is to take the event.
-    Take(Event),
-    /// The certificate of the last map.
-    ShowCert,
-    /// The state of the port.
-    ShowState,
-}
+use pon_text::{Word, count_words, first_word};
+use pon_units::{FrameNo, LONGEST_SERIES, OnuId};
 
 // The event of an `admit`, by the checks of its numbers in order.
 #[tactic(auto, unfolding(crate::specs::Commands::admit))]
@@ -127,22 +119,19 @@ fn remove_of(text: &[u8]) -> Result<Event, LineFault>
     remove(alloc)
 }
 
-// The event of a `report`.
-#[tactic(auto, unfolding(crate::specs::Commands::report))]
-fn report(frame: u64, onu: u64, occ: Occupancies) -> Result<Event, LineFault>
-    ensures { result ≡ report frame onu occ }
-{
-    let frame = FrameNo::new(frame);
-    match onu_id_of(onu) {
-        Some(onu) => Ok(Event::Report { frame, onu, occ }),
-        None => Err(LineFault::Port(Refusal::OnuRange)),
-    }
+// The frame and the ONU that report.
+struct Reporter {
+    frame: FrameNo,
+    onu: OnuId,
 }
 
-// What the words after `report` ask.
-#[tactic(auto, unfolding(crate::specs::Commands::report_of))]
-fn report_of(text: &[u8]) -> Result<Event, LineFault>
-    ensures { result ≡ report_of (words_of text.now) }
+// Reads the words after `report`: the occupancies into the list, which has none yet, and who reports them.
+#[tactic(auto, unfolding(crate::specs::Commands::report_of, crate::specs::Commands::report))]
+fn read_report(text: &[u8], occ: &mut Occupancies) -> Result<Reporter, LineFault>
+    requires { occ.old ≡ [] }
+    ensures { MatchResult result
+        (λ by. report_of (words_of text.now) ≡ Ok (Event.Report by.frame by.onu occ.new))
+        (λ fault. report_of (words_of text.now) ≡ Err fault) }
 {
     let frame = next_word(text)?;
     let onu = next_word(frame.rest)?;
@@ -151,9 +140,29 @@ fn report_of(text: &[u8]) -> Result<Event, LineFault>
         return Err(LineFault::WordCount);
     }
     let frame = number_field(frame.word)?;
-    let asked = number_field(onu.word)?;
-    let occ = occupancy_fields(onu.rest)?;
-    report(frame, asked, occ)
+    let number = number_field(onu.word)?;
+    occupancy_fields(onu.rest, occ)?;
+    match onu_id_of(number) {
+        Some(onu) => Ok(Reporter {
+            frame: FrameNo::new(frame),
+            onu,
+        }),
+        None => Err(LineFault::Port(Refusal::OnuRange)),
+    }
+}
+
+// Returns the request of the words after `report`.
+fn report_request(port: usize, text: &[u8]) -> Reading
+    ensures { result ≡ takes port (report_of (words_of text.now)) }
+{
+    let mut occ = Occupancies::new();
+    match read_report(text, &mut occ) {
+        Ok(Reporter { frame, onu }) => Reading::Asks {
+            port,
+            event: Event::Report { frame, onu, occ },
+        },
+        Err(fault) => Reading::Refused(fault),
+    }
 }
 
 // What the words after `fail` ask.
@@ -171,32 +180,42 @@ fn fail_of(text: &[u8]) -> Result<Event, LineFault>
     }
 }
 
-// What a command asks that no word follows.
-fn no_arguments<A: Drop>(text: &[u8], asked: A) -> Result<A, LineFault>
-    ensures { result ≡ no_arguments asked (words_of text.now) }
+// Returns the event, unless a word follows.
+fn no_arguments(text: &[u8], event: Event) -> Result<Event, LineFault>
+    ensures { result ≡ no_arguments event (words_of text.now) }
 {
     match first_word(text) {
-        None => Ok(asked),
+        None => Ok(event),
         Some(_) => Err(LineFault::WordCount),
     }
 }
 
-// The event that the words after the port ask for.
-#[tactic(auto, unfolding(crate::specs::Commands::event_of))]
-fn event_of(text: &[u8]) -> Result<Event, LineFault>
-    ensures { result ≡ event_of (words_of text.now) }
+// Returns the request of the words after `map`.
+fn map_request(port: usize, text: &[u8]) -> Reading
+    ensures { result ≡ takes port (no_arguments Event.MakeMap (words_of text.now)) }
 {
-    let name = next_word(text)?;
+    match first_word(text) {
+        None => Reading::Asks {
+            port,
+            event: Event::MakeMap,
+        },
+        Some(_) => Reading::Refused(LineFault::WordCount),
+    }
+}
+
+// Returns the event that a command other than `map` and `report` requests.
+#[tactic(auto, unfolding(crate::specs::Commands::event_of))]
+fn event_of(name: &Word<'_>) -> Result<Event, LineFault>
+    requires map { bytes_eq name.now.word.now (codes "map") ≡ false }
+    requires report { bytes_eq name.now.word.now (codes "report") ≡ false }
+    ensures { result ≡ event_of (name.now.word.now ∷ words_of name.now.rest.now) }
+{
     if name.word == b"admit".as_slice() {
         admit_of(name.rest)
     } else if name.word == b"change".as_slice() {
         change_of(name.rest)
     } else if name.word == b"remove".as_slice() {
         remove_of(name.rest)
-    } else if name.word == b"report".as_slice() {
-        report_of(name.rest)
-    } else if name.word == b"map".as_slice() {
-        no_arguments(name.rest, Event::MakeMap)
     } else if name.word == b"fail".as_slice() {
         fail_of(name.rest)
     } else if name.word == b"restore".as_slice() {
@@ -206,17 +225,53 @@ fn event_of(text: &[u8]) -> Result<Event, LineFault>
     }
 }
 
-/// What the words after the port ask.
-#[tactic(auto, unfolding(crate::specs::Commands::command_of))]
-pub(crate) fn command_of(text: &[u8]) -> Result<Command, LineFault>
-    ensures { result ≡ command_of (words_of text.now) }
+// Returns the request that a port takes an event.
+fn takes(port: usize, event: Result<Event, LineFault>) -> Reading
+    ensures { result ≡ takes port event }
 {
-    let name = next_word(text)?;
-    if name.word == b"cert".as_slice() {
-        no_arguments(name.rest, Command::ShowCert)
-    } else if name.word == b"show".as_slice() {
-        no_arguments(name.rest, Command::ShowState)
+    match event {
+        Ok(event) => Reading::Asks { port, event },
+        Err(fault) => Reading::Refused(fault),
+    }
+}
+
+// Returns the request that a port takes an event. An event is built in its place in the request: it is large.
+#[tactic(auto, unfolding(crate::specs::Commands::event_of))]
+fn event_request(port: usize, name: &Word<'_>) -> Reading
+    ensures { result ≡ takes port (event_of (name.now.word.now ∷ words_of name.now.rest.now)) }
+{
+    if name.word == b"map".as_slice() {
+        map_request(port, name.rest)
+    } else if name.word == b"report".as_slice() {
+        report_request(port, name.rest)
     } else {
-        Ok(Command::Take(event_of(text)?))
+        takes(port, event_of(name))
+    }
+}
+
+// Returns the request, unless a word follows.
+fn shows(text: &[u8], asked: Reading) -> Reading
+    ensures { result ≡ shows asked (words_of text.now) }
+{
+    match first_word(text) {
+        None => asked,
+        Some(_) => Reading::Refused(LineFault::WordCount),
+    }
+}
+
+/// Returns what the words after the port request of it.
+#[tactic(auto, unfolding(crate::specs::Reading::request_of))]
+pub(crate) fn request_of(port: usize, text: &[u8]) -> Reading
+    ensures { result ≡ request_of port (words_of text.now) }
+{
+    let Some(name) = first_word(text) else {
+        return Reading::Refused(LineFault::WordCount);
+    };
+    if name.word == b"cert".as_slice() {
+        shows(name.rest, Reading::AsksCert { port })
+    } else if name.word == b"show".as_slice() {
+        shows(name.rest, Reading::AsksState { port })
+    } else {
+        event_request(port, &name)
     }
 }

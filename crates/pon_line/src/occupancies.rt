@@ -1,6 +1,6 @@
 //! The occupancies of a `report`.
 
-ghost use Rattle.std.specs.Prelude.{◌≡◌, ◌≤◌, ◌<◌, length, Ok, Err, MatchResult};
+ghost use Rattle.std.specs.Prelude.{◌≡◌, ◌≤◌, ◌<◌, [], length, Ok, Err, MatchResult};
 ghost use Rattle.std.specs.Option.{SomeIff};
 ghost use Rattle.pon_text.specs.Lines.{words_of};
 ghost use Rattle.pon_line.specs.Commands.{occupancy_field, occupancy_fields};
@@ -32,14 +32,15 @@ fn occupancy_field(word: &[u8]) -> Result<Option<BufOcc>, LineFault>
     }
 }
 
-/// The occupancies that the words of a text write, at most 16.
-pub(crate) fn occupancy_fields(text: &[u8]) -> Result<Occupancies, LineFault>
-    requires { length (words_of text.now) ≤ LONGEST_SERIES }
+/// Reads the occupancies that the words of a text write, at most 16, into the list, which has none yet. After an `Err` the
+/// list has those before the first word that writes none.
+pub(crate) fn occupancy_fields(text: &[u8], occupancies: &mut Occupancies) -> Result<(), LineFault>
+    requires empty { occupancies.old ≡ [] }
+    requires few { length (words_of text.now) ≤ LONGEST_SERIES }
     ensures { MatchResult result
-        (λ occ. occupancy_fields (words_of text.now) ≡ Ok occ)
+        (λ done. occupancy_fields (words_of text.now) ≡ Ok occupancies.new)
         (λ fault. occupancy_fields (words_of text.now) ≡ Err fault) }
 {
-    let mut occupancies = Occupancies::new();
     let mut rest = text;
     while let Some(word) = first_word(rest) {
         match occupancy_field(word.word) {
@@ -48,5 +49,5 @@ pub(crate) fn occupancy_fields(text: &[u8]) -> Result<Occupancies, LineFault>
         }
         rest = word.rest;
     }
-    Ok(occupancies)
+    Ok(())
 }

@@ -4,7 +4,7 @@ ghost use Rattle.std.specs.Prelude.{◌≡◌, ℕ, List, take};
 ghost use Rattle.std.specs.List.{list_all};
 ghost use Rattle.pon_line.specs.Reading.{read_line, port_of, is_text};
 
-use crate::command::{Command, command_of};
+use crate::command::request_of;
 use crate::fault::LineFault;
 use crate::fields::number_field;
 use pon_event::Event;
@@ -83,12 +83,7 @@ pub fn read_line(ports: usize, line: &[u8]) -> Reading
     }
     match port_of(ports, first.word) {
         Err(fault) => Reading::Refused(fault),
-        Ok(port) => match command_of(first.rest) {
-            Err(fault) => Reading::Refused(fault),
-            Ok(Command::Take(event)) => Reading::Asks { port, event },
-            Ok(Command::ShowCert) => Reading::AsksCert { port },
-            Ok(Command::ShowState) => Reading::AsksState { port },
-        },
+        Ok(port) => request_of(port, first.rest),
     }
 }
 

@@ -179,11 +179,11 @@ event_words : (ws : List (List ℕ)) → Reads IsEvent (event_of ws)
 unfolding event_of
 event_words [] = tt
 event_words (name ∷ ws) =
+    chosen IsEvent (bytes_eq name (codes "map")) _ _ (alone IsEvent MakeMap ws tt) (
+    chosen IsEvent (bytes_eq name (codes "report")) _ _ (report_words ws) (
     chosen IsEvent (bytes_eq name (codes "admit")) _ _ (admit_words ws) (
     chosen IsEvent (bytes_eq name (codes "change")) _ _ (change_words ws) (
     chosen IsEvent (bytes_eq name (codes "remove")) _ _ (remove_words ws) (
-    chosen IsEvent (bytes_eq name (codes "report")) _ _ (report_words ws) (
-    chosen IsEvent (bytes_eq name (codes "map")) _ _ (alone IsEvent MakeMap ws tt) (
     chosen IsEvent (bytes_eq name (codes "fail")) _ _ (fail_words ws) (
     chosen IsEvent (bytes_eq name (codes "restore")) _ _ (alone IsEvent Restore ws tt) tt))))))
 

@@ -134,7 +134,7 @@ impl Port {
             return Err(Refusal::OutOfMemory);
         }
         let reply = Reply::Taken;
-        self.entries.push(Entry { event, reply }).unwrap();
+        self.entries.push_reserved(Entry { event, reply });
         Ok(())
     }
 
@@ -164,7 +164,7 @@ impl Port {
         self.be = next.be;
         let event = Event::MakeMap;
         let reply = Reply::Map(kept);
-        self.entries.push(Entry { event, reply }).unwrap();
+        self.entries.push_reserved(Entry { event, reply });
         Ok(next.made)
     }
 

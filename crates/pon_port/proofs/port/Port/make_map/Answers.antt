@@ -14,7 +14,7 @@ use Rattle.pon_port.proofs.port.Port.make_map.Goals as goal
 pub invariant_of-self-2 : goal.invariant_of-self-2
 invariant_of-self-2 c =
     let old : Chapter = record { number = c.self.inside.number; opening = c.self.inside.opening; entries = c.self.inside.entries.items } in
-    let new : Chapter = record { number = c.self.inside.number; opening = c.self.inside.opening; entries = c.push.new.self.items } in
+    let new : Chapter = record { number = c.self.inside.number; opening = c.self.inside.opening; entries = c.push_reserved.new.self.items } in
     let made : IsMade c.self.inside.state c.in-Ok-try_copy.kept = search rules in
     let more : new ≡ with_entry old MakeMap (Map c.in-Ok-try_copy.kept) = search rules in
     record {
@@ -26,7 +26,7 @@ invariant_of-self-2 c =
 pub returns-clause-ok : goal.returns-clause-ok
 returns-clause-ok c =
     let old : Chapter = record { number = c.self.inside.number; opening = c.self.inside.opening; entries = c.self.inside.entries.items } in
-    let new : Chapter = record { number = c.self.inside.number; opening = c.self.inside.opening; entries = c.push.new.self.items } in
+    let new : Chapter = record { number = c.self.inside.number; opening = c.self.inside.opening; entries = c.push_reserved.new.self.items } in
     subst (λ old. Takes old MakeMap (Map c.in-Ok.next.made) new) c.self.view_is
     (map_taken old new c.self.inside.state c.in-Ok.next.made c.in-Ok-try_copy.kept c.self.invariant.kept (search rules) (search rules) (search rules) (search rules))
 
