@@ -23,7 +23,7 @@ impl MapCert {
     {
         let (na, rest) = read_class(bytes)?;
         let (be, rest) = read_class(rest)?;
-        let cert = owned(alloc, &na, &be)?;
+        let cert = copy_classes(alloc, &na, &be)?;
         Ok((cert, bytes.len() - rest.len()))
     }
 }
@@ -46,28 +46,28 @@ impl<'a> Model for LentClass<'a> {
 
 impl LentClass<'_> {
     // Copies the class with its flags.
-    fn owned(&self, alloc: Global) -> Result<ClassCert, AllocError>
+    fn copy_class(&self, alloc: Global) -> Result<ClassCert, AllocError>
         ensures { IfOk result (λ class. class ≡ self.now) }
     {
         Ok(ClassCert {
             level: self.level,
-            saturated: Sat::new(truth_values(alloc, self.flags)?),
+            saturated: Sat::new(flags_of(alloc, self.flags)?),
         })
     }
 }
 
-fn truth_values(alloc: Global, bytes: &[u8]) -> Result<Vec<bool>, AllocError>
+fn flags_of(alloc: Global, bytes: &[u8]) -> Result<Vec<bool>, AllocError>
     ensures { IfOk result (λ flags. flags.items ≡ map (λ b. b == 1) bytes.now) }
 {
     bytes.iter().map(|byte| *byte == 1).collect(alloc)
 }
 
 // Copies both classes with their flags into a certificate.
-fn owned(alloc: Global, na: &LentClass<'_>, be: &LentClass<'_>) -> Result<MapCert, CertReadFault>
+fn copy_classes(alloc: Global, na: &LentClass<'_>, be: &LentClass<'_>) -> Result<MapCert, CertReadFault>
     ensures ok { IfOk result (λ cert. cert ≡ record { na = na.now; be = be.now }) }
     ensures err { IfErr result (λ f. f ≡ CertReadFault.Memory) }
 {
-    match (na.owned(alloc), be.owned(alloc)) {
+    match (na.copy_class(alloc), be.copy_class(alloc)) {
         (Ok(na), Ok(be)) => Ok(MapCert { na, be }),
         _ => Err(CertReadFault::Memory),
     }

@@ -46,13 +46,13 @@ pub(crate) fn check_bits(payload: u64, bytes: u32) -> u16
     let mut rest = 0;
     for place in 0..bytes {
         let byte = (payload >> (8 * place)) & 0xff;
-        rest ^= left_of(place, byte as u8);
+        rest ^= remainder_of(place, byte as u8);
     }
     rest
 }
 
 // Returns the remainder of a byte at this position of a payload.
-fn left_of(place: u32, byte: u8) -> u16
+fn remainder_of(place: u32, byte: u8) -> u16
     requires { place < 7 }
     ensures { result ≡ remainder generator 12 56 (byte * 2 ^ (8 * place) * 2 ^ 12) }
 {

@@ -21,12 +21,12 @@ pub(crate) fn decode_down(alloc: Global, bytes: &[u8]) -> Result<DownRecord, Dow
             frame: frame_in(&bytes[1..9]),
             map,
         }),
-        Err(fault) => Err(told(fault)),
+        Err(fault) => Err(down_fault(fault)),
     }
 }
 
 // Returns the fault of a record whose map has this fault.
-fn told(fault: MapFault) -> DownFault
+fn down_fault(fault: MapFault) -> DownFault
     ensures { ((fault ≡ MapFault.Memory) × (result ≡ DownFault.Memory))
         ⊎ ((fault ≢ MapFault.Memory) × (result ≡ DownFault.Link LinkFault.BadMap)) }
 {

@@ -34,7 +34,7 @@ fn header_len(direction: Direction) -> usize
 }
 
 // Returns the size of a record, in bytes, from its first bytes.
-fn announced(direction: Direction, bytes: &[u8]) -> Option<usize>
+fn announced_size(direction: Direction, bytes: &[u8]) -> Option<usize>
     requires { header_len direction ≤ length bytes.now }
     ensures { MatchOption result (HasBadSize direction bytes.now) (Announces direction bytes.now) }
 {
@@ -82,7 +82,7 @@ pub(crate) fn form_fault(direction: Direction, bytes: &[u8]) -> Option<LinkFault
     if bytes[0] != tag(direction) {
         return Some(LinkFault::BadTag);
     }
-    if bytes.len() >= header_len(direction) && announced(direction, bytes).is_none() {
+    if bytes.len() >= header_len(direction) && announced_size(direction, bytes).is_none() {
         return Some(bad_size(direction));
     }
     None
@@ -111,5 +111,5 @@ pub(crate) fn needed(direction: Direction, bytes: &[u8]) -> usize
     if bytes.len() < head {
         return head - bytes.len();
     }
-    announced(direction, bytes).unwrap() - bytes.len()
+    announced_size(direction, bytes).unwrap() - bytes.len()
 }

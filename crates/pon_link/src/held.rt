@@ -134,7 +134,7 @@ impl<const N: usize> Held<N> {
     }
 
     // Returns the fault of a whole record whose map is refused.
-    fn refused(&self) -> Option<LinkFault>
+    fn refused_map(&self) -> Option<LinkFault>
         requires { IsWhole self.now.direction self.now.held }
         ensures { MatchOption result (IsReady self.now.direction self.now.held)
             (λ f. HasFault self.now f) }
@@ -189,7 +189,7 @@ impl<const N: usize> Held<N> {
         }
         let needed = self.needed();
         if needed == 0 {
-            return match self.refused() {
+            return match self.refused_map() {
                 Some(fault) => Err(PullFault::Link(fault)),
                 None => Ok(Pulled::Bytes(0)),
             };

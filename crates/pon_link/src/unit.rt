@@ -136,12 +136,12 @@ fn deduct_grant(queues: &mut [(AllocId, u32)], row: &Alloc)
     ensures { queues.new ≡ map (queue_after row.now) queues.old }
 {
     for queue in queues.iter_mut() {
-        *queue = lessened_queue(*queue, row);
+        *queue = queue_after(*queue, row);
     }
 }
 
 // Computes the queue after the structure.
-fn lessened_queue(queue: (AllocId, u32), row: &Alloc) -> (AllocId, u32)
+fn queue_after(queue: (AllocId, u32), row: &Alloc) -> (AllocId, u32)
     ensures { result ≡ queue_after row.now queue }
 {
     let (alloc_id, words) = queue;

@@ -93,7 +93,7 @@ where
             let mut writer = StdWrite::new(io::writer(rt));
             run_ports(rt, alloc, settings, args, &OpenGate, &mut writer)
         }
-        Err(why) => told(rt, outcome_of_opening(rt, why)),
+        Err(why) => print_outcome(rt, outcome_of_opening(rt, why)),
     }
 }
 
@@ -123,7 +123,7 @@ fn show<R: Print + Eprint>(rt: &R, error: &Error) -> Outcome {
 }
 
 // Prints the fault if a device failed or memory was refused. Returns the exit status.
-fn told(rt: &impl Eprint, outcome: Outcome) -> u8 {
+fn print_outcome(rt: &impl Eprint, outcome: Outcome) -> u8 {
     if let Outcome::Failed(fault) = outcome {
         let _ = eprintln!(rt; "olt: {fault}");
     }
@@ -152,9 +152,9 @@ where
         + Sync,
 {
     match job(alloc, words) {
-        Ok(Job::Plan { config }) => told(rt, run_plan(rt, alloc, config)),
-        Ok(Job::Check { file }) => told(rt, outcome_of_check(judge_file(rt, alloc, file))),
-        Ok(Job::Audit { file }) => told(rt, outcome_of_check(audit_file(rt, alloc, file))),
+        Ok(Job::Plan { config }) => print_outcome(rt, run_plan(rt, alloc, config)),
+        Ok(Job::Check { file }) => print_outcome(rt, outcome_of_check(judge_file(rt, alloc, file))),
+        Ok(Job::Audit { file }) => print_outcome(rt, outcome_of_check(audit_file(rt, alloc, file))),
         Ok(
             Job::Run {
                 config,
@@ -172,17 +172,17 @@ where
             };
             run_settings(rt, alloc, config, args)
         }
-        Err(error) => told(rt, show(rt, &error)),
+        Err(error) => print_outcome(rt, show(rt, &error)),
     }
 }
 
 fn main(rt: HostRuntime) -> ExitCode {
     let args = match std::env::args(&rt) {
         Ok(args) => args,
-        Err(error) => return ExitCode::from(told(&rt, without_words(&rt, &error))),
+        Err(error) => return ExitCode::from(print_outcome(&rt, without_words(&rt, &error))),
     };
     match args.collect::<Vec<String>>(rt.alloc()) {
         Ok(words) => ExitCode::from(run(&rt, rt.alloc(), words.as_slice())),
-        Err(_) => ExitCode::from(told(&rt, Outcome::Failed(PlanFault::Memory))),
+        Err(_) => ExitCode::from(print_outcome(&rt, Outcome::Failed(PlanFault::Memory))),
     }
 }

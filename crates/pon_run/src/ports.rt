@@ -87,7 +87,7 @@ pub(crate) struct Ended<L: Ledger, M: Ledger> {
 
 /// Splits the results of the workers' threads, and adds their seats to `seats`. `Err` if memory was refused, here or in
 /// one of the threads.
-pub(crate) fn parted<L: Ledger, M: Ledger>(
+pub(crate) fn split_results<L: Ledger, M: Ledger>(
     alloc: Global,
     mut seats: Vec<Seat<L, M>>,
     all: Vec<Worked<L, M>>,

@@ -9,7 +9,7 @@ use crate::arguments::RunArgs;
 use crate::end::{PortEnd, write_ends};
 use crate::link::{Link, open_links};
 use crate::operator::{answer_lines, open_lines};
-use crate::ports::{OTHER_SEATS, admit_rows, close, ends_of, parted, served_ports};
+use crate::ports::{OTHER_SEATS, admit_rows, close, ends_of, split_results, served_ports};
 use crate::recording::{begin, create_file, record_ports};
 use crate::running::{Served, serve_all};
 use crate::thread::Worked;
@@ -93,7 +93,7 @@ fn tell<L: Ledger, M: Ledger, F: Write + Drop, W: DevWrite>(
     ensures { IfOk result (λ done. done ≡ true
         → TellsPorts desk.ports (W.contents writer.old) (W.contents writer.new)) }
 {
-    let Ok(ended) = parted(alloc, others, all) else {
+    let Ok(ended) = split_results(alloc, others, all) else {
         return Err(PlanFault::Memory);
     };
     prove!(desk.ports() <= MOST_PORTS);

@@ -4,16 +4,16 @@
 //! A [`PortState`] is what the history of a port leaves. The crate keeps no history.
 #![tactic(auto)]
 
-mod advance;
+mod apply;
 mod checks;
-mod making;
+mod ready_map;
 mod ranges;
 mod reply;
 mod state;
 
-pub use advance::{add_map, step};
+pub use apply::{add_map, step};
 pub use checks::{MOST_ENTRIES, refusal_of};
-pub use making::{MapUnder, ReadyMap, map_under, next_map, next_problems};
+pub use ready_map::{MapUnder, ReadyMap, map_under, next_map, next_problems};
 pub use ranges::in_range;
 pub use reply::{Entry, MadeMap, Reply};
 pub use state::{PortCfg, PortState};

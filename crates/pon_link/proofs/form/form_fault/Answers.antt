@@ -4,4 +4,4 @@ use Rattle.pon_link.proofs.form.form_fault.Goals as goal
 
 pub returns-then-is_none-clause-closed : goal.returns-then-is_none-clause-closed
 returns-then-is_none-clause-closed c begun =
-    none_begun c.announced.result c.args.direction c.args.bytes.now (omega (arith, c.header_len.ensures.value, c.if-bytes-header_len.true)) (search rules) c.announced.ensures begun
+    none_begun c.announced_size.result c.args.direction c.args.bytes.now (omega (arith, c.header_len.ensures.value, c.if-bytes-header_len.true)) (search rules) c.announced_size.ensures begun

@@ -8,14 +8,14 @@ pub unwrap-requires : goal.unwrap-requires
 unwrap-requires c =
     let ge : header_len c.args.direction ≤ length c.args.bytes.now = omega (arith, c.header_len-head.ensures.value, c.if-bytes-head.false) in
     let size = c.requires.form.size ge in
-    some_size c.announced.result c.args.direction c.args.bytes.now size.0 size.1 c.announced.ensures
+    some_size c.announced_size.result c.args.direction c.args.bytes.now size.0 size.1 c.announced_size.ensures
 
 -- the bytes give this size, and are not longer
 enough : (c : goal.After-unwrap) → Announces c.args.direction c.args.bytes.now c.unwrap.result × (length c.args.bytes.now ≤ c.unwrap.result)
 enough c =
     let ge : header_len c.args.direction ≤ length c.args.bytes.now = omega (arith, c.header_len-head.ensures.value, c.if-bytes-head.false) in
     let told : Announces c.args.direction c.args.bytes.now c.unwrap.result
-    = subst (λ (o : Option ℕ). MatchOption o (HasBadSize c.args.direction c.args.bytes.now) (Announces c.args.direction c.args.bytes.now)) c.unwrap.ensures c.announced.ensures in
+    = subst (λ (o : Option ℕ). MatchOption o (HasBadSize c.args.direction c.args.bytes.now) (Announces c.args.direction c.args.bytes.now)) c.unwrap.ensures c.announced_size.ensures in
     let small : AreBytes c.args.bytes.now = λ k. omega (arith, c.type_inv.bytes k) in
     (told, told_enough c.args.direction c.args.bytes.now c.unwrap.result small ge told c.requires.within)
 

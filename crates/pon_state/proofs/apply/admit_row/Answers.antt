@@ -4,7 +4,7 @@ use Rattle.std.specs.List.{list_any}
 use Rattle.pon_guar.specs.Book.{AreRising, alloc_ids}
 use Rattle.pon_guar.specs.Loads.{after_admitted, after_removed}
 use Rattle.pon_state.proofs.Undone.{undone}
-use Rattle.pon_state.proofs.advance.admit_row.Goals as goal
+use Rattle.pon_state.proofs.apply.admit_row.Goals as goal
 
 pub returns-then-is_err-2-clause-err : goal.returns-then-is_err-2-clause-err
 returns-then-is_err-2-clause-err c =

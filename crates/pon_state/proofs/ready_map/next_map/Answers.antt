@@ -5,7 +5,7 @@ use Rattle.pon_share.specs.Sharing.{IsCertified, surplus_rate}
 use Rattle.pon_share.proofs.RosterMaps.{in_order, one_map}
 use Rattle.pon_state.specs.State.{input_of}
 use Rattle.pon_state.proofs.KeptMaps.{kept_of_map}
-use Rattle.pon_state.proofs.making.next_map.Goals as goal
+use Rattle.pon_state.proofs.ready_map.next_map.Goals as goal
 
 pub pack_grants-requires : goal.pack_grants-requires
 pack_grants-requires c =

@@ -1,7 +1,7 @@
 use Rattle.std.proofs.Common.{◌∙◌, ap, sym}
 use Rattle.pon_admit.specs.Roster.{refuses_admit}
 use Rattle.pon_state.specs.Checks.{refuses}
-use Rattle.pon_state.proofs.advance.step.Goals as goal
+use Rattle.pon_state.proofs.apply.step.Goals as goal
 
 pub admit_row-requires-clause-accepted : goal.admit_row-requires-clause-accepted
 admit_row-requires-clause-accepted c =

@@ -1,7 +1,7 @@
 use Rattle.std.proofs.Common.{◌≡◌, ap, sym, ◌∙◌}
 use Rattle.pon_link.specs.Reading.{ReaderState}
 use Rattle.pon_link.proofs.Answering.{refused_shown}
-use Rattle.pon_link.proofs.held.Held.refused.Goals as goal
+use Rattle.pon_link.proofs.held.Held.refused_map.Goals as goal
 
 pub returns-in-Some : goal.returns-in-Some
 returns-in-Some g c =
