@@ -63,7 +63,11 @@ fn flags_of(alloc: Global, bytes: &[u8]) -> Result<Vec<bool>, AllocError>
 }
 
 // Copies both classes with their flags into a certificate.
-fn copy_classes(alloc: Global, na: &LentClass<'_>, be: &LentClass<'_>) -> Result<MapCert, CertReadFault>
+fn copy_classes(
+    alloc: Global,
+    na: &LentClass<'_>,
+    be: &LentClass<'_>,
+) -> Result<MapCert, CertReadFault>
     ensures ok { IfOk result (λ cert. cert ≡ record { na = na.now; be = be.now }) }
     ensures err { IfErr result (λ f. f ≡ CertReadFault.Memory) }
 {
