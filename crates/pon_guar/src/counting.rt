@@ -35,7 +35,8 @@ fn with_report(account: Account, report: Counted) -> Account
     }
 }
 
-// Counts a report in the account of its Alloc-ID, if there is one. Returns its place, which the hint may be, or the hint.
+// Counts a report in the account of its Alloc-ID, and returns the index of the account, or the hint if there is none. The
+// account is found with no search if the hint is its index.
 fn count(accounts: &mut [Account], hint: usize, alloc_id: AllocId, report: Counted) -> usize
     requires { AreRising (alloc_ids accounts.old) }
     ensures { accounts.new ≡ counting alloc_id report accounts.old }
@@ -50,6 +51,7 @@ fn count(accounts: &mut [Account], hint: usize, alloc_id: AllocId, report: Count
 }
 
 // Counts what an ONU reports for a map at a place of the window: each occupancy less what the maps from that one on granted.
+// The hint of each account is the index behind that of the occupancy before, since an ONU's Alloc-IDs are mostly neighbours.
 fn count_occupancies(
     accounts: &mut [Account],
     asked: &WindowMap,
