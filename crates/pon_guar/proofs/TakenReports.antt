@@ -1,6 +1,6 @@
 -- Reports taken into accounts.
 use Rattle.std.proofs.Common.{◌≡◌, ℕ, ◌-◌, ◌⊎◌, inl, inr, true, false, List, [], ◌∷◌, length, refl, ap, sym, subst, ◌∙◌}
-use Rattle.std.specs.Prelude.{◌==◌, nat_le, if◌then◌else◌, Option, Some}
+use Rattle.std.specs.Prelude.{◌==◌, nat_le, if◌then◌else◌, Option, Some, None}
 use Rattle.std.proofs.lemmas.List.{nil_from_length}
 use Rattle.pon_lists.proofs.Lists.{map-map, map_same}
 use Rattle.pon_guar.specs.Book.{Account, AreRising, Counted, alloc_ids}
@@ -28,6 +28,11 @@ module _ (granted : ℕ → ℕ) (frame : ℕ) where
       ap (after_occupancies granted frame more others) (counted ∙ (λ j. counting g.alloc_id (record { frame = same j; words = (rest ∙ ap (λ w. n - w) so_many) j }) book))
       ∙ (λ j. after_occupancies granted frame (sym e j) (sym q j) book)
       ∙ h
+
+  -- a garbled one is passed over
+  pub took_none : (gs more : List Granted) (g : Granted) (ns others : List (Option ℕ)) (book all : List Account) → gs ≡ g ∷ more → ns ≡ None ∷ others →
+      after_occupancies granted frame gs ns book ≡ all → after_occupancies granted frame more others book ≡ all
+  took_none gs more g ns others book all e q h = (λ j. after_occupancies granted frame (sym e j) (sym q j) book) ∙ h
 
   no_more : (gs : List Granted) (book : List Account) → after_occupancies granted frame gs [] book ≡ book
   no_more [] book = refl

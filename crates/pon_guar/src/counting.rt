@@ -7,7 +7,7 @@ ghost use Rattle.pon_guar.specs.Book.{AreRising, alloc_ids};
 ghost use Rattle.pon_guar.specs.Reports.{after_occupancies, counting, taking};
 ghost use Rattle.pon_guar.specs.Loads.{afresh};
 
-use crate::account::{Account, Counted, index_of};
+use crate::account::{Account, Counted, index_near};
 use crate::deduction::words_left;
 use pon_units::{AllocId, BufOcc, FrameNo, OnuId};
 use pon_window::{Window, WindowMap};
@@ -35,17 +35,23 @@ fn with_report(account: Account, report: Counted) -> Account
     }
 }
 
-// Counts a report in the account of its Alloc-ID, where there is one.
-fn count(accounts: &mut [Account], alloc_id: AllocId, report: Counted)
+// Counts a report in the account of its Alloc-ID, and returns the index of the account, or the hint if there is none. The
+// account is found with no search if the hint is its index.
+fn count(accounts: &mut [Account], hint: usize, alloc_id: AllocId, report: Counted) -> usize
     requires { AreRising (alloc_ids accounts.old) }
     ensures { accounts.new ≡ counting alloc_id report accounts.old }
 {
-    if let Some(place) = index_of(accounts, alloc_id) {
-        accounts[place] = with_report(accounts[place], report);
+    match index_near(accounts, hint, alloc_id) {
+        None => hint,
+        Some(place) => {
+            accounts[place] = with_report(accounts[place], report);
+            place
+        }
     }
 }
 
 // Counts what an ONU reports for a map at a place of the window: each occupancy less what the maps from that one on granted.
+// The hint of each account is the index behind that of the occupancy before, since an ONU's Alloc-IDs are mostly neighbours.
 fn count_occupancies(
     accounts: &mut [Account],
     asked: &WindowMap,
@@ -62,15 +68,17 @@ fn count_occupancies(
         (filter (λ g. g.onu == onu) asked.now.grants) occupancies.now accounts.old }
 {
     let frame = asked.frame();
-    let mut hint = asked.first_grant_to(onu);
-    for (granted, occupancy) in asked.series(onu).iter().zip(occupancies) {
-        let index = hint;
-        hint = hint.wrapping_add(1);
+    let series = asked.placed_series(onu);
+    let mut index = series.first;
+    let mut near = 0;
+    for (granted, occupancy) in series.grants.iter().zip(occupancies) {
         if let Some(reported) = *occupancy {
             let granted_since = window.words_since(place, index, onu, granted.alloc_id);
             let words = words_left(reported, granted_since);
-            count(accounts, granted.alloc_id, Counted { frame, words });
+            near = count(accounts, near, granted.alloc_id, Counted { frame, words });
         }
+        index = index.wrapping_add(1);
+        near = near.wrapping_add(1);
     }
 }
 

@@ -2,7 +2,7 @@
 //! the buffer reports offer, and the rates that descriptors guarantee under them.
 //!
 //! [`Loads`] is the report book of a port. It keeps running numbers: a load costs one search, a map one pass over its
-//! grants, and a report one search a structure, however late it comes.
+//! grants, and a report at most one search a structure, however late it comes.
 #![tactic(auto)]
 
 mod account;

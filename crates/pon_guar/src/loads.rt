@@ -209,9 +209,26 @@ impl Loads {
         if let Some(refusal) = self.report_refusal(frame, onu, occupancies.len()) {
             return Err(refusal);
         }
-        if self.window.note_report(frame, onu).is_err() {
+        if self.take_report(frame, onu, occupancies).is_err() {
             return Err(Refusal::OutOfMemory);
         }
+        Ok(())
+    }
+
+    /// Takes a report that no check refuses, as [`Loads::reported`] does. `Err` only if memory is refused, and then nothing
+    /// changes.
+    pub fn take_report(
+        &mut self,
+        frame: FrameNo,
+        onu: OnuId,
+        occupancies: &[Option<BufOcc>],
+    ) -> Result<(), AllocError>
+        requires accepted { refuses_report self.old.window frame onu
+            (length occupancies.now) ≡ None }
+        ensures ok { OnOk result (self.new ≡ after_reported self.old frame onu occupancies.now) }
+        ensures err { OnErr result (self.new ≡ self.old) }
+    {
+        self.window.note_report(frame, onu)?;
         count_report(&mut self.accounts, &self.window, frame, onu, occupancies);
         Ok(())
     }

@@ -74,7 +74,7 @@ module _ (u i : ℕ) where
   ]
 
   -- the words of the grant at the place that was found
-  pub words_there : (m : WindowMap) (r : Option ℕ) (k : ℕ) (d : Granted) → r ≡ position (is_to u i) m.grants → r ≡ Some k → k < length m.grants → (get_or m.grants k d).words ≡ words_to u i m
+  words_there : (m : WindowMap) (r : Option ℕ) (k : ℕ) (d : Granted) → r ≡ position (is_to u i) m.grants → r ≡ Some k → k < length m.grants → (get_or m.grants k d).words ≡ words_to u i m
   words_there m r k d is e l = words_found (is_to u i) m.grants r is k d e l ∙ ap words_granted (sym (find_in m.grants))
 
   ungranted : (gs : List Granted) (ns : List ℕ) → length ns ≡ length gs → sum_before u i gs ns ≡ None → words_granted (find (is_to u i) gs) ≡ 0
@@ -100,8 +100,15 @@ module _ (u i : ℕ) where
   pub behind_none : (m : WindowMap) (ns : List ℕ) → sum_before u i m.grants ns ≡ None → sum_behind u i m ns ≡ None
   behind_none m ns h = ap (option_map (λ n. (n + words_to u i m) % 2 ^ 32)) h
 
-  pub behind_some : (m : WindowMap) (ns : List ℕ) (n : ℕ) → sum_before u i m.grants ns ≡ Some n → sum_behind u i m ns ≡ Some ((n + words_to u i m) % 2 ^ 32)
+  behind_some : (m : WindowMap) (ns : List ℕ) (n : ℕ) → sum_before u i m.grants ns ≡ Some n → sum_behind u i m ns ≡ Some ((n + words_to u i m) % 2 ^ 32)
   behind_some m ns n h = ap (option_map (λ n. (n + words_to u i m) % 2 ^ 32)) h
+
+  -- beside the place that was found
+  pub behind_at : (m : WindowMap) (ns : List ℕ) (r : Option ℕ) (k b w : ℕ) (d : Granted) → r ≡ position (is_to u i) m.grants → r ≡ Some k → k < length m.grants → slice_get ns k ≡ Some b → w ≡ (get_or m.grants k d).words
+      → Some ((b + w) % 2 ^ 32) ≡ sum_behind u i m ns
+  behind_at m ns r k b w d is e l read words =
+      ap (λ w. Some ((b + w) % 2 ^ 32)) (words ∙ words_there m r k d is e l)
+      ∙ sym (behind_some m ns b (before_at m.grants ns r k is e l ∙ read))
 
   or_none : (p : Option ℕ) → option_or p None ≡ p
   or_none None = refl

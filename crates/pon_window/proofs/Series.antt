@@ -1,16 +1,17 @@
--- The grants of an ONU in a map, found by halves.
-use Rattle.std.proofs.Common.{◌≡◌, ℕ, ◌<◌, ◌&&◌, Bool, not, List, length, get_or, ap, sym, ◌∙◌, arith, inl, inr}
+-- The grants of an ONU in a map, found by a binary search.
+use Rattle.std.proofs.Common.{◌≡◌, ℕ, suc, ◌+◌, ◌<◌, ◌≤◌, ◌&&◌, Bool, cond, not, List, [], ◌∷◌, length, get_or, take, refl, ap, sym, ◌∙◌, arith, inl, inr}
 use Rattle.std.specs.List.Sorted.{IsNonDecreasingBy}
-use Rattle.std.specs.List.{position}
-use Rattle.std.specs.Prelude.{◌==◌, nat_le, nat_lt, slice_get, filter, find, Option, Some, None}
-use Rattle.std.proofs.lemmas.Bool.{cases_lt}
-use Rattle.std.proofs.lemmas.Bool.Decides.{nat_tests}
+use Rattle.std.specs.List.{position, position_or_len}
+use Rattle.std.specs.Prelude.{◌==◌, nat_lt, slice_get, filter, find, All, Option, Some, None}
+use Rattle.std.proofs.lemmas.Bool.{cases_lt, cases_order, le-ltb, lt-ltb, ne_eqb}
+use Rattle.std.proofs.lemmas.Bool.Decides.{eqb_tells, nat_tests}
+use Rattle.std.proofs.lemmas.List.Elements.{All-nil, All-cons, All-head, All-tail, All-weaker}
 use Rattle.std.proofs.lemmas.List.Folds.{find_at}
 use Rattle.std.proofs.lemmas.Option.{slice_get-get_or, slice_get_past}
 use Rattle.pon_units.specs.Granted.{AreInMapOrder, ComesBefore}
 use Rattle.pon_units.specs.declared.granted.Granted.{Granted}
 use Rattle.pon_lists.proofs.Lists.{filter-filter, filter_agree, position-None_or_len, position-Some_or_len}
-use Rattle.pon_lists.proofs.Order.{in_order_at}
+use Rattle.pon_lists.proofs.Order.{in_order-filter, in_order_at}
 use Rattle.pon_window.specs.Window.{words_granted}
 
 -- what is in map order is ordered by its ONUs
@@ -20,11 +21,50 @@ by_onu gs h m n d l k = elim (cases_lt m n) [
   | inr not_less ↦ (let e : n ≡ m = omega (arith, l, not_less) in let q : (get_or gs n d).onu ≡ (get_or gs m d).onu = ap (λ j. (get_or gs j d).onu) e in omega (arith, q))
 ]
 
--- those of no lesser ONU, up to the ONU
-pub own_series : (u : ℕ) (gs : List Granted) → filter (λ g. nat_le g.onu u) (filter (λ g. not (nat_lt g.onu u)) gs) ≡ filter (λ g. g.onu == u) gs
-own_series u gs = filter-filter (λ g. nat_le g.onu u) (λ g. not (nat_lt g.onu u)) gs ∙ filter_agree _ _ (λ g. both g.onu) gs
+-- The grants of an ONU at the front of those of no lesser ONU.
+
+none_own : (u : ℕ) (gs : List Granted) → All (λ g. u < g.onu) gs → filter (λ g. g.onu == u) gs ≡ []
+none_own u [] h = refl
+none_own u (g ∷ gs) h =
+    ap (λ b. cond b (g ∷ filter (λ g. g.onu == u) gs) (filter (λ g. g.onu == u) gs)) (ne_eqb g.onu u (λ q. let l : u < g.onu = All-head (λ g. u < g.onu) g gs h in omega (arith, l, q)))
+    ∙ none_own u gs (All-tail (λ g. u < g.onu) g gs h)
+
+not_lesser : (u : ℕ) (gs : List Granted) → All (λ g. u ≤ g.onu) (filter (λ g. not (nat_lt g.onu u)) gs)
+not_lesser u [] = All-nil (λ g. u ≤ g.onu)
+not_lesser u (g ∷ gs) = elim (cases_lt g.onu u) [
+  | inl l ↦ rw (lt-ltb g.onu u l) (not_lesser u gs)
+  | inr l ↦ rw (le-ltb g.onu u l) (All-cons (λ g. u ≤ g.onu) g (filter (λ g. not (nat_lt g.onu u)) gs) l (not_lesser u gs))
+]
+
+own_front : (u : ℕ) (gs : List Granted) → All (λ g. u ≤ g.onu) gs → AreInMapOrder gs → take (position_or_len (λ g. not (g.onu == u)) gs) gs ≡ filter (λ g. g.onu == u) gs
+own_front u [] low order = refl
+own_front u (g ∷ gs) low order =
+    let rest = filter (λ g. g.onu == u) gs in
+    let len = position_or_len (λ g. not (g.onu == u)) gs in
+    elim (eqb_tells g.onu u) [
+      | inl e ↦
+          ap (λ b. take (cond (not (not b)) (1 + len) 0) (g ∷ gs)) e.0
+          ∙ ap (λ n. take n (g ∷ gs)) (let n : 1 + len ≡ suc len = omega arith in n)
+          ∙ ap (λ t. g ∷ t) (own_front u gs (All-tail (λ g. u ≤ g.onu) g gs low) order.1)
+          ∙ ap (λ b. cond b (g ∷ rest) rest) (sym e.0)
+      | inr e ↦
+          let above : u < g.onu = elim (cases_order u g.onu) [
+            | inl q ↦ absurd (e.1 (sym q))
+            | inr q ↦ (let l : u ≤ g.onu = All-head (λ g. u ≤ g.onu) g gs low in omega (arith, q, l))
+          ] in
+          ap (λ b. take (cond (not (not b)) (1 + len) 0) (g ∷ gs)) e.0
+          ∙ sym (none_own u (g ∷ gs) (All-cons (λ g. u < g.onu) g gs above (All-weaker (ComesBefore g) (λ h. u < h.onu) (λ h c. omega (arith, above, c.0)) gs order.0)))
+    ]
+
+-- those of no lesser ONU, up to another ONU
+pub own_series : (u : ℕ) (gs rest : List Granted) → AreInMapOrder gs → rest ≡ filter (λ g. not (nat_lt g.onu u)) gs → take (position_or_len (λ g. not (g.onu == u)) rest) rest ≡ filter (λ g. g.onu == u) gs
+own_series u gs rest h e =
+    ap (λ t. take (position_or_len (λ g. not (g.onu == u)) t) t) e
+    ∙ own_front u (filter (λ g. not (nat_lt g.onu u)) gs) (not_lesser u gs) (in_order-filter ComesBefore (λ g. not (nat_lt g.onu u)) gs h)
+    ∙ filter-filter (λ g. g.onu == u) (λ g. not (nat_lt g.onu u)) gs
+    ∙ filter_agree _ _ (λ g. both g.onu) gs
   where
-    both : (k : ℕ) → (not (nat_lt k u) && nat_le k u) ≡ (k == u)
+    both : (k : ℕ) → (not (nat_lt k u) && (k == u)) ≡ (k == u)
     both k = grind (arith, nat_tests)
 
 -- The words of the first that passes.

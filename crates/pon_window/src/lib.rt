@@ -11,5 +11,5 @@ mod reports;
 mod sums;
 mod window;
 
-pub use map::WindowMap;
+pub use map::{OnuGrants, WindowMap};
 pub use window::{MOST_MAPS, Window};

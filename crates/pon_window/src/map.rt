@@ -1,7 +1,7 @@
 //! A map of the window.
 
 ghost use Rattle.std.specs.Prelude.{◌≡◌, ◌≤◌, ◌==◌, nat_lt, not, true, false, drop, filter, take, length, IfOk, OnOk, OnErr};
-ghost use Rattle.std.specs.List.{list_any};
+ghost use Rattle.std.specs.List.{list_any, position, position_or_len};
 ghost use Rattle.pon_units.specs.Granted.{AreInMapOrder};
 ghost use Rattle.pon_lists.specs.Order.{AreRising, with_number};
 ghost use Rattle.pon_window.specs.Window.{IsLawfulMap};
@@ -26,16 +26,41 @@ impl Model for WindowMap {
     ghost view = { λ a. record { frame = a.frame; grants = a.grants.items; reported = a.reported.items } };
 }
 
-// The grants of an ONU.
-fn series_of(grants: &[Granted], onu: OnuId) -> &[Granted]
-    requires { AreInMapOrder grants.now }
-    ensures { result.now ≡ filter (λ g. g.onu == onu) grants.now }
+/// The grants of a map to an ONU. `first` is the index of the first of them in the map, a hint that no clause ties to it.
+#[derive(Clone, Copy, Debug)]
+pub struct OnuGrants<'a> {
+    pub first: usize,
+    pub grants: &'a [Granted],
+}
+
+// The index of the first grant that is not to an ONU.
+fn first_other(grants: &[Granted], onu: OnuId) -> Option<usize>
+    ensures { result ≡ position (λ g. not (g.onu == onu)) grants.now }
 {
-    let lesser = grants.partition_point(|granted| granted.onu.get() < onu.get());
-    let (_, others) = grants.split_at(lesser);
-    let count = others.partition_point(|granted| granted.onu.get() <= onu.get());
-    let (own, _) = others.split_at(count);
-    own
+    grants.iter().position(|granted| granted.onu != onu)
+}
+
+// The number of grants at the front that are to an ONU.
+fn series_len(grants: &[Granted], onu: OnuId) -> usize
+    ensures len { result ≡ position_or_len (λ g. not (g.onu == onu)) grants.now }
+    ensures within { result ≤ length grants.now }
+{
+    match first_other(grants, onu) {
+        Some(len) => len,
+        None => grants.len(),
+    }
+}
+
+// The grants to an ONU: the first is found by a binary search, the others are counted from it.
+fn series_of(grants: &[Granted], onu: OnuId) -> OnuGrants<'_>
+    requires { AreInMapOrder grants.now }
+    ensures within { result.first ≤ length grants.now }
+    ensures grants { result.grants.now ≡ filter (λ g. g.onu == onu) grants.now }
+{
+    let first = grants.partition_point(|granted| granted.onu.get() < onu.get());
+    let (_, others) = grants.split_at(first);
+    let (own, _) = others.split_at(series_len(others, onu));
+    OnuGrants { first, grants: own }
 }
 
 // The number of lesser ONU-IDs.
@@ -108,20 +133,21 @@ impl WindowMap {
         })
     }
 
-    /// The grants to an ONU, found by a search by halves. Empty if it granted the ONU nothing.
+    /// The grants to an ONU, found by a binary search. Empty if it granted the ONU nothing.
     pub fn series(&self, onu: OnuId) -> &[Granted]
         requires { AreInMapOrder self.now.grants }
         ensures { result.now ≡ filter (λ g. g.onu == onu) self.now.grants }
     {
-        series_of(&self.grants, onu)
+        self.placed_series(onu).grants
     }
 
-    /// The number of grants before those to an ONU: the index of the first of its series.
-    pub fn first_grant_to(&self, onu: OnuId) -> usize
-        ensures { result ≤ length self.now.grants }
+    /// The grants to an ONU, as [`WindowMap::series`] has them, and the index of the first.
+    pub fn placed_series(&self, onu: OnuId) -> OnuGrants<'_>
+        requires { AreInMapOrder self.now.grants }
+        ensures within { result.first ≤ length self.now.grants }
+        ensures grants { result.grants.now ≡ filter (λ g. g.onu == onu) self.now.grants }
     {
-        self.grants
-            .partition_point(|granted| granted.onu.get() < onu.get())
+        series_of(&self.grants, onu)
     }
 
     /// Returns whether an ONU reported for it.

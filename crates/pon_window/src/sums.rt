@@ -1,6 +1,6 @@
 //! Running sums beside the window, so that what was granted since a map is one difference.
 
-ghost use Rattle.std.specs.Prelude.{◌≡◌, ◌≤◌, ◌^◌, ◌<◌, All, IfOk, length, position, sum_by, List, ℕ};
+ghost use Rattle.std.specs.Prelude.{◌≡◌, ◌≤◌, ◌^◌, ◌<◌, All, IfOk, IfSome, Some, length, position, sum_by, List, ℕ};
 ghost use Rattle.pon_units.specs.Granted.{AreInMapOrder};
 ghost use Rattle.pon_window.specs.Window.{IsLawfulMap, words_to};
 ghost use Rattle.pon_window.specs.Sums.{AreSummed, is_to, sum_before, sum_behind, sum_now, sums_beside};
@@ -100,8 +100,31 @@ fn sum_behind(
     }
 }
 
-// The sum after the last grant to an Alloc-ID under an ONU.
-fn sum_now(
+// The sum after the grant to an Alloc-ID under an ONU, if the grant is at the hint.
+#[inline]
+fn sum_at(
+    map: &WindowMap,
+    sums: &MapSums,
+    hint: usize,
+    onu: OnuId,
+    alloc_id: AllocId,
+) -> Option<u32>
+    requires { AreInMapOrder map.now.grants }
+    ensures { IfSome result (λ sum. sum_behind onu alloc_id map.now sums.now ≡ Some sum) }
+{
+    if hint >= map.grants.len() || hint >= sums.before.len() {
+        return None;
+    }
+    let granted = map.grants[hint];
+    if is_to(&granted, onu, alloc_id) {
+        Some(sums.before[hint].wrapping_add(u32::from(granted.words.get())))
+    } else {
+        None
+    }
+}
+
+// The sum after the last grant to an Alloc-ID under an ONU, by a search from the last map on.
+fn search_sum(
     maps: &[WindowMap],
     sums: &[MapSums],
     hint: usize,
@@ -116,7 +139,44 @@ fn sum_now(
     let (last, others) = sums.split_last()?;
     match sum_behind(map, last, hint, onu, alloc_id) {
         Some(sum) => Some(sum),
-        None => sum_now(earlier, others, hint, onu, alloc_id),
+        None => search_sum(earlier, others, hint, onu, alloc_id),
+    }
+}
+
+// The sum after the last grant to an Alloc-ID under an ONU, if the last map has the grant at the hint.
+#[inline]
+fn sum_in_last(
+    maps: &[WindowMap],
+    sums: &[MapSums],
+    hint: usize,
+    onu: OnuId,
+    alloc_id: AllocId,
+) -> Option<u32>
+    requires as_many { length sums.now ≡ length maps.now }
+    requires lawful { All IsLawfulMap maps.now }
+    ensures { IfSome result (λ sum. sum_now onu alloc_id maps.now sums.now ≡ Some sum) }
+{
+    let (map, _) = maps.split_last()?;
+    let (last, _) = sums.split_last()?;
+    sum_at(map, last, hint, onu, alloc_id)
+}
+
+// The sum after the last grant to an Alloc-ID under an ONU: from the last map if the hint is right, else by a search.
+#[inline]
+fn sum_now(
+    maps: &[WindowMap],
+    sums: &[MapSums],
+    hint: usize,
+    onu: OnuId,
+    alloc_id: AllocId,
+) -> Option<u32>
+    requires as_many { length sums.now ≡ length maps.now }
+    requires lawful { All IsLawfulMap maps.now }
+    ensures { result ≡ sum_now onu alloc_id maps.now sums.now }
+{
+    match sum_in_last(maps, sums, hint, onu, alloc_id) {
+        Some(sum) => Some(sum),
+        None => search_sum(maps, sums, hint, onu, alloc_id),
     }
 }
 

@@ -9,5 +9,5 @@ returns-in-Some c =
     ap (set c.args.accounts.now c.in-Some.place) (c.with_report.ensures ∙ ap (taking c.args.report) c.index-accounts-place.is)
     ∙ change_at (taking c.args.report) (taking_keeps c.args.report) c.args.alloc_id c.args.accounts.now c.in-Some.place c.index-accounts-place.result c.requires (search rules)
 
-pub returns-in_default : goal.returns-in_default
-returns-in_default c = sym (change_absent (taking c.args.report) c.args.alloc_id c.args.accounts.now (search rules))
+pub returns-in-None : goal.returns-in-None
+returns-in-None c = sym (change_absent (taking c.args.report) c.args.alloc_id c.args.accounts.now (search rules))

@@ -1,4 +1,4 @@
-use Rattle.std.proofs.Common.{◌∙◌, sym, rules}
+use Rattle.std.proofs.Common.{◌∙◌, sym}
 use Rattle.pon_window.proofs.Polls.{among_first, among_none}
 use Rattle.pon_window.proofs.map.is_among.Goals as goal
 

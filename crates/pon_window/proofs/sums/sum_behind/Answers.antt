@@ -1,8 +1,6 @@
-use Rattle.std.proofs.Common.{◌≡◌, ◌∙◌, ◌+◌, ◌%◌, ◌^◌, ap, length, refl, rules, sym}
-use Rattle.std.specs.Prelude.{Some}
+use Rattle.std.proofs.Common.{◌∙◌, length, refl, rules, sym}
 use Rattle.std.proofs.lemmas.Option.{slice_get_past, slice_get_read}
-use Rattle.pon_window.specs.Window.{words_to}
-use Rattle.pon_window.proofs.RunningSums.{before_at, before_none, behind_none, behind_some, words_there}
+use Rattle.pon_window.proofs.RunningSums.{before_at, before_none, behind_at, behind_none}
 use Rattle.pon_window.proofs.sums.sum_behind.Goals as goal
 
 pub returns-in-None : goal.returns-in-None
@@ -12,12 +10,9 @@ returns-in-None c =
 
 pub returns-then-place-len : goal.returns-then-place-len
 returns-then-place-len c =
-    let words : c.from-words.result ≡ words_to c.args.onu c.args.alloc_id c.args.map.now
-    = (search rules) ∙ words_there c.args.onu c.args.alloc_id c.args.map.now c.place_of_grant.result c.in-Some.place c.index.result.now (search rules) c.in-Some.is (search rules) in
-    ap (λ w. Some ((c.index-then-place-len.result.now + w) % 2 ^ 32)) words
-    ∙ sym (behind_some c.args.onu c.args.alloc_id c.args.map.now c.args.sums.now c.index-then-place-len.result.now
-    (before_at c.args.onu c.args.alloc_id c.args.map.now.grants c.args.sums.now c.place_of_grant.result c.in-Some.place (search rules) c.in-Some.is (search rules)
-    ∙ slice_get_read c.args.sums.now (length c.args.sums.now) c.in-Some.place c.index-then-place-len.result.now refl (search rules) (search rules)))
+    behind_at c.args.onu c.args.alloc_id c.args.map.now c.args.sums.now c.place_of_grant.result c.in-Some.place c.index-then-place-len.result.now c.from-words.result c.index.result.now
+    (search rules) c.in-Some.is (search rules)
+    (slice_get_read c.args.sums.now (length c.args.sums.now) c.in-Some.place c.index-then-place-len.result.now refl (search rules) (search rules)) (search rules)
 
 pub returns-else-place-len : goal.returns-else-place-len
 returns-else-place-len c =

@@ -1,4 +1,4 @@
-use Rattle.std.proofs.Common.{◌∙◌, ap, subst, sym}
+use Rattle.std.proofs.Common.{subst, sym}
 use Rattle.pon_lists.specs.Order.{AreRising}
 use Rattle.pon_window.proofs.Polls.{reporters_rise}
 use Rattle.pon_window.proofs.map.WindowMap.has_reported.Goals as goal

@@ -6,7 +6,7 @@ use Rattle.pon_window.specs.Window.{grants_at, words_to_from}
 use Rattle.pon_window.proofs.Frames.{frame_there}
 use Rattle.pon_guar.specs.Loads.{after_reported}
 use Rattle.pon_guar.proofs.Books.{counted_after, noted_there, occupancies_length, reported_rise}
-use Rattle.pon_guar.proofs.loads.Loads.reported.Goals as goal
+use Rattle.pon_guar.proofs.loads.Loads.take_report.Goals as goal
 
 pub count_report-requires-clause-there : goal.count_report-requires-clause-there
 count_report-requires-clause-there c =
