@@ -101,9 +101,7 @@ fn take_report(
     ensures ok { OnOk result (state.new ≡ after_report state.old frame onu occ.now) }
     ensures err { OnErr result (state.new ≡ state.old) }
 {
-    if state.loads.reported(frame, onu, occ.as_slice()).is_err() {
-        return Err(AllocError);
-    }
+    state.loads.take_report(frame, onu, occ.as_slice())?;
     state.taken_before += 1;
     Ok(())
 }

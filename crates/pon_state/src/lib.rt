@@ -6,14 +6,14 @@
 
 mod apply;
 mod checks;
-mod ready_map;
 mod ranges;
+mod ready_map;
 mod reply;
 mod state;
 
 pub use apply::{add_map, step};
 pub use checks::{MOST_ENTRIES, refusal_of};
-pub use ready_map::{MapUnder, ReadyMap, map_under, next_map, next_problems};
 pub use ranges::in_range;
+pub use ready_map::{MapUnder, ReadyMap, map_under, next_map, next_problems};
 pub use reply::{Entry, MadeMap, Reply};
 pub use state::{PortCfg, PortState};
