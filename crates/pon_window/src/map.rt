@@ -73,7 +73,7 @@ fn place_among(onus: &[OnuId], onu: OnuId) -> usize
     onus.partition_point(|reporter| reporter.get() < onu.get())
 }
 
-// Returns whether an ONU-ID is among rising ones, by a search by halves.
+// Returns whether an ONU-ID is among rising ones, by a binary search.
 fn is_among(onus: &[OnuId], onu: OnuId) -> bool
     requires { AreRising onus.now }
     ensures { result ≡ list_any (λ v. v == onu) onus.now }
