@@ -27,7 +27,7 @@ end_of gap low [] = low
 end_of gap low (a ∷ more) = end_of gap (behind gap low a.grant a.start) more
 
 -- the grants that continue a burst end no later
-continued_end : (gap low : ℕ) (rows : List Structure) → low + continued rows ≤ end_of gap low rows
+pub continued_end : (gap low : ℕ) (rows : List Structure) → low + continued rows ≤ end_of gap low rows
 continued_end gap low [] = omega arith
 continued_end gap low (a ∷ more) =
     elim (a.start) as (λ o. low + (if is_none o then a.grant + continued more else 0) ≤ end_of gap (behind gap low a.grant o) more) [

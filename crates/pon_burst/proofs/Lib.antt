@@ -1,4 +1,5 @@
 mod Laid
+mod LastOnu
 pub mod MapRows
 pub mod MapRules
 mod SeriesMaps

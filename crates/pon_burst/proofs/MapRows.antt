@@ -1,9 +1,9 @@
 -- The structures of grants in map order, one after the other: which start a burst, and at which word.
-use Rattle.std.proofs.Common.{◌≡◌, ℕ, ◌+◌, ◌*◌, ◌<◌, ◌≤◌, Bool, true, false, not, ◌||◌, ◌&&◌, List, [], ◌∷◌, ◌++◌, map, length, ap, sym, ◌∙◌, subst, arith, inl, inr}
-use Rattle.std.specs.Prelude.{◌==◌, nat_lt, if◌then◌else◌, filter, sum_by, All}
+use Rattle.std.proofs.Common.{◌≡◌, ℕ, ◌+◌, ◌*◌, ◌<◌, ◌≤◌, Bool, true, false, not, ◌||◌, ◌&&◌, List, [], ◌∷◌, ◌++◌, map, length, refl, ap, sym, ◌∙◌, subst, arith, inl, inr}
+use Rattle.std.specs.Prelude.{◌==◌, nat_lt, if◌then◌else◌, filter, sum_by, All, Some, None}
 use Rattle.std.specs.List.{list_any}
 use Rattle.std.proofs.Math.Bool.{and-true}
-use Rattle.std.proofs.lemmas.Bool.{cases_lt, and_parts, and_right, or_parts, ltb-true, lt-ltb, le-ltb, eqb-true, false_from_ne_true}
+use Rattle.std.proofs.lemmas.Bool.{cases_lt, and_parts, and_right, or_left, or_right, or_parts, ltb-true, lt-ltb, le-ltb, eqb-true, eq-eqb, false_from_ne_true}
 use Rattle.std.proofs.lemmas.Bool.Decides.{eqb_tells}
 use Rattle.std.proofs.lemmas.List.{map-append}
 use Rattle.std.proofs.lemmas.List.Elements.{All-nil, All-cons, All-head, All-tail, All-map, All-weaker}
@@ -14,7 +14,7 @@ use Rattle.pon_units.specs.Granted.{AreInMapOrder, ComesBefore, onus_granted}
 use Rattle.pon_lists.proofs.Lists.{list_any-map, list_any_agree, or-false, sum_by_agree}
 use Rattle.pon_lists.proofs.Order.{in_order-sides}
 use Rattle.pon_lists.proofs.Distinct.{bit, count_once, count_once-append, count_once_agree, count_once_none, count_once_push, length-distinct, length-filter_distinct, occurs}
-use Rattle.pon_burst.specs.Maps.{follows_in_series, frame_words, grant, start_of}
+use Rattle.pon_burst.specs.Maps.{follows_in_series, frame_words, grant, start_of, structure_of}
 
 -- Who comes before whom.
 
@@ -23,6 +23,17 @@ onus gs = map (λ g. g.onu) gs
 
 abbrev pub has_onu : ℕ → List Granted → Bool
 has_onu u gs = list_any (λ g. g.onu == u) gs
+
+-- an ONU that has a grant is at most the greatest
+pub any_at_most : (v u : ℕ) (xs : List Granted) → All (λ q. q.onu ≤ u) xs → has_onu v xs ≡ true → v ≤ u
+any_at_most v u [] h found = absurd (cc)
+any_at_most v u (x ∷ xs) h found = elim (eqb_tells x.onu v) [
+  | inl e ↦ omega (arith, e.1, All-head (λ q. q.onu ≤ u) x xs h)
+  | inr e ↦ any_at_most v u xs (All-tail (λ q. q.onu ≤ u) x xs h) (subst (λ b. (b || has_onu v xs) ≡ true) e.0 found)
+]
+
+pub has_pushed : (xs : List Granted) (r : Granted) → has_onu r.onu (xs ++ r ∷ []) ≡ true
+has_pushed xs r = list_any-append (λ g. g.onu == r.onu) xs (r ∷ []) ∙ or_right (has_onu r.onu xs) ((r.onu == r.onu) || false) (or_left (r.onu == r.onu) false (eq-eqb r.onu r.onu refl))
 
 -- of the same ONU, and of lesser Alloc-ID
 abbrev leads : Granted → Granted → Bool
@@ -124,3 +135,17 @@ module _ (gap profile : ℕ) (gs : List Granted) (order : AreInMapOrder gs) (r :
       (λ q k. let z : f q ≡ 0 = ap (λ b. if b then grant q else 0) k in omega (arith, z)) (r ∷ ys) late) in
       let grants_before : sum_by f gs ≡ sum_by grant xs = omega (arith, summed, whole, nothing) in
       (λ i. gap + (gap + 2) * onus_before i + grants_before i)
+
+  -- the first of an ONU begins a burst there
+  pub begins_burst : has_onu r.onu xs ≡ false → ((structure_of gap profile gs r).start ≡ Some (word_after gap xs)) × (word_after gap (xs ++ r ∷ []) ≡ word_after gap xs + (gap + 2) + grant r)
+  begins_burst n =
+      let pushed : word_after gap (xs ++ r ∷ []) ≡ gap + (gap + 2) * (count_once (onus xs) (λ _. true) + 1) + (sum_by grant xs + grant r)
+      = word_push gap xs r ∙ ap (λ b. gap + (gap + 2) * (count_once (onus xs) (λ _. true) + bit (not b && true)) + (sum_by grant xs + grant r)) n in
+      ((λ i. if (follows_in_series-is ∙ n) i then None else Some (start-is n i)), omega (arith, pushed))
+
+  -- a later one continues it
+  pub continues_burst : has_onu r.onu xs ≡ true → ((structure_of gap profile gs r).start ≡ None) × (word_after gap (xs ++ r ∷ []) ≡ word_after gap xs + grant r)
+  continues_burst h =
+      let pushed : word_after gap (xs ++ r ∷ []) ≡ gap + (gap + 2) * (count_once (onus xs) (λ _. true) + 0) + (sum_by grant xs + grant r)
+      = word_push gap xs r ∙ ap (λ b. gap + (gap + 2) * (count_once (onus xs) (λ _. true) + bit (not b && true)) + (sum_by grant xs + grant r)) h in
+      (ap (λ b. if b then None else Some (start_of gap profile gs r.onu)) (follows_in_series-is ∙ h), omega (arith, pushed))

@@ -1,8 +1,7 @@
 -- Grants in map order make a map: few enough of each ONU, and all in a frame.
-use Rattle.std.proofs.Common.{◌≡◌, ℕ, zero, suc, ◌+◌, ◌<◌, ◌≤◌, Bool, true, false, cond, ◌||◌, List, [], ◌∷◌, ◌++◌, map, length, Option, refl, ap, sym, ◌∙◌, subst, append_assoc, arith, inl, inr}
+use Rattle.std.proofs.Common.{◌≡◌, ℕ, zero, suc, ◌+◌, ◌<◌, ◌≤◌, Bool, true, false, cond, List, [], ◌∷◌, ◌++◌, map, length, Option, refl, ap, sym, ◌∙◌, subst, append_assoc, arith}
 use Rattle.std.specs.Prelude.{◌==◌, if◌then◌else◌, is_none, slice_get, count_by, All, Some, None}
 use Rattle.std.proofs.lemmas.Bool.{eq-eqb}
-use Rattle.std.proofs.lemmas.Bool.Decides.{eqb_tells}
 use Rattle.std.proofs.lemmas.List.{length-map}
 use Rattle.std.proofs.lemmas.List.Elements.{All-head, All-tail, All-weaker, All-push}
 use Rattle.std.proofs.lemmas.List.Sums.{sum_by-cons}
@@ -15,7 +14,7 @@ use Rattle.pon_bwmap.specs.MapRules.{continues as lacks_start, IsMap}
 use Rattle.pon_bwmap.proofs.SeriesLaw.{map_rules}
 use Rattle.pon_burst.specs.Bursts.{IsInFrame, burst_of, bursts_of, continued}
 use Rattle.pon_burst.specs.Maps.{follows_in_series, frame_words, map_granting, start_of, structure_of}
-use Rattle.pon_burst.proofs.MapRows.{follows_in_series-is, has_onu}
+use Rattle.pon_burst.proofs.MapRows.{any_at_most, follows_in_series-is, has_onu}
 use Rattle.pon_lists.proofs.Order.{in_order-sides}
 use Rattle.pon_burst.proofs.SoundMaps.{sound_of_rising}
 
@@ -38,13 +37,6 @@ starts_in_frame gap (b ∷ rows) h (suc k) start a here is = starts_in_frame gap
 -- 1 where a grant is the ONU's
 abbrev of_onu : ℕ → Granted → ℕ
 of_onu u g = cond (g.onu == u) 1 0
-
-any_at_most : (v u : ℕ) (xs : List Granted) → All (λ q. q.onu ≤ u) xs → has_onu v xs ≡ true → v ≤ u
-any_at_most v u [] h found = absurd (cc)
-any_at_most v u (x ∷ xs) h found = elim (eqb_tells x.onu v) [
-  | inl e ↦ omega (arith, e.1, All-head (λ q. q.onu ≤ u) x xs h)
-  | inr e ↦ any_at_most v u xs (All-tail (λ q. q.onu ≤ u) x xs h) (subst (λ b. (b || has_onu v xs) ≡ true) e.0 found)
-]
 
 module _ (gap profile : ℕ) (gs : List Granted) (order : AreInMapOrder gs) where
   abbrev row : Granted → Structure

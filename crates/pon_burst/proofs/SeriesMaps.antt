@@ -1,17 +1,15 @@
 -- The structures of a burst are those of the map at its place.
-use Rattle.std.proofs.Common.{◌≡◌, ℕ, suc, ◌+◌, ◌<◌, true, false, ◌||◌, List, [], ◌∷◌, ◌++◌, map, length, get_or, take, drop, Some, None, refl, ap, sym, ◌∙◌, subst, append_assoc, arith}
-use Rattle.std.specs.Prelude.{◌==◌, if◌then◌else◌, sum_by}
+use Rattle.std.proofs.Common.{◌≡◌, ℕ, suc, ◌+◌, ◌<◌, true, false, List, [], ◌∷◌, ◌++◌, map, length, get_or, take, drop, Some, None, refl, ap, sym, ◌∙◌, subst, append_assoc, arith}
+use Rattle.std.specs.Prelude.{if◌then◌else◌, sum_by}
 use Rattle.std.proofs.Math.Seq.{take-suc}
-use Rattle.std.proofs.lemmas.Bool.{eq-eqb, or_left, or_right}
 use Rattle.std.proofs.lemmas.List.{append-nil, drop_more, map-append, take-append-drop}
-use Rattle.std.proofs.lemmas.List.Folds.{list_any-append}
 use Rattle.std.proofs.lemmas.Grind.{flat_map-append}
 use Rattle.pon_units.specs.declared.Granted.{Granted}
 use Rattle.pon_units.specs.Granted.{AreInMapOrder}
 use Rattle.pon_bwmap.specs.Structure.{Structure}
 use Rattle.pon_burst.specs.Maps.{follows_in_series, start_of, structure_of}
 use Rattle.pon_burst.specs.Series.{Series, burst_structures, burst_words, grants_of_series, granted_to, polled}
-use Rattle.pon_burst.proofs.MapRows.{follows_in_series-is, has_onu, start-is, word_after}
+use Rattle.pon_burst.proofs.MapRows.{follows_in_series-is, has_onu, has_pushed, start-is, word_after}
 use Rattle.pon_burst.proofs.SeriesOrder.{Rise, granted_of, in_order, none_before, rise-take, words_after}
 
 module _ (gap profile : ℕ) (gs : List Granted) (order : AreInMapOrder gs) (u : ℕ) where
@@ -21,16 +19,13 @@ module _ (gap profile : ℕ) (gs : List Granted) (order : AreInMapOrder gs) (u :
   abbrev structures_of : List (ℕ × ℕ) → List Structure
   structures_of bs = map (structure_of gap profile gs) (grants_of bs)
 
-  has_last : (xs : List Granted) (b : ℕ × ℕ) → has_onu u (xs ++ granted_of u b ∷ []) ≡ true
-  has_last xs b = list_any-append (λ g. g.onu == u) xs (granted_of u b ∷ []) ∙ or_right (has_onu u xs) ((u == u) || false) (or_left (u == u) false (eq-eqb u u refl))
-
   -- structures of an ONU that has one before them continue its burst
   later : (bs : List (ℕ × ℕ)) (xs ys : List Granted) → gs ≡ xs ++ (grants_of bs ++ ys) → has_onu u xs ≡ true → map (polled profile None) bs ≡ structures_of bs
   later [] xs ys e h = refl
   later (b ∷ bs) xs ys e h =
       let on : follows_in_series gap profile gs (granted_of u b) ≡ true = follows_in_series-is gap profile gs order (granted_of u b) xs (grants_of bs ++ ys) e ∙ h in
       let rest : map (polled profile None) bs ≡ structures_of bs
-      = later bs (xs ++ granted_of u b ∷ []) ys (e ∙ sym (append_assoc xs (granted_of u b ∷ []) (grants_of bs ++ ys))) (has_last xs b) in
+      = later bs (xs ++ granted_of u b ∷ []) ys (e ∙ sym (append_assoc xs (granted_of u b ∷ []) (grants_of bs ++ ys))) (has_pushed xs (granted_of u b)) in
       (λ i. polled profile (if sym on i then None else Some (start_of gap profile gs u)) b ∷ rest i)
 
   -- the first starts the burst
@@ -40,7 +35,7 @@ module _ (gap profile : ℕ) (gs : List Granted) (order : AreInMapOrder gs) (u :
       let off : follows_in_series gap profile gs (granted_of u b) ≡ false = follows_in_series-is gap profile gs order (granted_of u b) xs (grants_of bs ++ ys) e ∙ h in
       let start : start_of gap profile gs u ≡ word_after gap xs = start-is gap profile gs order (granted_of u b) xs (grants_of bs ++ ys) e h in
       let rest : map (polled profile None) bs ≡ structures_of bs
-      = later bs (xs ++ granted_of u b ∷ []) ys (e ∙ sym (append_assoc xs (granted_of u b ∷ []) (grants_of bs ++ ys))) (has_last xs b) in
+      = later bs (xs ++ granted_of u b ∷ []) ys (e ∙ sym (append_assoc xs (granted_of u b ∷ []) (grants_of bs ++ ys))) (has_pushed xs (granted_of u b)) in
       (λ i. polled profile (if sym off i then None else Some (sym start i)) b ∷ rest i)
 
 -- one series more, and what it is granted

@@ -1,39 +1,26 @@
 -- Grants in map order that fit a frame have sound bursts.
-use Rattle.std.proofs.Common.{◌≡◌, ℕ, Bool, ◌+◌, ◌*◌, ◌≤◌, true, false, not, ◌&&◌, List, [], ◌∷◌, ◌++◌, map, refl, ap, sym, ◌∙◌, subst, append_assoc, arith}
-use Rattle.std.specs.Prelude.{if◌then◌else◌, sum_by, Some, None}
+use Rattle.std.proofs.Common.{◌≡◌, ℕ, ◌+◌, ◌≤◌, List, [], ◌∷◌, ◌++◌, map, refl, ap, sym, ◌∙◌, subst, append_assoc, arith, inl, inr}
+use Rattle.std.proofs.lemmas.Bool.{cases_Bool}
 use Rattle.std.proofs.lemmas.List.{append-nil}
 use Rattle.pon_units.specs.declared.Granted.{Granted}
 use Rattle.pon_units.specs.Granted.{AreInMapOrder}
-use Rattle.pon_lists.proofs.Distinct.{bit, count_once}
 use Rattle.pon_burst.specs.Bursts.{AreSound}
-use Rattle.pon_burst.specs.Maps.{frame_words, grant, map_granting, start_of, structure_of}
-use Rattle.pon_burst.proofs.Laid.{AreLaid, BeginsAt, behind, end_of, laid_sound}
-use Rattle.pon_burst.proofs.MapRows.{follows_in_series-is, has_onu, onus, start-is, word_after, word_push, words_of}
+use Rattle.pon_burst.specs.Maps.{frame_words, grant, map_granting, structure_of}
+use Rattle.pon_burst.proofs.Laid.{AreLaid, BeginsAt, behind, continued_end, end_of, laid_sound}
+use Rattle.pon_burst.proofs.MapRows.{begins_burst, continues_burst, has_onu, word_after, words_of}
 
 module _ (gap profile : ℕ) (gs : List Granted) (order : AreInMapOrder gs) where
   -- a structure lies behind those before it
   row_laid : (r : Granted) (xs ys : List Granted) → gs ≡ xs ++ r ∷ ys →
       BeginsAt (word_after gap xs) (structure_of gap profile gs r).start × (behind gap (word_after gap xs) (grant r) (structure_of gap profile gs r).start ≡ word_after gap (xs ++ r ∷ []))
-  row_laid r xs ys e =
-      subst (λ b. BeginsAt (word_after gap xs) (if b then None else Some s) × (behind gap (word_after gap xs) (grant r) (if b then None else Some s) ≡ word_after gap (xs ++ r ∷ [])))
-      (sym (follows_in_series-is gap profile gs order r xs ys e))
-      (by_test (has_onu r.onu xs) refl)
-    where
-      s : ℕ
-      s = start_of gap profile gs r.onu
-
-      onus_before : ℕ
-      onus_before = count_once (onus xs) (λ _. true)
-
-      by_test : (b : Bool) → has_onu r.onu xs ≡ b → BeginsAt (word_after gap xs) (if b then None else Some s) × (behind gap (word_after gap xs) (grant r) (if b then None else Some s) ≡ word_after gap (xs ++ r ∷ []))
-      by_test true k =
-          let pushed : word_after gap (xs ++ r ∷ []) ≡ gap + (gap + 2) * (onus_before + 0) + (sum_by grant xs + grant r)
-          = word_push gap xs r ∙ ap (λ b. gap + (gap + 2) * (onus_before + bit (not b && true)) + (sum_by grant xs + grant r)) k in
-          (tt, omega (arith, pushed))
-      by_test false k =
-          let pushed : word_after gap (xs ++ r ∷ []) ≡ gap + (gap + 2) * (onus_before + 1) + (sum_by grant xs + grant r)
-          = word_push gap xs r ∙ ap (λ b. gap + (gap + 2) * (onus_before + bit (not b && true)) + (sum_by grant xs + grant r)) k in
-          (start-is gap profile gs order r xs ys e k, omega (arith, pushed))
+  row_laid r xs ys e = elim (cases_Bool (has_onu r.onu xs)) [
+    | inl h ↦
+        let at = continues_burst gap profile gs order r xs ys e h in
+        subst (λ o. BeginsAt (word_after gap xs) o × (behind gap (word_after gap xs) (grant r) o ≡ word_after gap (xs ++ r ∷ []))) (sym at.0) (tt, sym at.1)
+    | inr n ↦
+        let at = begins_burst gap profile gs order r xs ys e n in
+        subst (λ o. BeginsAt (word_after gap xs) o × (behind gap (word_after gap xs) (grant r) o ≡ word_after gap (xs ++ r ∷ []))) (sym at.0) (refl, omega (arith, at.1))
+  ]
 
   -- the structures of the grants after some lie behind those
   rest_laid : (xs ys : List Granted) → gs ≡ xs ++ ys →
@@ -55,3 +42,8 @@ module _ (gap profile : ℕ) (gs : List Granted) (order : AreInMapOrder gs) wher
       let end : word_after gap gs ≤ gap + 9720 = omega (arith, words_of gap gs, fits) in
       laid_sound gap (map_granting gap profile gs) (subst (λ w. AreLaid gap w (map_granting gap profile gs)) start both.0)
       (subst (λ w. end_of gap w (map_granting gap profile gs) ≤ gap + 9720) start (subst (λ w. w ≤ gap + 9720) (sym both.1) end))
+
+  -- the next burst may start in the frame, or behind a gap after it
+  pub word_in_frame : frame_words gap gs ≤ 9720 → (xs ys : List Granted) → gs ≡ xs ++ ys → word_after gap xs ≤ gap + 9720
+  word_in_frame fits xs ys e =
+      omega (arith, continued_end gap (word_after gap xs) (map (structure_of gap profile gs) ys), (rest_laid xs ys e).1, words_of gap gs, fits)

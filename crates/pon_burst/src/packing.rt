@@ -68,6 +68,3 @@ fn write_burst(
     }
     grants
 }
-
-#[cfg(test)]
-mod tests;

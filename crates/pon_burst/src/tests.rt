@@ -1,6 +1,9 @@
 ghost use Rattle.std.specs.Prelude.{◌≡◌, ◌≤◌};
 
 use super::*;
+use arrayvec::ArrayVec;
+use pon_bwmap::Alloc;
+use pon_units::{AllocId, Gap, Granted, OnuId, Profile, Words};
 use std::test::Fail;
 
 fn id(n: u16) -> AllocId
@@ -23,6 +26,20 @@ fn onu(n: u16) -> OnuId
     ensures { result ≡ n }
 {
     OnuId::new(n).unwrap()
+}
+
+fn granted(u: u16, n: u16, payload: u16) -> Granted
+    requires onu { u ≤ 1022 }
+    requires low { 1024 ≤ n }
+    requires high { n ≤ 16383 }
+    requires payload { payload ≤ 9720 }
+    ensures { result ≡ record { onu = u; alloc_id = n; words = payload } }
+{
+    Granted {
+        onu: onu(u),
+        alloc_id: id(n),
+        words: words(payload),
+    }
 }
 
 fn gap() -> Gap
@@ -89,5 +106,38 @@ fn two_onus(rt: HostRuntime) -> Result<(), Fail> {
     let first = Alloc::polled(1024, Some(16), 6456, 0);
     let second = Alloc::polled(1025, Some(16 + 1 + 6456 + 1 + 16), 3226, 0);
     assert_eq!(rt; out, [first, second]);
+    Ok(())
+}
+
+#[test]
+fn lays_what_pack_writes(rt: HostRuntime) -> Result<(), Fail> {
+    let mut first = ArrayVec::new();
+    first.push((id(1024), words(6400)));
+    first.push((id(1030), words(0)));
+    let mut second = ArrayVec::new();
+    second.push((id(1025), words(3225)));
+    let mut written = [blank(); 3];
+    let series = [(onu(1), first), (onu(5), second)];
+    pack(gap(), profile(), &series, &mut written);
+    let grants = [
+        granted(1, 1024, 6400),
+        granted(1, 1030, 0),
+        granted(5, 1025, 3225),
+    ];
+    let mut laid = Vec::with_capacity(rt.alloc(), 3)?;
+    lay_bursts(gap(), profile(), &grants, &mut laid);
+    assert_eq!(rt; laid.as_slice(), written.as_slice());
+    Ok(())
+}
+
+#[test]
+fn lays_behind_what_is_there(rt: HostRuntime) -> Result<(), Fail> {
+    let mut laid = Vec::with_capacity(rt.alloc(), 2)?;
+    laid.push_reserved(blank());
+    lay_bursts(gap(), profile(), &[], &mut laid);
+    assert_eq!(rt; laid.as_slice(), [blank()].as_slice());
+    lay_bursts(gap(), profile(), &[granted(5, 1024, 10)], &mut laid);
+    let structure = Alloc::polled(1024, Some(16), 11, 0);
+    assert_eq!(rt; laid.as_slice(), [blank(), structure].as_slice());
     Ok(())
 }

@@ -1,0 +1,35 @@
+ghost use Rattle.std.specs.Prelude.{◌≡◌, ◌+◌, ◌≤◌, ◌++◌, length, vec_len, vec_capacity};
+ghost use Rattle.pon_units.specs.Granted.{AreInMapOrder};
+ghost use Rattle.pon_burst.specs.Maps.{frame_words, map_granting};
+
+use pon_bwmap::Alloc;
+use pon_units::{FRAME_WORDS, Gap, Granted, Profile};
+
+/// Appends to `out` the structures of the map of these grants, one for each grant in order. It reserves nothing.
+///
+/// The caller's conditions: the grants are in map order; gap, header, trailer and grants of all ONUs are at most 9,720
+/// words; and `out` has room for a structure for each grant. No grants are fine, and have no structures.
+pub fn lay_bursts(gap: Gap, profile: Profile, grants: &[Granted], out: &mut Vec<Alloc>)
+    requires order { AreInMapOrder grants.now }
+    requires fit { frame_words gap grants.now ≤ FRAME_WORDS }
+    requires room { vec_len out.old + length grants.now ≤ vec_capacity out.old }
+    ensures structures { out.new.items
+        ≡ out.old.items ++ map_granting gap profile grants.now }
+    ensures capacity { vec_capacity out.old ≤ vec_capacity out.new }
+{
+    let gap_words = gap.get();
+    let mut end = gap_words;
+    let mut last = None;
+    for granted in grants {
+        let grant = 1 + granted.words.get();
+        let mut start = None;
+        if last != Some(granted.onu) {
+            start = Some(end);
+            end += gap_words + 2;
+        }
+        end += grant;
+        last = Some(granted.onu);
+        let id = granted.alloc_id.get();
+        out.push_reserved(Alloc::polled(id, start, grant, profile.get()));
+    }
+}
