@@ -3,6 +3,6 @@ mod LastOnu
 pub mod MapRows
 pub mod MapRules
 mod SeriesMaps
-pub mod SeriesOrder
+mod SeriesOrder
 pub mod SoundMaps
 mod Writing

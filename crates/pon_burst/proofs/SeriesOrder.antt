@@ -4,10 +4,9 @@ use Rattle.std.specs.Prelude.{◌==◌, sum_by, count_by, All, AllPairs}
 use Rattle.std.proofs.lemmas.Bool.{eq-eqb, ne_eqb}
 use Rattle.std.proofs.lemmas.Bool.Decides.{eqb_tells}
 use Rattle.std.proofs.lemmas.List.{map-append, length-map}
-use Rattle.std.proofs.lemmas.List.Elements.{All-nil, All-cons, All-head, All-tail, All-map, All-append, All-take, All-weaker}
+use Rattle.std.proofs.lemmas.List.Elements.{All-head, All-tail, All-map, All-append, All-take, All-weaker}
 use Rattle.std.proofs.lemmas.List.Folds.{list_any-append}
 use Rattle.std.proofs.lemmas.List.Sums.{sum_by-append, sum_by-cons, count_by-le-length}
-use Rattle.std.proofs.lemmas.List.Kept.{AllPairs-cons}
 use Rattle.pon_units.specs.declared.Granted.{Granted}
 use Rattle.pon_units.specs.Granted.{AreInMapOrder, ComesBefore}
 use Rattle.pon_lists.proofs.Lists.{All-middle, count_by-append, list_any-map, sum_by-map}
@@ -143,24 +142,3 @@ words_after gap ss r =
 
 pub fits : (gap : ℕ) (ss : List Series) → FitsFrame gap ss → frame_words gap (grants_of_series ss) ≤ 9720
 fits gap ss fit = omega (arith, words_after gap ss (rise gap ss fit), words_of gap (grants_of_series ss), fit.words)
-
--- series that rise fit a frame where what they are granted does
-pub fits_from : (gap : ℕ) (ss : List Series) → Rise ss → frame_words gap (grants_of_series ss) ≤ 9720 → FitsFrame gap ss
-fits_from gap ss r fit = record {
-  onus_rise = onus ss r;
-  alloc_ids_rise = alloc_ids ss r;
-  none_empty = some ss r;
-  words = omega (arith, words_after gap ss r, words_of gap (grants_of_series ss), fit);
-}
-  where
-    onus : (ss : List Series) → Rise ss → AllPairs (λ s t. s.0 < t.0) ss
-    onus [] r = λ i j d lt le. absurd (omega (arith, lt, le))
-    onus (s ∷ ss) r = AllPairs-cons (λ s t. s.0 < t.0) s ss r.0 (onus ss r.3)
-
-    alloc_ids : (ss : List Series) → Rise ss → All (λ s. AllPairs (λ a b. a.0 < b.0) s.1.items) ss
-    alloc_ids [] r = All-nil (λ s. AllPairs (λ a b. a.0 < b.0) s.1.items)
-    alloc_ids (s ∷ ss) r = All-cons (λ s. AllPairs (λ a b. a.0 < b.0) s.1.items) s ss r.1 (alloc_ids ss r.3)
-
-    some : (ss : List Series) → Rise ss → All (λ s. 0 < length s.1.items) ss
-    some [] r = All-nil (λ s. 0 < length s.1.items)
-    some (s ∷ ss) r = All-cons (λ s. 0 < length s.1.items) s ss r.2 (some ss r.3)

@@ -1,5 +1,4 @@
 pub mod ClassShares
 pub mod Dealing
-pub mod Gathering
 pub mod RosterMaps
 pub mod Surplus

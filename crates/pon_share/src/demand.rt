@@ -61,7 +61,7 @@ pub(crate) fn demands(alloc: Global, input: &ShareInput) -> Result<Vec<Demand>, 
 {
     let mut found = Vec::with_capacity(alloc, input.roster.rows().len())?;
     for row in input.roster.rows() {
-        found.push(demand_of(input, found.len(), row))?;
+        found.push_reserved(demand_of(input, found.len(), row));
     }
     Ok(found)
 }

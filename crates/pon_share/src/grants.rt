@@ -97,7 +97,7 @@ pub(crate) fn grants(
                 share(&cert.be.level, &demand.item, saturated)
             }
         };
-        grants.push(grant(demand, surplus))?;
+        grants.push_reserved(grant(demand, surplus));
     }
     Ok(grants)
 }

@@ -9,7 +9,6 @@ mod grants;
 mod input;
 mod packing;
 mod problems;
-mod series;
 mod shares;
 mod sharing;
 

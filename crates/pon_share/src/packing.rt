@@ -5,8 +5,7 @@ ghost use Rattle.pon_bwmap.specs.MapRules.{IsMap};
 ghost use Rattle.pon_burst.specs.Maps.{map_granting};
 ghost use Rattle.pon_share.specs.Packing.{AreOneMap};
 
-use crate::series::group_by_onu;
-use pon_burst::pack;
+use pon_burst::lay_bursts;
 use pon_bwmap::{Alloc, Map};
 use pon_units::{Gap, Granted, Profile};
 use std::alloc::{AllocError, Global};
@@ -23,10 +22,8 @@ fn structures(
         ≡ map_granting gap profile grants.now) }
     ensures map { IfOk result (λ structures. IsMap structures.items) }
 {
-    let series = group_by_onu(alloc, gap, grants)?;
-    let blank = Alloc::polled(0, None, 0, 0);
-    let mut structures = Vec::from_elem(alloc, blank, grants.len())?;
-    pack(gap, profile, series.as_slice(), structures.as_mut_slice());
+    let mut structures = Vec::with_capacity(alloc, grants.len())?;
+    lay_bursts(gap, profile, grants, &mut structures);
     Ok(structures)
 }
 

@@ -43,6 +43,16 @@ fn is_in_class(demand: &Demand, class: Class) -> bool
     demand.class == class
 }
 
+// The number of members of a class.
+fn member_count(demands: &[Demand], class: Class) -> usize
+    ensures { result ≡ length (filter (λ d. same_class d.class class) demands.now) }
+{
+    demands
+        .iter()
+        .filter(|demand| is_in_class(demand, class))
+        .count()
+}
+
 /// The Alloc-IDs of a class in map order, and with what each shares the surplus of the class.
 #[derive(Drop)]
 pub struct Members {
@@ -61,12 +71,13 @@ pub(crate) fn class_members(
     ensures items { IfOk result (λ members. members.items.items
         ≡ map (λ d. d.item) (filter (λ d. same_class d.class class) demands.now)) }
 {
-    let mut ids = Vec::new(alloc);
-    let mut items = Vec::new(alloc);
+    let count = member_count(demands, class);
+    let mut ids = Vec::with_capacity(alloc, count)?;
+    let mut items = Vec::with_capacity(alloc, count)?;
     for demand in demands {
         if is_in_class(demand, class) {
-            ids.push(demand.alloc_id)?;
-            items.push(demand.item)?;
+            ids.push_reserved(demand.alloc_id);
+            items.push_reserved(demand.item);
         }
     }
     Ok(Members { ids, items })
