@@ -2,8 +2,8 @@ use arrayvec::ArrayVec;
 use pon_units::{BufOcc, LONGEST_SERIES};
 use std::marker::Model;
 
-/// The occupancies that an ONU reports in one burst, in words, for its structures in order: at most 16. A garbled report
-/// is `None`.
+/// The occupancies that an ONU reports in one burst, in words, for its structures in order: at most 16. A garbled
+/// report is `None`.
 #[derive(Debug, PartialEq, Eq, Drop)]
 pub struct Occupancies {
     reports: ArrayVec<Option<BufOcc>, LONGEST_SERIES>,

@@ -53,7 +53,7 @@ is_comment [] = true
 is_comment ([] ∷ ws) = false
 is_comment ((b ∷ w) ∷ ws) = b == 35
 
--- What a line requests of this number of ports, by its checks in order. It may end with a carriage return, not a line feed.
+-- What a line requests of this number of ports, by its checks in order. The line may end with a carriage return.
 unfoldable pub read_line : ℕ → List ℕ → Reading
 read_line ports line =
     if nat_lt 4096 (length line) then Refused LineLong else
