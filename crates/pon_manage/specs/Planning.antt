@@ -14,7 +14,8 @@ use Rattle.pon_stream.specs.declared.fault.PlanFault.TheVariants.{Memory}
 use Rattle.pon_session.specs.Planning.{BeginsText, Planned}
 use Rattle.pon_manage.specs.Text.{Gives}
 
--- the ports before the first line: just opened, and with the steps of their settings taken, each accepted or refused by a check
+-- the ports before the first line: just opened, and with the steps of their settings taken, each accepted or refused by
+-- a check
 abbrev pub IsStart : List (PortCfg × ℕ) → List Step → List Chapter → Type 0
 IsStart ports steps start = (answers : List (Result Reply StepFault)) × Ran (opened_ports ports) steps answers start × NoneIsOutOfMemory answers
 

@@ -56,8 +56,8 @@ impl Answers for AtPlant {
 ///
 /// `Read` if the reader failed or 2^64 - 1 reads were made: the text of all whole lines read is written.
 /// `Write` if the writer failed, and `Memory` if memory was refused: a prefix of the text is written; after
-/// `Memory` it is the text of the lines before. A line without its line feed at a fault is not answered. `Memory` before
-/// the first read leaves reader and writer unchanged. The writer is flushed once, at the end of the input.
+/// `Memory` it is the text of the lines before. A line without its line feed at a fault is not answered. `Memory`
+/// before the first read leaves reader and writer unchanged. The writer is flushed once, at the end of the input.
 pub fn plan<H, R: DevRead, W: DevWrite>(
     _rt: &H,
     alloc: Global,

@@ -66,8 +66,8 @@ pub struct MapUnder {
     pub grants: Vec<Granted>,
 }
 
-/// Makes the map of the state under a certificate that is accepted for the given class problems. `Err` only if memory is
-/// refused.
+/// Makes the map of the state under a certificate that is accepted for the given class problems. `Err` only if memory
+/// is refused.
 pub fn map_under(
     alloc: Global,
     state: &PortState,
