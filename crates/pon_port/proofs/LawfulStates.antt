@@ -305,7 +305,7 @@ owner_reported rows reported j i v u owns of_it by_it there =
     All-weaker (λ r. r.alloc_id ≡ j → r.onu ≡ v) (λ r. r.alloc_id ≡ i → Contains reported r.onu)
     (λ r w z. subst (Contains reported) (sym (w (z ∙ sym of_it) ∙ by_it)) there) rows owns
 
--- a list with a grant that passes two tests has one with the property of all
+-- if a grant of a list passes two tests and all have a property, a grant passes both and has the property
 pub pick_grant : (P : Granted → Type 0) (p q : Granted → Bool) (gs : List Granted) → list_any p (filter q gs) ≡ true → All P gs → (g : Granted) × (p g ≡ true) × (q g ≡ true) × P g
 pick_grant P p q [] h k = absurd cc
 pick_grant P p q (g ∷ gs) h k =
