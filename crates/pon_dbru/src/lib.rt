@@ -1,7 +1,7 @@
-//! The dynamic bandwidth report (DBRu) of an allocation on an XG-PON line (ITU-T G.987.3): how many words wait, in three
-//! bytes, and a check byte.
+//! The dynamic bandwidth report (DBRu) of an allocation on an XG-PON line (ITU-T G.987.3): the number of waiting words
+//! in three bytes, and a check byte.
 //!
-//! A wrong byte makes a report garbled: nothing is corrected. Nothing here takes memory.
+//! A report with a wrong check byte is garbled; no bit is corrected. The crate allocates no memory.
 #![tactic(auto)]
 
 mod occupancies;

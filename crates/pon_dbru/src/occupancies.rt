@@ -2,8 +2,8 @@ use arrayvec::ArrayVec;
 use pon_units::{BufOcc, LONGEST_SERIES};
 use std::marker::Model;
 
-/// The occupancies that an ONU reports in one burst, in words, for its structures in order: at most 16. A garbled report
-/// is `None`.
+/// The occupancies that an ONU reports in one burst, in words, for its structures in order: at most 16. A garbled
+/// report is `None`.
 #[derive(Debug, PartialEq, Eq, Drop)]
 pub struct Occupancies {
     reports: ArrayVec<Option<BufOcc>, LONGEST_SERIES>,
@@ -22,7 +22,7 @@ impl Model for Occupancies {
 impl Occupancies {
     ghost use Rattle.std.specs.Prelude.{◌≡◌, ◌<◌, ◌≤◌, [], ◌∷◌, ◌++◌, length};
 
-    /// No occupancies.
+    /// Makes an empty list of occupancies.
     pub fn new() -> Self
         ensures { result ≡ [] }
     {
@@ -31,7 +31,7 @@ impl Occupancies {
         }
     }
 
-    /// Appends what the next report says, or `None` if it is garbled. There is room for 16.
+    /// Appends the occupancy of the next report, or `None` if it is garbled. The list holds at most 16.
     pub fn push(&mut self, report: Option<BufOcc>)
         requires { length self.old < LONGEST_SERIES }
         ensures { self.new ≡ self.old ++ report ∷ [] }
@@ -39,7 +39,7 @@ impl Occupancies {
         self.reports.push(report);
     }
 
-    /// The same occupancies. It takes no memory.
+    /// Makes an equal list of occupancies. It allocates no memory.
     pub fn copy(&self) -> Self
         ensures { result ≡ self.now }
     {
@@ -51,7 +51,7 @@ impl Occupancies {
         copy
     }
 
-    /// The occupancies, in order.
+    /// Returns the occupancies, in order, at most 16.
     pub fn as_slice(&self) -> &[Option<BufOcc>]
         ensures value { result.now ≡ self.now }
         ensures range { length self.now ≤ LONGEST_SERIES }

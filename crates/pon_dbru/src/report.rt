@@ -4,14 +4,14 @@ ghost use Rattle.pon_dbru.specs.Report.{check_generator, Reports};
 
 use pon_units::BufOcc;
 
-/// A report whose check byte is not that of its three other bytes.
+/// The fault of a report whose check byte is not that of its first three bytes.
 #[derive(Clone, Copy, Debug, PartialEq, Eq)]
 pub struct Garbled;
 
 /// The generator of the check byte: x^8 + x^2 + x + 1.
 const GENERATOR: u32 = 0b1_0000_0111;
 
-// What is left of 24 bits times x^8 by the generator.
+// Computes the check byte of 24 bits: the remainder of the bits times x^8 by the generator.
 fn check_byte(words: u32) -> u8
     requires { words < 2 ^ 24 }
     ensures { result ≡ remainder check_generator 8 24 (words * 2 ^ 8) }
@@ -26,7 +26,7 @@ fn check_byte(words: u32) -> u8
     rest as u8
 }
 
-// The four bytes that report `words`.
+// Returns the four bytes that report `words`.
 fn report_bytes(words: u32) -> [u8; 4]
     requires { words < 2 ^ 24 }
     ensures { Reports result words }
@@ -34,7 +34,7 @@ fn report_bytes(words: u32) -> [u8; 4]
     (words << 8 | u32::from(check_byte(words))).to_be_bytes()
 }
 
-// The occupancy of `words`.
+// Returns the occupancy of `words`.
 fn occupancy_of(words: u32) -> BufOcc
     requires { words < 2 ^ 24 }
     ensures { result ≡ words }
@@ -45,15 +45,15 @@ fn occupancy_of(words: u32) -> BufOcc
     }
 }
 
-/// The four bytes that report this occupancy, in words of 4 bytes: the number, most significant byte first, and the
-/// check byte.
+/// Returns the four bytes that report this occupancy: the number of words of 4 bytes, most significant byte first, and
+/// the check byte.
 pub fn encode(occupancy: BufOcc) -> [u8; 4]
     ensures { Reports result occupancy }
 {
     report_bytes(occupancy.get())
 }
 
-/// The occupancy that four bytes report; 0xFFFFFF is an ordinary value. `Garbled` exactly when they report none.
+/// Returns the occupancy that four bytes report; `Garbled` exactly when they report none. 0xFFFFFF is a usual value.
 pub fn decode(bytes: [u8; 4]) -> Result<BufOcc, Garbled>
     ensures ok { IfOk result (λ occupancy. Reports bytes occupancy) }
     ensures garbled { IsErr result ↔ ((words : ℕ) → Reports bytes words → ⊥) }

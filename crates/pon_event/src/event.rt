@@ -2,7 +2,7 @@ use pon_dbru::Occupancies;
 use pon_descr::{Cause, Descriptor};
 use pon_units::{AllocId, FrameNo, OnuId};
 
-/// What may happen at a port.
+/// One of the seven events of a port.
 #[derive(Debug, PartialEq, Eq, Drop)]
 pub enum Event {
     /// An Alloc-ID of an ONU is admitted with a descriptor.
@@ -16,11 +16,11 @@ pub enum Event {
         alloc_id: AllocId,
         descriptor: Descriptor,
     },
-    /// An Alloc-ID is taken out.
+    /// An admitted Alloc-ID is removed.
     Remove {
         alloc_id: AllocId,
     },
-    /// An ONU reports its buffers in answer to the map of a frame: one occupancy for each of its structures there.
+    /// An ONU reports for the map of a frame: one occupancy for each of its structures in that map.
     Report {
         frame: FrameNo,
         onu: OnuId,
@@ -28,18 +28,18 @@ pub enum Event {
     },
     /// The map of the next frame is made.
     MakeMap,
-    /// The line has failed: the window and the reports are forgotten, and no map is made until it is back.
+    /// The line has failed: the window and the reports are dropped, and no map is made until the line is restored.
     Fail {
         cause: Cause,
     },
-    /// The line is back: reports count from the next frame on.
+    /// The line is restored: reports count from the next frame on.
     Restore,
 }
 
 impl Event {
     ghost use Rattle.std.specs.Prelude.{◌≡◌};
 
-    /// The same event. It takes no memory.
+    /// Makes an equal event. It allocates no memory.
     pub fn copy(&self) -> Event
         ensures { result ≡ self.now }
     {

@@ -1,7 +1,7 @@
 //! The seven events of a port of an XG-PON optical line terminal, and the step that names a port with its event.
 //!
-//! An event is a value: it says what a management line asks for, what an ONU reports, or what the line does. What it
-//! does to a port, and when a port refuses it, is for the crates above.
+//! An event is a value: the request of a management line, the report of an ONU, or a failure or restoration of the
+//! line. The crates above define what it does to a port and when a port refuses it.
 #![tactic(auto)]
 
 mod event;

@@ -1,4 +1,4 @@
--- What holds of each event that words ask for holds of each event that a line asks for.
+-- A property of each event that words request holds for each event that a line requests.
 use Rattle.std.proofs.Common.{ℕ, Bool, true, false, List, [], ◌∷◌, length}
 use Rattle.std.specs.Prelude.{nat_lt, not, codes, if◌then◌else◌, Result, Ok, Err}
 use Rattle.std.specs.Str.{bytes_eq}
@@ -12,7 +12,7 @@ use Rattle.pon_line.specs.declared.fault.LineFault.TheVariants.{LineLong, NotTex
 use Rattle.pon_line.specs.declared.reading.Reading.{Reading}
 use Rattle.pon_line.specs.declared.reading.Reading.TheVariants.{Nothing, Refused, Asks, AsksCert, AsksState}
 
--- P holds of what was read, where something was
+-- P holds for the value that was read, if there is one
 abbrev pub Reads : {A : Type 0} → (A → Type 0) → Result A LineFault → Type 0
 Reads P (Ok x) = P x
 Reads P (Err fault) = Unit {0}
@@ -25,7 +25,7 @@ pub alone : (P : Event → Type 0) (event : Event) (ws : List (List ℕ)) → P 
 alone P event [] p = p
 alone P event (w ∷ ws) p = tt
 
--- P holds of an event that is asked for
+-- P holds for the requested event, if there is one
 abbrev pub AsksFor : (Event → Type 0) → Reading → Type 0
 AsksFor P Nothing = Unit {0}
 AsksFor P (Refused fault) = Unit {0}

@@ -1,4 +1,4 @@
--- A line asks only ports that are there.
+-- A line requests something only of an existing port.
 use Rattle.std.proofs.Common.{◌≡◌, ℕ, ◌<◌, Bool, true, false, List, [], ◌∷◌, length, refl}
 use Rattle.std.specs.Prelude.{nat_lt, not, codes, if◌then◌else◌, Result, Ok, Err}
 use Rattle.std.specs.List.{list_all}
@@ -15,7 +15,7 @@ use Rattle.pon_line.specs.declared.fault.LineFault.TheVariants.{LineLong, NotTex
 use Rattle.pon_line.specs.declared.reading.Reading.{Reading}
 use Rattle.pon_line.specs.declared.reading.Reading.TheVariants.{Nothing, Refused, AsksCert, AsksState}
 
--- a port that a word names is there
+-- a port that a word names exists
 IsThere : ℕ → Result ℕ LineFault → Type 0
 IsThere ports (Ok port) = port < ports
 IsThere ports (Err fault) = Unit {0}

@@ -6,7 +6,7 @@ use Rattle.pon_lists.specs.ResultSteps.{◌>>=◌}
 use Rattle.pon_line.specs.Commands.{occupancy_field, occupancy_fields}
 use Rattle.pon_line.specs.declared.fault.LineFault.{LineFault}
 
--- What words write, with what was read before them.
+-- The occupancies read before, followed by those that the words write, or the fault of the words.
 abbrev pub after_those : List (Option ℕ) → Result (List (Option ℕ)) LineFault → Result (List (Option ℕ)) LineFault
 after_those done (Ok ns) = Ok (done ++ ns)
 after_those done (Err fault) = Err fault
@@ -15,7 +15,7 @@ pub none_before : (r : Result (List (Option ℕ)) LineFault) → after_those [] 
 none_before (Ok ns) = refl
 none_before (Err fault) = refl
 
--- one word more, and a word that writes none
+-- a word that writes an occupancy adds it to those before; a word that writes none ends the reading with its fault
 pub one_more : (done : List (Option ℕ)) (w : List ℕ) (ws : List (List ℕ)) (n : Option ℕ) → occupancy_field w ≡ Ok n → after_those done (occupancy_fields (w ∷ ws)) ≡ after_those (done ++ n ∷ []) (occupancy_fields ws)
 unfolding occupancy_fields
 one_more done w ws n h = ap (λ r. after_those done (r >>= λ n. occupancy_fields ws >>= λ ns. Ok (n ∷ ns))) h ∙ rest (occupancy_fields ws)

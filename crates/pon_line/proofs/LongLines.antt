@@ -7,21 +7,21 @@ use Rattle.pon_line.specs.Reading.{read_line}
 use Rattle.pon_line.specs.declared.fault.LineFault.TheVariants.{LineLong}
 use Rattle.pon_line.specs.declared.reading.Reading.TheVariants.{Refused}
 
--- all of a list that is short enough
+-- the first n elements of a list of at most n are the whole list
 pub take_all : (n : ℕ) (xs : List ℕ) → length xs ≤ n → take n xs ≡ xs
 take_all zero [] l = refl
 take_all zero (x ∷ xs) l = absurd (omega arith)
 take_all (suc n) [] l = refl
 take_all (suc n) (x ∷ xs) l = ap (λ t. x ∷ t) (take_all n xs (omega arith))
 
--- a line that is too long is refused as such
+-- a line of more than 4,096 bytes is refused as too long
 pub read_line-long : (ports : ℕ) (line : List ℕ) → 4096 < length line → read_line ports line ≡ Refused LineLong
 unfolding read_line
 read_line-long ports line l =
     let long : nat_lt 4096 (length line) ≡ true = lt-ltb 4096 (length line) l in
     rw long refl
 
--- a line reads the same by its first 4,097 bytes
+-- a line reads the same as its first 4,097 bytes
 pub read_line-take : (ports : ℕ) (line : List ℕ) → read_line ports (take 4097 line) ≡ read_line ports line
 read_line-take ports line = elim (cases_lt 4096 (length line)) [
   | inl l ↦ read_line-long ports (take 4097 line) (omega (arith, l, length-take 4097 line)) ∙ sym (read_line-long ports line l)

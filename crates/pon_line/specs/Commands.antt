@@ -1,4 +1,4 @@
--- The commands of management lines: what the words after the port ask.
+-- The commands of management lines: what the words after the port request.
 use Rattle.std.specs.Prelude.{ℕ, ◌==◌, ◌||◌, nat_lt, if◌then◌else◌, List, [], ◌∷◌, length, codes, Option, Some, None, Result, Ok, Err}
 use Rattle.std.specs.Str.{bytes_eq}
 use Rattle.pon_units.specs.declared.limits.TheConstants.{GREATEST_ALLOC_ID, GREATEST_OCCUPANCY, GREATEST_ONU_ID, LEAST_ALLOC_ID, LONGEST_SERIES}
@@ -13,7 +13,7 @@ use Rattle.pon_line.specs.Fields.{number_field, descriptor_words, rate_fields}
 use Rattle.pon_line.specs.declared.fault.LineFault.{LineFault}
 use Rattle.pon_line.specs.declared.fault.LineFault.TheVariants.{BadField, UnknownCommand, WordCount, Port}
 
--- an event, unless its numbers are refused: the Alloc-ID is checked first, then the ONU-ID, then the descriptor
+-- an event, or the refusal of its numbers: the Alloc-ID is checked first, then the ONU-ID, then the descriptor
 abbrev pub unless : Option Refusal → Event → Result Event LineFault
 unless None event = Ok event
 unless (Some refusal) event = Err (Port refusal)
@@ -24,7 +24,7 @@ alloc_refusal alloc = when (nat_lt alloc LEAST_ALLOC_ID || nat_lt GREATEST_ALLOC
 abbrev pub onu_refusal : ℕ → Option Refusal
 onu_refusal onu = when (nat_lt GREATEST_ONU_ID onu) OnuRange
 
--- the events of numbers
+-- the events of numbers, or the first refusal
 unfoldable pub admit : ℕ → ℕ → Descriptor → Result Event LineFault
 admit onu alloc d = unless (first_of (alloc_refusal alloc ∷ onu_refusal onu ∷ descriptor_refusal d ∷ [])) (Admit onu alloc d)
 
@@ -58,7 +58,7 @@ unfoldable pub remove_of : List (List ℕ) → Result Event LineFault
 remove_of (alloc ∷ []) = number_field alloc >>= remove
 remove_of _ = Err WordCount
 
--- an occupancy in words, 0 to 16,777,215, or none where it is garbled
+-- an occupancy in words, 0 to 16,777,215, or none for `x`, a garbled one
 unfoldable pub occupancy_field : List ℕ → Result (Option ℕ) LineFault
 occupancy_field w = if bytes_eq w (codes "x") then Ok None else (do
   n ← number_field w

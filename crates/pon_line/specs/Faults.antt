@@ -1,4 +1,4 @@
--- The words of a fault of a line.
+-- The text of a fault of a line.
 use Rattle.std.specs.Prelude.{ℕ, List, codes}
 use Rattle.pon_descr.specs.Refusal.{refusal_text}
 use Rattle.pon_line.specs.declared.fault.LineFault.{LineFault}

@@ -7,7 +7,7 @@ use Rattle.pon_text.specs.Lines.{number_of}
 use Rattle.pon_line.specs.declared.fault.LineFault.{LineFault}
 use Rattle.pon_line.specs.declared.fault.LineFault.TheVariants.{WordCount, BadField}
 
--- a value that is there, or a bad field
+-- a value, or `BadField` if it is missing
 abbrev pub or_bad_field : {T : Type 0} → Option T → Result T LineFault
 or_bad_field (Some x) = Ok x
 or_bad_field None = Err BadField
@@ -23,12 +23,12 @@ pub record DescriptorWords : Type 0 where
   pub most : List ℕ
   pub class : List ℕ
 
--- they are four, and no word follows
+-- exactly four words
 unfoldable pub descriptor_words : List (List ℕ) → Result DescriptorWords LineFault
 descriptor_words (fixed ∷ assured ∷ most ∷ class ∷ []) = Ok (record { fixed = fixed; assured = assured; most = most; class = class })
 descriptor_words _ = Err WordCount
 
--- the rates in kbit/s and the class that they write, where each writes one
+-- the rates in kbit/s and the class that the words write, if each writes one
 abbrev pub written_rates : DescriptorWords → Option Descriptor
 written_rates w = all_there (number_of w.fixed) (number_of w.assured) (number_of w.most) (class_of w.class)
 

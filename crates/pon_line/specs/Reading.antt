@@ -1,4 +1,4 @@
--- What a management line asks.
+-- What a management line requests.
 use Rattle.std.specs.Prelude.{ℕ, ◌<◌, ◌==◌, ◌||◌, ◌&&◌, not, nat_le, nat_lt, Bool, true, false, if◌then◌else◌, List, [], ◌∷◌, length, codes, Result, Ok, Err}
 use Rattle.std.specs.List.{list_all}
 use Rattle.std.specs.Str.{bytes_eq}
@@ -16,7 +16,7 @@ use Rattle.pon_line.specs.declared.reading.Reading.TheVariants.{Nothing, Refused
 unfoldable pub port_of : ℕ → List ℕ → Result ℕ LineFault
 port_of ports w = number_field w >>= λ n. if nat_lt n ports then Ok n else Err NoSuchPort
 
--- a port is requested to take an event
+-- the request that a port take an event, or the refusal of the line
 abbrev pub takes : ℕ → Result Event LineFault → Reading
 takes port (Ok event) = Asks port event
 takes port (Err fault) = Refused fault
@@ -53,7 +53,7 @@ is_comment [] = true
 is_comment ([] ∷ ws) = false
 is_comment ((b ∷ w) ∷ ws) = b == 35
 
--- What a line asks of this number of ports, by its checks in order. The line has its carriage return, and no line feed.
+-- What a line requests of this number of ports, by its checks in order. The line may end with a carriage return.
 unfoldable pub read_line : ℕ → List ℕ → Reading
 read_line ports line =
     if nat_lt 4096 (length line) then Refused LineLong else
@@ -61,7 +61,7 @@ read_line ports line =
     (if not (list_all is_text (without_return line)) then Refused NotText else
     read_words ports (words_of (without_return line))))
 
--- only ports that are there are asked
+-- a request is only of an existing port
 abbrev pub AsksWithin : ℕ → Reading → Type 0
 AsksWithin ports Nothing = Unit {0}
 AsksWithin ports (Refused fault) = Unit {0}

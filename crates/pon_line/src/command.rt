@@ -1,4 +1,4 @@
-//! The commands of management lines: what the words after the port ask.
+//! The commands of management lines: what the words after the port request.
 
 ghost use Rattle.std.specs.Prelude.{◌≡◌, [], ◌∷◌, Ok, Err, MatchResult, codes, false};
 ghost use Rattle.std.specs.Str.{bytes_eq};
@@ -19,7 +19,7 @@ use pon_event::Event;
 use pon_text::{Word, count_words, first_word};
 use pon_units::{FrameNo, LONGEST_SERIES, OnuId};
 
-// The event of an `admit`, by the checks of its numbers in order.
+// Returns the event of an `admit`, or the first refusal of its numbers.
 #[tactic(auto, unfolding(crate::specs::Commands::admit))]
 fn admit(onu: u64, alloc: u64, rates: &Rates) -> Result<Event, LineFault>
     ensures { result ≡ admit onu alloc
@@ -46,7 +46,7 @@ fn admit(onu: u64, alloc: u64, rates: &Rates) -> Result<Event, LineFault>
     }
 }
 
-// The event of a `change`.
+// Returns the event of a `change`, or the first refusal of its numbers.
 #[tactic(auto, unfolding(crate::specs::Commands::change))]
 fn change(alloc: u64, rates: &Rates) -> Result<Event, LineFault>
     ensures { result ≡ change alloc
@@ -69,7 +69,7 @@ fn change(alloc: u64, rates: &Rates) -> Result<Event, LineFault>
     }
 }
 
-// The event of a `remove`.
+// Returns the event of a `remove`, or the refusal of its number.
 #[tactic(auto, unfolding(crate::specs::Commands::remove))]
 fn remove(alloc: u64) -> Result<Event, LineFault>
     ensures { result ≡ remove alloc }
@@ -80,7 +80,7 @@ fn remove(alloc: u64) -> Result<Event, LineFault>
     }
 }
 
-// What the words after `admit` ask.
+// Returns the event that the words after `admit` request.
 #[tactic(auto, unfolding(crate::specs::Commands::admit_of))]
 fn admit_of(text: &[u8]) -> Result<Event, LineFault>
     ensures { result ≡ admit_of (words_of text.now) }
@@ -94,7 +94,7 @@ fn admit_of(text: &[u8]) -> Result<Event, LineFault>
     admit(onu, alloc, &rates)
 }
 
-// What the words after `change` ask.
+// Returns the event that the words after `change` request.
 #[tactic(auto, unfolding(crate::specs::Commands::change_of))]
 fn change_of(text: &[u8]) -> Result<Event, LineFault>
     ensures { result ≡ change_of (words_of text.now) }
@@ -106,7 +106,7 @@ fn change_of(text: &[u8]) -> Result<Event, LineFault>
     change(alloc, &rates)
 }
 
-// What the words after `remove` ask.
+// Returns the event that the words after `remove` request.
 #[tactic(auto, unfolding(crate::specs::Commands::remove_of))]
 fn remove_of(text: &[u8]) -> Result<Event, LineFault>
     ensures { result ≡ remove_of (words_of text.now) }
@@ -119,13 +119,13 @@ fn remove_of(text: &[u8]) -> Result<Event, LineFault>
     remove(alloc)
 }
 
-// The frame and the ONU that report.
+// The frame and the ONU of a report.
 struct Reporter {
     frame: FrameNo,
     onu: OnuId,
 }
 
-// Reads the words after `report`: the occupancies into the list, which has none yet, and who reports them.
+// Reads the words after `report`: appends the occupancies to the empty list, and returns the frame and the ONU.
 #[tactic(auto, unfolding(crate::specs::Commands::report_of, crate::specs::Commands::report))]
 fn read_report(text: &[u8], occ: &mut Occupancies) -> Result<Reporter, LineFault>
     requires { occ.old ≡ [] }
@@ -165,7 +165,7 @@ fn report_request(port: usize, text: &[u8]) -> Reading
     }
 }
 
-// What the words after `fail` ask.
+// Returns the event that the words after `fail` request.
 #[tactic(auto, unfolding(crate::specs::Commands::fail_of))]
 fn fail_of(text: &[u8]) -> Result<Event, LineFault>
     ensures { result ≡ fail_of (words_of text.now) }
@@ -180,7 +180,7 @@ fn fail_of(text: &[u8]) -> Result<Event, LineFault>
     }
 }
 
-// Returns the event, unless a word follows.
+// Returns the event, or `WordCount` if a word follows.
 fn no_arguments(text: &[u8], event: Event) -> Result<Event, LineFault>
     ensures { result ≡ no_arguments event (words_of text.now) }
 {
@@ -225,7 +225,7 @@ fn event_of(name: &Word<'_>) -> Result<Event, LineFault>
     }
 }
 
-// Returns the request that a port takes an event.
+// Returns the request that a port take the event, or the refusal of the line.
 fn takes(port: usize, event: Result<Event, LineFault>) -> Reading
     ensures { result ≡ takes port event }
 {
@@ -235,7 +235,7 @@ fn takes(port: usize, event: Result<Event, LineFault>) -> Reading
     }
 }
 
-// Returns the request that a port takes an event. An event is built in its place in the request: it is large.
+// Returns the request of the words of an event. An event is large, so `map` and `report` build it within the request.
 #[tactic(auto, unfolding(crate::specs::Commands::event_of))]
 fn event_request(port: usize, name: &Word<'_>) -> Reading
     ensures { result ≡ takes port (event_of (name.now.word.now ∷ words_of name.now.rest.now)) }
@@ -249,7 +249,7 @@ fn event_request(port: usize, name: &Word<'_>) -> Reading
     }
 }
 
-// Returns the request, unless a word follows.
+// Returns the request, or `WordCount` if a word follows.
 fn shows(text: &[u8], asked: Reading) -> Reading
     ensures { result ≡ shows asked (words_of text.now) }
 {
@@ -259,7 +259,7 @@ fn shows(text: &[u8], asked: Reading) -> Reading
     }
 }
 
-/// Returns what the words after the port request of it.
+/// Returns the request of the words after the port, or their first fault.
 #[tactic(auto, unfolding(crate::specs::Reading::request_of))]
 pub(crate) fn request_of(port: usize, text: &[u8]) -> Reading
     ensures { result ≡ request_of port (words_of text.now) }

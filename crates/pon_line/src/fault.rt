@@ -1,18 +1,18 @@
 use pon_descr::Refusal;
 use std::fmt;
 
-/// Why a line is refused. Each has a number, L1 to L7, and the name that the lines print; a port's refusal has its own.
+/// Why a line is refused. Each fault has a number, L1 to L7, and a name, which the reply prints; a refusal has its own.
 #[derive(Clone, Copy, Debug, PartialEq, Eq)]
 pub enum LineFault {
     /// L1: the second word is no command.
     UnknownCommand,
     /// L2: the command is missing, or has more or fewer words than it takes.
     WordCount,
-    /// L3: a word is no number of 1 to 20 digits below 2^64, or no class.
+    /// L3: a word is not the number (1 to 20 digits, below 2^64), class, occupancy or cause that its place requires.
     BadField,
-    /// L4: there is no port of that number.
+    /// L4: no port has that number.
     NoSuchPort,
-    /// L5: the certificate is asked for, and the kept chapter has no map yet.
+    /// L5: the certificate is requested, and the kept chapter has no map yet.
     NoMap,
     /// L6: the line has more than 4,096 bytes.
     LineLong,

@@ -20,7 +20,7 @@ pub(crate) struct DescriptorWords<'a> {
     pub(crate) class: &'a [u8],
 }
 
-/// The rates in kbit/s and the class that a line asks for, not yet checked.
+/// The rates in kbit/s and the class that a line requests, not yet checked.
 #[derive(Clone, Copy)]
 pub(crate) struct Rates {
     pub(crate) fixed: u64,
@@ -29,7 +29,7 @@ pub(crate) struct Rates {
     pub(crate) class: Class,
 }
 
-/// The next word, where there has to be one.
+/// Returns the next word, or `WordCount` if there is none.
 pub(crate) fn next_word(text: &[u8]) -> Result<Word<'_>, LineFault>
     ensures { MatchResult result
         (λ next. words_of text.now ≡ next.word.now ∷ words_of next.rest.now)
@@ -41,7 +41,7 @@ pub(crate) fn next_word(text: &[u8]) -> Result<Word<'_>, LineFault>
     }
 }
 
-/// The number that a word writes.
+/// Returns the number that a word writes, or `BadField` if it writes none.
 #[tactic(auto, unfolding(crate::specs::Fields::number_field))]
 pub(crate) fn number_field(word: &[u8]) -> Result<u64, LineFault>
     ensures { result ≡ number_field word.now }
@@ -52,7 +52,7 @@ pub(crate) fn number_field(word: &[u8]) -> Result<u64, LineFault>
     }
 }
 
-/// The words of a descriptor, which are the last of their line.
+/// Returns the words of a descriptor, or `WordCount` unless the text has exactly four words.
 #[tactic(auto, unfolding(crate::specs::Fields::descriptor_words))]
 pub(crate) fn descriptor_words(text: &[u8]) -> Result<DescriptorWords<'_>, LineFault>
     ensures { MatchResult result
@@ -74,7 +74,7 @@ pub(crate) fn descriptor_words(text: &[u8]) -> Result<DescriptorWords<'_>, LineF
     })
 }
 
-// The rates and the class that they write.
+// Returns the rates and the class that the words write, or `None` if a word writes none.
 fn written_rates(words: &DescriptorWords<'_>) -> Option<Rates>
     ensures { MatchOption result
         (written_rates (record { fixed = words.now.fixed.now; assured = words.now.assured.now; most = words.now.max.now; class = words.now.class.now }) ≡ None)
@@ -92,7 +92,7 @@ fn written_rates(words: &DescriptorWords<'_>) -> Option<Rates>
     })
 }
 
-/// The rates and the class that the words of a descriptor write.
+/// Returns the rates and the class that the words of a descriptor write, or `BadField` if a word writes none.
 #[tactic(auto, unfolding(crate::specs::Fields::rate_fields))]
 pub(crate) fn rate_fields(words: &DescriptorWords<'_>) -> Result<Rates, LineFault>
     ensures { MatchResult result
@@ -105,7 +105,7 @@ pub(crate) fn rate_fields(words: &DescriptorWords<'_>) -> Result<Rates, LineFaul
     }
 }
 
-/// The descriptor of the rates that a line asks for.
+/// Returns the descriptor of the requested rates and class, or the first refusal.
 pub(crate) fn descriptor_of(rates: &Rates) -> Result<Descriptor, Refusal>
     ensures ok { IfOk result
         (λ d. d ≡ record {
@@ -132,21 +132,21 @@ pub(crate) fn descriptor_of(rates: &Rates) -> Result<Descriptor, Refusal>
     Descriptor::new(rates.fixed, rates.assured, rates.max, rates.class)
 }
 
-/// A managed Alloc-ID, 1024 to 16383.
+/// Returns the Alloc-ID of a number, or `None` outside 1024 to 16383.
 pub(crate) fn alloc_id_of(number: u64) -> Option<AllocId>
     ensures { SomeIff result ((LEAST_ALLOC_ID ≤ number) × (number ≤ GREATEST_ALLOC_ID)) number }
 {
     AllocId::new(u16::try_from(number).ok()?)
 }
 
-/// An ONU-ID, 0 to 1022.
+/// Returns the ONU-ID of a number, or `None` above 1022.
 pub(crate) fn onu_id_of(number: u64) -> Option<OnuId>
     ensures { SomeIff result (number ≤ GREATEST_ONU_ID) number }
 {
     OnuId::new(u16::try_from(number).ok()?)
 }
 
-/// The cause of a failure, 1 to 9.
+/// Returns the cause of a failure of a number, or `None` outside 1 to 9.
 pub(crate) fn cause_of(number: u64) -> Option<Cause>
     ensures { SomeIff result ((1 ≤ number) × (number ≤ 9)) number }
 {

@@ -1,7 +1,7 @@
-//! The grammar of management lines: one line to the command that it spells, or to the first check that refuses it.
+//! The grammar of management lines: a line is read as its request, or as its first fault.
 //!
-//! A line names a port and an event at it, or asks for a certificate. Reading takes no memory and asks no port: whether
-//! the port accepts the event is for the crates above.
+//! A line names a port and an event at it, or requests its last certificate or its state. Reading allocates no memory
+//! and needs no port: the crates above decide whether the port accepts the event.
 #![tactic(auto)]
 
 mod command;

@@ -11,14 +11,14 @@ use pon_dbru::Occupancies;
 use pon_text::first_word;
 use pon_units::{BufOcc, GREATEST_OCCUPANCY, LONGEST_SERIES};
 
-// The occupancy of a number of words, 0 to 16,777,215.
+// Returns the occupancy of a number of words, or `None` above 16,777,215.
 fn occupancy_of(number: u64) -> Option<BufOcc>
     ensures { SomeIff result (number ≤ GREATEST_OCCUPANCY) number }
 {
     BufOcc::new(u32::try_from(number).ok()?)
 }
 
-// The occupancy that a word writes, or that it is garbled.
+// Returns the occupancy that a word writes, `None` for `x` (garbled), or `BadField` if it writes neither.
 #[tactic(auto, unfolding(crate::specs::Commands::occupancy_field))]
 fn occupancy_field(word: &[u8]) -> Result<Option<BufOcc>, LineFault>
     ensures { result ≡ occupancy_field word.now }
@@ -32,8 +32,8 @@ fn occupancy_field(word: &[u8]) -> Result<Option<BufOcc>, LineFault>
     }
 }
 
-/// Reads the occupancies that the words of a text write, at most 16, into the list, which has none yet. After an `Err` the
-/// list has those before the first word that writes none.
+/// Appends the occupancies that the words of a text write, at most 16, to the empty list. After an `Err` the list has
+/// those before the first word that writes none.
 pub(crate) fn occupancy_fields(text: &[u8], occupancies: &mut Occupancies) -> Result<(), LineFault>
     requires empty { occupancies.old ≡ [] }
     requires few { length (words_of text.now) ≤ LONGEST_SERIES }

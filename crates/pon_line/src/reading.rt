@@ -1,4 +1,4 @@
-//! What a management line asks of a port, or why it is refused.
+//! What a management line requests of a port, or why it is refused.
 
 ghost use Rattle.std.specs.Prelude.{◌≡◌, ℕ, List, take};
 ghost use Rattle.std.specs.List.{list_all};
@@ -10,25 +10,25 @@ use crate::fields::number_field;
 use pon_event::Event;
 use pon_text::{first_word, without_return};
 
-/// The most bytes of a line, its carriage return counted.
+/// The greatest length of a line in bytes, including its carriage return.
 const LONGEST: usize = 4096;
 
-/// What a line asks.
+/// The result of reading a line.
 #[derive(Drop)]
 pub enum Reading {
     /// The line is blank or a comment: there is no reply.
     Nothing,
     /// The line is refused.
     Refused(LineFault),
-    /// The port is to take the event.
+    /// The line requests that the port take the event.
     Asks { port: usize, event: Event },
-    /// The certificate of the port's last map is asked for.
+    /// The line requests the certificate of the port's last map.
     AsksCert { port: usize },
-    /// The state of the port is asked for.
+    /// The line requests the state of the port.
     AsksState { port: usize },
 }
 
-// The port that a word names, below the number of ports.
+// Returns the port that a word names, `BadField` if the word is no number, or `NoSuchPort` if no port has it.
 #[tactic(auto, unfolding(crate::specs::Reading::port_of))]
 fn port_of(ports: usize, word: &[u8]) -> Result<usize, LineFault>
     ensures { result ≡ port_of ports word.now }
@@ -58,17 +58,18 @@ fn is_text(line: &[u8]) -> bool
     all
 }
 
-/// What a line asks of a number of ports. The line comes without its line feed; a carriage return at its end is dropped.
+/// Reads a line for a number of ports. The line has no line feed; a carriage return at its end is dropped.
 ///
 /// `<port> admit <onu> <alloc> <fixed> <assured> <max> <class>` admits an Alloc-ID, `<port> change <alloc> <fixed>
-/// <assured> <max> <class>` gives it another descriptor, `<port> remove <alloc>` takes it out, `<port> report <frame>
-/// <onu> <occ> ..` reports what waits at an ONU's structures in the map of a frame, `<port> map` makes the next map,
-/// `<port> cert` asks for the certificate of the last map and `<port> show` for the state of the port, `<port> fail <cause>`
-/// says that the line has failed and `<port> restore` that it is back. Words are parted by spaces
-/// and tabs; a number is 1 to 20 decimal digits with a value below 2^64; rates are in kbit/s; a class is `none`, `na` or
-/// `be`; an occupancy is 0 to 16,777,215 words of 4 bytes, or `x` where it is garbled, 1 to 16 of them; a cause is 1 to 9.
+/// <assured> <max> <class>` gives it another descriptor, `<port> remove <alloc>` removes it, `<port> report <frame>
+/// <onu> <occ> ..` reports the occupancies of an ONU's structures in a frame's map, `<port> map` makes the next map,
+/// `<port> cert` requests the certificate of the last map and `<port> show` the state of the port, `<port> fail
+/// <cause>` reports that the line has failed and `<port> restore` that it is restored. Words are separated by spaces
+/// and tabs; a number is 1 to 20 decimal digits with a value below 2^64; rates are in kbit/s; a class is `none`, `na`
+/// or `be`; there are 1 to 16 occupancies, each 0 to 16,777,215 words of 4 bytes, or `x` if it is garbled; a cause is
+/// 1 to 9.
 ///
-/// Refused, in this order: `LineLong` above 4,096 bytes, the carriage return counted; `NotText` for a byte that is no
+/// Refused, in this order: `LineLong` above 4,096 bytes, including the carriage return; `NotText` for a byte that is no
 /// text, unless the line is blank or a comment, which begins with `#`; `BadField` if the first word is no number and
 /// `NoSuchPort` if no port has it; `WordCount` without a second word and `UnknownCommand` if it is no command;
 /// `WordCount` if the command takes more or fewer words; `BadField` at the first word that is no number, no class, no
@@ -97,7 +98,7 @@ pub fn read_line(ports: usize, line: &[u8]) -> Reading
     }
 }
 
-/// A line that is too long reads the same by its first 4,097 bytes, so a reader may let the others go.
+/// A line reads the same as its first 4,097 bytes, so a reader may drop the rest.
 pub fn long_lines()
     ensures { (ports : ℕ) (line : List ℕ) → read_line ports (take 4097 line)
         ≡ read_line ports line }

@@ -1,4 +1,4 @@
--- What a port answers to an event, as a text.
+-- The answer of a port to an event, as a text.
 use Rattle.std.proofs.Common.{◌≡◌, ℕ, List, refl, ap, sym, ◌∙◌, subst, length}
 use Rattle.std.specs.Prelude.{Option, Some, None, Result, Ok, Err, OnOk, ◌++◌, ◌≢◌, slice_get, slice_set}
 use Rattle.pon_descr.specs.Checks.{IsTold}
@@ -18,7 +18,7 @@ use Rattle.pon_manage.specs.Text.{AddsAnswer, Answers, AsksPort, Posts, refusal_
 abbrev at : ℕ → Event → Step
 at port event = record { port = port; event = event }
 
--- the text of a refused event is the text of the first check to refuse it, unless memory was refused
+-- the text of a refused event is that of its first refusal, unless memory was refused
 refused_at : (old : List Chapter) (port : ℕ) (event : Event) (told : Refusal) (text : List ℕ) (o : Option Chapter) →
     IsAnswer o event (Err (Refused told)) → told ≢ OutOfMemory → text ≡ refusal_line (Port told) → AsksPort old port o event text old
 refused_at old port event told text None h other is = absurd (cc)

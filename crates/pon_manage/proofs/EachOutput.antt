@@ -30,7 +30,7 @@ each_post old port c v None e l range =
     let taken : (reply : Reply) × (next : Chapter) × Takes c v reply next = each_taken c v l range e in
     (reply_line (length c.entries) taken.0, slice_set old port taken.1, (taken.0, taken.1, taken.2, refl, refl))
 
--- a port that is there has a chapter
+-- an existing port has a chapter
 there : (old : List Chapter) (port : ℕ) → port < length old → slice_get old port ≡ None → ⊥
 there [] port lt e = omega (arith, lt)
 there (c ∷ cs) port lt e = (let t = sym (slice_get-get_or (c ∷ cs) port c lt) ∙ e in cc)
@@ -73,7 +73,7 @@ each_output ports input l =
     let gives : (text : List ℕ) × (new : List Chapter) × GivesLines Gives ports (lines_of input) text new = each_lines ports (lines_of input) l in
     (gives.0, (gives.1, gives.2))
 
--- What begins an output is a beginning of the output text.
+-- A text that begins an output is a prefix of the output text.
 
 lawful_lines : (old : List Chapter) (ls : List (List ℕ)) (text : List ℕ) (new : List Chapter) → AreLawful old → GivesLines Gives old ls text new → AreLawful new
 lawful_lines old [] text new l p = subst AreLawful (sym p.1) l
@@ -85,7 +85,7 @@ gives_append old mid new [] ms text more p q =
 gives_append old mid new (x ∷ ls) ms text more p q =
     (p.0, p.1 ++ more, p.2, p.3, gives_append p.2 mid new ls ms p.1 more p.4 q, ap (λ t. t ++ more) p.5 ∙ append_assoc p.0 p.1 more)
 
--- the lines that are left give a text that begins so
+-- the remaining lines have a text with this prefix
 begins_lines : (old : List Chapter) (ls : List (List ℕ)) (part : List ℕ) → AreLawful old → BeginsNext Gives old ls part → (text : List ℕ) × (new : List Chapter) × GivesLines Gives old ls text new × IsBeginning part text
 begins_lines old [] part l e = ([], old, (refl, refl), ([], ap (λ t. t ++ []) e))
 begins_lines old (x ∷ ls) part l (inl e) =

@@ -15,7 +15,7 @@ use Rattle.pon_manage.specs.Text.{reply_line, Answers, AsksPort, Posts, TellsCer
 use Rattle.pon_line.specs.declared.reading.Reading.{Reading}
 use Rattle.pon_line.specs.declared.reading.Reading.TheVariants.{Nothing, Refused, Asks, AsksCert, AsksState}
 
--- two texts and what they leave are the same
+-- the two texts are equal, and so are the chapters after them
 abbrev Same : List ℕ → List ℕ → List Chapter → List Chapter → Type 0
 Same text more new other = (text ≡ more) × (new ≡ other)
 
@@ -26,7 +26,7 @@ one_post old port c v None text more new other l p q =
     let same : (p.0 ≡ q.0) × (p.1 ≡ q.1) = one_taken c p.1 q.1 v p.0 q.0 l p.2 q.2 in
     (p.3 ∙ ap (reply_line (length c.entries)) same.0 ∙ sym q.3, p.4 ∙ ap (slice_set old port) same.1 ∙ sym q.4)
 
--- the chapters of the ports are lawful, and stay so
+-- the chapters of the ports are lawful
 abbrev pub AreLawful : List Chapter → Type 0
 AreLawful cs = All IsLawfulChapter cs
 

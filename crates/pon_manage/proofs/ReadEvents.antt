@@ -1,4 +1,4 @@
--- The numbers of an event that a line asks for are in range.
+-- The numbers of an event that a line requests are in range.
 use Rattle.std.proofs.Common.{◌≡◌, ℕ, ◌<◌, ◌≤◌, ◌^◌, Bool, true, false, List, [], ◌∷◌, length, refl, arith}
 use Rattle.std.specs.Prelude.{◌==◌, ◌||◌, ◌&&◌, nat_lt, codes, if◌then◌else◌, Option, Some, None, IfSome, Result, Ok, Err}
 use Rattle.std.specs.Str.{bytes_eq}
@@ -138,7 +138,7 @@ occupancy_small w =
     next_step (λ _. Unit {0}) IsOccupancy (number_field w) _ (any (number_field w)) (λ n _.
     guarded IsOccupancy (nat_lt 16777215 n) BadField (Ok (Some n)) (λ e. let le : n ≤ 16777215 = ltb-false 16777215 n e in omega (arith, le))))
 
--- one for each word
+-- one occupancy for each word
 abbrev OneEach : List (List ℕ) → List (Option ℕ) → Type 0
 OneEach ws ns = (length ns ≡ length ws) × AllByRecursion IsOccupancy ns
 
@@ -189,7 +189,7 @@ event_words (name ∷ ws) =
 
 -- Lines.
 
--- an event that is asked for is in range
+-- a requested event is in range
 abbrev pub AsksInRange : Reading → Type 0
 AsksInRange r = AsksFor IsEvent r
 

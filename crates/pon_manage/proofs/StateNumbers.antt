@@ -1,4 +1,4 @@
--- The numbers that are shown, found one by one.
+-- The text of the shown numbers, number by number.
 use Rattle.std.proofs.Common.{◌≡◌, ℕ, ◌*◌, [], ◌∷◌}
 use Rattle.std.specs.Prelude.{codes}
 use Rattle.pon_manage.specs.Text.{named, shown_numbers}

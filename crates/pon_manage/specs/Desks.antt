@@ -1,4 +1,4 @@
--- The text that lines give at a desk, where other threads post between them: that of some port with a lawful chapter.
+-- The text of lines at a desk, where other threads post too: that of some port with a lawful chapter.
 use Rattle.std.specs.Prelude.{ℕ, ◌≡◌, ◌≢◌, ◌⊎◌, List, [], ◌++◌}
 use Rattle.pon_event.specs.declared.event.Event.{Event}
 use Rattle.pon_descr.specs.declared.refusal.Refusal.{Refusal}
@@ -23,11 +23,11 @@ TellsPosted event text = (posted : Posted) × IsSomePost event posted × (text �
 abbrev pub TellsRefused : Event → List ℕ → Type 0
 TellsRefused event text = (told : Refusal) × IsSomeRefusal event told × (told ≢ OutOfMemory) × (text ≡ refusal_line (Port told))
 
--- a text of this kind follows the replies
+-- a text of this kind is appended to the replies
 abbrev pub AddsText : (List ℕ → Type 0) → List ℕ → List ℕ → Type 0
 AddsText IsText replies_old replies_new = (text : List ℕ) × IsText text × (replies_new ≡ replies_old ++ text)
 
--- what is asked of a desk gives a text
+-- the text of a reading at a desk
 abbrev pub DeskAnswers : Reading → List ℕ → Type 0
 DeskAnswers Nothing text = text ≡ []
 DeskAnswers (Refused fault) text = text ≡ refusal_line fault
@@ -35,11 +35,11 @@ DeskAnswers (Asks port event) text = TellsPosted event text ⊎ TellsRefused eve
 DeskAnswers (AsksCert port) text = (at : Chapter) × IsLawfulChapter at × (text ≡ cert_line (last_map at))
 DeskAnswers (AsksState port) text = (at : Chapter) × IsLawfulChapter at × (text ≡ state_line (present_state at))
 
--- a line gives a text at a desk with this number of ports, which stays
+-- the text of a line at a desk with this number of ports, which is unchanged
 abbrev pub DeskGives : ℕ → List ℕ → List ℕ → ℕ → Type 0
 DeskGives old line text new = DeskAnswers (read_line old line) text × (new ≡ old)
 
--- what is shown of a view, but for its last map
+-- what is shown of a view, except its last map
 abbrev pub shown_in : PortView → Shown
 shown_in view = record {
   cause = view.cause;

@@ -1,4 +1,4 @@
--- A line gives what its first 4,097 bytes give.
+-- A line has the same text as its first 4,097 bytes.
 use Rattle.std.proofs.Common.{ℕ, List, length, subst, sym}
 use Rattle.pon_line.proofs.LongLines.{read_line-take}
 use Rattle.pon_session.specs.Giving.{ReadsFirst}

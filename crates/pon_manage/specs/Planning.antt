@@ -1,4 +1,4 @@
--- What reading lines and writing their text leaves, at the ports of a plant.
+-- What is read and written when lines are answered at the ports of a plant.
 use Rattle.std.specs.Prelude.{ℕ, ◌≡◌, ◌⊎◌, List, Option, Result, Err}
 use Rattle.pon_device.specs.Device.{Keeps}
 use Rattle.pon_event.specs.declared.step.Step.{Step}
@@ -14,11 +14,12 @@ use Rattle.pon_stream.specs.declared.fault.PlanFault.TheVariants.{Memory}
 use Rattle.pon_session.specs.Planning.{BeginsText, Planned}
 use Rattle.pon_manage.specs.Text.{Gives}
 
--- the ports before the first line: just opened, and with the steps of their settings taken, each accepted or refused by a check
+-- the ports before the first line: just opened, and with the steps of their settings taken, each accepted or refused by
+-- a check
 abbrev pub IsStart : List (PortCfg × ℕ) → List Step → List Chapter → Type 0
 IsStart ports steps start = (answers : List (Result Reply StepFault)) × Ran (opened_ports ports) steps answers start × NoneIsOutOfMemory answers
 
--- a beginning of the output text: what the first lines give, and a beginning of what the next one gives
+-- a prefix of the output text: the text of the first lines, and a prefix of the text of the next one
 abbrev pub BeginsOutput : List Chapter → List ℕ → List ℕ → Type 0
 BeginsOutput ports input written = BeginsText Gives ports input written
 

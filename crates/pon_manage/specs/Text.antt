@@ -1,4 +1,4 @@
--- The text that lines give, as a relation: what a line asks is answered by the entry that a port keeps for it.
+-- The text of lines, as a relation: the request of a line is answered by the entry that a port keeps for it.
 use Rattle.std.specs.Prelude.{ℕ, ◌≡◌, ◌*◌, List, [], ◌∷◌, ◌++◌, length, codes, decimal, slice_get, slice_set, Option, Some, None}
 use Rattle.pon_units.specs.declared.limits.TheConstants.{WORD_RATE}
 use Rattle.hex.specs.Hex.{encode_lower}
@@ -31,7 +31,7 @@ abbrev pub reply_line : ℕ → Reply → List ℕ
 reply_line index Taken = codes "ok " ++ decimal index ++ 10 ∷ []
 reply_line index (Map made) = codes "map " ++ (decimal made.frame ++ (32 ∷ encode_lower (map_bytes made.map) ++ 10 ∷ []))
 
--- a port is asked to take an event: the first check that refuses gives the text, or the entry is kept and the text is its reply
+-- an event at a port: the text is the first refusal, or the entry is kept and the text is its reply
 abbrev pub Posts : List Chapter → ℕ → Chapter → Event → Option Refusal → List ℕ → List Chapter → Type 0
 Posts old port c event (Some refusal) text new = (text ≡ refusal_line (Port refusal)) × (new ≡ old)
 Posts old port c event None text new =
@@ -41,22 +41,22 @@ abbrev pub AsksPort : List Chapter → ℕ → Option Chapter → Event → List
 AsksPort old port None event text new = ⊥
 AsksPort old port (Some c) event text new = Posts old port c event (refusal_of c event) text new
 
--- the certificate of the last map of the kept chapter, where there is one
+-- the certificate line of the last map of the kept chapter, or the refusal `NoMap`
 abbrev pub cert_line : Option LastMap → List ℕ
 cert_line None = refusal_line NoMap
 cert_line (Some l) = codes "cert " ++ (decimal l.made.frame ++ (32 ∷ cert_text l.na l.be l.made.cert ++ 10 ∷ []))
 
--- a port is asked for it, and stays as it is
+-- the text is the certificate line of an existing port
 abbrev pub TellsCert : Option Chapter → List ℕ → Type 0
 TellsCert None text = ⊥
 TellsCert (Some c) text = text ≡ cert_line (last_map c)
 
--- a number under its name
+-- a number after its name
 abbrev pub named : List ℕ → ℕ → List ℕ → List ℕ
 named name n rest = name ++ (decimal n ++ rest)
 
--- what is shown of a state: why it is failed, its next frame, and of its roster the Alloc-IDs, the ONUs, the sum of the
--- guaranteed rates in kbit/s and the capacity in words
+-- what is shown of a state: its cause of failure, its next frame, and of its roster the numbers of Alloc-IDs and ONUs,
+-- the sum of the promised rates in kbit/s and the capacity in words
 abbrev pub shown_of : State → Shown
 shown_of s = record {
   cause = s.cause;
@@ -67,7 +67,7 @@ shown_of s = record {
   capacity = capacity s.rule s.gap s.roster;
 }
 
--- its numbers behind the cause, the capacity in kbit/s
+-- the numbers after the cause, the capacity in kbit/s
 abbrev pub shown_numbers : Shown → List ℕ
 shown_numbers s =
     named (codes " next ") s.next (
@@ -76,7 +76,7 @@ shown_numbers s =
     named (codes " guaranteed ") s.guaranteed (
     named (codes " capacity ") (WORD_RATE * s.capacity) (10 ∷ [])))))
 
--- the line is up, or it is down by a cause
+-- the line is up, or it is down with a cause
 abbrev pub show_line : Option ℕ → List ℕ → List ℕ
 show_line None numbers = codes "show up" ++ numbers
 show_line (Some cause) numbers = codes "show down " ++ (decimal cause ++ numbers)
@@ -88,12 +88,12 @@ shown_line s = show_line s.cause (shown_numbers s)
 abbrev pub state_line : State → List ℕ
 state_line s = shown_line (shown_of s)
 
--- a port is asked for its state, and stays as it is
+-- the text is the state line of an existing port
 abbrev pub TellsState : Option Chapter → List ℕ → Type 0
 TellsState None text = ⊥
 TellsState (Some c) text = text ≡ state_line (present_state c)
 
--- what is asked gives a text, and leaves the ports' chapters so
+-- the text of a reading, and the chapters of the ports after it
 abbrev pub Answers : List Chapter → Reading → List ℕ → List Chapter → Type 0
 Answers old Nothing text new = (text ≡ []) × (new ≡ old)
 Answers old (Refused fault) text new = (text ≡ refusal_line fault) × (new ≡ old)
@@ -101,11 +101,11 @@ Answers old (Asks port event) text new = AsksPort old port (slice_get old port) 
 Answers old (AsksCert port) text new = TellsCert (slice_get old port) text × (new ≡ old)
 Answers old (AsksState port) text new = TellsState (slice_get old port) text × (new ≡ old)
 
--- the text of what is asked follows the replies
+-- the text of a reading is appended to the replies
 abbrev pub AddsAnswer : List Chapter → Reading → List Chapter → List ℕ → List ℕ → Type 0
 AddsAnswer old reading new replies_old replies_new = (text : List ℕ) × Answers old reading text new × (replies_new ≡ replies_old ++ text)
 
--- a line gives a text
+-- the text of a line, and the chapters of the ports after it
 abbrev pub Gives : List Chapter → List ℕ → List ℕ → List Chapter → Type 0
 Gives old line text new = Answers old (read_line (length old) line) text new
 

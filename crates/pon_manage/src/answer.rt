@@ -15,7 +15,7 @@ use pon_port::{Event, Port};
 use pon_units::{MOST_PORTS, PortNo};
 use std::alloc::AllocError;
 
-// The number of entries that a port keeps.
+// Returns the number of entries that a port keeps.
 fn kept_entries(plant: &Plant, port: PortNo) -> usize
     requires { port < length plant.now }
     ensures { IfSome (slice_get plant.now port) (λ c. result ≡ length c.entries) }
@@ -26,7 +26,7 @@ fn kept_entries(plant: &Plant, port: PortNo) -> usize
     }
 }
 
-// Has a port take an event, and appends its reply, or its refusal.
+// Passes an event to a port, and appends its reply or its refusal.
 fn answer_event(
     plant: &mut Plant,
     port: PortNo,
@@ -50,7 +50,7 @@ fn answer_event(
     }
 }
 
-// Appends the certificate of the last map.
+// Appends the certificate of the last map, or `NoMap`.
 fn show_cert(port: &Port, replies: &mut Vec<u8>) -> Result<(), AllocError>
     ensures ok { OnOk result (replies.new.items
         ≡ replies.old.items ++ cert_line (last_map port.now)) }
@@ -71,7 +71,7 @@ fn show_state(port: &Port, replies: &mut Vec<u8>) -> Result<(), AllocError>
     append_shown(replies, &shown_of(port.state()))
 }
 
-// The number of the port at a place.
+// Returns the number of the port at an index.
 fn port_no(plant: &Plant, place: usize) -> PortNo
     requires { place < length plant.now }
     ensures { result ≡ place }
@@ -80,7 +80,7 @@ fn port_no(plant: &Plant, place: usize) -> PortNo
     PortNo::at(place)
 }
 
-// The port at a place.
+// Returns the port at an index.
 fn port_at(plant: &Plant, place: usize) -> &Port
     requires { place < length plant.now }
     ensures { slice_get plant.now place ≡ Some result.now }
@@ -91,8 +91,8 @@ fn port_at(plant: &Plant, place: usize) -> &Port
     }
 }
 
-/// Appends the text that a reading gives; the room is for the bytes of a map. After an `Err`, which comes only if memory is
-/// refused, the replies are unchanged, and nothing is known of the plant but that the history of each port is lawful.
+/// Appends the text of a reading; `room` is a buffer for the bytes of a map. `Err` only if memory is refused; then the
+/// replies are unchanged, and of the plant it is only known that the history of each port is lawful.
 pub(crate) fn answer(
     plant: &mut Plant,
     reading: Reading,

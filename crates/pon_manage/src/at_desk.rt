@@ -18,7 +18,7 @@ use std::alloc::{AllocError, Global};
 use std::sync::Wait;
 use std::sync::ledger::Ledger;
 
-// Posts an event, and appends its reply, or its refusal.
+// Posts an event, and appends its reply or its refusal.
 fn answer_event<L: Ledger, M: Ledger, H: Wait>(
     rt: &H,
     desk: &Desk<L, M>,
@@ -43,7 +43,7 @@ fn answer_event<L: Ledger, M: Ledger, H: Wait>(
     }
 }
 
-// What a port shows at some moment.
+// Returns the view of a port at some moment.
 fn view_at<L: Ledger, M: Ledger, H: Wait>(
     rt: &H,
     alloc: Global,
@@ -60,7 +60,7 @@ fn view_at<L: Ledger, M: Ledger, H: Wait>(
     }
 }
 
-// Appends the certificate of the last map.
+// Appends the certificate of the last map, or `NoMap`.
 fn show_cert(view: &PortView, replies: &mut Vec<u8>) -> Result<(), AllocError>
     ensures ok { OnOk result (replies.new.items ≡ replies.old.items ++ cert_line view.now.last) }
     ensures err { OnErr result (replies.new.items ≡ replies.old.items) }
@@ -71,7 +71,7 @@ fn show_cert(view: &PortView, replies: &mut Vec<u8>) -> Result<(), AllocError>
     }
 }
 
-// What is shown of a view.
+// Returns what is shown of a view.
 fn shown_in(view: &PortView) -> Shown
     ensures { result ≡ shown_in view.now }
 {
@@ -85,7 +85,7 @@ fn shown_in(view: &PortView) -> Shown
     }
 }
 
-// The number of the port at a place.
+// Returns the number of the port at an index.
 fn port_no<L: Ledger, M: Ledger>(desk: &Desk<L, M>, place: usize) -> PortNo
     requires { place < desk.now.ports }
     ensures { result ≡ place }
@@ -94,8 +94,8 @@ fn port_no<L: Ledger, M: Ledger>(desk: &Desk<L, M>, place: usize) -> PortNo
     PortNo::at(place)
 }
 
-/// Appends the text that a reading gives: an event is posted, and what is shown is copied, each under the lock of its port
-/// alone. The room is for the bytes of a map. `Err` only if memory is refused, and then the replies are unchanged.
+/// Appends the text of a reading: an event is posted, and what is shown is copied, each under the lock of its port
+/// only. `room` is a buffer for the bytes of a map. `Err` only if memory is refused; then the replies are unchanged.
 pub(crate) fn answer_at_desk<L: Ledger, M: Ledger, H: Wait>(
     rt: &H,
     desk: &Desk<L, M>,

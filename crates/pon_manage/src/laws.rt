@@ -6,14 +6,14 @@ ghost use Rattle.pon_stream.specs.Streams.{IsBeginning};
 ghost use Rattle.pon_manage.specs.Planning.{BeginsOutput};
 ghost use Rattle.pon_manage.specs.Text.{IsOutput};
 
-/// The output text is a relation between what is read and what is written; at ports whose chapters are lawful, as those of
-/// each `Port` are, one input has one output text at most.
+/// The output text is a relation between the input and the text written. At ports with lawful chapters, as each `Port`
+/// has, an input has at most one output text.
 pub fn one_output()
     ensures { (ports : List Chapter) (input text other : List ℕ) → All IsLawfulChapter ports
         → IsOutput ports input text → IsOutput ports input other → text ≡ other }
 {}
 
-/// At ports whose chapters are lawful each input has an output text, and what begins an output is a beginning of it.
+/// At ports with lawful chapters each input has an output text, and a text that begins an output is a prefix of one.
 pub fn each_input_has_an_output()
     ensures output { (ports : List Chapter) (input : List ℕ) → All IsLawfulChapter ports
         → (text : List ℕ) × IsOutput ports input text }

@@ -1,7 +1,7 @@
-//! The management of a line terminal as text: each line is read, asked of its port, and answered.
+//! The management of a line terminal as text: each line is read, passed to its port, and answered.
 //!
-//! What is written is a stated function of what is read at a plant ([`plan`]). At a desk, where other threads post too
-//! ([`operate`]), each text is that of some lawful port. Both go over any reader and writer.
+//! At a plant the text written is determined by the lines read ([`plan`]). At a desk, where other threads post too
+//! ([`operate`]), each text is that of some lawful port. Both work over any reader and writer.
 #![tactic(auto)]
 
 mod answer;

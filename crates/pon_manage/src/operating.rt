@@ -18,8 +18,8 @@ use std::marker::Model;
 use std::sync::Wait;
 use std::sync::ledger::Ledger;
 
-// A desk that answers lines, with the seat that posts for them and room for the bytes of a map. Contracts see the number of
-// its ports.
+// A desk that answers lines, with the seat that posts for them and a buffer for the bytes of a map. In contracts it is
+// the number of its ports.
 #[derive(Drop)]
 struct AtDesk<'a, L: Ledger, M: Ledger, H: Wait> {
     rt: &'a H,
@@ -54,16 +54,17 @@ impl<'a, L: Ledger, M: Ledger, H: Wait> Answers for AtDesk<'a, L, M, H> {
     ghost reads_first = { desk_gives_first };
 }
 
-/// Reads management lines to the end of the input, posts their events at the desk with this seat, and writes the reply or the
-/// refusal of each, for a thread that runs beside others that post there.
+/// Reads management lines to the end of the input, posts their events at the desk with this seat, and writes the reply
+/// or the refusal of each. Other threads may post at the desk at the same time.
 ///
-/// The text of a line has the form that its reading allows: none for a blank line or a comment, the refusal of a line that
-/// cannot be read, else what some port with a lawful chapter replies, refuses or shows; which chapter that was is not said,
-/// since other threads post too. No lock is held over a read or a write. The replies to what one read gave are written before the next read.
+/// The text of a line has the form that its reading allows: none for a blank line or a comment, the refusal of a line
+/// that cannot be read, otherwise the reply, the refusal or the state of some port with a lawful chapter; which chapter
+/// is not stated, since other threads post too. No lock is held during a read or a write. The replies to one read are
+/// written before the next read.
 ///
 /// `Read` if the reader failed or 2^64 - 1 reads were made: the text of all whole lines read is written.
-/// `Write` if the writer failed, and `Memory` if memory was refused: a beginning of the text is written; after
-/// `Memory` it is the text of the lines before. A line that was not ended when a fault came is not answered. The writer is
+/// `Write` if the writer failed, and `Memory` if memory was refused: a prefix of the text is written; after
+/// `Memory` it is the text of the lines before. A line without its line feed at a fault is not answered. The writer is
 /// flushed once, at the end of the input.
 pub fn operate<L: Ledger, M: Ledger, H: Wait, R: DevRead, W: DevWrite>(
     rt: &H,

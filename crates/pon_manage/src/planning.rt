@@ -20,7 +20,7 @@ use pon_units::FrameNo;
 use std::alloc::{AllocError, Global};
 use std::marker::Model;
 
-// A plant that answers lines, with room for the bytes of a map. Contracts see the list of its ports' chapters.
+// A plant that answers lines, with a buffer for the bytes of a map. In contracts it is the list of its ports' chapters.
 #[derive(Drop)]
 struct AtPlant {
     plant: Plant,
@@ -47,17 +47,17 @@ impl Answers for AtPlant {
     ghost reads_first = { gives_first };
 }
 
-/// Opens the ports, takes the steps of their settings, which have no text, reads management lines to the end of the input,
-/// and writes the reply or the refusal of each.
+/// Opens the ports, takes the steps of their settings, which have no text, reads management lines to the end of the
+/// input, and writes the reply or the refusal of each.
 ///
-/// The caller's condition: 1 to 64 ports, each with its configuration and first frame, numbered from 0. What is written is
-/// the output text of what was read, at the ports as the steps leave them; a step that its port refuses changes nothing. The
-/// replies to what one read gave are written before the next read.
+/// There must be 1 to 64 ports, each with its configuration and first frame, numbered from 0. What is written is the
+/// output text of what was read, at the ports as the steps leave them; a step that its port refuses changes nothing.
+/// The replies to one read are written before the next read.
 ///
 /// `Read` if the reader failed or 2^64 - 1 reads were made: the text of all whole lines read is written.
-/// `Write` if the writer failed, and `Memory` if memory was refused: a beginning of the text is written; after
-/// `Memory` it is the text of the lines before. A line that was not ended when a fault came is not answered. `Memory` before
-/// the first read leaves reader and writer as they were. The writer is flushed once, at the end of the input.
+/// `Write` if the writer failed, and `Memory` if memory was refused: a prefix of the text is written; after
+/// `Memory` it is the text of the lines before. A line without its line feed at a fault is not answered. `Memory`
+/// before the first read leaves reader and writer unchanged. The writer is flushed once, at the end of the input.
 pub fn plan<H, R: DevRead, W: DevWrite>(
     _rt: &H,
     alloc: Global,

@@ -8,7 +8,7 @@ use pon_state::PortState;
 use pon_units::{FrameNo, Kbps, WORD_RATE, Words};
 use std::alloc::{AllocError, Global};
 
-/// What is shown of a port: numbers of its present state, which keeps each of them, so that none is counted anew.
+/// What is shown of a port: values that its present state keeps, so that none is computed again.
 #[derive(Clone, Copy)]
 pub(crate) struct Shown {
     /// Why the port is failed, if it is.
@@ -25,7 +25,7 @@ pub(crate) struct Shown {
     pub(crate) capacity: Words,
 }
 
-/// What is shown of a state.
+/// Returns what is shown of a state.
 pub(crate) fn shown_of(state: &PortState) -> Shown
     ensures { result ≡ shown_of state.now }
 {
@@ -40,7 +40,7 @@ pub(crate) fn shown_of(state: &PortState) -> Shown
     }
 }
 
-// The numbers behind the cause, each under its name.
+// Formats the numbers after the cause, each after its name.
 fn numbers_text(alloc: Global, shown: &Shown) -> Result<String, AllocError>
     ensures { IfOk result (λ text. string_bytes text ≡ shown_numbers shown.now) }
 {
@@ -54,7 +54,7 @@ fn numbers_text(alloc: Global, shown: &Shown) -> Result<String, AllocError>
     )
 }
 
-// The line that shows a port.
+// Formats the line that shows a port.
 fn shown_line(alloc: Global, shown: &Shown) -> Result<String, AllocError>
     ensures { IfOk result (λ text. string_bytes text ≡ shown_line shown.now) }
 {
@@ -68,9 +68,9 @@ fn shown_line(alloc: Global, shown: &Shown) -> Result<String, AllocError>
     }
 }
 
-/// Appends the line that shows a port: whether its line is up, its next frame, how many Alloc-IDs and ONUs its roster has,
-/// and in kbit/s the sum of their guaranteed rates and the capacity. `Err` only if memory is refused, and then the replies
-/// are unchanged.
+/// Appends the line that shows a port: whether its line is up, its next frame, the numbers of Alloc-IDs and ONUs of its
+/// roster, and in kbit/s the sum of the promised rates and the capacity. `Err` only if memory is refused, and then the
+/// replies are unchanged.
 pub(crate) fn append_shown(replies: &mut Vec<u8>, shown: &Shown) -> Result<(), AllocError>
     ensures ok { OnOk result (replies.new.items ≡ replies.old.items ++ shown_line shown.now) }
     ensures err { OnErr result (replies.new.items ≡ replies.old.items) }

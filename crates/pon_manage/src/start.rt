@@ -1,4 +1,4 @@
-//! The plant that lines are asked of, as its settings leave it.
+//! The plant before the first line: its ports just opened, with the steps of the settings taken.
 
 ghost use Rattle.std.specs.Prelude.{◌↔◌, ◌≡◌, IfOk, IsTrue, Err, length};
 ghost use Rattle.pon_plant.specs.Plants.{IsPlantSize};
@@ -21,8 +21,8 @@ fn is_out_of_memory(answer: &Result<Reply, StepFault>) -> bool
     }
 }
 
-/// Opens a port for each configuration and first frame, and takes the steps in order. A step that its port refuses changes
-/// nothing. `Err` only if memory is refused.
+/// Opens a port for each configuration and first frame, and takes the steps in order. A step that its port refuses
+/// changes nothing. `Err` only if memory is refused.
 pub(crate) fn start(
     alloc: Global,
     ports: &[(PortCfg, FrameNo)],

@@ -1,4 +1,4 @@
-//! The texts of replies and refusals, each spelled once. Each is appended to the replies before it.
+//! The texts of replies and refusals. Each is appended to the replies before it.
 
 ghost use Rattle.std.specs.Prelude.{◌≡◌, ◌+◌, ◌*◌, ◌≤◌, ◌++◌, ◌∷◌, [], OnOk, OnErr, Some, codes, decimal, length, vec_len, vec_capacity};
 ghost use Rattle.hex.specs.Hex.{encode_lower};
@@ -22,7 +22,7 @@ pub(crate) fn append_refusal(replies: &mut Vec<u8>, fault: LineFault) -> Result<
     replies.extend_from_slice(text.as_bytes())
 }
 
-// Writes the bytes of a map, and nothing else, into the room.
+// Replaces the content of `room` by the bytes of a map.
 fn write_bytes(room: &mut Vec<u8>, map: &Map) -> Result<(), AllocError>
     ensures bytes { OnOk result (room.new.items ≡ map_bytes map.now) }
     ensures count { OnOk result (vec_len room.new ≤ 4 + 8 * MOST_STRUCTURES) }
@@ -32,7 +32,7 @@ fn write_bytes(room: &mut Vec<u8>, map: &Map) -> Result<(), AllocError>
     Ok(())
 }
 
-// Appends bytes in lower-case hexadecimal. There must be room for them.
+// Appends bytes in lower-case hexadecimal. The capacity must suffice for them.
 fn append_hex(replies: &mut Vec<u8>, bytes: &[u8])
     requires { vec_len replies.old + 2 * length bytes.now ≤ vec_capacity replies.old }
     ensures text { replies.new.items ≡ replies.old.items ++ encode_lower bytes.now }
@@ -44,7 +44,7 @@ fn append_hex(replies: &mut Vec<u8>, bytes: &[u8])
     hex::encode_to_slice(bytes, &mut replies.as_mut_slice()[from..]).unwrap();
 }
 
-// Appends the line of a map of a frame that has these bytes.
+// Appends the reply line of a map, of which the frame and the bytes are given.
 fn append_bytes(replies: &mut Vec<u8>, frame: FrameNo, bytes: &[u8]) -> Result<(), AllocError>
     requires { length bytes.now ≤ 4 + 8 * MOST_STRUCTURES }
     ensures ok { OnOk result (replies.new.items ≡ replies.old.items
@@ -61,7 +61,7 @@ fn append_bytes(replies: &mut Vec<u8>, frame: FrameNo, bytes: &[u8]) -> Result<(
     replies.extend_from_slice(b"\n")
 }
 
-// Appends the line of a map. The room is for the bytes of the map.
+// Appends the reply line of a map. `room` is a buffer for its bytes.
 fn append_map(replies: &mut Vec<u8>, room: &mut Vec<u8>, made: &MadeMap) -> Result<(), AllocError>
     ensures ok { OnOk result (replies.new.items
         ≡ replies.old.items ++ reply_line 0 (Reply.Map made.now)) }
@@ -71,7 +71,7 @@ fn append_map(replies: &mut Vec<u8>, room: &mut Vec<u8>, made: &MadeMap) -> Resu
     append_bytes(replies, made.frame, room.as_slice())
 }
 
-// Appends the reply to an event that makes no map, whose entry has this index.
+// Appends the reply line of an event that makes no map; `index` is that of its entry.
 fn append_taken(replies: &mut Vec<u8>, index: usize) -> Result<(), AllocError>
     ensures ok { OnOk result (replies.new.items
         ≡ replies.old.items ++ reply_line index Reply.Taken) }
@@ -85,8 +85,8 @@ fn append_taken(replies: &mut Vec<u8>, index: usize) -> Result<(), AllocError>
     replies.extend_from_slice(b"\n")
 }
 
-/// Appends the reply to an event, whose entry has this index. The room is for the bytes of a map, and need not hold any.
-/// `Err` only if memory is refused, and then the replies are unchanged.
+/// Appends the reply line of an event; `index` is that of its entry. `room` is a buffer for the bytes of a map, with
+/// any content. `Err` only if memory is refused, and then the replies are unchanged.
 pub(crate) fn append_reply(
     replies: &mut Vec<u8>,
     room: &mut Vec<u8>,
@@ -102,8 +102,8 @@ pub(crate) fn append_reply(
     }
 }
 
-/// Appends the certificate of a map, by the Alloc-IDs of the two classes at it. `Err` only if memory is refused, and then
-/// the replies are unchanged.
+/// Appends the certificate line of a map; `na` and `be` are the Alloc-IDs of its two classes. `Err` only if memory is
+/// refused, and then the replies are unchanged.
 pub(crate) fn append_cert(
     replies: &mut Vec<u8>,
     made: &MadeMap,

@@ -1,4 +1,4 @@
--- The report that counts is an accepted one, and none is later.
+-- The counted report is an accepted one, and no accepted one is later.
 use Rattle.std.proofs.Common.{◌≡◌, ℕ, ◌-◌, ◌≤◌, Bool, true, false, List, [], ◌∷◌, map, refl, ap, sym, subst, arith, inl, inr}
 use Rattle.std.specs.Prelude.{◌⊎◌, nat_le, if◌then◌else◌, All, Contains, IfSome, Option, Some, None, flat_map, option_to_list}
 use Rattle.std.specs.List.{list_any}
@@ -65,7 +65,7 @@ in_flat f (z ∷ xs) x y h k = elim (cases_in z xs x h) [
 
 -- The latest of a list of reports.
 
--- no report of the list is of a later frame than the latest; without a latest the list is empty
+-- no report of the list is of a later frame than the latest; if there is no latest, the list is empty
 abbrev Bounds : Option Counted → List Counted → Type 0
 Bounds None cs = All (λ d. ⊥) cs
 Bounds (Some c) cs = All (λ d. d.frame ≤ c.frame) cs
@@ -104,11 +104,11 @@ module _ (o : State) (es : List Entry) (i : ℕ) where
   abbrev since : ℕ
   since = since_of o es i
 
-  -- what is left of the opening's report
+  -- the opening's report, less what the entries granted
   abbrev left_of : Counted → Counted
   left_of c = record { frame = c.frame; words = c.words - words_from i 0 (maps_of o.roster o.next es) }
 
-  -- what is left of an occupancy
+  -- an occupancy, less what was granted from its frame on
   abbrev less_granted : ℕ → ℕ → Counted
   less_granted frame n = record { frame = frame; words = n - words_from i frame ms }
 

@@ -1,4 +1,4 @@
--- A lawful chapter that is cut in two gives two lawful chapters.
+-- A lawful chapter splits into two lawful chapters.
 use Rattle.std.proofs.Common.{◌≡◌, ℕ, ◌<◌, [], ◌++◌, take, drop, ap, sym, ◌∙◌, subst, append-nil}
 use Rattle.std.proofs.lemmas.List.{take-append-drop}
 use Rattle.pon_state.specs.Loads.{replay}
@@ -7,7 +7,7 @@ use Rattle.pon_port.proofs.Legality.{IsLegalAfter, after_from_legal, legal_from_
 use Rattle.pon_port.proofs.Cutting.{follow_replay, replay-append}
 use Rattle.pon_port.proofs.LawfulStates.{opens_before}
 
--- the two parts of a lawful chapter, and that the second ends as the whole does
+-- the two parts of a lawful chapter; the second has the same end as the whole
 module _ (c : Chapter) (l : IsLawfulChapter c) (k : ℕ) where
   whole : IsLegalAfter c.opening [] (take k c.entries ++ drop k c.entries)
   whole = subst (IsLegalAfter c.opening []) (sym (take-append-drop k c.entries)) (after_from_legal c.opening c.entries c.number l.legal)

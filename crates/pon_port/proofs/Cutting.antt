@@ -1,4 +1,4 @@
--- A legal history that is cut in two, the second part opened with the replay of the first, has the same replay.
+-- A legal history that is split, the second part opened with the replay of the first, has the same replay.
 use Rattle.std.proofs.Common.{◌≡◌, ℕ, ◌+◌, ◌-◌, ◌<◌, ◌≤◌, true, false, not, ◌||◌, List, [], ◌∷◌, ◌++◌, map, length, refl, ap, sym, ◌∙◌, subst, arith, append_assoc, ◌^◌}
 use Rattle.std.specs.Prelude.{◌==◌, nat_le, if◌then◌else◌, filter, flat_map, Option, Some, None, option_to_list, option_map}
 use Rattle.std.specs.List.{list_any}
@@ -32,16 +32,16 @@ use Rattle.pon_port.proofs.Windows.{all_maps-append, all_maps_lead, maps_of-appe
 use Rattle.pon_window.proofs.Frames.{leads_drop}
 use Rattle.pon_port.proofs.Loads.{from, from_window, agree, AreBelow, EventBelow, AreWithin, EventWithin, sub_sub, words_from-map, candidates_agree, candidates_late, candidates_less, latest_less, latest-append, has_id, had_alloc_all, found_since, found_counted}
 
--- What a legal history says of its reports.
+-- The reports of a legal history.
 
--- a report that is taken is of a frame of the window
+-- an accepted report is of a frame of the window
 report_in_window : (kept : ℕ) (s : State) (frame onu : ℕ) (count : ℕ) → or_else (or_else (when_down s.cause) (refuses_report s.window frame onu count)) (when_full kept s.taken_before) ≡ None → list_any (is_of frame) s.window ≡ true
 report_in_window kept s frame onu count h =
     let own : or_else (when_down s.cause) (refuses_report s.window frame onu count) ≡ None = (or_else_none _ (when_full kept s.taken_before) h).0 in
     let report : refuses_report s.window frame onu count ≡ None = (or_else_none (when_down s.cause) _ own).1 in
     not-false (list_any (is_of frame) s.window) (when_none (not (list_any (is_of frame) s.window)) _ (or_else_none (when (not (list_any (is_of frame) s.window)) _) _ report).0)
 
--- a frame of a list of maps that follow each other
+-- a frame of a list of maps of consecutive frames
 frame_within : (n frame : ℕ) (ms : List WindowMap) → AreConsecutive n ms → list_any (is_of frame) ms ≡ true → (frame < n) × (n ≤ frame + length ms)
 frame_within n frame [] h k = absurd cc
 frame_within n frame (m ∷ ms) h k = (elim (m.frame == frame) as (λ b. (m.frame == frame) ≡ b → (b || list_any (is_of frame) ms) ≡ true → (frame < n) × (n ≤ frame + length (m ∷ ms))) [
@@ -55,7 +55,7 @@ window_leads o es h =
     let kept : List WindowMap = filter (λ m. nat_le c m.frame) (all_maps o es) in
     leads_drop (next_of o.next es) (length kept - 64) kept (leads-filter (next_of o.next es) c (all_maps o es) (all_maps_lead o es h))
 
--- the reports of a legal history are of frames that were made
+-- the reports of a legal history are of frames whose maps were made
 pub legal_below : (o : State) (done es : List Entry) (n : ℕ) → AreConsecutive o.next o.window → IsLegalAfter o done es → next_of o.next (done ++ es) ≤ n → AreBelow n es
 legal_below o done [] n h l b = tt
 legal_below o done (e ∷ es) n h l b = (one e.event l.0.accepted, legal_below o (done ++ e ∷ []) es n h l.1 (subst (λ t. next_of o.next t ≤ n) (sym (append_assoc done (e ∷ []) es)) b))
@@ -71,7 +71,7 @@ legal_below o done (e ∷ es) n h l b = (one e.event l.0.accepted, legal_below o
     one (Fail cause) a = tt
     one Restore a = tt
 
--- no window grows by more than the maps made
+-- a window grows by at most the number of maps made
 length_window : (o : State) (ys : List Entry) → length (window_of o ys) ≤ length o.window + length (maps_of o.roster o.next ys)
 length_window o ys =
     let c : ℕ = frame_at_last (λ e. forgets e.event) 0 o.next ys in
@@ -85,7 +85,7 @@ length_window o ys =
       length-map o.window (with_reports ys),
     )
 
--- after a cut, reports are of frames from the window's first on
+-- after a split, reports are of frames from the window's first on
 pub legal_within : (o : State) (xs done es : List Entry) → AreConsecutive o.next o.window → IsLegalAfter o (xs ++ done) es → AreWithin (next_of o.next xs) (length (window_of o xs)) es
 legal_within o xs done [] h l = tt
 legal_within o xs done (e ∷ es) h l = (one e.event l.0.accepted, legal_within o xs (done ++ e ∷ []) es h (subst (λ t. IsLegalAfter o t es) (append_assoc xs done (e ∷ [])) l.1))
@@ -151,7 +151,7 @@ module _ (o : State) (xs ys : List Entry) (leads : AreConsecutive o.next o.windo
         | false ↦ λ k. ap (λ s. frame_at_last (begins i) s (next_of o.next xs) ys) (sym (found_since o xs i (allocs_of (alloc_ids o.book) xs) (was_there i h k)))
       ]) refl
 
-  -- all maps, seen from the opening and from the cut, agree from the window's first frame on
+  -- all maps since the opening and since the split agree from the window's first frame on
   maps_agree : (f : ℕ) → next_of o.next xs ≤ f + length (window_of o xs) → from f (all_maps o (xs ++ ys)) ≡ from f (all_maps (replay o xs) ys)
   maps_agree f l =
       let c : ℕ = frame_at_last (λ e. forgets e.event) 0 o.next xs in
@@ -197,7 +197,7 @@ module _ (o : State) (xs ys : List Entry) (leads : AreConsecutive o.next o.windo
             ∙ ap (map (less w)) (found_counted o xs i (allocs_of (alloc_ids o.book) xs) was)))
       ]) refl
 
--- Alloc-IDs that are there have the same accounts
+-- the Alloc-IDs of a list have the same accounts
 accounts_same : (f g : ℕ → Account) (ids : List ℕ) → ((i : ℕ) → has_id i ids ≡ true → f i ≡ g i) → map f ids ≡ map g ids
 accounts_same f g [] h = refl
 accounts_same f g (i ∷ ids) h =
@@ -208,7 +208,7 @@ accounts_same f g (i ∷ ids) h =
 pub alloc_ids-replay : (o : State) (xs : List Entry) → alloc_ids (replay o xs).book ≡ allocs_of (alloc_ids o.book) xs
 alloc_ids-replay o xs = map-map (λ a. a.alloc_id) (account_after o xs) (allocs_of (alloc_ids o.book) xs) ∙ map-id (allocs_of (alloc_ids o.book) xs)
 
--- the law of cutting
+-- the replay of a split history
 pub replay-append : (o : State) (xs ys : List Entry) → AreConsecutive o.next o.window → IsLegalAfter o [] (xs ++ ys) → replay o (xs ++ ys) ≡ replay (replay o xs) ys
 replay-append o xs ys leads legal =
     let two : IsLegalAfter o [] xs × IsLegalAfter o xs ys = legal_split o [] xs ys legal in
@@ -236,7 +236,7 @@ replay-append o xs ys leads legal =
       window = window_of-append o xs ys leads j;
     })
 
--- what may follow where more entries are kept may follow where fewer are
+-- an entry that may follow after more kept entries may follow after fewer
 fewer_kept : (more fewer : ℕ) (s : State) (e : Entry) → fewer ≤ more → MayFollow more s e → MayFollow fewer s e
 fewer_kept more fewer s e l m =
     let two : (refuses s e.event ≡ None) × (when_full more s.taken_before ≡ None) = or_else_none (refuses s e.event) (when_full more s.taken_before) m.accepted in
@@ -244,7 +244,7 @@ fewer_kept more fewer s e l m =
     let here : nat_le 65536 fewer ≡ false = lt-leb 65536 fewer (omega (arith, l, leb-false 65536 more room.0)) in
     record { event = m.event; accepted = (λ i. or_else (two.0 i) (when (here i || room.1 i) ChapterFull)); reply = m.reply }
 
--- entries that may follow a list may follow its replay
+-- entries that are legal after a list are legal after its replay
 pub follow_replay : (o : State) (xs done ys : List Entry) → AreConsecutive o.next o.window → IsLegalAfter o [] (xs ++ done) → IsLegalAfter o (xs ++ done) ys → IsLegalAfter (replay o xs) done ys
 follow_replay o xs done [] leads before legal = tt
 follow_replay o xs done (e ∷ ys) leads before legal =

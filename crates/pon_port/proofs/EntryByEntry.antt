@@ -19,7 +19,7 @@ use Rattle.pon_port.proofs.Legality.{IsLegalAfter, after_from_legal, legal_from_
 pub replay_of_none : (n : ℕ) (s : State) → IsLawfulOpening n s → replay s [] ≡ s
 replay_of_none n s l = replay_none s (from_opening n s l).steady
 
--- a lawful chapter is kept with its own end
+-- a lawful chapter with its present state is what a port keeps
 kept_at_present : (c : Chapter) → IsLawfulChapter c → IsKept c (present_state c)
 kept_at_present c l = record {
   lawful = l;
@@ -28,7 +28,7 @@ kept_at_present c l = record {
   book = (present_lawful c l).steady.book;
 }
 
--- an event that makes no map is replied to as taken
+-- the reply to an event that makes no map is `Taken`
 plain_step : (c : Chapter) (v : Event) (reply : Reply) → IsKept (with_entry c v Taken) (after_event (present_state c) v) → reply ≡ Taken →
     present_state (with_entry c v reply) ≡ after_event (present_state c) v
 plain_step c v reply k told = subst (λ r. present_state (with_entry c v r) ≡ after_event (present_state c) v) (sym told) (sym k.replayed)

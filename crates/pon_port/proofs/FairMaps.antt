@@ -1,4 +1,4 @@
--- The map of an admitted set is what it is bought for.
+-- The map of an admitted set is fair.
 use Rattle.std.proofs.Common.{◌≡◌, ℕ, refl, ap, sym, ◌∙◌, subst, arith}
 use Rattle.std.specs.Prelude.{Some, slice_get}
 use Rattle.pon_burst.specs.Bursts.{AreSound}
@@ -56,7 +56,7 @@ module _ (s : State) (k : IsAdmitted s.rule s.gap s.roster) where
         map = m.map;
       }
 
--- each map of a lawful chapter is one, of the state before it
+-- each map of a lawful chapter is a fair map of the state before it
 pub maps_are_fair : (c : Chapter) → IsLawfulChapter c → (n : ℕ) (e : Entry) → slice_get c.entries n ≡ Some e → TellsFairMap (state_before c n) e.reply
 maps_are_fair c l n e at = told e.event e.reply (l.legal n e at).reply
   where

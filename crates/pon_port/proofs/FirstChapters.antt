@@ -1,4 +1,4 @@
--- The first chapter of a port, one entry further.
+-- The first chapter of a port with one more entry.
 use Rattle.std.proofs.Common.{◌≡◌, sym, subst}
 use Rattle.pon_port.specs.Chapters.{Chapter, IsFirst}
 use Rattle.pon_port.specs.Taking.{with_entry}

@@ -1,4 +1,4 @@
--- What a port keeps, one entry further.
+-- What a port keeps, with one more entry.
 use Rattle.std.proofs.Common.{◌≡◌, ℕ, ◌+◌, true, false, cond, not, ◌||◌, List, [], ◌∷◌, ◌++◌, map, length, refl, ap, sym, ◌∙◌, subst, arith, get_or}
 use Rattle.std.specs.Prelude.{◌==◌, nat_lt, filter, count_by, All, Option, Some, None, option_to_list, option_map}
 use Rattle.std.specs.List.{list_any}
@@ -87,14 +87,14 @@ map_step o es reply rising =
       window = window i;
     })
 
--- The step of an event that changes the roster alone: it makes no map, forgets nothing and reports nothing.
+-- The step of an event that changes only the roster: it makes no map, drops nothing and reports nothing.
 
 -- with other rows and accounts
 abbrev after_roster : State → List Row → List Account → State
 after_roster s rows book = with_parts s s.next s.cause rows (record { accounts = book; window = s.window })
 
 module _ (s : State) (e : Entry) (m : makes_map e.event ≡ false) (none : (ms : List WindowMap) (since i : ℕ) → candidates_in ms since i e.event ≡ []) where
-  -- an account stays as it is where its Alloc-ID is not admitted anew
+  -- an account is unchanged unless the entry admits its Alloc-ID
   same_account : (a : Account) → begins a.alloc_id e ≡ false → account_of s.book a.alloc_id ≡ Some a → account_after s (e ∷ []) a.alloc_id ≡ a
   same_account a b found =
       let i : ℕ = a.alloc_id in
@@ -107,7 +107,7 @@ module _ (s : State) (e : Entry) (m : makes_map e.event ≡ false) (none : (ms :
   same_accounts : AreRising (alloc_ids s.book) → All (λ i. begins i e ≡ false) (alloc_ids s.book) → All (λ a. account_after s (e ∷ []) a.alloc_id ≡ a) s.book
   same_accounts rising b = λ n d l. same_account (get_or s.book n d) (All-unmap (λ i. begins i e ≡ false) (λ a. a.alloc_id) s.book b n d l) (found_each s.book rising n d l)
 
--- the entry of an event whose reply is that it was taken
+-- the entry of an event with the reply `Taken`
 abbrev taken_entry : Event → Entry
 taken_entry v = record { event = v; reply = Taken }
 
@@ -171,7 +171,7 @@ remove_step o es i rising =
     roster_step o es (Remove i) (without_account i s.book) (λ frame onu. refl) refl refl (λ cause. refl)
     (accounts_kept (account_after s (e ∷ [])) (λ j. not (j == i)) s.book (same_accounts s e refl (λ ms since i. refl) rising (λ n d l. refl)))
 
--- The step of a fault, and of its end: the reports and the window are forgotten.
+-- The steps of a line failure and of a restoration: the reports and the window are dropped.
 
 cut_step : (o : State) (es : List Entry) (v : Event) (cause : Option ℕ) → AreConsecutive o.next o.window → makes_map v ≡ false → forgets v ≡ true → ((ms : List WindowMap) (since i : ℕ) → candidates_in ms since i v ≡ []) →
     roster_after (replay o es).roster v ≡ (replay o es).roster → allocs_after (alloc_ids (replay o es).book) v ≡ alloc_ids (replay o es).book → cause_after (replay o es).cause v ≡ cause →
@@ -203,7 +203,7 @@ cut_step o es v cause leads m f none rows ids told =
 
 -- One entry more.
 
--- the present state of a lawful chapter is a lawful one
+-- the present state of a lawful chapter is a lawful state
 pub present_lawful : (c : Chapter) → IsLawfulChapter c → IsLawfulState (present_state c)
 present_lawful c l = legal_state c.opening c.entries (from_opening c.number c.opening l.opening) (after_from_legal c.opening c.entries c.number l.legal)
 
@@ -222,11 +222,11 @@ next_chapter c s t event reply k follows step =
       book = steady.book;
     }
 
--- the frames of its window lead to the next
+-- the frames of its window are consecutive and end before the next frame
 pub kept_frames : (c : Chapter) (s : State) → IsKept c s → AreConsecutive s.next s.window
 kept_frames c s k = subst (λ s. AreConsecutive s.next s.window) (sym k.replayed) (present_lawful c k.lawful).steady.frames
 
--- a map is kept
+-- the state after a map is kept
 pub mapped : (c d : Chapter) (s t : State) (made : MadeMap) → IsKept c s → first_refusal (length c.entries) s MakeMap ≡ None → IsMade s made →
     d ≡ with_entry c MakeMap (Map made) → t ≡ after_map s (grants_of s.roster made.map) → IsKept d t
 mapped c d s t made k accepted is_made more after =
@@ -235,7 +235,7 @@ mapped c d s t made k accepted is_made more after =
     (λ e. subst (λ s. after_map s (grants_of s.roster made.map) ≡ replay s (record { event = MakeMap; reply = Map made } ∷ [])) e
     (map_step c.opening c.entries (Map made) (subst (λ s. AreRising (alloc_ids s.book)) (sym e) k.book.0))))
 
--- a row is kept
+-- the state after an admission is kept
 pub admitted : (c d : Chapter) (s t : State) (r : Row) → IsKept c s → IsInRange r → first_refusal (length c.entries) s (Admit r.onu r.alloc_id r.descriptor) ≡ None →
     d ≡ with_entry c (Admit r.onu r.alloc_id r.descriptor) Taken → t ≡ after_admit s r → IsKept d t
 admitted c d s t r k in_range accepted more after =
@@ -246,7 +246,7 @@ admitted c d s t r k in_range accepted more after =
     (λ e. subst (λ s. after_admit s r ≡ replay s (taken_entry (Admit r.onu r.alloc_id r.descriptor) ∷ [])) e
     (admit_step c.opening c.entries r (subst (λ s. AreRising (alloc_ids s.book)) (sym e) k.book.0) (subst (λ s. list_any (λ j. j == r.alloc_id) (alloc_ids s.book) ≡ false) (sym e) free))))
 
--- a change is kept
+-- the state after a change is kept
 pub changed : (c d : Chapter) (s t : State) (i : ℕ) (t2 : Descriptor) → IsKept c s → IsManaged i × IsLawful t2 → first_refusal (length c.entries) s (Change i t2) ≡ None →
     d ≡ with_entry c (Change i t2) Taken → t ≡ after_change s i t2 → IsKept d t
 changed c d s t i t2 k in_range accepted more after =
@@ -255,7 +255,7 @@ changed c d s t i t2 k in_range accepted more after =
     (λ e. subst (λ s. after_change s i t2 ≡ replay s (taken_entry (Change i t2) ∷ [])) e
     (change_step c.opening c.entries i t2 (subst (λ s. AreRising (alloc_ids s.book)) (sym e) k.book.0))))
 
--- a removal is kept
+-- the state after a removal is kept
 pub removed : (c d : Chapter) (s t : State) (i : ℕ) → IsKept c s → IsManaged i → first_refusal (length c.entries) s (Remove i) ≡ None →
     d ≡ with_entry c (Remove i) Taken → t ≡ after_remove s i → IsKept d t
 removed c d s t i k in_range accepted more after =
@@ -276,7 +276,7 @@ map_taken c d s made kept k accepted is_made same more = record {
   kept = more ∙ ap (λ m. with_entry c MakeMap (Map m)) same;
 }
 
--- a fault is kept, and its end
+-- the state after a line failure or a restoration is kept
 module _ (c d : Chapter) (s t : State) (k : IsKept c s) where
   pub failed : (cause : ℕ) → IsEvent (Fail cause) → first_refusal (length c.entries) s (Fail cause) ≡ None → d ≡ with_entry c (Fail cause) Taken → t ≡ after_cut s (Some cause) → IsKept d t
   failed cause in_range accepted more after =
@@ -292,7 +292,7 @@ module _ (c d : Chapter) (s t : State) (k : IsKept c s) where
       (λ e. subst (λ s. after_cut s None ≡ replay s (taken_entry Restore ∷ [])) e
       (cut_step c.opening c.entries Restore None k.lawful.opening.frames refl refl (λ ms since i. refl) refl refl refl)))
 
--- a report is kept
+-- the state after a report is kept
 pub reported : (c d : Chapter) (s t : State) (f u : ℕ) (ns : List (Option ℕ)) → IsKept c s → IsReported f u ns → first_refusal (length c.entries) s (Report f u ns) ≡ None →
     d ≡ with_entry c (Report f u ns) Taken → t ≡ after_report s f u ns → IsKept d t
 reported c d s t f u ns k in_range accepted more after =
@@ -301,7 +301,7 @@ reported c d s t f u ns k in_range accepted more after =
     (record { event = in_range; accepted = accepted; reply = refl })
     (λ e. report_step s lawful f u ns))
 
--- an event that makes no map is kept
+-- the state after an event that makes no map is kept
 pub taken : (c d : Chapter) (s t : State) (v : Event) → IsKept c s → IsEvent v → makes_map v ≡ false → first_refusal (length c.entries) s v ≡ None → d ≡ with_entry c v Taken → t ≡ after_event s v → IsKept d t
 taken c d s t (Admit u i ds) k range m accepted more after = admitted c d s t (record { onu = u; alloc_id = i; descriptor = ds }) k range accepted more after
 taken c d s t (Change i ds) k range m accepted more after = changed c d s t i ds k range accepted more after

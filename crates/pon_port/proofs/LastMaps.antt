@@ -1,4 +1,4 @@
--- The last map of a chapter, one entry further.
+-- The last map of a chapter with one more entry.
 use Rattle.std.proofs.Common.{◌≡◌, ℕ, ◌<◌, List, [], ◌∷◌, ◌++◌, length, refl, ap, sym, ◌∙◌, subst, ◌≤◌, arith}
 use Rattle.std.specs.Prelude.{Option, Some, None, slice_get}
 use Rattle.std.proofs.lemmas.Option.{slice_get-get_or, slice_get_within, get_or_from_slice_get}
@@ -39,7 +39,7 @@ get_new : {X : Type 0} (xs : List X) (y : X) → slice_get (xs ++ y ∷ []) (len
 get_new [] y = refl
 get_new (x ∷ xs) y = get_new xs y
 
--- an event that is taken leaves the last map
+-- an event with the reply `Taken` leaves the last map unchanged
 pub last_kept : (c d : Chapter) (v : Event) (place : Option ℕ) (na be : List ℕ) → d ≡ with_entry c v Taken → KeepsLast c place na be → KeepsLast d place na be
 last_kept c d v place na be more h = subst (λ d. KeepsLast d place na be) (sym more) (step place h)
   where
@@ -60,7 +60,7 @@ last_kept c d v place na be more h = subst (λ d. KeepsLast d place na be) (sym 
       members = h.members;
     }
 
--- the certificate of a map has a truth value for each Alloc-ID of its class
+-- the certificate of a map has a flag for each Alloc-ID of its class
 counted : (s : Input) (class : Class) (cert : ClassCert) (surplus : ℕ) → IsCertificate (items class s) surplus cert → length cert.saturated ≡ length (member_ids class s.roster)
 counted s class cert surplus k =
     AllZip-long (RuleHolds cert.level) (items class s) cert.saturated k.rules ∙ length-map (members class s.roster) (item_of s) ∙ sym (length-map (members class s.roster) (λ r. r.alloc_id))
@@ -76,7 +76,7 @@ suits_made s made a m = record {
   few_best_effort = few_ids BestEffort s.roster (omega (arith, a.few_allocs, few_allowed s.rule));
 }
 
--- a map is the last one
+-- a map that is made is the last one
 pub last_made : (c d : Chapter) (s : State) (made : MadeMap) (place : ℕ) (na be : List ℕ) → IsKept c s → IsMade s made → d ≡ with_entry c MakeMap (Map made) →
     place ≡ length c.entries → na ≡ member_ids NonAssured s.roster → be ≡ member_ids BestEffort s.roster → KeepsLast d (Some place) na be
 last_made c d s made place na be k m more here na_is be_is =

@@ -31,7 +31,7 @@ event_keeps kept s MakeMap i h k = k
 event_keeps kept s (Fail cause) i h k = k
 event_keeps kept s Restore i h k = k
 
--- so does a legal list of entries
+-- a legal list of entries keeps the set admitted
 pub entries_keep : (o : State) (done es : List Entry) → IsLegalAfter o done es → IsAdmitted o.rule o.gap (replay o done).roster → IsAdmitted o.rule o.gap (replay o (done ++ es)).roster
 entries_keep o done [] l k = subst (λ t. IsAdmitted o.rule o.gap (replay o t).roster) (sym (append-nil done)) k
 entries_keep o done (e ∷ es) l k =
@@ -40,7 +40,7 @@ entries_keep o done (e ∷ es) l k =
     (subst (IsAdmitted o.rule o.gap) (sym (roster_of-append o.roster done (e ∷ [])))
     (event_keeps (length done) (replay o done) e.event l.0.event l.0.accepted k)))
 
--- before each entry of a lawful chapter
+-- the roster is an admitted set before each entry of a lawful chapter
 pub admitted_before : (c : Chapter) → IsLawfulChapter c → (k : ℕ) → IsAdmitted (state_before c k).rule (state_before c k).gap (state_before c k).roster
 admitted_before c l k =
     entries_keep c.opening [] (take k c.entries)

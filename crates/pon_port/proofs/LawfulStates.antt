@@ -104,7 +104,7 @@ replay_none s k = (λ i. record {
         ∙ map_fixed (with_reports []) s.window (All-weaker IsLawfulMap (λ m. with_reports [] m ≡ m) map_as_it_was s.window k.maps))
         ∙ ap (λ n. drop n s.window) (let e : length s.window - 64 ≡ 0 = omega (arith, k.few_maps) in e)
 
--- What each entry keeps, a legal list keeps.
+-- A property that each entry keeps is kept by a legal list.
 pub entries_carry : (P : State → Type 0) → ((kept : ℕ) (s : State) (e : Entry) → MayFollow kept s e → P s → P (replay s (e ∷ []))) →
     (o : State) (done es : List Entry) → AreConsecutive o.next o.window → IsLegalAfter o [] done → IsLegalAfter o done es → P (replay o done) → P (replay o (done ++ es))
 entries_carry P step o done [] h legal l k = subst (λ t. P (replay o t)) (sym (append-nil done)) k
@@ -114,9 +114,9 @@ entries_carry P step o done (e ∷ es) h legal l k =
     (entries_carry P step o (done ++ e ∷ []) es h more l.1
     (subst P (sym (replay-append o done (e ∷ []) h more)) (step (length done) (replay o done) e l.0 k)))
 
--- Who owns an Alloc-ID.
+-- The owner of an Alloc-ID.
 
--- an event that doesn't admit an Alloc-ID gives it no other ONU
+-- an event that does not admit an Alloc-ID gives it no other ONU
 rows_kept : (Q : ℕ → Type 0) (i : ℕ) (v : Event) (rows : List Row) → admits i v ≡ false → All (λ r. r.alloc_id ≡ i → Q r.onu) rows → All (λ r. r.alloc_id ≡ i → Q r.onu) (roster_after rows v)
 rows_kept Q i (Admit onu alloc_id descriptor) rows n h =
     let r : Row = record { onu = onu; alloc_id = alloc_id; descriptor = descriptor } in
@@ -179,7 +179,7 @@ map_keeps_roster MakeMap rows h = refl
 map_keeps_roster (Fail cause) rows h = refl
 map_keeps_roster Restore rows h = refl
 
--- an account that is there, under its Alloc-ID
+-- an existing account has its Alloc-ID
 pub pick_account : (P : Account → Type 0) (book : List Account) (i : ℕ) → has_id i (alloc_ids book) ≡ true → All P book → (a : Account) × (account_of book i ≡ Some a) × (a.alloc_id ≡ i) × P a
 pick_account P [] i h k = absurd cc
 pick_account P (x ∷ book) i h k = elim (eqb_tells x.alloc_id i) [
@@ -205,7 +205,7 @@ module _ (s : State) (e : Entry) (k : IsSteady s) (i : ℕ) (b : begins i e ≡ 
       since : since_of s (e ∷ []) i ≡ s.next
       since = since_begins s i e b
 
--- An account that goes on.
+-- An account that existed before the entry.
 
 module _ (s : State) (e : Entry) (k : IsSteady s) (i : ℕ) (b : begins i e ≡ false) (a : Account) (found : account_of s.book i ≡ Some a) (same : a.alloc_id ≡ i) (lawful : AccountIsLawful s a) where
   since_stays : since_of s (e ∷ []) i ≡ a.since
@@ -227,7 +227,7 @@ module _ (s : State) (e : Entry) (k : IsSteady s) (i : ℕ) (b : begins i e ≡ 
       (λ r o w q. subst (λ rows. Owns rows r.alloc_id r.onu) (sym (map_keeps_roster e.event s.roster t)) o)
       s.roster (distinct_owns s.roster k.admitted.apart)))
 
-  -- an ONU that reported has reported still
+  -- an ONU that has reported is still marked so after the entry
   reported_stays : (m : WindowMap) → IsLawfulMap m → (u : ℕ) → Contains m.reported u → Contains (with_reports (e ∷ []) m).reported u
   reported_stays m l u c =
       let said : ℕ → Bool = λ u. occurs u m.reported || list_any (λ e. is_report_for m.frame u e.event) (e ∷ []) in
@@ -236,7 +236,7 @@ module _ (s : State) (e : Entry) (k : IsSteady s) (i : ℕ) (b : begins i e ≡ 
       any_contains u (filter said (onus_polled m))
       (any_eq-filter said u (onus_polled m) ∙ and_from (said u) (occurs u (onus_polled m)) (or_left (occurs u m.reported) (list_any (λ e. is_report_for m.frame u e.event) (e ∷ [])) was) (and_parts (occurs u m.reported) (occurs u (onus_polled m)) kept).1)
 
-  -- a report that counted may count still
+  -- a report that counted may still count
   carried : (c d : Counted) → d.frame ≡ c.frame → CountedIsLawful s a c → CountedIsLawful (replay s (e ∷ [])) (account_after s (e ∷ []) i) d
   carried c d q l = record {
     not_early = omega (arith, since_stays, l.not_early, q);
@@ -260,7 +260,7 @@ module _ (s : State) (e : Entry) (k : IsSteady s) (i : ℕ) (b : begins i e ≡ 
   as_they_were = All-weaker (CountedIsLawful s a) (CountedIsLawful (replay s (e ∷ [])) (account_after s (e ∷ []) i))
       (λ c l. carried c c refl l) (option_to_list a.counted) (some_all (CountedIsLawful s a) a.counted lawful.counted)
 
-  -- a list of candidates beside it
+  -- the counted report with more candidates
   with_candidates : makes_map e.event ≡ false → All (CountedIsLawful (replay s (e ∷ [])) (account_after s (e ∷ []) i)) (candidates_in (map (with_reports (e ∷ [])) s.window) a.since i e.event) →
       IfSome (counted_of s (e ∷ []) i) (CountedIsLawful (replay s (e ∷ [])) (account_after s (e ∷ []) i))
   with_candidates m h = subst (λ o. IfSome o (CountedIsLawful (replay s (e ∷ [])) (account_after s (e ∷ []) i)))
@@ -269,7 +269,7 @@ module _ (s : State) (e : Entry) (k : IsSteady s) (i : ℕ) (b : begins i e ≡ 
       (latest_all (CountedIsLawful (replay s (e ∷ [])) (account_after s (e ∷ []) i)) (option_to_list a.counted ++ candidates_in (map (with_reports (e ∷ [])) s.window) a.since i e.event)
       (All-append (CountedIsLawful (replay s (e ∷ [])) (account_after s (e ∷ []) i)) (option_to_list a.counted) (candidates_in (map (with_reports (e ∷ [])) s.window) a.since i e.event) as_they_were h))
 
--- A report that is taken.
+-- An accepted report.
 
 report_frame : (kept : ℕ) (s : State) (f u count : ℕ) → or_else (or_else (when_down s.cause) (refuses_report s.window f u count)) (when_full kept s.taken_before) ≡ None → list_any (is_of f) s.window ≡ true
 report_frame kept s f u count h =
@@ -292,20 +292,20 @@ no_occupancies i (g ∷ gs) (Some n ∷ ns) h =
     let two : ((g.alloc_id == i) ≡ false) × (list_any (λ g. g.alloc_id == i) gs ≡ false) = or_parts (g.alloc_id == i) (list_any (λ g. g.alloc_id == i) gs) h in
     (λ j. if two.0 j then n ∷ occupancies i gs ns else occupancies i gs ns) ∙ no_occupancies i gs ns two.1
 
--- a polled ONU whose report is taken has reported
+-- a polled ONU whose report is accepted has reported
 reported_now : (e : Entry) (m : WindowMap) (u : ℕ) → is_report_for m.frame u e.event ≡ true → occurs u (onus_polled m) ≡ true → Contains (with_reports (e ∷ []) m).reported u
 reported_now e m u now there =
     let said : ℕ → Bool = λ u. occurs u m.reported || (is_report_for m.frame u e.event || false) in
     let here : said u ≡ true = or_right (occurs u m.reported) (is_report_for m.frame u e.event || false) (or_left (is_report_for m.frame u e.event) false now) in
     any_contains u (filter said (onus_polled m)) (any_eq-filter said u (onus_polled m) ∙ and_from (said u) (occurs u (onus_polled m)) here there)
 
--- where its owner has reported, the ONU of an Alloc-ID has
+-- if the owner of an Alloc-ID has reported, so has the ONU of its row
 owner_reported : (rows : List Row) (reported : List ℕ) (j i v u : ℕ) → Owns rows j v → j ≡ i → v ≡ u → Contains reported u → All (λ r. r.alloc_id ≡ i → Contains reported r.onu) rows
 owner_reported rows reported j i v u owns of_it by_it there =
     All-weaker (λ r. r.alloc_id ≡ j → r.onu ≡ v) (λ r. r.alloc_id ≡ i → Contains reported r.onu)
     (λ r w z. subst (Contains reported) (sym (w (z ∙ sym of_it) ∙ by_it)) there) rows owns
 
--- a grant that passes two tests
+-- if a grant of a list passes two tests and all have a property, a grant passes both and has the property
 pub pick_grant : (P : Granted → Type 0) (p q : Granted → Bool) (gs : List Granted) → list_any p (filter q gs) ≡ true → All P gs → (g : Granted) × (p g ≡ true) × (q g ≡ true) × P g
 pick_grant P p q [] h k = absurd cc
 pick_grant P p q (g ∷ gs) h k =
@@ -333,7 +333,7 @@ module _ (s : State) (e : Entry) (k : IsSteady s) (i : ℕ) (b : begins i e ≡ 
   abbrev told_of : ℕ → Counted
   told_of n = record { frame = f; words = n - words_from i f seen }
 
-  -- what it tells of an Alloc-ID may count
+  -- its report of an Alloc-ID may count
   new_report : (w : ℕ) → list_any (λ g. g.alloc_id == i) (grants_at f u seen) ≡ true → a.since ≤ f → CountedIsLawful (replay s (e ∷ [])) (account_after s (e ∷ []) i) (record { frame = f; words = w })
   new_report w has early = record {
     not_early = omega (arith, since_stays s e k i b a found same lawful, early);
@@ -376,7 +376,7 @@ module _ (s : State) (e : Entry) (k : IsSteady s) (i : ℕ) (b : begins i e ≡ 
             (All-nil (λ n. CountedIsLawful (replay s (e ∷ [])) (account_after s (e ∷ []) i) (told_of n)))
       ]
 
--- One entry further.
+-- One more entry.
 
 module _ (kept : ℕ) (s : State) (k : IsSteady s) (i : ℕ) (a : Account) (found : account_of s.book i ≡ Some a) (same : a.alloc_id ≡ i) (lawful : AccountIsLawful s a) where
   counted_step : (v : Event) (reply : Reply) → first_refusal kept s v ≡ None → begins i (record { event = v; reply = reply }) ≡ false →
@@ -424,7 +424,7 @@ account_step kept s e h k lawful i there = elim (cases_Bool (begins i e)) [
       }
 ]
 
--- a lawful state, whatever its chapter's number
+-- a lawful state, for any number of its chapter
 pub record IsLawfulState (s : State) : Type 0 where
   pub steady : IsSteady s
   pub accounts : All (AccountIsLawful s) s.book
@@ -455,7 +455,7 @@ opens_later n s l k = record {
   failed = k.steady.failed;
 }
 
--- a legal list leaves a lawful state of one
+-- a lawful state is lawful after a legal list
 pub legal_state : (o : State) (es : List Entry) → IsLawfulState o → IsLegalAfter o [] es → IsLawfulState (replay o es)
 legal_state o es k l = entries_carry IsLawfulState lawful_step o [] es k.steady.frames tt l (subst IsLawfulState (sym (replay_none o k.steady)) k)
 

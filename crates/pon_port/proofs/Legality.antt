@@ -13,7 +13,7 @@ abbrev pub IsLegalAfter : State → List Entry → List Entry → Type 0
 IsLegalAfter o done [] = Unit {0}
 IsLegalAfter o done (e ∷ es) = MayFollow (length done) (replay o done) e × IsLegalAfter o (done ++ e ∷ []) es
 
--- each k-th of the entries may follow there
+-- each k-th of the entries may follow in the state before it
 abbrev pub EachFollows : State → List Entry → List Entry → Type 0
 EachFollows o done es = (k : ℕ) (e : Entry) → slice_get es k ≡ Some e → MayFollow (length done + k) (replay o (done ++ take k es)) e
 
@@ -52,7 +52,7 @@ pub legal_push : (o : State) (done es : List Entry) (e : Entry) → IsLegalAfter
 legal_push o done [] e l m = (subst (λ t. MayFollow (length t) (replay o t) e) (append-nil done) m, tt)
 legal_push o done (x ∷ es) e l m = (l.0, legal_push o (done ++ x ∷ []) es e l.1 (subst (λ t. MayFollow (length t) (replay o t) e) (sym (append_assoc done (x ∷ []) es)) m))
 
--- a legal list is legal in two parts
+-- both parts of a legal list are legal
 pub legal_split : (o : State) (done xs ys : List Entry) → IsLegalAfter o done (xs ++ ys) → IsLegalAfter o done xs × IsLegalAfter o (done ++ xs) ys
 legal_split o done [] ys l = (tt, subst (λ t. IsLegalAfter o t ys) (sym (append-nil done)) l)
 legal_split o done (x ∷ xs) ys l =

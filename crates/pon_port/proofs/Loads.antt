@@ -1,4 +1,4 @@
--- Loads over a list that is cut in two.
+-- Loads over a list that is split.
 use Rattle.std.proofs.Common.{◌≡◌, ℕ, zero, suc, ◌+◌, ◌-◌, ◌<◌, ◌≤◌, Bool, true, false, cond, not, ◌||◌, ◌&&◌, List, [], ◌∷◌, ◌++◌, map, length, drop, refl, ap, sym, ◌∙◌, arith, inl, inr}
 use Rattle.std.specs.Prelude.{◌==◌, ◌⊎◌, nat_le, nat_lt, if◌then◌else◌, filter, flat_map, sum_by, Option, Some, None, option_to_list, option_map}
 use Rattle.std.specs.List.{list_any}
@@ -24,7 +24,7 @@ use Rattle.pon_port.proofs.Windows.{leads-filter, filter_high}
 abbrev pub from : ℕ → List WindowMap → List WindowMap
 from f ms = filter (λ m. nat_le f m.frame) ms
 
--- what was granted from a frame on rests on those maps alone
+-- the words granted from a frame on depend only on those maps
 words_from_is : (i f : ℕ) (ms : List WindowMap) → words_from i f ms ≡ sum_by (words_in i) (from f ms)
 words_from_is i f [] = refl
 words_from_is i f (m ∷ ms) =
@@ -35,7 +35,7 @@ words_from_is i f (m ∷ ms) =
       | false ↦ omega arith
     ]
 
--- and so do the grants of the frame
+-- the grants of the frame depend only on those maps
 grants_at_is : (f u : ℕ) (ms : List WindowMap) → grants_at f u ms ≡ grants_at f u (from f ms)
 grants_at_is f u ms = ap (λ ms. filter (λ g. g.onu == u) (flat_map (λ m. m.grants) ms)) (sym (filter-filter (λ m. m.frame == f) (λ m. nat_le f m.frame) ms ∙ filter_agree _ _ (λ m. at m.frame) ms))
   where
@@ -59,7 +59,7 @@ from-drop n f zero ms h l = refl
 from-drop n f (suc k) [] h l = refl
 from-drop n f (suc k) (m ∷ ms) h l = from-drop n f k ms h.1 (omega arith) ∙ sym (rw (lt-leb f m.frame (omega (arith, h.0))) refl)
 
--- from a frame on, a filter leaves no more maps than frames
+-- from a frame on there are no more maps than frames
 filter_short : (n c : ℕ) (ms : List WindowMap) → AreConsecutive n ms → c ≤ n → c + length (filter (λ m. nat_le c m.frame) ms) ≤ n
 filter_short n c [] h l = omega arith
 filter_short n c (m ∷ ms) h l =
@@ -68,7 +68,7 @@ filter_short n c (m ∷ ms) h l =
       | inr e ↦ rw e.0 (filter_short n c ms h.1 l)
     ]
 
--- from a frame of the window on, the window has all maps
+-- the window has all maps from its first frame on
 pub from_window : (n c f : ℕ) (ms : List WindowMap) → AreConsecutive n ms → c ≤ n → n ≤ f + length (last_64 (filter (λ m. nat_le c m.frame) ms)) →
     from f (last_64 (filter (λ m. nat_le c m.frame) ms)) ≡ from f ms
 from_window n c f ms h l b =
@@ -77,7 +77,7 @@ from_window n c f ms h l b =
     from-drop n f (length kept - 64) kept (leads-filter n c ms h) room
     ∙ from-from c f ms (omega (arith, filter_short n c ms h l, room))
 
--- a frame that is tested for: the maps of two lists agree from there on
+-- two lists of maps that agree from a frame on still agree there after more entries
 pub agree : (f : ℕ) (ys : List Entry) (ms ns bs : List WindowMap) → from f ms ≡ from f ns → from f (map (with_reports ys) ms ++ bs) ≡ from f (map (with_reports ys) ns ++ bs)
 agree f ys ms ns bs e =
     filter-append (λ m. nat_le f m.frame) (map (with_reports ys) ms) bs
@@ -86,7 +86,7 @@ agree f ys ms ns bs e =
 
 -- Reports of frames.
 
--- each report is of a frame below
+-- each report is of a frame below n
 abbrev pub EventBelow : ℕ → Event → Type 0
 EventBelow n (Report frame onu occ) = frame < n
 EventBelow n _ = Unit {0}
@@ -104,7 +104,7 @@ abbrev pub AreWithin : ℕ → ℕ → List Entry → Type 0
 AreWithin n k [] = Unit {0}
 AreWithin n k (e ∷ es) = EventWithin n k e.event × AreWithin n k es
 
--- candidates of later entries, over all maps and over the window's
+-- the candidates of later entries are the same over all maps and over those of the window
 pub candidates_agree : (n k : ℕ) (ms ns : List WindowMap) → ((f : ℕ) → n ≤ f + k → from f ms ≡ from f ns) →
     (since i : ℕ) (es : List Entry) → AreWithin n k es →
     flat_map (λ e. candidates_in ms since i e.event) es ≡ flat_map (λ e. candidates_in ns since i e.event) es
@@ -122,7 +122,7 @@ candidates_agree n k ms ns h since i (e ∷ es) w = (λ j. one e.event w.0 j ++ 
     one (Fail cause) w = refl
     one Restore w = refl
 
--- where reports count only from later frames on, there is none
+-- if reports count only from later frames on, there is no candidate
 pub candidates_late : (n : ℕ) (ms : List WindowMap) (since i : ℕ) (es : List Entry) → n ≤ since → AreBelow n es →
     flat_map (λ e. candidates_in ms since i e.event) es ≡ []
 candidates_late n ms since i [] l w = refl
@@ -155,7 +155,7 @@ grants_at-map f u ys ms = ap (λ t. filter (λ g. g.onu == u) t)
 pub sub_sub : (c a b : ℕ) → c - (a + b) ≡ (c - a) - b
 sub_sub c a b = omega arith
 
--- candidates of earlier entries have less by what later maps grant
+-- later maps reduce the candidates of earlier entries by what they grant
 pub candidates_less : (nx n : ℕ) (ys : List Entry) (ms bs : List WindowMap) → AreConsecutive n bs → nx + length bs ≡ n →
     (since i : ℕ) (es : List Entry) → AreBelow nx es →
     flat_map (λ e. candidates_in (map (with_reports ys) ms ++ bs) since i e.event) es
@@ -224,7 +224,7 @@ later_later c d (Some e) =
 latest_of : Option Counted → List Counted → Option Counted
 latest_of o cs = latest (option_to_list o ++ cs)
 
--- the front of the list by its latest alone
+-- the first part of a list of reports may be replaced by its latest
 pub latest-append : (cs ds : List Counted) → latest (cs ++ ds) ≡ latest (option_to_list (latest cs) ++ ds)
 latest-append [] ds = refl
 latest-append (c ∷ cs) ds = ap (later c) (latest-append cs ds) ∙ step (latest cs)
@@ -251,7 +251,7 @@ any_filter p q (x ∷ xs) h = (elim (q x) as (λ b. list_any p (cond b (x ∷ fi
   | false ↦ λ k. or_right (p x) (list_any p xs) (any_filter p q xs k)
 ]) h
 
--- an Alloc-ID that is there and was not admitted was there before
+-- an Alloc-ID that is in the book after an entry that does not begin its account was in the book before
 had_alloc : (i : ℕ) (ids : List ℕ) (e : Entry) → begins i e ≡ false → has_id i (allocs_after ids e.event) ≡ true → has_id i ids ≡ true
 had_alloc i ids e b h = step e.event b h
   where
@@ -277,7 +277,7 @@ had_alloc_all i ids (e ∷ es) b h =
     let parts : (begins i e ≡ false) × (list_any (begins i) es ≡ false) = or_parts (begins i e) (list_any (begins i) es) b in
     had_alloc i ids e parts.0 (had_alloc_all i (allocs_after ids e.event) es parts.1 h)
 
--- the account of an Alloc-ID that is there
+-- the account of an Alloc-ID of the book
 pub found_since : (o : State) (xs : List Entry) (i : ℕ) (ids : List ℕ) → has_id i ids ≡ true →
     since_of_account (account_of (map (account_after o xs) ids) i) ≡ since_of o xs i
 found_since o xs i [] h = absurd cc

@@ -1,4 +1,4 @@
--- Whether a number is in a list, by its place and by a test.
+-- Whether a number is in a list, by its index and by a test.
 use Rattle.std.proofs.Common.{◌≡◌, ℕ, suc, ◌||◌, true, List, [], ◌∷◌, refl, subst, arith, inl, inr, get_or}
 use Rattle.std.specs.Prelude.{◌==◌, All, Contains}
 use Rattle.std.proofs.lemmas.Bool.{eq-eqb, or_left, or_right}

@@ -1,4 +1,5 @@
--- A state gives a reply to an event, and only one: there is a certificate of its map, and it is the only one that is accepted.
+-- A state has exactly one reply to an event: there is a certificate of its map, and it is the only one that is
+-- accepted.
 use Rattle.std.proofs.Common.{◌≡◌, [], ◌∷◌, ◌++◌, length, refl, ap, sym, ◌∙◌, subst}
 use Rattle.std.specs.Prelude.{None}
 use Rattle.pon_admit.specs.Roster.{IsAdmitted}
@@ -52,7 +53,7 @@ module _ (s : State) (k : IsAdmitted s.rule s.gap s.roster) where
   each_reply (Fail cause) = (Taken, refl)
   each_reply Restore = (Taken, refl)
 
--- a lawful chapter gives a reply to an event that no check refuses
+-- a lawful chapter has a reply to an event that no check refuses
 pub each_follows : (c : Chapter) (v : Event) → IsLawfulChapter c → IsEvent v → refusal_of c v ≡ None → (reply : Reply) × MayFollow (length c.entries) (present_state c) (record { event = v; reply = reply })
 each_follows c v l range accepted =
     let reply : (a : Reply) × IsReply (present_state c) v a = each_reply (present_state c) (admitted_at_present c l) v in
@@ -63,7 +64,7 @@ each_taken c v l range accepted =
     let reply : (a : Reply) × MayFollow (length c.entries) (present_state c) (record { event = v; reply = a }) = each_follows c v l range accepted in
     (reply.0, with_entry c v reply.0, record { follows = reply.1; kept = refl })
 
--- a lawful chapter gives one reply, and stays lawful with it
+-- a lawful chapter has at most one reply, and is lawful with that entry
 pub one_taken : (c d e : Chapter) (v : Event) (a b : Reply) → IsLawfulChapter c → Takes c v a d → Takes c v b e → (a ≡ b) × (d ≡ e)
 one_taken c d e v a b l p q =
     let same : a ≡ b = one_reply (present_state c) (admitted_at_present c l) v a b p.follows.reply q.follows.reply in

@@ -1,4 +1,4 @@
--- Definitions in another form are the same.
+-- Two definitions are equal to their other forms.
 use Rattle.std.proofs.Common.{◌≡◌, ℕ, Bool, true, false, ◌||◌, List, [], ◌∷◌, ◌++◌, map, refl, ◌∙◌, arith}
 use Rattle.std.specs.Prelude.{if◌then◌else◌, nat_le, Option, option_to_list}
 use Rattle.std.specs.List.{list_any}

@@ -1,4 +1,4 @@
--- The parts of a replay over a list that is cut in two.
+-- The parts of a replay over a list that is split.
 use Rattle.std.proofs.Common.{◌≡◌, ℕ, ◌+◌, ◌≤◌, Bool, true, false, ◌||◌, List, [], ◌∷◌, ◌++◌, refl, ap, sym, ◌∙◌, subst, arith, add_assoc}
 use Rattle.std.specs.Prelude.{if◌then◌else◌, Option}
 use Rattle.std.specs.List.{list_any}
@@ -24,14 +24,14 @@ pub roster_of-append : (rs : List Row) (xs ys : List Entry) → roster_of rs (xs
 roster_of-append rs [] ys = refl
 roster_of-append rs (x ∷ xs) ys = roster_of-append (roster_after rs x.event) xs ys
 
--- the next frame at the last entry that passes
+-- the next frame at the last entry that passes the test
 pub frame_at_last-append : (t : Entry → Bool) (s n : ℕ) (xs ys : List Entry) → frame_at_last t s n (xs ++ ys) ≡ frame_at_last t (frame_at_last t s n xs) (next_of n xs) ys
 frame_at_last-append t s n [] ys = ap (λ k. frame_at_last t s k ys) (let e : n ≡ n + 0 = omega arith in e)
 frame_at_last-append t s n (x ∷ xs) ys =
     frame_at_last-append t (if t x then n else s) (next_of n (x ∷ [])) xs ys
     ∙ ap (λ k. frame_at_last t (frame_at_last t s n (x ∷ xs)) k ys) (next_of-cons n x xs)
 
--- where one passes, the start doesn't matter
+-- if an entry passes, the start is irrelevant
 pub frame_at_last_any : (t : Entry → Bool) (s r n : ℕ) (xs : List Entry) → list_any t xs ≡ true → frame_at_last t s n xs ≡ frame_at_last t r n xs
 frame_at_last_any t s r n [] h = absurd cc
 frame_at_last_any t s r n (x ∷ xs) h = (elim (t x) as (λ b. (b || list_any t xs) ≡ true → frame_at_last t (if b then n else s) (next_of n (x ∷ [])) xs ≡ frame_at_last t (if b then n else r) (next_of n (x ∷ [])) xs) [
@@ -39,7 +39,7 @@ frame_at_last_any t s r n (x ∷ xs) h = (elim (t x) as (λ b. (b || list_any t 
   | false ↦ λ k. frame_at_last_any t s r (next_of n (x ∷ [])) xs k
 ]) h
 
--- where none does it is the start
+-- if none passes, it is the start
 pub frame_at_last_none : (t : Entry → Bool) (s n : ℕ) (xs : List Entry) → list_any t xs ≡ false → frame_at_last t s n xs ≡ s
 frame_at_last_none t s n [] h = refl
 frame_at_last_none t s n (x ∷ xs) h = (elim (t x) as (λ b. (b || list_any t xs) ≡ false → frame_at_last t (if b then n else s) (next_of n (x ∷ [])) xs ≡ s) [
@@ -47,11 +47,11 @@ frame_at_last_none t s n (x ∷ xs) h = (elim (t x) as (λ b. (b || list_any t x
   | false ↦ λ k. frame_at_last_none t s (next_of n (x ∷ [])) xs k
 ]) h
 
--- the next frame doesn't fall
+-- the next frame never decreases
 pub next_of_grows : (n : ℕ) (xs : List Entry) → n ≤ next_of n xs
 next_of_grows n xs = omega arith
 
--- where one passes, the frame is not below the first next frame
+-- if an entry passes, the frame is not below the first next frame
 pub frame_at_last_late : (t : Entry → Bool) (s n : ℕ) (xs : List Entry) → list_any t xs ≡ true → n ≤ frame_at_last t s n xs
 frame_at_last_late t s n [] h = absurd cc
 frame_at_last_late t s n (x ∷ xs) h = (elim (t x) as (λ b. (b || list_any t xs) ≡ true → n ≤ frame_at_last t (if b then n else s) (next_of n (x ∷ [])) xs) [

@@ -40,7 +40,7 @@ no_words i (g ∷ gs) h =
     let rest : words_among i gs ≡ 0 = no_words i gs (All-tail (λ g. (g.alloc_id == i) ≡ false) g gs h) in
     omega (arith, sum_by-cons (λ g. if g.alloc_id == i then g.words else 0) g gs, first, rest)
 
--- all that a map grants an Alloc-ID it grants under its ONU
+-- all words that a map grants to an Alloc-ID are granted under its ONU
 own_words : (i u : ℕ) (gs : List Granted) → AreInMapOrder gs → All (λ g. g.alloc_id ≡ i → g.onu ≡ u) gs → words_among i gs ≡ words_granted (find (λ g. g.alloc_id == i) (filter (λ g. g.onu == u) gs))
 own_words i u [] h o = refl
 own_words i u (g ∷ gs) h o = elim (eqb_tells g.alloc_id i) [
@@ -104,7 +104,7 @@ pub latest_lone : (c : Option Counted) → latest (option_to_list c ++ []) ≡ c
 latest_lone None = refl
 latest_lone (Some c) = refl
 
--- before its since-frame nothing counts
+-- no report of a frame before the since-frame counts
 pub too_early : (granted : ℕ → ℕ) (f : ℕ) (a : Account) → nat_le a.since f ≡ false → (gs : List Granted) (ns : List (Option ℕ)) → taken_all granted f gs ns a ≡ a
 too_early granted f a e [] ns = refl
 too_early granted f a e (g ∷ gs) [] = refl
@@ -125,7 +125,7 @@ module _ (granted : ℕ → ℕ) (f i since : ℕ) (e : nat_le since f ≡ true)
   abbrev account : Option Counted → Account
   account o = record { alloc_id = i; since = since; counted = o }
 
-  -- from its since-frame on the latest counts
+  -- from the since-frame on the latest report counts
   pub in_time : (gs : List Granted) (ns : List (Option ℕ)) (o : Option Counted) → taken_all granted f gs ns (account o) ≡ account (latest (option_to_list o ++ map told (occupancies i gs ns)))
   in_time [] ns o = ap account (sym (latest_lone o))
   in_time (g ∷ gs) [] o = ap account (sym (latest_lone o))
@@ -146,7 +146,7 @@ module _ (granted : ℕ → ℕ) (f i since : ℕ) (e : nat_le since f ≡ true)
         ∙ ap (λ b. account (latest (option_to_list o ++ map told (if b then n ∷ occupancies i gs ns else occupancies i gs ns)))) (sym q.0)
   ]
 
--- Who owns an Alloc-ID that is reported.
+-- The owner of a reported Alloc-ID.
 
 found_has : (book : List Account) (i : ℕ) (a : Account) → account_of book i ≡ Some a → has_id i (alloc_ids book) ≡ true
 found_has [] i a h = absurd cc
@@ -193,7 +193,7 @@ module _ (s : State) (l : IsLawfulState s) (a : Account) (lawful : AccountIsLawf
   admitted : has_alloc a.alloc_id s.roster ≡ true
   admitted = sym (l.steady.book.1 a.alloc_id) ∙ found_has s.book a.alloc_id a found
 
-  -- so what was granted to it since was granted under that ONU
+  -- so all words granted to it from the frame on were granted under that ONU
   all_under : words_from a.alloc_id f s.window ≡ words_to_from u a.alloc_id f s.window
   all_under = words_agree a.alloc_id u f s.window l.steady.maps
       (All-weaker (λ m. a.since ≤ m.frame → All Owned m.grants) (λ m. f ≤ m.frame → All (λ g. g.alloc_id ≡ a.alloc_id → g.onu ≡ u) m.grants)
@@ -215,7 +215,7 @@ module _ (s : State) (l : IsLawfulState s) (f u : ℕ) (ns : List (Option ℕ)) 
   abbrev told_from : ℕ → ℕ → Counted
   told_from w n = record { frame = f; words = n - w }
 
-  -- what is reported of an Alloc-ID, by the window as it was
+  -- the reports of an Alloc-ID, by the window before the entry
   told_before : (i since : ℕ) → candidates_in seen since i (Report f u ns) ≡ (if nat_le since f then map (told_from (words_from i f s.window)) (occupancies i (grants_at f u s.window) ns) else [])
   told_before i since = (λ j. if nat_le since f then map (told_from (words_from-map i f (entry ∷ []) s.window j)) (occupancies i (grants_at-map f u (entry ∷ []) s.window j) ns) else [])
 

@@ -1,4 +1,4 @@
--- What every state of a lawful chapter keeps, but for the accounts of its reports.
+-- The invariant of every state of a lawful chapter, except for the counted reports of its accounts.
 use Rattle.std.proofs.Common.{◌≡◌, ◌<◌, ℕ, ◌-◌, ◌≤◌, Bool, true, false, cond, not, ◌||◌, ◌&&◌, List, [], ◌∷◌, ◌++◌, map, length, refl, ap, sym, ◌∙◌, subst, arith, inl, inr, get_or}
 use Rattle.std.specs.Prelude.{◌==◌, nat_le, nat_lt, if◌then◌else◌, filter, All, Option, Some, None, IfSome, option_to_list}
 use Rattle.std.specs.List.{list_any}
@@ -39,7 +39,7 @@ use Rattle.pon_guar.proofs.Books.{rising_with}
 use Rattle.pon_window.proofs.Polls.{said_lawful}
 use Rattle.pon_port.proofs.LawfulChapters.{event_keeps}
 
--- the parts of a lawful opening that speak of no account
+-- the parts of a lawful opening that do not concern accounts
 pub record IsSteady (s : State) : Type 0 where
   pub admitted : IsAdmitted s.rule s.gap s.roster
   pub book : AccountsFor s.roster s.book
@@ -55,7 +55,7 @@ short_window s es =
     let kept : List WindowMap = filter (λ m. nat_le (frame_at_last (λ e. forgets e.event) 0 s.next es) m.frame) (all_maps s es) in
     omega (arith, length-drop (length kept - 64) kept)
 
--- what holds of each map of the window, after the entry, and of the map that the entry makes
+-- a property of each map of the window after an entry, from that of the maps before and of the map that the entry makes
 pub window_all : (P : WindowMap → Type 0) (s : State) (e : Entry) → All (λ m. P (with_reports (e ∷ []) m)) s.window →
     (makes_map e.event ≡ true → P (with_reports [] (new_map s.roster s.next e.reply))) → All P (window_of s (e ∷ []))
 window_all P s e old new =
@@ -73,7 +73,7 @@ window_all P s e old new =
 pub reported_lawful : (es : List Entry) (m : WindowMap) → AreInMapOrder m.grants → IsLawfulMap (with_reports es m)
 reported_lawful es m h = said_lawful (λ u. list_any (λ v. v == u) m.reported || list_any (λ e. is_report_for m.frame u e.event) es) m h
 
--- what holds of each row's grant
+-- a property of all grants of a map, from that of each row's grant
 pub grants_all : (P : Granted → Type 0) (rows : List Row) (more : List Structure) → All (λ r. (w : ℕ) → P (record { onu = r.onu; alloc_id = r.alloc_id; words = w })) rows → All P (grants_of rows more)
 grants_all P [] more h = All-nil P
 grants_all P (r ∷ rows) [] h = All-nil P
@@ -139,7 +139,7 @@ none_counted (a ∷ book) i h = elim (a.alloc_id == i) as (λ b. counted_of_acco
   | false ↦ none_counted book i (All-tail (λ a. a.counted ≡ None) a book h)
 ]
 
--- what changes the roster alone leaves it silent
+-- an event that makes no map and has no candidates leaves a failed port silent
 silent_stays : (s : State) (e : Entry) → IsSilent s → makes_map e.event ≡ false → ((ms : List WindowMap) (since i : ℕ) → candidates_in ms since i e.event ≡ []) → IsSilent (replay s (e ∷ []))
 silent_stays s e k m none = (
   empty,
@@ -164,7 +164,7 @@ pub not_down : (c : Option ℕ) → when_down c ≡ None → c ≡ None
 not_down None h = refl
 not_down (Some c) h = absurd cc
 
--- a fault empties the window and forgets the reports
+-- a line failure empties the window and drops the reports
 cut_silent : (s : State) (e : Entry) → AreConsecutive s.next s.window → makes_map e.event ≡ false → forgets e.event ≡ true → ((ms : List WindowMap) (since i : ℕ) → candidates_in ms since i e.event ≡ []) → IsSilent (replay s (e ∷ []))
 cut_silent s e leads m c none = (
   empty,
@@ -199,7 +199,7 @@ failed_step kept s e h k = one e.event refl h
     one (Fail cause) q h = cut_silent s e k.frames (ap makes_map q) (ap forgets q) (λ ms since i. ap (candidates_in ms since i) q)
     one Restore q h = tt
 
--- One entry further, and all of a legal list.
+-- One more entry, and all of a legal list.
 
 pub steady_step : (kept : ℕ) (s : State) (e : Entry) → MayFollow kept s e → IsSteady s → IsSteady (replay s (e ∷ []))
 steady_step kept s e f k = record {

@@ -45,7 +45,7 @@ quiet_maps_of e q rs n [] = refl
 quiet_maps_of e q rs n (x ∷ es) = map-append (with_reports (e ∷ [])) (map (with_reports es) (map_made rs n x)) (maps_of (roster_after rs x.event) (next_of n (x ∷ [])) es)
     ∙ (λ i. quiet_maps e q es (map_made rs n x) i ++ quiet_maps_of e q (roster_after rs x.event) (next_of n (x ∷ [])) es i)
 
--- what is no report leaves the reports in the window
+-- an event that is no report leaves the reports in the window unchanged
 pub quiet_window : (e : Entry) → IsQuiet e.event → (o : State) (es : List Entry) → map (with_reports (e ∷ [])) (window_of o es) ≡ window_of o es
 quiet_window e q o es =
     let c : ℕ = frame_at_last (λ e. forgets e.event) 0 o.next es in
@@ -76,7 +76,7 @@ window_of-map o es reply =
 last_64-short : {A : Type 0} (xs : List A) → length xs ≤ 64 → last_64 xs ≡ xs
 last_64-short xs h = ap (λ n. drop n xs) (let e : length xs - 64 ≡ 0 = omega arith in e)
 
--- an event that makes no map and forgets nothing leaves the maps, and counts its reports
+-- an event that makes no map and drops nothing leaves the maps, and adds its reports to them
 pub window_of-report : (s : State) (e : Entry) → makes_map e.event ≡ false → forgets e.event ≡ false → length s.window ≤ 64 → window_of s (e ∷ []) ≡ map (with_reports (e ∷ [])) s.window
 window_of-report s e m c few =
     let seen : List WindowMap = map (with_reports (e ∷ [])) s.window in
@@ -85,7 +85,7 @@ window_of-report s e m c few =
     ∙ ap last_64 (filter_zero (seen ++ []) ∙ append-nil seen)
     ∙ last_64-short seen (omega (arith, few, length-map s.window (with_reports (e ∷ []))))
 
--- any other event that forgets nothing leaves the window
+-- any other event that drops nothing leaves the window unchanged
 pub window_of-quiet : (o : State) (es : List Entry) (e : Entry) → IsQuiet e.event → makes_map e.event ≡ false → forgets e.event ≡ false →
     last_64 (window_of o es) ≡ window_of o es → window_of (replay o es) (e ∷ []) ≡ window_of o es
 window_of-quiet o es e q m c l =
@@ -101,7 +101,7 @@ last_64-window o es =
     let kept : List WindowMap = filter (λ m. nat_le c m.frame) (all_maps o es) in
     last_64-short (last_64 kept) (omega (arith, length-drop (length kept - 64) kept))
 
--- a fault or its end empties the window
+-- a line failure or a restoration empties the window
 pub window_of-cut : (o : State) (es : List Entry) (e : Entry) → AreConsecutive o.next o.window → makes_map e.event ≡ false → forgets e.event ≡ true → window_of (replay o es) (e ∷ []) ≡ []
 window_of-cut o es e h m c =
     let nx : ℕ = next_of o.next es in
@@ -110,7 +110,7 @@ window_of-cut o es e h m c =
     (λ i. last_64 (filter (λ w. nat_le (if c i then nx else 0) w.frame) (map (with_reports (e ∷ [])) (window_of o es) ++ (map (with_reports []) (if m i then new ∷ [] else []) ++ []))))
     ∙ ap last_64 (ap (filter (λ w. nat_le nx w.frame)) (append-nil (map (with_reports (e ∷ [])) (window_of o es))) ∙ filter_low nx nx (map (with_reports (e ∷ [])) (window_of o es)) leads (omega arith))
 
--- The account of an Alloc-ID after one entry. s is the state before it.
+-- The account of an Alloc-ID after one entry. `s` is the state before it.
 module _ (s : State) (i : ℕ) where
   pub since_begins : (e : Entry) → begins i e ≡ true → since_of s (e ∷ []) i ≡ s.next
   since_begins e h = (λ j. if h j then s.next else since_of_account (account_of s.book i))
@@ -118,13 +118,13 @@ module _ (s : State) (i : ℕ) where
   pub since_keeps : (e : Entry) → begins i e ≡ false → since_of s (e ∷ []) i ≡ since_of_account (account_of s.book i)
   since_keeps e h = (λ j. if h j then s.next else since_of_account (account_of s.book i))
 
-  -- an admission, a fault and its end forget the report
+  -- an admission, a line failure and a restoration drop the report
   pub counted_forgotten : (e : Entry) → begins i e ≡ true → ((ms : List WindowMap) (since : ℕ) → candidates_in ms since i e.event ≡ []) → counted_of s (e ∷ []) i ≡ None
   counted_forgotten e h none =
       (λ j. latest ((if h j || false then [] else map (less (words_from i 0 (maps_of s.roster s.next (e ∷ [])))) (counted_of_account (account_of s.book i)))
       ++ (none (all_maps s (e ∷ [])) (since_of s (e ∷ []) i) j ++ [])))
 
-  -- a map lessens the report by what it grants
+  -- a map reduces the report by what it grants
   pub counted_of-map : (reply : Reply) → let e : Entry = record { event = MakeMap; reply = reply } in
       counted_of s (e ∷ []) i ≡ latest (map (less (words_in i (new_map s.roster s.next reply))) (counted_of_account (account_of s.book i)))
   counted_of-map reply =
@@ -137,7 +137,7 @@ module _ (s : State) (i : ℕ) where
       ap latest (append-nil (map (less (words_from i 0 (maps_of s.roster s.next (e ∷ [])))) (counted_of_account (account_of s.book i)))
       ∙ ap (λ w. map (less w) (counted_of_account (account_of s.book i))) granted)
 
-  -- a report counts where no later one does
+  -- a report counts unless a later one does
   pub counted_of-report : (e : Entry) → makes_map e.event ≡ false → begins i e ≡ false →
       counted_of s (e ∷ []) i ≡ latest (counted_of_account (account_of s.book i) ++ candidates_in (map (with_reports (e ∷ [])) s.window) (since_of_account (account_of s.book i)) i e.event)
   counted_of-report e m h =

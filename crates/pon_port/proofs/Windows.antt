@@ -1,4 +1,4 @@
--- The window over a list that is cut in two.
+-- The window over a list that is split.
 use Rattle.std.proofs.Common.{◌≡◌, ℕ, ◌+◌, ◌-◌, ◌≤◌, Bool, true, false, cond, ◌||◌, ◌&&◌, List, [], ◌∷◌, ◌++◌, map, length, drop, refl, ap, sym, ◌∙◌, subst, arith, append_assoc, inl, inr}
 use Rattle.std.specs.Prelude.{◌==◌, nat_le, if◌then◌else◌, filter}
 use Rattle.std.specs.List.{list_any}
@@ -51,7 +51,7 @@ all_maps-append o xs ys =
     ∙ sym (append_assoc (map (with_reports ys) (map (with_reports xs) o.window)) _ _)
     ∙ ap (λ t. t ++ maps_of (roster_of o.roster xs) (next_of o.next xs) ys) (sym (map-append (with_reports ys) (map (with_reports xs) o.window) (maps_of o.roster o.next xs)))
 
--- Frames in a row.
+-- Consecutive frames.
 
 pub leads-map : (es : List Entry) (n : ℕ) (ms : List WindowMap) → AreConsecutive n ms → AreConsecutive n (map (with_reports es) ms)
 leads-map es n [] h = tt
@@ -89,7 +89,7 @@ made_leads rs n e = elim (makes_map e.event) as (λ b. AreConsecutive (n + (0 + 
   | false ↦ tt
 ]
 
--- as many maps as the next frame rose
+-- the number of maps is the increase of the next frame
 pub length-maps_of : (rs : List Row) (n : ℕ) (es : List Entry) → n + length (maps_of rs n es) ≡ next_of n es
 length-maps_of rs n [] = refl
 length-maps_of rs n (e ∷ es) = omega (
@@ -113,7 +113,7 @@ maps_lead rs n (e ∷ es) =
 pub all_maps_lead : (o : State) (es : List Entry) → AreConsecutive o.next o.window → AreConsecutive (next_of o.next es) (all_maps o es)
 all_maps_lead o es h = leads-append o.next (next_of o.next es) (map (with_reports es) o.window) (maps_of o.roster o.next es) (leads-map es o.next o.window h) (maps_lead o.roster o.next es) (length-maps_of o.roster o.next es)
 
--- the last 64 of a list whose front was cut before
+-- the last 64 of a list whose first part was already reduced to its last 64
 pub last_64-last_64 : {A : Type 0} (xs ys : List A) → last_64 (last_64 xs ++ ys) ≡ last_64 (xs ++ ys)
 last_64-last_64 xs ys =
     let k : ℕ = length xs - 64 in
@@ -126,7 +126,7 @@ pub filter_zero : (ms : List WindowMap) → filter (λ m. nat_le 0 m.frame) ms �
 filter_zero [] = refl
 filter_zero (m ∷ ms) = rw (le-leb 0 m.frame (omega arith)) (ap (λ t. m ∷ t) (filter_zero ms))
 
--- where nothing is forgotten
+-- if nothing is dropped
 keeps_all : (nx n c : ℕ) (ys : List Entry) (ms bs : List WindowMap) → AreConsecutive n bs → nx + length bs ≡ n → c ≤ nx →
     last_64 (filter (λ m. nat_le c m.frame) (map (with_reports ys) ms ++ bs))
     ≡ last_64 (filter (λ m. nat_le 0 m.frame) (map (with_reports ys) (last_64 (filter (λ m. nat_le c m.frame) ms)) ++ bs))
@@ -140,14 +140,14 @@ keeps_all nx n c ys ms bs lead e l =
     ap (λ t. last_64 t) left
     ∙ sym (ap (λ t. last_64 t) (filter_zero (map (with_reports ys) (last_64 kept) ++ bs)) ∙ ap (λ t. last_64 (t ++ bs)) cut ∙ last_64-last_64 (map (with_reports ys) kept) bs)
 
--- where all that was before is forgotten
+-- if all maps before are dropped
 keeps_new : (nx c : ℕ) (ys : List Entry) (ms bs : List WindowMap) → AreConsecutive nx ms → nx ≤ c →
     filter (λ m. nat_le c m.frame) (map (with_reports ys) ms ++ bs) ≡ filter (λ m. nat_le c m.frame) bs
 keeps_new nx c ys ms bs lead l =
     filter-append (λ m. nat_le c m.frame) (map (with_reports ys) ms) bs
     ∙ ap (λ t. t ++ filter (λ m. nat_le c m.frame) bs) (filter_low nx c (map (with_reports ys) ms) (leads-map ys nx ms lead) l)
 
--- the window of a list that is cut in two
+-- the window of a list that is split
 pub window_of-append : (o : State) (xs ys : List Entry) → AreConsecutive o.next o.window → window_of o (xs ++ ys) ≡ window_of (replay o xs) ys
 window_of-append o xs ys h =
     let cut : Entry → Bool = λ e. forgets e.event in

@@ -27,7 +27,7 @@ state_before c k = replay c.opening (take k c.entries)
 abbrev pub present_state : Chapter → State
 present_state c = replay c.opening c.entries
 
--- each k-th entry may follow there
+-- each k-th entry may follow in the state before it
 abbrev pub IsLegal : Chapter → Type 0
 IsLegal c = (k : ℕ) (e : Entry) → slice_get c.entries k ≡ Some e → MayFollow k (state_before c k) e
 
@@ -37,19 +37,20 @@ IsLegal c = (k : ℕ) (e : Entry) → slice_get c.entries k ≡ Some e → MayFo
 abbrev pub Owns : List Row → ℕ → ℕ → Type 0
 Owns rows i u = All (λ r. r.alloc_id ≡ i → r.onu ≡ u) rows
 
--- a report that counts is of a frame from since on, below the next; where its map is in the window its ONU reported there
+-- a counted report is of a frame from the since-frame on, below the next; if its map is in the window, its ONU reported
+-- for it
 pub record CountedIsLawful (s : State) (a : Account) (c : Counted) : Type 0 where
   pub not_early : a.since ≤ c.frame
   pub not_late : c.frame < s.next
   pub reported : All (λ m. m.frame ≡ c.frame → All (λ r. r.alloc_id ≡ a.alloc_id → Contains m.reported r.onu) s.roster) s.window
 
--- from since on the maps of the window hold an Alloc-ID under its own ONU
+-- from the since-frame on, the maps of the window grant to an Alloc-ID under its own ONU
 pub record AccountIsLawful (s : State) (a : Account) : Type 0 where
   pub since : a.since ≤ s.next
   pub counted : IfSome a.counted (CountedIsLawful s a)
   pub owner : All (λ m. a.since ≤ m.frame → All (λ g. g.alloc_id ≡ a.alloc_id → Owns s.roster g.alloc_id g.onu) m.grants) s.window
 
--- a failed port has no window and no reports that count
+-- a failed port has no window and no counted reports
 abbrev pub IsSilent : State → Type 0
 IsSilent s = (s.window ≡ []) × All (λ a. a.counted ≡ None) s.book
 
@@ -75,7 +76,7 @@ pub record IsLawfulChapter (c : Chapter) : Type 0 where
   pub opening : IsLawfulOpening c.number c.opening
   pub legal : IsLegal c
 
--- for any two chapters of one port whose numbers follow each other, the later opens with the end of the earlier
+-- for any two chapters of one port with consecutive numbers, the later opens with the end of the earlier
 abbrev pub Follows : Chapter → Chapter → Type 0
 Follows c d = d.number ≡ c.number + 1 → d.opening ≡ present_state c
 

@@ -1,5 +1,5 @@
--- What the load of an Alloc-ID rests on, in one sentence: the report that counts is an accepted report of a frame that is
--- not below since, its words less what was granted from that frame on, and no later one is accepted.
+-- The report that the load of an Alloc-ID depends on, in one sentence: an accepted report of a frame that is not below
+-- the since-frame, its words less what was granted from that frame on, and no later one is accepted.
 use Rattle.std.specs.Prelude.{ℕ, ◌≡◌, ◌-◌, ◌≤◌, ◌⊎◌, false, List, Contains, Option, Some}
 use Rattle.std.specs.List.{list_any}
 use Rattle.pon_guar.specs.declared.account.Counted.{Counted}
@@ -12,7 +12,8 @@ use Rattle.pon_state.specs.Loads.{since_of}
 use Rattle.pon_event.specs.declared.event.Event.TheVariants.{Report}
 use Rattle.pon_state.specs.declared.reply.Entry.{Entry}
 
--- an entry reports `reported` words for the Alloc-ID, and `c` is what the maps from the report's frame on leave of them
+-- an entry reports `reported` words for the Alloc-ID, and `c` has them less what the maps from the report's frame on
+-- grant
 pub record IsEntryReport (o : State) (es : List Entry) (i : ℕ) (c : Counted) : Type 0 where
   pub entry : Entry
   pub onu : ℕ
@@ -24,7 +25,7 @@ pub record IsEntryReport (o : State) (es : List Entry) (i : ℕ) (c : Counted) :
   pub not_early : since_of o es i ≤ c.frame
   pub left : c.words ≡ reported - words_from i c.frame (all_maps o es)
 
--- the opening knows a report of the Alloc-ID that no entry forgets, and `c` is what the entries' maps leave of it
+-- the opening has a report of the Alloc-ID that no entry drops, and `c` has its words less what the entries' maps grant
 pub record IsOpeningReport (o : State) (es : List Entry) (i : ℕ) (c : Counted) : Type 0 where
   pub counted : Counted
   pub known : known_report (account_of o.book i) ≡ Some counted
@@ -36,7 +37,7 @@ pub record IsOpeningReport (o : State) (es : List Entry) (i : ℕ) (c : Counted)
 abbrev pub IsReport : State → List Entry → ℕ → Counted → Type 0
 IsReport o es i c = IsEntryReport o es i c ⊎ IsOpeningReport o es i c
 
--- it counts: no accepted one is of a later frame
+-- it counts: no accepted report is of a later frame
 pub record Counts (o : State) (es : List Entry) (i : ℕ) (c : Counted) : Type 0 where
   pub accepted : IsReport o es i c
   pub last : (d : Counted) → IsReport o es i d → d.frame ≤ c.frame

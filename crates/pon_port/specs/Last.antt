@@ -18,14 +18,14 @@ pub record LastMap : Type 0 where
   pub na : List ℕ
   pub be : List ℕ
 
--- as many truth values as Alloc-IDs in each class, and 512 at most
+-- as many flags as Alloc-IDs in each class, at most 512
 pub record MatchesMembers (cert : MapCert) (na be : List ℕ) : Type 0 where
   pub non_assured : length cert.na.saturated ≡ length na
   pub best_effort : length cert.be.saturated ≡ length be
   pub few_non_assured : length na ≤ MOST_ITEMS
   pub few_best_effort : length be ≤ MOST_ITEMS
 
--- the map that an entry tells, where it tells one, in place of the one before
+-- the last map after an entry: the entry's map if it has one, otherwise the one before
 abbrev pub told_last : Option LastMap → List Row → Reply → Option LastMap
 told_last before rows Taken = before
 told_last before rows (Map made) = Some (record { made = made; na = member_ids NonAssured rows; be = member_ids BestEffort rows })
@@ -34,7 +34,7 @@ abbrev pub last_told : Option LastMap → List Row → List Entry → Option Las
 last_told before rows [] = before
 last_told before rows (e ∷ es) = last_told (told_last before rows e.reply) (roster_after rows e.event) es
 
--- the last map that the entries of a chapter tell
+-- the last map of a chapter
 abbrev pub last_map : Chapter → Option LastMap
 last_map c = last_told None c.opening.roster c.entries
 
@@ -47,7 +47,7 @@ pub record KeepsLastAt (c : Chapter) (k : ℕ) (na be : List ℕ) : Type 0 where
   pub is_last : last_map c ≡ Some (record { made = made; na = na; be = be })
   pub members : MatchesMembers made.cert na be
 
--- where the last map stands among the entries, if there is one
+-- the index of the last map's entry, if there is a map
 abbrev pub KeepsLast : Chapter → Option ℕ → List ℕ → List ℕ → Type 0
 KeepsLast c None na be = last_map c ≡ None
 KeepsLast c (Some k) na be = KeepsLastAt c k na be

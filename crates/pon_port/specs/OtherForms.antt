@@ -1,4 +1,4 @@
--- Two definitions in a form that reads at once. The laws say that they are the same.
+-- Two definitions in a simpler form. The laws state that the two forms are equal.
 use Rattle.std.specs.Prelude.{ℕ, ◌-◌, nat_le, if◌then◌else◌, Bool, List, [], ◌∷◌, ◌++◌, map, Option, option_to_list}
 use Rattle.std.specs.List.{list_any}
 use Rattle.pon_units.specs.declared.granted.Granted.{Granted}
@@ -9,7 +9,7 @@ use Rattle.pon_state.specs.declared.reply.Entry.{Entry}
 
 -- Reports, account by account. The words granted to each Alloc-ID from the report's frame on are given.
 
--- what an ONU reports of an Alloc-ID for its grants in the map of a frame: each occupancy, less what was granted since
+-- the reports of an Alloc-ID by its ONU for a frame's map: each occupancy, less what was granted from the frame on
 abbrev pub reports_of : (ℕ → ℕ) → ℕ → List Granted → List (Option ℕ) → ℕ → List Counted
 reports_of granted frame gs occ i = map (λ n. record { frame = frame; words = n - granted i }) (occupancies i gs occ)
 

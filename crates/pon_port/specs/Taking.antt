@@ -1,4 +1,4 @@
--- What a port's calls do to its chapter.
+-- The chapter of a port after its calls.
 use Rattle.std.specs.Prelude.{ℕ, ◌≡◌, List, [], ◌∷◌, ◌++◌, length, Option}
 use Rattle.pon_state.specs.State.{State}
 use Rattle.pon_admit.specs.Roster.{IsAdmitted}
@@ -11,7 +11,7 @@ use Rattle.pon_event.specs.declared.event.Event.{Event}
 use Rattle.pon_state.specs.declared.reply.Reply.{Reply}
 use Rattle.pon_descr.specs.declared.refusal.Refusal.{Refusal}
 
--- the chapter, with one entry more
+-- the chapter with one more entry
 abbrev pub with_entry : Chapter → Event → Reply → Chapter
 with_entry c event reply = record { number = c.number; opening = c.opening; entries = c.entries ++ record { event = event; reply = reply } ∷ [] }
 
@@ -20,18 +20,20 @@ pub record Takes (old : Chapter) (event : Event) (reply : Reply) (new : Chapter)
   pub follows : MayFollow (length old.entries) (present_state old) (record { event = event; reply = reply })
   pub kept : new ≡ with_entry old event reply
 
--- the first check that refuses the event now
+-- the first refusal of the event in the present state
 abbrev pub refusal_of : Chapter → Event → Option Refusal
 refusal_of c event = first_refusal (length c.entries) (present_state c) event
 
--- what a port keeps: a lawful chapter and its replay; what is admitted now is an admitted set, and the report book is of it
+-- what a port keeps: a lawful chapter and its replay; the roster is an admitted set, and the report book has its
+-- Alloc-IDs
 pub record IsKept (c : Chapter) (state : State) : Type 0 where
   pub lawful : IsLawfulChapter c
   pub replayed : state ≡ present_state c
   pub admitted : IsAdmitted state.rule state.gap state.roster
   pub book : AccountsFor state.roster state.book
 
--- a port: what it keeps, its first chapter, and where its last map stands with the Alloc-IDs of the classes that shared surplus in it
+-- a port: what it keeps, in its first chapter, and the index of its last map with the Alloc-IDs of the classes that
+-- shared surplus in it
 pub record IsPort (c : Chapter) (state : State) (last_place : Option ℕ) (na be : List ℕ) : Type 0 where
   pub kept : IsKept c state
   pub first : IsFirst c

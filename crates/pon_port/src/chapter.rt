@@ -1,9 +1,9 @@
 use pon_state::{Entry, PortState};
 use std::marker::Model;
 
-/// A chapter that a port has handed out: its number, the state that it opens with, and its entries, oldest first. The
-/// type keeps that it is lawful, and that it is the first of its port: it has the number 0 and opens with the port
-/// just opened.
+/// A chapter that a port has returned: its number, the state that it opens with, and its entries, oldest first. By an
+/// invariant of the type it is lawful and the first of its port: it has the number 0 and opens with the port just
+/// opened.
 #[derive(Drop)]
 pub struct Chapter {
     pub(crate) number: u64,
@@ -32,14 +32,14 @@ impl Chapter {
     ghost use Rattle.std.specs.Prelude.{◌≡◌};
     ghost use Rattle.pon_port.specs.Chapters.{IsFirst, IsLawfulChapter};
 
-    /// Its number, counted from 0 in its port.
+    /// The number of the chapter, counted from 0 in its port.
     pub fn number(&self) -> u64
         ensures { result ≡ self.now.number }
     {
         self.number
     }
 
-    /// The state that it opens with: that of the port just opened.
+    /// The state that the chapter opens with: that of the port just opened.
     pub fn opening(&self) -> &PortState
         ensures opening { result.now ≡ self.now.opening }
         ensures first { IsFirst self.now }
@@ -47,7 +47,7 @@ impl Chapter {
         &self.opening
     }
 
-    /// Its entries, oldest first.
+    /// The entries of the chapter, oldest first.
     pub fn entries(&self) -> &[Entry]
         ensures entries { result.now ≡ self.now.entries }
         ensures lawful { IsLawfulChapter self.now }

@@ -31,8 +31,8 @@ ghost use Rattle.pon_event.specs.declared.event.Event.{Event};
 ghost use Rattle.pon_state.specs.declared.reply.Entry.{Entry};
 ghost use Rattle.pon_state.specs.declared.reply.Reply.{Reply};
 
-/// A legal history may be cut anywhere: the second part, opened with the replay of the first, leaves the same state, and
-/// is legal as the next chapter.
+/// A legal history may be split anywhere: the second part, opened with the replay of the first, has the same replay as
+/// the whole, and is legal as the next chapter.
 pub fn cutting()
     ensures state { (n : ℕ) (o : State) (xs ys : List Entry) → AreConsecutive o.next o.window →
         IsLegal (record { number = n; opening = o; entries = xs ++ ys })
@@ -42,7 +42,7 @@ pub fn cutting()
         IsLegal (record { number = n + 1; opening = replay o xs; entries = ys }) }
 {}
 
-/// Before each entry of a lawful chapter, and after all of them, the roster is an admitted set.
+/// Before each entry of a lawful chapter and after the last, the roster is an admitted set.
 pub fn lawful_chapters_hold_admitted_sets()
     ensures before { (c : Chapter) → IsLawfulChapter c → (k : ℕ)
         → IsAdmitted (state_before c k).rule (state_before c k).gap (state_before c k).roster }
@@ -51,19 +51,20 @@ pub fn lawful_chapters_hold_admitted_sets()
 {}
 
 /// The map of an admitted set has sound bursts under each accepted certificate, for each rule, any burst profile and
-/// any number of ONUs and Alloc-IDs: each burst lies in the frame and no two overlap.
+/// any number of ONUs and Alloc-IDs: each burst is within the frame and no two overlap.
 pub fn maps_of_admitted_sets_are_sound()
     ensures { (s : Input) (cert : MapCert) (profile : ℕ) → IsAdmitted s.rule s.gap s.roster →
         IsCertified s cert → AreSound s.gap (map_of profile s (surplus_rate s cert)) }
 {}
 
-/// Each map of a lawful chapter is certified, the fairest, in whole words and without overlap, for the state before it.
+/// Each map of a lawful chapter is fair for the state before it: certified, the fairest, in whole words, and without
+/// overlap.
 pub fn maps_of_lawful_chapters_are_fair()
     ensures { (c : Chapter) → IsLawfulChapter c → (k : ℕ) (e : Entry)
         → slice_get c.entries k ≡ Some e → TellsFairMap (state_before c k) e.reply }
 {}
 
-/// The state before any entry of a lawful chapter, and the state after all of them, may open a later chapter.
+/// The state before any entry of a lawful chapter, and the state after the last, may open a later chapter.
 pub fn lawful_chapters_open_later_ones()
     ensures before { (c : Chapter) → IsLawfulChapter c → (n k : ℕ) → 0 < n
         → IsLawfulOpening n (state_before c k) }
@@ -71,7 +72,9 @@ pub fn lawful_chapters_open_later_ones()
         → IsLawfulOpening n (present_state c) }
 {}
 
-/// A lawful chapter that is cut anywhere gives two lawful chapters: the entries before the cut under its own number and opening, and the entries behind it under a later number, opened with the state at the cut. The second leaves the state that the whole leaves.
+/// A lawful chapter that is cut anywhere gives two lawful chapters: the entries before the cut under its own number and
+/// opening, and the entries behind it under a later number, opened with the state at the cut. The second leaves the
+/// state that the whole leaves.
 pub fn cuts_of_lawful_chapters_are_lawful()
     ensures front { (c : Chapter) → IsLawfulChapter c → (k : ℕ) →
         IsLawfulChapter (record { number = c.number; opening = c.opening; entries = take k c.entries }) }
@@ -81,7 +84,7 @@ pub fn cuts_of_lawful_chapters_are_lawful()
         present_state (record { number = n; opening = state_before c k; entries = drop k c.entries }) ≡ present_state c }
 {}
 
-/// A lawful chapter gives one reply to an event, with one certificate for a map, and is a lawful chapter with that entry.
+/// A lawful chapter has at most one reply to an event, so one certificate for a map, and is lawful with that entry.
 pub fn lawful_chapters_give_one_reply()
     ensures one { (c d e : Chapter) → IsLawfulChapter c → (v : Event) (a b : Reply) → Takes c v a d
         → Takes c v b e → (a ≡ b) × (d ≡ e) }
@@ -89,8 +92,8 @@ pub fn lawful_chapters_give_one_reply()
         → IsLawfulChapter d }
 {}
 
-/// A lawful chapter gives a reply to each event whose numbers are in range and that no check refuses, and there is a next
-/// chapter, which keeps it: for a map there is always a certificate.
+/// A lawful chapter has a reply to each event whose numbers are in range and that no check refuses, and a next chapter
+/// with that entry: for a map there is always a certificate.
 pub fn each_accepted_event_has_a_reply()
     ensures reply { (c : Chapter) (v : Event) → IsLawfulChapter c → IsEvent v → refusal_of c v ≡ None
         → (reply : Reply) × MayFollow (length c.entries) (present_state c)
@@ -99,8 +102,8 @@ pub fn each_accepted_event_has_a_reply()
         → (reply : Reply) × (next : Chapter) × Takes c v reply next }
 {}
 
-/// The replay goes entry by entry: no entries leave a lawful opening as it is, and one more entry that may follow
-/// leaves the state after that entry.
+/// The replay goes entry by entry: no entries leave a lawful opening unchanged, and with one more entry that may follow
+/// it is the state after that entry.
 pub fn replay_goes_entry_by_entry()
     ensures none { (n : ℕ) (s : State) → IsLawfulOpening n s → replay s [] ≡ s }
     ensures one_more { (c : Chapter) (e : Entry) → IsLawfulChapter c
@@ -109,7 +112,7 @@ pub fn replay_goes_entry_by_entry()
 {}
 
 /// Legality goes entry by entry: no entries are legal, and a chapter with one more entry is legal exactly when the
-/// chapter is and the entry may follow in the state that it leaves.
+/// chapter is and the entry may follow in the state after it.
 pub fn legality_goes_entry_by_entry()
     ensures none { (n : ℕ) (s : State)
         → IsLegal (record { number = n; opening = s; entries = [] }) }
@@ -120,8 +123,8 @@ pub fn legality_goes_entry_by_entry()
         → IsLegal c × MayFollow (length c.entries) (present_state c) e }
 {}
 
-/// The load of an Alloc-ID rests on one report: an accepted one of a frame that is not below since, its words less what
-/// was granted from that frame on, where no later one is accepted. Where none counts, none is accepted.
+/// The load of an Alloc-ID depends on one report: an accepted one of a frame not below the since-frame, its words less
+/// what was granted from that frame on, and no later one is accepted. If none counts, none is accepted.
 pub fn the_last_accepted_report_counts()
     ensures some { (o : State) (es : List Entry) (i : ℕ) (c : Counted) → counted_of o es i ≡ Some c
         → Counts o es i c }
@@ -129,8 +132,8 @@ pub fn the_last_accepted_report_counts()
         → (c : Counted) → IsReport o es i c → ⊥ }
 {}
 
-/// Two definitions in another form. An ONU's report is taken account by account: of each one's occupancies the latest
-/// counts from its since-frame on. The frame at the last entry of a kind is the next one after the entries before it.
+/// Two definitions in another form. An ONU's report is taken account by account: from the since-frame on, the latest of
+/// an account's reports counts. The frame at the last entry of a kind is the next frame after the entries before it.
 pub fn definitions_in_another_form()
     ensures accounts { (granted : ℕ → ℕ) (frame : ℕ) (gs : List Granted)
         (occ : List (Option ℕ)) (book : List Account)
@@ -141,7 +144,7 @@ pub fn definitions_in_another_form()
         ≡ (if list_any test es then next_of first (before_last test es) else start) }
 {}
 
-/// No check refuses an event as out of memory: `Port::take` answers so only if no check refuses and memory is refused.
+/// No check refuses an event as `OutOfMemory`: `Port::take` returns it only if no check refuses and memory is refused.
 pub fn no_check_is_out_of_memory()
     ensures { (c : Chapter) (v : Event) → refusal_of c v ≢ Some Refusal.OutOfMemory }
 {}

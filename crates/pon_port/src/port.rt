@@ -13,17 +13,17 @@ use pon_units::{AllocId, FrameNo};
 use std::alloc::{AllocError, Global};
 use std::marker::Model;
 
-/// A port: the chapter of its history that it keeps, and the state that the chapter leaves.
+/// A port: the kept chapter of its history, and the state after that chapter.
 ///
-/// Contracts see a port as that chapter: its number, its opening and its entries. The type keeps that the chapter is
-/// lawful and that the state is its replay.
+/// In contracts a port is that chapter: its number, its opening and its entries. By an invariant of the type the
+/// chapter is lawful and the state is its replay.
 #[derive(Drop)]
 pub struct Port {
     number: u64,
     opening: PortState,
     state: PortState,
     entries: Vec<Entry>,
-    // The entry of the last map, and the Alloc-IDs of the two classes that shared surplus in it.
+    // The index of the last map's entry, and the Alloc-IDs of the two classes that shared surplus in it.
     last: Option<usize>,
     na: Vec<AllocId>,
     be: Vec<AllocId>,
@@ -56,7 +56,7 @@ impl Port {
     ghost use Rattle.pon_port.specs.FairMaps.{IsFairMap, TellsFairMap};
     ghost use Rattle.pon_descr.specs.Checks.{IsTold};
 
-    /// A port just opened: no Alloc-ID, the line up, and `first` as its next frame. `Err` only if memory is refused.
+    /// Opens a port: no Alloc-ID, the line up, and `first` as its next frame. `Err` only if memory is refused.
     pub fn open(alloc: Global, cfg: PortCfg, first: FrameNo) -> Result<Port, AllocError>
         ensures opening { IfOk result (λ port. port.opening
             ≡ just_opened cfg.gap cfg.profile first) }
@@ -74,7 +74,7 @@ impl Port {
         })
     }
 
-    /// The number of the kept chapter. The chapters of a port are counted from 0; the first begins when the port is
+    /// The number of the kept chapter. The chapters of a port are counted from 0; chapter 0 begins when the port is
     /// opened.
     pub fn chapter_number(&self) -> u64
         ensures { result ≡ self.now.number }
@@ -90,7 +90,7 @@ impl Port {
         self.entries.as_slice()
     }
 
-    /// How many entries were taken since the port was opened.
+    /// The number of entries taken since the port was opened.
     pub fn taken(&self) -> u64
         ensures { result ≡ self.now.opening.taken_before + length self.now.entries }
     {
@@ -105,8 +105,8 @@ impl Port {
         &self.state
     }
 
-    /// The last map of the kept chapter, with the Alloc-IDs of the non-assured and of the best-effort class as they were at
-    /// that map, in map order: those that its certificate speaks of. `None` before any map of the chapter.
+    /// The last map of the kept chapter, with the Alloc-IDs of the non-assured and of the best-effort class as they
+    /// were at that map, in map order: those of its certificate's flags. `None` before the first map of the chapter.
     pub fn last(&self) -> Option<(&MadeMap, &[AllocId], &[AllocId])>
         ensures members { IfSome result (λ l. MatchesMembers l.0.now.cert l.1.now l.2.now) }
         ensures last { MatchOption result (last_map self.now ≡ None)
@@ -168,16 +168,16 @@ impl Port {
         Ok(next.made)
     }
 
-    /// Takes an event and keeps it with its reply, or returns the first check that refuses it.
+    /// Takes an event and keeps it with its reply, or returns the first refusal.
     ///
     /// `Admit` is refused by `AllocTaken`, `TooManyAllocs`, `TooManyOnus`, `SeriesFull`, `Capacity`; `Change` by
-    /// `NoSuchAlloc`, `Capacity`; `Remove` by `NoSuchAlloc`; `Report` by `PortDown`, `StaleFrame`, `NotPolled`, `ReportCount`,
-    /// `AlreadyReported`; `MakeMap` by `PortDown`, `FrameLimit`; `Fail` by `PortDown`; `Restore` by `PortUp`; each then by
-    /// `ChapterFull` and `OutOfMemory`; in these orders. `OutOfMemory` comes only if no check refuses. A refusal changes neither the
-    /// state nor the history.
+    /// `NoSuchAlloc`, `Capacity`; `Remove` by `NoSuchAlloc`; `Report` by `PortDown`, `StaleFrame`, `NotPolled`,
+    /// `ReportCount`, `AlreadyReported`; `MakeMap` by `PortDown`, `FrameLimit`; `Fail` by `PortDown`; `Restore` by
+    /// `PortUp`; each then by `ChapterFull` and `OutOfMemory`; in these orders. `OutOfMemory` only if no check refuses.
+    /// After a refusal the state and the history are unchanged.
     pub fn take(&mut self, event: Event) -> Result<Reply, Refusal>
         ensures ok { IfOk result (λ reply. Takes self.old event reply self.new) }
-        // Each map is certified, the fairest, in whole words and without overlap.
+        // Each map is fair: certified, the fairest, in whole words, with bursts that do not overlap.
         ensures fair { IfOk result (λ reply. TellsFairMap (present_state self.old) reply) }
         ensures refused { IfErr result (λ told. IsTold (refusal_of self.old event) told) }
         ensures err { OnErr result (self.new ≡ self.old) }
@@ -191,7 +191,7 @@ impl Port {
         Ok(Reply::Taken)
     }
 
-    /// Hands out the kept chapter. It takes no memory.
+    /// Returns the kept chapter. It allocates no memory.
     pub fn into_chapter(self) -> Chapter
         ensures { result ≡ self }
     {

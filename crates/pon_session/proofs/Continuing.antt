@@ -43,7 +43,7 @@ pub no_items : (xs : List ℕ) → length xs ≡ 0 → xs ≡ []
 no_items [] e = refl
 no_items (x ∷ xs) e = absurd (omega (arith, e))
 
--- Beginnings of a text.
+-- Prefixes of a text.
 
 whole_beginning : (xs : List ℕ) → IsBeginning xs xs
 whole_beginning xs = ([], append-nil xs)
@@ -54,7 +54,7 @@ longer_beginning xs part text b = (b.0, append_assoc xs part b.0 ∙ ap (λ t. x
 beginning_of : (part mid text : List ℕ) → IsBeginning part mid → IsBeginning mid text → IsBeginning part text
 beginning_of part mid text a b = (a.0 ++ b.0, sym (append_assoc part a.0 b.0) ∙ ap (λ t. t ++ b.0) a.1 ∙ b.1)
 
--- of two beginnings of a text one goes on from the other
+-- of two prefixes of a text one is a prefix of the other
 abbrev OneFirst : List ℕ → List ℕ → List ℕ → Type 0
 OneFirst part first rest = IsBeginning part first ⊎ ((more : List ℕ) × (part ≡ first ++ more) × IsBeginning more rest)
 
@@ -85,7 +85,7 @@ module _ {S : Type 0} (gives : Giving S) where
       subst (λ i. Answered gives first new i (written ++ (s ++ t)) m) (append_assoc input a b)
       (subst (λ u. Answered gives first new ((input ++ a) ++ b) u m) (append_assoc written s t) (g first (input ++ a) (written ++ s) (f first input written p)))
 
-  -- a part of a line is kept as far as it may be read
+  -- a part of a line is kept up to 4,097 bytes of the line
   pub keeps_part : (state : S) (line new part : List ℕ) → has_feed part ≡ false → new ≡ line ++ take (4097 - length line) part → Continues gives state line state new part []
   keeps_part state line new part no_feed e first input written a = record {
     done = a.done;
@@ -99,7 +99,7 @@ module _ {S : Type 0} (gives : Giving S) where
     kept = e ∙ longer_kept line a.cur part a.kept;
   }
 
-  -- the open line ends, and is answered by what is kept of it
+  -- the open line ends, and the text is that of the bytes kept of it
   feeds : ReadsFirst gives → (old new : S) (line text : List ℕ) → gives old line text new → Continues gives old line new [] (10 ∷ []) text
   feeds law old new line text g first input written a = record {
     done = a.done ++ a.cur ++ 10 ∷ [];
@@ -116,20 +116,20 @@ module _ {S : Type 0} (gives : Giving S) where
       pieces : (tail : List ℕ) → (a.done ++ a.cur ++ 10 ∷ []) ++ tail ≡ a.done ++ (a.cur ++ 10 ∷ tail)
       pieces tail = append_assoc (a.done ++ a.cur) (10 ∷ []) tail ∙ append_assoc a.done a.cur (10 ∷ tail)
 
-  -- a part ends the open line, of which `line` is kept then
+  -- a part ends the open line, of which `line` is then kept
   pub ends_line : ReadsFirst gives → (old new : S) (kept line left part text : List ℕ) → has_feed part ≡ false → line ≡ kept ++ take (4097 - length kept) part → gives old line text new → left ≡ [] →
       Continues gives old kept new left (part ++ 10 ∷ []) text
   ends_line law old new kept line left part text no_feed e g empty =
       subst (λ l. Continues gives old kept new l (part ++ 10 ∷ []) text) (sym empty)
       (continues_then old old new kept line [] part (10 ∷ []) [] text (keeps_part old kept line part no_feed e) (feeds law old new line text g))
 
-  -- the same where nothing was kept of the line before
+  -- the same if nothing was kept of the line before
   pub ends_whole : ReadsFirst gives → (old new : S) (kept part text : List ℕ) → has_feed part ≡ false → kept ≡ [] → gives old part text new → Continues gives old kept new kept (part ++ 10 ∷ []) text
   ends_whole law old new kept part text no_feed e g =
       subst (λ k. Continues gives old k new k (part ++ 10 ∷ []) text) (sym e)
       (ends_line law old new [] (take 4097 part) [] part text no_feed refl ((law old part text new).1 g) refl)
 
-  -- a beginning of what lines give, as what the first lines give and a beginning of what the next one gives
+  -- a prefix of the text of lines: the text of the first lines, and a prefix of the text of the next one
   record BeginsLines (state : S) (ls : List (List ℕ)) (written : List ℕ) : Type 0 where
     pub answered : List (List ℕ)
     pub more : List (List ℕ)
@@ -202,13 +202,13 @@ module _ {S : Type 0} (gives : Giving S) where
         is = l.is;
       }
 
-  -- what is answered already may be written in part, whatever bytes follow
+  -- a prefix of the text answered so far may be written, whatever bytes follow
   continues_begins : (old new : S) (kept line seen tail text : List ℕ) → Continues gives old kept new line seen text → MayBegin gives old kept (seen ++ tail) text
   continues_begins old new kept line seen tail text c first input written part a b =
       subst (λ i. BeginsText gives first i (written ++ part)) (append_assoc input seen tail)
       (answered_begins first new (input ++ seen) (written ++ text) line tail (written ++ part) (c first input written a) (longer_beginning written part text b))
 
-  -- What a piece does, line by line.
+  -- A piece, line by line.
 
   pub record Reached (old : S) (kept : List ℕ) (new : S) (line piece rest gathered : List ℕ) (held_old held_new : Option (List ℕ)) : Type 0 where
     pub seen : List ℕ

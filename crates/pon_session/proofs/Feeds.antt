@@ -1,4 +1,4 @@
--- A text that is cut at its first line feed.
+-- A text that is split at its first line feed.
 use Rattle.std.proofs.Common.{◌≡◌, ℕ, suc, ◌+◌, ◌<◌, ◌≤◌, Bool, true, false, cond, List, [], ◌∷◌, ◌++◌, length, take, drop, refl, ap, sym, ◌∙◌, arith, Some, None}
 use Rattle.std.specs.Prelude.{◌==◌, nat_lt, option_map, Option}
 use Rattle.std.specs.List.{list_any, position_or_len}
@@ -49,7 +49,7 @@ nowhere c (b ∷ t) l = go (b == c) refl (nowhere c t) l
 abbrev cut_if : ℕ → List ℕ → Bool → Option (List ℕ × List ℕ)
 cut_if c t v = option_map {U = List ℕ × List ℕ} (λ i. (take i t, drop (i + 1) t)) (cond v (Some (place c t)) None)
 
--- what stands before and after a cut
+-- the parts before and after the separator
 pub cut_parts : (c : ℕ) (t a b : List ℕ) → cut_at c t ≡ Some (a, b) → (t ≡ a ++ c ∷ b) × (has c a ≡ false)
 cut_parts c t a b e = go (nat_lt (place c t) (length t)) refl e
   where
@@ -59,7 +59,7 @@ cut_parts c t a b e = go (nat_lt (place c t) (length t)) refl e
         (parted c t (ltb-true (place c t) (length t) k) ∙ (λ i. (both i).0 ++ c ∷ (both i).1), ap (λ p. has c p.0) (sym both) ∙ before c t)
     go false k h = absurd (cc)
 
--- a text that has no cut
+-- a text without the separator
 pub cut_nowhere : (c : ℕ) (t : List ℕ) → cut_at c t ≡ None → has c t ≡ false
 cut_nowhere c t e = go (nat_lt (place c t) (length t)) refl e
   where

@@ -48,7 +48,7 @@ whole_lines-open [] h = refl
 whole_lines-open (b ∷ cur) h = rw h refl
 
 module _ {S : Type 0} (gives : Giving S) where
-  -- a line gives what its first 4,097 bytes give
+  -- a line has the same text as its first 4,097 bytes
   pub gives_kept : ReadsFirst gives → (old new : S) (line cur text : List ℕ) → line ≡ take 4097 cur → gives old line text new → gives old cur text new
   gives_kept law old new line cur text kept g = (law old cur text new).0 (subst (λ l. gives old l text new) kept g)
 
@@ -59,7 +59,7 @@ module _ {S : Type 0} (gives : Giving S) where
   gives_more old mid new (x ∷ ls) l text more a g =
       (a.0, a.1 ++ more, a.2, a.3, gives_more a.2 mid new ls l a.1 more a.4 g, ap (λ t. t ++ more) a.5 ∙ append_assoc a.0 a.1 more)
 
-  -- how far the reading has come
+  -- the progress of the reading
   pub record Progress (first : S) (left_first left held_first held : Option (List ℕ)) (state : S) (line : List ℕ) : Type 0 where
     pub done : List ℕ
     pub cur : List ℕ
@@ -88,7 +88,7 @@ module _ {S : Type 0} (gives : Giving S) where
     kept = refl;
   }
 
-  -- Where the reading has come to.
+  -- Steps of the progress.
   module _ (first : S) (l0 l m h0 h : Option (List ℕ)) (state : S) (line : List ℕ) (p : Progress first l0 l h0 h state line) where
     answered : Answered gives first state (p.done ++ p.cur) p.written line
     answered = record { done = p.done; cur = p.cur; lines = p.lines; parts = refl; open_line = p.open_line; split = p.split; whole = p.whole; gave = p.gave; kept = p.kept }
@@ -139,7 +139,7 @@ module _ {S : Type 0} (gives : Giving S) where
         all_whole : lines_of (whole_lines (p.done ++ p.cur)) ≡ p.lines
         all_whole = ap lines_of (p.whole p.cur ∙ ap (λ t. p.done ++ t) (whole_lines-open p.cur p.open_line)) ∙ p.split [] ∙ append-nil p.lines
 
-    -- a beginning was written, where a fault came late
+    -- a prefix was written before a fault
     begun : {T : Type 0} (k : Option (List ℕ)) (more sent : List ℕ) (next : List (List ℕ)) → Consumes l m more → Appends h k sent → lines_of (p.cur ++ more) ≡ next → BeginsNext gives state next sent →
         (f : PlanFault) → (BeginsText gives first ((p.done ++ p.cur) ++ more) (p.written ++ sent) → IsText {T = T} gives first ((p.done ++ p.cur) ++ more) (p.written ++ sent) (Err f)) → Planned {T = T} gives first l0 m h0 k (Err f)
     begun k more sent next c w e b f tells = record {
@@ -160,7 +160,7 @@ module _ {S : Type 0} (gives : Giving S) where
       });
     }
 
-    -- the line's text was not all written; more is what ends the line
+    -- the text of the line was not wholly written; `more` are the bytes that end the line
     line_failed : {T : Type 0} → ReadsFirst gives → (k : Option (List ℕ)) (after : S) (more : List ℕ) (next : List (List ℕ)) (f : PlanFault) → Consumes l m more → PrintsLine gives state after line h k (Err f) → lines_of (p.cur ++ more) ≡ p.cur ∷ next → Planned {T = T} gives first l0 m h0 k (Err f)
     line_failed law k after more next Read c w e = absurd w
     line_failed law k after more next Write c w e =
@@ -174,7 +174,7 @@ module _ {S : Type 0} (gives : Giving S) where
     pub end_failed : {T : Type 0} → ReadsFirst gives → (k : Option (List ℕ)) (after : S) (f : PlanFault) → Consumes l m [] → line ≢ [] → PrintsLine gives state after line h k (Err f) → Planned {T = T} gives first l0 m h0 k (Err f)
     end_failed law k after f c n w = line_failed law k after [] [] f c w (ap lines_of (append-nil p.cur) ∙ lone_line p.cur p.open_line (not_empty n))
 
-    -- the input ended behind a line without its feed
+    -- the input ended after a line without its line feed
     pub ended : {T : Type 0} → ReadsFirst gives → (k : Option (List ℕ)) (after : S) (done : Unit {0}) (end : T) → Consumes l m [] → line ≢ [] → PrintsLine gives state after line h k (Ok done) → Planned {T = T} gives first l0 m h0 k (Ok end)
     ended law k after done end c n w = record {
       input = (p.done ++ p.cur) ++ [];
@@ -195,7 +195,7 @@ module _ {S : Type 0} (gives : Giving S) where
     last_line law k after (Ok done) c n w = ended law k after done done c n w
     last_line law k after (Err f) c n w = end_failed law k after f c n w
 
-    -- the input ended behind a line feed, or at its start
+    -- the input ended after a line feed, or at its start
     pub ended_empty : {T : Type 0} (end : T) → Consumes l m [] → line ≡ [] → Planned {T = T} gives first l0 m h0 h (Ok end)
     ended_empty end c n = record {
       input = (p.done ++ p.cur) ++ [];

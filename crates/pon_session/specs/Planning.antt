@@ -1,4 +1,4 @@
--- What reading lines and writing their text leaves.
+-- What is read and written when lines are answered.
 use Rattle.std.specs.Prelude.{ℕ, ◌≡◌, ◌⊎◌, List, [], ◌∷◌, ◌++◌, Option, Result, Ok, Err}
 use Rattle.pon_device.specs.Device.{Appends, Consumes, Keeps}
 use Rattle.pon_stream.specs.Streams.{IsBeginning}
@@ -7,12 +7,12 @@ use Rattle.pon_stream.specs.declared.fault.PlanFault.TheVariants.{Read, Write, M
 use Rattle.pon_text.specs.Lines.{lines_of, whole_lines}
 use Rattle.pon_session.specs.Giving.{Giving, GivesLines, GivesText}
 
--- nothing, or a beginning of what the next line gives
+-- nothing, or a prefix of the text of the next line
 abbrev pub BeginsNext : {S : Type 0} → Giving S → S → List (List ℕ) → List ℕ → Type 0
 BeginsNext {S} gives start [] part = part ≡ []
 BeginsNext {S} gives start (l ∷ ls) part = (part ≡ []) ⊎ ((text : List ℕ) × (after : S) × gives start l text after × IsBeginning part text)
 
--- a beginning of the text of an input: what the first lines give, and a beginning of what the next one gives
+-- a prefix of the text of an input: the text of the first lines, and a prefix of the text of the next one
 pub record BeginsText {S : Type 0} (gives : Giving S) (start : S) (input written : List ℕ) : Type 0 where
   pub answered : List (List ℕ)
   pub more : List (List ℕ)
@@ -31,7 +31,7 @@ IsText gives start input written (Err Read) = GivesText gives start (whole_lines
 IsText gives start input written (Err Write) = BeginsText gives start input written
 IsText gives start input written (Err Memory) = BeginsText gives start input written
 
--- some bytes were read and text was written for them
+-- some bytes were read, and the text for them was written
 pub record Planned {S T : Type 0} (gives : Giving S) (start : S) (left_old left_new held_old held_new : Option (List ℕ)) (result : Result T PlanFault) : Type 0 where
   pub input : List ℕ
   pub written : List ℕ
@@ -39,7 +39,7 @@ pub record Planned {S T : Type 0} (gives : Giving S) (start : S) (left_old left_
   pub wrote : Appends held_old held_new written
   pub text : IsText gives start input written result
 
--- the text of a line was written, or a beginning of it
+-- the text of a line was written, or a prefix of it
 abbrev pub PrintsLine : {S : Type 0} → Giving S → S → S → List ℕ → Option (List ℕ) → Option (List ℕ) → Result (Unit {0}) PlanFault → Type 0
 PrintsLine gives old new line held_old held_new (Ok done) = (text : List ℕ) × gives old line text new × Appends held_old held_new text
 PrintsLine gives old new line held_old held_new (Err Read) = ⊥

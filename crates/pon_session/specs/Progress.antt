@@ -1,4 +1,4 @@
--- How far the lines of an input are answered, whatever the pieces that it is read in.
+-- How much of an input is answered, for any pieces in which it is read.
 use Rattle.std.specs.Prelude.{ℕ, ◌≡◌, ◌==◌, false, List, [], ◌++◌, take, Option, Result, Ok, Err}
 use Rattle.std.specs.List.{list_any}
 use Rattle.pon_device.specs.Device.{Appends}
@@ -9,7 +9,7 @@ use Rattle.pon_stream.specs.declared.fault.PlanFault.TheVariants.{Read, Write, M
 use Rattle.pon_session.specs.Giving.{Giving, GivesLines}
 use Rattle.pon_session.specs.Planning.{BeginsText}
 
--- the whole lines of the input gave the text and left it so, and of the open line behind them `line` is kept
+-- the whole lines of the input have the text and lead to the new state, and `line` is kept of the open line after them
 pub record Answered {S : Type 0} (gives : Giving S) (old new : S) (input text line : List ℕ) : Type 0 where
   pub done : List ℕ
   pub cur : List ℕ
@@ -21,12 +21,12 @@ pub record Answered {S : Type 0} (gives : Giving S) (old new : S) (input text li
   pub gave : GivesLines gives old lines text new
   pub kept : line ≡ take 4097 cur
 
--- after all that was read before, these bytes give the text
+-- after any input read before, these bytes add the text
 abbrev pub Continues : {S : Type 0} → Giving S → S → List ℕ → S → List ℕ → List ℕ → List ℕ → Type 0
 Continues {S} gives old kept new line bytes text =
     (first : S) (input written : List ℕ) → Answered gives first old input written kept → Answered gives first new (input ++ bytes) (written ++ text) line
 
--- after all that was read before, any beginning of the text may be written for these bytes
+-- after any input read before, any prefix of the text may be written for these bytes
 abbrev pub MayBegin : {S : Type 0} → Giving S → S → List ℕ → List ℕ → List ℕ → Type 0
 MayBegin {S} gives old kept bytes text =
     (first : S) (input written part : List ℕ) → Answered gives first old input written kept → IsBeginning part text → BeginsText gives first (input ++ bytes) (written ++ part)
@@ -39,18 +39,18 @@ pub record Gathers {S : Type 0} (gives : Giving S) (old : S) (kept : List ℕ) (
   pub wrote : Appends held_old held_new sent
   pub all : text ≡ sent ++ gathered
 
--- a beginning of the text of the bytes is written
+-- a prefix of the text of the bytes is written
 abbrev pub WritesBeginning : {S : Type 0} → Giving S → S → List ℕ → List ℕ → List ℕ → Option (List ℕ) → Option (List ℕ) → Type 0
 WritesBeginning gives old kept bytes gathered held_old held_new = (sent : List ℕ) × Appends held_old held_new sent × MayBegin gives old kept bytes (sent ++ gathered)
 
--- a piece is answered, or a beginning of its text is
+-- a piece is answered, or a prefix of its text is written
 abbrev pub AnswersPiece : {S : Type 0} → Giving S → S → List ℕ → S → List ℕ → List ℕ → List ℕ → Option (List ℕ) → Option (List ℕ) → Result (Unit {0}) PlanFault → Type 0
 AnswersPiece gives old kept new line piece gathered held_old held_new (Ok done) = Gathers gives old kept new line piece gathered held_old held_new
 AnswersPiece gives old kept new line piece gathered held_old held_new (Err Read) = ⊥
 AnswersPiece gives old kept new line piece gathered held_old held_new (Err Write) = WritesBeginning gives old kept piece [] held_old held_new
 AnswersPiece gives old kept new line piece gathered held_old held_new (Err Memory) = WritesBeginning gives old kept piece gathered held_old held_new
 
--- the text of a piece is written, or a beginning of it
+-- the text of a piece is written, or a prefix of it
 abbrev pub PrintsPiece : {S : Type 0} → Giving S → S → List ℕ → S → List ℕ → List ℕ → Option (List ℕ) → Option (List ℕ) → Result (Unit {0}) PlanFault → Type 0
 PrintsPiece gives old kept new line piece held_old held_new (Ok done) = (text : List ℕ) × Continues gives old kept new line piece text × Appends held_old held_new text
 PrintsPiece gives old kept new line piece held_old held_new (Err Read) = ⊥

@@ -1,7 +1,8 @@
-//! A session of lines: each line of an input is answered by something that answers lines ([`Answers`]), and its text is written.
+//! A session of lines: each line of an input is answered by a value that answers lines ([`Answers`]), and its text is
+//! written.
 //!
-//! What is written is a stated function of what is read ([`answer_input`]), over any reader and writer and anything that
-//! answers lines. What a line means stands above.
+//! What is written is a stated relation of what is read ([`answer_input`]), over any reader and writer and any such
+//! value. The crates above define what a line means.
 #![tactic(auto)]
 
 mod answers;

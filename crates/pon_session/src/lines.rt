@@ -13,20 +13,20 @@ use pon_stream::PlanFault;
 use pon_text::cut;
 use std::alloc::{AllocError, Global};
 
-/// The input ended, and all of its text is written.
+/// The end of a session: the input ended, and all of its text is written.
 #[derive(Clone, Copy, Debug, PartialEq, Eq)]
 pub struct PlanEnd;
 
-// A line is kept as far as its first 4,097 bytes: one more than may be read.
+// The most bytes kept of a line: one more than the longest line has.
 const KEPT: usize = 4097;
 
-// The most bytes that one read asks for.
+// The most bytes of one read.
 const PIECE: usize = 16_384;
 
-// Gathered replies are written at this length, or before the next read.
+// Gathered replies are written when they have this length, and before the next read.
 const FULL: usize = 65_536;
 
-// Keeps what may be read of a part of the open line.
+// Appends a part to the open line, up to `KEPT` bytes.
 fn keep_part(line: &mut Vec<u8>, part: &[u8]) -> Result<(), AllocError>
     ensures { OnOk result (line.new.items ≡ line.old.items
         ++ take (KEPT - length line.old.items) part.now) }
@@ -35,7 +35,7 @@ fn keep_part(line: &mut Vec<u8>, part: &[u8]) -> Result<(), AllocError>
     line.extend_from_slice(&part[..room.min(part.len())])
 }
 
-// Ends the open line by this part, and answers it.
+// Ends the open line with this part, and answers it.
 fn end_line<A: Answers>(
     answers: &mut A,
     line: &mut Vec<u8>,
@@ -75,7 +75,7 @@ fn send<W: DevWrite>(replies: &mut Vec<u8>, writer: &mut W) -> Result<(), PlanFa
     }
 }
 
-// Answers the lines that end in a piece, keeps what follows, and gathers the replies.
+// Answers the lines that end in a piece, keeps the bytes after them, and gathers the replies.
 fn answer_piece<A: Answers, W: DevWrite>(
     answers: &mut A,
     line: &mut Vec<u8>,
@@ -108,7 +108,7 @@ fn answer_piece<A: Answers, W: DevWrite>(
     }
 }
 
-// Answers the lines that end in a piece, and writes their replies; those before a refusal of memory are written too.
+// Answers the lines that end in a piece, and writes their replies, also those before memory is refused.
 fn print_piece<A: Answers, W: DevWrite>(
     answers: &mut A,
     line: &mut Vec<u8>,
@@ -133,7 +133,7 @@ fn print_piece<A: Answers, W: DevWrite>(
     }
 }
 
-// Answers the last line, which has no line feed, and writes its text or a beginning of it.
+// Answers the last line, which has no line feed, and writes its text or a prefix of it.
 fn print_line<A: Answers, W: DevWrite>(
     answers: &mut A,
     line: &[u8],
@@ -151,7 +151,7 @@ fn print_line<A: Answers, W: DevWrite>(
     }
 }
 
-// Reads lines to the end, and writes what each gives before the next read.
+// Reads lines to the end of the input, and writes their replies before the next read.
 fn answer_lines<A: Answers, R: DevRead, W: DevWrite>(
     alloc: Global,
     answers: &mut A,
@@ -186,13 +186,13 @@ fn answer_lines<A: Answers, R: DevRead, W: DevWrite>(
     Err(PlanFault::Read)
 }
 
-/// Reads lines to the end of the input, has each answered, writes its text, and flushes what was written.
+/// Reads lines to the end of the input, answers each, writes its text, and flushes the writer.
 ///
-/// What is written is the output text of what was read, from the state before. The replies to what one read gave are written
-/// before the next read. `Read` if the reader failed or 2^64 - 1 reads were made: the text of all whole lines read is written.
-/// `Write` if the writer failed, and `Memory` if memory was refused: a beginning of the text is written; after `Memory` it is
-/// the text of the lines before. A line that was not ended when a fault came is not answered. The writer is flushed once, at
-/// the end of the input.
+/// What is written is the output text of what was read, from the state before. The replies to one read are written
+/// before the next read. `Read` if the reader failed or 2^64 - 1 reads were made: the text of all whole lines read is
+/// written. `Write` if the writer failed, and `Memory` if memory was refused: a prefix of the text is written; after
+/// `Memory` it is the text of the lines before. A line without its line feed at a fault is not answered. The writer is
+/// flushed once, at the end of the input.
 pub fn answer_input<A: Answers, R: DevRead, W: DevWrite>(
     alloc: Global,
     answers: &mut A,

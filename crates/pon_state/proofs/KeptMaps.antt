@@ -12,14 +12,14 @@ use Rattle.pon_share.proofs.RosterMaps.{granted_to_row}
 use Rattle.pon_state.specs.Replay.{grants_of}
 
 module _ (profile : ℕ) (s : Input) (surplus : Row → Fraction) where
-  -- what the structures of rows grant them
+  -- the grants of the structures of rows are those of the rows
   grants_back : (f : Granted → Structure) → ((g : Granted) → (f g).grant ≡ 1 + g.words) → (rows : List Row) → grants_of rows (map f (map (granted_to_row s surplus) rows)) ≡ map (granted_to_row s surplus) rows
   grants_back f one [] = refl
   grants_back f one (r ∷ rows) =
       let words : (f (granted_to_row s surplus r)).grant - 1 ≡ payload s surplus r = omega (arith, one (granted_to_row s surplus r)) in
       (λ i. record { onu = r.onu; alloc_id = r.alloc_id; words = words i } ∷ grants_back f one rows i)
 
-  -- a map of these grants is kept in the window with them
+  -- the window keeps the map of these grants with the same grants
   pub window_grants : grants_of s.roster (map_of profile s surplus) ≡ granted s surplus
   window_grants = grants_back (structure_of s.gap profile (granted s surplus)) (λ g. refl) s.roster
 

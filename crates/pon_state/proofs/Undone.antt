@@ -1,4 +1,4 @@
--- An account that is added and taken out again.
+-- An account that is added and removed again.
 use Rattle.std.proofs.Common.{◌≡◌, ℕ, ◌<◌, false, List, sym, ◌∙◌}
 use Rattle.std.specs.Prelude.{◌==◌, nat_lt}
 use Rattle.std.specs.List.{list_any}

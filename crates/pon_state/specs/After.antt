@@ -1,4 +1,4 @@
--- The running state, one entry further.
+-- The state after one more entry.
 use Rattle.std.specs.Prelude.{ℕ, ◌+◌, List, Option, Some, None}
 use Rattle.pon_units.specs.declared.granted.Granted.{Granted}
 use Rattle.pon_descr.specs.Descriptor.{Descriptor}
@@ -46,11 +46,11 @@ after_report s frame u ns = with_parts s s.next s.cause s.roster (after_reported
 abbrev pub after_map : State → List Granted → State
 after_map s gs = with_parts s (s.next + 1) s.cause s.roster (after_mapped (loads_of s) s.next gs)
 
--- a fault and its end forget the reports and the window
+-- a line failure and a restoration drop the reports and the window
 abbrev pub after_cut : State → Option ℕ → State
 after_cut s cause = with_parts s s.next cause s.roster (after_cleared (loads_of s) s.next)
 
--- the state after a taken event; a map takes more than its event
+-- the state after an accepted event; that of a map also depends on its reply
 abbrev pub after_event : State → Event → State
 after_event s (Admit onu alloc_id descriptor) = after_admit s (record { onu = onu; alloc_id = alloc_id; descriptor = descriptor })
 after_event s (Change alloc_id descriptor) = after_change s alloc_id descriptor
@@ -60,7 +60,7 @@ after_event s MakeMap = s
 after_event s (Fail cause) = after_cut s (Some cause)
 after_event s Restore = after_cut s None
 
--- the state after an entry: of a map it takes what the reply grants
+-- the state after an event and its reply: the grants of a map are those of the reply
 abbrev pub after_reply : State → Event → Reply → State
 after_reply s MakeMap reply = after_map s (grants_of s.roster (structures reply))
 after_reply s event reply = after_event s event

@@ -1,4 +1,4 @@
--- The first check that refuses an event.
+-- The first refusal of an event.
 use Rattle.std.specs.Prelude.{ℕ, ◌-◌, ◌^◌, ◌||◌, nat_le, length, Option, Some, None}
 use Rattle.pon_state.specs.declared.checks.TheConstants.{MOST_ENTRIES}
 use Rattle.pon_descr.specs.Checks.{when, or_else}
@@ -36,6 +36,6 @@ refuses s MakeMap = or_else (when_down s.cause) (at_limit s.next)
 refuses s (Fail cause) = when_down s.cause
 refuses s Restore = when_up s.cause
 
--- the first check that refuses an event after `kept` entries of its chapter, that of the chapter last
+-- the first refusal of an event after `kept` entries of its chapter; that of a full chapter is the last check
 abbrev pub first_refusal : ℕ → State → Event → Option Refusal
 first_refusal kept s event = or_else (refuses s event) (when_full kept s.taken_before)

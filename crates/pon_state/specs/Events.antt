@@ -10,7 +10,7 @@ use Rattle.pon_event.specs.declared.event.Event.TheVariants.{Admit, Change, Remo
 abbrev pub IsManaged : ℕ → Type 0
 IsManaged i = (LEAST_ALLOC_ID ≤ i) × (i ≤ GREATEST_ALLOC_ID)
 
--- the occupancies of a burst: 16 at most, each of 24 bits where it is not garbled
+-- the occupancies of a burst: at most 16, each of 24 bits unless it is garbled
 pub record AreOccupancies (occ : List (Option ℕ)) : Type 0 where
   pub few : length occ ≤ LONGEST_SERIES
   pub range : All (λ o. IfSome o (λ words. words < 2 ^ 24)) occ

@@ -1,4 +1,4 @@
--- Which entry may follow in a history.
+-- The entries that may follow in a history.
 use Rattle.std.specs.Prelude.{ℕ, ◌≡◌, None}
 use Rattle.pon_state.specs.State.{State, input_of}
 use Rattle.pon_share.specs.Sharing.{IsCertified, surplus_rate}
@@ -12,7 +12,7 @@ use Rattle.pon_state.specs.declared.reply.Reply.TheVariants.{Taken, Map}
 use Rattle.pon_state.specs.declared.reply.MadeMap.{MadeMap}
 use Rattle.pon_state.specs.declared.reply.Entry.{Entry}
 
--- the map that a state makes, under its next frame, with the rates that its certificate spells
+-- the map of a state: of its next frame, with an accepted certificate, and with the rates of its assignment
 pub record IsMade (s : State) (made : MadeMap) : Type 0 where
   pub frame : made.frame ≡ s.next
   pub certified : IsCertified (input_of s) made.cert
@@ -24,7 +24,8 @@ IsReply s MakeMap (Map made) = IsMade s made
 IsReply s MakeMap Taken = ⊥
 IsReply s event reply = reply ≡ Taken
 
--- an entry that may follow in a state, after `kept` entries of its chapter: its numbers are in range, no check refuses it, and its reply is one of the state's
+-- an entry that may follow in a state, after `kept` entries of its chapter: its numbers are in range, no check refuses
+-- it, and its reply is one that the state may give
 pub record MayFollow (kept : ℕ) (s : State) (e : Entry) : Type 0 where
   pub event : IsEvent e.event
   pub accepted : first_refusal kept s e.event ≡ None

@@ -16,7 +16,7 @@ use Rattle.pon_state.specs.declared.reply.Entry.{Entry}
 abbrev pub since_of : State → List Entry → ℕ → ℕ
 since_of o es i = frame_at_last (begins i) (since_of_account (account_of o.book i)) o.next es
 
--- what an event reports for an Alloc-ID, less all that was granted from the report's frame on
+-- the reports of an Alloc-ID in an event, each less all words granted from the report's frame on
 abbrev pub candidates_in : List WindowMap → ℕ → ℕ → Event → List Counted
 candidates_in ms since i (Report frame onu occ) =
     if nat_le since frame
@@ -24,7 +24,7 @@ candidates_in ms since i (Report frame onu occ) =
     else []
 candidates_in ms since i _ = []
 
--- the opening's report, where nothing has forgotten it, less what the entries granted
+-- the opening's report, unless an entry has dropped it, less the words that the entries granted
 abbrev pub opening_candidates : State → List Entry → ℕ → List Counted
 opening_candidates o es i =
     if list_any (begins i) es then []
@@ -35,14 +35,14 @@ abbrev pub candidates : State → List Entry → ℕ → List Counted
 candidates o es i =
     opening_candidates o es i ++ flat_map (λ e. candidates_in (all_maps o es) (since_of o es i) i e.event) es
 
--- the one of the greatest frame
+-- the counted report: the one of the greatest frame
 abbrev pub counted_of : State → List Entry → ℕ → Option Counted
 counted_of o es i = latest (candidates o es i)
 
 abbrev pub account_after : State → List Entry → ℕ → Account
 account_after o es i = record { alloc_id = i; since = since_of o es i; counted = counted_of o es i }
 
--- the state that the entries leave
+-- the state after the entries
 abbrev pub replay : State → List Entry → State
 replay o es = record {
   rule = o.rule;

@@ -1,4 +1,4 @@
--- What a port's history leaves: each part of the state as a function of the opening and the entries.
+-- The replay of a port's history: each part of the state as a function of the opening and the entries.
 use Rattle.std.specs.Prelude.{ℕ, ◌+◌, ◌-◌, ◌==◌, ◌||◌, ◌&&◌, nat_le, Bool, true, false, if◌then◌else◌, List, [], ◌∷◌, ◌++◌, map, filter, count_by, Option, Some, None}
 use Rattle.std.specs.List.{list_any}
 use Rattle.pon_bwmap.specs.Structure.{Structure}
@@ -20,7 +20,7 @@ abbrev pub makes_map : Event → Bool
 makes_map MakeMap = true
 makes_map _ = false
 
--- Fail and Restore forget the reports and the window
+-- Fail and Restore drop the reports and the window
 abbrev pub forgets : Event → Bool
 forgets (Fail cause) = true
 forgets Restore = true
@@ -34,11 +34,11 @@ abbrev pub is_report_for : ℕ → ℕ → Event → Bool
 is_report_for frame u (Report of_frame onu occ) = of_frame == frame && onu == u
 is_report_for frame u _ = false
 
--- an entry after which an Alloc-ID's reports count afresh
+-- an entry after which only later reports of an Alloc-ID count
 abbrev pub begins : ℕ → Entry → Bool
 begins i e = admits i e.event || forgets e.event
 
--- The plain parts.
+-- The parts of the state except the report book.
 
 -- the next frame
 abbrev pub next_of : ℕ → List Entry → ℕ
@@ -54,7 +54,7 @@ abbrev pub cause_of : Option ℕ → List Entry → Option ℕ
 cause_of cause [] = cause
 cause_of cause (e ∷ es) = cause_of (cause_after cause e.event) es
 
--- the roster after what was admitted, changed and removed
+-- the roster after an event: a row is added, changed or removed
 abbrev pub roster_after : List Row → Event → List Row
 roster_after rows (Admit onu alloc_id descriptor) = with_row (record { onu = onu; alloc_id = alloc_id; descriptor = descriptor }) rows
 roster_after rows (Change alloc_id descriptor) = with_descriptor alloc_id descriptor rows
@@ -75,24 +75,24 @@ abbrev pub allocs_of : List ℕ → List Entry → List ℕ
 allocs_of ids [] = ids
 allocs_of ids (e ∷ es) = allocs_of (allocs_after ids e.event) es
 
--- the next frame at the last entry that passes a test, or start where none does
+-- the next frame at the last entry that passes a test, or `start` if none does
 abbrev pub frame_at_last : (Entry → Bool) → ℕ → ℕ → List Entry → ℕ
 frame_at_last test start next [] = start
 frame_at_last test start next (e ∷ es) = frame_at_last test (if test e then next else start) (next_of next (e ∷ [])) es
 
 -- The maps of a list, and their reports.
 
--- the structures of a map with the ONUs that own them
+-- the grants of a map's structures, each with the ONU that owns it
 abbrev pub grants_of : List Row → List Structure → List Granted
 grants_of (r ∷ rows) (a ∷ more) = record { onu = r.onu; alloc_id = r.alloc_id; words = a.grant - 1 } ∷ grants_of rows more
 grants_of [] more = []
 grants_of (r ∷ rows) [] = []
 
--- an ONU that the map names already, or that an entry reports for
+-- an ONU that has reported for the map, before or in one of the entries
 abbrev pub has_reported : List Entry → WindowMap → ℕ → Bool
 has_reported es m u = list_any (λ v. v == u) m.reported || list_any (λ e. is_report_for m.frame u e.event) es
 
--- a map, with the ONUs that later entries report for
+-- a map, with the ONUs that report for it in later entries added
 abbrev pub with_reports : List Entry → WindowMap → WindowMap
 with_reports es m = record { frame = m.frame; grants = m.grants; reported = filter (has_reported es m) (onus_polled m) }
 
@@ -116,11 +116,11 @@ maps_of rows next (e ∷ es) = map (with_reports es) (map_made rows next e) ++ m
 abbrev pub all_maps : State → List Entry → List WindowMap
 all_maps o es = map (with_reports es) o.window ++ maps_of o.roster o.next es
 
--- the next frame at the last Fail or Restore, 0 where none stands in the list
+-- the next frame at the last Fail or Restore, 0 if there is none in the list
 abbrev pub kept_from : State → List Entry → ℕ
 kept_from o es = frame_at_last (λ e. forgets e.event) 0 o.next es
 
--- a map that the last Fail or Restore has not forgotten
+-- a map that the last Fail or Restore has not dropped
 abbrev pub is_kept : State → List Entry → WindowMap → Bool
 is_kept o es m = nat_le (kept_from o es) m.frame
 

@@ -18,7 +18,7 @@ pub record State : Type 0 where
   pub book : List Account
   pub window : List WindowMap
 
--- what the shares of the next map are made from
+-- the share input of the next map
 abbrev pub input_of : State → Input
 input_of s = record { rule = s.rule; gap = s.gap; roster = s.roster; book = s.book }
 

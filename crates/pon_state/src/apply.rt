@@ -1,4 +1,4 @@
-//! The running state, one entry further.
+//! The state after one more entry.
 
 ghost use Rattle.std.specs.Prelude.{◌≡◌, ◌==◌, ◌+◌, ◌<◌, ◌^◌, false, None, Some, length, OnOk, OnErr};
 ghost use Rattle.std.specs.List.{list_any};
@@ -20,7 +20,7 @@ use pon_event::Event;
 use pon_units::{AllocId, FrameNo, Granted, OnuId};
 use std::alloc::AllocError;
 
-/// Takes a map of the next frame into the state; `Err` if memory is refused, and then the state is as it was.
+/// Updates the state by a map of the next frame. `Err` only if memory is refused, and then the state is unchanged.
 pub fn add_map(state: &mut PortState, grants: &[Granted]) -> Result<(), AllocError>
     requires map_order { AreInMapOrder grants.now }
     requires frames { AreConsecutive state.old.next state.old.window }
@@ -37,7 +37,7 @@ pub fn add_map(state: &mut PortState, grants: &[Granted]) -> Result<(), AllocErr
     Ok(())
 }
 
-// Admits a row that no check refuses; `Err` if memory is refused, and then the state is as it was.
+// Admits a row that no check refuses. `Err` only if memory is refused, and then the state is unchanged.
 fn admit_row(state: &mut PortState, row: &Row) -> Result<(), AllocError>
     requires accepted { refuses_admit state.old.rule state.old.gap state.old.roster row.now ≡ None }
     requires rising { AreRising (alloc_ids state.old.book) }
@@ -74,7 +74,7 @@ fn change_row(state: &mut PortState, alloc_id: AllocId, descriptor: Descriptor)
     }
 }
 
-// Takes out an Alloc-ID that is there.
+// Removes an admitted Alloc-ID.
 fn remove_row(state: &mut PortState, alloc_id: AllocId)
     requires accepted { refuses_remove state.old.roster alloc_id ≡ None }
     requires count { state.old.taken_before + 1 < 2 ^ 64 }
@@ -89,7 +89,7 @@ fn remove_row(state: &mut PortState, alloc_id: AllocId)
     }
 }
 
-// Takes an ONU's report that no check refuses; `Err` if memory is refused, and then the state is as it was.
+// Takes a report that no check refuses. `Err` only if memory is refused, and then the state is unchanged.
 fn take_report(
     state: &mut PortState,
     frame: FrameNo,
@@ -106,7 +106,7 @@ fn take_report(
     Ok(())
 }
 
-// Forgets the reports and the window at a fault, told by its cause, or at its end.
+// Drops the reports and the window at a line failure, which has a cause, or at a restoration, which has none.
 fn forget_reports(state: &mut PortState, cause: Option<Cause>)
     requires count { state.old.taken_before + 1 < 2 ^ 64 }
     ensures { state.new ≡ after_cut state.old cause }
@@ -116,8 +116,8 @@ fn forget_reports(state: &mut PortState, cause: Option<Cause>)
     state.taken_before += 1;
 }
 
-/// Takes an event that makes no map, and that no check refuses, into the state; `Err` if memory is refused, and then the
-/// state is as it was.
+/// Updates the state by an event that makes no map and that no check refuses. `Err` only if memory is refused, and then
+/// the state is unchanged.
 pub fn step(state: &mut PortState, event: &Event) -> Result<(), AllocError>
     requires plain { makes_map event.now ≡ false }
     requires accepted { refuses state.old event.now ≡ None }

@@ -1,4 +1,4 @@
-//! The checks that refuse an event, each in its place of the order.
+//! The checks that refuse an event, in their order.
 
 ghost use Rattle.std.specs.Prelude.{◌≡◌};
 ghost use Rattle.pon_state.specs.Checks.{first_refusal, when_down, when_full};
@@ -10,10 +10,10 @@ use pon_descr::{Cause, Descriptor, Refusal};
 use pon_event::Event;
 use pon_units::{AllocId, FrameNo, OnuId};
 
-/// The most entries that a chapter of a port's history keeps.
+/// The greatest number of entries of a chapter.
 pub const MOST_ENTRIES: usize = 65_536;
 
-// The check of the chapter, of which `kept` entries are kept.
+// Returns `ChapterFull` if a chapter with `kept` entries, or the count over all chapters, is full.
 fn chapter_refusal(kept: usize, taken_before: u64) -> Option<Refusal>
     ensures { result ≡ when_full kept taken_before }
 {
@@ -24,7 +24,7 @@ fn chapter_refusal(kept: usize, taken_before: u64) -> Option<Refusal>
     }
 }
 
-// The check of the line: it is down.
+// Returns `PortDown` if the line is down.
 fn down_refusal(state: &PortState) -> Option<Refusal>
     ensures { result ≡ when_down state.now.cause }
 {
@@ -34,7 +34,7 @@ fn down_refusal(state: &PortState) -> Option<Refusal>
     }
 }
 
-// The first check that refuses one more row, after `kept` entries of its chapter.
+// Returns the first refusal of an admission, after `kept` entries of its chapter.
 fn admit_refusal(state: &PortState, kept: usize, row: &Row) -> Option<Refusal>
     ensures { result ≡ first_refusal kept state.now
         (Event.Admit row.now.onu row.now.alloc_id row.now.descriptor) }
@@ -45,7 +45,7 @@ fn admit_refusal(state: &PortState, kept: usize, row: &Row) -> Option<Refusal>
     }
 }
 
-// The first check that refuses another descriptor, after `kept` entries of its chapter.
+// Returns the first refusal of a change, after `kept` entries of its chapter.
 fn change_refusal(
     state: &PortState,
     kept: usize,
@@ -60,7 +60,7 @@ fn change_refusal(
     }
 }
 
-// The first check that refuses a removal, after `kept` entries of its chapter.
+// Returns the first refusal of a removal, after `kept` entries of its chapter.
 fn remove_refusal(state: &PortState, kept: usize, alloc_id: AllocId) -> Option<Refusal>
     ensures { result ≡ first_refusal kept state.now (Event.Remove alloc_id) }
 {
@@ -70,7 +70,7 @@ fn remove_refusal(state: &PortState, kept: usize, alloc_id: AllocId) -> Option<R
     }
 }
 
-// The first check that refuses a map, after `kept` entries of its chapter.
+// Returns the first refusal of a map, after `kept` entries of its chapter.
 fn map_refusal(state: &PortState, kept: usize) -> Option<Refusal>
     ensures { result ≡ first_refusal kept state.now Event.MakeMap }
 {
@@ -81,7 +81,7 @@ fn map_refusal(state: &PortState, kept: usize) -> Option<Refusal>
     }
 }
 
-// The first check that refuses an ONU's report, after `kept` entries of its chapter.
+// Returns the first refusal of a report, after `kept` entries of its chapter.
 fn report_refusal(
     state: &PortState,
     kept: usize,
@@ -101,7 +101,7 @@ fn report_refusal(
     }
 }
 
-// The first check that refuses a fault, after `kept` entries of its chapter.
+// Returns the first refusal of a line failure, after `kept` entries of its chapter.
 fn fail_refusal(state: &PortState, kept: usize, cause: Cause) -> Option<Refusal>
     ensures { result ≡ first_refusal kept state.now (Event.Fail cause) }
 {
@@ -111,7 +111,7 @@ fn fail_refusal(state: &PortState, kept: usize, cause: Cause) -> Option<Refusal>
     }
 }
 
-// The first check that refuses the end of a fault, after `kept` entries of its chapter.
+// Returns the first refusal of a restoration, after `kept` entries of its chapter.
 fn restore_refusal(state: &PortState, kept: usize) -> Option<Refusal>
     ensures { result ≡ first_refusal kept state.now Event.Restore }
 {
@@ -121,7 +121,7 @@ fn restore_refusal(state: &PortState, kept: usize) -> Option<Refusal>
     }
 }
 
-/// The first check that refuses an event, after `kept` entries of its chapter.
+/// Returns the first refusal of an event, after `kept` entries of its chapter, or `None`.
 pub fn refusal_of(state: &PortState, kept: usize, event: &Event) -> Option<Refusal>
     ensures { result ≡ first_refusal kept state.now event.now }
 {

@@ -1,7 +1,7 @@
-//! The state of one port of an XG-PON optical line terminal (upstream bandwidth assignment, ITU-T G.987.3): the checks that refuse an
-//! event, the step that an accepted event takes, and the next map.
+//! The state of one port of an XG-PON optical line terminal (upstream bandwidth assignment, ITU-T G.987.3): the checks
+//! that refuse an event, the step of an accepted event, and the next map.
 //!
-//! A [`PortState`] is what the history of a port leaves. The crate keeps no history.
+//! A [`PortState`] is the state after the history of a port. The crate keeps no history.
 #![tactic(auto)]
 
 mod apply;

@@ -9,14 +9,14 @@ use pon_units::{
     AllocId, GREATEST_ALLOC_ID, GREATEST_OCCUPANCY, GREATEST_ONU_ID, LEAST_ALLOC_ID, LINE_RATE,
 };
 
-// An Alloc-ID is in range, as its type has it.
+// States that an Alloc-ID is in range, by its type.
 fn is_managed(alloc_id: AllocId)
     ensures { IsManaged alloc_id }
 {
     prove!(alloc_id.get() >= LEAST_ALLOC_ID && alloc_id.get() <= GREATEST_ALLOC_ID);
 }
 
-// Occupancies are few and in range, as their types have it.
+// States that occupancies are at most 16 and in range, by their types.
 fn are_occupancies(occ: &Occupancies)
     ensures { AreOccupancies occ.now }
 {
@@ -27,7 +27,7 @@ fn are_occupancies(occ: &Occupancies)
     }
 }
 
-/// The numbers of an event are in range, as their types have it.
+/// States that the numbers of an event are in range, by their types.
 pub fn in_range(event: &Event)
     ensures { IsEvent event.now }
 {

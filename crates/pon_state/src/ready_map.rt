@@ -1,4 +1,4 @@
-//! The map that a state makes.
+//! The next map of a state.
 
 ghost use Rattle.std.specs.Prelude.{◌≡◌, IfOk};
 ghost use Rattle.pon_admit.specs.Roster.{IsAdmitted};
@@ -19,7 +19,7 @@ use pon_share::{Problems, ShareInput, class_problems, grants_under, pack_grants,
 use pon_units::{AllocId, Granted};
 use std::alloc::{AllocError, Global};
 
-/// A map that is ready: the reply, what it grants, and the Alloc-IDs of the two classes that share surplus.
+/// A finished map: its reply, its grants, and the Alloc-IDs of the two classes that share surplus.
 #[derive(Drop)]
 pub struct ReadyMap {
     pub made: MadeMap,
@@ -28,7 +28,7 @@ pub struct ReadyMap {
     pub be: Vec<AllocId>,
 }
 
-/// The next map under the state's next frame, with its certificate. `Err` only if memory is refused.
+/// Makes the map of the state's next frame, with its certificate. `Err` only if memory is refused.
 pub fn next_map(alloc: Global, state: &PortState) -> Result<ReadyMap, AllocError>
     requires admitted { IsAdmitted state.now.rule state.now.gap state.now.roster }
     ensures made { IfOk result (λ next. IsMade state.now next.made) }
@@ -50,7 +50,8 @@ pub fn next_map(alloc: Global, state: &PortState) -> Result<ReadyMap, AllocError
     })
 }
 
-/// The class problems of the next map, which its certificate is checked against. `Err` only if memory is refused.
+/// Computes the class problems of the next map, against which a certificate is checked. `Err` only if memory is
+/// refused.
 pub fn next_problems(alloc: Global, state: &PortState) -> Result<Problems, AllocError>
     requires admitted { IsAdmitted state.now.rule state.now.gap state.now.roster }
     ensures { IfOk result (λ problems. AreProblems (input_of state.now) problems) }
@@ -58,15 +59,15 @@ pub fn next_problems(alloc: Global, state: &PortState) -> Result<Problems, Alloc
     class_problems(alloc, &ShareInput::new(&state.roster, &state.loads))
 }
 
-/// A map under a certificate: its structures, and what they grant in map order.
+/// The map of a state under a certificate, and its grants in map order.
 #[derive(Drop)]
 pub struct MapUnder {
     pub map: Map,
     pub grants: Vec<Granted>,
 }
 
-/// The map that the state makes if this is its certificate, whose class problems are given. `Err` only if memory is
-/// refused.
+/// Makes the map of the state under a certificate that is accepted for the given class problems. `Err` only if memory
+/// is refused.
 pub fn map_under(
     alloc: Global,
     state: &PortState,

@@ -6,7 +6,7 @@ use pon_event::Event;
 use pon_units::FrameNo;
 use std::alloc::{AllocError, Global};
 
-/// A map that was made, the frame that it is for, and the certificate of how it shares the surplus.
+/// A map that was made, its frame, and its certificate of how the surplus is shared.
 #[derive(Debug, PartialEq, Eq, Drop)]
 pub struct MadeMap {
     pub frame: FrameNo,
@@ -15,7 +15,7 @@ pub struct MadeMap {
 }
 
 impl MadeMap {
-    /// An equal map. `Err` only if memory is refused.
+    /// Makes an equal map. `Err` only if memory is refused.
     pub fn try_copy(&self, alloc: Global) -> Result<MadeMap, AllocError>
         ensures { IfOk result (λ made. made ≡ self.now) }
     {
@@ -27,7 +27,7 @@ impl MadeMap {
     }
 }
 
-/// What a port answers to an event that it takes.
+/// The reply of a port to an event that it takes.
 #[derive(Debug, PartialEq, Eq, Drop)]
 pub enum Reply {
     Taken,

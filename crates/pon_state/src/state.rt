@@ -7,7 +7,7 @@ use pon_units::{FrameNo, Gap, Profile};
 use std::alloc::{AllocError, Global};
 use std::marker::Model;
 
-/// What a port is opened with: the gap before each burst, 1 to 256 words, and the burst profile, 0 to 3.
+/// The configuration of a port: the gap before each burst, 1 to 256 words, and the burst profile, 0 to 3.
 #[derive(Clone, Copy, Debug, PartialEq, Eq)]
 pub struct PortCfg {
     pub gap: Gap,
@@ -46,8 +46,8 @@ impl Model for PortState {
 impl PortState {
     ghost use Rattle.pon_state.specs.State.{just_opened};
 
-    /// The state of a port just opened: no Alloc-ID, the line up, and `first` as its next frame. `Err` only if memory is
-    /// refused.
+    /// Makes the state of a port just opened: no Alloc-ID, the line up, and `first` as its next frame. `Err` only if
+    /// memory is refused.
     pub fn open(alloc: Global, cfg: &PortCfg, first: FrameNo) -> Result<PortState, AllocError>
         ensures { IfOk result (λ state. state ≡ just_opened cfg.now.gap cfg.now.profile first) }
     {
@@ -61,7 +61,7 @@ impl PortState {
         })
     }
 
-    /// An equal state. `Err` only if memory is refused.
+    /// Makes an equal state. `Err` only if memory is refused.
     pub fn try_copy(&self, alloc: Global) -> Result<PortState, AllocError>
         ensures { IfOk result (λ state. state ≡ self.now) }
     {
@@ -75,7 +75,7 @@ impl PortState {
         })
     }
 
-    /// What the port was opened with.
+    /// The configuration that the port was opened with.
     pub fn cfg(&self) -> PortCfg
         ensures gap { result.gap ≡ self.now.gap }
         ensures profile { result.profile ≡ self.now.profile }
@@ -102,7 +102,7 @@ impl PortState {
         self.next
     }
 
-    /// The report book: what each Alloc-ID reported and was not granted since, and the last maps.
+    /// The report book: the counted report of each Alloc-ID, less what was granted since, and the last maps.
     pub fn loads(&self) -> &Loads
         ensures accounts { result.now.accounts ≡ self.now.book }
         ensures window { result.now.window ≡ self.now.window }
@@ -110,14 +110,14 @@ impl PortState {
         &self.loads
     }
 
-    /// Why the line is down, where it is.
+    /// The cause of the line failure, or `None` if the line is up.
     pub fn cause(&self) -> Option<Cause>
         ensures { result ≡ self.now.cause }
     {
         self.cause
     }
 
-    /// How many entries were taken before this state, over all chapters.
+    /// The number of entries taken before this state, over all chapters.
     pub fn taken_before(&self) -> u64
         ensures { result ≡ self.now.taken_before }
     {

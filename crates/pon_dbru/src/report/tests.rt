@@ -19,7 +19,7 @@ fn reports_are_read_back(rt: HostRuntime) -> Result<(), Fail> {
     Ok(())
 }
 
-// Each single wrong bit of a report is found.
+// Each single wrong bit makes a report garbled.
 #[test]
 fn wrong_bits_are_garbled(rt: HostRuntime) -> Result<(), Fail> {
     assert_eq!(rt; decode([0x00, 0x00, 0x64, 0x3a]), Err(Garbled));

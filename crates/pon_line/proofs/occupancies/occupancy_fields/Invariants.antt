@@ -4,7 +4,7 @@ use Rattle.pon_line.specs.Commands.{occupancy_fields}
 use Rattle.pon_line.proofs.FieldWords.{after_those}
 use Rattle.pon_line.proofs.occupancies.occupancy_fields.Given as goal
 
--- the occupancies so far, and what the words of the rest write, are what all words write
+-- the occupancies so far, followed by those that the remaining words write, are those of all words
 abbrev pub invariant-loop-word : goal.invariant-loop-word
 invariant-loop-word l = record {
   few : length l.occupancies + length (words_of l.rest) ≤ 16;

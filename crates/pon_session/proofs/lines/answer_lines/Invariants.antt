@@ -3,7 +3,7 @@ use Rattle.pon_stream.proofs.ReadCounts.{AfterReads}
 use Rattle.pon_session.proofs.Streaming.{Progress}
 use Rattle.pon_session.proofs.lines.answer_lines.Given as goal
 
--- how far the reading has come, that all is written, and that no device has failed yet
+-- the progress of the reading: all text is written, and no device has failed
 abbrev pub invariant-loop-turn : goal.invariant-loop-turn
 invariant-loop-turn g l = record {
   progress : Progress g.A.Answers.gives l.initial.answers (g.R.DevRead.remaining l.initial.reader) (g.R.DevRead.remaining l.reader) (g.W.DevWrite.contents l.initial.writer) (g.W.DevWrite.contents l.writer) l.answers l.line.items;

@@ -2,7 +2,7 @@ use Rattle.std.proofs.Common.{◌≡◌, length}
 use Rattle.pon_session.proofs.Continuing.{Reached}
 use Rattle.pon_session.proofs.lines.answer_piece.Given as goal
 
--- how far the piece is answered, and that the writer has not failed yet
+-- the progress in the piece, and that the writer has not failed
 abbrev pub invariant-lines : goal.invariant-lines
 invariant-lines g l = record {
   reached : Reached g.A.Answers.gives l.initial.answers l.initial.line.items l.answers l.line.items l.piece l.rest l.replies.items (g.W.DevWrite.contents l.initial.writer) (g.W.DevWrite.contents l.writer);
