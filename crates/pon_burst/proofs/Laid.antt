@@ -1,4 +1,4 @@
--- Structures that lie one behind the other have sound bursts.
+-- Structures laid one after another have sound bursts.
 use Rattle.std.proofs.Common.{◌≡◌, ℕ, ◌+◌, ◌≤◌, List, [], ◌∷◌, ◌++◌, arith, inl}
 use Rattle.std.specs.Prelude.{if◌then◌else◌, is_none, All, AllPairs, Option, Some, None}
 use Rattle.std.proofs.lemmas.List.Elements.{All-nil, All-cons, All-weaker}
@@ -11,22 +11,22 @@ abbrev pub BeginsAt : ℕ → Option ℕ → Type 0
 BeginsAt low None = Unit {0}
 BeginsAt low (Some start) = start ≡ low
 
--- the word where the next burst may start: behind the grants, and behind header, trailer and gap where this one starts a burst
+-- the word where the next burst may start: after the grants, and after header, trailer and gap if this one starts a burst
 abbrev pub behind : ℕ → ℕ → ℕ → Option ℕ → ℕ
 behind gap low grant None = low + grant
 behind gap low grant (Some start) = low + (gap + 2 + grant)
 
--- each burst starts where the structures before it let it
+-- each burst starts at the first word that the structures before it leave free
 abbrev pub AreLaid : ℕ → ℕ → List Structure → Type 0
 AreLaid gap low [] = Unit {0}
 AreLaid gap low (a ∷ more) = BeginsAt low a.start × AreLaid gap (behind gap low a.grant a.start) more
 
--- the word behind them all
+-- the word after them all
 abbrev pub end_of : ℕ → ℕ → List Structure → ℕ
 end_of gap low [] = low
 end_of gap low (a ∷ more) = end_of gap (behind gap low a.grant a.start) more
 
--- the grants that continue a burst end no later
+-- the grants that continue a burst end there or earlier
 pub continued_end : (gap low : ℕ) (rows : List Structure) → low + continued rows ≤ end_of gap low rows
 continued_end gap low [] = omega arith
 continued_end gap low (a ∷ more) =
@@ -45,7 +45,7 @@ starts_behind gap low (a ∷ more) h =
           (All-weaker (λ b. low + (gap + 2 + a.grant) + continued more ≤ b.start) (λ b. low + 0 ≤ b.start) (λ b l. omega (arith, l)) (bursts_of more) (starts_behind gap (low + (gap + 2 + a.grant)) more h.1))
     ]) h
 
--- they lie in the frame
+-- the bursts are within the frame
 all_in_frame : (gap low : ℕ) (rows : List Structure) → AreLaid gap low rows → gap ≤ low → end_of gap low rows ≤ gap + 9720 → All (IsInFrame gap) (bursts_of rows)
 all_in_frame gap low [] h g l = All-nil (IsInFrame gap)
 all_in_frame gap low (a ∷ more) h g l =

@@ -34,7 +34,7 @@ module _ (gap profile : ℕ) (gs : List Granted) (order : AreInMapOrder gs) (k :
   none_greater : All (λ g. g.onu ≤ r.onu) before
   none_greater = All-weaker (λ q. ComesBefore q r) (λ q. q.onu ≤ r.onu) (λ q h. h.0) before (in_order-sides ComesBefore r before after (subst AreInMapOrder whole order)).0
 
-  -- the test that the program makes is whether the ONU has a grant before
+  -- the program tests whether the ONU has an earlier grant
   same_as_last : (o : Option ℕ) → IsLast o before → option_eq (λ a b. a == b) o (Some r.onu) ≡ has_onu r.onu before
   same_as_last None h = ap (has_onu r.onu) (sym h)
   same_as_last (Some u) h = elim (eqb_tells u r.onu) [

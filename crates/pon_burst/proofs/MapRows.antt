@@ -1,4 +1,4 @@
--- The structures of grants in map order, one after the other: which start a burst, and at which word.
+-- The structures of grants in map order, one after another: which of them start a burst, and at which word.
 use Rattle.std.proofs.Common.{◌≡◌, ℕ, ◌+◌, ◌*◌, ◌<◌, ◌≤◌, Bool, true, false, not, ◌||◌, ◌&&◌, List, [], ◌∷◌, ◌++◌, map, length, refl, ap, sym, ◌∙◌, subst, arith, inl, inr}
 use Rattle.std.specs.Prelude.{◌==◌, nat_lt, if◌then◌else◌, filter, sum_by, All, Some, None}
 use Rattle.std.specs.List.{list_any}
@@ -16,7 +16,7 @@ use Rattle.pon_lists.proofs.Order.{in_order-sides}
 use Rattle.pon_lists.proofs.Distinct.{bit, count_once, count_once-append, count_once_agree, count_once_none, count_once_push, length-distinct, length-filter_distinct, occurs}
 use Rattle.pon_burst.specs.Maps.{follows_in_series, frame_words, grant, start_of, structure_of}
 
--- Who comes before whom.
+-- The order of grants.
 
 abbrev pub onus : List Granted → List ℕ
 onus gs = map (λ g. g.onu) gs
@@ -75,13 +75,13 @@ onus_less r (x ∷ xs) h n =
 abbrev pub word_after : ℕ → List Granted → ℕ
 word_after gap gs = gap + (gap + 2) * count_once (onus gs) (λ _. true) + sum_by grant gs
 
--- it lies behind the gap and all words of the frame that are taken
+-- it comes after the gap and all words of the frame that are taken
 pub words_of : (gap : ℕ) (gs : List Granted) → word_after gap gs ≡ gap + frame_words gap gs
 words_of gap gs =
     let gaps : (gap + 2) * length (onus_granted gs) ≡ (gap + 2) * count_once (onus gs) (λ _. true) = ap (λ m. (gap + 2) * m) (length-distinct (onus gs)) in
     omega (arith, gaps)
 
--- one grant further
+-- after one more grant
 pub word_push : (gap : ℕ) (xs : List Granted) (r : Granted) → word_after gap (xs ++ r ∷ []) ≡ gap + (gap + 2) * (count_once (onus xs) (λ _. true) + bit (not (has_onu r.onu xs) && true)) + (sum_by grant xs + grant r)
 word_push gap xs r =
     let count : count_once (onus (xs ++ r ∷ [])) (λ _. true) ≡ count_once (onus xs) (λ _. true) + bit (not (has_onu r.onu xs) && true)
@@ -97,7 +97,7 @@ module _ (gap profile : ℕ) (gs : List Granted) (order : AreInMapOrder gs) (r :
   after : All (λ q. ComesBefore r q) ys
   after = (in_order-sides ComesBefore r xs ys (subst AreInMapOrder e order)).1
 
-  -- a structure continues a burst where its ONU has one before it
+  -- a structure continues a burst exactly when its ONU has an earlier one
   pub follows_in_series-is : follows_in_series gap profile gs r ≡ has_onu r.onu xs
   follows_in_series-is =
       let none : (leads r r || list_any (leads r) ys) ≡ false
@@ -108,7 +108,7 @@ module _ (gap profile : ℕ) (gs : List Granted) (order : AreInMapOrder gs) (r :
       ∙ (λ i. list_any_agree (leads r) (λ q. q.onu == r.onu) xs (All-weaker (λ q. ComesBefore q r) (λ q. leads r q ≡ (q.onu == r.onu)) (leads_before r) xs before) i || none i)
       ∙ or-false (has_onu r.onu xs)
 
-  -- the first of an ONU starts behind those before it
+  -- the first structure of an ONU starts after those before it
   pub start-is : has_onu r.onu xs ≡ false → start_of gap profile gs r.onu ≡ word_after gap xs
   start-is n =
       let less : All (λ q. nat_lt q.onu r.onu ≡ true) xs = onus_less r xs before n in

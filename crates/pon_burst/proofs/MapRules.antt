@@ -18,7 +18,7 @@ use Rattle.pon_burst.proofs.MapRows.{any_at_most, follows_in_series-is, has_onu}
 use Rattle.pon_lists.proofs.Order.{in_order-sides}
 use Rattle.pon_burst.proofs.SoundMaps.{sound_of_rising}
 
--- a burst that lies in the frame starts in it
+-- a burst within the frame starts in it
 starts_in_frame : (gap : ℕ) (rows : List Structure) → All (IsInFrame gap) (bursts_of rows) → (k start : ℕ) (a : Structure) → slice_get rows k ≡ Some a → a.start ≡ Some start → start < FRAME_WORDS
 starts_in_frame gap [] h k start a here is = absurd (cc)
 starts_in_frame gap (b ∷ rows) h zero start a here is = first b.start h (let same : b.start ≡ Some start = (let e : b ≡ a = cc in ap (λ (x : Structure). x.start) e ∙ is) in same)
@@ -34,7 +34,7 @@ starts_in_frame gap (b ∷ rows) h (suc k) start a here is = starts_in_frame gap
     later None h = h
     later (Some s) h = All-tail (IsInFrame gap) (record { start = s; words = b.grant + continued rows }) (bursts_of rows) h
 
--- 1 where a grant is the ONU's
+-- 1 if a grant is to the ONU, otherwise 0
 abbrev of_onu : ℕ → Granted → ℕ
 of_onu u g = cond (g.onu == u) 1 0
 
@@ -42,7 +42,7 @@ module _ (gap profile : ℕ) (gs : List Granted) (order : AreInMapOrder gs) wher
   abbrev row : Granted → Structure
   row g = structure_of gap profile gs g
 
-  -- whether structure k of these grants' continues a series
+  -- whether structure k of these grants continues a series
   abbrev goes_on : List Granted → ℕ → Bool
   goes_on ys k = lacks_start (slice_get (map row ys) k)
 
@@ -54,7 +54,7 @@ module _ (gap profile : ℕ) (gs : List Granted) (order : AreInMapOrder gs) wher
       flag_is true = refl
       flag_is false = refl
 
-  -- structures that continue after those of an ONU are that ONU's
+  -- structures that continue a series after those of an ONU are of that ONU
   all_of_onu : (m u : ℕ) (xs ys : List Granted) → gs ≡ xs ++ ys → All (λ q. q.onu ≤ u) xs → All (λ q. u ≤ q.onu) ys → ((j : ℕ) → j < m → goes_on ys j ≡ true) → m ≤ count_by (λ g. g.onu == u) ys
   all_of_onu zero u xs ys e low high all = omega arith
   all_of_onu (suc m) u xs [] e low high all = absurd (let off : false ≡ true = all 0 (omega arith) in cc)
@@ -73,7 +73,7 @@ module _ (gap profile : ℕ) (gs : List Granted) (order : AreInMapOrder gs) wher
   first_starts (g ∷ ys) e = row_continues g [] ys e
 
   module _ (short : (u : ℕ) → count_by (λ g. g.onu == u) gs ≤ 16) where
-    -- 16 structures that continue are an ONU's, and the one before them is too
+    -- 16 structures that continue a series are of one ONU, and so is the one before them
     seventeen : (k : ℕ) (g : Granted) (xs ys : List Granted) → gs ≡ xs ++ g ∷ ys → ((j : ℕ) → j < 16 → goes_on ys (k + j) ≡ true) → ⊥
     seventeen zero g xs ys e all =
         let two : All (λ q. ComesBefore q g) xs × All (λ q. ComesBefore g q) ys = in_order-sides ComesBefore g xs ys (subst AreInMapOrder e order) in

@@ -19,7 +19,7 @@ module _ (gap profile : ℕ) (gs : List Granted) (order : AreInMapOrder gs) (u :
   abbrev structures_of : List (ℕ × ℕ) → List Structure
   structures_of bs = map (structure_of gap profile gs) (grants_of bs)
 
-  -- structures of an ONU that has one before them continue its burst
+  -- structures of an ONU with an earlier structure continue its burst
   later : (bs : List (ℕ × ℕ)) (xs ys : List Granted) → gs ≡ xs ++ (grants_of bs ++ ys) → has_onu u xs ≡ true → map (polled profile None) bs ≡ structures_of bs
   later [] xs ys e h = refl
   later (b ∷ bs) xs ys e h =
@@ -48,7 +48,7 @@ pub granted_more : (series : List Series) (k : ℕ) (s : Series) → k < length 
 granted_more series k s lt here =
     ap grants_of_series (series_more series k s lt here) ∙ flat_map-append granted_to (take k series) (s ∷ []) ∙ ap (λ gs. grants_of_series (take k series) ++ gs) (append-nil (granted_to s))
 
--- series k is written behind those before it
+-- series k is written after those before it
 pub series_written : (gap profile : ℕ) (series : List Series) (k : ℕ) (s : Series) (start : ℕ) (front : List Structure) → Rise series → k < length series → s ≡ get_or series k s
     → start ≡ gap + sum_by (burst_words gap) (take k series) → front ≡ map (structure_of gap profile (grants_of_series series)) (grants_of_series (take k series))
     → front ++ burst_structures profile start s.1.items ≡ map (structure_of gap profile (grants_of_series series)) (grants_of_series (take (k + 1) series))

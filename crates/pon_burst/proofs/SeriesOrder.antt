@@ -1,4 +1,4 @@
--- Series whose ONUs and Alloc-IDs rise are granted in map order, and take the words of their bursts.
+-- Series with ONUs and Alloc-IDs in ascending order are granted in map order, and take the words of their bursts.
 use Rattle.std.proofs.Common.{◌≡◌, ℕ, zero, suc, ◌+◌, ◌*◌, ◌<◌, ◌≤◌, Bool, true, false, cond, not, ◌||◌, ◌&&◌, List, [], ◌∷◌, ◌++◌, map, length, get_or, take, refl, ap, ◌∙◌, arith, inl, inr}
 use Rattle.std.specs.Prelude.{◌==◌, sum_by, count_by, All, AllPairs}
 use Rattle.std.proofs.lemmas.Bool.{eq-eqb, ne_eqb}
@@ -16,11 +16,11 @@ use Rattle.pon_burst.specs.Maps.{frame_words, grant}
 use Rattle.pon_burst.specs.Series.{FitsFrame, Series, burst_words, grants_of_series, granted_to}
 use Rattle.pon_burst.proofs.MapRows.{has_onu, onus, word_after, words_of}
 
--- what an Alloc-ID of the ONU is granted
+-- the grant of an Alloc-ID of the ONU
 abbrev pub granted_of : ℕ → ℕ × ℕ → Granted
 granted_of u a = record { onu = u; alloc_id = a.0; words = a.1 }
 
--- ONUs and Alloc-IDs rise, and no series is empty
+-- ONUs and Alloc-IDs ascend, and no series is empty
 abbrev pub Rise : List Series → Type 0
 Rise [] = Unit {0}
 Rise (s ∷ ss) = All (λ t. s.0 < t.0) ss × AllPairs (λ a b. a.0 < b.0) s.1.items × (0 < length s.1.items) × Rise ss
@@ -70,7 +70,7 @@ in_order (s ∷ ss) r =
     (All-map (λ g. All (ComesBefore g) (grants_of_series ss)) (granted_of s.0) s.1.items (λ k d lt. All-weaker (λ g. s.0 < g.onu) (ComesBefore (granted_of s.0 (get_or s.1.items k d)))
     (λ g l. (omega (arith, l), λ e. absurd (omega (arith, l, e)))) (grants_of_series ss) (above s.0 ss r.0)))
 
--- An ONU has what its series has.
+-- The grants of an ONU are those of its series.
 
 not_of : (u v : ℕ) (bs : List (ℕ × ℕ)) → (u == v) ≡ false → has_onu v (map (granted_of u) bs) ≡ false
 not_of u v [] e = refl
@@ -134,7 +134,7 @@ burst_sum gap [] = omega arith
 burst_sum gap (s ∷ ss) =
     omega (arith, sum_by-cons (burst_words gap) s ss, sum_by-append grant (granted_to s) (grants_of_series ss), sum_by-map grant (granted_of s.0) s.1.items, burst_sum gap ss)
 
--- the next burst starts behind the gap and the bursts before it
+-- the next burst starts after the bursts before it and the gap
 pub words_after : (gap : ℕ) (ss : List Series) → Rise ss → word_after gap (grants_of_series ss) ≡ gap + sum_by (burst_words gap) ss
 words_after gap ss r =
     let gaps : (gap + 2) * count_once (onus (grants_of_series ss)) (λ _. true) ≡ (gap + 2) * length ss = ap (λ n. (gap + 2) * n) (onus_counted ss r) in

@@ -10,7 +10,7 @@ use Rattle.pon_burst.proofs.Laid.{AreLaid, BeginsAt, behind, continued_end, end_
 use Rattle.pon_burst.proofs.MapRows.{begins_burst, continues_burst, has_onu, word_after, words_of}
 
 module _ (gap profile : ℕ) (gs : List Granted) (order : AreInMapOrder gs) where
-  -- a structure lies behind those before it
+  -- a structure is laid after those before it
   row_laid : (r : Granted) (xs ys : List Granted) → gs ≡ xs ++ r ∷ ys →
       BeginsAt (word_after gap xs) (structure_of gap profile gs r).start × (behind gap (word_after gap xs) (grant r) (structure_of gap profile gs r).start ≡ word_after gap (xs ++ r ∷ []))
   row_laid r xs ys e = elim (cases_Bool (has_onu r.onu xs)) [
@@ -22,7 +22,7 @@ module _ (gap profile : ℕ) (gs : List Granted) (order : AreInMapOrder gs) wher
         subst (λ o. BeginsAt (word_after gap xs) o × (behind gap (word_after gap xs) (grant r) o ≡ word_after gap (xs ++ r ∷ []))) (sym at.0) (refl, omega (arith, at.1))
   ]
 
-  -- the structures of the grants after some lie behind those
+  -- the structures of later grants are laid after those of earlier ones
   rest_laid : (xs ys : List Granted) → gs ≡ xs ++ ys →
       AreLaid gap (word_after gap xs) (map (structure_of gap profile gs) ys) × (end_of gap (word_after gap xs) (map (structure_of gap profile gs) ys) ≡ word_after gap gs)
   rest_laid xs [] e = (tt, ap (word_after gap) (sym (append-nil xs) ∙ sym e))
@@ -43,7 +43,7 @@ module _ (gap profile : ℕ) (gs : List Granted) (order : AreInMapOrder gs) wher
       laid_sound gap (map_granting gap profile gs) (subst (λ w. AreLaid gap w (map_granting gap profile gs)) start both.0)
       (subst (λ w. end_of gap w (map_granting gap profile gs) ≤ gap + 9720) start (subst (λ w. w ≤ gap + 9720) (sym both.1) end))
 
-  -- the next burst may start in the frame, or behind a gap after it
+  -- the next burst may start within the frame, or a gap after it
   pub word_in_frame : frame_words gap gs ≤ 9720 → (xs ys : List Granted) → gs ≡ xs ++ ys → word_after gap xs ≤ gap + 9720
   word_in_frame fits xs ys e =
       omega (arith, continued_end gap (word_after gap xs) (map (structure_of gap profile gs) ys), (rest_laid xs ys e).1, words_of gap gs, fits)

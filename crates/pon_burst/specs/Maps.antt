@@ -6,7 +6,7 @@ use Rattle.pon_units.specs.declared.Granted.{Granted}
 use Rattle.pon_units.specs.Granted.{onus_granted}
 use Rattle.pon_bwmap.specs.Structure.{Structure}
 
--- one word for the report, and the payload
+-- GrantSize of a grant: one word for the report, and the payload words
 abbrev pub grant : Granted → ℕ
 grant g = 1 + g.words
 
@@ -15,7 +15,7 @@ abbrev pub frame_words : ℕ → List Granted → ℕ
 frame_words gap gs = (gap + 2) * length (onus_granted gs) + sum_by grant gs
 
 module _ (gap profile : ℕ) (gs : List Granted) where
-  -- a burst starts behind its gap, and behind gap, header, grants and trailer of each ONU of lesser number
+  -- the start of the burst of an ONU: after gap, header, grants and trailer of each ONU of lesser number, and after its own gap
   abbrev pub start_of : ℕ → ℕ
   start_of u =
       gap + (gap + 2) * length (filter (λ v. nat_lt v u) (onus_granted gs))
@@ -36,6 +36,6 @@ module _ (gap profile : ℕ) (gs : List Granted) where
     profile = profile;
   }
 
-  -- a structure for each Alloc-ID that is granted something, in order
+  -- a structure for each grant, in order
   abbrev pub map_granting : List Structure
   map_granting = map structure_of gs

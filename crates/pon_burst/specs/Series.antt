@@ -9,19 +9,19 @@ use Rattle.pon_bwmap.specs.Structure.{Structure}
 abbrev pub Series : Type 0
 Series = ℕ × ArrayVec (ℕ × ℕ)
 
--- what a series is granted
+-- the grants of a series
 abbrev pub granted_to : Series → List Granted
 granted_to s = map (λ a. record { onu = s.0; alloc_id = a.0; words = a.1 }) s.1.items
 
--- what all series are granted, in order
+-- the grants of all series, in order
 abbrev pub grants_of_series : List Series → List Granted
 grants_of_series series = flat_map granted_to series
 
--- the words of a burst and of the gap before it: gap, header and trailer, and for each Alloc-ID its report and payload
+-- the words of a burst with the gap before it: gap, header and trailer, and report and payload of each Alloc-ID
 abbrev pub burst_words : ℕ → Series → ℕ
 burst_words gap s = gap + 2 + sum_by (λ a. 1 + a.1) s.1.items
 
--- the ONU-IDs rise, the Alloc-IDs of each ONU rise, no ONU is without one, and all bursts fit a frame
+-- the ONU-IDs ascend, the Alloc-IDs of each ONU ascend, each ONU has one, and all bursts fit a frame
 pub record FitsFrame (gap : ℕ) (series : List Series) : Type 0 where
   pub onus_rise : AllPairs (λ s t. s.0 < t.0) series
   pub alloc_ids_rise : All (λ s. AllPairs (λ a b. a.0 < b.0) s.1.items) series

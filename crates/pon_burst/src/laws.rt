@@ -1,4 +1,4 @@
-//! What holds of maps that grant given payload words.
+//! Laws of maps that grant given payload words.
 
 ghost use Rattle.std.specs.Prelude.{ℕ, ◌≤◌, ◌==◌, List, length, count_by};
 ghost use Rattle.pon_units.specs.declared.Granted.{Granted};
@@ -9,13 +9,13 @@ ghost use Rattle.pon_burst.specs.Maps.{frame_words, map_granting};
 
 use pon_units::{FRAME_WORDS, LONGEST_SERIES, MOST_STRUCTURES};
 
-/// Grants in map order that fit a frame with their gaps have sound bursts.
+/// Grants in map order that fit a frame with their gaps have sound bursts: within the frame, and no two overlap.
 pub fn grants_in_map_order_have_sound_bursts()
     ensures { (gap profile : ℕ) (gs : List Granted) → AreInMapOrder gs
         → frame_words gap gs ≤ FRAME_WORDS → AreSound gap (map_granting gap profile gs) }
 {}
 
-/// Their structures are a map, where there are at most 512 of them, and at most 16 of each ONU.
+/// Their structures are a map if there are at most 512 of them, and at most 16 of each ONU.
 pub fn map_rules()
     ensures { (gap profile : ℕ) (gs : List Granted) → AreInMapOrder gs
         → ((u : ℕ) → count_by (λ g. g.onu == u) gs ≤ LONGEST_SERIES) → length gs ≤ MOST_STRUCTURES

@@ -5,10 +5,10 @@ ghost use Rattle.pon_burst.specs.Maps.{frame_words, map_granting};
 use pon_bwmap::Alloc;
 use pon_units::{FRAME_WORDS, Gap, Granted, Profile};
 
-/// Appends to `out` the structures of the map of these grants, one for each grant in order. It reserves nothing.
+/// Appends to `out` the structures of the map of these grants, one for each grant in order. It allocates no memory.
 ///
-/// The caller's conditions: the grants are in map order; gap, header, trailer and grants of all ONUs are at most 9,720
-/// words; and `out` has room for a structure for each grant. No grants are fine, and have no structures.
+/// Requires grants in map order; gaps, headers, trailers and grants of all ONUs of at most 9,720 words together; and room
+/// in `out` for a structure for each grant. No grants have no structures.
 pub fn lay_bursts(gap: Gap, profile: Profile, grants: &[Granted], out: &mut Vec<Alloc>)
     requires order { AreInMapOrder grants.now }
     requires fit { frame_words gap grants.now ≤ FRAME_WORDS }

@@ -10,13 +10,13 @@ use pon_units::{
     AllocId, FRAME_WORDS, Gap, LONGEST_SERIES, MOST_STRUCTURES, OnuId, Profile, Words,
 };
 
-/// Writes the structures of the map that grants each Alloc-ID its payload words, 0 to 9,720 of 4 bytes, and
-/// one word for its report, to the front of `out`; returns the number of structures. The bursts are the ONUs' in rising
-/// number, each behind its gap of 1 to 256 words. It always succeeds and takes no memory.
+/// Writes to the front of `out` the structures of the map that grants each Alloc-ID its payload words, 0 to 9,720 of 4
+/// bytes, and one word for its report; returns the number of structures. The bursts are in ascending order of ONU-ID,
+/// each after its gap of 1 to 256 words. It always succeeds and allocates no memory.
 ///
-/// The caller's conditions: the ONU-IDs rise, and so do the Alloc-IDs of each ONU; no ONU is without an
-/// Alloc-ID; gap, header, trailer and grants of all ONUs are at most 9,720 words; and `out` has room for a
-/// structure for each Alloc-ID. No ONUs are fine, and have no structures.
+/// Requires ascending ONU-IDs, and ascending Alloc-IDs of each ONU, at least one; gaps, headers, trailers and grants of
+/// all ONUs of at most 9,720 words together; and room in `out` for a structure for each Alloc-ID. No ONUs have no
+/// structures.
 pub fn pack(
     gap: Gap,
     profile: Profile,
@@ -43,7 +43,7 @@ pub fn pack(
     filled
 }
 
-// Writes the structures of a burst at `from` and behind it; the words that they grant.
+// Writes the structures of a burst from index `from` on, and returns the words that they grant.
 fn write_burst(
     profile: Profile,
     start: u16,
