@@ -9,7 +9,7 @@ use crate::arguments::RunArgs;
 use crate::end::{PortEnd, write_ends};
 use crate::link::{Link, open_links};
 use crate::operator::{answer_lines, open_lines};
-use crate::ports::{OTHER_SEATS, admit_rows, close, ends_of, split_results, served_ports};
+use crate::ports::{OTHER_SEATS, admit_rows, close, ends_of, served_ports, split_results};
 use crate::recording::{begin, create_file, record_ports};
 use crate::running::{Served, serve_all};
 use crate::thread::Worked;
