@@ -72,9 +72,9 @@ pub fn lawful_chapters_open_later_ones()
         → IsLawfulOpening n (present_state c) }
 {}
 
-/// A lawful chapter that is cut anywhere gives two lawful chapters: the entries before the cut under its own number and
-/// opening, and the entries behind it under a later number, opened with the state at the cut. The second leaves the
-/// state that the whole leaves.
+/// A lawful chapter that is split anywhere gives two lawful chapters: the first entries under its own number and
+/// opening, and the remaining entries under a later number, opened with the state after the first ones. The second has
+/// the same end as the whole.
 pub fn cuts_of_lawful_chapters_are_lawful()
     ensures front { (c : Chapter) → IsLawfulChapter c → (k : ℕ) →
         IsLawfulChapter (record { number = c.number; opening = c.opening; entries = take k c.entries }) }
