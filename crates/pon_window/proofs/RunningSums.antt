@@ -1,16 +1,17 @@
 -- Running sums beside the window.
-use Rattle.std.proofs.Common.{◌≡◌, ℕ, zero, suc, ◌+◌, ◌-◌, ◌*◌, ◌%◌, ◌^◌, ◌<◌, ◌≤◌, ◌&&◌, Bool, true, false, not, cond, List, [], ◌∷◌, ◌++◌, map, drop, length, get_or, refl, ap, sym, ◌∙◌, subst, arith, inl, inr}
+use Rattle.std.proofs.Common.{◌≡◌, ℕ, zero, suc, ◌+◌, ◌-◌, ◌*◌, ◌%◌, ◌^◌, ◌<◌, ◌≤◌, ◌&&◌, Bool, true, false, not, cond, List, [], ◌∷◌, ◌++◌, map, drop, length, get_or, take, refl, ap, sym, ◌∙◌, subst, arith, inl, inr}
 use Rattle.std.specs.Prelude.{◌==◌, if◌then◌else◌, slice_get, nat_lt, filter, find, position, sum_by, All, Option, Some, None, option_map}
 use Rattle.std.specs.List.{position_or_len}
 use Rattle.std.specs.Option.{option_or}
 use Rattle.std.proofs.Math.Nat.{add-mod_left, mod-add-mod, mod-eq_of_lt}
-use Rattle.std.proofs.lemmas.Bool.{and_left, and_parts, and_right, eqb-true, lt-ltb, ne_eqb}
+use Rattle.std.proofs.lemmas.Bool.{and_left, and_parts, and_right, eqb-true, le-ltb, lt-ltb, ne_eqb}
 use Rattle.std.proofs.lemmas.Bool.Decides.{eqb_tells}
 use Rattle.std.proofs.lemmas.List.Elements.{All-head, All-tail}
+use Rattle.std.proofs.lemmas.List.Quantifiers.{position-Some}
 use Rattle.std.proofs.lemmas.List.Sums.{position_or_len_is, sum_by_push, sum_by-cons}
 use Rattle.std.proofs.lemmas.Option.{same_Some}
 use Rattle.pon_units.specs.Granted.{AreInMapOrder, ComesBefore}
-use Rattle.std.proofs.lemmas.List.{length-drop, length-map, length_push, map-append}
+use Rattle.std.proofs.lemmas.List.{get_or-drop, get_or-take, length-drop, length-map, length-take, length_push, map-append}
 use Rattle.pon_lists.proofs.Lists.{position-None_or_len, position-Some_or_len, sum_by-map}
 use Rattle.pon_window.specs.Window.{Granted, WindowMap, last_64, words_granted, words_to}
 use Rattle.pon_window.specs.Window.{with_map}
@@ -36,6 +37,42 @@ stands_at u i gs h k d l t =
           (ne_eqb g.alloc_id i (λ q. omega (arith, q, eqb-true (get_or gs k d).alloc_id i both.1, b.1 (e.1 ∙ sym (eqb-true (get_or gs k d).onu u both.0)))))
       | inr e ↦ and_left (g.onu == u) (g.alloc_id == i) e.0
     ]
+
+-- a grant among those of its ONU stands as far after the first of them in the map
+pub stands_from : (u i : ℕ) (gs own : List Granted) (first k : ℕ) (r : Option ℕ) → AreInMapOrder gs → own ≡ take (length own) (drop first gs) → r ≡ position (is_to u i) own → r ≡ Some k → Some (first + k) ≡ position (is_to u i) gs
+stands_from u i gs [] first k r h placed is e = absurd (cc)
+stands_from u i gs (g ∷ own) first k r h placed is e =
+    let at = position-Some (is_to u i) (g ∷ own) k g (sym is ∙ e) in
+    let len : length (g ∷ own) ≤ length (drop first gs) = omega (arith, ap (λ t. length t) placed ∙ length-take (length (g ∷ own)) (drop first gs)) in
+    let same : get_or (g ∷ own) k g ≡ get_or gs (first + k) g = ap (λ t. get_or t k g) placed ∙ get_or-take (length (g ∷ own)) (drop first gs) k g at.0 ∙ get_or-drop first gs k g in
+    stands_at u i gs h (first + k) g (omega (arith, at.0, len, length-drop first gs)) (ap (is_to u i) (sym same) ∙ at.1)
+
+-- no grant to an Alloc-ID among those of its ONU, none in the map
+pub none_from : (u i : ℕ) (gs own : List Granted) (r : Option ℕ) → own ≡ filter (λ g. g.onu == u) gs → r ≡ position (is_to u i) own → r ≡ None → None ≡ position (is_to u i) gs
+none_from u i gs own r e is none =
+    let all : length gs ≡ position_or_len (is_to u i) gs = none_in gs (ap (λ t. length t) (sym e) ∙ position-None_or_len (is_to u i) own r is none ∙ ap (λ t. position_or_len (is_to u i) t) e) in
+    sym (ap (λ b. cond b (Some (position_or_len (is_to u i) gs)) None) (le-ltb (position_or_len (is_to u i) gs) (length gs) (omega (arith, all))))
+  where
+    none_in : (gs : List Granted) → length (filter (λ g. g.onu == u) gs) ≡ position_or_len (is_to u i) (filter (λ g. g.onu == u) gs) → length gs ≡ position_or_len (is_to u i) gs
+    none_in [] e = refl
+    none_in (g ∷ gs) e = step (g.onu == u) (g.alloc_id == i) refl refl (none_in gs)
+      where
+        rest : List Granted
+        rest = filter (λ g. g.onu == u) gs
+
+        len : List Granted → ℕ
+        len = position_or_len (is_to u i)
+
+        own_len : (b a : Bool) → (g.onu == u) ≡ b → (g.alloc_id == i) ≡ a → (ts : List Granted) → len (g ∷ ts) ≡ cond (not (b && a)) (1 + len ts) 0
+        own_len b a p q ts = λ j. cond (not (p j && q j)) (1 + len ts) 0
+
+        split : (b : Bool) → (g.onu == u) ≡ b → length (cond b (g ∷ rest) rest) ≡ len (cond b (g ∷ rest) rest)
+        split b p = ap (λ b. length (cond b (g ∷ rest) rest)) (sym p) ∙ e ∙ ap (λ b. len (cond b (g ∷ rest) rest)) p
+
+        step : (b a : Bool) → (g.onu == u) ≡ b → (g.alloc_id == i) ≡ a → (length rest ≡ len rest → length gs ≡ len gs) → length (g ∷ gs) ≡ len (g ∷ gs)
+        step true true p q more = absurd (omega (arith, split true p ∙ own_len true true p q rest))
+        step true false p q more = omega (arith, more (omega (arith, split true p ∙ own_len true false p q rest)), own_len true false p q gs)
+        step false a p q more = omega (arith, more (split false p), own_len false a p q gs)
 
 one_on : (ns : List ℕ) (n k : ℕ) → slice_get ns k ≡ slice_get (n ∷ ns) (1 + k)
 one_on ns n k = ap (slice_get (n ∷ ns)) (let e : suc k ≡ 1 + k = omega arith in e)

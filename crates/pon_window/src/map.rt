@@ -51,10 +51,11 @@ fn series_len(grants: &[Granted], onu: OnuId) -> usize
     }
 }
 
-// The grants to an ONU: the first is found by a binary search, the others are counted from it.
-fn series_of(grants: &[Granted], onu: OnuId) -> OnuGrants<'_>
+/// Finds the grants to an ONU: the first by a binary search, the number of the others by a scan from it.
+pub(crate) fn series_of(grants: &[Granted], onu: OnuId) -> OnuGrants<'_>
     requires { AreInMapOrder grants.now }
     ensures within { result.first ≤ length grants.now }
+    ensures placed { result.grants.now ≡ take (length result.grants.now) (drop result.first grants.now) }
     ensures grants { result.grants.now ≡ filter (λ g. g.onu == onu) grants.now }
 {
     let first = grants.partition_point(|granted| granted.onu.get() < onu.get());

@@ -5,7 +5,7 @@ ghost use Rattle.pon_units.specs.Granted.{AreInMapOrder};
 ghost use Rattle.pon_window.specs.Window.{IsLawfulMap, words_to};
 ghost use Rattle.pon_window.specs.Sums.{AreSummed, is_to, sum_before, sum_behind, sum_now, sums_beside};
 
-use crate::map::WindowMap;
+use crate::map::{WindowMap, series_of};
 use crate::window::MOST_MAPS;
 use pon_units::{AllocId, FRAME_WORDS, Granted, OnuId};
 use std::alloc::{AllocError, Global};
@@ -42,7 +42,28 @@ fn is_to(granted: &Granted, onu: OnuId, alloc_id: AllocId) -> bool
     granted.onu == onu && granted.alloc_id == alloc_id
 }
 
-// The index of the grant to an Alloc-ID under an ONU: the hint if the grant is there, else by a search.
+// Returns the index of the first grant to an Alloc-ID under an ONU, by a scan.
+fn place_in(grants: &[Granted], onu: OnuId, alloc_id: AllocId) -> Option<usize>
+    ensures { result ≡ position (is_to onu alloc_id) grants.now }
+{
+    grants
+        .iter()
+        .position(|granted| is_to(granted, onu, alloc_id))
+}
+
+// Finds the grant to an Alloc-ID under an ONU: the grants of the ONU by a binary search, its place there by a scan.
+fn search_grant(grants: &[Granted], onu: OnuId, alloc_id: AllocId) -> Option<usize>
+    requires { AreInMapOrder grants.now }
+    ensures { result ≡ position (is_to onu alloc_id) grants.now }
+{
+    let own = series_of(grants, onu);
+    match place_in(own.grants, onu, alloc_id) {
+        None => None,
+        Some(place) => Some(own.first + place),
+    }
+}
+
+// Returns the index of the grant to an Alloc-ID under an ONU: the hint if the grant is there, otherwise by a search.
 fn place_of_grant(grants: &[Granted], hint: usize, onu: OnuId, alloc_id: AllocId) -> Option<usize>
     requires { AreInMapOrder grants.now }
     ensures { result ≡ position (is_to onu alloc_id) grants.now }
@@ -50,9 +71,7 @@ fn place_of_grant(grants: &[Granted], hint: usize, onu: OnuId, alloc_id: AllocId
     if hint < grants.len() && is_to(&grants[hint], onu, alloc_id) {
         return Some(hint);
     }
-    grants
-        .iter()
-        .position(|granted| is_to(granted, onu, alloc_id))
+    search_grant(grants, onu, alloc_id)
 }
 
 // The sum before the grant to an Alloc-ID under an ONU.
