@@ -1,4 +1,4 @@
--- Accounts of a report book, found under their Alloc-IDs.
+-- Accounts of a report book, found by their Alloc-IDs.
 use Rattle.std.proofs.Common.{◌≡◌, ℕ, zero, suc, ◌<◌, ◌≤◌, inl, inr, Bool, true, false, cond, not, List, [], ◌∷◌, map, refl, ap, sym, ◌∙◌, subst, arith, get_or, length, drop, set}
 use Rattle.std.specs.List.Sorted.{IsPartitionedBy}
 use Rattle.std.specs.Prelude.{◌==◌, ◌≢◌, nat_lt, if◌then◌else◌, filter, All, Option, Some, None}
@@ -20,7 +20,7 @@ found_each (x ∷ book) h = All-cons (λ a. account_of (x ∷ book) a.alloc_id �
     past : (a : Account) → x.alloc_id < a.alloc_id → account_of book a.alloc_id ≡ Some a → account_of (x ∷ book) a.alloc_id ≡ Some a
     past a l e = ap (λ b. cond b (Some x) (account_of book a.alloc_id)) (ne_eqb x.alloc_id a.alloc_id (λ q. omega (arith, q, l))) ∙ e
 
--- what a function of Alloc-IDs keeps of a book where it gives each account back
+-- a function from each Alloc-ID to its account maps the Alloc-IDs that pass a test to their accounts
 pub accounts_kept : (g : ℕ → Account) (p : ℕ → Bool) (book : List Account) → All (λ a. g a.alloc_id ≡ a) book → map g (filter p (alloc_ids book)) ≡ filter (λ a. p a.alloc_id) book
 accounts_kept g p [] h = refl
 accounts_kept g p (x ∷ book) h =
@@ -30,14 +30,14 @@ accounts_kept g p (x ∷ book) h =
       | false ↦ rest
     ]
 
--- and of the whole book
+-- a function from each Alloc-ID to its account maps all Alloc-IDs to the book
 pub accounts_all : (g : ℕ → Account) (book : List Account) → All (λ a. g a.alloc_id ≡ a) book → map g (alloc_ids book) ≡ book
 accounts_all g [] h = refl
 accounts_all g (x ∷ book) h = (λ i. All-head (λ a. g a.alloc_id ≡ a) x book h i ∷ accounts_all g book (All-tail (λ a. g a.alloc_id ≡ a) x book h) i)
 
--- A book cut where an Alloc-ID belongs.
+-- A book split at an Alloc-ID.
 
--- no account of a lesser Alloc-ID comes after another one
+-- no account of a lesser Alloc-ID comes after one that is not lesser
 pub rising_parted : (i : ℕ) (book : List Account) → AreRising (alloc_ids book) → IsPartitionedBy (λ a. nat_lt a.alloc_id i) book
 rising_parted i book h m n d l k t = elim (cases_lt m n) [
   | inl less ↦ lt-ltb (get_or book m d).alloc_id i (omega (arith, rising m n d less k, ltb-true (get_or book n d).alloc_id i t))
@@ -47,7 +47,7 @@ rising_parted i book h m n d l k t = elim (cases_lt m n) [
     rising : (m n : ℕ) (d : Account) → m < n → n < length book → (get_or book m d).alloc_id < (get_or book n d).alloc_id
     rising = in_order_at (λ a b. a.alloc_id < b.alloc_id) book (in_order-unmap (λ i j. i < j) (λ a. a.alloc_id) book h)
 
--- the first of some accounts, where it is of an Alloc-ID
+-- the first of some accounts, if it is of an Alloc-ID
 abbrev pub first_if : ℕ → List Account → Option Account
 first_if i [] = None
 first_if i (a ∷ more) = if a.alloc_id == i then Some a else None
@@ -58,7 +58,7 @@ none_above i (x ∷ book) h =
     ap (λ b. cond b (Some x) (account_of book i)) (ne_eqb x.alloc_id i (λ e. omega (arith, e, All-head (λ j. i < j) x.alloc_id (alloc_ids book) h)))
     ∙ none_above i book (All-tail (λ j. i < j) x.alloc_id (alloc_ids book) h)
 
--- an account is found first among those of no lesser Alloc-ID
+-- the account of an Alloc-ID is the first among those of no lesser Alloc-ID
 pub account_first : (i : ℕ) (book : List Account) → AreRising (alloc_ids book) → account_of book i ≡ first_if i (filter (λ a. not (nat_lt a.alloc_id i)) book)
 account_first i [] h = refl
 account_first i (x ∷ book) h = elim (cases_lt x.alloc_id i) [
@@ -75,7 +75,7 @@ account_first i (x ∷ book) h = elim (cases_lt x.alloc_id i) [
     later true e l = refl
     later false e l = none_above i book (All-weaker (λ j. x.alloc_id < j) (λ j. i < j) (λ j k. omega (arith, k, l)) (alloc_ids book) h.0)
 
--- One account put in the place of that of its Alloc-ID.
+-- One account replaces that of its Alloc-ID.
 
 abbrev pub put : Account → List Account → List Account
 put a book = map (λ b. if b.alloc_id == a.alloc_id then a else b) book
@@ -97,7 +97,7 @@ put_at a (x ∷ book) h (suc k) d l e =
     ap (λ t. x ∷ t) (put_at a book h.1 k d (omega (arith, l)) e)
     ∙ ap (λ b. (if b then a else x) ∷ put a book) (sym (ne_eqb x.alloc_id a.alloc_id (λ q. omega (arith, q, lesser))))
 
--- An account that is changed in its place.
+-- An account that is changed at its index.
 
 pub account_is : (book : List Account) (i : ℕ) (a : Account) → account_of book i ≡ Some a → a.alloc_id ≡ i
 account_is [] i a h = absurd cc
@@ -106,7 +106,7 @@ account_is (x ∷ book) i a h = elim (eqb_tells x.alloc_id i) [
   | inr e ↦ account_is book i a (sym (ap (λ b. cond b (Some x) (account_of book i)) e.0) ∙ h)
 ]
 
--- the accounts, that of an Alloc-ID changed
+-- the accounts with that of an Alloc-ID changed
 abbrev pub changing : (Account → Account) → ℕ → List Account → List Account
 changing f i book = map (λ x. if x.alloc_id == i then f x else x) book
 
@@ -136,7 +136,7 @@ module _ (f : Account → Account) (keeps : (a : Account) → (f a).alloc_id ≡
 pub change_found : (f : Account → Account) → ((a : Account) → (f a).alloc_id ≡ a.alloc_id) → (i : ℕ) (book : List Account) (a : Account) → AreRising (alloc_ids book) → account_of book i ≡ Some a → put (f a) book ≡ changing f i book
 change_found f keeps i book a h found = put_each f keeps i book a found book (found_each book h)
 
--- where the account at the place is another one, or there is none, an Alloc-ID has none
+-- an Alloc-ID has no account if the account at its index is of another one, or the index is past the end
 module _ (i : ℕ) (book : List Account) (rising : AreRising (alloc_ids book)) (k : ℕ) where
   pub absent_here : (d : Account) → k < length book → drop k book ≡ filter (λ a. not (nat_lt a.alloc_id i)) book → (get_or book k d).alloc_id ≢ i → account_of book i ≡ None
   absent_here d l is other = account_first i book rising ∙ ap (first_if i) (sym is) ∙ go book k l other
@@ -149,7 +149,7 @@ module _ (i : ℕ) (book : List Account) (rising : AreRising (alloc_ids book)) (
   pub absent_past : length book ≤ k → drop k book ≡ filter (λ a. not (nat_lt a.alloc_id i)) book → account_of book i ≡ None
   absent_past l is = account_first i book rising ∙ ap (first_if i) (sym is ∙ drop_all k book l)
 
--- An account at its place.
+-- An account at its index.
 
 pub stands_here : (i : ℕ) (book : List Account) → AreRising (alloc_ids book) → (k : ℕ) (d : Account) → k < length book → (get_or book k d).alloc_id ≡ i → StandsAt book i k
 stands_here i book h k d l e = record {

@@ -1,4 +1,4 @@
--- What a report book keeps, call by call.
+-- The invariant of a report book after each call.
 use Rattle.std.proofs.Common.{◌≡◌, ℕ, zero, suc, ◌+◌, ◌-◌, ◌<◌, ◌≤◌, true, false, not, List, [], ◌∷◌, ◌++◌, map, length, drop, get_or, refl, ap, sym, ◌∙◌, subst, arith, inl, inr}
 use Rattle.std.specs.Prelude.{◌==◌, nat_le, nat_lt, if◌then◌else◌, filter, flat_map, sum_by, All, Option, Some, None}
 use Rattle.std.specs.List.{list_any}
@@ -18,7 +18,7 @@ use Rattle.pon_lists.proofs.Inserted.{in_order-inserted, rejoined_at}
 use Rattle.pon_window.proofs.Frames.{frame_at, leads_above, polled_there}
 use Rattle.pon_guar.proofs.TakenReports.{counting_ids}
 
--- Alloc-IDs with one more.
+-- One more Alloc-ID.
 
 pub rising_with : (i : ℕ) (ids : List ℕ) → AreRising ids → list_any (λ j. j == i) ids ≡ false → AreRising (with_alloc i ids)
 rising_with i ids h n =
@@ -42,7 +42,7 @@ with_ids a book =
     map-append (λ b. b.alloc_id) (filter (λ b. nat_lt b.alloc_id a.alloc_id) book) (a ∷ filter (λ b. not (nat_lt b.alloc_id a.alloc_id)) book)
     ∙ (λ j. sym (map_filter (λ b. b.alloc_id) (λ i. nat_lt i a.alloc_id) book) j ++ a.alloc_id ∷ sym (map_filter (λ b. b.alloc_id) (λ i. not (nat_lt i a.alloc_id)) book) j)
 
--- taking in occupancies keeps the Alloc-IDs
+-- counting occupancies leaves the Alloc-IDs unchanged
 pub occupancies_ids : (granted : ℕ → ℕ) (frame : ℕ) (gs : List Granted) (ns : List (Option ℕ)) (book : List Account) → alloc_ids (after_occupancies granted frame gs ns book) ≡ alloc_ids book
 occupancies_ids granted frame [] ns book = refl
 occupancies_ids granted frame (g ∷ gs) [] book = refl
@@ -69,7 +69,7 @@ cleared_rise frame accounts h = subst AreRising (sym (map-map (λ a. a.alloc_id)
 pub reported_rise : (granted : ℕ → ℕ) (f : ℕ) (gs : List Granted) (ns : List (Option ℕ)) (accounts : List Account) → AreRising (alloc_ids accounts) → AreRising (alloc_ids (after_occupancies granted f gs ns accounts))
 reported_rise granted f gs ns accounts h = subst AreRising (sym (occupancies_ids granted f gs ns accounts)) h
 
--- Words granted from a place of the window on.
+-- Words granted from an index of the window on.
 
 pub words_at : (n u i f : ℕ) (ms : List WindowMap) → AreConsecutive n ms → (k : ℕ) (d : WindowMap) → k < length ms → (get_or ms k d).frame ≡ f → sum_by (words_to u i) (drop k ms) ≡ words_to_from u i f ms
 words_at n u i f [] h k d l e = absurd (omega (arith, l))
@@ -83,14 +83,14 @@ words_at n u i f (m ∷ ms) h (suc k) d l e =
     let all : words_to_from u i f (m ∷ ms) ≡ (if nat_le f m.frame then words_to u i m else 0) + words_to_from u i f ms = sum_by-cons (λ m. if nat_le f m.frame then words_to u i m else 0) m ms in
     words_at n u i f ms h.1 k d (omega (arith, l)) e ∙ (let same : words_to_from u i f ms ≡ words_to_from u i f (m ∷ ms) = omega (arith, all, none) in same)
 
--- what a map and those after it in the window tell is what the window tells
+-- the occupancies count the same by the maps from an index on as by the whole window
 pub counted_in_window : (n f u : ℕ) (ms : List WindowMap) → AreConsecutive n ms → (k : ℕ) → IsPlaceOf f ms k → (d m : WindowMap) (maps : List WindowMap) → m ≡ get_or ms k d → maps ≡ drop k ms → (ns : List (Option ℕ)) (book : List Account) →
     after_occupancies (λ i. sum_by (words_to u i) maps) m.frame (filter (λ g. g.onu == u) m.grants) ns book ≡ after_occupancies (λ i. words_to_from u i f ms) f (grants_at f u ms) ns book
 counted_in_window n f u ms h k place d m maps there later ns book =
     (λ j. after_occupancies (λ i. sum_by (words_to u i) (later j)) (there j).frame (filter (λ g. g.onu == u) (there j).grants) ns book)
     ∙ (λ j. after_occupancies (λ i. words_at n u i f ms h k d place.within (place.is d) j) (place.is d j) (sym (polled_there n f u ms h k place d) j) ns book)
 
--- after an ONU's report is noted, the same was granted, and the same is polled
+-- noting that an ONU reported changes neither the words granted nor the grants polled
 pub noted_same : (f u v : ℕ) (ms : List WindowMap) (ns : List (Option ℕ)) (book : List Account) →
     after_occupancies (λ i. words_to_from u i f (map (with_report f v) ms)) f (grants_at f u (map (with_report f v) ms)) ns book ≡ after_occupancies (λ i. words_to_from u i f ms) f (grants_at f u ms) ns book
 noted_same f u v ms ns book = (λ j. after_occupancies (λ i. sum_by-map (λ m. if nat_le f m.frame then words_to u i m else 0) (with_report f v) ms j) f (same j) ns book)
@@ -102,7 +102,7 @@ noted_same f u v ms ns book = (λ j. after_occupancies (λ i. sum_by-map (λ m. 
 pub noted_there : (f u : ℕ) (ms : List WindowMap) → list_any (is_of f) (map (with_report f u) ms) ≡ list_any (is_of f) ms
 noted_there f u ms = list_any-map (is_of f) (with_report f u) ms
 
--- what is counted after the note is what is counted before it
+-- counting the occupancies after the note gives the same accounts as counting them before it
 pub counted_after : (f u : ℕ) (ms noted : List WindowMap) (ns : List (Option ℕ)) (at book new : List Account) → noted ≡ map (with_report f u) ms → at ≡ book →
     new ≡ after_occupancies (λ i. words_to_from u i f noted) f (grants_at f u noted) ns at → new ≡ after_occupancies (λ i. words_to_from u i f ms) f (grants_at f u ms) ns book
 counted_after f u ms noted ns at book new e q h =

@@ -1,4 +1,4 @@
--- Accounts lessened grant by grant.
+-- Accounts reduced grant by grant.
 use Rattle.std.proofs.Common.{◌≡◌, ℕ, ◌+◌, ◌-◌, List, [], ◌∷◌, ◌++◌, map, refl, ap, sym, ◌∙◌, subst, arith, inl, inr}
 use Rattle.std.specs.Prelude.{◌==◌, if◌then◌else◌, Option, Some, None, option_map}
 use Rattle.std.proofs.lemmas.Bool.{eq-eqb, ne_eqb}
@@ -25,7 +25,7 @@ less_less v w (Some c) = (λ j. Some (record { frame = c.frame; words = sub_sub 
     sub_sub : (n : ℕ) → (n - v) - w ≡ n - (v + w)
     sub_sub n = omega arith
 
--- no grants leave the accounts
+-- no grants leave the accounts unchanged
 pub lessened_none : (book : List Account) → map (lessened []) book ≡ book
 lessened_none [] = refl
 lessened_none (a ∷ book) = (λ j. record { alloc_id = a.alloc_id; since = a.since; counted = less_none a.counted j } ∷ lessened_none book j)
@@ -39,7 +39,7 @@ words_more i gs g =
     let both : words_among i (gs ++ g ∷ []) ≡ words_among i gs + words_among i (g ∷ []) = sum_by-append (λ g. if g.alloc_id == i then g.words else 0) gs (g ∷ []) in
     omega (arith, last, both)
 
--- One grant more.
+-- One more grant.
 module _ (gs : List Granted) (g : Granted) where
   more_for : (a : Account) → (if a.alloc_id == g.alloc_id then less_by g.words (lessened gs a) else lessened gs a) ≡ lessened (gs ++ g ∷ []) a
   more_for a = elim (eqb_tells a.alloc_id g.alloc_id) [

@@ -1,4 +1,4 @@
--- Reports taken into accounts.
+-- Reports counted in accounts.
 use Rattle.std.proofs.Common.{◌≡◌, ℕ, ◌-◌, ◌⊎◌, inl, inr, true, false, List, [], ◌∷◌, length, refl, ap, sym, subst, ◌∙◌}
 use Rattle.std.specs.Prelude.{◌==◌, nat_le, if◌then◌else◌, Option, Some, None}
 use Rattle.std.proofs.lemmas.List.{nil_from_length}
@@ -19,7 +19,7 @@ counting_ids i c book = map-map (λ a. a.alloc_id) (λ a. if a.alloc_id == i the
 pub counting_rising : (i : ℕ) (c : Counted) (book : List Account) → AreRising (alloc_ids book) → AreRising (alloc_ids (counting i c book))
 counting_rising i c book h = subst AreRising (sym (counting_ids i c book)) h
 
--- One occupancy more, and the end.
+-- One more occupancy, and the end.
 module _ (granted : ℕ → ℕ) (frame : ℕ) where
   pub took_one : (gs more : List Granted) (g : Granted) (ns others : List (Option ℕ)) (n at left words : ℕ) (book new all : List Account) → gs ≡ g ∷ more → ns ≡ Some n ∷ others →
       new ≡ counting g.alloc_id (record { frame = at; words = left }) book → at ≡ frame → left ≡ n - words → words ≡ granted g.alloc_id →
@@ -29,7 +29,7 @@ module _ (granted : ℕ → ℕ) (frame : ℕ) where
       ∙ (λ j. after_occupancies granted frame (sym e j) (sym q j) book)
       ∙ h
 
-  -- a garbled one is passed over
+  -- a garbled occupancy is skipped
   pub took_none : (gs more : List Granted) (g : Granted) (ns others : List (Option ℕ)) (book all : List Account) → gs ≡ g ∷ more → ns ≡ None ∷ others →
       after_occupancies granted frame gs ns book ≡ all → after_occupancies granted frame more others book ≡ all
   took_none gs more g ns others book all e q h = (λ j. after_occupancies granted frame (sym e j) (sym q j) book) ∙ h

@@ -1,4 +1,4 @@
--- The accounts of a report book: for each admitted Alloc-ID the report that counts, in rising Alloc-ID.
+-- The accounts of a report book: for each admitted Alloc-ID the report that counts, in ascending Alloc-ID.
 use Rattle.std.specs.Prelude.{◌≡◌, ℕ, ◌*◌, ◌<◌, ◌==◌, List, [], map, find, length, slice_get, Option, Some, None, option_to_list}
 use Rattle.pon_units.specs.declared.limits.TheConstants.{WORD_RATE}
 pub use Rattle.pon_lists.specs.Order.{AreRising, with_number as with_alloc, without_number as without_alloc}
@@ -9,7 +9,7 @@ pub use Rattle.pon_guar.specs.declared.account.Account.{Account}
 abbrev pub account_of : List Account → ℕ → Option Account
 account_of book i = find (λ a. a.alloc_id == i) book
 
--- the account of an Alloc-ID stands at a place
+-- the account of an Alloc-ID is at an index
 pub record StandsAt (book : List Account) (i place : ℕ) : Type 0 where
   pub within : place < length book
   pub is : slice_get book place ≡ account_of book i
@@ -18,7 +18,7 @@ pub record StandsAt (book : List Account) (i place : ℕ) : Type 0 where
 abbrev pub alloc_ids : List Account → List ℕ
 alloc_ids book = map (λ a. a.alloc_id) book
 
--- What an account tells, where there is one.
+-- The contents of an account, if there is one.
 
 abbrev pub since_of_account : Option Account → ℕ
 since_of_account None = 0
@@ -42,6 +42,6 @@ abbrev pub load_of_counted : Option Counted → ℕ
 load_of_counted None = 0
 load_of_counted (Some c) = WORD_RATE * c.words
 
--- the offered load of an Alloc-ID in kbit/s, 0 where it is not there
+-- the offered load of an Alloc-ID in kbit/s, 0 if it has no account
 abbrev pub load_of : List Account → ℕ → ℕ
 load_of book i = load_of_counted (known_report (account_of book i))

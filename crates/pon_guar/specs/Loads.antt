@@ -1,4 +1,4 @@
--- The report book, and what each of its calls leaves.
+-- The report book, and the book after each call.
 use Rattle.std.specs.Prelude.{ℕ, ◌-◌, nat_lt, List, [], map, Option, None, option_map}
 use Rattle.pon_lists.specs.Order.{with_inserted, without_key}
 use Rattle.pon_guar.specs.Book.{Account, Counted}
@@ -7,23 +7,23 @@ use Rattle.pon_window.specs.Window.{WindowMap, grants_at, with_map, words_among,
 use Rattle.pon_window.specs.Reports.{with_report}
 use Rattle.pon_guar.specs.Reports.{after_occupancies}
 
--- accounts in rising Alloc-ID, and the window in rising frame
+-- accounts in ascending Alloc-ID, and the window in ascending frame
 pub record Loads : Type 0 where
   pub accounts : List Account
   pub window : List WindowMap
 
--- an account of an Alloc-ID just admitted, in its place: its reports count from a frame on, and none does yet
+-- an account of an Alloc-ID just admitted: its reports count from a frame on, and none does yet
 abbrev pub fresh_account : ℕ → ℕ → Account
 fresh_account i since = record { alloc_id = i; since = since; counted = None }
 
--- the accounts with one more in its place, and with that of an Alloc-ID taken out
+-- the accounts with one more inserted in order, and with that of an Alloc-ID removed
 abbrev pub with_account : Account → List Account → List Account
 with_account a book = with_inserted (λ b. nat_lt b.alloc_id a.alloc_id) a book
 
 abbrev pub without_account : ℕ → List Account → List Account
 without_account i book = without_key (λ a. a.alloc_id) i book
 
--- a report and an account with `w` words less, and an account after grants
+-- a report and an account reduced by `w` words, and an account after grants
 abbrev pub less : ℕ → Counted → Counted
 less w c = record { frame = c.frame; words = c.words - w }
 
@@ -33,7 +33,7 @@ less_by w a = record { alloc_id = a.alloc_id; since = a.since; counted = option_
 abbrev pub lessened : List Granted → Account → Account
 lessened gs a = less_by (words_among a.alloc_id gs) a
 
--- an account that counts afresh from a frame on
+-- an account without a report, whose reports count from a frame on
 abbrev pub afresh : ℕ → Account → Account
 afresh since a = fresh_account a.alloc_id since
 

@@ -3,14 +3,14 @@ use Rattle.std.specs.Prelude.{ℕ, ◌-◌, ◌==◌, nat_le, nat_lt, if◌then�
 use Rattle.pon_guar.specs.Book.{Account, Counted}
 use Rattle.pon_units.specs.declared.granted.Granted.{Granted}
 
--- the occupancies of an Alloc-ID among those of its ONU, garbled ones left out
+-- the occupancies of an Alloc-ID among those of its ONU, without garbled ones
 abbrev pub occupancies : ℕ → List Granted → List (Option ℕ) → List ℕ
 occupancies i (g ∷ gs) (Some n ∷ ns) = if g.alloc_id == i then n ∷ occupancies i gs ns else occupancies i gs ns
 occupancies i (g ∷ gs) (None ∷ ns) = occupancies i gs ns
 occupancies i [] ns = []
 occupancies i (g ∷ gs) [] = []
 
--- of two reports the one of the later frame, of the same frame the second
+-- of two reports the one of the later frame, or the second if the frames are equal
 abbrev pub later : Counted → Option Counted → Option Counted
 later c None = Some c
 later c (Some d) = if nat_lt d.frame c.frame then Some c else Some d

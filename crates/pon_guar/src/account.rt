@@ -1,4 +1,4 @@
-//! The accounts of the report book: one for each admitted Alloc-ID, in rising number.
+//! The accounts of the report book: one for each admitted Alloc-ID, in ascending Alloc-ID.
 
 ghost use Rattle.std.specs.Prelude.{◌≡◌, ◌<◌, ◌≤◌, ◌++◌, ◌∷◌, nat_lt, not, None, filter, take, drop, length, MatchOption, vec_len, vec_capacity};
 ghost use Rattle.pon_guar.specs.Book.{AreRising, StandsAt, account_of, alloc_ids};
@@ -6,14 +6,15 @@ ghost use Rattle.pon_guar.specs.Loads.{with_account, without_account};
 
 use pon_units::{AllocId, BufOcc, FrameNo};
 
-/// A report that counts: the frame it was asked in, and its words of 4 bytes that were not granted since, 0 to 16,777,215.
+/// A report that counts: the frame of the map that requested it, and its words of 4 bytes that were not granted since,
+/// 0 to 16,777,215.
 #[derive(Clone, Copy, Debug, PartialEq, Eq)]
 pub struct Counted {
     pub frame: FrameNo,
     pub words: BufOcc,
 }
 
-/// What the report book holds of an Alloc-ID: the frame from which its reports count, and the report that counts.
+/// The account of an Alloc-ID in the report book: the frame from which its reports count, and the report that counts.
 #[derive(Clone, Copy, Debug, PartialEq, Eq)]
 pub struct Account {
     pub alloc_id: AllocId,
@@ -21,7 +22,7 @@ pub struct Account {
     pub counted: Option<Counted>,
 }
 
-// How many accounts are of a lesser Alloc-ID.
+// Returns the number of accounts of a lesser Alloc-ID, by a binary search.
 fn place_of(accounts: &[Account], alloc_id: AllocId) -> usize
     requires { AreRising (alloc_ids accounts.now) }
     ensures within { result ≤ length accounts.now }
@@ -33,7 +34,7 @@ fn place_of(accounts: &[Account], alloc_id: AllocId) -> usize
     accounts.partition_point(|account| account.alloc_id.get() < alloc_id.get())
 }
 
-/// Where the account of an Alloc-ID stands, by a search by halves.
+/// Returns the index of the account of an Alloc-ID, by a binary search; `None` if it has no account.
 pub(crate) fn index_of(accounts: &[Account], alloc_id: AllocId) -> Option<usize>
     requires { AreRising (alloc_ids accounts.now) }
     ensures { MatchOption result (account_of accounts.now alloc_id ≡ None)
@@ -47,7 +48,8 @@ pub(crate) fn index_of(accounts: &[Account], alloc_id: AllocId) -> Option<usize>
     }
 }
 
-/// Where the account of an Alloc-ID stands: at the hint where it is there, else by a search by halves.
+/// Returns the index of the account of an Alloc-ID: the hint if the account is there, otherwise by a binary search;
+/// `None` if it has no account.
 pub(crate) fn index_near(accounts: &[Account], hint: usize, alloc_id: AllocId) -> Option<usize>
     requires { AreRising (alloc_ids accounts.now) }
     ensures { MatchOption result (account_of accounts.now alloc_id ≡ None)
@@ -59,7 +61,7 @@ pub(crate) fn index_near(accounts: &[Account], hint: usize, alloc_id: AllocId) -
     index_of(accounts, alloc_id)
 }
 
-/// The account of an Alloc-ID.
+/// Returns the account of an Alloc-ID; `None` if it has none.
 pub(crate) fn account_of(accounts: &[Account], alloc_id: AllocId) -> Option<Account>
     requires { AreRising (alloc_ids accounts.now) }
     ensures { result ≡ account_of accounts.now alloc_id }
@@ -70,7 +72,7 @@ pub(crate) fn account_of(accounts: &[Account], alloc_id: AllocId) -> Option<Acco
     }
 }
 
-/// One account more, in its place.
+/// Inserts an account, in ascending Alloc-ID.
 pub(crate) fn add_account(accounts: &mut Vec<Account>, account: Account)
     requires rising { AreRising (alloc_ids accounts.old.items) }
     requires room { vec_len accounts.old < vec_capacity accounts.old }
@@ -80,7 +82,7 @@ pub(crate) fn add_account(accounts: &mut Vec<Account>, account: Account)
     accounts.insert(place, account).unwrap();
 }
 
-/// The accounts but that of an Alloc-ID.
+/// Removes the account of an Alloc-ID, if it has one.
 pub(crate) fn remove_account(accounts: &mut Vec<Account>, alloc_id: AllocId)
     ensures { accounts.new.items ≡ without_account alloc_id accounts.old.items }
 {

@@ -12,7 +12,8 @@ use crate::deduction::words_left;
 use pon_units::{AllocId, BufOcc, FrameNo, OnuId};
 use pon_window::{Window, WindowMap};
 
-// An account after a report: it counts from since on, where no later one does.
+// Returns an account after a report: the report counts if its frame is at least `since` and no report of a later frame
+// counts.
 fn with_report(account: Account, report: Counted) -> Account
     ensures { result ≡ taking report account }
 {
@@ -35,8 +36,8 @@ fn with_report(account: Account, report: Counted) -> Account
     }
 }
 
-// Counts a report in the account of its Alloc-ID, and returns the index of the account, or the hint if there is none. The
-// account is found with no search if the hint is its index.
+// Counts a report in the account of its Alloc-ID, and returns the index of the account, or the hint if there is none.
+// The account is found with no search if the hint is its index.
 fn count(accounts: &mut [Account], hint: usize, alloc_id: AllocId, report: Counted) -> usize
     requires { AreRising (alloc_ids accounts.old) }
     ensures { accounts.new ≡ counting alloc_id report accounts.old }
@@ -50,8 +51,9 @@ fn count(accounts: &mut [Account], hint: usize, alloc_id: AllocId, report: Count
     }
 }
 
-// Counts what an ONU reports for a map at a place of the window: each occupancy less what the maps from that one on granted.
-// The hint of each account is the index behind that of the occupancy before, since an ONU's Alloc-IDs are mostly neighbours.
+// Counts an ONU's report for the map at an index of the window: each occupancy reduced by what the maps from that one
+// on granted. The hint of each account is the index after that of the previous one: an ONU's Alloc-IDs are often
+// neighbours.
 fn count_occupancies(
     accounts: &mut [Account],
     asked: &WindowMap,
@@ -103,7 +105,7 @@ pub(crate) fn count_report(
     count_occupancies(accounts, &maps[place], window, place, onu, occupancies);
 }
 
-/// Forgets the reports that count; others count from a frame on.
+/// Drops the reports that count; later reports count from a frame on.
 pub(crate) fn forget(accounts: &mut [Account], frame: FrameNo)
     ensures { accounts.new ≡ map (afresh frame) accounts.old }
 {

@@ -1,4 +1,4 @@
-//! Reports that count, less what a map grants.
+//! Reports that count, reduced by what a map grants.
 
 ghost use Rattle.std.specs.Prelude.{◌≡◌, ◌-◌, map};
 ghost use Rattle.pon_guar.specs.Book.{AreRising, alloc_ids};
@@ -7,7 +7,7 @@ ghost use Rattle.pon_guar.specs.Loads.{lessened, less_by};
 use crate::account::{Account, Counted, index_near};
 use pon_units::{BufOcc, Granted, Words};
 
-/// The reported words less the granted ones, 0 at the least.
+/// Returns the reported words reduced by the granted ones, at least 0.
 pub(crate) fn words_left(reported: BufOcc, granted: u32) -> BufOcc
     ensures { result ≡ reported - granted }
 {
@@ -17,7 +17,7 @@ pub(crate) fn words_left(reported: BufOcc, granted: u32) -> BufOcc
     }
 }
 
-// An account after a grant.
+// Returns an account after a grant of these words: its report is reduced by them.
 fn lessened_by(words: Words, account: Account) -> Account
     ensures { result ≡ less_by words account }
 {
@@ -40,7 +40,7 @@ fn lessened_by(words: Words, account: Account) -> Account
     }
 }
 
-/// The place that is noted at an index, 0 where none is.
+/// Returns the account index that is noted at an index; 0 past the end.
 pub(crate) fn noted(places: &[usize], index: usize) -> usize {
     if index < places.len() {
         places[index]
@@ -49,7 +49,7 @@ pub(crate) fn noted(places: &[usize], index: usize) -> usize {
     }
 }
 
-// Notes a place at an index, where both are.
+// Notes an account index at an index, if the account exists and the index is not past the end.
 fn note(places: &mut [usize], index: usize, found: Option<usize>) {
     if let Some(place) = found {
         if index < places.len() {
@@ -58,8 +58,8 @@ fn note(places: &mut [usize], index: usize, found: Option<usize>) {
     }
 }
 
-/// Lessens the reports that count by what a map grants. The places are hints where the account of each grant stands, and
-/// are set right.
+/// Reduces the reports that count by what a map grants. `places` has a hint for the index of the account of each grant;
+/// wrong hints are corrected.
 pub(crate) fn deduct_grants(accounts: &mut [Account], grants: &[Granted], places: &mut [usize])
     requires { AreRising (alloc_ids accounts.old) }
     ensures { accounts.new ≡ map (lessened grants.now) accounts.old }

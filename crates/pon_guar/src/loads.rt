@@ -10,15 +10,15 @@ use pon_window::{Window, WindowMap};
 use std::alloc::{AllocError, Global};
 use std::marker::Model;
 
-/// The report book of a port: what each admitted Alloc-ID last reported and was not granted since, and the window, which
-/// is the last 64 maps at most, for which reports may still come.
+/// The report book of a port: what each admitted Alloc-ID last reported and was not granted since, and the window,
+/// which has the last maps, at most 64, for which reports may still come.
 ///
-/// Contracts see its accounts in rising Alloc-ID, and its maps in rising frame.
+/// Contracts see its accounts in ascending Alloc-ID, and its maps in ascending frame.
 #[derive(Drop)]
 pub struct Loads {
     accounts: Vec<Account>,
     window: Window,
-    // Where the account of each grant of the last map stood: hints, checked at each use.
+    // Index of the account of each grant of the last map: hints, checked at each use.
     places: Vec<usize>,
 }
 
@@ -33,7 +33,7 @@ impl Model for Loads {
     ghost invariant = { λ l. AreRising (alloc_ids l.accounts.items) };
 }
 
-// The load of a report, in kbit/s: its words that are not yet granted.
+// Computes the load of a report, in kbit/s, from its words that are not yet granted.
 fn load_of_report(counted: Option<Counted>) -> Kbps
     ensures { result ≡ load_of_counted counted }
 {
@@ -58,7 +58,7 @@ impl Loads {
     ghost use Rattle.pon_window.specs.Reports.{refuses_report};
     ghost use Rattle.pon_guar.specs.Loads.{after_admitted, after_cleared, after_mapped, after_removed, after_reported};
 
-    /// A book with no accounts and an empty window. It takes no memory; what it holds later comes from this allocator.
+    /// Makes a book with no accounts and an empty window. It allocates no memory; later additions use this allocator.
     pub fn open(alloc: Global) -> Loads
         ensures { result ≡ record { accounts = []; window = [] } }
     {
@@ -69,7 +69,7 @@ impl Loads {
         }
     }
 
-    /// An equal book. It takes the memory of its accounts and maps, and fails where that is refused.
+    /// Makes an equal book, with its own memory. `Err` only if memory is refused.
     pub fn try_copy(&self, alloc: Global) -> Result<Loads, AllocError>
         ensures { IfOk result (λ loads. loads ≡ self.now) }
     {
@@ -80,16 +80,16 @@ impl Loads {
         })
     }
 
-    /// The offered load of an Alloc-ID in kbit/s: 256 for each word that its counted report has and that was not granted
-    /// since. 0 where no report counts, or the Alloc-ID is not there.
+    /// Offered load of an Alloc-ID in kbit/s: 256 for each word of its counted report that was not granted since. 0 if
+    /// no report counts, or the Alloc-ID has no account.
     pub fn load_of(&self, alloc_id: AllocId) -> Kbps
         ensures { result ≡ load_of self.now.accounts alloc_id }
     {
         load_of_report(self.counted(alloc_id))
     }
 
-    /// The offered load of an Alloc-ID, as [`Loads::load_of`] has it. It takes no search where the Alloc-ID stands at
-    /// the index among the grants of the last map.
+    /// Offered load of an Alloc-ID, equal to that of [`Loads::load_of`]. It needs no search if the last map has the
+    /// Alloc-ID at the index among its grants and the accounts are unchanged since.
     pub fn load_at(&self, index: usize, alloc_id: AllocId) -> Kbps
         ensures { result ≡ load_of self.now.accounts alloc_id }
     {
@@ -100,7 +100,7 @@ impl Loads {
         }
     }
 
-    /// The frame from which reports of an Alloc-ID count; `None` if it is not there.
+    /// Frame from which reports of an Alloc-ID count; `None` if it has no account.
     pub fn since(&self, alloc_id: AllocId) -> Option<FrameNo>
         ensures { result ≡ known_since (account_of self.now.accounts alloc_id) }
     {
@@ -110,7 +110,7 @@ impl Loads {
         }
     }
 
-    /// The report of an Alloc-ID that counts; `None` if none does, or the Alloc-ID is not there.
+    /// Report of an Alloc-ID that counts; `None` if none does, or the Alloc-ID has no account.
     pub fn counted(&self, alloc_id: AllocId) -> Option<Counted>
         ensures { result ≡ known_report (account_of self.now.accounts alloc_id) }
     {
@@ -120,7 +120,7 @@ impl Loads {
         }
     }
 
-    /// The number of maps of the window, at most 64. Their frames follow each other.
+    /// Number of maps of the window, at most 64. Their frames are consecutive.
     pub fn window_len(&self) -> usize
         ensures value { result ≡ length self.now.window }
         ensures lawful { IsWindow self.now.window }
@@ -128,14 +128,14 @@ impl Loads {
         self.window.maps().len()
     }
 
-    /// The map of the window at an index, the oldest first; `None` past the newest.
+    /// Map of the window at an index, the oldest first; `None` past the newest.
     pub fn window_at(&self, index: usize) -> Option<&WindowMap>
         ensures { option_copied result ≡ slice_get self.now.window index }
     {
         self.window.maps().get(index)
     }
 
-    /// An account for an Alloc-ID that has none: its reports count from a frame on. `OutOfMemory` if a growth is
+    /// Adds an account for an Alloc-ID that has none: its reports count from a frame on. `OutOfMemory` if memory is
     /// refused, and then nothing changes.
     pub fn admitted(&mut self, alloc_id: AllocId, since: FrameNo) -> Result<(), Refusal>
         requires { list_any (λ j. j == alloc_id) (alloc_ids self.old.accounts) ≡ false }
@@ -156,16 +156,17 @@ impl Loads {
         Ok(())
     }
 
-    /// Takes out the account of an Alloc-ID, with its report.
+    /// Removes the account of an Alloc-ID, with its report.
     pub fn removed(&mut self, alloc_id: AllocId)
         ensures { self.new ≡ after_removed self.old alloc_id }
     {
         remove_account(&mut self.accounts, alloc_id);
     }
 
-    /// Takes a map of a frame into the window, and lets the oldest of more than 64 go; each report that counts is lessened by
-    /// what the map grants its Alloc-ID. The grants are in map order, and the frame is that of the last map plus 1, or
-    /// any where the window is empty. `OutOfMemory` if a growth is refused, and then nothing changes.
+    /// Adds the map of a frame to the window, and drops the oldest if there are then more than 64; each report that
+    /// counts is reduced by what the map grants its Alloc-ID. The grants must be in map order, and the frame must be
+    /// that of the last map plus 1, or any if the window is empty. `OutOfMemory` if memory is refused, and then nothing
+    /// changes.
     pub fn mapped(&mut self, frame: FrameNo, grants: &[Granted]) -> Result<(), Refusal>
         requires next { AreConsecutive frame self.old.window }
         requires map_order { AreInMapOrder grants.now }
@@ -180,19 +181,19 @@ impl Loads {
         Ok(())
     }
 
-    /// The first check that refuses an ONU's report of `count` occupancies for the map of a frame: `StaleFrame` if no map of
-    /// the window is of the frame, `NotPolled` if that map grants the ONU nothing, `ReportCount` if it has another
-    /// number of structures for it, `AlreadyReported` if a report for it was taken.
+    /// Returns the first check that refuses an ONU's report of `count` occupancies for the map of a frame: `StaleFrame`
+    /// if no map of the window is of the frame, `NotPolled` if that map grants the ONU nothing, `ReportCount` if it has
+    /// another number of structures for it, `AlreadyReported` if a report for it was taken.
     pub fn report_refusal(&self, frame: FrameNo, onu: OnuId, count: usize) -> Option<Refusal>
         ensures { result ≡ refuses_report self.now.window frame onu count }
     {
         self.window.report_refusal(frame, onu, count)
     }
 
-    /// Takes an ONU's report for the map of a frame: one occupancy for each of its structures there, in order, in words of 4
-    /// bytes, `None` if it is garbled. An occupancy counts for its Alloc-ID from its since-frame on, where no report
-    /// of a later frame does, less what was granted from the report's frame on. The error is the first check that refuses, then
-    /// `OutOfMemory` if a growth is refused; and then nothing changes.
+    /// Takes an ONU's report for the map of a frame: one occupancy for each of its structures there, in order, in words
+    /// of 4 bytes, `None` if it is garbled. An occupancy counts for its Alloc-ID if its frame is at least the
+    /// since-frame and no report of a later frame counts; it is reduced by what was granted from its frame on. The
+    /// error is the first check that refuses, then `OutOfMemory` if memory is refused; and then nothing changes.
     pub fn reported(
         &mut self,
         frame: FrameNo,
@@ -215,8 +216,8 @@ impl Loads {
         Ok(())
     }
 
-    /// Takes a report that no check refuses, as [`Loads::reported`] does. `Err` only if memory is refused, and then nothing
-    /// changes.
+    /// Takes a report that no check refuses, as [`Loads::reported`] does. `Err` only if memory is refused, and then
+    /// nothing changes.
     pub fn take_report(
         &mut self,
         frame: FrameNo,
@@ -233,7 +234,7 @@ impl Loads {
         Ok(())
     }
 
-    /// Forgets all reports and the window; reports count from a frame on.
+    /// Drops all reports and all maps of the window; later reports count from a frame on.
     pub fn cleared(&mut self, frame: FrameNo)
         ensures { self.new ≡ after_cleared self.old frame }
     {

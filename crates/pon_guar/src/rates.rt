@@ -5,8 +5,8 @@ ghost use Rattle.pon_guar.specs.Rates.{cap, guaranteed};
 use pon_descr::Descriptor;
 use pon_units::{Kbps, LINE_RATE};
 
-/// The guaranteed rate of a descriptor under a load, both in kbit/s: the fixed rate always, the assured rate as far as the
-/// load asks for it (ITU-T G.987.3, reference model). At most the promised rate.
+/// Computes the guaranteed rate of a descriptor under a load, both in kbit/s: the fixed rate always, the assured rate
+/// as far as the load requires it (ITU-T G.987.3, reference model). At most the promised rate.
 pub fn guaranteed(descriptor: &Descriptor, load: Kbps) -> Kbps
     ensures rate { result ≡ guaranteed descriptor.now load }
     ensures within { result ≤ promised descriptor.now }
@@ -15,8 +15,8 @@ pub fn guaranteed(descriptor: &Descriptor, load: Kbps) -> Kbps
     wanted.min(descriptor.promised())
 }
 
-/// The most surplus, in kbit/s, that an Alloc-ID of this descriptor can use under a load: what load and fixed rate ask
-/// for up to the maximum rate, less the guaranteed rate.
+/// Computes the greatest surplus, in kbit/s, that an Alloc-ID of this descriptor can use under a load: the greater of
+/// load and fixed rate, at most the maximum rate, reduced by the guaranteed rate.
 pub fn cap(descriptor: &Descriptor, load: Kbps) -> Kbps
     ensures rate { result ≡ cap descriptor.now load }
     ensures range { result ≤ LINE_RATE }

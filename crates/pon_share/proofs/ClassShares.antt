@@ -1,4 +1,4 @@
--- The rates of a class, and the certificate of a map: there is one, and no other.
+-- The rates of a class, and the certificate of a map: it is unique.
 use Rattle.std.proofs.Common.{◌≡◌, ℕ, ◌≤◌, Bool, true, false, cond, List, [], ◌∷◌, map, refl, ap, sym, ◌∙◌, subst, arith}
 use Rattle.std.specs.List.{zip}
 use Rattle.pon_units.specs.Fraction.{Fraction}
@@ -23,7 +23,7 @@ use Rattle.pon_share.proofs.Surplus.{flags_each}
 
 -- The rates of a class.
 
--- on the members of a class, what agrees on that class agrees
+-- two functions that agree on a class agree on its members
 pub members_agree : (class : Class) (f g : Row → Fraction) → ((r : Row) → same_class r.descriptor.class class ≡ true → f r ≡ g r) → (rows : List Row) → map f (members class rows) ≡ map g (members class rows)
 members_agree class f g h [] = refl
 members_agree class f g h (r ∷ rows) = at (members_agree class f g h rows) (same_class r.descriptor.class class) refl
@@ -50,7 +50,7 @@ rates_each : (l : Level) (g : Row → Item) (sat : Row → Bool) (d : ℕ) (rows
 rates_each l g sat d [] = refl
 rates_each l g sat d (r ∷ rows) = (λ k. over d (amount l (g r) (sat r)) ∷ rates_each l g sat d rows k)
 
--- the rates of the members are those that the certificate spells, in map order
+-- the rates of the members are those that the certificate gives, in map order
 pub spelled_rates : (s : Input) (class : Class) (cert : ClassCert) (left : ℕ) (k : IsAdmitted s.rule s.gap s.roster) → IsCertificate (items class s) left cert →
     map (spelled_rate s class cert) (members class s.roster) ≡ rates_of (spelled (items class s) cert)
 spelled_rates s class cert left k c =

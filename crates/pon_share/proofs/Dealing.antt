@@ -1,4 +1,4 @@
--- The surplus rates, row by row: the truth values of each class are those of its members in map order.
+-- The surplus rates, row by row: the flags of each class are those of its members in map order.
 use Rattle.std.proofs.Common.{◌≡◌, ℕ, zero, suc, ◌+◌, ◌*◌, ◌<◌, ◌≤◌, ◌/◌, Bool, true, false, cond, List, [], ◌∷◌, ◌++◌, map, length, take, drop, get_or, refl, ap, sym, ◌∙◌, subst, arith}
 use Rattle.std.specs.Prelude.{filter, if◌then◌else◌, All, slice_index_or, sum_by}
 use Rattle.std.specs.List.{AllByRecursion, zip}
@@ -34,13 +34,13 @@ use Rattle.pon_share.proofs.Surplus.{flags_each, rules_hold}
 
 -- Lists.
 
--- what stands at a place
+-- the element at an index
 element_at : {X : Type 0} (xs : List X) (i : ℕ) → i < length xs → (x : X) × (get_or xs i x ≡ x) × (drop i xs ≡ x ∷ drop (suc i) xs)
 element_at [] i lt = absurd (omega (arith, lt))
 element_at (x ∷ xs) zero lt = (x, refl, refl)
 element_at (x ∷ xs) (suc i) lt = element_at xs i (omega (arith, lt))
 
--- what holds of all that pass a test
+-- a fact about all elements that pass a test is a fact about one that passes
 passing_at : {X : Type 0} (P : X → Type 0) (p : X → Bool) (xs : List X) (i : ℕ) (x : X) → i < length xs → get_or xs i x ≡ x → p x ≡ true → All P (filter p xs) → P x
 passing_at P p [] i x lt is t h = absurd (omega (arith, lt))
 passing_at P p (y ∷ xs) zero x lt is t h =
@@ -100,7 +100,7 @@ members_are_items s class shares (r ∷ rows) h = one (members_are_items s class
     one rest true e = All-cons IsItem (item_of s r) (map (item_of s) (members class rows)) (item_range s r (All-head IsInRange r rows h) (shares_too r.descriptor.class class e shares)) rest
     one rest false e = rest
 
--- the weights outside fit the denominator
+-- the unsaturated weights fit the denominator
 weights_fit : (is : List Item) (flags : List Bool) → AllByRecursion IsItem is → unsaturated_weight is flags ≤ length is * 2488320
 weights_fit [] flags h = omega arith
 weights_fit (i ∷ is) [] h = omega arith
@@ -133,7 +133,7 @@ problem_of s class surplus shares few ranges most = record {
   surplus_range = most;
 }
 
--- The truth values that are left at a row.
+-- The flags that are left at a row.
 
 step_in : {X : Type 0} (f : Row → X) (p : Row → Bool) (rows : List Row) (i : ℕ) (r : Row) → drop i rows ≡ r ∷ drop (i + 1) rows → p r ≡ true → map f (filter p (drop i rows)) ≡ f r ∷ map f (filter p (drop (i + 1) rows))
 step_in f p rows i r e t = ap (λ l. map f (filter p l)) e ∙ ap (λ b. map f (cond b (r ∷ filter p (drop (i + 1) rows)) (filter p (drop (i + 1) rows)))) t
@@ -164,17 +164,17 @@ row_at s ds d i e lt is =
 range_at : (s : Input) → IsAdmitted s.rule s.gap s.roster → (r : Row) (i : ℕ) → i < length s.roster → get_or s.roster i r ≡ r → IsInRange r
 range_at s k r i lt is = subst IsInRange is (k.in_range i r lt)
 
--- guaranteed rate and cap are the rate of the line at most
+-- guaranteed rate and cap together are at most the rate of the line
 pub rates_at : (s : Input) → IsAdmitted s.rule s.gap s.roster → (d : Demand) (i : ℕ) → RowAt s d i → d.guaranteed + d.item.cap ≤ 2488320
 rates_at s k d i at = subst (λ d. d.guaranteed + d.item.cap ≤ 2488320) (sym at.demand) (rates_range s at.row (range_at s k at.row i at.within at.here))
 
--- what is granted so far, and the truth values that are left, before row i
+-- the grants so far, and the flags that are left, before row i
 pub record Dealt (s : Input) (cert : MapCert) (i : ℕ) (gs : List Granted) (na_left be_left : List Bool) : Type 0 where
   pub grants : gs ≡ map (granted_to_row s (surplus_rate s cert)) (take i s.roster)
   pub na : na_left ≡ map (λ r. is_saturated NonAssured s.roster cert.na r.alloc_id) (members NonAssured (drop i s.roster))
   pub be : be_left ≡ map (λ r. is_saturated BestEffort s.roster cert.be r.alloc_id) (members BestEffort (drop i s.roster))
 
--- before the first row all truth values are left
+-- before the first row all flags are left
 pub dealt_none : (s : Input) (cert : MapCert) → IsAdmitted s.rule s.gap s.roster → IsCertified s cert → Dealt s cert 0 [] cert.na.saturated cert.be.saturated
 dealt_none s cert k c = record {
   grants = refl;
@@ -182,7 +182,7 @@ dealt_none s cert k c = record {
   be = sym (flags_each s BestEffort cert.be (left_surplus cert.na.level (items NonAssured s) (surplus s)) k.apart c.best_effort);
 }
 
--- one class at one row: its own truth value comes first, and the conditions of its share hold
+-- one class at one row: the flag of the row comes first, and the conditions of its share are true
 module _ (s : Input) (class : Class) (cert : ClassCert) (surplus : ℕ) (k : IsAdmitted s.rule s.gap s.roster) (c : IsCertificate (items class s) surplus cert) (shares : same_class class Plain ≡ false) where
   abbrev sat : Row → Bool
   sat r = is_saturated class s.roster cert r.alloc_id
@@ -211,14 +211,14 @@ module _ (s : Input) (class : Class) (cert : ClassCert) (surplus : ℕ) (k : IsA
     item_at = subst (λ d. IsItem d.item) (sym at.demand)
         (item_range s at.row (range_at s k at.row i at.within at.here) (shares_too at.row.descriptor.class class own_row shares))
 
--- One row further.
+-- One more row.
 
--- what a demand is granted with so much surplus
+-- the grant of a demand with a surplus rate
 abbrev words_of : (d : Demand) (surplus : ℕ) → Granted
 words_of d surplus = record { onu = d.onu; alloc_id = d.alloc_id; words = (d.guaranteed + surplus) / 256 }
 
 module _ (s : Input) (cert : MapCert) (d : Demand) (i : ℕ) (at : RowAt s d i) where
-  -- the share that the certificate spells, by class
+  -- the share that the certificate gives, by class
   abbrev share_spelled : ℕ
   share_spelled = (surplus_rate s cert at.row).num / (surplus_rate s cert at.row).den
 
@@ -232,7 +232,7 @@ module _ (s : Input) (cert : MapCert) (d : Demand) (i : ℕ) (at : RowAt s d i) 
       (λ j. so_far j ++ (is ∙ granted_here share e ∙ ap (granted_to_row s (surplus_rate s cert)) (sym here)) j ∷ [])
       ∙ sym (map_more (granted_to_row s (surplus_rate s cert)) s.roster i at.row at.within)
 
-  -- the other class keeps its truth values
+  -- the flags of the other class are unchanged
   kept_flags : {X : Type 0} (class : Class) (f : Row → X) (c : Class) → d.class ≡ c → same_class c class ≡ false → map f (members class (drop i s.roster)) ≡ map f (members class (drop (i + 1) s.roster))
   kept_flags class f c e t =
       step_out f (λ r. same_class r.descriptor.class class) s.roster i at.row at.first (ap (λ d. same_class d.class class) (sym at.demand) ∙ ap (λ c. same_class c class) e ∙ t)
@@ -253,7 +253,7 @@ module _ (s : Input) (cert : MapCert) (d : Demand) (i : ℕ) (at : RowAt s d i) 
     be = h.be ∙ kept_flags BestEffort be_sat Plain e refl;
   }
 
-  -- a member of a class gets the share of its truth value
+  -- a member of a class has the share of its flag
   share_is : (class : Class) (c : ClassCert) (f : Bool) (share : ℕ) → f ≡ is_saturated class s.roster c at.row.alloc_id → share ≡ amount c.level d.item f / denominator c.level →
       share ≡ (spelled_rate s class c at.row).num / (spelled_rate s class c at.row).den
   share_is class c f share e is = is ∙ ap (λ f. amount c.level d.item f / denominator c.level) e ∙ ap (λ d. amount c.level d.item (is_saturated class s.roster c at.row.alloc_id) / denominator c.level) at.demand
@@ -276,14 +276,14 @@ module _ (s : Input) (cert : MapCert) (d : Demand) (i : ℕ) (at : RowAt s d i) 
     be = flag.1;
   }
 
--- behind the last row all is granted
+-- after the last row all is granted
 pub dealt_all : (s : Input) (cert : MapCert) (ds : List Demand) (i : ℕ) (gs : List Granted) (na be : List Bool) → ds ≡ demands_of s → Dealt s cert i gs na be → length ds ≤ i → gs ≡ granted s (surplus_rate s cert)
 dealt_all s cert ds i gs na be e h end =
     h.grants ∙ ap (map (granted_to_row s (surplus_rate s cert))) (take_all i s.roster (omega (arith, end, ap length e, length-map s.roster (demand_of s))))
 
--- The problems of the classes, as the demands give them.
+-- The problems of the classes, from the demands.
 
--- what the demands of a class give, and what its members do
+-- the demands of a class are those of its members
 of_class : {X : Type 0} (s : Input) (class : Class) (f : Demand → X) (ds : List Demand) → ds ≡ demands_of s → map f (filter (λ d. same_class d.class class) ds) ≡ map (λ r. f (demand_of s r)) (members class s.roster)
 of_class s class f ds e =
     ap (λ ds. map f (filter (λ d. same_class d.class class) ds)) e
@@ -302,6 +302,6 @@ guaranteed_demanded s ds e = ap (sum_by (λ d. d.guaranteed)) e ∙ sum_by-map (
 pub surplus_range : (s : Input) → surplus s ≤ 2488320
 surplus_range s = let room : capacity s.rule s.gap s.roster ≤ 9720 = omega arith in omega (arith, room)
 
--- what shares the surplus among the members of the two classes is a certificate of the state
+-- a certificate for the members of the two classes is a certificate of the input
 pub certified_under : (s : Input) (p : Problems) (cert : MapCert) → AreProblems s p → IsMapCertificate p.na.items.items p.be.items.items p.surplus cert → IsCertified s cert
 certified_under s p cert h c = rw (← h.na_items, ← h.be_items, ← h.surplus) c

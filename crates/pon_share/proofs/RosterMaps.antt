@@ -1,4 +1,4 @@
--- The grants of an admitted set make one map.
+-- The grants of an admitted set fit one map.
 use Rattle.std.proofs.Common.{◌≡◌, ℕ, ◌+◌, ◌*◌, ◌/◌, ◌≤◌, true, List, [], ◌∷◌, map, length, refl, ap, sym, subst, arith, inl, inr}
 use Rattle.std.specs.Prelude.{◌==◌, sum_by, cond}
 use Rattle.std.proofs.Math.Nat.{mul-le-mul_left}
@@ -29,7 +29,7 @@ use Rattle.pon_share.specs.Maps.{map_of}
 use Rattle.pon_share.specs.Packing.{AreOneMap}
 
 module _ (s : Input) (surplus : Row → Fraction) where
-  -- what a row is granted
+  -- the grant of a row
   abbrev pub granted_to_row : Row → Granted
   granted_to_row r = record { onu = r.onu; alloc_id = r.alloc_id; words = payload s surplus r }
 
@@ -45,7 +45,7 @@ module _ (s : Input) (surplus : Row → Fraction) where
     in_order rows h.1,
   )
 
-  -- the ONUs that are granted something are those of the roster
+  -- the ONUs of the grants are those of the roster
   onus_same : onus_granted (granted s surplus) ≡ onus_of s.roster
   onus_same = ap distinct (map-map (λ g. g.onu) granted_to_row s.roster)
 
@@ -53,7 +53,7 @@ module _ (s : Input) (surplus : Row → Fraction) where
   grant_words [] = refl
   grant_words (r ∷ rows) = omega (arith, sum_by-cons (λ g. 1 + g.words) (granted_to_row r) (map granted_to_row rows), sum_by-cons (payload s surplus) r rows, grant_words rows)
 
-  -- they fit a frame where the payload fits what the overhead leaves
+  -- the bursts fit a frame if the payload fits the capacity
   pub fitting_with : IsAdmitted s.rule s.gap s.roster → sum_by (payload s surplus) s.roster ≤ capacity s.rule s.gap s.roster →
       frame_words s.gap (granted s surplus) ≤ 9720
   fitting_with k fitting =
@@ -63,7 +63,7 @@ module _ (s : Input) (surplus : Row → Fraction) where
       let gaps : (s.gap + 2) * length (onus_granted (granted s surplus)) ≡ (s.gap + 2) * length (onus_of s.roster) = ap (λ us. (s.gap + 2) * length us) onus_same in
       omega (arith, room, reports, gaps, fitting, grant_words s.roster)
 
-  -- and make one map where they are few
+  -- the grants fit one map if the payload fits the capacity
   pub one_map_with : IsAdmitted s.rule s.gap s.roster → sum_by (payload s surplus) s.roster ≤ capacity s.rule s.gap s.roster →
       AreOneMap s.gap (granted s surplus)
   one_map_with k fitting = record {
@@ -73,9 +73,9 @@ module _ (s : Input) (surplus : Row → Fraction) where
     fitting = fitting_with k fitting;
   }
 
--- The payload of guaranteed and surplus rates.
+-- The payload words of guaranteed and surplus rates.
 
--- the whole words take no more than the rates
+-- the whole words are at most the rates
 payload_sum : (s : Input) (surplus : Row → Fraction) (rows : List Row) →
     256 * sum_by (payload s surplus) rows ≤ sum_by (guaranteed_rate s) rows + sum_by (λ r. (surplus r).num / (surplus r).den) rows
 payload_sum s surplus [] = omega arith
@@ -89,7 +89,7 @@ guaranteed_promised s (r ∷ rows) =
     let least : guaranteed_rate s r ≤ promised r.descriptor = omega arith in
     omega (arith, sum_by-cons (guaranteed_rate s) r rows, sum_by-cons (λ r. promised r.descriptor) r rows, least, guaranteed_promised s rows)
 
--- the guaranteed rates leave a surplus
+-- the guaranteed rates fit the capacity
 pub guaranteed_fits : (s : Input) → IsAdmitted s.rule s.gap s.roster → sum_by (guaranteed_rate s) s.roster ≤ 256 * capacity s.rule s.gap s.roster
 guaranteed_fits s k =
     let held : promised_sum s.roster ≤ 256 * capacity s.rule s.gap s.roster = (fits_parts s.rule s.gap s.roster k.fitting).1 in
@@ -97,7 +97,7 @@ guaranteed_fits s k =
 
 -- The map of an input, under an accepted certificate.
 module _ (s : Input) (cert : MapCert) (k : IsAdmitted s.rule s.gap s.roster) (c : IsCertified s cert) where
-  -- the surplus rates take no more than the surplus
+  -- the surplus rates add up to at most the surplus
   surplus_shared : sum_by (λ r. (surplus_rate s cert r).num / (surplus_rate s cert r).den) s.roster ≤ surplus s
   surplus_shared =
       let left : ℕ = left_surplus cert.na.level (items NonAssured s) (surplus s) in
@@ -110,11 +110,11 @@ module _ (s : Input) (cert : MapCert) (k : IsAdmitted s.rule s.gap s.roster) (c 
   payload_fits : sum_by (payload s (surplus_rate s cert)) s.roster ≤ capacity s.rule s.gap s.roster
   payload_fits = omega (arith, guaranteed_fits s k, payload_sum s (surplus_rate s cert) s.roster, surplus_shared)
 
-  -- they make one map
+  -- the grants fit one map
   pub one_map : AreOneMap s.gap (granted s (surplus_rate s cert))
   one_map = one_map_with s (surplus_rate s cert) k payload_fits
 
-  -- and its bursts are sound
+  -- the bursts of the map are sound
   pub admitted_map_is_sound : (profile : ℕ) → AreSound s.gap (map_of profile s (surplus_rate s cert))
   admitted_map_is_sound profile =
       sound_of_rising s.gap profile (granted s (surplus_rate s cert)) (in_order s (surplus_rate s cert) s.roster k.in_map_order) (fitting_with s (surplus_rate s cert) k payload_fits)

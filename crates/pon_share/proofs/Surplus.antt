@@ -1,4 +1,4 @@
--- What the certificates of the two classes share: the truth values by Alloc-ID, the rates, and that they fit the surplus.
+-- The certificates of the two classes: the flags by Alloc-ID, the rates, and that the rates fit the surplus.
 use Rattle.std.proofs.Common.{◌≡◌, ℕ, ◌+◌, ◌*◌, ◌<◌, ◌≤◌, ◌/◌, Bool, true, false, cond, ◌||◌, List, [], ◌∷◌, map, length, refl, ap, sym, ◌∙◌, subst, arith, inl, inr}
 use Rattle.std.specs.Prelude.{◌==◌, All, sum, sum_by}
 use Rattle.std.specs.List.{list_any, zip, AllZip}
@@ -24,9 +24,9 @@ use Rattle.pon_cert.specs.Spelling.{saturated_names}
 use Rattle.pon_share.specs.Input.{Input}
 use Rattle.pon_share.specs.Sharing.{is_saturated, item_of, items, members, rate_in, same_class, spelled_rate}
 
--- The saturated Alloc-IDs of a class, as its truth values in map order.
+-- The saturated Alloc-IDs of a class, as flags in map order.
 
--- a name that no item has is not among the saturated ones
+-- an Alloc-ID that no item has is not saturated
 not_named : (i : ℕ) (ids : List ℕ) (flags : List Bool) → list_any (λ j. j == i) ids ≡ false → list_any (λ j. j == i) (saturated_names ids flags) ≡ false
 not_named i [] flags h = refl
 not_named i (j ∷ ids) [] h = refl
@@ -41,7 +41,7 @@ not_named i (j ∷ ids) (f ∷ flags) h =
 abbrev ids_of : List Row → List ℕ
 ids_of rows = map (λ r. r.alloc_id) rows
 
--- the names of these items with these truth values have that of a row
+-- the Alloc-ID of a row is saturated by these flags
 abbrev named : List Row → List Bool → Row → Bool
 named rows flags r = list_any (λ j. j == r.alloc_id) (saturated_names (ids_of rows) flags)
 
@@ -57,7 +57,7 @@ other_way i j h = elim (eqb_tells j i) [
   | inr e ↦ e.0
 ]
 
--- one item more at the front changes nothing for the others
+-- one more item at the front changes nothing for the others
 named_later : (r : Row) (f : Bool) (rows : List Row) (flags : List Bool) (q : Row) → (q.alloc_id == r.alloc_id) ≡ false → named (r ∷ rows) (f ∷ flags) q ≡ named rows flags q
 named_later r f rows flags q h = elim f as (λ f. named (r ∷ rows) (f ∷ flags) q ≡ named rows flags q) [
   | true ↦ ap (λ b. b || named rows flags q) (other_way q.alloc_id r.alloc_id h)
@@ -83,7 +83,7 @@ named_each (r ∷ rows) [] d l = absurd (omega (arith, l))
 named_each (r ∷ rows) (f ∷ flags) d l =
     (λ k. named_first r f rows flags d.0 k ∷ (all_later r f rows flags rows d.0 ∙ named_each rows flags d.1 (omega (arith, l))) k)
 
--- Lists of items and truth values that come from rows.
+-- Lists of items and flags that come from rows.
 
 rules_each : (R : Item → Bool → Type 0) (g : Row → Item) (sat : Row → Bool) (rows : List Row) → AllZip R (map g rows) (map sat rows) → All (λ r. R (g r) (sat r)) rows
 rules_each R g sat [] h = All-nil (λ r. R (g r) (sat r))
@@ -96,7 +96,7 @@ amounts_each l g sat (r ∷ rows) =
     ∙ ap (λ (n : ℕ). amount l (g r) (sat r) + n) (amounts_each l g sat rows)
     ∙ sym (sum_by-cons (λ r. amount l (g r) (sat r)) r rows)
 
--- whole parts add up to no more than the whole
+-- the rounded-down quotients times the divisor add up to at most the sum
 whole_parts : (f : Row → ℕ) (d : ℕ) (rows : List Row) → d * sum_by (λ r. f r / d) rows ≤ sum_by f rows
 whole_parts f d [] = omega arith
 whole_parts f d (r ∷ rows) =
@@ -123,7 +123,7 @@ module _ (s : Input) (class : Class) (cert : ClassCert) (surplus : ℕ) (apart :
   abbrev sat : Row → Bool
   sat r = is_saturated class s.roster cert r.alloc_id
 
-  -- the truth values, in map order
+  -- the flags, in map order
   pub flags_each : map sat rows ≡ cert.saturated
   flags_each =
       named_each rows cert.saturated (apart_filter (λ r. same_class r.descriptor.class class) s.roster apart)
@@ -133,14 +133,14 @@ module _ (s : Input) (class : Class) (cert : ClassCert) (surplus : ℕ) (apart :
   pub rules_hold : All (λ r. RuleHolds cert.level (item_of s r) (sat r)) rows
   rules_hold = rules_each (RuleHolds cert.level) (item_of s) sat rows (subst (AllZip (RuleHolds cert.level) (items class s)) (sym flags_each) k.rules)
 
-  -- what the members get, over the level's denominator
+  -- the sum of the members' rates, over the level's denominator
   total : sum (spelled (items class s) cert).amounts ≡ sum_by (λ r. amount cert.level (item_of s r) (sat r)) rows
   total = ap (λ flags. sum (map (λ p. amount cert.level p.0 p.1) (zip (items class s) flags))) (sym flags_each) ∙ amounts_each cert.level (item_of s) sat rows
 
   abbrev pub whole_share : Row → ℕ
   whole_share r = (spelled_rate s class cert r).num / (spelled_rate s class cert r).den
 
-  -- what they get and what they leave is the surplus at most
+  -- the rates of the members and what they leave add up to at most the surplus
   pub shared : sum_by whole_share rows + left_surplus cert.level (items class s) surplus ≤ surplus
   shared = by_level cert.level k.denominator k.total total
     where
@@ -163,7 +163,7 @@ module _ (s : Input) (class : Class) (cert : ClassCert) (surplus : ℕ) (apart :
 abbrev whole_of : Fraction → ℕ
 whole_of f = f.num / f.den
 
--- a sum over all rows, where those of no class add nothing
+-- a sum over all rows is the sum over both classes: rows of no class add 0
 pub by_class : (na be : Row → Fraction) (rows : List Row) →
     sum_by (λ r. whole_of (rate_in r.descriptor.class (na r) (be r))) rows ≡ sum_by (λ r. whole_of (na r)) (members NonAssured rows) + sum_by (λ r. whole_of (be r)) (members BestEffort rows)
 by_class na be [] = refl

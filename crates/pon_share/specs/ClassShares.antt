@@ -1,4 +1,4 @@
--- What the two classes share, and the rates that a certificate gives them.
+-- The surplus of each of the two classes, and the rates that a certificate gives them.
 use Rattle.std.specs.Prelude.{ℕ, List, map}
 use Rattle.pon_units.specs.Fraction.{Fraction}
 use Rattle.pon_descr.specs.declared.class.Class.TheVariants.{NonAssured, BestEffort}
@@ -16,7 +16,7 @@ non_assured_surplus s = surplus s
 abbrev pub best_effort_surplus : Input → MapCert → ℕ
 best_effort_surplus s cert = left_surplus cert.na.level (items NonAssured s) (surplus s)
 
--- the rates that the level and the saturated set of a class spell
+-- the rates that the level and the saturated set of a class give
 abbrev pub non_assured_share : Input → MapCert → Assignment
 non_assured_share s cert = spelled (items NonAssured s) cert.na
 

@@ -1,4 +1,4 @@
--- What the admitted Alloc-IDs ask of a map.
+-- The demands of the admitted Alloc-IDs on a map.
 use Rattle.std.specs.Prelude.{List, map}
 use Rattle.pon_admit.specs.declared.row.Row.{Row}
 use Rattle.pon_share.specs.Input.{Input}
@@ -15,6 +15,6 @@ demand_of s r = record {
   item = item_of s r;
 }
 
--- one for each admitted Alloc-ID, in map order
+-- the demand of each admitted Alloc-ID, in map order
 abbrev pub demands_of : Input → List Demand
 demands_of s = map (demand_of s) s.roster

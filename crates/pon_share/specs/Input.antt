@@ -1,4 +1,4 @@
--- What the rates of a map are made from.
+-- The input from which the rates of a map are computed.
 use Rattle.std.specs.Prelude.{ℕ, List}
 use Rattle.pon_admit.specs.declared.row.Row.{Row}
 use Rattle.pon_admit.specs.declared.rule.Rule.{Rule}

@@ -7,7 +7,7 @@ use Rattle.pon_share.specs.Demands.{demands_of}
 use Rattle.pon_share.specs.Sharing.{items, member_ids, surplus}
 use Rattle.pon_share.specs.declared.problems.Problems.{Problems}
 
--- what each admitted Alloc-ID asks of the map, the members of the two classes, and the surplus
+-- the demand of each admitted Alloc-ID, the members of the two classes, and the surplus
 pub record AreProblems (s : Input) (p : Problems) : Type 0 where
   pub demands : p.demands.items ≡ demands_of s
   pub na_ids : p.na.ids.items ≡ member_ids NonAssured s.roster
@@ -15,6 +15,6 @@ pub record AreProblems (s : Input) (p : Problems) : Type 0 where
   pub be_ids : p.be.ids.items ≡ member_ids BestEffort s.roster
   pub be_items : p.be.items.items ≡ items BestEffort s
   pub surplus : p.surplus ≡ surplus s
-  -- they are of the size that a checker takes
+  -- the two problems are of the size that a checker accepts
   pub na_problem : IsProblem p.na.items.items p.surplus
   pub be_problem : IsProblem p.be.items.items p.surplus

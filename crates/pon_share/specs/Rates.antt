@@ -16,10 +16,10 @@ guaranteed_rate s r = guaranteed r.descriptor (load_of s.book r.alloc_id)
 abbrev pub whole_rate : Input → (Row → Fraction) → Row → ℕ
 whole_rate s surplus r = guaranteed_rate s r + (surplus r).num / (surplus r).den
 
--- the whole words in it, at 256 kbit/s a word
+-- the whole words of that rate, at 256 kbit/s a word
 abbrev pub payload : Input → (Row → Fraction) → Row → ℕ
 payload s surplus r = whole_rate s surplus r / WORD_RATE
 
--- what a map grants to each admitted Alloc-ID, in map order
+-- the grant of each admitted Alloc-ID, in map order
 abbrev pub granted : Input → (Row → Fraction) → List Granted
 granted s surplus = map (λ r. record { onu = r.onu; alloc_id = r.alloc_id; words = payload s surplus r }) s.roster

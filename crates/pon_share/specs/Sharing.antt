@@ -1,4 +1,4 @@
--- How the rate that is not guaranteed is shared: the problem of each class, and the rates that a certificate spells
+-- How the rate that is not guaranteed is shared: the problem of each class, and the rates that a certificate gives
 -- (ITU-T G.987.3: rate-proportional assignment, the non-assured class before best effort). Rates in kbit/s.
 use Rattle.std.specs.Prelude.{ℕ, ◌-◌, ◌*◌, ◌==◌, Bool, true, false, List, map, filter, sum_by}
 use Rattle.std.specs.List.{list_any}
@@ -32,38 +32,38 @@ members class rows = filter (λ r. same_class r.descriptor.class class) rows
 abbrev pub member_ids : Class → List Row → List ℕ
 member_ids class rows = map (λ r. r.alloc_id) (members class rows)
 
--- best effort is shared in proportion to the room above the promise, the non-assured class to the promise
+-- the weight: in best effort the maximum rate reduced by the promised rate, otherwise the promised rate
 abbrev pub weight_in : Class → Descriptor → ℕ
 weight_in BestEffort d = d.max - promised d
 weight_in _ d = promised d
 
--- what an admitted Alloc-ID shares with: its weight, and what it can use
+-- the item of an admitted Alloc-ID: its weight, and the greatest surplus that it can use
 abbrev pub item_of : Input → Row → Item
 item_of s r = record { weight = weight_in r.descriptor.class r.descriptor; cap = cap r.descriptor (load_of s.book r.alloc_id) }
 
 abbrev pub items : Class → Input → List Item
 items class s = map (item_of s) (members class s.roster)
 
--- what the guaranteed rates leave of the capacity, at 256 kbit/s a word
+-- the capacity, at 256 kbit/s a word, reduced by the guaranteed rates
 abbrev pub surplus : Input → ℕ
 surplus s = WORD_RATE * capacity s.rule s.gap s.roster - sum_by (guaranteed_rate s) s.roster
 
--- the surplus goes to the non-assured class, and what that leaves to best effort
+-- the non-assured class shares the surplus, and best effort what that class leaves
 abbrev pub IsCertified : Input → MapCert → Type 0
 IsCertified s cert = IsMapCertificate (items NonAssured s) (items BestEffort s) (surplus s) cert
 
--- a class's certificate has an Alloc-ID among the saturated ones
+-- an Alloc-ID is saturated by the certificate of a class
 abbrev pub is_saturated : Class → List Row → ClassCert → ℕ → Bool
 is_saturated class rows cert i = list_any (λ j. j == i) (saturated_names (member_ids class rows) cert.saturated)
 
--- the rate that the certificate of a class spells for an Alloc-ID
+-- the rate that the certificate of a class gives to an Alloc-ID
 abbrev pub spelled_rate : Input → Class → ClassCert → Row → Fraction
 spelled_rate s class cert r = record {
   num = amount cert.level (item_of s r) (is_saturated class s.roster cert r.alloc_id);
   den = denominator cert.level;
 }
 
--- of the two classes that share, the one that an Alloc-ID has
+-- the rate of an Alloc-ID in its class: 0 if it has none, otherwise that of the class
 abbrev pub rate_in : Class → Fraction → Fraction → Fraction
 rate_in Plain na be = record { num = 0; den = 1 }
 rate_in NonAssured na be = na

@@ -1,4 +1,4 @@
-//! What the admitted Alloc-IDs ask of a map.
+//! The demands of the admitted Alloc-IDs on a map.
 
 ghost use Rattle.std.specs.Prelude.{◌≡◌, IfOk};
 ghost use Rattle.pon_descr.specs.Descriptor.{Descriptor};
@@ -13,8 +13,8 @@ use pon_guar::{cap, guaranteed};
 use pon_units::{AllocId, Kbps, OnuId};
 use std::alloc::{AllocError, Global};
 
-/// What an admitted Alloc-ID asks of a map: its guaranteed rate in kbit/s, its class, and the weight and cap with which
-/// it shares the surplus of the class.
+/// The demand of an admitted Alloc-ID on a map: its guaranteed rate in kbit/s, its class, and the weight and cap with
+/// which it shares the surplus of the class.
 #[derive(Clone, Copy, Debug, PartialEq, Eq)]
 pub(crate) struct Demand {
     pub onu: OnuId,
@@ -24,7 +24,7 @@ pub(crate) struct Demand {
     pub item: Item,
 }
 
-// The weight of a descriptor in its class, in kbit/s.
+// Computes the weight of a descriptor in its class, in kbit/s.
 fn weight(descriptor: &Descriptor) -> u64
     ensures { result ≡ weight_in descriptor.now.class descriptor.now }
 {
@@ -37,7 +37,7 @@ fn weight(descriptor: &Descriptor) -> u64
     u64::from(weight)
 }
 
-// What a row asks; the index is its place in map order.
+// Computes the demand of a row; the index is that of the row in map order.
 fn demand_of(input: &ShareInput, index: usize, row: &Row) -> Demand
     ensures { result ≡ demand_of input.now row.now }
 {
@@ -55,7 +55,7 @@ fn demand_of(input: &ShareInput, index: usize, row: &Row) -> Demand
     }
 }
 
-/// What each admitted Alloc-ID asks of a map, in map order. `Err` only if memory is refused.
+/// Computes the demand of each admitted Alloc-ID, in map order. `Err` only if memory is refused.
 pub(crate) fn demands(alloc: Global, input: &ShareInput) -> Result<Vec<Demand>, AllocError>
     ensures { IfOk result (λ found. found.items ≡ demands_of input.now) }
 {

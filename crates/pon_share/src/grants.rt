@@ -1,4 +1,4 @@
-//! The payload words of each Alloc-ID: the whole words of its guaranteed and its surplus rate.
+//! The payload words of each Alloc-ID: the whole words of its guaranteed and surplus rate together.
 
 ghost use Rattle.std.specs.Prelude.{◌≡◌, ◌+◌, ◌*◌, ◌/◌, ◌<◌, ◌≤◌, ◌∷◌, length, IfOk};
 ghost use Rattle.pon_admit.specs.Roster.{IsAdmitted};
@@ -15,7 +15,7 @@ use pon_descr::Class;
 use pon_units::{Granted, LINE_RATE, WORD_RATE, Words, whole};
 use std::alloc::{AllocError, Global};
 
-// The whole kbit/s of the surplus rate that a level gives to an item.
+// Computes the whole kbit/s of the surplus rate that a level gives to an item.
 fn share(level: &Level, item: &Item, saturated: bool) -> u64
     requires item { IsItem item.now }
     requires rule { RuleHolds level.now item.now saturated }
@@ -36,7 +36,7 @@ fn share(level: &Level, item: &Item, saturated: bool) -> u64
     }
 }
 
-// What a demand is granted, with its surplus rate in kbit/s.
+// Computes the grant of a demand, with its surplus rate in kbit/s.
 fn grant(demand: &Demand, surplus: u64) -> Granted
     requires { demand.now.guaranteed + surplus ≤ LINE_RATE }
     ensures { result ≡ record {
@@ -56,7 +56,7 @@ fn grant(demand: &Demand, surplus: u64) -> Granted
     }
 }
 
-// The first of the truth values, and those after it.
+// Returns the first flag, and the flags after it.
 fn first_flag(saturated: &[bool]) -> (bool, &[bool])
     requires { 0 < length saturated.now }
     ensures { saturated.now ≡ result.0 ∷ result.1.now }
@@ -67,7 +67,7 @@ fn first_flag(saturated: &[bool]) -> (bool, &[bool])
     }
 }
 
-/// What the map grants to each admitted Alloc-ID, in map order. `Err` only if memory is refused.
+/// Computes the grant of each admitted Alloc-ID, in map order. `Err` only if memory is refused.
 pub(crate) fn grants(
     alloc: Global,
     input: &ShareInput,

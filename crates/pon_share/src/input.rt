@@ -4,7 +4,7 @@ use pon_admit::Roster;
 use pon_guar::Loads;
 use std::marker::Model;
 
-/// What the shares of a map are made from: the admitted Alloc-IDs, with their rule and the gap before each burst, and
+/// The input of the shares of a map: the admitted Alloc-IDs, with their rule and the gap before each burst, and
 /// their report book.
 #[derive(Drop)]
 pub struct ShareInput<'a> {
@@ -26,7 +26,7 @@ impl<'a> Model for ShareInput<'a> {
 }
 
 impl<'a> ShareInput<'a> {
-    /// The roster and the report book of a port.
+    /// Makes the input of the roster and the report book of a port.
     pub fn new(roster: &'a Roster, loads: &'a Loads) -> ShareInput<'a>
         ensures { result ≡ record {
           rule = roster.now.rule;

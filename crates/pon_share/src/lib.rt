@@ -1,7 +1,8 @@
-//! How a map shares an XG-PON upstream frame (the reference model of ITU-T G.987.3): what each admitted Alloc-ID asks for, the
-//! fair share of what is not guaranteed, the payload words of each, and the structures that grant them.
+//! How a map shares an XG-PON upstream frame (the reference model of ITU-T G.987.3): the demand of each admitted
+//! Alloc-ID, the fair share of what is not guaranteed, the payload words of each, and the structures that grant them.
 //!
-//! [`share`] is a function of a [`ShareInput`], and nothing else. It takes memory for its result alone.
+//! [`share`] is a function of a [`ShareInput`], and nothing else. It allocates its result and, while it runs, the
+//! demands and items of its input and a scratch buffer for each class.
 #![tactic(auto)]
 
 mod demand;

@@ -10,7 +10,7 @@ use pon_bwmap::{Alloc, Map};
 use pon_units::{Gap, Granted, Profile};
 use std::alloc::{AllocError, Global};
 
-// The structures that grant these words.
+// Makes the structures of these grants.
 fn structures(
     alloc: Global,
     gap: Gap,
@@ -27,9 +27,9 @@ fn structures(
     Ok(structures)
 }
 
-/// The map of these grants: a structure for each, in their order, with DBRu on; each ONU's burst begins a gap after the
-/// burst before it. The grants are in map order, at most 16 to an ONU and 512 in all, and their bursts fit a frame.
-/// `Err` only if memory is refused.
+/// Makes the map of these grants: a structure for each, in their order, with the DBRu flag on; each ONU's burst begins
+/// a gap after the previous burst. The grants must be in map order, at most 16 to an ONU and 512 in all, and their
+/// bursts must fit a frame. `Err` only if memory is refused.
 pub fn pack_grants(
     alloc: Global,
     gap: Gap,

@@ -1,4 +1,4 @@
-//! The class problems of a map: what a certificate of it is checked against.
+//! The class problems of a map, against which its certificate is checked.
 
 ghost use Rattle.std.specs.Prelude.{◌≡◌, IfOk};
 ghost use Rattle.pon_admit.specs.Roster.{IsAdmitted};
@@ -25,7 +25,7 @@ pub struct Problems {
     pub surplus: u64,
 }
 
-/// The class problems of the next map. `Err` only if memory is refused.
+/// Makes the class problems of the next map. `Err` only if memory is refused.
 pub fn class_problems(alloc: Global, input: &ShareInput) -> Result<Problems, AllocError>
     requires admitted { IsAdmitted input.now.rule input.now.gap input.now.roster }
     ensures { IfOk result (λ problems. AreProblems input.now problems) }
@@ -42,8 +42,8 @@ pub fn class_problems(alloc: Global, input: &ShareInput) -> Result<Problems, All
     })
 }
 
-/// What a map grants to each admitted Alloc-ID under a certificate, in map order: the whole words of its guaranteed
-/// rate and of the surplus rate that the certificate spells. `Err` only if memory is refused.
+/// Computes the grant of each admitted Alloc-ID under a certificate, in map order: the whole words of its guaranteed
+/// rate and of the surplus rate that the certificate gives it. `Err` only if memory is refused.
 pub fn grants_under(
     alloc: Global,
     input: &ShareInput,

@@ -14,8 +14,8 @@ use pon_cert::MapCert;
 use pon_units::{AllocId, Granted};
 use std::alloc::{AllocError, Global};
 
-/// The shares of a map: its certificate, what it grants to each admitted Alloc-ID in map order, and the Alloc-IDs of the
-/// non-assured and of the best-effort class, of which the certificate speaks.
+/// The shares of a map: its certificate, the grant of each admitted Alloc-ID in map order, and the Alloc-IDs of the
+/// non-assured and of the best-effort class, which the certificate covers.
 #[derive(Drop)]
 pub struct Shares {
     pub cert: MapCert,
@@ -24,8 +24,8 @@ pub struct Shares {
     pub be: Vec<AllocId>,
 }
 
-/// The shares of the next map: guaranteed rates by the reference model, the fairest share of the rest class by class, and
-/// the whole words of both rates. `Err` only if memory is refused.
+/// Computes the shares of the next map: guaranteed rates by the reference model, the fairest share of the rest class by
+/// class, and the whole words of both rates. `Err` only if memory is refused.
 pub fn share(alloc: Global, input: &ShareInput) -> Result<Shares, AllocError>
     requires admitted { IsAdmitted input.now.rule input.now.gap input.now.roster }
     ensures certified { IfOk result (λ shares. IsCertified input.now shares.cert) }

@@ -15,7 +15,7 @@ use pon_fill::fill;
 use pon_units::{AllocId, WORD_RATE};
 use std::alloc::{AllocError, Global};
 
-// The sum of the guaranteed rates.
+// Computes the sum of the guaranteed rates, in kbit/s.
 fn sum_of_guaranteed(demands: &[Demand]) -> u64
     requires { length demands.now ≤ MOST_ITEMS }
     ensures { result ≡ sum_by (λ d. d.guaranteed) demands.now }
@@ -27,7 +27,7 @@ fn sum_of_guaranteed(demands: &[Demand]) -> u64
     sum
 }
 
-/// What the guaranteed rates leave of the capacity, in kbit/s.
+/// Computes the capacity reduced by the guaranteed rates, in kbit/s.
 pub(crate) fn surplus(input: &ShareInput, demands: &[Demand]) -> u64
     requires admitted { IsAdmitted input.now.rule input.now.gap input.now.roster }
     requires demands { demands.now ≡ demands_of input.now }
@@ -36,14 +36,14 @@ pub(crate) fn surplus(input: &ShareInput, demands: &[Demand]) -> u64
     WORD_RATE * u64::from(input.roster.capacity().get()) - sum_of_guaranteed(demands)
 }
 
-// Returns whether it has the class.
+// Returns whether a demand has the class.
 fn is_in_class(demand: &Demand, class: Class) -> bool
     ensures { result ≡ same_class demand.now.class class }
 {
     demand.class == class
 }
 
-// The number of members of a class.
+// Returns the number of members of a class.
 fn member_count(demands: &[Demand], class: Class) -> usize
     ensures { result ≡ length (filter (λ d. same_class d.class class) demands.now) }
 {
@@ -53,14 +53,14 @@ fn member_count(demands: &[Demand], class: Class) -> usize
         .count()
 }
 
-/// The Alloc-IDs of a class in map order, and with what each shares the surplus of the class.
+/// The Alloc-IDs of a class in map order, and the item of each, with which it shares the surplus of the class.
 #[derive(Drop)]
 pub struct Members {
     pub ids: Vec<AllocId>,
     pub items: Vec<Item>,
 }
 
-/// The members of a class. `Err` only if memory is refused.
+/// Collects the members of a class. `Err` only if memory is refused.
 pub(crate) fn class_members(
     alloc: Global,
     demands: &[Demand],
@@ -83,7 +83,7 @@ pub(crate) fn class_members(
     Ok(Members { ids, items })
 }
 
-// The certificate of a class.
+// Computes the certificate of a class. `Err` only if memory is refused.
 fn class_cert(alloc: Global, items: &[Item], surplus: u64) -> Result<ClassCert, AllocError>
     requires { IsProblem items.now surplus }
     ensures { IfOk result (λ cert. IsCertificate items.now surplus cert) }
@@ -102,8 +102,8 @@ fn class_cert(alloc: Global, items: &[Item], surplus: u64) -> Result<ClassCert, 
     })
 }
 
-/// The certificate of a map: it shares the surplus among the non-assured items, and what they leave among those of best
-/// effort. `Err` only if memory is refused.
+/// Computes the certificate of a map: it shares the surplus among the non-assured items, and what they leave among
+/// those of best effort. `Err` only if memory is refused.
 pub(crate) fn map_cert(
     alloc: Global,
     na: &[Item],

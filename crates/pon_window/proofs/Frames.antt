@@ -1,4 +1,4 @@
--- The frames of a window, which follow each other.
+-- The frames of a window, which are consecutive.
 use Rattle.std.proofs.Common.{◌≡◌, ℕ, zero, suc, ◌+◌, ◌<◌, ◌≤◌, ◌||◌, ◌&&◌, Bool, true, false, cond, not, List, [], ◌∷◌, ◌++◌, map, length, drop, get_or, refl, ap, sym, subst, ◌∙◌, arith}
 use Rattle.std.specs.Prelude.{◌==◌, ◌≢◌, slice_get, filter, flat_map, All, Option, Some, None}
 use Rattle.std.specs.List.{list_any}
@@ -28,7 +28,7 @@ no_frame : (f : ℕ) (ms : List WindowMap) → All (λ m. (m.frame == f) ≡ fal
 no_frame f [] h = refl
 no_frame f (m ∷ ms) h = (λ i. cond (All-head (λ m. (m.frame == f) ≡ false) m ms h i) (m ∷ filter (λ m. m.frame == f) ms) (filter (λ m. m.frame == f) ms)) ∙ no_frame f ms (All-tail (λ m. (m.frame == f) ≡ false) m ms h)
 
--- one map of a frame at most
+-- at most one map is of a frame
 pub one_of_frame : (n f : ℕ) (ms : List WindowMap) → AreConsecutive n ms → All (λ m. m.frame ≡ f → filter (λ m. m.frame == f) ms ≡ m ∷ []) ms
 one_of_frame n f [] h = All-nil (λ m. m.frame ≡ f → filter (λ m. m.frame == f) [] ≡ m ∷ [])
 one_of_frame n f (x ∷ ms) h = All-cons (λ m. m.frame ≡ f → filter (λ m. m.frame == f) (x ∷ ms) ≡ m ∷ []) x ms
@@ -39,11 +39,11 @@ one_of_frame n f (x ∷ ms) h = All-cons (λ m. m.frame ≡ f → filter (λ m. 
     past : (m : WindowMap) → n ≤ m.frame + length ms → (m.frame ≡ f → filter (λ m. m.frame == f) ms ≡ m ∷ []) → m.frame ≡ f → filter (λ m. m.frame == f) (x ∷ ms) ≡ m ∷ []
     past m l k e = ap (λ b. cond b (x ∷ filter (λ m. m.frame == f) ms) (filter (λ m. m.frame == f) ms)) (ne_eqb x.frame f (λ q. omega (arith, l, q, e, h.0))) ∙ k e
 
--- the grants of a frame that has one map
+-- the grants of a frame that exactly one map is of
 pub grants_of_one : (f u : ℕ) (ms : List WindowMap) (m : WindowMap) → filter (λ m. m.frame == f) ms ≡ m ∷ [] → grants_at f u ms ≡ filter (λ g. g.onu == u) m.grants
 grants_of_one f u ms m h = ap (λ ms. filter (λ g. g.onu == u) (flat_map (λ m. m.grants) ms)) h ∙ ap (filter (λ g. g.onu == u)) (append-nil m.grants)
 
--- A frame's place is its distance from the first.
+-- The index of a map is the distance of its frame from the first.
 
 pub frame_at : (n : ℕ) (m : WindowMap) (ms : List WindowMap) → AreConsecutive n (m ∷ ms) → (k : ℕ) (d : WindowMap) → k < length (m ∷ ms) → (get_or (m ∷ ms) k d).frame ≡ m.frame + k
 frame_at n m ms h zero d l = omega arith
@@ -78,7 +78,7 @@ module _ (n f : ℕ) (ms : List WindowMap) (m : WindowMap) (h : AreConsecutive n
   no_place_behind l = list_any_none (is_of f) ms
       (All-weaker (λ q. q.frame < n) (λ q. (q.frame == f) ≡ false) (λ q k. ne_eqb q.frame f (λ e. omega (arith, e, l, k, length_is))) ms (leads_below n ms h))
 
--- What the map at a place tells of a report for its frame.
+-- The checks of a report, by the map of its frame.
 
 any_filtered : {X : Type 0} (p q : X → Bool) (xs : List X) → list_any (λ x. p x && q x) xs ≡ list_any q (filter p xs)
 any_filtered p q [] = refl
@@ -110,7 +110,7 @@ module _ (n f u : ℕ) (ms : List WindowMap) (h : AreConsecutive n ms) (k : ℕ)
       ∷ when (said j) AlreadyReported
       ∷ []))
 
--- The checks of a report, by the map at the place and its grants to the ONU.
+-- The checks of a report, by the map at the index and its grants to the ONU.
 module _ (n f u count : ℕ) (ms : List WindowMap) (h : AreConsecutive n ms) (k : ℕ) (place : IsPlaceOf f ms k) (m : WindowMap) (there : m ≡ get_or ms k m) (own : List Granted) (series : own ≡ filter (λ g. g.onu == u) m.grants) where
   abbrev checks_left : Bool → Bool → Bool → Option Refusal
   checks_left none other again = first_of (when none NotPolled ∷ when (not other) ReportCount ∷ when again AlreadyReported ∷ [])
@@ -134,7 +134,7 @@ module _ (n f u count : ℕ) (ms : List WindowMap) (h : AreConsecutive n ms) (k 
         last true = refl
         last false = refl
 
--- Windows that grow, lose their oldest maps, or hear reports.
+-- Windows with one more map, without their oldest maps, or with other reports.
 
 pub leads_push : (f : ℕ) (ms : List WindowMap) (m : WindowMap) → AreConsecutive f ms → m.frame ≡ f → AreConsecutive (f + 1) (ms ++ m ∷ [])
 leads_push f [] m h e = (omega (arith, e), tt)
@@ -153,7 +153,7 @@ pub leads_mapped : (f : WindowMap → WindowMap) → ((m : WindowMap) → (f m).
 leads_mapped f same n [] h = tt
 leads_mapped f same n (m ∷ ms) h = (omega (arith, h.0, same m, length-map ms f), leads_mapped f same n ms h.1)
 
--- What an accepted report tells.
+-- Facts that follow from an accepted report.
 module _ (f u count : ℕ) (ms : List WindowMap) (accepted : refuses_report ms f u count ≡ None) where
   abbrev checks : List (Option Refusal)
   checks = when (not (list_any (is_of f) ms)) StaleFrame

@@ -19,14 +19,14 @@ use Rattle.pon_window.specs.Reports.{with_report}
 use Rattle.pon_lists.proofs.Order.{in_order-filter, in_order_at}
 use Rattle.pon_window.proofs.Frames.{frame_at, leads_above}
 
--- ONUs in map order rise.
+-- The ONUs of grants in map order are in ascending order.
 
 distinct_all : (P : ℕ → Type 0) (xs : List ℕ) → All P xs → All P (distinct xs)
 distinct_all P [] h = h
 distinct_all P (x ∷ xs) h = All-cons P x (filter (λ y. not (y == x)) (distinct xs)) (All-head P x xs h)
     (All-filter (λ y. not (y == x)) P (distinct xs) (distinct_all P xs (All-tail P x xs h)))
 
--- those of a list that are not below a number, nor the number, are above it
+-- the elements of a list that are neither below a number nor equal to it are above it
 above : (x : ℕ) (ys : List ℕ) → All (λ y. x ≤ y) ys → All (λ y. x < y) (filter (λ y. not (y == x)) ys)
 above x [] h = All-nil (λ y. x < y)
 above x (y ∷ ys) h = elim (eqb_tells y x) [
@@ -48,7 +48,7 @@ onus_rise (g ∷ gs) h = (
   in_order-filter (λ i j. i < j) (λ y. not (y == g.onu)) (distinct (map (λ g. g.onu) gs)) (onus_rise gs h.1),
 )
 
--- What rises is parted by each number.
+-- A list in ascending order is partitioned by each number.
 
 pub parted : (u : ℕ) (xs : List ℕ) → AreRising xs → IsPartitionedBy (λ v. nat_lt v u) xs
 parted u xs h = IsPartitionedBy-ltb (λ v. v) xs u (λ m n d l k. elim (cases_lt m n) [
@@ -56,7 +56,7 @@ parted u xs h = IsPartitionedBy-ltb (λ v. v) xs u (λ m n d l k. elim (cases_lt
   | inr not_less ↦ (let e : n ≡ m = omega (arith, l, not_less) in let q : get_or xs n d ≡ get_or xs m d = ap (λ j. get_or xs j d) e in omega (arith, q))
 ])
 
--- A number is among rising ones exactly if it is the first that is not below it.
+-- A number is in a list in ascending order exactly when it is the first element that is not below it.
 
 pub among_none : (u : ℕ) (xs ys : List ℕ) → length ys ≡ 0 → ys ≡ filter (λ v. not (nat_lt v u)) xs → false ≡ occurs u xs
 among_none u xs [] n e =
@@ -78,7 +78,7 @@ among_first u v xs vs h e =
       | inr g ↦ rw (le-ltb x u g) (All-cons (λ w. u ≤ w) x (filter (λ w. not (nat_lt w u)) xs) g (not_below u xs))
     ]
 
--- One more, in its place.
+-- One more number, inserted in ascending order.
 
 none_lesser : (u : ℕ) (xs : List ℕ) → All (λ x. u < x) xs → filter (λ x. nat_lt x u) xs ≡ []
 none_lesser u [] h = refl
@@ -90,7 +90,7 @@ all_others u [] h = refl
 all_others u (x ∷ xs) h = ap (λ b. cond (not b) (x ∷ filter (λ x. not (nat_lt x u)) xs) (filter (λ x. not (nat_lt x u)) xs)) (le-ltb x u (let l : u < x = All-head (λ x. u < x) x xs h in omega (arith, l)))
     ∙ ap (λ t. x ∷ t) (all_others u xs (All-tail (λ x. u < x) x xs h))
 
--- a test that is changed at a number alone, in a list above it
+-- a test that is changed at one number only keeps the same elements of a list above the number
 changed_below : (p : ℕ → Bool) (u : ℕ) (xs : List ℕ) → All (λ x. u < x) xs → filter p xs ≡ filter (λ v. p v || (u == v)) xs
 changed_below p u [] h = refl
 changed_below p u (x ∷ xs) h =
@@ -128,7 +128,7 @@ placed p u (x ∷ xs) h t n = elim (eqb_tells x u) [
     step false l = refl
     step true l = (λ j. cond (l j) (x ∷ filter (λ j. nat_lt j u) (filter p xs)) (filter (λ j. nat_lt j u) (filter p xs)) ++ u ∷ cond (not (l j)) (x ∷ filter (λ j. not (nat_lt j u)) (filter p xs)) (filter (λ j. not (nat_lt j u)) (filter p xs)))
 
--- A map's reporters.
+-- The ONUs that reported for a map.
 
 pub reporters_rise : (m : WindowMap) → IsLawfulMap m → AreRising m.reported
 reporters_rise m l = subst AreRising (sym l.reported) (in_order-filter (λ i j. i < j) (λ u. occurs u m.reported) (onus_polled m) (onus_rise m.grants l.rising))
@@ -140,14 +140,14 @@ noted m u l there first =
     ∙ filter_agree (λ v. occurs v m.reported || (u == v)) (λ v. occurs v m.reported || (m.frame == m.frame && u == v))
     (λ v. ap (λ b. occurs v m.reported || (b && u == v)) (sym (eq-eqb m.frame m.frame refl))) (onus_polled m)
 
--- a map with one reporter more
+-- a map with one more ONU that reported
 abbrev pub noting : ℕ → WindowMap → WindowMap
 noting u m = record { frame = m.frame; grants = m.grants; reported = with_number u m.reported }
 
 pub noting_is : (m : WindowMap) (u : ℕ) → IsLawfulMap m → occurs u (onus_polled m) ≡ true → occurs u m.reported ≡ false → noting u m ≡ with_report m.frame u m
 noting_is m u l there first = (λ j. record { frame = m.frame; grants = m.grants; reported = noted m u l there first j })
 
--- what passes a test among those that a lawful map polls may have reported
+-- a map of grants in map order is lawful if its reporters are those of its polled ONUs that pass a test
 pub said_lawful : (said : ℕ → Bool) (m : WindowMap) → AreInMapOrder m.grants → IsLawfulMap (record { frame = m.frame; grants = m.grants; reported = filter said (onus_polled m) })
 said_lawful said m h = record {
   rising = h;
@@ -157,7 +157,7 @@ said_lawful said m h = record {
 
 -- A report in a window.
 
--- a map of another frame is as it was
+-- a map of another frame is unchanged
 other_frame : (f u : ℕ) (m : WindowMap) → IsLawfulMap m → (f == m.frame) ≡ false → with_report f u m ≡ m
 other_frame f u m l e = (λ j. record { frame = m.frame; grants = m.grants; reported = same j })
   where
@@ -182,7 +182,7 @@ reported_at n f u (m ∷ ms) h l (suc k) d new b e is =
     (λ j. sym (other_frame f u m (All-head IsLawfulMap m ms l) (ne_eqb f m.frame (λ z. omega (arith, e, z, far)))) j
     ∷ reported_at n f u ms h.1 (All-tail IsLawfulMap m ms l) k d new (omega (arith, b)) e is j)
 
--- each number kept once is still there
+-- removing duplicates keeps each number
 pub occurs-distinct : (u : ℕ) (xs : List ℕ) → occurs u xs ≡ true → occurs u (distinct xs) ≡ true
 occurs-distinct u [] h = h
 occurs-distinct u (x ∷ xs) h = elim (eqb_tells x u) [
@@ -192,7 +192,7 @@ occurs-distinct u (x ∷ xs) h = elim (eqb_tells x u) [
       ∙ and_from (not (u == x)) (occurs u (distinct xs)) (ap not (ne_eqb u x (λ q. e.1 (sym q)))) (occurs-distinct u xs (subst (λ b. (b || occurs u xs) ≡ true) e.0 h)))
 ]
 
--- an ONU that is granted something is polled
+-- an ONU with a grant in a map is polled by it
 granted_onu : (u : ℕ) (gs : List Granted) → (length (filter (λ g. g.onu == u) gs) == 0) ≡ false → occurs u (map (λ g. g.onu) gs) ≡ true
 granted_onu u [] h = absurd cc
 granted_onu u (g ∷ gs) h = (elim (g.onu == u) as (λ b. (length (cond b (g ∷ filter (λ g. g.onu == u) gs) (filter (λ g. g.onu == u) gs)) == 0) ≡ false → (b || occurs u (map (λ g. g.onu) gs)) ≡ true) [

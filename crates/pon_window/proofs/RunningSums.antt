@@ -20,9 +20,9 @@ use Rattle.pon_window.specs.Sums.{AreSummed, AreSumsOf, is_to, or_zero, sum_befo
 use Rattle.pon_window.proofs.Series.{words_found}
 use Rattle.pon_lists.proofs.Order.{in_order_at}
 
--- Where a grant stands.
+-- The index of a grant.
 
--- of the grants of a map one at most is to an Alloc-ID under an ONU
+-- a grant to an Alloc-ID under an ONU is the first such grant of its map
 pub stands_at : (u i : ℕ) (gs : List Granted) → AreInMapOrder gs → (k : ℕ) (d : Granted) → k < length gs → is_to u i (get_or gs k d) ≡ true → Some k ≡ position (is_to u i) gs
 stands_at u i gs h k d l t =
     let e : position_or_len (is_to u i) gs ≡ k = position_or_len_is (is_to u i) gs k d (omega (arith, l)) (λ j q. other (get_or gs j d) (in_order_at ComesBefore gs h j k d q l)) (λ q. t) in
@@ -38,7 +38,7 @@ stands_at u i gs h k d l t =
       | inr e ↦ and_left (g.onu == u) (g.alloc_id == i) e.0
     ]
 
--- a grant among those of its ONU stands as far after the first of them in the map
+-- the index of a grant in the map is its index among the grants of its ONU plus the index of the first of them
 pub stands_from : (u i : ℕ) (gs own : List Granted) (first k : ℕ) (r : Option ℕ) → AreInMapOrder gs → own ≡ take (length own) (drop first gs) → r ≡ position (is_to u i) own → r ≡ Some k → Some (first + k) ≡ position (is_to u i) gs
 stands_from u i gs [] first k r h placed is e = absurd (cc)
 stands_from u i gs (g ∷ own) first k r h placed is e =
@@ -47,7 +47,7 @@ stands_from u i gs (g ∷ own) first k r h placed is e =
     let same : get_or (g ∷ own) k g ≡ get_or gs (first + k) g = ap (λ t. get_or t k g) placed ∙ get_or-take (length (g ∷ own)) (drop first gs) k g at.0 ∙ get_or-drop first gs k g in
     stands_at u i gs h (first + k) g (omega (arith, at.0, len, length-drop first gs)) (ap (is_to u i) (sym same) ∙ at.1)
 
--- no grant to an Alloc-ID among those of its ONU, none in the map
+-- if the grants of an ONU have none to an Alloc-ID, the map has none to it under the ONU
 pub none_from : (u i : ℕ) (gs own : List Granted) (r : Option ℕ) → own ≡ filter (λ g. g.onu == u) gs → r ≡ position (is_to u i) own → r ≡ None → None ≡ position (is_to u i) gs
 none_from u i gs own r e is none =
     let all : length gs ≡ position_or_len (is_to u i) gs = none_in gs (ap (λ t. length t) (sym e) ∙ position-None_or_len (is_to u i) own r is none ∙ ap (λ t. position_or_len (is_to u i) t) e) in
@@ -94,7 +94,7 @@ module _ (u i : ℕ) where
     | false ↦ λ l. none_len gs ns (omega (arith, l))
   ]) l
 
-  -- the sum beside the place that was found
+  -- the sum at the index that was found
   pub before_at : (gs : List Granted) (ns : List ℕ) (r : Option ℕ) (k : ℕ) → r ≡ position (is_to u i) gs → r ≡ Some k → k < length gs → sum_before u i gs ns ≡ slice_get ns k
   before_at gs ns r k is e l =
       let at : k ≡ position_or_len (is_to u i) gs = position-Some_or_len (is_to u i) gs r k is e in
@@ -110,7 +110,7 @@ module _ (u i : ℕ) where
     | false ↦ find_in gs
   ]
 
-  -- the words of the grant at the place that was found
+  -- the words of the grant at the index that was found
   words_there : (m : WindowMap) (r : Option ℕ) (k : ℕ) (d : Granted) → r ≡ position (is_to u i) m.grants → r ≡ Some k → k < length m.grants → (get_or m.grants k d).words ≡ words_to u i m
   words_there m r k d is e l = words_found (is_to u i) m.grants r is k d e l ∙ ap words_granted (sym (find_in m.grants))
 
@@ -132,7 +132,7 @@ module _ (u i : ℕ) where
     | false ↦ few_words gs (All-tail (λ g. g.words ≤ 9720) g gs h)
   ]
 
-  -- The sum after a grant, and after the last.
+  -- The sum after a grant, and after the last grant.
 
   pub behind_none : (m : WindowMap) (ns : List ℕ) → sum_before u i m.grants ns ≡ None → sum_behind u i m ns ≡ None
   behind_none m ns h = ap (option_map (λ n. (n + words_to u i m) % 2 ^ 32)) h
@@ -140,7 +140,7 @@ module _ (u i : ℕ) where
   behind_some : (m : WindowMap) (ns : List ℕ) (n : ℕ) → sum_before u i m.grants ns ≡ Some n → sum_behind u i m ns ≡ Some ((n + words_to u i m) % 2 ^ 32)
   behind_some m ns n h = ap (option_map (λ n. (n + words_to u i m) % 2 ^ 32)) h
 
-  -- beside the place that was found
+  -- at the index that was found
   pub behind_at : (m : WindowMap) (ns : List ℕ) (r : Option ℕ) (k b w : ℕ) (d : Granted) → r ≡ position (is_to u i) m.grants → r ≡ Some k → k < length m.grants → slice_get ns k ≡ Some b → w ≡ (get_or m.grants k d).words
       → Some ((b + w) % 2 ^ 32) ≡ sum_behind u i m ns
   behind_at m ns r k b w d is e l read words =
@@ -166,7 +166,7 @@ module _ (u i : ℕ) where
   now_noted f v (m ∷ ms) [] = refl
   now_noted f v (m ∷ ms) (ns ∷ sums) = ap (λ r. option_or r (sum_behind u i m ns)) (now_noted f v ms sums)
 
-  -- what is beside the grants of the next map is the sum after the last
+  -- the sum before a grant of the next map is the sum after the last grant
   pub beside_now : (ms : List WindowMap) (sums : List (List ℕ)) (n t : ℕ) → sum_now u i ms sums ≡ Some t → (gs : List Granted) → sum_before u i gs (sums_beside ms sums gs) ≡ Some n → n ≡ t
   beside_now ms sums n t now [] h = absurd cc
   beside_now ms sums n t now (g ∷ gs) h = go (is_to u i g) refl (beside_now ms sums n t now gs) h
@@ -178,13 +178,13 @@ module _ (u i : ℕ) where
           ∙ (λ j. or_zero (sum_now (eqb-true g.onu u both.0 j) (eqb-true g.alloc_id i both.1 j) ms sums)) ∙ ap or_zero now
       go false e rest h = rest h
 
--- one grant more of the next map
+-- the sums with one more grant of the next map
 pub beside_more : (ms : List WindowMap) (sums : List (List ℕ)) (done all : List Granted) (g : Granted) (n : ℕ) (before : List ℕ) → n ≡ or_zero (sum_now g.onu g.alloc_id ms sums) → before ≡ sums_beside ms sums done → all ≡ done ++ g ∷ []
     → before ++ n ∷ [] ≡ sums_beside ms sums all
 beside_more ms sums done all g n before e q more =
     (λ j. q j ++ e j ∷ []) ∙ sym (ap (sums_beside ms sums) more ∙ map-append (λ g. or_zero (sum_now g.onu g.alloc_id ms sums)) done (g ∷ []))
 
--- One map more.
+-- One more map.
 module _ (m : WindowMap) (ns : List ℕ) (beside : length ns ≡ length m.grants) (small : All (λ g. g.words ≤ 9720) m.grants) where
   pub summed_push : (ms : List WindowMap) (sums : List (List ℕ)) → AreSummed ms sums → length sums ≡ length ms
       → ((u i n t : ℕ) → sum_before u i m.grants ns ≡ Some n → sum_now u i ms sums ≡ Some t → n ≡ t) → AreSummed (ms ++ m ∷ []) (sums ++ ns ∷ [])
@@ -222,7 +222,7 @@ module _ (m : WindowMap) (ns : List ℕ) (beside : length ns ≡ length m.grants
               ∙ ap Some (mod-add-mod (n + sum_by (words_to u i) (x ∷ ms)) (2 ^ 32) (words_to u i m))
               ∙ ap (λ t. Some (t % 2 ^ 32)) (let sum : n + sum_by (words_to u i) (x ∷ ms) + words_to u i m ≡ n + sum_by (words_to u i) ((x ∷ ms) ++ m ∷ []) = omega (arith, all) in sum)
 
--- Fewer maps, and maps that hear reports.
+-- Windows without their first maps, and with other reports.
 
 pub summed_drop : (k : ℕ) (ms : List WindowMap) (sums : List (List ℕ)) → AreSummed ms sums → length sums ≡ length ms → AreSummed (drop k ms) (drop k sums)
 summed_drop zero ms sums h e = h
@@ -245,7 +245,7 @@ summed_noted f v (m ∷ ms) (ns ∷ sums) h = (
   summed_noted f v ms sums h.1,
 )
 
--- A map more, of which the oldest may go.
+-- A map is added, and the oldest may be dropped.
 module _ (frame : ℕ) (gs : List Granted) (ms : List WindowMap) (sums : List (List ℕ)) where
   abbrev new_map : WindowMap
   new_map = record { frame = frame; grants = gs; reported = [] }
@@ -262,7 +262,7 @@ module _ (frame : ℕ) (gs : List Granted) (ms : List WindowMap) (sums : List (L
       (summed_push new_map (sums_beside ms sums gs) (length-map gs (λ g. or_zero (sum_now g.onu g.alloc_id ms sums))) small ms sums h e (λ u i n t b now. beside_now u i ms sums n t now gs b))
       (as_many_more e)
 
--- What was granted is a difference.
+-- The words granted are the difference of two sums.
 
 pub few_granted : (u i : ℕ) (ms : List WindowMap) (sums : List (List ℕ)) → AreSummed ms sums → length sums ≡ length ms → sum_by (words_to u i) ms ≤ length ms * 9720
 few_granted u i [] sums h e = omega arith

@@ -14,14 +14,14 @@ use Rattle.pon_lists.proofs.Lists.{filter-filter, filter_agree, position-None_or
 use Rattle.pon_lists.proofs.Order.{in_order-filter, in_order_at}
 use Rattle.pon_window.specs.Window.{words_granted}
 
--- what is in map order is ordered by its ONUs
+-- grants in map order are in ascending ONU-ID
 pub by_onu : (gs : List Granted) → AreInMapOrder gs → IsNonDecreasingBy (λ g. g.onu) gs
 by_onu gs h m n d l k = elim (cases_lt m n) [
   | inl less ↦ (in_order_at ComesBefore gs h m n d less k).0
   | inr not_less ↦ (let e : n ≡ m = omega (arith, l, not_less) in let q : (get_or gs n d).onu ≡ (get_or gs m d).onu = ap (λ j. (get_or gs j d).onu) e in omega (arith, q))
 ]
 
--- The grants of an ONU at the front of those of no lesser ONU.
+-- The grants of an ONU are the first of those with no lesser ONU-ID.
 
 none_own : (u : ℕ) (gs : List Granted) → All (λ g. u < g.onu) gs → filter (λ g. g.onu == u) gs ≡ []
 none_own u [] h = refl
@@ -56,7 +56,7 @@ own_front u (g ∷ gs) low order =
           ∙ sym (none_own u (g ∷ gs) (All-cons (λ g. u < g.onu) g gs above (All-weaker (ComesBefore g) (λ h. u < h.onu) (λ h c. omega (arith, above, c.0)) gs order.0)))
     ]
 
--- those of no lesser ONU, up to another ONU
+-- the grants with no lesser ONU-ID, up to the first of another ONU
 pub own_series : (u : ℕ) (gs rest : List Granted) → AreInMapOrder gs → rest ≡ filter (λ g. not (nat_lt g.onu u)) gs → take (position_or_len (λ g. not (g.onu == u)) rest) rest ≡ filter (λ g. g.onu == u) gs
 own_series u gs rest h e =
     ap (λ t. take (position_or_len (λ g. not (g.onu == u)) t) t) e
@@ -67,7 +67,7 @@ own_series u gs rest h e =
     both : (k : ℕ) → (not (nat_lt k u) && (k == u)) ≡ (k == u)
     both k = grind (arith, nat_tests)
 
--- The words of the first that passes.
+-- The words of the first grant that passes a test.
 module _ (p : Granted → Bool) (gs : List Granted) (r : Option ℕ) (is : r ≡ position p gs) where
   pub words_found : (n : ℕ) (d : Granted) → r ≡ Some n → n < length gs → (get_or gs n d).words ≡ words_granted (find p gs)
   words_found n d e l = sym (ap words_granted (find_at p gs ∙ ap (slice_get gs) (sym (position-Some_or_len p gs r n is e)) ∙ slice_get-get_or gs n d l))

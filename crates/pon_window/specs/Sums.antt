@@ -1,5 +1,5 @@
--- Running sums beside the window: with each grant of a map the words that earlier maps granted to its Alloc-ID under its
--- ONU, counted from any map on, modulo 2^32. By how much two of them differ was granted between them.
+-- Running sums beside the window: for each grant of a map the words that earlier maps granted to its Alloc-ID under its
+-- ONU, counted from any map on, modulo 2^32. The words granted between two grants are the difference of their sums.
 use Rattle.std.specs.Prelude.{ℕ, ◌≡◌, ◌≤◌, ◌+◌, ◌^◌, ◌%◌, ◌==◌, ◌&&◌, Bool, All, if◌then◌else◌, List, [], ◌∷◌, map, length, sum_by, Option, Some, None, option_map}
 use Rattle.std.specs.Option.{option_or}
 use Rattle.pon_units.specs.declared.limits.TheConstants.{FRAME_WORDS}
@@ -25,7 +25,7 @@ sum_now u i (m ∷ ms) (ns ∷ sums) = option_or (sum_now u i ms sums) (sum_behi
 sum_now u i [] sums = None
 sum_now u i (m ∷ ms) [] = None
 
--- the sums of a map, with those of the maps after it, give what was granted from the map on
+-- the sums of a map and of the maps after it determine the words granted from the map on
 pub record AreSumsOf (m : WindowMap) (ms : List WindowMap) (ns : List ℕ) (sums : List (List ℕ)) : Type 0 where
   pub beside : length ns ≡ length m.grants
   pub small : All (λ g. g.words ≤ FRAME_WORDS) m.grants
@@ -44,7 +44,7 @@ or_zero (Some n) = n
 abbrev pub sums_beside : List WindowMap → List (List ℕ) → List Granted → List ℕ
 sums_beside ms sums gs = map (λ g. or_zero (sum_now g.onu g.alloc_id ms sums)) gs
 
--- what a window keeps, with its sums
+-- the invariant of a window with its sums
 pub record IsSummedWindow (maps : List WindowMap) (sums : List (List ℕ)) : Type 0 where
   pub window : IsWindow maps
   pub as_many : length sums ≡ length maps

@@ -5,7 +5,7 @@ use Rattle.pon_units.specs.Granted.{AreInMapOrder, onus_granted}
 use Rattle.pon_window.specs.declared.window.TheConstants.{MOST_MAPS}
 pub use Rattle.pon_units.specs.declared.granted.Granted.{Granted}
 
--- a map's frame, what it granted, and the ONUs that reported
+-- a map: its frame, its grants, and the ONUs that reported
 pub record WindowMap : Type 0 where
   pub frame : ℕ
   pub grants : List Granted
@@ -22,12 +22,12 @@ grants_at frame u window = filter (λ g. g.onu == u) (flat_map (λ m. m.grants) 
 abbrev pub onus_polled : WindowMap → List ℕ
 onus_polled m = onus_granted m.grants
 
--- frames follow each other up to the next frame
+-- the frames are consecutive, and the last one is that before the next frame
 abbrev pub AreConsecutive : ℕ → List WindowMap → Type 0
 AreConsecutive next [] = Unit {0}
 AreConsecutive next (m ∷ ms) = (m.frame + length (m ∷ ms) ≡ next) × AreConsecutive next ms
 
--- the map at a place is of a frame
+-- the map at an index is of a frame
 pub record IsPlaceOf (frame : ℕ) (ms : List WindowMap) (k : ℕ) : Type 0 where
   pub within : k < length ms
   pub is : (d : WindowMap) → (slice_index_or ms k d).frame ≡ frame
@@ -42,7 +42,7 @@ pub record IsLawfulMap (m : WindowMap) : Type 0 where
   pub rising : AreInMapOrder m.grants
   pub reported : m.reported ≡ filter (λ u. list_any (λ v. v == u) m.reported) (onus_polled m)
 
--- at most 64 lawful maps, whose frames follow each other
+-- at most 64 lawful maps, with consecutive frames
 pub record IsWindow (window : List WindowMap) : Type 0 where
   pub few_maps : length window ≤ MOST_MAPS
   pub frames : AreConsecutive (frame_after window) window
@@ -51,13 +51,13 @@ pub record IsWindow (window : List WindowMap) : Type 0 where
 abbrev pub last_64 : {T : Type 0} → List T → List T
 last_64 xs = drop (length xs - MOST_MAPS) xs
 
--- the window with a map of these grants more
+-- the window after a map of these grants is added
 abbrev pub with_map : ℕ → List Granted → List WindowMap → List WindowMap
 with_map frame gs window = last_64 (window ++ record { frame = frame; grants = gs; reported = [] } ∷ [])
 
 -- Payload words.
 
--- the payload words of an Alloc-ID among grants, in one map, and in the maps of a frame or later
+-- the payload words of an Alloc-ID among grants, in one map, and in the maps from a frame on
 abbrev pub words_among : ℕ → List Granted → ℕ
 words_among i gs = sum_by (λ g. if g.alloc_id == i then g.words else 0) gs
 
@@ -67,7 +67,7 @@ words_in i m = words_among i m.grants
 abbrev pub words_from : ℕ → ℕ → List WindowMap → ℕ
 words_from i frame ms = sum_by (λ m. if nat_le frame m.frame then words_in i m else 0) ms
 
--- the same under an ONU
+-- the payload words of an Alloc-ID under an ONU: of one grant, in one map, and in the maps from a frame on
 abbrev pub words_granted : Option Granted → ℕ
 words_granted None = 0
 words_granted (Some g) = g.words

@@ -1,8 +1,8 @@
-//! The window of a port of an XG-PON optical line terminal (upstream bandwidth assignment, ITU-T G.987.3): its last maps,
-//! for which buffer reports may still come.
+//! The window of a port of an XG-PON optical line terminal (upstream bandwidth assignment, ITU-T G.987.3): its last
+//! maps, for which buffer reports may still come.
 //!
-//! A [`Window`] keeps running sums beside the grants of its maps, so that what was granted to an Alloc-ID since a map is
-//! one difference, however old the map is.
+//! A [`Window`] keeps a running sum with each grant of its maps: the words granted to an Alloc-ID since a map are the
+//! difference of two sums, whatever the age of the map.
 #![tactic(auto)]
 
 mod map;

@@ -26,21 +26,22 @@ impl Model for WindowMap {
     ghost view = { λ a. record { frame = a.frame; grants = a.grants.items; reported = a.reported.items } };
 }
 
-/// The grants of a map to an ONU. `first` is the index of the first of them in the map, a hint that no clause ties to it.
+/// The grants of a map to an ONU. `first` is the index of the first of them in the map, a hint for callers: no clause
+/// of [`WindowMap::placed_series`] states it.
 #[derive(Clone, Copy, Debug)]
 pub struct OnuGrants<'a> {
     pub first: usize,
     pub grants: &'a [Granted],
 }
 
-// The index of the first grant that is not to an ONU.
+// Returns the index of the first grant that is not to an ONU.
 fn first_other(grants: &[Granted], onu: OnuId) -> Option<usize>
     ensures { result ≡ position (λ g. not (g.onu == onu)) grants.now }
 {
     grants.iter().position(|granted| granted.onu != onu)
 }
 
-// The number of grants at the front that are to an ONU.
+// Returns the number of leading grants that are to an ONU.
 fn series_len(grants: &[Granted], onu: OnuId) -> usize
     ensures len { result ≡ position_or_len (λ g. not (g.onu == onu)) grants.now }
     ensures within { result ≤ length grants.now }
@@ -64,7 +65,7 @@ pub(crate) fn series_of(grants: &[Granted], onu: OnuId) -> OnuGrants<'_>
     OnuGrants { first, grants: own }
 }
 
-// The number of lesser ONU-IDs.
+// Returns the number of lesser ONU-IDs, by a binary search.
 fn place_among(onus: &[OnuId], onu: OnuId) -> usize
     requires { AreRising onus.now }
     ensures within { result ≤ length onus.now }
@@ -74,7 +75,7 @@ fn place_among(onus: &[OnuId], onu: OnuId) -> usize
     onus.partition_point(|reporter| reporter.get() < onu.get())
 }
 
-// Returns whether an ONU-ID is among rising ones, by a binary search.
+// Returns whether an ONU-ID is among those in ascending order, by a binary search.
 fn is_among(onus: &[OnuId], onu: OnuId) -> bool
     requires { AreRising onus.now }
     ensures { result ≡ list_any (λ v. v == onu) onus.now }
@@ -86,7 +87,7 @@ fn is_among(onus: &[OnuId], onu: OnuId) -> bool
     }
 }
 
-// Adds an ONU in its place. `Err` only if memory is refused, and then nothing changes.
+// Inserts an ONU-ID in ascending order. `Err` only if memory is refused, and then nothing changes.
 fn add_onu(onus: &mut Vec<OnuId>, onu: OnuId) -> Result<(), AllocError>
     requires { AreRising onus.old.items }
     ensures ok { OnOk result (onus.new.items ≡ with_number onu onus.old.items) }
@@ -102,28 +103,28 @@ impl WindowMap {
     ghost use Rattle.pon_window.specs.Window.{onus_polled};
     ghost use Rattle.pon_window.specs.Reports.{with_report};
 
-    /// The frame of the map.
+    /// Frame of the map.
     pub fn frame(&self) -> FrameNo
         ensures { result ≡ self.now.frame }
     {
         self.frame
     }
 
-    /// Its grants, in map order.
+    /// Grants of the map, in map order.
     pub fn grants(&self) -> &[Granted]
         ensures { result.now ≡ self.now.grants }
     {
         &self.grants
     }
 
-    /// The ONUs that reported for it, in rising ONU-ID.
+    /// ONUs that reported for the map, in ascending ONU-ID.
     pub fn reported(&self) -> &[OnuId]
         ensures { result.now ≡ self.now.reported }
     {
         &self.reported
     }
 
-    /// An equal map. `Err` only if memory is refused.
+    /// Makes an equal map. `Err` only if memory is refused.
     pub fn try_copy(&self, alloc: Global) -> Result<WindowMap, AllocError>
         ensures { IfOk result (λ map. map ≡ self.now) }
     {
@@ -134,7 +135,7 @@ impl WindowMap {
         })
     }
 
-    /// The grants to an ONU, found by a binary search. Empty if it granted the ONU nothing.
+    /// Finds the grants to an ONU, by a binary search. Empty if the map grants the ONU nothing.
     pub fn series(&self, onu: OnuId) -> &[Granted]
         requires { AreInMapOrder self.now.grants }
         ensures { result.now ≡ filter (λ g. g.onu == onu) self.now.grants }
@@ -142,7 +143,7 @@ impl WindowMap {
         self.placed_series(onu).grants
     }
 
-    /// The grants to an ONU, as [`WindowMap::series`] has them, and the index of the first.
+    /// Finds the grants to an ONU, as [`WindowMap::series`] does, and the index of the first.
     pub fn placed_series(&self, onu: OnuId) -> OnuGrants<'_>
         requires { AreInMapOrder self.now.grants }
         ensures within { result.first ≤ length self.now.grants }
@@ -151,7 +152,7 @@ impl WindowMap {
         series_of(&self.grants, onu)
     }
 
-    /// Returns whether an ONU reported for it.
+    /// Returns whether an ONU reported for the map.
     pub(crate) fn has_reported(&self, onu: OnuId) -> bool
         requires { IsLawfulMap self.now }
         ensures { result ≡ list_any (λ v. v == onu) self.now.reported }

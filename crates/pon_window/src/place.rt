@@ -1,4 +1,4 @@
-//! The frames of a window, which follow each other.
+//! The frames of a window, which are consecutive.
 
 ghost use Rattle.std.specs.Prelude.{◌≡◌, false, None, IfSome};
 ghost use Rattle.std.specs.List.{list_any};
@@ -7,7 +7,7 @@ ghost use Rattle.pon_window.specs.Window.{IsPlaceOf, AreConsecutive, frame_after
 use crate::map::WindowMap;
 use pon_units::FrameNo;
 
-/// The index of the map of a frame, by its distance from the first; `None` if no map is of it.
+/// Returns the index of the map of a frame, by its distance from the first; `None` if no map is of it.
 pub(crate) fn place_of(window: &[WindowMap], frame: FrameNo) -> Option<usize>
     requires { AreConsecutive (frame_after window.now) window.now }
     ensures none { result ≡ None → list_any (is_of frame) window.now ≡ false }

@@ -1,4 +1,4 @@
-//! Reports for the maps of a window: the checks that refuse one, and the note that it came.
+//! Reports for the maps of a window: the checks that refuse a report, and the note that an ONU reported.
 
 ghost use Rattle.std.specs.Prelude.{◌≡◌, ℕ, None, All, OnOk, OnErr, map};
 ghost use Rattle.pon_window.specs.Window.{IsLawfulMap, AreConsecutive, frame_after};
@@ -10,7 +10,7 @@ use pon_descr::Refusal;
 use pon_units::{FrameNo, OnuId};
 use std::alloc::AllocError;
 
-/// The first check that refuses a report of `count` occupancies.
+/// Returns the first check that refuses a report of `count` occupancies.
 pub(crate) fn report_refusal(
     window: &[WindowMap],
     frame: FrameNo,

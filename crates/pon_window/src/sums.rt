@@ -1,4 +1,4 @@
-//! Running sums beside the window, so that what was granted since a map is one difference.
+//! Running sums beside the window: the words granted since a map are the difference of two of them.
 
 ghost use Rattle.std.specs.Prelude.{◌≡◌, ◌≤◌, ◌^◌, ◌<◌, All, IfOk, IfSome, Some, length, position, sum_by, List, ℕ};
 ghost use Rattle.pon_units.specs.Granted.{AreInMapOrder};
@@ -11,8 +11,8 @@ use pon_units::{AllocId, FRAME_WORDS, Granted, OnuId};
 use std::alloc::{AllocError, Global};
 use std::marker::Model;
 
-/// Beside each grant of a map, in order, the words that earlier maps granted to its Alloc-ID under its ONU, counted from
-/// any map on, modulo 2^32.
+/// A sum for each grant of a map, in order: the words that earlier maps granted to its Alloc-ID under its ONU, counted
+/// from any map on, modulo 2^32.
 #[derive(Drop)]
 pub(crate) struct MapSums {
     before: Vec<u32>,
@@ -25,7 +25,7 @@ impl Model for MapSums {
 }
 
 impl MapSums {
-    /// Equal sums. `Err` only if memory is refused.
+    /// Makes equal sums. `Err` only if memory is refused.
     pub(crate) fn try_copy(&self, alloc: Global) -> Result<MapSums, AllocError>
         ensures { IfOk result (λ sums. sums ≡ self.now) }
     {
@@ -35,7 +35,7 @@ impl MapSums {
     }
 }
 
-// Whether a grant is to an Alloc-ID under an ONU.
+// Returns whether a grant is to an Alloc-ID under an ONU.
 fn is_to(granted: &Granted, onu: OnuId, alloc_id: AllocId) -> bool
     ensures { result ≡ is_to onu alloc_id granted.now }
 {
@@ -74,7 +74,7 @@ fn place_of_grant(grants: &[Granted], hint: usize, onu: OnuId, alloc_id: AllocId
     search_grant(grants, onu, alloc_id)
 }
 
-// The sum before the grant to an Alloc-ID under an ONU.
+// Returns the sum before the grant to an Alloc-ID under an ONU; `None` if the map has no such grant.
 fn sum_before(
     map: &WindowMap,
     sums: &MapSums,
@@ -96,7 +96,7 @@ fn sum_before(
     }
 }
 
-// The sum after that grant.
+// Returns the sum after the grant to an Alloc-ID under an ONU; `None` if the map has no such grant.
 fn sum_behind(
     map: &WindowMap,
     sums: &MapSums,
@@ -119,7 +119,7 @@ fn sum_behind(
     }
 }
 
-// The sum after the grant to an Alloc-ID under an ONU, if the grant is at the hint.
+// Returns the sum after the grant to an Alloc-ID under an ONU, if the grant is at the hint.
 #[inline]
 fn sum_at(
     map: &WindowMap,
@@ -142,7 +142,7 @@ fn sum_at(
     }
 }
 
-// The sum after the last grant to an Alloc-ID under an ONU, by a search from the last map on.
+// Finds the sum after the last grant to an Alloc-ID under an ONU, by a search from the last map back.
 fn search_sum(
     maps: &[WindowMap],
     sums: &[MapSums],
@@ -162,7 +162,7 @@ fn search_sum(
     }
 }
 
-// The sum after the last grant to an Alloc-ID under an ONU, if the last map has the grant at the hint.
+// Returns the sum after the last grant to an Alloc-ID under an ONU, if the last map has the grant at the hint.
 #[inline]
 fn sum_in_last(
     maps: &[WindowMap],
@@ -180,7 +180,7 @@ fn sum_in_last(
     sum_at(map, last, hint, onu, alloc_id)
 }
 
-// The sum after the last grant to an Alloc-ID under an ONU: from the last map if the hint is right, else by a search.
+// Returns the sum after the last grant to an Alloc-ID under an ONU, by a search if the last map lacks it at the hint.
 #[inline]
 fn sum_now(
     maps: &[WindowMap],
@@ -199,7 +199,7 @@ fn sum_now(
     }
 }
 
-/// The payload words that maps granted to an Alloc-ID under an ONU; the hint is its index among the grants.
+/// Returns the payload words that maps granted to an Alloc-ID under an ONU; the hint is its index among the grants.
 pub(crate) fn words_granted(
     maps: &[WindowMap],
     sums: &[MapSums],
@@ -231,7 +231,7 @@ pub(crate) fn words_granted(
     }
 }
 
-/// The sums beside the grants of the next map. `Err` only if memory is refused.
+/// Computes the sums beside the grants of the next map. `Err` only if memory is refused.
 pub(crate) fn next_sums(
     alloc: Global,
     maps: &[WindowMap],

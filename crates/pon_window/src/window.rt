@@ -10,17 +10,17 @@ use pon_units::{AllocId, FrameNo, Granted, OnuId};
 use std::alloc::{AllocError, Global};
 use std::marker::Model;
 
-/// The most maps of a window.
+/// The greatest number of maps in a window.
 pub const MOST_MAPS: usize = 64;
 
-/// The window of a port: its last 64 maps at most, for which reports may still come.
+/// The window of a port: its last maps, at most 64, for which reports may still come.
 ///
-/// Contracts see it as the list of its maps, the oldest first. The type keeps that their frames follow each other, that
-/// the grants of each are in map order, and that each ONU that reported was polled.
+/// Contracts see it as the list of its maps, the oldest first. The type's invariant is that their frames are
+/// consecutive, that the grants of each are in map order, and that each ONU that reported was polled.
 #[derive(Drop)]
 pub struct Window {
     maps: Vec<WindowMap>,
-    // Beside each map.
+    // The running sums of each map.
     sums: Vec<MapSums>,
 }
 
@@ -36,7 +36,7 @@ impl Model for Window {
     ghost invariant = { λ w. IsSummedWindow w.maps.items w.sums.items };
 }
 
-// Equal maps. `Err` only if memory is refused.
+// Makes equal maps. `Err` only if memory is refused.
 fn copied(alloc: Global, window: &[WindowMap]) -> Result<Vec<WindowMap>, AllocError>
     ensures { IfOk result (λ copy. copy.items ≡ window.now) }
 {
@@ -47,7 +47,7 @@ fn copied(alloc: Global, window: &[WindowMap]) -> Result<Vec<WindowMap>, AllocEr
     Ok(maps)
 }
 
-// Equal sums. `Err` only if memory is refused.
+// Makes equal sums. `Err` only if memory is refused.
 fn copied_sums(alloc: Global, sums: &[MapSums]) -> Result<Vec<MapSums>, AllocError>
     ensures { IfOk result (λ copy. copy.items ≡ sums.now) }
 {
@@ -58,7 +58,7 @@ fn copied_sums(alloc: Global, sums: &[MapSums]) -> Result<Vec<MapSums>, AllocErr
     Ok(copies)
 }
 
-// Adds what belongs to a map, and drops the oldest beyond [`MOST_MAPS`].
+// Appends an element, and drops the oldest if there are then more than [`MOST_MAPS`].
 fn add_to_window<T: Drop>(window: &mut Vec<T>, latest: T)
     requires few { length window.old.items ≤ MOST_MAPS }
     requires room { vec_len window.old < vec_capacity window.old }
@@ -77,7 +77,7 @@ impl Window {
     ghost use Rattle.pon_window.specs.Window.{IsPlaceOf, IsWindow, AreConsecutive, is_of, with_map, words_to};
     ghost use Rattle.pon_window.specs.Reports.{refuses_report, with_report};
 
-    /// A window of no maps. It takes no memory; what it holds later comes from this allocator.
+    /// Makes a window of no maps. It allocates no memory; maps added later use this allocator.
     pub fn open(alloc: Global) -> Window
         ensures { result ≡ [] }
     {
@@ -87,7 +87,7 @@ impl Window {
         }
     }
 
-    /// An equal window. `Err` only if memory is refused.
+    /// Makes an equal window. `Err` only if memory is refused.
     pub fn try_copy(&self, alloc: Global) -> Result<Window, AllocError>
         ensures { IfOk result (λ window. window ≡ self.now) }
     {
@@ -97,7 +97,7 @@ impl Window {
         })
     }
 
-    /// The maps, the oldest first: at most 64, of frames that follow each other.
+    /// Maps, the oldest first: at most 64, with consecutive frames.
     pub fn maps(&self) -> &[WindowMap]
         ensures value { result.now ≡ self.now }
         ensures lawful { IsWindow self.now }
@@ -105,7 +105,7 @@ impl Window {
         self.maps.as_slice()
     }
 
-    /// The index of the map of a frame; `None` if no map is of it.
+    /// Returns the index of the map of a frame; `None` if no map is of it.
     pub fn place_of(&self, frame: FrameNo) -> Option<usize>
         ensures none { result ≡ None → list_any (is_of frame) self.now ≡ false }
         ensures some { IfSome result (IsPlaceOf frame self.now) }
@@ -113,8 +113,8 @@ impl Window {
         place_of(&self.maps, frame)
     }
 
-    /// The payload words that the maps from an index on granted to an Alloc-ID under an ONU. The hint is the index of
-    /// the Alloc-ID among the grants of those maps; where it is, no search is needed.
+    /// Returns the payload words that the maps from an index on granted to an Alloc-ID under an ONU. The hint is an
+    /// index among the grants of a map; a map that has the Alloc-ID there is not searched.
     pub fn words_since(&self, place: usize, hint: usize, onu: OnuId, alloc_id: AllocId) -> u32
         requires { place ≤ length self.now }
         ensures { result ≡ sum_by (words_to onu alloc_id) (drop place self.now) }
@@ -124,9 +124,9 @@ impl Window {
         words_granted(maps, sums, hint, onu, alloc_id)
     }
 
-    /// The first check that refuses an ONU's report of `count` occupancies for the map of a frame: `StaleFrame` if no
-    /// map of the window is of the frame, `NotPolled` if that map grants the ONU nothing, `ReportCount` if it has another
-    /// number of structures for it, `AlreadyReported` if a report for it was taken.
+    /// Returns the first check that refuses an ONU's report of `count` occupancies for the map of a frame: `StaleFrame`
+    /// if no map of the window is of the frame, `NotPolled` if that map grants the ONU nothing, `ReportCount` if it has
+    /// another number of structures for it, `AlreadyReported` if a report for it was taken.
     pub fn report_refusal(&self, frame: FrameNo, onu: OnuId, count: usize) -> Option<Refusal>
         ensures { result ≡ refuses_report self.now frame onu count }
     {
@@ -143,8 +143,9 @@ impl Window {
         Ok(())
     }
 
-    /// Adds the map of a frame, and drops the oldest of more than 64. The grants are in map order, and the frame is that
-    /// of the last map plus 1, or any if the window is empty. `Err` only if memory is refused, and then nothing changes.
+    /// Adds the map of a frame, and drops the oldest if there are then more than 64. The grants must be in map order,
+    /// and the frame must be that of the last map plus 1, or any if the window is empty. `Err` only if memory is
+    /// refused, and then nothing changes.
     pub fn add(&mut self, frame: FrameNo, grants: &[Granted]) -> Result<(), AllocError>
         requires next { AreConsecutive frame self.old }
         requires map_order { AreInMapOrder grants.now }

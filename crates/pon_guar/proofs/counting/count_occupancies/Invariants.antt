@@ -5,7 +5,7 @@ use Rattle.pon_window.specs.Window.{words_to}
 use Rattle.pon_guar.specs.Reports.{after_occupancies}
 use Rattle.pon_guar.proofs.counting.count_occupancies.Given as goal
 
--- what is left to take in, from the accounts now, is what all is from the accounts at first
+-- counting the remaining occupancies in the present accounts gives the same as counting all in the first accounts
 abbrev pub invariant-loop-granted : goal.invariant-loop-granted
 invariant-loop-granted l = record {
   rising : AreRising (alloc_ids l.accounts);
