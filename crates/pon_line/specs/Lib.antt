@@ -2,3 +2,4 @@ pub mod Commands
 pub mod Faults
 pub mod Fields
 pub mod Reading
+pub mod Written

@@ -5,6 +5,7 @@ ghost use Rattle.std.specs.Str.{bytes_eq};
 ghost use Rattle.pon_text.specs.Lines.{words_of};
 ghost use Rattle.pon_line.specs.Commands.{admit, admit_of, no_arguments, change, change_of, event_of, fail_of, remove, remove_of, report_of};
 ghost use Rattle.pon_line.specs.Reading.{request_of, shows, takes};
+ghost use Rattle.pon_line.specs.Written.{rates_in};
 
 use crate::fault::LineFault;
 use crate::fields::{
@@ -22,13 +23,7 @@ use pon_units::{FrameNo, LONGEST_SERIES, OnuId};
 // Returns the event of an `admit`, or the first refusal of its numbers.
 #[tactic(auto, unfolding(crate::specs::Commands::admit))]
 fn admit(onu: u64, alloc: u64, rates: &Rates) -> Result<Event, LineFault>
-    ensures { result ≡ admit onu alloc
-        (record {
-          fixed = rates.now.fixed;
-          assured = rates.now.assured;
-          max = rates.now.max;
-          class = rates.now.class;
-        }) }
+    ensures { result ≡ admit onu alloc (rates_in rates.now) }
 {
     let Some(alloc_id) = alloc_id_of(alloc) else {
         return Err(LineFault::Port(Refusal::AllocRange));
@@ -49,13 +44,7 @@ fn admit(onu: u64, alloc: u64, rates: &Rates) -> Result<Event, LineFault>
 // Returns the event of a `change`, or the first refusal of its numbers.
 #[tactic(auto, unfolding(crate::specs::Commands::change))]
 fn change(alloc: u64, rates: &Rates) -> Result<Event, LineFault>
-    ensures { result ≡ change alloc
-        (record {
-          fixed = rates.now.fixed;
-          assured = rates.now.assured;
-          max = rates.now.max;
-          class = rates.now.class;
-        }) }
+    ensures { result ≡ change alloc (rates_in rates.now) }
 {
     let Some(alloc_id) = alloc_id_of(alloc) else {
         return Err(LineFault::Port(Refusal::AllocRange));

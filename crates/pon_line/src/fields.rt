@@ -5,6 +5,7 @@ ghost use Rattle.pon_descr.specs.Descriptor.{descriptor_refusal};
 ghost use Rattle.std.specs.Option.{SomeIff};
 ghost use Rattle.pon_text.specs.Lines.{words_of};
 ghost use Rattle.pon_line.specs.Fields.{number_field, descriptor_words, written_rates, rate_fields};
+ghost use Rattle.pon_line.specs.Written.{rates_in, words_in};
 
 use crate::fault::LineFault;
 use pon_descr::{Cause, Class, Descriptor, Refusal};
@@ -56,7 +57,7 @@ pub(crate) fn number_field(word: &[u8]) -> Result<u64, LineFault>
 #[tactic(auto, unfolding(crate::specs::Fields::descriptor_words))]
 pub(crate) fn descriptor_words(text: &[u8]) -> Result<DescriptorWords<'_>, LineFault>
     ensures { MatchResult result
-        (λ w. descriptor_words (words_of text.now) ≡ Ok (record { fixed = w.fixed.now; assured = w.assured.now; most = w.max.now; class = w.class.now }))
+        (λ w. descriptor_words (words_of text.now) ≡ Ok (words_in w))
         (λ fault. descriptor_words (words_of text.now) ≡ Err fault) }
 {
     let fixed = next_word(text)?;
@@ -77,8 +78,8 @@ pub(crate) fn descriptor_words(text: &[u8]) -> Result<DescriptorWords<'_>, LineF
 // Returns the rates and the class that the words write, or `None` if a word writes none.
 fn written_rates(words: &DescriptorWords<'_>) -> Option<Rates>
     ensures { MatchOption result
-        (written_rates (record { fixed = words.now.fixed.now; assured = words.now.assured.now; most = words.now.max.now; class = words.now.class.now }) ≡ None)
-        (λ r. written_rates (record { fixed = words.now.fixed.now; assured = words.now.assured.now; most = words.now.max.now; class = words.now.class.now }) ≡ Some (record { fixed = r.fixed; assured = r.assured; max = r.max; class = r.class })) }
+        (written_rates (words_in words.now) ≡ None)
+        (λ r. written_rates (words_in words.now) ≡ Some (rates_in r)) }
 {
     let fixed = number_of(words.fixed)?;
     let assured = number_of(words.assured)?;
@@ -96,8 +97,8 @@ fn written_rates(words: &DescriptorWords<'_>) -> Option<Rates>
 #[tactic(auto, unfolding(crate::specs::Fields::rate_fields))]
 pub(crate) fn rate_fields(words: &DescriptorWords<'_>) -> Result<Rates, LineFault>
     ensures { MatchResult result
-        (λ r. rate_fields (record { fixed = words.now.fixed.now; assured = words.now.assured.now; most = words.now.max.now; class = words.now.class.now }) ≡ Ok (record { fixed = r.fixed; assured = r.assured; max = r.max; class = r.class }))
-        (λ fault. rate_fields (record { fixed = words.now.fixed.now; assured = words.now.assured.now; most = words.now.max.now; class = words.now.class.now }) ≡ Err fault) }
+        (λ r. rate_fields (words_in words.now) ≡ Ok (rates_in r))
+        (λ fault. rate_fields (words_in words.now) ≡ Err fault) }
 {
     match written_rates(words) {
         Some(rates) => Ok(rates),
@@ -107,27 +108,9 @@ pub(crate) fn rate_fields(words: &DescriptorWords<'_>) -> Result<Rates, LineFaul
 
 /// Returns the descriptor of the requested rates and class, or the first refusal.
 pub(crate) fn descriptor_of(rates: &Rates) -> Result<Descriptor, Refusal>
-    ensures ok { IfOk result
-        (λ d. d ≡ record {
-          fixed = rates.now.fixed;
-          assured = rates.now.assured;
-          max = rates.now.max;
-          class = rates.now.class;
-        }) }
-    ensures lawful { IfOk result (λ d. descriptor_refusal
-        (record {
-          fixed = rates.now.fixed;
-          assured = rates.now.assured;
-          max = rates.now.max;
-          class = rates.now.class;
-        }) ≡ None) }
-    ensures refused { IfErr result (λ why. descriptor_refusal
-        (record {
-          fixed = rates.now.fixed;
-          assured = rates.now.assured;
-          max = rates.now.max;
-          class = rates.now.class;
-        }) ≡ Some why) }
+    ensures ok { IfOk result (λ d. d ≡ rates_in rates.now) }
+    ensures lawful { IfOk result (λ d. descriptor_refusal (rates_in rates.now) ≡ None) }
+    ensures refused { IfErr result (λ why. descriptor_refusal (rates_in rates.now) ≡ Some why) }
 {
     Descriptor::new(rates.fixed, rates.assured, rates.max, rates.class)
 }
