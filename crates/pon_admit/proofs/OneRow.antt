@@ -85,6 +85,10 @@ has_alloc-some i k x rows found =
     let at : (k < length rows) × (((get_or rows k x).alloc_id == i) ≡ true) × ((j : ℕ) → j < k → ((get_or rows j x).alloc_id == i) ≡ false) = position-Some (λ r. r.alloc_id == i) rows k x found in
     list_any_at (λ r. r.alloc_id == i) rows k x at.0 at.1
 
+pub has_alloc-there : (i k : ℕ) (rows : List Row) → position (λ r. r.alloc_id == i) rows ≡ Some k → has_alloc i rows ≡ true
+has_alloc-there i k [] found = grind (arith, found)
+has_alloc-there i k (r ∷ rows) found = has_alloc-some i k r (r ∷ rows) found
+
 -- no other row has its Alloc-ID
 pub others : (i : ℕ) (xs ys : List Row) (x : Row) → IsDistinct (xs ++ x ∷ ys) → x.alloc_id ≡ i → has_alloc i (xs ++ ys) ≡ false
 others i [] ys x h e = subst (λ j. has_alloc j ys ≡ false) e h.0

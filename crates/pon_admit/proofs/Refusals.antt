@@ -13,8 +13,9 @@ use Rattle.pon_lists.specs.Distinct.{distinct}
 use Rattle.pon_admit.specs.Kept.{AreSums, IsKeptRoster}
 use Rattle.pon_admit.specs.Roster.{sums_fit, IsAdmitted, IsInRange, Roster, Row, Rule, comes_before, fits, has_alloc, has_onu, longest_series, most_allocs, most_onus, onus_of, owned, refuses_admit, refuses_change, refuses_remove, with_descriptor, with_row, without}
 use Rattle.pon_admit.proofs.AdmittedSets.{admit_keeps, change_keeps, changed, onus-changed, remove_keeps, with_new}
-use Rattle.pon_admit.proofs.OneRow.{Stands, insert_in_order, remove_found, set_found, stands, has_alloc-none, has_alloc-some, length-with_row, not-has_onu, onus-with_row, onus-without, promised_sum-changed, promised_sum-with_row, promised_sum-without}
+use Rattle.pon_admit.proofs.OneRow.{Stands, insert_in_order, remove_found, set_found, stands, has_alloc-none, has_alloc-some, has_alloc-there, length-with_row, not-has_onu, onus-with_row, onus-without, promised_sum-changed, promised_sum-with_row, promised_sum-without}
 use Rattle.std.proofs.lemmas.List.{length-map}
+use Rattle.std.proofs.lemmas.List.Quantifiers.{position-Some}
 
 -- the sums decide whether a set fits
 fits-sums : (rule : Rule) (gap n m s : ℕ) (rows : List Row) → AreSums n s rows → m ≡ length rows → fits rule gap rows ≡ sums_fit rule gap n m s
@@ -125,6 +126,9 @@ kept_with_row {t = t} {rule = rule} {g = g} {n' = n'} {s' = s'} {rows = rows} k 
     let after : AreSums n' s' (with_row r rows) = subst (λ u. AreSums n' s' (with_row r u.rows)) (sym view) sums in
     subst (IsKeptRoster rule g n' s') (sym (e ∙ subst (λ u. insert u.rows k r ≡ with_row r u.rows) (sym view) place)) (record { admitted = admitted; sums = after })
 
+pub refused_not : {q : Option Refusal} {why : Refusal} → q ≡ Some why → q ≡ None → ⊥
+refused_not some none = grind (arith, some, none)
+
 pub told : (q : Option Refusal) (why : Refusal) → q ≡ Some why → IsTold q why
 told q why h = subst (λ q. IsTold q why) (sym h) refl
 
@@ -152,6 +156,11 @@ refuses_change-absent {t = t} i d view same none =
 pub refuses_remove-absent : {t : Roster} {rule : Rule} {g : ℕ} {rows seen : List Row} (i : ℕ) → record { rule = rule; gap = g; rows = rows } ≡ t → seen ≡ rows → None ≡ position (λ r. r.alloc_id == i) seen → refuses_remove t.rows i ≡ Some NoSuchAlloc
 refuses_remove-absent i view same none = ap (λ b. when (not b) NoSuchAlloc) (absent_here i view same none)
 
+pub refuses_remove-there : {t : Roster} {rule : Rule} {g k : ℕ} {rows seen : List Row} (i : ℕ) → record { rule = rule; gap = g; rows = rows } ≡ t → seen ≡ rows → Some k ≡ position (λ r. r.alloc_id == i) seen → refuses_remove t.rows i ≡ None
+refuses_remove-there {k = k} {rows = rows} i view same found =
+    subst (λ u. refuses_remove u.rows i ≡ None) view
+    (ap (λ b. when (not b) NoSuchAlloc) (has_alloc-there i k rows (sym (found ∙ ap (λ u. position (λ r. r.alloc_id == i) u) same))))
+
 module _ {t : Roster} {rule : Rule} {i g n s : ℕ} {rows : List Row} {k : ℕ} {x : Row} (h : Finds t rule i g n s rows k x) where
   stands_here : Stands i k x rows
   stands_here = stands i k x rows h.kept.admitted.apart h.found h.here
@@ -174,6 +183,9 @@ module _ {t : Roster} {rule : Rule} {i g n s : ℕ} {rows : List Row} {k : ℕ} 
       = fits-sums rule g n len s' (with_descriptor i d rows) (changed_here d s' e) (omega (arith, l, length-map rows (changed i d))) ∙ fitting in
       subst (λ u. refuses_change u.rule u.gap u.rows i d ≡ when (not b) Capacity) h.view
       ((λ j. first_of (when (not (has_alloc-some i k x rows h.found j)) NoSuchAlloc ∷ when (not (same j)) Capacity ∷ [])) ∙ alone b)
+
+  pub replaced : (d : Descriptor) → set rows k (with_new d x) ≡ with_descriptor i d rows
+  replaced d = set_found i k d x rows stands_here (position-Some (λ r. r.alloc_id == i) rows k x h.found).0
 
   -- It is removed.
 
@@ -203,12 +215,6 @@ kept_changed {t = t} {rule = rule} {g = g} {n' = n'} {s' = s'} {rows = rows} i d
     let admitted : IsAdmitted rule g (with_descriptor i d rows) = change_keeps rule g rows i d (subst (λ u. refuses_change u.rule u.gap u.rows i d ≡ None) (sym view) free) l kept.admitted in
     let after : AreSums n' s' (with_descriptor i d rows) = subst (λ u. AreSums n' s' (with_descriptor i d u.rows)) (sym view) sums in
     subst (IsKeptRoster rule g n' s') (sym e) (record { admitted = admitted; sums = after })
-
--- the row that replaces the one found
-pub replaced : {t : Roster} {rule : Rule} {g n s : ℕ} {rows : List Row} (i k : ℕ) (d : Descriptor) (x : Row) → IsKeptRoster rule g n s rows → record { rule = rule; gap = g; rows = rows } ≡ t → position (λ r. r.alloc_id == i) t.rows ≡ Some k →
-    k < length t.rows → x ≡ get_or rows k x → set rows k (with_new d x) ≡ with_descriptor i d rows
-replaced {rows = rows} i k d x kept view found lt here =
-    set_found i k d x rows (stands i k x rows kept.admitted.apart (subst (λ u. position (λ r. r.alloc_id == i) u.rows ≡ Some k) (sym view) found) here) (subst (λ u. k < length u.rows) (sym view) lt)
 
 pub kept_without : {t : Roster} {rule : Rule} {g n s n' s' : ℕ} {rows rows' : List Row} (k i : ℕ) → IsKeptRoster rule g n s rows → record { rule = rule; gap = g; rows = rows } ≡ t → remove t.rows k ≡ without i t.rows →
     AreSums n' s' (without i t.rows) → rows' ≡ remove rows k → IsKeptRoster rule g n' s' rows'

@@ -18,13 +18,22 @@ impl Row {
         ensures row { result ≡ record { onu = onu; alloc_id = alloc_id; descriptor = descriptor } }
         ensures in_range { IsInRange result }
     {
-        prove!(onu.get() <= GREATEST_ONU_ID);
-        prove!(alloc_id.get() >= LEAST_ALLOC_ID && alloc_id.get() <= GREATEST_ALLOC_ID);
-        prove!(u64::from(descriptor.promised().get()) <= LINE_RATE);
-        Row {
+        let row = Row {
             onu,
             alloc_id,
             descriptor,
-        }
+        };
+        row.in_range();
+        row
+    }
+
+    /// A row is in range, since the types of its fields are.
+    pub(crate) fn in_range(&self)
+        ensures { IsInRange self.now }
+    {
+        let alloc_id = self.alloc_id.get();
+        prove!(self.onu.get() <= GREATEST_ONU_ID);
+        prove!(alloc_id >= LEAST_ALLOC_ID && alloc_id <= GREATEST_ALLOC_ID);
+        prove!(u64::from(self.descriptor.promised().get()) <= LINE_RATE);
     }
 }

@@ -1,5 +1,5 @@
 -- The commands of management lines: what the words after the port request.
-use Rattle.std.specs.Prelude.{ℕ, ◌==◌, ◌||◌, nat_lt, if◌then◌else◌, List, [], ◌∷◌, length, codes, Option, Some, None, Result, Ok, Err}
+use Rattle.std.specs.Prelude.{ℕ, ◌≤◌, ◌==◌, ◌||◌, nat_lt, if◌then◌else◌, List, [], ◌∷◌, length, codes, Option, Some, None, Result, Ok, Err}
 use Rattle.std.specs.Str.{bytes_eq}
 use Rattle.pon_units.specs.declared.limits.TheConstants.{GREATEST_ALLOC_ID, GREATEST_OCCUPANCY, GREATEST_ONU_ID, LEAST_ALLOC_ID, LONGEST_SERIES}
 use Rattle.pon_descr.specs.Checks.{when, first_of}
@@ -73,6 +73,11 @@ occupancy_fields (w ∷ ws) = do
 
 unfoldable pub report : ℕ → ℕ → List (Option ℕ) → Result Event LineFault
 report frame onu ns = unless (onu_refusal onu) (Report frame onu ns)
+
+-- the number of occupancies of a report
+pub record IsReportCount (n : ℕ) : Type 0 where
+  pub some : 1 ≤ n
+  pub few : n ≤ LONGEST_SERIES
 
 -- the words after `report`: frame, onu, and 1 to 16 occupancies
 unfoldable pub report_of : List (List ℕ) → Result Event LineFault

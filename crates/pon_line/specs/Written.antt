@@ -1,5 +1,4 @@
 -- The words and the rates of a descriptor, as the definitions see those that the code holds.
-use Rattle.std.specs.Prelude.{ℕ}
 use Rattle.pon_descr.specs.Descriptor.{Descriptor}
 use Rattle.pon_line.specs.Fields.{DescriptorWords}
 use Rattle.pon_line.specs.declared.fields.DescriptorWords.{DescriptorWords as LentWords}

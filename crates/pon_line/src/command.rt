@@ -17,8 +17,8 @@ use crate::reading::Reading;
 use pon_dbru::Occupancies;
 use pon_descr::Refusal;
 use pon_event::Event;
-use pon_text::{Word, count_words, first_word};
-use pon_units::{FrameNo, LONGEST_SERIES, OnuId};
+use pon_text::{Word, first_word};
+use pon_units::{FrameNo, OnuId};
 
 // Returns the event of an `admit`, or the first refusal of its numbers.
 #[tactic(auto, unfolding(crate::specs::Commands::admit))]
@@ -124,13 +124,9 @@ fn read_report(text: &[u8], occ: &mut Occupancies) -> Result<Reporter, LineFault
 {
     let frame = next_word(text)?;
     let onu = next_word(frame.rest)?;
-    let count = count_words(onu.rest);
-    if count == 0 || count > LONGEST_SERIES {
-        return Err(LineFault::WordCount);
-    }
+    occupancy_fields(onu.rest, occ)?;
     let frame = number_field(frame.word)?;
     let number = number_field(onu.word)?;
-    occupancy_fields(onu.rest, occ)?;
     match onu_id_of(number) {
         Some(onu) => Ok(Reporter {
             frame: FrameNo::new(frame),

@@ -1,14 +1,14 @@
 //! The occupancies of a `report`.
 
-ghost use Rattle.std.specs.Prelude.{◌≡◌, ◌≤◌, ◌<◌, [], length, Ok, Err, MatchResult};
+ghost use Rattle.std.specs.Prelude.{◌≡◌, ◌≤◌, ◌<◌, ◌+◌, ◌∷◌, [], ℕ, List, nat_lt, if◌then◌else◌, length, Ok, Err, IfErr, OnOk};
 ghost use Rattle.std.specs.Option.{SomeIff};
 ghost use Rattle.pon_text.specs.Lines.{words_of};
-ghost use Rattle.pon_line.specs.Commands.{occupancy_field, occupancy_fields};
+ghost use Rattle.pon_line.specs.Commands.{IsReportCount, occupancy_field, occupancy_fields, report_of};
 
 use crate::fault::LineFault;
 use crate::fields::number_field;
 use pon_dbru::Occupancies;
-use pon_text::first_word;
+use pon_text::{count_words, first_word};
 use pon_units::{BufOcc, GREATEST_OCCUPANCY, LONGEST_SERIES};
 
 // Returns the occupancy of a number of words, or `None` above 16,777,215.
@@ -32,22 +32,45 @@ fn occupancy_field(word: &[u8]) -> Result<Option<BufOcc>, LineFault>
     }
 }
 
-/// Appends the occupancies that the words of a text write, at most 16, to the empty list. After an `Err` the list has
-/// those before the first word that writes none.
+// Returns the fault of a report with this fault after so many words of occupancies: `WordCount` if the words after it
+// make them more than 16.
+fn first_fault(fault: LineFault, before: usize, rest: &[u8]) -> LineFault
+    requires { before < LONGEST_SERIES }
+    ensures { result ≡ (if nat_lt LONGEST_SERIES (before + 1 + length (words_of rest.now))
+        then LineFault.WordCount else fault) }
+{
+    if count_words(rest) >= LONGEST_SERIES - before {
+        LineFault::WordCount
+    } else {
+        fault
+    }
+}
+
+/// Appends the occupancies that the words of a text write to the empty list, in one pass. The error is that of a report
+/// with these words, whatever words its frame and its ONU are: `WordCount` unless there are 1 to 16, otherwise
+/// `BadField`. After an error the list has those before the fault.
 pub(crate) fn occupancy_fields(text: &[u8], occupancies: &mut Occupancies) -> Result<(), LineFault>
     requires empty { occupancies.old ≡ [] }
-    requires few { length (words_of text.now) ≤ LONGEST_SERIES }
-    ensures { MatchResult result
-        (λ done. occupancy_fields (words_of text.now) ≡ Ok occupancies.new)
-        (λ fault. occupancy_fields (words_of text.now) ≡ Err fault) }
+    ensures count { OnOk result (IsReportCount (length (words_of text.now))) }
+    ensures ok { OnOk result (occupancy_fields (words_of text.now) ≡ Ok occupancies.new) }
+    ensures err { IfErr result (λ fault. (frame onu : List ℕ) →
+        report_of (frame ∷ onu ∷ words_of text.now) ≡ Err fault) }
 {
     let mut rest = text;
+    let mut count = 0;
     while let Some(word) = first_word(rest) {
+        if count == LONGEST_SERIES {
+            return Err(LineFault::WordCount);
+        }
         match occupancy_field(word.word) {
             Ok(occupancy) => occupancies.push(occupancy),
-            Err(fault) => return Err(fault),
+            Err(fault) => return Err(first_fault(fault, count, word.rest)),
         }
+        count += 1;
         rest = word.rest;
+    }
+    if count == 0 {
+        return Err(LineFault::WordCount);
     }
     Ok(())
 }

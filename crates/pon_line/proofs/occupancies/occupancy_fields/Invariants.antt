@@ -7,7 +7,9 @@ use Rattle.pon_line.proofs.occupancies.occupancy_fields.Given as goal
 -- the occupancies so far, followed by those that the remaining words write, are those of all words
 abbrev pub invariant-loop-word : goal.invariant-loop-word
 invariant-loop-word l = record {
-  few : length l.occupancies + length (words_of l.rest) ≤ 16;
+  few : l.count ≤ 16;
+  read : length l.occupancies ≡ l.count;
+  count : l.count + length (words_of l.rest) ≡ length (words_of l.text);
   all : after_those l.occupancies (occupancy_fields (words_of l.rest)) ≡ occupancy_fields (words_of l.text);
 }
 
