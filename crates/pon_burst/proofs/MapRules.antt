@@ -9,7 +9,7 @@ use Rattle.pon_units.specs.declared.Granted.{Granted}
 use Rattle.pon_units.specs.Granted.{AreInMapOrder, ComesBefore}
 use Rattle.pon_units.specs.declared.limits.TheConstants.{FRAME_WORDS}
 use Rattle.pon_lists.proofs.Lists.{count_by-append}
-use Rattle.pon_bwmap.specs.Structure.{Structure}
+use Rattle.pon_bwmap.specs.Alloc.{Alloc}
 use Rattle.pon_bwmap.specs.MapRules.{continues as lacks_start, IsMap}
 use Rattle.pon_bwmap.proofs.SeriesLaw.{map_rules}
 use Rattle.pon_burst.specs.Bursts.{IsInFrame, burst_of, bursts_of, continued}
@@ -19,9 +19,9 @@ use Rattle.pon_lists.proofs.Order.{in_order-sides}
 use Rattle.pon_burst.proofs.SoundMaps.{sound_of_rising}
 
 -- a burst within the frame starts in it
-starts_in_frame : (gap : ℕ) (rows : List Structure) → All (IsInFrame gap) (bursts_of rows) → (k start : ℕ) (a : Structure) → slice_get rows k ≡ Some a → a.start ≡ Some start → start < FRAME_WORDS
+starts_in_frame : (gap : ℕ) (rows : List Alloc) → All (IsInFrame gap) (bursts_of rows) → (k start : ℕ) (a : Alloc) → slice_get rows k ≡ Some a → a.start ≡ Some start → start < FRAME_WORDS
 starts_in_frame gap [] h k start a here is = absurd (cc)
-starts_in_frame gap (b ∷ rows) h zero start a here is = first b.start h (let same : b.start ≡ Some start = (let e : b ≡ a = cc in ap (λ (x : Structure). x.start) e ∙ is) in same)
+starts_in_frame gap (b ∷ rows) h zero start a here is = first b.start h (let same : b.start ≡ Some start = (let e : b ≡ a = cc in ap (λ (x : Alloc). x.start) e ∙ is) in same)
   where
     first : (o : Option ℕ) → All (IsInFrame gap) (burst_of b rows o ++ bursts_of rows) → o ≡ Some start → start < FRAME_WORDS
     first None h e = absurd (cc)
@@ -39,7 +39,7 @@ abbrev of_onu : ℕ → Granted → ℕ
 of_onu u g = cond (g.onu == u) 1 0
 
 module _ (gap profile : ℕ) (gs : List Granted) (order : AreInMapOrder gs) where
-  abbrev row : Granted → Structure
+  abbrev row : Granted → Alloc
   row g = structure_of gap profile gs g
 
   -- whether structure k of these grants continues a series

@@ -6,7 +6,7 @@ use Rattle.std.proofs.lemmas.List.{append-nil, drop_more, map-append, take-appen
 use Rattle.std.proofs.lemmas.Grind.{flat_map-append}
 use Rattle.pon_units.specs.declared.Granted.{Granted}
 use Rattle.pon_units.specs.Granted.{AreInMapOrder}
-use Rattle.pon_bwmap.specs.Structure.{Structure}
+use Rattle.pon_bwmap.specs.Alloc.{Alloc}
 use Rattle.pon_burst.specs.Maps.{follows_in_series, start_of, structure_of}
 use Rattle.pon_burst.specs.Series.{Series, burst_structures, burst_words, grants_of_series, granted_to, polled}
 use Rattle.pon_burst.proofs.MapRows.{follows_in_series-is, has_onu, has_pushed, start-is, word_after}
@@ -16,7 +16,7 @@ module _ (gap profile : ℕ) (gs : List Granted) (order : AreInMapOrder gs) (u :
   abbrev grants_of : List (ℕ × ℕ) → List Granted
   grants_of bs = map (granted_of u) bs
 
-  abbrev structures_of : List (ℕ × ℕ) → List Structure
+  abbrev structures_of : List (ℕ × ℕ) → List Alloc
   structures_of bs = map (structure_of gap profile gs) (grants_of bs)
 
   -- structures of an ONU with an earlier structure continue its burst
@@ -49,7 +49,7 @@ granted_more series k s lt here =
     ap grants_of_series (series_more series k s lt here) ∙ flat_map-append granted_to (take k series) (s ∷ []) ∙ ap (λ gs. grants_of_series (take k series) ++ gs) (append-nil (granted_to s))
 
 -- series k is written after those before it
-pub series_written : (gap profile : ℕ) (series : List Series) (k : ℕ) (s : Series) (start : ℕ) (front : List Structure) → Rise series → k < length series → s ≡ get_or series k s
+pub series_written : (gap profile : ℕ) (series : List Series) (k : ℕ) (s : Series) (start : ℕ) (front : List Alloc) → Rise series → k < length series → s ≡ get_or series k s
     → start ≡ gap + sum_by (burst_words gap) (take k series) → front ≡ map (structure_of gap profile (grants_of_series series)) (grants_of_series (take k series))
     → front ++ burst_structures profile start s.1.items ≡ map (structure_of gap profile (grants_of_series series)) (grants_of_series (take (k + 1) series))
 series_written gap profile series k s start front r lt here begins written =

@@ -4,7 +4,7 @@ use Rattle.std.specs.Prelude.{ℕ, ◌+◌, ◌*◌, ◌==◌, ◌&&◌, nat_lt,
 use Rattle.std.specs.List.{list_any}
 use Rattle.pon_units.specs.declared.Granted.{Granted}
 use Rattle.pon_units.specs.Granted.{onus_granted}
-use Rattle.pon_bwmap.specs.Structure.{Structure}
+use Rattle.pon_bwmap.specs.Alloc.{Alloc}
 
 -- GrantSize of a grant: one word for the report, and the payload words
 abbrev pub grant : Granted → ℕ
@@ -25,7 +25,7 @@ module _ (gap profile : ℕ) (gs : List Granted) where
   abbrev pub follows_in_series : Granted → Bool
   follows_in_series g = list_any (λ h. h.onu == g.onu && nat_lt h.alloc_id g.alloc_id) gs
 
-  abbrev pub structure_of : Granted → Structure
+  abbrev pub structure_of : Granted → Alloc
   structure_of g = record {
     id = g.alloc_id;
     dbru = true;
@@ -37,5 +37,5 @@ module _ (gap profile : ℕ) (gs : List Granted) where
   }
 
   -- a structure for each grant, in order
-  abbrev pub map_granting : List Structure
+  abbrev pub map_granting : List Alloc
   map_granting = map structure_of gs

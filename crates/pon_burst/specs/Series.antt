@@ -3,7 +3,7 @@ use Rattle.std.specs.Prelude.{ℕ, ◌+◌, ◌<◌, ◌≤◌, true, false, Lis
 use Rattle.pon_units.specs.declared.limits.TheConstants.{FRAME_WORDS}
 use Rattle.arrayvec.specs.ArrayVec.{ArrayVec}
 use Rattle.pon_units.specs.declared.Granted.{Granted}
-use Rattle.pon_bwmap.specs.Structure.{Structure}
+use Rattle.pon_bwmap.specs.Alloc.{Alloc}
 
 -- an ONU, with its Alloc-IDs and the payload words of each
 abbrev pub Series : Type 0
@@ -29,10 +29,10 @@ pub record FitsFrame (gap : ℕ) (series : List Series) : Type 0 where
   pub words : sum_by (burst_words gap) series ≤ FRAME_WORDS
 
 -- a structure that polls an Alloc-ID and grants it its payload words
-abbrev pub polled : ℕ → Option ℕ → ℕ × ℕ → Structure
+abbrev pub polled : ℕ → Option ℕ → ℕ × ℕ → Alloc
 polled profile start a = record { id = a.0; dbru = true; ploam = false; start = start; grant = 1 + a.1; fwi = false; profile = profile }
 
 -- the structures of a burst: the first has its start
-abbrev pub burst_structures : ℕ → ℕ → List (ℕ × ℕ) → List Structure
+abbrev pub burst_structures : ℕ → ℕ → List (ℕ × ℕ) → List Alloc
 burst_structures profile start [] = []
 burst_structures profile start (a ∷ more) = polled profile (Some start) a ∷ map (polled profile None) more

@@ -4,9 +4,9 @@ use Rattle.std.proofs.lemmas.Bool.{cases_lt}
 use Rattle.pon_lists.specs.Bytes.{AreBytes}
 use Rattle.pon_lists.proofs.Bytes.{bytes-drop, bytes-from_All}
 use Rattle.pon_xgtc.specs.Header.{IsHeaderFault}
-use Rattle.pon_xgtc.specs.MapHead.{MapHead, ReadsMapHead}
+use Rattle.pon_xgtc.specs.HLend.{HLend, ReadsHLend}
 use Rattle.pon_xgtc.specs.declared.fault.HeadFault.TheVariants.{Hec}
-use Rattle.pon_bwmap.specs.Structure.{Structure}
+use Rattle.pon_bwmap.specs.Alloc.{Alloc}
 use Rattle.pon_bwmap.specs.MapBytes.{structure_payload}
 use Rattle.pon_bwmap.specs.MapRules.{row_fault}
 use Rattle.pon_bwmap.specs.MapReading.{ReadsRows, ReadsMapRows, map_size}
@@ -22,7 +22,7 @@ use Rattle.pon_bwmap.proofs.RowReading.{fault-append}
 pub data RowsEnd (bytes : List ℕ) (count : ℕ) (f : MapFault) : Type 0 where
   Lost : (k : ℕ) → k < count → LosesStructure bytes k → f ≡ StructHec k → RowsEnd bytes count f
   Broken : (k : ℕ) → k < count → BreaksRule bytes k f → RowsEnd bytes count f
-  Read : (rows : List Structure) (corrected : ℕ) → ReadsMapRows bytes count rows corrected → f ≡ Memory → RowsEnd bytes count f
+  Read : (rows : List Alloc) (corrected : ℕ) → ReadsMapRows bytes count rows corrected → f ≡ Memory → RowsEnd bytes count f
 
 rows_end : (bytes : List ℕ) (count : ℕ) (f : MapFault) → IsRowsFirstFault bytes count f → RowsEnd bytes count f
 rows_end bytes count (StructHec k) h = Lost k h.0 h.1 refl
@@ -35,14 +35,14 @@ rows_end bytes count HeadHec h = absurd h
 rows_end bytes count TooMany h = absurd h
 
 -- a structure that reads is not lost
-not_lost : (bytes : List ℕ) (rows : List Structure) (corrected k : ℕ) → ReadsRows bytes rows corrected → k < length rows → LosesStructure bytes k → ⊥
+not_lost : (bytes : List ℕ) (rows : List Alloc) (corrected k : ℕ) → ReadsRows bytes rows corrected → k < length rows → LosesStructure bytes k → ⊥
 not_lost bytes rows corrected k r lt l = let at = row_at bytes rows corrected k r lt in l.lost (structure_payload at.0) at.1 at.2.word
 
 -- a structure that keeps the rules does not break one
-not_broken : (bytes : List ℕ) (rows : List Structure) (corrected k : ℕ) (fault : MapFault) → AreBytes bytes → ReadsRows bytes rows corrected → k < length rows → row_fault rows k ≡ None → BreaksRule bytes k fault → ⊥
+not_broken : (bytes : List ℕ) (rows : List Alloc) (corrected k : ℕ) (fault : MapFault) → AreBytes bytes → ReadsRows bytes rows corrected → k < length rows → row_fault rows k ≡ None → BreaksRule bytes k fault → ⊥
 not_broken bytes rows corrected k fault are r lt none b =
     let first = first_rows bytes b.rows rows b.corrected corrected are b.reads r (omega (arith, b.counted, lt)) in
-    let here : row_fault rows k ≡ Some fault = ap (λ (rs : List Structure). row_fault rs k) first.1 ∙ fault-append b.rows first.0 k (omega (arith, b.counted)) ∙ b.breaks in
+    let here : row_fault rows k ≡ Some fault = ap (λ (rs : List Alloc). row_fault rs k) first.1 ∙ fault-append b.rows first.0 k (omega (arith, b.counted)) ∙ b.breaks in
     let wrong : Some fault ≡ None = sym here ∙ none in
     absurd (cc)
 
@@ -61,13 +61,13 @@ broken_broken bytes k l f g are a b lt = not_broken bytes b.rows b.corrected k f
 same_break : (bytes : List ℕ) (k l : ℕ) (f g : MapFault) → AreBytes bytes → BreaksRule bytes k f → BreaksRule bytes l g → k ≡ l → f ≡ g
 same_break bytes k l f g are a b e =
     let rows = one_rows bytes a.rows b.rows a.corrected b.corrected are a.reads b.reads (omega (arith, a.counted, b.counted, e)) in
-    let both : Some f ≡ Some g = sym a.breaks ∙ ap (λ (rs : List Structure). row_fault rs k) rows.0 ∙ ap (λ (i : ℕ). row_fault b.rows i) e ∙ b.breaks in
+    let both : Some f ≡ Some g = sym a.breaks ∙ ap (λ (rs : List Alloc). row_fault rs k) rows.0 ∙ ap (λ (i : ℕ). row_fault b.rows i) e ∙ b.breaks in
     cc
 
-read_lost : (bytes : List ℕ) (count k : ℕ) (rows : List Structure) (corrected : ℕ) → ReadsMapRows bytes count rows corrected → k < count → LosesStructure bytes k → ⊥
+read_lost : (bytes : List ℕ) (count k : ℕ) (rows : List Alloc) (corrected : ℕ) → ReadsMapRows bytes count rows corrected → k < count → LosesStructure bytes k → ⊥
 read_lost bytes count k rows corrected r lt l = not_lost bytes rows corrected k r.reads (omega (arith, r.counted, lt)) l
 
-read_broken : (bytes : List ℕ) (count k : ℕ) (f : MapFault) (rows : List Structure) (corrected : ℕ) → AreBytes bytes → ReadsMapRows bytes count rows corrected → k < count → BreaksRule bytes k f → ⊥
+read_broken : (bytes : List ℕ) (count k : ℕ) (f : MapFault) (rows : List Alloc) (corrected : ℕ) → AreBytes bytes → ReadsMapRows bytes count rows corrected → k < count → BreaksRule bytes k f → ⊥
 read_broken bytes count k f rows corrected are r lt b = not_broken bytes rows corrected k f are r.reads (omega (arith, r.counted, lt)) (r.is_map.keep_rules k (omega (arith, r.counted, lt))) b
 
 one_end : (bytes : List ℕ) (count : ℕ) (f g : MapFault) → AreBytes bytes → RowsEnd bytes count f → RowsEnd bytes count g → f ≡ g
@@ -96,7 +96,7 @@ one_end bytes count f g are (Read rows corrected r e) (Read rows2 corrected2 r2 
 -- ---- the whole map
 
 -- the outcomes after the head: too many structures, too few bytes, or a fault of the structures
-pub data HeadEnd (bytes : List ℕ) (head : MapHead) (f : MapFault) : Type 0 where
+pub data HeadEnd (bytes : List ℕ) (head : HLend) (f : MapFault) : Type 0 where
   Many : 512 < head.n → f ≡ TooMany → HeadEnd bytes head f
   Cut : head.n ≤ 512 → length bytes < map_size head → f ≡ Short → HeadEnd bytes head f
   Rows : head.n ≤ 512 → map_size head ≤ length bytes → IsRowsFirstFault (drop 4 bytes) head.n f → HeadEnd bytes head f
@@ -105,7 +105,7 @@ pub data HeadEnd (bytes : List ℕ) (head : MapHead) (f : MapFault) : Type 0 whe
 pub data MapEnd (bytes : List ℕ) (f : MapFault) : Type 0 where
   NoHead : length bytes < 4 → f ≡ Short → MapEnd bytes f
   LostHead : IsHeaderFault bytes Hec → f ≡ HeadHec → MapEnd bytes f
-  Head : (head : MapHead) (corrected : ℕ) → ReadsMapHead bytes head corrected → HeadEnd bytes head f → MapEnd bytes f
+  Head : (head : HLend) (corrected : ℕ) → ReadsHLend bytes head corrected → HeadEnd bytes head f → MapEnd bytes f
 
 of_rows : (bytes : List ℕ) (f : MapFault) → IsFaultOfRows bytes f → MapEnd bytes f
 of_rows bytes f h = Head h.head h.corrected h.reads_head.reads (Rows h.reads_head.count h.reads_head.whole h.in_rows)
@@ -121,7 +121,7 @@ map_end bytes (StartRange k) h = of_rows bytes (StartRange k) h
 map_end bytes (SeriesLong k) h = of_rows bytes (SeriesLong k) h
 map_end bytes Memory h = of_rows bytes Memory h
 
-one_head_end : (bytes : List ℕ) (h i : MapHead) (f g : MapFault) → AreBytes bytes → h.n ≡ i.n → h.p ≡ i.p → HeadEnd bytes h f → HeadEnd bytes i g → f ≡ g
+one_head_end : (bytes : List ℕ) (h i : HLend) (f g : MapFault) → AreBytes bytes → h.n ≡ i.n → h.p ≡ i.p → HeadEnd bytes h f → HeadEnd bytes i g → f ≡ g
 one_head_end bytes h i f g are n p (Many a e) (Many b e2) = e ∙ sym e2
 one_head_end bytes h i f g are n p (Many a e) (Cut b c e2) = absurd (omega (arith, a, b, n))
 one_head_end bytes h i f g are n p (Many a e) (Rows b c r) = absurd (omega (arith, a, b, n))

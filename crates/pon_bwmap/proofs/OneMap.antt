@@ -5,9 +5,9 @@ use Rattle.std.proofs.lemmas.List.{drop-drop}
 use Rattle.pon_hec.proofs.Unique.{one_reading}
 use Rattle.pon_lists.specs.Bytes.{AreBytes}
 use Rattle.pon_lists.proofs.Bytes.{bytes-drop, bytes-from_All}
-use Rattle.pon_xgtc.specs.MapHead.{MapHead, ReadsMapHead}
+use Rattle.pon_xgtc.specs.HLend.{HLend, ReadsHLend}
 use Rattle.pon_xgtc.proofs.HeaderReading.{one_header}
-use Rattle.pon_bwmap.specs.Structure.{Structure}
+use Rattle.pon_bwmap.specs.Alloc.{Alloc}
 use Rattle.pon_bwmap.specs.MapBytes.{flag_bit, start_field, structure_payload}
 use Rattle.pon_bwmap.specs.MapRules.{row_fault}
 use Rattle.pon_bwmap.specs.MapReading.{FitsStructure, ReadsStructure, ReadsRows, ReadsMap}
@@ -39,7 +39,7 @@ same_start (Some x) None ls lt e = absurd (omega (arith, ls, e))
 same_start None (Some y) ls lt e = absurd (omega (arith, lt, e))
 same_start None None ls lt e = refl
 
-same_structure : (a b : Structure) → FitsStructure a → FitsStructure b → structure_payload a ≡ structure_payload b → a ≡ b
+same_structure : (a b : Alloc) → FitsStructure a → FitsStructure b → structure_payload a ≡ structure_payload b → a ≡ b
 same_structure a b fa fb e =
     let ra : start_field a.start < 65536 = omega (arith, start_small a.start fa.start) in
     let rb : start_field b.start < 65536 = omega (arith, start_small b.start fb.start) in
@@ -56,7 +56,7 @@ same_structure a b fa fb e =
     let fwi_is : a.fwi ≡ b.fwi = same_flag a.fwi b.fwi fwi in
     λ i. record { id = id i; dbru = dbru_is i; ploam = ploam_is i; start = start_is i; grant = grant i; fwi = fwi_is i; profile = profile i }
 
-one_structure : (bytes : List ℕ) (a b : Structure) (k l : ℕ) → AreBytes bytes → ReadsStructure bytes a k → ReadsStructure bytes b l → (a ≡ b) × (k ≡ l)
+one_structure : (bytes : List ℕ) (a b : Alloc) (k l : ℕ) → AreBytes bytes → ReadsStructure bytes a k → ReadsStructure bytes b l → (a ≡ b) × (k ≡ l)
 one_structure bytes a b k l all r s =
     let one = one_reading (2 ^ 64) (from_be_bytes w64 bytes) (structure_payload a) k (structure_payload b) l (omega arith) (word_64 bytes all) r.word s.word in
     (same_structure a b r.fits s.fits one.0, one.1)
@@ -64,7 +64,7 @@ one_structure bytes a b k l all r s =
 -- ---- structures in a row
 
 -- if two lists of structures read from the same bytes, the shorter one is a prefix of the longer one
-pub first_rows : (bytes : List ℕ) (rows all : List Structure) (k l : ℕ) → AreBytes bytes → ReadsRows bytes rows k → ReadsRows bytes all l → length rows ≤ length all → (more : List Structure) × (all ≡ rows ++ more)
+pub first_rows : (bytes : List ℕ) (rows all : List Alloc) (k l : ℕ) → AreBytes bytes → ReadsRows bytes rows k → ReadsRows bytes all l → length rows ≤ length all → (more : List Alloc) × (all ≡ rows ++ more)
 first_rows bytes [] all k l are r s le = (all, refl)
 first_rows bytes (a ∷ rows) [] k l are r s le = absurd (omega (arith, le))
 first_rows bytes (a ∷ rows) (b ∷ all) k l are r s le =
@@ -72,7 +72,7 @@ first_rows bytes (a ∷ rows) (b ∷ all) k l are r s le =
     let rest = first_rows (drop 8 bytes) rows all r.1 s.1 (bytes-drop 8 bytes are) r.3 s.3 (omega (arith, le)) in
     (rest.0, λ i. one.0 i ∷ rest.1 i)
 
-pub one_rows : (bytes : List ℕ) (rows rows2 : List Structure) (k l : ℕ) → AreBytes bytes → ReadsRows bytes rows k → ReadsRows bytes rows2 l → length rows ≡ length rows2 → (rows ≡ rows2) × (k ≡ l)
+pub one_rows : (bytes : List ℕ) (rows rows2 : List Alloc) (k l : ℕ) → AreBytes bytes → ReadsRows bytes rows k → ReadsRows bytes rows2 l → length rows ≡ length rows2 → (rows ≡ rows2) × (k ≡ l)
 one_rows bytes [] [] k l are r s e = (refl, r ∙ sym s)
 one_rows bytes [] (b ∷ rows2) k l are r s e = absurd (omega (arith, e))
 one_rows bytes (a ∷ rows) [] k l are r s e = absurd (omega (arith, e))
@@ -82,7 +82,7 @@ one_rows bytes (a ∷ rows) (b ∷ rows2) k l are r s e =
     (λ i. one.0 i ∷ rest.0 i, omega (arith, r.4, s.4, one.1, rest.1))
 
 -- the structure at an index
-pub row_at : (bytes : List ℕ) (rows : List Structure) (corrected k : ℕ) → ReadsRows bytes rows corrected → k < length rows → (a : Structure) × (places : ℕ) × ReadsStructure (drop (8 * k) bytes) a places
+pub row_at : (bytes : List ℕ) (rows : List Alloc) (corrected k : ℕ) → ReadsRows bytes rows corrected → k < length rows → (a : Alloc) × (places : ℕ) × ReadsStructure (drop (8 * k) bytes) a places
 row_at bytes [] corrected k r lt = absurd (omega (arith, lt))
 row_at bytes (a ∷ rows) corrected zero r lt = (a, r.0, r.2)
 row_at bytes (a ∷ rows) corrected (suc k) r lt =
@@ -92,12 +92,12 @@ row_at bytes (a ∷ rows) corrected (suc k) r lt =
 
 -- ---- one map
 
-pub one_head : (bytes : List ℕ) (h g : MapHead) (k l : ℕ) → AreBytes bytes → ReadsMapHead bytes h k → ReadsMapHead bytes g l → (h.n ≡ g.n) × (h.p ≡ g.p) × (k ≡ l)
+pub one_head : (bytes : List ℕ) (h g : HLend) (k l : ℕ) → AreBytes bytes → ReadsHLend bytes h k → ReadsHLend bytes g l → (h.n ≡ g.n) × (h.p ≡ g.p) × (k ≡ l)
 one_head bytes h g k l are r s =
     let one = one_header bytes (h.n * 2 ^ 8 + h.p) k (g.n * 2 ^ 8 + g.p) l (word_32 bytes are) r.header s.header in
     (omega (arith, one.0, r.fits.p, s.fits.p), omega (arith, one.0, r.fits.p, s.fits.p), one.1)
 
-pub one_map : (bytes : List ℕ) (rows rows2 : List Structure) (corrected corrected2 used used2 : ℕ) → All (λ b. b < 256) bytes → ReadsMap bytes rows corrected used → ReadsMap bytes rows2 corrected2 used2
+pub one_map : (bytes : List ℕ) (rows rows2 : List Alloc) (corrected corrected2 used used2 : ℕ) → All (λ b. b < 256) bytes → ReadsMap bytes rows corrected used → ReadsMap bytes rows2 corrected2 used2
     → (rows ≡ rows2) × (corrected ≡ corrected2) × (used ≡ used2)
 one_map bytes rows rows2 corrected corrected2 used used2 all r s =
     let are = bytes-from_All bytes all in
@@ -107,21 +107,21 @@ one_map bytes rows rows2 corrected corrected2 used used2 all r s =
 
 -- ---- no fault
 
-no_break : (bytes : List ℕ) (rows : List Structure) (corrected used k : ℕ) (fault : MapFault) → AreBytes bytes → (r : ReadsMap bytes rows corrected used) → k < r.head.n → BreaksRule (drop 4 bytes) k fault → ⊥
+no_break : (bytes : List ℕ) (rows : List Alloc) (corrected used k : ℕ) (fault : MapFault) → AreBytes bytes → (r : ReadsMap bytes rows corrected used) → k < r.head.n → BreaksRule (drop 4 bytes) k fault → ⊥
 no_break bytes rows corrected used k fault are r lt b =
     let first = first_rows (drop 4 bytes) b.rows rows b.corrected r.in_rows (bytes-drop 4 bytes are) b.reads r.reads_rows.reads (omega (arith, b.counted, r.reads_rows.counted, lt)) in
-    let here : row_fault rows k ≡ Some fault = ap (λ (rs : List Structure). row_fault rs k) first.1 ∙ fault-append b.rows first.0 k (omega (arith, b.counted)) ∙ b.breaks in
+    let here : row_fault rows k ≡ Some fault = ap (λ (rs : List Alloc). row_fault rs k) first.1 ∙ fault-append b.rows first.0 k (omega (arith, b.counted)) ∙ b.breaks in
     let none : row_fault rows k ≡ None = r.reads_rows.is_map.keep_rules k (omega (arith, r.reads_rows.counted, lt)) in
     let wrong : Some fault ≡ None = sym here ∙ none in
     absurd (cc)
 
-breaks_no_map : (bytes : List ℕ) (rows : List Structure) (corrected used k : ℕ) (fault : MapFault) (f : IsFaultOfRows bytes fault) → AreBytes bytes → ReadsMap bytes rows corrected used
+breaks_no_map : (bytes : List ℕ) (rows : List Alloc) (corrected used k : ℕ) (fault : MapFault) (f : IsFaultOfRows bytes fault) → AreBytes bytes → ReadsMap bytes rows corrected used
     → (k < f.head.n) × BreaksRule (drop 4 bytes) k fault → ⊥
 breaks_no_map bytes rows corrected used k fault f are r b =
     let head = one_head bytes r.head f.head r.in_head f.corrected are r.reads_head.reads f.reads_head.reads in
     no_break bytes rows corrected used k fault are r (omega (arith, b.0, head.0)) b.1
 
-pub no_fault : (bytes : List ℕ) (rows : List Structure) (corrected used : ℕ) (fault : MapFault) → All (λ b. b < 256) bytes → ReadsMap bytes rows corrected used → IsFirstMapFault bytes fault → fault ≡ Memory
+pub no_fault : (bytes : List ℕ) (rows : List Alloc) (corrected used : ℕ) (fault : MapFault) → All (λ b. b < 256) bytes → ReadsMap bytes rows corrected used → IsFirstMapFault bytes fault → fault ≡ Memory
 no_fault bytes rows corrected used Short all r (inl short) = absurd (omega (arith, short, r.reads_head.reads.header.whole))
 no_fault bytes rows corrected used Short all r (inr short) =
     let head = one_head bytes r.head short.0 r.in_head short.1 (bytes-from_All bytes all) r.reads_head.reads short.2 in

@@ -10,9 +10,9 @@ use Rattle.pon_hec.specs.HeaderCode.{Reads, sealed}
 use Rattle.pon_hec.proofs.HeaderLaws.{sealed_codeword}
 use Rattle.pon_hec.proofs.Opening.{reads_none}
 use Rattle.pon_xgtc.specs.Header.{header_bytes}
-use Rattle.pon_xgtc.specs.MapHead.{MapHead, map_head_payload}
+use Rattle.pon_xgtc.specs.HLend.{HLend, hlend_payload}
 use Rattle.pon_xgtc.proofs.HeaderReading.{header_reads}
-use Rattle.pon_bwmap.specs.Structure.{Structure}
+use Rattle.pon_bwmap.specs.Alloc.{Alloc}
 use Rattle.pon_bwmap.specs.MapBytes.{flag_bit, start_field, structure_payload, structure_bytes, map_bytes}
 use Rattle.pon_bwmap.specs.MapRules.{IsMap}
 use Rattle.pon_bwmap.specs.MapReading.{FitsStructure, ReadsStructure, ReadsRows, ReadsMap}
@@ -25,10 +25,10 @@ pub start_small : (start : Option ℕ) → IfSome start (λ s. s < 0xffff) → s
 start_small (Some s) lt = omega (arith, lt)
 start_small None lt = omega arith
 
-payload_small : (a : Structure) → FitsStructure a → structure_payload a < 2 ^ 51
+payload_small : (a : Alloc) → FitsStructure a → structure_payload a < 2 ^ 51
 payload_small a fits = omega (arith, fits.id, fits.grant, fits.profile, flag_small a.dbru, flag_small a.ploam, flag_small a.fwi, start_small a.start fits.start)
 
-structure_reads : (a : Structure) (rest : List ℕ) → FitsStructure a → ReadsStructure (structure_bytes a ++ rest) a 0
+structure_reads : (a : Alloc) (rest : List ℕ) → FitsStructure a → ReadsStructure (structure_bytes a ++ rest) a 0
 structure_reads a rest fits =
     let lt = payload_small a fits in
     let code = sealed_codeword (2 ^ 64) (structure_payload a) lt (omega (arith, lt)) in
@@ -37,26 +37,26 @@ structure_reads a rest fits =
     = subst (λ (p : ℕ). Reads (2 ^ 64) (sealed (structure_payload a)) p 0) code.1 (reads_none 64 (sealed (structure_payload a)) code.0) in
     record { fits = fits; whole = omega arith; word = subst (λ (w : ℕ). Reads (2 ^ 64) w (structure_payload a) 0) (sym word) read }
 
-rows_read : (rows : List Structure) (rest : List ℕ) → All FitsStructure rows → ReadsRows (flat_map structure_bytes rows ++ rest) rows 0
+rows_read : (rows : List Alloc) (rest : List ℕ) → All FitsStructure rows → ReadsRows (flat_map structure_bytes rows ++ rest) rows 0
 rows_read [] rest fits = refl
 rows_read (a ∷ rows) rest fits =
     let joined : flat_map structure_bytes (a ∷ rows) ++ rest ≡ structure_bytes a ++ (flat_map structure_bytes rows ++ rest) = ap (λ (bs : List ℕ). bs ++ rest) (flat_map-cons structure_bytes a rows) in
     subst (λ (bs : List ℕ). ReadsRows bs (a ∷ rows) 0) (sym joined)
     (0, 0, structure_reads a (flat_map structure_bytes rows ++ rest) (All-head FitsStructure a rows fits), rows_read rows rest (All-tail FitsStructure a rows fits), refl)
 
-rows_length : (rows : List Structure) → length (flat_map structure_bytes rows) ≡ 8 * length rows
+rows_length : (rows : List Alloc) → length (flat_map structure_bytes rows) ≡ 8 * length rows
 rows_length [] = refl
 rows_length (a ∷ rows) = ap (λ (bs : List ℕ). length bs) (flat_map-cons structure_bytes a rows) ∙ omega (arith, rows_length rows)
 
 -- the number of bytes of a map
-pub map_length : (rows : List Structure) → length (map_bytes rows) ≡ 4 + 8 * length rows
+pub map_length : (rows : List Alloc) → length (map_bytes rows) ≡ 4 + 8 * length rows
 unfolding map_bytes
-map_length rows = omega (arith, length-append (header_bytes (map_head_payload (record { n = length rows; p = 0 }))) (flat_map structure_bytes rows), rows_length rows)
+map_length rows = omega (arith, length-append (header_bytes (hlend_payload (record { n = length rows; p = 0 }))) (flat_map structure_bytes rows), rows_length rows)
 
-pub reads_back : (rows : List Structure) (rest : List ℕ) → IsMap rows → All FitsStructure rows → ReadsMap (map_bytes rows ++ rest) rows 0 (4 + 8 * length rows)
+pub reads_back : (rows : List Alloc) (rest : List ℕ) → IsMap rows → All FitsStructure rows → ReadsMap (map_bytes rows ++ rest) rows 0 (4 + 8 * length rows)
 unfolding map_bytes
 reads_back rows rest map fits =
-    let head : MapHead = record { n = length rows; p = 0 } in
+    let head : HLend = record { n = length rows; p = 0 } in
     record {
       head = record { n = length rows; p = 0 };
       in_head = 0;
@@ -64,7 +64,7 @@ reads_back rows rest map fits =
       reads_head = record {
         reads = record {
           fits = record { n = omega (arith, map.count); p = omega arith };
-          header = header_reads (map_head_payload (record { n = length rows; p = 0 })) (flat_map structure_bytes rows ++ rest) (omega (arith, map.count));
+          header = header_reads (hlend_payload (record { n = length rows; p = 0 })) (flat_map structure_bytes rows ++ rest) (omega (arith, map.count));
         };
         count = map.count;
         whole = omega (arith, length-append (flat_map structure_bytes rows) rest, rows_length rows);

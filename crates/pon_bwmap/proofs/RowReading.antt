@@ -4,7 +4,7 @@ use Rattle.std.specs.Prelude.{slice_get, if◌then◌else◌, eqb}
 use Rattle.std.proofs.lemmas.List.{drop-drop, length-append}
 use Rattle.std.proofs.Math.Seq.{get_or-append_seam}
 use Rattle.pon_units.specs.declared.limits.TheConstants.{FRAME_WORDS}
-use Rattle.pon_bwmap.specs.Structure.{Structure}
+use Rattle.pon_bwmap.specs.Alloc.{Alloc}
 use Rattle.pon_bwmap.specs.MapRules.{place_in_series, continues, start_fault, row_fault, FirstKeepRules}
 use Rattle.pon_bwmap.specs.MapReading.{ReadsStructure, ReadsRows}
 use Rattle.pon_bwmap.specs.MapFaults.{BreaksRule, IsRowsFirstFault}
@@ -14,33 +14,33 @@ use Rattle.pon_bwmap.proofs.SeriesRules.{first_place, at_structure, short, keep_
 
 -- ---- one more structure
 
-reads_more : (bytes : List ℕ) (rows : List Structure) (corrected : ℕ) (a : Structure) (here : ℕ) → ReadsRows bytes rows corrected → ReadsStructure (drop (8 * length rows) bytes) a here
+reads_more : (bytes : List ℕ) (rows : List Alloc) (corrected : ℕ) (a : Alloc) (here : ℕ) → ReadsRows bytes rows corrected → ReadsStructure (drop (8 * length rows) bytes) a here
     → ReadsRows bytes (rows ++ a ∷ []) (corrected + here)
 reads_more bytes [] corrected a here none s = (here, 0, s, refl, omega (arith, none))
 reads_more bytes (x ∷ rows) corrected a here r s =
     let behind : drop (8 * suc (length rows)) bytes ≡ drop (8 * length rows) (drop 8 bytes) = (let e : 8 * suc (length rows) ≡ 8 + 8 * length rows = omega arith in rw e (sym (drop-drop (8 * length rows) 8 bytes))) in
     (r.0, r.1 + here, r.2, reads_more (drop 8 bytes) rows r.1 a here r.3 (subst (λ (bs : List ℕ). ReadsStructure bs a here) behind s), omega (arith, r.4))
 
-slice_get-append : (rows more : List Structure) (i : ℕ) → i < length rows → slice_get (rows ++ more) i ≡ slice_get rows i
+slice_get-append : (rows more : List Alloc) (i : ℕ) → i < length rows → slice_get (rows ++ more) i ≡ slice_get rows i
 slice_get-append [] more i lt = absurd (omega (arith, lt))
 slice_get-append (a ∷ rows) more zero lt = refl
 slice_get-append (a ∷ rows) more (suc i) lt = slice_get-append rows more i (omega (arith, lt))
 
-place-append : (rows more : List Structure) (i : ℕ) → i < length rows → place_in_series (rows ++ more) i ≡ place_in_series rows i
+place-append : (rows more : List Alloc) (i : ℕ) → i < length rows → place_in_series (rows ++ more) i ≡ place_in_series rows i
 unfolding place_in_series
 place-append rows more zero lt = refl
 place-append rows more (suc i) lt =
-    ap (λ (o : Option Structure). if continues o then place_in_series (rows ++ more) i + 1 else 0) (slice_get-append rows more (suc i) lt)
+    ap (λ (o : Option Alloc). if continues o then place_in_series (rows ++ more) i + 1 else 0) (slice_get-append rows more (suc i) lt)
     ∙ ap (λ (n : ℕ). if continues (slice_get rows (suc i)) then n + 1 else 0) (place-append rows more i (omega (arith, lt)))
 
-pub fault-append : (rows more : List Structure) (i : ℕ) → i < length rows → row_fault (rows ++ more) i ≡ row_fault rows i
+pub fault-append : (rows more : List Alloc) (i : ℕ) → i < length rows → row_fault (rows ++ more) i ≡ row_fault rows i
 fault-append rows more i lt = rw (slice_get-append rows more i lt, place-append rows more i lt) refl
 
 -- ---- the structures read so far
 
 -- the first k structures read and keep the rules; the last of them has this place in its series
 pub record GoodRows (bytes : List ℕ) (k corrected place : ℕ) : Type 0 where
-  pub rows : List Structure
+  pub rows : List Alloc
   pub counted : length rows ≡ k
   pub reads : ReadsRows bytes rows corrected
   pub keep : FirstKeepRules rows k
@@ -60,18 +60,18 @@ no_rows bytes = record {
 }
 
 -- the last place is unchanged by one more structure
-last_place : (rows more : List Structure) (k place : ℕ) → length rows ≡ k → place ≡ place_in_series rows (k - 1) → place ≡ place_in_series (rows ++ more) (k - 1)
+last_place : (rows more : List Alloc) (k place : ℕ) → length rows ≡ k → place ≡ place_in_series rows (k - 1) → place ≡ place_in_series (rows ++ more) (k - 1)
 last_place rows more zero place counted is = is ∙ first_place rows ∙ sym (first_place (rows ++ more))
 last_place rows more (suc k) place counted is =
     let back : suc k - 1 ≡ k = omega arith in
     let before : place ≡ place_in_series rows k = is ∙ ap (place_in_series rows) back in
     before ∙ sym (place-append rows more k (omega (arith, counted))) ∙ ap (place_in_series (rows ++ more)) (sym back)
 
-keep-append : (rows more : List Structure) (k : ℕ) → length rows ≡ k → FirstKeepRules rows k → FirstKeepRules (rows ++ more) k
+keep-append : (rows more : List Alloc) (k : ℕ) → length rows ≡ k → FirstKeepRules rows k → FirstKeepRules (rows ++ more) k
 keep-append rows more k counted keep i lt = fault-append rows more i (omega (arith, lt, counted)) ∙ keep i lt
 
 -- the fault that the code finds at structure k is its fault
-pub found_at : (bytes : List ℕ) (k corrected place next : ℕ) (a : Structure) (start : Option ℕ) (fault : Option MapFault) (g : GoodRows bytes k corrected place) → start ≡ a.start
+pub found_at : (bytes : List ℕ) (k corrected place next : ℕ) (a : Alloc) (start : Option ℕ) (fault : Option MapFault) (g : GoodRows bytes k corrected place) → start ≡ a.start
     → (k ≡ 0 → next ≡ 0) → (IsSome start → next ≡ 0) → (0 < k → IsNone start → next ≡ place + 1) → fault ≡ start_fault k start next
     → (next ≡ place_in_series (g.rows ++ a ∷ []) k) × (row_fault (g.rows ++ a ∷ []) k ≡ fault)
 found_at bytes k corrected place next a start fault g is first starts goes_on found =
@@ -79,11 +79,11 @@ found_at bytes k corrected place next a start fault g is first starts goes_on fo
     let at : get_or (g.rows ++ a ∷ []) k a ≡ a = ap (λ (i : ℕ). get_or (g.rows ++ a ∷ []) i a) (sym g.counted) ∙ get_or-append_seam g.rows a [] a in
     at_structure (g.rows ++ a ∷ []) k place next a start fault (omega (arith, long)) (sym at) is (last_place g.rows (a ∷ []) k place g.counted g.place_is) first starts goes_on found
 
-here_reads : (bytes : List ℕ) (k corrected place here : ℕ) (a : Structure) (g : GoodRows bytes k corrected place) → ReadsStructure (drop (8 * k) bytes) a here → ReadsRows bytes (g.rows ++ a ∷ []) (corrected + here)
+here_reads : (bytes : List ℕ) (k corrected place here : ℕ) (a : Alloc) (g : GoodRows bytes k corrected place) → ReadsStructure (drop (8 * k) bytes) a here → ReadsRows bytes (g.rows ++ a ∷ []) (corrected + here)
 here_reads bytes k corrected place here a g s = reads_more bytes g.rows corrected a here g.reads (subst (λ (n : ℕ). ReadsStructure (drop (8 * n) bytes) a here) (sym g.counted) s)
 
 -- one more structure that keeps the rules
-pub one_more : (bytes : List ℕ) (k corrected place next here : ℕ) (a : Structure) (start : Option ℕ) (g : GoodRows bytes k corrected place) → ReadsStructure (drop (8 * k) bytes) a here → start ≡ a.start
+pub one_more : (bytes : List ℕ) (k corrected place next here : ℕ) (a : Alloc) (start : Option ℕ) (g : GoodRows bytes k corrected place) → ReadsStructure (drop (8 * k) bytes) a here → start ≡ a.start
     → (k ≡ 0 → next ≡ 0) → (IsSome start → next ≡ 0) → (0 < k → IsNone start → next ≡ place + 1) → start_fault k start next ≡ None
     → (h : GoodRows bytes (k + 1) (corrected + here) next) × (h.rows ≡ g.rows ++ a ∷ [])
 one_more bytes k corrected place next here a start g s is first starts goes_on none =
@@ -120,7 +120,7 @@ breaks_at bytes count k None place lt breaks = by_tests (eqb k 0) (ltb 15 place)
     by_tests false false is_start is_long = tt
 
 -- a structure that breaks a rule is the first fault
-pub first_break : (bytes : List ℕ) (count k corrected place next here : ℕ) (a : Structure) (start : Option ℕ) (fault : MapFault) (g : GoodRows bytes k corrected place) → k < count
+pub first_break : (bytes : List ℕ) (count k corrected place next here : ℕ) (a : Alloc) (start : Option ℕ) (fault : MapFault) (g : GoodRows bytes k corrected place) → k < count
     → ReadsStructure (drop (8 * k) bytes) a here → start ≡ a.start → (k ≡ 0 → next ≡ 0) → (IsSome start → next ≡ 0) → (0 < k → IsNone start → next ≡ place + 1) → Some fault ≡ start_fault k start next
     → IsRowsFirstFault bytes count fault
 first_break bytes count k corrected place next here a start fault g lt s is first starts goes_on found =

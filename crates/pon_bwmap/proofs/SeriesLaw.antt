@@ -5,26 +5,26 @@ use Rattle.std.proofs.lemmas.Bool.{cases_lt, le-ltb, lt-leb}
 use Rattle.std.proofs.lemmas.Option.{slice_get_within}
 use Rattle.std.proofs.Math.Dec.{eqb-suc-zero}
 use Rattle.pon_units.specs.declared.limits.TheConstants.{FRAME_WORDS}
-use Rattle.pon_bwmap.specs.Structure.{Structure}
+use Rattle.pon_bwmap.specs.Alloc.{Alloc}
 use Rattle.pon_bwmap.specs.MapRules.{place_in_series, continues, start_fault, row_fault, IsMap, KeepsSeriesRules}
 use Rattle.pon_bwmap.specs.declared.fault.MapFault.TheVariants.{StartRange}
 use Rattle.pon_bwmap.proofs.SeriesRules.{first_place, row_fault_is, short}
 
-place_on : (rows : List Structure) (k : ℕ) → continues (slice_get rows (suc k)) ≡ true → place_in_series rows (suc k) ≡ place_in_series rows k + 1
+place_on : (rows : List Alloc) (k : ℕ) → continues (slice_get rows (suc k)) ≡ true → place_in_series rows (suc k) ≡ place_in_series rows k + 1
 unfolding place_in_series
 place_on rows k on = ap (λ (b : Bool). if b then place_in_series rows k + 1 else 0) on
 
-place_anew : (rows : List Structure) (k : ℕ) → continues (slice_get rows (suc k)) ≡ false → place_in_series rows (suc k) ≡ 0
+place_anew : (rows : List Alloc) (k : ℕ) → continues (slice_get rows (suc k)) ≡ false → place_in_series rows (suc k) ≡ 0
 unfolding place_in_series
 place_anew rows k anew = ap (λ (b : Bool). if b then place_in_series rows k + 1 else 0) anew
 
 -- ---- from maps to the rules
 
-nothing_at : (rows : List Structure) (k : ℕ) (a : Structure) → IsMap rows → slice_get rows k ≡ Some a → start_fault k a.start (place_in_series rows k) ≡ None
+nothing_at : (rows : List Alloc) (k : ℕ) (a : Alloc) → IsMap rows → slice_get rows k ≡ Some a → start_fault k a.start (place_in_series rows k) ≡ None
 nothing_at rows k a map here =
     sym (row_fault_is rows k (place_in_series rows k) a a.start (start_fault k a.start (place_in_series rows k)) here refl refl refl) ∙ map.keep_rules k (slice_get_within rows k a here)
 
-first_starts : (rows : List Structure) (o : Option Structure) → IsMap rows → slice_get rows 0 ≡ o → continues o ≡ false
+first_starts : (rows : List Alloc) (o : Option Alloc) → IsMap rows → slice_get rows 0 ≡ o → continues o ≡ false
 first_starts rows None map here = refl
 first_starts rows (Some a) map here = started a.start (place_in_series rows 0) (nothing_at rows 0 a map here)
   where
@@ -39,7 +39,7 @@ in_frame k start place e = by_test (leb FRAME_WORDS start) refl e
     by_test true is e = absurd (cc)
     by_test false is e = search (rules, is)
 
-goes_on : (rows : List Structure) (k m : ℕ) → ((j : ℕ) → j < m → continues (slice_get rows (k + suc j)) ≡ true) → m ≤ place_in_series rows (k + m)
+goes_on : (rows : List Alloc) (k m : ℕ) → ((j : ℕ) → j < m → continues (slice_get rows (k + suc j)) ≡ true) → m ≤ place_in_series rows (k + m)
 goes_on rows k zero all = omega arith
 goes_on rows k (suc m) all =
     let next : k + suc m ≡ suc (k + m) = omega arith in
@@ -47,7 +47,7 @@ goes_on rows k (suc m) all =
     let before = goes_on rows k m (λ j lt. all j (omega (arith, lt))) in
     rw next (omega (arith, place_on rows (k + m) on, before))
 
-not_seventeen : (rows : List Structure) (k : ℕ) (o : Option Structure) → IsMap rows → slice_get rows k ≡ o → continues o ≡ true → place_in_series rows k ≤ 15
+not_seventeen : (rows : List Alloc) (k : ℕ) (o : Option Alloc) → IsMap rows → slice_get rows k ≡ o → continues o ≡ true → place_in_series rows k ≤ 15
 not_seventeen rows k None map here on = absurd (cc)
 not_seventeen rows k (Some a) map here on = no_start a.start on (nothing_at rows k a map here)
   where
@@ -55,7 +55,7 @@ not_seventeen rows k (Some a) map here on = no_start a.start on (nothing_at rows
     no_start (Some start) on e = absurd (cc)
     no_start None on e = short k None (place_in_series rows k) (λ h. absurd (cc)) e
 
-no_long_series : (rows : List Structure) (k : ℕ) → IsMap rows → ((j : ℕ) → j < 16 → continues (slice_get rows (k + j)) ≡ true) → ⊥
+no_long_series : (rows : List Alloc) (k : ℕ) → IsMap rows → ((j : ℕ) → j < 16 → continues (slice_get rows (k + j)) ≡ true) → ⊥
 no_long_series rows zero map all =
     let on : continues (slice_get rows 0) ≡ true = all 0 (omega arith) in
     let off = first_starts rows (slice_get rows 0) map refl in
@@ -67,10 +67,10 @@ no_long_series rows (suc k) map all =
 -- ---- from the rules to maps
 
 -- the m structures up to k continue a series
-abbrev WentOn : List Structure → ℕ → ℕ → Type 0
+abbrev WentOn : List Alloc → ℕ → ℕ → Type 0
 WentOn rows k m = (from : ℕ) × (k ≡ from + m) × ((j : ℕ) → j < m → continues (slice_get rows (from + suc j)) ≡ true)
 
-one_more : (rows : List Structure) (k m : ℕ) → continues (slice_get rows (suc k)) ≡ true → WentOn rows k m → WentOn rows (suc k) (suc m)
+one_more : (rows : List Alloc) (k m : ℕ) → continues (slice_get rows (suc k)) ≡ true → WentOn rows k m → WentOn rows (suc k) (suc m)
 one_more rows k m on w =
     let here : suc k ≡ w.0 + suc m = omega (arith, w.1) in (
       w.0,
@@ -81,7 +81,7 @@ one_more rows k m on w =
       ],
     )
 
-went_on : (rows : List Structure) (k m : ℕ) → m ≤ place_in_series rows k → WentOn rows k m
+went_on : (rows : List Alloc) (k m : ℕ) → m ≤ place_in_series rows k → WentOn rows k m
 went_on rows k zero le = (k, omega arith, λ j lt. absurd (omega (arith, lt)))
 went_on rows zero (suc m) le = absurd (omega (arith, first_place rows, le))
 went_on rows (suc k) (suc m) le = by_test (continues (slice_get rows (suc k))) refl (λ less. went_on rows k m less)
@@ -90,14 +90,14 @@ went_on rows (suc k) (suc m) le = by_test (continues (slice_get rows (suc k))) r
     by_test false anew before = absurd (omega (arith, place_anew rows k anew, le))
     by_test true on before = one_more rows k m on (before (omega (arith, place_on rows k on, le)))
 
-place_small : (rows : List Structure) (k : ℕ) → KeepsSeriesRules rows → place_in_series rows k ≤ 15
+place_small : (rows : List Alloc) (k : ℕ) → KeepsSeriesRules rows → place_in_series rows k ≤ 15
 place_small rows k keeps = elim (cases_lt (place_in_series rows k) 16) [
   | inl less ↦ omega (arith, less)
   | inr ge ↦ (let w = went_on rows k 16 ge in
       absurd (keeps.series (suc w.0) (λ j lt. (let e : suc w.0 + j ≡ w.0 + suc j = omega arith in rw e (w.2 j lt)))))
 ]
 
-nothing_wrong : (rows : List Structure) (k : ℕ) (o : Option Structure) → KeepsSeriesRules rows → slice_get rows k ≡ o → row_fault rows k ≡ None
+nothing_wrong : (rows : List Alloc) (k : ℕ) (o : Option Alloc) → KeepsSeriesRules rows → slice_get rows k ≡ o → row_fault rows k ≡ None
 nothing_wrong rows k None keeps here = rw here refl
 nothing_wrong rows k (Some a) keeps here = row_fault_is rows k (place_in_series rows k) a a.start None here refl refl (sym (by_start a.start k refl here))
   where
@@ -109,7 +109,7 @@ nothing_wrong rows k (Some a) keeps here = row_fault_is rows k (place_in_series 
         absurd (cc)
     by_start None (suc k) is here = rw (eqb-suc-zero k, le-ltb 15 (place_in_series rows (suc k)) (place_small rows (suc k) keeps)) refl
 
-pub map_rules : (rows : List Structure) → (IsMap rows → KeepsSeriesRules rows) × (KeepsSeriesRules rows → IsMap rows)
+pub map_rules : (rows : List Alloc) → (IsMap rows → KeepsSeriesRules rows) × (KeepsSeriesRules rows → IsMap rows)
 map_rules rows = (
   λ map. record {
     count = map.count;

@@ -1,5 +1,5 @@
+pub mod Alloc
 pub mod MapBytes
 pub mod MapFaults
 pub mod MapReading
 pub mod MapRules
-pub mod Structure

@@ -4,9 +4,9 @@ use Rattle.std.specs.Int.{w64, from_be_bytes}
 use Rattle.pon_units.specs.declared.limits.TheConstants.{MOST_STRUCTURES}
 use Rattle.pon_hec.specs.HeaderCode.{Reads}
 use Rattle.pon_xgtc.specs.Header.{IsHeaderFault}
-use Rattle.pon_xgtc.specs.MapHead.{MapHead, ReadsMapHead}
+use Rattle.pon_xgtc.specs.HLend.{HLend, ReadsHLend}
 use Rattle.pon_xgtc.specs.declared.fault.HeadFault.TheVariants.{Hec}
-use Rattle.pon_bwmap.specs.Structure.{Structure}
+use Rattle.pon_bwmap.specs.Alloc.{Alloc}
 use Rattle.pon_bwmap.specs.MapRules.{FirstKeepRules, row_fault}
 use Rattle.pon_bwmap.specs.MapReading.{ReadsRows, ReadsMapRows, ReadsWholeHead, map_size}
 use Rattle.pon_bwmap.specs.declared.fault.MapFault.{MapFault}
@@ -14,7 +14,7 @@ use Rattle.pon_bwmap.specs.declared.fault.MapFault.TheVariants.{Short, HeadHec, 
 
 -- the first k structures of the bytes read and keep the rules, and the word of the next one has no reading
 pub record LosesStructure (bytes : List ℕ) (k : ℕ) : Type 0 where
-  pub rows : List Structure
+  pub rows : List Alloc
   pub corrected : ℕ
   pub counted : length rows ≡ k
   pub reads : ReadsRows bytes rows corrected
@@ -23,7 +23,7 @@ pub record LosesStructure (bytes : List ℕ) (k : ℕ) : Type 0 where
 
 -- the structures up to structure k read, and k is the first that breaks a rule, with this fault
 pub record BreaksRule (bytes : List ℕ) (k : ℕ) (fault : MapFault) : Type 0 where
-  pub rows : List Structure
+  pub rows : List Alloc
   pub corrected : ℕ
   pub counted : length rows ≡ k + 1
   pub reads : ReadsRows bytes rows corrected
@@ -36,27 +36,27 @@ IsRowsFirstFault bytes count (StructHec k) = (k < count) × LosesStructure bytes
 IsRowsFirstFault bytes count (SeriesStart k) = (k < count) × BreaksRule bytes k (SeriesStart k)
 IsRowsFirstFault bytes count (StartRange k) = (k < count) × BreaksRule bytes k (StartRange k)
 IsRowsFirstFault bytes count (SeriesLong k) = (k < count) × BreaksRule bytes k (SeriesLong k)
-IsRowsFirstFault bytes count Memory = (rows : List Structure) × (corrected : ℕ) × ReadsMapRows bytes count rows corrected
+IsRowsFirstFault bytes count Memory = (rows : List Alloc) × (corrected : ℕ) × ReadsMapRows bytes count rows corrected
 IsRowsFirstFault bytes count Short = ⊥
 IsRowsFirstFault bytes count HeadHec = ⊥
 IsRowsFirstFault bytes count TooMany = ⊥
 
 -- the head and the number of bytes have no fault, and this is the first fault of the structures
 pub record IsFaultOfRows (bytes : List ℕ) (fault : MapFault) : Type 0 where
-  pub head : MapHead
+  pub head : HLend
   pub corrected : ℕ
   pub reads_head : ReadsWholeHead bytes head corrected
   pub in_rows : IsRowsFirstFault (drop 4 bytes) head.n fault
 
 -- fewer bytes than the head has, or than it announces
 abbrev pub IsShort : List ℕ → Type 0
-IsShort bytes = (length bytes < 4) ⊎ ((head : MapHead) × (corrected : ℕ) × ReadsMapHead bytes head corrected × (head.n ≤ MOST_STRUCTURES) × (length bytes < map_size head))
+IsShort bytes = (length bytes < 4) ⊎ ((head : HLend) × (corrected : ℕ) × ReadsHLend bytes head corrected × (head.n ≤ MOST_STRUCTURES) × (length bytes < map_size head))
 
 -- this is the first fault of the bytes
 abbrev pub IsFirstMapFault : List ℕ → MapFault → Type 0
 IsFirstMapFault bytes Short = IsShort bytes
 IsFirstMapFault bytes HeadHec = IsHeaderFault bytes Hec
-IsFirstMapFault bytes TooMany = (head : MapHead) × (corrected : ℕ) × ReadsMapHead bytes head corrected × (MOST_STRUCTURES < head.n)
+IsFirstMapFault bytes TooMany = (head : HLend) × (corrected : ℕ) × ReadsHLend bytes head corrected × (MOST_STRUCTURES < head.n)
 IsFirstMapFault bytes (StructHec k) = IsFaultOfRows bytes (StructHec k)
 IsFirstMapFault bytes (SeriesStart k) = IsFaultOfRows bytes (SeriesStart k)
 IsFirstMapFault bytes (StartRange k) = IsFaultOfRows bytes (StartRange k)

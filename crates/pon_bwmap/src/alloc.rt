@@ -16,9 +16,9 @@ pub struct Alloc {
 impl Model for Alloc {
     ghost use Rattle.std.specs.Prelude.{◌≤◌};
     ghost use Rattle.pon_units.specs.declared.limits.TheConstants.{GREATEST_ALLOC_ID, GREATEST_PROFILE};
-    ghost use Rattle.pon_bwmap.specs.Structure.{Structure};
+    ghost use Rattle.pon_bwmap.specs.Alloc.{Alloc};
 
-    ghost Value = { Structure };
+    ghost Value = { Alloc };
 
     ghost view = { λ a. record {
       id = a.id;

@@ -1,7 +1,7 @@
 ghost use Rattle.std.specs.Prelude.{◌≡◌, ◌≢◌, ◌+◌, ◌*◌, ◌<◌, ◌≤◌, ◌^◌, ℕ, List, [], ◌∷◌, ◌++◌, length, drop, IfOk, IfErr, IfSome, IsNone};
 ghost use Rattle.std.specs.Int.{w64, from_be_bytes};
 ghost use Rattle.pon_hec.specs.HeaderCode.{Reads};
-ghost use Rattle.pon_bwmap.specs.Structure.{Structure};
+ghost use Rattle.pon_bwmap.specs.Alloc.{Alloc};
 ghost use Rattle.pon_bwmap.specs.MapBytes.{structure_payload};
 ghost use Rattle.pon_bwmap.specs.MapReading.{FitsStructure, ReadsStructure, ReadsMapRows, ReadsWholeHead, ReadsMap, BeginsWithMap, map_size};
 ghost use Rattle.pon_bwmap.specs.MapFaults.{IsRowsFirstFault, IsFirstMapFault};
@@ -113,7 +113,7 @@ fn read_rows(room: Option<Vec<Alloc>>, bytes: &[u8], count: usize) -> Result<(Ma
 
 // Appends a row; `None` if memory was refused, now or before.
 fn push_row(rows: Option<Vec<Alloc>>, row: Alloc) -> Option<Vec<Alloc>>
-    ensures { (before : List Structure) → IfSome rows (λ v. v.items ≡ before) →
+    ensures { (before : List Alloc) → IfSome rows (λ v. v.items ≡ before) →
         IfSome result (λ v. v.items ≡ before ++ row ∷ []) }
 {
     let mut rows = rows?;

@@ -1,7 +1,7 @@
 //! Laws of bandwidth maps, over the definitions alone.
 
 ghost use Rattle.std.specs.Prelude.{◌≡◌, ◌↔◌, ◌+◌, ◌*◌, ◌<◌, ℕ, List, ◌++◌, length, All};
-ghost use Rattle.pon_bwmap.specs.Structure.{Structure};
+ghost use Rattle.pon_bwmap.specs.Alloc.{Alloc};
 ghost use Rattle.pon_bwmap.specs.MapBytes.{map_bytes};
 ghost use Rattle.pon_bwmap.specs.MapReading.{FitsStructure, ReadsMap};
 ghost use Rattle.pon_bwmap.specs.MapFaults.{IsFirstMapFault};
@@ -10,19 +10,19 @@ ghost use Rattle.pon_bwmap.specs.declared.fault.MapFault.{MapFault};
 
 /// Structures make a map exactly when they keep the rules of series.
 pub fn map_rules()
-    ensures { (rows : List Structure) → IsMap rows ↔ KeepsSeriesRules rows }
+    ensures { (rows : List Alloc) → IsMap rows ↔ KeepsSeriesRules rows }
 {}
 
 /// The bytes of a map, followed by any others, read as that map: nothing is corrected, and the other bytes are not
 /// used.
 pub fn reads_back()
-    ensures { (rows : List Structure) (rest : List ℕ) → IsMap rows → All FitsStructure rows →
+    ensures { (rows : List Alloc) (rest : List ℕ) → IsMap rows → All FitsStructure rows →
         ReadsMap (map_bytes rows ++ rest) rows 0 (4 + 8 * length rows) }
 {}
 
 /// Bytes read as at most one map, with one number of corrected bits and one number of bytes used.
 pub fn one_map()
-    ensures { (bytes : List ℕ) (rows rows2 : List Structure) (corrected corrected2 used used2 : ℕ) →
+    ensures { (bytes : List ℕ) (rows rows2 : List Alloc) (corrected corrected2 used used2 : ℕ) →
         All (λ b. b < 256) bytes → ReadsMap bytes rows corrected used → ReadsMap bytes rows2 corrected2 used2 →
         (rows ≡ rows2) × (corrected ≡ corrected2) × (used ≡ used2) }
 {}
@@ -35,7 +35,7 @@ pub fn one_fault()
 
 /// If bytes read as a map, their only fault is `Memory`.
 pub fn only_memory_is_wanting()
-    ensures { (bytes : List ℕ) (rows : List Structure) (corrected used : ℕ) (fault : MapFault) →
+    ensures { (bytes : List ℕ) (rows : List Alloc) (corrected used : ℕ) (fault : MapFault) →
         All (λ b. b < 256) bytes → ReadsMap bytes rows corrected used → IsFirstMapFault bytes fault →
         fault ≡ MapFault.Memory }
 {}

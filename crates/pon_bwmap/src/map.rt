@@ -13,11 +13,11 @@ pub struct Map {
 
 impl Model for Map {
     ghost use Rattle.std.specs.Prelude.{List, All};
-    ghost use Rattle.pon_bwmap.specs.Structure.{Structure};
+    ghost use Rattle.pon_bwmap.specs.Alloc.{Alloc};
     ghost use Rattle.pon_bwmap.specs.MapReading.{FitsStructure};
     ghost use Rattle.pon_bwmap.specs.MapRules.{IsMap};
 
-    ghost Value = { List Structure };
+    ghost Value = { List Alloc };
 
     ghost view = { λ m. m.rows.items };
 
@@ -27,7 +27,7 @@ impl Model for Map {
 impl PartialEq for Map {
     ghost use Rattle.std.specs.Cmp.{partial_equiv_from_equiv};
     ghost use Rattle.std.specs.Cmp.Lexicographic.{pointwise, lists_equiv};
-    ghost use Rattle.pon_bwmap.specs.Structure.{structure_eq, structure_equiv};
+    ghost use Rattle.pon_bwmap.specs.Alloc.{structure_eq, structure_equiv};
 
     ghost eq = { pointwise structure_eq };
 
@@ -40,7 +40,7 @@ impl PartialEq for Map {
 
 impl Eq for Map {
     ghost use Rattle.std.specs.Cmp.Lexicographic.{lists_equiv};
-    ghost use Rattle.pon_bwmap.specs.Structure.{structure_equiv};
+    ghost use Rattle.pon_bwmap.specs.Alloc.{structure_equiv};
 
     ghost laws = { lists_equiv structure_equiv };
 }

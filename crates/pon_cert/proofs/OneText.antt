@@ -3,7 +3,7 @@ use Rattle.std.proofs.Common.{◌≡◌, ℕ, Bool, List, [], ◌∷◌, refl, s
 use Rattle.std.specs.Prelude.{decimal, ◌==◌, codes}
 use Rattle.std.specs.List.{slice_split}
 use Rattle.std.proofs.lemmas.Fmt.{decimal_injective}
-use Rattle.pon_units.specs.Fraction.{Fraction}
+use Rattle.pon_units.specs.Frac.{Frac}
 use Rattle.std.proofs.lemmas.Option.{same_Some}
 use Rattle.pon_cert.specs.declared.cert.Level.{Level}
 use Rattle.pon_cert.specs.declared.cert.Level.TheVariants as level
@@ -16,11 +16,11 @@ use Rattle.pon_cert.proofs.PartLaws.{fraction_parts}
 use Rattle.pon_cert.proofs.MetLaws.{AreSmall}
 use Rattle.pon_cert.proofs.ClassLaws.{class_found, cert_split, first_class, second_class}
 
-same_fraction : (f g : Fraction) → f.num ≡ g.num → f.den ≡ g.den → level.At f ≡ level.At g
+same_fraction : (f g : Frac) → f.num ≡ g.num → f.den ≡ g.den → level.At f ≡ level.At g
 same_fraction f g one two =
     ap (λ (n : ℕ). level.At (record { num = n; den = f.den })) one ∙ ap (λ (d : ℕ). level.At (record { num = g.num; den = d })) two
 
-not_all : (f : Fraction) → FitsLevel (level.At f) → level_text (level.At f) ≡ codes "all" → ⊥
+not_all : (f : Frac) → FitsLevel (level.At f) → level_text (level.At f) ≡ codes "all" → ⊥
 not_all f fits e =
     let parts = fraction_parts f.num f.den (codes "all") fits.0 fits.2 e in
     let whole : slice_split (λ (b : ℕ). b == 47) (codes "all") ≡ codes "all" ∷ [] = refl in

@@ -32,8 +32,8 @@ fn occupancy_field(word: &[u8]) -> Result<Option<BufOcc>, LineFault>
     }
 }
 
-// Returns the fault of a report with this fault after so many words of occupancies: `WordCount` if the words after it
-// make them more than 16.
+// Returns the fault of a report that has `fault` in the occupancy after the first `before`: `WordCount` if there are more
+// than 16 occupancies with those in `rest`, otherwise `fault`.
 fn first_fault(fault: LineFault, before: usize, rest: &[u8]) -> LineFault
     requires { before < LONGEST_SERIES }
     ensures { result ≡ (if nat_lt LONGEST_SERIES (before + 1 + length (words_of rest.now))

@@ -2,7 +2,7 @@
 use Rattle.std.proofs.Common.{◌≡◌, ◌≢◌, ℕ, ◌+◌, ◌-◌, ◌*◌, ◌⊎◌, false, List, length, take, drop, Option, Some, None, Err, MatchOption, refl, sym, subst, inl, inr, arith}
 use Rattle.std.specs.Int.{w64, from_be_bytes}
 use Rattle.std.proofs.lemmas.Slice.{between_to_end}
-use Rattle.pon_bwmap.specs.Structure.{Structure}
+use Rattle.pon_bwmap.specs.Alloc.{Alloc}
 use Rattle.pon_bwmap.specs.MapReading.{ReadsMap}
 use Rattle.pon_bwmap.specs.MapFaults.{IsFirstMapFault}
 use Rattle.pon_bwmap.specs.declared.fault.MapFault.{MapFault}
@@ -37,7 +37,7 @@ refused_shown s bytes f is down whole first other =
     (down, inr (subst (λ (d : Direction). IsWhole d s.held) down whole, (f, here, other)))
 
 -- a whole record's bytes, of which the map is read, are the record
-pub down_record : (bytes : List ℕ) (frame : ℕ) (rows : List Structure) (corrected used : ℕ) → AreBytes bytes → IsWhole Down bytes → ReadsMap (take (length bytes - 9) (drop 9 bytes)) rows corrected used → from_be_bytes w64 (take 8 (drop 1 bytes)) ≡ frame → IsDownRecord bytes (record { frame = frame; map = rows })
+pub down_record : (bytes : List ℕ) (frame : ℕ) (rows : List Alloc) (corrected used : ℕ) → AreBytes bytes → IsWhole Down bytes → ReadsMap (take (length bytes - 9) (drop 9 bytes)) rows corrected used → from_be_bytes w64 (take 8 (drop 1 bytes)) ≡ frame → IsDownRecord bytes (record { frame = frame; map = rows })
 down_record bytes frame rows corrected used small w read here =
     let r : ReadsMap (drop 9 bytes) rows corrected used = subst (λ (t : List ℕ). ReadsMap t rows corrected used) (rest_of bytes) read in
     let told = w.size in

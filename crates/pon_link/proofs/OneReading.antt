@@ -4,7 +4,7 @@ use Rattle.std.specs.Int.{w32, from_be_bytes}
 use Rattle.std.proofs.lemmas.List.{get_or_append_left, get_or-take, get_or-drop}
 use Rattle.std.proofs.Math.Seq.{take-append_seam, drop-append_seam}
 use Rattle.pon_dbru.proofs.ReportLaws.{words_are}
-use Rattle.pon_xgtc.specs.BurstHead.{BurstHeader}
+use Rattle.pon_xgtc.specs.BurstHead.{BurstHead}
 use Rattle.pon_xgtc.specs.declared.fault.HeadFault.TheVariants.{Hec}
 use Rattle.pon_xgtc.proofs.HeaderReading.{one_header, no_fault}
 use Rattle.pon_link.specs.UpRecords.{IsRecord, ReadsHead, ReadsReport, ReadsReports}
@@ -44,7 +44,7 @@ one_list bytes (o ∷ os) (p ∷ ps) h k =
     let rest : os ≡ ps = one_list k.1 os ps (subst (λ (t : List ℕ). ReadsReports t os) cut.1 h.4) k.4 in
     λ i. first i ∷ rest i
 
-one_head : (bytes : List ℕ) (a b : Option BurstHeader) → from_be_bytes w32 bytes < 2 ^ 32 → ReadsHead bytes a → ReadsHead bytes b → a ≡ b
+one_head : (bytes : List ℕ) (a b : Option BurstHead) → from_be_bytes w32 bytes < 2 ^ 32 → ReadsHead bytes a → ReadsHead bytes b → a ≡ b
 one_head bytes (Some g) (Some h) lt r s =
     let same = one_header bytes _ r.0 _ s.0 lt r.1.header s.1.header in
     let onu : g.onu_raw ≡ h.onu_raw = omega (arith, same.0, r.1.fits.ind, s.1.fits.ind) in

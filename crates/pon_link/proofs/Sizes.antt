@@ -5,7 +5,7 @@ use Rattle.std.proofs.lemmas.Bool.{cases_lt}
 use Rattle.std.proofs.lemmas.List.{get_or_append_left, drop-append-le, length-drop}
 use Rattle.std.proofs.lemmas.Slice.{between_to_end}
 use Rattle.pon_hec.specs.HeaderCode.{Reads}
-use Rattle.pon_xgtc.specs.MapHead.{MapHead, map_head_payload, ReadsMapHead}
+use Rattle.pon_xgtc.specs.HLend.{HLend, hlend_payload, ReadsHLend}
 use Rattle.pon_bwmap.proofs.OneMap.{one_head}
 use Rattle.pon_link.specs.UpRecords.{count_in}
 use Rattle.pon_lists.specs.Bytes.{AreBytes}
@@ -42,7 +42,7 @@ map_size_kept map more n long a = (
     fits = a.2.fits;
     header = record {
       whole = omega (arith, long, length-append map more);
-      word = subst (λ (w : ℕ). Reads (2 ^ 32) w (map_head_payload a.0) a.1) (sym (word_kept map more long)) a.2.header.word;
+      word = subst (λ (w : ℕ). Reads (2 ^ 32) w (hlend_payload a.0) a.1) (sym (word_kept map more long)) a.2.header.word;
     };
   },
   a.3,
@@ -58,7 +58,7 @@ map_size_before map more n long a = (
     fits = a.2.fits;
     header = record {
       whole = long;
-      word = subst (λ (w : ℕ). Reads (2 ^ 32) w (map_head_payload a.0) a.1) (word_kept map more long) a.2.header.word;
+      word = subst (λ (w : ℕ). Reads (2 ^ 32) w (hlend_payload a.0) a.1) (word_kept map more long) a.2.header.word;
     };
   },
   a.3,
@@ -170,7 +170,7 @@ down_told d bytes r down m =
     (subst (λ (t : List ℕ). MatchOption r ((n : ℕ) → AnnouncesMap t n → ⊥) (AnnouncesMap t)) rest m)
 
 -- a head that announces too much gives no size
-pub big_head : (map : List ℕ) (h : MapHead) (k n : ℕ) → AreBytes map → ReadsMapHead map h k → (512 < h.n) ⊎ (0 < h.p) → AnnouncesMap map n → ⊥
+pub big_head : (map : List ℕ) (h : HLend) (k n : ℕ) → AreBytes map → ReadsHLend map h k → (512 < h.n) ⊎ (0 < h.p) → AnnouncesMap map n → ⊥
 big_head map h k n small r big a =
     let same = one_head map h a.0 k a.1 small r a.2 in
     elim big [ inl rows ↦ omega (arith, rows, same.0, a.3) | inr messages ↦ omega (arith, messages, same.1, a.4) ]

@@ -7,9 +7,9 @@ use Rattle.std.proofs.lemmas.List.{append-nil}
 use Rattle.std.proofs.lemmas.List.Concat.{flat_map-cons}
 use Rattle.pon_lists.specs.Bytes.{AreBytes}
 use Rattle.pon_xgtc.specs.Header.{header_bytes}
-use Rattle.pon_xgtc.specs.MapHead.{map_head_payload}
+use Rattle.pon_xgtc.specs.HLend.{hlend_payload}
 use Rattle.pon_hec.specs.HeaderCode.{sealed}
-use Rattle.pon_bwmap.specs.Structure.{Structure}
+use Rattle.pon_bwmap.specs.Alloc.{Alloc}
 use Rattle.pon_bwmap.specs.MapBytes.{map_bytes, structure_bytes, structure_payload}
 use Rattle.pon_bwmap.specs.MapRules.{IsMap}
 use Rattle.pon_bwmap.specs.MapReading.{FitsStructure, ReadsMap}
@@ -18,7 +18,7 @@ use Rattle.pon_link.specs.DownRecords.{IsDownRecord, down_bytes}
 use Rattle.pon_link.specs.declared.record.DownRecord.{DownRecord}
 use Rattle.pon_link.proofs.DownReading.{one_down_record}
 
-pub written_record : (frame : ℕ) (rows : List Structure) → frame < 2 ^ 64 → IsMap rows → All FitsStructure rows → IsDownRecord (down_bytes frame rows) (record { frame = frame; map = rows })
+pub written_record : (frame : ℕ) (rows : List Alloc) → frame < 2 ^ 64 → IsMap rows → All FitsStructure rows → IsDownRecord (down_bytes frame rows) (record { frame = frame; map = rows })
 written_record frame rows lt map fits = record {
   size = omega (arith, map_length rows);
   tag = refl;
@@ -52,20 +52,20 @@ eight_bytes n (suc (suc (suc (suc (suc (suc zero)))))) = omega arith
 eight_bytes n (suc (suc (suc (suc (suc (suc (suc zero))))))) = omega arith
 eight_bytes n (suc (suc (suc (suc (suc (suc (suc (suc k)))))))) = omega arith
 
-rows_bytes : (rows : List Structure) → AreBytes (flat_map structure_bytes rows)
+rows_bytes : (rows : List Alloc) → AreBytes (flat_map structure_bytes rows)
 rows_bytes [] = λ k. omega arith
 rows_bytes (a ∷ rows) =
     subst AreBytes (sym (flat_map-cons structure_bytes a rows)) (bytes_joined (structure_bytes a) (flat_map structure_bytes rows) (eight_bytes (sealed (structure_payload a))) (rows_bytes rows))
 
-map_are_bytes : (rows : List Structure) → AreBytes (map_bytes rows)
+map_are_bytes : (rows : List Alloc) → AreBytes (map_bytes rows)
 unfolding map_bytes
-map_are_bytes rows = bytes_joined (header_bytes (map_head_payload (record { n = length rows; p = 0 }))) (flat_map structure_bytes rows) (four_bytes (sealed (map_head_payload (record { n = length rows; p = 0 })))) (rows_bytes rows)
+map_are_bytes rows = bytes_joined (header_bytes (hlend_payload (record { n = length rows; p = 0 }))) (flat_map structure_bytes rows) (four_bytes (sealed (hlend_payload (record { n = length rows; p = 0 })))) (rows_bytes rows)
 
-down_are_bytes : (frame : ℕ) (rows : List Structure) → AreBytes (down_bytes frame rows)
+down_are_bytes : (frame : ℕ) (rows : List Alloc) → AreBytes (down_bytes frame rows)
 down_are_bytes frame rows zero = omega arith
 down_are_bytes frame rows (suc k) = bytes_joined (to_be_bytes w64 frame) (map_bytes rows) (eight_bytes frame) (map_are_bytes rows) k
 
-pub written_down : (frame : ℕ) (rows : List Structure) (r : DownRecord) → frame < 2 ^ 64 → IsMap rows → All FitsStructure rows
+pub written_down : (frame : ℕ) (rows : List Alloc) (r : DownRecord) → frame < 2 ^ 64 → IsMap rows → All FitsStructure rows
     → (IsDownRecord (down_bytes frame rows) r → r ≡ record { frame = frame; map = rows }) × (r ≡ record { frame = frame; map = rows } → IsDownRecord (down_bytes frame rows) r)
 written_down frame rows r lt map fits =
     let written = written_record frame rows lt map fits in

@@ -2,7 +2,7 @@
 -- G.987.3) that announces no message.
 use Rattle.std.specs.Prelude.{◌≡◌, ℕ, ◌+◌, ◌*◌, List, ◌∷◌, ◌++◌, length, slice_index, slice_range, drop, Option, Result, Ok, Err}
 use Rattle.std.specs.Int.{w64, to_be_bytes, from_be_bytes}
-use Rattle.pon_bwmap.specs.Structure.{Structure}
+use Rattle.pon_bwmap.specs.Alloc.{Alloc}
 use Rattle.pon_bwmap.specs.MapBytes.{map_bytes}
 use Rattle.pon_bwmap.specs.MapReading.{ReadsMap}
 use Rattle.pon_bwmap.specs.MapFaults.{IsFirstMapFault}
@@ -15,7 +15,7 @@ use Rattle.pon_link.specs.declared.fault.DownFault.TheVariants.{Link, Memory}
 use Rattle.pon_link.specs.declared.fault.LinkFault.TheVariants.{BadMap}
 
 -- the bytes of a record with the map of a frame
-abbrev pub down_bytes : ℕ → List Structure → List ℕ
+abbrev pub down_bytes : ℕ → List Alloc → List ℕ
 down_bytes frame rows = 0x44 ∷ (to_be_bytes w64 frame ++ map_bytes rows)
 
 -- The bytes are one whole downstream record, field by field; bit errors of the map's header words are corrected.

@@ -2,7 +2,7 @@
 use Rattle.std.specs.Prelude.{◌≡◌, ◌≢◌, ℕ, ◌+◌, ◌*◌, ◌^◌, ◌%◌, ◌<◌, ◌≤◌, ◌⊎◌, Bool, false, IsTrue, List, [], ◌++◌, length, drop, slice_index, Option, Some, None, Result, Ok, Err}
 use Rattle.pon_units.specs.declared.limits.TheConstants.{LONGEST_SERIES, MOST_STRUCTURES}
 use Rattle.pon_device.specs.Device.{Consumes, Keeps, IsAtEnd}
-use Rattle.pon_xgtc.specs.MapHead.{MapHead, ReadsMapHead}
+use Rattle.pon_xgtc.specs.HLend.{HLend, ReadsHLend}
 use Rattle.pon_bwmap.specs.MapReading.{BeginsWithMap}
 use Rattle.pon_bwmap.specs.MapFaults.{IsFirstMapFault}
 use Rattle.pon_bwmap.specs.declared.fault.MapFault.{MapFault}
@@ -44,7 +44,7 @@ longest Down = 4109
 
 -- The bytes of a map give the number of bytes of its record: at most 512 structures, and no message.
 abbrev pub AnnouncesMap : List ℕ → ℕ → Type 0
-AnnouncesMap map n = (head : MapHead) × (corrected : ℕ) × ReadsMapHead map head corrected × (head.n ≤ MOST_STRUCTURES) × (head.p ≡ 0) × (n ≡ 13 + 8 * head.n)
+AnnouncesMap map n = (head : HLend) × (corrected : ℕ) × ReadsHLend map head corrected × (head.n ≤ MOST_STRUCTURES) × (head.p ≡ 0) × (n ≡ 13 + 8 * head.n)
 
 -- The bytes give the number of bytes of their record: the count byte is 1 to 16, or the map's head announces at most
 -- 512 structures and no message.

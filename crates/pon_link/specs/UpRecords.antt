@@ -5,12 +5,12 @@ use Rattle.std.specs.Int.{w64, from_be_bytes}
 use Rattle.pon_units.specs.declared.limits.TheConstants.{LONGEST_SERIES}
 use Rattle.pon_dbru.specs.Report.{Reports}
 use Rattle.pon_xgtc.specs.Header.{IsHeaderFault}
-use Rattle.pon_xgtc.specs.BurstHead.{BurstHeader, ReadsBurstHead}
+use Rattle.pon_xgtc.specs.BurstHead.{BurstHead, ReadsBurstHead}
 use Rattle.pon_xgtc.specs.declared.fault.HeadFault.TheVariants.{Hec}
 use Rattle.pon_link.specs.declared.record.UpRecord.{UpRecord}
 
 -- Four bytes read as this burst header, with some bits corrected, or as none if the HEC is refused.
-abbrev pub ReadsHead : List ℕ → Option BurstHeader → Type 0
+abbrev pub ReadsHead : List ℕ → Option BurstHead → Type 0
 ReadsHead bytes (Some h) = (places : ℕ) × ReadsBurstHead bytes h places
 ReadsHead bytes None = IsHeaderFault bytes Hec
 

@@ -1,7 +1,7 @@
 //! Laws of readers of a link's records, over the definitions alone.
 
 ghost use Rattle.std.specs.Prelude.{◌≡◌, ◌<◌, ◌^◌, ◌↔◌, ℕ, Bool, Option, List, ◌++◌, length, All};
-ghost use Rattle.pon_bwmap.specs.Structure.{Structure};
+ghost use Rattle.pon_bwmap.specs.Alloc.{Alloc};
 ghost use Rattle.pon_bwmap.specs.MapRules.{IsMap};
 ghost use Rattle.pon_bwmap.specs.MapReading.{FitsStructure};
 ghost use Rattle.pon_link.specs.Reading.{ReaderState, empty, MayBecomeRecord, HasFault, IsOpen};
@@ -79,7 +79,7 @@ pub fn one_reading()
 
 /// The bytes written for a frame and its map are the record of these, and no other.
 pub fn written_down()
-    ensures { (frame : ℕ) (rows : List Structure) (r : DownRecord) → frame < 2 ^ 64 → IsMap rows
+    ensures { (frame : ℕ) (rows : List Alloc) (r : DownRecord) → frame < 2 ^ 64 → IsMap rows
         → All FitsStructure rows
         → (IsDownRecord (down_bytes frame rows) r ↔ (r ≡ record { frame = frame; map = rows })) }
 {}

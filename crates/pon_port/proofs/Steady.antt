@@ -5,7 +5,7 @@ use Rattle.std.specs.List.{list_any}
 use Rattle.std.proofs.lemmas.Bool.{or_right, cases_Bool}
 use Rattle.std.proofs.lemmas.Option.{IfSome_then}
 use Rattle.std.proofs.lemmas.List.Elements.{All-nil, All-cons, All-head, All-tail, All-append, All-drop, All-filter, All-map, All-weaker}
-use Rattle.pon_bwmap.specs.Structure.{Structure}
+use Rattle.pon_bwmap.specs.Alloc.{Alloc}
 use Rattle.pon_descr.specs.Checks.{or_else}
 use Rattle.pon_admit.specs.Roster.{IsAdmitted, IsInMapOrder, comes_before, has_alloc, refuses_admit, without}
 use Rattle.pon_admit.specs.declared.row.Row.{Row}
@@ -74,7 +74,7 @@ pub reported_lawful : (es : List Entry) (m : WindowMap) → AreInMapOrder m.gran
 reported_lawful es m h = said_lawful (λ u. list_any (λ v. v == u) m.reported || list_any (λ e. is_report_for m.frame u e.event) es) m h
 
 -- a property of all grants of a map, from that of each row's grant
-pub grants_all : (P : Granted → Type 0) (rows : List Row) (more : List Structure) → All (λ r. (w : ℕ) → P (record { onu = r.onu; alloc_id = r.alloc_id; words = w })) rows → All P (grants_of rows more)
+pub grants_all : (P : Granted → Type 0) (rows : List Row) (more : List Alloc) → All (λ r. (w : ℕ) → P (record { onu = r.onu; alloc_id = r.alloc_id; words = w })) rows → All P (grants_of rows more)
 grants_all P [] more h = All-nil P
 grants_all P (r ∷ rows) [] h = All-nil P
 grants_all P (r ∷ rows) (a ∷ more) h =
@@ -82,7 +82,7 @@ grants_all P (r ∷ rows) (a ∷ more) h =
     (All-head (λ r. (w : ℕ) → P (record { onu = r.onu; alloc_id = r.alloc_id; words = w })) r rows h (a.grant - 1))
     (grants_all P rows more (All-tail (λ r. (w : ℕ) → P (record { onu = r.onu; alloc_id = r.alloc_id; words = w })) r rows h))
 
-grants_rise : (rows : List Row) (more : List Structure) → IsInMapOrder rows → AreInMapOrder (grants_of rows more)
+grants_rise : (rows : List Row) (more : List Alloc) → IsInMapOrder rows → AreInMapOrder (grants_of rows more)
 grants_rise [] more h = tt
 grants_rise (r ∷ rows) [] h = tt
 grants_rise (r ∷ rows) (a ∷ more) h = (

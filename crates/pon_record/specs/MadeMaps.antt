@@ -5,10 +5,10 @@ use Rattle.std.specs.Int.{w32, w64}
 use Rattle.std.specs.Result.{result_ok}
 use Rattle.pon_units.specs.declared.limits.TheConstants.{MOST_STRUCTURES}
 use Rattle.pon_hec.specs.HeaderCode.{sealed}
-use Rattle.pon_xgtc.specs.MapHead.{map_head_payload}
+use Rattle.pon_xgtc.specs.HLend.{hlend_payload}
 use Rattle.pon_bwmap.specs.MapBytes.{structure_payload}
 use Rattle.pon_bwmap.specs.MapRules.{row_fault}
-use Rattle.pon_bwmap.specs.Structure.{Structure}
+use Rattle.pon_bwmap.specs.Alloc.{Alloc}
 use Rattle.pon_cert.specs.declared.cert.MapCert.{MapCert}
 use Rattle.pon_cert.specs.Reading.{cert_at}
 use Rattle.pon_cert.specs.Spelling.{cert_bytes}
@@ -19,7 +19,7 @@ use Rattle.pon_record.specs.Fields.{frame}
 
 -- the head of a map with n structures and no messages: its codeword
 abbrev pub head_code : ℕ → ℕ
-head_code n = sealed (map_head_payload (record { n = n; p = 0 }))
+head_code n = sealed (hlend_payload (record { n = n; p = 0 }))
 
 abbrev pub head_meaning : ℕ → Option ℕ
 head_meaning word = let n = word / 2 ^ 21 in if head_code n == word then Some n else None
@@ -32,7 +32,7 @@ abbrev pub start_of : ℕ → Option ℕ
 start_of field = if field == 0xffff then None else Some field
 
 -- the structure with this payload of 51 bits
-abbrev pub structure_of : ℕ → Structure
+abbrev pub structure_of : ℕ → Alloc
 structure_of payload = record {
   id = payload / 2 ^ 37;
   dbru = payload / 2 ^ 36 % 2 == 1;
@@ -44,34 +44,34 @@ structure_of payload = record {
 }
 
 -- a structure: its codeword
-abbrev pub structure_code : Structure → ℕ
+abbrev pub structure_code : Alloc → ℕ
 structure_code a = sealed (structure_payload a)
 
-abbrev pub structure_meaning : ℕ → Option Structure
+abbrev pub structure_meaning : ℕ → Option Alloc
 structure_meaning word = if sealed (word / 2 ^ 13) == word then Some (structure_of (word / 2 ^ 13)) else None
 
-abbrev pub structure : Format Structure
+abbrev pub structure : Format Alloc
 structure = told_by structure_meaning structure_code (number w64)
 
 -- none of the first n structures breaks a rule of maps
-abbrev pub keeps_rules : List Structure → ℕ → Bool
+abbrev pub keeps_rules : List Alloc → ℕ → Bool
 keeps_rules rows zero = true
 keeps_rules rows (suc k) = keeps_rules rows k && is_none (row_fault rows k)
 
 -- the structures make a map
-abbrev pub is_map : List Structure → Bool
+abbrev pub is_map : List Alloc → Bool
 is_map rows = nat_le (length rows) MOST_STRUCTURES && keeps_rules rows (length rows)
 
-abbrev pub map : Format (List Structure)
+abbrev pub map : Format (List Alloc)
 map = only is_map (counted head MOST_STRUCTURES structure)
 
 abbrev pub certificate : Format MapCert
 certificate = record { Fits = FitsCert; write = cert_bytes; read = λ bytes. result_ok (cert_at bytes) }
 
-abbrev pub made_parts : MadeMap → ℕ × (List Structure × MapCert)
+abbrev pub made_parts : MadeMap → ℕ × (List Alloc × MapCert)
 made_parts m = (m.frame, (m.map, m.cert))
 
-abbrev pub made_of : ℕ × (List Structure × MapCert) → MadeMap
+abbrev pub made_of : ℕ × (List Alloc × MapCert) → MadeMap
 made_of x = record { frame = x.0; map = x.1.0; cert = x.1.1 }
 
 abbrev pub made_map : Format MadeMap

@@ -5,7 +5,7 @@ use Rattle.std.proofs.Math.Nat.{le-mul_of_pos_right, mul_comm, mul-le-mul_right}
 use Rattle.std.proofs.lemmas.Slice.Zip.{AllZip-long}
 use Rattle.std.proofs.lemmas.List.Elements.{recursion_from_All}
 use Rattle.std.proofs.lemmas.List.Sums.{sum_by-cons}
-use Rattle.pon_units.specs.Fraction.{Fraction}
+use Rattle.pon_units.specs.Frac.{Frac}
 use Rattle.pon_cert.specs.declared.problem.Item.{Item}
 use Rattle.pon_cert.specs.declared.cert.Level.{Level}
 use Rattle.pon_cert.specs.declared.cert.Level.TheVariants as level
@@ -25,7 +25,7 @@ open_few (i ∷ is) (true ∷ ss) a = omega (arith, sum_by-cons open_weight (i, 
 open_few (i ∷ is) (false ∷ ss) a = omega (arith, sum_by-cons open_weight (i, false) (zip is ss), open_few is ss a.1, a.0.weight_range)
 
 -- the level is below the cap of some item
-level_below : (f : Fraction) (is : List Item) (ss : List Bool) → AllZip (RuleHolds (level.At f)) is ss → AllByRecursion IsItem is → 0 < unsaturated_weight is ss → f.num < 2488320 * f.den
+level_below : (f : Frac) (is : List Item) (ss : List Bool) → AllZip (RuleHolds (level.At f)) is ss → AllByRecursion IsItem is → 0 < unsaturated_weight is ss → f.num < 2488320 * f.den
 level_below f [] [] z a some = absurd (omega (arith, some))
 level_below f [] (b ∷ ss) z a some = absurd z
 level_below f (i ∷ is) [] z a some = absurd z

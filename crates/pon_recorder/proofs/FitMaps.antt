@@ -5,11 +5,11 @@ use Rattle.std.specs.List.{AllByRecursion}
 use Rattle.std.proofs.lemmas.Bool.{eq-eqb, ne_eqb}
 use Rattle.std.proofs.lemmas.List.Elements.{recursion_from_All}
 use Rattle.std.proofs.lemmas.List.Sums.{sum_by-cons}
-use Rattle.pon_units.specs.Fraction.{Fraction}
+use Rattle.pon_units.specs.Frac.{Frac}
 use Rattle.pon_units.specs.declared.granted.Granted.{Granted}
 use Rattle.pon_hec.specs.HeaderCode.{sealed}
 use Rattle.pon_hec.proofs.HeaderLaws.{sealed_codeword}
-use Rattle.pon_bwmap.specs.Structure.{Structure}
+use Rattle.pon_bwmap.specs.Alloc.{Alloc}
 use Rattle.pon_bwmap.specs.MapBytes.{flag_bit, start_field, structure_payload}
 use Rattle.pon_bwmap.specs.MapReading.{FitsStructure}
 use Rattle.pon_bwmap.specs.MapRules.{IsMap}
@@ -50,7 +50,7 @@ start_same : (o : Option ℕ) → IfSome o (λ s. s < 0xffff) → start_of (star
 start_same None lt = refl
 start_same (Some s) lt = ap (λ (b : Bool). cond b None (Some s)) (ne_eqb s 0xffff (λ e. absurd (omega (arith, e, lt))))
 
-structure_back : (a : Structure) → FitsStructure a → structure_of (structure_payload a) ≡ a
+structure_back : (a : Alloc) → FitsStructure a → structure_of (structure_payload a) ≡ a
 structure_back a fits =
     let p : ℕ = structure_payload a in
     let d = flag_small a.dbru in
@@ -75,10 +75,10 @@ structure_back a fits =
       profile = profile i;
     })
 
-payload_small : (a : Structure) → FitsStructure a → structure_payload a < 2 ^ 51
+payload_small : (a : Alloc) → FitsStructure a → structure_payload a < 2 ^ 51
 payload_small a fits = omega (arith, fits.id, fits.grant, fits.profile, flag_small a.dbru, flag_small a.ploam, flag_small a.fwi, start_small a.start fits.start)
 
-structure_fits : (a : Structure) → FitsStructure a → structure.Fits a
+structure_fits : (a : Alloc) → FitsStructure a → structure.Fits a
 structure_fits a fits =
     let lt = payload_small a fits in
     let code = sealed_codeword (2 ^ 64) (structure_payload a) lt (omega (arith, lt)) in
@@ -87,13 +87,13 @@ structure_fits a fits =
       code.0.below,
       ap (λ (b : Bool). cond b (Some (structure_of (word / 2 ^ 13))) None) same
           ∙ ap (λ (p : ℕ). Some (structure_of p)) code.1
-          ∙ ap (λ (t : Structure). Some t) (structure_back a fits),
+          ∙ ap (λ (t : Alloc). Some t) (structure_back a fits),
     )
 
 -- ---- the structures of a map
 
 -- the fields except the start are in range
-record FitsRest (a : Structure) : Type 0 where
+record FitsRest (a : Alloc) : Type 0 where
   id : a.id ≤ 16383
   grants : a.grant ≤ 65535
   profile : a.profile ≤ 3
@@ -118,16 +118,16 @@ rest_fits : (gap profile : ℕ) (all gs : List Granted) → profile ≤ 3 → Al
 rest_fits gap profile all [] p i w = tt
 rest_fits gap profile all (g ∷ gs) p i w = (record { id = i.0; grants = omega (arith, w.0); profile = p }, rest_fits gap profile all gs p i.1 w.1)
 
-start_fits : (rows : List Structure) → IsMap rows → (k : ℕ) (a : Structure) → slice_get rows k ≡ Some a → (o : Option ℕ) → a.start ≡ o → IfSome o (λ s. s < 0xffff)
+start_fits : (rows : List Alloc) → IsMap rows → (k : ℕ) (a : Alloc) → slice_get rows k ≡ Some a → (o : Option ℕ) → a.start ≡ o → IfSome o (λ s. s < 0xffff)
 start_fits rows m k a at None e = tt
 start_fits rows m k a at (Some s) e = let lt : s < 9720 = ((map_rules rows).0 m).starts k s a at e in omega (arith, lt)
 
-rows_fit : (rows : List Structure) → IsMap rows → AllByRecursion FitsRest rows → AllByRecursion structure.Fits rows
+rows_fit : (rows : List Alloc) → IsMap rows → AllByRecursion FitsRest rows → AllByRecursion structure.Fits rows
 rows_fit rows m rest = from_places structure.Fits rows (λ k a at.
     let r = each_at FitsRest rows k a rest at in
     structure_fits a (record { id = r.id; start = start_fits rows m k a at a.start refl; grant = r.grants; profile = r.profile }))
 
-ids_fit : (s : Input) (surplus : Row → Fraction) (rows : List Row) → AllByRecursion IsInRange rows → AllByRecursion (λ (g : Granted). g.alloc_id ≤ 16383) (map (λ (r : Row). record { onu = r.onu; alloc_id = r.alloc_id; words = payload s surplus r }) rows)
+ids_fit : (s : Input) (surplus : Row → Frac) (rows : List Row) → AllByRecursion IsInRange rows → AllByRecursion (λ (g : Granted). g.alloc_id ≤ 16383) (map (λ (r : Row). record { onu = r.onu; alloc_id = r.alloc_id; words = payload s surplus r }) rows)
 ids_fit s surplus [] a = tt
 ids_fit s surplus (r ∷ rows) a = (a.0.alloc_id, ids_fit s surplus rows a.1)
 
@@ -141,7 +141,7 @@ made_fits s made k p next f =
     let grants : sum_by grant gs ≤ 9720 = omega (arith, one.fitting) in
     let each = rest_fits s.gap s.profile gs gs p (ids_fit t (surplus_rate t made.cert) s.roster (recursion_from_All IsInRange s.roster k.in_range)) (each_below grant gs 9720 grants) in
     let is_map : IsMap made.map = subst IsMap (sym f.map) m in
-    let fit : AllByRecursion structure.Fits made.map = subst (λ (rows : List Structure). AllByRecursion structure.Fits rows) (sym f.map) (rows_fit (map_granting s.gap s.profile gs) m each) in (
+    let fit : AllByRecursion structure.Fits made.map = subst (λ (rows : List Alloc). AllByRecursion structure.Fits rows) (sym f.map) (rows_fit (map_granting s.gap s.profile gs) m each) in (
       (
         subst (λ (n : ℕ). n < 2 ^ 64) (sym f.frame) next,
         (

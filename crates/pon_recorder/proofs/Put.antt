@@ -3,7 +3,7 @@ use Rattle.std.proofs.Common.{◌≡◌, ℕ, ◌+◌, ◌*◌, List, ◌++◌, 
 use Rattle.std.specs.Int.{w8, to_be_bytes}
 use Rattle.std.proofs.lemmas.List.{take_at}
 use Rattle.pon_bwmap.specs.MapBytes.{map_bytes}
-use Rattle.pon_bwmap.specs.Structure.{Structure}
+use Rattle.pon_bwmap.specs.Alloc.{Alloc}
 use Rattle.pon_bwmap.proofs.ReadsBack.{map_length}
 use Rattle.pon_event.specs.declared.event.Event.{Event}
 use Rattle.pon_event.specs.declared.event.Event.TheVariants.{Admit, Change, Remove, Report, MakeMap, Fail, Restore}
@@ -25,11 +25,11 @@ tagged (Fail c) = refl
 tagged Restore = refl
 
 -- the bytes of a map are those of its format
-pub map_written : (rows : List Structure) → map_bytes rows ≡ map.write rows
+pub map_written : (rows : List Alloc) → map_bytes rows ≡ map.write rows
 unfolding map_bytes
 map_written rows = refl
 
 -- the bytes of a map at the front of a buffer
-pub map_in_room : (room rest : List ℕ) (rows : List Structure) (n : ℕ) → n ≡ 4 + 8 * length rows → room ≡ map_bytes rows ++ rest → take n room ≡ map.write rows
+pub map_in_room : (room rest : List ℕ) (rows : List Alloc) (n : ℕ) → n ≡ 4 + 8 * length rows → room ≡ map_bytes rows ++ rest → take n room ≡ map.write rows
 map_in_room room rest rows n size is =
     ap (λ (l : List ℕ). take n l) is ∙ take_at (map_bytes rows) rest n (omega (arith, map_length rows, size)) ∙ map_written rows

@@ -5,7 +5,7 @@ use Rattle.std.specs.Int.{w16, to_be_bytes}
 use Rattle.std.specs.List.{AllByRecursion, flat_map}
 use Rattle.std.proofs.lemmas.List.{length-map}
 use Rattle.std.proofs.lemmas.List.Concat.{flat_map-cons}
-use Rattle.pon_bwmap.specs.Structure.{Structure}
+use Rattle.pon_bwmap.specs.Alloc.{Alloc}
 use Rattle.pon_cert.specs.declared.cert.ClassCert.{ClassCert}
 use Rattle.pon_cert.specs.declared.cert.Level.{Level}
 use Rattle.pon_cert.specs.declared.cert.Level.TheVariants as level
@@ -36,7 +36,7 @@ event_size MakeMap fits = omega arith
 event_size (Fail c) fits = omega arith
 event_size Restore fits = omega arith
 
-rows_size : (rows : List Structure) → length (flat_map structure.write rows) ≡ 8 * length rows
+rows_size : (rows : List Alloc) → length (flat_map structure.write rows) ≡ 8 * length rows
 rows_size [] = refl
 rows_size (a ∷ rows) = ap (λ (bs : List ℕ). length bs) (flat_map-cons structure.write a rows) ∙ omega (arith, rows_size rows)
 

@@ -1,7 +1,7 @@
 -- The rates of a class, and the certificate of a map: it is unique.
 use Rattle.std.proofs.Common.{◌≡◌, ℕ, ◌≤◌, Bool, true, false, cond, List, [], ◌∷◌, map, refl, ap, sym, ◌∙◌, subst, arith}
 use Rattle.std.specs.List.{zip}
-use Rattle.pon_units.specs.Fraction.{Fraction}
+use Rattle.pon_units.specs.Frac.{Frac}
 use Rattle.pon_descr.specs.declared.class.Class.{Class}
 use Rattle.pon_descr.specs.declared.class.Class.TheVariants.{Plain, NonAssured, BestEffort}
 use Rattle.pon_admit.specs.Roster.{IsAdmitted}
@@ -24,7 +24,7 @@ use Rattle.pon_share.proofs.Surplus.{flags_each}
 -- The rates of a class.
 
 -- two functions that agree on a class agree on its members
-pub members_agree : (class : Class) (f g : Row → Fraction) → ((r : Row) → same_class r.descriptor.class class ≡ true → f r ≡ g r) → (rows : List Row) → map f (members class rows) ≡ map g (members class rows)
+pub members_agree : (class : Class) (f g : Row → Frac) → ((r : Row) → same_class r.descriptor.class class ≡ true → f r ≡ g r) → (rows : List Row) → map f (members class rows) ≡ map g (members class rows)
 members_agree class f g h [] = refl
 members_agree class f g h (r ∷ rows) = at (members_agree class f g h rows) (same_class r.descriptor.class class) refl
   where
@@ -32,17 +32,17 @@ members_agree class f g h (r ∷ rows) = at (members_agree class f g h rows) (sa
     at rest true e = (λ k. h r e k ∷ rest k)
     at rest false e = rest
 
-pub non_assured_alone : (c : Class) (na be : Fraction) → same_class c NonAssured ≡ true → rate_in c na be ≡ na
+pub non_assured_alone : (c : Class) (na be : Frac) → same_class c NonAssured ≡ true → rate_in c na be ≡ na
 non_assured_alone Plain na be e = absurd (let t : false ≡ true = e in cc)
 non_assured_alone NonAssured na be e = refl
 non_assured_alone BestEffort na be e = absurd (let t : false ≡ true = e in cc)
 
-pub best_effort_alone : (c : Class) (na be : Fraction) → same_class c BestEffort ≡ true → rate_in c na be ≡ be
+pub best_effort_alone : (c : Class) (na be : Frac) → same_class c BestEffort ≡ true → rate_in c na be ≡ be
 best_effort_alone Plain na be e = absurd (let t : false ≡ true = e in cc)
 best_effort_alone NonAssured na be e = absurd (let t : false ≡ true = e in cc)
 best_effort_alone BestEffort na be e = refl
 
-abbrev over : ℕ → ℕ → Fraction
+abbrev over : ℕ → ℕ → Frac
 over d n = record { num = n; den = d }
 
 rates_each : (l : Level) (g : Row → Item) (sat : Row → Bool) (d : ℕ) (rows : List Row) →

@@ -8,7 +8,7 @@ use Rattle.std.proofs.lemmas.List.Sums.{sum_by-cons}
 use Rattle.pon_units.specs.Granted.{AreInMapOrder, ComesBefore, onus_granted}
 use Rattle.pon_units.specs.declared.granted.Granted.{Granted}
 use Rattle.pon_lists.specs.Distinct.{distinct}
-use Rattle.pon_units.specs.Fraction.{Fraction}
+use Rattle.pon_units.specs.Frac.{Frac}
 use Rattle.pon_lists.proofs.Lists.{map-map, sum_by-map}
 use Rattle.pon_burst.specs.Bursts.{AreSound}
 use Rattle.pon_burst.specs.Maps.{frame_words}
@@ -28,7 +28,7 @@ use Rattle.pon_share.proofs.Surplus.{by_class, shared, whole_share}
 use Rattle.pon_share.specs.Maps.{map_of}
 use Rattle.pon_share.specs.Packing.{AreOneMap}
 
-module _ (s : Input) (surplus : Row → Fraction) where
+module _ (s : Input) (surplus : Row → Frac) where
   -- the grant of a row
   abbrev pub granted_to_row : Row → Granted
   granted_to_row r = record { onu = r.onu; alloc_id = r.alloc_id; words = payload s surplus r }
@@ -76,7 +76,7 @@ module _ (s : Input) (surplus : Row → Fraction) where
 -- The payload words of guaranteed and surplus rates.
 
 -- the whole words are at most the rates
-payload_sum : (s : Input) (surplus : Row → Fraction) (rows : List Row) →
+payload_sum : (s : Input) (surplus : Row → Frac) (rows : List Row) →
     256 * sum_by (payload s surplus) rows ≤ sum_by (guaranteed_rate s) rows + sum_by (λ r. (surplus r).num / (surplus r).den) rows
 payload_sum s surplus [] = omega arith
 payload_sum s surplus (r ∷ rows) =

@@ -8,7 +8,7 @@ use Rattle.std.proofs.lemmas.Bool.Decides.{eqb_tells}
 use Rattle.std.proofs.lemmas.List.Elements.{All-cons, All-nil}
 use Rattle.std.proofs.lemmas.List.Sums.{sum_by-cons}
 use Rattle.std.proofs.lemmas.Slice.Zip.{AllZip-long}
-use Rattle.pon_units.specs.Fraction.{Fraction}
+use Rattle.pon_units.specs.Frac.{Frac}
 use Rattle.pon_lists.proofs.Lists.{length-map}
 use Rattle.pon_descr.specs.declared.class.Class.{Class}
 use Rattle.pon_descr.specs.declared.class.Class.TheVariants.{Plain, NonAssured, BestEffort}
@@ -160,11 +160,11 @@ module _ (s : Input) (class : Class) (cert : ClassCert) (surplus : ℕ) (apart :
 
 -- The two classes together.
 
-abbrev whole_of : Fraction → ℕ
+abbrev whole_of : Frac → ℕ
 whole_of f = f.num / f.den
 
 -- a sum over all rows is the sum over both classes: rows of no class add 0
-pub by_class : (na be : Row → Fraction) (rows : List Row) →
+pub by_class : (na be : Row → Frac) (rows : List Row) →
     sum_by (λ r. whole_of (rate_in r.descriptor.class (na r) (be r))) rows ≡ sum_by (λ r. whole_of (na r)) (members NonAssured rows) + sum_by (λ r. whole_of (be r)) (members BestEffort rows)
 by_class na be [] = refl
 by_class na be (r ∷ rows) =

@@ -1,6 +1,6 @@
 -- The surplus of each of the two classes, and the rates that a certificate gives them.
 use Rattle.std.specs.Prelude.{ℕ, List, map}
-use Rattle.pon_units.specs.Fraction.{Fraction}
+use Rattle.pon_units.specs.Frac.{Frac}
 use Rattle.pon_descr.specs.declared.class.Class.TheVariants.{NonAssured, BestEffort}
 use Rattle.pon_cert.specs.declared.cert.MapCert.{MapCert}
 use Rattle.pon_cert.specs.Problem.{Assignment}
@@ -24,5 +24,5 @@ abbrev pub best_effort_share : Input → MapCert → Assignment
 best_effort_share s cert = spelled (items BestEffort s) cert.be
 
 -- an assignment as fractions, item by item
-abbrev pub rates_of : Assignment → List Fraction
+abbrev pub rates_of : Assignment → List Frac
 rates_of y = map (λ n. record { num = n; den = y.over }) y.amounts

@@ -1,12 +1,12 @@
 -- The map that grants the rates of its input, given its burst profile and the surplus rate of each Alloc-ID.
 use Rattle.std.specs.Prelude.{ℕ, List}
-use Rattle.pon_units.specs.Fraction.{Fraction}
-use Rattle.pon_bwmap.specs.Structure.{Structure}
+use Rattle.pon_units.specs.Frac.{Frac}
+use Rattle.pon_bwmap.specs.Alloc.{Alloc}
 use Rattle.pon_burst.specs.Maps.{map_granting}
 use Rattle.pon_share.specs.Input.{Input}
 use Rattle.pon_admit.specs.declared.row.Row.{Row}
 use Rattle.pon_share.specs.Rates.{granted}
 
 -- a structure for each admitted Alloc-ID, in map order, that grants its words
-abbrev pub map_of : ℕ → Input → (Row → Fraction) → List Structure
+abbrev pub map_of : ℕ → Input → (Row → Frac) → List Alloc
 map_of profile s surplus = map_granting s.gap profile (granted s surplus)

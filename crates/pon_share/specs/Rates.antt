@@ -1,7 +1,7 @@
 -- The rates of an Alloc-ID in a map, and its payload words (ITU-T G.987.3: the reference model of dynamic bandwidth assignment).
 use Rattle.std.specs.Prelude.{ℕ, ◌+◌, ◌/◌, List, map}
 use Rattle.pon_units.specs.declared.limits.TheConstants.{WORD_RATE}
-use Rattle.pon_units.specs.Fraction.{Fraction}
+use Rattle.pon_units.specs.Frac.{Frac}
 use Rattle.pon_units.specs.declared.granted.Granted.{Granted}
 use Rattle.pon_admit.specs.declared.row.Row.{Row}
 use Rattle.pon_guar.specs.Book.{load_of}
@@ -13,13 +13,13 @@ abbrev pub guaranteed_rate : Input → Row → ℕ
 guaranteed_rate s r = guaranteed r.descriptor (load_of s.book r.alloc_id)
 
 -- the whole kbit/s of guaranteed and surplus rate together
-abbrev pub whole_rate : Input → (Row → Fraction) → Row → ℕ
+abbrev pub whole_rate : Input → (Row → Frac) → Row → ℕ
 whole_rate s surplus r = guaranteed_rate s r + (surplus r).num / (surplus r).den
 
 -- the whole words of that rate, at 256 kbit/s a word
-abbrev pub payload : Input → (Row → Fraction) → Row → ℕ
+abbrev pub payload : Input → (Row → Frac) → Row → ℕ
 payload s surplus r = whole_rate s surplus r / WORD_RATE
 
 -- the grant of each admitted Alloc-ID, in map order
-abbrev pub granted : Input → (Row → Fraction) → List Granted
+abbrev pub granted : Input → (Row → Frac) → List Granted
 granted s surplus = map (λ r. record { onu = r.onu; alloc_id = r.alloc_id; words = payload s surplus r }) s.roster

@@ -3,7 +3,7 @@
 use Rattle.std.specs.Prelude.{ℕ, ◌-◌, ◌*◌, ◌==◌, Bool, true, false, List, map, filter, sum_by}
 use Rattle.std.specs.List.{list_any}
 use Rattle.pon_units.specs.declared.limits.TheConstants.{WORD_RATE}
-use Rattle.pon_units.specs.Fraction.{Fraction}
+use Rattle.pon_units.specs.Frac.{Frac}
 use Rattle.pon_descr.specs.declared.class.Class.{Class}
 use Rattle.pon_descr.specs.declared.class.Class.TheVariants.{Plain, NonAssured, BestEffort}
 use Rattle.pon_descr.specs.Descriptor.{Descriptor, promised}
@@ -57,17 +57,17 @@ abbrev pub is_saturated : Class → List Row → ClassCert → ℕ → Bool
 is_saturated class rows cert i = list_any (λ j. j == i) (saturated_names (member_ids class rows) cert.saturated)
 
 -- the rate that the certificate of a class gives to an Alloc-ID
-abbrev pub spelled_rate : Input → Class → ClassCert → Row → Fraction
+abbrev pub spelled_rate : Input → Class → ClassCert → Row → Frac
 spelled_rate s class cert r = record {
   num = amount cert.level (item_of s r) (is_saturated class s.roster cert r.alloc_id);
   den = denominator cert.level;
 }
 
 -- the rate of an Alloc-ID in its class: 0 if it has none, otherwise that of the class
-abbrev pub rate_in : Class → Fraction → Fraction → Fraction
+abbrev pub rate_in : Class → Frac → Frac → Frac
 rate_in Plain na be = record { num = 0; den = 1 }
 rate_in NonAssured na be = na
 rate_in BestEffort na be = be
 
-abbrev pub surplus_rate : Input → MapCert → Row → Fraction
+abbrev pub surplus_rate : Input → MapCert → Row → Frac
 surplus_rate s cert r = rate_in r.descriptor.class (spelled_rate s NonAssured cert.na r) (spelled_rate s BestEffort cert.be r)

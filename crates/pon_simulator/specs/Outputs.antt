@@ -1,7 +1,7 @@
 -- The records of answers as bytes on a device.
 use Rattle.std.specs.Prelude.{ℕ, ◌≤◌, List, [], ◌++◌, All, IsSome, length, Option}
 use Rattle.pon_units.specs.declared.limits.TheConstants.{LONGEST_SERIES}
-use Rattle.pon_bwmap.specs.Structure.{Structure}
+use Rattle.pon_bwmap.specs.Alloc.{Alloc}
 use Rattle.pon_device.specs.Device.{Appends}
 use Rattle.pon_link.specs.Runs.{AreRecords}
 use Rattle.pon_link.specs.Units.{UnitState}
@@ -30,14 +30,14 @@ pub record WritesPart (old new : Option (List ℕ)) (answers : List UpRecord) : 
   pub written : Appends old new sent
 
 -- the structures of a frame, except the rest, are answered, and the answers are written
-pub record HasAnswered (frame : ℕ) (rows rest : List Structure) (old new : List UnitState) (out_old out_new : Option (List ℕ)) : Type 0 where
+pub record HasAnswered (frame : ℕ) (rows rest : List Alloc) (old new : List UnitState) (out_old out_new : Option (List ℕ)) : Type 0 where
   pub answers : List UpRecord
   pub answered : AnswersRows frame rows rest old new answers
   pub written : Writes out_old out_new answers
 
 -- the first series of a frame are answered, and a prefix of the answers' records is written
-pub record HasBegun (frame : ℕ) (rows : List Structure) (old new : List UnitState) (out_old out_new : Option (List ℕ)) : Type 0 where
+pub record HasBegun (frame : ℕ) (rows : List Alloc) (old new : List UnitState) (out_old out_new : Option (List ℕ)) : Type 0 where
   pub answers : List UpRecord
-  pub rest : List Structure
+  pub rest : List Alloc
   pub answered : AnswersRows frame rows rest old new answers
   pub written : WritesPart out_old out_new answers

@@ -1,8 +1,8 @@
 -- What the window keeps of a map.
 use Rattle.std.proofs.Common.{◌≡◌, ℕ, ◌+◌, ◌-◌, List, [], ◌∷◌, map, refl, ap, sym, ◌∙◌, arith}
-use Rattle.pon_units.specs.Fraction.{Fraction}
+use Rattle.pon_units.specs.Frac.{Frac}
 use Rattle.pon_units.specs.declared.granted.Granted.{Granted}
-use Rattle.pon_bwmap.specs.Structure.{Structure}
+use Rattle.pon_bwmap.specs.Alloc.{Alloc}
 use Rattle.pon_burst.specs.Maps.{structure_of}
 use Rattle.pon_admit.specs.declared.row.Row.{Row}
 use Rattle.pon_share.specs.Input.{Input}
@@ -11,9 +11,9 @@ use Rattle.pon_share.specs.Rates.{granted, payload}
 use Rattle.pon_share.proofs.RosterMaps.{granted_to_row}
 use Rattle.pon_state.specs.Replay.{grants_of}
 
-module _ (profile : ℕ) (s : Input) (surplus : Row → Fraction) where
+module _ (profile : ℕ) (s : Input) (surplus : Row → Frac) where
   -- the grants of the structures of rows are those of the rows
-  grants_back : (f : Granted → Structure) → ((g : Granted) → (f g).grant ≡ 1 + g.words) → (rows : List Row) → grants_of rows (map f (map (granted_to_row s surplus) rows)) ≡ map (granted_to_row s surplus) rows
+  grants_back : (f : Granted → Alloc) → ((g : Granted) → (f g).grant ≡ 1 + g.words) → (rows : List Row) → grants_of rows (map f (map (granted_to_row s surplus) rows)) ≡ map (granted_to_row s surplus) rows
   grants_back f one [] = refl
   grants_back f one (r ∷ rows) =
       let words : (f (granted_to_row s surplus r)).grant - 1 ≡ payload s surplus r = omega (arith, one (granted_to_row s surplus r)) in
@@ -23,5 +23,5 @@ module _ (profile : ℕ) (s : Input) (surplus : Row → Fraction) where
   pub window_grants : grants_of s.roster (map_of profile s surplus) ≡ granted s surplus
   window_grants = grants_back (structure_of s.gap profile (granted s surplus)) (λ g. refl) s.roster
 
-  pub kept_of_map : (told : List Structure) (gs : List Granted) → told ≡ map_of profile s surplus → gs ≡ granted s surplus → gs ≡ grants_of s.roster told
+  pub kept_of_map : (told : List Alloc) (gs : List Granted) → told ≡ map_of profile s surplus → gs ≡ granted s surplus → gs ≡ grants_of s.roster told
   kept_of_map told gs same grants = grants ∙ sym window_grants ∙ ap (grants_of s.roster) (sym same)

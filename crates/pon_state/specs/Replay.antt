@@ -1,7 +1,7 @@
 -- The replay of a port's history: each part of the state as a function of the opening and the entries.
 use Rattle.std.specs.Prelude.{ℕ, ◌+◌, ◌-◌, ◌==◌, ◌||◌, ◌&&◌, nat_le, Bool, true, false, if◌then◌else◌, List, [], ◌∷◌, ◌++◌, map, filter, count_by, Option, Some, None}
 use Rattle.std.specs.List.{list_any}
-use Rattle.pon_bwmap.specs.Structure.{Structure}
+use Rattle.pon_bwmap.specs.Alloc.{Alloc}
 use Rattle.pon_admit.specs.declared.row.Row.{Row}
 use Rattle.pon_admit.specs.Roster.{with_row, with_descriptor, without}
 use Rattle.pon_guar.specs.Book.{with_alloc, without_alloc}
@@ -83,7 +83,7 @@ frame_at_last test start next (e ∷ es) = frame_at_last test (if test e then ne
 -- The maps of a list, and their reports.
 
 -- the grants of a map's structures, each with the ONU that owns it
-abbrev pub grants_of : List Row → List Structure → List Granted
+abbrev pub grants_of : List Row → List Alloc → List Granted
 grants_of (r ∷ rows) (a ∷ more) = record { onu = r.onu; alloc_id = r.alloc_id; words = a.grant - 1 } ∷ grants_of rows more
 grants_of [] more = []
 grants_of (r ∷ rows) [] = []
@@ -96,7 +96,7 @@ has_reported es m u = list_any (λ v. v == u) m.reported || list_any (λ e. is_r
 abbrev pub with_reports : List Entry → WindowMap → WindowMap
 with_reports es m = record { frame = m.frame; grants = m.grants; reported = filter (has_reported es m) (onus_polled m) }
 
-abbrev pub structures : Reply → List Structure
+abbrev pub structures : Reply → List Alloc
 structures Taken = []
 structures (Map made) = made.map
 

@@ -49,11 +49,7 @@ fn admit_row(state: &mut PortState, row: &Row) -> Result<(), AllocError>
     if state.loads.admitted(row.alloc_id, state.next).is_err() {
         return Err(AllocError);
     }
-    if state
-        .roster
-        .admit(row.onu, row.alloc_id, row.descriptor)
-        .is_err()
-    {
+    if state.roster.take_row(*row).is_err() {
         state.loads.removed(row.alloc_id);
         return Err(AllocError);
     }
@@ -68,10 +64,8 @@ fn change_row(state: &mut PortState, alloc_id: AllocId, descriptor: Descriptor)
     requires count { state.old.taken_before + 1 < 2 ^ 64 }
     ensures { state.new ≡ after_change state.old alloc_id descriptor }
 {
-    match state.roster.change(alloc_id, descriptor) {
-        Ok(()) => state.taken_before += 1,
-        Err(_) => unreachable!(),
-    }
+    state.roster.take_descriptor(alloc_id, descriptor);
+    state.taken_before += 1;
 }
 
 // Removes an admitted Alloc-ID.
@@ -80,13 +74,9 @@ fn remove_row(state: &mut PortState, alloc_id: AllocId)
     requires count { state.old.taken_before + 1 < 2 ^ 64 }
     ensures { state.new ≡ after_remove state.old alloc_id }
 {
-    match state.roster.remove(alloc_id) {
-        Ok(()) => {
-            state.loads.removed(alloc_id);
-            state.taken_before += 1;
-        }
-        Err(_) => unreachable!(),
-    }
+    state.roster.take_removal(alloc_id);
+    state.loads.removed(alloc_id);
+    state.taken_before += 1;
 }
 
 // Takes a report that no check refuses. `Err` only if memory is refused, and then the state is unchanged.

@@ -1,3 +1,3 @@
-pub mod Fraction
+pub mod Frac
 pub mod Granted
 pub mod Polynomial

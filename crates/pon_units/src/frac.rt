@@ -16,9 +16,9 @@ pub struct Frac {
 
 impl Model for Frac {
     ghost use Rattle.std.specs.Prelude.{◌<◌};
-    ghost use Rattle.pon_units.specs.Fraction.{Fraction};
+    ghost use Rattle.pon_units.specs.Frac.{Frac};
 
-    ghost Value = { Fraction };
+    ghost Value = { Frac };
 
     ghost view = { λ f. record { num = f.numerator; den = f.denominator } };
 

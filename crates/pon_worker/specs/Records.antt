@@ -1,7 +1,7 @@
 -- The records that a worker reads from its link, and how they are counted.
 use Rattle.std.specs.Prelude.{ℕ, ◌≡◌, ◌+◌, ◌==◌, ◌⊎◌, Bool, true, min, List, count_by, length, Option, Some, None}
 use Rattle.pon_device.specs.Device.{Consumes, IsAtEnd}
-use Rattle.pon_xgtc.specs.BurstHead.{BurstHeader}
+use Rattle.pon_xgtc.specs.BurstHead.{BurstHead}
 use Rattle.pon_link.specs.Reading.{ReaderState, HasFault, IsOpen}
 use Rattle.pon_link.specs.Runs.{AreRecords}
 use Rattle.pon_link.specs.UpRecords.{IsRecord}
@@ -20,7 +20,7 @@ StopsFor cause s left =
     ⊎ ((cause ≡ INPUT_ENDED) × IsAtEnd left)
 
 -- a burst header that names no sender
-abbrev pub is_nobodys : Option BurstHeader → Bool
+abbrev pub is_nobodys : Option BurstHead → Bool
 is_nobodys None = true
 is_nobodys (Some head) = head.onu_raw == NO_ONU
 

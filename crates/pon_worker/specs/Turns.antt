@@ -1,7 +1,7 @@
 -- The work of a worker at its port and on its link: the maps that it had made and sent, and the bursts that it read.
 use Rattle.std.specs.Prelude.{ℕ, ◌≡◌, ◌≢◌, ◌+◌, ◌⊎◌, Bool, List, [], All, count_by, flat_map, is_some, length, slice_index, sum_by, Option}
 use Rattle.pon_device.specs.Device.{Appends}
-use Rattle.pon_bwmap.specs.Structure.{Structure}
+use Rattle.pon_bwmap.specs.Alloc.{Alloc}
 use Rattle.pon_event.specs.declared.event.Event.TheVariants.{MakeMap}
 use Rattle.pon_state.specs.declared.reply.Reply.TheVariants.{Map}
 use Rattle.pon_state.specs.declared.reply.MadeMap.{MadeMap}
@@ -37,7 +37,7 @@ abbrev pub map_record : MadeMap → List ℕ
 map_record made = down_bytes made.frame made.map
 
 -- a structure that begins a burst
-abbrev pub begins_burst : Structure → Bool
+abbrev pub begins_burst : Alloc → Bool
 begins_burst row = is_some row.start
 
 -- the number of bursts of a map

@@ -7,8 +7,8 @@ use Rattle.pon_hec.proofs.HeaderLaws.{sealed_codeword}
 use Rattle.pon_hec.proofs.Opening.{reads_none}
 use Rattle.pon_hec.proofs.Unique.{one_reading}
 use Rattle.pon_xgtc.specs.Header.{header_bytes, ReadsHeader, IsHeaderFault}
-use Rattle.pon_xgtc.specs.MapHead.{MapHead, FitsMapHead, map_head_payload}
-use Rattle.pon_xgtc.specs.BurstHead.{BurstHeader, FitsBurstHead, burst_head_payload}
+use Rattle.pon_xgtc.specs.HLend.{HLend, FitsHLend, hlend_payload}
+use Rattle.pon_xgtc.specs.BurstHead.{BurstHead, FitsBurstHead, burst_head_payload}
 use Rattle.pon_xgtc.specs.declared.fault.HeadFault.{HeadFault}
 use Rattle.pon_xgtc.specs.declared.fault.HeadFault.TheVariants.{Short, Hec}
 
@@ -53,14 +53,14 @@ parts_of : (k payload high low : ℕ) → payload ≡ high * 2 ^ k + low → low
 parts_of k payload high low e lt = (ap (λ n. n / 2 ^ k) e ∙ shr_high high k low lt, and_mask payload k ∙ ap (λ n. n % 2 ^ k) e ∙ mod_low high k low lt)
 
 -- an encoded head of a map decodes to the same head
-pub map_head_opened : (payload places : ℕ) (h : MapHead) (r : Result (ℕ × ℕ) HeadFault) → FitsMapHead h → r ≡ Ok (payload, places) → r ≡ Ok (map_head_payload h, 0)
+pub map_head_opened : (payload places : ℕ) (h : HLend) (r : Result (ℕ × ℕ) HeadFault) → FitsHLend h → r ≡ Ok (payload, places) → r ≡ Ok (hlend_payload h, 0)
     → (payload / 2 ^ 8 ≡ h.n) × (bit_and payload (2 ^ 8 - 1) ≡ h.p) × (places ≡ 0)
 map_head_opened payload places h r fits is written =
-    let opened = opened_parts payload places (map_head_payload h) 0 r is written in
+    let opened = opened_parts payload places (hlend_payload h) 0 r is written in
     let parts = parts_of 8 payload h.n h.p opened.0 (omega (arith, fits.p)) in
     (parts.0, parts.1, opened.1)
 
-pub burst_head_opened : (payload places : ℕ) (h : BurstHeader) (r : Result (ℕ × ℕ) HeadFault) → FitsBurstHead h → r ≡ Ok (payload, places) → r ≡ Ok (burst_head_payload h, 0)
+pub burst_head_opened : (payload places : ℕ) (h : BurstHead) (r : Result (ℕ × ℕ) HeadFault) → FitsBurstHead h → r ≡ Ok (payload, places) → r ≡ Ok (burst_head_payload h, 0)
     → (payload / 2 ^ 9 ≡ h.onu_raw) × (bit_and payload (2 ^ 9 - 1) ≡ h.ind) × (places ≡ 0)
 burst_head_opened payload places h r fits is written =
     let opened = opened_parts payload places (burst_head_payload h) 0 r is written in

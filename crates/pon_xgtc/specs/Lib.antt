@@ -1,3 +1,3 @@
 pub mod BurstHead
+pub mod HLend
 pub mod Header
-pub mod MapHead

@@ -12,9 +12,9 @@ pub struct BurstHead {
 
 impl Model for BurstHead {
     ghost use Rattle.std.specs.Prelude.{◌≤◌};
-    ghost use Rattle.pon_xgtc.specs.BurstHead.{BurstHeader};
+    ghost use Rattle.pon_xgtc.specs.BurstHead.{BurstHead};
 
-    ghost Value = { BurstHeader };
+    ghost Value = { BurstHead };
 
     ghost view = { λ h. record { onu_raw = h.onu; ind = h.indications } };
 
@@ -26,7 +26,7 @@ impl Model for BurstHead {
 impl BurstHead {
     ghost use Rattle.std.specs.Prelude.{◌≡◌, ◌≤◌, ◌<◌, ◌^◌, ℕ, List, ◌++◌, IfOk, IfErr};
     ghost use Rattle.std.specs.Option.{SomeIff};
-    ghost use Rattle.pon_xgtc.specs.BurstHead.{BurstHeader, FitsBurstHead, ReadsBurstHead, burst_head_payload};
+    ghost use Rattle.pon_xgtc.specs.BurstHead.{BurstHead, FitsBurstHead, ReadsBurstHead, burst_head_payload};
     ghost use Rattle.pon_xgtc.specs.Header.{IsHeaderFault, header_bytes};
 
     /// Returns the header of a burst of this ONU-ID with these indications (Ind); `None` exactly when the
@@ -73,7 +73,7 @@ impl BurstHead {
     pub fn decode(bytes: &[u8]) -> Result<(Self, u8), HeadFault>
         ensures ok { IfOk result (λ r. ReadsBurstHead bytes.now r.0 r.1) }
         ensures fault { IfErr result (λ f. IsHeaderFault bytes.now f) }
-        ensures written { (h : BurstHeader) (rest : List ℕ) → FitsBurstHead h →
+        ensures written { (h : BurstHead) (rest : List ℕ) → FitsBurstHead h →
             bytes.now ≡ header_bytes (burst_head_payload h) ++ rest → result ≡ Ok record { 0 = h; 1 = 0 } }
     {
         let (payload, corrected) = open_header(bytes)?;

@@ -13,9 +13,9 @@ pub struct HLend {
 
 impl Model for HLend {
     ghost use Rattle.std.specs.Prelude.{◌≤◌};
-    ghost use Rattle.pon_xgtc.specs.MapHead.{MapHead};
+    ghost use Rattle.pon_xgtc.specs.HLend.{HLend};
 
-    ghost Value = { MapHead };
+    ghost Value = { HLend };
 
     ghost view = { λ h. record { n = h.structures; p = h.messages } };
 
@@ -27,7 +27,7 @@ impl Model for HLend {
 impl HLend {
     ghost use Rattle.std.specs.Prelude.{◌≡◌, ◌≤◌, ◌<◌, ◌^◌, ℕ, List, ◌++◌, IfOk, IfErr};
     ghost use Rattle.std.specs.Option.{SomeIff};
-    ghost use Rattle.pon_xgtc.specs.MapHead.{MapHead, FitsMapHead, ReadsMapHead, map_head_payload};
+    ghost use Rattle.pon_xgtc.specs.HLend.{HLend, FitsHLend, ReadsHLend, hlend_payload};
     ghost use Rattle.pon_xgtc.specs.Header.{IsHeaderFault, header_bytes};
 
     /// Returns the head of a map with N structures and P messages; `None` exactly when N is above 2,047.
@@ -60,7 +60,7 @@ impl HLend {
 
     /// Returns the four bytes of the head, N first.
     pub fn encode(&self) -> [u8; 4]
-        ensures { result ≡ header_bytes (map_head_payload self.now) }
+        ensures { result ≡ header_bytes (hlend_payload self.now) }
     {
         seal32(self.payload()).to_be_bytes()
     }
@@ -69,10 +69,10 @@ impl HLend {
     /// `Short` exactly when there are fewer than 4 bytes, otherwise `Hec` exactly when the first four differ in
     /// more than two bits from every codeword. Later bytes are not read.
     pub fn decode(bytes: &[u8]) -> Result<(Self, u8), HeadFault>
-        ensures ok { IfOk result (λ r. ReadsMapHead bytes.now r.0 r.1) }
+        ensures ok { IfOk result (λ r. ReadsHLend bytes.now r.0 r.1) }
         ensures fault { IfErr result (λ f. IsHeaderFault bytes.now f) }
-        ensures written { (h : MapHead) (rest : List ℕ) → FitsMapHead h →
-            bytes.now ≡ header_bytes (map_head_payload h) ++ rest → result ≡ Ok record { 0 = h; 1 = 0 } }
+        ensures written { (h : HLend) (rest : List ℕ) → FitsHLend h →
+            bytes.now ≡ header_bytes (hlend_payload h) ++ rest → result ≡ Ok record { 0 = h; 1 = 0 } }
     {
         let (payload, corrected) = open_header(bytes)?;
         let head = HLend {
@@ -83,7 +83,7 @@ impl HLend {
     }
 
     fn payload(&self) -> u32
-        ensures value { result ≡ map_head_payload self.now }
+        ensures value { result ≡ hlend_payload self.now }
         ensures fits { result < 2 ^ 19 }
     {
         let HLend {

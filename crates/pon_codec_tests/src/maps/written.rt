@@ -1,5 +1,5 @@
 ghost use Rattle.std.specs.Prelude.{◌≡◌, ℕ, List, IfOk, IfErr};
-ghost use Rattle.pon_bwmap.specs.Structure.{Structure};
+ghost use Rattle.pon_bwmap.specs.Alloc.{Alloc};
 ghost use Rattle.pon_bwmap.specs.MapReading.{ReadsMap};
 ghost use Rattle.pon_bwmap.specs.declared.fault.MapFault.{MapFault};
 
@@ -51,9 +51,9 @@ fn writes_into_room(rt: HostRuntime) -> Result<(), Fail> {
 
 // Decodes the bytes of a map.
 fn read_whole(alloc: Global, bytes: &[u8]) -> Result<Map, MapFault>
-    ensures ok { (rows : List Structure) (corrected used : ℕ) → ReadsMap bytes.now rows corrected used
+    ensures ok { (rows : List Alloc) (corrected used : ℕ) → ReadsMap bytes.now rows corrected used
         → IfOk result (λ map. map ≡ rows) }
-    ensures err { (rows : List Structure) (corrected used : ℕ) → ReadsMap bytes.now rows corrected used
+    ensures err { (rows : List Alloc) (corrected used : ℕ) → ReadsMap bytes.now rows corrected used
         → IfErr result (λ fault. fault ≡ MapFault.Memory) }
 {
     match decode_map(alloc, bytes) {

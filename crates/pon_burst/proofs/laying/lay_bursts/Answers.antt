@@ -4,7 +4,7 @@ use Rattle.std.specs.Prelude.{◌==◌, Some}
 use Rattle.std.proofs.lemmas.Bool.{not-false, not-true}
 use Rattle.std.proofs.lemmas.List.{map-append}
 use Rattle.pon_units.specs.declared.Granted.{Granted}
-use Rattle.pon_bwmap.specs.Structure.{Structure}
+use Rattle.pon_bwmap.specs.Alloc.{Alloc}
 use Rattle.pon_burst.specs.Maps.{grant, structure_of}
 use Rattle.pon_burst.proofs.LastOnu.{IsNext, begun, continued, end_more, last_more, more}
 use Rattle.pon_burst.proofs.laying.lay_bursts.Goals as goal
@@ -20,7 +20,7 @@ loop-granted-preserved c =
     let is = c.granted-item.is in
     let order = c.requires.order in
     let held = c.loop-granted.invariant in
-    let row : Granted → Structure = structure_of gap c.args.profile gs in
+    let row : Granted → Alloc = structure_of gap c.args.profile gs in
     let same = option_eq (λ a b. a == b) c.loop-granted.last (Some r.onu) in
     let next : IsNext gap c.args.profile gs order k r lt is c.if-ne.start (c.if-ne.end + grant r) = elim c.if-ne.branch [
       | then-ne w ↦ rw (w.start-is, w.end-is, c.get-gap_words.ensures.value) (begun gap c.args.profile gs order k r lt is c.loop-granted.last held.last c.loop-granted.end held.end (not-true same (sym c.ne.ensures ∙ w.if-ne.true)))

@@ -1,5 +1,5 @@
 use Rattle.std.proofs.Common.{◌≡◌, ◌*◌, List, drop, IfSome, sym, ◌∙◌, subst}
-use Rattle.pon_bwmap.specs.Structure.{Structure}
+use Rattle.pon_bwmap.specs.Alloc.{Alloc}
 use Rattle.pon_bwmap.specs.MapReading.{ReadsStructure}
 use Rattle.pon_bwmap.proofs.RowReading.{no_rows, one_more, first_break}
 use Rattle.pon_bwmap.proofs.decode.read_rows.Goals as goal
@@ -20,4 +20,4 @@ loop-k-preserved c =
     let more = one_more c.args.bytes.now c.loop-k.k c.loop-k.corrected c.loop-k.place c.next_place-place.result c.from-corrected.result c.in_ok-row.row c.start-start.result
     c.loop-k.invariant.0 reads c.start-start.ensures n.first n.starts n.continues (sym c.start_fault.ensures ∙ c.in_default.is) in
     let pushed = c.push_row-rows.ensures c.loop-k.invariant.0.rows c.loop-k.invariant.1 in
-    (more.0, subst (λ (rows : List Structure). IfSome c.push_row-rows.result (λ v. v.items ≡ rows)) (sym more.1) pushed)
+    (more.0, subst (λ (rows : List Alloc). IfSome c.push_row-rows.result (λ v. v.items ≡ rows)) (sym more.1) pushed)

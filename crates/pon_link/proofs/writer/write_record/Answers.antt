@@ -2,7 +2,7 @@ use Rattle.std.proofs.Common.{◌≡◌, ◌∷◌, ◌++◌, ◌∙◌, ap, sym
 use Rattle.pon_bwmap.specs.MapBytes.{map_bytes}
 use Rattle.pon_bwmap.proofs.ReadsBack.{map_length}
 use Rattle.std.specs.Int.{w64, to_be_bytes}
-use Rattle.pon_bwmap.specs.Structure.{Structure}
+use Rattle.pon_bwmap.specs.Alloc.{Alloc}
 use Rattle.pon_bwmap.specs.MapRules.{IsMap}
 use Rattle.pon_bwmap.specs.MapReading.{FitsStructure}
 use Rattle.pon_link.proofs.Left.{record_spelled}
@@ -22,5 +22,5 @@ pub returns-clause-reads : goal.returns-clause-reads
 returns-clause-reads c =
     let lt : c.args.frame < 2 ^ 64 = omega (arith, c.get.ensures, c.get.type_inv) in
     let map : IsMap c.args.map.now = subst IsMap c.rows-rows.ensures.rows c.rows-rows.ensures.map in
-    let fits : All FitsStructure c.args.map.now = subst (λ (rs : List Structure). All FitsStructure rs) c.rows-rows.ensures.rows c.rows-rows.ensures.fits in
+    let fits : All FitsStructure c.args.map.now = subst (λ (rs : List Alloc). All FitsStructure rs) c.rows-rows.ensures.rows c.rows-rows.ensures.fits in
     written_record c.args.frame c.args.map.now lt map fits

@@ -10,7 +10,7 @@ pub returns-then-is_err-2-clause-err : goal.returns-then-is_err-2-clause-err
 returns-then-is_err-2-clause-err c =
     let state = c.state.inside in
     let alloc_id = c.args.row.now.alloc_id in
-    let roster : c.admit.new.self ≡ state.roster = search rules in
+    let roster : c.take_row.new.self ≡ state.roster = search rules in
     let added : c.admitted.new.self ≡ after_admitted state.loads alloc_id state.next = search rules in
     let rising : AreRising (alloc_ids state.loads.accounts) = search rules in
     let free : list_any (λ j. j == alloc_id) (alloc_ids state.loads.accounts) ≡ false = subst (λ s. list_any (λ j. j == alloc_id) (alloc_ids s.book) ≡ false) (sym c.state.view_is) c.requires.free in

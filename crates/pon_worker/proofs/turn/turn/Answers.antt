@@ -1,6 +1,6 @@
 use Rattle.std.proofs.Common.{List, ℕ, [], refl, ap, subst, ◌∙◌, arith, append-nil, count_by}
 use Rattle.std.proofs.KnownBytes.{Appends-nil}
-use Rattle.pon_bwmap.specs.Structure.{Structure}
+use Rattle.pon_bwmap.specs.Alloc.{Alloc}
 use Rattle.pon_link.specs.Reading.{ReaderState}
 use Rattle.pon_worker.specs.Records.{HasRead}
 use Rattle.pon_worker.specs.Turns.{begins_burst, map_record}
@@ -43,7 +43,7 @@ returns-in-Ok-read_bursts-clause-turned g c =
     let none = ap (λ (s : ReaderState). s.held) c.in-Ok-read_bursts.ensures.all in
     turned_one made read.0 read.1 c.args.counts.now c.read_bursts.new.counts (g.W.DevWrite.contents c.args.writer.now) (g.W.DevWrite.contents c.send.new.writer) left now c.in-Ok.ensures.made
     c.in-Ok-read_bursts.ensures.maps c.in-Ok-send.ensures.sent (counted_on c.args.counts.now read.0 read.1 c.read_bursts.new.counts read.2) (subst (λ (t : List ℕ). HasRead read.0 t left now) none read.3)
-    (read.4 ∙ c.bursts_in-bursts.ensures ∙ ap (λ (rows : List Structure). count_by begins_burst rows) c.rows.ensures.rows)
+    (read.4 ∙ c.bursts_in-bursts.ensures ∙ ap (λ (rows : List Alloc). count_by begins_burst rows) c.rows.ensures.rows)
 
 pub returns-in-Ok-read_bursts-clause-posts : goal.returns-in-Ok-read_bursts-clause-posts
 returns-in-Ok-read_bursts-clause-posts g c =

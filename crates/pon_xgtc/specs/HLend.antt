@@ -3,20 +3,20 @@ use Rattle.std.specs.Prelude.{ℕ, ◌+◌, ◌*◌, ◌^◌, ◌≤◌, List}
 use Rattle.pon_xgtc.specs.Header.{ReadsHeader}
 
 -- N, the number of allocation structures, and P, the number of messages of a map
-pub record MapHead : Type 0 where
+pub record HLend : Type 0 where
   pub n : ℕ
   pub p : ℕ
 
 -- its payload: N in 11 bits, then P in 8
-abbrev pub map_head_payload : MapHead → ℕ
-map_head_payload h = h.n * 2 ^ 8 + h.p
+abbrev pub hlend_payload : HLend → ℕ
+hlend_payload h = h.n * 2 ^ 8 + h.p
 
 -- the numbers that fit in 11 bits and in 8
-pub record FitsMapHead (h : MapHead) : Type 0 where
+pub record FitsHLend (h : HLend) : Type 0 where
   pub n : h.n ≤ 2047
   pub p : h.p ≤ 255
 
 -- the bytes begin with this head of a map, with this number of corrected bits
-pub record ReadsMapHead (bytes : List ℕ) (h : MapHead) (places : ℕ) : Type 0 where
-  pub fits : FitsMapHead h
-  pub header : ReadsHeader bytes (map_head_payload h) places
+pub record ReadsHLend (bytes : List ℕ) (h : HLend) (places : ℕ) : Type 0 where
+  pub fits : FitsHLend h
+  pub header : ReadsHeader bytes (hlend_payload h) places

@@ -8,7 +8,7 @@ use Rattle.std.proofs.Math.Bool.{beq}
 use Rattle.pon_units.specs.declared.limits.TheConstants.{GREATEST_ALLOC_ID, GREATEST_PROFILE}
 
 -- the fields of an allocation structure; one without a start continues the series before it
-pub record Structure : Type 0 where
+pub record Alloc : Type 0 where
   pub id : ℕ
   pub dbru : Bool
   pub ploam : Bool
@@ -18,13 +18,13 @@ pub record Structure : Type 0 where
   pub profile : ℕ
 
 -- the ranges of the fields of a structure, except its start
-pub record FitsFields (a : Structure) : Type 0 where
+pub record FitsFields (a : Alloc) : Type 0 where
   pub id : a.id ≤ GREATEST_ALLOC_ID
   pub grant : a.grant ≤ 65535
   pub profile : a.profile ≤ GREATEST_PROFILE
 
 -- whether two structures are equal, field by field
-abbrev pub structure_eq : Structure → Structure → Bool
+abbrev pub structure_eq : Alloc → Alloc → Bool
 structure_eq = eq_of_both (on (λ a. a.id) ◌==◌) (eq_of_both (on (λ a. a.dbru) beq) (eq_of_both (on (λ a. a.ploam) beq) (eq_of_both (on (λ a. a.start) (option_eq ◌==◌)) (eq_of_both (on (λ a. a.grant) ◌==◌) (eq_of_both (on (λ a. a.fwi) beq) (on (λ a. a.profile) ◌==◌))))))
 
 pub structure_equiv : IsEquivalence structure_eq
