@@ -55,6 +55,12 @@ last_64 xs = drop (length xs - MOST_MAPS) xs
 abbrev pub with_map : ℕ → List Granted → List WindowMap → List WindowMap
 with_map frame gs window = last_64 (window ++ record { frame = frame; grants = gs; reported = [] } ∷ [])
 
+-- the grants of the last map; none if the window is empty
+abbrev pub latest_grants : List WindowMap → List Granted
+latest_grants [] = []
+latest_grants (m ∷ []) = m.grants
+latest_grants (m ∷ next ∷ ms) = latest_grants (next ∷ ms)
+
 -- Payload words.
 
 -- the payload words of an Alloc-ID among grants, in one map, and in the maps from a frame on

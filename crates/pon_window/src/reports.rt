@@ -1,6 +1,6 @@
 //! Reports for the maps of a window: the checks that refuse a report, and the note that an ONU reported.
 
-ghost use Rattle.std.specs.Prelude.{◌≡◌, ℕ, None, All, OnOk, OnErr, map};
+ghost use Rattle.std.specs.Prelude.{◌≡◌, ◌≤◌, ℕ, None, All, OnOk, OnErr, drop, length, map};
 ghost use Rattle.pon_window.specs.Window.{IsLawfulMap, AreConsecutive, frame_after};
 ghost use Rattle.pon_window.specs.Reports.{refuses_report, with_report};
 
@@ -38,22 +38,27 @@ pub(crate) fn report_refusal(
     None
 }
 
-/// Notes an ONU's report for the map of a frame. `Err` only if memory is refused, and then nothing changes.
+/// Notes an ONU's report for the map of a frame in the window, which begins at an index of the kept maps. `Err` only if
+/// memory is refused, and then nothing changes.
 pub(crate) fn note_report(
-    window: &mut [WindowMap],
+    kept: &mut [WindowMap],
+    past: usize,
     frame: FrameNo,
     onu: OnuId,
 ) -> Result<(), AllocError>
-    requires frames { AreConsecutive (frame_after window.old) window.old }
-    requires maps { All IsLawfulMap window.old }
-    requires accepted { (count : ℕ) × (refuses_report window.old frame onu count ≡ None) }
-    ensures ok { OnOk result (window.new ≡ map (with_report frame onu) window.old) }
-    ensures err { OnErr result (window.new ≡ window.old) }
+    requires within { past ≤ length kept.old }
+    requires frames { AreConsecutive (frame_after (drop past kept.old)) (drop past kept.old) }
+    requires maps { All IsLawfulMap (drop past kept.old) }
+    requires accepted { (count : ℕ)
+        × (refuses_report (drop past kept.old) frame onu count ≡ None) }
+    ensures ok { OnOk result (drop past kept.new ≡ map (with_report frame onu) (drop past kept.old)) }
+    ensures err { OnErr result (kept.new ≡ kept.old) }
 {
+    let (_, window) = kept.split_at(past);
     let place = match place_of(window, frame) {
-        Some(place) => place,
+        Some(place) => past + place,
         None => unreachable!(),
     };
-    window[place].note(onu)?;
+    kept[place].note(onu)?;
     Ok(())
 }

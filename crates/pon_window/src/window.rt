@@ -1,5 +1,4 @@
-ghost use Rattle.std.specs.Prelude.{◌≡◌, ◌≤◌, ◌<◌, ◌++◌, ◌∷◌, [], length, IfOk, vec_len, vec_capacity};
-ghost use Rattle.pon_window.specs.Window.{last_64};
+ghost use Rattle.std.specs.Prelude.{◌≡◌, ◌≤◌, ◌+◌, ◌-◌, [], drop, length, IfOk};
 
 use crate::map::WindowMap;
 use crate::place::place_of;
@@ -19,21 +18,23 @@ pub const MOST_MAPS: usize = 64;
 /// consecutive, that the grants of each are in map order, and that each ONU that reported was polled.
 #[derive(Drop)]
 pub struct Window {
+    // The maps of the window are those from `past` on, so that a map that leaves the window moves no other.
     maps: Vec<WindowMap>,
     // The running sums of each map.
     sums: Vec<MapSums>,
+    past: usize,
 }
 
 impl Model for Window {
-    ghost use Rattle.std.specs.Prelude.{List};
+    ghost use Rattle.std.specs.Prelude.{List, drop};
     ghost use Rattle.pon_window.specs.Window.{WindowMap};
-    ghost use Rattle.pon_window.specs.Sums.{IsSummedWindow};
+    ghost use Rattle.pon_window.specs.Sums.{IsKeptWindow};
 
     ghost Value = { List WindowMap };
 
-    ghost view = { λ w. w.maps.items };
+    ghost view = { λ w. drop w.past w.maps.items };
 
-    ghost invariant = { λ w. IsSummedWindow w.maps.items w.sums.items };
+    ghost invariant = { λ w. IsKeptWindow w.past w.maps.items w.sums.items };
 }
 
 // Makes equal maps. `Err` only if memory is refused.
@@ -58,23 +59,56 @@ fn copied_sums(alloc: Global, sums: &[MapSums]) -> Result<Vec<MapSums>, AllocErr
     Ok(copies)
 }
 
-// Appends an element, and drops the oldest if there are then more than [`MOST_MAPS`].
-fn add_to_window<T: Drop>(window: &mut Vec<T>, latest: T)
-    requires few { length window.old.items ≤ MOST_MAPS }
-    requires room { vec_len window.old < vec_capacity window.old }
-    ensures { window.new.items ≡ last_64 (window.old.items ++ latest ∷ []) }
+// Returns the elements from an index on.
+fn from_index<T>(items: &[T], past: usize) -> &[T]
+    requires { past ≤ length items.now }
+    ensures { result.now ≡ drop past items.now }
 {
-    window.push(latest).unwrap();
-    if window.len() > MOST_MAPS {
-        let _oldest = window.remove(0);
+    let (_, rest) = items.split_at(past);
+    rest
+}
+
+// Drops the elements before an index.
+fn drop_front<T: Drop>(items: &mut Vec<T>, past: usize)
+    requires { past ≤ length items.old.items }
+    ensures { items.new.items ≡ drop past items.old.items }
+{
+    let left = items.len() - past;
+    items.rotate_left(past);
+    items.truncate(left);
+}
+
+// Returns the number of kept maps before those of the window, after a map is added to a window of `len` maps.
+fn past_after(past: usize, len: usize) -> usize
+    requires few { len ≤ MOST_MAPS }
+    requires fits { past + len ≤ usize.MAX }
+    ensures { result ≡ past + (len + 1 - MOST_MAPS) }
+{
+    if len < MOST_MAPS { past } else { past + 1 }
+}
+
+// Drops the maps before an index with their sums if they are [`MOST_MAPS`] or more, and returns the index that is left.
+fn drop_past(maps: &mut Vec<WindowMap>, sums: &mut Vec<MapSums>, past: usize) -> usize
+    requires within { past ≤ length maps.old.items }
+    requires as_many { length sums.old.items ≡ length maps.old.items }
+    ensures within { result ≤ length maps.new.items }
+    ensures as_many { length sums.new.items ≡ length maps.new.items }
+    ensures maps { drop result maps.new.items ≡ drop past maps.old.items }
+    ensures sums { drop result sums.new.items ≡ drop past sums.old.items }
+{
+    if past < MOST_MAPS {
+        return past;
     }
+    drop_front(maps, past);
+    drop_front(sums, past);
+    0
 }
 
 impl Window {
     ghost use Rattle.std.specs.Prelude.{◌==◌, ℕ, None, false, drop, map, sum_by, IfSome, OnOk, OnErr};
     ghost use Rattle.std.specs.List.{list_any};
     ghost use Rattle.pon_units.specs.Granted.{AreInMapOrder};
-    ghost use Rattle.pon_window.specs.Window.{IsPlaceOf, IsWindow, AreConsecutive, is_of, with_map, words_to};
+    ghost use Rattle.pon_window.specs.Window.{IsPlaceOf, IsWindow, AreConsecutive, is_of, latest_grants, with_map, words_to};
     ghost use Rattle.pon_window.specs.Reports.{refuses_report, with_report};
 
     /// Makes a window of no maps. It allocates no memory; maps added later use this allocator.
@@ -84,6 +118,7 @@ impl Window {
         Window {
             maps: Vec::new(alloc),
             sums: Vec::new(alloc),
+            past: 0,
         }
     }
 
@@ -92,8 +127,9 @@ impl Window {
         ensures { IfOk result (λ window. window ≡ self.now) }
     {
         Ok(Window {
-            maps: copied(alloc, &self.maps)?,
-            sums: copied_sums(alloc, &self.sums)?,
+            maps: copied(alloc, from_index(&self.maps, self.past))?,
+            sums: copied_sums(alloc, from_index(&self.sums, self.past))?,
+            past: 0,
         })
     }
 
@@ -102,7 +138,17 @@ impl Window {
         ensures value { result.now ≡ self.now }
         ensures lawful { IsWindow self.now }
     {
-        self.maps.as_slice()
+        from_index(&self.maps, self.past)
+    }
+
+    /// Grants of the last map, in map order; none if the window is empty.
+    pub fn latest_grants(&self) -> &[Granted]
+        ensures { result.now ≡ latest_grants self.now }
+    {
+        match self.maps().split_last() {
+            None => &[],
+            Some((latest, _)) => latest.grants(),
+        }
     }
 
     /// Returns the index of the map of a frame; `None` if no map is of it.
@@ -110,7 +156,7 @@ impl Window {
         ensures none { result ≡ None → list_any (is_of frame) self.now ≡ false }
         ensures some { IfSome result (IsPlaceOf frame self.now) }
     {
-        place_of(&self.maps, frame)
+        place_of(self.maps(), frame)
     }
 
     /// Returns the payload words that the maps from an index on granted to an Alloc-ID under an ONU. The hint is an
@@ -119,8 +165,9 @@ impl Window {
         requires { place ≤ length self.now }
         ensures { result ≡ sum_by (words_to onu alloc_id) (drop place self.now) }
     {
-        let (_, maps) = self.maps.split_at(place);
-        let (_, sums) = self.sums.split_at(place);
+        let first = self.past + place;
+        let maps = from_index(&self.maps, first);
+        let sums = from_index(&self.sums, first);
         words_granted(maps, sums, hint, onu, alloc_id)
     }
 
@@ -130,7 +177,7 @@ impl Window {
     pub fn report_refusal(&self, frame: FrameNo, onu: OnuId, count: usize) -> Option<Refusal>
         ensures { result ≡ refuses_report self.now frame onu count }
     {
-        report_refusal(&self.maps, frame, onu, count)
+        report_refusal(self.maps(), frame, onu, count)
     }
 
     /// Notes that an ONU reported for the map of a frame. `Err` only if memory is refused, and then nothing changes.
@@ -139,31 +186,35 @@ impl Window {
         ensures ok { OnOk result (self.new ≡ map (with_report frame onu) self.old) }
         ensures err { OnErr result (self.new ≡ self.old) }
     {
-        note_report(&mut self.maps, frame, onu)?;
+        note_report(&mut self.maps, self.past, frame, onu)?;
         Ok(())
     }
 
     /// Adds the map of a frame, and drops the oldest if there are then more than 64. The grants must be in map order,
     /// and the frame must be that of the last map plus 1, or any if the window is empty. `Err` only if memory is
     /// refused, and then nothing changes.
-    pub fn add(&mut self, frame: FrameNo, grants: &[Granted]) -> Result<(), AllocError>
+    pub fn add(&mut self, frame: FrameNo, grants: Vec<Granted>) -> Result<(), AllocError>
         requires next { AreConsecutive frame self.old }
-        requires map_order { AreInMapOrder grants.now }
-        ensures ok { OnOk result (self.new ≡ with_map frame grants.now self.old) }
+        requires map_order { AreInMapOrder grants.items }
+        ensures ok { OnOk result (self.new ≡ with_map frame grants.items self.old) }
+        ensures latest { OnOk result (latest_grants self.new ≡ grants.items) }
         ensures err { OnErr result (self.new ≡ self.old) }
     {
         let alloc = *self.maps.allocator();
-        let kept = Vec::from_slice(alloc, grants)?;
-        let next = next_sums(alloc, &self.maps, &self.sums, grants)?;
+        let maps = from_index(&self.maps, self.past);
+        let sums = from_index(&self.sums, self.past);
+        let past = past_after(self.past, maps.len());
+        let next = next_sums(alloc, maps, sums, &grants)?;
         self.maps.reserve(1)?;
         self.sums.reserve(1)?;
-        let map = WindowMap {
+        let reported = Vec::new(alloc);
+        self.maps.push_reserved(WindowMap {
             frame,
-            grants: kept,
-            reported: Vec::new(alloc),
-        };
-        add_to_window(&mut self.maps, map);
-        add_to_window(&mut self.sums, next);
+            grants,
+            reported,
+        });
+        self.sums.push_reserved(next);
+        self.past = drop_past(&mut self.maps, &mut self.sums, past);
         Ok(())
     }
 
@@ -173,5 +224,6 @@ impl Window {
     {
         self.maps.clear();
         self.sums.clear();
+        self.past = 0;
     }
 }

@@ -1,6 +1,18 @@
+use Rattle.std.proofs.lemmas.List.{drop-drop}
+use Rattle.std.proofs.lemmas.List.Elements.{All-drop}
+use Rattle.pon_window.specs.Window.{IsLawfulMap}
 use Rattle.pon_window.proofs.RunningSums.{summed_drop}
 use Rattle.pon_window.proofs.window.Window.words_since.Goals as goal
 
 pub words_granted-requires-clause-summed : goal.words_granted-requires-clause-summed
-words_granted-requires-clause-summed c = rw (c.split_at.ensures.back, c.split_at-2.ensures.back, c.deref.ensures.value, c.deref-2.ensures.value)
-    (summed_drop c.args.place c.self.inside.maps.items c.self.inside.sums.items c.self.invariant.summed c.self.invariant.as_many)
+words_granted-requires-clause-summed c =
+    let maps = c.self.inside.maps.items in
+    let sums = c.self.inside.sums.items in
+    let past = c.self.inside.past in
+    rw (c.from_index-maps.ensures, c.from_index-sums.ensures, c.deref.ensures.value, c.deref-2.ensures.value, ← drop-drop c.args.place past maps, ← drop-drop c.args.place past sums)
+    (summed_drop c.args.place _ _ c.self.invariant.window.summed c.self.invariant.window.as_many)
+
+pub words_granted-requires-clause-lawful : goal.words_granted-requires-clause-lawful
+words_granted-requires-clause-lawful c =
+    rw (c.from_index-maps.ensures, c.deref.ensures.value, ← drop-drop c.args.place c.self.inside.past c.self.inside.maps.items)
+    (All-drop IsLawfulMap c.args.place _ c.self.invariant.window.window.maps)
