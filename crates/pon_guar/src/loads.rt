@@ -174,10 +174,29 @@ impl Loads {
         ensures refused { IfErr result (IsTold None) }
         ensures err { OnErr result (self.new ≡ self.old) }
     {
-        if self.places.resize(grants.len(), 0).is_err() || self.window.add(frame, grants).is_err() {
+        let alloc = *self.places.allocator();
+        let kept = match Vec::from_slice(alloc, grants) {
+            Ok(kept) => kept,
+            Err(_) => return Err(Refusal::OutOfMemory),
+        };
+        if self.add_map(frame, kept).is_err() {
             return Err(Refusal::OutOfMemory);
         }
-        deduct_grants(&mut self.accounts, grants, &mut self.places);
+        Ok(())
+    }
+
+    /// Adds a map as [`Loads::mapped`] does, and keeps these grants. `Err` only if memory is refused, and then nothing
+    /// changes.
+    pub fn add_map(&mut self, frame: FrameNo, grants: Vec<Granted>) -> Result<(), AllocError>
+        requires next { AreConsecutive frame self.old.window }
+        requires map_order { AreInMapOrder grants.items }
+        ensures ok { OnOk result (self.new ≡ after_mapped self.old frame grants.items) }
+        ensures err { OnErr result (self.new ≡ self.old) }
+    {
+        self.places.resize(grants.len(), 0)?;
+        self.window.add(frame, grants)?;
+        let latest = self.window.latest_grants();
+        deduct_grants(&mut self.accounts, latest, &mut self.places);
         Ok(())
     }
 
