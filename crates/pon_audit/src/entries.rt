@@ -109,7 +109,7 @@ fn take_map(alloc: Global, state: &mut PortState, made: &MadeMap) -> Result<Opti
     let under = map_under(alloc, state, &problems, &made.cert)?;
     let fault = map_fault(state, &under.map, made);
     if fault.is_none() {
-        add_map(state, &under.grants)?;
+        add_map(state, under.grants)?;
     }
     Ok(fault)
 }

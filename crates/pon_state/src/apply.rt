@@ -20,18 +20,17 @@ use pon_event::Event;
 use pon_units::{AllocId, FrameNo, Granted, OnuId};
 use std::alloc::AllocError;
 
-/// Updates the state by a map of the next frame. `Err` only if memory is refused, and then the state is unchanged.
-pub fn add_map(state: &mut PortState, grants: &[Granted]) -> Result<(), AllocError>
-    requires map_order { AreInMapOrder grants.now }
+/// Updates the state by a map of the next frame, of which it keeps the grants. `Err` only if memory is refused, and then
+/// the state is unchanged.
+pub fn add_map(state: &mut PortState, grants: Vec<Granted>) -> Result<(), AllocError>
+    requires map_order { AreInMapOrder grants.items }
     requires frames { AreConsecutive state.old.next state.old.window }
     requires next { state.old.next + 1 < 2 ^ 64 }
     requires count { state.old.taken_before + 1 < 2 ^ 64 }
-    ensures ok { OnOk result (state.new ≡ after_map state.old grants.now) }
+    ensures ok { OnOk result (state.new ≡ after_map state.old grants.items) }
     ensures err { OnErr result (state.new ≡ state.old) }
 {
-    if state.loads.mapped(state.next, grants).is_err() {
-        return Err(AllocError);
-    }
+    state.loads.add_map(state.next, grants)?;
     state.next = FrameNo::new(state.next.get() + 1);
     state.taken_before += 1;
     Ok(())
