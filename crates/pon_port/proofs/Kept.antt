@@ -264,16 +264,15 @@ removed c d s t i k in_range accepted more after =
     (λ e. subst (λ s. after_remove s i ≡ replay s (taken_entry (Remove i) ∷ [])) e
     (remove_step c.opening c.entries i (subst (λ s. AreRising (alloc_ids s.book)) (sym e) k.book.0))))
 
--- the map that is returned is the one that is kept
-pub map_taken : (c d : Chapter) (s : State) (made kept : MadeMap) → IsKept c s → first_refusal (length c.entries) s MakeMap ≡ None → IsMade s made → kept ≡ made →
-    d ≡ with_entry c MakeMap (Map kept) → Takes c MakeMap (Map made) d
-map_taken c d s made kept k accepted is_made same more = record {
+-- a map that is made may follow
+pub map_taken : (c d : Chapter) (s : State) (made : MadeMap) → IsKept c s → first_refusal (length c.entries) s MakeMap ≡ None → IsMade s made → d ≡ with_entry c MakeMap (Map made) → Takes c MakeMap (Map made) d
+map_taken c d s made k accepted is_made more = record {
   follows = record {
     event = tt;
     accepted = subst (λ s. first_refusal (length c.entries) s MakeMap ≡ None) k.replayed accepted;
     reply = subst (λ s. IsMade s made) k.replayed is_made;
   };
-  kept = more ∙ ap (λ m. with_entry c MakeMap (Map m)) same;
+  kept = more;
 }
 
 -- the state after a line failure or a restoration is kept

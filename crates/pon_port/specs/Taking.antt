@@ -3,9 +3,15 @@ use Rattle.std.specs.Prelude.{ℕ, ◌≡◌, List, [], ◌∷◌, ◌++◌, len
 use Rattle.pon_state.specs.State.{State}
 use Rattle.pon_admit.specs.Roster.{IsAdmitted}
 use Rattle.pon_state.specs.Checks.{first_refusal}
-use Rattle.pon_state.specs.Legal.{MayFollow}
+use Rattle.pon_units.specs.Granted.{AreInMapOrder}
+use Rattle.pon_descr.specs.declared.class.Class.TheVariants.{NonAssured, BestEffort}
+use Rattle.pon_share.specs.Sharing.{member_ids}
+use Rattle.pon_state.specs.Legal.{IsMade, MayFollow}
+use Rattle.pon_state.specs.Replay.{grants_of}
+use Rattle.pon_state.specs.declared.ready_map.ReadyMap.{ReadyMap}
 use Rattle.pon_state.specs.Accounts.{AccountsFor}
 use Rattle.pon_port.specs.Chapters.{Chapter, present_state, IsFirst, IsLawfulChapter}
+use Rattle.pon_port.specs.FairMaps.{TellsFairMap}
 use Rattle.pon_port.specs.Last.{KeepsLast}
 use Rattle.pon_event.specs.declared.event.Event.{Event}
 use Rattle.pon_state.specs.declared.reply.Reply.{Reply}
@@ -19,6 +25,20 @@ with_entry c event reply = record { number = c.number; opening = c.opening; entr
 pub record Takes (old : Chapter) (event : Event) (reply : Reply) (new : Chapter) : Type 0 where
   pub follows : MayFollow (length old.entries) (present_state old) (record { event = event; reply = reply })
   pub kept : new ≡ with_entry old event reply
+
+-- an entry of the event may follow, and is kept; a map in its reply is fair
+pub record Keeps (old : Chapter) (event : Event) (new : Chapter) : Type 0 where
+  pub reply : Reply
+  pub takes : Takes old event reply new
+  pub fair : TellsFairMap (present_state old) reply
+
+-- a finished map of a state: its reply, its grants, and the Alloc-IDs of the two classes that share surplus
+pub record IsReady (s : State) (next : ReadyMap) : Type 0 where
+  pub made : IsMade s next.made
+  pub map_order : AreInMapOrder next.grants.items
+  pub grants : next.grants.items ≡ grants_of s.roster next.made.map
+  pub na : next.na.items ≡ member_ids NonAssured s.roster
+  pub be : next.be.items ≡ member_ids BestEffort s.roster
 
 -- the first refusal of the event in the present state
 abbrev pub refusal_of : Chapter → Event → Option Refusal

@@ -7,7 +7,8 @@ use crate::chapter::Chapter;
 use pon_descr::Refusal;
 use pon_event::Event;
 use pon_state::{
-    Entry, MadeMap, PortCfg, PortState, Reply, add_map, in_range, next_map, refusal_of, step,
+    Entry, MadeMap, PortCfg, PortState, ReadyMap, Reply, add_map, in_range, next_map, refusal_of,
+    step,
 };
 use pon_units::{AllocId, FrameNo};
 use std::alloc::{AllocError, Global};
@@ -52,7 +53,7 @@ impl Port {
     ghost use Rattle.pon_admit.specs.Roster.{IsAdmitted, IsInRange};
     ghost use Rattle.pon_port.specs.Chapters.{IsLawfulChapter, present_state};
     ghost use Rattle.pon_port.specs.Last.{MatchesMembers, last_map};
-    ghost use Rattle.pon_port.specs.Taking.{Takes, refusal_of};
+    ghost use Rattle.pon_port.specs.Taking.{IsReady, Keeps, Takes, refusal_of};
     ghost use Rattle.pon_port.specs.FairMaps.{IsFairMap, TellsFairMap};
     ghost use Rattle.pon_descr.specs.Checks.{IsTold};
 
@@ -138,34 +139,46 @@ impl Port {
         Ok(())
     }
 
-    fn make_map(&mut self) -> Result<MadeMap, Refusal>
-        ensures ok { IfOk result (λ made. Takes self.old Event.MakeMap (Reply.Map made) self.new) }
-        ensures fair { IfOk result (λ made. IsFairMap (present_state self.old) made) }
-        ensures refused { IfErr result (λ told. IsTold (refusal_of self.old Event.MakeMap) told) }
-        ensures err { OnErr result (self.new ≡ self.old) }
+    // Makes the next map.
+    fn ready_map(&self) -> Result<ReadyMap, Refusal>
+        ensures ready { IfOk result (λ next. IsReady (present_state self.now) next) }
+        ensures accepted { OnOk result (refusal_of self.now Event.MakeMap ≡ None) }
+        ensures refused { IfErr result (λ told. IsTold (refusal_of self.now Event.MakeMap) told) }
     {
         if let Some(refusal) = refusal_of(&self.state, self.entries.len(), &Event::MakeMap) {
             return Err(refusal);
         }
-        let alloc = *self.entries.allocator();
-        let next = match next_map(alloc, &self.state) {
-            Ok(next) => next,
-            Err(_) => return Err(Refusal::OutOfMemory),
-        };
-        let kept = match next.made.try_copy(alloc) {
-            Ok(kept) => kept,
-            Err(_) => return Err(Refusal::OutOfMemory),
-        };
-        if self.entries.reserve(1).is_err() || add_map(&mut self.state, &next.grants).is_err() {
+        match next_map(*self.entries.allocator(), &self.state) {
+            Ok(next) => Ok(next),
+            Err(_) => Err(Refusal::OutOfMemory),
+        }
+    }
+
+    // Keeps the next map.
+    fn keep_map(&mut self, next: ReadyMap) -> Result<(), Refusal>
+        requires ready { IsReady (present_state self.old) next }
+        requires accepted { refusal_of self.old Event.MakeMap ≡ None }
+        ensures ok { OnOk result (Takes self.old Event.MakeMap (Reply.Map next.made) self.new) }
+        ensures fair { OnOk result (IsFairMap (present_state self.old) next.made) }
+        ensures refused { IfErr result (IsTold None) }
+        ensures err { OnErr result (self.new ≡ self.old) }
+    {
+        let ReadyMap {
+            made,
+            grants,
+            na,
+            be,
+        } = next;
+        if self.entries.reserve(1).is_err() || add_map(&mut self.state, grants).is_err() {
             return Err(Refusal::OutOfMemory);
         }
         self.last = Some(self.entries.len());
-        self.na = next.na;
-        self.be = next.be;
+        self.na = na;
+        self.be = be;
         let event = Event::MakeMap;
-        let reply = Reply::Map(kept);
+        let reply = Reply::Map(made);
         self.entries.push_reserved(Entry { event, reply });
-        Ok(next.made)
+        Ok(())
     }
 
     /// Takes an event and keeps it with its reply, or returns the first refusal.
@@ -183,12 +196,32 @@ impl Port {
         ensures err { OnErr result (self.new ≡ self.old) }
     {
         if let Event::MakeMap = event {
-            let made = self.make_map()?;
+            let next = self.ready_map()?;
+            let made = match next.made.try_copy(*self.entries.allocator()) {
+                Ok(made) => made,
+                Err(_) => return Err(Refusal::OutOfMemory),
+            };
+            self.keep_map(next)?;
             return Ok(Reply::Map(made));
         }
         in_range(&event);
         self.take_plain(event)?;
         Ok(Reply::Taken)
+    }
+
+    /// Takes an event and keeps it with its reply, as [`Port::take`] does, but returns no copy of the reply: it is that
+    /// of the last entry.
+    pub fn keep(&mut self, event: Event) -> Result<(), Refusal>
+        ensures ok { OnOk result (Keeps self.old event self.new) }
+        ensures refused { IfErr result (λ told. IsTold (refusal_of self.old event) told) }
+        ensures err { OnErr result (self.new ≡ self.old) }
+    {
+        if let Event::MakeMap = event {
+            let next = self.ready_map()?;
+            return self.keep_map(next);
+        }
+        in_range(&event);
+        self.take_plain(event)
     }
 
     /// Returns the kept chapter. It allocates no memory.
