@@ -1,6 +1,6 @@
 -- What a step leaves, from the port's contract.
 use Rattle.std.proofs.Common.{◌≡◌, ℕ, ◌<◌, List, [], ◌∷◌, ◌++◌, length, get_or, set, refl, ap, sym, ◌∙◌, subst, arith, length-set, take, ◌+◌}
-use Rattle.std.specs.Prelude.{IfErr, IfOk, IsErrAnd, MatchResult, OnErr, Some, Result, Ok, Err, slice_get}
+use Rattle.std.specs.Prelude.{IfErr, IfOk, IsErrAnd, MatchResult, OnErr, OnOk, Some, Result, Ok, Err, slice_get}
 use Rattle.std.proofs.lemmas.List.{map-append, set-get_or, take_more}
 use Rattle.std.proofs.lemmas.List.Elements.{All-get_or, All-set}
 use Rattle.std.proofs.lemmas.Option.{slice_get_read}
@@ -13,10 +13,10 @@ use Rattle.pon_state.specs.declared.reply.Reply.{Reply}
 use Rattle.pon_state.specs.declared.state.PortCfg.{PortCfg}
 use Rattle.pon_port.specs.Chapters.{Chapter, IsLawfulChapter, present_state}
 use Rattle.pon_port.specs.FairMaps.{TellsFairMap}
-use Rattle.pon_port.specs.Taking.{Takes, refusal_of}
+use Rattle.pon_port.specs.Taking.{Keeps, Takes, refusal_of}
 use Rattle.pon_port.proofs.OneReply.{taken_lawful}
 use Rattle.pon_plant.specs.Plants.{IsPlant, opened_port, opened_ports}
-use Rattle.pon_plant.specs.Answers.{IsAnswer, after_entry, after_step}
+use Rattle.pon_plant.specs.Answers.{IsAnswer, KeepsStep, after_entry, after_step}
 use Rattle.pon_plant.specs.Runs.{Ran}
 use Rattle.pon_plant.specs.declared.fault.StepFault.{StepFault}
 use Rattle.pon_plant.specs.declared.fault.StepFault.TheVariants.{Refused}
@@ -43,11 +43,11 @@ stays_plant plant i d k l = record {
 }
 
 -- the result of a port as the answer to a step
-abbrev pub answer_of : Result Reply Refusal → Result Reply StepFault
+abbrev pub answer_of : {T : Type 0} → Result T Refusal → Result T StepFault
 answer_of (Ok reply) = Ok reply
 answer_of (Err refusal) = Err (Refused refusal)
 
-pub told_by : (r : Result Reply Refusal) (a : Result Reply StepFault) → MatchResult r (λ reply. a ≡ Ok reply) (λ refusal. IsErrAnd a (λ fault. fault ≡ Refused refusal)) → a ≡ answer_of r
+pub told_by : {T : Type 0} (r : Result T Refusal) (a : Result T StepFault) → MatchResult r (λ reply. a ≡ Ok reply) (λ refusal. IsErrAnd a (λ fault. fault ≡ Refused refusal)) → a ≡ answer_of r
 told_by (Ok reply) a h = h
 told_by (Err refusal) a h = let p = err_from_is_err_and a h in p.1 ∙ ap Err p.2
 
@@ -63,6 +63,24 @@ pub left : (plant : List Chapter) (s : Step) (i : ℕ) (c d : Chapter) (r : Resu
 left plant s i c d (Ok reply) found e is taken kept =
     ap (λ n. set plant n d) e ∙ ap (set plant s.port) taken.kept ∙ sym (ap (after_entry plant s reply) found)
 left plant s i c d (Err refusal) found e is taken kept = ap (set plant i) (kept ∙ is) ∙ set-get_or plant i c
+
+-- an event whose entry the port keeps, or that it refuses
+module _ (plant : List Chapter) (s : Step) (c d : Chapter) (found : slice_get plant s.port ≡ Some c) where
+  pub kept_lawful : (r : Result (Unit {0}) Refusal) → IsLawfulChapter c → OnOk r (Keeps c s.event d) → OnErr r (d ≡ c) → IsLawfulChapter d
+  kept_lawful (Ok _) l ok err = taken_lawful c d s.event ok.reply l ok.takes
+  kept_lawful (Err told) l ok err = subst IsLawfulChapter (sym err) l
+
+  pub kept_ok : (r : Result (Unit {0}) Refusal) (i : ℕ) → i ≡ s.port → OnOk r (Keeps c s.event d) → OnOk (answer_of r) (KeepsStep plant s (set plant i d))
+  kept_ok (Ok _) i e ok = record { before = c; after = d; at = found; keeps = ok; plant = ap (λ n. set plant n d) e }
+  kept_ok (Err told) i e ok = tt
+
+  pub kept_refused : (r : Result (Unit {0}) Refusal) → IfErr r (λ told. IsTold (refusal_of c s.event) told) → IfErr (answer_of r) (λ fault. IsAnswer (slice_get plant s.port) s.event (Err fault))
+  kept_refused (Ok _) told = tt
+  kept_refused (Err refusal) told = subst (λ o. IsAnswer o s.event (Err (Refused refusal))) (sym found) told
+
+  pub kept_unchanged : (r : Result (Unit {0}) Refusal) (i : ℕ) → c ≡ get_or plant i c → OnErr r (d ≡ c) → OnErr (answer_of r) (set plant i d ≡ plant)
+  kept_unchanged (Ok _) i is err = tt
+  kept_unchanged (Err refusal) i is err = ap (set plant i) (err ∙ is) ∙ set-get_or plant i c
 
 -- one more port is opened
 pub one_more_port : (ports : List (PortCfg × ℕ)) (k : ℕ) (opened : List Chapter) (c : Chapter) (d : PortCfg × ℕ) → opened ≡ opened_ports (take k ports) → k < length ports →

@@ -8,7 +8,7 @@ use Rattle.pon_state.specs.Legal.{MayFollow}
 use Rattle.pon_state.specs.declared.reply.Reply.{Reply}
 use Rattle.pon_port.specs.Chapters.{Chapter, present_state}
 use Rattle.pon_port.specs.FairMaps.{TellsFairMap}
-use Rattle.pon_port.specs.Taking.{refusal_of, with_entry}
+use Rattle.pon_port.specs.Taking.{Keeps, refusal_of, with_entry}
 use Rattle.pon_plant.specs.declared.fault.StepFault.{StepFault}
 use Rattle.pon_plant.specs.declared.fault.StepFault.TheVariants.{NoSuchPort, Refused}
 
@@ -37,3 +37,11 @@ after_entry plant step reply (Some c) = slice_set plant step.port (with_entry c 
 abbrev pub after_step : List Chapter → Step → Result Reply StepFault → List Chapter
 after_step plant step (Ok reply) = after_entry plant step reply (slice_get plant step.port)
 after_step plant step (Err fault) = plant
+
+-- the port of a step keeps an entry of its event, and no other port changes
+pub record KeepsStep (old : List Chapter) (step : Step) (new : List Chapter) : Type 0 where
+  pub before : Chapter
+  pub after : Chapter
+  pub at : slice_get old step.port ≡ Some before
+  pub keeps : Keeps before step.event after
+  pub plant : new ≡ slice_set old step.port after

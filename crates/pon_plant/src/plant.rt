@@ -28,9 +28,9 @@ impl Model for Plant {
 }
 
 impl Plant {
-    ghost use Rattle.std.specs.Prelude.{◌≡◌, ◌≤◌, length, IfOk, IfErr, MatchOption, OnErr, Some, slice_get};
+    ghost use Rattle.std.specs.Prelude.{◌≡◌, ◌≤◌, length, Err, IfOk, IfErr, MatchOption, OnErr, OnOk, Some, slice_get};
     ghost use Rattle.pon_plant.specs.Plants.{IsPlant, IsPlantSize, TellsOpening, opened_ports};
-    ghost use Rattle.pon_plant.specs.Answers.{IsAnswer, after_step};
+    ghost use Rattle.pon_plant.specs.Answers.{IsAnswer, KeepsStep, after_step};
     ghost use Rattle.pon_plant.specs.Runs.{Ran};
 
     /// Opens a port for each configuration and first frame, numbered from 0 in this order.
@@ -78,6 +78,22 @@ impl Plant {
             return Err(StepFault::NoSuchPort);
         };
         port.take(step.event).map_err(StepFault::Refused)
+    }
+
+    /// Takes the event of a step at its port, as [`Plant::step`] does, but returns no copy of its reply: it is that of
+    /// the last entry of the port.
+    pub fn keep(&mut self, step: Step) -> Result<(), StepFault>
+        ensures ok { OnOk result (KeepsStep self.old step self.new) }
+        ensures refused { IfErr result (λ fault. IsAnswer
+            (slice_get self.old step.port) step.event (Err fault)) }
+        ensures err { OnErr result (self.new ≡ self.old) }
+        ensures lawful { IsPlant self.new }
+    {
+        let place = usize::from(step.port.get());
+        let Some(port) = self.ports.get_mut(place) else {
+            return Err(StepFault::NoSuchPort);
+        };
+        port.keep(step.event).map_err(StepFault::Refused)
     }
 
     /// Takes steps in order and returns their answers in the same order. A refused step does not stop the run.
