@@ -1,5 +1,5 @@
 -- The text of lines, as a relation: the request of a line is answered by the entry that a port keeps for it.
-use Rattle.std.specs.Prelude.{ℕ, ◌≡◌, ◌*◌, List, [], ◌∷◌, ◌++◌, length, codes, decimal, slice_get, slice_set, Option, Some, None}
+use Rattle.std.specs.Prelude.{ℕ, ◌≡◌, ◌*◌, List, [], ◌∷◌, ◌++◌, length, codes, decimal, slice_get, slice_set, Option, Some, None, ◌-◌, option_map}
 use Rattle.pon_units.specs.declared.limits.TheConstants.{WORD_RATE}
 use Rattle.hex.specs.Hex.{encode_lower}
 use Rattle.pon_bwmap.specs.MapBytes.{map_bytes}
@@ -40,6 +40,11 @@ Posts old port c event None text new =
 abbrev pub AsksPort : List Chapter → ℕ → Option Chapter → Event → List ℕ → List Chapter → Type 0
 AsksPort old port None event text new = ⊥
 AsksPort old port (Some c) event text new = Posts old port c event (refusal_of c event) text new
+
+-- the reply of the last entry of a port
+abbrev pub last_reply : Option Chapter → Option Reply
+last_reply None = None
+last_reply (Some c) = option_map (λ e. e.reply) (slice_get c.entries (length c.entries - 1))
 
 -- the certificate line of the last map of the kept chapter, or the refusal `NoMap`
 abbrev pub cert_line : Option LastMap → List ℕ

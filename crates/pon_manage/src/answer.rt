@@ -1,17 +1,17 @@
 //! The text that one line gives at a plant.
 
-ghost use Rattle.std.specs.Prelude.{◌≡◌, ◌<◌, ◌++◌, IfSome, OnOk, OnErr, Some, length, slice_get};
+ghost use Rattle.std.specs.Prelude.{◌≡◌, ◌<◌, ◌++◌, IfSome, IsSome, OnOk, OnErr, Some, length, slice_get};
 ghost use Rattle.pon_port.specs.Chapters.{present_state};
 ghost use Rattle.pon_port.specs.Last.{last_map};
 ghost use Rattle.pon_line.specs.Reading.{AsksWithin};
-ghost use Rattle.pon_manage.specs.Text.{AddsAnswer, cert_line, state_line};
+ghost use Rattle.pon_manage.specs.Text.{AddsAnswer, cert_line, last_reply, state_line};
 
 use crate::show::{append_shown, shown_of};
 use crate::texts::{append_cert, append_refusal, append_reply};
 use pon_descr::Refusal;
 use pon_line::{LineFault, Reading};
 use pon_plant::{Plant, Step, StepFault};
-use pon_port::{Event, Port};
+use pon_port::{Event, Port, Reply};
 use pon_units::{MOST_PORTS, PortNo};
 use std::alloc::AllocError;
 
@@ -22,6 +22,21 @@ fn kept_entries(plant: &Plant, port: PortNo) -> usize
 {
     match plant.port(port) {
         Some(port) => port.history().len(),
+        None => unreachable!(),
+    }
+}
+
+// Returns the reply of the last entry of a port.
+fn last_reply(plant: &Plant, port: PortNo) -> &Reply
+    requires { IsSome (last_reply (slice_get plant.now port)) }
+    ensures { last_reply (slice_get plant.now port) ≡ Some result.now }
+{
+    let history = match plant.port(port) {
+        Some(port) => port.history(),
+        None => unreachable!(),
+    };
+    match history.last() {
+        Some(entry) => &entry.reply,
         None => unreachable!(),
     }
 }
@@ -40,8 +55,8 @@ fn answer_event(
     ensures err { OnErr result (replies.new.items ≡ replies.old.items) }
 {
     let index = kept_entries(plant, port);
-    match plant.step(Step { port, event }) {
-        Ok(reply) => append_reply(replies, room, index, &reply),
+    match plant.keep(Step { port, event }) {
+        Ok(()) => append_reply(replies, room, index, last_reply(plant, port)),
         Err(StepFault::Refused(refusal)) => match refusal {
             Refusal::OutOfMemory => Err(AllocError),
             told => append_refusal(replies, LineFault::Port(told)),

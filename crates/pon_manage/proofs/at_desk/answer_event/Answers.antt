@@ -1,4 +1,3 @@
-use Rattle.std.proofs.Common.{rules}
 use Rattle.pon_desk.specs.Posts.{IsSomeRefusal}
 use Rattle.pon_manage.proofs.DeskRefusals.{refused_post}
 use Rattle.pon_manage.proofs.at_desk.answer_event.Goals as goal
