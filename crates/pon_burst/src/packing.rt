@@ -26,7 +26,8 @@ pub fn pack(
     requires fit { FitsFrame gap onus.now }
     requires room { length (grants_of_series onus.now) ≤ length out.old }
     ensures count { result ≡ length (grants_of_series onus.now) }
-    ensures structures { take result out.new ≡ map_granting gap profile (grants_of_series onus.now) }
+    ensures structures { take result out.new
+        ≡ map_granting gap profile (grants_of_series onus.now) }
     ensures rest { drop result out.new ≡ drop result out.old }
     ensures sound { AreSound gap (take result out.new) }
     ensures map { result ≤ MOST_STRUCTURES → IsMap (take result out.new) }

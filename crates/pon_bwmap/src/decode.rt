@@ -128,7 +128,8 @@ fn read_structure(bytes: &[u8], k: usize) -> Result<(Alloc, u8), MapFault>
     requires { 8 * k + 8 ≤ length bytes.now }
     ensures ok { IfOk result (λ r. ReadsStructure (drop (8 * k) bytes.now) r.0 r.1) }
     ensures fault { IfErr result (λ f. (f ≡ MapFault.StructHec k) ×
-        ((payload places : ℕ) → Reads (2 ^ 64) (from_be_bytes w64 (drop (8 * k) bytes.now)) payload places → ⊥)) }
+        ((payload places : ℕ)
+        → Reads (2 ^ 64) (from_be_bytes w64 (drop (8 * k) bytes.now)) payload places → ⊥)) }
 {
     let word = bytes[8 * k..].first_chunk::<8>().unwrap();
     match open64(u64::from_be_bytes(*word)) {

@@ -23,7 +23,8 @@ pub fn reads_back()
 /// Bytes read as at most one map, with one number of corrected bits and one number of bytes used.
 pub fn one_map()
     ensures { (bytes : List ℕ) (rows rows2 : List Alloc) (corrected corrected2 used used2 : ℕ) →
-        All (λ b. b < 256) bytes → ReadsMap bytes rows corrected used → ReadsMap bytes rows2 corrected2 used2 →
+        All (λ b. b < 256) bytes → ReadsMap bytes rows corrected used
+        → ReadsMap bytes rows2 corrected2 used2 →
         (rows ≡ rows2) × (corrected ≡ corrected2) × (used ≡ used2) }
 {}
 
@@ -36,6 +37,7 @@ pub fn one_fault()
 /// If bytes read as a map, their only fault is `Memory`.
 pub fn only_memory_is_wanting()
     ensures { (bytes : List ℕ) (rows : List Alloc) (corrected used : ℕ) (fault : MapFault) →
-        All (λ b. b < 256) bytes → ReadsMap bytes rows corrected used → IsFirstMapFault bytes fault →
+        All (λ b. b < 256) bytes → ReadsMap bytes rows corrected used
+        → IsFirstMapFault bytes fault →
         fault ≡ MapFault.Memory }
 {}

@@ -200,7 +200,8 @@ fn class_in_text(
     requires { AreNames names.now }
     ensures { MatchOption result
         ((cert : ClassCert) → IsClassOf names.now level.now set.now cert → ⊥)
-        (λ read. (cert : ClassCert) × IsClassOf names.now level.now set.now cert × IfSome read (λ c. c ≡ cert)) }
+        (λ read. (cert : ClassCert) × IsClassOf names.now level.now set.now cert
+        × IfSome read (λ c. c ≡ cert)) }
 {
     let level = level_in_text(level)?;
     let flags = flags_of(alloc, names, set)?;
@@ -221,7 +222,8 @@ fn with_flags(level: Level, flags: Option<Vec<bool>>) -> Option<ClassCert>
 fn words_of(text: &str) -> Option<Words<'_>>
     ensures { MatchOption result
         ((w x y z : List ℕ) → slice_split (λ b. b == 32) text.now ≡ six_words w x y z → ⊥)
-        (λ p. slice_split (λ b. b == 32) text.now ≡ six_words p.na_level.now p.na_set.now p.be_level.now p.be_set.now) }
+        (λ p. slice_split (λ b. b == 32) text.now
+        ≡ six_words p.na_level.now p.na_set.now p.be_level.now p.be_set.now) }
 {
     let (na, rest) = cut(text, ' ')?;
     let (na_level, rest) = cut(rest, ' ')?;

@@ -29,7 +29,8 @@ fn syntax_line(alloc: Global, line: u64) -> Result<String, AllocError>
 }
 
 fn fault_line(alloc: Global, fault: CertFault) -> Result<String, AllocError>
-    ensures { IfOk result (λ text. string_bytes text ≡ codes "no " ++ cert_fault_text fault ++ 10 ∷ []) }
+    ensures { IfOk result (λ text. string_bytes text ≡ codes "no " ++ cert_fault_text fault
+        ++ 10 ∷ []) }
 {
     format!(in alloc; "no {fault}\n")
 }

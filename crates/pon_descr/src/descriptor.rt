@@ -19,11 +19,26 @@ impl Model for Descriptor {
 
     ghost Value = { Descriptor };
 
-    ghost view = { λ a. record { fixed = a.fixed; assured = a.assured; max = a.max; class = a.class } };
+    ghost view = { λ a. record {
+      fixed = a.fixed;
+      assured = a.assured;
+      max = a.max;
+      class = a.class;
+    } };
 
-    ghost invariant = { λ a. IsLawful (record { fixed = a.fixed; assured = a.assured; max = a.max; class = a.class }) };
+    ghost invariant = { λ a. IsLawful (record {
+      fixed = a.fixed;
+      assured = a.assured;
+      max = a.max;
+      class = a.class;
+    }) };
 
-    ghost inverse = { λ t. record { fixed = t.fixed; assured = t.assured; max = t.max; class = t.class } };
+    ghost inverse = { λ t. record {
+      fixed = t.fixed;
+      assured = t.assured;
+      max = t.max;
+      class = t.class;
+    } };
 }
 
 // Converts a number of kbit/s to a rate of a descriptor.

@@ -33,7 +33,7 @@ pub enum Refusal {
     StaleFrame,
     /// E14: that map has no structure of the ONU.
     NotPolled,
-    /// E15: the number of occupancies is not that of the ONU's structures in that map.
+    /// E15: the report has more or fewer occupancies than the ONU has structures in that map.
     ReportCount,
     /// E16: a report of that frame and ONU was accepted already.
     AlreadyReported,

@@ -66,7 +66,8 @@ pub trait DevWrite {
 pub fn write_all<W: DevWrite>(writer: &mut W, bytes: &[u8]) -> Result<(), Failed>
     ensures ok { OnOk result (Appends (W.contents writer.old) (W.contents writer.new) bytes.now) }
     ensures err { OnErr result ((sent rest : List ℕ)
-        × Appends (W.contents writer.old) (W.contents writer.new) sent × (sent ++ rest ≡ bytes.now)) }
+        × Appends (W.contents writer.old) (W.contents writer.new) sent
+        × (sent ++ rest ≡ bytes.now)) }
     ensures failures { CountsFailure (W.failures writer.old) (W.failures writer.new) result }
 {
     let mut at = 0;

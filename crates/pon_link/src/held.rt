@@ -31,7 +31,8 @@ impl<const N: usize> Model for Held<N> {
     ghost view = { λ s. record { direction = s.direction; held = s.bytes.items; ended = s.ended } };
 
     ghost invariant = { λ s. (longest s.direction ≤ N) × IsWithinRecord s.direction s.bytes.items
-        × (IsTrue s.ended → MayBecomeRecord s.direction s.bytes.items × (0 < length s.bytes.items)) };
+        × (IsTrue s.ended → MayBecomeRecord s.direction s.bytes.items
+        × (0 < length s.bytes.items)) };
 }
 
 impl<const N: usize> Held<N> {
@@ -91,7 +92,8 @@ impl<const N: usize> Held<N> {
     fn safe_size(&self) -> usize
         ensures open { IsOpen self.now → 0 < result }
         ensures some { 0 < result → IsOpen self.now }
-        ensures begins { (more : List ℕ) → length more < result → IsOpen (holds_more self.now more) }
+        ensures begins { (more : List ℕ) → length more < result
+            → IsOpen (holds_more self.now more) }
         ensures within { (more : List ℕ) → length more ≤ result
             → IsWithinRecord self.now.direction (self.now.held ++ more) }
     {

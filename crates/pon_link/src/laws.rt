@@ -28,8 +28,9 @@ pub fn nothing_is_lost()
 /// For any split of a stream into pieces, and whether the input ends after it or not, a reader returns the same records
 /// and finds the same fault, or none, and in that case holds the same bytes.
 pub fn whatever_the_pieces()
-    ensures up { (stream : List ℕ) (over : Bool) (steps others : List (ReaderStep UpRecord)) (s t : ReaderState)
-        (f g : Option LinkFault) → AreBytes stream → RunsOver IsRecord Direction.Up stream over steps s f
+    ensures up { (stream : List ℕ) (over : Bool) (steps others : List (ReaderStep UpRecord))
+        (s t : ReaderState) (f g : Option LinkFault) → AreBytes stream
+        → RunsOver IsRecord Direction.Up stream over steps s f
         → RunsOver IsRecord Direction.Up stream over others t g
         → (given steps ≡ given others) × (f ≡ g) × (f ≡ None → s.held ≡ t.held) }
     ensures down { (stream : List ℕ) (over : Bool) (steps others : List (ReaderStep DownRecord))
@@ -42,7 +43,8 @@ pub fn whatever_the_pieces()
 /// The outcome of a reader is unique: it holds a whole record, a prefix of one, or one fault. `Memory` is returned only
 /// for a whole record.
 pub fn one_outcome()
-    ensures waits { (s : ReaderState) (r : UpRecord) → s.direction ≡ Direction.Up → IsRecord s.held r
+    ensures waits { (s : ReaderState) (r : UpRecord) → s.direction ≡ Direction.Up
+        → IsRecord s.held r
         → IsOpen s → ⊥ }
     ensures sound { (s : ReaderState) (r : UpRecord) (f : LinkFault) → s.direction ≡ Direction.Up
         → IsRecord s.held r → HasFault s f → ⊥ }

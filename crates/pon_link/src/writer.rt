@@ -56,7 +56,10 @@ impl DownWriter {
     /// `Busy` exactly when bytes of the previous record remain; then the writer is unchanged.
     pub fn put(&mut self, frame: FrameNo, map: &Map) -> Result<(), Busy>
         ensures ok { OnOk result ((self.old ≡ []) × (self.new ≡ down_bytes frame map.now)) }
-        ensures reads { OnOk result (IsDownRecord self.new record { frame = frame; map = map.now }) }
+        ensures reads { OnOk result (IsDownRecord self.new record {
+          frame = frame;
+          map = map.now;
+        }) }
         ensures busy { OnErr result ((self.old ≢ []) × (self.new ≡ self.old)) }
     {
         if self.begin < self.end {
@@ -108,7 +111,10 @@ fn write_record(frame: FrameNo, map: &Map, room: &mut [u8]) -> usize
     requires { length room.old ≡ 4109 }
     ensures count { result ≤ 4109 }
     ensures bytes { take result room.new ≡ down_bytes frame map.now }
-    ensures reads { IsDownRecord (down_bytes frame map.now) record { frame = frame; map = map.now } }
+    ensures reads { IsDownRecord (down_bytes frame map.now) record {
+      frame = frame;
+      map = map.now;
+    } }
 {
     let rows = map.rows();
     prove!(rows.len() <= MOST_STRUCTURES);

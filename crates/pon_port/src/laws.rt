@@ -77,11 +77,23 @@ pub fn lawful_chapters_open_later_ones()
 /// the same end as the whole.
 pub fn cuts_of_lawful_chapters_are_lawful()
     ensures front { (c : Chapter) → IsLawfulChapter c → (k : ℕ) →
-        IsLawfulChapter (record { number = c.number; opening = c.opening; entries = take k c.entries }) }
+        IsLawfulChapter (record {
+          number = c.number;
+          opening = c.opening;
+          entries = take k c.entries;
+        }) }
     ensures rest { (c : Chapter) → IsLawfulChapter c → (k n : ℕ) → 0 < n →
-        IsLawfulChapter (record { number = n; opening = state_before c k; entries = drop k c.entries }) }
+        IsLawfulChapter (record {
+          number = n;
+          opening = state_before c k;
+          entries = drop k c.entries;
+        }) }
     ensures same_end { (c : Chapter) → IsLawfulChapter c → (k n : ℕ) →
-        present_state (record { number = n; opening = state_before c k; entries = drop k c.entries }) ≡ present_state c }
+        present_state (record {
+          number = n;
+          opening = state_before c k;
+          entries = drop k c.entries;
+        }) ≡ present_state c }
 {}
 
 /// A lawful chapter has at most one reply to an event, so one certificate for a map, and is lawful with that entry.
@@ -95,7 +107,8 @@ pub fn lawful_chapters_give_one_reply()
 /// A lawful chapter has a reply to each event whose numbers are in range and that no check refuses, and a next chapter
 /// with that entry: for a map there is always a certificate.
 pub fn each_accepted_event_has_a_reply()
-    ensures reply { (c : Chapter) (v : Event) → IsLawfulChapter c → IsEvent v → refusal_of c v ≡ None
+    ensures reply { (c : Chapter) (v : Event) → IsLawfulChapter c → IsEvent v
+        → refusal_of c v ≡ None
         → (reply : Reply) × MayFollow (length c.entries) (present_state c)
         (record { event = v; reply = reply }) }
     ensures next { (c : Chapter) (v : Event) → IsLawfulChapter c → IsEvent v → refusal_of c v ≡ None

@@ -22,7 +22,12 @@ impl Model for RawChapter {
 
     ghost view = { λ c. record {
       at = c.at;
-      body = record { port = c.port; number = c.number; opening = c.opening; entries = c.entries.items };
+      body = record {
+        port = c.port;
+        number = c.number;
+        opening = c.opening;
+        entries = c.entries.items;
+      };
     } };
 }
 

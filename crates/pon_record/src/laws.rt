@@ -41,5 +41,6 @@ pub fn recordings_have_no_fault()
 /// Apart from `Memory`, bytes have at most one fault.
 pub fn one_fault()
     ensures { (bytes : List ℕ) (fault other : ReadFault) → IsReadFault bytes fault →
-        IsReadFault bytes other → fault ≢ ReadFault.Memory → other ≢ ReadFault.Memory → fault ≡ other }
+        IsReadFault bytes other → fault ≢ ReadFault.Memory → other ≢ ReadFault.Memory
+        → fault ≡ other }
 {}

@@ -16,7 +16,11 @@ impl Model for RawMap {
 
     ghost Value = { WindowMap };
 
-    ghost view = { λ m. record { frame = m.frame; grants = m.grants.items; reported = m.reported.items } };
+    ghost view = { λ m. record {
+      frame = m.frame;
+      grants = m.grants.items;
+      reported = m.reported.items;
+    } };
 }
 
 /// The state that a recorded chapter opens with: gap, burst profile, cause of the failure if the port is failed, next

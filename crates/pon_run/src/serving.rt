@@ -71,7 +71,8 @@ fn tell_ports<F: Write + Drop, W: DevWrite>(
     writer: &mut W,
 ) -> Result<(), PlanFault>
     requires few { length ports.items ≤ MOST_PORTS }
-    ensures { OnOk result (TellsEnds ends.now (W.contents writer.old) (W.contents writer.new) result) }
+    ensures { OnOk result
+        (TellsEnds ends.now (W.contents writer.old) (W.contents writer.new) result) }
 {
     let recorded = match recording {
         None => Ok(()),

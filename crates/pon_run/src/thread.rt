@@ -1,4 +1,4 @@
-//! The work of the two threads of a port: that of its worker, and that of its units.
+//! The two threads of a port: one runs its worker, the other its units.
 
 use crate::pace::UntilStopped;
 use pon_desk::{Desk, Seat};

@@ -23,7 +23,11 @@ impl Model for WindowMap {
 
     ghost Value = { WindowMap };
 
-    ghost view = { λ a. record { frame = a.frame; grants = a.grants.items; reported = a.reported.items } };
+    ghost view = { λ a. record {
+      frame = a.frame;
+      grants = a.grants.items;
+      reported = a.reported.items;
+    } };
 }
 
 /// The grants of a map to an ONU. `first` is the index of the first of them in the map, a hint for callers: no clause
@@ -56,7 +60,8 @@ fn series_len(grants: &[Granted], onu: OnuId) -> usize
 pub(crate) fn series_of(grants: &[Granted], onu: OnuId) -> OnuGrants<'_>
     requires { AreInMapOrder grants.now }
     ensures within { result.first ≤ length grants.now }
-    ensures placed { result.grants.now ≡ take (length result.grants.now) (drop result.first grants.now) }
+    ensures placed { result.grants.now
+        ≡ take (length result.grants.now) (drop result.first grants.now) }
     ensures grants { result.grants.now ≡ filter (λ g. g.onu == onu) grants.now }
 {
     let first = grants.partition_point(|granted| granted.onu.get() < onu.get());

@@ -51,7 +51,8 @@ pub(crate) fn note_report(
     requires maps { All IsLawfulMap (drop past kept.old) }
     requires accepted { (count : ℕ)
         × (refuses_report (drop past kept.old) frame onu count ≡ None) }
-    ensures ok { OnOk result (drop past kept.new ≡ map (with_report frame onu) (drop past kept.old)) }
+    ensures ok { OnOk result (drop past kept.new
+        ≡ map (with_report frame onu) (drop past kept.old)) }
     ensures err { OnErr result (kept.new ≡ kept.old) }
 {
     let (_, window) = kept.split_at(past);

@@ -74,7 +74,8 @@ impl BurstHead {
         ensures ok { IfOk result (λ r. ReadsBurstHead bytes.now r.0 r.1) }
         ensures fault { IfErr result (λ f. IsHeaderFault bytes.now f) }
         ensures written { (h : BurstHead) (rest : List ℕ) → FitsBurstHead h →
-            bytes.now ≡ header_bytes (burst_head_payload h) ++ rest → result ≡ Ok record { 0 = h; 1 = 0 } }
+            bytes.now ≡ header_bytes (burst_head_payload h) ++ rest
+            → result ≡ Ok record { 0 = h; 1 = 0 } }
     {
         let (payload, corrected) = open_header(bytes)?;
         let head = BurstHead {

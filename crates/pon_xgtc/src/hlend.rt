@@ -72,7 +72,8 @@ impl HLend {
         ensures ok { IfOk result (λ r. ReadsHLend bytes.now r.0 r.1) }
         ensures fault { IfErr result (λ f. IsHeaderFault bytes.now f) }
         ensures written { (h : HLend) (rest : List ℕ) → FitsHLend h →
-            bytes.now ≡ header_bytes (hlend_payload h) ++ rest → result ≡ Ok record { 0 = h; 1 = 0 } }
+            bytes.now ≡ header_bytes (hlend_payload h) ++ rest
+            → result ≡ Ok record { 0 = h; 1 = 0 } }
     {
         let (payload, corrected) = open_header(bytes)?;
         let head = HLend {
