@@ -16,6 +16,3 @@ mod verdict;
 
 pub use recordings::{PARALLEL_MAPS, audit};
 pub use verdict::{Verdict, Why};
-
-#[cfg(test)]
-mod tests;

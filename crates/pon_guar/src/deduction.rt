@@ -18,7 +18,7 @@ pub(crate) fn words_left(reported: BufOcc, granted: u32) -> BufOcc
 }
 
 // Returns an account after a grant of these words: its report is reduced by them.
-fn lessened_by(words: Words, account: Account) -> Account
+fn deduct_words(words: Words, account: Account) -> Account
     ensures { result ≡ less_by words account }
 {
     let Account {
@@ -41,7 +41,7 @@ fn lessened_by(words: Words, account: Account) -> Account
 }
 
 /// Returns the account index that is noted at an index; 0 past the end.
-pub(crate) fn noted(places: &[usize], index: usize) -> usize {
+pub(crate) fn hint_at(places: &[usize], index: usize) -> usize {
     if index < places.len() {
         places[index]
     } else {
@@ -66,12 +66,12 @@ pub(crate) fn deduct_grants(accounts: &mut [Account], grants: &[Granted], places
 {
     let mut index = 0;
     for granted in grants {
-        let hint = noted(places, index);
+        let hint = hint_at(places, index);
         let found = index_near(accounts, hint, granted.alloc_id);
         note(places, index, found);
         index = index.wrapping_add(1);
         if let Some(place) = found {
-            accounts[place] = lessened_by(granted.words, accounts[place]);
+            accounts[place] = deduct_words(granted.words, accounts[place]);
         }
     }
 }

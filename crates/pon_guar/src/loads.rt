@@ -3,7 +3,7 @@ ghost use Rattle.pon_guar.specs.Book.{load_of_counted};
 
 use crate::account::{Account, Counted, account_of, add_account, index_near, remove_account};
 use crate::counting::{count_report, forget};
-use crate::deduction::{deduct_grants, noted};
+use crate::deduction::{deduct_grants, hint_at};
 use pon_descr::Refusal;
 use pon_units::{AllocId, BufOcc, FrameNo, Granted, Kbps, OnuId, WORD_RATE};
 use pon_window::{Window, WindowMap};
@@ -93,7 +93,7 @@ impl Loads {
     pub fn load_at(&self, index: usize, alloc_id: AllocId) -> Kbps
         ensures { result ≡ load_of self.now.accounts alloc_id }
     {
-        let hint = noted(&self.places, index);
+        let hint = hint_at(&self.places, index);
         match index_near(&self.accounts, hint, alloc_id) {
             None => load_of_report(None),
             Some(place) => load_of_report(self.accounts[place].counted),

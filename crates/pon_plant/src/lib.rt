@@ -12,6 +12,3 @@ mod plant;
 pub use fault::{PlantFault, StepFault};
 pub use plant::Plant;
 pub use pon_event::Step;
-
-#[cfg(test)]
-mod tests;

@@ -12,6 +12,3 @@ pub use chapter::Chapter;
 pub use pon_event::Event;
 pub use pon_state::{Entry, MadeMap, PortCfg, PortState, Reply};
 pub use port::Port;
-
-#[cfg(test)]
-mod tests;

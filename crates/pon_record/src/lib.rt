@@ -26,6 +26,3 @@ pub use limits::{CHAPTER_TAG, GARBLED, MAGIC, MOST_GRANTS, MOST_REPORTED, MOST_R
 pub use opening::{Opening, RawMap};
 pub use recording::read_recording;
 pub use row::RawRow;
-
-#[cfg(test)]
-mod tests;

@@ -16,6 +16,3 @@ mod record_file;
 
 pub use fault::RecordFault;
 pub use record_file::RecordFile;
-
-#[cfg(test)]
-mod tests;

@@ -14,8 +14,6 @@ mod ports;
 mod recording;
 mod running;
 mod serving;
-#[cfg(test)]
-mod tests;
 mod thread;
 mod units;
 

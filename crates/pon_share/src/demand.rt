@@ -56,7 +56,7 @@ fn demand_of(input: &ShareInput, index: usize, row: &Row) -> Demand
 }
 
 /// Computes the demand of each admitted Alloc-ID, in map order. `Err` only if memory is refused.
-pub(crate) fn demands(alloc: Global, input: &ShareInput) -> Result<Vec<Demand>, AllocError>
+pub(crate) fn demands_of(alloc: Global, input: &ShareInput) -> Result<Vec<Demand>, AllocError>
     ensures { IfOk result (λ found. found.items ≡ demands_of input.now) }
 {
     let mut found = Vec::with_capacity(alloc, input.roster.rows().len())?;

@@ -68,7 +68,7 @@ fn first_flag(saturated: &[bool]) -> (bool, &[bool])
 }
 
 /// Computes the grant of each admitted Alloc-ID, in map order. `Err` only if memory is refused.
-pub(crate) fn grants(
+pub(crate) fn grants_of(
     alloc: Global,
     input: &ShareInput,
     demands: &[Demand],

@@ -6,10 +6,10 @@ ghost use Rattle.pon_share.specs.Problems.{AreProblems};
 ghost use Rattle.pon_share.specs.Rates.{granted};
 ghost use Rattle.pon_share.specs.Sharing.{IsCertified, surplus_rate};
 
-use crate::demand::{Demand, demands};
-use crate::grants::grants;
+use crate::demand::{Demand, demands_of};
+use crate::grants::grants_of;
 use crate::input::ShareInput;
-use crate::sharing::{Members, class_members, surplus};
+use crate::sharing::{Members, class_members, surplus_of};
 use pon_cert::MapCert;
 use pon_descr::Class;
 use pon_units::Granted;
@@ -30,10 +30,10 @@ pub fn class_problems(alloc: Global, input: &ShareInput) -> Result<Problems, All
     requires admitted { IsAdmitted input.now.rule input.now.gap input.now.roster }
     ensures { IfOk result (λ problems. AreProblems input.now problems) }
 {
-    let demands = demands(alloc, input)?;
+    let demands = demands_of(alloc, input)?;
     let na = class_members(alloc, demands.as_slice(), Class::NonAssured)?;
     let be = class_members(alloc, demands.as_slice(), Class::BestEffort)?;
-    let surplus = surplus(input, demands.as_slice());
+    let surplus = surplus_of(input, demands.as_slice());
     Ok(Problems {
         demands,
         na,
@@ -56,5 +56,5 @@ pub fn grants_under(
     ensures { IfOk result (λ grants. grants.items
         ≡ granted input.now (surplus_rate input.now cert.now)) }
 {
-    grants(alloc, input, problems.demands.as_slice(), cert)
+    grants_of(alloc, input, problems.demands.as_slice(), cert)
 }

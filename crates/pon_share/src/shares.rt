@@ -6,7 +6,7 @@ ghost use Rattle.pon_descr.specs.declared.class.Class.TheVariants.{NonAssured, B
 ghost use Rattle.pon_share.specs.Rates.{granted};
 ghost use Rattle.pon_share.specs.Sharing.{IsCertified, member_ids, surplus_rate};
 
-use crate::grants::grants;
+use crate::grants::grants_of;
 use crate::input::ShareInput;
 use crate::problems::{Problems, class_problems};
 use crate::sharing::map_cert;
@@ -41,7 +41,7 @@ pub fn share(alloc: Global, input: &ShareInput) -> Result<Shares, AllocError>
         surplus,
     } = class_problems(alloc, input)?;
     let cert = map_cert(alloc, na.items.as_slice(), be.items.as_slice(), surplus)?;
-    let grants = grants(alloc, input, demands.as_slice(), &cert)?;
+    let grants = grants_of(alloc, input, demands.as_slice(), &cert)?;
     Ok(Shares {
         cert,
         grants,

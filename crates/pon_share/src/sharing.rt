@@ -28,7 +28,7 @@ fn sum_of_guaranteed(demands: &[Demand]) -> u64
 }
 
 /// Computes the capacity reduced by the guaranteed rates, in kbit/s.
-pub(crate) fn surplus(input: &ShareInput, demands: &[Demand]) -> u64
+pub(crate) fn surplus_of(input: &ShareInput, demands: &[Demand]) -> u64
     requires admitted { IsAdmitted input.now.rule input.now.gap input.now.roster }
     requires demands { demands.now ≡ demands_of input.now }
     ensures { result ≡ surplus input.now }

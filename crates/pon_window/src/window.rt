@@ -38,7 +38,7 @@ impl Model for Window {
 }
 
 // Makes equal maps. `Err` only if memory is refused.
-fn copied(alloc: Global, window: &[WindowMap]) -> Result<Vec<WindowMap>, AllocError>
+fn copy_maps(alloc: Global, window: &[WindowMap]) -> Result<Vec<WindowMap>, AllocError>
     ensures { IfOk result (λ copy. copy.items ≡ window.now) }
 {
     let mut maps = Vec::with_capacity(alloc, window.len())?;
@@ -49,7 +49,7 @@ fn copied(alloc: Global, window: &[WindowMap]) -> Result<Vec<WindowMap>, AllocEr
 }
 
 // Makes equal sums. `Err` only if memory is refused.
-fn copied_sums(alloc: Global, sums: &[MapSums]) -> Result<Vec<MapSums>, AllocError>
+fn copy_sums(alloc: Global, sums: &[MapSums]) -> Result<Vec<MapSums>, AllocError>
     ensures { IfOk result (λ copy. copy.items ≡ sums.now) }
 {
     let mut copies = Vec::with_capacity(alloc, sums.len())?;
@@ -127,8 +127,8 @@ impl Window {
         ensures { IfOk result (λ window. window ≡ self.now) }
     {
         Ok(Window {
-            maps: copied(alloc, from_index(&self.maps, self.past))?,
-            sums: copied_sums(alloc, from_index(&self.sums, self.past))?,
+            maps: copy_maps(alloc, from_index(&self.maps, self.past))?,
+            sums: copy_sums(alloc, from_index(&self.sums, self.past))?,
             past: 0,
         })
     }

@@ -23,7 +23,7 @@ loop-granted-preserved c =
     elim c.match-found.branch [
       | in-Some w ↦
           w.accounts-is
-          ∙ ap (set c.loop-granted.accounts w.in-Some.place) (w.lessened_by.ensures ∙ ap (less_by granted.words) w.index-accounts-place.is)
+          ∙ ap (set c.loop-granted.accounts w.in-Some.place) (w.deduct_words.ensures ∙ ap (less_by granted.words) w.index-accounts-place.is)
           ∙ change_at (less_by granted.words) (λ a. refl) granted.alloc_id c.loop-granted.accounts w.in-Some.place w.index-accounts-place.result (rw c.loop-granted.invariant (lessened_rising done book c.requires)) (search rules)
           ∙ ap (changing (less_by granted.words) granted.alloc_id) c.loop-granted.invariant ∙ all
       | in_default w ↦

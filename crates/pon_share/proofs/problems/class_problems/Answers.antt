@@ -19,7 +19,7 @@ returns c =
       na_items = na_items;
       be_ids = c.in_ok-be.ensures.ids ∙ ids_demanded s BestEffort _ be;
       be_items = be_items;
-      surplus = c.surplus-surplus.ensures;
-      na_problem = rw (na_items, c.surplus-surplus.ensures) (problem_of s NonAssured (surplus s) refl k.few_allocs k.in_range (surplus_range s));
-      be_problem = rw (be_items, c.surplus-surplus.ensures) (problem_of s BestEffort (surplus s) refl k.few_allocs k.in_range (surplus_range s));
+      surplus = c.surplus_of-surplus.ensures;
+      na_problem = rw (na_items, c.surplus_of-surplus.ensures) (problem_of s NonAssured (surplus s) refl k.few_allocs k.in_range (surplus_range s));
+      be_problem = rw (be_items, c.surplus_of-surplus.ensures) (problem_of s BestEffort (surplus s) refl k.few_allocs k.in_range (surplus_range s));
     }

@@ -7,8 +7,8 @@ map_cert-requires-clause-non_assured c = rw c.as_slice.ensures.value c.in_ok-dem
 pub map_cert-requires-clause-best_effort : goal.map_cert-requires-clause-best_effort
 map_cert-requires-clause-best_effort c = rw c.as_slice-2.ensures.value c.in_ok-demands.ensures.be_problem
 
-pub grants-requires-clause-certified : goal.grants-requires-clause-certified
-grants-requires-clause-certified c =
+pub grants_of-requires-clause-certified : goal.grants_of-requires-clause-certified
+grants_of-requires-clause-certified c =
     certified_under c.args.input.now c.in_ok-demands.field-0 c.in_ok-cert.cert c.in_ok-demands.ensures
     (rw (← c.as_slice.ensures.value, ← c.as_slice-2.ensures.value) c.in_ok-cert.ensures)
 

@@ -1,0 +1,13 @@
+//! Tests of recordings: the reader, the writer and the audit.
+//!
+//! They are in a crate above those that they test, so that each of these is proved once.
+#![tactic(auto)]
+
+#[cfg(test)]
+mod audit;
+#[cfg(test)]
+mod reading;
+#[cfg(test)]
+mod recordings;
+#[cfg(test)]
+mod writing;

@@ -1,0 +1,7 @@
+//! Tests of ports that are served over sockets, in threads.
+//!
+//! They are in a crate above the one that they test, so that it is proved once.
+#![tactic(auto)]
+
+#[cfg(test)]
+mod running;

@@ -1,0 +1,10 @@
+use Rattle.std.proofs.Common.{◌≡◌, ◌≤◌, length, vec_capacity, vec_len}
+use Rattle.pon_share.proofs.Dealing.{Dealt}
+use Rattle.pon_share.proofs.grants.grants_of.Given as goal
+
+abbrev pub invariant-loop-demand : goal.invariant-loop-demand
+invariant-loop-demand l = record {
+  dealt : Dealt l.input l.cert l.demand-index l.grants.items l.na l.be;
+  count : vec_len l.grants ≡ l.demand-index;
+  room : length l.demands ≤ vec_capacity l.grants;
+}
