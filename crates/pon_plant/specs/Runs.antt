@@ -18,8 +18,8 @@ with_entries es c = record { number = c.number; opening = c.opening; entries = c
 abbrev pub chapter_after : List Chapter → ℕ → List Step → List (Result Reply StepFault) → Option Chapter
 chapter_after old port steps answers = option_map (with_entries (accepted port steps answers)) (slice_get old port)
 
--- steps taken one after another: each has an answer, that of its port in the state that the accepted steps before it
--- leave there, and each port has the chapter that its own steps leave
+-- steps taken one after another: its port answers each of them in the state that the accepted steps before it leave
+-- there, and each port has the chapter that its own steps leave
 pub record Ran (old : List Chapter) (steps : List Step) (answers : List (Result Reply StepFault)) (new : List Chapter) : Type 0 where
   pub one_each : length answers ≡ length steps
   pub answered : (k : ℕ) (step : Step) (answer : Result Reply StepFault) → slice_get steps k ≡ Some step → slice_get answers k ≡ Some answer

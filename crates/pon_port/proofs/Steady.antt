@@ -55,7 +55,7 @@ short_window s es =
     let kept : List WindowMap = filter (λ m. nat_le (frame_at_last (λ e. forgets e.event) 0 s.next es) m.frame) (all_maps s es) in
     omega (arith, length-drop (length kept - 64) kept)
 
--- a property of each map of the window after an entry, from that of the maps before and of the map that the entry makes
+-- a property holds for each map of the window after an entry if it does for the maps before and for the entry's own map
 pub window_all : (P : WindowMap → Type 0) (s : State) (e : Entry) → All (λ m. P (with_reports (e ∷ []) m)) s.window →
     (makes_map e.event ≡ true → P (with_reports [] (new_map s.roster s.next e.reply))) → All P (window_of s (e ∷ []))
 window_all P s e old new =
