@@ -1,6 +1,6 @@
 //! A map of the window.
 
-ghost use Rattle.std.specs.Prelude.{◌≡◌, ◌≤◌, ◌==◌, nat_lt, not, true, false, drop, filter, take, length, IfOk, OnOk, OnErr};
+ghost use Rattle.std.specs.Prelude.{◌≡◌, ◌≤◌, ◌==◌, [], nat_lt, not, true, false, drop, filter, take, length, IfOk, OnOk, OnErr};
 ghost use Rattle.std.specs.List.{list_any, position, position_or_len};
 ghost use Rattle.pon_units.specs.Granted.{AreInMapOrder};
 ghost use Rattle.pon_lists.specs.Order.{AreRising, with_number};
@@ -107,6 +107,17 @@ fn add_onu(onus: &mut Vec<OnuId>, onu: OnuId) -> Result<(), AllocError>
 impl WindowMap {
     ghost use Rattle.pon_window.specs.Window.{onus_polled};
     ghost use Rattle.pon_window.specs.Reports.{with_report};
+
+    /// A map of no grants.
+    pub(crate) fn empty(alloc: Global, frame: FrameNo) -> WindowMap
+        ensures { result ≡ record { frame = frame; grants = []; reported = [] } }
+    {
+        WindowMap {
+            frame,
+            grants: Vec::new(alloc),
+            reported: Vec::new(alloc),
+        }
+    }
 
     /// Frame of the map.
     pub fn frame(&self) -> FrameNo

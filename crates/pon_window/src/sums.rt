@@ -1,6 +1,6 @@
 //! Running sums beside the window: the words granted since a map are the difference of two of them.
 
-ghost use Rattle.std.specs.Prelude.{◌≡◌, ◌≤◌, ◌^◌, ◌<◌, All, IfOk, IfSome, Some, length, position, sum_by, List, ℕ};
+ghost use Rattle.std.specs.Prelude.{◌≡◌, ◌≤◌, ◌^◌, ◌<◌, [], All, IfOk, IfSome, Some, length, position, sum_by, List, ℕ};
 ghost use Rattle.pon_units.specs.Granted.{AreInMapOrder};
 ghost use Rattle.pon_window.specs.Window.{IsLawfulMap, words_to};
 ghost use Rattle.pon_window.specs.Sums.{AreSummed, is_to, sum_before, sum_behind, sum_now, sums_beside};
@@ -25,6 +25,15 @@ impl Model for MapSums {
 }
 
 impl MapSums {
+    /// The sums of a map of no grants.
+    pub(crate) fn empty(alloc: Global) -> MapSums
+        ensures { result ≡ [] }
+    {
+        MapSums {
+            before: Vec::new(alloc),
+        }
+    }
+
     /// Makes equal sums. `Err` only if memory is refused.
     pub(crate) fn try_copy(&self, alloc: Global) -> Result<MapSums, AllocError>
         ensures { IfOk result (λ sums. sums ≡ self.now) }

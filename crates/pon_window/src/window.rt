@@ -87,6 +87,16 @@ fn past_after(past: usize, len: usize) -> usize
     if len < MOST_MAPS { past } else { past + 1 }
 }
 
+// Replaces the element at an index by an empty one, if it is before the window, so that its memory is released.
+fn release<T: Drop>(items: &mut Vec<T>, oldest: usize, past: usize, empty: T)
+    ensures window { drop past items.new.items ≡ drop past items.old.items }
+    ensures len { length items.new.items ≡ length items.old.items }
+{
+    if oldest < past && oldest < items.len() {
+        items[oldest] = empty;
+    }
+}
+
 // Drops the maps before an index with their sums if they are [`MOST_MAPS`] or more, and returns the index that is left.
 fn drop_past(maps: &mut Vec<WindowMap>, sums: &mut Vec<MapSums>, past: usize) -> usize
     requires within { past ≤ length maps.old.items }
@@ -214,6 +224,9 @@ impl Window {
             reported,
         });
         self.sums.push_reserved(next);
+        let oldest = self.past;
+        release(&mut self.maps, oldest, past, WindowMap::empty(alloc, frame));
+        release(&mut self.sums, oldest, past, MapSums::empty(alloc));
         self.past = drop_past(&mut self.maps, &mut self.sums, past);
         Ok(())
     }

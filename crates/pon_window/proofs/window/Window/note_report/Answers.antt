@@ -1,4 +1,4 @@
-use Rattle.std.proofs.Common.{◌≡◌, ◌∙◌, ap, arith, drop, length, map, rules, sym}
+use Rattle.std.proofs.Common.{◌≡◌, ◌∙◌, arith, drop, length, map, rules, sym}
 use Rattle.std.proofs.lemmas.List.{length-map}
 use Rattle.pon_lists.proofs.Parts.{written}
 use Rattle.pon_window.specs.Reports.{with_report}
