@@ -1,6 +1,6 @@
 -- The rules of the structures of a bandwidth map (ITU-T G.987.3): the first has a start, each start is in the frame,
 -- and no series (a structure with a start and those after it without one) is longer than 16.
-use Rattle.std.specs.Prelude.{◌≡◌, ℕ, zero, suc, ◌+◌, ◌<◌, ◌≤◌, ◌==◌, Bool, true, false, List, length, nat_lt, nat_le, if◌then◌else◌, Option, Some, None, is_none, option_and_then, slice_get}
+use Rattle.std.specs.Prelude.{◌≡◌, ℕ, zero, suc, ◌+◌, ◌<◌, ◌≤◌, ◌==◌, Bool, true, false, List, length, nat_le, if◌then◌else◌, Option, Some, None, is_none, option_and_then, slice_get}
 use Rattle.pon_units.specs.declared.limits.TheConstants.{FRAME_WORDS, LONGEST_SERIES, MOST_STRUCTURES}
 use Rattle.pon_bwmap.specs.Alloc.{Alloc}
 use Rattle.pon_bwmap.specs.declared.fault.MapFault.{MapFault}

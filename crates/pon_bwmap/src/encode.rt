@@ -1,6 +1,7 @@
 ghost use Rattle.std.specs.Prelude.{◌≡◌, ◌+◌, ◌*◌, ◌<◌, ◌≤◌, ◌^◌, ℕ, List, ◌++◌, length, take, drop, IfOk};
 ghost use Rattle.pon_bwmap.specs.MapBytes.{map_bytes, structure_bytes, structure_payload};
 ghost use Rattle.pon_bwmap.specs.MapReading.{ReadsMap};
+ghost use Rattle.pon_hec.specs.HeaderCode.{sealed};
 
 use crate::alloc::Alloc;
 use crate::map::Map;
@@ -56,7 +57,16 @@ fn head(count: usize) -> HLend
 fn structure(row: &Alloc) -> [u8; 8]
     ensures { result ≡ structure_bytes row.now }
 {
-    seal64(payload(row)).to_be_bytes()
+    structure_word(row).to_be_bytes()
+}
+
+// Returns the word of a structure, with its header code. It is not inlined: the compiler swaps the bytes of a result with
+// one instruction, and those of a sum that it sees with 25.
+#[inline(never)]
+fn structure_word(row: &Alloc) -> u64
+    ensures { result ≡ sealed (structure_payload row.now) }
+{
+    seal64(payload(row))
 }
 
 fn payload(row: &Alloc) -> u64

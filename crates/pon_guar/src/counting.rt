@@ -8,7 +8,7 @@ ghost use Rattle.pon_guar.specs.Reports.{after_occupancies, counting, taking};
 ghost use Rattle.pon_guar.specs.Loads.{afresh};
 
 use crate::account::{Account, Counted, index_near};
-use crate::deduction::words_left;
+use crate::deduction::{hint_at, words_left};
 use pon_units::{AllocId, BufOcc, FrameNo, OnuId};
 use pon_window::{Window, WindowMap};
 
@@ -36,32 +36,30 @@ fn with_report(account: Account, report: Counted) -> Account
     }
 }
 
-// Counts a report in the account of its Alloc-ID, and returns the index of the account, or the hint if there is none.
-// The account is found with no search if the hint is its index.
-fn count(accounts: &mut [Account], hint: usize, alloc_id: AllocId, report: Counted) -> usize
+// Counts a report in the account of its Alloc-ID, if there is one. The account is found with no search if the hint is its
+// index.
+fn count(accounts: &mut [Account], hint: usize, alloc_id: AllocId, report: Counted)
     requires { AreRising (alloc_ids accounts.old) }
     ensures { accounts.new ≡ counting alloc_id report accounts.old }
 {
     match index_near(accounts, hint, alloc_id) {
-        None => hint,
-        Some(place) => {
-            accounts[place] = with_report(accounts[place], report);
-            place
-        }
+        None => {}
+        Some(place) => accounts[place] = with_report(accounts[place], report),
     }
 }
 
 // Counts an ONU's report for the map at an index of the window: each occupancy reduced by what the maps from that one
-// on granted. The hint of each account is the index after that of the previous one: an ONU's Alloc-IDs are often
-// neighbours.
+// on granted. `places` has a hint for the index of the account of each grant of a map. Returns the index after the
+// grants of the ONU in the map.
 fn count_occupancies(
     accounts: &mut [Account],
+    places: &[usize],
     asked: &WindowMap,
     window: &Window,
     place: usize,
     onu: OnuId,
     occupancies: &[Option<BufOcc>],
-)
+) -> usize
     requires rising { AreRising (alloc_ids accounts.old) }
     requires asked { IsLawfulMap asked.now }
     requires place { place ≤ length window.now }
@@ -70,28 +68,30 @@ fn count_occupancies(
         (filter (λ g. g.onu == onu) asked.now.grants) occupancies.now accounts.old }
 {
     let frame = asked.frame();
-    let series = asked.placed_series(onu);
+    let series = asked.series(window.next_hint(), onu);
     let mut index = series.first;
-    let mut near = 0;
     for (granted, occupancy) in series.grants.iter().zip(occupancies) {
         if let Some(reported) = *occupancy {
             let granted_since = window.words_since(place, index, onu, granted.alloc_id);
             let words = words_left(reported, granted_since);
-            near = count(accounts, near, granted.alloc_id, Counted { frame, words });
+            let hint = hint_at(places, index);
+            count(accounts, hint, granted.alloc_id, Counted { frame, words });
         }
         index = index.wrapping_add(1);
-        near = near.wrapping_add(1);
     }
+    index
 }
 
-/// Counts an ONU's report for the map of a frame that is in the window.
+/// Counts an ONU's report for the map of a frame that is in the window. `places` has a hint for the index of the account
+/// of each grant of a map. Returns the index after the grants of the ONU in the map, where the next reporter's may begin.
 pub(crate) fn count_report(
     accounts: &mut [Account],
+    places: &[usize],
     window: &Window,
     frame: FrameNo,
     onu: OnuId,
     occupancies: &[Option<BufOcc>],
-)
+) -> usize
     requires rising { AreRising (alloc_ids accounts.old) }
     requires there { list_any (is_of frame) window.now ≡ true }
     ensures { accounts.new ≡ after_occupancies (λ i. words_to_from onu i frame window.now) frame
@@ -102,7 +102,15 @@ pub(crate) fn count_report(
         None => unreachable!(),
     };
     let maps = window.maps();
-    count_occupancies(accounts, &maps[place], window, place, onu, occupancies);
+    count_occupancies(
+        accounts,
+        places,
+        &maps[place],
+        window,
+        place,
+        onu,
+        occupancies,
+    )
 }
 
 /// Drops the reports that count; later reports count from a frame on.

@@ -185,19 +185,23 @@ impl Loads {
         Ok(())
     }
 
-    /// Adds a map as [`Loads::mapped`] does, and keeps these grants. `Err` only if memory is refused, and then nothing
-    /// changes.
-    pub fn add_map(&mut self, frame: FrameNo, grants: Vec<Granted>) -> Result<(), AllocError>
+    /// Adds a map as [`Loads::mapped`] does, and keeps these grants. Returns a vector for the grants of a later map, as
+    /// [`Window::add`] does. `Err` only if memory is refused, and then nothing changes.
+    pub fn add_map(
+        &mut self,
+        frame: FrameNo,
+        grants: Vec<Granted>,
+    ) -> Result<Vec<Granted>, AllocError>
         requires next { AreConsecutive frame self.old.window }
         requires map_order { AreInMapOrder grants.items }
         ensures ok { OnOk result (self.new ≡ after_mapped self.old frame grants.items) }
         ensures err { OnErr result (self.new ≡ self.old) }
     {
         self.places.resize(grants.len(), 0)?;
-        self.window.add(frame, grants)?;
+        let left = self.window.add(frame, grants)?;
         let latest = self.window.latest_grants();
         deduct_grants(&mut self.accounts, latest, &mut self.places);
-        Ok(())
+        Ok(left)
     }
 
     /// Returns the first check that refuses an ONU's report of `count` occupancies for the map of a frame: `StaleFrame`
@@ -249,7 +253,16 @@ impl Loads {
         ensures err { OnErr result (self.new ≡ self.old) }
     {
         self.window.note_report(frame, onu)?;
-        count_report(&mut self.accounts, &self.window, frame, onu, occupancies);
+        let accounts = &mut self.accounts;
+        let next = count_report(
+            accounts,
+            &self.places,
+            &self.window,
+            frame,
+            onu,
+            occupancies,
+        );
+        self.window.hint_next(next);
         Ok(())
     }
 

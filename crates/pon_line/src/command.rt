@@ -1,10 +1,11 @@
 //! The commands of management lines: what the words after the port request.
 
-ghost use Rattle.std.specs.Prelude.{◌≡◌, [], ◌∷◌, Ok, Err, MatchResult, codes, false};
+ghost use Rattle.std.specs.Prelude.{◌≡◌, [], ◌∷◌, Ok, Err, MatchOption, MatchResult, codes, false};
 ghost use Rattle.std.specs.Str.{bytes_eq};
 ghost use Rattle.pon_text.specs.Lines.{words_of};
 ghost use Rattle.pon_line.specs.Commands.{admit, admit_of, no_arguments, change, change_of, event_of, fail_of, remove, remove_of, report_of};
 ghost use Rattle.pon_line.specs.Reading.{request_of, shows, takes};
+ghost use Rattle.pon_line.specs.Parts.{IsOtherReading, asks_in};
 ghost use Rattle.pon_line.specs.Written.{rates_in};
 
 use crate::fault::LineFault;
@@ -13,7 +14,7 @@ use crate::fields::{
     onu_id_of, rate_fields,
 };
 use crate::occupancies::occupancy_fields;
-use crate::reading::Reading;
+use crate::reading::{FrameLine, Reading};
 use pon_dbru::Occupancies;
 use pon_descr::Refusal;
 use pon_event::Event;
@@ -258,5 +259,49 @@ pub(crate) fn request_of(port: usize, text: &[u8]) -> Reading
         shows(name.rest, Reading::AsksState { port })
     } else {
         event_request(port, &name)
+    }
+}
+
+// Returns the request for a map, or `None` if a word follows.
+fn map_line(port: usize, text: &[u8]) -> Option<FrameLine>
+    ensures { MatchOption result
+        (IsOtherReading (takes port (no_arguments Event.MakeMap (words_of text.now))))
+        (λ asked. (asked ≡ FrameLine.Map port) × (words_of text.now ≡ [])) }
+{
+    match first_word(text) {
+        None => Some(FrameLine::Map { port }),
+        Some(_) => None,
+    }
+}
+
+// Returns the report of the words after `report`, or `None` if they write none.
+fn report_line(port: usize, text: &[u8], occ: &mut Occupancies) -> Option<FrameLine>
+    requires { occ.old ≡ [] }
+    ensures { MatchOption result
+        (IsOtherReading (takes port (report_of (words_of text.now))))
+        (λ asked. takes port (report_of (words_of text.now)) ≡ asks_in asked occ.new) }
+{
+    match read_report(text, occ) {
+        Ok(Reporter { frame, onu }) => Some(FrameLine::Report { port, frame, onu }),
+        Err(_) => None,
+    }
+}
+
+/// Returns the request for a map or the report that the words after the port are, and appends the occupancies to the empty
+/// list; `None` for any other words.
+#[tactic(auto, unfolding(crate::specs::Reading::request_of, crate::specs::Commands::event_of))]
+pub(crate) fn frame_line_of(port: usize, text: &[u8], occ: &mut Occupancies) -> Option<FrameLine>
+    requires { occ.old ≡ [] }
+    ensures { MatchOption result
+        (IsOtherReading (request_of port (words_of text.now)))
+        (λ asked. request_of port (words_of text.now) ≡ asks_in asked occ.new) }
+{
+    let name = first_word(text)?;
+    if name.word == b"map".as_slice() {
+        map_line(port, name.rest)
+    } else if name.word == b"report".as_slice() {
+        report_line(port, name.rest, occ)
+    } else {
+        None
     }
 }

@@ -1,17 +1,35 @@
 //! What a management line requests of a port, or why it is refused.
 
-ghost use Rattle.std.specs.Prelude.{◌≡◌, ℕ, List, take};
+ghost use Rattle.std.specs.Prelude.{◌≡◌, [], ℕ, List, MatchOption, take};
 ghost use Rattle.std.specs.List.{list_all};
 ghost use Rattle.pon_line.specs.Reading.{read_line, port_of, is_text};
+ghost use Rattle.pon_line.specs.Parts.{IsOtherReading, asks_in, goes_on};
 
-use crate::command::request_of;
+use crate::command::{frame_line_of, request_of};
 use crate::fault::LineFault;
 use crate::fields::number_field;
+use pon_dbru::Occupancies;
 use pon_event::Event;
 use pon_text::{first_word, without_return};
+use pon_units::{FrameNo, OnuId};
 
 /// The greatest length of a line in bytes, including its carriage return.
 const LONGEST: usize = 4096;
+
+/// A line that each frame brings: a request for the next map, or a report, whose occupancies are in a list of the caller.
+#[derive(Clone, Copy, Debug, PartialEq, Eq)]
+pub enum FrameLine {
+    /// The line requests that the port make the next map.
+    Map {
+        port: usize,
+    },
+    /// The line brings the port a report of an ONU for the map of a frame.
+    Report {
+        port: usize,
+        frame: FrameNo,
+        onu: OnuId,
+    },
+}
 
 /// The result of reading a line.
 #[derive(Drop)]
@@ -58,6 +76,40 @@ fn is_text(line: &[u8]) -> bool
     all
 }
 
+// The front of a line: it requests nothing, or is refused, or it names a port and goes on after it.
+enum Front<'a> {
+    Nothing,
+    Refused(LineFault),
+    Names { port: usize, rest: &'a [u8] },
+}
+
+// Reads the front of a line.
+#[tactic(auto, unfolding(crate::specs::Reading::read_line))]
+fn front_of(ports: usize, line: &[u8]) -> Front<'_>
+    ensures { read_line ports line.now ≡ goes_on result }
+{
+    if line.len() > LONGEST {
+        return Front::Refused(LineFault::LineLong);
+    }
+    let line = without_return(line);
+    let Some(first) = first_word(line) else {
+        return Front::Nothing;
+    };
+    if first.word.first() == Some(&b'#') {
+        return Front::Nothing;
+    }
+    if !is_text(line) {
+        return Front::Refused(LineFault::NotText);
+    }
+    match port_of(ports, first.word) {
+        Err(fault) => Front::Refused(fault),
+        Ok(port) => Front::Names {
+            port,
+            rest: first.rest,
+        },
+    }
+}
+
 /// Reads a line for a number of ports. The line has no line feed; a carriage return at its end is dropped.
 ///
 /// `<port> admit <onu> <alloc> <fixed> <assured> <max> <class>` admits an Alloc-ID, `<port> change <alloc> <fixed>
@@ -75,26 +127,28 @@ fn is_text(line: &[u8]) -> bool
 /// `WordCount` if the command takes more or fewer words; `BadField` at the first word that is no number, no class, no
 /// occupancy or no cause;
 /// `AllocRange` outside 1024 to 16383, `OnuRange` above 1022, and what [`Descriptor::new`] refuses.
-#[tactic(auto, unfolding(crate::specs::Reading::read_line))]
 pub fn read_line(ports: usize, line: &[u8]) -> Reading
     ensures { result ≡ read_line ports line.now }
 {
-    if line.len() > LONGEST {
-        return Reading::Refused(LineFault::LineLong);
+    match front_of(ports, line) {
+        Front::Nothing => Reading::Nothing,
+        Front::Refused(fault) => Reading::Refused(fault),
+        Front::Names { port, rest } => request_of(port, rest),
     }
-    let line = without_return(line);
-    let Some(first) = first_word(line) else {
-        return Reading::Nothing;
-    };
-    if first.word.first() == Some(&b'#') {
-        return Reading::Nothing;
-    }
-    if !is_text(line) {
-        return Reading::Refused(LineFault::NotText);
-    }
-    match port_of(ports, first.word) {
-        Err(fault) => Reading::Refused(fault),
-        Ok(port) => request_of(port, first.rest),
+}
+
+/// Reads a line that requests a map or brings a report, of which it appends the occupancies to the empty list. `None` for
+/// any other line, and for one that is refused: then [`read_line`] reads it. An event is large, so these lines, which come
+/// in each frame, are read without one.
+pub fn read_frame_line(ports: usize, line: &[u8], occ: &mut Occupancies) -> Option<FrameLine>
+    requires { occ.old ≡ [] }
+    ensures { MatchOption result
+        (IsOtherReading (read_line ports line.now))
+        (λ asked. read_line ports line.now ≡ asks_in asked occ.new) }
+{
+    match front_of(ports, line) {
+        Front::Names { port, rest } => frame_line_of(port, rest, occ),
+        Front::Nothing | Front::Refused(_) => None,
     }
 }
 

@@ -3,13 +3,15 @@
 ghost use Rattle.std.specs.Prelude.{◌≡◌, ◌<◌, ◌++◌, IfSome, IsSome, OnOk, OnErr, Some, length, slice_get};
 ghost use Rattle.pon_port.specs.Chapters.{present_state};
 ghost use Rattle.pon_port.specs.Last.{last_map};
+ghost use Rattle.pon_line.specs.Parts.{asks_in};
 ghost use Rattle.pon_line.specs.Reading.{AsksWithin};
 ghost use Rattle.pon_manage.specs.Text.{AddsAnswer, cert_line, last_reply, state_line};
 
 use crate::show::{append_shown, shown_of};
 use crate::texts::{append_cert, append_refusal, append_reply};
+use pon_dbru::Occupancies;
 use pon_descr::Refusal;
-use pon_line::{LineFault, Reading};
+use pon_line::{FrameLine, LineFault, Reading};
 use pon_plant::{Plant, Step, StepFault};
 use pon_port::{Event, Port, Reply};
 use pon_units::{MOST_PORTS, PortNo};
@@ -41,10 +43,19 @@ fn last_reply(plant: &Plant, port: PortNo) -> &Reply
     }
 }
 
+// Returns the number of the port at an index.
+fn port_no(plant: &Plant, place: usize) -> PortNo
+    requires { place < length plant.now }
+    ensures { result ≡ place }
+{
+    prove!(plant.count() <= MOST_PORTS);
+    PortNo::at(place)
+}
+
 // Passes an event to a port, and appends its reply or its refusal.
 fn answer_event(
     plant: &mut Plant,
-    port: PortNo,
+    port: usize,
     event: Event,
     room: &mut Vec<u8>,
     replies: &mut Vec<u8>,
@@ -54,6 +65,7 @@ fn answer_event(
         plant.new replies.old.items replies.new.items) }
     ensures err { OnErr result (replies.new.items ≡ replies.old.items) }
 {
+    let port = port_no(plant, port);
     let index = kept_entries(plant, port);
     match plant.keep(Step { port, event }) {
         Ok(()) => append_reply(replies, room, index, last_reply(plant, port)),
@@ -86,15 +98,6 @@ fn show_state(port: &Port, replies: &mut Vec<u8>) -> Result<(), AllocError>
     append_shown(replies, &shown_of(port.state()))
 }
 
-// Returns the number of the port at an index.
-fn port_no(plant: &Plant, place: usize) -> PortNo
-    requires { place < length plant.now }
-    ensures { result ≡ place }
-{
-    prove!(plant.count() <= MOST_PORTS);
-    PortNo::at(place)
-}
-
 // Returns the port at an index.
 fn port_at(plant: &Plant, place: usize) -> &Port
     requires { place < length plant.now }
@@ -122,11 +125,31 @@ pub(crate) fn answer(
     match reading {
         Reading::Nothing => Ok(()),
         Reading::Refused(fault) => append_refusal(replies, fault),
-        Reading::Asks { port, event } => {
-            let port = port_no(plant, port);
-            answer_event(plant, port, event, room, replies)
-        }
+        Reading::Asks { port, event } => answer_event(plant, port, event, room, replies),
         Reading::AsksCert { port } => show_cert(port_at(plant, port), replies),
         Reading::AsksState { port } => show_state(port_at(plant, port), replies),
+    }
+}
+
+/// Appends the text of a line that each frame brings, with the occupancies of its report; `room` is a buffer for the
+/// bytes of a map. `Err` as that of [`answer`].
+pub(crate) fn answer_frame_line(
+    plant: &mut Plant,
+    asked: FrameLine,
+    occ: Occupancies,
+    room: &mut Vec<u8>,
+    replies: &mut Vec<u8>,
+) -> Result<(), AllocError>
+    requires { AsksWithin (length plant.old) (asks_in asked occ) }
+    ensures ok { OnOk result (AddsAnswer plant.old (asks_in asked occ) plant.new
+        replies.old.items replies.new.items) }
+    ensures err { OnErr result (replies.new.items ≡ replies.old.items) }
+{
+    match asked {
+        FrameLine::Map { port } => answer_event(plant, port, Event::MakeMap, room, replies),
+        FrameLine::Report { port, frame, onu } => {
+            let event = Event::Report { frame, onu, occ };
+            answer_event(plant, port, event, room, replies)
+        }
     }
 }

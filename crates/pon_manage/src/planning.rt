@@ -8,10 +8,11 @@ ghost use Rattle.pon_manage.specs.Planning.{PlannedAfter};
 ghost use Rattle.pon_manage.specs.Text.{Gives};
 ghost use Rattle.pon_manage.specs.FirstBytes.{gives_first};
 
-use crate::answer::answer;
+use crate::answer::{answer, answer_frame_line};
 use crate::start::start;
+use pon_dbru::Occupancies;
 use pon_device::{DevRead, DevWrite};
-use pon_line::read_line;
+use pon_line::{read_frame_line, read_line};
 use pon_plant::{Plant, Step};
 use pon_port::PortCfg;
 use pon_session::{Answers, PlanEnd, answer_input};
@@ -40,8 +41,19 @@ impl Answers for AtPlant {
     ghost gives = { Gives };
 
     fn answer_line(&mut self, line: &[u8], replies: &mut Vec<u8>) -> Result<(), AllocError> {
-        let reading = read_line(self.plant.count(), line);
-        answer(&mut self.plant, reading, &mut self.room, replies)
+        let ports = self.plant.count();
+        let mut occ = Occupancies::new();
+        match read_frame_line(ports, line, &mut occ) {
+            Some(asked) => {
+                answer_frame_line(&mut self.plant, asked, occ, &mut self.room, replies)
+            }
+            None => answer(
+                &mut self.plant,
+                read_line(ports, line),
+                &mut self.room,
+                replies,
+            ),
+        }
     }
 
     ghost reads_first = { gives_first };

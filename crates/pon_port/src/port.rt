@@ -6,6 +6,7 @@ ghost use Rattle.pon_state.specs.Replay.{makes_map};
 use crate::chapter::Chapter;
 use pon_descr::Refusal;
 use pon_event::Event;
+use pon_share::Room;
 use pon_state::{
     Entry, MadeMap, PortCfg, PortState, ReadyMap, Reply, add_map, in_range, next_map, refusal_of,
     step,
@@ -28,6 +29,7 @@ pub struct Port {
     last: Option<usize>,
     na: Vec<AllocId>,
     be: Vec<AllocId>,
+    room: Room,
 }
 
 impl Model for Port {
@@ -72,6 +74,7 @@ impl Port {
             last: None,
             na: Vec::new(alloc),
             be: Vec::new(alloc),
+            room: Room::open(alloc),
         })
     }
 
@@ -140,15 +143,16 @@ impl Port {
     }
 
     // Makes the next map.
-    fn ready_map(&self) -> Result<ReadyMap, Refusal>
-        ensures ready { IfOk result (λ next. IsReady (present_state self.now) next) }
-        ensures accepted { OnOk result (refusal_of self.now Event.MakeMap ≡ None) }
-        ensures refused { IfErr result (λ told. IsTold (refusal_of self.now Event.MakeMap) told) }
+    fn ready_map(&mut self) -> Result<ReadyMap, Refusal>
+        ensures ready { IfOk result (λ next. IsReady (present_state self.old) next) }
+        ensures accepted { OnOk result (refusal_of self.old Event.MakeMap ≡ None) }
+        ensures refused { IfErr result (λ told. IsTold (refusal_of self.old Event.MakeMap) told) }
+        ensures same { self.new ≡ self.old }
     {
         if let Some(refusal) = refusal_of(&self.state, self.entries.len(), &Event::MakeMap) {
             return Err(refusal);
         }
-        match next_map(*self.entries.allocator(), &self.state) {
+        match next_map(*self.entries.allocator(), &mut self.room, &self.state) {
             Ok(next) => Ok(next),
             Err(_) => Err(Refusal::OutOfMemory),
         }
@@ -169,8 +173,12 @@ impl Port {
             na,
             be,
         } = next;
-        if self.entries.reserve(1).is_err() || add_map(&mut self.state, grants).is_err() {
+        if self.entries.reserve(1).is_err() {
             return Err(Refusal::OutOfMemory);
+        }
+        match add_map(&mut self.state, grants) {
+            Ok(left) => self.room.keep_grants(left),
+            Err(_) => return Err(Refusal::OutOfMemory),
         }
         self.last = Some(self.entries.len());
         self.na = na;

@@ -11,7 +11,7 @@ use pon_cert::Item;
 use pon_descr::{Class, Descriptor};
 use pon_guar::{cap, guaranteed};
 use pon_units::{AllocId, Kbps, OnuId};
-use std::alloc::{AllocError, Global};
+use std::alloc::AllocError;
 
 /// The demand of an admitted Alloc-ID on a map: its guaranteed rate in kbit/s, its class, and the weight and cap with
 /// which it shares the surplus of the class.
@@ -55,11 +55,13 @@ fn demand_of(input: &ShareInput, index: usize, row: &Row) -> Demand
     }
 }
 
-/// Computes the demand of each admitted Alloc-ID, in map order. `Err` only if memory is refused.
-pub(crate) fn demands_of(alloc: Global, input: &ShareInput) -> Result<Vec<Demand>, AllocError>
+/// Computes the demand of each admitted Alloc-ID, in map order, in the memory of `room`. `Err` only if memory is refused.
+pub(crate) fn demands_of(room: Vec<Demand>, input: &ShareInput) -> Result<Vec<Demand>, AllocError>
     ensures { IfOk result (λ found. found.items ≡ demands_of input.now) }
 {
-    let mut found = Vec::with_capacity(alloc, input.roster.rows().len())?;
+    let mut found = room;
+    found.clear();
+    found.reserve(input.roster.rows().len())?;
     for row in input.roster.rows() {
         found.push_reserved(demand_of(input, found.len(), row));
     }

@@ -13,7 +13,7 @@ use crate::input::ShareInput;
 use pon_cert::{Item, Level, MOST_ITEMS, MapCert};
 use pon_descr::Class;
 use pon_units::{Granted, LINE_RATE, WORD_RATE, Words, whole};
-use std::alloc::{AllocError, Global};
+use std::alloc::AllocError;
 
 // Computes the whole kbit/s of the surplus rate that a level gives to an item.
 fn share(level: &Level, item: &Item, saturated: bool) -> u64
@@ -67,9 +67,9 @@ fn first_flag(saturated: &[bool]) -> (bool, &[bool])
     }
 }
 
-/// Computes the grant of each admitted Alloc-ID, in map order. `Err` only if memory is refused.
+/// Computes the grant of each admitted Alloc-ID, in map order, in the memory of `room`. `Err` only if memory is refused.
 pub(crate) fn grants_of(
-    alloc: Global,
+    room: Vec<Granted>,
     input: &ShareInput,
     demands: &[Demand],
     cert: &MapCert,
@@ -80,7 +80,9 @@ pub(crate) fn grants_of(
     ensures { IfOk result (λ grants. grants.items
         ≡ granted input.now (surplus_rate input.now cert.now)) }
 {
-    let mut grants = Vec::with_capacity(alloc, demands.len())?;
+    let mut grants = room;
+    grants.clear();
+    grants.reserve(demands.len())?;
     let mut na = cert.na.saturated.as_slice();
     let mut be = cert.be.saturated.as_slice();
     for demand in demands {

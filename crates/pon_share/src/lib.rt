@@ -2,7 +2,8 @@
 //! Alloc-ID, the fair share of what is not guaranteed, the payload words of each, and the structures that grant them.
 //!
 //! [`share`] is a function of a [`ShareInput`], and nothing else. It allocates its result and, while it runs, the
-//! demands and items of its input and a scratch buffer for each class.
+//! items of its input and a scratch buffer for each class; a [`Room`] keeps the memory of demands and grants for the next
+//! call.
 #![tactic(auto)]
 
 mod demand;
@@ -10,11 +11,13 @@ mod grants;
 mod input;
 mod packing;
 mod problems;
+mod room;
 mod shares;
 mod sharing;
 
 pub use input::ShareInput;
 pub use packing::pack_grants;
 pub use problems::{Problems, class_problems, grants_under};
+pub use room::Room;
 pub use shares::{Shares, share};
 pub use sharing::Members;

@@ -30,7 +30,19 @@ pub fn class_problems(alloc: Global, input: &ShareInput) -> Result<Problems, All
     requires admitted { IsAdmitted input.now.rule input.now.gap input.now.roster }
     ensures { IfOk result (λ problems. AreProblems input.now problems) }
 {
-    let demands = demands_of(alloc, input)?;
+    problems_in(alloc, Vec::new(alloc), input)
+}
+
+/// Makes the class problems of the next map, with the demands in the memory of `room`. `Err` only if memory is refused.
+pub(crate) fn problems_in(
+    alloc: Global,
+    room: Vec<Demand>,
+    input: &ShareInput,
+) -> Result<Problems, AllocError>
+    requires admitted { IsAdmitted input.now.rule input.now.gap input.now.roster }
+    ensures { IfOk result (λ problems. AreProblems input.now problems) }
+{
+    let demands = demands_of(room, input)?;
     let na = class_members(alloc, demands.as_slice(), Class::NonAssured)?;
     let be = class_members(alloc, demands.as_slice(), Class::BestEffort)?;
     let surplus = surplus_of(input, demands.as_slice());
@@ -56,5 +68,5 @@ pub fn grants_under(
     ensures { IfOk result (λ grants. grants.items
         ≡ granted input.now (surplus_rate input.now cert.now)) }
 {
-    grants_of(alloc, input, problems.demands.as_slice(), cert)
+    grants_of(Vec::new(alloc), input, problems.demands.as_slice(), cert)
 }

@@ -8,7 +8,8 @@ ghost use Rattle.pon_share.specs.Sharing.{IsCertified, member_ids, surplus_rate}
 
 use crate::grants::grants_of;
 use crate::input::ShareInput;
-use crate::problems::{Problems, class_problems};
+use crate::problems::{Problems, problems_in};
+use crate::room::Room;
 use crate::sharing::map_cert;
 use pon_cert::MapCert;
 use pon_units::{AllocId, Granted};
@@ -25,8 +26,8 @@ pub struct Shares {
 }
 
 /// Computes the shares of the next map: guaranteed rates by the reference model, the fairest share of the rest class by
-/// class, and the whole words of both rates. `Err` only if memory is refused.
-pub fn share(alloc: Global, input: &ShareInput) -> Result<Shares, AllocError>
+/// class, and the whole words of both rates. `room` is memory for demands and grants. `Err` only if memory is refused.
+pub fn share(alloc: Global, room: &mut Room, input: &ShareInput) -> Result<Shares, AllocError>
     requires admitted { IsAdmitted input.now.rule input.now.gap input.now.roster }
     ensures certified { IfOk result (λ shares. IsCertified input.now shares.cert) }
     ensures grants { IfOk result (λ shares. shares.grants.items
@@ -39,9 +40,10 @@ pub fn share(alloc: Global, input: &ShareInput) -> Result<Shares, AllocError>
         na,
         be,
         surplus,
-    } = class_problems(alloc, input)?;
+    } = problems_in(alloc, room.take_demands(alloc), input)?;
     let cert = map_cert(alloc, na.items.as_slice(), be.items.as_slice(), surplus)?;
-    let grants = grants_of(alloc, input, demands.as_slice(), &cert)?;
+    let grants = grants_of(room.take_grants(alloc), input, demands.as_slice(), &cert)?;
+    room.keep_demands(demands);
     Ok(Shares {
         cert,
         grants,

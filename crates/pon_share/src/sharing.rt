@@ -72,6 +72,11 @@ pub(crate) fn class_members(
         ≡ map (λ d. d.item) (filter (λ d. same_class d.class class) demands.now)) }
 {
     let count = member_count(demands, class);
+    if count == 0 {
+        let ids = Vec::new(alloc);
+        let items = Vec::new(alloc);
+        return Ok(Members { ids, items });
+    }
     let mut ids = Vec::with_capacity(alloc, count)?;
     let mut items = Vec::with_capacity(alloc, count)?;
     for demand in demands {

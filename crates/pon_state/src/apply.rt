@@ -20,9 +20,10 @@ use pon_event::Event;
 use pon_units::{AllocId, FrameNo, Granted, OnuId};
 use std::alloc::AllocError;
 
-/// Updates the state by a map of the next frame, of which it keeps the grants. `Err` only if memory is refused, and then
+/// Updates the state by a map of the next frame, of which it keeps the grants. Returns a vector for the grants of a later
+/// map, with the memory of those of the map that left the window, if one did. `Err` only if memory is refused, and then
 /// the state is unchanged.
-pub fn add_map(state: &mut PortState, grants: Vec<Granted>) -> Result<(), AllocError>
+pub fn add_map(state: &mut PortState, grants: Vec<Granted>) -> Result<Vec<Granted>, AllocError>
     requires map_order { AreInMapOrder grants.items }
     requires frames { AreConsecutive state.old.next state.old.window }
     requires next { state.old.next + 1 < 2 ^ 64 }
@@ -30,10 +31,10 @@ pub fn add_map(state: &mut PortState, grants: Vec<Granted>) -> Result<(), AllocE
     ensures ok { OnOk result (state.new ≡ after_map state.old grants.items) }
     ensures err { OnErr result (state.new ≡ state.old) }
 {
-    state.loads.add_map(state.next, grants)?;
+    let left = state.loads.add_map(state.next, grants)?;
     state.next = FrameNo::new(state.next.get() + 1);
     state.taken_before += 1;
-    Ok(())
+    Ok(left)
 }
 
 // Admits a row that no check refuses. `Err` only if memory is refused, and then the state is unchanged.

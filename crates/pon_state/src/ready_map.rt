@@ -15,7 +15,7 @@ use crate::reply::MadeMap;
 use crate::state::PortState;
 use pon_bwmap::Map;
 use pon_cert::MapCert;
-use pon_share::{Problems, ShareInput, class_problems, grants_under, pack_grants, share};
+use pon_share::{Problems, Room, ShareInput, class_problems, grants_under, pack_grants, share};
 use pon_units::{AllocId, Granted};
 use std::alloc::{AllocError, Global};
 
@@ -28,8 +28,9 @@ pub struct ReadyMap {
     pub be: Vec<AllocId>,
 }
 
-/// Makes the map of the state's next frame, with its certificate. `Err` only if memory is refused.
-pub fn next_map(alloc: Global, state: &PortState) -> Result<ReadyMap, AllocError>
+/// Makes the map of the state's next frame, with its certificate. `room` is memory for its shares and its grants. `Err`
+/// only if memory is refused.
+pub fn next_map(alloc: Global, room: &mut Room, state: &PortState) -> Result<ReadyMap, AllocError>
     requires admitted { IsAdmitted state.now.rule state.now.gap state.now.roster }
     ensures made { IfOk result (λ next. IsMade state.now next.made) }
     ensures map_order { IfOk result (λ next. AreInMapOrder next.grants.items) }
@@ -38,7 +39,7 @@ pub fn next_map(alloc: Global, state: &PortState) -> Result<ReadyMap, AllocError
     ensures na { IfOk result (λ next. next.na.items ≡ member_ids NonAssured state.now.roster) }
     ensures be { IfOk result (λ next. next.be.items ≡ member_ids BestEffort state.now.roster) }
 {
-    let shares = share(alloc, &ShareInput::new(&state.roster, &state.loads))?;
+    let shares = share(alloc, room, &ShareInput::new(&state.roster, &state.loads))?;
     let map = pack_grants(alloc, state.roster.gap(), state.profile, &shares.grants)?;
     let frame = state.next;
     let cert = shares.cert;

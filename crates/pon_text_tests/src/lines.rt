@@ -1,6 +1,8 @@
+use pon_dbru::Occupancies;
 use pon_descr::Refusal;
 use pon_event::Event;
-use pon_line::{LineFault, Reading, read_line};
+use pon_line::{FrameLine, LineFault, Reading, read_frame_line, read_line};
+use pon_units::{BufOcc, FrameNo, OnuId};
 
 fn fault_of(line: &[u8]) -> Option<LineFault> {
     match read_line(2, line) {
@@ -155,5 +157,40 @@ fn reads_each_command(rt: HostRuntime) {
     assert!(rt; asks_state);
     for (line, port) in [(b"00 map".as_slice(), 0), (b"\t 1 \t map \r".as_slice(), 1)] {
         assert_eq!(rt; port_of_map(line), Some(port), "at {line:?}");
+    }
+}
+
+fn frame_line(line: &[u8]) -> Option<FrameLine> {
+    read_frame_line(2, line, &mut Occupancies::new())
+}
+
+#[test]
+fn reads_the_lines_of_each_frame(rt: HostRuntime) {
+    let map = FrameLine::Map { port: 1 };
+    assert_eq!(rt; frame_line(b"1 map"), Some(map));
+    let mut occ = Occupancies::new();
+    let read = read_frame_line(2, b"0 report 7 5 9 x\r", &mut occ);
+    let report = FrameLine::Report {
+        port: 0,
+        frame: FrameNo::new(7),
+        onu: OnuId::new(5).unwrap(),
+    };
+    assert_eq!(rt; read, Some(report));
+    let wanted = [BufOcc::new(9), None];
+    assert_eq!(rt; occ.as_slice(), wanted.as_slice());
+}
+
+#[test]
+fn leaves_other_lines_and_refused_ones(rt: HostRuntime) {
+    for line in [
+        b"1 cert".as_slice(),
+        b"0 restore".as_slice(),
+        b"0 map x".as_slice(),
+        b"2 map".as_slice(),
+        b"0 report 7 5".as_slice(),
+        b"# map".as_slice(),
+        b"".as_slice(),
+    ] {
+        assert_eq!(rt; frame_line(line), None);
     }
 }

@@ -78,6 +78,29 @@ among_first u v xs vs h e =
       | inr g ↦ rw (le-ltb x u g) (All-cons (λ w. u ≤ w) x (filter (λ w. not (nat_lt w u)) xs) g (not_below u xs))
     ]
 
+-- All of a list in ascending order are below a number if the last is.
+
+above_last : (x y : ℕ) (xs : List ℕ) → All (λ v. x < v) (xs ++ y ∷ []) → x < y
+above_last x y [] h = All-head (λ v. x < v) y [] h
+above_last x y (v ∷ xs) h = above_last x y xs (All-tail (λ v. x < v) v (xs ++ y ∷ []) h)
+
+lesser_if_last : (u y : ℕ) (xs : List ℕ) → AreRising (xs ++ y ∷ []) → y < u → All (λ v. v < u) (xs ++ y ∷ [])
+lesser_if_last u y [] h l = All-cons (λ v. v < u) y [] l (All-nil (λ v. v < u))
+lesser_if_last u y (x ∷ xs) h l = All-cons (λ v. v < u) x (xs ++ y ∷ []) (let q : x < y = above_last x y xs h.0 in omega (arith, q, l)) (lesser_if_last u y xs h.1 l)
+
+pub all_lesser : (u y : ℕ) (xs ys : List ℕ) → AreRising xs → xs ≡ ys ++ y ∷ [] → y < u → All (λ v. v < u) xs
+all_lesser u y xs ys h e l = subst (All (λ v. v < u)) (sym e) (lesser_if_last u y ys (subst AreRising e h) l)
+
+pub lesser_kept : (u : ℕ) (xs : List ℕ) → All (λ v. v < u) xs → xs ≡ filter (λ v. nat_lt v u) xs
+lesser_kept u [] h = refl
+lesser_kept u (x ∷ xs) h = ap (λ t. x ∷ t) (lesser_kept u xs (All-tail (λ v. v < u) x xs h))
+    ∙ ap (λ b. cond b (x ∷ filter (λ v. nat_lt v u) xs) (filter (λ v. nat_lt v u) xs)) (sym (lt-ltb x u (All-head (λ v. v < u) x xs h)))
+
+pub lesser_left_out : (u : ℕ) (xs : List ℕ) → All (λ v. v < u) xs → [] ≡ filter (λ v. not (nat_lt v u)) xs
+lesser_left_out u [] h = refl
+lesser_left_out u (x ∷ xs) h = lesser_left_out u xs (All-tail (λ v. v < u) x xs h)
+    ∙ ap (λ b. cond (not b) (x ∷ filter (λ v. not (nat_lt v u)) xs) (filter (λ v. not (nat_lt v u)) xs)) (sym (lt-ltb x u (All-head (λ v. v < u) x xs h)))
+
 -- One more number, inserted in ascending order.
 
 none_lesser : (u : ℕ) (xs : List ℕ) → All (λ x. u < x) xs → filter (λ x. nat_lt x u) xs ≡ []

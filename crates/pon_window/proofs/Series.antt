@@ -1,16 +1,18 @@
 -- The grants of an ONU in a map, found by a binary search.
-use Rattle.std.proofs.Common.{◌≡◌, ℕ, suc, ◌+◌, ◌<◌, ◌≤◌, ◌&&◌, Bool, cond, not, List, [], ◌∷◌, length, get_or, take, refl, ap, sym, ◌∙◌, arith, inl, inr}
+use Rattle.std.proofs.Common.{◌≡◌, ℕ, suc, ◌+◌, ◌<◌, ◌≤◌, ◌&&◌, Bool, true, false, cond, not, List, [], ◌∷◌, length, get_or, take, drop, ◌-◌, refl, ap, sym, ◌∙◌, arith, inl, inr}
 use Rattle.std.specs.List.Sorted.{IsNonDecreasingBy}
 use Rattle.std.specs.List.{position, position_or_len}
-use Rattle.std.specs.Prelude.{◌==◌, nat_lt, slice_get, filter, find, All, Option, Some, None}
+use Rattle.std.specs.Prelude.{◌==◌, ◌≢◌, nat_lt, slice_get, filter, find, All, Option, Some, None}
 use Rattle.std.proofs.lemmas.Bool.{cases_lt, cases_order, le-ltb, lt-ltb, ne_eqb}
 use Rattle.std.proofs.lemmas.Bool.Decides.{eqb_tells, nat_tests}
+use Rattle.std.proofs.lemmas.List.{get_or_default}
 use Rattle.std.proofs.lemmas.List.Elements.{All-nil, All-cons, All-head, All-tail, All-weaker}
 use Rattle.std.proofs.lemmas.List.Folds.{find_at}
 use Rattle.std.proofs.lemmas.Option.{slice_get-get_or, slice_get_past}
 use Rattle.pon_units.specs.Granted.{AreInMapOrder, ComesBefore}
 use Rattle.pon_units.specs.declared.granted.Granted.{Granted}
 use Rattle.pon_lists.proofs.Lists.{filter-filter, filter_agree, position-None_or_len, position-Some_or_len}
+use Rattle.pon_lists.proofs.Parts.{parts_at}
 use Rattle.pon_lists.proofs.Order.{in_order-filter, in_order_at}
 use Rattle.pon_window.specs.Window.{words_granted}
 
@@ -66,6 +68,34 @@ own_series u gs rest h e =
   where
     both : (k : ℕ) → (not (nat_lt k u) && (k == u)) ≡ (k == u)
     both k = grind (arith, nat_tests)
+
+-- The grants of an ONU begin at a grant to it that is the first or follows one to another ONU.
+module _ (u : ℕ) (gs : List Granted) (h : AreInMapOrder gs) (k : ℕ) (d : Granted) (l : k < length gs) (own : (get_or gs k d).onu ≡ u) where
+  own_at : (e : Granted) → (get_or gs k e).onu ≡ u
+  own_at e = ap (λ g. g.onu) (get_or_default gs k e d l) ∙ own
+
+  none_lesser : (n : ℕ) (e : Granted) → k ≤ n → n < length gs → nat_lt (get_or gs n e).onu u ≡ false
+  none_lesser n e a b = le-ltb (get_or gs n e).onu u (let q : (get_or gs k e).onu ≤ (get_or gs n e).onu = by_onu gs h k n e a b in let s : (get_or gs k e).onu ≡ u = own_at e in omega (arith, q, s))
+
+  begin : ((n : ℕ) (e : Granted) → 0 ≤ n → n < k → nat_lt (get_or gs n e).onu u ≡ true) → (k ≤ length gs) × (drop k gs ≡ filter (λ g. not (nat_lt g.onu u)) gs)
+  begin lesser = (omega (arith, l), (parts_at (λ g. nat_lt g.onu u) gs k (omega (arith, l)) (lesser, none_lesser)).1)
+
+  pub begin_first : k ≡ 0 → (k ≤ length gs) × (drop k gs ≡ filter (λ g. not (nat_lt g.onu u)) gs)
+  begin_first z = begin (λ n e a b. absurd (omega (arith, z, b)))
+
+  pub begin_after : k ≢ 0 → (e : Granted) → (get_or gs (k - 1) e).onu ≢ u → (k ≤ length gs) × (drop k gs ≡ filter (λ g. not (nat_lt g.onu u)) gs)
+  begin_after z e other = begin lesser
+    where
+      lesser : (n : ℕ) (q : Granted) → 0 ≤ n → n < k → nat_lt (get_or gs n q).onu u ≡ true
+      lesser n q a b =
+          let before : (get_or gs (k - 1) q).onu ≤ (get_or gs k q).onu = by_onu gs h (k - 1) k q (omega arith) l in
+          let upto : (get_or gs n q).onu ≤ (get_or gs (k - 1) q).onu = by_onu gs h n (k - 1) q (omega (arith, b)) (omega (arith, l)) in
+          let here : (get_or gs k q).onu ≡ u = own_at q in
+          let not_own : (get_or gs (k - 1) q).onu ≢ u = λ s. other (ap (λ g. g.onu) (get_or_default gs (k - 1) e q (omega (arith, l))) ∙ s) in
+          lt-ltb (get_or gs n q).onu u (elim (cases_lt (get_or gs n q).onu u) [
+            | inl less ↦ less
+            | inr same ↦ absurd (not_own (omega (arith, before, upto, here, same)))
+          ])
 
 -- The words of the first grant that passes a test.
 module _ (p : Granted → Bool) (gs : List Granted) (r : Option ℕ) (is : r ≡ position p gs) where

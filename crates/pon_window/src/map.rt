@@ -1,6 +1,6 @@
 //! A map of the window.
 
-ghost use Rattle.std.specs.Prelude.{◌≡◌, ◌≤◌, ◌==◌, [], nat_lt, not, true, false, drop, filter, take, length, IfOk, OnOk, OnErr};
+ghost use Rattle.std.specs.Prelude.{◌≡◌, ◌<◌, ◌≤◌, ◌==◌, [], All, nat_lt, not, true, false, drop, filter, take, length, IfOk, OnOk, OnErr};
 ghost use Rattle.std.specs.List.{list_any, position, position_or_len};
 ghost use Rattle.pon_units.specs.Granted.{AreInMapOrder};
 ghost use Rattle.pon_lists.specs.Order.{AreRising, with_number};
@@ -31,7 +31,7 @@ impl Model for WindowMap {
 }
 
 /// The grants of a map to an ONU. `first` is the index of the first of them in the map, a hint for callers: no clause
-/// of [`WindowMap::placed_series`] states it.
+/// of [`WindowMap::series`] states it.
 #[derive(Clone, Copy, Debug)]
 pub struct OnuGrants<'a> {
     pub first: usize,
@@ -56,27 +56,67 @@ fn series_len(grants: &[Granted], onu: OnuId) -> usize
     }
 }
 
-/// Finds the grants to an ONU: the first by a binary search, the number of the others by a scan from it.
-pub(crate) fn series_of(grants: &[Granted], onu: OnuId) -> OnuGrants<'_>
+// Returns whether the grants to an ONU begin at an index.
+fn begins_at(grants: &[Granted], index: usize, onu: OnuId) -> bool
+    requires { AreInMapOrder grants.now }
+    ensures { result ≡ true → (index ≤ length grants.now)
+        × (drop index grants.now ≡ filter (λ g. not (nat_lt g.onu onu)) grants.now) }
+{
+    if index >= grants.len() || grants[index].onu != onu {
+        return false;
+    }
+    index == 0 || grants[index - 1].onu != onu
+}
+
+// Returns the number of grants to lesser ONU-IDs: the hint if the grants to the ONU begin there, otherwise by a binary
+// search.
+fn lesser_count(grants: &[Granted], hint: usize, onu: OnuId) -> usize
+    requires { AreInMapOrder grants.now }
+    ensures within { result ≤ length grants.now }
+    ensures others { drop result grants.now ≡ filter (λ g. not (nat_lt g.onu onu)) grants.now }
+{
+    if begins_at(grants, hint, onu) {
+        return hint;
+    }
+    grants.partition_point(|granted| granted.onu.get() < onu.get())
+}
+
+/// Finds the grants to an ONU: the first at the hint or by a binary search, the number of the others by a scan from it.
+pub(crate) fn series_of(grants: &[Granted], hint: usize, onu: OnuId) -> OnuGrants<'_>
     requires { AreInMapOrder grants.now }
     ensures within { result.first ≤ length grants.now }
     ensures placed { result.grants.now
         ≡ take (length result.grants.now) (drop result.first grants.now) }
     ensures grants { result.grants.now ≡ filter (λ g. g.onu == onu) grants.now }
 {
-    let first = grants.partition_point(|granted| granted.onu.get() < onu.get());
+    let first = lesser_count(grants, hint, onu);
     let (_, others) = grants.split_at(first);
     let (own, _) = others.split_at(series_len(others, onu));
     OnuGrants { first, grants: own }
 }
 
-// Returns the number of lesser ONU-IDs, by a binary search.
+// Returns whether all ONU-IDs are lesser; none are.
+fn are_lesser(onus: &[OnuId], onu: OnuId) -> bool
+    requires { AreRising onus.now }
+    ensures { result ≡ true → All (λ v. v < onu) onus.now }
+{
+    match onus.split_last() {
+        Some((greatest, _)) => greatest.get() < onu.get(),
+        None => true,
+    }
+}
+
+// Returns the number of lesser ONU-IDs: at once if all are lesser, since ONUs often report in order, otherwise by a binary
+// search.
 fn place_among(onus: &[OnuId], onu: OnuId) -> usize
     requires { AreRising onus.now }
     ensures within { result ≤ length onus.now }
     ensures lesser { take result onus.now ≡ filter (λ v. nat_lt v onu) onus.now }
     ensures others { drop result onus.now ≡ filter (λ v. not (nat_lt v onu)) onus.now }
 {
+    if are_lesser(onus, onu) {
+        return onus.len();
+    }
     onus.partition_point(|reporter| reporter.get() < onu.get())
 }
 
@@ -151,21 +191,14 @@ impl WindowMap {
         })
     }
 
-    /// Finds the grants to an ONU, by a binary search. Empty if the map grants the ONU nothing.
-    pub fn series(&self, onu: OnuId) -> &[Granted]
-        requires { AreInMapOrder self.now.grants }
-        ensures { result.now ≡ filter (λ g. g.onu == onu) self.now.grants }
-    {
-        self.placed_series(onu).grants
-    }
-
-    /// Finds the grants to an ONU, as [`WindowMap::series`] does, and the index of the first.
-    pub fn placed_series(&self, onu: OnuId) -> OnuGrants<'_>
+    /// Finds the grants to an ONU, and the index of the first: at once if it is the hint, otherwise by a binary search.
+    /// There are none if the map grants the ONU nothing.
+    pub fn series(&self, hint: usize, onu: OnuId) -> OnuGrants<'_>
         requires { AreInMapOrder self.now.grants }
         ensures within { result.first ≤ length self.now.grants }
         ensures grants { result.grants.now ≡ filter (λ g. g.onu == onu) self.now.grants }
     {
-        series_of(&self.grants, onu)
+        series_of(&self.grants, hint, onu)
     }
 
     /// Returns whether an ONU reported for the map.

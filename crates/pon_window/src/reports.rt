@@ -10,9 +10,11 @@ use pon_descr::Refusal;
 use pon_units::{FrameNo, OnuId};
 use std::alloc::AllocError;
 
-/// Returns the first check that refuses a report of `count` occupancies.
+/// Returns the first check that refuses a report of `count` occupancies. The hint is the index at which the grants to the
+/// ONU may begin.
 pub(crate) fn report_refusal(
     window: &[WindowMap],
+    hint: usize,
     frame: FrameNo,
     onu: OnuId,
     count: usize,
@@ -25,7 +27,7 @@ pub(crate) fn report_refusal(
         None => return Some(Refusal::StaleFrame),
         Some(place) => &window[place],
     };
-    let polled = map.series(onu).len();
+    let polled = map.series(hint, onu).grants.len();
     if polled == 0 {
         return Some(Refusal::NotPolled);
     }

@@ -65,7 +65,7 @@ fn search_grant(grants: &[Granted], onu: OnuId, alloc_id: AllocId) -> Option<usi
     requires { AreInMapOrder grants.now }
     ensures { result ≡ position (is_to onu alloc_id) grants.now }
 {
-    let own = series_of(grants, onu);
+    let own = series_of(grants, 0, onu);
     match place_in(own.grants, onu, alloc_id) {
         None => None,
         Some(place) => Some(own.first + place),
@@ -240,9 +240,9 @@ pub(crate) fn words_granted(
     }
 }
 
-/// Computes the sums beside the grants of the next map. `Err` only if memory is refused.
+/// Computes the sums beside the grants of the next map, in the memory of `room`. `Err` only if memory is refused.
 pub(crate) fn next_sums(
-    alloc: Global,
+    room: MapSums,
     maps: &[WindowMap],
     sums: &[MapSums],
     grants: &[Granted],
@@ -252,14 +252,16 @@ pub(crate) fn next_sums(
     ensures sums { IfOk result (λ next. next ≡ sums_beside maps.now sums.now grants.now) }
     ensures small { IfOk result (λ next. All (λ g. g.words ≤ FRAME_WORDS) grants.now) }
 {
-    let mut before = Vec::with_capacity(alloc, grants.len())?;
+    let MapSums { mut before } = room;
+    before.clear();
+    before.reserve(grants.len())?;
     for granted in grants {
         prove!(granted.words.get() <= FRAME_WORDS);
         let sum = match sum_now(maps, sums, before.len(), granted.onu, granted.alloc_id) {
             Some(sum) => sum,
             None => 0,
         };
-        before.push(sum)?;
+        before.push_reserved(sum);
     }
     Ok(MapSums { before })
 }

@@ -8,6 +8,7 @@ use pon_descr::Refusal;
 use pon_units::{AllocId, FrameNo, Granted, OnuId};
 use std::alloc::{AllocError, Global};
 use std::marker::Model;
+use std::mem;
 
 /// The greatest number of maps in a window.
 pub const MOST_MAPS: usize = 64;
@@ -23,6 +24,10 @@ pub struct Window {
     // The running sums of each map.
     sums: Vec<MapSums>,
     past: usize,
+    // Index after the grants of the ONU that reported last, where those of the next reporter often begin: a hint.
+    next: usize,
+    // The sums of the map that left last: their memory is for those of the next map.
+    spare: MapSums,
 }
 
 impl Model for Window {
@@ -87,14 +92,16 @@ fn past_after(past: usize, len: usize) -> usize
     if len < MOST_MAPS { past } else { past + 1 }
 }
 
-// Replaces the element at an index by an empty one, if it is before the window, so that its memory is released.
-fn release<T: Drop>(items: &mut Vec<T>, oldest: usize, past: usize, empty: T)
+// Replaces the element at an index by an empty one, if it is before the window, and returns it; otherwise returns the
+// empty one.
+fn take_out<T: Drop>(items: &mut Vec<T>, oldest: usize, past: usize, empty: T) -> T
     ensures window { drop past items.new.items ≡ drop past items.old.items }
     ensures len { length items.new.items ≡ length items.old.items }
 {
     if oldest < past && oldest < items.len() {
-        items[oldest] = empty;
+        return mem::replace(&mut items[oldest], empty);
     }
+    empty
 }
 
 // Drops the maps before an index with their sums if they are [`MOST_MAPS`] or more, and returns the index that is left.
@@ -129,6 +136,8 @@ impl Window {
             maps: Vec::new(alloc),
             sums: Vec::new(alloc),
             past: 0,
+            next: 0,
+            spare: MapSums::empty(alloc),
         }
     }
 
@@ -140,6 +149,8 @@ impl Window {
             maps: copy_maps(alloc, from_index(&self.maps, self.past))?,
             sums: copy_sums(alloc, from_index(&self.sums, self.past))?,
             past: 0,
+            next: self.next,
+            spare: MapSums::empty(alloc),
         })
     }
 
@@ -187,7 +198,19 @@ impl Window {
     pub fn report_refusal(&self, frame: FrameNo, onu: OnuId, count: usize) -> Option<Refusal>
         ensures { result ≡ refuses_report self.now frame onu count }
     {
-        report_refusal(self.maps(), frame, onu, count)
+        report_refusal(self.maps(), self.next, frame, onu, count)
+    }
+
+    /// Index in its map at which the grants to the next reporter may begin: that given to [`Window::hint_next`], a hint.
+    pub fn next_hint(&self) -> usize {
+        self.next
+    }
+
+    /// Keeps the index after the grants of an ONU that reported, as the hint for the next report. The index may be any.
+    pub fn hint_next(&mut self, index: usize)
+        ensures { self.new ≡ self.old }
+    {
+        self.next = index;
     }
 
     /// Notes that an ONU reported for the map of a frame. `Err` only if memory is refused, and then nothing changes.
@@ -201,9 +224,10 @@ impl Window {
     }
 
     /// Adds the map of a frame, and drops the oldest if there are then more than 64. The grants must be in map order,
-    /// and the frame must be that of the last map plus 1, or any if the window is empty. `Err` only if memory is
-    /// refused, and then nothing changes.
-    pub fn add(&mut self, frame: FrameNo, grants: Vec<Granted>) -> Result<(), AllocError>
+    /// and the frame must be that of the last map plus 1, or any if the window is empty. Returns a vector for the grants
+    /// of a later map: it has the memory of those of the map that left, if one did, and no clause states its content.
+    /// `Err` only if memory is refused, and then nothing changes.
+    pub fn add(&mut self, frame: FrameNo, grants: Vec<Granted>) -> Result<Vec<Granted>, AllocError>
         requires next { AreConsecutive frame self.old }
         requires map_order { AreInMapOrder grants.items }
         ensures ok { OnOk result (self.new ≡ with_map frame grants.items self.old) }
@@ -211,10 +235,11 @@ impl Window {
         ensures err { OnErr result (self.new ≡ self.old) }
     {
         let alloc = *self.maps.allocator();
+        let room = mem::replace(&mut self.spare, MapSums::empty(alloc));
         let maps = from_index(&self.maps, self.past);
         let sums = from_index(&self.sums, self.past);
         let past = past_after(self.past, maps.len());
-        let next = next_sums(alloc, maps, sums, &grants)?;
+        let next = next_sums(room, maps, sums, &grants)?;
         self.maps.reserve(1)?;
         self.sums.reserve(1)?;
         let reported = Vec::new(alloc);
@@ -225,10 +250,11 @@ impl Window {
         });
         self.sums.push_reserved(next);
         let oldest = self.past;
-        release(&mut self.maps, oldest, past, WindowMap::empty(alloc, frame));
-        release(&mut self.sums, oldest, past, MapSums::empty(alloc));
+        let left = take_out(&mut self.maps, oldest, past, WindowMap::empty(alloc, frame));
+        self.spare = take_out(&mut self.sums, oldest, past, MapSums::empty(alloc));
         self.past = drop_past(&mut self.maps, &mut self.sums, past);
-        Ok(())
+        let WindowMap { grants, .. } = left;
+        Ok(grants)
     }
 
     /// Drops all maps.

@@ -16,9 +16,9 @@ loop-granted-preserved c =
     let book = c.loop-granted.accounts in
     elim c.match-occupancy.branch [
       | in-Some-occupancy w ↦ record {
-        rising = rw (w.accounts-is, w.count-near.ensures) (counting_rising g.alloc_id _ book c.loop-granted.invariant.rising);
+        rising = rw (w.accounts-is, w.count.ensures) (counting_rising g.alloc_id _ book c.loop-granted.invariant.rising);
         rest = rw w.accounts-is (took_one granted c.args.asked.now.frame gs more g ns others w.in-Some-occupancy.reported c.frame-frame.result w.words_left-words.result w.words_since-granted_since.result
-            book w.count-near.new.accounts _ c.in-Some.ensures.steps.0 (c.in-Some.ensures.steps.1 ∙ ap (λ o. o ∷ others) w.in-Some-occupancy.is) w.count-near.ensures c.frame-frame.ensures w.words_left-words.ensures
+            book w.count.new.accounts _ c.in-Some.ensures.steps.0 (c.in-Some.ensures.steps.1 ∙ ap (λ o. o ∷ others) w.in-Some-occupancy.is) w.count.ensures c.frame-frame.ensures w.words_left-words.ensures
             w.words_since-granted_since.ensures c.loop-granted.invariant.rest);
       }
       | in_default w ↦ record {

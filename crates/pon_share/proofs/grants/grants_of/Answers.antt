@@ -9,7 +9,7 @@ use Rattle.pon_share.proofs.grants.grants_of.Goals.{in-Plain, in-NonAssured, in-
 pub loop-demand-init : goal.loop-demand-init
 loop-demand-init c =
     record {
-      dealt = rw (c.as_slice-na.ensures, c.as_slice-be.ensures, c.in_ok-grants.ensures.items) (dealt_none c.args.input.now c.args.cert.now c.requires.admitted c.requires.certified);
+      dealt = rw (c.as_slice-na.ensures, c.as_slice-be.ensures, c.reserve.ensures.items, c.clear.ensures.items) (dealt_none c.args.input.now c.args.cert.now c.requires.admitted c.requires.certified);
       count = search rules;
       room = search rules;
     }

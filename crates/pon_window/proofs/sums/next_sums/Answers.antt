@@ -18,7 +18,9 @@ loop-granted-preserved c =
       | in-Some w ↦ w.sum-is ∙ sym (ap or_zero (sym c.sum_now.ensures ∙ w.in-Some.is))
       | in-None w ↦ w.sum-is ∙ sym (ap or_zero (sym c.sum_now.ensures ∙ w.in-None.is))
     ] in record {
-      sums = c.in_ok-push.ensures.items ∙ beside_more c.args.maps.now c.args.sums.now done (take (c.loop-granted.granted-index + 1) c.args.grants.now) granted c.match-sum_now.sum c.loop-granted.before.items sum c.loop-granted.invariant.sums more;
+      sums = c.push_reserved.ensures.items ∙ beside_more c.args.maps.now c.args.sums.now done (take (c.loop-granted.granted-index + 1) c.args.grants.now) granted c.match-sum_now.sum c.loop-granted.before.items sum c.loop-granted.invariant.sums more;
       small = subst (All (λ g. g.words ≤ 9720)) (sym more)
           (All-append (λ g. g.words ≤ 9720) done (granted ∷ []) c.loop-granted.invariant.small (All-cons (λ g. g.words ≤ 9720) granted [] (search rules) (All-nil (λ g. g.words ≤ 9720))));
+      count = search rules;
+      room = search rules;
     }

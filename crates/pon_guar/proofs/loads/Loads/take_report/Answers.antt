@@ -8,8 +8,8 @@ use Rattle.pon_guar.specs.Loads.{after_reported}
 use Rattle.pon_guar.proofs.Books.{counted_after, noted_there, occupancies_length, reported_rise}
 use Rattle.pon_guar.proofs.loads.Loads.take_report.Goals as goal
 
-pub count_report-requires-clause-there : goal.count_report-requires-clause-there
-count_report-requires-clause-there c =
+pub count_report-next-requires-clause-there : goal.count_report-next-requires-clause-there
+count_report-next-requires-clause-there c =
     let maps = c.self.inside.window in
     let noted : c.note_report.new.self ≡ map (with_report c.args.frame c.args.onu) maps = search rules in
     let accepted : refuses_report maps c.args.frame c.args.onu (length c.args.occupancies.now) ≡ None = search rules in
@@ -24,8 +24,8 @@ invariant_of-self-2 c =
     let book = c.self.inside.accounts.items in
     let noted : c.note_report.new.self ≡ map (with_report f u) maps = search rules in
     let len : c.self.inside.accounts.len ≡ length book = search rules in
-    let counted = counted_after f u maps c.note_report.new.self ns c.deref_mut.result.now book c.count_report.new.accounts noted c.deref_mut.ensures.value c.count_report.ensures in
-    rw (written book c.count_report.new.accounts c.self.inside.accounts.len len (ap length counted ∙ occupancies_length (λ i. words_to_from u i f maps) f (grants_at f u maps) ns book), counted)
+    let counted = counted_after f u maps c.note_report.new.self ns c.deref_mut.result.now book c.count_report-next.new.accounts noted c.deref_mut.ensures.value c.count_report-next.ensures in
+    rw (written book c.count_report-next.new.accounts c.self.inside.accounts.len len (ap length counted ∙ occupancies_length (λ i. words_to_from u i f maps) f (grants_at f u maps) ns book), counted)
     (reported_rise (λ i. words_to_from u i f maps) f (grants_at f u maps) ns book c.self.invariant)
 
 pub returns-clause-ok : goal.returns-clause-ok
@@ -37,6 +37,6 @@ returns-clause-ok c =
     let book = c.self.inside.accounts.items in
     let noted : c.note_report.new.self ≡ map (with_report f u) maps = search rules in
     let len : c.self.inside.accounts.len ≡ length book = search rules in
-    let counted = counted_after f u maps c.note_report.new.self ns c.deref_mut.result.now book c.count_report.new.accounts noted c.deref_mut.ensures.value c.count_report.ensures in
-    let accounts = written book c.count_report.new.accounts c.self.inside.accounts.len len (ap length counted ∙ occupancies_length (λ i. words_to_from u i f maps) f (grants_at f u maps) ns book) ∙ counted in
-    (λ j. record { accounts = accounts j; window = noted j }) ∙ ap (λ l. after_reported l f u ns) c.self.view_is
+    let counted = counted_after f u maps c.note_report.new.self ns c.deref_mut.result.now book c.count_report-next.new.accounts noted c.deref_mut.ensures.value c.count_report-next.ensures in
+    let accounts = written book c.count_report-next.new.accounts c.self.inside.accounts.len len (ap length counted ∙ occupancies_length (λ i. words_to_from u i f maps) f (grants_at f u maps) ns book) ∙ counted in
+    (λ j. record { accounts = accounts j; window = (c.hint_next.ensures ∙ noted) j }) ∙ ap (λ l. after_reported l f u ns) c.self.view_is

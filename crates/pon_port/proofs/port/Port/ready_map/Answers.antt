@@ -2,14 +2,18 @@ use Rattle.std.proofs.Common.{subst}
 use Rattle.pon_port.specs.Chapters.{present_state}
 use Rattle.pon_port.specs.Taking.{IsReady}
 use Rattle.pon_port.proofs.port.Port.ready_map.Goals as goal
+use Rattle.pon_port.proofs.port.Port.ready_map.Goals.{in-Ok, in-Err}
 
-pub returns-in-Ok-clause-ready : goal.returns-in-Ok-clause-ready
-returns-in-Ok-clause-ready c =
-    let ready : IsReady c.self.inside.state c.in-Ok.next = record {
-      made = c.in-Ok.ensures.made;
-      map_order = c.in-Ok.ensures.map_order;
-      grants = c.in-Ok.ensures.grants;
-      na = c.in-Ok.ensures.na;
-      be = c.in-Ok.ensures.be;
-    } in
-    subst (λ port. IsReady (present_state port) c.in-Ok.next) c.self.view_is (subst (λ s. IsReady s c.in-Ok.next) c.self.invariant.kept.replayed ready)
+pub returns-clause-ready : goal.returns-clause-ready
+returns-clause-ready c = elim c.match-next_map.branch [
+  | in-Ok w ↦
+      let ready : IsReady c.self.inside.state w.in-Ok.next = record {
+        made = w.in-Ok.ensures.made;
+        map_order = w.in-Ok.ensures.map_order;
+        grants = w.in-Ok.ensures.grants;
+        na = w.in-Ok.ensures.na;
+        be = w.in-Ok.ensures.be;
+      } in
+      rw w.result-is (subst (λ port. IsReady (present_state port) w.in-Ok.next) c.self.view_is (subst (λ s. IsReady s w.in-Ok.next) c.self.invariant.kept.replayed ready))
+  | in-Err w ↦ rw w.result-is tt
+]

@@ -3,7 +3,7 @@ use Rattle.pon_descr.specs.declared.class.Class.TheVariants.{NonAssured, BestEff
 use Rattle.pon_share.specs.Demands.{demands_of}
 use Rattle.pon_share.specs.Sharing.{items, surplus}
 use Rattle.pon_share.proofs.Dealing.{ids_demanded, items_demanded, problem_of, surplus_range}
-use Rattle.pon_share.proofs.problems.class_problems.Goals as goal
+use Rattle.pon_share.proofs.problems.problems_in.Goals as goal
 
 pub returns : goal.returns
 returns c =

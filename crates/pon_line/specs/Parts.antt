@@ -1,0 +1,39 @@
+-- The readings of lines that are read in parts.
+use Rattle.std.specs.Prelude.{ℕ, List, Option}
+use Rattle.pon_event.specs.declared.event.Event.{Event}
+use Rattle.pon_event.specs.declared.event.Event.TheVariants.{Admit, Change, Fail, MakeMap, Remove, Report, Restore}
+use Rattle.pon_text.specs.Lines.{words_of}
+use Rattle.pon_line.specs.Reading.{request_of}
+use Rattle.pon_line.specs.declared.reading.Front.{Front}
+use Rattle.pon_line.specs.declared.reading.FrameLine.{FrameLine}
+use Rattle.pon_line.specs.declared.reading.Reading.{Reading}
+use Rattle.pon_line.specs.declared.reading.Reading.TheVariants.{Nothing, Refused, Asks, AsksCert, AsksState}
+
+-- the reading of a line of this front
+abbrev pub goes_on : Front → Reading
+goes_on Front.Nothing = Nothing
+goes_on (Front.Refused fault) = Refused fault
+goes_on (Front.Names port rest) = request_of port (words_of rest.now)
+
+-- the reading of a line that each frame brings, with the occupancies of its report
+abbrev pub asks_in : FrameLine → List (Option ℕ) → Reading
+asks_in (FrameLine.Map port) ns = Asks port MakeMap
+asks_in (FrameLine.Report port frame onu) ns = Asks port (Report frame onu ns)
+
+-- neither a request for a map nor a report
+abbrev pub IsOtherEvent : Event → Type 0
+IsOtherEvent (Admit onu alloc d) = Unit {0}
+IsOtherEvent (Change alloc d) = Unit {0}
+IsOtherEvent (Remove alloc) = Unit {0}
+IsOtherEvent (Report frame onu ns) = ⊥
+IsOtherEvent MakeMap = ⊥
+IsOtherEvent (Fail cause) = Unit {0}
+IsOtherEvent Restore = Unit {0}
+
+-- the reading of a line that is none of those that each frame brings
+abbrev pub IsOtherReading : Reading → Type 0
+IsOtherReading Nothing = Unit {0}
+IsOtherReading (Refused fault) = Unit {0}
+IsOtherReading (Asks port event) = IsOtherEvent event
+IsOtherReading (AsksCert port) = Unit {0}
+IsOtherReading (AsksState port) = Unit {0}
