@@ -1,6 +1,6 @@
 -- The ranges of the overhead and of the number of Alloc-IDs under each rule.
-use Rattle.std.proofs.Common.{◌≤◌, arith}
-use Rattle.pon_admit.specs.Roster.{Rule, most_allocs, overhead_words}
+use Rattle.std.proofs.Common.{◌≡◌, ℕ, ◌+◌, ◌*◌, ◌%◌, ◌<◌, ◌≤◌, refl, arith}
+use Rattle.pon_admit.specs.Roster.{Rule, left_over, most_allocs, most_carry, overhead_words}
 use Rattle.pon_admit.specs.declared.rule.Rule.TheVariants.{One, Two}
 
 -- at least one word is set aside for the report of an Alloc-ID
@@ -12,3 +12,27 @@ some_overhead Two = omega arith
 pub few_allowed : (rule : Rule) → most_allocs rule ≤ 512
 few_allowed One = omega arith
 few_allowed Two = omega arith
+
+-- the overhead of an Alloc-ID has room for its report and its carry
+pub room_for_carry : (rule : Rule) → 256 + most_carry rule ≤ 256 * overhead_words rule
+room_for_carry One = omega arith
+room_for_carry Two = omega arith
+
+pub carry_range : (rule : Rule) → most_carry rule ≤ 255
+carry_range One = omega arith
+carry_range Two = omega arith
+
+-- what is left over is in range
+pub left_over_range : (rule : Rule) (n : ℕ) → left_over rule n ≤ most_carry rule
+left_over_range One n = omega arith
+left_over_range Two n = omega arith
+
+-- nothing is left of a carry in range but itself
+pub left_over_same : (rule : Rule) (n : ℕ) → n ≤ most_carry rule → left_over rule n ≡ n
+left_over_same One n h = omega (arith, h)
+left_over_same Two n h = omega (arith, h)
+
+-- what is left may be carried at any point of a sum
+pub left_over_sum : (rule : Rule) (m n : ℕ) → left_over rule (left_over rule m + n) ≡ left_over rule (m + n)
+left_over_sum One m n = refl
+left_over_sum Two m n = omega arith

@@ -1,5 +1,5 @@
 -- The roster of a port: its admitted Alloc-IDs in map order, and the sets that are admitted.
-use Rattle.std.specs.Prelude.{ℕ, ◌≡◌, ◌+◌, ◌-◌, ◌*◌, ◌≤◌, Bool, true, false, not, ◌&&◌, ◌||◌, ◌==◌, nat_lt, nat_le, if◌then◌else◌, List, [], ◌∷◌, map, length, All, sum_by, count_by, Option}
+use Rattle.std.specs.Prelude.{ℕ, ◌≡◌, ◌+◌, ◌-◌, ◌*◌, ◌%◌, ◌≤◌, Bool, true, false, not, ◌&&◌, ◌||◌, ◌==◌, nat_lt, nat_le, if◌then◌else◌, List, [], ◌∷◌, map, length, All, sum_by, count_by, Option}
 use Rattle.std.specs.List.{list_any}
 use Rattle.pon_units.specs.declared.limits.TheConstants.{FRAME_WORDS, GREATEST_ALLOC_ID, GREATEST_ONU_ID, LEAST_ALLOC_ID, WORD_RATE}
 pub use Rattle.pon_admit.specs.declared.row.Row.{Row}
@@ -37,6 +37,16 @@ overhead_words Two = 2
 abbrev pub most_allocs : Rule → ℕ
 most_allocs One = 256
 most_allocs Two = 512
+
+-- what is left of `n` kbit/s after whole words, and is carried to the next map
+abbrev pub left_over : Rule → ℕ → ℕ
+left_over One n = 0
+left_over Two n = n % WORD_RATE
+
+-- the greatest number of kbit/s that is carried
+abbrev pub most_carry : Rule → ℕ
+most_carry One = 0
+most_carry Two = 255
 
 -- the rule of a roster that is opened without naming a rule
 abbrev pub rule_in_force : Rule

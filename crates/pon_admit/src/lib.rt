@@ -12,6 +12,6 @@ mod rule;
 mod search;
 mod sums;
 
-pub use roster::Roster;
+pub use roster::{RULE_IN_FORCE, Roster};
 pub use row::Row;
 pub use rule::Rule;

@@ -1,18 +1,19 @@
 // The roster of a port, and its getters.
-ghost use Rattle.std.specs.Prelude.{◌≡◌, ◌≤◌, [], length, IfOk};
-ghost use Rattle.pon_admit.specs.Roster.{IsAdmitted, capacity, onus_of, promised_sum, rule_in_force};
+ghost use Rattle.std.specs.Prelude.{◌≡◌, ◌≤◌, ◌==◌, [], count_by, length, position, IfOk};
+ghost use Rattle.pon_admit.specs.Roster.{IsAdmitted, capacity, comes_before, onus_of, promised_sum, rule_in_force};
 
 use crate::row::Row;
 use crate::rule::Rule;
+use crate::search::{look_through, place_of};
 use crate::sums::{overhead, rate, words};
-use pon_units::{FRAME_WORDS, Gap, Kbps, LINE_RATE, Words};
+use pon_units::{AllocId, FRAME_WORDS, Gap, Kbps, LINE_RATE, Words};
 use std::alloc::{AllocError, Global};
 use std::marker::Model;
 
 mod steps;
 
 /// Rule of a roster that is opened without naming a rule.
-const RULE_IN_FORCE: Rule = Rule::One;
+pub const RULE_IN_FORCE: Rule = Rule::One;
 
 /// Maximum number of ONUs of a port.
 const MOST_ONUS: usize = 128;
@@ -107,6 +108,20 @@ impl Roster {
         ensures range { result ≤ MOST_ONUS }
     {
         self.onus
+    }
+
+    /// Number of rows that come before a row in map order: the index that it has once it is admitted.
+    pub fn place_for(&self, row: &Row) -> usize
+        ensures { result ≡ count_by (λ s. comes_before s row.now) self.now.rows }
+    {
+        look_through(&self.rows, row).place
+    }
+
+    /// Index of the row of an Alloc-ID; `None` if it is not admitted.
+    pub fn place_of(&self, alloc_id: AllocId) -> Option<usize>
+        ensures { result ≡ position (λ r. r.alloc_id == alloc_id) self.now.rows }
+    {
+        place_of(&self.rows, alloc_id)
     }
 
     /// Words of a frame that gaps, headers, trailers and reports leave for payload, 0 to 9,720.

@@ -6,10 +6,10 @@ use Rattle.std.proofs.lemmas.List.{take-take}
 use Rattle.pon_event.specs.declared.event.Event.{Event}
 use Rattle.pon_event.specs.declared.event.Event.TheVariants as event
 use Rattle.pon_share.specs.Sharing.{IsCertified, surplus_rate}
-use Rattle.pon_state.specs.State.{State, input_of}
+use Rattle.pon_state.specs.State.{State, carry_at, input_of}
 use Rattle.pon_state.specs.Checks.{first_refusal}
 use Rattle.pon_state.specs.Legal.{IsMade, IsReply, MayFollow}
-use Rattle.pon_state.specs.Loads.{replay}
+use Rattle.pon_state.specs.History.{replay}
 use Rattle.pon_state.specs.declared.reply.MadeMap.{MadeMap}
 use Rattle.pon_state.specs.declared.reply.Reply.{Reply}
 use Rattle.pon_state.specs.declared.reply.Reply.TheVariants.{Taken, Map}
@@ -27,7 +27,7 @@ use Rattle.pon_audit.proofs.Maps.{grants_of_map}
 
 -- the map that the state makes has the words of its certificate
 made_words : (s : State) (m : MadeMap) → IsMade s m → GrantsWords s m
-made_words s m made = ap (map (λ a. a.grant)) made.map ∙ grants_of_map s.profile (input_of s) (surplus_rate (input_of s) m.cert)
+made_words s m made = ap (map (λ a. a.grant)) made.map ∙ grants_of_map s.profile (input_of s) (surplus_rate (input_of s) m.cert) (carry_at s)
 
 -- the map that the state makes does not fail
 made_holds : (s : State) (m : MadeMap) (w : Why) → IsMade s m → MapFails s m w → ⊥

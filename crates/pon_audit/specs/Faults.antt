@@ -3,7 +3,7 @@
 use Rattle.std.specs.Prelude.{ℕ, ◌≡◌, ◌≢◌, ◌+◌, map, take, slice_get, Some, None}
 use Rattle.pon_share.specs.Rates.{granted}
 use Rattle.pon_share.specs.Sharing.{IsCertified, surplus_rate}
-use Rattle.pon_state.specs.State.{State, input_of}
+use Rattle.pon_state.specs.State.{State, carry_at, input_of}
 use Rattle.pon_state.specs.Checks.{first_refusal}
 use Rattle.pon_state.specs.Legal.{IsMade}
 use Rattle.pon_state.specs.declared.reply.MadeMap.{MadeMap}
@@ -18,9 +18,9 @@ use Rattle.pon_audit.specs.declared.verdict.Why.TheVariants.{Event, Certificate,
 abbrev pub ListsAllocs : State → MadeMap → Type 0
 ListsAllocs s m = map (λ a. a.id) m.map ≡ map (λ r. r.alloc_id) s.roster
 
--- each grant is one more than the payload words that the certificate gives
+-- each grant is one more than the payload words that the certificate and the carries give
 abbrev pub GrantsWords : State → MadeMap → Type 0
-GrantsWords s m = map (λ a. a.grant) m.map ≡ map (λ g. 1 + g.words) (granted (input_of s) (surplus_rate (input_of s) m.cert))
+GrantsWords s m = map (λ a. a.grant) m.map ≡ map (λ g. 1 + g.words) (granted (input_of s) (surplus_rate (input_of s) m.cert) (carry_at s))
 
 -- the Alloc-IDs are the right ones, and some grant is wrong
 abbrev pub HasWrongWords : State → MadeMap → Type 0

@@ -9,7 +9,9 @@ ghost use Rattle.pon_state.specs.Accounts.{AccountsFor};
 ghost use Rattle.pon_state.specs.After.{after_entry, after_map};
 ghost use Rattle.pon_state.specs.Legal.{IsMade, MayFollow};
 ghost use Rattle.pon_state.specs.Replay.{grants_of};
-ghost use Rattle.pon_state.specs.State.{input_of};
+ghost use Rattle.pon_share.specs.Carries.{AreCarries};
+ghost use Rattle.pon_state.specs.Carries.{carries_left};
+ghost use Rattle.pon_state.specs.State.{carry_at, input_of};
 ghost use Rattle.pon_record.specs.Chapters.{reply_to};
 ghost use Rattle.pon_audit.specs.Faults.{EntryFails, HasWrongWords, MapFails};
 
@@ -17,7 +19,7 @@ use crate::verdict::Why;
 use pon_bwmap::{Alloc, Map};
 use pon_check::check_map;
 use pon_state::{
-    Entry, MadeMap, PortState, Reply, add_map, in_range, map_under, next_problems, refusal_of, step,
+    Entry, MadeMap, MapUnder, PortState, Reply, add_map, in_range, map_under, next_problems, refusal_of, step,
 };
 use std::alloc::{AllocError, Global};
 
@@ -56,7 +58,7 @@ fn same_grants(rows: &[Alloc], others: &[Alloc]) -> bool
 fn is_made(state: &PortState, wanted: &Map, made: &MadeMap) -> bool
     requires certified { IsCertified (input_of state.now) made.now.cert }
     requires wanted { wanted.now ≡ map_of state.now.profile (input_of state.now)
-        (surplus_rate (input_of state.now) made.now.cert) }
+        (surplus_rate (input_of state.now) made.now.cert) (carry_at state.now) }
     ensures { IsTrue result ↔ IsMade state.now made.now }
 {
     made.map == *wanted && made.frame == state.next_frame()
@@ -65,7 +67,7 @@ fn is_made(state: &PortState, wanted: &Map, made: &MadeMap) -> bool
 // Returns whether a map lists the Alloc-IDs of `wanted`, the structures that the state makes, with another grant.
 fn has_wrong_words(state: &PortState, wanted: &Map, made: &MadeMap) -> bool
     requires wanted { wanted.now ≡ map_of state.now.profile (input_of state.now)
-        (surplus_rate (input_of state.now) made.now.cert) }
+        (surplus_rate (input_of state.now) made.now.cert) (carry_at state.now) }
     ensures { IsTrue result ↔ HasWrongWords state.now made.now }
 {
     let _state = state;
@@ -78,7 +80,7 @@ fn has_wrong_words(state: &PortState, wanted: &Map, made: &MadeMap) -> bool
 fn map_fault(state: &PortState, wanted: &Map, made: &MadeMap) -> Option<Why>
     requires certified { IsCertified (input_of state.now) made.now.cert }
     requires wanted { wanted.now ≡ map_of state.now.profile (input_of state.now)
-        (surplus_rate (input_of state.now) made.now.cert) }
+        (surplus_rate (input_of state.now) made.now.cert) (carry_at state.now) }
     ensures { MatchOption result (IsMade state.now made.now) (MapFails state.now made.now) }
 {
     if is_made(state, wanted, made) {
@@ -93,12 +95,14 @@ fn map_fault(state: &PortState, wanted: &Map, made: &MadeMap) -> Option<Why>
 // Checks a map, and applies it to the state if it is the one that the state makes. `Err` only if memory is refused.
 fn take_map(alloc: Global, state: &mut PortState, made: &MadeMap) -> Result<Option<Why>, AllocError>
     requires admitted { IsAdmitted state.old.rule state.old.gap state.old.roster }
+    requires carries { AreCarries state.old.rule state.old.roster state.old.carries }
     requires frames { AreConsecutive state.old.next state.old.window }
     requires next { state.old.next + 1 < 2 ^ 64 }
     requires count { state.old.taken_before + 1 < 2 ^ 64 }
     ensures { IfOk result (λ found. MatchOption found
         (IsMade state.old made.now
-        × (state.new ≡ after_map state.old (grants_of state.old.roster made.now.map)))
+        × (state.new ≡ after_map state.old (grants_of state.old.roster made.now.map)
+        (carries_left state.old (Reply.Map made.now))))
         (MapFails state.old made.now)) }
 {
     let problems = next_problems(alloc, state)?;
@@ -106,10 +110,14 @@ fn take_map(alloc: Global, state: &mut PortState, made: &MadeMap) -> Result<Opti
     if check_map(na, be, problems.surplus, &made.cert).is_err() {
         return Ok(Some(Why::Certificate));
     }
-    let under = map_under(alloc, state, &problems, &made.cert)?;
-    let fault = map_fault(state, &under.map, made);
+    let MapUnder {
+        map,
+        grants,
+        carries,
+    } = map_under(alloc, state, &problems, &made.cert)?;
+    let fault = map_fault(state, &map, made);
     if fault.is_none() {
-        add_map(state, under.grants)?;
+        add_map(state, grants, carries)?;
     }
     Ok(fault)
 }
@@ -124,6 +132,7 @@ pub(crate) fn take_entry(
 ) -> Result<Option<Why>, AllocError>
     requires reply { (reply_to entry.now.event).Fits entry.now.reply }
     requires admitted { IsAdmitted state.old.rule state.old.gap state.old.roster }
+    requires carries { AreCarries state.old.rule state.old.roster state.old.carries }
     requires book { AccountsFor state.old.roster state.old.book }
     requires frames { AreConsecutive state.old.next state.old.window }
     ensures { IfOk result (λ found. MatchOption found

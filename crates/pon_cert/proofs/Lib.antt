@@ -8,9 +8,4 @@ pub mod LeftSurplus
 pub mod WholeReading
 pub mod SetText
 pub mod ReadsBack
-pub mod PartLaws
-pub mod MetLaws
-pub mod SetLaws
-pub mod ClassLaws
 pub mod OneSpelling
-pub mod OneText

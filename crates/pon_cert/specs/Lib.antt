@@ -3,4 +3,3 @@ pub mod Certificate
 pub mod Spelling
 pub mod Reading
 pub mod Texts
-pub mod Parts

@@ -1,7 +1,6 @@
 //! Laws of certificates, over the definitions alone.
 
-ghost use Rattle.std.specs.Prelude.{◌≡◌, ◌<◌, ◌^◌, ◌+◌, ◌*◌, ℕ, List, ◌++◌, length, sum, take};
-ghost use Rattle.std.specs.List.{AllByRecursion};
+ghost use Rattle.std.specs.Prelude.{◌≡◌, ◌+◌, ◌*◌, ℕ, List, ◌++◌, length, sum, take};
 ghost use Rattle.pon_lists.specs.Bytes.{AreBytes};
 ghost use Rattle.pon_cert.specs.declared.problem.Item.{Item};
 ghost use Rattle.pon_cert.specs.declared.cert.ClassCert.{ClassCert};
@@ -10,7 +9,7 @@ ghost use Rattle.pon_cert.specs.declared.cert.MapCert.{MapCert};
 ghost use Rattle.pon_cert.specs.Certificate.{IsCertificate, denominator, left_surplus, spelled};
 ghost use Rattle.pon_cert.specs.Spelling.{cert_bytes};
 ghost use Rattle.pon_cert.specs.Reading.{ReadsCert};
-ghost use Rattle.pon_cert.specs.Texts.{FitsCert, AreNames, IsTextOf};
+ghost use Rattle.pon_cert.specs.Texts.{FitsCert};
 
 /// The assignment of a certificate is feasible, no feasible assignment is better, and each other one is worse.
 pub fn certified_is_fairest()
@@ -43,12 +42,4 @@ pub fn reads_back()
 pub fn only_its_bytes()
     ensures { (bytes : List ℕ) (cert : MapCert) (used : ℕ) → AreBytes bytes →
         ReadsCert bytes cert used → FitsCert cert × (take used bytes ≡ cert_bytes cert) }
-{}
-
-/// With the same Alloc-IDs, a text has at most one certificate, so a text that was written reads back as the same
-/// certificate.
-pub fn one_text()
-    ensures { (na be : List ℕ) (a b : MapCert) (text : List ℕ) → AreNames na → AreNames be →
-        AllByRecursion (λ n. n < 2 ^ 64) na → AllByRecursion (λ n. n < 2 ^ 64) be →
-        IsTextOf na be a text → IsTextOf na be b text → a ≡ b }
 {}

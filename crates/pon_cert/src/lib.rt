@@ -10,7 +10,6 @@ mod decode;
 mod encode;
 pub mod laws;
 mod left;
-mod parse;
 mod print;
 mod problem;
 mod sat;

@@ -14,7 +14,7 @@ use Rattle.pon_text.specs.Lines.{is_numeral, number_of}
 use Rattle.pon_cert.specs.declared.problem.Item.{Item}
 use Rattle.pon_cert.specs.declared.cert.Level.{Level}
 use Rattle.pon_cert.specs.declared.cert.Level.TheVariants as level
-use Rattle.pon_cert.specs.Parts.{parts_of}
+use Rattle.pon_check_file.specs.Parts.{parts_of}
 use Rattle.pon_check_file.specs.CheckLines.{surplus_of, item_on_line, level_on_line, fraction_of, flags_of, flags_from, indexes_from, number_within}
 use Rattle.pon_check_file.specs.Stages.{IsFew, goes_on, filed, lines_before}
 use Rattle.pon_check_file.specs.declared.stage.Stage.{Stage}

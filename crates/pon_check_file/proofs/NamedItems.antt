@@ -2,7 +2,7 @@
 use Rattle.std.proofs.Common.{◌≡◌, ℕ, zero, suc, ◌<◌, ◌≤◌, Bool, true, false, List, [], ◌∷◌, length, map, refl, ap, sym, ◌∙◌, arith, Option, Some, None}
 use Rattle.std.specs.Prelude.{◌↔◌}
 use Rattle.std.proofs.lemmas.Bool.{eq-eqb, eqb-true, ne_eqb}
-use Rattle.pon_cert.specs.Parts.{behind, with_first}
+use Rattle.pon_check_file.specs.Parts.{behind, with_first}
 use Rattle.pon_text.specs.Lines.{number_of}
 use Rattle.pon_check_file.specs.CheckLines.{WritesFlags, flags_from, indexes_from, is_index, is_next}
 

@@ -4,7 +4,7 @@ use Rattle.std.specs.Prelude.{◌==◌, is_some}
 use Rattle.std.specs.Borrow.{Bor}
 use Rattle.std.proofs.lemmas.List.{append-nil}
 use Rattle.std.proofs.lemmas.List.Splits.{length-slice_split}
-use Rattle.pon_cert.specs.Parts.{behind, left_of, with_first, after_flags}
+use Rattle.pon_check_file.specs.Parts.{behind, left_of, with_first, after_flags}
 use Rattle.pon_check_file.specs.CheckLines.{is_next, flags_from}
 
 -- the flags of the items from item k on, after the flags found already

@@ -13,7 +13,7 @@ use Rattle.pon_cert.specs.declared.cert.Level.{Level}
 use Rattle.pon_cert.specs.declared.cert.Level.TheVariants as level
 use Rattle.pon_cert.specs.Problem.{IsItem}
 use Rattle.pon_cert.specs.Texts.{FitsLevel}
-use Rattle.pon_cert.specs.Parts.{parts_of}
+use Rattle.pon_check_file.specs.Parts.{parts_of}
 use Rattle.pon_check_file.specs.CheckLines.{surplus_of, item_on_line, level_on_line, fraction_of, flags_of, flags_from, number_within}
 use Rattle.pon_check_file.proofs.NamedItems.{sets_name_items}
 use Rattle.pon_check_file.proofs.PrintedLines.{with_cap, with_weight, with_numbers}

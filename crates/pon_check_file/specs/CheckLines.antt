@@ -5,7 +5,7 @@ use Rattle.pon_lists.specs.OptionSteps.{◌>>=◌}
 use Rattle.pon_cert.specs.declared.problem.Item.{Item}
 use Rattle.pon_cert.specs.declared.cert.Level.{Level}
 use Rattle.pon_cert.specs.declared.cert.Level.TheVariants as level
-use Rattle.pon_cert.specs.Parts.{behind, parts_of, with_first}
+use Rattle.pon_check_file.specs.Parts.{behind, parts_of, with_first}
 use Rattle.pon_text.specs.Cuts.{cut_at, follows}
 use Rattle.pon_text.specs.Lines.{number_of}
 use Rattle.pon_units.specs.declared.limits.TheConstants.{LINE_RATE}

@@ -1,3 +1,4 @@
+pub mod Parts
 pub mod CheckFiles
 pub mod CheckLines
 pub mod Printed

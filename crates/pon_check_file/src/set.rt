@@ -2,7 +2,7 @@
 
 ghost use Rattle.std.specs.Prelude.{◌≡◌, ◌==◌, ◌∷◌, IfOk};
 ghost use Rattle.std.specs.List.{slice_split};
-ghost use Rattle.pon_cert.specs.Parts.{left_of, parts_of, behind};
+ghost use Rattle.pon_check_file.specs.Parts.{left_of, parts_of, behind};
 ghost use Rattle.pon_text.specs.Lines.{number_of};
 ghost use Rattle.pon_check_file.specs.CheckLines.{is_next, is_index, flags_from, flags_of};
 

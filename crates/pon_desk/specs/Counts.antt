@@ -1,23 +1,37 @@
 -- Posts counted twice: at the ports that took them, and by the seats that made them.
-use Rattle.std.specs.Prelude.{ℕ, ◌≡◌, ◌≢◌, ◌+◌, ◌<◌, ◌≤◌, List, length, map, replicate, slice_index, slice_set, sum, sum_by}
+use Rattle.std.specs.Prelude.{ℕ, ◌≡◌, ◌≢◌, ◌+◌, ◌<◌, ◌≤◌, List, length, map, replicate, slice_get, slice_index, slice_set, sum, sum_by, Some}
+use Rattle.pon_state.specs.declared.state.PortCfg.{PortCfg}
 use Rattle.pon_port.specs.Chapters.{Chapter}
 
--- the number of ports of a desk, and of the seats that were opened
+-- the number of ports of a desk, and of the seats that were opened, and the configuration and first frame with which each
+-- port was to be opened
 pub record DeskSize : Type 0 where
   pub ports : ℕ
   pub seats : ℕ
+  pub opened : List (PortCfg × ℕ)
 
--- a seat: the number of its posts at each port
+-- the ports of a closed desk, and the configuration and first frame with which each was to be opened
+pub record ClosedPorts : Type 0 where
+  pub ports : List Chapter
+  pub opened : List (PortCfg × ℕ)
+
+-- a seat: its place in the list of all seats, and the number of its posts at each port
 pub record SeatCounts : Type 0 where
+  pub number : ℕ
   pub counts : List ℕ
 
 -- a seat without posts, at a desk with this number of ports
-abbrev pub unused_seat : ℕ → SeatCounts
-unused_seat ports = record { counts = replicate ports 0 }
+abbrev pub unused_seat : ℕ → ℕ → SeatCounts
+unused_seat number ports = record { number = number; counts = replicate ports 0 }
+
+-- seats without posts, each numbered by its place
+pub record AreUnused (seats ports : ℕ) (opened : List SeatCounts) : Type 0 where
+  pub count : length opened ≡ seats
+  pub each : (k : ℕ) → k < seats → slice_get opened k ≡ Some (unused_seat k ports)
 
 -- a seat after one more post at a port
 abbrev pub one_more_at : ℕ → SeatCounts → SeatCounts
-one_more_at port seat = record { counts = slice_set seat.counts port (slice_index seat.counts port + 1) }
+one_more_at port seat = record { number = seat.number; counts = slice_set seat.counts port (slice_index seat.counts port + 1) }
 
 -- the number of entries that a port took since it was opened
 abbrev pub taken_of : Chapter → ℕ

@@ -5,7 +5,7 @@ use Rattle.pon_port.specs.Chapters.{Chapter}
 use Rattle.pon_plant.specs.declared.fault.StepFault.{StepFault}
 use Rattle.pon_plant.specs.declared.fault.StepFault.TheVariants.{NoSuchPort, Refused}
 use Rattle.pon_desk.specs.Counts.{DeskSize, SeatCounts, AreSums, IsUneven}
-use Rattle.pon_desk.specs.Posts.{IsSomeRefusal}
+use Rattle.pon_desk.specs.Posts.{IsSomeRefusal, IsSomeTurnRefusal}
 use Rattle.pon_desk.specs.declared.fault.CloseFault.{CloseFault}
 use Rattle.pon_desk.specs.declared.fault.CloseFault.TheVariants.{Missing, Uneven}
 
@@ -36,3 +36,8 @@ IsNoSuchPort (Err (Refused refusal)) = ⊥
 abbrev pub TellsRefusal : Event → StepFault → Type 0
 TellsRefusal event NoSuchPort = Unit {0}
 TellsRefusal event (Refused told) = IsSomeRefusal event told
+
+-- the fault if a port is not turned; when there is no such port is stated elsewhere
+abbrev pub TellsTurn : StepFault → Type 0
+TellsTurn NoSuchPort = Unit {0}
+TellsTurn (Refused told) = IsSomeTurnRefusal told

@@ -1,39 +1,73 @@
-use pon_port::Port;
-use pon_units::PortNo;
+use crate::receipt::Receipt;
+use crate::settling::settle_port;
+use crate::unsettled::Unsettled;
+use pon_port::{Chapter, Port, PortCfg};
+use pon_units::{FrameNo, PortNo};
 use std::marker::Model;
 
-/// The ports of a closed desk, in the order of their numbers.
+/// The ports of a closed desk, in the order of their numbers, with the configuration and the first frame with which each
+/// was to be opened.
 ///
-/// Contracts see the list of the chapters that the ports keep.
+/// Contracts see the chapters that the ports keep, and these.
 #[derive(Drop)]
 pub struct Closed {
     pub(crate) ports: Vec<Port>,
+    pub(crate) opened: Vec<(PortCfg, FrameNo)>,
 }
 
 impl Model for Closed {
-    ghost use Rattle.std.specs.Prelude.{List};
-    ghost use Rattle.pon_port.specs.Chapters.{Chapter};
+    ghost use Rattle.std.specs.Prelude.{◌≡◌, vec_len};
+    ghost use Rattle.pon_desk.specs.Counts.{ClosedPorts};
 
-    ghost Value = { List Chapter };
+    ghost Value = { ClosedPorts };
 
-    ghost view = { λ c. c.ports.items };
+    ghost view = { λ c. record { ports = c.ports.items; opened = c.opened.items } };
+
+    ghost invariant = { λ c. vec_len c.opened ≡ vec_len c.ports };
 }
 
 impl Closed {
-    ghost use Rattle.std.specs.Prelude.{◌≡◌, ◌≤◌, length, MatchOption, Some, slice_get};
+    ghost use Rattle.std.specs.Prelude.{ℕ, ◌≡◌, ◌≤◌, Err, length, MatchOption, MatchResult, Some, slice_get};
+    ghost use Rattle.pon_port.specs.Chapters.{Chapter};
+    ghost use Rattle.pon_desk.specs.Settling.{IsSettled, TellsUnsettled, history_at};
 
     /// Port of a number, or `None` exactly if the desk had no such port.
     pub fn port(&self, port: PortNo) -> Option<&Port>
-        ensures { MatchOption result (length self.now ≤ port)
-            (λ p. slice_get self.now port ≡ Some p.now) }
+        ensures { MatchOption result (length self.now.ports ≤ port)
+            (λ p. slice_get self.now.ports port ≡ Some p.now) }
     {
         self.ports.get(usize::from(port.get()))
     }
 
     /// Returns all ports, in the order of their numbers.
     pub fn into_ports(self) -> Vec<Port>
-        ensures { result.items ≡ self }
+        ensures { result.items ≡ self.ports }
     {
         self.ports
+    }
+
+    /// Compares the entries of a port, those of the chapters that it returned and of the chapter that it keeps, with
+    /// receipts in the order of their places. It allocates no memory.
+    ///
+    /// `Ok` exactly if the chapters are numbered from 0 up to the kept one, the first of them opens as the port was to be
+    /// opened, and the receipts are those of all entries: the k-th has this port, the place, the event and the reply of the
+    /// k-th entry, names the number of earlier receipts of its seat, and there are as many as entries and as the port took.
+    /// Otherwise the first chapter that is not right, or else the first receipt, or else `Count`.
+    pub fn settle(
+        &self,
+        port: PortNo,
+        chapters: &[Chapter],
+        receipts: &[Receipt],
+    ) -> Result<(), Unsettled>
+        ensures { MatchOption (history_at self.now port chapters.now)
+            (result ≡ Err (Unsettled.Chapter 0))
+            (λ h. MatchResult result (λ _. IsSettled h port receipts.now)
+            (λ why. TellsUnsettled h port receipts.now why)) }
+    {
+        let place = usize::from(port.get());
+        match self.ports.get(place) {
+            Some(kept) => settle_port(&self.opened[place], port, kept, chapters, receipts),
+            None => Err(Unsettled::Chapter { k: 0 }),
+        }
     }
 }

@@ -2,7 +2,6 @@ ghost use Rattle.std.specs.Prelude.{◌≡◌, ◌≢◌, ◌+◌, ◌^◌, ◌<
 ghost use Rattle.pon_desk.specs.Counts.{taken_of, AreSums, IsEven, IsUneven};
 
 use crate::books::Books;
-use crate::closed::Closed;
 use crate::held::Held;
 use crate::seat::Seat;
 use pon_port::Port;
@@ -59,6 +58,7 @@ fn join_seats<M: Ledger, L: Ledger>(
 {
     for seat in seats {
         let Seat {
+            number: _,
             counts,
             share,
             of: _,
@@ -94,14 +94,14 @@ pub(crate) fn settle<L: Ledger, M: Ledger>(
     seats: Vec<Seat<L, M>>,
     room: Vec<Port>,
     counts: Vec<u64>,
-) -> Result<Closed, (Vec<Port>, Vec<u64>)>
+) -> Result<Vec<Port>, (Vec<Port>, Vec<u64>)>
     requires ports { vec_len ports ≡ L.parts }
     requires seats { M.parts ≤ vec_len seats }
     requires room { (vec_len room ≡ 0) × (vec_len ports ≤ vec_capacity room) }
     requires zero { counts.items ≡ replicate L.parts 0 }
     ensures all { vec_len seats ≡ M.parts }
-    ensures even { IfOk result (λ closed. (length closed ≡ vec_len ports)
-        × IsEven closed seats.items) }
+    ensures even { IfOk result (λ closed. (vec_len closed ≡ vec_len ports)
+        × IsEven closed.items seats.items) }
     ensures uneven { IfErr result (λ fault. (vec_len fault.0 ≡ vec_len ports)
         × AreSums fault.1.items (vec_len ports) seats.items
         × IsUneven fault.0.items fault.1.items) }
@@ -119,7 +119,7 @@ pub(crate) fn settle<L: Ledger, M: Ledger>(
     join_seats(seats, &mut of_seats, &mut all_seats, counts.as_mut_slice());
     of_seats.audit(&mut all_seats);
     match first_uneven(ports.as_slice(), counts.as_slice()) {
-        None => Ok(Closed { ports }),
+        None => Ok(ports),
         Some(_) => Err((ports, counts)),
     }
 }

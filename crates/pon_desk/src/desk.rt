@@ -4,13 +4,13 @@ use crate::closing::settle;
 use crate::fault::CloseFault;
 use crate::held::Held;
 use crate::opening::{open_ports, open_seats};
-use crate::posted::Posted;
+use crate::receipt::Receipt;
 use crate::seat::Seat;
 use crate::view::{PortView, view_of};
 use pon_descr::Refusal;
 use pon_event::Event;
 use pon_plant::{PlantFault, StepFault};
-use pon_port::{Port, PortCfg};
+use pon_port::{Chapter, Port, PortCfg};
 use pon_units::{FrameNo, MOST_PORTS, PortNo};
 use std::alloc::Global;
 use std::marker::Model;
@@ -28,6 +28,8 @@ pub struct Desk<L: Ledger, M: Ledger> {
     // Room for the ports that `close` returns.
     room: Vec<Port>,
     counts: Vec<u64>,
+    // The configuration and the first frame with which each port was to be opened.
+    opened: Vec<(PortCfg, FrameNo)>,
 }
 
 impl<L: Ledger, M: Ledger> Model for Desk<L, M> {
@@ -37,21 +39,21 @@ impl<L: Ledger, M: Ledger> Model for Desk<L, M> {
 
     ghost Value = { DeskSize };
 
-    ghost view = { λ d. record { ports = vec_len d.ports; seats = d.seats } };
+    ghost view = { λ d. record { ports = vec_len d.ports; seats = d.seats; opened = d.opened.items } };
 
     ghost invariant = { λ d. (vec_len d.ports ≡ L.parts) × (d.seats ≡ M.parts)
         × (vec_len d.room ≡ 0) × (vec_len d.ports ≤ vec_capacity d.room)
-        × (d.counts.items ≡ replicate L.parts 0) × IsPlantSize (vec_len d.ports) };
+        × (d.counts.items ≡ replicate L.parts 0) × (vec_len d.opened ≡ L.parts) × IsPlantSize (vec_len d.ports) };
 }
 
 impl<L: Ledger, M: Ledger> Desk<L, M> {
-    ghost use Rattle.std.specs.Prelude.{◌≡◌, ◌<◌, ◌≤◌, ◌↔◌, ◌⊎◌, replicate, length, IfOk, IfErr, OnOk, OnErr};
+    ghost use Rattle.std.specs.Prelude.{◌≡◌, ◌<◌, ◌≤◌, ◌↔◌, ◌⊎◌, length, IfOk, IfErr, OnOk, OnErr};
     ghost use Rattle.std.specs.Fn.{FnOnceReturnsAt};
     ghost use Rattle.pon_port.specs.Chapters.{Chapter, IsLawfulChapter};
     ghost use Rattle.pon_plant.specs.Plants.{IsPlantSize, TellsOpening};
-    ghost use Rattle.pon_desk.specs.Counts.{IsEven, one_more_at, unused_seat};
-    ghost use Rattle.pon_desk.specs.Faults.{IsNoSuchPort, TellsClosing, TellsRefusal};
-    ghost use Rattle.pon_desk.specs.Posts.{IsSomePost};
+    ghost use Rattle.pon_desk.specs.Counts.{AreUnused, IsEven, one_more_at};
+    ghost use Rattle.pon_desk.specs.Faults.{IsNoSuchPort, TellsClosing, TellsRefusal, TellsTurn};
+    ghost use Rattle.pon_desk.specs.Posts.{IsSomePost, IsSomeTurn, NamesPost};
     ghost use Rattle.pon_desk.specs.Views.{view_of};
 
     /// Opens a port for each configuration and first frame, numbered from 0 in their order, and returns the desk with
@@ -74,8 +76,8 @@ impl<L: Ledger, M: Ledger> Desk<L, M> {
         requires some { 0 < seats }
         ensures ports { IfOk result (λ r. r.0.ports ≡ length ports.now) }
         ensures seats { IfOk result (λ r. r.0.seats ≡ seats) }
-        ensures unused { IfOk result (λ r. r.1.items
-            ≡ replicate seats (unused_seat (length ports.now))) }
+        ensures unused { IfOk result (λ r. AreUnused seats (length ports.now) r.1.items) }
+        ensures opened { IfOk result (λ r. r.0.opened ≡ ports.now) }
         ensures size { IfOk result (λ r. IsPlantSize (length ports.now)) }
         ensures err { IfErr result (λ fault. TellsOpening (length ports.now) fault) }
     {
@@ -93,6 +95,7 @@ impl<L: Ledger, M: Ledger> Desk<L, M> {
             seats,
             room: Vec::with_capacity(alloc, ports.len())?,
             counts: vec![in alloc; 0; ports.len()]?,
+            opened: ports.to_vec(alloc)?,
         };
         Ok((desk, opened))
     }
@@ -115,10 +118,11 @@ impl<L: Ledger, M: Ledger> Desk<L, M> {
         seat: &mut Seat<L, M>,
         port: PortNo,
         event: Event,
-    ) -> Result<Posted, StepFault>
+    ) -> Result<Receipt, StepFault>
         ensures no_such { IsNoSuchPort result ↔ self.now.ports ≤ port }
         // The state of the port at that moment is not stated, only that it was lawful.
-        ensures posted { IfOk result (λ posted. IsSomePost event posted) }
+        ensures posted { IfOk result (λ receipt. IsSomePost event receipt) }
+        ensures names { IfOk result (λ receipt. NamesPost port seat.old receipt) }
         ensures refused { IfErr result (λ fault. TellsRefusal event fault) }
         ensures counted { OnOk result (seat.new ≡ one_more_at port seat.old) }
         ensures err { OnErr result (seat.new ≡ seat.old) }
@@ -130,7 +134,27 @@ impl<L: Ledger, M: Ledger> Desk<L, M> {
         let mut held = lock.lock(rt);
         prove!(held.port().history().len() <= usize::MAX);
         match held.post(rt, &self.books, seat, port, event) {
-            Ok(posted) => Ok(posted),
+            Ok(receipt) => Ok(receipt),
+            Err(refusal) => Err(StepFault::Refused(refusal)),
+        }
+    }
+
+    /// Turns a port, under that port's lock, by one call of [`Held::turn`], with its refusals. It changes no count.
+    ///
+    /// `NoSuchPort` exactly if the desk has no such port. The chapter is lawful, as each [`Chapter`] is by its type; that
+    /// it is the one that the named port kept is not stated.
+    pub fn turn<R: Wait>(&self, rt: &R, port: PortNo) -> Result<Chapter, StepFault>
+        ensures no_such { IsNoSuchPort result ↔ self.now.ports ≤ port }
+        ensures turned { IfOk result (λ chapter. IsSomeTurn chapter) }
+        ensures refused { IfErr result TellsTurn }
+    {
+        let Some(lock) = self.ports.get(usize::from(port.get())) else {
+            return Err(StepFault::NoSuchPort);
+        };
+        let mut held = lock.lock(rt);
+        prove!(held.port().history().len() <= usize::MAX);
+        match held.turn() {
+            Ok(chapter) => Ok(chapter),
             Err(refusal) => Err(StepFault::Refused(refusal)),
         }
     }
@@ -183,9 +207,10 @@ impl<L: Ledger, M: Ledger> Desk<L, M> {
     /// `Missing` exactly if there are fewer seats than were opened; seats of another desk do not compile. `Uneven`
     /// exactly if all seats are given and some port took another number of entries than they count at it.
     pub fn close(self, seats: Vec<Seat<L, M>>) -> Result<Closed, CloseFault<L, M>>
-        ensures ports { IfOk result (λ closed. length closed ≡ self.ports) }
+        ensures ports { IfOk result (λ closed. length closed.ports ≡ self.ports) }
+        ensures opened { IfOk result (λ closed. closed.opened ≡ self.opened) }
         ensures seats { IfOk result (λ closed. length seats.items ≡ self.seats) }
-        ensures even { IfOk result (λ closed. IsEven closed seats.items) }
+        ensures even { IfOk result (λ closed. IsEven closed.ports seats.items) }
         ensures err { IfErr result (λ fault. TellsClosing self seats.items fault) }
     {
         if seats.len() < self.seats {
@@ -197,9 +222,10 @@ impl<L: Ledger, M: Ledger> Desk<L, M> {
             seats: _,
             room,
             counts,
+            opened,
         } = self;
         match settle(books.into_inner(), ports, seats, room, counts) {
-            Ok(closed) => Ok(closed),
+            Ok(ports) => Ok(Closed { ports, opened }),
             Err((ports, counts)) => Err(CloseFault::Uneven { ports, counts }),
         }
     }

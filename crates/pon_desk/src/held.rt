@@ -1,16 +1,16 @@
 ghost use Rattle.std.specs.Prelude.{◌≡◌, ◌<◌, ◌⊎◌, length, IfOk, IfErr, OnOk, OnErr};
 ghost use Rattle.pon_descr.specs.Checks.{IsTold};
 ghost use Rattle.pon_port.specs.Chapters.{IsLawfulChapter};
-ghost use Rattle.pon_port.specs.Taking.{refusal_of};
+ghost use Rattle.pon_port.specs.Taking.{Turns, refusal_of, turn_refusal};
 ghost use Rattle.pon_desk.specs.Counts.{one_more_at};
-ghost use Rattle.pon_desk.specs.Posts.{IsPosted};
+ghost use Rattle.pon_desk.specs.Posts.{IsPosted, NamesPost};
 
 use crate::books::Books;
-use crate::posted::{Posted, take};
+use crate::receipt::{Receipt, take};
 use crate::seat::{Seat, count_at};
 use pon_descr::Refusal;
 use pon_event::Event;
-use pon_port::Port;
+use pon_port::{Chapter, Port};
 use pon_units::PortNo;
 use std::marker::Model;
 use std::sync::ledger::{Ledger, Share};
@@ -60,9 +60,10 @@ impl<L: Ledger> Held<L> {
         seat: &mut Seat<L, M>,
         port: PortNo,
         event: Event,
-    ) -> Result<Posted, Refusal>
+    ) -> Result<Receipt, Refusal>
         requires { port < length seat.old.counts }
-        ensures ok { IfOk result (λ posted. IsPosted self.old event posted self.new) }
+        ensures ok { IfOk result (λ receipt. IsPosted self.old event receipt.placed self.new) }
+        ensures names { IfOk result (λ receipt. NamesPost port seat.old receipt) }
         ensures counted { OnOk result (seat.new ≡ one_more_at port seat.old) }
         ensures refused { IfErr result (λ told.
             IsTold (refusal_of self.old event) told ⊎ (told ≡ Refusal.ChapterFull)) }
@@ -70,6 +71,7 @@ impl<L: Ledger> Held<L> {
     {
         let Held { port: at, share } = self;
         let Seat {
+            number,
             counts,
             share: mine,
             of: _,
@@ -78,14 +80,29 @@ impl<L: Ledger> Held<L> {
             return Err(Refusal::ChapterFull);
         }
         match take(at, event) {
-            Ok(posted) => {
-                count_at(counts, port);
-                Ok(posted)
+            Ok(placed) => {
+                let nth = count_at(counts, port);
+                Ok(Receipt {
+                    port,
+                    placed,
+                    seat: *number,
+                    nth,
+                })
             }
             Err(refusal) => {
                 books.lock(rt).uncount(share, mine);
                 Err(refusal)
             }
         }
+    }
+
+    /// Turns the port, as [`Port::turn`] does, with its refusals: returns the kept chapter, and begins the next one in
+    /// the same state. The number of entries that the port took is unchanged, and so is its share.
+    pub fn turn(&mut self) -> Result<Chapter, Refusal>
+        ensures ok { IfOk result (λ chapter. Turns self.old chapter self.new) }
+        ensures refused { IfErr result (λ told. IsTold (turn_refusal self.old) told) }
+        ensures err { OnErr result (self.new ≡ self.old) }
+    {
+        self.port.turn()
     }
 }

@@ -1,6 +1,6 @@
-ghost use Rattle.std.specs.Prelude.{◌≡◌, replicate, length, vec_len, IfOk, OnOk};
+ghost use Rattle.std.specs.Prelude.{◌≡◌, length, vec_len, IfOk, OnOk};
 ghost use Rattle.pon_plant.specs.Plants.{opened_port, opened_ports};
-ghost use Rattle.pon_desk.specs.Counts.{unused_seat};
+ghost use Rattle.pon_desk.specs.Counts.{AreUnused, unused_seat};
 
 use crate::held::Held;
 use crate::seat::Seat;
@@ -75,15 +75,17 @@ pub(crate) fn open_ports<L: Ledger>(
 // Opens a seat without posts at this number of ports, with its part of the ledger.
 fn open_seat<L: Ledger, M: Ledger>(
     alloc: Global,
+    number: usize,
     ports: usize,
     share: Share<M>,
 ) -> Result<Seat<L, M>, AllocError>
     requires ports { ports ≡ L.parts }
     requires share { (share.parts ≡ 1) × (share.amount ≡ 0) }
-    ensures { IfOk result (λ seat. seat ≡ unused_seat ports) }
+    ensures { IfOk result (λ seat. seat ≡ unused_seat number ports) }
 {
     let counts = vec![in alloc; 0; ports]?;
     Ok(Seat {
+        number,
         counts,
         share,
         of: PhantomData,
@@ -99,13 +101,13 @@ pub(crate) fn open_seats<L: Ledger, M: Ledger>(
 ) -> Result<Vec<Seat<L, M>>, AllocError>
     requires ports { ports ≡ L.parts }
     requires seats { (all.old.parts ≡ seats) × (all.old.amount ≡ 0) }
-    ensures seats { IfOk result (λ opened. opened.items ≡ replicate seats (unused_seat ports)) }
+    ensures seats { IfOk result (λ opened. AreUnused seats ports opened.items) }
     ensures none { OnOk result ((all.new.parts ≡ 0) × (all.new.amount ≡ 0)) }
 {
     let mut opened = Vec::new(alloc);
-    for _seat in 0..seats {
+    for number in 0..seats {
         let share = all.split_off(1, 0);
-        opened.push(open_seat(alloc, ports, share)?)?;
+        opened.push(open_seat(alloc, number, ports, share)?)?;
     }
     Ok(opened)
 }

@@ -4,12 +4,13 @@ use pon_units::PortNo;
 use std::marker::{Model, PhantomData};
 use std::sync::ledger::{Ledger, Share};
 
-/// The right to post at the ports of one desk, with the number of its posts at each port.
+/// The right to post at the ports of one desk, with its number and the number of its posts at each port.
 ///
 /// Contracts see a seat as these numbers. There is one for each port of the desk, since the ledger of the ports is in
 /// the type.
 #[derive(Drop)]
 pub struct Seat<L: Ledger, M: Ledger> {
+    pub(crate) number: usize,
     pub(crate) counts: Vec<u64>,
     pub(crate) share: Share<M>,
     pub(crate) of: PhantomData<L>,
@@ -21,7 +22,7 @@ impl<L: Ledger, M: Ledger> Model for Seat<L, M> {
 
     ghost Value = { SeatCounts };
 
-    ghost view = { λ s. record { counts = s.counts.items } };
+    ghost view = { λ s. record { number = s.number; counts = s.counts.items } };
 
     ghost invariant = { λ s. (length s.counts.items ≡ L.parts)
         × (s.share.parts ≡ 1) × (s.share.amount ≡ sum s.counts.items) };
@@ -29,6 +30,13 @@ impl<L: Ledger, M: Ledger> Model for Seat<L, M> {
 
 impl<L: Ledger, M: Ledger> Seat<L, M> {
     ghost use Rattle.std.specs.Prelude.{◌≡◌, length};
+
+    /// Place of the seat in the list that [`Desk::open`](crate::Desk::open) returned, from 0. No call changes it.
+    pub fn number(&self) -> usize
+        ensures { result ≡ self.now.number }
+    {
+        self.number
+    }
 
     /// Number of posts made with this seat at each port, in the order of the ports' numbers.
     pub fn counts(&self) -> &[u64]
@@ -39,12 +47,15 @@ impl<L: Ledger, M: Ledger> Seat<L, M> {
     }
 }
 
-// Adds one to the count of a port.
-pub(crate) fn count_at(counts: &mut Vec<u64>, port: PortNo)
+// Adds one to the count of a port, and returns the former count.
+pub(crate) fn count_at(counts: &mut Vec<u64>, port: PortNo) -> u64
     requires is_port { port < length counts.old.items }
     requires fits { sum counts.old.items + 1 < 2 ^ 64 }
-    ensures { counts.new.items
+    ensures former { result ≡ slice_index counts.old.items port }
+    ensures counted { counts.new.items
         ≡ slice_set counts.old.items port (slice_index counts.old.items port + 1) }
 {
-    counts[usize::from(port.get())] += 1;
+    let former = counts[usize::from(port.get())];
+    counts[usize::from(port.get())] = former + 1;
+    former
 }

@@ -4,7 +4,7 @@ ghost use Rattle.std.specs.Prelude.{◌≡◌, ◌<◌, length};
 
 use pon_dbru::Occupancies;
 use pon_descr::{Cause, Class, Descriptor, Refusal};
-use pon_desk::{CloseFault, Desk, PlantFault, PortView, Posted, Seat, StepFault};
+use pon_desk::{CloseFault, Desk, PlantFault, PortView, Receipt, Seat, StepFault};
 use pon_event::Event;
 use pon_port::{Port, PortCfg, Reply};
 use pon_units::{AllocId, BufOcc, FrameNo, Gap, OnuId, PortNo, Profile};
@@ -159,7 +159,7 @@ fn post_in_turn<L: Ledger, M: Ledger, R: Wait + Abort>(
     alloc: Global,
     desk: &Desk<L, M>,
     seats: &mut Vec<Seat<L, M>>,
-) -> Result<Vec<Posted>, Fail> {
+) -> Result<Vec<Receipt>, Fail> {
     let mut posted = Vec::new(alloc);
     for k in 0..EVENTS {
         for port in 0..2u8 {
@@ -176,7 +176,7 @@ fn post_in_turn<L: Ledger, M: Ledger, R: Wait + Abort>(
 
 // Asserts that the port has its gap, and that its entries are the events with the replies of their posts, each at its
 // index.
-fn assert_kept(rt: &impl Abort, port: &Port, number: usize, posted: &[Posted])
+fn assert_kept(rt: &impl Abort, port: &Port, number: usize, posted: &[Receipt])
     requires { number < 2 }
 {
     let (gap, first) = PORTS[number];
@@ -185,10 +185,10 @@ fn assert_kept(rt: &impl Abort, port: &Port, number: usize, posted: &[Posted])
     assert_eq!(rt; port.history().len(), usize::from(EVENTS));
     for k in 0..EVENTS {
         let posted = posted.get(2 * usize::from(k) + number).expect(rt, "a post");
-        assert_eq!(rt; (posted.chapter, posted.index), (0, usize::from(k)));
-        let kept = port.history().get(posted.index).expect(rt, "an entry");
+        assert_eq!(rt; (posted.chapter(), posted.index()), (0, usize::from(k)));
+        let kept = port.history().get(posted.index()).expect(rt, "an entry");
         assert_eq!(rt; kept.event, event(rt, first, k));
-        assert_eq!(rt; kept.reply, posted.reply);
+        assert_eq!(rt; &kept.reply, posted.reply());
         if let Reply::Map(made) = &kept.reply {
             assert_eq!(rt; made.frame.get(), first + u64::from(k > 1));
         }
@@ -348,7 +348,7 @@ fn post_again<L: Ledger, M: Ledger, R: Wait + Abort>(
     desk: &Desk<L, M>,
     seat: &mut Seat<L, M>,
     k: u8,
-) -> Posted {
+) -> Receipt {
     match desk.post(rt, seat, number(rt, 0), event(rt, 0, k)) {
         Ok(posted) => posted,
         Err(fault) => {
@@ -394,7 +394,7 @@ fn run<L: Ledger, M: Ledger, R: Wait + Abort>(
     let seat = seats.get_mut(0).expect(rt, "a seat");
     for k in 0..EVENTS {
         let posted = post_again(rt, &desk, seat, k);
-        assert_eq!(rt; posted.index, usize::from(k));
+        assert_eq!(rt; posted.index(), usize::from(k));
         assert_eq!(rt; look_again(rt, alloc, &desk).last.is_some(), k > 0);
     }
     assert_eq!(rt; seat.counts(), [8, 0].as_slice());

@@ -6,7 +6,7 @@ use Rattle.pon_descr.specs.declared.refusal.Refusal.TheVariants.{OutOfMemory}
 use Rattle.pon_port.specs.Chapters.{Chapter, IsLawfulChapter, present_state}
 use Rattle.pon_port.specs.Last.{last_map}
 use Rattle.pon_desk.specs.Posts.{IsSomePost, IsSomeRefusal}
-use Rattle.pon_desk.specs.declared.posted.Posted.{Posted}
+use Rattle.pon_desk.specs.Receipts.{Receipt}
 use Rattle.pon_desk.specs.declared.view.PortView.{PortView}
 use Rattle.pon_line.specs.Reading.{read_line}
 use Rattle.pon_line.specs.declared.fault.LineFault.TheVariants.{Port}
@@ -17,7 +17,7 @@ use Rattle.pon_manage.specs.Text.{cert_line, refusal_line, reply_line, state_lin
 
 -- a port with a lawful chapter took the event, and the text is its reply
 abbrev pub TellsPosted : Event → List ℕ → Type 0
-TellsPosted event text = (posted : Posted) × IsSomePost event posted × (text ≡ reply_line posted.index posted.reply)
+TellsPosted event text = (receipt : Receipt) × IsSomePost event receipt × (text ≡ reply_line receipt.placed.index receipt.placed.entry.reply)
 
 -- a check of a port with a lawful chapter refused the event, or the desk is full, and the text is the refusal
 abbrev pub TellsRefused : Event → List ℕ → Type 0

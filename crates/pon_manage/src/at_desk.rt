@@ -34,7 +34,7 @@ fn answer_event<L: Ledger, M: Ledger, H: Wait>(
     ensures err { OnErr result (replies.new.items ≡ replies.old.items) }
 {
     match desk.post(rt, seat, port, event) {
-        Ok(posted) => append_reply(replies, room, posted.index, &posted.reply),
+        Ok(receipt) => append_reply(replies, room, receipt.index(), receipt.reply()),
         Err(StepFault::Refused(refusal)) => match refusal {
             Refusal::OutOfMemory => Err(AllocError),
             told => append_refusal(replies, LineFault::Port(told)),

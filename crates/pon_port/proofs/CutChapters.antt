@@ -1,7 +1,7 @@
 -- A lawful chapter splits into two lawful chapters.
 use Rattle.std.proofs.Common.{◌≡◌, ℕ, ◌<◌, [], ◌++◌, take, drop, ap, sym, ◌∙◌, subst, append-nil}
 use Rattle.std.proofs.lemmas.List.{take-append-drop}
-use Rattle.pon_state.specs.Loads.{replay}
+use Rattle.pon_state.specs.History.{replay}
 use Rattle.pon_port.specs.Chapters.{Chapter, IsLawfulChapter, present_state, state_before}
 use Rattle.pon_port.proofs.Legality.{IsLegalAfter, after_from_legal, legal_from_after, legal_split}
 use Rattle.pon_port.proofs.Cutting.{follow_replay, replay-append}

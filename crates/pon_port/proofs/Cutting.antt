@@ -18,7 +18,10 @@ use Rattle.pon_state.specs.State.{State}
 use Rattle.pon_state.specs.Legal.{MayFollow}
 use Rattle.pon_port.specs.Chapters.{IsLegal}
 use Rattle.pon_state.specs.Replay.{all_maps, allocs_of, begins, forgets, frame_at_last, maps_of, next_of, roster_of, window_of, with_reports}
-use Rattle.pon_state.specs.Loads.{account_after, candidates, candidates_in, counted_of, opening_candidates, replay, since_of}
+use Rattle.pon_state.specs.Loads.{account_after, book_of, candidates, candidates_in, counted_of, opening_candidates, since_of}
+use Rattle.pon_state.specs.Carries.{admits_now, input_after, rate_of_reply, rates_since}
+use Rattle.pon_state.specs.History.{replay}
+use Rattle.pon_port.proofs.Carries.{carries-append}
 use Rattle.pon_state.specs.Checks.{first_refusal, refuses, when_down, when_full}
 use Rattle.pon_event.specs.declared.event.Event.{Event}
 use Rattle.pon_event.specs.declared.event.Event.TheVariants.{Admit, Change, Remove, Report, MakeMap, Fail, Restore}
@@ -208,9 +211,9 @@ accounts_same f g (i ∷ ids) h =
 pub alloc_ids-replay : (o : State) (xs : List Entry) → alloc_ids (replay o xs).book ≡ allocs_of (alloc_ids o.book) xs
 alloc_ids-replay o xs = map-map (λ a. a.alloc_id) (account_after o xs) (allocs_of (alloc_ids o.book) xs) ∙ map-id (allocs_of (alloc_ids o.book) xs)
 
--- the replay of a split history
-pub replay-append : (o : State) (xs ys : List Entry) → AreConsecutive o.next o.window → IsLegalAfter o [] (xs ++ ys) → replay o (xs ++ ys) ≡ replay (replay o xs) ys
-replay-append o xs ys leads legal =
+-- the report book of a split history
+pub book-append : (o : State) (xs ys : List Entry) → AreConsecutive o.next o.window → IsLegalAfter o [] (xs ++ ys) → book_of o (xs ++ ys) ≡ book_of (replay o xs) ys
+book-append o xs ys leads legal =
     let two : IsLegalAfter o [] xs × IsLegalAfter o xs ys = legal_split o [] xs ys legal in
     let below : AreBelow (next_of o.next xs) xs = legal_below o [] xs (next_of o.next xs) leads two.0 (omega arith) in
     let within : AreWithin (next_of o.next xs) (length (window_of o xs)) ys = legal_within o xs [] ys leads (subst (λ t. IsLegalAfter o t ys) (sym (append-nil xs)) two.1) in
@@ -221,8 +224,29 @@ replay-append o xs ys leads legal =
       since = since-append o xs ys leads below within i there j;
       counted = counted-append o xs ys leads below within i there j;
     })) in
-    let book : map (account_after o (xs ++ ys)) (allocs_of (alloc_ids o.book) (xs ++ ys)) ≡ map (account_after (replay o xs) ys) (allocs_of (alloc_ids (replay o xs).book) ys)
-    = ap (map (account_after o (xs ++ ys))) (allocs_of-append (alloc_ids o.book) xs ys) ∙ same ∙ ap (λ ids. map (account_after (replay o xs) ys) (allocs_of ids ys)) (sym (alloc_ids-replay o xs)) in
+    ap (map (account_after o (xs ++ ys))) (allocs_of-append (alloc_ids o.book) xs ys) ∙ same ∙ ap (λ ids. map (account_after (replay o xs) ys) (allocs_of ids ys)) (sym (alloc_ids-replay o xs))
+
+-- the rates of a split history: they depend on the report book and the roster alone
+rates_split : (o : State) (i : ℕ) (xs done ys : List Entry) → AreConsecutive o.next o.window → IsLegalAfter o [] (xs ++ done) → IsLegalAfter o (xs ++ done) ys →
+    rates_since o i (xs ++ done) ys ≡ rates_since (replay o xs) i done ys
+rates_split o i xs done [] leads before legal = refl
+rates_split o i xs done (e ∷ ys) leads before legal =
+    let read : input_after o (xs ++ done) ≡ input_after (replay o xs) done
+    = (λ j. record { rule = o.rule; gap = o.gap; roster = roster_of-append o.roster xs done j; book = book-append o xs done leads before j }) in
+    let later : rates_since o i ((xs ++ done) ++ e ∷ []) ys ≡ rates_since (replay o xs) i (done ++ e ∷ []) ys
+    = ap (λ t. rates_since o i t ys) (append_assoc xs done (e ∷ []))
+    ∙ rates_split o i xs (done ++ e ∷ []) ys leads
+    (subst (λ t. IsLegalAfter o [] t) (append_assoc xs done (e ∷ [])) (legal_push o [] (xs ++ done) e before legal.0))
+    (subst (λ t. IsLegalAfter o t ys) (append_assoc xs done (e ∷ [])) legal.1) in
+    (λ j. (if list_any (admits_now i) ys then 0 else rate_of_reply (read j) e.reply i) + later j)
+
+-- the replay of a split history
+pub replay-append : (o : State) (xs ys : List Entry) → AreConsecutive o.next o.window → IsLegalAfter o [] (xs ++ ys) → replay o (xs ++ ys) ≡ replay (replay o xs) ys
+replay-append o xs ys leads legal =
+    let two : IsLegalAfter o [] xs × IsLegalAfter o xs ys = legal_split o [] xs ys legal in
+    let rates : (i : ℕ) → rates_since o i xs ys ≡ rates_since (replay o xs) i [] ys
+    = λ i. ap (λ t. rates_since o i t ys) (sym (append-nil xs))
+    ∙ rates_split o i xs [] ys leads (subst (λ t. IsLegalAfter o [] t) (sym (append-nil xs)) two.0) (subst (λ t. IsLegalAfter o t ys) (sym (append-nil xs)) two.1) in
     let taken : o.taken_before + length (xs ++ ys) ≡ (o.taken_before + length xs) + length ys = omega (arith, length-append xs ys) in
     (λ j. record {
       rule = o.rule;
@@ -232,7 +256,8 @@ replay-append o xs ys leads legal =
       cause = cause_of-append o.cause xs ys j;
       taken_before = taken j;
       roster = roster_of-append o.roster xs ys j;
-      book = book j;
+      book = book-append o xs ys leads legal j;
+      carries = carries-append o xs ys rates j;
       window = window_of-append o xs ys leads j;
     })
 

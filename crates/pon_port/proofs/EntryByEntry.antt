@@ -3,7 +3,7 @@ use Rattle.std.proofs.Common.{◌≡◌, ℕ, [], ◌∷◌, ◌++◌, length, r
 use Rattle.pon_state.specs.State.{State}
 use Rattle.pon_state.specs.After.{after_entry, after_event, after_reply}
 use Rattle.pon_state.specs.Legal.{MayFollow}
-use Rattle.pon_state.specs.Loads.{replay}
+use Rattle.pon_state.specs.History.{replay}
 use Rattle.pon_event.specs.declared.event.Event.{Event}
 use Rattle.pon_event.specs.declared.event.Event.TheVariants.{Admit, Change, Remove, Report, MakeMap, Fail, Restore}
 use Rattle.pon_state.specs.declared.reply.Reply.{Reply}
@@ -26,6 +26,7 @@ kept_at_present c l = record {
   replayed = refl;
   admitted = admitted_at_present c l;
   book = (present_lawful c l).steady.book;
+  carries = (present_lawful c l).steady.carries;
 }
 
 -- the reply to an event that makes no map is `Taken`

@@ -3,11 +3,13 @@ use Rattle.std.proofs.Common.{◌≡◌, ℕ, refl, ap, sym, ◌∙◌, subst, a
 use Rattle.std.specs.Prelude.{Some, slice_get}
 use Rattle.pon_burst.specs.Bursts.{AreSound}
 use Rattle.pon_descr.specs.declared.class.Class.TheVariants.{NonAssured, BestEffort}
-use Rattle.pon_admit.specs.Roster.{IsAdmitted}
+use Rattle.pon_admit.specs.Roster.{IsAdmitted, most_carry}
 use Rattle.pon_cert.proofs.Fairness.{is_fairest}
 use Rattle.pon_cert.proofs.LeftSurplus.{left_rest}
 use Rattle.pon_cert.proofs.OneCertificate.{one_certificate}
-use Rattle.pon_state.specs.State.{State, input_of}
+use Rattle.pon_share.specs.Carries.{AreCarries}
+use Rattle.pon_share.proofs.Carries.{carry_within}
+use Rattle.pon_state.specs.State.{State, carry_at, input_of}
 use Rattle.pon_share.specs.Input.{Input}
 use Rattle.pon_share.specs.Sharing.{items, spelled_rate, surplus, surplus_rate}
 use Rattle.pon_state.specs.Legal.{IsMade, IsReply}
@@ -23,11 +25,11 @@ use Rattle.pon_state.specs.declared.reply.Entry.{Entry}
 use Rattle.pon_share.specs.ClassShares.{best_effort_surplus}
 use Rattle.pon_share.proofs.ClassShares.{best_effort_alone, left_within, members_agree, non_assured_alone, spelled_rates, weighted}
 use Rattle.pon_share.proofs.Dealing.{problem_of, surplus_range}
-use Rattle.pon_port.proofs.LawfulChapters.{admitted_before}
+use Rattle.pon_port.proofs.LawfulChapters.{admitted_before, carries_before}
 use Rattle.pon_share.proofs.RosterMaps.{admitted_map_is_sound, guaranteed_fits}
 use Rattle.pon_state.proofs.KeptMaps.{window_grants}
 
-module _ (s : State) (k : IsAdmitted s.rule s.gap s.roster) where
+module _ (s : State) (k : IsAdmitted s.rule s.gap s.roster) (carries : AreCarries s.rule s.roster s.carries) where
   pub fair_map : (made : MadeMap) → IsMade s made → IsFairMap s made
   fair_map made m =
       let i : Input = input_of s in
@@ -49,8 +51,8 @@ module _ (s : State) (k : IsAdmitted s.rule s.gap s.roster) where
             members_agree BestEffort (surplus_rate i made.cert) (spelled_rate i BestEffort made.cert.be)
             (λ r e. best_effort_alone r.descriptor.class (spelled_rate i NonAssured made.cert.na r) (spelled_rate i BestEffort made.cert.be r) e) s.roster
             ∙ spelled_rates i BestEffort made.cert.be (best_effort_surplus i made.cert) k m.certified.best_effort;
-        words = ap (grants_of s.roster) m.map ∙ window_grants s.profile i (surplus_rate i made.cert);
-        bursts = subst (AreSound s.gap) (sym m.map) (admitted_map_is_sound i made.cert k m.certified s.profile);
+        words = ap (grants_of s.roster) m.map ∙ window_grants s.profile i (surplus_rate i made.cert) (carry_at s);
+        bursts = subst (AreSound s.gap) (sym m.map) (admitted_map_is_sound i made.cert (carry_at s) k m.certified (λ r. carry_within (most_carry s.rule) s.roster s.carries r.alloc_id carries.range) s.profile);
         non_assured_problem = problem_of i NonAssured (surplus i) refl k.few_allocs k.in_range (surplus_range i);
         best_effort_problem = problem_of i BestEffort (best_effort_surplus i made.cert) refl k.few_allocs k.in_range (left_within made.cert.na.level (items NonAssured i) (surplus i) (surplus_range i));
         map = m.map;
@@ -65,7 +67,7 @@ maps_are_fair c l n e at = told e.event e.reply (l.legal n e at).reply
 
     told : (v : Event) (reply : Reply) → IsReply (state_before c n) v reply → TellsFairMap (state_before c n) reply
     told v Taken h = tt
-    told MakeMap (Map made) h = fair_map (state_before c n) k made h
+    told MakeMap (Map made) h = fair_map (state_before c n) k (carries_before c n) made h
     told (Admit onu alloc_id descriptor) (Map made) h = absurd (let t : Map made ≡ Taken = h in cc)
     told (Change alloc_id descriptor) (Map made) h = absurd (let t : Map made ≡ Taken = h in cc)
     told (Remove alloc_id) (Map made) h = absurd (let t : Map made ≡ Taken = h in cc)

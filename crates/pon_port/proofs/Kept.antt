@@ -9,7 +9,7 @@ use Rattle.std.proofs.lemmas.List.Sums.{sum_by-cons}
 use Rattle.pon_descr.specs.Descriptor.{Descriptor, IsLawful}
 use Rattle.pon_descr.proofs.Checks.{or_else_none}
 use Rattle.pon_admit.specs.declared.row.Row.{Row}
-use Rattle.pon_admit.specs.Roster.{IsInRange, refuses_admit}
+use Rattle.pon_admit.specs.Roster.{IsDistinct, IsInRange, refuses_admit, with_row, without}
 use Rattle.pon_admit.proofs.AdmittedSets.{passes}
 use Rattle.pon_event.specs.declared.event.Event.{Event}
 use Rattle.pon_event.specs.declared.event.Event.TheVariants.{Admit, Change, Fail, MakeMap, Remove, Report, Restore}
@@ -25,21 +25,25 @@ use Rattle.pon_guar.specs.Reports.{latest}
 use Rattle.pon_guar.specs.Loads.{afresh, less, lessened, with_account, without_account}
 use Rattle.pon_state.specs.State.{State}
 use Rattle.pon_state.specs.Replay.{admits, allocs_after, begins, cause_after, forgets, grants_of, makes_map, new_map, next_of, is_report_for, roster_after, structures, window_of, with_reports}
-use Rattle.pon_state.specs.Loads.{account_after, candidates_in, counted_of, replay, since_of}
+use Rattle.pon_state.specs.Loads.{account_after, book_of, candidates_in, counted_of, since_of}
+use Rattle.pon_state.specs.Carries.{carries_left, carry_after}
+use Rattle.pon_state.specs.History.{replay}
+use Rattle.pon_share.specs.Carries.{carries_of, number_of}
+use Rattle.pon_port.proofs.Carries.{carries_changed, carries_kept, carries_map, carries_quiet, carry_quiet}
 use Rattle.pon_state.specs.Checks.{first_refusal, when_full}
 use Rattle.pon_state.specs.Events.{IsEvent, IsManaged, IsReported}
 use Rattle.pon_state.specs.Legal.{IsMade, MayFollow}
 use Rattle.pon_port.specs.Chapters.{Chapter, IsLawfulChapter, present_state}
 use Rattle.pon_port.specs.Taking.{IsKept, Takes, with_entry}
-use Rattle.pon_state.specs.After.{after_admit, after_change, after_cut, after_event, after_map, after_remove, after_report, with_parts}
+use Rattle.pon_state.specs.After.{admitted_carry, after_admit, after_change, after_cut, after_event, after_map, after_remove, after_report, with_parts}
 use Rattle.pon_guar.proofs.Accounts.{accounts_all, accounts_kept, found_each}
-use Rattle.pon_lists.proofs.Lists.{All-unmap, none_any}
+use Rattle.pon_lists.proofs.Lists.{All-unmap, map_same, none_any}
 use Rattle.pon_port.proofs.Legality.{IsLegalAfter, after_from_legal, legal_from_after, legal_push}
 use Rattle.pon_port.proofs.Cutting.{replay-append}
 use Rattle.pon_port.proofs.Steps.{counted_forgotten, counted_of-map, counted_of-report, last_64-window, since_begins, since_keeps, window_of-cut, window_of-map, window_of-quiet}
 use Rattle.pon_port.proofs.Steady.{IsSteady, steady_step}
 use Rattle.pon_port.proofs.ReportSteps.{latest_lone, report_step}
-use Rattle.pon_port.proofs.LawfulStates.{IsLawfulState, from_opening, legal_state}
+use Rattle.pon_port.proofs.LawfulStates.{IsLawfulState, from_opening, legal_state, replay_none}
 
 -- The step of a map.
 
@@ -70,10 +74,11 @@ book_map s reply rising = each s.book (found_each s.book rising)
     each [] h = refl
     each (x ∷ book) h = (λ j. one x (All-head (λ a. account_of s.book a.alloc_id ≡ Some a) x book h) j ∷ each book (All-tail (λ a. account_of s.book a.alloc_id ≡ Some a) x book h) j)
 
-map_step : (o : State) (es : List Entry) (reply : Reply) → AreRising (alloc_ids (replay o es).book) →
-    after_map (replay o es) (grants_of (replay o es).roster (structures reply)) ≡ replay (replay o es) (record { event = MakeMap; reply = reply } ∷ [])
-map_step o es reply rising =
+map_step : (o : State) (es : List Entry) (made : MadeMap) → AreRising (alloc_ids (replay o es).book) → book_of (replay o es) [] ≡ (replay o es).book → IsDistinct (replay o es).roster →
+    after_map (replay o es) (grants_of (replay o es).roster made.map) (carries_left (replay o es) (Map made)) ≡ replay (replay o es) (record { event = MakeMap; reply = Map made } ∷ [])
+map_step o es made rising same apart =
     let s : State = replay o es in
+    let reply : Reply = Map made in
     let window : last_64 (window_of o es ++ new_map s.roster s.next reply ∷ []) ≡ window_of s (record { event = MakeMap; reply = reply } ∷ []) = sym (window_of-map o es reply) in
     (λ i. record {
       rule = s.rule;
@@ -84,14 +89,15 @@ map_step o es reply rising =
       taken_before = s.taken_before + 1;
       roster = s.roster;
       book = book_map s reply rising i;
+      carries = carries_map s made same apart i;
       window = window i;
     })
 
 -- The step of an event that changes only the roster: it makes no map, drops nothing and reports nothing.
 
 -- with other rows and accounts
-abbrev after_roster : State → List Row → List Account → State
-after_roster s rows book = with_parts s s.next s.cause rows (record { accounts = book; window = s.window })
+abbrev after_roster : State → List Row → List ℕ → List Account → State
+after_roster s rows carries book = with_parts s s.next s.cause rows carries (record { accounts = book; window = s.window })
 
 module _ (s : State) (e : Entry) (m : makes_map e.event ≡ false) (none : (ms : List WindowMap) (since i : ℕ) → candidates_in ms since i e.event ≡ []) where
   -- an account is unchanged unless the entry admits its Alloc-ID
@@ -111,10 +117,11 @@ module _ (s : State) (e : Entry) (m : makes_map e.event ≡ false) (none : (ms :
 abbrev taken_entry : Event → Entry
 taken_entry v = record { event = v; reply = Taken }
 
-roster_step : (o : State) (es : List Entry) (v : Event) (book : List Account) → ((frame onu : ℕ) → is_report_for frame onu v ≡ false) → makes_map v ≡ false → forgets v ≡ false →
-    ((cause : Option ℕ) → cause_after cause v ≡ cause) → map (account_after (replay o es) (taken_entry v ∷ [])) (allocs_after (alloc_ids (replay o es).book) v) ≡ book →
-    after_roster (replay o es) (roster_after (replay o es).roster v) book ≡ replay (replay o es) (taken_entry v ∷ [])
-roster_step o es v book quiet m f up same =
+roster_step : (o : State) (es : List Entry) (v : Event) (carries : List ℕ) (book : List Account) → ((frame onu : ℕ) → is_report_for frame onu v ≡ false) → makes_map v ≡ false → forgets v ≡ false →
+    ((cause : Option ℕ) → cause_after cause v ≡ cause) → carries_of (carry_after (replay o es) (taken_entry v ∷ [])) (roster_after (replay o es).roster v) ≡ carries →
+    map (account_after (replay o es) (taken_entry v ∷ [])) (allocs_after (alloc_ids (replay o es).book) v) ≡ book →
+    after_roster (replay o es) (roster_after (replay o es).roster v) carries book ≡ replay (replay o es) (taken_entry v ∷ [])
+roster_step o es v carries book quiet m f up left same =
     let s : State = replay o es in
     let e : Entry = taken_entry v in
     let maps : count_by (λ e. makes_map e.event) (e ∷ []) ≡ 0 = sum_by-cons (λ e. cond (makes_map e.event) 1 0) e [] ∙ ap (λ b. cond b 1 0 + 0) m in
@@ -129,6 +136,7 @@ roster_step o es v book quiet m f up same =
       taken_before = s.taken_before + 1;
       roster = roster_after s.roster v;
       book = sym same j;
+      carries = sym left j;
       window = window j;
     })
 
@@ -151,16 +159,18 @@ admit_step o es r rising free =
     = λ j h. ap (λ b. b || false) (ne_eqb i j (λ q. let t : true ≡ false = sym (eq-eqb j i (sym q)) ∙ h in cc)) in
     let same : All (λ a. account_after s (e ∷ []) a.alloc_id ≡ a) s.book = same_accounts s e refl (λ ms since i. refl) rising (none_begins i (alloc_ids s.book) v others free) in
     let g : ℕ → Account = account_after s (e ∷ []) in
-    roster_step o es v (with_account (record { alloc_id = i; since = s.next; counted = None }) s.book) (λ frame onu. refl) refl refl (λ cause. refl)
+    roster_step o es v (carries_of (admitted_carry s i) (with_row r s.roster)) (with_account (record { alloc_id = i; since = s.next; counted = None }) s.book) (λ frame onu. refl) refl refl (λ cause. refl)
+    (map_same (λ q. carry_after s (e ∷ []) q.alloc_id) (λ q. admitted_carry s i q.alloc_id) (λ q. carry_quiet s e q.alloc_id (carries_kept o es).range refl) (with_row r s.roster))
     (map-append g (filter (λ j. nat_lt j i) (alloc_ids s.book)) (i ∷ filter (λ j. not (nat_lt j i)) (alloc_ids s.book))
     ∙ (λ j. accounts_kept g (λ j. nat_lt j i) s.book same j ++ new j ∷ accounts_kept g (λ j. not (nat_lt j i)) s.book same j))
 
-change_step : (o : State) (es : List Entry) (i : ℕ) (d : Descriptor) → AreRising (alloc_ids (replay o es).book) →
+change_step : (o : State) (es : List Entry) (i : ℕ) (d : Descriptor) → AreRising (alloc_ids (replay o es).book) → IsDistinct (replay o es).roster →
     after_change (replay o es) i d ≡ replay (replay o es) (taken_entry (Change i d) ∷ [])
-change_step o es i d rising =
+change_step o es i d rising apart =
     let s : State = replay o es in
     let e : Entry = taken_entry (Change i d) in
-    roster_step o es (Change i d) s.book (λ frame onu. refl) refl refl (λ cause. refl)
+    roster_step o es (Change i d) s.carries s.book (λ frame onu. refl) refl refl (λ cause. refl)
+    (carries_changed (carry_after s (e ∷ [])) i d s.roster ∙ carries_quiet s e (carries_kept o es) apart (λ j. refl) refl)
     (accounts_all (account_after s (e ∷ [])) s.book (same_accounts s e refl (λ ms since i. refl) rising (λ n d l. refl)))
 
 remove_step : (o : State) (es : List Entry) (i : ℕ) → AreRising (alloc_ids (replay o es).book) →
@@ -168,15 +178,16 @@ remove_step : (o : State) (es : List Entry) (i : ℕ) → AreRising (alloc_ids (
 remove_step o es i rising =
     let s : State = replay o es in
     let e : Entry = taken_entry (Remove i) in
-    roster_step o es (Remove i) (without_account i s.book) (λ frame onu. refl) refl refl (λ cause. refl)
+    roster_step o es (Remove i) (carries_of (number_of s.roster s.carries) (without i s.roster)) (without_account i s.book) (λ frame onu. refl) refl refl (λ cause. refl)
+    (map_same (λ q. carry_after s (e ∷ []) q.alloc_id) (λ q. number_of s.roster s.carries q.alloc_id) (λ q. carry_quiet s e q.alloc_id (carries_kept o es).range refl) (without i s.roster))
     (accounts_kept (account_after s (e ∷ [])) (λ j. not (j == i)) s.book (same_accounts s e refl (λ ms since i. refl) rising (λ n d l. refl)))
 
 -- The steps of a line failure and of a restoration: the reports and the window are dropped.
 
 cut_step : (o : State) (es : List Entry) (v : Event) (cause : Option ℕ) → AreConsecutive o.next o.window → makes_map v ≡ false → forgets v ≡ true → ((ms : List WindowMap) (since i : ℕ) → candidates_in ms since i v ≡ []) →
-    roster_after (replay o es).roster v ≡ (replay o es).roster → allocs_after (alloc_ids (replay o es).book) v ≡ alloc_ids (replay o es).book → cause_after (replay o es).cause v ≡ cause →
+    roster_after (replay o es).roster v ≡ (replay o es).roster → allocs_after (alloc_ids (replay o es).book) v ≡ alloc_ids (replay o es).book → cause_after (replay o es).cause v ≡ cause → IsDistinct (replay o es).roster → ((i : ℕ) → admits i v ≡ false) →
     after_cut (replay o es) cause ≡ replay (replay o es) (taken_entry v ∷ [])
-cut_step o es v cause leads m f none rows ids told =
+cut_step o es v cause leads m f none rows ids told apart quiet =
     let s : State = replay o es in
     let e : Entry = taken_entry v in
     let maps : count_by (λ e. makes_map e.event) (e ∷ []) ≡ 0 = sum_by-cons (λ e. cond (makes_map e.event) 1 0) e [] ∙ ap (λ b. cond b 1 0 + 0) m in
@@ -190,6 +201,7 @@ cut_step o es v cause leads m f none rows ids told =
       taken_before = s.taken_before + 1;
       roster = sym rows j;
       book = (sym (afresh_all s e f none s.book) ∙ ap (map (account_after s (e ∷ []))) (sym ids)) j;
+      carries = (sym (carries_quiet s e (carries_kept o es) apart quiet refl) ∙ ap (carries_of (carry_after s (e ∷ []))) (sym rows)) j;
       window = sym (window_of-cut o es e leads m f) j;
     })
   where
@@ -220,6 +232,7 @@ next_chapter c s t event reply k follows step =
       replayed = after ∙ sym (replay-append c.opening c.entries (e ∷ []) k.lawful.opening.frames legal);
       admitted = steady.admitted;
       book = steady.book;
+      carries = steady.carries;
     }
 
 -- the frames of its window are consecutive and end before the next frame
@@ -228,12 +241,13 @@ kept_frames c s k = subst (λ s. AreConsecutive s.next s.window) (sym k.replayed
 
 -- the state after a map is kept
 pub mapped : (c d : Chapter) (s t : State) (made : MadeMap) → IsKept c s → first_refusal (length c.entries) s MakeMap ≡ None → IsMade s made →
-    d ≡ with_entry c MakeMap (Map made) → t ≡ after_map s (grants_of s.roster made.map) → IsKept d t
+    d ≡ with_entry c MakeMap (Map made) → t ≡ after_map s (grants_of s.roster made.map) (carries_left s (Map made)) → IsKept d t
 mapped c d s t made k accepted is_made more after =
-    rw (more, after) (next_chapter c s (after_map s (grants_of s.roster made.map)) MakeMap (Map made) k
+    let steady : IsSteady (present_state c) = (present_lawful c k.lawful).steady in
+    rw (more, after) (next_chapter c s (after_map s (grants_of s.roster made.map) (carries_left s (Map made))) MakeMap (Map made) k
     (record { event = tt; accepted = accepted; reply = is_made })
-    (λ e. subst (λ s. after_map s (grants_of s.roster made.map) ≡ replay s (record { event = MakeMap; reply = Map made } ∷ [])) e
-    (map_step c.opening c.entries (Map made) (subst (λ s. AreRising (alloc_ids s.book)) (sym e) k.book.0))))
+    (λ e. subst (λ s. after_map s (grants_of s.roster made.map) (carries_left s (Map made)) ≡ replay s (record { event = MakeMap; reply = Map made } ∷ [])) e
+    (map_step c.opening c.entries made (subst (λ s. AreRising (alloc_ids s.book)) (sym e) k.book.0) (ap (λ t. t.book) (replay_none (present_state c) steady)) steady.admitted.apart)))
 
 -- the state after an admission is kept
 pub admitted : (c d : Chapter) (s t : State) (r : Row) → IsKept c s → IsInRange r → first_refusal (length c.entries) s (Admit r.onu r.alloc_id r.descriptor) ≡ None →
@@ -253,7 +267,7 @@ changed c d s t i t2 k in_range accepted more after =
     rw (more, after) (next_chapter c s (after_change s i t2) (Change i t2) Taken k
     (record { event = in_range; accepted = accepted; reply = refl })
     (λ e. subst (λ s. after_change s i t2 ≡ replay s (taken_entry (Change i t2) ∷ [])) e
-    (change_step c.opening c.entries i t2 (subst (λ s. AreRising (alloc_ids s.book)) (sym e) k.book.0))))
+    (change_step c.opening c.entries i t2 (subst (λ s. AreRising (alloc_ids s.book)) (sym e) k.book.0) (present_lawful c k.lawful).steady.admitted.apart)))
 
 -- the state after a removal is kept
 pub removed : (c d : Chapter) (s t : State) (i : ℕ) → IsKept c s → IsManaged i → first_refusal (length c.entries) s (Remove i) ≡ None →
@@ -282,14 +296,14 @@ module _ (c d : Chapter) (s t : State) (k : IsKept c s) where
       rw (more, after) (next_chapter c s (after_cut s (Some cause)) (Fail cause) Taken k
       (record { event = in_range; accepted = accepted; reply = refl })
       (λ e. subst (λ s. after_cut s (Some cause) ≡ replay s (taken_entry (Fail cause) ∷ [])) e
-      (cut_step c.opening c.entries (Fail cause) (Some cause) k.lawful.opening.frames refl refl (λ ms since i. refl) refl refl refl)))
+      (cut_step c.opening c.entries (Fail cause) (Some cause) k.lawful.opening.frames refl refl (λ ms since i. refl) refl refl refl (present_lawful c k.lawful).steady.admitted.apart (λ i. refl))))
 
   pub restored : first_refusal (length c.entries) s Restore ≡ None → d ≡ with_entry c Restore Taken → t ≡ after_cut s None → IsKept d t
   restored accepted more after =
       rw (more, after) (next_chapter c s (after_cut s None) Restore Taken k
       (record { event = tt; accepted = accepted; reply = refl })
       (λ e. subst (λ s. after_cut s None ≡ replay s (taken_entry Restore ∷ [])) e
-      (cut_step c.opening c.entries Restore None k.lawful.opening.frames refl refl (λ ms since i. refl) refl refl refl)))
+      (cut_step c.opening c.entries Restore None k.lawful.opening.frames refl refl (λ ms since i. refl) refl refl refl (present_lawful c k.lawful).steady.admitted.apart (λ i. refl))))
 
 -- the state after a report is kept
 pub reported : (c d : Chapter) (s t : State) (f u : ℕ) (ns : List (Option ℕ)) → IsKept c s → IsReported f u ns → first_refusal (length c.entries) s (Report f u ns) ≡ None →

@@ -5,13 +5,15 @@ use Rattle.std.proofs.lemmas.List.{append-nil, take-append-drop}
 use Rattle.pon_admit.specs.Roster.{IsAdmitted, refuses_admit, refuses_change}
 use Rattle.pon_state.specs.State.{State}
 use Rattle.pon_state.specs.Replay.{roster_after}
-use Rattle.pon_state.specs.Loads.{replay}
+use Rattle.pon_state.specs.History.{replay}
 use Rattle.pon_state.specs.Checks.{first_refusal, when_full}
 use Rattle.pon_state.specs.Events.{IsEvent}
 use Rattle.pon_port.specs.Chapters.{Chapter, IsLawfulChapter, present_state, state_before}
 use Rattle.pon_event.specs.declared.event.Event.{Event}
 use Rattle.pon_event.specs.declared.event.Event.TheVariants.{Admit, Change, Remove, Report, MakeMap, Fail, Restore}
 use Rattle.pon_state.specs.declared.reply.Entry.{Entry}
+use Rattle.pon_share.specs.Carries.{AreCarries}
+use Rattle.pon_port.proofs.Carries.{carries_kept}
 use Rattle.pon_port.proofs.Parts.{roster_of-append}
 use Rattle.pon_port.proofs.Legality.{IsLegalAfter, after_from_legal, legal_split}
 use Rattle.pon_descr.proofs.Checks.{or_else_none}
@@ -47,6 +49,10 @@ admitted_before c l k =
     (legal_split c.opening [] (take k c.entries) (drop k c.entries)
     (subst (IsLegalAfter c.opening []) (sym (take-append-drop k c.entries)) (after_from_legal c.opening c.entries c.number l.legal))).0
     l.opening.admitted
+
+-- there is a carry for each row before each entry
+pub carries_before : (c : Chapter) → (k : ℕ) → AreCarries (state_before c k).rule (state_before c k).roster (state_before c k).carries
+carries_before c k = carries_kept c.opening (take k c.entries)
 
 -- and at its end
 pub admitted_at_present : (c : Chapter) → IsLawfulChapter c → IsAdmitted (present_state c).rule (present_state c).gap (present_state c).roster

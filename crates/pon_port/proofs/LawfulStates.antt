@@ -20,7 +20,8 @@ use Rattle.pon_guar.specs.Reports.{later, latest, occupancies}
 use Rattle.pon_guar.specs.Loads.{less}
 use Rattle.pon_state.specs.State.{State}
 use Rattle.pon_state.specs.Replay.{admits, allocs_after, begins, forgets, makes_map, new_map, is_report_for, roster_after, structures, window_of, with_reports}
-use Rattle.pon_state.specs.Loads.{account_after, candidates_in, counted_of, replay, since_of}
+use Rattle.pon_state.specs.Loads.{account_after, candidates_in, counted_of, since_of}
+use Rattle.pon_state.specs.History.{replay}
 use Rattle.pon_state.specs.Checks.{first_refusal, when_down, when_full}
 use Rattle.pon_state.specs.Legal.{MayFollow}
 use Rattle.pon_port.specs.Chapters.{AccountIsLawful, Chapter, CountedIsLawful, IsLawfulChapter, IsLawfulOpening, Owns, present_state, state_before}
@@ -39,6 +40,7 @@ use Rattle.pon_window.proofs.Polls.{occurs-distinct}
 use Rattle.pon_port.proofs.Members.{any_contains, contains_any, each_has}
 use Rattle.pon_port.proofs.Legality.{IsLegalAfter, after_from_legal, legal_push, legal_split}
 use Rattle.pon_descr.proofs.Checks.{or_else_none, when_none}
+use Rattle.pon_port.proofs.Carries.{carries_none}
 use Rattle.pon_port.proofs.Cutting.{replay-append}
 use Rattle.pon_port.proofs.Steps.{counted_forgotten, counted_of-map, counted_of-report, since_begins, since_keeps}
 use Rattle.pon_lists.proofs.Distinct.{occurs}
@@ -78,6 +80,7 @@ replay_none s k = (λ i. record {
   taken_before = plus s.taken_before i;
   roster = s.roster;
   book = book i;
+  carries = carries_none s k.carries k.admitted.apart i;
   window = window i;
 })
   where
@@ -439,7 +442,7 @@ lawful_step kept s e f l = record {
 
 pub from_opening : (n : ℕ) (s : State) → IsLawfulOpening n s → IsLawfulState s
 from_opening n s o = record {
-  steady = record { admitted = o.admitted; book = o.book; few_maps = o.few_maps; frames = o.frames; maps = o.maps; failed = o.failed };
+  steady = record { admitted = o.admitted; book = o.book; carries = o.carries; few_maps = o.few_maps; frames = o.frames; maps = o.maps; failed = o.failed };
   accounts = o.accounts;
 }
 
@@ -448,6 +451,7 @@ opens_later n s l k = record {
   first = λ e. absurd (omega (arith, l, e));
   admitted = k.steady.admitted;
   book = k.steady.book;
+  carries = k.steady.carries;
   accounts = k.accounts;
   few_maps = k.steady.few_maps;
   frames = k.steady.frames;

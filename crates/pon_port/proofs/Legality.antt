@@ -4,7 +4,7 @@ use Rattle.std.specs.Prelude.{Some}
 use Rattle.std.proofs.lemmas.List.{append-nil, length-append}
 use Rattle.pon_state.specs.declared.reply.Entry.{Entry}
 use Rattle.pon_state.specs.State.{State}
-use Rattle.pon_state.specs.Loads.{replay}
+use Rattle.pon_state.specs.History.{replay}
 use Rattle.pon_state.specs.Legal.{MayFollow}
 use Rattle.pon_port.specs.Chapters.{IsLegal}
 

@@ -1,10 +1,10 @@
+pub mod Carries
 pub mod ChecksAlone
 pub mod CountedReports
 pub mod CutChapters
 pub mod Cutting
 pub mod EntryByEntry
 pub mod FairMaps
-pub mod FirstChapters
 pub mod LastMaps
 pub mod Kept
 pub mod LawfulChapters
@@ -15,7 +15,10 @@ pub mod Members
 pub mod OneReply
 pub mod OtherForms
 pub mod Parts
+pub mod Ranges
 pub mod ReportSteps
 pub mod Steady
 pub mod Steps
+pub mod Turning
 pub mod Windows
+pub mod WordRuns

@@ -3,7 +3,7 @@
 use Rattle.std.proofs.Common.{◌≡◌, [], ◌∷◌, ◌++◌, length, refl, ap, sym, ◌∙◌, subst}
 use Rattle.std.specs.Prelude.{None}
 use Rattle.pon_admit.specs.Roster.{IsAdmitted}
-use Rattle.pon_state.specs.State.{State, input_of}
+use Rattle.pon_state.specs.State.{State, carry_at, input_of}
 use Rattle.pon_cert.specs.declared.cert.MapCert.{MapCert}
 use Rattle.pon_share.specs.Sharing.{IsCertified, surplus_rate}
 use Rattle.pon_share.specs.Maps.{map_of}
@@ -25,7 +25,7 @@ module _ (s : State) (k : IsAdmitted s.rule s.gap s.roster) where
   one_made : (a b : MadeMap) → IsMade s a → IsMade s b → a ≡ b
   one_made a b p q =
       let cert : a.cert ≡ b.cert = one_map_certificate (input_of s) k a.cert b.cert p.certified q.certified in
-      let told : a.map ≡ b.map = p.map ∙ ap (λ c. map_of s.profile (input_of s) (surplus_rate (input_of s) c)) cert ∙ sym q.map in
+      let told : a.map ≡ b.map = p.map ∙ ap (λ c. map_of s.profile (input_of s) (surplus_rate (input_of s) c) (carry_at s)) cert ∙ sym q.map in
       (λ i. record { frame = (p.frame ∙ sym q.frame) i; map = told i; cert = cert i })
 
   pub one_reply : (v : Event) (a b : Reply) → IsReply s v a → IsReply s v b → a ≡ b
@@ -42,7 +42,7 @@ module _ (s : State) (k : IsAdmitted s.rule s.gap s.roster) where
   each_made : (made : MadeMap) × IsMade s made
   each_made =
       let cert : (cert : MapCert) × IsCertified (input_of s) cert = each_map_certificate (input_of s) k in
-      (record { frame = s.next; map = map_of s.profile (input_of s) (surplus_rate (input_of s) cert.0); cert = cert.0 }, record { frame = refl; certified = cert.1; map = refl })
+      (record { frame = s.next; map = map_of s.profile (input_of s) (surplus_rate (input_of s) cert.0) (carry_at s); cert = cert.0 }, record { frame = refl; certified = cert.1; map = refl })
 
   pub each_reply : (v : Event) → (a : Reply) × IsReply s v a
   each_reply MakeMap = (Map each_made.0, each_made.1)

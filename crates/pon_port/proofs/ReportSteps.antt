@@ -21,7 +21,9 @@ use Rattle.pon_guar.specs.Reports.{after_occupancies, counting, latest, occupanc
 use Rattle.pon_guar.proofs.Accounts.{found_each}
 use Rattle.pon_state.specs.State.{State}
 use Rattle.pon_state.specs.Replay.{next_of, with_reports}
-use Rattle.pon_state.specs.Loads.{account_after, candidates_in, counted_of, replay, since_of}
+use Rattle.pon_state.specs.Loads.{account_after, candidates_in, counted_of, since_of}
+use Rattle.pon_state.specs.History.{replay}
+use Rattle.pon_port.proofs.Carries.{carries_quiet}
 use Rattle.pon_port.specs.Chapters.{AccountIsLawful, Owns}
 use Rattle.pon_state.specs.After.{after_report}
 use Rattle.pon_event.specs.declared.event.Event.TheVariants.{Report}
@@ -276,5 +278,6 @@ module _ (s : State) (l : IsLawfulState s) (f u : ℕ) (ns : List (Option ℕ)) 
         taken_before = s.taken_before + 1;
         roster = s.roster;
         book = book j;
+        carries = sym (carries_quiet s entry l.steady.carries l.steady.admitted.apart (λ i. refl) refl) j;
         window = (heard ∙ sym (window_of-report s entry refl refl l.steady.few_maps)) j;
       })

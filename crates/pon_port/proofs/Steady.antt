@@ -17,7 +17,8 @@ use Rattle.pon_window.specs.Reports.{refuses_report}
 use Rattle.pon_guar.specs.Reports.{latest}
 use Rattle.pon_state.specs.State.{State}
 use Rattle.pon_state.specs.Replay.{admits, all_maps, allocs_after, begins, cause_after, forgets, frame_at_last, grants_of, makes_map, maps_of, new_map, is_report_for, roster_after, structures, window_of, with_reports}
-use Rattle.pon_state.specs.Loads.{account_after, candidates_in, counted_of, replay}
+use Rattle.pon_state.specs.Loads.{account_after, candidates_in, counted_of}
+use Rattle.pon_state.specs.History.{replay}
 use Rattle.pon_state.specs.Checks.{at_limit, first_refusal, when_down, when_full}
 use Rattle.pon_state.specs.Legal.{MayFollow}
 use Rattle.pon_state.specs.Accounts.{AccountsFor}
@@ -37,12 +38,15 @@ use Rattle.pon_lists.proofs.Lists.{list_any-map}
 use Rattle.pon_lists.proofs.Order.{in_order-filter}
 use Rattle.pon_guar.proofs.Books.{rising_with}
 use Rattle.pon_window.proofs.Polls.{said_lawful}
+use Rattle.pon_share.specs.Carries.{AreCarries}
+use Rattle.pon_port.proofs.Carries.{carries_kept, has_alloc-without}
 use Rattle.pon_port.proofs.LawfulChapters.{event_keeps}
 
 -- the parts of a lawful opening that do not concern accounts
 pub record IsSteady (s : State) : Type 0 where
   pub admitted : IsAdmitted s.rule s.gap s.roster
   pub book : AccountsFor s.roster s.book
+  pub carries : AreCarries s.rule s.roster s.carries
   pub few_maps : length s.window ≤ 64
   pub frames : AreConsecutive s.next s.window
   pub maps : All IsLawfulMap s.window
@@ -101,13 +105,6 @@ maps_step s e k = window_all IsLawfulMap s e
     (λ _. reported_lawful [] (new_map s.roster s.next e.reply) (grants_rise s.roster (structures e.reply) k.admitted.in_map_order))
 
 -- The Alloc-IDs of the book.
-
-has_alloc-without : (i j : ℕ) (rows : List Row) → has_alloc j (without i rows) ≡ (not (j == i) && has_alloc j rows)
-has_alloc-without i j rows =
-    sym (list_any-map (λ k. k == j) (λ r. r.alloc_id) (without i rows))
-    ∙ ap (list_any (λ k. k == j)) (sym (map_filter (λ r. r.alloc_id) (λ k. not (k == i)) rows))
-    ∙ any_eq-filter (λ k. not (k == i)) j (map (λ r. r.alloc_id) rows)
-    ∙ ap (λ b. not (j == i) && b) (list_any-map (λ k. k == j) (λ r. r.alloc_id) rows)
 
 -- the Alloc-IDs after an event are those of the roster after it
 ids_step : (kept : ℕ) (s : State) (v : Event) → first_refusal kept s v ≡ None → AccountsFor s.roster s.book →
@@ -206,6 +203,7 @@ steady_step kept s e f k = record {
   admitted = event_keeps kept s e.event f.event f.accepted k.admitted;
   book = subst (λ ids. AreRising ids × ((i : ℕ) → list_any (λ j. j == i) ids ≡ has_alloc i (roster_after s.roster e.event))) (sym (alloc_ids-replay s (e ∷ [])))
       (ids_step kept s e.event f.accepted k.book);
+  carries = carries_kept s (e ∷ []);
   few_maps = short_window s (e ∷ []);
   frames = window_leads s (e ∷ []) k.frames;
   maps = maps_step s e k;

@@ -13,7 +13,8 @@ use Rattle.pon_guar.specs.Reports.{latest}
 use Rattle.pon_guar.specs.Loads.{less}
 use Rattle.pon_state.specs.State.{State}
 use Rattle.pon_state.specs.Replay.{all_maps, begins, forgets, frame_at_last, makes_map, map_made, maps_of, new_map, next_of, is_report_for, roster_after, window_of, with_reports}
-use Rattle.pon_state.specs.Loads.{candidates_in, counted_of, replay, since_of}
+use Rattle.pon_state.specs.Loads.{candidates_in, counted_of, since_of}
+use Rattle.pon_state.specs.History.{replay}
 use Rattle.pon_event.specs.declared.event.Event.{Event}
 use Rattle.pon_event.specs.declared.event.Event.TheVariants.{MakeMap}
 use Rattle.pon_state.specs.declared.reply.Reply.{Reply}

@@ -9,7 +9,7 @@ use Rattle.pon_admit.specs.declared.row.Row.{Row}
 use Rattle.pon_window.specs.Window.{AreConsecutive, WindowMap, onus_polled, last_64}
 use Rattle.pon_state.specs.State.{State}
 use Rattle.pon_state.specs.Replay.{all_maps, forgets, frame_at_last, makes_map, map_made, maps_of, new_map, next_of, is_report_for, roster_after, roster_of, window_of, with_reports}
-use Rattle.pon_state.specs.Loads.{replay}
+use Rattle.pon_state.specs.History.{replay}
 use Rattle.pon_state.specs.declared.reply.Entry.{Entry}
 use Rattle.std.proofs.Math.Bool.{and-true}
 use Rattle.pon_window.proofs.Frames.{leads_drop}

@@ -1,16 +1,16 @@
 -- Chapters of a port's history: an opening and the entries that were taken from it.
-use Rattle.std.specs.Prelude.{ℕ, ◌≡◌, ◌+◌, ◌<◌, ◌≤◌, ◌^◌, List, [], length, All, Contains, take, slice_get, Some, None, IfSome}
-use Rattle.pon_units.specs.declared.limits.TheConstants.{GREATEST_PROFILE, LONGEST_GAP, SHORTEST_GAP}
+use Rattle.std.specs.Prelude.{ℕ, ◌≡◌, ◌+◌, ◌<◌, ◌≤◌, List, [], length, All, Contains, take, slice_get, Some, None, IfSome}
 use Rattle.pon_admit.specs.declared.row.Row.{Row}
 use Rattle.pon_admit.specs.declared.rule.Rule.{Rule}
 use Rattle.pon_admit.specs.Roster.{IsAdmitted}
+use Rattle.pon_share.specs.Carries.{AreCarries}
 use Rattle.pon_guar.specs.declared.account.Account.{Account}
 use Rattle.pon_guar.specs.declared.account.Counted.{Counted}
 use Rattle.pon_window.specs.declared.window.TheConstants.{MOST_MAPS}
 use Rattle.pon_window.specs.Window.{IsLawfulMap, AreConsecutive}
 use Rattle.pon_state.specs.Accounts.{AccountsFor}
-use Rattle.pon_state.specs.State.{State, just_opened, opened_under}
-use Rattle.pon_state.specs.Loads.{replay}
+use Rattle.pon_state.specs.State.{State, opened_under}
+use Rattle.pon_state.specs.History.{replay}
 use Rattle.pon_state.specs.Legal.{MayFollow}
 use Rattle.pon_state.specs.declared.reply.Entry.{Entry}
 
@@ -65,6 +65,7 @@ pub record IsLawfulOpening (number : ℕ) (s : State) : Type 0 where
   pub first : OpensFirst number s
   pub admitted : IsAdmitted s.rule s.gap s.roster
   pub book : AccountsFor s.roster s.book
+  pub carries : AreCarries s.rule s.roster s.carries
   pub accounts : All (AccountIsLawful s) s.book
   pub few_maps : length s.window ≤ MOST_MAPS
   pub frames : AreConsecutive s.next s.window
@@ -80,11 +81,6 @@ pub record IsLawfulChapter (c : Chapter) : Type 0 where
 abbrev pub Follows : Chapter → Chapter → Type 0
 Follows c d = d.number ≡ c.number + 1 → d.opening ≡ present_state c
 
--- the first chapter of a port: it has the number 0 and opens with the port just opened, under numbers in range
-pub record IsFirst (c : Chapter) : Type 0 where
-  pub number : c.number ≡ 0
-  pub opening : c.opening ≡ just_opened c.opening.gap c.opening.profile c.opening.next
-  pub shortest_gap : SHORTEST_GAP ≤ c.opening.gap
-  pub longest_gap : c.opening.gap ≤ LONGEST_GAP
-  pub profile : c.opening.profile ≤ GREATEST_PROFILE
-  pub next : c.opening.next < 2 ^ 64
+-- the chapter after a chapter: it opens with the end of it, and has no entries yet
+abbrev pub chapter_after : Chapter → Chapter
+chapter_after c = record { number = c.number + 1; opening = present_state c; entries = [] }

@@ -14,7 +14,7 @@ use Rattle.pon_share.specs.ClassShares.{best_effort_share, best_effort_surplus, 
 use Rattle.pon_share.specs.Maps.{map_of}
 use Rattle.pon_share.specs.Rates.{granted, guaranteed_rate}
 use Rattle.pon_share.specs.Sharing.{IsCertified, items, members, surplus_rate}
-use Rattle.pon_state.specs.State.{State, input_of}
+use Rattle.pon_state.specs.State.{State, carry_at, input_of}
 use Rattle.pon_state.specs.Replay.{grants_of}
 use Rattle.pon_state.specs.declared.reply.Reply.{Reply}
 use Rattle.pon_state.specs.declared.reply.Reply.TheVariants.{Taken, Map}
@@ -43,8 +43,8 @@ pub record IsFairMap (s : State) (made : MadeMap) : Type 0 where
   -- the surplus rates of a class, in map order, are those of the certificate's assignment
   pub non_assured_rates : map (surplus_rate (input_of s) made.cert) (members NonAssured s.roster) ≡ rates_of (non_assured_share (input_of s) made.cert)
   pub best_effort_rates : map (surplus_rate (input_of s) made.cert) (members BestEffort s.roster) ≡ rates_of (best_effort_share (input_of s) made.cert)
-  -- each Alloc-ID is granted the whole words of its guaranteed and its surplus rate
-  pub words : grants_of s.roster made.map ≡ granted (input_of s) (surplus_rate (input_of s) made.cert)
+  -- each Alloc-ID is granted the whole words of its guaranteed and its surplus rate and its carry
+  pub words : grants_of s.roster made.map ≡ granted (input_of s) (surplus_rate (input_of s) made.cert) (carry_at s)
   -- each burst lies in the frame, and no two overlap
   pub bursts : AreSound s.gap made.map
   -- the two problems are of the size that a checker takes
@@ -52,7 +52,7 @@ pub record IsFairMap (s : State) (made : MadeMap) : Type 0 where
   pub best_effort_problem : IsProblem (items BestEffort (input_of s)) (best_effort_surplus (input_of s) made.cert)
   -- its structures are those of the admitted Alloc-IDs and of no other, each in the burst of its ONU, with the DBRu
   -- flag and the port's profile
-  pub map : made.map ≡ map_of s.profile (input_of s) (surplus_rate (input_of s) made.cert)
+  pub map : made.map ≡ map_of s.profile (input_of s) (surplus_rate (input_of s) made.cert) (carry_at s)
 
 -- a reply with a map has a fair map
 abbrev pub TellsFairMap : State → Reply → Type 0

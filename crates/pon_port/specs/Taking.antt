@@ -1,5 +1,5 @@
 -- The chapter of a port after its calls.
-use Rattle.std.specs.Prelude.{ℕ, ◌≡◌, List, [], ◌∷◌, ◌++◌, length, Option}
+use Rattle.std.specs.Prelude.{ℕ, ◌≡◌, ◌-◌, ◌^◌, nat_le, List, [], ◌∷◌, ◌++◌, length, Option}
 use Rattle.pon_state.specs.State.{State}
 use Rattle.pon_admit.specs.Roster.{IsAdmitted}
 use Rattle.pon_state.specs.Checks.{first_refusal}
@@ -9,13 +9,19 @@ use Rattle.pon_share.specs.Sharing.{member_ids}
 use Rattle.pon_state.specs.Legal.{IsMade, MayFollow}
 use Rattle.pon_state.specs.Replay.{grants_of}
 use Rattle.pon_state.specs.declared.ready_map.ReadyMap.{ReadyMap}
+use Rattle.pon_share.specs.Carries.{AreCarries}
 use Rattle.pon_state.specs.Accounts.{AccountsFor}
-use Rattle.pon_port.specs.Chapters.{Chapter, present_state, IsFirst, IsLawfulChapter}
+use Rattle.pon_state.specs.Carries.{carries_left}
+use Rattle.pon_port.specs.Chapters.{Chapter, chapter_after, present_state, IsLawfulChapter}
 use Rattle.pon_port.specs.FairMaps.{TellsFairMap}
+use Rattle.pon_port.specs.Ranges.{IsStateInRange}
 use Rattle.pon_port.specs.Last.{KeepsLast}
 use Rattle.pon_event.specs.declared.event.Event.{Event}
 use Rattle.pon_state.specs.declared.reply.Reply.{Reply}
+use Rattle.pon_state.specs.declared.reply.Reply.TheVariants.{Map}
+use Rattle.pon_descr.specs.Checks.{when}
 use Rattle.pon_descr.specs.declared.refusal.Refusal.{Refusal}
+use Rattle.pon_descr.specs.declared.refusal.Refusal.TheVariants.{ChapterFull}
 
 -- the chapter with one more entry
 abbrev pub with_entry : Chapter → Event → Reply → Chapter
@@ -32,11 +38,12 @@ pub record Keeps (old : Chapter) (event : Event) (new : Chapter) : Type 0 where
   pub takes : Takes old event reply new
   pub fair : TellsFairMap (present_state old) reply
 
--- a finished map of a state: its reply, its grants, and the Alloc-IDs of the two classes that share surplus
+-- a finished map of a state: its reply, its grants with what they leave, and the Alloc-IDs of the two classes that share surplus
 pub record IsReady (s : State) (next : ReadyMap) : Type 0 where
   pub made : IsMade s next.made
   pub map_order : AreInMapOrder next.grants.items
   pub grants : next.grants.items ≡ grants_of s.roster next.made.map
+  pub carries : next.carries.items ≡ carries_left s (Map next.made)
   pub na : next.na.items ≡ member_ids NonAssured s.roster
   pub be : next.be.items ≡ member_ids BestEffort s.roster
 
@@ -44,17 +51,27 @@ pub record IsReady (s : State) (next : ReadyMap) : Type 0 where
 abbrev pub refusal_of : Chapter → Event → Option Refusal
 refusal_of c event = first_refusal (length c.entries) (present_state c) event
 
--- what a port keeps: a lawful chapter and its replay; the roster is an admitted set, and the report book has its
--- Alloc-IDs
+-- the kept chapter is returned, and the next one is begun in the same state
+pub record Turns (old chapter new : Chapter) : Type 0 where
+  pub returned : chapter ≡ old
+  pub begun : new ≡ chapter_after old
+  pub same_state : present_state new ≡ present_state old
+
+-- the last number of a chapter has no successor
+abbrev pub turn_refusal : Chapter → Option Refusal
+turn_refusal c = when (nat_le (2 ^ 64 - 1) c.number) ChapterFull
+
+-- what a port keeps: a lawful chapter and its replay; the roster is an admitted set, the report book has its Alloc-IDs,
+-- and there is a carry for each
 pub record IsKept (c : Chapter) (state : State) : Type 0 where
   pub lawful : IsLawfulChapter c
   pub replayed : state ≡ present_state c
   pub admitted : IsAdmitted state.rule state.gap state.roster
   pub book : AccountsFor state.roster state.book
+  pub carries : AreCarries state.rule state.roster state.carries
 
--- a port: what it keeps, in its first chapter, and the index of its last map with the Alloc-IDs of the classes that
--- shared surplus in it
+-- a port: what it keeps, from an opening in range, and the index of its last map with the Alloc-IDs of the classes that shared surplus in it
 pub record IsPort (c : Chapter) (state : State) (last_place : Option ℕ) (na be : List ℕ) : Type 0 where
   pub kept : IsKept c state
-  pub first : IsFirst c
+  pub in_range : IsStateInRange c.opening
   pub last : KeepsLast c last_place na be

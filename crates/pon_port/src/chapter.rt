@@ -2,8 +2,7 @@ use pon_state::{Entry, PortState};
 use std::marker::Model;
 
 /// A chapter that a port has returned: its number, the state that it opens with, and its entries, oldest first. By an
-/// invariant of the type it is lawful and the first of its port: it has the number 0 and opens with the port just
-/// opened.
+/// invariant of the type it is lawful, and its opening is in range, whoever passes it on.
 #[derive(Drop)]
 pub struct Chapter {
     pub(crate) number: u64,
@@ -12,7 +11,8 @@ pub struct Chapter {
 }
 
 impl Model for Chapter {
-    ghost use Rattle.pon_port.specs.Chapters.{Chapter, IsFirst, IsLawfulChapter};
+    ghost use Rattle.pon_port.specs.Chapters.{Chapter, IsLawfulChapter};
+    ghost use Rattle.pon_port.specs.Ranges.{IsStateInRange};
 
     ghost Value = { Chapter };
 
@@ -22,15 +22,15 @@ impl Model for Chapter {
       entries = c.entries.items;
     } };
 
-    ghost invariant = { λ c.
-        IsLawfulChapter
+    ghost invariant = { λ c. IsLawfulChapter
         (record { number = c.number; opening = c.opening; entries = c.entries.items })
-        × IsFirst (record { number = c.number; opening = c.opening; entries = c.entries.items }) };
+        × IsStateInRange c.opening };
 }
 
 impl Chapter {
     ghost use Rattle.std.specs.Prelude.{◌≡◌};
-    ghost use Rattle.pon_port.specs.Chapters.{IsFirst, IsLawfulChapter};
+    ghost use Rattle.pon_port.specs.Chapters.{IsLawfulChapter, IsLawfulOpening};
+    ghost use Rattle.pon_port.specs.Ranges.{IsStateInRange};
 
     /// The number of the chapter, counted from 0 in its port.
     pub fn number(&self) -> u64
@@ -39,10 +39,11 @@ impl Chapter {
         self.number
     }
 
-    /// The state that the chapter opens with: that of the port just opened.
+    /// The state that the chapter opens with.
     pub fn opening(&self) -> &PortState
         ensures opening { result.now ≡ self.now.opening }
-        ensures first { IsFirst self.now }
+        ensures lawful { IsLawfulOpening self.now.number self.now.opening }
+        ensures in_range { IsStateInRange self.now.opening }
     {
         &self.opening
     }

@@ -3,7 +3,7 @@
 ghost use Rattle.std.specs.Prelude.{Bool, List, Option, [], length, map, if◌then◌else◌, None, Some, drop, slice_get, take, ℕ, ◌++◌, ◌+◌, ◌<◌, ◌≡◌, ◌≢◌, ◌≤◌};
 ghost use Rattle.pon_descr.specs.Descriptor.{Descriptor, IsLawful};
 ghost use Rattle.pon_descr.specs.declared.refusal.Refusal.{Refusal};
-ghost use Rattle.pon_admit.specs.Roster.{IsAdmitted, IsInRange, refuses_admit, refuses_change, with_descriptor, with_row, without};
+ghost use Rattle.pon_admit.specs.Roster.{IsAdmitted, IsInRange, most_carry, refuses_admit, refuses_change, with_descriptor, with_row, without};
 ghost use Rattle.pon_admit.specs.declared.row.Row.{Row};
 ghost use Rattle.pon_state.specs.State.{State};
 ghost use Rattle.std.specs.List.{list_any};
@@ -12,7 +12,8 @@ ghost use Rattle.pon_guar.specs.Reports.{after_occupancies};
 ghost use Rattle.pon_guar.specs.declared.account.Account.{Account};
 ghost use Rattle.pon_guar.specs.declared.account.Counted.{Counted};
 ghost use Rattle.pon_state.specs.Replay.{frame_at_last, next_of};
-ghost use Rattle.pon_state.specs.Loads.{counted_of, replay};
+ghost use Rattle.pon_state.specs.Loads.{counted_of};
+ghost use Rattle.pon_state.specs.History.{replay};
 ghost use Rattle.pon_state.specs.After.{after_entry};
 ghost use Rattle.pon_state.specs.Events.{IsEvent};
 ghost use Rattle.pon_state.specs.Legal.{MayFollow};
@@ -26,6 +27,8 @@ ghost use Rattle.pon_port.specs.Chapters.{Chapter, IsLawfulChapter, IsLawfulOpen
 ghost use Rattle.pon_port.specs.CountedReports.{Counts, IsReport};
 ghost use Rattle.pon_port.specs.FairMaps.{TellsFairMap};
 ghost use Rattle.pon_port.specs.OtherForms.{account_reported, before_last};
+ghost use Rattle.pon_admit.specs.declared.rule.Rule.{Rule};
+ghost use Rattle.pon_port.specs.WordRuns.{GrantsWholeParts};
 ghost use Rattle.pon_port.specs.Taking.{Takes, refusal_of, with_entry};
 ghost use Rattle.pon_event.specs.declared.event.Event.{Event};
 ghost use Rattle.pon_state.specs.declared.reply.Entry.{Entry};
@@ -50,11 +53,13 @@ pub fn lawful_chapters_hold_admitted_sets()
         → IsAdmitted (present_state c).rule (present_state c).gap (present_state c).roster }
 {}
 
-/// The map of an admitted set has sound bursts under each accepted certificate, for each rule, any burst profile and
-/// any number of ONUs and Alloc-IDs: each burst is within the frame and no two overlap.
+/// The map of an admitted set has sound bursts under each accepted certificate and carries in range, for each rule, any
+/// burst profile and any number of ONUs and Alloc-IDs: each burst is within the frame and no two overlap.
 pub fn maps_of_admitted_sets_are_sound()
-    ensures { (s : Input) (cert : MapCert) (profile : ℕ) → IsAdmitted s.rule s.gap s.roster →
-        IsCertified s cert → AreSound s.gap (map_of profile s (surplus_rate s cert)) }
+    ensures { (s : Input) (cert : MapCert) (carry : Row → ℕ) (profile : ℕ) →
+        IsAdmitted s.rule s.gap s.roster → IsCertified s cert →
+        ((r : Row) → carry r ≤ most_carry s.rule) →
+        AreSound s.gap (map_of profile s (surplus_rate s cert) carry) }
 {}
 
 /// Each map of a lawful chapter is fair for the state before it: certified, the fairest, in whole words, and without
@@ -62,6 +67,12 @@ pub fn maps_of_admitted_sets_are_sound()
 pub fn maps_of_lawful_chapters_are_fair()
     ensures { (c : Chapter) → IsLawfulChapter c → (k : ℕ) (e : Entry)
         → slice_get c.entries k ≡ Some e → TellsFairMap (state_before c k) e.reply }
+{}
+
+/// Under the rule that carries, an Alloc-ID is granted over the maps since its last admission the whole part of the sum
+/// of its rates; if the chapter does not admit it, of the opening's carry and the rates of the chapter.
+pub fn words_over_runs_are_whole_parts()
+    ensures { (c : Chapter) → IsLawfulChapter c → c.opening.rule ≡ Rule.Two → GrantsWholeParts c }
 {}
 
 /// The state before any entry of a lawful chapter, and the state after the last, may open a later chapter.

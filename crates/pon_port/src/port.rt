@@ -14,6 +14,7 @@ use pon_state::{
 use pon_units::{AllocId, FrameNo};
 use std::alloc::{AllocError, Global};
 use std::marker::Model;
+use std::mem;
 
 /// A port: the kept chapter of its history, and the state after that chapter.
 ///
@@ -53,9 +54,10 @@ impl Port {
     ghost use Rattle.std.specs.Prelude.{[], ◌+◌, false, length, IfOk, IfErr, IfSome, MatchOption, None, OnOk, OnErr, Some};
     ghost use Rattle.pon_descr.specs.Descriptor.{IsLawful};
     ghost use Rattle.pon_admit.specs.Roster.{IsAdmitted, IsInRange};
-    ghost use Rattle.pon_port.specs.Chapters.{IsLawfulChapter, present_state};
+    ghost use Rattle.pon_port.specs.Chapters.{IsLawfulChapter, IsLawfulOpening, present_state};
     ghost use Rattle.pon_port.specs.Last.{MatchesMembers, last_map};
-    ghost use Rattle.pon_port.specs.Taking.{IsReady, Keeps, Takes, refusal_of};
+    ghost use Rattle.pon_port.specs.Ranges.{IsStateInRange};
+    ghost use Rattle.pon_port.specs.Taking.{IsReady, Keeps, Takes, Turns, refusal_of, turn_refusal};
     ghost use Rattle.pon_port.specs.FairMaps.{IsFairMap, TellsFairMap};
     ghost use Rattle.pon_descr.specs.Checks.{IsTold};
 
@@ -99,6 +101,15 @@ impl Port {
         ensures { result ≡ self.now.opening.taken_before + length self.now.entries }
     {
         self.state.taken_before()
+    }
+
+    /// The state that the kept chapter opens with.
+    pub fn opening(&self) -> &PortState
+        ensures opening { result.now ≡ self.now.opening }
+        ensures lawful { IsLawfulOpening self.now.number self.now.opening }
+        ensures in_range { IsStateInRange self.now.opening }
+    {
+        &self.opening
     }
 
     /// The present state: the replay of the kept entries.
@@ -170,13 +181,14 @@ impl Port {
         let ReadyMap {
             made,
             grants,
+            carries,
             na,
             be,
         } = next;
         if self.entries.reserve(1).is_err() {
             return Err(Refusal::OutOfMemory);
         }
-        match add_map(&mut self.state, grants) {
+        match add_map(&mut self.state, grants, carries) {
             Ok(left) => self.room.keep_grants(left),
             Err(_) => return Err(Refusal::OutOfMemory),
         }
@@ -230,6 +242,34 @@ impl Port {
         }
         in_range(&event);
         self.take_plain(event)
+    }
+
+    /// Turns the port: returns the kept chapter, and begins the next one, which opens with the present state. No entry is
+    /// copied.
+    ///
+    /// `ChapterFull` exactly if the kept chapter has the last number (2^64 - 1); otherwise `OutOfMemory`, only if memory
+    /// for the opening is refused. After a refusal nothing has changed.
+    pub fn turn(&mut self) -> Result<Chapter, Refusal>
+        ensures ok { IfOk result (λ chapter. Turns self.old chapter self.new) }
+        ensures refused { IfErr result (λ told. IsTold (turn_refusal self.old) told) }
+        ensures err { OnErr result (self.new ≡ self.old) }
+    {
+        if self.number == u64::MAX {
+            return Err(Refusal::ChapterFull);
+        }
+        let alloc = *self.entries.allocator();
+        let opening = match self.state.try_copy(alloc) {
+            Ok(opening) => opening,
+            Err(_) => return Err(Refusal::OutOfMemory),
+        };
+        let chapter = Chapter {
+            number: self.number,
+            opening: mem::replace(&mut self.opening, opening),
+            entries: mem::replace(&mut self.entries, Vec::new(alloc)),
+        };
+        self.number += 1;
+        self.last = None;
+        Ok(chapter)
     }
 
     /// Returns the kept chapter. It allocates no memory.

@@ -1,5 +1,5 @@
 -- The chapters of ports fit the format of recordings.
-use Rattle.std.proofs.Common.{◌≡◌, ℕ, suc, ◌-◌, ◌^◌, ◌<◌, ◌≤◌, Bool, true, false, leb, ltb, ◌&&◌, ◌||◌, List, [], ◌∷◌, length, get_or, Some, None, refl, ap, sym, subst, arith, inl, inr}
+use Rattle.std.proofs.Common.{◌≡◌, ℕ, suc, ◌-◌, ◌^◌, ◌<◌, ◌≤◌, Bool, true, false, leb, ltb, ◌||◌, List, [], ◌∷◌, length, get_or, Some, None, refl, arith, inl, inr, length-append}
 use Rattle.std.specs.Prelude.{All, slice_get}
 use Rattle.std.specs.List.{AllByRecursion}
 use Rattle.std.proofs.lemmas.Bool.{cases_lt, le-leb, leb-false}
@@ -8,6 +8,7 @@ use Rattle.std.proofs.lemmas.List.Elements.{All-from_recursion}
 use Rattle.pon_descr.specs.declared.refusal.Refusal.TheVariants.{ChapterFull, FrameLimit}
 use Rattle.pon_descr.proofs.Checks.{or_else_none, when_none}
 use Rattle.pon_admit.specs.Roster.{IsAdmitted}
+use Rattle.pon_share.specs.Carries.{AreCarries}
 use Rattle.pon_event.specs.declared.event.Event.{Event}
 use Rattle.pon_event.specs.declared.event.Event.TheVariants.{Admit, Change, Remove, Report, MakeMap, Fail, Restore}
 use Rattle.pon_state.specs.State.{State}
@@ -16,17 +17,21 @@ use Rattle.pon_state.specs.Legal.{IsReply, MayFollow}
 use Rattle.pon_state.specs.declared.reply.Entry.{Entry}
 use Rattle.pon_state.specs.declared.reply.Reply.{Reply}
 use Rattle.pon_state.specs.declared.reply.Reply.TheVariants.{Taken, Map}
-use Rattle.pon_port.specs.Chapters.{Chapter, IsFirst, IsLawfulChapter, state_before}
+use Rattle.pon_port.specs.Chapters.{Chapter, IsLawfulChapter, state_before}
+use Rattle.pon_port.specs.Ranges.{IsStateInRange}
 use Rattle.pon_port.specs.FairMaps.{TellsFairMap}
 use Rattle.pon_port.proofs.FairMaps.{maps_are_fair}
-use Rattle.pon_port.proofs.LawfulChapters.{admitted_before}
-use Rattle.pon_record.specs.Fields.{failure}
-use Rattle.pon_record.specs.Openings.{opening}
+use Rattle.pon_port.proofs.LawfulChapters.{admitted_before, carries_before}
+use Rattle.std.specs.Int.{w32}
+use Rattle.pon_state.specs.declared.checks.TheConstants.{MOST_ENTRIES}
+use Rattle.pon_record.specs.Format.{counted, number}
+use Rattle.pon_record.specs.Openings.{Opening, opening}
 use Rattle.pon_record.specs.Chapters.{FitsChapter, body, entry, reply_to}
 use Rattle.pon_recorder.specs.Bodies.{HoldsFittingCert, chapter_body, recorded_opening}
-use Rattle.pon_recorder.proofs.FitEvents.{between, event_fits, passes}
+use Rattle.pon_recorder.proofs.FitEvents.{event_fits, passes}
+use Rattle.pon_recorder.proofs.FitOpenings.{opening_fits}
 use Rattle.pon_recorder.proofs.FitMaps.{from_places, made_fits}
-use Rattle.pon_recorder.proofs.Sizes.{entries_size}
+use Rattle.pon_recorder.proofs.Sizes.{entries_size, opening_size}
 
 -- ---- entries
 
@@ -56,25 +61,25 @@ next_below k s h =
     let below : s.next < 2 ^ 64 - 1 = leb-false (2 ^ 64 - 1) s.next (when_none _ FrameLimit limit.1) in
     omega (arith, below)
 
-reply_fits : (k : ℕ) (s : State) (v : Event) (a : Reply) → IsAdmitted s.rule s.gap s.roster → s.profile ≤ 3 → first_refusal k s v ≡ None → IsReply s v a → TellsFairMap s a → (reply_to v).Fits a
-reply_fits k s MakeMap (Map made) adm p h r f = made_fits s made adm p (next_below k s h) f
-reply_fits k s MakeMap Taken adm p h r f = absurd r
-reply_fits k s (Admit u i d) a adm p h r f = r
-reply_fits k s (Change i d) a adm p h r f = r
-reply_fits k s (Remove i) a adm p h r f = r
-reply_fits k s (Report n u occ) a adm p h r f = r
-reply_fits k s (Fail c) a adm p h r f = r
-reply_fits k s Restore a adm p h r f = r
+reply_fits : (k : ℕ) (s : State) (v : Event) (a : Reply) → IsAdmitted s.rule s.gap s.roster → AreCarries s.rule s.roster s.carries → s.profile ≤ 3 → first_refusal k s v ≡ None → IsReply s v a → TellsFairMap s a → (reply_to v).Fits a
+reply_fits k s MakeMap (Map made) adm q p h r f = made_fits s made adm q p (next_below k s h) f
+reply_fits k s MakeMap Taken adm q p h r f = absurd r
+reply_fits k s (Admit u i d) a adm q p h r f = r
+reply_fits k s (Change i d) a adm q p h r f = r
+reply_fits k s (Remove i) a adm q p h r f = r
+reply_fits k s (Report n u occ) a adm q p h r f = r
+reply_fits k s (Fail c) a adm q p h r f = r
+reply_fits k s Restore a adm q p h r f = r
 
-entry_fits : (c : Chapter) → IsLawfulChapter c → IsFirst c → (k : ℕ) (e : Entry) → slice_get c.entries k ≡ Some e → entry.Fits e
+entry_fits : (c : Chapter) → IsLawfulChapter c → IsStateInRange c.opening → (k : ℕ) (e : Entry) → slice_get c.entries k ≡ Some e → entry.Fits e
 entry_fits c l f k e at =
     let s : State = state_before c k in
     let m : MayFollow k s e = l.legal k e at in (
-      (event_fits k s e.event m.event m.accepted, reply_fits k s e.event e.reply (admitted_before c l k) f.profile m.accepted m.reply (maps_are_fair c l k e at)),
+      (event_fits k s e.event m.event m.accepted, reply_fits k s e.event e.reply (admitted_before c l k) (carries_before c k) f.profile m.accepted m.reply (maps_are_fair c l k e at)),
       refl,
     )
 
-pub entries_fit : (c : Chapter) → IsLawfulChapter c → IsFirst c → AllByRecursion entry.Fits c.entries
+pub entries_fit : (c : Chapter) → IsLawfulChapter c → IsStateInRange c.opening → AllByRecursion entry.Fits c.entries
 entries_fit c l f = from_places entry.Fits c.entries (entry_fits c l f)
 
 cert_of : (v : Event) (a : Reply) → (reply_to v).Fits a → HoldsFittingCert a
@@ -91,41 +96,31 @@ each_cert : (es : List Entry) → AllByRecursion entry.Fits es → AllByRecursio
 each_cert [] h = tt
 each_cert (e ∷ es) h = (cert_of e.event e.reply h.0.0.1, each_cert es h.1)
 
-pub certs_fit : (c : Chapter) → IsLawfulChapter c → IsFirst c → All (λ (e : Entry). HoldsFittingCert e.reply) c.entries
+pub certs_fit : (c : Chapter) → IsLawfulChapter c → IsStateInRange c.opening → All (λ (e : Entry). HoldsFittingCert e.reply) c.entries
 certs_fit c l f = All-from_recursion (λ (e : Entry). HoldsFittingCert e.reply) c.entries (each_cert c.entries (entries_fit c l f))
 
 -- ---- chapters
 
-opening_fits : (c : Chapter) → IsFirst c → opening.Fits (recorded_opening c.opening)
-opening_fits c f =
-    let s : State = c.opening in
-    let up : s.cause ≡ None = ap (λ (t : State). t.cause) f.opening in
-    let none : s.taken_before ≡ 0 = ap (λ (t : State). t.taken_before) f.opening in (
-      (
-        (omega (arith, f.longest_gap), passes (λ (n : ℕ). leb 1 n && leb n 256) s.gap (between 1 s.gap 256 f.shortest_gap f.longest_gap)),
-        (
-          (omega (arith, f.profile), passes (λ (n : ℕ). leb n 3) s.profile (le-leb s.profile 3 f.profile)),
-          (
-            subst failure.Fits (sym up) (omega arith, refl),
-            (f.next, (omega (arith, none), ((omega arith, omega arith, tt), (omega arith, omega arith, tt)))),
-          ),
-        ),
-      ),
-      refl,
-    )
-
-body_fits : (p : ℕ) (c : Chapter) → p < 64 → IsLawfulChapter c → IsFirst c → body.Fits (chapter_body p c)
-body_fits p c lt l f =
+body_fits : (p : ℕ) (c : Chapter) → p < 64 → IsLawfulChapter c → c.number < 2 ^ 64 → IsStateInRange c.opening → body.Fits (chapter_body p c)
+body_fits p c lt l n f =
     let few : length c.entries ≤ 65536 = few_entries c l in (
       (
         (omega (arith, lt), passes (λ (n : ℕ). ltb n 64) p (le-leb (suc p) 64 (omega (arith, lt)))),
-        (omega (arith, f.number), (opening_fits c f, (omega (arith, few), few, entries_fit c l f))),
+        (n, (opening_fits c.number c.opening l.opening f, (omega (arith, few), few, entries_fit c l f))),
       ),
       refl,
     )
 
-body_size : (p : ℕ) (c : Chapter) → IsLawfulChapter c → IsFirst c → length (body.write (chapter_body p c)) < 2 ^ 32
-body_size p c l f = omega (arith, entries_size c.entries (entries_fit c l f), few_entries c l)
+body_size : (p : ℕ) (c : Chapter) → IsLawfulChapter c → IsStateInRange c.opening → length (body.write (chapter_body p c)) < 2 ^ 32
+body_size p c l f =
+    let o : Opening = recorded_opening c.opening in
+    omega (
+      arith,
+      length-append (opening.write o) ((counted (number w32) MOST_ENTRIES entry).write c.entries),
+      opening_size o (opening_fits c.number c.opening l.opening f),
+      entries_size c.entries (entries_fit c l f),
+      few_entries c l,
+    )
 
-pub chapter_fits : (p : ℕ) (c : Chapter) → p < 64 → IsLawfulChapter c → IsFirst c → FitsChapter (chapter_body p c)
-chapter_fits p c lt l f = ((omega arith, refl), (body_fits p c lt l f, body_size p c l f))
+pub chapter_fits : (p : ℕ) (c : Chapter) → p < 64 → IsLawfulChapter c → c.number < 2 ^ 64 → IsStateInRange c.opening → FitsChapter (chapter_body p c)
+chapter_fits p c lt l n f = ((omega arith, refl), (body_fits p c lt l n f, body_size p c l f))

@@ -18,13 +18,15 @@ use Rattle.pon_bwmap.proofs.SeriesLaw.{map_rules}
 use Rattle.pon_burst.specs.Maps.{grant, map_granting, structure_of as structure_granting}
 use Rattle.pon_burst.proofs.MapRules.{is_map_of_rising}
 use Rattle.pon_admit.specs.declared.row.Row.{Row}
-use Rattle.pon_admit.specs.Roster.{IsAdmitted, IsInRange}
+use Rattle.pon_admit.specs.Roster.{IsAdmitted, IsInRange, most_carry}
+use Rattle.pon_share.specs.Carries.{AreCarries}
+use Rattle.pon_share.proofs.Carries.{carry_within}
 use Rattle.pon_share.specs.Input.{Input}
 use Rattle.pon_share.specs.Packing.{AreOneMap}
 use Rattle.pon_share.specs.Rates.{granted, payload}
 use Rattle.pon_share.specs.Sharing.{surplus_rate}
 use Rattle.pon_share.proofs.RosterMaps.{one_map}
-use Rattle.pon_state.specs.State.{State, input_of}
+use Rattle.pon_state.specs.State.{State, carry_at, input_of}
 use Rattle.pon_state.specs.declared.reply.MadeMap.{MadeMap}
 use Rattle.pon_port.specs.FairMaps.{IsFairMap}
 use Rattle.pon_record.specs.MadeMaps.{head, head_code, made_map, start_of, structure, structure_code, structure_of}
@@ -127,19 +129,19 @@ rows_fit rows m rest = from_places structure.Fits rows (λ k a at.
     let r = each_at FitsRest rows k a rest at in
     structure_fits a (record { id = r.id; start = start_fits rows m k a at a.start refl; grant = r.grants; profile = r.profile }))
 
-ids_fit : (s : Input) (surplus : Row → Frac) (rows : List Row) → AllByRecursion IsInRange rows → AllByRecursion (λ (g : Granted). g.alloc_id ≤ 16383) (map (λ (r : Row). record { onu = r.onu; alloc_id = r.alloc_id; words = payload s surplus r }) rows)
-ids_fit s surplus [] a = tt
-ids_fit s surplus (r ∷ rows) a = (a.0.alloc_id, ids_fit s surplus rows a.1)
+ids_fit : (s : Input) (surplus : Row → Frac) (carry : Row → ℕ) (rows : List Row) → AllByRecursion IsInRange rows → AllByRecursion (λ (g : Granted). g.alloc_id ≤ 16383) (map (λ (r : Row). record { onu = r.onu; alloc_id = r.alloc_id; words = payload s surplus carry r }) rows)
+ids_fit s surplus carry [] a = tt
+ids_fit s surplus carry (r ∷ rows) a = (a.0.alloc_id, ids_fit s surplus carry rows a.1)
 
 -- a fair map of an admitted set fits the format
-pub made_fits : (s : State) (made : MadeMap) → IsAdmitted s.rule s.gap s.roster → s.profile ≤ 3 → s.next < 2 ^ 64 → IsFairMap s made → made_map.Fits made
-made_fits s made k p next f =
+pub made_fits : (s : State) (made : MadeMap) → IsAdmitted s.rule s.gap s.roster → AreCarries s.rule s.roster s.carries → s.profile ≤ 3 → s.next < 2 ^ 64 → IsFairMap s made → made_map.Fits made
+made_fits s made k carries p next f =
     let t : Input = input_of s in
-    let gs : List Granted = granted t (surplus_rate t made.cert) in
-    let one : AreOneMap s.gap gs = one_map t made.cert k f.certificate in
+    let gs : List Granted = granted t (surplus_rate t made.cert) (carry_at s) in
+    let one : AreOneMap s.gap gs = one_map t made.cert (carry_at s) k f.certificate (λ r. carry_within (most_carry s.rule) s.roster s.carries r.alloc_id carries.range) in
     let m : IsMap (map_granting s.gap s.profile gs) = is_map_of_rising s.gap s.profile gs one.in_map_order one.short_series one.few one.fitting in
     let grants : sum_by grant gs ≤ 9720 = omega (arith, one.fitting) in
-    let each = rest_fits s.gap s.profile gs gs p (ids_fit t (surplus_rate t made.cert) s.roster (recursion_from_All IsInRange s.roster k.in_range)) (each_below grant gs 9720 grants) in
+    let each = rest_fits s.gap s.profile gs gs p (ids_fit t (surplus_rate t made.cert) (carry_at s) s.roster (recursion_from_All IsInRange s.roster k.in_range)) (each_below grant gs 9720 grants) in
     let is_map : IsMap made.map = subst IsMap (sym f.map) m in
     let fit : AllByRecursion structure.Fits made.map = subst (λ (rows : List Alloc). AllByRecursion structure.Fits rows) (sym f.map) (rows_fit (map_granting s.gap s.profile gs) m each) in (
       (

@@ -2,7 +2,10 @@ mod FitCerts
 mod FitChapters
 mod FitEvents
 mod FitMaps
+mod FitOpenings
+mod OneBody
 mod Put
+mod PutLists
 mod ReadBack
 mod Recording
 mod Sizes

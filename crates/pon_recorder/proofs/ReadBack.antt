@@ -12,7 +12,7 @@ use Rattle.pon_recorder.proofs.FitChapters.{chapter_fits}
 
 each_fits : (bodies : List Body) → AllByRecursion IsOfPort bodies → AllByRecursion FitsChapter bodies
 each_fits [] h = tt
-each_fits (b ∷ bodies) h = (subst FitsChapter (sym h.0.is) (chapter_fits h.0.port h.0.chapter h.0.numbered h.0.lawful h.0.first), each_fits bodies h.1)
+each_fits (b ∷ bodies) h = (subst FitsChapter (sym h.0.is) (chapter_fits h.0.port h.0.chapter h.0.numbered h.0.lawful h.0.count h.0.in_range), each_fits bodies h.1)
 
 pub is_recording : (bodies : List Body) → AllByRecursion IsOfPort bodies → IsRecording (recording_bytes bodies) (placed (length MAGIC) bodies)
 is_recording bodies h = written_is_read bodies (each_fits bodies h)

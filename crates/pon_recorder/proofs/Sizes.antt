@@ -1,7 +1,7 @@
 -- The number of bytes of a recorded chapter.
 use Rattle.std.proofs.Common.{◌≡◌, ℕ, ◌+◌, ◌*◌, ◌≤◌, Bool, List, [], ◌∷◌, ◌++◌, length, refl, ap, ◌∙◌, arith, length-append}
 use Rattle.std.specs.Prelude.{Option, map}
-use Rattle.std.specs.Int.{w16, to_be_bytes}
+use Rattle.std.specs.Int.{w8, w16, to_be_bytes}
 use Rattle.std.specs.List.{AllByRecursion, flat_map}
 use Rattle.std.proofs.lemmas.List.{length-map}
 use Rattle.std.proofs.lemmas.List.Concat.{flat_map-cons}
@@ -22,6 +22,11 @@ use Rattle.pon_record.specs.Format.{followed}
 use Rattle.pon_record.specs.Events.{event, occupancy}
 use Rattle.pon_record.specs.MadeMaps.{made_map, structure}
 use Rattle.pon_record.specs.Chapters.{entry, reply_to}
+use Rattle.pon_units.specs.declared.granted.Granted.{Granted}
+use Rattle.pon_window.specs.Window.{WindowMap}
+use Rattle.pon_record.specs.declared.row.RawRow.{RawRow}
+use Rattle.pon_record.specs.Fields.{onu_id}
+use Rattle.pon_record.specs.Openings.{Opening, grant, opening, row, window_map}
 
 occ_size : (occ : List (Option ℕ)) → length (flat_map occupancy.write occ) ≡ 4 * length occ
 occ_size [] = refl
@@ -78,3 +83,37 @@ entries_size [] h = omega arith
 entries_size (e ∷ es) h =
     let joined : length (flat_map entry.write (e ∷ es)) ≡ length (entry.write e ++ flat_map entry.write es) = ap (λ (bs : List ℕ). length bs) (flat_map-cons entry.write e es) in
     omega (arith, joined, length-append (entry.write e) (flat_map entry.write es), entry_size e h.0, entries_size es h.1)
+
+-- the number of bytes of an opening
+
+raw_rows_size : (rows : List RawRow) → length (flat_map row.write rows) ≡ 38 * length rows
+raw_rows_size [] = refl
+raw_rows_size (r ∷ rows) = ap (λ (bs : List ℕ). length bs) (flat_map-cons row.write r rows) ∙ omega (arith, raw_rows_size rows)
+
+grants_size : (gs : List Granted) → length (flat_map grant.write gs) ≡ 6 * length gs
+grants_size [] = refl
+grants_size (g ∷ gs) = ap (λ (bs : List ℕ). length bs) (flat_map-cons grant.write g gs) ∙ omega (arith, grants_size gs)
+
+onus_size : (us : List ℕ) → length (flat_map onu_id.write us) ≡ 2 * length us
+onus_size [] = refl
+onus_size (u ∷ us) = ap (λ (bs : List ℕ). length bs) (flat_map-cons onu_id.write u us) ∙ omega (arith, onus_size us)
+
+map_size : (m : WindowMap) → window_map.Fits m → length (window_map.write m) ≤ 2057
+map_size m fits =
+    let grants : List ℕ = flat_map grant.write m.grants in
+    let few : length m.grants ≤ 256 = fits.0.1.0.1 in
+    let reported : length m.reported ≤ 255 = fits.0.1.1.1 in
+    omega (arith, length-append grants (to_be_bytes w8 (length m.reported) ++ flat_map onu_id.write m.reported), grants_size m.grants, onus_size m.reported, few, reported)
+
+maps_size : (ms : List WindowMap) → AllByRecursion window_map.Fits ms → length (flat_map window_map.write ms) ≤ 2057 * length ms
+maps_size [] h = omega arith
+maps_size (m ∷ ms) h =
+    let joined : length (flat_map window_map.write (m ∷ ms)) ≡ length (window_map.write m ++ flat_map window_map.write ms) = ap (λ (bs : List ℕ). length bs) (flat_map-cons window_map.write m ms) in
+    omega (arith, joined, length-append (window_map.write m) (flat_map window_map.write ms), map_size m h.0, maps_size ms h.1)
+
+pub opening_size : (o : Opening) → opening.Fits o → length (opening.write o) ≤ 200000
+opening_size o fits =
+    let rows : List ℕ = flat_map row.write o.rows in
+    let few : length o.rows ≤ 256 = fits.0.1.1.1.1.1.0.1 in
+    let maps : length o.window ≤ 64 = fits.0.1.1.1.1.1.1.1 in
+    omega (arith, length-append rows (to_be_bytes w8 (length o.window) ++ flat_map window_map.write o.window), raw_rows_size o.rows, maps_size o.window fits.0.1.1.1.1.1.1.2, few, maps)

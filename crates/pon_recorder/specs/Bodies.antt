@@ -1,15 +1,38 @@
 -- The chapters of ports, as a recording has them.
-use Rattle.std.specs.Prelude.{◌≡◌, ℕ, ◌<◌, []}
+use Rattle.std.specs.Prelude.{◌≡◌, ℕ, ◌<◌, ◌≤◌, ◌^◌, ◌++◌, All, List, length, map}
+use Rattle.std.specs.Int.{w64, to_be_bytes}
 use Rattle.pon_units.specs.declared.limits.TheConstants.{MOST_PORTS}
 use Rattle.pon_cert.specs.Texts.{FitsCert}
+use Rattle.pon_admit.specs.declared.row.Row.{Row}
+use Rattle.pon_guar.specs.declared.account.Account.{Account}
+use Rattle.pon_guar.specs.Book.{account_of, known_report, since_of_account}
+use Rattle.pon_window.specs.Window.{WindowMap}
 use Rattle.pon_state.specs.State.{State}
 use Rattle.pon_state.specs.declared.reply.Reply.{Reply}
 use Rattle.pon_state.specs.declared.reply.Reply.TheVariants.{Taken, Map}
-use Rattle.pon_port.specs.Chapters.{Chapter, IsFirst, IsLawfulChapter}
-use Rattle.pon_record.specs.Openings.{Opening}
+use Rattle.pon_port.specs.Chapters.{Chapter, IsLawfulChapter}
+use Rattle.pon_port.specs.Ranges.{IsStateInRange}
+use Rattle.pon_record.specs.declared.limits.TheConstants.{MOST_GRANTS, MOST_REPORTED, MOST_ROWS}
+use Rattle.pon_record.specs.declared.row.RawRow.{RawRow}
+use Rattle.pon_record.specs.Fields.{failure, gap, profile}
+use Rattle.pon_record.specs.Openings.{Opening, row}
 use Rattle.pon_record.specs.Chapters.{Body}
 
--- the opening of a port just opened: it has no rows and no window
+-- an admitted Alloc-ID with what its account has
+abbrev pub recorded_row : List Account → Row → RawRow
+recorded_row book r = record {
+  onu = r.onu;
+  alloc_id = r.alloc_id;
+  descriptor = r.descriptor;
+  since = since_of_account (account_of book r.alloc_id);
+  counted = known_report (account_of book r.alloc_id);
+}
+
+-- the bytes of a row with what its account has
+abbrev pub row_bytes : List Account → Row → List ℕ
+row_bytes book r = row.write (recorded_row book r)
+
+-- the opening of a chapter
 abbrev pub recorded_opening : State → Opening
 recorded_opening s = record {
   gap = s.gap;
@@ -17,24 +40,39 @@ recorded_opening s = record {
   cause = s.cause;
   next = s.next;
   taken_before = s.taken_before;
-  rows = [];
-  window = [];
+  rows = map (recorded_row s.book) s.roster;
+  window = s.window;
 }
 
--- the body that records a first chapter of a port
+-- the body that records a chapter of a port
 abbrev pub chapter_body : ℕ → Chapter → Body
 chapter_body port c = record { port = port; number = c.number; opening = recorded_opening c.opening; entries = c.entries }
 
--- the body is that of a lawful first chapter of a port
+-- the body is that of a lawful chapter of a port, from an opening in range
 pub record IsOfPort (b : Body) : Type 0 where
   pub port : ℕ
   pub chapter : Chapter
   pub numbered : port < MOST_PORTS
   pub lawful : IsLawfulChapter chapter
-  pub first : IsFirst chapter
+  pub count : chapter.number < 2 ^ 64
+  pub in_range : IsStateInRange chapter.opening
   pub is : b ≡ chapter_body port chapter
 
 -- the certificate of a replied map fits the format
 abbrev pub HoldsFittingCert : Reply → Type 0
 HoldsFittingCert Taken = Unit {0}
 HoldsFittingCert (Map made) = FitsCert made.cert
+
+-- the counts of a map of the window fit the format
+pub record FitsWindowMap (m : WindowMap) : Type 0 where
+  pub grants : length m.grants ≤ MOST_GRANTS
+  pub reported : length m.reported ≤ MOST_REPORTED
+
+-- the counts of an opening fit the format
+pub record FitsCounts (s : State) : Type 0 where
+  pub rows : length s.roster ≤ MOST_ROWS
+  pub maps : All FitsWindowMap s.window
+
+-- the bytes of an opening before its rows
+abbrev pub head_bytes : State → List ℕ
+head_bytes s = gap.write s.gap ++ profile.write s.profile ++ failure.write s.cause ++ to_be_bytes w64 s.next ++ to_be_bytes w64 s.taken_before

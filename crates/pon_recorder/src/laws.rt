@@ -1,20 +1,21 @@
 //! Laws on the recordings of ports, stated over the definitions alone.
 
-ghost use Rattle.std.specs.Prelude.{◌≡◌, ◌<◌, ℕ, List, length};
+ghost use Rattle.std.specs.Prelude.{◌≡◌, ◌<◌, ◌^◌, ℕ, List, length};
 ghost use Rattle.std.specs.List.{AllByRecursion};
 ghost use Rattle.pon_units.specs.declared.limits.TheConstants.{MOST_PORTS};
-ghost use Rattle.pon_port.specs.Chapters.{Chapter, IsFirst, IsLawfulChapter};
+ghost use Rattle.pon_port.specs.Chapters.{Chapter, IsLawfulChapter};
+ghost use Rattle.pon_port.specs.Ranges.{IsStateInRange};
 ghost use Rattle.pon_record.specs.declared.limits.TheConstants.{MAGIC};
 ghost use Rattle.pon_record.specs.declared.fault.ReadFault.{ReadFault};
 ghost use Rattle.pon_record.specs.Chapters.{Body, FitsChapter, PlacedChapter, placed};
 ghost use Rattle.pon_record.specs.Recordings.{IsReadFault, IsRecording, recording_bytes};
 ghost use Rattle.pon_recorder.specs.Bodies.{IsOfPort, chapter_body};
 
-/// A lawful first chapter of a port fits the format: each field is in its range, and the body is shorter than 2^32
-/// bytes.
+/// A lawful chapter of a port, from an opening in range, fits the format: each field is in its range, and the body is
+/// shorter than 2^32 bytes.
 pub fn chapters_fit_the_format()
-    ensures { (port : ℕ) (c : Chapter) → port < MOST_PORTS → IsLawfulChapter c → IsFirst c
-        → FitsChapter (chapter_body port c) }
+    ensures { (port : ℕ) (c : Chapter) → port < MOST_PORTS → IsLawfulChapter c
+        → c.number < 2 ^ 64 → IsStateInRange c.opening → FitsChapter (chapter_body port c) }
 {}
 
 /// The recording of chapters of ports is read back as these chapters, each at its place and in this order. It has no
@@ -29,8 +30,9 @@ pub fn recordings_are_read_back()
         → IsReadFault (recording_bytes bodies) fault → fault ≡ ReadFault.Memory }
 {}
 
-/// A body is that of at most one port and one first chapter.
+/// A body is that of at most one port and one lawful chapter from an opening in range.
 pub fn bodies_have_one_chapter()
-    ensures { (p q : ℕ) (c d : Chapter) → IsFirst c → IsFirst d
+    ensures { (p q : ℕ) (c d : Chapter) → IsLawfulChapter c → IsLawfulChapter d
+        → IsStateInRange c.opening → IsStateInRange d.opening
         → chapter_body p c ≡ chapter_body q d → (p ≡ q) × (c ≡ d) }
 {}

@@ -11,6 +11,7 @@ mod fault;
 mod fields;
 pub mod laws;
 mod made;
+mod openings;
 mod pending;
 mod record_file;
 

@@ -1,6 +1,6 @@
 -- The surplus rates, row by row: the flags of each class are those of its members in map order.
 use Rattle.std.proofs.Common.{◌≡◌, ℕ, zero, suc, ◌+◌, ◌*◌, ◌<◌, ◌≤◌, ◌/◌, Bool, true, false, cond, List, [], ◌∷◌, ◌++◌, map, length, take, drop, get_or, refl, ap, sym, ◌∙◌, subst, arith}
-use Rattle.std.specs.Prelude.{filter, if◌then◌else◌, All, slice_index_or, sum_by}
+use Rattle.std.specs.Prelude.{filter, if◌then◌else◌, All, slice_index, slice_index_or, sum_by}
 use Rattle.std.specs.List.{AllByRecursion, zip}
 use Rattle.std.proofs.lemmas.List.{get_or-map, length-map, map_more, take_all}
 use Rattle.std.proofs.Math.Nat.{mul-le-mul_right}
@@ -11,8 +11,9 @@ use Rattle.pon_units.specs.declared.granted.Granted.{Granted}
 use Rattle.pon_descr.specs.declared.class.Class.{Class}
 use Rattle.pon_descr.specs.declared.class.Class.TheVariants.{Plain, NonAssured, BestEffort}
 use Rattle.pon_descr.specs.Descriptor.{Descriptor, SuitsClass, promised}
-use Rattle.pon_admit.specs.Roster.{IsAdmitted, IsInRange, capacity, most_allocs}
+use Rattle.pon_admit.specs.Roster.{IsAdmitted, IsDistinct, IsInRange, capacity, left_over, most_allocs}
 use Rattle.pon_admit.specs.declared.row.Row.{Row}
+use Rattle.pon_admit.specs.declared.rule.Rule.{Rule}
 use Rattle.pon_cert.specs.declared.problem.Item.{Item}
 use Rattle.pon_cert.specs.declared.cert.Level.{Level}
 use Rattle.pon_cert.specs.declared.cert.Level.TheVariants as level
@@ -21,7 +22,8 @@ use Rattle.pon_cert.specs.declared.cert.MapCert.{MapCert}
 use Rattle.pon_cert.specs.Problem.{IsItem, IsProblem}
 use Rattle.pon_cert.specs.Certificate.{IsCertificate, IsMapCertificate, DenominatorHolds, RuleHolds, amount, denominator, left_surplus, unsaturated_weight}
 use Rattle.pon_share.specs.Input.{Input}
-use Rattle.pon_share.specs.Rates.{granted, guaranteed_rate}
+use Rattle.pon_share.specs.Carries.{number_of}
+use Rattle.pon_share.specs.Rates.{carried, granted, guaranteed_rate, owed}
 use Rattle.pon_share.specs.Sharing.{IsCertified, is_saturated, item_of, items, member_ids, members, rate_in, same_class, spelled_rate, surplus, surplus_rate, weight_in}
 use Rattle.pon_share.specs.Demands.{demand_of, demands_of}
 use Rattle.pon_share.specs.Problems.{AreProblems}
@@ -29,6 +31,7 @@ use Rattle.pon_share.specs.declared.problems.Problems.{Problems}
 use Rattle.pon_share.specs.declared.demand.Demand.{Demand}
 use Rattle.pon_lists.proofs.Lists.{map-map, map_filter, sum_by-map}
 use Rattle.pon_admit.proofs.Rules.{few_allowed}
+use Rattle.pon_share.proofs.Carries.{carry_at_row}
 use Rattle.pon_share.proofs.RosterMaps.{granted_to_row}
 use Rattle.pon_share.proofs.Surplus.{flags_each, rules_hold}
 
@@ -168,16 +171,22 @@ range_at s k r i lt is = subst IsInRange is (k.in_range i r lt)
 pub rates_at : (s : Input) → IsAdmitted s.rule s.gap s.roster → (d : Demand) (i : ℕ) → RowAt s d i → d.guaranteed + d.item.cap ≤ 2488320
 rates_at s k d i at = subst (λ d. d.guaranteed + d.item.cap ≤ 2488320) (sym at.demand) (rates_range s at.row (range_at s k at.row i at.within at.here))
 
--- the grants so far, and the flags that are left, before row i
-pub record Dealt (s : Input) (cert : MapCert) (i : ℕ) (gs : List Granted) (na_left be_left : List Bool) : Type 0 where
-  pub grants : gs ≡ map (granted_to_row s (surplus_rate s cert)) (take i s.roster)
+-- what the rows are owed by a map under a certificate
+abbrev pub owed_to : Input → MapCert → List ℕ → Row → ℕ
+owed_to s cert carries r = owed s (surplus_rate s cert) (λ q. number_of s.roster carries q.alloc_id) r
+
+-- the grants so far, what they leave, and the flags that are left, before row i
+pub record Dealt (s : Input) (cert : MapCert) (carries : List ℕ) (i : ℕ) (gs : List Granted) (cs : List ℕ) (na_left be_left : List Bool) : Type 0 where
+  pub grants : gs ≡ map (granted_to_row s (surplus_rate s cert) (λ q. number_of s.roster carries q.alloc_id)) (take i s.roster)
+  pub left : cs ≡ map (λ r. left_over s.rule (owed_to s cert carries r)) (take i s.roster)
   pub na : na_left ≡ map (λ r. is_saturated NonAssured s.roster cert.na r.alloc_id) (members NonAssured (drop i s.roster))
   pub be : be_left ≡ map (λ r. is_saturated BestEffort s.roster cert.be r.alloc_id) (members BestEffort (drop i s.roster))
 
 -- before the first row all flags are left
-pub dealt_none : (s : Input) (cert : MapCert) → IsAdmitted s.rule s.gap s.roster → IsCertified s cert → Dealt s cert 0 [] cert.na.saturated cert.be.saturated
-dealt_none s cert k c = record {
+pub dealt_none : (s : Input) (cert : MapCert) (carries : List ℕ) → IsAdmitted s.rule s.gap s.roster → IsCertified s cert → Dealt s cert carries 0 [] [] cert.na.saturated cert.be.saturated
+dealt_none s cert carries k c = record {
   grants = refl;
+  left = refl;
   na = sym (flags_each s NonAssured cert.na (surplus s) k.apart c.non_assured);
   be = sym (flags_each s BestEffort cert.be (left_surplus cert.na.level (items NonAssured s) (surplus s)) k.apart c.best_effort);
 }
@@ -213,24 +222,42 @@ module _ (s : Input) (class : Class) (cert : ClassCert) (surplus : ℕ) (k : IsA
 
 -- One more row.
 
--- the grant of a demand with a surplus rate
-abbrev words_of : (d : Demand) (surplus : ℕ) → Granted
-words_of d surplus = record { onu = d.onu; alloc_id = d.alloc_id; words = (d.guaranteed + surplus) / 256 }
+-- the grant of a demand that is owed these kbit/s
+abbrev pub words_of : Demand → ℕ → Granted
+words_of d owed = record { onu = d.onu; alloc_id = d.alloc_id; words = owed / 256 }
 
-module _ (s : Input) (cert : MapCert) (d : Demand) (i : ℕ) (at : RowAt s d i) where
+-- a grant, and what it leaves, of a demand with a carry and a surplus rate
+pub record Deals (rule : Rule) (d : Demand) (carry surplus : ℕ) (g : Granted) (left : ℕ) : Type 0 where
+  pub grant : g ≡ words_of d (carry + (d.guaranteed + surplus))
+  pub leaves : left ≡ left_over rule (carry + (d.guaranteed + surplus))
+
+module _ (s : Input) (cert : MapCert) (carries : List ℕ) (apart : IsDistinct s.roster) (same : length carries ≡ length s.roster) (d : Demand) (i : ℕ) (at : RowAt s d i) where
+  abbrev carry_here : Row → ℕ
+  carry_here r = number_of s.roster carries r.alloc_id
+
   -- the share that the certificate gives, by class
   abbrev share_spelled : ℕ
   share_spelled = (surplus_rate s cert at.row).num / (surplus_rate s cert at.row).den
 
-  granted_here : (share : ℕ) → share ≡ share_spelled → words_of d share ≡ granted_to_row s (surplus_rate s cert) at.row
-  granted_here share e = ap (λ d. words_of d share) at.demand ∙ ap (words_of (demand_of s at.row)) e
+  -- what the demand is owed is what its row is owed
+  owed_here : (carry share : ℕ) → carry ≡ slice_index carries i → share ≡ share_spelled → carry + (d.guaranteed + share) ≡ owed_to s cert carries at.row
+  owed_here carry share c e =
+      (λ j. (c ∙ carry_at_row s.roster carries at.row i 0 apart same at.within at.here) j + ((at.demand j).guaranteed + e j))
 
-  one_more : (gs : List Granted) (g : Granted) (share : ℕ) → g ≡ words_of d share → share ≡ share_spelled → gs ≡ map (granted_to_row s (surplus_rate s cert)) (take i s.roster) →
-      gs ++ g ∷ [] ≡ map (granted_to_row s (surplus_rate s cert)) (take (i + 1) s.roster)
-  one_more gs g share is e so_far =
-      let here : get_or s.roster i at.row ≡ at.row = at.here in
-      (λ j. so_far j ++ (is ∙ granted_here share e ∙ ap (granted_to_row s (surplus_rate s cert)) (sym here)) j ∷ [])
-      ∙ sym (map_more (granted_to_row s (surplus_rate s cert)) s.roster i at.row at.within)
+  one_more : {X : Type 0} (f : Row → X) (xs : List X) (x : X) → x ≡ f at.row → xs ≡ map f (take i s.roster) → xs ++ x ∷ [] ≡ map f (take (i + 1) s.roster)
+  one_more f xs x is so_far =
+      (λ j. so_far j ++ (is ∙ ap f (sym at.here)) j ∷ []) ∙ sym (map_more f s.roster i at.row at.within)
+
+  grants_more : (gs : List Granted) (g : Granted) (carry share left : ℕ) → Deals s.rule d carry share g left → carry ≡ slice_index carries i → share ≡ share_spelled →
+      gs ≡ map (granted_to_row s (surplus_rate s cert) carry_here) (take i s.roster) → gs ++ g ∷ [] ≡ map (granted_to_row s (surplus_rate s cert) carry_here) (take (i + 1) s.roster)
+  grants_more gs g carry share left deals c e so_far =
+      one_more (granted_to_row s (surplus_rate s cert) carry_here) gs g
+      (deals.grant ∙ (λ j. record { onu = (at.demand j).onu; alloc_id = (at.demand j).alloc_id; words = owed_here carry share c e j / 256 })) so_far
+
+  carries_more : (cs : List ℕ) (g : Granted) (carry share left : ℕ) → Deals s.rule d carry share g left → carry ≡ slice_index carries i → share ≡ share_spelled →
+      cs ≡ map (λ r. left_over s.rule (owed_to s cert carries r)) (take i s.roster) → cs ++ left ∷ [] ≡ map (λ r. left_over s.rule (owed_to s cert carries r)) (take (i + 1) s.roster)
+  carries_more cs g carry share left deals c e so_far =
+      one_more (λ r. left_over s.rule (owed_to s cert carries r)) cs left (deals.leaves ∙ ap (left_over s.rule) (owed_here carry share c e)) so_far
 
   -- the flags of the other class are unchanged
   kept_flags : {X : Type 0} (class : Class) (f : Row → X) (c : Class) → d.class ≡ c → same_class c class ≡ false → map f (members class (drop i s.roster)) ≡ map f (members class (drop (i + 1) s.roster))
@@ -246,9 +273,11 @@ module _ (s : Input) (cert : MapCert) (d : Demand) (i : ℕ) (at : RowAt s d i) 
   abbrev be_sat : Row → Bool
   be_sat r = is_saturated BestEffort s.roster cert.be r.alloc_id
 
-  pub dealt_plain : (gs : List Granted) (na be : List Bool) (g : Granted) → Dealt s cert i gs na be → d.class ≡ Plain → g ≡ words_of d 0 → Dealt s cert (i + 1) (gs ++ g ∷ []) na be
-  dealt_plain gs na be g h e is = record {
-    grants = one_more gs g 0 is (sym (ap (λ f. f.num / f.den) (spelled_in Plain e))) h.grants;
+  pub dealt_plain : (gs : List Granted) (cs : List ℕ) (na be : List Bool) (g : Granted) (carry left : ℕ) → Dealt s cert carries i gs cs na be → carry ≡ slice_index carries i → d.class ≡ Plain →
+      Deals s.rule d carry 0 g left → Dealt s cert carries (i + 1) (gs ++ g ∷ []) (cs ++ left ∷ []) na be
+  dealt_plain gs cs na be g carry left h c e deals = record {
+    grants = grants_more gs g carry 0 left deals c (sym (ap (λ f. f.num / f.den) (spelled_in Plain e))) h.grants;
+    left = carries_more cs g carry 0 left deals c (sym (ap (λ f. f.num / f.den) (spelled_in Plain e))) h.left;
     na = h.na ∙ kept_flags NonAssured na_sat Plain e refl;
     be = h.be ∙ kept_flags BestEffort be_sat Plain e refl;
   }
@@ -258,28 +287,32 @@ module _ (s : Input) (cert : MapCert) (d : Demand) (i : ℕ) (at : RowAt s d i) 
       share ≡ (spelled_rate s class c at.row).num / (spelled_rate s class c at.row).den
   share_is class c f share e is = is ∙ ap (λ f. amount c.level d.item f / denominator c.level) e ∙ ap (λ d. amount c.level d.item (is_saturated class s.roster c at.row.alloc_id) / denominator c.level) at.demand
 
-  pub dealt_na : (gs : List Granted) (na be rest : List Bool) (f : Bool) (share : ℕ) (g : Granted) → Dealt s cert i gs na be → d.class ≡ NonAssured →
-      (f ≡ na_sat at.row) × (rest ≡ map na_sat (members NonAssured (drop (i + 1) s.roster))) → share ≡ amount cert.na.level d.item f / denominator cert.na.level → g ≡ words_of d share →
-      Dealt s cert (i + 1) (gs ++ g ∷ []) rest be
-  dealt_na gs na be rest f share g h e flag is word = record {
-    grants = one_more gs g share word (share_is NonAssured cert.na f share flag.0 is ∙ sym (ap (λ f. f.num / f.den) (spelled_in NonAssured e))) h.grants;
+  pub dealt_na : (gs : List Granted) (cs : List ℕ) (na be rest : List Bool) (f : Bool) (share : ℕ) (g : Granted) (carry left : ℕ) → Dealt s cert carries i gs cs na be → carry ≡ slice_index carries i → d.class ≡ NonAssured →
+      (f ≡ na_sat at.row) × (rest ≡ map na_sat (members NonAssured (drop (i + 1) s.roster))) → share ≡ amount cert.na.level d.item f / denominator cert.na.level → Deals s.rule d carry share g left →
+      Dealt s cert carries (i + 1) (gs ++ g ∷ []) (cs ++ left ∷ []) rest be
+  dealt_na gs cs na be rest f share g carry left h c e flag is deals = record {
+    grants = grants_more gs g carry share left deals c (share_is NonAssured cert.na f share flag.0 is ∙ sym (ap (λ f. f.num / f.den) (spelled_in NonAssured e))) h.grants;
+    left = carries_more cs g carry share left deals c (share_is NonAssured cert.na f share flag.0 is ∙ sym (ap (λ f. f.num / f.den) (spelled_in NonAssured e))) h.left;
     na = flag.1;
     be = h.be ∙ kept_flags BestEffort be_sat NonAssured e refl;
   }
 
-  pub dealt_be : (gs : List Granted) (na be rest : List Bool) (f : Bool) (share : ℕ) (g : Granted) → Dealt s cert i gs na be → d.class ≡ BestEffort →
-      (f ≡ be_sat at.row) × (rest ≡ map be_sat (members BestEffort (drop (i + 1) s.roster))) → share ≡ amount cert.be.level d.item f / denominator cert.be.level → g ≡ words_of d share →
-      Dealt s cert (i + 1) (gs ++ g ∷ []) na rest
-  dealt_be gs na be rest f share g h e flag is word = record {
-    grants = one_more gs g share word (share_is BestEffort cert.be f share flag.0 is ∙ sym (ap (λ f. f.num / f.den) (spelled_in BestEffort e))) h.grants;
+  pub dealt_be : (gs : List Granted) (cs : List ℕ) (na be rest : List Bool) (f : Bool) (share : ℕ) (g : Granted) (carry left : ℕ) → Dealt s cert carries i gs cs na be → carry ≡ slice_index carries i → d.class ≡ BestEffort →
+      (f ≡ be_sat at.row) × (rest ≡ map be_sat (members BestEffort (drop (i + 1) s.roster))) → share ≡ amount cert.be.level d.item f / denominator cert.be.level → Deals s.rule d carry share g left →
+      Dealt s cert carries (i + 1) (gs ++ g ∷ []) (cs ++ left ∷ []) na rest
+  dealt_be gs cs na be rest f share g carry left h c e flag is deals = record {
+    grants = grants_more gs g carry share left deals c (share_is BestEffort cert.be f share flag.0 is ∙ sym (ap (λ f. f.num / f.den) (spelled_in BestEffort e))) h.grants;
+    left = carries_more cs g carry share left deals c (share_is BestEffort cert.be f share flag.0 is ∙ sym (ap (λ f. f.num / f.den) (spelled_in BestEffort e))) h.left;
     na = h.na ∙ kept_flags NonAssured na_sat BestEffort e refl;
     be = flag.1;
   }
 
 -- after the last row all is granted
-pub dealt_all : (s : Input) (cert : MapCert) (ds : List Demand) (i : ℕ) (gs : List Granted) (na be : List Bool) → ds ≡ demands_of s → Dealt s cert i gs na be → length ds ≤ i → gs ≡ granted s (surplus_rate s cert)
-dealt_all s cert ds i gs na be e h end =
-    h.grants ∙ ap (map (granted_to_row s (surplus_rate s cert))) (take_all i s.roster (omega (arith, end, ap length e, length-map s.roster (demand_of s))))
+pub dealt_all : (s : Input) (cert : MapCert) (carries : List ℕ) (ds : List Demand) (i : ℕ) (gs : List Granted) (cs : List ℕ) (na be : List Bool) → ds ≡ demands_of s → Dealt s cert carries i gs cs na be → length ds ≤ i →
+    (gs ≡ granted s (surplus_rate s cert) (λ q. number_of s.roster carries q.alloc_id)) × (cs ≡ carried s (surplus_rate s cert) (λ q. number_of s.roster carries q.alloc_id))
+dealt_all s cert carries ds i gs cs na be e h end =
+    let whole = take_all i s.roster (omega (arith, end, ap length e, length-map s.roster (demand_of s))) in
+    (h.grants ∙ ap (map (granted_to_row s (surplus_rate s cert) (λ q. number_of s.roster carries q.alloc_id))) whole, h.left ∙ ap (map (λ r. left_over s.rule (owed_to s cert carries r))) whole)
 
 -- The problems of the classes, from the demands.
 

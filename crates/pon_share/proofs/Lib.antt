@@ -1,3 +1,4 @@
+pub mod Carries
 pub mod ClassShares
 pub mod Dealing
 pub mod RosterMaps

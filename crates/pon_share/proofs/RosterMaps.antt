@@ -14,10 +14,10 @@ use Rattle.pon_burst.specs.Bursts.{AreSound}
 use Rattle.pon_burst.specs.Maps.{frame_words}
 use Rattle.pon_burst.proofs.SoundMaps.{sound_of_rising}
 use Rattle.pon_descr.specs.Descriptor.{promised}
-use Rattle.pon_admit.specs.Roster.{IsAdmitted, IsInMapOrder, capacity, comes_before, onus_of, overhead, overhead_words, promised_sum}
+use Rattle.pon_admit.specs.Roster.{IsAdmitted, IsInMapOrder, capacity, comes_before, most_carry, onus_of, overhead, overhead_words, promised_sum}
 use Rattle.pon_admit.specs.declared.row.Row.{Row}
 use Rattle.pon_admit.proofs.AdmittedSets.{fits_parts, precedes}
-use Rattle.pon_admit.proofs.Rules.{few_allowed, some_overhead}
+use Rattle.pon_admit.proofs.Rules.{few_allowed, room_for_carry}
 use Rattle.pon_share.specs.Input.{Input}
 use Rattle.pon_cert.specs.declared.cert.MapCert.{MapCert}
 use Rattle.pon_cert.specs.Certificate.{left_surplus}
@@ -28,10 +28,10 @@ use Rattle.pon_share.proofs.Surplus.{by_class, shared, whole_share}
 use Rattle.pon_share.specs.Maps.{map_of}
 use Rattle.pon_share.specs.Packing.{AreOneMap}
 
-module _ (s : Input) (surplus : Row → Frac) where
+module _ (s : Input) (surplus : Row → Frac) (carry : Row → ℕ) where
   -- the grant of a row
   abbrev pub granted_to_row : Row → Granted
-  granted_to_row r = record { onu = r.onu; alloc_id = r.alloc_id; words = payload s surplus r }
+  granted_to_row r = record { onu = r.onu; alloc_id = r.alloc_id; words = payload s surplus carry r }
 
   pub in_order : (rows : List Row) → IsInMapOrder rows → AreInMapOrder (map granted_to_row rows)
   in_order [] h = tt
@@ -46,26 +46,26 @@ module _ (s : Input) (surplus : Row → Frac) where
   )
 
   -- the ONUs of the grants are those of the roster
-  onus_same : onus_granted (granted s surplus) ≡ onus_of s.roster
+  onus_same : onus_granted (granted s surplus carry) ≡ onus_of s.roster
   onus_same = ap distinct (map-map (λ g. g.onu) granted_to_row s.roster)
 
-  grant_words : (rows : List Row) → sum_by (λ g. 1 + g.words) (map granted_to_row rows) ≡ length rows + sum_by (payload s surplus) rows
+  grant_words : (rows : List Row) → sum_by (λ g. 1 + g.words) (map granted_to_row rows) ≡ length rows + sum_by (payload s surplus carry) rows
   grant_words [] = refl
-  grant_words (r ∷ rows) = omega (arith, sum_by-cons (λ g. 1 + g.words) (granted_to_row r) (map granted_to_row rows), sum_by-cons (payload s surplus) r rows, grant_words rows)
+  grant_words (r ∷ rows) = omega (arith, sum_by-cons (λ g. 1 + g.words) (granted_to_row r) (map granted_to_row rows), sum_by-cons (payload s surplus carry) r rows, grant_words rows)
 
-  -- the bursts fit a frame if the payload fits the capacity
-  pub fitting_with : IsAdmitted s.rule s.gap s.roster → sum_by (payload s surplus) s.roster ≤ capacity s.rule s.gap s.roster →
-      frame_words s.gap (granted s surplus) ≤ 9720
+  -- the bursts fit a frame if the payload fits the capacity and the carries
+  pub fitting_with : IsAdmitted s.rule s.gap s.roster → 256 * sum_by (payload s surplus carry) s.roster ≤ 256 * capacity s.rule s.gap s.roster + length s.roster * most_carry s.rule →
+      frame_words s.gap (granted s surplus carry) ≤ 9720
   fitting_with k fitting =
       let n : ℕ = length s.roster in
       let room : overhead s.rule s.gap s.roster ≤ 9720 = (fits_parts s.rule s.gap s.roster k.fitting).0 in
-      let reports : n * 1 ≤ n * overhead_words s.rule = mul-le-mul_left n (some_overhead s.rule) in
-      let gaps : (s.gap + 2) * length (onus_granted (granted s surplus)) ≡ (s.gap + 2) * length (onus_of s.roster) = ap (λ us. (s.gap + 2) * length us) onus_same in
+      let reports : n * (256 + most_carry s.rule) ≤ n * (256 * overhead_words s.rule) = mul-le-mul_left n (room_for_carry s.rule) in
+      let gaps : (s.gap + 2) * length (onus_granted (granted s surplus carry)) ≡ (s.gap + 2) * length (onus_of s.roster) = ap (λ us. (s.gap + 2) * length us) onus_same in
       omega (arith, room, reports, gaps, fitting, grant_words s.roster)
 
-  -- the grants fit one map if the payload fits the capacity
-  pub one_map_with : IsAdmitted s.rule s.gap s.roster → sum_by (payload s surplus) s.roster ≤ capacity s.rule s.gap s.roster →
-      AreOneMap s.gap (granted s surplus)
+  -- the grants fit one map if the payload fits the capacity and the carries
+  pub one_map_with : IsAdmitted s.rule s.gap s.roster → 256 * sum_by (payload s surplus carry) s.roster ≤ 256 * capacity s.rule s.gap s.roster + length s.roster * most_carry s.rule →
+      AreOneMap s.gap (granted s surplus carry)
   one_map_with k fitting = record {
     in_map_order = in_order s.roster k.in_map_order;
     short_series = λ u. subst (λ m. m ≤ 16) (sym (sum_by-map (λ g. cond (g.onu == u) 1 0) granted_to_row s.roster)) (k.short_series u);
@@ -75,13 +75,26 @@ module _ (s : Input) (surplus : Row → Frac) where
 
 -- The payload words of guaranteed and surplus rates.
 
--- the whole words are at most the rates
-payload_sum : (s : Input) (surplus : Row → Frac) (rows : List Row) →
-    256 * sum_by (payload s surplus) rows ≤ sum_by (guaranteed_rate s) rows + sum_by (λ r. (surplus r).num / (surplus r).den) rows
-payload_sum s surplus [] = omega arith
-payload_sum s surplus (r ∷ rows) =
-    let here : 256 * payload s surplus r ≤ guaranteed_rate s r + (surplus r).num / (surplus r).den = omega arith in
-    omega (arith, sum_by-cons (payload s surplus) r rows, sum_by-cons (guaranteed_rate s) r rows, sum_by-cons (λ r. (surplus r).num / (surplus r).den) r rows, here, payload_sum s surplus rows)
+-- the whole words are at most the rates and the carries
+payload_sum : (s : Input) (surplus : Row → Frac) (carry : Row → ℕ) (rows : List Row) →
+    256 * sum_by (payload s surplus carry) rows ≤ sum_by carry rows + (sum_by (guaranteed_rate s) rows + sum_by (λ r. (surplus r).num / (surplus r).den) rows)
+payload_sum s surplus carry [] = omega arith
+payload_sum s surplus carry (r ∷ rows) =
+    let here : 256 * payload s surplus carry r ≤ carry r + (guaranteed_rate s r + (surplus r).num / (surplus r).den) = omega arith in
+    omega (
+      arith,
+      sum_by-cons (payload s surplus carry) r rows,
+      sum_by-cons carry r rows,
+      sum_by-cons (guaranteed_rate s) r rows,
+      sum_by-cons (λ r. (surplus r).num / (surplus r).den) r rows,
+      here,
+      payload_sum s surplus carry rows,
+    )
+
+-- carries in range add up to less than a word for each row
+carry_sum : (most : ℕ) (carry : Row → ℕ) (rows : List Row) → ((r : Row) → carry r ≤ most) → sum_by carry rows ≤ length rows * most
+carry_sum most carry [] h = omega arith
+carry_sum most carry (r ∷ rows) h = omega (arith, sum_by-cons carry r rows, h r, carry_sum most carry rows h)
 
 pub guaranteed_promised : (s : Input) (rows : List Row) → sum_by (guaranteed_rate s) rows ≤ promised_sum rows
 guaranteed_promised s [] = omega arith
@@ -95,8 +108,8 @@ guaranteed_fits s k =
     let held : promised_sum s.roster ≤ 256 * capacity s.rule s.gap s.roster = (fits_parts s.rule s.gap s.roster k.fitting).1 in
     omega (arith, held, guaranteed_promised s s.roster)
 
--- The map of an input, under an accepted certificate.
-module _ (s : Input) (cert : MapCert) (k : IsAdmitted s.rule s.gap s.roster) (c : IsCertified s cert) where
+-- The map of an input, under an accepted certificate and carries in range.
+module _ (s : Input) (cert : MapCert) (carry : Row → ℕ) (k : IsAdmitted s.rule s.gap s.roster) (c : IsCertified s cert) (small : (r : Row) → carry r ≤ most_carry s.rule) where
   -- the surplus rates add up to at most the surplus
   surplus_shared : sum_by (λ r. (surplus_rate s cert r).num / (surplus_rate s cert r).den) s.roster ≤ surplus s
   surplus_shared =
@@ -107,14 +120,14 @@ module _ (s : Input) (cert : MapCert) (k : IsAdmitted s.rule s.gap s.roster) (c 
       let be = shared s BestEffort cert.be left k.apart c.best_effort in
       omega (arith, parts, na, be)
 
-  payload_fits : sum_by (payload s (surplus_rate s cert)) s.roster ≤ capacity s.rule s.gap s.roster
-  payload_fits = omega (arith, guaranteed_fits s k, payload_sum s (surplus_rate s cert) s.roster, surplus_shared)
+  payload_fits : 256 * sum_by (payload s (surplus_rate s cert) carry) s.roster ≤ 256 * capacity s.rule s.gap s.roster + length s.roster * most_carry s.rule
+  payload_fits = omega (arith, guaranteed_fits s k, payload_sum s (surplus_rate s cert) carry s.roster, surplus_shared, carry_sum (most_carry s.rule) carry s.roster small)
 
   -- the grants fit one map
-  pub one_map : AreOneMap s.gap (granted s (surplus_rate s cert))
-  one_map = one_map_with s (surplus_rate s cert) k payload_fits
+  pub one_map : AreOneMap s.gap (granted s (surplus_rate s cert) carry)
+  one_map = one_map_with s (surplus_rate s cert) carry k payload_fits
 
   -- the bursts of the map are sound
-  pub admitted_map_is_sound : (profile : ℕ) → AreSound s.gap (map_of profile s (surplus_rate s cert))
+  pub admitted_map_is_sound : (profile : ℕ) → AreSound s.gap (map_of profile s (surplus_rate s cert) carry)
   admitted_map_is_sound profile =
-      sound_of_rising s.gap profile (granted s (surplus_rate s cert)) (in_order s (surplus_rate s cert) s.roster k.in_map_order) (fitting_with s (surplus_rate s cert) k payload_fits)
+      sound_of_rising s.gap profile (granted s (surplus_rate s cert) carry) (in_order s (surplus_rate s cert) carry s.roster k.in_map_order) (fitting_with s (surplus_rate s cert) carry k payload_fits)

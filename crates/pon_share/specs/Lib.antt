@@ -1,3 +1,4 @@
+pub mod Carries
 pub mod ClassShares
 pub mod Demands
 pub mod Input

@@ -1,4 +1,4 @@
--- The map that grants the rates of its input, given its burst profile and the surplus rate of each Alloc-ID.
+-- The map that grants the rates of its input, given its burst profile, and the surplus rate and the carry of each Alloc-ID.
 use Rattle.std.specs.Prelude.{ℕ, List}
 use Rattle.pon_units.specs.Frac.{Frac}
 use Rattle.pon_bwmap.specs.Alloc.{Alloc}
@@ -8,5 +8,5 @@ use Rattle.pon_admit.specs.declared.row.Row.{Row}
 use Rattle.pon_share.specs.Rates.{granted}
 
 -- a structure for each admitted Alloc-ID, in map order, that grants its words
-abbrev pub map_of : ℕ → Input → (Row → Frac) → List Alloc
-map_of profile s surplus = map_granting s.gap profile (granted s surplus)
+abbrev pub map_of : ℕ → Input → (Row → Frac) → (Row → ℕ) → List Alloc
+map_of profile s surplus carry = map_granting s.gap profile (granted s surplus carry)

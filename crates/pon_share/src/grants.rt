@@ -1,10 +1,11 @@
-//! The payload words of each Alloc-ID: the whole words of its guaranteed and surplus rate together.
+//! The payload words of each Alloc-ID: the whole words of its guaranteed and surplus rate and its carry together.
 
 ghost use Rattle.std.specs.Prelude.{◌≡◌, ◌+◌, ◌*◌, ◌/◌, ◌<◌, ◌≤◌, ◌∷◌, length, IfOk};
 ghost use Rattle.pon_admit.specs.Roster.{IsAdmitted};
 ghost use Rattle.pon_cert.specs.Problem.{IsItem};
 ghost use Rattle.pon_cert.specs.Certificate.{RuleHolds, amount, denominator};
-ghost use Rattle.pon_share.specs.Rates.{granted};
+ghost use Rattle.pon_share.specs.Carries.{AreCarries, number_of};
+ghost use Rattle.pon_share.specs.Rates.{carried, granted};
 ghost use Rattle.pon_share.specs.Sharing.{IsCertified, surplus_rate};
 ghost use Rattle.pon_share.specs.Demands.{demands_of};
 
@@ -13,7 +14,7 @@ use crate::input::ShareInput;
 use pon_cert::{Item, Level, MOST_ITEMS, MapCert};
 use pon_descr::Class;
 use pon_units::{Granted, LINE_RATE, WORD_RATE, Words, whole};
-use std::alloc::AllocError;
+use std::alloc::{AllocError, Global};
 
 // Computes the whole kbit/s of the surplus rate that a level gives to an item.
 fn share(level: &Level, item: &Item, saturated: bool) -> u64
@@ -36,17 +37,25 @@ fn share(level: &Level, item: &Item, saturated: bool) -> u64
     }
 }
 
-// Computes the grant of a demand, with its surplus rate in kbit/s.
-fn grant(demand: &Demand, surplus: u64) -> Granted
+// Computes what a map owes a demand, in kbit/s: its guaranteed rate, its surplus rate and its carry.
+fn owed(demand: &Demand, surplus: u64, carry: u8) -> u64
     requires { demand.now.guaranteed + surplus ≤ LINE_RATE }
+    ensures value { result ≡ carry + (demand.now.guaranteed + surplus) }
+    ensures range { result ≤ LINE_RATE + 255 }
+{
+    u64::from(carry) + (u64::from(demand.guaranteed.get()) + surplus)
+}
+
+// Computes the grant of a demand that is owed these kbit/s.
+fn grant(demand: &Demand, owed: u64) -> Granted
+    requires { owed ≤ LINE_RATE + 255 }
     ensures { result ≡ record {
       onu = demand.now.onu;
       alloc_id = demand.now.alloc_id;
-      words = (demand.now.guaranteed + surplus) / WORD_RATE;
+      words = owed / WORD_RATE;
     } }
 {
-    let rate = u64::from(demand.guaranteed.get()) + surplus;
-    match Words::new((rate / WORD_RATE) as u16) {
+    match Words::new((owed / WORD_RATE) as u16) {
         Some(words) => Granted {
             onu: demand.onu,
             alloc_id: demand.alloc_id,
@@ -67,19 +76,35 @@ fn first_flag(saturated: &[bool]) -> (bool, &[bool])
     }
 }
 
-/// Computes the grant of each admitted Alloc-ID, in map order, in the memory of `room`. `Err` only if memory is refused.
+/// The grants of a map, and what their whole words leave to each Alloc-ID for its next map, both in map order.
+#[derive(Drop)]
+pub struct Grants {
+    pub grants: Vec<Granted>,
+    pub carries: Vec<u8>,
+}
+
+/// Computes the grant of each admitted Alloc-ID, in map order, in the memory of `room`, and what it leaves. `carries` has
+/// what the last map left to each. `Err` only if memory is refused.
 pub(crate) fn grants_of(
+    alloc: Global,
     room: Vec<Granted>,
     input: &ShareInput,
     demands: &[Demand],
     cert: &MapCert,
-) -> Result<Vec<Granted>, AllocError>
+    carries: &[u8],
+) -> Result<Grants, AllocError>
     requires admitted { IsAdmitted input.now.rule input.now.gap input.now.roster }
     requires demands { demands.now ≡ demands_of input.now }
     requires certified { IsCertified input.now cert.now }
-    ensures { IfOk result (λ grants. grants.items
-        ≡ granted input.now (surplus_rate input.now cert.now)) }
+    requires carries { AreCarries input.now.rule input.now.roster carries.now }
+    ensures grants { IfOk result (λ g. g.grants.items
+        ≡ granted input.now (surplus_rate input.now cert.now)
+        (λ r. number_of input.now.roster carries.now r.alloc_id)) }
+    ensures carries { IfOk result (λ g. g.carries.items
+        ≡ carried input.now (surplus_rate input.now cert.now)
+        (λ r. number_of input.now.roster carries.now r.alloc_id)) }
 {
+    let mut left = Vec::with_capacity(alloc, demands.len())?;
     let mut grants = room;
     grants.clear();
     grants.reserve(demands.len())?;
@@ -99,7 +124,12 @@ pub(crate) fn grants_of(
                 share(&cert.be.level, &demand.item, saturated)
             }
         };
-        grants.push_reserved(grant(demand, surplus));
+        let owed = owed(demand, surplus, carries[grants.len()]);
+        grants.push_reserved(grant(demand, owed));
+        left.push_reserved(input.roster.rule().left_over(owed));
     }
-    Ok(grants)
+    Ok(Grants {
+        grants,
+        carries: left,
+    })
 }

@@ -15,6 +15,7 @@ mod room;
 mod shares;
 mod sharing;
 
+pub use grants::Grants;
 pub use input::ShareInput;
 pub use packing::pack_grants;
 pub use problems::{Problems, class_problems, grants_under};

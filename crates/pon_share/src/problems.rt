@@ -3,16 +3,16 @@
 ghost use Rattle.std.specs.Prelude.{◌≡◌, IfOk};
 ghost use Rattle.pon_admit.specs.Roster.{IsAdmitted};
 ghost use Rattle.pon_share.specs.Problems.{AreProblems};
-ghost use Rattle.pon_share.specs.Rates.{granted};
+ghost use Rattle.pon_share.specs.Carries.{AreCarries, number_of};
+ghost use Rattle.pon_share.specs.Rates.{carried, granted};
 ghost use Rattle.pon_share.specs.Sharing.{IsCertified, surplus_rate};
 
 use crate::demand::{Demand, demands_of};
-use crate::grants::grants_of;
+use crate::grants::{Grants, grants_of};
 use crate::input::ShareInput;
 use crate::sharing::{Members, class_members, surplus_of};
 use pon_cert::MapCert;
 use pon_descr::Class;
-use pon_units::Granted;
 use std::alloc::{AllocError, Global};
 
 /// The class problems of a map: the members of the non-assured and of the best-effort class with their items, and the
@@ -55,18 +55,26 @@ pub(crate) fn problems_in(
 }
 
 /// Computes the grant of each admitted Alloc-ID under a certificate, in map order: the whole words of its guaranteed
-/// rate and of the surplus rate that the certificate gives it. `Err` only if memory is refused.
+/// rate, of the surplus rate that the certificate gives it, and of its carry; and what they leave. `Err` only if memory is
+/// refused.
 pub fn grants_under(
     alloc: Global,
     input: &ShareInput,
     problems: &Problems,
     cert: &MapCert,
-) -> Result<Vec<Granted>, AllocError>
+    carries: &[u8],
+) -> Result<Grants, AllocError>
     requires admitted { IsAdmitted input.now.rule input.now.gap input.now.roster }
     requires problems { AreProblems input.now problems.now }
     requires certified { IsCertified input.now cert.now }
-    ensures { IfOk result (λ grants. grants.items
-        ≡ granted input.now (surplus_rate input.now cert.now)) }
+    requires carries { AreCarries input.now.rule input.now.roster carries.now }
+    ensures grants { IfOk result (λ g. g.grants.items
+        ≡ granted input.now (surplus_rate input.now cert.now)
+        (λ r. number_of input.now.roster carries.now r.alloc_id)) }
+    ensures carries { IfOk result (λ g. g.carries.items
+        ≡ carried input.now (surplus_rate input.now cert.now)
+        (λ r. number_of input.now.roster carries.now r.alloc_id)) }
 {
-    grants_of(Vec::new(alloc), input, problems.demands.as_slice(), cert)
+    let demands = problems.demands.as_slice();
+    grants_of(alloc, Vec::new(alloc), input, demands, cert, carries)
 }

@@ -1,5 +1,4 @@
 ghost use Rattle.std.specs.Prelude.{◌≡◌, ◌<◌, IfOk, length};
-ghost use Rattle.pon_cert.specs.Texts.{AreNames};
 
 use pon_cert::{CertReadFault, ClassCert, Level, MapCert, Sat};
 use pon_units::{AllocId, Frac};
@@ -184,85 +183,5 @@ fn certificates_as_texts(rt: HostRuntime) -> Result<(), Fail> {
         cert.to_text(alloc, &names, &names[..2])?.as_str(),
         "na 90/3 1024,16383 be 0/256 1025"
     );
-    Ok(())
-}
-
-fn two_names() -> Result<[AllocId; 2], Fail>
-    ensures { IfOk result (λ names. AreNames names) }
-{
-    Ok([name(1024)?, name(1025)?])
-}
-
-// Returns the fault of a text in which both classes have these Alloc-IDs.
-fn text_fault(alloc: Global, names: &[AllocId], text: &str) -> Option<CertReadFault>
-    requires { AreNames names.now }
-{
-    MapCert::from_text(alloc, names, names, text).err()
-}
-
-fn read_and_written(alloc: Global, names: &[AllocId], text: &str) -> Result<String, Fail>
-    requires { AreNames names.now }
-{
-    match MapCert::from_text(alloc, names, names, text) {
-        Ok(cert) => Ok(cert.to_text(alloc, names, names)?),
-        Err(fault) => Err(refused(fault)),
-    }
-}
-
-#[test]
-fn texts_read_back(rt: HostRuntime) -> Result<(), Fail> {
-    let alloc = rt.alloc();
-    let names = two_names()?;
-    let texts = [
-        "na all - be all 1024",
-        "na all - be 2478592/3732480 -",
-        "na 1710336/768000 - be 0/256 -",
-        "na 90/3 1024,1025 be all 1025",
-    ];
-    for text in &texts {
-        let written = read_and_written(alloc, &names, text)?;
-        assert_eq!(rt; written.as_str(), *text);
-    }
-    Ok(())
-}
-
-#[test]
-fn flags_read_from_a_text(rt: HostRuntime) -> Result<(), Fail> {
-    let alloc = rt.alloc();
-    let names = two_names()?;
-    let wanted = MapCert {
-        na: class(alloc, at(90, 3), &[false, true])?,
-        be: class(alloc, Level::All, &[false, false])?,
-    };
-    let text = "na 90/3 1025 be all -";
-    let cert = MapCert::from_text(alloc, &names, &names, text).map_err(refused)?;
-    same(&rt, &cert, &wanted);
-    Ok(())
-}
-
-#[test]
-fn texts_in_no_form(rt: HostRuntime) -> Result<(), Fail> {
-    let alloc = rt.alloc();
-    let names = two_names()?;
-    let texts = [
-        "na all - be all 1025,1024",
-        "na all - be all 1026",
-        "na all - be all 1024,1024",
-        "na all - be all 01024",
-        "na all - be 01/2 -",
-        "na all  - be all -",
-        "na all - be all",
-        "na all - be all - ",
-        "na all - be all -,",
-        "na 1/0 - be all -",
-        "na +1/2 - be all -",
-        "na 18446744073709551616/2 - be all -",
-        "be all - na all -",
-        "",
-    ];
-    for text in &texts {
-        let fault = text_fault(alloc, &names, text);
-        assert_eq!(rt; fault, Some(CertReadFault::Form), "{text}");
-    }
     Ok(())
 }

@@ -1,2 +1,4 @@
+pub mod CarryPlaces
+pub mod Equality
 pub mod KeptMaps
 pub mod Undone

@@ -1,6 +1,6 @@
 -- The entries that may follow in a history.
 use Rattle.std.specs.Prelude.{ℕ, ◌≡◌, None}
-use Rattle.pon_state.specs.State.{State, input_of}
+use Rattle.pon_state.specs.State.{State, carry_at, input_of}
 use Rattle.pon_share.specs.Sharing.{IsCertified, surplus_rate}
 use Rattle.pon_share.specs.Maps.{map_of}
 use Rattle.pon_state.specs.Checks.{first_refusal}
@@ -12,11 +12,12 @@ use Rattle.pon_state.specs.declared.reply.Reply.TheVariants.{Taken, Map}
 use Rattle.pon_state.specs.declared.reply.MadeMap.{MadeMap}
 use Rattle.pon_state.specs.declared.reply.Entry.{Entry}
 
--- the map of a state: of its next frame, with an accepted certificate, and with the rates of its assignment
+-- the map of a state: of its next frame, with an accepted certificate, and with the rates of its assignment and the
+-- state's carries
 pub record IsMade (s : State) (made : MadeMap) : Type 0 where
   pub frame : made.frame ≡ s.next
   pub certified : IsCertified (input_of s) made.cert
-  pub map : made.map ≡ map_of s.profile (input_of s) (surplus_rate (input_of s) made.cert)
+  pub map : made.map ≡ map_of s.profile (input_of s) (surplus_rate (input_of s) made.cert) (carry_at s)
 
 -- the replies that a state may give to an event that it takes
 abbrev pub IsReply : State → Event → Reply → Type 0

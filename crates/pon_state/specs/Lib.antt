@@ -1,7 +1,9 @@
 pub mod Accounts
 pub mod After
+pub mod Carries
 pub mod Checks
 pub mod Events
+pub mod History
 pub mod Legal
 pub mod Loads
 pub mod Replay

@@ -1,5 +1,5 @@
--- The report that counts for an Alloc-ID, as a function of the whole history, and the replay of a history.
-use Rattle.std.specs.Prelude.{ℕ, ◌+◌, ◌-◌, nat_le, if◌then◌else◌, List, [], ◌++◌, map, flat_map, length, Option}
+-- The report that counts for an Alloc-ID, as a function of the whole history.
+use Rattle.std.specs.Prelude.{ℕ, ◌-◌, nat_le, if◌then◌else◌, List, [], ◌++◌, map, flat_map, Option}
 use Rattle.std.specs.List.{list_any}
 use Rattle.pon_guar.specs.declared.account.Account.{Account}
 use Rattle.pon_guar.specs.declared.account.Counted.{Counted}
@@ -7,7 +7,7 @@ use Rattle.pon_guar.specs.Book.{account_of, alloc_ids, counted_of_account, since
 use Rattle.pon_window.specs.Window.{WindowMap, grants_at, words_from}
 use Rattle.pon_guar.specs.Reports.{latest, occupancies}
 use Rattle.pon_state.specs.State.{State}
-use Rattle.pon_state.specs.Replay.{begins, next_of, cause_of, roster_of, allocs_of, frame_at_last, maps_of, all_maps, window_of}
+use Rattle.pon_state.specs.Replay.{begins, allocs_of, frame_at_last, maps_of, all_maps}
 use Rattle.pon_event.specs.declared.event.Event.{Event}
 use Rattle.pon_event.specs.declared.event.Event.TheVariants.{Report}
 use Rattle.pon_state.specs.declared.reply.Entry.{Entry}
@@ -42,16 +42,6 @@ counted_of o es i = latest (candidates o es i)
 abbrev pub account_after : State → List Entry → ℕ → Account
 account_after o es i = record { alloc_id = i; since = since_of o es i; counted = counted_of o es i }
 
--- the state after the entries
-abbrev pub replay : State → List Entry → State
-replay o es = record {
-  rule = o.rule;
-  gap = o.gap;
-  profile = o.profile;
-  next = next_of o.next es;
-  cause = cause_of o.cause es;
-  taken_before = o.taken_before + length es;
-  roster = roster_of o.roster es;
-  book = map (account_after o es) (allocs_of (alloc_ids o.book) es);
-  window = window_of o es;
-}
+-- the report book after the entries
+abbrev pub book_of : State → List Entry → List Account
+book_of o es = map (account_after o es) (allocs_of (alloc_ids o.book) es)

@@ -5,6 +5,7 @@ use Rattle.pon_admit.specs.declared.rule.Rule.{Rule}
 use Rattle.pon_admit.specs.Roster.{rule_in_force}
 use Rattle.pon_guar.specs.declared.account.Account.{Account}
 use Rattle.pon_window.specs.Window.{WindowMap}
+use Rattle.pon_share.specs.Carries.{number_of}
 use Rattle.pon_share.specs.Input.{Input}
 
 pub record State : Type 0 where
@@ -16,11 +17,16 @@ pub record State : Type 0 where
   pub taken_before : ℕ  -- entries taken before this state
   pub roster : List Row
   pub book : List Account
+  pub carries : List ℕ  -- what the last map left to each row, in map order
   pub window : List WindowMap
 
 -- the share input of the next map
 abbrev pub input_of : State → Input
 input_of s = record { rule = s.rule; gap = s.gap; roster = s.roster; book = s.book }
+
+-- the carry of a row
+abbrev pub carry_at : State → Row → ℕ
+carry_at s r = number_of s.roster s.carries r.alloc_id
 
 -- a port just opened under a rule: no rows, no window, not failed, nothing taken before
 abbrev pub opened_under : Rule → ℕ → ℕ → ℕ → State
@@ -33,6 +39,7 @@ opened_under rule gap profile first = record {
   taken_before = 0;
   roster = [];
   book = [];
+  carries = [];
   window = [];
 }
 

@@ -1,12 +1,13 @@
 //! The state after one more entry.
 
-ghost use Rattle.std.specs.Prelude.{◌≡◌, ◌==◌, ◌+◌, ◌<◌, ◌^◌, false, None, Some, length, OnOk, OnErr};
-ghost use Rattle.std.specs.List.{list_any};
+ghost use Rattle.std.specs.Prelude.{◌≡◌, ◌==◌, ◌+◌, ◌<◌, ◌≤◌, ◌^◌, false, None, Some, length, vec_len, vec_capacity, OnOk, OnErr};
+ghost use Rattle.std.specs.List.{insert, list_any, remove};
 ghost use Rattle.pon_units.specs.Granted.{AreInMapOrder};
-ghost use Rattle.pon_admit.specs.Roster.{refuses_admit, refuses_change, refuses_remove};
+ghost use Rattle.pon_admit.specs.Roster.{IsAdmitted, refuses_admit, refuses_change, refuses_remove};
 ghost use Rattle.pon_guar.specs.Book.{AreRising, alloc_ids};
 ghost use Rattle.pon_window.specs.Window.{AreConsecutive};
 ghost use Rattle.pon_window.specs.Reports.{refuses_report};
+ghost use Rattle.pon_share.specs.Carries.{AreCarries};
 ghost use Rattle.pon_state.specs.Accounts.{AccountsFor};
 ghost use Rattle.pon_state.specs.Checks.{refuses};
 ghost use Rattle.pon_state.specs.Replay.{makes_map};
@@ -20,32 +21,58 @@ use pon_event::Event;
 use pon_units::{AllocId, FrameNo, Granted, OnuId};
 use std::alloc::AllocError;
 
-/// Updates the state by a map of the next frame, of which it keeps the grants. Returns a vector for the grants of a later
+/// Updates the state by a map of the next frame, of which it keeps the grants and what they leave. Returns a vector for the grants of a later
 /// map, with the memory of those of the map that left the window, if one did. `Err` only if memory is refused, and then
 /// the state is unchanged.
-pub fn add_map(state: &mut PortState, grants: Vec<Granted>) -> Result<Vec<Granted>, AllocError>
+pub fn add_map(
+    state: &mut PortState,
+    grants: Vec<Granted>,
+    carries: Vec<u8>,
+) -> Result<Vec<Granted>, AllocError>
     requires map_order { AreInMapOrder grants.items }
     requires frames { AreConsecutive state.old.next state.old.window }
     requires next { state.old.next + 1 < 2 ^ 64 }
     requires count { state.old.taken_before + 1 < 2 ^ 64 }
-    ensures ok { OnOk result (state.new ≡ after_map state.old grants.items) }
+    ensures ok { OnOk result (state.new ≡ after_map state.old grants.items carries.items) }
     ensures err { OnErr result (state.new ≡ state.old) }
 {
     let left = state.loads.add_map(state.next, grants)?;
+    state.carries = carries;
     state.next = FrameNo::new(state.next.get() + 1);
     state.taken_before += 1;
     Ok(left)
 }
 
+// Inserts the carry of a row just admitted, at the place of the row.
+fn insert_carry(carries: &mut Vec<u8>, place: usize)
+    requires within { place ≤ length carries.old.items }
+    requires room { vec_len carries.old < vec_capacity carries.old }
+    ensures { carries.new.items ≡ insert carries.old.items place 0 }
+{
+    carries.insert(place, 0).unwrap();
+}
+
+// Removes the carry of a row, at its place.
+fn remove_carry(carries: &mut Vec<u8>, place: usize)
+    requires { place < length carries.old.items }
+    ensures { carries.new.items ≡ remove carries.old.items place }
+{
+    carries.remove(place);
+}
+
 // Admits a row that no check refuses. `Err` only if memory is refused, and then the state is unchanged.
 fn admit_row(state: &mut PortState, row: &Row) -> Result<(), AllocError>
     requires accepted { refuses_admit state.old.rule state.old.gap state.old.roster row.now ≡ None }
+    requires admitted { IsAdmitted state.old.rule state.old.gap state.old.roster }
+    requires carries { AreCarries state.old.rule state.old.roster state.old.carries }
     requires rising { AreRising (alloc_ids state.old.book) }
     requires free { list_any (λ j. j == row.now.alloc_id) (alloc_ids state.old.book) ≡ false }
     requires count { state.old.taken_before + 1 < 2 ^ 64 }
     ensures ok { OnOk result (state.new ≡ after_admit state.old row.now) }
     ensures err { OnErr result (state.new ≡ state.old) }
 {
+    let place = state.roster.place_for(row);
+    state.carries.reserve(1)?;
     if state.loads.admitted(row.alloc_id, state.next).is_err() {
         return Err(AllocError);
     }
@@ -53,6 +80,7 @@ fn admit_row(state: &mut PortState, row: &Row) -> Result<(), AllocError>
         state.loads.removed(row.alloc_id);
         return Err(AllocError);
     }
+    insert_carry(&mut state.carries, place);
     state.taken_before += 1;
     Ok(())
 }
@@ -71,9 +99,16 @@ fn change_row(state: &mut PortState, alloc_id: AllocId, descriptor: Descriptor)
 // Removes an admitted Alloc-ID.
 fn remove_row(state: &mut PortState, alloc_id: AllocId)
     requires accepted { refuses_remove state.old.roster alloc_id ≡ None }
+    requires admitted { IsAdmitted state.old.rule state.old.gap state.old.roster }
+    requires carries { AreCarries state.old.rule state.old.roster state.old.carries }
     requires count { state.old.taken_before + 1 < 2 ^ 64 }
     ensures { state.new ≡ after_remove state.old alloc_id }
 {
+    let place = match state.roster.place_of(alloc_id) {
+        Some(place) => place,
+        None => unreachable!(),
+    };
+    remove_carry(&mut state.carries, place);
     state.roster.take_removal(alloc_id);
     state.loads.removed(alloc_id);
     state.taken_before += 1;
@@ -112,6 +147,8 @@ pub fn step(state: &mut PortState, event: &Event) -> Result<(), AllocError>
     requires plain { makes_map event.now ≡ false }
     requires accepted { refuses state.old event.now ≡ None }
     requires book { AccountsFor state.old.roster state.old.book }
+    requires admitted { IsAdmitted state.old.rule state.old.gap state.old.roster }
+    requires carries { AreCarries state.old.rule state.old.roster state.old.carries }
     requires count { state.old.taken_before + 1 < 2 ^ 64 }
     ensures ok { OnOk result (state.new ≡ after_event state.old event.now) }
     ensures err { OnErr result (state.new ≡ state.old) }

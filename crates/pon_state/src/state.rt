@@ -14,7 +14,8 @@ pub struct PortCfg {
     pub profile: Profile,
 }
 
-/// The state of a port: rule, configuration, next frame, cause of failure, roster, report book and window.
+/// The state of a port: rule, configuration, next frame, cause of failure, roster, report book and window, and what the
+/// last map left to each Alloc-ID.
 #[derive(Drop)]
 pub struct PortState {
     pub(crate) profile: Profile,
@@ -23,6 +24,8 @@ pub struct PortState {
     pub(crate) taken_before: u64,
     pub(crate) roster: Roster,
     pub(crate) loads: Loads,
+    // What the last map left to each row, in map order, in kbit/s.
+    pub(crate) carries: Vec<u8>,
 }
 
 impl Model for PortState {
@@ -39,6 +42,7 @@ impl Model for PortState {
       taken_before = a.taken_before;
       roster = a.roster.rows;
       book = a.loads.accounts;
+      carries = a.carries.items;
       window = a.loads.window;
     } };
 }
@@ -58,6 +62,7 @@ impl PortState {
             taken_before: 0,
             roster: Roster::open(alloc, cfg.gap)?,
             loads: Loads::open(alloc),
+            carries: Vec::new(alloc),
         })
     }
 
@@ -72,6 +77,7 @@ impl PortState {
             taken_before: self.taken_before,
             roster: self.roster.try_copy(alloc)?,
             loads: self.loads.try_copy(alloc)?,
+            carries: Vec::from_slice(alloc, &self.carries)?,
         })
     }
 

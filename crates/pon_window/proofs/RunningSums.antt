@@ -262,6 +262,11 @@ module _ (frame : ℕ) (gs : List Granted) (ms : List WindowMap) (sums : List (L
       (summed_push new_map (sums_beside ms sums gs) (length-map gs (λ g. or_zero (sum_now g.onu g.alloc_id ms sums))) small ms sums h e (λ u i n t b now. beside_now u i ms sums n t now gs b))
       (as_many_more e)
 
+-- a map is restored, with the sums beside its grants
+pub summed_restored : (m : WindowMap) (ms : List WindowMap) (sums : List (List ℕ)) → AreSummed ms sums → length sums ≡ length ms → All (λ g. g.words ≤ 9720) m.grants → AreSummed (ms ++ m ∷ []) (sums ++ sums_beside ms sums m.grants ∷ [])
+summed_restored m ms sums h e small =
+    summed_push m (sums_beside ms sums m.grants) (length-map m.grants (λ g. or_zero (sum_now g.onu g.alloc_id ms sums))) small ms sums h e (λ u i n t b now. beside_now u i ms sums n t now m.grants b)
+
 -- The words granted are the difference of two sums.
 
 pub few_granted : (u i : ℕ) (ms : List WindowMap) (sums : List (List ℕ)) → AreSummed ms sums → length sums ≡ length ms → sum_by (words_to u i) ms ≤ length ms * 9720

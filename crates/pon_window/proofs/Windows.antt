@@ -1,5 +1,5 @@
 -- The invariant of a window after each call.
-use Rattle.std.proofs.Common.{◌≡◌, ◌∙◌, ℕ, ◌+◌, ◌-◌, ◌≤◌, ◌||◌, ◌&&◌, List, [], ◌∷◌, ◌++◌, ap, drop, map, length, refl, sym, arith}
+use Rattle.std.proofs.Common.{◌≡◌, ◌∙◌, ℕ, ◌+◌, ◌-◌, ◌<◌, ◌≤◌, ◌||◌, ◌&&◌, List, [], ◌∷◌, ◌++◌, ap, drop, map, length, refl, sym, arith}
 use Rattle.std.specs.Prelude.{◌==◌, filter}
 use Rattle.std.specs.List.{list_any}
 use Rattle.std.proofs.lemmas.List.{drop-append-le, drop-drop, length-map, length-drop, length_push}
@@ -28,6 +28,13 @@ module _ (window : List WindowMap) (k : IsWindow window) where
       nobody : (xs : List ℕ) → filter (λ u. list_any (λ v. v == u) []) xs ≡ []
       nobody [] = refl
       nobody (x ∷ xs) = nobody xs
+
+  pub one_restored : (new : WindowMap) → length window < 64 → AreConsecutive new.frame window → IsLawfulMap new → IsWindow (window ++ new ∷ [])
+  one_restored new room next lawful = record {
+    few_maps = omega (arith, length_push window new, room);
+    frames = leads_after (new.frame + 1) (window ++ new ∷ []) (leads_push new.frame window new next refl);
+    maps = All-append IsLawfulMap window (new ∷ []) k.maps (All-cons IsLawfulMap new [] lawful (All-nil IsLawfulMap));
+  }
 
   pub one_reported : (f u : ℕ) → IsWindow (map (with_report f u) window)
   one_reported f u = record {

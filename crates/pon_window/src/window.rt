@@ -122,10 +122,10 @@ fn drop_past(maps: &mut Vec<WindowMap>, sums: &mut Vec<MapSums>, past: usize) ->
 }
 
 impl Window {
-    ghost use Rattle.std.specs.Prelude.{◌==◌, ℕ, None, false, drop, map, sum_by, IfSome, OnOk, OnErr};
+    ghost use Rattle.std.specs.Prelude.{◌==◌, ◌<◌, ◌++◌, ◌∷◌, ℕ, None, false, drop, map, sum_by, IfSome, OnOk, OnErr};
     ghost use Rattle.std.specs.List.{list_any};
     ghost use Rattle.pon_units.specs.Granted.{AreInMapOrder};
-    ghost use Rattle.pon_window.specs.Window.{IsPlaceOf, IsWindow, AreConsecutive, is_of, latest_grants, with_map, words_to};
+    ghost use Rattle.pon_window.specs.Window.{IsLawfulMap, IsPlaceOf, IsWindow, AreConsecutive, is_of, latest_grants, with_map, words_to};
     ghost use Rattle.pon_window.specs.Reports.{refuses_report, with_report};
 
     /// Makes a window of no maps. It allocates no memory; maps added later use this allocator.
@@ -255,6 +255,41 @@ impl Window {
         self.past = drop_past(&mut self.maps, &mut self.sums, past);
         let WindowMap { grants, .. } = left;
         Ok(grants)
+    }
+
+    /// Adds a map with the ONUs that reported for it, as a recorded window has it, in whole: the window must have room for
+    /// it, its frame must be that of the last map plus 1, or any if the window is empty, and it must be lawful. `Err` only
+    /// if memory is refused, and then nothing changes.
+    pub fn restore(
+        &mut self,
+        frame: FrameNo,
+        grants: Vec<Granted>,
+        reported: Vec<OnuId>,
+    ) -> Result<(), AllocError>
+        requires room { length self.old < MOST_MAPS }
+        requires next { AreConsecutive frame self.old }
+        requires lawful { IsLawfulMap (record {
+          frame = frame;
+          grants = grants.items;
+          reported = reported.items;
+        }) }
+        ensures ok { OnOk result (self.new ≡ self.old
+            ++ record { frame = frame; grants = grants.items; reported = reported.items } ∷ []) }
+        ensures err { OnErr result (self.new ≡ self.old) }
+    {
+        let alloc = *self.maps.allocator();
+        let maps = from_index(&self.maps, self.past);
+        let sums = from_index(&self.sums, self.past);
+        let next = next_sums(MapSums::empty(alloc), maps, sums, &grants)?;
+        self.maps.reserve(1)?;
+        self.sums.reserve(1)?;
+        self.maps.push_reserved(WindowMap {
+            frame,
+            grants,
+            reported,
+        });
+        self.sums.push_reserved(next);
+        Ok(())
     }
 
     /// Drops all maps.

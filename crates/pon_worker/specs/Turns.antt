@@ -9,7 +9,7 @@ use Rattle.pon_stream.specs.Streams.{IsBeginning}
 use Rattle.pon_desk.specs.Counts.{SeatCounts}
 use Rattle.pon_desk.specs.Faults.{TellsRefusal}
 use Rattle.pon_desk.specs.Posts.{IsSomePost}
-use Rattle.pon_desk.specs.declared.posted.Posted.{Posted}
+use Rattle.pon_desk.specs.Receipts.{Receipt}
 use Rattle.pon_link.specs.DownRecords.{down_bytes}
 use Rattle.pon_link.specs.declared.record.UpRecord.{UpRecord}
 use Rattle.pon_link.specs.Reading.{ReaderState}
@@ -28,9 +28,9 @@ pub record RaisedAt (port n : ℕ) (old new : SeatCounts) : Type 0 where
 
 -- a port with a lawful chapter made this map, which satisfies the whole promise of a map
 pub record IsSomeMap (made : MadeMap) : Type 0 where
-  pub posted : Posted
-  pub is_post : IsSomePost MakeMap posted
-  pub reply : posted.reply ≡ Map made
+  pub receipt : Receipt
+  pub is_post : IsSomePost MakeMap receipt
+  pub reply : receipt.placed.entry.reply ≡ Map made
 
 -- the bytes of the downstream record of a map
 abbrev pub map_record : MadeMap → List ℕ

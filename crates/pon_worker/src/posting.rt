@@ -4,7 +4,7 @@ ghost use Rattle.pon_desk.specs.Faults.{TellsRefusal};
 ghost use Rattle.pon_desk.specs.Posts.{IsSomePost};
 ghost use Rattle.pon_worker.specs.Turns.{IsSomeMap, RaisedAt};
 
-use pon_desk::{Desk, Posted, Seat, StepFault};
+use pon_desk::{Desk, Receipt, Seat, StepFault};
 use pon_event::Event;
 use pon_port::{MadeMap, Reply};
 use pon_units::PortNo;
@@ -28,16 +28,16 @@ pub(crate) fn post<L: Ledger, M: Ledger, T: Wait>(
     seat: &mut Seat<L, M>,
     port: PortNo,
     event: Event,
-) -> Result<Posted, StepFault>
-    ensures posted { IfOk result (λ posted. IsSomePost event posted) }
+) -> Result<Receipt, StepFault>
+    ensures posted { IfOk result (λ receipt. IsSomePost event receipt) }
     ensures refused { IfErr result (λ fault. TellsRefusal event fault) }
     ensures counted { OnOk result (RaisedAt port 1 seat.old seat.new) }
     ensures fits { OnOk result (slice_index seat.new.counts port < 2 ^ 64) }
     ensures err { OnErr result (seat.new ≡ seat.old) }
 {
-    let posted = desk.post(rt, seat, port, event)?;
+    let receipt = desk.post(rt, seat, port, event)?;
     let _posts = posts_at(desk, seat, port);
-    Ok(posted)
+    Ok(receipt)
 }
 
 // Posts an event at a port, and returns whether the port took it.
@@ -67,7 +67,7 @@ pub(crate) fn make_map<L: Ledger, M: Ledger, T: Wait>(
     ensures fits { OnOk result (slice_index seat.new.counts port < 2 ^ 64) }
     ensures err { OnErr result (seat.new ≡ seat.old) }
 {
-    match post(rt, desk, seat, port, Event::MakeMap)?.reply {
+    match post(rt, desk, seat, port, Event::MakeMap)?.into_reply() {
         Reply::Map(made) => Ok(made),
         Reply::Taken => unreachable!(),
     }

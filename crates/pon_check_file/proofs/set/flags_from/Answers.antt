@@ -1,5 +1,5 @@
 use Rattle.std.proofs.Common.{rules, Some, sym, ap, ◌∙◌, subst}
-use Rattle.pon_cert.specs.Parts.{left_of, parts_of}
+use Rattle.pon_check_file.specs.Parts.{left_of, parts_of}
 use Rattle.pon_check_file.specs.CheckLines.{flags_from}
 use Rattle.pon_check_file.proofs.Naming.{Given, none_given, one_given, all_given, one_over}
 use Rattle.pon_check_file.proofs.set.flags_from.Goals as goal

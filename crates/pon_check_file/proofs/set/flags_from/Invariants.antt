@@ -1,4 +1,4 @@
-use Rattle.pon_cert.specs.Parts.{left_of, parts_of}
+use Rattle.pon_check_file.specs.Parts.{left_of, parts_of}
 use Rattle.pon_check_file.specs.CheckLines.{flags_from}
 use Rattle.pon_check_file.proofs.Naming.{Given}
 use Rattle.pon_check_file.proofs.set.flags_from.Given as goal

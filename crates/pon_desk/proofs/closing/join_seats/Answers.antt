@@ -16,16 +16,16 @@ loop-seat-init g c =
       omega (arith, c.requires.none.0),
     )
 
--- a seat with these counts
-abbrev seat_of : List ℕ → SeatCounts
-seat_of counts = record { counts = counts }
+-- a seat with this number and these counts
+abbrev seat_of : ℕ → List ℕ → SeatCounts
+seat_of number counts = record { number = number; counts = counts }
 
 pub loop-seat-preserved : goal.loop-seat-preserved
 loop-seat-preserved g c =
     let held = c.loop-seat.invariant in
     let seat = c.seat.invariant in
     let counts = c.as_slice.result.now in
-    let same : seat_of counts ≡ c.in-Some.seat = ap seat_of c.as_slice.ensures.value ∙ c.seat.view_is in
+    let same : seat_of c.seat.inside.number counts ≡ c.in-Some.seat = ap (seat_of c.seat.inside.number) c.as_slice.ensures.value ∙ c.seat.view_is in
     let ports : length counts ≡ g.L.Ledger.parts = ap length c.as_slice.ensures.value ∙ seat.0 in
     let long : length c.add_counts.new.sums ≡ length c.loop-seat.sums = search rules in
     let added = c.add_counts.ensures in
@@ -33,7 +33,7 @@ loop-seat-preserved g c =
     let both = sum_added c.loop-seat.sums counts c.add_counts.new.sums (held.1.one_each ∙ sym ports) (long ∙ (held.1.one_each ∙ sym ports)) added in
     let mine : c.seat.inside.share.amount ≡ sum counts = seat.2 ∙ sym (ap sum c.as_slice.ensures.value) in (
       append_assoc c.loop-seat.yielded (c.in-Some.seat ∷ []) c.next.new.self.rest.items ∙ ap (λ rest. c.loop-seat.yielded ++ rest) (sym c.in-Some.ensures.steps.0) ∙ held.0,
-      subst P same (more_sums c.loop-seat.sums c.add_counts.new.sums g.L.Ledger.parts c.loop-seat.yielded (seat_of counts) held.1 long ports added),
+      subst P same (more_sums c.loop-seat.sums c.add_counts.new.sums g.L.Ledger.parts c.loop-seat.yielded (seat_of c.seat.inside.number counts) held.1 long ports added),
       c.audit.ensures.total ∙ held.2,
       omega (arith, c.audit.ensures.parts, c.merge.ensures.parts, held.3, seat.1, length-append c.loop-seat.yielded (c.in-Some.seat ∷ [])),
       omega (arith, c.audit.ensures.amount, c.merge.ensures.amount, held.4, mine, both),

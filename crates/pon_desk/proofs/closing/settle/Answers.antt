@@ -19,7 +19,7 @@ returns-in-None-clause-even g c =
     let whole = written c.args.counts.items c.join_seats.new.sums c.args.counts.len c.args.counts.ok.0 (sums.one_each ∙ sym long ∙ c.args.counts.ok.0) in
     let ports : length c.join_ports-ports.result.items ≡ g.L.Ledger.parts = search (rules, c.join_ports-ports.ensures.ports, c.requires.ports) in
     let same = rw (c.as_slice.ensures.value, c.as_slice-2.ensures.value, whole) at c.in-None.ensures in
-    (ports ∙ sym c.requires.ports, is_even _ c.join_seats.new.sums _ _ sums ports same)
+    (c.join_ports-ports.ensures.ports, is_even _ c.join_seats.new.sums _ _ sums ports same)
 
 pub returns-clause-uneven : goal.returns-clause-uneven
 returns-clause-uneven g c =

@@ -7,10 +7,16 @@ use Rattle.pon_state.specs.declared.reply.Entry.{Entry}
 use Rattle.pon_record.specs.Format.{counted, number}
 use Rattle.pon_record.specs.Openings.{opening}
 use Rattle.pon_record.specs.Chapters.{entry, port}
-use Rattle.pon_recorder.specs.Bodies.{HoldsFittingCert, recorded_opening}
+use Rattle.pon_recorder.specs.Bodies.{FitsCounts, HoldsFittingCert, recorded_opening}
 use Rattle.pon_recorder.proofs.FitChapters.{certs_fit, few_entries}
+use Rattle.pon_recorder.proofs.FitOpenings.{opening_counts}
 use Rattle.pon_recorder.proofs.Put.{behind}
 use Rattle.pon_recorder.proofs.chapters.put_body.Goals as goal
+
+pub put_opening-requires : goal.put_opening-requires
+put_opening-requires c =
+    let o : State = c.args.chapter.now.opening in
+    subst FitsCounts (sym c.opening.ensures.opening) (opening_counts c.args.chapter.now.number o c.opening.ensures.lawful c.opening.ensures.in_range)
 
 pub put_entries-requires-clause-few : goal.put_entries-requires-clause-few
 put_entries-requires-clause-few c =
@@ -18,7 +24,7 @@ put_entries-requires-clause-few c =
 
 pub put_entries-requires-clause-certs : goal.put_entries-requires-clause-certs
 put_entries-requires-clause-certs c =
-    subst (λ (es : List Entry). All (λ (e : Entry). HoldsFittingCert e.reply) es) (sym c.entries.ensures.entries) (certs_fit c.args.chapter.now c.entries.ensures.lawful c.opening.ensures.first)
+    subst (λ (es : List Entry). All (λ (e : Entry). HoldsFittingCert e.reply) es) (sym c.entries.ensures.entries) (certs_fit c.args.chapter.now c.entries.ensures.lawful c.opening.ensures.in_range)
 
 pub returns : goal.returns
 returns c =

@@ -7,8 +7,8 @@ pub returns-clause-counted : goal.returns-clause-counted
 returns-clause-counted g c =
     let old = c.args.seat.now.counts in
     let port = c.args.port in
-    let more = c.in_ok-posted.ensures.counted in
+    let more = c.in_ok-receipt.ensures.counted in
     let size = ap (λ (s : SeatCounts). length s.counts) more in
-    let there : port < c.args.desk.now.ports = lt_of_not-le c.in_ok-posted.ensures.no_such.1 in
+    let there : port < c.args.desk.now.ports = lt_of_not-le c.in_ok-receipt.ensures.no_such.1 in
     let inside : port < length old = omega (arith, size, length-set old port (slice_index old port + 1), c.posts_at-posts.ensures.size, there) in
     raised_one port c.args.seat.now c.post.new.seat more inside

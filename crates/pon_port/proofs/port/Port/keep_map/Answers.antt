@@ -8,7 +8,6 @@ use Rattle.pon_event.specs.declared.event.Event.TheVariants.{MakeMap}
 use Rattle.pon_state.specs.declared.reply.Reply.TheVariants.{Map}
 use Rattle.pon_port.proofs.Kept.{kept_frames, map_taken, mapped}
 use Rattle.pon_port.proofs.FairMaps.{fair_map}
-use Rattle.pon_port.proofs.FirstChapters.{first_kept}
 use Rattle.pon_port.proofs.LastMaps.{last_made}
 use Rattle.pon_port.proofs.port.Port.keep_map.Goals as goal
 
@@ -27,8 +26,8 @@ invariant_of-self-2 c =
     let new : Chapter = record { number = c.self.inside.number; opening = c.self.inside.opening; entries = c.push_reserved.new.self.items } in
     let more : new ≡ with_entry old MakeMap (Map c.args.next.made) = search rules in
     record {
-      kept = mapped old new c.self.inside.state _ c.args.next.made c.self.invariant.kept (accepted c) (ready c).made more (rw (← (ready c).grants) (search rules));
-      first = first_kept old new MakeMap (Map c.args.next.made) c.self.invariant.first more;
+      kept = mapped old new c.self.inside.state _ c.args.next.made c.self.invariant.kept (accepted c) (ready c).made more (rw (← (ready c).grants, ← (ready c).carries) (search rules));
+      in_range = c.self.invariant.in_range;
       last = last_made old new c.self.inside.state c.args.next.made c.len.result c.args.next.na.items c.args.next.be.items c.self.invariant.kept (ready c).made more (search rules) (ready c).na (ready c).be;
     }
 
@@ -45,5 +44,5 @@ add_map-requires-clause-frames c = kept_frames _ c.self.inside.state c.self.inva
 pub returns-clause-fair : goal.returns-clause-fair
 returns-clause-fair c =
     let old : Chapter = record { number = c.self.inside.number; opening = c.self.inside.opening; entries = c.self.inside.entries.items } in
-    let fair : IsFairMap (present_state old) c.args.next.made = subst (λ s. IsFairMap s c.args.next.made) c.self.invariant.kept.replayed (fair_map c.self.inside.state c.self.invariant.kept.admitted c.args.next.made (ready c).made) in
+    let fair : IsFairMap (present_state old) c.args.next.made = subst (λ s. IsFairMap s c.args.next.made) c.self.invariant.kept.replayed (fair_map c.self.inside.state c.self.invariant.kept.admitted c.self.invariant.kept.carries c.args.next.made (ready c).made) in
     subst (λ old. IsFairMap (present_state old) c.args.next.made) c.self.view_is fair

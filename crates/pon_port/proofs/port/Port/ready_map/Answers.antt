@@ -11,6 +11,7 @@ returns-clause-ready c = elim c.match-next_map.branch [
         made = w.in-Ok.ensures.made;
         map_order = w.in-Ok.ensures.map_order;
         grants = w.in-Ok.ensures.grants;
+        carries = w.in-Ok.ensures.carries;
         na = w.in-Ok.ensures.na;
         be = w.in-Ok.ensures.be;
       } in

@@ -1,8 +1,6 @@
 use Rattle.std.proofs.Common.{rules}
 use Rattle.pon_port.specs.Chapters.{Chapter}
-use Rattle.pon_state.specs.declared.reply.Reply.TheVariants.{Taken}
 use Rattle.pon_port.proofs.Kept.{taken}
-use Rattle.pon_port.proofs.FirstChapters.{first_kept}
 use Rattle.pon_port.proofs.LastMaps.{last_kept}
 use Rattle.pon_port.proofs.port.Port.take_plain.Goals as goal
 
@@ -12,6 +10,6 @@ invariant_of-self-2 c =
     let new : Chapter = record { number = c.self.inside.number; opening = c.self.inside.opening; entries = c.push_reserved.new.self.items } in
     record {
       kept = taken old new c.self.inside.state _ c.args.event c.self.invariant.kept c.requires.in_range c.requires.plain (search rules) (search rules) (search rules);
-      first = first_kept old new c.args.event Taken c.self.invariant.first (search rules);
+      in_range = c.self.invariant.in_range;
       last = last_kept old new c.args.event c.self.inside.last c.self.inside.na.items c.self.inside.be.items (search rules) c.self.invariant.last;
     }

@@ -1,0 +1,50 @@
+-- The chapter that a port begins when it turns.
+use Rattle.std.proofs.Common.{◌≡◌, ℕ, ◌+◌, ◌<◌, List, [], ap, sym, ◌∙◌, subst, refl, arith}
+use Rattle.std.specs.Prelude.{Option, None}
+use Rattle.pon_state.specs.State.{State}
+use Rattle.pon_state.specs.declared.reply.Entry.{Entry}
+use Rattle.pon_state.specs.History.{replay}
+use Rattle.pon_port.specs.Chapters.{Chapter, IsLawfulOpening, chapter_after, present_state}
+use Rattle.pon_port.specs.Last.{KeepsLast}
+use Rattle.pon_port.specs.Taking.{IsKept, IsPort, Turns}
+use Rattle.pon_port.proofs.EntryByEntry.{legal_none, replay_of_none}
+use Rattle.pon_port.proofs.LawfulStates.{opens_at_present}
+use Rattle.pon_port.proofs.Ranges.{in_range_at_present}
+
+module _ (c : Chapter) (s : State) (k : IsKept c s) where
+  opens : IsLawfulOpening (c.number + 1) (present_state c)
+  opens = opens_at_present c k.lawful (c.number + 1) (omega arith)
+
+  -- the state after no entries of the next chapter is the end of this one
+  pub same_state : present_state (chapter_after c) ≡ present_state c
+  same_state = replay_of_none (c.number + 1) (present_state c) opens
+
+  pub next_kept : IsKept (chapter_after c) s
+  next_kept = record {
+    lawful = record { opening = opens; legal = legal_none (c.number + 1) (present_state c) };
+    replayed = k.replayed ∙ sym same_state;
+    admitted = k.admitted;
+    book = k.book;
+    carries = k.carries;
+  }
+
+-- the chapter that is begun with the state and no entries
+module _ (c : Chapter) (s o : State) (es : List Entry) where
+  abbrev begun : Chapter
+  begun = record { number = c.number + 1; opening = o; entries = es }
+
+  is_next : IsKept c s → o ≡ s → es ≡ [] → begun ≡ chapter_after c
+  is_next k opening none = (λ i. record { number = c.number + 1; opening = (opening ∙ k.replayed) i; entries = none i })
+
+  -- it is what the port keeps then, and it has no map yet
+  pub turned_port : (place : Option ℕ) (na be : List ℕ) → IsPort c s place na be → o ≡ s → es ≡ [] → IsPort begun s None na be
+  turned_port place na be p opening none =
+      subst (λ n. IsPort n s None na be) (sym (is_next p.kept opening none))
+      (record { kept = next_kept c s p.kept; in_range = in_range_at_present c p.kept.lawful p.in_range; last = refl })
+
+pub turned : (c d : Chapter) (s o : State) (es : List Entry) → IsKept c s → o ≡ s → es ≡ [] → d ≡ c → Turns c d (record { number = c.number + 1; opening = o; entries = es })
+turned c d s o es k opening none same = record {
+  returned = same;
+  begun = is_next c s o es k opening none;
+  same_state = ap present_state (is_next c s o es k opening none) ∙ same_state c s k;
+}

@@ -1,0 +1,158 @@
+-- The openings of chapters fit the format of recordings.
+use Rattle.std.proofs.Common.{◌≡◌, ℕ, ◌^◌, ◌<◌, ◌≤◌, Bool, true, false, cond, eqb, leb, not, ◌&&◌, List, [], ◌∷◌, map, length, get_or, Option, Some, None, refl, ap, sym, subst, arith}
+use Rattle.std.specs.Prelude.{◌==◌, All, IfSome, filter}
+use Rattle.std.specs.List.{AllByRecursion, list_any}
+use Rattle.std.proofs.lemmas.Bool.{le-leb, ne_eqb}
+use Rattle.std.proofs.lemmas.List.{length-map}
+use Rattle.std.proofs.lemmas.List.Elements.{All-nil, All-cons, All-head, All-tail, All-filter, All-map, All-weaker, recursion_from_All}
+use Rattle.std.proofs.lemmas.List.Sums.{count_by-le-length, length-filter}
+use Rattle.pon_units.specs.declared.granted.Granted.{Granted}
+use Rattle.pon_lists.specs.Distinct.{distinct}
+use Rattle.pon_admit.specs.declared.row.Row.{Row}
+use Rattle.pon_admit.specs.Roster.{IsInRange, most_allocs}
+use Rattle.pon_guar.specs.declared.account.Account.{Account}
+use Rattle.pon_guar.specs.declared.account.Counted.{Counted}
+use Rattle.pon_guar.specs.Book.{account_of, known_report, since_of_account}
+use Rattle.pon_window.specs.Window.{IsLawfulMap, WindowMap, onus_polled}
+use Rattle.pon_window.proofs.Frames.{leads_below}
+use Rattle.pon_state.specs.State.{State}
+use Rattle.pon_port.specs.Chapters.{AccountIsLawful, CountedIsLawful, IsLawfulOpening}
+use Rattle.pon_port.specs.Ranges.{AreGrantsInRange, IsGrantInRange, IsStateInRange}
+use Rattle.pon_record.specs.Fields.{failure, onu_id, report}
+use Rattle.pon_record.specs.Openings.{grant, opening, row, window_map}
+use Rattle.pon_recorder.specs.Bodies.{FitsCounts, FitsWindowMap, recorded_opening, recorded_row}
+use Rattle.pon_recorder.proofs.FitEvents.{alloc_fits, between, descriptor_fits, onu_fits, passes}
+
+-- ---- rows
+
+failure_fits : (o : Option ℕ) → IfSome o (λ c. (1 ≤ c) × (c ≤ 9)) → failure.Fits o
+failure_fits None h = (omega arith, refl)
+failure_fits (Some c) h =
+    let other : eqb c 0 ≡ false = ne_eqb c 0 (λ e. absurd (omega (arith, e, h.0))) in
+    let within : leb c 9 ≡ true = le-leb c 9 h.1 in
+    (omega (arith, h.1), rw (other, within) refl)
+
+-- a counted report fits the format
+abbrev FitsCounted : Counted → Type 0
+FitsCounted c = (c.frame < 2 ^ 64) × (c.words ≤ 16777215)
+
+report_fits : (o : Option Counted) → IfSome o FitsCounted → report.Fits o
+report_fits None h = ((omega arith, (omega arith, omega arith)), refl)
+report_fits (Some c) h =
+    let within : leb c.words 16777215 ≡ true = le-leb c.words 16777215 h.1 in
+    ((omega arith, (h.0, omega (arith, h.1))), rw within refl)
+
+-- an account fits the format
+abbrev FitsAccount : Account → Type 0
+FitsAccount a = (a.since < 2 ^ 64) × IfSome a.counted FitsCounted
+
+abbrev FitsKnown : Option Account → Type 0
+FitsKnown o = (since_of_account o < 2 ^ 64) × report.Fits (known_report o)
+
+known_fits : (book : List Account) (i : ℕ) → All FitsAccount book → FitsKnown (account_of book i)
+known_fits [] i h = (omega arith, report_fits None tt)
+known_fits (a ∷ book) i h = elim (a.alloc_id == i) as (λ b. FitsKnown (cond b (Some a) (account_of book i))) [
+  | true ↦ (let f = All-head FitsAccount a book h in (f.0, report_fits a.counted f.1))
+  | false ↦ known_fits book i (All-tail FitsAccount a book h)
+]
+
+counted_fits : (s : State) (a : Account) (o : Option Counted) → s.next < 2 ^ 64 → IfSome o (CountedIsLawful s a) → IfSome o (λ c. c.words ≤ 16777215) → IfSome o FitsCounted
+counted_fits s a None n l w = tt
+counted_fits s a (Some c) n l w = (omega (arith, l.not_late, n), w)
+
+accounts_fit : (s : State) → s.next < 2 ^ 64 → All (AccountIsLawful s) s.book → All (λ a. IfSome a.counted (λ c. c.words ≤ 16777215)) s.book → All FitsAccount s.book
+accounts_fit s n l w i d lt =
+    let a : Account = get_or s.book i d in
+    let lawful : AccountIsLawful s a = l i d lt in
+    (omega (arith, lawful.since, n), counted_fits s a a.counted n lawful.counted (w i d lt))
+
+row_fits : (book : List Account) (r : Row) → All FitsAccount book → IsInRange r → row.Fits (recorded_row book r)
+row_fits book r h k =
+    let known : FitsKnown (account_of book r.alloc_id) = known_fits book r.alloc_id h in
+    ((onu_fits r.onu k.onu, (alloc_fits r.alloc_id k.managed k.alloc_id, (descriptor_fits r.descriptor k.descriptor, known))), refl)
+
+rows_fit : (book : List Account) (rows : List Row) → All FitsAccount book → All IsInRange rows → AllByRecursion row.Fits (map (recorded_row book) rows)
+rows_fit book [] h k = tt
+rows_fit book (r ∷ rows) h k = (row_fits book r h (All-head IsInRange r rows k), rows_fit book rows h (All-tail IsInRange r rows k))
+
+-- ---- maps of the window
+
+grant_fits : (g : Granted) → IsGrantInRange g → grant.Fits g
+grant_fits g k =
+    ((onu_fits g.onu k.onu, (alloc_fits g.alloc_id k.managed k.alloc_id, (omega (arith, k.words), passes (λ (n : ℕ). leb n 9720) g.words (le-leb g.words 9720 k.words)))), refl)
+
+-- what all numbers have, the distinct ones have
+All-distinct : (P : ℕ → Type 0) (ns : List ℕ) → All P ns → All P (distinct ns)
+All-distinct P [] h = All-nil P
+All-distinct P (n ∷ ns) h = All-cons P n (filter (λ m. not (m == n)) (distinct ns)) (All-head P n ns h)
+    (All-filter (λ m. not (m == n)) P (distinct ns) (All-distinct P ns (All-tail P n ns h)))
+
+module _ (m : WindowMap) (g : AreGrantsInRange m.grants) (l : IsLawfulMap m) where
+  few_reported : length m.reported ≤ 128
+  few_reported =
+      let p : ℕ → Bool = λ u. list_any (λ v. v == u) m.reported in
+      omega (arith, ap length l.reported, length-filter p (onus_polled m), count_by-le-length p (onus_polled m), g.few_onus)
+
+  reported_fit : AllByRecursion onu_id.Fits m.reported
+  reported_fit = recursion_from_All onu_id.Fits m.reported (subst (All onu_id.Fits) (sym l.reported)
+      (All-filter (λ u. list_any (λ v. v == u) m.reported) onu_id.Fits (onus_polled m)
+      (All-distinct onu_id.Fits (map (λ g. g.onu) m.grants)
+      (All-map onu_id.Fits (λ g. g.onu) m.grants (All-weaker IsGrantInRange (λ g. onu_id.Fits g.onu) (λ g k. onu_fits g.onu k.onu) m.grants g.each)))))
+
+  pub counts_fit : FitsWindowMap m
+  counts_fit = record { grants = g.few; reported = omega (arith, few_reported) }
+
+  map_fits : m.frame < 2 ^ 64 → window_map.Fits m
+  map_fits lt = (
+    (
+      lt,
+      (
+        (omega (arith, g.few), g.few, recursion_from_All grant.Fits m.grants (All-weaker IsGrantInRange grant.Fits grant_fits m.grants g.each)),
+        (omega (arith, few_reported), omega (arith, few_reported), reported_fit),
+      ),
+    ),
+    refl,
+  )
+
+-- ---- openings
+
+module _ (n : ℕ) (s : State) (l : IsLawfulOpening n s) (h : IsStateInRange s) where
+  few_rows : length s.roster ≤ 256
+  few_rows = omega (arith, l.admitted.few_allocs, ap most_allocs h.rule)
+
+  pub opening_counts : FitsCounts s
+  opening_counts = record {
+    rows = few_rows;
+    maps = λ i d lt. counts_fit (get_or s.window i d) (h.maps i d lt) (l.maps i d lt);
+  }
+
+  maps_fit : All window_map.Fits s.window
+  maps_fit i d lt =
+      let m : WindowMap = get_or s.window i d in
+      let below : m.frame < s.next = leads_below s.next s.window l.frames i d lt in
+      map_fits m (h.maps i d lt) (l.maps i d lt) (omega (arith, below, h.next))
+
+  pub opening_fits : opening.Fits (recorded_opening s)
+  opening_fits =
+      let many : length (map (recorded_row s.book) s.roster) ≡ length s.roster = length-map s.roster (recorded_row s.book) in (
+        (
+          (omega (arith, h.longest_gap), passes (λ (n : ℕ). leb 1 n && leb n 256) s.gap (between 1 s.gap 256 h.shortest_gap h.longest_gap)),
+          (
+            (omega (arith, h.profile), passes (λ (n : ℕ). leb n 3) s.profile (le-leb s.profile 3 h.profile)),
+            (
+              failure_fits s.cause h.cause,
+              (
+                h.next,
+                (
+                  h.taken_before,
+                  (
+                    (omega (arith, many, few_rows), omega (arith, many, few_rows), rows_fit s.book s.roster (accounts_fit s h.next l.accounts h.reports) l.admitted.in_range),
+                    (omega (arith, l.few_maps), l.few_maps, recursion_from_All window_map.Fits s.window maps_fit),
+                  ),
+                ),
+              ),
+            ),
+          ),
+        ),
+        refl,
+      )

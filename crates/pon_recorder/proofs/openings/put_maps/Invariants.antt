@@ -1,0 +1,7 @@
+use Rattle.std.proofs.Common.{◌≡◌, ◌++◌, take}
+use Rattle.std.specs.List.{flat_map}
+use Rattle.pon_record.specs.Openings.{window_map}
+use Rattle.pon_recorder.proofs.openings.put_maps.Given as goal
+
+abbrev pub invariant-loop-index : goal.invariant-loop-index
+invariant-loop-index l = l.bytes.items ≡ l.initial.bytes.items ++ flat_map window_map.write (take l.index l.loads.window)

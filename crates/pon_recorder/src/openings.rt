@@ -1,0 +1,200 @@
+//! Functions that append the opening of a chapter to bytes.
+
+ghost use Rattle.std.specs.Prelude.{◌≡◌, ◌≤◌, ◌++◌, All, OnOk, length};
+ghost use Rattle.std.specs.Int.{to_be_bytes, w8, w16};
+ghost use Rattle.std.specs.List.{flat_map};
+ghost use Rattle.pon_guar.specs.Book.{account_of, since_of_account};
+ghost use Rattle.pon_window.specs.declared.window.TheConstants.{MOST_MAPS};
+ghost use Rattle.pon_record.specs.declared.limits.TheConstants.{MOST_GRANTS, MOST_REPORTED, MOST_ROWS};
+ghost use Rattle.pon_record.specs.Fields.{onu_id, report};
+ghost use Rattle.pon_record.specs.Format.{counted, number};
+ghost use Rattle.pon_record.specs.Openings.{grant, opening, row, window_map};
+ghost use Rattle.pon_recorder.specs.Bodies.{FitsCounts, FitsWindowMap, head_bytes, recorded_opening, recorded_row, row_bytes};
+
+use crate::fields::{
+    put_alloc_id, put_descriptor, put_failure, put_frame, put_gap, put_onu, put_profile, put_u8,
+    put_u16, put_u32, put_u64,
+};
+use pon_admit::Row;
+use pon_guar::{Counted, Loads};
+use pon_port::PortState;
+use pon_units::{FrameNo, Granted, OnuId};
+use pon_window::WindowMap;
+use std::alloc::AllocError;
+
+// Appends the report that counts, or zeros.
+fn put_counted(bytes: &mut Vec<u8>, value: Option<Counted>) -> Result<(), AllocError>
+    ensures { OnOk result (bytes.new.items ≡ bytes.old.items ++ report.write value) }
+{
+    match value {
+        None => {
+            put_u8(bytes, 0)?;
+            put_u64(bytes, 0)?;
+            put_u32(bytes, 0)?;
+            Ok(())
+        }
+        Some(counted) => {
+            put_u8(bytes, 1)?;
+            put_frame(bytes, counted.frame)?;
+            put_u32(bytes, counted.words.get())?;
+            Ok(())
+        }
+    }
+}
+
+// Returns the frame from which reports of a row count.
+fn since_of(loads: &Loads, row: &Row) -> FrameNo
+    ensures { result ≡ since_of_account (account_of loads.now.accounts row.now.alloc_id) }
+{
+    match loads.since(row.alloc_id) {
+        None => FrameNo::new(0),
+        Some(frame) => frame,
+    }
+}
+
+// Appends the ONU, the Alloc-ID and its descriptor, and what the account has.
+fn put_row(bytes: &mut Vec<u8>, loads: &Loads, value: &Row) -> Result<(), AllocError>
+    ensures { OnOk result (bytes.new.items
+        ≡ bytes.old.items ++ row.write (recorded_row loads.now.accounts value.now)) }
+{
+    put_onu(bytes, value.onu)?;
+    put_alloc_id(bytes, value.alloc_id)?;
+    put_descriptor(bytes, &value.descriptor)?;
+    put_frame(bytes, since_of(loads, value))?;
+    put_counted(bytes, loads.counted(value.alloc_id))?;
+    Ok(())
+}
+
+fn put_rows(bytes: &mut Vec<u8>, loads: &Loads, values: &[Row]) -> Result<(), AllocError>
+    ensures { OnOk result (bytes.new.items ≡ bytes.old.items
+        ++ flat_map (row_bytes loads.now.accounts) values.now) }
+{
+    for value in values {
+        put_row(bytes, loads, value)?;
+    }
+    Ok(())
+}
+
+fn put_grant(bytes: &mut Vec<u8>, value: &Granted) -> Result<(), AllocError>
+    ensures { OnOk result (bytes.new.items ≡ bytes.old.items ++ grant.write value.now) }
+{
+    put_onu(bytes, value.onu)?;
+    put_alloc_id(bytes, value.alloc_id)?;
+    put_u16(bytes, value.words.get())?;
+    Ok(())
+}
+
+fn put_grants(bytes: &mut Vec<u8>, values: &[Granted]) -> Result<(), AllocError>
+    ensures { OnOk result (bytes.new.items
+        ≡ bytes.old.items ++ flat_map grant.write values.now) }
+{
+    for value in values {
+        put_grant(bytes, value)?;
+    }
+    Ok(())
+}
+
+fn put_onus(bytes: &mut Vec<u8>, values: &[OnuId]) -> Result<(), AllocError>
+    ensures { OnOk result (bytes.new.items
+        ≡ bytes.old.items ++ flat_map onu_id.write values.now) }
+{
+    for value in values {
+        put_onu(bytes, *value)?;
+    }
+    Ok(())
+}
+
+// Appends the number of the grants, and the grants.
+fn put_all_grants(bytes: &mut Vec<u8>, values: &[Granted]) -> Result<(), AllocError>
+    requires few { length values.now ≤ MOST_GRANTS }
+    ensures { OnOk result (bytes.new.items
+        ≡ bytes.old.items ++ (counted (number w16) MOST_GRANTS grant).write values.now) }
+{
+    put_u16(bytes, values.len() as u16)?;
+    put_grants(bytes, values)?;
+    Ok(())
+}
+
+// Appends the number of the ONUs, and the ONUs.
+fn put_all_onus(bytes: &mut Vec<u8>, values: &[OnuId]) -> Result<(), AllocError>
+    requires few { length values.now ≤ MOST_REPORTED }
+    ensures { OnOk result (bytes.new.items
+        ≡ bytes.old.items ++ (counted (number w8) MOST_REPORTED onu_id).write values.now) }
+{
+    put_u8(bytes, values.len() as u8)?;
+    put_onus(bytes, values)?;
+    Ok(())
+}
+
+fn put_window_map(bytes: &mut Vec<u8>, value: &WindowMap) -> Result<(), AllocError>
+    requires { FitsWindowMap value.now }
+    ensures { OnOk result (bytes.new.items ≡ bytes.old.items ++ window_map.write value.now) }
+{
+    put_frame(bytes, value.frame())?;
+    put_all_grants(bytes, value.grants())?;
+    put_all_onus(bytes, value.reported())?;
+    Ok(())
+}
+
+// Appends the maps of the window, oldest first.
+fn put_maps(bytes: &mut Vec<u8>, loads: &Loads) -> Result<(), AllocError>
+    requires { All FitsWindowMap loads.now.window }
+    ensures { OnOk result (bytes.new.items
+        ≡ bytes.old.items ++ flat_map window_map.write loads.now.window) }
+{
+    for index in 0..loads.window_len() {
+        if let Some(map) = loads.window_at(index) {
+            put_window_map(bytes, map)?;
+        }
+    }
+    Ok(())
+}
+
+// Appends the number of the rows, and the rows.
+fn put_all_rows(bytes: &mut Vec<u8>, loads: &Loads, values: &[Row]) -> Result<(), AllocError>
+    requires few { length values.now ≤ MOST_ROWS }
+    ensures { OnOk result (bytes.new.items ≡ bytes.old.items ++ to_be_bytes w16 (length values.now)
+        ++ flat_map (row_bytes loads.now.accounts) values.now) }
+{
+    put_u16(bytes, values.len() as u16)?;
+    put_rows(bytes, loads, values)?;
+    Ok(())
+}
+
+// Appends the number of the maps of the window, and the maps.
+fn put_window(bytes: &mut Vec<u8>, loads: &Loads) -> Result<(), AllocError>
+    requires { All FitsWindowMap loads.now.window }
+    ensures { OnOk result (bytes.new.items ≡ bytes.old.items
+        ++ (counted (number w8) MOST_MAPS window_map).write loads.now.window) }
+{
+    put_u8(bytes, loads.window_len() as u8)?;
+    put_maps(bytes, loads)?;
+    Ok(())
+}
+
+// Appends the fields before the rows.
+fn put_head(bytes: &mut Vec<u8>, value: &PortState) -> Result<(), AllocError>
+    ensures { OnOk result (bytes.new.items ≡ bytes.old.items ++ head_bytes value.now) }
+{
+    let cfg = value.cfg();
+    put_gap(bytes, cfg.gap)?;
+    put_profile(bytes, cfg.profile)?;
+    put_failure(bytes, value.cause())?;
+    put_frame(bytes, value.next_frame())?;
+    put_u64(bytes, value.taken_before())?;
+    Ok(())
+}
+
+/// Appends the opening of a chapter.
+pub(crate) fn put_opening(bytes: &mut Vec<u8>, value: &PortState) -> Result<(), AllocError>
+    requires { FitsCounts value.now }
+    ensures { OnOk result (bytes.new.items
+        ≡ bytes.old.items ++ opening.write (recorded_opening value.now)) }
+{
+    let loads = value.loads();
+    let rows = value.roster().rows();
+    put_head(bytes, value)?;
+    put_all_rows(bytes, loads, rows)?;
+    put_window(bytes, loads)?;
+    Ok(())
+}

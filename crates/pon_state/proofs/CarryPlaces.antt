@@ -1,0 +1,36 @@
+-- The carries after an admission and after a removal, by the place of the row.
+use Rattle.std.proofs.Common.{◌≡◌, ℕ, zero, suc, ◌<◌, ◌≤◌, true, false, not, List, [], ◌∷◌, length, get_or, refl, ap, sym, ◌∙◌, arith}
+use Rattle.std.specs.Prelude.{◌==◌, count_by, position, Option, Some, None}
+use Rattle.std.specs.List.{remove}
+use Rattle.std.proofs.lemmas.List.Quantifiers.{position-Some}
+use Rattle.std.proofs.lemmas.List.Sums.{count_by-le-length}
+use Rattle.pon_descr.specs.Checks.{when}
+use Rattle.pon_descr.specs.declared.refusal.Refusal.TheVariants.{NoSuchAlloc}
+use Rattle.pon_admit.specs.declared.row.Row.{Row}
+use Rattle.pon_admit.specs.Roster.{IsDistinct, comes_before, refuses_remove, without}
+use Rattle.pon_admit.proofs.OneRow.{has_alloc-none, stands}
+use Rattle.pon_share.specs.Carries.{carries_of, number_of}
+use Rattle.pon_share.proofs.Carries.{carries_removed}
+
+pub place_within : (r : Row) (rows : List Row) (carries : List ℕ) (k : ℕ) → length carries ≡ length rows → k ≡ count_by (λ s. comes_before s r) rows → k ≤ length carries
+place_within r rows carries k same is = omega (arith, same, is, count_by-le-length (λ s. comes_before s r) rows)
+
+-- the first element that is asked for at an index within a list is there
+own_element : {X : Type 0} (xs : List X) (k : ℕ) → k < length xs → (x : X) × (x ≡ get_or xs k x)
+own_element [] k lt = absurd (omega (arith, lt))
+own_element (x ∷ xs) zero lt = (x, refl)
+own_element (x ∷ xs) (suc k) lt = own_element xs k (omega (arith, lt))
+
+pub found_within : (i k : ℕ) (rows : List Row) (carries : List ℕ) → length carries ≡ length rows → position (λ r. r.alloc_id == i) rows ≡ Some k → k < length carries
+found_within i k [] carries same found = grind (arith, found)
+found_within i k (r ∷ rows) carries same found = omega (arith, same, (position-Some (λ r. r.alloc_id == i) (r ∷ rows) k r found).0)
+
+pub removed_at : (i k : ℕ) (rows : List Row) (carries : List ℕ) → IsDistinct rows → length carries ≡ length rows → position (λ r. r.alloc_id == i) rows ≡ Some k →
+    remove carries k ≡ carries_of (number_of rows carries) (without i rows)
+removed_at i k rows carries apart same found =
+    let own : (x : Row) × (x ≡ get_or rows k x) = own_element rows k (omega (arith, same, found_within i k rows carries same found)) in
+    carries_removed i k own.0 rows carries (stands i k own.0 rows apart found own.1) same
+
+-- an Alloc-ID that no check refuses to remove has a row
+pub not_absent : (i : ℕ) (rows : List Row) → position (λ r. r.alloc_id == i) rows ≡ None → refuses_remove rows i ≡ None → ⊥
+not_absent i rows none h = let t : Some NoSuchAlloc ≡ None = ap (λ b. when (not b) NoSuchAlloc) (sym (has_alloc-none i rows none)) ∙ h in cc
