@@ -1,5 +1,5 @@
 -- The ranges of the overhead and of the number of Alloc-IDs under each rule.
-use Rattle.std.proofs.Common.{◌≡◌, ℕ, ◌+◌, ◌*◌, ◌%◌, ◌<◌, ◌≤◌, refl, arith}
+use Rattle.std.proofs.Common.{◌≡◌, ℕ, ◌+◌, ◌*◌, ◌≤◌, refl, arith}
 use Rattle.pon_admit.specs.Roster.{Rule, left_over, most_allocs, most_carry, overhead_words}
 use Rattle.pon_admit.specs.declared.rule.Rule.TheVariants.{One, Two}
 

@@ -5,7 +5,6 @@ use Rattle.pon_cert.specs.Problem.{IsProblem}
 use Rattle.pon_check_file.specs.CheckFiles.{Checked, Filed, IsAnswer, IsDecided, file_of}
 use Rattle.pon_check_file.specs.Stages.{Decides, IsSaid, said}
 use Rattle.pon_check_file.specs.declared.file.Parsed.{Parsed}
-use Rattle.pon_check_file.proofs.ReadWhole.{read_is_printable}
 use Rattle.pon_text.specs.Lines.{file_lines}
 use Rattle.pon_stream.specs.Streams.{TellsLine}
 use Rattle.pon_stream.specs.declared.fault.PlanFault.{PlanFault}
@@ -15,10 +14,6 @@ use Rattle.pon_stream.specs.declared.fault.PlanFault.TheVariants.{Read, Write, M
 pub is_said : (input : List ℕ) (left : Option (List ℕ)) (p : Parsed) → Decides input left p → IsSaid p
 is_said input left p (inl d) = (file_lines input, d.1)
 is_said input left p (inr d) = (file_lines (input ++ []), d.2 [] ∙ sym d.1)
-
--- a file that parses is a problem
-pub is_problem : (ls : List (List ℕ)) (f : Filed) → file_of ls ≡ Ok f → IsProblem f.items f.surplus
-is_problem ls f e = (read_is_printable ls f e).problem
 
 refused : (n : ℕ) (accepted : Bool) (line : List ℕ) → IsAnswer (Err n) accepted line → accepted ≡ false
 refused n accepted line a = a.0

@@ -3,8 +3,6 @@ mod LongLines
 mod NamedItems
 mod Naming
 mod OpenLines
-mod PrintedLines
-mod PrintedText
 mod ReadFiles
 mod ReadWhole
 mod StageLines

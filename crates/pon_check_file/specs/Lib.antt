@@ -1,6 +1,5 @@
 pub mod Parts
 pub mod CheckFiles
 pub mod CheckLines
-pub mod Printed
 pub mod Stages
 pub mod Unfit

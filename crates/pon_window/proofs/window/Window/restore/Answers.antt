@@ -1,4 +1,4 @@
-use Rattle.std.proofs.Common.{◌≡◌, ◌+◌, ◌++◌, ◌∷◌, ◌≤◌, [], arith, drop, length, rules}
+use Rattle.std.proofs.Common.{◌≡◌, ◌++◌, ◌∷◌, ◌≤◌, [], arith, drop, length, rules}
 use Rattle.std.proofs.lemmas.List.{drop-append-le, length_push}
 use Rattle.pon_window.specs.Sums.{sums_beside}
 use Rattle.pon_window.specs.Window.{WindowMap}
