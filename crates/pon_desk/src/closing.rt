@@ -88,7 +88,7 @@ fn first_uneven(ports: &[Port], counts: &[u64]) -> Option<usize>
 
 // Compares the entries of each port with the counts of all seats of its desk: returns the ports if these are equal at
 // each port, otherwise the ports with the sums of the seats' counts.
-pub(crate) fn settle<L: Ledger, M: Ledger>(
+pub(crate) fn compare_counts<L: Ledger, M: Ledger>(
     books: Books<L, M>,
     ports: Vec<Mutex<Held<L>>>,
     seats: Vec<Seat<L, M>>,

@@ -1,6 +1,6 @@
 use crate::books::Books;
 use crate::closed::Closed;
-use crate::closing::settle;
+use crate::closing::compare_counts;
 use crate::fault::CloseFault;
 use crate::held::Held;
 use crate::opening::{open_ports, open_seats};
@@ -224,7 +224,7 @@ impl<L: Ledger, M: Ledger> Desk<L, M> {
             counts,
             opened,
         } = self;
-        match settle(books.into_inner(), ports, seats, room, counts) {
+        match compare_counts(books.into_inner(), ports, seats, room, counts) {
             Ok(ports) => Ok(Closed { ports, opened }),
             Err((ports, counts)) => Err(CloseFault::Uneven { ports, counts }),
         }

@@ -116,7 +116,7 @@ impl Sink {
     pub fn wants_turn(&self, index: usize) -> bool
         ensures { (result ≡ true) ↔ (self.now.cut ≤ index + 1) }
     {
-        index >= self.cut as usize || index + 1 >= self.cut as usize
+        index >= (self.cut as usize).saturating_sub(1)
     }
 
     /// Passes a chapter on: first lets the waiting one into the ring, then this one; if it finds no room, it waits, and if

@@ -18,7 +18,9 @@ use crate::reply::{MadeMap, Reply};
 use crate::state::PortState;
 use pon_bwmap::Map;
 use pon_cert::MapCert;
-use pon_share::{Grants, Problems, Room, ShareInput, class_problems, grants_under, pack_grants, share};
+use pon_share::{
+    Grants, Problems, Room, ShareInput, class_problems, grants_under, pack_grants, share,
+};
 use pon_units::{AllocId, Granted};
 use std::alloc::{AllocError, Global};
 

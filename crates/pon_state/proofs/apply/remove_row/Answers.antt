@@ -1,6 +1,5 @@
-use Rattle.std.proofs.Common.{◌≡◌, ◌∙◌, ◌+◌, ◌<◌, ap, length, rules, subst, sym, List, ℕ}
-use Rattle.std.specs.Prelude.{◌==◌, None, Some, position}
-use Rattle.std.specs.List.{remove}
+use Rattle.std.proofs.Common.{◌≡◌, ◌∙◌, ◌+◌, ap, subst, sym}
+use Rattle.std.specs.Prelude.{None}
 use Rattle.pon_admit.specs.Roster.{IsAdmitted, Roster, refuses_remove, without}
 use Rattle.pon_guar.specs.Loads.{after_removed}
 use Rattle.pon_share.specs.Carries.{AreCarries}

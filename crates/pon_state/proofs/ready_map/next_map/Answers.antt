@@ -1,4 +1,4 @@
-use Rattle.std.proofs.Common.{◌≡◌, ◌∙◌, ◌≤◌, ap, rules, subst, List, ℕ}
+use Rattle.std.proofs.Common.{◌≡◌, ◌∙◌, ◌≤◌, ap, subst}
 use Rattle.pon_admit.specs.Roster.{most_carry}
 use Rattle.pon_admit.specs.declared.row.Row.{Row}
 use Rattle.pon_burst.specs.Maps.{map_granting}

@@ -4,7 +4,7 @@ use Rattle.std.proofs.lemmas.List.{length-replicate}
 use Rattle.pon_desk.specs.Counts.{taken_of}
 use Rattle.pon_lists.proofs.Parts.{written}
 use Rattle.pon_desk.proofs.Balance.{is_even, is_uneven}
-use Rattle.pon_desk.proofs.closing.settle.Goals as goal
+use Rattle.pon_desk.proofs.closing.compare_counts.Goals as goal
 
 pub returns-in-None-clause-all : goal.returns-in-None-clause-all
 returns-in-None-clause-all g c = omega (arith, c.join_seats.ensures.most, c.requires.seats)
