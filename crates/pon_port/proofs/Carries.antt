@@ -1,8 +1,8 @@
 -- Carries over a list that is split, and over one entry.
-use Rattle.std.proofs.Common.{◌≡◌, ℕ, zero, suc, ◌+◌, ◌<◌, ◌≤◌, Bool, true, false, not, ◌||◌, ◌&&◌, List, [], ◌∷◌, ◌++◌, map, length, get_or, refl, ap, sym, ◌∙◌, subst, append_assoc, arith, inl, inr}
+use Rattle.std.proofs.Common.{◌≡◌, ℕ, zero, suc, ◌+◌, ◌<◌, ◌≤◌, true, false, not, ◌||◌, ◌&&◌, List, [], ◌∷◌, ◌++◌, map, length, get_or, refl, ap, sym, ◌∙◌, append_assoc, arith}
 use Rattle.std.specs.Prelude.{◌==◌, if◌then◌else◌, All}
 use Rattle.std.specs.List.{list_any}
-use Rattle.std.proofs.lemmas.Bool.{and_parts, cases_Bool, eq-eqb, eqb-true, or_cases, or_left, or_parts, or_right}
+use Rattle.std.proofs.lemmas.Bool.{and_parts, eq-eqb, or_left, or_parts, or_right}
 use Rattle.std.proofs.lemmas.List.{append-nil, get_or-map, length-map}
 use Rattle.std.proofs.lemmas.List.Elements.{All-map}
 use Rattle.std.proofs.lemmas.List.Folds.{list_any-append}
@@ -13,7 +13,7 @@ use Rattle.pon_admit.proofs.AdmittedSets.{changed, changed_alloc, has_alloc-chan
 use Rattle.pon_admit.proofs.Rules.{left_over_range, left_over_same, left_over_sum}
 use Rattle.pon_share.specs.Carries.{AreCarries, carries_of, number_of}
 use Rattle.pon_share.specs.Input.{Input}
-use Rattle.pon_share.specs.Rates.{carried, whole_rate}
+use Rattle.pon_share.specs.Rates.{whole_rate}
 use Rattle.pon_share.specs.Sharing.{surplus_rate}
 use Rattle.pon_share.proofs.Carries.{carries_each, carry_at_row, carry_known, carry_within}
 use Rattle.pon_state.specs.State.{State, carry_at, input_of}
@@ -23,7 +23,6 @@ use Rattle.pon_state.specs.Carries.{admits_now, carries_left, carry_after, input
 use Rattle.pon_state.specs.History.{replay}
 use Rattle.pon_event.specs.declared.event.Event.{Event}
 use Rattle.pon_event.specs.declared.event.Event.TheVariants.{Admit, Change, Remove, Report, MakeMap, Fail, Restore}
-use Rattle.pon_state.specs.declared.reply.Reply.{Reply}
 use Rattle.pon_state.specs.declared.reply.Reply.TheVariants.{Taken, Map}
 use Rattle.pon_state.specs.declared.reply.MadeMap.{MadeMap}
 use Rattle.pon_state.specs.declared.reply.Entry.{Entry}
@@ -108,15 +107,15 @@ carry-append o xs ys i same there =
     = (λ j. (if list_any-append (admits_now i) xs ys j then 0 else start) + (sum_since-append (λ before e. rate_of_reply (input_after o before) e.reply i) i [] xs ys ∙ ap (λ n. (if list_any (admits_now i) ys then 0 else first) + n) same) j) in
     ap (left_over o.rule) whole
     ∙ (elim (list_any (admits_now i) ys) as (λ b. list_any (admits_now i) ys ≡ b →
-      left_over o.rule ((if list_any (admits_now i) xs || b then 0 else start) + ((if b then 0 else first) + last)) ≡ left_over o.rule ((if b then 0 else number_of (roster_of o.roster xs) (carries_of (carry_after o xs) (roster_of o.roster xs)) i) + last)) [
-        | true ↦ λ e. ap (λ b. left_over o.rule ((if b then 0 else start) + (0 + last))) (or_right (list_any (admits_now i) xs) true refl) ∙ ap (left_over o.rule) (let z : 0 + (0 + last) ≡ 0 + last = omega arith in z)
-        | false ↦ λ e.
-            let known : number_of (roster_of o.roster xs) (carries_of (carry_after o xs) (roster_of o.roster xs)) i ≡ carry_after o xs i = carry_known (carry_after o xs) i (roster_of o.roster xs) (had_row_all i (roster_of o.roster xs) ys e there) in
-            ap (λ b. left_over o.rule ((if b then 0 else start) + (first + last))) (or-false (list_any (admits_now i) xs))
-            ∙ ap (left_over o.rule) (let z : (if list_any (admits_now i) xs then 0 else start) + (first + last) ≡ owed_of o xs i + last = omega arith in z)
-            ∙ sym (left_over_sum o.rule (owed_of o xs i) last)
-            ∙ sym (ap (λ n. left_over o.rule (n + last)) known)
-      ]) refl
+    left_over o.rule ((if list_any (admits_now i) xs || b then 0 else start) + ((if b then 0 else first) + last)) ≡ left_over o.rule ((if b then 0 else number_of (roster_of o.roster xs) (carries_of (carry_after o xs) (roster_of o.roster xs)) i) + last)) [
+      | true ↦ λ e. ap (λ b. left_over o.rule ((if b then 0 else start) + (0 + last))) (or_right (list_any (admits_now i) xs) true refl) ∙ ap (left_over o.rule) (let z : 0 + (0 + last) ≡ 0 + last = omega arith in z)
+      | false ↦ λ e.
+          let known : number_of (roster_of o.roster xs) (carries_of (carry_after o xs) (roster_of o.roster xs)) i ≡ carry_after o xs i = carry_known (carry_after o xs) i (roster_of o.roster xs) (had_row_all i (roster_of o.roster xs) ys e there) in
+          ap (λ b. left_over o.rule ((if b then 0 else start) + (first + last))) (or-false (list_any (admits_now i) xs))
+          ∙ ap (left_over o.rule) (let z : (if list_any (admits_now i) xs then 0 else start) + (first + last) ≡ owed_of o xs i + last = omega arith in z)
+          ∙ sym (left_over_sum o.rule (owed_of o xs i) last)
+          ∙ sym (ap (λ n. left_over o.rule (n + last)) known)
+    ]) refl
 
 -- all carries, over a split list
 pub carries-append : (o : State) (xs ys : List Entry) → ((i : ℕ) → rates_since o i xs ys ≡ rates_since (replay o xs) i [] ys) →
@@ -172,10 +171,10 @@ carries_map s made same apart =
     = λ r n l is. sym (carry_at_row s.roster (map rate s.roster) r n 0 apart (length-map s.roster rate) l is) ∙ get_or-map rate s.roster n r 0 l ∙ ap rate is in
     map_agree (λ r. left_over s.rule (carry_at s r + rate r)) (λ r. carry_after s (record { event = MakeMap; reply = Map made } ∷ []) r.alloc_id) s.roster
     (λ n d l.
-      let r : Row = get_or s.roster n d in
-      ap (λ n. left_over s.rule (carry_at s r + n)) (sym (known r n l (get_or_any s.roster n r d l)))
-      ∙ (λ j. left_over s.rule (carry_at s r + (rate_of_reply (sym read j) (Map made) r.alloc_id)))
-      ∙ ap (λ n. left_over s.rule (carry_at s r + n)) (let z : rate_of_reply (input_after s []) (Map made) r.alloc_id ≡ rate_of_reply (input_after s []) (Map made) r.alloc_id + 0 = omega arith in z))
+    let r : Row = get_or s.roster n d in
+    ap (λ n. left_over s.rule (carry_at s r + n)) (sym (known r n l (get_or_any s.roster n r d l)))
+    ∙ (λ j. left_over s.rule (carry_at s r + (rate_of_reply (sym read j) (Map made) r.alloc_id)))
+    ∙ ap (λ n. left_over s.rule (carry_at s r + n)) (let z : rate_of_reply (input_after s []) (Map made) r.alloc_id ≡ rate_of_reply (input_after s []) (Map made) r.alloc_id + 0 = omega arith in z))
   where
     get_or_any : (rows : List Row) (n : ℕ) (d e : Row) → n < length rows → get_or rows n d ≡ get_or rows n e
     get_or_any [] n d e l = absurd (omega (arith, l))

@@ -1,5 +1,5 @@
 -- The states of a lawful chapter are in range.
-use Rattle.std.proofs.Common.{◌≡◌, ℕ, ◌+◌, ◌-◌, ◌^◌, ◌<◌, ◌≤◌, Bool, true, false, cond, ◌||◌, List, [], ◌∷◌, ◌++◌, map, length, get_or, refl, ap, sym, ◌∙◌, subst, arith, inl, inr}
+use Rattle.std.proofs.Common.{◌≡◌, ℕ, ◌+◌, ◌-◌, ◌^◌, ◌<◌, ◌≤◌, true, false, cond, List, [], ◌∷◌, ◌++◌, map, length, get_or, ap, sym, ◌∙◌, subst, arith, inl, inr}
 use Rattle.std.specs.Prelude.{◌==◌, nat_le, if◌then◌else◌, All, count_by, sum_by, Option, Some, None, IfSome, option_to_list}
 use Rattle.std.specs.List.{list_any}
 use Rattle.std.proofs.lemmas.Bool.{cases_Bool, leb-false, or_parts}
@@ -35,8 +35,8 @@ use Rattle.pon_state.specs.State.{State, carry_at, input_of}
 use Rattle.pon_state.specs.Checks.{at_limit, first_refusal, refuses, when_down, when_full}
 use Rattle.pon_state.specs.Events.{IsEvent}
 use Rattle.pon_state.specs.Legal.{IsReply, MayFollow}
-use Rattle.pon_state.specs.Replay.{all_maps, allocs_after, begins, cause_after, grants_of, makes_map, maps_of, new_map, next_of, with_reports}
-use Rattle.pon_state.specs.Loads.{account_after, candidates_in, counted_of, opening_candidates, since_of}
+use Rattle.pon_state.specs.Replay.{all_maps, allocs_after, begins, cause_after, makes_map, maps_of, new_map, with_reports}
+use Rattle.pon_state.specs.Loads.{account_after, candidates_in, opening_candidates, since_of}
 use Rattle.pon_state.specs.History.{replay}
 use Rattle.pon_port.specs.Chapters.{Chapter, IsLawfulChapter, present_state}
 use Rattle.pon_port.specs.Ranges.{AreGrantsInRange, IsGrantInRange, IsStateInRange}

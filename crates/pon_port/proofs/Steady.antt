@@ -7,7 +7,7 @@ use Rattle.std.proofs.lemmas.Option.{IfSome_then}
 use Rattle.std.proofs.lemmas.List.Elements.{All-nil, All-cons, All-head, All-tail, All-append, All-drop, All-filter, All-map, All-weaker}
 use Rattle.pon_bwmap.specs.Alloc.{Alloc}
 use Rattle.pon_descr.specs.Checks.{or_else}
-use Rattle.pon_admit.specs.Roster.{IsAdmitted, IsInMapOrder, comes_before, has_alloc, refuses_admit, without}
+use Rattle.pon_admit.specs.Roster.{IsAdmitted, IsInMapOrder, comes_before, has_alloc, refuses_admit}
 use Rattle.pon_admit.specs.declared.row.Row.{Row}
 use Rattle.pon_guar.specs.declared.account.Account.{Account}
 use Rattle.pon_guar.specs.Book.{AreRising, account_of, alloc_ids, counted_of_account, since_of_account}
@@ -27,14 +27,13 @@ use Rattle.pon_units.specs.Granted.{AreInMapOrder, ComesBefore}
 use Rattle.pon_event.specs.declared.event.Event.{Event}
 use Rattle.pon_event.specs.declared.event.Event.TheVariants.{Admit, Change, Remove, Report, MakeMap, Fail, Restore}
 use Rattle.pon_state.specs.declared.reply.Entry.{Entry}
-use Rattle.pon_lists.proofs.Lists.{any_eq-filter, append-nil, length-drop, map_filter}
+use Rattle.pon_lists.proofs.Lists.{any_eq-filter, append-nil, length-drop}
 use Rattle.pon_port.proofs.Windows.{filter_low, leads-map}
 use Rattle.pon_port.proofs.Cutting.{alloc_ids-replay, window_leads}
 use Rattle.pon_descr.proofs.Checks.{or_else_none}
 use Rattle.pon_port.proofs.Steps.{counted_forgotten, counted_of-report}
 use Rattle.pon_admit.proofs.AdmittedSets.{Passes, has_alloc-changed, passes, precedes}
 use Rattle.pon_lists.proofs.Inserted.{list_any-inserted}
-use Rattle.pon_lists.proofs.Lists.{list_any-map}
 use Rattle.pon_lists.proofs.Order.{in_order-filter}
 use Rattle.pon_guar.proofs.Books.{rising_with}
 use Rattle.pon_window.proofs.Polls.{said_lawful}

@@ -1,11 +1,9 @@
 -- The chapter that a port begins when it turns.
-use Rattle.std.proofs.Common.{◌≡◌, ℕ, ◌+◌, ◌<◌, List, [], ap, sym, ◌∙◌, subst, refl, arith}
+use Rattle.std.proofs.Common.{◌≡◌, ℕ, ◌+◌, List, [], ap, sym, ◌∙◌, subst, refl, arith}
 use Rattle.std.specs.Prelude.{Option, None}
 use Rattle.pon_state.specs.State.{State}
 use Rattle.pon_state.specs.declared.reply.Entry.{Entry}
-use Rattle.pon_state.specs.History.{replay}
 use Rattle.pon_port.specs.Chapters.{Chapter, IsLawfulOpening, chapter_after, present_state}
-use Rattle.pon_port.specs.Last.{KeepsLast}
 use Rattle.pon_port.specs.Taking.{IsKept, IsPort, Turns}
 use Rattle.pon_port.proofs.EntryByEntry.{legal_none, replay_of_none}
 use Rattle.pon_port.proofs.LawfulStates.{opens_at_present}

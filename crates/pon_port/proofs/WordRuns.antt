@@ -1,6 +1,6 @@
 -- Over a run of maps the words are the whole part of what is owed, under the rule that carries.
-use Rattle.std.proofs.Common.{◌≡◌, ℕ, ◌+◌, ◌-◌, ◌*◌, ◌/◌, ◌%◌, ◌≤◌, Bool, true, false, ◌||◌, List, [], ◌∷◌, ◌++◌, map, length, refl, ap, sym, ◌∙◌, subst, append_assoc, arith, inl, inr}
-use Rattle.std.specs.Prelude.{◌==◌, if◌then◌else◌, All}
+use Rattle.std.proofs.Common.{◌≡◌, ℕ, ◌+◌, ◌-◌, ◌/◌, ◌%◌, ◌≤◌, Bool, true, false, ◌||◌, List, [], ◌∷◌, ◌++◌, map, refl, ap, sym, ◌∙◌, subst, append_assoc, arith, inl, inr}
+use Rattle.std.specs.Prelude.{◌==◌, if◌then◌else◌}
 use Rattle.std.specs.List.{list_any}
 use Rattle.std.proofs.lemmas.Bool.{cases_Bool, or_parts}
 use Rattle.std.proofs.lemmas.List.{append-nil}
@@ -10,9 +10,8 @@ use Rattle.pon_bwmap.specs.Alloc.{Alloc}
 use Rattle.pon_units.specs.declared.granted.Granted.{Granted}
 use Rattle.pon_burst.specs.Maps.{structure_of}
 use Rattle.pon_admit.specs.declared.row.Row.{Row}
-use Rattle.pon_admit.specs.declared.rule.Rule.{Rule}
-use Rattle.pon_admit.specs.declared.rule.Rule.TheVariants.{One, Two}
-use Rattle.pon_admit.specs.Roster.{IsDistinct, has_alloc, left_over, most_carry}
+use Rattle.pon_admit.specs.declared.rule.Rule.TheVariants.{Two}
+use Rattle.pon_admit.specs.Roster.{has_alloc, left_over, most_carry}
 use Rattle.pon_share.specs.Carries.{carries_of, number_of}
 use Rattle.pon_share.specs.Input.{Input}
 use Rattle.pon_share.specs.Rates.{granted, payload, whole_rate}
@@ -21,9 +20,9 @@ use Rattle.pon_share.proofs.Carries.{carry_known, carry_within}
 use Rattle.pon_share.proofs.RosterMaps.{granted_to_row}
 use Rattle.pon_state.specs.State.{State, carry_at, input_of}
 use Rattle.pon_state.specs.Replay.{roster_of}
-use Rattle.pon_state.specs.Carries.{admits_now, carry_after, input_after, owed_of, rate_of_reply, rates_since, sum_since}
+use Rattle.pon_state.specs.Carries.{admits_now, carry_after, input_after, owed_of, rate_of_reply, rates_since}
 use Rattle.pon_state.specs.History.{replay}
-use Rattle.pon_state.specs.Legal.{IsMade, IsReply, MayFollow}
+use Rattle.pon_state.specs.Legal.{IsMade, IsReply}
 use Rattle.pon_event.specs.declared.event.Event.{Event}
 use Rattle.pon_event.specs.declared.event.Event.TheVariants.{Admit, Change, Remove, Report, MakeMap, Fail, Restore}
 use Rattle.pon_state.specs.declared.reply.Reply.{Reply}

@@ -1,6 +1,6 @@
 -- The ranges of the numbers of a state (ITU-T G.987.3: ONU-ID, Alloc-ID, BufOcc, GrantSize; frames and causes are this
 -- project's). A recording has room for a state in these ranges.
-use Rattle.std.specs.Prelude.{ℕ, ◌≡◌, ◌<◌, ◌≤◌, ◌^◌, All, List, length, IfSome}
+use Rattle.std.specs.Prelude.{◌≡◌, ◌<◌, ◌≤◌, ◌^◌, All, List, length, IfSome}
 use Rattle.pon_units.specs.declared.limits.TheConstants.{FRAME_WORDS, GREATEST_ALLOC_ID, GREATEST_OCCUPANCY, GREATEST_ONU_ID, GREATEST_PROFILE, LEAST_ALLOC_ID, LONGEST_GAP, SHORTEST_GAP}
 use Rattle.pon_units.specs.declared.granted.Granted.{Granted}
 use Rattle.pon_units.specs.Granted.{onus_granted}

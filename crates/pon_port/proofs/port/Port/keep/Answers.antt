@@ -1,4 +1,4 @@
-use Rattle.std.proofs.Common.{◌≡◌, Result, Ok, Err, OnOk, subst, sym}
+use Rattle.std.proofs.Common.{Result, Ok, Err, OnOk, subst, sym}
 use Rattle.pon_event.specs.declared.event.Event.TheVariants.{MakeMap}
 use Rattle.pon_state.specs.declared.reply.Reply.TheVariants.{Map}
 use Rattle.pon_port.specs.Chapters.{present_state}

@@ -1,4 +1,4 @@
-use Rattle.std.proofs.Common.{◌≡◌, ◌+◌, rules, subst}
+use Rattle.std.proofs.Common.{◌+◌, rules, subst}
 use Rattle.pon_port.specs.Chapters.{Chapter}
 use Rattle.pon_port.specs.Taking.{Turns}
 use Rattle.pon_port.proofs.Turning.{turned, turned_port}
