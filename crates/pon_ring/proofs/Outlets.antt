@@ -1,5 +1,5 @@
 -- What an outlet keeps of its waiting chapter and of the numbers that came.
-use Rattle.std.proofs.Common.{◌≡◌, ℕ, ◌+◌, List, [], ◌∷◌, ◌++◌, append-nil, ap, sym, ◌∙◌, subst}
+use Rattle.std.proofs.Common.{◌≡◌, ℕ, ◌+◌, List, [], ◌∷◌, ◌++◌, append-nil, sym, ◌∙◌, subst}
 use Rattle.std.specs.Prelude.{Option, Some, None, option_to_list}
 use Rattle.std.specs.Option.{ForSome}
 use Rattle.pon_port.specs.Chapters.{Chapter}

@@ -1,5 +1,5 @@
 -- A ring of chapters as contracts see it.
-use Rattle.std.specs.Prelude.{◌≡◌, List}
+use Rattle.std.specs.Prelude.{List}
 use Rattle.rtrb.specs.Ring.{IsFinishedOf, IsPair, SameConsumer, SameProducer, all_sent, known_items, received, sent}
 use Rattle.rtrb.specs.Ring.{Finishes as FinishesProducer}
 use Rattle.pon_port.specs.Chapters.{Chapter}

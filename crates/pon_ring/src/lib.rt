@@ -5,9 +5,9 @@
 //! call waits: a chapter that finds no room is kept by the sink, or dropped and counted.
 #![tactic(auto)]
 
+mod opening;
 mod ring_in;
 mod ring_out;
-mod opening;
 mod rising;
 mod sink;
 

@@ -2,7 +2,6 @@ use Rattle.std.proofs.Common.{◌≡◌, ◌++◌, ◌∷◌, [], rules, true}
 use Rattle.std.specs.Prelude.{None}
 use Rattle.pon_ring.specs.Numbers.{ComesAfter}
 use Rattle.pon_ring.specs.Rings.{sent_chapters}
-use Rattle.pon_ring.specs.Sinks.{passed}
 use Rattle.pon_ring.proofs.Outlets.{after_sent, below_back, below_sent, none_waits, waits_back}
 use Rattle.pon_ring.proofs.sink.Outlet.pass.Goals as goal
 
