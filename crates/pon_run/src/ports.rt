@@ -10,7 +10,7 @@ use crate::thread::Worked;
 use crate::units::units_of;
 use pon_desk::{CloseFault, Desk, Seat};
 use pon_port::Port;
-use pon_settings::Settings;
+use pon_settings::{Settings, SettingsRow};
 use pon_units::PortNo;
 use pon_worker::{Why, WorkerEnd};
 use std::alloc::{AllocError, Global};
@@ -36,6 +36,23 @@ pub(crate) fn admit_rows<L: Ledger, M: Ledger, R: Wait>(
     Ok(())
 }
 
+// Combines what serves one port.
+fn served_port<L: Ledger, M: Ledger>(
+    alloc: Global,
+    port: PortNo,
+    rows: &[SettingsRow],
+    seat: Seat<L, M>,
+    link: Link,
+) -> Result<Served<L, M>, AllocError> {
+    let units = units_of(alloc, rows)?;
+    Ok(Served {
+        port,
+        seat,
+        link,
+        units,
+    })
+}
+
 /// Combines what serves each port of the settings, in order. `Err` only if memory is refused.
 pub(crate) fn served_ports<L: Ledger, M: Ledger>(
     alloc: Global,
@@ -46,14 +63,7 @@ pub(crate) fn served_ports<L: Ledger, M: Ledger>(
     let mut all = Vec::with_capacity(alloc, links.len())?;
     let pairs = seats.into_iter().zip(links);
     for ((i, port), (seat, link)) in settings.ports().iter().enumerate().zip(pairs) {
-        let units = units_of(alloc, port.rows())?;
-        let port = PortNo::at(i);
-        all.push(Served {
-            port,
-            seat,
-            link,
-            units,
-        })?;
+        all.push(served_port(alloc, PortNo::at(i), port.rows(), seat, link)?)?;
     }
     Ok(all)
 }

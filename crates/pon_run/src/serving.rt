@@ -109,6 +109,43 @@ fn tell<L: Ledger, M: Ledger, F: Write + Drop, W: DevWrite>(
     Ok(all && even && ended.finished)
 }
 
+// Writes what each port did, as `tell` does, once the seats of the rows and of the operator are free.
+fn tell_with_seats<L: Ledger, M: Ledger, F: Write + Drop, W: DevWrite>(
+    alloc: Global,
+    desk: Desk<L, M>,
+    others: [Seat<L, M>; OTHER_SEATS],
+    all: Vec<Worked<L, M>>,
+    recording: Option<RecordFile<StdWrite<F>>>,
+    writer: &mut W,
+) -> Result<bool, PlanFault>
+    ensures { IfOk result (λ done. done ≡ true
+        → TellsPorts desk.ports (W.contents writer.old) (W.contents writer.new)) }
+{
+    match Vec::from_array(alloc, others) {
+        Ok(others) => tell(alloc, desk, others, all, recording, writer),
+        Err(_) => Err(PlanFault::Memory),
+    }
+}
+
+// Admits the rows of the settings, and combines what serves each port.
+fn prepare<L: Ledger, M: Ledger, R: Wait>(
+    rt: &R,
+    alloc: Global,
+    desk: &Desk<L, M>,
+    seat: &mut Seat<L, M>,
+    settings: &Settings,
+    seats: Vec<Seat<L, M>>,
+    links: Vec<Link>,
+) -> Result<Vec<Served<L, M>>, PlanFault> {
+    if admit_rows(rt, alloc, desk, seat, settings).is_err() {
+        return Err(PlanFault::Memory);
+    }
+    match served_ports(alloc, settings, seats, links) {
+        Ok(all) => Ok(all),
+        Err(_) => Err(PlanFault::Memory),
+    }
+}
+
 // Admits the rows of the settings at an open desk, serves its ports, and writes what each did. Returns whether each
 // worker made all its turns and no post was lost.
 fn run_desk<L, M, G, F, W, R>(
@@ -139,18 +176,10 @@ where
     let (Some(mut seat), Some(mut first)) = (seats.pop(), seats.pop()) else {
         unreachable!()
     };
-    if admit_rows(rt, alloc, &desk, &mut first, settings).is_err() {
-        return Err(PlanFault::Memory);
-    }
-    let Ok(all) = served_ports(alloc, settings, seats, links) else {
-        return Err(PlanFault::Memory);
-    };
+    let all = prepare(rt, alloc, &desk, &mut first, settings, seats, links)?;
     let served = serve(rt, alloc, &desk, all, &mut seat, gate, maps, lines, writer);
     let (all, operated) = served?;
-    let Ok(others) = Vec::from_array(alloc, [first, seat]) else {
-        return Err(PlanFault::Memory);
-    };
-    let done = tell(alloc, desk, others, all, recording, writer)?;
+    let done = tell_with_seats(alloc, desk, [first, seat], all, recording, writer)?;
     operated?;
     Ok(done)
 }
