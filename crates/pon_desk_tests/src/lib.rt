@@ -1,11 +1,24 @@
-//! Tests of the desk: posts from threads, kept entries, looks and inspections, refused memory, and management lines.
+//! Tests of the desk and of the worker of a port: posts from threads, kept entries, looks and inspections, refused
+//! memory, management lines, settlements of receipts, and workers over memory and sockets.
 //!
-//! They are in a crate above the one that they test, so that it is proved once.
+//! They are in a crate above those that they test, so that each of these is proved once.
 #![tactic(auto)]
 
+#[cfg(test)]
+mod bench;
 #[cfg(test)]
 mod desks;
 #[cfg(test)]
 mod inspecting;
 #[cfg(test)]
+mod links;
+#[cfg(test)]
 mod operating;
+#[cfg(test)]
+mod serving;
+#[cfg(test)]
+mod settling;
+#[cfg(test)]
+mod sockets;
+#[cfg(test)]
+mod together;

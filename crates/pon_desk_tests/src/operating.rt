@@ -1,46 +1,29 @@
-// Management lines at desks: the text is that of a plant with the same ports. Each port has a gap of 16 words and
-// starts at frame 0.
+//! Management lines at desks: the text is that of a plant with the same ports. Each port has a gap of 16 words and
+//! starts at frame 0.
 ghost use Rattle.std.specs.Prelude.{◌≡◌, ◌<◌, length};
 
-use pon_descr::{Class, Descriptor};
+use crate::bench::{admission, cfg, number};
 use pon_desk::{Desk, Seat};
 use pon_device::{MemRead, MemWrite};
-use pon_event::Event;
 use pon_manage::{PlanEnd, PlanFault, Step, operate, plan};
-use pon_port::PortCfg;
-use pon_units::{AllocId, FrameNo, Gap, OnuId, PortNo, Profile};
 use std::alloc::Global;
 use std::marker::Brand;
 use std::process::Abort;
 use std::sync::Wait;
 use std::sync::ledger::{Blank, Ledger};
-use std::test::*;
 
 // Maximum number of bytes that a device reads or writes in a call.
 const ALL: usize = 4096;
 
-fn port(rt: &impl Abort) -> (PortCfg, FrameNo) {
-    let gap = Gap::new(16).expect(rt, "a gap");
-    let profile = Profile::new(0).expect(rt, "a profile");
-    (PortCfg { gap, profile }, FrameNo::new(0))
-}
-
-// Makes an admission of Alloc-ID 1024 of ONU 5, with a fixed rate of 10 words a frame.
-fn admission(rt: &impl Abort) -> Event {
-    Event::Admit {
-        onu: OnuId::new(5).expect(rt, "an ONU-ID"),
-        alloc_id: AllocId::new(1024).expect(rt, "an Alloc-ID"),
-        descriptor: Descriptor::new(2560, 0, 2560, Class::Plain).expect(rt, "a descriptor"),
-    }
-}
-
-// Makes the steps that admit it at the first `count` ports. `None` if memory is refused.
+// Makes the steps that admit an Alloc-ID at the first `count` ports. `None` if memory is refused.
 fn admissions(rt: &impl Abort, alloc: Global, count: u8) -> Option<Vec<Step>> {
     let mut steps = Vec::new(alloc);
-    for number in 0..count {
-        let port = PortNo::new(number).expect(rt, "a port");
-        let event = admission(rt);
-        steps.push(Step { port, event }).ok()?;
+    for port in 0..count {
+        let step = Step {
+            port: number(rt, port),
+            event: admission(rt),
+        };
+        steps.push(step).ok()?;
     }
     Some(steps)
 }
@@ -74,46 +57,97 @@ fn make_devices(
     })
 }
 
-// Answers the input at a desk of two ports, after posts that admit at the first ports. `None` if memory is refused to
-// the test itself.
+fn with_text(
+    alloc: Global,
+    writer: &MemWrite,
+    told: Result<PlanEnd, PlanFault>,
+) -> Option<Answered> {
+    let text = writer.bytes().to_vec(alloc).ok()?;
+    Some(Answered { result: told, text })
+}
+
+// Posts the steps. `false` if memory is refused.
+fn posts<L: Ledger, M: Ledger, R: Wait>(
+    rt: &R,
+    desk: &Desk<L, M>,
+    seat: &mut Seat<L, M>,
+    steps: Vec<Step>,
+) -> bool {
+    let mut is_posted = true;
+    for Step { port, event } in steps {
+        is_posted &= desk.post(rt, seat, port, event).is_ok();
+    }
+    is_posted
+}
+
+// Answers the input at a desk of two ports, after the posts of these steps. `None` if memory is refused to the test
+// itself.
 fn operate_at<L: Ledger, M: Ledger, R: Wait + Abort>(
     rt: &R,
     alloc: Global,
     of_ports: Blank,
     of_seats: Blank,
-    admitted: u8,
-    devices: Devices,
+    steps: Vec<Step>,
+    mut devices: Devices,
 ) -> Option<Answered>
     requires ports { (of_ports.name ≡ L.name) × (of_ports.parts ≡ L.parts) × (L.parts ≡ 2) }
     requires seats { (of_seats.name ≡ M.name) × (of_seats.parts ≡ M.parts) × (M.parts ≡ 1) }
 {
-    let ports = [port(rt), port(rt)];
+    let ports = [cfg(rt, 16, 0), cfg(rt, 16, 0)];
     let (desk, mut seats) = Desk::<L, M>::open(alloc, of_ports, of_seats, &ports, 1).ok()?;
     let seat = seats.get_mut(0).expect(rt, "a seat");
-    for step in admissions(rt, alloc, admitted)? {
-        let Step { port, event } = step;
-        desk.post(rt, seat, port, event).ok()?;
+    if !posts(rt, &desk, seat, steps) {
+        return None;
     }
-    let Devices {
-        mut reader,
-        mut writer,
-    } = devices;
-    let result = operate(rt, alloc, &desk, seat, &mut reader, &mut writer);
-    let text = writer.bytes().to_vec(alloc).ok()?;
-    Some(Answered { result, text })
+    let told = operate(
+        rt,
+        alloc,
+        &desk,
+        seat,
+        &mut devices.reader,
+        &mut devices.writer,
+    );
+    with_text(alloc, &devices.writer, told)
+}
+
+// Answers the input at a desk whose first ports have admitted an Alloc-ID.
+fn at_desk(
+    rt: &(impl Wait + Abort),
+    alloc: Global,
+    admitted: u8,
+    devices: Devices,
+) -> Option<Answered> {
+    let (of_ports, of_seats) = (Blank::new(2), Blank::new(1));
+    let steps = admissions(rt, alloc, admitted)?;
+    operate_at::<Brand, Brand, _>(rt, alloc, of_ports, of_seats, steps, devices)
 }
 
 // Answers the input at a plant of two ports, after the same admissions.
-fn plan_at(rt: &impl Abort, alloc: Global, admitted: u8, devices: Devices) -> Option<Answered> {
-    let ports = [port(rt), port(rt)];
+fn at_plant(
+    rt: &impl Abort,
+    alloc: Global,
+    admitted: u8,
+    mut devices: Devices,
+) -> Option<Answered> {
+    let ports = [cfg(rt, 16, 0), cfg(rt, 16, 0)];
     let steps = admissions(rt, alloc, admitted)?;
-    let Devices {
-        mut reader,
-        mut writer,
-    } = devices;
-    let result = plan(&(), alloc, &ports, steps, &mut reader, &mut writer);
-    let text = writer.bytes().to_vec(alloc).ok()?;
-    Some(Answered { result, text })
+    let told = plan(
+        &(),
+        alloc,
+        &ports,
+        steps,
+        &mut devices.reader,
+        &mut devices.writer,
+    );
+    with_text(alloc, &devices.writer, told)
+}
+
+// Returns whether the run was not refused memory, and ended with this result and text.
+fn ends_with(run: Option<Answered>, wanted: Result<PlanEnd, PlanFault>, text: &[u8]) -> bool {
+    match run {
+        None => false,
+        Some(run) => run.result == wanted && run.text.as_slice() == text,
+    }
 }
 
 // Number of admissions at the first ports, the lines that follow, and their text.
@@ -142,98 +176,91 @@ static WORKED: [(u8, &[u8], &[u8]); 6] = [
     (0, b"0 map", b"map 0 00000000\n"),
 ];
 
+// Returns whether the desk answers these lines by this text, and the plant too.
+fn is_text(
+    rt: &(impl Wait + Abort),
+    alloc: Global,
+    admitted: u8,
+    input: &[u8],
+    most: usize,
+    text: &[u8],
+) -> bool
+    requires { 0 < most }
+{
+    let devices = make_devices(alloc, input, most, &[], &[]).expect(rt, "memory");
+    let by_desk = at_desk(rt, alloc, admitted, devices);
+    let devices = make_devices(alloc, input, most, &[], &[]).expect(rt, "memory");
+    let by_plant = at_plant(rt, alloc, admitted, devices);
+    let is_of_desk = ends_with(by_desk, Ok(PlanEnd), text);
+    ends_with(by_plant, Ok(PlanEnd), text) && is_of_desk
+}
+
 #[test]
-fn a_desk_answers_as_a_plant(rt: HostRuntime) -> Result<(), Fail> {
-    let alloc = rt.alloc();
-    for (admitted, input, text) in WORKED {
+fn a_desk_answers_as_a_plant(rt: HostRuntime) {
+    for (k, (admitted, input, text)) in WORKED.iter().enumerate() {
         for most in [1, ALL] {
-            let at = make_devices(alloc, input, most, &[], &[]).ok_or("memory")?;
-            let at_desk = operate_at::<Brand, Brand, HostRuntime>(
-                &rt,
-                alloc,
-                Blank::new(2),
-                Blank::new(1),
-                admitted,
-                at,
-            );
-            let at_desk = at_desk.ok_or("memory")?;
-            let at = make_devices(alloc, input, most, &[], &[]).ok_or("memory")?;
-            let at_plant = plan_at(&rt, alloc, admitted, at).ok_or("memory")?;
-            assert_eq!(rt; at_desk.result, Ok(PlanEnd));
-            assert_eq!(rt; at_desk.text.as_slice(), text);
-            assert_eq!(rt; at_desk.text.as_slice(), at_plant.text.as_slice());
+            let is_told = is_text(&rt, rt.alloc(), *admitted, input, most, text);
+            assert!(rt; is_told, "row {k} in pieces of {most}");
         }
     }
-    Ok(())
 }
 
 const FIRST_MAP: &[u8] = b"0 admit 5 1024 2560 0 2560 none\n0 map\n";
 
 const FIRST_TEXT: &[u8] = b"ok 0\nmap 0 002013ac10020010000b13cb\n";
 
+// Returns whether the lines of `FIRST_MAP`, read and written by single bytes with these failures, end with this fault
+// and the first `len` bytes of their text.
+fn stops(
+    rt: &(impl Wait + Abort),
+    alloc: Global,
+    reads: &[u64],
+    writes: &[u64],
+    fault: PlanFault,
+    len: usize,
+) -> bool {
+    let devices = make_devices(alloc, FIRST_MAP, 1, reads, writes).expect(rt, "memory");
+    let text = FIRST_TEXT.get(..len).expect(rt, "a beginning");
+    ends_with(at_desk(rt, alloc, 0, devices), Err(fault), text)
+}
+
 // The reader reads one byte a call: call k fails after k bytes.
 #[test]
-fn a_failed_read_leaves_the_whole_lines(rt: HostRuntime) -> Result<(), Fail> {
+fn a_failed_read_leaves_the_whole_lines(rt: HostRuntime) {
     for (call, written) in [(0, 0), (31, 0), (32, 5), (37, 5), (38, 36)] {
-        let at = make_devices(rt.alloc(), FIRST_MAP, 1, &[call], &[]).ok_or("memory")?;
-        let run = operate_at::<Brand, Brand, HostRuntime>(
-            &rt,
-            rt.alloc(),
-            Blank::new(2),
-            Blank::new(1),
-            0,
-            at,
-        );
-        let run = run.ok_or("memory")?;
-        assert_eq!(rt; run.result, Err(PlanFault::Read));
-        assert_eq!(rt; run.text.len(), written);
-        assert!(rt; FIRST_TEXT.starts_with(run.text.as_slice()));
+        let is_left = stops(&rt, rt.alloc(), &[call], &[], PlanFault::Read, written);
+        assert!(rt; is_left, "{call}");
     }
-    Ok(())
 }
 
 // The writer writes one byte a call: call b fails after b bytes, and call 36 is the flush.
 #[test]
-fn a_failed_write_leaves_a_beginning(rt: HostRuntime) -> Result<(), Fail> {
-    for call in [0, 4, 5, 35, 36] {
-        let at = make_devices(rt.alloc(), FIRST_MAP, 1, &[], &[call]).ok_or("memory")?;
-        let run = operate_at::<Brand, Brand, HostRuntime>(
-            &rt,
-            rt.alloc(),
-            Blank::new(2),
-            Blank::new(1),
-            0,
-            at,
-        );
-        let run = run.ok_or("memory")?;
-        assert_eq!(rt; run.result, Err(PlanFault::Write));
-        assert_eq!(rt; run.text.len() as u64, call);
-        assert!(rt; FIRST_TEXT.starts_with(run.text.as_slice()));
+fn a_failed_write_leaves_a_beginning(rt: HostRuntime) {
+    for (call, written) in [(0, 0), (4, 4), (5, 5), (35, 35), (36, 36)] {
+        let is_left = stops(&rt, rt.alloc(), &[], &[call], PlanFault::Write, written);
+        assert!(rt; is_left, "{call}");
     }
-    Ok(())
+}
+
+// Answers `FIRST_MAP`. `None` if memory is refused to the test itself.
+fn first_map(rt: &(impl Wait + Abort), alloc: Global) -> Option<Answered> {
+    at_desk(rt, alloc, 0, make_devices(alloc, FIRST_MAP, ALL, &[], &[])?)
+}
+
+// Returns whether the text is that of the result: a beginning if memory was refused.
+fn is_beginning(run: Option<Answered>) -> bool {
+    let Some(run) = run else {
+        return true;
+    };
+    match run.result {
+        Ok(PlanEnd) => run.text.as_slice() == FIRST_TEXT,
+        Err(PlanFault::Read) => false,
+        Err(_) => FIRST_TEXT.starts_with(run.text.as_slice()),
+    }
 }
 
 // One failed allocation (`rt try --test --fail-alloc N`) leaves a prefix of the text, and no refusal is printed for it.
 #[test]
-fn refused_memory_leaves_a_beginning(rt: HostRuntime) -> Result<(), Fail> {
-    let Some(at) = make_devices(rt.alloc(), FIRST_MAP, ALL, &[], &[]) else {
-        return Ok(());
-    };
-    let run = operate_at::<Brand, Brand, HostRuntime>(
-        &rt,
-        rt.alloc(),
-        Blank::new(2),
-        Blank::new(1),
-        0,
-        at,
-    );
-    let Some(run) = run else {
-        return Ok(());
-    };
-    match run.result {
-        Ok(PlanEnd) => assert_eq!(rt; run.text.as_slice(), FIRST_TEXT),
-        Err(PlanFault::Read) => assert!(rt; false, "no read failed"),
-        Err(_) => assert!(rt; FIRST_TEXT.starts_with(run.text.as_slice())),
-    }
-    Ok(())
+fn refused_memory_leaves_a_beginning(rt: HostRuntime) {
+    assert!(rt; is_beginning(first_map(&rt, rt.alloc())));
 }

@@ -1,4 +1,4 @@
-use Rattle.pon_worker_tests.proofs.serving.serve.Given as goal
+use Rattle.pon_desk_tests.proofs.serving.serve.Given as goal
 
 abbrev pub ghosts-serve_at-L-Ledger : goal.ghosts-serve_at-L-Ledger
 ghosts-serve_at-L-Ledger g a = record { name = a.of_ports.name; parts = a.of_ports.parts }

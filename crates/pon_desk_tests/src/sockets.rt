@@ -1,8 +1,8 @@
-// Workers of two ports over real sockets: one whose link breaks, and one that continues.
+//! Workers of two ports over real sockets: one whose link breaks, and one that continues.
 ghost use Rattle.std.specs.Prelude.{◌≡◌};
 
-use crate::bench::{bursts, maps, number, open};
-use pon_descr::Cause;
+use crate::bench::{cause, number, seat};
+use crate::links::{are_maps, bursts, open};
 use pon_desk::{Desk, Seat};
 use pon_device::{StdRead, StdWrite};
 use pon_units::PortNo;
@@ -14,7 +14,6 @@ use std::net::{Net, Shutdown, TcpListener, TcpStream};
 use std::process::Abort;
 use std::sync::Wait;
 use std::sync::ledger::{Blank, Ledger};
-use std::test::*;
 use std::thread;
 use std::thread::Threads;
 
@@ -56,58 +55,74 @@ fn serve<L: Ledger, M: Ledger, R: Wait>(
     )
 }
 
-// Checks that port 0 is given up for this cause at these bytes, and that port 1 continues.
-fn break_link<L, M, R>(
+// Serves port 0 over the first connection and port 1 over the second, at the same time.
+fn serve_both<L, M, R>(
     rt: &R,
     alloc: Global,
     of_ports: Blank,
     of_seats: Blank,
-    bytes: &[u8],
-    cause: u8,
-) -> Result<(), Fail>
+    broken: TcpStream,
+    whole: TcpStream,
+) -> (WorkerEnd, WorkerEnd)
 where
     L: Ledger + Send + Sync,
     M: Ledger + Send + Sync,
-    R: Net<Listener = TcpListener, Stream = TcpStream> + Threads + Wait + Abort + Sync,
+    R: Threads + Wait + Abort + Sync,
     requires ports { (of_ports.name ≡ L.name) × (of_ports.parts ≡ L.parts) × (L.parts ≡ 2) }
     requires seats { (of_seats.name ≡ M.name) × (of_seats.parts ≡ M.parts) × (M.parts ≡ 3) }
 {
     let (desk, mut seats) = open::<L, M, R>(rt, alloc, of_ports, of_seats);
-    let one = seats.pop().expect(rt, "a seat");
-    let two = seats.pop().expect(rt, "a seat");
-    let (broken, _units) = link(rt, bytes);
-    let (whole, mut units) = link(rt, bursts(rt, alloc, 3)?.as_slice());
+    let one = seat(rt, &mut seats);
+    let two = seat(rt, &mut seats);
     let (first, second) = (number(rt, 0), number(rt, 1));
     let shared = &desk;
-    let (end, other_end) = thread::join(
+    thread::join(
         rt,
         move || serve(rt, shared, one, first, broken),
         move || serve(rt, shared, two, second, whole),
-    );
-    let given_up = Cause::new(cause).expect(rt, "a cause");
-    assert_eq!(rt; end.why, Why::Gave { cause: given_up });
-    assert_eq!(rt; (other_end.maps, other_end.reports), (3, 3));
-    assert_eq!(rt; other_end.why, Why::Finished);
-    let mut written = Vec::new(alloc);
-    units.read_to_end(&mut written).expect(rt, "what was sent");
-    assert_eq!(rt; written, maps(alloc, 3)?);
-    Ok(())
+    )
 }
 
-fn broken_by<R>(rt: &R, alloc: Global, bytes: &[u8], cause: u8) -> Result<(), Fail>
+fn is_given_up(rt: &impl Abort, end: &WorkerEnd, number: u8) -> bool {
+    let cause = cause(rt, number);
+    end.why == Why::Gave { cause }
+}
+
+fn is_finished(end: &WorkerEnd) -> bool {
+    end.maps == 3 && end.reports == 3 && end.why == Why::Finished
+}
+
+fn has_all_maps(rt: &impl Abort, alloc: Global, units: &mut TcpStream) -> bool {
+    let mut written = Vec::new(alloc);
+    units.read_to_end(&mut written).expect(rt, "what was sent");
+    are_maps(rt, alloc, &written, 3)
+}
+
+// Returns whether port 0 is given up for this cause at these bytes, and port 1 continues.
+fn is_broken_by<R>(rt: &R, alloc: Global, bytes: &[u8], number: u8) -> bool
 where
     R: Net<Listener = TcpListener, Stream = TcpStream> + Threads + Wait + Abort + Sync,
 {
+    let (broken, _units) = link(rt, bytes);
+    let (whole, mut units) = link(rt, bursts(rt, alloc, 3).as_slice());
     let (of_ports, of_seats) = (Blank::new(2), Blank::new(3));
-    break_link::<Brand, Brand, R>(rt, alloc, of_ports, of_seats, bytes, cause)
+    let (end, other_end) = serve_both::<Brand, Brand, R>(
+        rt, alloc, of_ports, of_seats, broken, whole,
+    );
+    let has_all = has_all_maps(rt, alloc, &mut units);
+    has_all && is_given_up(rt, &end, number) && is_finished(&other_end)
 }
 
 #[test]
-fn a_broken_link_leaves_the_other_port_as_it_is(rt: HostRuntime) -> Result<(), Fail> {
-    let alloc = rt.alloc();
-    broken_by(&rt, alloc, &[], 5)?;
-    broken_by(&rt, alloc, &[0x54], 4)?;
-    let mut half = bursts(&rt, alloc, 1)?;
-    let _last_byte = half.pop();
-    broken_by(&rt, alloc, half.as_slice(), 5)
+fn a_broken_link_leaves_the_other_port_as_it_is(rt: HostRuntime) {
+    let burst = bursts(&rt, rt.alloc(), 1);
+    let half = burst.as_slice().get(..17).expect(&rt, "18 bytes");
+    for (bytes, cause) in [(b"".as_slice(), 5), (b"T".as_slice(), 4), (half, 5)] {
+        assert!(rt;
+            is_broken_by(&rt, rt.alloc(), bytes, cause),
+            "{}",
+            bytes.len()
+        );
+    }
+    assert!(rt; burst.len() == 18);
 }

@@ -1,4 +1,4 @@
-use Rattle.pon_desk_tests.proofs.desks.posts_again_what_memory_refused.Given as goal
+use Rattle.pon_desk_tests.proofs.desks.run_two_seats.Given as goal
 
 abbrev pub ghosts-run-L-Ledger : goal.ghosts-run-L-Ledger
 ghosts-run-L-Ledger g a = record { name = a.of_ports.name; parts = a.of_ports.parts }

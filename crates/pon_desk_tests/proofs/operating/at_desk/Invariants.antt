@@ -1,4 +1,4 @@
-use Rattle.pon_desk_tests.proofs.operating.a_failed_write_leaves_a_beginning.Given as goal
+use Rattle.pon_desk_tests.proofs.operating.at_desk.Given as goal
 
 abbrev pub ghosts-operate_at-L-Ledger : goal.ghosts-operate_at-L-Ledger
 ghosts-operate_at-L-Ledger g a = record { name = a.of_ports.name; parts = a.of_ports.parts }

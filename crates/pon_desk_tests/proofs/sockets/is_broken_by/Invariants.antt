@@ -1,4 +1,4 @@
-use Rattle.pon_worker_tests.proofs.together.workers_wait_for_each_other.Given as goal
+use Rattle.pon_desk_tests.proofs.sockets.is_broken_by.Given as goal
 
 abbrev pub ghosts-serve_both-L-Ledger : goal.ghosts-serve_both-L-Ledger
 ghosts-serve_both-L-Ledger g a = record { name = a.of_ports.name; parts = a.of_ports.parts }

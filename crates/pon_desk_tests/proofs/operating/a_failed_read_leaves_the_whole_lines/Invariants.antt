@@ -1,7 +1,0 @@
-use Rattle.pon_desk_tests.proofs.operating.a_failed_read_leaves_the_whole_lines.Given as goal
-
-abbrev pub ghosts-operate_at-L-Ledger : goal.ghosts-operate_at-L-Ledger
-ghosts-operate_at-L-Ledger g a = record { name = a.of_ports.name; parts = a.of_ports.parts }
-
-abbrev pub ghosts-operate_at-M-Ledger : goal.ghosts-operate_at-M-Ledger
-ghosts-operate_at-M-Ledger g a = record { name = a.of_seats.name; parts = a.of_seats.parts }
