@@ -2,15 +2,15 @@
 
 use pon_device::MemWrite;
 use pon_run::{RunArgs, run_ports};
-use pon_settings::settings;
+use pon_settings::{Settings, settings};
 use pon_units::PortNo;
 use pon_worker::{Gate, OpenGate, Point};
 use std::alloc::Global;
 use std::net::{Net, TcpListener, TcpStream};
+use std::process::Abort;
 use std::rt::Files;
 use std::sync::Wait;
 use std::sync::atomic::{AtomicU64, Ordering};
-use std::test::Fail;
 use std::thread;
 use std::thread::Threads;
 
@@ -48,29 +48,48 @@ impl Gate for Both {
     }
 }
 
-// Runs this number of such ports. Returns the exit status and the text that was written.
-fn ran<G, R>(
-    rt: &R,
-    alloc: Global,
-    ports: usize,
-    args: RunArgs<'_>,
-    gate: &G,
-) -> Result<(u8, MemWrite), Fail>
-where
-    G: Gate + Sync,
-    R: Net<Listener = TcpListener, Stream = TcpStream> + Files + Threads + Wait + Eprint + Sync,
-{
+// Returns the text of the settings of this number of such ports.
+fn text(rt: &impl Abort, alloc: Global, ports: usize) -> String {
     let mut text = String::new(alloc);
     for _port in 0..ports {
-        text.push_str(PORT)?;
+        text.push_str(PORT).expect(rt, "memory");
     }
-    let settings = match settings(alloc, text.as_str()) {
-        Ok(settings) => settings,
-        Err(_) => return Err(Fail::from("settings")),
-    };
+    text
+}
+
+fn read(rt: &impl Abort, alloc: Global, ports: usize) -> Settings {
+    settings(alloc, text(rt, alloc, ports).as_str())
+        .ok()
+        .expect(rt, "settings")
+}
+
+// Runs this number of such ports. Returns the exit status and the text that was written.
+fn ran<G, R>(rt: &R, alloc: Global, ports: usize, args: RunArgs<'_>, gate: &G) -> (u8, MemWrite)
+where
+    G: Gate + Sync,
+    R: Net<Listener = TcpListener, Stream = TcpStream>
+        + Files
+        + Threads
+        + Wait
+        + Eprint
+        + Sync
+        + Abort,
+{
+    let settings = read(rt, alloc, ports);
     let mut writer = MemWrite::new(alloc, 4096, Vec::new(alloc));
     let status = run_ports(rt, alloc, settings, args, gate, &mut writer);
-    Ok((status, writer))
+    (status, writer)
+}
+
+// Returns whether a run ended with this exit status and text.
+fn ended_with(run: (u8, MemWrite), status: u8, text: &str) -> bool {
+    let (found, writer) = run;
+    found == status && writer.bytes() == text.as_bytes()
+}
+
+fn ended_with_lines(run: (u8, MemWrite), count: usize) -> bool {
+    let (status, writer) = run;
+    status == 0 && writer.bytes().iter().filter(|byte| **byte == b'\n').count() == count
 }
 
 // Arguments of a run of this number of maps for each port, without an operator.
@@ -84,25 +103,20 @@ fn args(maps: u64) -> RunArgs<'static> {
 }
 
 #[test]
-fn runs_a_port_for_three_maps(rt: HostRuntime) -> Result<(), Fail> {
-    let (status, writer) = ran(&rt, rt.alloc(), 1, args(3), &OpenGate)?;
-    assert_eq!(rt; status, 0);
-    let line = "port 0 maps 3 entries 7 reports 3 dropped 0\n";
-    assert_eq!(rt; writer.bytes(), line.as_bytes());
-    Ok(())
+fn runs_a_port_for_three_maps(rt: HostRuntime) {
+    let run = ran(&rt, rt.alloc(), 1, args(3), &OpenGate);
+    assert!(rt; ended_with(run, 0, "port 0 maps 3 entries 7 reports 3 dropped 0\n"));
 }
 
 #[test]
-fn runs_two_ports_at_the_same_time(rt: HostRuntime) -> Result<(), Fail> {
+fn runs_two_ports_at_the_same_time(rt: HostRuntime) {
     let gate = Both {
         asked: [AtomicU64::new(0), AtomicU64::new(0)],
     };
-    let (status, writer) = ran(&rt, rt.alloc(), 2, args(1), &gate)?;
-    assert_eq!(rt; status, 0);
+    let run = ran(&rt, rt.alloc(), 2, args(1), &gate);
     let lines =
         "port 0 maps 1 entries 3 reports 1 dropped 0\nport 1 maps 1 entries 3 reports 1 dropped 0\n";
-    assert_eq!(rt; writer.bytes(), lines.as_bytes());
-    Ok(())
+    assert!(rt; ended_with(run, 0, lines));
 }
 
 // A gate that lets no worker pass.
@@ -115,47 +129,41 @@ impl Gate for Shut {
 }
 
 #[test]
-fn tells_that_a_worker_ended_early(rt: HostRuntime) -> Result<(), Fail> {
-    let (status, writer) = ran(&rt, rt.alloc(), 1, args(3), &Shut)?;
-    assert_eq!(rt; status, 3);
-    let line = "port 0 maps 1 entries 2 reports 0 dropped 0\n";
-    assert_eq!(rt; writer.bytes(), line.as_bytes());
-    Ok(())
+fn tells_that_a_worker_ended_early(rt: HostRuntime) {
+    let run = ran(&rt, rt.alloc(), 1, args(3), &Shut);
+    assert!(rt; ended_with(run, 3, "port 0 maps 1 entries 2 reports 0 dropped 0\n"));
 }
 
-#[test]
-fn refuses_what_cannot_be_opened(rt: HostRuntime) -> Result<(), Fail> {
-    for listen in ["nowhere", "127.0.0.1", "127.0.0.1:65536", "192.0.2.1:0"] {
-        let (status, writer) = ran(&rt, rt.alloc(), 1, RunArgs { listen, ..args(1) }, &OpenGate)?;
-        assert_eq!(rt; status, 3, "{listen}");
-        assert!(rt; writer.bytes().is_empty());
-    }
-    let operate = Some("no/such/file");
-    let (status, writer) = ran(
-        &rt,
-        rt.alloc(),
-        1,
-        RunArgs { operate, ..args(1) },
-        &OpenGate,
-    )?;
-    assert_eq!(rt; status, 3);
-    assert!(rt; writer.bytes().is_empty());
-    let record = Some("no/such/file");
-    let (status, writer) = ran(&rt, rt.alloc(), 1, RunArgs { record, ..args(1) }, &OpenGate)?;
-    assert_eq!(rt; status, 3);
-    assert!(rt; writer.bytes().is_empty());
-    Ok(())
-}
+// An address, and the paths of an operator and of a recording, one of which cannot be opened.
+static ABSENT: [(&str, Option<&str>, Option<&str>); 6] = [
+    ("nowhere", None, None),
+    ("127.0.0.1", None, None),
+    ("127.0.0.1:65536", None, None),
+    ("192.0.2.1:0", None, None),
+    (HERE, Some("no/such/file"), None),
+    (HERE, None, Some("no/such/file")),
+];
 
 #[test]
-fn runs_64_ports_again_and_again(rt: HostRuntime) -> Result<(), Fail> {
-    for _run in 0..20 {
-        let (status, writer) = ran(&rt, rt.alloc(), 64, args(2), &OpenGate)?;
-        assert_eq!(rt; status, 0);
-        assert_eq!(rt;
-            writer.bytes().iter().filter(|byte| **byte == b'\n').count(),
-            64
+fn refuses_what_cannot_be_opened(rt: HostRuntime) {
+    for (k, (listen, operate, record)) in ABSENT.iter().enumerate() {
+        let args = RunArgs {
+            listen,
+            maps: 1,
+            operate: *operate,
+            record: *record,
+        };
+        assert!(rt;
+            ended_with(ran(&rt, rt.alloc(), 1, args, &OpenGate), 3, ""),
+            "row {k}"
         );
     }
-    Ok(())
+}
+
+#[test]
+fn runs_64_ports_again_and_again(rt: HostRuntime) {
+    for k in 0..20 {
+        let run = ran(&rt, rt.alloc(), 64, args(2), &OpenGate);
+        assert!(rt; ended_with_lines(run, 64), "run {k}");
+    }
 }
