@@ -36,7 +36,7 @@ pub(crate) fn cfg(rt: &impl Abort, gap: u16, first: u64) -> (PortCfg, FrameNo) {
 }
 
 /// Makes an admission of Alloc-ID 1024.
-pub(crate) fn admission_of(rt: &impl Abort, descriptor: Descriptor) -> Event {
+fn admission_of(rt: &impl Abort, descriptor: Descriptor) -> Event {
     Event::Admit {
         onu: onu(rt),
         alloc_id: id(rt),
@@ -51,13 +51,39 @@ pub(crate) fn admission(rt: &impl Abort) -> Event {
 }
 
 /// Makes a report of 100 words for the map of a frame.
-pub(crate) fn report(rt: &impl Abort, frame: u64) -> Event {
+fn report(rt: &impl Abort, frame: u64) -> Event {
     let mut occ = Occupancies::new();
     occ.push(BufOcc::new(100));
     Event::Report {
         frame: FrameNo::new(frame),
         onu: onu(rt),
         occ,
+    }
+}
+
+/// Makes a descriptor with this fixed rate and a maximum rate of 100 words a frame, of the best-effort class.
+fn descriptor(rt: &impl Abort, fixed: u64) -> Descriptor {
+    Descriptor::new(fixed, 0, 25_600, Class::BestEffort).expect(rt, "a descriptor")
+}
+
+/// The number of events: all seven kinds, each accepted after those before it, if the report is for the port's first frame.
+pub(crate) const EVENTS: u8 = 8;
+
+/// Makes the k-th event.
+pub(crate) fn event(rt: &impl Abort, first: u64, k: u8) -> Event {
+    match k {
+        0 => admission_of(rt, descriptor(rt, 2560)),
+        1 | 4 => Event::MakeMap,
+        2 => report(rt, first),
+        3 => Event::Change {
+            alloc_id: id(rt),
+            descriptor: descriptor(rt, 5120),
+        },
+        5 => Event::Fail {
+            cause: cause(rt, 4),
+        },
+        6 => Event::Restore,
+        _ => Event::Remove { alloc_id: id(rt) },
     }
 }
 

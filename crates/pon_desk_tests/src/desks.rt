@@ -2,8 +2,8 @@
 //! frame 7.
 ghost use Rattle.std.specs.Prelude.{◌≡◌, ◌<◌, length};
 
-use crate::bench::{admission_of, cause, cfg, close, each_took, id, number, put, report, seat};
-use pon_descr::{Class, Descriptor, Refusal};
+use crate::bench::{EVENTS, cause, cfg, close, each_took, event, id, number, put, seat};
+use pon_descr::Refusal;
 use pon_desk::{CloseFault, Closed, Desk, PlantFault, PortView, Receipt, Seat, StepFault};
 use pon_event::Event;
 use pon_port::{Entry, Port, PortCfg, Reply};
@@ -18,31 +18,6 @@ use std::thread::Threads;
 
 // Gap and first frame of each port.
 const PORTS: [(u16, u64); 2] = [(16, 0), (32, 7)];
-
-// Makes a descriptor with this fixed rate and a maximum rate of 100 words a frame, of the best-effort class.
-fn descriptor(rt: &impl Abort, fixed: u64) -> Descriptor {
-    Descriptor::new(fixed, 0, 25_600, Class::BestEffort).expect(rt, "a descriptor")
-}
-
-// Number of events: all seven kinds, each accepted after those before it, if the report is for the port's first frame.
-const EVENTS: u8 = 8;
-
-fn event(rt: &impl Abort, first: u64, k: u8) -> Event {
-    match k {
-        0 => admission_of(rt, descriptor(rt, 2560)),
-        1 | 4 => Event::MakeMap,
-        2 => report(rt, first),
-        3 => Event::Change {
-            alloc_id: id(rt),
-            descriptor: descriptor(rt, 5120),
-        },
-        5 => Event::Fail {
-            cause: cause(rt, 4),
-        },
-        6 => Event::Restore,
-        _ => Event::Remove { alloc_id: id(rt) },
-    }
-}
 
 fn open<L: Ledger, M: Ledger>(
     rt: &impl Abort,
