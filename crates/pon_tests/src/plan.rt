@@ -4,8 +4,8 @@ use pon_device::{MemRead, MemWrite};
 use pon_manage::{PlanEnd, PlanFault, plan};
 use pon_port::PortCfg;
 use pon_units::{FrameNo, Gap, Profile};
-use std::alloc::Global;
-use std::test::Fail;
+use std::alloc::{AllocError, Global};
+use std::process::Abort;
 
 mod ports;
 
@@ -20,45 +20,72 @@ struct Answered {
     text: Vec<u8>,
 }
 
+// How an input is read and its text written: the most bytes in a call, and the calls that fail.
+#[derive(Clone, Copy)]
+struct Devices<'a> {
+    most: usize,
+    reads: &'a [u64],
+    writes: &'a [u64],
+}
+
+// Devices that read and write at most this number of bytes in a call, and do not fail.
+fn sound(most: usize) -> Devices<'static>
+    requires { 0 < most }
+    ensures { 0 < result.most }
+{
+    Devices {
+        most,
+        reads: &[],
+        writes: &[],
+    }
+}
+
 fn port(gap: u16) -> Option<(PortCfg, FrameNo)> {
     let gap = Gap::new(gap)?;
     let profile = Profile::new(0)?;
     Some((PortCfg { gap, profile }, FrameNo::new(0)))
 }
 
-// Runs `plan` over devices that give and take at most `most` bytes in a call, and fail in the given calls. `None` if
-// memory is refused to the test itself.
-fn run(alloc: Global, input: &[u8], most: usize, reads: &[u64], writes: &[u64]) -> Option<Answered>
-    requires { 0 < most }
+fn reader(alloc: Global, input: &[u8], devices: &Devices<'_>) -> Option<MemRead>
+    requires { 0 < devices.now.most }
 {
-    run_at(alloc, 16, input, most, reads, writes)
+    let bytes = input.to_vec(alloc).ok()?;
+    Some(MemRead::new(bytes, devices.most, devices.reads.to_vec(alloc).ok()?))
 }
 
-// Runs `plan` at a port with this gap.
-fn run_at(
-    alloc: Global,
-    gap: u16,
-    input: &[u8],
-    most: usize,
-    reads: &[u64],
-    writes: &[u64],
-) -> Option<Answered>
-    requires { 0 < most }
+fn writer(alloc: Global, devices: &Devices<'_>) -> Option<MemWrite>
+    requires { 0 < devices.now.most }
+{
+    Some(MemWrite::new(alloc, devices.most, devices.writes.to_vec(alloc).ok()?))
+}
+
+// Runs `plan` at a port with this gap. `None` if memory is refused to the test itself.
+fn run(alloc: Global, gap: u16, input: &[u8], devices: Devices<'_>) -> Option<Answered>
+    requires { 0 < devices.most }
 {
     let ports = [port(gap)?];
-    let bytes = input.to_vec(alloc).ok()?;
-    let mut reader = MemRead::new(bytes, most, reads.to_vec(alloc).ok()?);
-    let mut writer = MemWrite::new(alloc, most, writes.to_vec(alloc).ok()?);
-    let result = plan(
-        &(),
-        alloc,
-        &ports,
-        Vec::new(alloc),
-        &mut reader,
-        &mut writer,
-    );
+    let mut reader = reader(alloc, input, &devices)?;
+    let mut writer = writer(alloc, &devices)?;
+    let steps = Vec::new(alloc);
+    let result = plan(&(), alloc, &ports, steps, &mut reader, &mut writer);
     let text = writer.bytes().to_vec(alloc).ok()?;
     Some(Answered { result, text })
+}
+
+// Returns whether the run was not refused memory, and ended with this result and text.
+fn ends_with(run: Option<Answered>, wanted: Result<PlanEnd, PlanFault>, text: &[u8]) -> bool {
+    match run {
+        None => false,
+        Some(run) => run.result == wanted && run.text.as_slice() == text,
+    }
+}
+
+// Returns whether the run reached the end of its input, and ended its text with this.
+fn ends_by(run: Option<Answered>, text: &[u8]) -> bool {
+    match run {
+        None => false,
+        Some(run) => run.result == Ok(PlanEnd) && run.text.ends_with(text),
+    }
 }
 
 static WORKED: [(&[u8], &[u8]); 33] = [
@@ -170,19 +197,20 @@ static WORKED: [(&[u8], &[u8]); 33] = [
 ];
 
 #[test]
-fn worked_lines_in_pieces(rt: HostRuntime) -> Result<(), Fail> {
+fn worked_lines_in_pieces(rt: HostRuntime) {
     for most in [1usize, 5, 4096] {
-        for (input, text) in WORKED.iter() {
-            let run = run(rt.alloc(), input, most.max(1), &[], &[]).ok_or("memory")?;
-            assert_eq!(rt; run.result, Ok(PlanEnd));
-            assert_eq!(rt; run.text.as_slice(), *text);
+        for (k, (input, text)) in WORKED.iter().enumerate() {
+            let run = run(rt.alloc(), 16, input, sound(most.max(1)));
+            assert!(rt;
+                ends_with(run, Ok(PlanEnd), text),
+                "row {k} in pieces of {most}"
+            );
         }
     }
-    Ok(())
 }
 
-// Returns admissions with all rates 0, with the same number of Alloc-IDs for each ONU.
-fn admissions(alloc: Global, count: u16, of_an_onu: u16) -> Result<Vec<u8>, Fail>
+// Adds admissions with all rates 0, with the same number of Alloc-IDs for each ONU.
+fn admissions(alloc: Global, count: u16, of_an_onu: u16) -> Result<Vec<u8>, AllocError>
     requires some { 0 < of_an_onu }
     requires few { count ≤ 256 }
 {
@@ -198,117 +226,119 @@ fn admissions(alloc: Global, count: u16, of_an_onu: u16) -> Result<Vec<u8>, Fail
 
 // The last admission is the first refused one.
 #[test]
-fn the_limits_of_a_port(rt: HostRuntime) -> Result<(), Fail> {
+fn the_limits_of_a_port(rt: HostRuntime) {
     for (gap, count, of_an_onu, text) in [
         (16, 17, 17u16, b"ok 15\nerr E11 SeriesFull\n".as_slice()),
         (16, 129, 1, b"ok 127\nerr E10 TooManyOnus\n"),
         (256, 38, 1, b"ok 36\nerr E12 Capacity\n"),
     ] {
-        let input = admissions(rt.alloc(), count, of_an_onu)?;
-        let run = run_at(rt.alloc(), gap, &input, 4096, &[], &[]).ok_or("memory")?;
-        assert_eq!(rt; run.result, Ok(PlanEnd));
-        assert!(rt; run.text.ends_with(text));
+        let input = admissions(rt.alloc(), count, of_an_onu).expect(&rt, "memory");
+        let run = run(rt.alloc(), gap, &input, sound(4096));
+        assert!(rt; ends_by(run, text), "{count}");
     }
-    Ok(())
+}
+
+// Adds a line this number of times.
+fn repeat(rt: &impl Abort, input: &mut Vec<u8>, line: &[u8], times: usize) {
+    for _ in 0..times {
+        input.extend_from_slice(line).expect(rt, "memory");
+    }
 }
 
 // Maps whose text does not fit the buffer of replies equal those of an input that is read byte by byte.
 #[test]
-fn full_room_for_replies_is_written(rt: HostRuntime) -> Result<(), Fail> {
-    let mut input = admissions(rt.alloc(), 256, 16)?;
-    for _ in 0..40 {
-        input.extend_from_slice(b"0 map\n")?;
-    }
-    let by_byte = run(rt.alloc(), &input, 1, &[], &[]).ok_or("memory")?;
-    let at_once = run(rt.alloc(), &input, 65_536, &[], &[]).ok_or("memory")?;
-    assert_eq!(rt; by_byte.result, Ok(PlanEnd));
-    assert_eq!(rt; at_once.result, Ok(PlanEnd));
-    assert!(rt; by_byte.text.len() > 2 * 65_536);
-    assert_eq!(rt; at_once.text.as_slice(), by_byte.text.as_slice());
-    Ok(())
+fn full_room_for_replies_is_written(rt: HostRuntime) {
+    let mut input = admissions(rt.alloc(), 256, 16).expect(&rt, "memory");
+    repeat(&rt, &mut input, b"0 map\n", 40);
+    let by_byte = run(rt.alloc(), 16, &input, sound(1)).expect(&rt, "memory");
+    let at_once = run(rt.alloc(), 16, &input, sound(65_536));
+    assert!(rt; by_byte.result == Ok(PlanEnd) && by_byte.text.len() > 2 * 65_536);
+    assert!(rt; ends_with(at_once, Ok(PlanEnd), &by_byte.text));
 }
 
-// Returns a line of this number of bytes, a comment if it is not too long, and then a map.
-fn long_line(alloc: Global, bytes: usize) -> Result<Vec<u8>, Fail> {
-    let mut input = vec![in alloc; b'#'; bytes]?;
-    input.extend_from_slice(b"\n0 map\n")?;
-    Ok(input)
+// Runs a comment of this number of bytes, and then a map.
+fn run_long_line(rt: &impl Abort, alloc: Global, bytes: usize) -> Option<Answered> {
+    let mut input = vec![in alloc; b'#'; bytes].expect(rt, "memory");
+    repeat(rt, &mut input, b"\n0 map\n", 1);
+    run(alloc, 16, &input, sound(4096))
 }
 
 #[test]
-fn long_lines_are_skipped(rt: HostRuntime) -> Result<(), Fail> {
-    let longest = long_line(rt.alloc(), 4096)?;
-    let run_longest = run(rt.alloc(), &longest, 4096, &[], &[]).ok_or("memory")?;
-    assert_eq!(rt; run_longest.text.as_slice(), b"map 0 00000000\n".as_slice());
-    for bytes in [4097usize, 5000, 20_000] {
-        let input = long_line(rt.alloc(), bytes)?;
-        let run = run(rt.alloc(), &input, 4096, &[], &[]).ok_or("memory")?;
-        assert_eq!(rt;
-            run.text.as_slice(),
-            b"err L6 LineLong\nmap 0 00000000\n".as_slice()
-        );
+fn long_lines_are_skipped(rt: HostRuntime) {
+    for (bytes, text) in [
+        (4096usize, b"map 0 00000000\n".as_slice()),
+        (4097, b"err L6 LineLong\nmap 0 00000000\n"),
+        (5000, b"err L6 LineLong\nmap 0 00000000\n"),
+        (20_000, b"err L6 LineLong\nmap 0 00000000\n"),
+    ] {
+        let run = run_long_line(&rt, rt.alloc(), bytes);
+        assert!(rt; ends_with(run, Ok(PlanEnd), text), "{bytes}");
     }
-    Ok(())
+}
+
+// The text of the lines of `FIRST_MAP` that are read whole if call k fails.
+fn text_before(call: u64) -> &'static [u8] {
+    match call {
+        0..=31 => b"",
+        32..=37 => b"ok 0\n",
+        _ => FIRST_TEXT,
+    }
 }
 
 // The reader gives one byte in a call: call k fails after k bytes.
 #[test]
-fn a_failed_read_leaves_the_whole_lines(rt: HostRuntime) -> Result<(), Fail> {
+fn a_failed_read_leaves_the_whole_lines(rt: HostRuntime) {
     for call in 0..39u64 {
-        let run = run(rt.alloc(), FIRST_MAP, 1, &[call], &[]).ok_or("memory")?;
-        let text: &[u8] = if call < 32 {
-            b""
-        } else if call < 38 {
-            b"ok 0\n"
-        } else {
-            FIRST_TEXT
+        let devices = Devices {
+            reads: &[call],
+            ..sound(1)
         };
-        assert_eq!(rt; run.result, Err(PlanFault::Read));
-        assert_eq!(rt; run.text.as_slice(), text);
+        let run = run(rt.alloc(), 16, FIRST_MAP, devices);
+        assert!(rt;
+            ends_with(run, Err(PlanFault::Read), text_before(call)),
+            "{call}"
+        );
     }
-    Ok(())
 }
 
 // The writer takes one byte in a call: call b fails after b bytes, and call 36 is the flush.
 #[test]
-fn a_failed_write_leaves_a_beginning(rt: HostRuntime) -> Result<(), Fail> {
-    assert_eq!(rt; FIRST_TEXT.len(), 36);
-    for call in 0..37u64 {
-        let run = run(rt.alloc(), FIRST_MAP, 1, &[], &[call]).ok_or("memory")?;
-        assert_eq!(rt; run.result, Err(PlanFault::Write));
-        assert_eq!(rt; run.text.len() as u64, call);
-        assert!(rt; FIRST_TEXT.starts_with(run.text.as_slice()));
+fn a_failed_write_leaves_a_beginning(rt: HostRuntime) {
+    for call in 0..37usize {
+        let devices = Devices {
+            writes: &[call as u64],
+            ..sound(1)
+        };
+        let run = run(rt.alloc(), 16, FIRST_MAP, devices);
+        let text = FIRST_TEXT.get(..call).expect(&rt, "36 bytes");
+        assert!(rt; ends_with(run, Err(PlanFault::Write), text), "{call}");
     }
-    Ok(())
+    assert!(rt; FIRST_TEXT.len() == 36);
+}
+
+// Returns whether the text is that of the result: a beginning if memory was refused.
+fn is_beginning(run: Option<Answered>) -> bool {
+    let Some(run) = run else {
+        return true;
+    };
+    match run.result {
+        Ok(PlanEnd) => run.text.as_slice() == FIRST_TEXT,
+        Err(PlanFault::Read) => false,
+        Err(_) => FIRST_TEXT.starts_with(run.text.as_slice()),
+    }
 }
 
 // With each allocation refused in turn, a prefix of the text is written, and no refusal is printed for it.
 #[test]
-fn refused_memory_leaves_a_beginning(rt: HostRuntime) -> Result<(), Fail> {
-    let Some(run) = run(rt.alloc(), FIRST_MAP, 4096, &[], &[]) else {
-        return Ok(());
-    };
-    match run.result {
-        Ok(PlanEnd) => assert_eq!(rt; run.text.as_slice(), FIRST_TEXT),
-        Err(PlanFault::Read) => assert!(rt; false, "no read failed"),
-        Err(_) => assert!(rt; FIRST_TEXT.starts_with(run.text.as_slice())),
-    }
-    Ok(())
+fn refused_memory_leaves_a_beginning(rt: HostRuntime) {
+    assert!(rt; is_beginning(run(rt.alloc(), 16, FIRST_MAP, sound(4096))));
 }
 
 // A full port refuses, and is unchanged.
 #[test]
-fn a_full_chapter_is_told(rt: HostRuntime) -> Result<(), Fail> {
-    let maps = 65_537usize;
+fn a_full_chapter_is_told(rt: HostRuntime) {
     let mut input = Vec::new(rt.alloc());
-    for _ in 0..maps {
-        input.extend_from_slice(b"0 map\n")?;
-    }
-    let run = run(rt.alloc(), &input, 4096, &[], &[]).ok_or("memory")?;
-    assert_eq!(rt; run.result, Ok(PlanEnd));
-    assert!(rt;
-        run.text
-            .ends_with(b"map 65535 00000000\nerr E20 ChapterFull\n")
-    );
-    Ok(())
+    repeat(&rt, &mut input, b"0 map\n", 65_537);
+    let run = run(rt.alloc(), 16, &input, sound(4096));
+    assert!(rt; ends_by(run, b"map 65535 00000000\nerr E20 ChapterFull\n"));
 }

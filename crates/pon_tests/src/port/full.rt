@@ -2,10 +2,14 @@
 // expected map is computed here from descriptors and reports alone; the checker judges its certificate.
 
 use super::*;
+use crate::acts::{id, onu};
 use pon_cert::{Item, Level, MapCert, is_problem};
 use pon_check::check_map;
 use pon_dbru::Occupancies;
+use pon_descr::{Class, Descriptor};
+use pon_event::Event;
 use pon_units::BufOcc;
+use std::slice;
 
 const LINE: u64 = 2_488_320;
 
@@ -75,14 +79,18 @@ fn buffers(rt: &impl Abort, alloc: Global) -> Vec<Buffer> {
     all
 }
 
+fn take_event(rt: &impl Abort, port: &mut Port, event: Event) {
+    assert!(rt; port.take(event) == Ok(Reply::Taken), "taken");
+}
+
 fn admit(rt: &impl Abort, port: &mut Port, buffer: &Buffer) {
     let descriptor = Descriptor::new(buffer.fixed, buffer.assured, buffer.max, buffer.class);
     let event = Event::Admit {
-        onu: OnuId::new(buffer.onu).expect(rt, "an ONU-ID"),
+        onu: onu(rt, buffer.onu),
         alloc_id: id(rt, buffer.alloc_id),
         descriptor: descriptor.expect(rt, "a descriptor"),
     };
-    take(rt, port, event);
+    take_event(rt, port, event);
 }
 
 fn items(rt: &impl Abort, alloc: Global, buffers: &[Buffer], class: Class) -> Vec<Item> {
@@ -99,13 +107,20 @@ fn items(rt: &impl Abort, alloc: Global, buffers: &[Buffer], class: Class) -> Ve
 fn assert_certified(rt: &impl Abort, alloc: Global, buffers: &[Buffer], cert: &MapCert) {
     let na = items(rt, alloc, buffers, Class::NonAssured);
     let be = items(rt, alloc, buffers, Class::BestEffort);
+    let surplus = surplus(buffers);
+    assert!(rt; is_certified(na.as_slice(), be.as_slice(), surplus, cert));
+}
+
+fn surplus(buffers: &[Buffer]) -> u64 {
     let mut surplus = CAPACITY;
     for buffer in buffers {
         surplus = surplus.wrapping_sub(buffer.guaranteed());
     }
-    assert!(rt; is_problem(na.as_slice(), surplus));
-    assert!(rt; is_problem(be.as_slice(), surplus));
-    assert!(rt; check_map(na.as_slice(), be.as_slice(), surplus, cert).is_ok());
+    surplus
+}
+
+fn is_certified(na: &[Item], be: &[Item], surplus: u64, cert: &MapCert) -> bool {
+    is_problem(na, surplus) && is_problem(be, surplus) && check_map(na, be, surplus, cert).is_ok()
 }
 
 fn rate(item: &Item, level: &Level, saturated: bool) -> u64 {
@@ -116,6 +131,16 @@ fn rate(item: &Item, level: &Level, saturated: bool) -> u64 {
     }
 }
 
+// Returns the surplus of the next Alloc-ID of a class.
+fn next_rate(
+    rt: &impl Abort,
+    item: &Item,
+    level: &Level,
+    flags: &mut slice::Iter<'_, bool>,
+) -> u64 {
+    rate(item, level, *flags.next().expect(rt, "a flag"))
+}
+
 // Returns the payload words of each Alloc-ID.
 fn words(rt: &impl Abort, alloc: Global, buffers: &[Buffer], cert: &MapCert) -> Vec<u64> {
     let mut na = cert.na.saturated.as_slice().iter();
@@ -124,27 +149,27 @@ fn words(rt: &impl Abort, alloc: Global, buffers: &[Buffer], cert: &MapCert) -> 
     for buffer in buffers {
         let surplus = match buffer.class {
             Class::Plain => 0,
-            Class::NonAssured => rate(
-                &buffer.item(),
-                &cert.na.level,
-                *na.next().expect(rt, "a flag"),
-            ),
-            Class::BestEffort => rate(
-                &buffer.item(),
-                &cert.be.level,
-                *be.next().expect(rt, "a flag"),
-            ),
+            Class::NonAssured => next_rate(rt, &buffer.item(), &cert.na.level, &mut na),
+            Class::BestEffort => next_rate(rt, &buffer.item(), &cert.be.level, &mut be),
         };
-        words
-            .push(buffer.guaranteed().wrapping_add(surplus) / 256)
-            .expect(rt, "memory");
+        let granted = buffer.guaranteed().wrapping_add(surplus) / 256;
+        words.push(granted).expect(rt, "memory");
     }
     words
 }
 
+// Returns whether a structure is that of the Alloc-ID, with this start and these words of payload.
+fn is_row(row: &Alloc, buffer: &Buffer, start: Option<u64>, words: u64) -> bool {
+    row.start().map(u64::from) == start
+        && row.id() == buffer.alloc_id
+        && u64::from(row.grant()) == words.wrapping_add(1)
+        && row.dbru()
+        && !row.ploam()
+        && row.profile() == 0
+}
+
 // Expects a structure for each Alloc-ID and a burst for each ONU: header, grants and trailer, after a gap of 16 words.
 fn assert_rows(rt: &impl Abort, rows: &[Alloc], buffers: &[Buffer], words: &[u64]) {
-    assert_eq!(rt; rows.len(), buffers.len());
     let mut at = 0u64;
     let mut before = None;
     for ((row, buffer), words) in rows.iter().zip(buffers.iter()).zip(words.iter()) {
@@ -153,10 +178,7 @@ fn assert_rows(rt: &impl Abort, rows: &[Alloc], buffers: &[Buffer], words: &[u64
             at = at.wrapping_add(16);
         }
         let start = if is_first { Some(at) } else { None };
-        assert_eq!(rt; row.start().map(u64::from), start);
-        assert_eq!(rt; row.id(), buffer.alloc_id);
-        assert_eq!(rt; u64::from(row.grant()), words.wrapping_add(1));
-        assert!(rt; row.dbru() && !row.ploam() && row.profile() == 0);
+        assert!(rt; is_row(row, buffer, start, *words), "{}", buffer.alloc_id);
         let header = if is_first { 1 } else { 0 };
         let trailer = if buffer.alloc_id % 16 == 15 { 1 } else { 0 };
         at = at
@@ -164,7 +186,7 @@ fn assert_rows(rt: &impl Abort, rows: &[Alloc], buffers: &[Buffer], words: &[u64
             .wrapping_add(u64::from(row.grant()));
         before = Some(buffer.onu);
     }
-    assert!(rt; at <= 9720);
+    assert!(rt; rows.len() == buffers.len() && at <= 9720);
 }
 
 // Returns the number of words that wait at an Alloc-ID, 0 to 1999.
@@ -176,45 +198,62 @@ fn waiting(alloc_id: u16, frame: u64) -> u64 {
         % 2000
 }
 
-// Reports for each ONU the words that wait at its Alloc-IDs, for the map of a frame that granted these words.
-fn report(rt: &impl Abort, port: &mut Port, frame: u64, buffers: &mut [Buffer], words: &[u64]) {
+// Makes the report of an ONU for a frame: the words that wait at each of its Alloc-IDs.
+fn report_of(rt: &impl Abort, frame: u64, unit: u16, buffers: &[Buffer]) -> Event {
     let mut occ = Occupancies::new();
-    for (buffer, words) in buffers.iter_mut().zip(words.iter()) {
-        let wait = waiting(buffer.alloc_id, frame);
-        buffer.left = wait.saturating_sub(*words);
-        assert!(rt; occ.as_slice().len() < 16);
-        occ.push(BufOcc::new(wait.min(1999) as u32));
-        if buffer.alloc_id % 16 == 15 {
-            let onu = OnuId::new(buffer.onu).expect(rt, "an ONU-ID");
-            let frame = FrameNo::new(frame);
-            take(rt, port, Event::Report { frame, onu, occ });
-            occ = Occupancies::new();
+    for buffer in buffers {
+        if buffer.onu == unit {
+            assert!(rt; occ.as_slice().len() < 16);
+            occ.push(BufOcc::new(waiting(buffer.alloc_id, frame).min(1999) as u32));
         }
     }
+    Event::Report {
+        frame: FrameNo::new(frame),
+        onu: onu(rt, unit),
+        occ,
+    }
+}
+
+// Reports for each ONU the words that wait at its Alloc-IDs, for the map of a frame that granted these words.
+fn report(rt: &impl Abort, port: &mut Port, frame: u64, buffers: &mut [Buffer], words: &[u64]) {
+    for (buffer, words) in buffers.iter_mut().zip(words.iter()) {
+        buffer.left = waiting(buffer.alloc_id, frame).saturating_sub(*words);
+    }
+    for unit in 0..16 {
+        take_event(rt, port, report_of(rt, frame, unit, buffers));
+    }
+}
+
+// Makes the map of a frame, checks it, and reports what is left after it.
+fn map_and_report(
+    rt: &impl Abort,
+    alloc: Global,
+    port: &mut Port,
+    frame: u64,
+    buffers: &mut [Buffer],
+) {
+    let made = made_map(rt, port);
+    assert_certified(rt, alloc, buffers, &made.cert);
+    // From the first report on, best effort requests more than is left for it.
+    let shares = matches!(made.cert.be.level, Level::At(_));
+    assert!(rt;
+        made.frame.get() == frame && shares == (frame > 0),
+        "{frame}"
+    );
+    let words = words(rt, alloc, buffers, &made.cert);
+    assert_rows(rt, made.map.rows(), buffers, words.as_slice());
+    report(rt, port, frame, buffers, words.as_slice());
 }
 
 #[test]
 fn maps_a_full_port_under_load(rt: HostRuntime) {
-    let mut port = open(&rt, rt.alloc(), 0);
+    let mut port = open(&rt, rt.alloc(), 16, 0);
     let mut buffers = buffers(&rt, rt.alloc());
     for buffer in &buffers {
         admit(&rt, &mut port, buffer);
     }
     for frame in 0..6 {
-        let made = made_map(&rt, &mut port);
-        assert_eq!(rt; made.frame.get(), frame);
-        assert_certified(&rt, rt.alloc(), buffers.as_slice(), &made.cert);
-        // From the first report on, best effort requests more than is left for it.
-        assert_eq!(rt; matches!(made.cert.be.level, Level::At(_)), frame > 0);
-        let words = words(&rt, rt.alloc(), buffers.as_slice(), &made.cert);
-        assert_rows(&rt, made.map.rows(), buffers.as_slice(), words.as_slice());
-        report(
-            &rt,
-            &mut port,
-            frame,
-            buffers.as_mut_slice(),
-            words.as_slice(),
-        );
+        map_and_report(&rt, rt.alloc(), &mut port, frame, buffers.as_mut_slice());
     }
-    assert_eq!(rt; port.history().len(), 256 + 6 * 17);
+    assert!(rt; port.history().len() == 256 + 6 * 17);
 }
