@@ -1,6 +1,7 @@
 //! A recording, and recordings written as hexadecimal digits.
 
 use std::alloc::{AllocError, Global};
+use std::process::Abort;
 
 /// Port 0 with a gap of 16 words: an Alloc-ID of 2,560 kbit/s, three maps of one structure each, a report for each.
 pub(crate) const RECORDING: &str = "
@@ -26,5 +27,18 @@ pub(crate) fn bytes_of(alloc: Global, text: &str) -> Result<Vec<u8>, AllocError>
     match hex::decode(alloc, digits) {
         Ok(bytes) => Ok(bytes),
         Err(_) => Err(AllocError),
+    }
+}
+
+/// Decodes such pairs with ample memory.
+pub(crate) fn bytes(rt: &impl Abort, alloc: Global, text: &str) -> Vec<u8> {
+    bytes_of(alloc, text).expect(rt, "memory")
+}
+
+/// Decodes such pairs, a second time if memory was refused.
+pub(crate) fn bytes_again(rt: &impl Abort, alloc: Global, text: &str) -> Vec<u8> {
+    match bytes_of(alloc, text) {
+        Ok(bytes) => bytes,
+        Err(_) => bytes(rt, alloc, text),
     }
 }

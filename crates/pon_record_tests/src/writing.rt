@@ -1,5 +1,6 @@
 //! Recordings on devices over memory, with ample memory.
-use crate::recordings::{RECORDING, bytes_of};
+
+use crate::recordings::{RECORDING, bytes, bytes_again};
 use pon_dbru::Occupancies;
 use pon_descr::{Class, Descriptor};
 use pon_device::MemWrite;
@@ -8,9 +9,8 @@ use pon_port::{Chapter, Port, PortCfg};
 use pon_record::{MAGIC, read_recording};
 use pon_recorder::{RecordFault, RecordFile};
 use pon_units::{AllocId, BufOcc, FrameNo, Gap, OnuId, PortNo, Profile};
-use std::alloc::{AllocError, Global};
+use std::alloc::Global;
 use std::process::Abort;
-use std::test::Fail;
 
 // Port 63 just opened, with a gap of 256 words, profile 3 and 7 as its first frame.
 const EMPTY_CHAPTER: &str = "
@@ -21,10 +21,15 @@ fn number(rt: &impl Abort, port: u8) -> PortNo {
     PortNo::new(port).expect(rt, "a port")
 }
 
+fn cfg(rt: &impl Abort, gap: u16, profile: u8) -> PortCfg {
+    PortCfg {
+        gap: Gap::new(gap).expect(rt, "a gap"),
+        profile: Profile::new(profile).expect(rt, "a profile"),
+    }
+}
+
 fn open_port(rt: &impl Abort, alloc: Global, gap: u16, profile: u8, first: u64) -> Port {
-    let gap = Gap::new(gap).expect(rt, "a gap");
-    let profile = Profile::new(profile).expect(rt, "a profile");
-    Port::open(alloc, PortCfg { gap, profile }, FrameNo::new(first)).expect(rt, "memory")
+    Port::open(alloc, cfg(rt, gap, profile), FrameNo::new(first)).expect(rt, "memory")
 }
 
 fn admission(rt: &impl Abort) -> Event {
@@ -47,12 +52,16 @@ fn report(rt: &impl Abort, frame: u64) -> Event {
     }
 }
 
+fn take(rt: &impl Abort, port: &mut Port, event: Event) {
+    assert!(rt; port.take(event).is_ok(), "taken");
+}
+
 fn chapter_of(rt: &impl Abort, alloc: Global) -> Chapter {
     let mut port = open_port(rt, alloc, 16, 0, 0);
-    let _taken = port.take(admission(rt)).expect(rt, "taken");
+    take(rt, &mut port, admission(rt));
     for frame in 0..3u64 {
-        let _map = port.take(Event::MakeMap).expect(rt, "a map");
-        let _taken = port.take(report(rt, frame)).expect(rt, "taken");
+        take(rt, &mut port, Event::MakeMap);
+        take(rt, &mut port, report(rt, frame));
     }
     port.into_chapter()
 }
@@ -64,115 +73,161 @@ fn failing_in(rt: &impl Abort, alloc: Global, call: u64) -> RecordFile<MemWrite>
     RecordFile::open(alloc, MemWrite::new(alloc, 64, failing)).expect(rt, "memory")
 }
 
-#[test]
-fn writes_the_chapter_of_a_port(rt: HostRuntime) -> Result<(), Fail> {
-    let wanted = bytes_of(rt.alloc(), RECORDING)?;
-    assert_eq!(rt; wanted.len(), 292);
-    let chapter = chapter_of(&rt, rt.alloc());
-    let mut file = failing_in(&rt, rt.alloc(), 100);
-    assert_eq!(rt; file.append(number(&rt, 0), &chapter), Ok(()));
-    assert!(rt; file.flush().is_ok());
-    assert_eq!(rt; file.writer().bytes(), wanted.as_slice());
-    assert_eq!(rt; file.left().len(), 0);
-    match read_recording(rt.alloc(), file.writer().bytes()) {
-        Ok(recording) => assert_eq!(rt; recording.chapters().len(), 1),
-        Err(_) => return Err(Fail::from("refused")),
+// Opens a recording on a device that does not fail.
+fn sound(rt: &impl Abort, alloc: Global) -> RecordFile<MemWrite> {
+    failing_in(rt, alloc, 100)
+}
+
+fn append(
+    rt: &impl Abort,
+    file: &mut RecordFile<MemWrite>,
+    port: u8,
+    chapter: &Chapter,
+) -> Result<(), RecordFault> {
+    file.append(number(rt, port), chapter)
+}
+
+fn is_read_back(alloc: Global, bytes: &[u8]) -> bool {
+    match read_recording(alloc, bytes) {
+        Ok(recording) => recording.chapters().len() == 1,
+        Err(_) => false,
     }
-    Ok(())
+}
+
+// Returns whether a recording of the chapter, of this port, has these bytes.
+fn is_written(rt: &impl Abort, alloc: Global, port: u8, chapter: &Chapter, wanted: &[u8]) -> bool {
+    let mut file = sound(rt, alloc);
+    append(rt, &mut file, port, chapter) == Ok(())
+        && file.flush().is_ok()
+        && file.writer().bytes() == wanted
+        && file.left().is_empty()
+        && is_read_back(alloc, file.writer().bytes())
 }
 
 #[test]
-fn writes_an_empty_chapter(rt: HostRuntime) -> Result<(), Fail> {
-    let wanted = bytes_of(rt.alloc(), EMPTY_CHAPTER)?;
+fn writes_the_chapter_of_a_port(rt: HostRuntime) {
+    let wanted = bytes(&rt, rt.alloc(), RECORDING);
+    let chapter = chapter_of(&rt, rt.alloc());
+    assert!(rt; wanted.len() == 292 && is_written(&rt, rt.alloc(), 0, &chapter, &wanted));
+}
+
+#[test]
+fn writes_an_empty_chapter(rt: HostRuntime) {
+    let wanted = bytes(&rt, rt.alloc(), EMPTY_CHAPTER);
     let chapter = open_port(&rt, rt.alloc(), 256, 3, 7).into_chapter();
-    let mut file = failing_in(&rt, rt.alloc(), 100);
-    assert_eq!(rt; file.append(number(&rt, 63), &chapter), Ok(()));
-    assert_eq!(rt; file.writer().bytes(), wanted.as_slice());
-    Ok(())
+    assert!(rt; is_written(&rt, rt.alloc(), 63, &chapter, &wanted));
+}
+
+// Appends the chapter, a second time after a flush if bytes were left before.
+fn append_after_flush(rt: &impl Abort, file: &mut RecordFile<MemWrite>, chapter: &Chapter) {
+    if append(rt, file, 0, chapter) == Err(RecordFault::Busy) {
+        assert!(rt; file.flush().is_ok() && append(rt, file, 0, chapter) == Ok(()));
+    }
+}
+
+// Returns whether a device that fails in this call has all bytes after two flushes.
+fn holds_all(rt: &impl Abort, alloc: Global, call: u64, chapter: &Chapter, wanted: &[u8]) -> bool {
+    let mut file = failing_in(rt, alloc, call);
+    append_after_flush(rt, &mut file, chapter);
+    let _ = file.flush();
+    file.flush().is_ok() && file.writer().bytes() == wanted
 }
 
 #[test]
-fn holds_all_bytes_after_a_flush(rt: HostRuntime) -> Result<(), Fail> {
-    let wanted = bytes_of(rt.alloc(), RECORDING)?;
+fn holds_all_bytes_after_a_flush(rt: HostRuntime) {
+    let wanted = bytes(&rt, rt.alloc(), RECORDING);
     let chapter = chapter_of(&rt, rt.alloc());
     for call in 0..7u64 {
-        let mut file = failing_in(&rt, rt.alloc(), call);
-        if file.append(number(&rt, 0), &chapter) == Err(RecordFault::Busy) {
-            assert!(rt; file.flush().is_ok());
-            assert_eq!(rt; file.append(number(&rt, 0), &chapter), Ok(()));
-        }
-        let _ = file.flush();
-        assert!(rt; file.flush().is_ok());
-        assert_eq!(rt; file.writer().bytes(), wanted.as_slice());
+        assert!(rt;
+            holds_all(&rt, rt.alloc(), call, &chapter, &wanted),
+            "{call}"
+        );
     }
-    Ok(())
+}
+
+// Returns whether a recording whose first bytes are left is busy, and is left as it is.
+fn is_busy_from_the_start(rt: &impl Abort, alloc: Global, chapter: &Chapter) -> bool {
+    let mut file = failing_in(rt, alloc, 0);
+    file.left() == MAGIC.as_slice()
+        && append(rt, &mut file, 0, chapter) == Err(RecordFault::Busy)
+        && file.left() == MAGIC.as_slice()
+}
+
+// Returns whether a device that fails within the chapter leaves the rest of its bytes.
+fn is_busy_after_a_failure(rt: &impl Abort, alloc: Global, chapter: &Chapter) -> bool {
+    let mut file = failing_in(rt, alloc, 2);
+    append(rt, &mut file, 0, chapter) == Err(RecordFault::Device)
+        && file.left().len() == 220
+        && append(rt, &mut file, 0, chapter) == Err(RecordFault::Busy)
 }
 
 #[test]
-fn is_busy_while_something_is_left(rt: HostRuntime) -> Result<(), Fail> {
+fn is_busy_while_something_is_left(rt: HostRuntime) {
     let chapter = chapter_of(&rt, rt.alloc());
-    let mut file = failing_in(&rt, rt.alloc(), 0);
-    assert_eq!(rt; file.left(), MAGIC.as_slice());
-    assert_eq!(rt;
-        file.append(number(&rt, 0), &chapter),
-        Err(RecordFault::Busy)
-    );
-    assert_eq!(rt; file.left(), MAGIC.as_slice());
-    let mut file = failing_in(&rt, rt.alloc(), 2);
-    assert_eq!(rt;
-        file.append(number(&rt, 0), &chapter),
-        Err(RecordFault::Device)
-    );
-    assert_eq!(rt; file.left().len(), 220);
-    assert_eq!(rt;
-        file.append(number(&rt, 0), &chapter),
-        Err(RecordFault::Busy)
-    );
-    Ok(())
+    assert!(rt; is_busy_from_the_start(&rt, rt.alloc(), &chapter));
+    assert!(rt; is_busy_after_a_failure(&rt, rt.alloc(), &chapter));
 }
 
-// Takes an event, with a second attempt if memory was refused.
-fn take_again(rt: &impl Abort, port: &mut Port, event: Event, again: Event) {
-    if port.take(event).is_err() {
-        let _taken = port.take(again).expect(rt, "taken");
+// Opens a port, a second time if memory was refused.
+fn open_again(rt: &impl Abort, alloc: Global) -> Port {
+    match Port::open(alloc, cfg(rt, 16, 0), FrameNo::new(0)) {
+        Ok(port) => port,
+        Err(_) => open_port(rt, alloc, 16, 0, 0),
     }
 }
 
-// Appends the chapter, with a second attempt if memory was refused. Flushes bytes that are left before or after.
+// Takes an event, a second time if memory was refused.
+fn take_again(rt: &impl Abort, port: &mut Port, event: Event) {
+    let again = event.copy();
+    if port.take(event).is_err() {
+        take(rt, port, again);
+    }
+}
+
+fn chapter_again(rt: &impl Abort, alloc: Global) -> Chapter {
+    let mut port = open_again(rt, alloc);
+    take_again(rt, &mut port, admission(rt));
+    for frame in 0..3u64 {
+        take_again(rt, &mut port, Event::MakeMap);
+        take_again(rt, &mut port, report(rt, frame));
+    }
+    port.into_chapter()
+}
+
+fn open_file(alloc: Global) -> Option<RecordFile<MemWrite>> {
+    RecordFile::open(alloc, MemWrite::new(alloc, 64, Vec::new(alloc))).ok()
+}
+
+// Opens a recording, a second time if memory was refused.
+fn file_again(rt: &impl Abort, alloc: Global) -> RecordFile<MemWrite> {
+    match open_file(alloc) {
+        Some(file) => file,
+        None => open_file(alloc).expect(rt, "memory"),
+    }
+}
+
+fn flush(rt: &impl Abort, file: &mut RecordFile<MemWrite>) {
+    assert!(rt; file.flush().is_ok(), "flushed");
+}
+
+// Appends the chapter, a second time if memory was refused. Flushes bytes that are left before or after.
 fn append_again(rt: &impl Abort, file: &mut RecordFile<MemWrite>, chapter: &Chapter) {
     if !file.left().is_empty() {
-        assert!(rt; file.flush().is_ok());
+        flush(rt, file);
     }
-    match file.append(number(rt, 0), chapter) {
+    match append(rt, file, 0, chapter) {
         Ok(()) => {}
-        Err(RecordFault::Memory) => assert_eq!(rt; file.append(number(rt, 0), chapter), Ok(())),
-        Err(_) => assert!(rt; file.flush().is_ok()),
+        Err(RecordFault::Memory) => assert!(rt; append(rt, file, 0, chapter) == Ok(())),
+        Err(_) => flush(rt, file),
     }
 }
 
 // If one allocation fails (`rt try --test --fail-alloc N`), the recording has the same bytes.
 #[test]
-fn appends_again_what_memory_refused(rt: HostRuntime) -> Result<(), Fail> {
-    let alloc = rt.alloc();
-    let wanted = bytes_of(alloc, RECORDING).or(bytes_of(alloc, RECORDING))?;
-    let cfg = PortCfg {
-        gap: Gap::new(16).ok_or("a gap")?,
-        profile: Profile::new(0).ok_or("a profile")?,
-    };
-    let first = FrameNo::new(0);
-    let mut port = Port::open(alloc, cfg, first).or(Port::open(alloc, cfg, first))?;
-    take_again(&rt, &mut port, admission(&rt), admission(&rt));
-    for frame in 0..3u64 {
-        take_again(&rt, &mut port, Event::MakeMap, Event::MakeMap);
-        take_again(&rt, &mut port, report(&rt, frame), report(&rt, frame));
-    }
-    let chapter = port.into_chapter();
-    let device = MemWrite::new(alloc, 64, Vec::new(alloc));
-    let mut file = match RecordFile::open(alloc, device) {
-        Ok(file) => file,
-        Err(_) => RecordFile::open(alloc, MemWrite::new(alloc, 64, Vec::new(alloc)))?,
-    };
+fn appends_again_what_memory_refused(rt: HostRuntime) {
+    let wanted = bytes_again(&rt, rt.alloc(), RECORDING);
+    let chapter = chapter_again(&rt, rt.alloc());
+    let mut file = file_again(&rt, rt.alloc());
     append_again(&rt, &mut file, &chapter);
-    assert_eq!(rt; file.writer().bytes(), wanted.as_slice());
-    Ok(())
+    assert!(rt; file.writer().bytes() == wanted.as_slice());
 }
