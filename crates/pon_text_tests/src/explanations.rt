@@ -1,0 +1,147 @@
+// The lines that explain the faults of settings.
+use pon_settings::{explain, settings};
+use std::alloc::{AllocError, Global};
+
+const LAWFUL: &str = "fixed = 0\nassured = 0\nmax = 0\nclass = \"none\"";
+
+// Returns the explanation of the fault of a text, or an empty text if it has no fault.
+fn told(alloc: Global, text: &str) -> Result<String, AllocError> {
+    let Some(fault) = settings(alloc, text).err() else {
+        return Ok(String::new(alloc));
+    };
+    explain(alloc, text, &fault)
+}
+
+// Returns whether the explanation of a text is this line.
+fn is_told(alloc: Global, text: &str, line: &str) -> bool {
+    match told(alloc, text) {
+        Ok(told) => told.as_str() == line,
+        Err(_) => false,
+    }
+}
+
+#[test]
+fn names_the_place_and_the_rule(rt: HostRuntime) {
+    for (text, wanted) in [
+        ("", "  port must be a list of 1 to 64 tables"),
+        ("port = []", "  port must be a list of 1 to 64 tables"),
+        ("ports = 1", "  unknown key \"ports\""),
+        ("[[port]]", "  port 0: gap must be 1 to 256"),
+        ("[[port]]\ngap = 0", "  port 0: gap must be 1 to 256"),
+        (
+            "[[port]]\ngap = 0\ngaps = 1",
+            "  port 0: unknown key \"gaps\"",
+        ),
+        (
+            "[[port]]\ngap = 1\nprofile = 4\nfirst = -1",
+            "  port 0: profile must be 0 to 3",
+        ),
+        (
+            "[[port]]\ngap = 1\n[[port]]\ngap = 1\nfirst = -1",
+            "  port 1: first must be 0 to 9223372036854775807",
+        ),
+        (
+            "[[port]]\ngap = 1\nalloc = [1]",
+            "  port 0: alloc must be a list of tables",
+        ),
+    ] {
+        assert!(rt; is_told(rt.alloc(), text, wanted), "{text}");
+    }
+}
+
+// Returns whether the line is the explanation of settings whose port 1 has this row.
+fn is_told_of_row(alloc: Global, row: &str, line: &str) -> Option<bool> {
+    let ports = "[[port]]\ngap = 1\n[[port]]\ngap = 1\n[[port.alloc]]";
+    let text = format!(in alloc; "{ports}\n{row}\n{LAWFUL}\n").ok()?;
+    Some(is_told(alloc, text.as_str(), line))
+}
+
+#[test]
+fn names_the_rule_of_a_row(rt: HostRuntime) {
+    for (row, wanted) in [
+        (
+            "onu = -1\nalloc = 1024",
+            "  port 1, alloc 0: onu must be a whole number, not negative",
+        ),
+        (
+            "onu = 1",
+            "  port 1, alloc 0: alloc must be a whole number, not negative",
+        ),
+        (
+            "onu = 1\nalloc = 1024\nqueue = -1",
+            "  port 1, alloc 0: queue must be 0 to 4294967295",
+        ),
+        (
+            "onu = 1\nalloc = 1024\nqueues = 1",
+            "  port 1, alloc 0: unknown key \"queues\"",
+        ),
+        ("onu = 1\nalloc = 1", "  port 1, alloc 0: E03 AllocRange"),
+        (
+            "onu = 1023\nalloc = 1024",
+            "  port 1, alloc 0: E04 OnuRange",
+        ),
+    ] {
+        assert!(rt;
+            is_told_of_row(rt.alloc(), row, wanted) == Some(true),
+            "{row}"
+        );
+    }
+}
+
+// Returns whether the line names this rule of settings whose only row has these rates.
+fn is_told_of_rates(alloc: Global, rates: &str, rule: &str) -> Option<bool> {
+    let head = "[[port]]\ngap = 1\n[[port.alloc]]\nonu = 1\nalloc = 1024";
+    let text = format!(in alloc; "{head}\n{rates}\n").ok()?;
+    let line = format!(in alloc; "  port 0, alloc 0: {rule}").ok()?;
+    Some(is_told(alloc, text.as_str(), line.as_str()))
+}
+
+#[test]
+fn names_the_rule_of_a_descriptor(rt: HostRuntime) {
+    for (rates, wanted) in [
+        (
+            "assured = 0\nmax = 0\nclass = \"none\"",
+            "fixed must be a whole number, not negative",
+        ),
+        (
+            "fixed = 0\nmax = 0\nclass = \"none\"",
+            "assured must be a whole number, not negative",
+        ),
+        (
+            "fixed = 0\nassured = 0\nclass = \"none\"",
+            "max must be a whole number, not negative",
+        ),
+        (
+            "fixed = 0\nassured = 0\nmax = 0\nclass = \"best\"",
+            "class must be none, na or be",
+        ),
+        (
+            "fixed = 0\nassured = 0\nmax = 0\nclass = 1",
+            "class must be none, na or be",
+        ),
+        (
+            "fixed = 2488321\nassured = 0\nmax = 0\nclass = \"none\"",
+            "E05 RateRange",
+        ),
+    ] {
+        assert!(rt;
+            is_told_of_rates(rt.alloc(), rates, wanted) == Some(true),
+            "{rates}"
+        );
+    }
+}
+
+// Returns whether the explanation of a text begins so.
+fn is_told_from(alloc: Global, text: &str, beginning: &str) -> bool {
+    match told(alloc, text) {
+        Ok(told) => told.as_str().starts_with(beginning),
+        Err(_) => false,
+    }
+}
+
+#[test]
+fn names_the_line_and_the_column(rt: HostRuntime) {
+    let text = "[[port]]\ngap = \n";
+    let place = "  TOML parse error at line 2, column 7: ";
+    assert!(rt; is_told_from(rt.alloc(), text, place));
+}

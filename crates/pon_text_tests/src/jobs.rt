@@ -1,0 +1,128 @@
+// The results of whole command lines, as clap parses them.
+use clap::error::ErrorKind;
+use pon_job::{Job, job};
+use std::alloc::Global;
+
+fn push_word(alloc: Global, words: &mut Vec<String>, word: &str) -> Option<()> {
+    let word = String::from_str(alloc, word).ok()?;
+    words.push(word).ok()
+}
+
+// Returns the words of a command line, the program's name first; `None` if memory is refused.
+fn words_of(alloc: Global, line: &str) -> Option<Vec<String>> {
+    let mut words = Vec::new(alloc);
+    for word in line.split_whitespace() {
+        push_word(alloc, &mut words, word)?;
+    }
+    Some(words)
+}
+
+// Returns whether a command line names the job.
+fn names(alloc: Global, line: &str, wanted: &Job<'_>) -> Option<bool> {
+    let words = words_of(alloc, line)?;
+    match job(alloc, words.as_slice()) {
+        Ok(found) => Some(found == *wanted),
+        Err(_) => Some(false),
+    }
+}
+
+// Returns the kind of the error of a command line, if there is one.
+fn refusal(alloc: Global, line: &str) -> Option<ErrorKind> {
+    let words = words_of(alloc, line)?;
+    match job(alloc, words.as_slice()) {
+        Ok(_) => None,
+        Err(error) => Some(error.kind()),
+    }
+}
+
+fn run_of(maps: u64, record: Option<&'static str>, operate: Option<&'static str>) -> Job<'static> {
+    Job::Run {
+        config: "a.toml",
+        listen: "127.0.0.1:0",
+        maps,
+        record,
+        operate,
+    }
+}
+
+#[test]
+fn reads_each_job(rt: HostRuntime) {
+    let settings = Some("a.toml");
+    for (line, wanted) in [
+        ("olt plan", Job::Plan { config: None }),
+        ("olt plan --config a.toml", Job::Plan { config: settings }),
+        ("olt check c.txt", Job::Check { file: "c.txt" }),
+        ("olt audit r.bin", Job::Audit { file: "r.bin" }),
+        (
+            "olt run --config a.toml --listen 127.0.0.1:0 --maps 1",
+            run_of(1, None, None),
+        ),
+        (
+            "olt run --maps=1000000000 --listen=127.0.0.1:0 --config=a.toml",
+            run_of(1_000_000_000, None, None),
+        ),
+        (
+            "olt run --config a.toml --operate b.txt --listen 127.0.0.1:0 --maps 3 --record r.bin",
+            run_of(3, Some("r.bin"), Some("b.txt")),
+        ),
+    ] {
+        assert!(rt; names(rt.alloc(), line, &wanted) == Some(true), "{line}");
+    }
+}
+
+#[test]
+fn refuses_numbers_of_maps(rt: HostRuntime) {
+    for line in [
+        "olt run --config a.toml --listen 127.0.0.1:0 --maps 0",
+        "olt run --config a.toml --listen 127.0.0.1:0 --maps 1000000001",
+        "olt run --config a.toml --listen 127.0.0.1:0 --maps x",
+    ] {
+        let kind = refusal(rt.alloc(), line);
+        assert!(rt;
+            kind == Some(ErrorKind::ValueValidation),
+            "{line}: {kind:?}"
+        );
+    }
+}
+
+#[test]
+fn needs_the_arguments_of_a_run(rt: HostRuntime) {
+    for line in [
+        "olt run --listen 127.0.0.1:0 --maps 3",
+        "olt run --config a.toml --maps 3",
+        "olt run --config a.toml --listen 127.0.0.1:0 --operate b.txt",
+        "olt run",
+    ] {
+        let kind = refusal(rt.alloc(), line);
+        assert!(rt;
+            kind == Some(ErrorKind::MissingRequiredArgument),
+            "{line}: {kind:?}"
+        );
+    }
+}
+
+#[test]
+fn refuses_other_words(rt: HostRuntime) {
+    for (line, wanted) in [
+        (
+            "olt run --config a.toml --listen 127.0.0.1:0 --maps 3 --pace r",
+            ErrorKind::UnknownArgument,
+        ),
+        (
+            "olt run --config a.toml --listen 127.0.0.1:0 --maps 3 --maps 3",
+            ErrorKind::ArgumentConflict,
+        ),
+        (
+            "olt run --config a.toml --listen 127.0.0.1:0 --maps",
+            ErrorKind::InvalidValue,
+        ),
+        (
+            "olt rum --config a.toml --listen 127.0.0.1:0 --maps 3",
+            ErrorKind::InvalidSubcommand,
+        ),
+        ("olt run --help", ErrorKind::DisplayHelp),
+    ] {
+        let kind = refusal(rt.alloc(), line);
+        assert!(rt; kind == Some(wanted), "{line}: {kind:?}");
+    }
+}
