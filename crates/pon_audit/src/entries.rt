@@ -19,7 +19,8 @@ use crate::verdict::Why;
 use pon_bwmap::{Alloc, Map};
 use pon_check::check_map;
 use pon_state::{
-    Entry, MadeMap, MapUnder, PortState, Reply, add_map, in_range, map_under, next_problems, refusal_of, step,
+    Entry, MadeMap, MapUnder, PortState, Reply, add_map, in_range, map_under, next_problems,
+    refusal_of, step,
 };
 use std::alloc::{AllocError, Global};
 

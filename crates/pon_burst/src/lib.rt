@@ -11,6 +11,3 @@ mod packing;
 
 pub use laying::lay_bursts;
 pub use packing::pack;
-
-#[cfg(test)]
-mod tests;

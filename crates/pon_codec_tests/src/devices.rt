@@ -1,76 +1,120 @@
+ghost use Rattle.std.specs.Prelude.{◌<◌};
+
 use pon_device::{DevRead, DevWrite, Failed, MemRead, MemWrite, StdRead, StdWrite, write_all};
+use std::alloc::Global;
 use std::io;
-use std::test::Fail;
 
 const TEXT: &[u8; 26] = b"abcdefghijklmnopqrstuvwxyz";
 
-#[test]
-fn reads_in_pieces(rt: HostRuntime) -> Result<(), Fail> {
-    for most in [1, 5, 4096] {
-        assert!(rt; most > 0);
-        let bytes = TEXT.to_vec(rt.alloc())?;
-        let mut reader = MemRead::new(bytes, most, vec![in rt.alloc(); 0, 2]?);
-        let mut got = Vec::new(rt.alloc());
-        let mut failed = Vec::new(rt.alloc());
-        let mut buf = [0; 8];
-        for call in 0..40u64 {
-            match reader.read(&mut buf) {
-                Ok(0) => break,
-                Ok(n) => got.extend_from_slice(&buf[..n])?,
-                Err(Failed) => failed.push(call)?,
-            }
+// Reads to the end of the input in at most 40 calls. Appends the bytes to `got`, and the calls that fail to `failed`.
+fn read_all(reader: &mut MemRead, got: &mut Vec<u8>, failed: &mut Vec<u64>) -> Option<()> {
+    let mut buf = [0; 8];
+    for call in 0..40u64 {
+        match reader.read(&mut buf) {
+            Ok(0) => break,
+            Ok(n) => got.extend_from_slice(&buf[..n]).ok()?,
+            Err(Failed) => failed.push(call).ok()?,
         }
-        assert_eq!(rt; got.as_slice(), TEXT.as_slice(), "in pieces of {most}");
-        assert_eq!(rt; failed.as_slice(), [0, 2].as_slice(), "in pieces of {most}");
     }
-    Ok(())
+    Some(())
+}
+
+// Returns whether a device that fails in the calls 0 and 2 gives the whole text.
+fn reads_whole(alloc: Global, most: usize) -> Option<bool>
+    requires { 0 < most }
+{
+    let failures = vec![in alloc; 0, 2].ok()?;
+    let mut reader = MemRead::new(TEXT.to_vec(alloc).ok()?, most, failures);
+    let mut got = Vec::new(alloc);
+    let mut failed = Vec::new(alloc);
+    read_all(&mut reader, &mut got, &mut failed)?;
+    Some(got.as_slice() == TEXT.as_slice() && failed.as_slice() == [0, 2].as_slice())
 }
 
 #[test]
-fn writes_all_in_pieces(rt: HostRuntime) -> Result<(), Fail> {
-    for most in [1, 5, 4096] {
-        assert!(rt; most > 0);
-        let mut writer = MemWrite::new(rt.alloc(), most, Vec::new(rt.alloc()));
-        assert_eq!(rt; write_all(&mut writer, TEXT), Ok(()), "in pieces of {most}");
-        assert_eq!(rt; writer.flush(), Ok(()), "in pieces of {most}");
-        assert_eq!(rt; writer.bytes(), TEXT.as_slice(), "in pieces of {most}");
+fn reads_in_pieces(rt: HostRuntime) {
+    for most in [1usize, 5, 4096] {
+        assert!(rt;
+            reads_whole(rt.alloc(), most.max(1)) == Some(true),
+            "in pieces of {most}"
+        );
     }
-    Ok(())
+}
+
+// Returns whether a device that never fails takes the whole text.
+fn writes_whole(alloc: Global, most: usize) -> bool
+    requires { 0 < most }
+{
+    let mut writer = MemWrite::new(alloc, most, Vec::new(alloc));
+    let written = write_all(&mut writer, TEXT) == Ok(());
+    let flushed = writer.flush() == Ok(());
+    written && flushed && writer.bytes() == TEXT.as_slice()
 }
 
 #[test]
-fn holds_a_beginning_after_a_failed_write(rt: HostRuntime) -> Result<(), Fail> {
+fn writes_all_in_pieces(rt: HostRuntime) {
+    for most in [1usize, 5, 4096] {
+        assert!(rt;
+            writes_whole(rt.alloc(), most.max(1)),
+            "in pieces of {most}"
+        );
+    }
+}
+
+// Writes the text to a device that fails in a call, and returns the number of bytes that it holds if they begin the text
+// and the write or the flush failed.
+fn held_after_failure(alloc: Global, most: usize, failing: u64) -> Option<usize>
+    requires { 0 < most }
+{
+    let mut writer = MemWrite::new(alloc, most, vec![in alloc; failing].ok()?);
+    let failed = write_all(&mut writer, TEXT).is_err() || writer.flush() == Err(Failed);
+    let held = writer.bytes();
+    if failed && TEXT.starts_with(held) {
+        Some(held.len())
+    } else {
+        None
+    }
+}
+
+#[test]
+fn holds_a_beginning_after_a_failed_write(rt: HostRuntime) {
     for (most, failing, held) in [
-        (1, 3, 3),
+        (1usize, 3, 3),
         (5, 3, 15),
         (5, 0, 0),
         (4096, 0, 0),
         (4096, 1, 26),
     ] {
-        assert!(rt; most > 0 && held <= TEXT.len());
-        let mut writer = MemWrite::new(rt.alloc(), most, vec![in rt.alloc(); failing]?);
-        let written = write_all(&mut writer, TEXT).and_then(|_| writer.flush());
-        assert_eq!(rt; written, Err(Failed), "in pieces of {most}");
-        assert_eq!(rt; writer.bytes(), &TEXT[..held], "in pieces of {most}");
+        let told = held_after_failure(rt.alloc(), most.max(1), failing);
+        assert!(rt;
+            told == Some(held),
+            "in pieces of {most}, call {failing}: {told:?}"
+        );
     }
-    Ok(())
 }
 
 #[test]
-fn wraps_the_readers_and_writers_of_std(rt: HostRuntime) -> Result<(), Fail> {
+fn wraps_a_reader_of_std(rt: HostRuntime) {
     let mut reader = StdRead::new(TEXT.as_slice());
     let mut buf = [0; 5];
-    assert_eq!(rt; reader.read(&mut buf), Ok(5));
-    assert_eq!(rt; buf.as_slice(), b"abcde".as_slice());
-    assert_eq!(rt; reader.read(&mut []), Ok(0));
+    let read = reader.read(&mut buf) == Ok(5);
+    let nothing = reader.read(&mut []) == Ok(0);
+    assert!(rt; read && nothing && buf.as_slice() == b"abcde".as_slice());
+}
 
+// Returns whether a writer of std takes the whole text.
+fn writes_to_std(bytes: &mut Vec<u8>) -> bool {
+    let mut writer = StdWrite::new(bytes);
+    let written = write_all(&mut writer, TEXT) == Ok(());
+    let nothing = writer.write(&[]) == Ok(0);
+    written && nothing && writer.flush() == Ok(())
+}
+
+#[test]
+fn wraps_a_writer_of_std(rt: HostRuntime) {
     let mut bytes = Vec::new(rt.alloc());
-    let mut writer = StdWrite::new(&mut bytes);
-    assert_eq!(rt; write_all(&mut writer, TEXT), Ok(()));
-    assert_eq!(rt; writer.write(&[]), Ok(0));
-    assert_eq!(rt; writer.flush(), Ok(()));
-    assert_eq!(rt; bytes.as_slice(), TEXT.as_slice());
-    Ok(())
+    let written = writes_to_std(&mut bytes);
+    assert!(rt; written && bytes.as_slice() == TEXT.as_slice());
 }
 
 /// Device that fails in each read and flush, and writes nothing.
@@ -96,9 +140,10 @@ impl io::Write for Broken {
 #[test]
 fn answers_that_a_device_of_std_failed(rt: HostRuntime) {
     let mut buf = [0; 5];
-    assert_eq!(rt; StdRead::new(Broken).read(&mut buf), Err(Failed));
+    let read = StdRead::new(Broken).read(&mut buf) == Err(Failed);
     let mut writer = StdWrite::new(Broken);
-    assert_eq!(rt; writer.write(&[]), Ok(0));
-    assert_eq!(rt; writer.write(b"a"), Err(Failed));
-    assert_eq!(rt; writer.flush(), Err(Failed));
+    let nothing = writer.write(&[]) == Ok(0);
+    let written = writer.write(b"a") == Err(Failed);
+    let flushed = writer.flush() == Err(Failed);
+    assert!(rt; read && nothing && written && flushed);
 }

@@ -12,7 +12,7 @@ fn takes_identifiers_in_range(rt: HostRuntime) {
         (1023, None),
         (65535, None),
     ] {
-        assert_eq!(rt; OnuId::new(n).map(OnuId::get), want, "ONU-ID {n}");
+        assert!(rt; OnuId::new(n).map(OnuId::get) == want, "ONU-ID {n}");
     }
     for (n, want) in [
         (0, None),
@@ -21,23 +21,20 @@ fn takes_identifiers_in_range(rt: HostRuntime) {
         (16383, Some(16383)),
         (16384, None),
     ] {
-        assert_eq!(rt; AllocId::new(n).map(AllocId::get), want, "Alloc-ID {n}");
+        assert!(rt; AllocId::new(n).map(AllocId::get) == want, "Alloc-ID {n}");
     }
     for (n, want) in [(0, Some(0)), (63, Some(63)), (64, None), (255, None)] {
-        assert_eq!(rt; PortNo::new(n).map(PortNo::get), want, "port {n}");
+        assert!(rt; PortNo::new(n).map(PortNo::get) == want, "port {n}");
     }
     for place in [0, 1, 63] {
-        assert_eq!(rt; usize::from(PortNo::at(place).get()), place);
+        assert!(rt; usize::from(PortNo::at(place).get()) == place);
     }
 }
 
 #[test]
 fn rates_are_words_in_each_frame(rt: HostRuntime) {
-    assert_eq!(rt; u64::from(FRAME_WORDS) * WORD_RATE, LINE_RATE);
-    assert_eq!(rt;
-        u64::from(GREATEST_OCCUPANCY) * WORD_RATE,
-        u64::from(GREATEST_RATE)
-    );
+    assert!(rt; u64::from(FRAME_WORDS) * WORD_RATE == LINE_RATE);
+    assert!(rt; u64::from(GREATEST_OCCUPANCY) * WORD_RATE == u64::from(GREATEST_RATE));
 }
 
 #[test]
@@ -48,7 +45,7 @@ fn takes_amounts_in_range(rt: HostRuntime) {
         (4_294_967_041, None),
         (4_294_967_295, None),
     ] {
-        assert_eq!(rt; Kbps::new(n).map(Kbps::get), want, "{n} kbit/s");
+        assert!(rt; Kbps::new(n).map(Kbps::get) == want, "{n} kbit/s");
     }
     for (n, want) in [
         (0, Some(0)),
@@ -56,7 +53,7 @@ fn takes_amounts_in_range(rt: HostRuntime) {
         (9721, None),
         (65535, None),
     ] {
-        assert_eq!(rt; Words::new(n).map(Words::get), want, "{n} words");
+        assert!(rt; Words::new(n).map(Words::get) == want, "{n} words");
     }
     for (n, want) in [
         (0, Some(0)),
@@ -64,9 +61,8 @@ fn takes_amounts_in_range(rt: HostRuntime) {
         (16_777_216, None),
         (4_294_967_295, None),
     ] {
-        assert_eq!(rt;
-            BufOcc::new(n).map(BufOcc::get),
-            want,
+        assert!(rt;
+            BufOcc::new(n).map(BufOcc::get) == want,
             "an occupancy of {n}"
         );
     }
@@ -81,13 +77,13 @@ fn takes_gaps_profiles_and_frames(rt: HostRuntime) {
         (257, None),
         (65535, None),
     ] {
-        assert_eq!(rt; Gap::new(n).map(Gap::get), want, "a gap of {n}");
+        assert!(rt; Gap::new(n).map(Gap::get) == want, "a gap of {n}");
     }
     for (n, want) in [(0, Some(0)), (3, Some(3)), (4, None), (255, None)] {
-        assert_eq!(rt; Profile::new(n).map(Profile::get), want, "profile {n}");
+        assert!(rt; Profile::new(n).map(Profile::get) == want, "profile {n}");
     }
     for n in [0, 1, u64::MAX] {
-        assert_eq!(rt; FrameNo::new(n).get(), n);
+        assert!(rt; FrameNo::new(n).get() == n);
     }
 }
 
@@ -111,10 +107,10 @@ fn compares_fractions(rt: HostRuntime) {
             Ordering::Less,
         ),
     ] {
-        assert_eq!(rt; cmp_frac(a, b), want, "{a:?} and {b:?}");
+        assert!(rt; cmp_frac(a, b) == want, "{a:?} and {b:?}");
     }
     let third = Frac::new(90, 3);
-    assert_eq!(rt; (third.num(), third.den()), (90, 3));
+    assert!(rt; (third.num(), third.den()) == (90, 3));
 }
 
 #[test]
@@ -129,6 +125,6 @@ fn takes_the_whole_part(rt: HostRuntime) {
         (u64::MAX - 1, u64::MAX, 0),
     ] {
         assert!(rt; den > 0);
-        assert_eq!(rt; whole(num, den), want, "{num} / {den}");
+        assert!(rt; whole(num, den) == want, "{num} / {den}");
     }
 }

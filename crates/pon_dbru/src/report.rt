@@ -65,6 +65,3 @@ pub fn decode(bytes: [u8; 4]) -> Result<BufOcc, Garbled>
         Err(Garbled)
     }
 }
-
-#[cfg(test)]
-mod tests;

@@ -101,6 +101,3 @@ pub fn from_toml(table: &Table) -> Result<Descriptor, DescrFault>
         Err(refusal) => Err(DescrFault::Refused(refusal)),
     }
 }
-
-#[cfg(test)]
-mod tests;

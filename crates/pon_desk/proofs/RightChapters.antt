@@ -1,10 +1,10 @@
 -- The chapters of a port in order.
-use Rattle.std.proofs.Common.{◌≡◌, ℕ, suc, ◌+◌, ◌<◌, ◌≤◌, List, [], ◌∷◌, ◌++◌, length, Option, Some, None, inl, inr, refl, sym, ap, subst, ◌∙◌, arith}
+use Rattle.std.proofs.Common.{◌≡◌, ℕ, ◌<◌, ◌≤◌, List, [], ◌∷◌, ◌++◌, length, Option, Some, None, inl, inr, refl, sym, subst, ◌∙◌, arith}
 use Rattle.std.specs.Prelude.{slice_get, IsSomeAnd}
-use Rattle.std.proofs.lemmas.Option.{none-some, same_Some, slice_get_cases, slice_get_past, slice_get_within}
+use Rattle.std.proofs.lemmas.Option.{none-some, slice_get_cases, slice_get_past}
 use Rattle.pon_port.specs.Chapters.{Chapter}
 use Rattle.pon_plant.specs.Plants.{opened_port}
-use Rattle.pon_desk.specs.Settling.{IsFirstWithout, IsRightChapter, PortHistory, all_chapters}
+use Rattle.pon_desk.specs.Settling.{IsRightChapter, PortHistory, all_chapters}
 
 pub some_and : {X : Type 0} (o : Option X) (P : X → Type 0) (x : X) → o ≡ Some x → IsSomeAnd o P → P x
 some_and {X} o P x is h = let Q : Option X → Type 0 = λ r. IsSomeAnd r P in subst Q is h

@@ -1,9 +1,9 @@
 -- Receipts compared with entries.
-use Rattle.std.proofs.Common.{◌≡◌, ℕ, zero, suc, ◌+◌, ◌-◌, ◌<◌, ◌≤◌, Bool, true, List, [], ◌∷◌, ◌++◌, length, take, get_or, map, Option, Some, None, inl, inr, refl, sym, ap, subst, ◌∙◌, arith, below_more, eq-eqb}
+use Rattle.std.proofs.Common.{◌≡◌, ℕ, zero, suc, ◌+◌, ◌-◌, ◌<◌, ◌≤◌, Bool, true, List, [], ◌∷◌, ◌++◌, length, take, get_or, map, Some, inl, inr, refl, sym, ap, subst, ◌∙◌, arith, below_more, eq-eqb}
 use Rattle.std.specs.Prelude.{slice_get, option_map, ◌==◌}
-use Rattle.std.proofs.lemmas.List.{length-take, length-take-le, length-map, length-append, append-nil, take-take, take_more, map-append, append_assoc, nil_from_length, same_lists}
+use Rattle.std.proofs.lemmas.List.{length-take, length-take-le, length-map, length-append, take-take, take_more, map-append, append_assoc, nil_from_length, same_lists}
 use Rattle.std.proofs.lemmas.List.Sums.{count_by_more_yes, count_by-le-length}
-use Rattle.std.proofs.lemmas.Option.{get_or_from_slice_get, none-some, same_Some, slice_get-map, slice_get_cases, slice_get_past, slice_get_within}
+use Rattle.std.proofs.lemmas.Option.{get_or_from_slice_get, none-some, same_Some, slice_get-map, slice_get_cases, slice_get_within}
 use Rattle.pon_desk.specs.Receipts.{Receipt}
 use Rattle.pon_desk.specs.Settling.{IsSettled, TellsUnsettled, IsFirstWithout, IsMiscounted, IsRightAt, IsRightChapter, IsRightReceipt, PortHistory, all_placed, posts_of}
 use Rattle.pon_desk.specs.declared.receipt.Placed.{Placed}
@@ -88,10 +88,10 @@ settled_entries h port rs s =
     let placed : Receipt → Placed = λ (x : Receipt). x.placed in
     same_lists (map placed rs) (all_placed h) (length-map rs placed ∙ s.count.entries)
     (λ k d below.
-        elim (slice_get_cases rs k).1 [
-          | inl x ↦ get_or_from_slice_get (map placed rs) k (placed x.0) d (slice_get-map placed rs k ∙ ap (option_map placed) x.2) ∙ sym (get_or_from_slice_get (all_placed h) k (placed x.0) d (s.each k x.0 x.2).has_entry)
-          | inr p ↦ absurd (omega (arith, below, p.0, length-map rs placed))
-        ])
+    elim (slice_get_cases rs k).1 [
+      | inl x ↦ get_or_from_slice_get (map placed rs) k (placed x.0) d (slice_get-map placed rs k ∙ ap (option_map placed) x.2) ∙ sym (get_or_from_slice_get (all_placed h) k (placed x.0) d (s.each k x.0 x.2).has_entry)
+      | inr p ↦ absurd (omega (arith, below, p.0, length-map rs placed))
+    ])
 
 pub no_fault : (h : PortHistory) (port : ℕ) (rs : List Receipt) (why : Unsettled) → IsSettled h port rs → TellsUnsettled h port rs why → ⊥
 no_fault h port rs (fault.Chapter k) s t = t.wrong (s.chapters k)

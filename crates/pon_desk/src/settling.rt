@@ -29,11 +29,7 @@ fn opens_as(opening: &PortState, opened: &(PortCfg, FrameNo)) -> bool
 }
 
 // Finds the first chapter that is not right.
-fn chapter_fault(
-    opened: &(PortCfg, FrameNo),
-    kept: &Port,
-    chapters: &[Chapter],
-) -> Option<usize>
+fn chapter_fault(opened: &(PortCfg, FrameNo), kept: &Port, chapters: &[Chapter]) -> Option<usize>
     ensures { let h : PortHistory = record { opened = opened.now; chapters = chapters.now; kept = kept.now } in
         MatchOption result ((k : ℕ) → IsRightChapter h k) (IsFirstWithout (IsRightChapter h)) }
 {

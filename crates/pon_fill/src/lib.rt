@@ -12,6 +12,3 @@ mod order;
 mod rounds;
 
 pub use level::fill;
-
-#[cfg(test)]
-mod tests;

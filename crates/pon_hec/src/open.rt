@@ -89,6 +89,3 @@ fn pair_of(rest: u16) -> u16
 {
     PLACES[usize::from(rest)]
 }
-
-#[cfg(test)]
-mod tests;

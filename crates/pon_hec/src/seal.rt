@@ -58,6 +58,3 @@ fn remainder_of(place: u32, byte: u8) -> u16
 {
     REMAINDERS[place as usize * BYTE_VALUES + usize::from(byte)]
 }
-
-#[cfg(test)]
-mod tests;

@@ -8,8 +8,6 @@ mod arguments;
 mod commands;
 mod outcome;
 mod task;
-#[cfg(test)]
-mod tests;
 
 pub use arguments::job;
 pub use outcome::{

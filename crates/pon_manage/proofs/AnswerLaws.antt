@@ -1,6 +1,6 @@
 -- The answer of a port to an event, as a text.
 use Rattle.std.proofs.Common.{◌≡◌, ℕ, ◌-◌, List, [], ◌∷◌, arith, get_or, refl, ap, sym, ◌∙◌, subst, length}
-use Rattle.std.specs.Prelude.{Option, Some, None, Result, Ok, Err, IfSome, IsSome, OnOk, option_map, ◌++◌, ◌≢◌, slice_get, slice_set}
+use Rattle.std.specs.Prelude.{Option, Some, None, Result, Ok, Err, IfSome, IsSome, OnOk, option_map, ◌++◌, ◌≢◌, slice_get}
 use Rattle.std.proofs.Math.Seq.{get_or-append_seam}
 use Rattle.std.proofs.lemmas.List.{length_push}
 use Rattle.std.proofs.lemmas.Option.{slice_get-get_or}
@@ -14,7 +14,7 @@ use Rattle.pon_port.specs.Chapters.{Chapter}
 use Rattle.pon_port.specs.Taking.{refusal_of}
 use Rattle.pon_plant.specs.Answers.{IsAnswer, KeepsStep}
 use Rattle.pon_plant.proofs.Interleaving.{slice_get-set_same}
-use Rattle.pon_plant.specs.declared.fault.StepFault.TheVariants.{NoSuchPort, Refused}
+use Rattle.pon_plant.specs.declared.fault.StepFault.TheVariants.{Refused}
 use Rattle.pon_line.specs.declared.fault.LineFault.TheVariants.{Port}
 use Rattle.pon_line.specs.declared.reading.Reading.TheVariants.{Asks}
 use Rattle.pon_manage.specs.Text.{AddsAnswer, Answers, AsksPort, Posts, last_reply, refusal_line, reply_line}

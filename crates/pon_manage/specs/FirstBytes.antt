@@ -1,5 +1,5 @@
 -- A line has the same text as its first 4,097 bytes.
-use Rattle.std.proofs.Common.{ℕ, List, length, subst, sym}
+use Rattle.std.proofs.Common.{length, subst, sym}
 use Rattle.pon_line.proofs.LongLines.{read_line-take}
 use Rattle.pon_session.specs.Giving.{ReadsFirst}
 use Rattle.pon_manage.specs.Desks.{DeskAnswers, DeskGives}

@@ -143,6 +143,3 @@ pub fn explain(alloc: Global, text: &str, fault: &SettingsFault) -> Result<Strin
         SettingsFault::Memory => Ok(String::new(alloc)),
     }
 }
-
-#[cfg(test)]
-mod tests;

@@ -81,6 +81,3 @@ pub fn settings(alloc: Global, text: &str) -> Result<Settings, SettingsFault>
         Err(fault) => Err(fault),
     }
 }
-
-#[cfg(test)]
-mod tests;

@@ -74,7 +74,7 @@ fn admit(rt: &impl Abort, loads: &mut Loads, alloc_id: u16, since: u64) {
     let alloc_id = id(rt, alloc_id);
     assert!(rt; is_free(loads, alloc_id));
     let admitted = loads.admitted(alloc_id, FrameNo::new(since));
-    assert_eq!(rt; admitted, Ok(()));
+    assert!(rt; admitted == Ok(()), "{admitted:?}");
 }
 
 fn remove(rt: &impl Abort, loads: &mut Loads, alloc_id: u16) {
@@ -87,7 +87,7 @@ fn map(rt: &impl Abort, loads: &mut Loads, frame: u64, grants: &[Granted]) {
     assert!(rt; is_next(loads, frame));
     assert!(rt; are_in_map_order(grants));
     let mapped = loads.mapped(frame, grants);
-    assert_eq!(rt; mapped, Ok(()));
+    assert!(rt; mapped == Ok(()), "{mapped:?}");
 }
 
 // Takes maps of the frames `first` to `end - 1`, each with a grant to Alloc-ID 1024 of ONU 5.
@@ -108,7 +108,7 @@ fn assert_reported(
     wanted: Result<(), Refusal>,
 ) {
     let told = loads.reported(FrameNo::new(frame), onu(rt, owner), occupancies);
-    assert_eq!(rt; told, wanted);
+    assert!(rt; told == wanted, "frame {frame}, ONU {owner}: {told:?}");
 }
 
 // Reports for ONU 5 on its one Alloc-ID, and expects the report to be taken.
@@ -118,26 +118,31 @@ fn report(rt: &impl Abort, loads: &mut Loads, frame: u64, words: u32) {
 
 fn assert_load(rt: &impl Abort, loads: &Loads, alloc_id: u16, wanted: u32) {
     let load = loads.load_of(id(rt, alloc_id)).get();
-    assert_eq!(rt; load, wanted);
+    assert!(rt; load == wanted, "{alloc_id}: {load}");
 }
 
 fn assert_since(rt: &impl Abort, loads: &Loads, alloc_id: u16, wanted: Option<u64>) {
     let since = loads.since(id(rt, alloc_id)).map(|frame| frame.get());
-    assert_eq!(rt; since, wanted, "{alloc_id}");
+    assert!(rt; since == wanted, "{alloc_id}: {since:?}");
 }
 
 // Compares the frame and the words of the counted report with the expected ones.
 fn assert_counted(rt: &impl Abort, loads: &Loads, alloc_id: u16, wanted: Option<(u64, u32)>) {
     let counted = loads.counted(id(rt, alloc_id));
     let told = counted.map(|report| (report.frame.get(), report.words.get()));
-    assert_eq!(rt; told, wanted, "{alloc_id}");
+    assert!(rt; told == wanted, "{alloc_id}: {told:?}");
 }
 
 fn copy_of(rt: &impl Abort, alloc: Global, loads: &Loads) -> Loads {
     loads.try_copy(alloc).expect(rt, "memory")
 }
 
-// Compares the map of the window at an index: its frame, its grants, and the ONUs that reported.
+// Returns whether a map has this frame, these grants, and these ONUs that reported.
+fn is_map(map: &WindowMap, frame: u64, grants: &[Granted], reported: &[OnuId]) -> bool {
+    map.frame().get() == frame && map.grants() == grants && map.reported() == reported
+}
+
+// Compares the map of the window at an index.
 fn assert_map(
     rt: &impl Abort,
     map: Option<&WindowMap>,
@@ -146,19 +151,31 @@ fn assert_map(
     reported: &[OnuId],
 ) {
     let map = map.expect(rt, "a map");
-    assert_eq!(rt; map.frame().get(), frame);
-    assert_eq!(rt; map.grants(), grants);
-    assert_eq!(rt; map.reported(), reported);
+    assert!(rt; is_map(map, frame, grants, reported), "frame {frame}");
+}
+
+fn assert_window_len(rt: &impl Abort, loads: &Loads, wanted: usize) {
+    let len = loads.window_len();
+    assert!(rt;
+        len == wanted && loads.window_at(len).is_none(),
+        "{len} maps, not {wanted}"
+    );
+}
+
+// Compares the accounts of an Alloc-ID in two books.
+fn assert_same_account(rt: &impl Abort, loads: &Loads, other: &Loads, number: u16) {
+    let alloc_id = id(rt, number);
+    let since = loads.since(alloc_id) == other.since(alloc_id);
+    let counted = loads.counted(alloc_id) == other.counted(alloc_id);
+    assert!(rt; since && counted, "{number}");
 }
 
 // Compares two books: the accounts of Alloc-IDs 1024 to 1031, and the window.
 fn assert_same(rt: &impl Abort, loads: &Loads, other: &Loads) {
     for number in 1024..1032 {
-        let alloc_id = id(rt, number);
-        assert_eq!(rt; loads.since(alloc_id), other.since(alloc_id));
-        assert_eq!(rt; loads.counted(alloc_id), other.counted(alloc_id));
+        assert_same_account(rt, loads, other, number);
     }
-    assert_eq!(rt; loads.window_len(), other.window_len());
+    assert_window_len(rt, loads, other.window_len());
     for index in 0..other.window_len() {
         let copy = other.window_at(index).expect(rt, "a map");
         assert_map(
@@ -174,8 +191,7 @@ fn assert_same(rt: &impl Abort, loads: &Loads, other: &Loads) {
 #[test]
 fn opens_with_nothing(rt: HostRuntime) {
     let loads = Loads::open(rt.alloc());
-    assert_eq!(rt; loads.window_len(), 0);
-    assert!(rt; loads.window_at(0).is_none());
+    assert_window_len(&rt, &loads, 0);
     assert_since(&rt, &loads, 1024, None);
     assert_counted(&rt, &loads, 1024, None);
     assert_load(&rt, &loads, 1024, 0);
@@ -287,7 +303,7 @@ fn a_cleared_book_keeps_its_alloc_ids_alone(rt: HostRuntime) {
     map_all(&rt, &mut loads, 0, 2, 10);
     report(&rt, &mut loads, 0, 100);
     loads.cleared(FrameNo::new(2));
-    assert_eq!(rt; loads.window_len(), 0);
+    assert_window_len(&rt, &loads, 0);
     assert_counted(&rt, &loads, 1024, None);
     assert_since(&rt, &loads, 1024, Some(2));
     let stale = Err(Refusal::StaleFrame);
@@ -295,6 +311,19 @@ fn a_cleared_book_keeps_its_alloc_ids_alone(rt: HostRuntime) {
     map_all(&rt, &mut loads, 2, 3, 10);
     report(&rt, &mut loads, 2, 11);
     assert_load(&rt, &loads, 1024, 256);
+}
+
+// Compares the refusal of a report of `count` occupancies, as it is told without reporting.
+fn assert_report_refusal(
+    rt: &impl Abort,
+    loads: &Loads,
+    frame: u64,
+    owner: u16,
+    count: usize,
+    wanted: Option<Refusal>,
+) {
+    let told = loads.report_refusal(FrameNo::new(frame), onu(rt, owner), count);
+    assert!(rt; told == wanted, "frame {frame}, ONU {owner}: {told:?}");
 }
 
 // Expects a report to be refused: `report_refusal` returns the same refusal, and nothing changes.
@@ -307,8 +336,7 @@ fn assert_refused(
     occupancies: &[Option<BufOcc>],
     wanted: &Refusal,
 ) {
-    let told = loads.report_refusal(FrameNo::new(frame), onu(rt, owner), occupancies.len());
-    assert_eq!(rt; told, Some(*wanted));
+    assert_report_refusal(rt, loads, frame, owner, occupancies.len(), Some(*wanted));
     assert_reported(rt, loads, frame, owner, occupancies, Err(*wanted));
     assert_same(rt, loads, copy);
 }
@@ -321,22 +349,20 @@ fn refuses_reports_by_the_first_check(rt: HostRuntime) {
     report(&rt, &mut loads, 2, 7);
     let copy = copy_of(&rt, rt.alloc(), &loads);
     let words = [occupancy(&rt, 7), occupancy(&rt, 7)];
-    for (frame, owner, count, wanted) in [
-        (0, 5, 1, Refusal::StaleFrame),
-        (1, 6, 0, Refusal::StaleFrame),
-        (66, 5, 1, Refusal::StaleFrame),
-        (u64::MAX, 5, 1, Refusal::StaleFrame),
-        (2, 6, 1, Refusal::NotPolled),
-        (65, 4, 0, Refusal::NotPolled),
-        (2, 5, 0, Refusal::ReportCount),
-        (2, 5, 2, Refusal::ReportCount),
-        (2, 5, 1, Refusal::AlreadyReported),
+    for (frame, owner, occupancies, wanted) in [
+        (0, 5, &words[..1], Refusal::StaleFrame),
+        (1, 6, &words[..0], Refusal::StaleFrame),
+        (66, 5, &words[..1], Refusal::StaleFrame),
+        (u64::MAX, 5, &words[..1], Refusal::StaleFrame),
+        (2, 6, &words[..1], Refusal::NotPolled),
+        (65, 4, &words[..0], Refusal::NotPolled),
+        (2, 5, &words[..0], Refusal::ReportCount),
+        (2, 5, &words[..2], Refusal::ReportCount),
+        (2, 5, &words[..1], Refusal::AlreadyReported),
     ] {
-        let occupancies = words.get(..count).expect(&rt, "two at most");
         assert_refused(&rt, &mut loads, &copy, frame, owner, occupancies, &wanted);
     }
-    let told = loads.report_refusal(FrameNo::new(3), onu(&rt, 5), 1);
-    assert_eq!(rt; told, None);
+    assert_report_refusal(&rt, &loads, 3, 5, 1, None);
     report(&rt, &mut loads, 3, 100);
     assert_load(&rt, &loads, 1024, 256 * (100 - 63));
 }
@@ -345,15 +371,19 @@ fn refuses_reports_by_the_first_check(rt: HostRuntime) {
 fn the_window_has_64_maps(rt: HostRuntime) {
     let mut loads = Loads::open(rt.alloc());
     map_all(&rt, &mut loads, 7, 71, 3);
-    assert_eq!(rt; loads.window_len(), 64);
+    assert_window_len(&rt, &loads, 64);
     let grants = [grant(&rt, 5, 1024, 3)];
     assert_map(&rt, loads.window_at(0), 7, &grants, &[]);
     map_all(&rt, &mut loads, 71, 72, 3);
-    assert_eq!(rt; loads.window_len(), 64);
+    assert_window_len(&rt, &loads, 64);
     for index in 0..64 {
         assert_map(&rt, loads.window_at(index), 8 + index as u64, &grants, &[]);
     }
-    assert!(rt; loads.window_at(64).is_none());
+}
+
+fn copy_of_first(rt: &impl Abort, alloc: Global, loads: &Loads) -> WindowMap {
+    let first = loads.window_at(0).expect(rt, "a map");
+    first.try_copy(alloc).expect(rt, "memory")
 }
 
 #[test]
@@ -368,8 +398,7 @@ fn a_map_shows_what_it_granted_and_who_reported(rt: HostRuntime) {
     map(&rt, &mut loads, 13, &[]);
     assert_reported(&rt, &mut loads, 12, 9, &[None], Ok(()));
     assert_reported(&rt, &mut loads, 12, 3, &[None], Ok(()));
-    let first = loads.window_at(0).expect(&rt, "a map");
-    let copy = first.try_copy(rt.alloc()).expect(&rt, "memory");
+    let copy = copy_of_first(&rt, rt.alloc(), &loads);
     report(&rt, &mut loads, 12, 100);
     let owners = [onu(&rt, 3), onu(&rt, 5), onu(&rt, 9)];
     assert_map(&rt, Some(&copy), 12, &grants, &[owners[0], owners[2]]);

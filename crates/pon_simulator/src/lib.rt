@@ -11,8 +11,6 @@ mod foreign;
 mod owner;
 mod series;
 mod serving;
-#[cfg(test)]
-mod tests;
 mod writing;
 
 pub use fault::UnitsFault;

@@ -21,9 +21,9 @@ use pon_event::Event;
 use pon_units::{AllocId, FrameNo, Granted, OnuId};
 use std::alloc::AllocError;
 
-/// Updates the state by a map of the next frame, of which it keeps the grants and what they leave. Returns a vector for the grants of a later
-/// map, with the memory of those of the map that left the window, if one did. `Err` only if memory is refused, and then
-/// the state is unchanged.
+/// Updates the state by a map of the next frame, of which it keeps the grants and what they leave to each Alloc-ID. Returns
+/// a vector for the grants of a later map, with the memory of those of the map that left the window, if one did. `Err`
+/// only if memory is refused, and then the state is unchanged.
 pub fn add_map(
     state: &mut PortState,
     grants: Vec<Granted>,

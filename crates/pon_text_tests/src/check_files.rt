@@ -3,26 +3,48 @@ ghost use Rattle.std.specs.Prelude.{◌<◌};
 use pon_check_file::{LONGEST_LINE, PlanFault, check_file};
 use pon_device::{DevRead, MemRead, MemWrite};
 use std::alloc::{AllocError, Global};
-use std::test::Fail;
 
-// The result of a run, and the bytes of its writer.
+// Makes a device that gives at most `most` of the bytes in a call, and fails in the given calls; `None` if memory is
+// refused.
+fn reader_of(alloc: Global, input: &[u8], most: usize, failures: &[u64]) -> Option<MemRead>
+    requires { 0 < most }
+{
+    let failures = failures.to_vec(alloc).ok()?;
+    let bytes = input.to_vec(alloc).ok()?;
+    Some(MemRead::new(bytes, most, failures))
+}
+
+// The result of a run, and the device that it wrote to.
 #[derive(Drop)]
 struct Checked {
     result: Result<bool, PlanFault>,
-    text: Vec<u8>,
+    writer: MemWrite,
 }
 
 // Checks the file over devices that give and take at most `most` bytes in a call, and fail in the given calls. `None`
 // if memory is refused to the test itself.
-fn run(alloc: Global, input: &[u8], most: usize, reads: &[u64], writes: &[u64]) -> Option<Checked>
+fn check_over(
+    alloc: Global,
+    input: &[u8],
+    most: usize,
+    reads: &[u64],
+    writes: &[u64],
+) -> Option<Checked>
     requires { 0 < most }
 {
-    let bytes = input.to_vec(alloc).ok()?;
-    let mut reader = MemRead::new(bytes, most, reads.to_vec(alloc).ok()?);
+    let mut reader = reader_of(alloc, input, most, reads)?;
     let mut writer = MemWrite::new(alloc, most, writes.to_vec(alloc).ok()?);
     let result = check_file(alloc, &mut reader, &mut writer);
-    let text = writer.bytes().to_vec(alloc).ok()?;
-    Some(Checked { result, text })
+    Some(Checked { result, writer })
+}
+
+// Returns whether the file is answered by this text, and accepted if the text is `yes`.
+fn is_answered(alloc: Global, input: &[u8], most: usize, text: &[u8]) -> Option<bool>
+    requires { 0 < most }
+{
+    let run = check_over(alloc, input, most, &[], &[])?;
+    let accepted = text == b"yes\n".as_slice();
+    Some(run.result == Ok(accepted) && run.writer.bytes() == text)
 }
 
 const ACCEPTED: &[u8] =
@@ -192,32 +214,41 @@ static FORMS: [(&[u8], &[u8]); 38] = [
 #[test]
 fn verdicts_in_pieces(rt: HostRuntime) {
     for most in [1usize, 5, 4096] {
-        for (input, text) in VERDICTS.iter() {
-            let run = run(rt.alloc(), input, most.max(1), &[], &[]).expect(&rt, "memory");
-            assert_eq!(rt; run.result, Ok(*text == b"yes\n".as_slice()));
-            assert_eq!(rt; run.text.as_slice(), *text);
+        for (row, (input, text)) in VERDICTS.iter().enumerate() {
+            let answered = is_answered(rt.alloc(), input, most.max(1), text);
+            assert!(rt; answered == Some(true), "row {row} in pieces of {most}");
         }
     }
 }
 
 #[test]
 fn the_first_line_that_does_not_fit_is_told(rt: HostRuntime) {
-    for (input, text) in FORMS.iter() {
-        let run = run(rt.alloc(), input, 4096, &[], &[]).expect(&rt, "memory");
-        assert_eq!(rt; run.result, Ok(*text == b"yes\n".as_slice()));
-        assert_eq!(rt; run.text.as_slice(), *text);
+    for (row, (input, text)) in FORMS.iter().enumerate() {
+        let answered = is_answered(rt.alloc(), input, 4096, text);
+        assert!(rt; answered == Some(true), "row {row}");
     }
 }
 
-// Returns a file of `count` items of weight 1 and cap 0.
-fn many_items(alloc: Global, count: usize) -> Result<Vec<u8>, AllocError> {
-    let mut input = Vec::new(alloc);
+// Appends a file of `count` items of weight 1 and cap 0.
+fn push_many(input: &mut Vec<u8>, count: usize) -> Result<(), AllocError> {
     input.extend_from_slice(b"surplus 5\n")?;
     for _ in 0..count {
         input.extend_from_slice(b"item 1 0\n")?;
     }
-    input.extend_from_slice(b"level 5/1\nsaturated -\n")?;
-    Ok(input)
+    input.extend_from_slice(b"level 5/1\nsaturated -\n")
+}
+
+// Returns a file of `count` items of weight 1 and cap 0.
+fn many_items(alloc: Global, count: usize) -> Option<Vec<u8>> {
+    let mut input = Vec::new(alloc);
+    push_many(&mut input, count).ok()?;
+    Some(input)
+}
+
+// Returns whether a file of so many items is answered by this text.
+fn is_told_of_many(alloc: Global, count: usize, text: &[u8]) -> Option<bool> {
+    let input = many_items(alloc, count)?;
+    is_answered(alloc, &input, 4096, text)
 }
 
 #[test]
@@ -228,20 +259,24 @@ fn the_513th_item_does_not_fit(rt: HostRuntime) {
         (513, b"no Syntax 514\n"),
         (600, b"no Syntax 514\n"),
     ] {
-        let input = many_items(rt.alloc(), count).expect(&rt, "memory");
-        let run = run(rt.alloc(), &input, 4096, &[], &[]).expect(&rt, "memory");
-        assert_eq!(rt; run.result, Ok(false));
-        assert_eq!(rt; run.text.as_slice(), text);
+        assert!(rt;
+            is_told_of_many(rt.alloc(), count, text) == Some(true),
+            "{count}"
+        );
     }
+}
+
+// Checks the file that a device gives.
+fn check(alloc: Global, reader: &mut MemRead) -> Option<bool> {
+    let mut writer = MemWrite::new(alloc, 4096, Vec::new(alloc));
+    check_file(alloc, reader, &mut writer).ok()
 }
 
 // Returns the number of unread bytes of the file. `None` if memory is refused to the test itself.
 fn unread(alloc: Global, input: &[u8]) -> Option<usize> {
     let mut rest = input.to_vec(alloc).ok()?;
-    let bytes = input.to_vec(alloc).ok()?;
-    let mut reader = MemRead::new(bytes, usize::MAX, Vec::new(alloc));
-    let mut writer = MemWrite::new(alloc, 4096, Vec::new(alloc));
-    check_file(alloc, &mut reader, &mut writer).ok()?;
+    let mut reader = reader_of(alloc, input, usize::MAX, &[])?;
+    check(alloc, &mut reader)?;
     reader.read(&mut rest).ok()
 }
 
@@ -249,51 +284,70 @@ fn unread(alloc: Global, input: &[u8]) -> Option<usize> {
 #[test]
 fn a_first_line_without_an_end_is_told(rt: HostRuntime) {
     let input = [0u8; 100_000];
-    let run = run(rt.alloc(), &input, 4096, &[], &[]).expect(&rt, "memory");
-    assert_eq!(rt; run.result, Ok(false));
-    assert_eq!(rt; run.text.as_slice(), b"no Syntax 1\n".as_slice());
-    let left = unread(rt.alloc(), &input).expect(&rt, "memory");
-    assert_eq!(rt; left, input.len() - LONGEST_LINE - 2);
+    assert!(rt; is_answered(rt.alloc(), &input, 4096, b"no Syntax 1\n") == Some(true));
+    assert!(rt; unread(rt.alloc(), &input) == Some(input.len() - LONGEST_LINE - 2));
+}
+
+// Returns the number of unread bytes of a file of so many items.
+fn unread_of_many(alloc: Global, count: usize) -> Option<usize> {
+    let input = many_items(alloc, count)?;
+    unread(alloc, &input)
 }
 
 #[test]
 fn nothing_is_read_behind_a_513th_item(rt: HostRuntime) {
-    let input = many_items(rt.alloc(), 600).expect(&rt, "memory");
-    let left = unread(rt.alloc(), &input).expect(&rt, "memory");
-    assert_eq!(rt;
-        left,
-        b"item 1 0\n".len() * 87 + b"level 5/1\nsaturated -\n".len()
-    );
+    let behind = b"item 1 0\n".len() * 87 + b"level 5/1\nsaturated -\n".len();
+    assert!(rt; unread_of_many(rt.alloc(), 600) == Some(behind));
+}
+
+// Appends a whole file and 20,000 empty lines.
+fn push_empty_lines(input: &mut Vec<u8>) -> Result<(), AllocError> {
+    input.extend_from_slice(ACCEPTED)?;
+    for _ in 0..20_000 {
+        input.push(b'\n')?;
+    }
+    Ok(())
+}
+
+// Returns whether a file with many empty lines is accepted.
+fn takes_empty_lines(alloc: Global) -> Option<bool> {
+    let mut input = Vec::new(alloc);
+    push_empty_lines(&mut input).ok()?;
+    is_answered(alloc, &input, 4096, b"yes\n")
 }
 
 #[test]
 fn many_empty_lines_may_follow(rt: HostRuntime) {
-    let mut input = ACCEPTED.to_vec(rt.alloc()).expect(&rt, "memory");
-    for _ in 0..20_000 {
-        input.push(b'\n').expect(&rt, "memory");
-    }
-    let run = run(rt.alloc(), &input, 4096, &[], &[]).expect(&rt, "memory");
-    assert_eq!(rt; run.result, Ok(true));
-    assert_eq!(rt; run.text.as_slice(), b"yes\n".as_slice());
+    assert!(rt; takes_empty_lines(rt.alloc()) == Some(true));
 }
 
-// Returns a file whose set has 512 indexes of 20 digits, followed by `behind`.
-fn longest_set(alloc: Global, behind: &[u8]) -> Result<Vec<u8>, AllocError> {
-    let mut input = Vec::new(alloc);
+// Appends an index of 20 digits, after a comma if it is not the first.
+fn push_index(alloc: Global, input: &mut Vec<u8>, index: u64) -> Result<(), AllocError> {
+    if index > 0 {
+        input.push(b',')?;
+    }
+    let digits = format!(in alloc; "{index:020}")?;
+    input.extend_from_slice(digits.as_bytes())
+}
+
+// Appends a file whose set has 512 indexes of 20 digits, followed by `behind`.
+fn push_longest_set(alloc: Global, input: &mut Vec<u8>, behind: &[u8]) -> Result<(), AllocError> {
     input.extend_from_slice(b"surplus 0\n")?;
     for _ in 0..512 {
         input.extend_from_slice(b"item 1 0\n")?;
     }
     input.extend_from_slice(b"level all\nsaturated ")?;
     for index in 0..512u64 {
-        if index > 0 {
-            input.push(b',')?;
-        }
-        let digits = format!(in alloc; "{index:020}")?;
-        input.extend_from_slice(digits.as_bytes())?;
+        push_index(alloc, input, index)?;
     }
-    input.extend_from_slice(behind)?;
-    Ok(input)
+    input.extend_from_slice(behind)
+}
+
+// Returns whether the file with the longest set is answered by this text.
+fn is_told_of_longest(alloc: Global, behind: &[u8], text: &[u8]) -> Option<bool> {
+    let mut input = Vec::new(alloc);
+    push_longest_set(alloc, &mut input, behind).ok()?;
+    is_answered(alloc, &input, 4096, text)
 }
 
 #[test]
@@ -304,10 +358,29 @@ fn the_longest_line_fits(rt: HostRuntime) {
         (b"\r\r\n", b"no Syntax 515\n"),
         (b"0\n", b"no Syntax 515\n"),
     ] {
-        let input = longest_set(rt.alloc(), behind).expect(&rt, "memory");
-        let run = run(rt.alloc(), &input, 4096, &[], &[]).expect(&rt, "memory");
-        assert_eq!(rt; run.result, Ok(text == b"yes\n".as_slice()));
-        assert_eq!(rt; run.text.as_slice(), text);
+        assert!(rt;
+            is_told_of_longest(rt.alloc(), behind, text) == Some(true),
+            "{behind:?}"
+        );
+    }
+}
+
+// Returns the result of a run that accepts, with these failures, and the number of bytes written if they begin the
+// answer.
+fn accepted_with(
+    alloc: Global,
+    most: usize,
+    reads: &[u64],
+    writes: &[u64],
+) -> Option<(Result<bool, PlanFault>, Option<usize>)>
+    requires { 0 < most }
+{
+    let run = check_over(alloc, ACCEPTED, most, reads, writes)?;
+    let text = run.writer.bytes();
+    if b"yes\n".starts_with(text) {
+        Some((run.result, Some(text.len())))
+    } else {
+        Some((run.result, None))
     }
 }
 
@@ -315,37 +388,34 @@ fn the_longest_line_fits(rt: HostRuntime) {
 #[test]
 fn a_failed_read_leaves_nothing(rt: HostRuntime) {
     for call in 0..ACCEPTED.len() as u64 + 1 {
-        let run = run(rt.alloc(), ACCEPTED, 5, &[call], &[]).expect(&rt, "memory");
-        assert_eq!(rt; run.result, Err(PlanFault::Read));
-        assert!(rt; run.text.is_empty());
+        let ended = accepted_with(rt.alloc(), 5, &[call], &[]);
+        assert!(rt;
+            ended == Some((Err(PlanFault::Read), Some(0))),
+            "call {call}: {ended:?}"
+        );
     }
 }
 
 // The writer takes one byte in a call: call b fails after b bytes, and call 4 is the flush.
 #[test]
 fn a_failed_write_leaves_a_beginning(rt: HostRuntime) {
-    for call in 0..5u64 {
-        let run = run(rt.alloc(), ACCEPTED, 1, &[], &[call]).expect(&rt, "memory");
-        assert_eq!(rt; run.result, Err(PlanFault::Write));
-        assert_eq!(rt; run.text.len() as u64, call);
-        assert!(rt; b"yes\n".starts_with(run.text.as_slice()));
+    for (call, written) in [(0, 0), (1, 1), (2, 2), (3, 3), (4, 4)] {
+        let ended = accepted_with(rt.alloc(), 1, &[], &[call]);
+        let wanted = (Err(PlanFault::Write), Some(written));
+        assert!(rt; ended == Some(wanted), "call {call}: {ended:?}");
     }
 }
 
 // With each allocation refused in turn, the answer is the same, or there is none.
 #[test]
-fn refused_memory_leaves_nothing_wrong(rt: HostRuntime) -> Result<(), Fail> {
-    let Some(run) = run(rt.alloc(), ACCEPTED, 4096, &[], &[]) else {
-        return Ok(());
-    };
-    match run.result {
-        Ok(accepted) => {
-            assert!(rt; accepted);
-            assert_eq!(rt; run.text.as_slice(), b"yes\n".as_slice());
-        }
-        Err(PlanFault::Read) => assert!(rt; false, "no read failed"),
-        Err(PlanFault::Memory) => assert!(rt; run.text.is_empty()),
-        Err(PlanFault::Write) => assert!(rt; b"yes\n".starts_with(run.text.as_slice())),
+fn refused_memory_leaves_nothing_wrong(rt: HostRuntime) {
+    if let Some((result, written)) = accepted_with(rt.alloc(), 4096, &[], &[]) {
+        let may_end = match result {
+            Ok(accepted) => accepted && written == Some(4),
+            Err(PlanFault::Read) => false,
+            Err(PlanFault::Memory) => written == Some(0),
+            Err(PlanFault::Write) => written.is_some(),
+        };
+        assert!(rt; may_end, "{result:?}, {written:?}");
     }
-    Ok(())
 }

@@ -4,9 +4,7 @@ ghost use Rattle.std.specs.Prelude.{◌≡◌, ◌<◌, true};
 use pon_cert::{ClassCert, Item, Level, MapCert, Sat, is_problem};
 use pon_check::{CertFault, MapCertFault, check_class, check_map};
 use pon_units::Frac;
-use std::alloc::{AllocError, Global};
-use std::process::Abort;
-use std::test::Fail;
+use std::alloc::Global;
 
 const LINE: u64 = 2_488_320;
 
@@ -20,25 +18,28 @@ fn at(num: u64, den: u64) -> Level
     Level::At(Frac::new(num, den))
 }
 
-fn class(alloc: Global, level: Level, flags: &[bool]) -> Result<ClassCert, AllocError> {
-    Ok(ClassCert {
-        level,
-        saturated: Sat::new(Vec::from_slice(alloc, flags)?),
-    })
+fn class(alloc: Global, level: Level, flags: &[bool]) -> Option<ClassCert> {
+    let saturated = Sat::new(Vec::from_slice(alloc, flags).ok()?);
+    Some(ClassCert { level, saturated })
 }
 
-fn answer(
-    rt: &impl Abort,
+// Judges a certificate; `None` if there is no problem, or memory is refused.
+fn judged(
+    alloc: Global,
     items: &[Item],
     surplus: u64,
-    cert: &ClassCert,
-) -> Result<(), CertFault> {
-    assert!(rt; is_problem(items, surplus));
-    check_class(items, surplus, cert)
+    level: Level,
+    flags: &[bool],
+) -> Option<Result<(), CertFault>> {
+    if !is_problem(items, surplus) {
+        return None;
+    }
+    let cert = class(alloc, level, flags)?;
+    Some(check_class(items, surplus, &cert))
 }
 
 #[test]
-fn caps_that_are_met_exactly(rt: HostRuntime) -> Result<(), Fail> {
+fn caps_that_are_met_exactly(rt: HostRuntime) {
     let items = [item(1, 10), item(1, 10), item(1, 20)];
     let both = [true, true, false];
     let unsaturated = |i| Err(CertFault::Unsaturated { i });
@@ -53,15 +54,14 @@ fn caps_that_are_met_exactly(rt: HostRuntime) -> Result<(), Fail> {
         (Level::All, [true; 3], Err(CertFault::Overspent)),
     ];
     for (level, flags, wanted) in cases {
-        let cert = class(rt.alloc(), level, &flags)?;
-        assert_eq!(rt; answer(&rt, &items, 30, &cert), wanted, "{level:?}");
+        let told = judged(rt.alloc(), &items, 30, level, &flags);
+        assert!(rt; told == Some(wanted), "{level:?}, {flags:?}: {told:?}");
     }
-    Ok(())
 }
 
 // 300/7 and 400/7 are the rates. Rounded down to 42 and 57, they leave 1, and are not a level times the weights.
 #[test]
-fn no_whole_numbers(rt: HostRuntime) -> Result<(), Fail> {
+fn no_whole_numbers(rt: HostRuntime) {
     let items = [item(3, 1000), item(4, 1000)];
     let cases = [
         (at(100, 7), Ok(())),
@@ -74,59 +74,72 @@ fn no_whole_numbers(rt: HostRuntime) -> Result<(), Fail> {
         (at(101, 7), Err(CertFault::Overspent)),
     ];
     for (level, wanted) in cases {
-        let cert = class(rt.alloc(), level, &[false, false])?;
-        assert_eq!(rt; answer(&rt, &items, 100, &cert), wanted, "{level:?}");
+        let told = judged(rt.alloc(), &items, 100, level, &[false, false]);
+        assert!(rt; told == Some(wanted), "{level:?}: {told:?}");
     }
-    Ok(())
 }
 
 #[test]
-fn all_of_the_surplus(rt: HostRuntime) -> Result<(), Fail> {
-    let alloc = rt.alloc();
+fn all_of_the_surplus(rt: HostRuntime) {
     let three = [item(1, 10), item(1, 100), item(2, 100)];
-    let cert = class(alloc, at(90, 3), &[true, false, false])?;
-    assert_eq!(rt; answer(&rt, &three, 100, &cert), Ok(()));
     let two = [item(1, 100), item(2, 100)];
-    let cert = class(alloc, at(90, 3), &[false, false])?;
-    assert_eq!(rt; answer(&rt, &two, 100, &cert), Err(CertFault::NotExhausted));
-    let two = [item(1, 0), item(1, 5)];
-    let cert = class(alloc, at(0, 1), &[true, false])?;
-    assert_eq!(rt; answer(&rt, &two, 0, &cert), Ok(()));
-    let cert = class(alloc, at(0, 2), &[false, false])?;
-    let wanted = Err(CertFault::Unsaturated { i: 0 });
-    assert_eq!(rt; answer(&rt, &two, 0, &cert), wanted);
-    Ok(())
+    let small = [item(1, 0), item(1, 5)];
+    let unsaturated = Err(CertFault::Unsaturated { i: 0 });
+    for (items, surplus, level, flags, wanted) in [
+        (
+            three.as_slice(),
+            100,
+            at(90, 3),
+            [true, false, false].as_slice(),
+            Ok(()),
+        ),
+        (
+            &two,
+            100,
+            at(90, 3),
+            &[false, false],
+            Err(CertFault::NotExhausted),
+        ),
+        (&small, 0, at(0, 1), &[true, false], Ok(())),
+        (&small, 0, at(0, 2), &[false, false], unsaturated),
+    ] {
+        let told = judged(rt.alloc(), items, surplus, level, flags);
+        assert!(rt; told == Some(wanted), "{level:?}, {flags:?}: {told:?}");
+    }
 }
 
 #[test]
-fn surplus_above_all_caps(rt: HostRuntime) -> Result<(), Fail> {
-    let alloc = rt.alloc();
-    let none = class(alloc, Level::All, &[])?;
+fn surplus_above_all_caps(rt: HostRuntime) {
     for surplus in [0, 1, LINE] {
-        assert_eq!(rt; answer(&rt, &[], surplus, &none), Ok(()));
+        assert!(rt;
+            judged(rt.alloc(), &[], surplus, Level::All, &[]) == Some(Ok(())),
+            "{surplus}"
+        );
     }
     let items = [item(1, 10), item(2, 20)];
-    let all = class(alloc, Level::All, &[true, true])?;
-    for surplus in [30, 31, LINE] {
-        assert_eq!(rt; answer(&rt, &items, surplus, &all), Ok(()));
+    for (surplus, wanted) in [
+        (30, Ok(())),
+        (31, Ok(())),
+        (LINE, Ok(())),
+        (29, Err(CertFault::Overspent)),
+    ] {
+        let told = judged(rt.alloc(), &items, surplus, Level::All, &[true, true]);
+        assert!(rt; told == Some(wanted), "{surplus}: {told:?}");
     }
-    assert_eq!(rt; answer(&rt, &items, 29, &all), Err(CertFault::Overspent));
-    Ok(())
 }
 
 #[test]
-fn as_many_truth_values_as_items(rt: HostRuntime) -> Result<(), Fail> {
+fn as_many_truth_values_as_items(rt: HostRuntime) {
     let items = [item(1, 10), item(2, 20)];
     let flags = [true, true, true];
     for count in [0, 1, 3] {
-        let cert = class(rt.alloc(), Level::All, &flags[..count])?;
-        assert_eq!(rt; answer(&rt, &items, 30, &cert), Err(CertFault::Length));
+        let told = judged(rt.alloc(), &items, 30, Level::All, &flags[..count]);
+        assert!(rt; told == Some(Err(CertFault::Length)), "{count}: {told:?}");
     }
-    Ok(())
 }
 
 #[test]
-fn greatest_problem(rt: HostRuntime) -> Result<(), Fail> {
+fn greatest_problem(rt: HostRuntime) {
     let items = [item(LINE, LINE); 512];
     let wanted = [
         (at(LINE, 512 * LINE), Ok(())),
@@ -134,14 +147,13 @@ fn greatest_problem(rt: HostRuntime) -> Result<(), Fail> {
         (at(LINE + 1, 512 * LINE), Err(CertFault::Overspent)),
     ];
     for (level, wanted) in wanted {
-        let cert = class(rt.alloc(), level, &[false; 512])?;
-        assert_eq!(rt; answer(&rt, &items, LINE, &cert), wanted, "{level:?}");
+        let told = judged(rt.alloc(), &items, LINE, level, &[false; 512]);
+        assert!(rt; told == Some(wanted), "{level:?}: {told:?}");
     }
-    Ok(())
 }
 
 #[test]
-fn numbers_near_2_64(rt: HostRuntime) -> Result<(), Fail> {
+fn numbers_near_2_64(rt: HostRuntime) {
     let items = [item(1, 10), item(1, 10), item(1, 20)];
     let cases = [
         (at(u64::MAX, u64::MAX), Err(CertFault::Denominator)),
@@ -149,40 +161,53 @@ fn numbers_near_2_64(rt: HostRuntime) -> Result<(), Fail> {
         (at(u64::MAX, 1), Err(CertFault::Unsaturated { i: 2 })),
     ];
     for (level, wanted) in cases {
-        let cert = class(rt.alloc(), level, &[true, true, false])?;
-        assert_eq!(rt; answer(&rt, &items, 30, &cert), wanted, "{level:?}");
+        let told = judged(rt.alloc(), &items, 30, level, &[true, true, false]);
+        assert!(rt; told == Some(wanted), "{level:?}: {told:?}");
     }
-    Ok(())
 }
 
 // Twice the numerator is 2^64 and 2^64 + 4: modulo 2^64 the sums are those of the surplus, 0 and 2.
 #[test]
-fn products_do_not_wrap(rt: HostRuntime) -> Result<(), Fail> {
+fn products_do_not_wrap(rt: HostRuntime) {
     let half = 9_223_372_036_854_775_808;
+    let unsaturated = Err(CertFault::Unsaturated { i: 0 });
     for surplus in [0, 2] {
-        let level = at(half + surplus, 2);
-        let cert = class(rt.alloc(), level, &[false])?;
-        let wanted = Err(CertFault::Unsaturated { i: 0 });
-        assert_eq!(rt; answer(&rt, &[item(2, 5)], surplus, &cert), wanted);
-        let cert = class(rt.alloc(), at(surplus, 2), &[false])?;
-        assert_eq!(rt; answer(&rt, &[item(2, 5)], surplus, &cert), Ok(()));
+        for (num, wanted) in [(half + surplus, unsaturated), (surplus, Ok(()))] {
+            let told = judged(rt.alloc(), &[item(2, 5)], surplus, at(num, 2), &[false]);
+            assert!(rt; told == Some(wanted), "{num}: {told:?}");
+        }
     }
-    Ok(())
 }
 
-fn map_answer(
-    rt: &impl Abort,
+// Judges a certificate of both classes, which have these items and share 30 kbit/s; `None` if there is no problem, or
+// memory is refused.
+fn map_judged(
+    alloc: Global,
     na: &[Item],
     be: &[Item],
-    cert: &MapCert,
-) -> Result<(), MapCertFault> {
-    assert!(rt; is_problem(na, 30) && is_problem(be, 30));
-    check_map(na, be, 30, cert)
+    na_level: Level,
+    na_flags: &[bool],
+    be_level: Level,
+    be_flags: &[bool],
+) -> Option<Result<(), MapCertFault>> {
+    if !is_problem(na, 30) {
+        return None;
+    }
+    if !is_problem(be, 30) {
+        return None;
+    }
+    let na_class = class(alloc, na_level, na_flags)?;
+    let be_class = class(alloc, be_level, be_flags)?;
+    let cert = MapCert {
+        na: na_class,
+        be: be_class,
+    };
+    Some(check_map(na, be, 30, &cert))
 }
 
 // A level that is a fraction leaves nothing to best effort.
 #[test]
-fn nothing_left_to_best_effort(rt: HostRuntime) -> Result<(), Fail> {
+fn nothing_left_to_best_effort(rt: HostRuntime) {
     let na = [item(1, 10), item(1, 10), item(1, 20)];
     let be = [item(2, 50)];
     let overspent = CertFault::Overspent;
@@ -205,18 +230,18 @@ fn nothing_left_to_best_effort(rt: HostRuntime) -> Result<(), Fail> {
         ),
     ];
     for (na_level, be_level, wanted) in cases {
-        let cert = MapCert {
-            na: class(rt.alloc(), na_level, &[true, true, false])?,
-            be: class(rt.alloc(), be_level, &[false])?,
-        };
-        assert_eq!(rt; map_answer(&rt, &na, &be, &cert), wanted);
+        let met = [true, true, false];
+        let told = map_judged(rt.alloc(), &na, &be, na_level, &met, be_level, &[false]);
+        assert!(rt;
+            told == Some(wanted),
+            "{na_level:?}, {be_level:?}: {told:?}"
+        );
     }
-    Ok(())
 }
 
 // If all non-assured items get their caps, best effort has the surplus less these caps.
 #[test]
-fn surplus_less_the_caps_to_best_effort(rt: HostRuntime) -> Result<(), Fail> {
+fn surplus_less_the_caps_to_best_effort(rt: HostRuntime) {
     let be = [item(2, 25)];
     let overspent = MapCertFault::BestEffort(CertFault::Overspent);
     let length = MapCertFault::BestEffort(CertFault::Length);
@@ -225,18 +250,22 @@ fn surplus_less_the_caps_to_best_effort(rt: HostRuntime) -> Result<(), Fail> {
         (Level::All, [true].as_slice(), Err(overspent)),
         (Level::All, [].as_slice(), Err(length)),
     ];
+    let na = [item(1, 10)];
     for (level, flags, wanted) in cases {
-        let cert = MapCert {
-            na: class(rt.alloc(), Level::All, &[true])?,
-            be: class(rt.alloc(), level, flags)?,
-        };
-        assert_eq!(rt; map_answer(&rt, &[item(1, 10)], &be, &cert), wanted);
+        let told = map_judged(rt.alloc(), &na, &be, Level::All, &[true], level, flags);
+        assert!(rt; told == Some(wanted), "{level:?}, {flags:?}: {told:?}");
     }
-    Ok(())
+}
+
+fn prints(alloc: Global, fault: &CertFault, wanted: &str) -> bool {
+    match format!(in alloc; "{fault}") {
+        Ok(text) => text.as_str() == wanted,
+        Err(_) => false,
+    }
 }
 
 #[test]
-fn texts_of_faults(rt: HostRuntime) -> Result<(), Fail> {
+fn texts_of_faults(rt: HostRuntime) {
     let texts = [
         (CertFault::Length, "Length"),
         (CertFault::Denominator, "Denominator"),
@@ -246,8 +275,6 @@ fn texts_of_faults(rt: HostRuntime) -> Result<(), Fail> {
         (CertFault::Overspent, "Overspent"),
     ];
     for (fault, wanted) in texts {
-        let text = format!(in rt.alloc(); "{fault}")?;
-        assert_eq!(rt; text.as_str(), wanted);
+        assert!(rt; prints(rt.alloc(), &fault, wanted), "{wanted}");
     }
-    Ok(())
 }

@@ -65,7 +65,7 @@ fn tells_the_first_check_that_fails(rt: HostRuntime) {
         (b"0 cert x".as_slice(), LineFault::WordCount),
         (b"0 remove x".as_slice(), LineFault::BadField),
     ] {
-        assert_eq!(rt; fault_of(line), Some(fault), "at {line:?}");
+        assert!(rt; fault_of(line) == Some(fault), "at {line:?}");
     }
 }
 
@@ -103,9 +103,8 @@ fn tells_what_the_port_would_refuse_of_the_numbers(rt: HostRuntime) {
         (b"0 change 1024 0 9 9 be".as_slice(), Refusal::NoSurplusRoom),
         (b"0 remove 16384".as_slice(), Refusal::AllocRange),
     ] {
-        assert_eq!(rt;
-            fault_of(line),
-            Some(LineFault::Port(refusal)),
+        assert!(rt;
+            fault_of(line) == Some(LineFault::Port(refusal)),
             "at {line:?}"
         );
     }
@@ -127,14 +126,14 @@ fn gives_no_reply_to_blank_lines_and_comments(rt: HostRuntime) {
 fn counts_the_bytes_of_a_line_with_its_carriage_return(rt: HostRuntime) {
     let mut line = [b'#'; 4097];
     assert!(rt; asks_nothing(&line[..4096]));
-    assert_eq!(rt; fault_of(&line), Some(LineFault::LineLong));
+    assert!(rt; fault_of(&line) == Some(LineFault::LineLong));
     line[4096] = b'\r';
-    assert_eq!(rt; fault_of(&line), Some(LineFault::LineLong));
+    assert!(rt; fault_of(&line) == Some(LineFault::LineLong));
 }
 
 #[test]
 fn reads_each_command(rt: HostRuntime) {
-    assert_eq!(rt; port_of_admit(b"0 admit 5 1024 2560 0 2560 none"), Some(0));
+    assert!(rt; port_of_admit(b"0 admit 5 1024 2560 0 2560 none") == Some(0));
     let changes = matches!(
         read_line(2, b"1 change 1024 0 0 1 be"),
         Reading::Asks {
@@ -156,7 +155,7 @@ fn reads_each_command(rt: HostRuntime) {
     let asks_state = matches!(read_line(2, b"1 show"), Reading::AsksState { port: 1 });
     assert!(rt; asks_state);
     for (line, port) in [(b"00 map".as_slice(), 0), (b"\t 1 \t map \r".as_slice(), 1)] {
-        assert_eq!(rt; port_of_map(line), Some(port), "at {line:?}");
+        assert!(rt; port_of_map(line) == Some(port), "at {line:?}");
     }
 }
 
@@ -167,7 +166,7 @@ fn frame_line(line: &[u8]) -> Option<FrameLine> {
 #[test]
 fn reads_the_lines_of_each_frame(rt: HostRuntime) {
     let map = FrameLine::Map { port: 1 };
-    assert_eq!(rt; frame_line(b"1 map"), Some(map));
+    assert!(rt; frame_line(b"1 map") == Some(map));
     let mut occ = Occupancies::new();
     let read = read_frame_line(2, b"0 report 7 5 9 x\r", &mut occ);
     let report = FrameLine::Report {
@@ -175,9 +174,9 @@ fn reads_the_lines_of_each_frame(rt: HostRuntime) {
         frame: FrameNo::new(7),
         onu: OnuId::new(5).unwrap(),
     };
-    assert_eq!(rt; read, Some(report));
+    assert!(rt; read == Some(report));
     let wanted = [BufOcc::new(9), None];
-    assert_eq!(rt; occ.as_slice(), wanted.as_slice());
+    assert!(rt; occ.as_slice() == wanted.as_slice());
 }
 
 #[test]
@@ -191,6 +190,6 @@ fn leaves_other_lines_and_refused_ones(rt: HostRuntime) {
         b"# map".as_slice(),
         b"".as_slice(),
     ] {
-        assert_eq!(rt; frame_line(line), None);
+        assert!(rt; frame_line(line).is_none(), "at {line:?}");
     }
 }

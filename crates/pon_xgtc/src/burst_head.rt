@@ -93,29 +93,3 @@ impl BurstHead {
         (u32::from(onu) << 9) + u32::from(indications)
     }
 }
-
-#[cfg(test)]
-mod tests {
-    use super::*;
-    use std::test::Fail;
-
-    #[test]
-    fn onu_five(rt: HostRuntime) -> Result<(), Fail> {
-        let head = BurstHead::new(5, 0).ok_or("in range")?;
-        let bytes = [0x01, 0x40, 0x13, 0xf1];
-        assert_eq!(rt; head.encode(), bytes);
-        assert_eq!(rt; BurstHead::decode(&bytes), Ok((head, 0)));
-        assert_eq!(rt; BurstHead::decode(&bytes[..3]), Err(HeadFault::Short));
-        Ok(())
-    }
-
-    #[test]
-    fn ends_of_the_range(rt: HostRuntime) -> Result<(), Fail> {
-        assert_eq!(rt; BurstHead::new(1024, 0), None);
-        assert_eq!(rt; BurstHead::new(0, 512), None);
-        let head = BurstHead::new(1023, 511).ok_or("in range")?;
-        assert_eq!(rt; (head.onu_raw(), head.ind()), (1023, 511));
-        assert_eq!(rt; BurstHead::decode(&head.encode()), Ok((head, 0)));
-        Ok(())
-    }
-}

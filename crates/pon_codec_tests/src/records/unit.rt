@@ -4,7 +4,7 @@ use pon_dbru::Occupancies;
 use pon_link::{Unit, UpRecord};
 use pon_units::{AllocId, BufOcc, FrameNo, OnuId};
 use pon_xgtc::BurstHead;
-use std::test::Fail;
+use std::alloc::Global;
 
 // Makes a simulated ONU with ONU-ID 5, `words` waiting for Alloc-ID 1024, and 7 for Alloc-ID 1025.
 fn unit(words: u32) -> Option<Unit> {
@@ -26,51 +26,71 @@ fn answer_of(words: u32) -> UpRecord {
     }
 }
 
-fn map(rt: &HostRuntime, rows: &[Alloc]) -> Result<Map, Fail> {
-    let rows = Vec::from_slice(rt.alloc(), rows)?;
-    Ok(Map::from_rows(rows).map_err(|_| "a map")?)
+fn map(alloc: Global, rows: &[Alloc]) -> Option<Map> {
+    Map::from_rows(Vec::from_slice(alloc, rows).ok()?).ok()
 }
 
-#[test]
-fn answers_with_what_waits(rt: HostRuntime) -> Result<(), Fail> {
+// Returns whether three answers in turn report these words for the first Alloc-ID.
+fn answers(alloc: Global, words: u32, reports: [u32; 3]) -> Option<bool> {
     let first = Alloc::polled(1024, Some(16), 11, 0);
     let foreign = Alloc::polled(1030, None, 5, 0);
     let second = Alloc::polled(1025, None, 0, 0);
-    let map = map(&rt, &[first, foreign, second])?;
+    let map = map(alloc, &[first, foreign, second])?;
+    let mut unit = unit(words)?;
+    let mut same = true;
+    for report in reports {
+        same = unit.answer(FrameNo::new(3), &map) == Some(answer_of(report)) && same;
+    }
+    Some(same)
+}
+
+#[test]
+fn answers_with_what_waits(rt: HostRuntime) {
     for (words, reports) in [
         (100, [100, 90, 80]),
         (15, [15, 5, 0]),
         (16_777_215, [16_777_215, 16_777_205, 16_777_195]),
         (16_777_230, [16_777_215, 16_777_215, 16_777_210]),
     ] {
-        let mut unit = unit(words).ok_or("numbers in range")?;
-        for report in reports {
-            let answer = unit.answer(FrameNo::new(3), &map);
-            assert_eq!(rt; answer, Some(answer_of(report)), "{words}");
-        }
+        assert!(rt;
+            answers(rt.alloc(), words, reports) == Some(true),
+            "{words}"
+        );
     }
-    Ok(())
 }
 
-#[test]
-fn answers_sixteen_structures_at_most(rt: HostRuntime) -> Result<(), Fail> {
+// Returns the number of occupancies in the answer to a map of 17 structures, and the first of them.
+fn answer_to_many(unit: &mut Unit, map: &Map, frame: u64) -> Option<(usize, Option<BufOcc>)> {
+    let answer = unit.answer(FrameNo::new(frame), map)?;
+    let occupancies = answer.occ.as_slice();
+    Some((occupancies.len(), *occupancies.first()?))
+}
+
+// Returns whether two answers to a map of 17 structures have 16 occupancies each, less by 16 grants of one word.
+fn answers_sixteen(alloc: Global) -> Option<bool> {
     let row = Alloc::polled(1024, Some(16), 2, 0);
-    let map = map(&rt, &[row; 17])?;
-    let mut unit = unit(100).ok_or("numbers in range")?;
-    let answer = unit.answer(FrameNo::new(0), &map).ok_or("an answer")?;
-    assert_eq!(rt; answer.occ.as_slice().len(), 16);
-    let next = unit.answer(FrameNo::new(1), &map).ok_or("an answer")?;
-    assert_eq!(rt; next.occ.as_slice().len(), 16);
-    assert_eq!(rt; next.occ.as_slice()[0], BufOcc::new(84));
-    Ok(())
+    let map = map(alloc, &[row; 17])?;
+    let mut unit = unit(100)?;
+    let first = answer_to_many(&mut unit, &map, 0) == Some((16, BufOcc::new(100)));
+    let second = answer_to_many(&mut unit, &map, 1) == Some((16, BufOcc::new(84)));
+    Some(first && second)
 }
 
 #[test]
-fn says_nothing_to_a_map_of_others(rt: HostRuntime) -> Result<(), Fail> {
+fn answers_sixteen_structures_at_most(rt: HostRuntime) {
+    assert!(rt; answers_sixteen(rt.alloc()) == Some(true));
+}
+
+// Returns whether a unit has no answer to a map that polls another and grants its own Alloc-ID no report.
+fn leaves_others(alloc: Global) -> Option<bool> {
     let foreign = Alloc::polled(1030, Some(16), 5, 0);
-    let silent = Alloc::new(1024, false, false, None, 5, false, 0).ok_or("a structure")?;
-    let map = map(&rt, &[foreign, silent])?;
-    let mut unit = unit(100).ok_or("numbers in range")?;
-    assert_eq!(rt; unit.answer(FrameNo::new(3), &map), None);
-    Ok(())
+    let silent = Alloc::new(1024, false, false, None, 5, false, 0)?;
+    let map = map(alloc, &[foreign, silent])?;
+    let mut unit = unit(100)?;
+    Some(unit.answer(FrameNo::new(3), &map).is_none())
+}
+
+#[test]
+fn says_nothing_to_a_map_of_others(rt: HostRuntime) {
+    assert!(rt; leaves_others(rt.alloc()) == Some(true));
 }

@@ -1,9 +1,12 @@
+ghost use Rattle.std.specs.Prelude.{◌<◌};
+
+use super::{NEVER, device};
 use pon_dbru::Occupancies;
 use pon_device::MemRead;
 use pon_link::{LinkFault, PullFault, Pulled, UpReader, UpRecord, encode_up};
 use pon_units::{BufOcc, FrameNo};
 use pon_xgtc::BurstHead;
-use std::test::Fail;
+use std::alloc::Global;
 
 const BYTES: &[u8; 18] = b"\x55\0\0\0\0\0\0\0\0\x01\x40\x13\xf1\x01\0\0\x64\x3b";
 
@@ -32,19 +35,33 @@ fn changed(at: usize, byte: u8) -> [u8; 18] {
     bytes
 }
 
+fn gives(reader: &mut UpReader, record: &UpRecord) -> bool {
+    match reader.next() {
+        Ok(Some(given)) => given == *record,
+        _ => false,
+    }
+}
+
+fn gives_nothing(reader: &mut UpReader) -> bool {
+    matches!(reader.next(), Ok(None))
+}
+
+// Feeds a record in two pieces, and returns whether it is given once, and only when it is whole.
+fn reads_two_pieces(first: &[u8], second: &[u8]) -> bool {
+    let mut reader = UpReader::new();
+    let begun = reader.feed(first) == first.len();
+    let waits = second.is_empty() || gives_nothing(&mut reader);
+    let whole = reader.feed(second) == second.len();
+    let full = reader.feed(BYTES) == 0;
+    let given = gives(&mut reader, &onu_five()) && gives_nothing(&mut reader);
+    begun && waits && whole && full && given
+}
+
 #[test]
 fn reads_a_record_in_every_cut(rt: HostRuntime) {
     let bytes = BYTES.as_slice();
     for cut in 0..19 {
-        let mut reader = UpReader::new();
-        assert_eq!(rt; reader.feed(&bytes[..cut]), cut);
-        if cut < 18 {
-            assert_eq!(rt; reader.next(), Ok(None), "{cut}");
-        }
-        assert_eq!(rt; reader.feed(&bytes[cut..]), 18 - cut);
-        assert_eq!(rt; reader.feed(bytes), 0, "a whole record waits");
-        assert_eq!(rt; reader.next(), Ok(Some(onu_five())), "{cut}");
-        assert_eq!(rt; reader.next(), Ok(None), "{cut}");
+        assert!(rt; reads_two_pieces(&bytes[..cut], &bytes[cut..]), "{cut}");
     }
 }
 
@@ -57,7 +74,25 @@ fn writes_the_bytes(rt: HostRuntime) {
     occ.push(words);
     let frame = FrameNo::new(0);
     let burst = UpRecord { frame, head, occ };
-    assert_eq!(rt; encode_up(&burst).as_slice(), BYTES.as_slice());
+    assert!(rt; encode_up(&burst).as_slice() == BYTES.as_slice());
+}
+
+// Returns the reader's fault, if it returns no record.
+fn fault_of(reader: &mut UpReader) -> Option<LinkFault> {
+    reader.next().err()
+}
+
+// Feeds the bytes to a reader, and returns the number of bytes taken if it then tells the fault three times and takes
+// no more bytes.
+fn taken_up_to(bytes: &[u8], fault: LinkFault) -> Option<usize> {
+    let mut reader = UpReader::new();
+    let taken = reader.feed(bytes);
+    let mut kept = true;
+    for _ in 0..3 {
+        let told = fault_of(&mut reader) == Some(fault);
+        kept = reader.feed(BYTES) == 0 && kept && told;
+    }
+    if kept { Some(taken) } else { None }
 }
 
 #[test]
@@ -67,13 +102,15 @@ fn keeps_a_fault(rt: HostRuntime) {
         (13, 0x00, LinkFault::BadCount),
         (13, 0x11, LinkFault::BadCount),
     ] {
-        let mut reader = UpReader::new();
-        assert_eq!(rt; reader.feed(&changed(at, byte)), at + 1);
-        for _ in 0..3 {
-            assert_eq!(rt; reader.next(), Err(fault));
-            assert_eq!(rt; reader.feed(BYTES), 0);
-        }
+        let told = taken_up_to(&changed(at, byte), fault);
+        assert!(rt; told == Some(at + 1), "byte {at}, {byte}: {told:?}");
     }
+}
+
+// Returns whether the bytes are taken and read as the record.
+fn reads(bytes: &[u8], record: &UpRecord) -> bool {
+    let mut reader = UpReader::new();
+    reader.feed(bytes) == bytes.len() && gives(&mut reader, record)
 }
 
 #[test]
@@ -83,56 +120,76 @@ fn gives_none_for_what_is_garbled(rt: HostRuntime) {
         (12, 0xf0, BurstHead::new(5, 0), BufOcc::new(100)),
         (17, 0x3a, BurstHead::new(5, 0), None),
     ] {
-        let mut reader = UpReader::new();
-        assert_eq!(rt; reader.feed(&changed(at, byte)), 18);
-        assert_eq!(rt; reader.next(), Ok(Some(record(head, words))));
+        let read = reads(&changed(at, byte), &record(head, words));
+        assert!(rt; read, "byte {at}, {byte}");
     }
 }
 
 // Pulls until the record is whole, and again if the device fails; returns the number of failures.
-fn pull_record(reader: &mut UpReader, device: &mut MemRead) -> Result<usize, PullFault> {
+fn pull_record(reader: &mut UpReader, device: &mut MemRead) -> Option<usize> {
     let mut failures = 0usize;
     for _ in 0..40 {
         match reader.pull(device) {
             Ok(Pulled::Bytes(0)) => break,
             Ok(_) => {}
             Err(PullFault::Device) => failures = failures.saturating_add(1),
-            Err(fault) => return Err(fault),
+            Err(_) => return None,
         }
     }
-    Ok(failures)
+    Some(failures)
+}
+
+// Pulls a record from a device with a failure, and returns the number of failures if the record is given.
+fn failures_before_a_record(alloc: Global, most: usize, failing: u64) -> Option<usize>
+    requires { 0 < most }
+{
+    let mut device = device(alloc, BYTES, most, failing)?;
+    let mut reader = UpReader::new();
+    let failures = pull_record(&mut reader, &mut device);
+    if gives(&mut reader, &onu_five()) {
+        failures
+    } else {
+        None
+    }
 }
 
 #[test]
-fn pulls_again_after_a_failure(rt: HostRuntime) -> Result<(), Fail> {
-    for (most, calls) in [(1, 18), (5, 4), (4096, 2)] {
-        assert!(rt; most > 0);
+fn pulls_again_after_a_failure(rt: HostRuntime) {
+    for (most, calls) in [(1usize, 18), (5, 4), (4096, 2)] {
         for failing in 0..20u64 {
-            let bytes = BYTES.to_vec(rt.alloc())?;
-            let mut device = MemRead::new(bytes, most, vec![in rt.alloc(); failing]?);
-            let mut reader = UpReader::new();
-            let failed = if failing < calls { 1 } else { 0 };
-            assert_eq!(rt; pull_record(&mut reader, &mut device), Ok(failed));
-            assert_eq!(rt; reader.next(), Ok(Some(onu_five())));
+            let failures = failures_before_a_record(rt.alloc(), most.max(1), failing);
+            let wanted = if failing < calls { 1 } else { 0 };
+            assert!(rt;
+                failures == Some(wanted),
+                "in pieces of {most}, call {failing}"
+            );
         }
     }
-    Ok(())
+}
+
+// Pulls a beginning of the record whole, and returns whether two more pulls end so.
+fn pulls_up_to(
+    alloc: Global,
+    bytes: &[u8],
+    pulls: u32,
+    end: Result<Pulled, PullFault>,
+) -> Option<bool> {
+    let mut device = device(alloc, bytes, 4096, NEVER)?;
+    let mut reader = UpReader::new();
+    let mut pulled = true;
+    for _ in 0..pulls {
+        pulled = reader.pull(&mut device).is_ok() && pulled;
+    }
+    let first = reader.pull(&mut device) == end;
+    let second = reader.pull(&mut device) == end;
+    Some(pulled && first && second)
 }
 
 #[test]
-fn tells_where_the_input_ended(rt: HostRuntime) -> Result<(), Fail> {
+fn tells_where_the_input_ended(rt: HostRuntime) {
     let truncated = Err(PullFault::Link(LinkFault::Truncated { left: 17 }));
     for (size, pulls, end) in [(0, 0, Ok(Pulled::End)), (17, 2, truncated)] {
-        let bytes = BYTES[..size].to_vec(rt.alloc())?;
-        let mut device = MemRead::new(bytes, 4096, Vec::new(rt.alloc()));
-        let mut reader = UpReader::new();
-        for _ in 0..pulls {
-            let pulled = reader.pull(&mut device);
-            assert!(rt; pulled.is_ok());
-        }
-        for _ in 0..2 {
-            assert_eq!(rt; reader.pull(&mut device), end);
-        }
+        let ended = pulls_up_to(rt.alloc(), &BYTES[..size], pulls, end);
+        assert!(rt; ended == Some(true), "{size}");
     }
-    Ok(())
 }

@@ -251,6 +251,10 @@ fn draw_frame(run: &mut Run) -> u64 {
     run.next.saturating_sub(back)
 }
 
+fn assert_told(rt: &impl Abort, frame: u64, told: Option<Refusal>, wanted: Option<Refusal>) {
+    assert!(rt; told == wanted, "frame {frame}: {told:?}, not {wanted:?}");
+}
+
 // Reports for the map of such a frame.
 fn report_one(rt: &impl Abort, alloc: Global, run: &mut Run) {
     let frame = draw_frame(run);
@@ -263,7 +267,7 @@ fn report_one(rt: &impl Abort, alloc: Global, run: &mut Run) {
         .loads
         .reported(FrameNo::new(frame), reporter, &occupancies)
         .err();
-    assert_eq!(rt; told, wanted);
+    assert_told(rt, frame, told, wanted);
     if told.is_none() {
         push(rt, &mut run.reporters, (frame, reporter));
         note_taken(rt, &mut run.taken, frame, &own, &occupancies);
@@ -300,7 +304,8 @@ fn compare(rt: &impl Abort, run: &Run, call: u32) -> u32 {
     for place in &run.places {
         if let Some(since) = place.since {
             let load = u64::from(run.loads.load_of(place.alloc_id).get());
-            assert_eq!(rt; load, slow_load(run, place.alloc_id, since), "call {call}");
+            let slow = slow_load(run, place.alloc_id, since);
+            assert!(rt; load == slow, "call {call}: {load}, not {slow}");
             above = above.saturating_add(u32::from(load > 0));
         }
     }
@@ -318,14 +323,19 @@ fn call_one(rt: &impl Abort, alloc: Global, run: &mut Run) {
     }
 }
 
-#[test]
-fn loads_are_those_of_the_whole_history(rt: HostRuntime) {
-    let mut run = open(&rt, rt.alloc());
+// Makes the calls of the script, and returns the number of compared loads above 0.
+fn compared_loads(rt: &impl Abort, alloc: Global) -> u32 {
+    let mut run = open(rt, alloc);
     let mut above: u32 = 0;
     for call in 0..700 {
-        call_one(&rt, rt.alloc(), &mut run);
-        above = above.saturating_add(compare(&rt, &run, call));
+        call_one(rt, alloc, &mut run);
+        above = above.saturating_add(compare(rt, &run, call));
     }
+    above
+}
+
+#[test]
+fn loads_are_those_of_the_whole_history(rt: HostRuntime) {
     // The script compares enough loads above 0.
-    assert!(rt; above > 700);
+    assert!(rt; compared_loads(&rt, rt.alloc()) > 700);
 }

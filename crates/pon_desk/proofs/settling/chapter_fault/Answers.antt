@@ -1,4 +1,4 @@
-use Rattle.std.proofs.Common.{◌≡◌, ◌<◌, ◌≤◌, ℕ, length, Some, inl, inr, refl, sym, ◌∙◌, arith, below_more, true, false}
+use Rattle.std.proofs.Common.{◌≡◌, ◌<◌, length, Some, inl, inr, refl, sym, ◌∙◌, arith, below_more, true, false}
 use Rattle.std.specs.Prelude.{slice_get}
 use Rattle.std.proofs.lemmas.Option.{slice_get_cases, slice_get_read}
 use Rattle.pon_desk.specs.Settling.{IsRightChapter, PortHistory}

@@ -1,7 +1,6 @@
-use Rattle.std.proofs.Common.{◌≡◌, ◌+◌, ◌-◌, take, refl, ap, sym, ◌∙◌, arith}
+use Rattle.std.proofs.Common.{◌≡◌, ◌-◌, refl, ap, sym, ◌∙◌, arith}
 use Rattle.std.proofs.lemmas.Option.{slice_get_read}
 use Rattle.pon_desk.specs.Receipts.{Receipt}
-use Rattle.pon_desk.specs.Settling.{posts_of}
 use Rattle.pon_desk.proofs.Settled.{few_of_seat, last_of_seat}
 use Rattle.pon_desk.proofs.settling.posts_of.Goals as goal
 

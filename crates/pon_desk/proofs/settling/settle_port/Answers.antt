@@ -1,5 +1,4 @@
-use Rattle.std.proofs.Common.{◌≡◌, sym, ◌∙◌}
-use Rattle.pon_desk.specs.Settling.{PortHistory, all_placed}
+use Rattle.pon_desk.specs.Settling.{PortHistory}
 use Rattle.pon_desk.specs.Walks.{left_of}
 use Rattle.pon_desk.proofs.Settled.{miscounted}
 use Rattle.pon_desk.proofs.settling.settle_port.Goals as goal

@@ -1,4 +1,4 @@
-use Rattle.std.proofs.Common.{◌≡◌, ◌≤◌, length, sym, ◌∙◌, arith}
+use Rattle.std.proofs.Common.{◌≤◌, length, sym, ◌∙◌, arith}
 use Rattle.pon_desk.specs.Walks.{left_behind}
 use Rattle.pon_desk.proofs.Walks.{rest_left}
 use Rattle.pon_desk.proofs.walk.Walk.entry.Goals as goal

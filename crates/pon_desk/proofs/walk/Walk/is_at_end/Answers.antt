@@ -1,5 +1,5 @@
-use Rattle.std.proofs.Common.{◌≡◌, sym, ◌∙◌, []}
-use Rattle.pon_desk.specs.Walks.{left_behind, left_of}
+use Rattle.std.proofs.Common.{sym, ◌∙◌}
+use Rattle.pon_desk.specs.Walks.{left_behind}
 use Rattle.pon_desk.proofs.Walks.{next_left}
 use Rattle.pon_desk.proofs.walk.Walk.is_at_end.Goals as goal
 

@@ -1,20 +1,22 @@
-use super::*;
-use std::test::Fail;
+// Descriptors read from tables of settings.
+use pon_descr::{Class, DescrFault, Descriptor, Refusal, from_toml};
+use std::alloc::Global;
 
-#[test]
-fn reads_four_keys(rt: HostRuntime) -> Result<(), Fail> {
-    let alloc = rt.alloc();
-    let text = "fixed = 256\nassured = 512\nmax = 1024\nclass = \"be\"\nqueue = -1\n";
-    let table = toml::table_from_str(alloc, text)?;
-    let wanted = Descriptor::new(256, 512, 1024, Class::BestEffort).ok();
-    assert_eq!(rt; from_toml(&table).ok(), wanted);
-    assert!(rt; wanted.is_some());
-    Ok(())
+// Reads the descriptor of a text; `None` if it is no table.
+fn read(alloc: Global, text: &str) -> Option<Result<Descriptor, DescrFault>> {
+    let table = toml::table_from_str(alloc, text).ok()?;
+    Some(from_toml(&table))
 }
 
 #[test]
-fn tells_a_field_before_a_refusal(rt: HostRuntime) -> Result<(), Fail> {
-    let alloc = rt.alloc();
+fn reads_four_keys(rt: HostRuntime) {
+    let text = "fixed = 256\nassured = 512\nmax = 1024\nclass = \"be\"\nqueue = -1\n";
+    let wanted = Descriptor::new(256, 512, 1024, Class::BestEffort).expect(&rt, "a descriptor");
+    assert!(rt; read(rt.alloc(), text) == Some(Ok(wanted)));
+}
+
+#[test]
+fn tells_a_field_before_a_refusal(rt: HostRuntime) {
     for (text, wanted) in [
         (
             "fixed = 2488321\nassured = 0\nmax = 0\nclass = \"none\"\n",
@@ -50,8 +52,7 @@ fn tells_a_field_before_a_refusal(rt: HostRuntime) -> Result<(), Fail> {
         ),
         ("", DescrFault::Field),
     ] {
-        let table = toml::table_from_str(alloc, text)?;
-        assert_eq!(rt; from_toml(&table).err(), Some(wanted), "{text}");
+        let told = read(rt.alloc(), text);
+        assert!(rt; told == Some(Err(wanted)), "{text}: {told:?}");
     }
-    Ok(())
 }
