@@ -1,5 +1,5 @@
 // Reports of occupancies as bytes.
-use pon_dbru::{Garbled, decode, encode};
+use pon_dbru::{Garbled, Occupancies, decode, encode};
 use pon_units::BufOcc;
 
 // Returns the occupancy that the report of `words` reads as.
@@ -28,4 +28,14 @@ fn wrong_bits_are_garbled(rt: HostRuntime) {
         let word = 0x0000_643b_u32 ^ (1 << place);
         assert!(rt; decode(word.to_be_bytes()) == Err(Garbled), "{place}");
     }
+}
+
+#[test]
+fn occupancies_are_kept_in_order(rt: HostRuntime) {
+    let wanted = [BufOcc::new(16_777_215), None];
+    let mut occupancies = Occupancies::new();
+    for occupancy in wanted {
+        occupancies.push(occupancy);
+    }
+    assert!(rt; occupancies.as_slice() == wanted.as_slice() && occupancies.copy() == occupancies);
 }

@@ -59,18 +59,3 @@ impl Occupancies {
         self.reports.as_slice()
     }
 }
-
-#[cfg(test)]
-mod tests {
-    use super::*;
-
-    #[test]
-    fn keeps_the_occupancies(rt: HostRuntime) {
-        let mut occupancies = Occupancies::new();
-        occupancies.push(BufOcc::new(16_777_215));
-        occupancies.push(None);
-        let wanted = [BufOcc::new(16_777_215), None];
-        assert_eq!(rt; occupancies.as_slice(), wanted.as_slice());
-        assert_eq!(rt; occupancies.copy(), occupancies);
-    }
-}

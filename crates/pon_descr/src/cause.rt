@@ -41,21 +41,3 @@ impl Cause {
         self.number
     }
 }
-
-#[cfg(test)]
-mod tests {
-    use super::*;
-
-    #[test]
-    fn takes_1_to_9(rt: HostRuntime) {
-        for (number, wanted) in [
-            (0, None),
-            (1, Some(1)),
-            (9, Some(9)),
-            (10, None),
-            (255, None),
-        ] {
-            assert_eq!(rt; Cause::new(number).map(Cause::get), wanted, "{number}");
-        }
-    }
-}

@@ -25,22 +25,3 @@ impl Class {
         }
     }
 }
-
-#[cfg(test)]
-mod tests {
-    use super::*;
-
-    #[test]
-    fn knows_three_words(rt: HostRuntime) {
-        for (word, wanted) in [
-            ("none", Some(Class::Plain)),
-            ("na", Some(Class::NonAssured)),
-            ("be", Some(Class::BestEffort)),
-            ("NA", None),
-            ("bee", None),
-            ("", None),
-        ] {
-            assert_eq!(rt; Class::of_word(word.as_bytes()), wanted, "{word}");
-        }
-    }
-}
