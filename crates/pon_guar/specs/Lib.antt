@@ -2,3 +2,4 @@ pub mod Rates
 pub mod Book
 pub mod Reports
 pub mod Loads
+pub mod Parts

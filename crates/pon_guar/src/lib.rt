@@ -10,8 +10,10 @@ mod account;
 mod counting;
 mod deduction;
 mod loads;
+mod parts;
 mod rates;
 
 pub use account::{Account, Counted};
 pub use loads::Loads;
+pub use parts::{LoadsFault, MapParts};
 pub use rates::{cap, guaranteed};

@@ -4,6 +4,7 @@ ghost use Rattle.pon_guar.specs.Book.{load_of_counted};
 use crate::account::{Account, Counted, account_of, add_account, index_near, remove_account};
 use crate::counting::{count_report, forget};
 use crate::deduction::{deduct_grants, hint_at};
+use crate::parts::{LoadsFault, MapParts, in_ascending_order, is_window, restore_window};
 use pon_descr::Refusal;
 use pon_units::{AllocId, BufOcc, FrameNo, Granted, Kbps, OnuId, WORD_RATE};
 use pon_window::{Window, WindowMap};
@@ -48,7 +49,7 @@ fn load_of_report(counted: Option<Counted>) -> Kbps
 }
 
 impl Loads {
-    ghost use Rattle.std.specs.Prelude.{false, None, [], ◌==◌, length, IfErr, OnOk, OnErr, slice_get};
+    ghost use Rattle.std.specs.Prelude.{false, None, [], ◌==◌, length, IfErr, MatchResult, OnOk, OnErr, slice_get};
     ghost use Rattle.std.specs.List.{list_any};
     ghost use Rattle.std.specs.Option.{option_copied};
     ghost use Rattle.pon_units.specs.Granted.{AreInMapOrder};
@@ -56,6 +57,7 @@ impl Loads {
     ghost use Rattle.pon_guar.specs.Book.{account_of, alloc_ids, known_report, known_since, load_of};
     ghost use Rattle.pon_window.specs.Window.{IsWindow, AreConsecutive};
     ghost use Rattle.pon_window.specs.Reports.{refuses_report};
+    ghost use Rattle.pon_guar.specs.Parts.{AreParts, RefusesParts, loads_from};
     ghost use Rattle.pon_guar.specs.Loads.{after_admitted, after_cleared, after_mapped, after_removed, after_reported};
 
     /// Makes a book with no accounts and an empty window. It allocates no memory; later additions use this allocator.
@@ -67,6 +69,34 @@ impl Loads {
             window: Window::open(alloc),
             places: Vec::new(alloc),
         }
+    }
+
+    /// Makes the book of these accounts, in any order, and of a window of copies of these maps, the oldest first.
+    /// `Unlawful` exactly if two accounts are of one Alloc-ID or the maps are not a window, unless memory is refused
+    /// first: at most 64 maps of consecutive frames, with grants in map order, and with reporters in ascending ONU-ID,
+    /// each of which the map polls. `Memory` only if memory is refused.
+    pub fn from_parts(
+        alloc: Global,
+        accounts: &[Account],
+        window: &[MapParts<'_>],
+    ) -> Result<Loads, LoadsFault>
+        ensures { MatchResult result
+            (λ loads. AreParts accounts.now window.now
+            × (loads ≡ loads_from accounts.now window.now))
+            (RefusesParts accounts.now window.now) }
+    {
+        if !is_window(window) {
+            return Err(LoadsFault::Unlawful);
+        }
+        let accounts = match in_ascending_order(alloc, accounts)? {
+            Some(accounts) => accounts,
+            None => return Err(LoadsFault::Unlawful),
+        };
+        Ok(Loads {
+            accounts,
+            window: restore_window(alloc, window)?,
+            places: Vec::new(alloc),
+        })
     }
 
     /// Makes an equal book, with its own memory. `Err` only if memory is refused.
