@@ -6,5 +6,6 @@ pub mod Events
 pub mod History
 pub mod Legal
 pub mod Loads
+pub mod Parts
 pub mod Replay
 pub mod State

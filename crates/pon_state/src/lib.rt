@@ -6,6 +6,7 @@
 
 mod apply;
 mod checks;
+mod parts;
 mod ranges;
 mod ready_map;
 mod reply;
@@ -13,6 +14,7 @@ mod state;
 
 pub use apply::{add_map, step};
 pub use checks::{MOST_ENTRIES, refusal_of};
+pub use parts::StateParts;
 pub use ranges::in_range;
 pub use ready_map::{MapUnder, ReadyMap, map_under, next_map, next_problems};
 pub use reply::{Entry, MadeMap, Reply};
