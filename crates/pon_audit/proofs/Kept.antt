@@ -1,7 +1,7 @@
 -- The audit of a chapter, entry by entry.
-use Rattle.std.proofs.Common.{◌≡◌, ℕ, ◌+◌, ◌<◌, [], ◌∷◌, ◌++◌, length, take, get_or, Option, Some, None, Result, Ok, Err, refl, ap, sym, ◌∙◌, subst, arith, inr}
+use Rattle.std.proofs.Common.{◌≡◌, ℕ, ◌+◌, ◌<◌, ◌≤◌, [], ◌∷◌, ◌++◌, length, take, get_or, Option, Some, None, Result, Ok, Err, refl, ap, sym, ◌∙◌, subst, arith, inr}
 use Rattle.std.specs.Prelude.{IfOk, MatchOption}
-use Rattle.std.proofs.lemmas.List.{length-take-le, take_more}
+use Rattle.std.proofs.lemmas.List.{length-take-le, take_all, take_more}
 use Rattle.std.proofs.lemmas.Option.{slice_get-get_or}
 use Rattle.pon_event.specs.declared.event.Event.{Event}
 use Rattle.pon_event.specs.declared.event.Event.TheVariants.{Admit, Change, Remove, Report, MakeMap, Fail, Restore}
@@ -11,12 +11,13 @@ use Rattle.pon_state.specs.Legal.{MayFollow}
 use Rattle.pon_state.specs.declared.reply.Reply.{Reply}
 use Rattle.pon_state.specs.declared.reply.Reply.TheVariants.{Taken, Map}
 use Rattle.pon_state.specs.declared.reply.Entry.{Entry}
-use Rattle.pon_port.specs.Chapters.{Chapter, IsLawfulChapter}
+use Rattle.pon_port.specs.Chapters.{Chapter, IsLawfulChapter, IsLawfulOpening, present_state}
 use Rattle.pon_port.specs.Taking.{IsKept, with_entry}
+use Rattle.pon_port.proofs.EntryByEntry.{legal_none, replay_of_none}
 use Rattle.pon_port.proofs.Kept.{mapped, taken}
 use Rattle.pon_port.proofs.FairMaps.{maps_are_fair}
 use Rattle.pon_record.specs.Chapters.{PlacedChapter}
-use Rattle.pon_audit.specs.Openings.{OpensPort, chapter_of}
+use Rattle.pon_audit.specs.Openings.{OpensLawfully, chapter_of}
 use Rattle.pon_audit.specs.Faults.{EntryFails, FailsAt, cut_at}
 use Rattle.pon_audit.specs.Judging.{IsAnswer}
 use Rattle.pon_audit.specs.declared.chapters.Fault.{Fault}
@@ -54,9 +55,27 @@ fails_here c i s e w lt here k fails = record {
   fails = subst (λ s. EntryFails i s e w) k.replayed fails;
 }
 
--- the fault of a chapter that opens its port
-pub answered : {E : Type 0} (c : PlacedChapter) (r : Result (Option Fault) E) → OpensPort c.body →
-    IfOk r (λ found. MatchOption found (IsLawfulChapter (chapter_of c.body)) (λ f. FailsAt (chapter_of c.body) f.index f.why)) → IfOk r (λ answer. IsAnswer c answer)
-answered c (Ok None) opens lawful = record { opens = opens; lawful = lawful; fair = maps_are_fair (chapter_of c.body) lawful }
-answered c (Ok (Some f)) opens fails = inr (record { opens = opens; entry = fails })
-answered c (Err e) opens h = h
+-- a chapter before its first entry
+pub none_yet : (c : Chapter) (s : State) → IsLawfulOpening c.number c.opening → s ≡ c.opening → IsKept (cut_at c 0) s
+none_yet c s l is =
+    let start : IsKept (cut_at c 0) c.opening = record {
+      lawful = record { opening = l; legal = legal_none c.number c.opening };
+      replayed = sym (replay_of_none c.number c.opening l);
+      admitted = l.admitted;
+      book = l.book;
+      carries = l.carries;
+    } in
+    subst (IsKept (cut_at c 0)) (sym is) start
+
+-- a chapter after its last entry
+pub all_taken : (c : Chapter) (i : ℕ) (s : State) → length c.entries ≤ i → IsKept (cut_at c i) s → IsLawfulChapter c × (s ≡ present_state c)
+all_taken c i s le k =
+    let whole : cut_at c i ≡ c = (λ j. record { number = c.number; opening = c.opening; entries = take_all i c.entries le j }) in
+    (subst IsLawfulChapter whole k.lawful, k.replayed ∙ ap present_state whole)
+
+-- the fault of a chapter whose opening is lawful
+pub answered : {E : Type 0} (c : PlacedChapter) (t : State) (r : Result (Option Fault) E) → OpensLawfully c.body →
+    IfOk r (λ found. MatchOption found (IsLawfulChapter (chapter_of c.body) × (t ≡ present_state (chapter_of c.body))) (λ f. FailsAt (chapter_of c.body) f.index f.why)) → IfOk r (λ answer. IsAnswer c answer)
+answered c t (Ok None) opens lawful = record { lawful = lawful.0; fair = maps_are_fair (chapter_of c.body) lawful.0 }
+answered c t (Ok (Some f)) opens fails = inr (record { opens = opens; entry = fails })
+answered c t (Err e) opens h = h

@@ -5,3 +5,5 @@ pub mod OneFault
 pub mod OneVerdict
 pub mod EachOk
 pub mod Sizes
+pub mod OpenedStates
+pub mod RowSearch

@@ -16,7 +16,7 @@ use Rattle.pon_state.specs.declared.reply.Reply.TheVariants.{Taken, Map}
 use Rattle.pon_state.specs.declared.reply.Entry.{Entry}
 use Rattle.pon_port.specs.Chapters.{Chapter, state_before}
 use Rattle.pon_record.specs.Chapters.{PlacedChapter}
-use Rattle.pon_audit.specs.Openings.{OpensPort, chapter_of}
+use Rattle.pon_audit.specs.Openings.{OpensLawfully, chapter_of}
 use Rattle.pon_audit.specs.Faults.{EntryFails, FailsAt, GrantsWords, HasWrongWords, MapFails, ReplyFails}
 use Rattle.pon_audit.specs.Verdicts.{ChapterFails, IsGoodChapter, Rises}
 use Rattle.pon_audit.specs.declared.verdict.Why.{Why}
@@ -138,8 +138,8 @@ one_failing c i j w v f g = elim (cases_lt i j) [
 -- the reason why a chapter fails
 abbrev ChapterFault : List PlacedChapter → PlacedChapter → ℕ → Why → Type 0
 ChapterFault earlier c i w =
-    ((OpensPort c.body → ⊥) × ((i ≡ 0) × (w ≡ why.Opening)))
-    ⊎ (OpensPort c.body × (((All (λ d. Rises d c) earlier → ⊥) × ((i ≡ 0) × (w ≡ why.Number))) ⊎ (All (λ d. Rises d c) earlier × FailsAt (chapter_of c.body) i w)))
+    ((OpensLawfully c.body → ⊥) × ((i ≡ 0) × (w ≡ why.Opening)))
+    ⊎ (OpensLawfully c.body × (((All (λ d. Rises d c) earlier → ⊥) × ((i ≡ 0) × (w ≡ why.Number))) ⊎ (All (λ d. Rises d c) earlier × FailsAt (chapter_of c.body) i w)))
 
 chapter_fault : (earlier : List PlacedChapter) (c : PlacedChapter) (i : ℕ) (w : Why) → ChapterFails earlier c i w → ChapterFault earlier c i w
 chapter_fault earlier c i why.Opening f = inl (f.0, (f.1, refl))
@@ -163,7 +163,7 @@ one_fault_of_chapter earlier c i j w v f g = one_chapter_fault earlier c i j w v
 
 -- a good chapter has no fault
 good_holds : (earlier : List PlacedChapter) (c : PlacedChapter) (i : ℕ) (w : Why) → IsGoodChapter c → All (λ d. Rises d c) earlier → ChapterFault earlier c i w → ⊥
-good_holds earlier c i w good rises (inl a) = a.0 good.opens
+good_holds earlier c i w good rises (inl a) = a.0 good.lawful.opening
 good_holds earlier c i w good rises (inr (o, inl a)) = a.0 rises
 good_holds earlier c i w good rises (inr (o, inr a)) =
     let f = a.1 in

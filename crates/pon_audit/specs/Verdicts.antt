@@ -7,7 +7,7 @@ use Rattle.pon_port.specs.Chapters.{Chapter, IsLawfulChapter, state_before}
 use Rattle.pon_port.specs.FairMaps.{TellsFairMap}
 use Rattle.pon_record.specs.Chapters.{PlacedChapter}
 use Rattle.pon_record.specs.Recordings.{IsBadFormat, IsRecording, IsTruncated}
-use Rattle.pon_audit.specs.Openings.{OpensPort, chapter_of}
+use Rattle.pon_audit.specs.Openings.{OpensLawfully, chapter_of}
 use Rattle.pon_audit.specs.Faults.{FailsAt}
 use Rattle.pon_audit.specs.declared.verdict.Why.{Why}
 use Rattle.pon_audit.specs.declared.verdict.Why.TheVariants as why
@@ -20,9 +20,8 @@ use Rattle.pon_audit.specs.declared.verdict.Verdict.TheVariants.{Good, Bad, BadF
 abbrev pub MapsAreFair : Chapter → Type 0
 MapsAreFair c = (k : ℕ) (e : Entry) → slice_get c.entries k ≡ Some e → TellsFairMap (state_before c k) e.reply
 
--- the chapter opens its port, and each entry may follow those before it
+-- the opening is lawful, each entry may follow those before it, and each map is fair
 pub record IsGoodChapter (c : PlacedChapter) : Type 0 where
-  pub opens : OpensPort c.body
   pub lawful : IsLawfulChapter (chapter_of c.body)
   pub fair : MapsAreFair (chapter_of c.body)
 
@@ -48,9 +47,9 @@ pub record IsGood (chapters : List PlacedChapter) (maps : ℕ) : Type 0 where
 -- a chapter that follows earlier ones fails by its opening, its number, or the entry at an index; the first of these
 -- counts
 abbrev pub ChapterFails : List PlacedChapter → PlacedChapter → ℕ → Why → Type 0
-ChapterFails earlier c index why.Opening = (OpensPort c.body → ⊥) × (index ≡ 0)
-ChapterFails earlier c index why.Number = OpensPort c.body × (All (λ d. Rises d c) earlier → ⊥) × (index ≡ 0)
-ChapterFails earlier c index w = OpensPort c.body × All (λ d. Rises d c) earlier × FailsAt (chapter_of c.body) index w
+ChapterFails earlier c index why.Opening = (OpensLawfully c.body → ⊥) × (index ≡ 0)
+ChapterFails earlier c index why.Number = OpensLawfully c.body × (All (λ d. Rises d c) earlier → ⊥) × (index ≡ 0)
+ChapterFails earlier c index w = OpensLawfully c.body × All (λ d. Rises d c) earlier × FailsAt (chapter_of c.body) index w
 
 -- the first chapter that fails: its port and number, the index of the entry, and why
 pub record IsFirstFault (chapters : List PlacedChapter) (port number index : ℕ) (w : Why) : Type 0 where

@@ -10,6 +10,7 @@ mod chapters;
 mod entries;
 mod faults;
 pub mod laws;
+mod openings;
 mod parallel;
 mod recordings;
 mod verdict;

@@ -112,7 +112,7 @@ fn judge_truncated(
 
 /// Audits the bytes of a recording.
 ///
-/// `Good` only if the bytes are a recording, each chapter opens its port, each entry may follow those before it, each
+/// `Good` only if the bytes are a recording, each opening is lawful, each entry may follow those before it, each
 /// map is fair for the state before it, and the numbers of a port's chapters ascend. `Bad` only if a chapter fails and
 /// those before it in the recording are good, also if the recording is cut in its last chapter. `Truncated` only if the
 /// whole chapters are good.

@@ -5,7 +5,9 @@ use std::fmt;
 /// order; for one entry: event, certificate, words, bursts.
 #[derive(Clone, Copy, Debug, PartialEq, Eq)]
 pub enum Why {
-    /// The chapter does not open its port: its number is above 0, or its opening is not that of a port just opened.
+    /// The opening is not lawful: its rows are no admitted set in map order, a since-frame or a counted report does not
+    /// fit the rows, the window and the next frame, the maps are no window up to the next frame, a failed port has maps
+    /// or counted reports, or chapter 0 does not open with a port just opened.
     Opening,
     /// An earlier chapter of the port has the same number or a greater one.
     Number,
