@@ -1,15 +1,14 @@
 -- The opening of a recorded chapter: its rows as an admitted set and as accounts, its window, and the state of all these.
-use Rattle.std.proofs.Common.{◌≡◌, ℕ, zero, suc, ◌+◌, ◌-◌, ◌<◌, ◌≤◌, ◌||◌, ◌&&◌, Bool, true, false, cond, not, List, [], ◌∷◌, ◌++◌, map, length, take, drop, get_or, refl, ap, sym, ◌∙◌, subst, append_assoc, arith, inl, inr}
+use Rattle.std.proofs.Common.{◌≡◌, ℕ, zero, suc, ◌+◌, ◌<◌, ◌≤◌, ◌||◌, ◌&&◌, Bool, true, false, cond, not, List, [], ◌∷◌, ◌++◌, map, length, take, drop, get_or, refl, ap, sym, ◌∙◌, subst, append_assoc, arith, inl, inr}
 use Rattle.std.specs.Prelude.{◌==◌, nat_lt, filter, All, Contains, IfSome, Option, Some, None}
 use Rattle.std.specs.List.{list_any}
 use Rattle.std.specs.Option.{is_some}
 use Rattle.std.proofs.lemmas.Bool.{and_from, and_parts, cases_Bool, eq-eqb, eqb-true, or_cases, or_left, or_parts, or_right}
-use Rattle.std.proofs.lemmas.List.{append-nil, get_or-map, get_or_default, length-map, map-append, take-append-drop, take-map, take_more}
-use Rattle.std.proofs.lemmas.List.Elements.{All-nil, All-cons, All-append, All-filter, All-head, All-map, All-replicate, All-tail, All-weaker, filter-append}
+use Rattle.std.proofs.lemmas.List.{append-nil, get_or-map, length-map, map-append, take-append-drop, take_more}
+use Rattle.std.proofs.lemmas.List.Elements.{All-nil, All-cons, All-append, All-filter, All-head, All-map, All-tail, All-weaker}
 use Rattle.pon_units.specs.declared.granted.Granted.{Granted}
 use Rattle.pon_descr.specs.declared.refusal.Refusal.{Refusal}
-use Rattle.pon_lists.proofs.Inserted.{rejoined_at}
-use Rattle.pon_lists.proofs.Lists.{All-between, All-front, All-middle, All-unmap, list_any-map}
+use Rattle.pon_lists.proofs.Lists.{All-front, All-middle, All-unmap, list_any-map}
 use Rattle.pon_lists.specs.Order.{IsInOrder}
 use Rattle.pon_lists.proofs.Order.{in_order-sides, in_order-front, in_order-unmap}
 use Rattle.pon_admit.specs.declared.row.Row.{Row}
@@ -19,11 +18,11 @@ use Rattle.pon_admit.proofs.AdmittedSets.{admit_keeps, before_from, precedes, re
 use Rattle.pon_admit.proofs.RefusedSets.{refused_admission}
 use Rattle.pon_guar.specs.declared.account.Account.{Account}
 use Rattle.pon_guar.specs.declared.account.Counted.{Counted}
-use Rattle.pon_guar.specs.Book.{AreRising, account_of, alloc_ids, known_since}
+use Rattle.pon_guar.specs.Book.{account_of, alloc_ids, known_since}
 use Rattle.pon_guar.specs.Parts.{AreApart, AreParts, book_from}
 use Rattle.pon_guar.proofs.Accounts.{account_is, found_each}
 use Rattle.pon_guar.proofs.RestoredParts.{account_any, book_ids, book_rises}
-use Rattle.pon_window.specs.Window.{AreConsecutive, IsWindow, WindowMap, frame_after}
+use Rattle.pon_window.specs.Window.{WindowMap}
 use Rattle.pon_window.proofs.Frames.{leads_after}
 use Rattle.pon_state.specs.State.{State}
 use Rattle.pon_state.specs.Accounts.{AccountsFor}
@@ -357,18 +356,24 @@ passes_if_lawful number o l =
 -- Chapter 0 opens with a port just opened.
 
 pub opened_if_bare : (o : Opening) → IsBare o → IsJustOpened (state_of o)
-opened_if_bare o b = (rule_in_force, o.gap, o.profile, o.next, (λ i. record {
-  rule = rule_in_force;
-  gap = o.gap;
-  profile = o.profile;
-  next = o.next;
-  cause = b.up i;
-  taken_before = b.none_before i;
-  roster = map admitted_row (b.no_rows i);
-  book = book_from (map row_account (b.no_rows i));
-  carries = map (λ r. 0) (map admitted_row (b.no_rows i));
-  window = b.no_window i;
-}))
+opened_if_bare o b = (
+  rule_in_force,
+  o.gap,
+  o.profile,
+  o.next,
+  (λ i. record {
+    rule = rule_in_force;
+    gap = o.gap;
+    profile = o.profile;
+    next = o.next;
+    cause = b.up i;
+    taken_before = b.none_before i;
+    roster = map admitted_row (b.no_rows i);
+    book = book_from (map row_account (b.no_rows i));
+    carries = map (λ r. 0) (map admitted_row (b.no_rows i));
+    window = b.no_window i;
+  }),
+)
 
 no_elements : {X Y : Type 0} (f : X → Y) (xs : List X) → map f xs ≡ [] → xs ≡ []
 no_elements f [] h = refl

@@ -1,7 +1,7 @@
 use Rattle.std.proofs.Common.{◌≡◌, ◌<◌, ◌∙◌, arith, false, length, map, rules, subst, sym, take, true}
-use Rattle.std.specs.Prelude.{None, Some}
+use Rattle.std.specs.Prelude.{None}
 use Rattle.std.specs.Option.{is_some}
-use Rattle.pon_admit.specs.Roster.{IsInMapOrder, IsInRange, Roster, refuses_admit, rule_in_force, with_row}
+use Rattle.pon_admit.specs.Roster.{IsInMapOrder, IsInRange, refuses_admit, rule_in_force, with_row}
 use Rattle.pon_audit.specs.Openings.{admitted_row}
 use Rattle.pon_audit.proofs.OpenedStates.{none_told, not_admitted, one_more_admitted, row_last, some_told}
 use Rattle.pon_audit.proofs.openings.admit_rows.Goals as goal
@@ -37,6 +37,6 @@ loop-raw-preserved c =
     let taken : c.take_row.new.self ≡ record { rule = c.loop-raw.roster.rule; gap = c.loop-raw.roster.gap; rows = with_row c.new-row.result c.loop-raw.roster.rows } = search rules in (
       one_more_admitted rule_in_force c.args.gap all i raw lt c.raw-item.is order range none c.loop-raw.invariant.0,
       taken
-      ∙ (λ j. record { rule = (kept j).rule; gap = (kept j).gap; rows = with_row (row j) (kept j).rows })
-      ∙ (λ j. record { rule = rule_in_force; gap = c.args.gap; rows = row_last rule_in_force c.args.gap all i raw lt c.raw-item.is order j }),
+          ∙ (λ j. record { rule = (kept j).rule; gap = (kept j).gap; rows = with_row (row j) (kept j).rows })
+          ∙ (λ j. record { rule = rule_in_force; gap = c.args.gap; rows = row_last rule_in_force c.args.gap all i raw lt c.raw-item.is order j }),
     )

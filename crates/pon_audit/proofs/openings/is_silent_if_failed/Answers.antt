@@ -1,4 +1,4 @@
-use Rattle.std.proofs.Common.{◌≡◌, Some, ap, rules, subst, sym}
+use Rattle.std.proofs.Common.{◌≡◌, Some, rules, subst, sym}
 use Rattle.std.specs.Prelude.{IfSome}
 use Rattle.pon_port.specs.Chapters.{IsSilent}
 use Rattle.pon_audit.specs.Openings.{AreQuiet, state_of}

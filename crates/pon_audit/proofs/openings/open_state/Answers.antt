@@ -5,7 +5,7 @@ use Rattle.pon_port.specs.Chapters.{IsSilent, OpensFirst}
 use Rattle.std.specs.Prelude.{IfSome}
 use Rattle.pon_admit.specs.Roster.{IsAdmitted, rule_in_force}
 use Rattle.pon_audit.specs.Openings.{Fits, accounts_of, roster_of, state_of}
-use Rattle.pon_audit.proofs.OpenedStates.{PassesTests, lawful_if_passes, passes_if_lawful}
+use Rattle.pon_audit.proofs.OpenedStates.{lawful_if_passes, passes_if_lawful}
 use Rattle.pon_audit.proofs.openings.open_state.Goals as goal
 
 pub returns-in-None-2 : goal.returns-in-None-2

@@ -1,4 +1,4 @@
-use Rattle.std.proofs.Common.{◌≡◌, arith, rules}
+use Rattle.std.proofs.Common.{◌≡◌, arith}
 use Rattle.pon_audit.proofs.OpenedStates.{bare_if_opened, opened_if_bare}
 use Rattle.pon_audit.proofs.openings.opens_first.Goals as goal
 
