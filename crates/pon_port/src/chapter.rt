@@ -55,4 +55,12 @@ impl Chapter {
     {
         self.entries.as_slice()
     }
+
+    /// Returns the entries of the chapter, oldest first. It allocates no memory.
+    pub fn into_entries(self) -> Vec<Entry>
+        ensures { result.items ≡ self.entries }
+    {
+        let Chapter { entries, .. } = self;
+        entries
+    }
 }

@@ -1,2 +1,4 @@
+pub mod Counted
 pub mod Numbers
 pub mod Outlets
+pub mod Passing

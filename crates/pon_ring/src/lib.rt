@@ -5,6 +5,7 @@
 //! call waits: a chapter that finds no room is kept by the sink, or dropped and counted.
 #![tactic(auto)]
 
+pub mod laws;
 mod opening;
 mod ring_in;
 mod ring_out;

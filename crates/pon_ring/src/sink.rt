@@ -4,7 +4,7 @@ ghost use Rattle.pon_ring.specs.Numbers.{AreBelow, ComesAfter, next_number};
 ghost use Rattle.pon_ring.specs.Rings.{sent_chapters};
 
 use crate::ring_in::RingIn;
-use pon_port::Chapter;
+use pon_port::{Chapter, Entry};
 
 /// The end of a ring, with at most one chapter that waits for room, and the number of dropped chapters.
 #[derive(Drop)]
@@ -19,9 +19,9 @@ pub(crate) struct Outlet {
 }
 
 impl Outlet {
-    ghost use Rattle.std.specs.Prelude.{◌≡◌, ◌<◌, true, false};
+    ghost use Rattle.std.specs.Prelude.{◌≡◌, ◌<◌, true, false, MatchOption};
     ghost use Rattle.pon_ring.specs.Numbers.{ComesAfter, next_number};
-    ghost use Rattle.pon_ring.specs.Sinks.{Passes, passed};
+    ghost use Rattle.pon_ring.specs.Sinks.{IsDropped, IsPassed, passed};
     ghost use Rattle.pon_ring.specs.Rings.{SameIn};
 
     // Lets the waiting chapter go into the ring, if there is room.
@@ -50,28 +50,38 @@ impl Outlet {
         }
     }
 
-    // Passes a chapter on.
-    pub(crate) fn pass(&mut self, chapter: Chapter)
+    // Passes a chapter on, or counts it as dropped and returns it.
+    pub(crate) fn pass(&mut self, chapter: Chapter) -> Option<Chapter>
         ensures ring { SameIn self.old.ring self.new.ring }
-        ensures passes { Passes self.old chapter self.new }
+        ensures passes { MatchOption result (IsPassed self.old chapter self.new)
+            (λ back. (back ≡ chapter) × IsDropped self.old chapter self.new) }
     {
         self.send_pending();
         if self.pending.is_some() || !self.is_newer(&chapter) {
             self.dropped = self.dropped.saturating_add(1);
-            return;
+            return Some(chapter);
         }
         self.newest = Some(chapter.number());
         if let Err(back) = self.ring.push(chapter) {
             self.pending = Some(back);
         }
+        None
     }
 }
 
+/// Number of entries that one call of [`Sink::free_some`] frees.
+pub(crate) const FREED_AT_ONCE: usize = 2;
+
 /// Where a worker passes the chapters of its port: to a ring, or nowhere.
+///
+/// The entries of a chapter that goes nowhere, or is dropped, are not freed at once: they wait to be freed by
+/// [`Sink::free_some`].
 #[derive(Drop)]
 pub struct Sink {
     pub(crate) outlet: Option<Outlet>,
     pub(crate) cut: u32,
+    // The entries that wait to be freed, of one chapter.
+    pub(crate) discarded: Option<Vec<Entry>>,
 }
 
 /// What is left in a sink: the end of the ring, the chapter that waits for room, and the number of dropped chapters.
@@ -83,23 +93,26 @@ pub struct Rest {
 }
 
 impl Sink {
-    ghost use Rattle.std.specs.Prelude.{◌≡◌, ◌++◌, ◌↔◌, ◌≤◌, ◌<◌, ◌+◌, true, IfSome, MatchOption, None, option_to_list};
+    ghost use Rattle.std.specs.Prelude.{◌≡◌, ◌++◌, ◌↔◌, ◌≤◌, ◌<◌, ◌+◌, ◌-◌, ◌^◌, true, length, take, IsSomeAnd, MatchOption, None, option_to_list};
+    ghost use Rattle.pon_ring.specs.Discarded.{Discards, Frees, discarded_entries};
     ghost use Rattle.pon_ring.specs.Sinks.{IsRest, PassesOn, StartsWith, dropped_of};
 
-    /// Returns the sink of a port whose chapters go nowhere.
+    /// Returns the sink of a port whose chapters go nowhere, with the greatest cut: it wants no turn.
     pub fn none() -> Sink
-        ensures { result.outlet ≡ None }
+        ensures outlet { result.outlet ≡ None }
+        ensures cut { result.cut ≡ 2 ^ 32 - 1 }
     {
         Sink {
             outlet: None,
             cut: u32::MAX,
+            discarded: None,
         }
     }
 
     /// Returns a sink over a ring, for a worker that turns its port after the entry of index `cut` - 1 and each later
     /// one.
     pub fn ring(ring: RingIn, cut: u32) -> Sink
-        ensures outlet { IfSome result.outlet (StartsWith ring) }
+        ensures outlet { IsSomeAnd result.outlet (StartsWith ring) }
         ensures cut { result.cut ≡ cut }
     {
         let newest = ring.last();
@@ -109,7 +122,11 @@ impl Sink {
             newest,
             dropped: 0,
         });
-        Sink { outlet, cut }
+        Sink {
+            outlet,
+            cut,
+            discarded: None,
+        }
     }
 
     /// Returns whether the worker turns its port after an entry of this index.
@@ -119,14 +136,48 @@ impl Sink {
         index >= (self.cut as usize).saturating_sub(1)
     }
 
+    // Keeps the entries of a chapter until they are freed. Those that waited before are freed now.
+    fn discard(&mut self, chapter: Chapter)
+        ensures outlet { self.new.outlet ≡ self.old.outlet }
+        ensures cut { self.new.cut ≡ self.old.cut }
+        ensures discarded { discarded_entries self.new ≡ chapter.entries }
+    {
+        self.discarded = Some(chapter.into_entries());
+    }
+
     /// Passes a chapter on: first lets the waiting one into the ring, then this one; if it finds no room, it waits, and if
     /// another one waits, or its number is not above those of all that came, it is dropped and counted.
+    ///
+    /// The entries of a chapter that is not passed on wait to be freed; those of an earlier one that still wait are
+    /// freed now.
     pub fn pass(&mut self, chapter: Chapter)
         ensures passes { PassesOn self.old.outlet chapter self.new.outlet }
         ensures cut { self.new.cut ≡ self.old.cut }
+        ensures discarded { Discards self.old chapter self.new }
     {
-        if let Some(outlet) = &mut self.outlet {
-            outlet.pass(chapter);
+        match &mut self.outlet {
+            None => self.discard(chapter),
+            Some(outlet) => match outlet.pass(chapter) {
+                None => {}
+                Some(chapter) => self.discard(chapter),
+            },
+        }
+    }
+
+    /// Frees at most two of the entries that wait to be freed, the last ones. A worker that calls it at each of its posts
+    /// frees a dropped chapter before the next one of as many entries is dropped.
+    pub fn free_some(&mut self)
+        ensures outlet { self.new.outlet ≡ self.old.outlet }
+        ensures cut { self.new.cut ≡ self.old.cut }
+        ensures frees { Frees self.old self.new }
+    {
+        let Some(mut entries) = self.discarded.take() else {
+            return;
+        };
+        let kept = entries.len().saturating_sub(FREED_AT_ONCE);
+        entries.truncate(kept);
+        if kept > 0 {
+            self.discarded = Some(entries);
         }
     }
 
@@ -144,12 +195,13 @@ impl Sink {
     pub fn into_rest(self) -> Option<Rest>
         ensures { MatchOption result (self.outlet ≡ None) (IsRest self.outlet) }
     {
+        let Sink { outlet, .. } = self;
         let Outlet {
             ring,
             pending,
             newest: _,
             dropped,
-        } = self.outlet?;
+        } = outlet?;
         Some(Rest {
             ring,
             pending,
