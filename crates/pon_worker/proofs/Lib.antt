@@ -1,4 +1,5 @@
 mod Bursts
+mod Passed
 mod Posted
 mod Tries
 mod Works

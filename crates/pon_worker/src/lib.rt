@@ -13,10 +13,9 @@ mod reading;
 mod receiving;
 mod sending;
 mod serving;
-mod sink;
 mod turn;
 
 pub use counts::{Why, WorkerEnd};
 pub use gate::{Gate, OpenGate, Pace, Point, Turns};
+pub use pon_ring::Sink;
 pub use serving::serve_port;
-pub use sink::Sink;

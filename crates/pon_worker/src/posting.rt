@@ -1,12 +1,17 @@
-// The posts of a worker, and their effect on its seat.
-ghost use Rattle.std.specs.Prelude.{◌≡◌, ◌+◌, ◌<◌, ◌^◌, length, slice_index, IfOk, IfErr, MatchBool, OnOk, OnErr};
-ghost use Rattle.pon_desk.specs.Faults.{TellsRefusal};
+// The posts of a worker, and their effect on its seat and its sink.
+ghost use Rattle.std.specs.Prelude.{◌≡◌, ◌+◌, ◌<◌, ◌≤◌, ◌^◌, ◌⊎◌, ◌↔◌, length, slice_index, IfOk, IfErr, MatchBool, OnOk, OnErr};
+ghost use Rattle.pon_desk.specs.Counts.{one_more_at};
+ghost use Rattle.pon_desk.specs.Faults.{IsNoSuchPort, TellsRefusal};
 ghost use Rattle.pon_desk.specs.Posts.{IsSomePost};
+ghost use Rattle.pon_ring.specs.Discarded.{Frees};
+ghost use Rattle.pon_worker.specs.Passing.{PassesChapters, TriesTurn, TurnsAtPost};
 ghost use Rattle.pon_worker.specs.Turns.{IsSomeMap, RaisedAt};
 
+use pon_descr::Refusal;
 use pon_desk::{Desk, Receipt, Seat, StepFault};
 use pon_event::Event;
 use pon_port::{MadeMap, Reply};
+use pon_ring::Sink;
 use pon_units::PortNo;
 use std::sync::Wait;
 use std::sync::ledger::Ledger;
@@ -21,12 +26,81 @@ fn posts_at<L: Ledger, M: Ledger>(desk: &Desk<L, M>, seat: &Seat<L, M>, port: Po
     seat.counts()[usize::from(port.get())]
 }
 
-// Posts an event at a port.
+// Turns a port, and passes its chapter to the sink. If the port refuses, nothing happens.
+fn turn_port<L: Ledger, M: Ledger, T: Wait>(
+    rt: &T,
+    desk: &Desk<L, M>,
+    port: PortNo,
+    sink: &mut Sink,
+)
+    requires { port < desk.now.ports }
+    ensures turned { TriesTurn sink.old.outlet sink.new.outlet }
+    ensures cut { sink.new.cut ≡ sink.old.cut }
+    ensures sink { PassesChapters sink.old sink.new }
+{
+    match desk.turn(rt, port) {
+        Ok(chapter) => sink.pass(chapter),
+        Err(_) => {}
+    }
+}
+
+// Posts an event at a port. If its chapter is full, turns the port, and posts the event once more.
+fn post_or_turn<L: Ledger, M: Ledger, T: Wait>(
+    rt: &T,
+    desk: &Desk<L, M>,
+    seat: &mut Seat<L, M>,
+    port: PortNo,
+    sink: &mut Sink,
+    event: Event,
+) -> Result<Receipt, StepFault>
+    ensures no_such { IsNoSuchPort result ↔ desk.now.ports ≤ port }
+    ensures posted { IfOk result (λ receipt. IsSomePost event receipt) }
+    ensures refused { IfErr result (λ fault. TellsRefusal event fault) }
+    ensures counted { OnOk result (seat.new ≡ one_more_at port seat.old) }
+    ensures err { OnErr result (seat.new ≡ seat.old) }
+    ensures turned { (sink.new.outlet ≡ sink.old.outlet) ⊎ TriesTurn sink.old.outlet sink.new.outlet }
+    ensures cut { sink.new.cut ≡ sink.old.cut }
+    ensures sink { PassesChapters sink.old sink.new }
+{
+    let again = event.copy();
+    match desk.post(rt, seat, port, event) {
+        Err(StepFault::Refused(Refusal::ChapterFull)) => {
+            turn_port(rt, desk, port, sink);
+            desk.post(rt, seat, port, again)
+        }
+        first => first,
+    }
+}
+
+// After a post that was kept with this index, frees some entries of a dropped chapter, and turns the port if the sink
+// wants it.
+fn turn_at_cut<L: Ledger, M: Ledger, T: Wait>(
+    rt: &T,
+    desk: &Desk<L, M>,
+    port: PortNo,
+    sink: &mut Sink,
+    index: usize,
+)
+    requires { port < desk.now.ports }
+    ensures at_cut { sink.old.cut ≤ index + 1 → TriesTurn sink.old.outlet sink.new.outlet }
+    ensures below_cut { index + 1 < sink.old.cut → sink.new.outlet ≡ sink.old.outlet }
+    ensures frees { index + 1 < sink.old.cut → Frees sink.old sink.new }
+    ensures cut { sink.new.cut ≡ sink.old.cut }
+    ensures sink { PassesChapters sink.old sink.new }
+{
+    sink.free_some();
+    if sink.wants_turn(index) {
+        turn_port(rt, desk, port, sink);
+    }
+}
+
+// Posts an event at a port, and turns the port before if its chapter is full, and after if the sink wants it.
 pub(crate) fn post<L: Ledger, M: Ledger, T: Wait>(
     rt: &T,
     desk: &Desk<L, M>,
     seat: &mut Seat<L, M>,
     port: PortNo,
+    sink: &mut Sink,
     event: Event,
 ) -> Result<Receipt, StepFault>
     ensures posted { IfOk result (λ receipt. IsSomePost event receipt) }
@@ -34,8 +108,11 @@ pub(crate) fn post<L: Ledger, M: Ledger, T: Wait>(
     ensures counted { OnOk result (RaisedAt port 1 seat.old seat.new) }
     ensures fits { OnOk result (slice_index seat.new.counts port < 2 ^ 64) }
     ensures err { OnErr result (seat.new ≡ seat.old) }
+    ensures turns { IfOk result (λ receipt. TurnsAtPost sink.old receipt.placed.index sink.new) }
+    ensures sink { PassesChapters sink.old sink.new }
 {
-    let receipt = desk.post(rt, seat, port, event)?;
+    let receipt = post_or_turn(rt, desk, seat, port, sink, event)?;
+    turn_at_cut(rt, desk, port, sink, receipt.index());
     let _posts = posts_at(desk, seat, port);
     Ok(receipt)
 }
@@ -46,12 +123,14 @@ pub(crate) fn is_posted<L: Ledger, M: Ledger, T: Wait>(
     desk: &Desk<L, M>,
     seat: &mut Seat<L, M>,
     port: PortNo,
+    sink: &mut Sink,
     event: Event,
 ) -> bool
     ensures counted { MatchBool result (RaisedAt port 1 seat.old seat.new
         × (slice_index seat.new.counts port < 2 ^ 64)) (seat.new ≡ seat.old) }
+    ensures sink { PassesChapters sink.old sink.new }
 {
-    post(rt, desk, seat, port, event).is_ok()
+    post(rt, desk, seat, port, sink, event).is_ok()
 }
 
 // Posts `MakeMap` at a port, and returns the map of its next frame.
@@ -60,14 +139,16 @@ pub(crate) fn make_map<L: Ledger, M: Ledger, T: Wait>(
     desk: &Desk<L, M>,
     seat: &mut Seat<L, M>,
     port: PortNo,
+    sink: &mut Sink,
 ) -> Result<MadeMap, StepFault>
     ensures made { IfOk result IsSomeMap }
     ensures refused { IfErr result (λ fault. TellsRefusal Event.MakeMap fault) }
     ensures counted { OnOk result (RaisedAt port 1 seat.old seat.new) }
     ensures fits { OnOk result (slice_index seat.new.counts port < 2 ^ 64) }
     ensures err { OnErr result (seat.new ≡ seat.old) }
+    ensures sink { PassesChapters sink.old sink.new }
 {
-    match post(rt, desk, seat, port, Event::MakeMap)?.into_reply() {
+    match post(rt, desk, seat, port, sink, Event::MakeMap)?.into_reply() {
         Reply::Map(made) => Ok(made),
         Reply::Taken => unreachable!(),
     }

@@ -2,6 +2,7 @@
 ghost use Rattle.std.specs.Prelude.{◌≡◌, ◌+◌, ◌∷◌, ◌≤◌, [], ℕ, List, false, true, length, slice_index, IfErr, IfOk, IfSome, MatchOption, OnOk};
 ghost use Rattle.pon_link.specs.Reading.{empty};
 ghost use Rattle.pon_link.specs.declared.record.UpRecord.{UpRecord};
+ghost use Rattle.pon_worker.specs.Passing.{PassesChapters};
 ghost use Rattle.pon_worker.specs.Records.{Counted, HasRead, StopsFor, is_nobodys};
 ghost use Rattle.pon_worker.specs.Turns.{PostsAt};
 
@@ -13,6 +14,7 @@ use pon_desk::{Desk, Seat};
 use pon_device::DevRead;
 use pon_event::Event;
 use pon_link::{Direction, UpReader, UpRecord};
+use pon_ring::Sink;
 use pon_units::{OnuId, PortNo};
 use pon_xgtc::BurstHead;
 use std::sync::Wait;
@@ -35,6 +37,7 @@ fn post_record<L: Ledger, M: Ledger, T: Wait>(
     desk: &Desk<L, M>,
     seat: &mut Seat<L, M>,
     port: PortNo,
+    sink: &mut Sink,
     burst: UpRecord,
     counts: &mut Counts,
 )
@@ -42,6 +45,7 @@ fn post_record<L: Ledger, M: Ledger, T: Wait>(
     ensures counted { (n : ℕ) × Counted (burst ∷ []) n counts.old counts.new }
     ensures maps { counts.new.maps ≡ counts.old.maps }
     ensures posts { PostsAt port 0 seat.old seat.new counts.old counts.new }
+    ensures sink { PassesChapters sink.old sink.new }
 {
     let Some(onu) = sender(burst.head) else {
         counts.garbled = count(counts.garbled);
@@ -52,7 +56,7 @@ fn post_record<L: Ledger, M: Ledger, T: Wait>(
         onu,
         occ: burst.occ,
     };
-    if is_posted(rt, desk, seat, port, event) {
+    if is_posted(rt, desk, seat, port, sink, event) {
         counts.reports += 1;
     } else {
         counts.refused = count(counts.refused);
@@ -65,6 +69,7 @@ pub(crate) fn read_bursts<L: Ledger, M: Ledger, R: DevRead, T: Wait>(
     desk: &Desk<L, M>,
     seat: &mut Seat<L, M>,
     port: PortNo,
+    sink: &mut Sink,
     bursts: usize,
     up: &mut UpReader,
     reader: &mut R,
@@ -77,12 +82,13 @@ pub(crate) fn read_bursts<L: Ledger, M: Ledger, R: DevRead, T: Wait>(
         × OnOk result (length records ≡ bursts) }
     ensures maps { counts.new.maps ≡ counts.old.maps }
     ensures posts { PostsAt port 0 seat.old seat.new counts.old counts.new }
+    ensures sink { PassesChapters sink.old sink.new }
     ensures all { OnOk result (up.new ≡ empty Direction.Up) }
     ensures err { IfErr result (λ cause. StopsFor cause up.new (R.remaining reader.new)) }
 {
     for _burst in 0..bursts {
         match receive(rt, up, reader) {
-            Ok(burst) => post_record(rt, desk, seat, port, burst, counts),
+            Ok(burst) => post_record(rt, desk, seat, port, sink, burst, counts),
             Err(cause) => return Err(cause),
         }
     }

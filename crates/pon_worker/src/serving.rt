@@ -1,17 +1,19 @@
 //! The turns of a worker.
 
 ghost use Rattle.std.specs.Prelude.{◌≡◌, ◌≤◌, ℕ};
+ghost use Rattle.pon_ring.specs.Passing.{KeepsRing};
+ghost use Rattle.pon_worker.specs.Passing.{PassesChapters};
 ghost use Rattle.pon_worker.specs.Turns.{EndsAs, PostsAt, RaisedAt, counts_of, most_others, no_counts};
 
 use crate::counts::{Counts, Why, WorkerEnd};
 use crate::gate::{Gate, Pace};
 use crate::posting::is_posted;
-use crate::sink::Sink;
 use crate::turn::turn;
 use pon_desk::{Desk, Seat};
 use pon_device::{DevRead, DevWrite};
 use pon_event::Event;
 use pon_link::UpReader;
+use pon_ring::Sink;
 use pon_units::PortNo;
 use std::sync::Wait;
 use std::sync::ledger::Ledger;
@@ -22,6 +24,7 @@ fn make_turns<L: Ledger, M: Ledger, G: Gate, P: Pace, R: DevRead, W: DevWrite, T
     desk: &Desk<L, M>,
     seat: &mut Seat<L, M>,
     port: PortNo,
+    sink: &mut Sink,
     gate: &G,
     pace: &mut P,
     reader: &mut R,
@@ -30,6 +33,7 @@ fn make_turns<L: Ledger, M: Ledger, G: Gate, P: Pace, R: DevRead, W: DevWrite, T
     ensures ended { EndsAs result.why no_counts (counts_of result) (W.contents writer.old)
         (W.contents writer.new) (R.remaining reader.old) (R.remaining reader.new) }
     ensures posts { PostsAt port 0 seat.old seat.new no_counts (counts_of result) }
+    ensures sink { PassesChapters sink.old sink.new }
 {
     let mut up = UpReader::new();
     let mut counts = Counts::new();
@@ -42,6 +46,7 @@ fn make_turns<L: Ledger, M: Ledger, G: Gate, P: Pace, R: DevRead, W: DevWrite, T
             desk,
             seat,
             port,
+            sink,
             gate,
             &mut up,
             reader,
@@ -61,18 +66,24 @@ fn give_up<L: Ledger, M: Ledger, T: Wait>(
     desk: &Desk<L, M>,
     seat: &mut Seat<L, M>,
     port: PortNo,
+    sink: &mut Sink,
     why: Why,
 )
-    ensures { (others : ℕ) × (others ≤ most_others why) × RaisedAt port others seat.old seat.new }
+    ensures posts { (others : ℕ) × (others ≤ most_others why) × RaisedAt port others seat.old seat.new }
+    ensures sink { PassesChapters sink.old sink.new }
 {
     if let Why::Gave { cause } = why {
-        let _taken = is_posted(rt, desk, seat, port, Event::Fail { cause });
+        let _taken = is_posted(rt, desk, seat, port, sink, Event::Fail { cause });
     }
 }
 
 /// Serves a port over its link, for as many turns as the pace gives. In each turn it posts `MakeMap`, calls the gate at
 /// `Send`, writes the record of the map, calls the gate at `Read`, reads one record for each burst of the map, and
 /// posts it as a report. It holds no lock while it calls the gate, writes or reads.
+///
+/// After a post whose entry has an index at which the sink wants a turn ([`Sink::wants_turn`]), it turns the port and
+/// passes the chapter to the sink. It also turns a port that refuses an event by `ChapterFull`, and then posts the event
+/// once more; only the second result counts. If the port refuses the turn, the worker goes on.
 ///
 /// A record whose burst header is refused, or has the ONU-ID 1023, is counted as garbled and dropped; a report that the
 /// port refuses is counted. It ends as [`Why`] says. A write or read that fails is tried three times in a row; then it
@@ -87,7 +98,7 @@ pub fn serve_port<L: Ledger, M: Ledger, G: Gate, P: Pace, R: DevRead, W: DevWrit
     pace: &mut P,
     reader: &mut R,
     writer: &mut W,
-    _sink: &mut Sink,
+    sink: &mut Sink,
 ) -> WorkerEnd
     // For devices that show their bytes: the bytes written are the maps that the port made, each with the whole promise
     // of a map, and the records counted are those that were read.
@@ -95,8 +106,10 @@ pub fn serve_port<L: Ledger, M: Ledger, G: Gate, P: Pace, R: DevRead, W: DevWrit
         (W.contents writer.new) (R.remaining reader.old) (R.remaining reader.new) }
     ensures posts { (others : ℕ) × (others ≤ most_others result.why)
         × PostsAt port others seat.old seat.new no_counts (counts_of result) }
+    ensures sink { PassesChapters sink.old sink.new }
+    ensures ring { KeepsRing sink.old sink.new }
 {
-    let end = make_turns(rt, desk, seat, port, gate, pace, reader, writer);
-    give_up(rt, desk, seat, port, end.why);
+    let end = make_turns(rt, desk, seat, port, sink, gate, pace, reader, writer);
+    give_up(rt, desk, seat, port, sink, end.why);
     end
 }

@@ -1,6 +1,7 @@
 // One turn of a worker.
 ghost use Rattle.std.specs.Prelude.{◌≡◌, ◌+◌, ◌≤◌, count_by, slice_index, IfErr, OnErr, OnOk};
 ghost use Rattle.pon_link.specs.Reading.{empty};
+ghost use Rattle.pon_worker.specs.Passing.{PassesChapters};
 ghost use Rattle.pon_worker.specs.Turns.{begins_burst, IsCutBy, PostsAt, Stopped, Turned};
 
 use crate::causes::{WRITE_FAILED, cause_of};
@@ -13,6 +14,7 @@ use pon_bwmap::Alloc;
 use pon_desk::{Desk, Seat};
 use pon_device::{DevRead, DevWrite};
 use pon_link::{Direction, UpReader};
+use pon_ring::Sink;
 use pon_units::PortNo;
 use std::sync::Wait;
 use std::sync::ledger::Ledger;
@@ -30,6 +32,7 @@ pub(crate) fn turn<L: Ledger, M: Ledger, G: Gate, R: DevRead, W: DevWrite, T: Wa
     desk: &Desk<L, M>,
     seat: &mut Seat<L, M>,
     port: PortNo,
+    sink: &mut Sink,
     gate: &G,
     up: &mut UpReader,
     reader: &mut R,
@@ -45,8 +48,9 @@ pub(crate) fn turn<L: Ledger, M: Ledger, G: Gate, R: DevRead, W: DevWrite, T: Wa
         (W.contents writer.new) (R.remaining reader.old) (R.remaining reader.new)) }
     ensures why { IfErr result (λ why. IsCutBy why (R.remaining reader.new)) }
     ensures posts { PostsAt port 0 seat.old seat.new counts.old counts.new }
+    ensures sink { PassesChapters sink.old sink.new }
 {
-    let made = match make_map(rt, desk, seat, port) {
+    let made = match make_map(rt, desk, seat, port, sink) {
         Ok(made) => made,
         Err(fault) => return Err(Why::Refused(fault)),
     };
@@ -64,7 +68,7 @@ pub(crate) fn turn<L: Ledger, M: Ledger, G: Gate, R: DevRead, W: DevWrite, T: Wa
         return Err(Why::GateLimit);
     }
     let bursts = bursts_in(made.map.rows());
-    match read_bursts(rt, desk, seat, port, bursts, up, reader, counts) {
+    match read_bursts(rt, desk, seat, port, sink, bursts, up, reader, counts) {
         Ok(()) => Ok(()),
         Err(cause) => Err(Why::Gave { cause }),
     }

@@ -1,7 +1,11 @@
 use Rattle.std.proofs.Common.{◌+◌, ◌<◌, ap, length, slice_index, arith, length-set, lt_of_not-le}
 use Rattle.pon_desk.specs.Counts.{SeatCounts}
+use Rattle.pon_worker.proofs.Passed.{passes_then, turns_at_post}
 use Rattle.pon_worker.proofs.Posted.{raised_one}
 use Rattle.pon_worker.proofs.posting.post.Goals as goal
+
+pub turn_at_cut-requires : goal.turn_at_cut-requires
+turn_at_cut-requires g c = lt_of_not-le c.in_ok-receipt.ensures.no_such.1
 
 pub returns-clause-counted : goal.returns-clause-counted
 returns-clause-counted g c =
@@ -11,4 +15,11 @@ returns-clause-counted g c =
     let size = ap (λ (s : SeatCounts). length s.counts) more in
     let there : port < c.args.desk.now.ports = lt_of_not-le c.in_ok-receipt.ensures.no_such.1 in
     let inside : port < length old = omega (arith, size, length-set old port (slice_index old port + 1), c.posts_at-posts.ensures.size, there) in
-    raised_one port c.args.seat.now c.post.new.seat more inside
+    raised_one port c.args.seat.now c.post_or_turn.new.seat more inside
+
+pub returns-clause-turns : goal.returns-clause-turns
+returns-clause-turns g c =
+    turns_at_post c.args.sink.now c.post_or_turn.new.sink c.turn_at_cut.new.sink c.in_ok-receipt.receipt.placed.index c.index.result c.index.ensures c.in_ok-receipt.ensures.turned c.in_ok-receipt.ensures.cut c.turn_at_cut.ensures.at_cut c.turn_at_cut.ensures.below_cut
+
+pub returns-clause-sink : goal.returns-clause-sink
+returns-clause-sink g c = passes_then c.args.sink.now c.post_or_turn.new.sink c.turn_at_cut.new.sink c.in_ok-receipt.ensures.sink c.turn_at_cut.ensures.sink

@@ -2,6 +2,7 @@ use Rattle.std.proofs.Common.{List, ℕ, ◌≡◌, refl, sym, ap, subst, ◌∙
 use Rattle.pon_link.specs.Reading.{ReaderState}
 use Rattle.pon_worker.specs.Records.{HasRead}
 use Rattle.pon_worker.proofs.Bursts.{none_so_far, so_far_more, so_far_part}
+use Rattle.pon_worker.proofs.Passed.{passes_none, passes_then}
 use Rattle.pon_worker.proofs.Posted.{posts_fit, posts_more, posts_none}
 use Rattle.pon_worker.proofs.reading.read_bursts.Goals as goal
 
@@ -11,6 +12,7 @@ loop-burst-init g c = record {
   so_far = none_so_far c.args.counts.now (g.R.DevRead.remaining c.args.reader.now) (omega arith) (omega arith);
   maps = refl;
   posts = posts_none c.args.port c.args.seat.now c.args.counts.now c.args.counts.now refl refl;
+  sink = passes_none c.args.sink.now c.args.sink.now refl refl;
   fits = c.requires.posts;
 }
 
@@ -41,6 +43,7 @@ loop-burst-preserved g c =
       so_far = so_far_more c.loop-burst._burst c.in-Ok.burst got.0 counted.0 c.args.counts.now c.loop-burst.counts c.post_record.new.counts (g.R.DevRead.remaining c.args.reader.now) (g.R.DevRead.remaining c.loop-burst.reader) (g.R.DevRead.remaining c.receive.new.reader) far.so_far got.1 got.2 counted.1;
       maps = c.post_record.ensures.maps ∙ far.maps;
       posts = posts_more c.args.port 0 0 c.args.seat.now c.loop-burst.seat c.post_record.new.seat c.args.counts.now c.loop-burst.counts c.post_record.new.counts far.posts c.post_record.ensures.posts;
+      sink = passes_then c.args.sink.now c.loop-burst.sink c.post_record.new.sink far.sink c.post_record.ensures.sink;
       fits = posts_fit c.args.port c.loop-burst.seat c.post_record.new.seat c.loop-burst.counts c.post_record.new.counts c.post_record.ensures.posts far.fits;
     }
 
@@ -57,6 +60,12 @@ returns-clause-maps g c = c.loop-burst.invariant.maps
 
 pub returns-clause-posts : goal.returns-clause-posts
 returns-clause-posts g c = c.loop-burst.invariant.posts
+
+pub returns-in-Err-clause-sink : goal.returns-in-Err-clause-sink
+returns-in-Err-clause-sink g c = c.loop-burst.invariant.sink
+
+pub returns-clause-sink : goal.returns-clause-sink
+returns-clause-sink g c = c.loop-burst.invariant.sink
 
 pub returns-clause-all : goal.returns-clause-all
 returns-clause-all g c = c.loop-burst.invariant.empty_again

@@ -2,6 +2,7 @@ use Rattle.std.proofs.Common.{refl, sym, ap, subst, arith}
 use Rattle.pon_worker.specs.Turns.{PostsAt, Turned, counts_of, no_counts}
 use Rattle.pon_worker.specs.declared.counts.Counts.{Counts}
 use Rattle.pon_worker.specs.declared.counts.Why.TheVariants.{Finished}
+use Rattle.pon_worker.proofs.Passed.{passes_none, passes_then}
 use Rattle.pon_worker.proofs.Posted.{posts_fit, posts_more, posts_none}
 use Rattle.pon_worker.proofs.Works.{ends_cut, ends_with, stopped_more, turned_more, turned_none}
 use Rattle.pon_worker.proofs.serving.make_turns.Goals as goal
@@ -13,6 +14,7 @@ loop-init g c =
       empty_again = c.new-up.ensures;
       turned = subst (λ (k : Counts). Turned no_counts k (g.W.DevWrite.contents c.args.writer.now) (g.W.DevWrite.contents c.args.writer.now) (g.R.DevRead.remaining c.args.reader.now) (g.R.DevRead.remaining c.args.reader.now)) none start;
       posts = subst (λ (k : Counts). PostsAt c.args.port 0 c.args.seat.now c.args.seat.now no_counts k) none (posts_none c.args.port c.args.seat.now no_counts no_counts refl refl);
+      sink = passes_none c.args.sink.now c.args.sink.now refl refl;
       fits = omega (arith, ap (λ (k : Counts). k.maps) c.new-counts.ensures, ap (λ (k : Counts). k.reports) c.new-counts.ensures);
     }
 
@@ -28,6 +30,7 @@ loop-preserved g c =
       empty_again = c.in-Ok.ensures.empty;
       turned = turned_more no_counts c.loop.counts c.turn.new.counts (g.W.DevWrite.contents c.args.writer.now) (g.W.DevWrite.contents c.loop.writer) (g.W.DevWrite.contents c.turn.new.writer) (g.R.DevRead.remaining c.args.reader.now) (g.R.DevRead.remaining c.loop.reader) (g.R.DevRead.remaining c.turn.new.reader) far.turned c.in-Ok.ensures.turned;
       posts = posts_more c.args.port 0 0 c.args.seat.now c.loop.seat c.turn.new.seat no_counts c.loop.counts c.turn.new.counts far.posts c.turn.ensures.posts;
+      sink = passes_then c.args.sink.now c.loop.sink c.turn.new.sink far.sink c.turn.ensures.sink;
       fits = posts_fit c.args.port c.loop.seat c.turn.new.seat c.loop.counts c.turn.new.counts c.turn.ensures.posts far.fits;
     }
 
@@ -37,6 +40,12 @@ returns-then-not-next-clause-ended g c =
 
 pub returns-then-not-next-clause-posts : goal.returns-then-not-next-clause-posts
 returns-then-not-next-clause-posts g c = subst (λ (k : Counts). PostsAt c.args.port 0 c.args.seat.now c.loop.seat no_counts k) (sym c.end.ensures.counts) c.loop.invariant.posts
+
+pub returns-then-not-next-clause-sink : goal.returns-then-not-next-clause-sink
+returns-then-not-next-clause-sink g c = c.loop.invariant.sink
+
+pub returns-in-Err-clause-sink : goal.returns-in-Err-clause-sink
+returns-in-Err-clause-sink g c = passes_then c.args.sink.now c.loop.sink c.turn.new.sink c.loop.invariant.sink c.turn.ensures.sink
 
 pub returns-in-Err-clause-ended : goal.returns-in-Err-clause-ended
 returns-in-Err-clause-ended g c =

@@ -1,6 +1,7 @@
 use Rattle.std.proofs.Common.{◌≡◌, ◌+◌, ◌≤◌, slice_index}
 use Rattle.pon_link.specs.Reading.{empty}
 use Rattle.pon_link.specs.declared.direction.Direction.TheVariants.{Up}
+use Rattle.pon_worker.specs.Passing.{PassesChapters}
 use Rattle.pon_worker.specs.Turns.{PostsAt, Turned, no_counts}
 use Rattle.pon_worker.proofs.serving.make_turns.Given as goal
 
@@ -10,5 +11,6 @@ invariant-loop g l = record {
   empty_again : l.up ≡ empty Up;
   turned : Turned no_counts l.counts (g.W.DevWrite.contents l.initial.writer) (g.W.DevWrite.contents l.writer) (g.R.DevRead.remaining l.initial.reader) (g.R.DevRead.remaining l.reader);
   posts : PostsAt l.port 0 l.initial.seat l.seat no_counts l.counts;
+  sink : PassesChapters l.initial.sink l.sink;
   fits : l.counts.maps + l.counts.reports ≤ slice_index l.seat.counts l.port;
 }

@@ -5,6 +5,7 @@ use Rattle.pon_link.specs.Reading.{ReaderState}
 use Rattle.pon_worker.specs.Records.{HasRead}
 use Rattle.pon_worker.specs.Turns.{begins_burst, map_record}
 use Rattle.pon_worker.proofs.Bursts.{counted_kept, counted_on, read_none}
+use Rattle.pon_worker.proofs.Passed.{passes_then}
 use Rattle.pon_worker.proofs.Posted.{posts_made, with_map}
 use Rattle.pon_worker.proofs.Works.{stopped_none, stopped_one, turned_one}
 use Rattle.pon_worker.proofs.turn.turn.Goals as goal
@@ -49,6 +50,10 @@ pub returns-in-Ok-read_bursts-clause-posts : goal.returns-in-Ok-read_bursts-clau
 returns-in-Ok-read_bursts-clause-posts g c =
     posts_made c.args.port c.args.seat.now c.make_map.new.seat c.read_bursts.new.seat c.args.counts.now c.read_bursts.new.counts c.in-Ok.ensures.counted c.read_bursts.ensures.posts
 
+pub returns-in-Ok-read_bursts-clause-sink : goal.returns-in-Ok-read_bursts-clause-sink
+returns-in-Ok-read_bursts-clause-sink g c =
+    passes_then c.args.sink.now c.make_map.new.sink c.read_bursts.new.sink c.make_map.ensures.sink c.read_bursts.ensures.sink
+
 pub returns-clause-stopped : goal.returns-clause-stopped
 returns-clause-stopped g c =
     let left = g.R.DevRead.remaining c.args.reader.now in
@@ -61,3 +66,7 @@ returns-clause-stopped g c =
 pub returns-clause-posts : goal.returns-clause-posts
 returns-clause-posts g c =
     posts_made c.args.port c.args.seat.now c.make_map.new.seat c.read_bursts.new.seat c.args.counts.now c.read_bursts.new.counts c.in-Ok.ensures.counted c.read_bursts.ensures.posts
+
+pub returns-clause-sink : goal.returns-clause-sink
+returns-clause-sink g c =
+    passes_then c.args.sink.now c.make_map.new.sink c.read_bursts.new.sink c.make_map.ensures.sink c.read_bursts.ensures.sink
