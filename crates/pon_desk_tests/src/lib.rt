@@ -1,5 +1,5 @@
 //! Tests of the desk and of the worker of a port: posts from threads, kept entries, looks and inspections, refused
-//! memory, management lines, settlements of receipts, and workers over memory and sockets.
+//! memory, management lines, settlements of receipts, and workers over memory and sockets, with their chapters.
 //!
 //! They are in a crate above those that they test, so that each of these is proved once.
 #![tactic(auto)]
@@ -14,6 +14,8 @@ mod inspecting;
 mod links;
 #[cfg(test)]
 mod operating;
+#[cfg(test)]
+mod passing;
 #[cfg(test)]
 mod serving;
 #[cfg(test)]
