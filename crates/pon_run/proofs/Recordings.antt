@@ -1,65 +1,101 @@
 -- Chapters that a recording gets one after another.
-use Rattle.std.proofs.Common.{◌≡◌, ℕ, suc, ◌+◌, List, [], ◌∷◌, ◌++◌, length, ◌<◌, ap, arith, refl, subst, sym, ◌∙◌, append_assoc}
-use Rattle.std.specs.Prelude.{Option}
-use Rattle.std.proofs.lemmas.List.{append-nil, length-append}
+use Rattle.std.proofs.Common.{◌≡◌, ℕ, suc, ◌+◌, List, [], ◌∷◌, ◌++◌, ◌<◌, ◌≤◌, ap, arith, inl, inr, refl, subst, sym, ◌∙◌, append_assoc}
+use Rattle.std.specs.Prelude.{◌-◌, ◌^◌, ◌⊎◌, Bool, true, false, not, map, min, Option, option_to_list, Err}
+use Rattle.std.proofs.lemmas.List.{append-nil, map-append}
 use Rattle.pon_port.specs.Chapters.{Chapter}
 use Rattle.pon_record.specs.Chapters.{Body}
 use Rattle.pon_recorder.specs.Bodies.{chapter_body}
-use Rattle.pon_recorder.specs.Recorders.{Records, Stays}
-use Rattle.pon_run.specs.Recordings.{HasRecorded, bodies_from}
+use Rattle.pon_recorder.specs.Recorders.{Grows, IsTaken, Records, Stays}
+use Rattle.pon_recorder.specs.declared.fault.RecordFault.{RecordFault}
+use Rattle.pon_recorder.specs.declared.fault.RecordFault.TheVariants.{Device}
+use Rattle.pon_run.specs.Recordings.{AreSome, HasRecorded, IsDropped, TakesChapters, most_dropped, rest_of}
 
--- the chapters of the first `number` ports are recorded, and those of the others are not
-pub record Underway (old : Option (List ℕ)) (left : List ℕ) (now : Option (List ℕ)) (rest : List ℕ) (ports : List Chapter) (number : ℕ) (others : List Chapter) : Type 0 where
-  pub first : List Chapter
-  pub whole : first ++ others ≡ ports
-  pub count : length first ≡ number
-  pub recorded : HasRecorded old left now rest (bodies_from 0 first)
+-- a recording that is unchanged has no additional chapters
+pub none_recorded : (old : Option (List ℕ)) (left : List ℕ) → HasRecorded old left old left []
+none_recorded old left before bodies r = subst (λ (bs : List Body). Records before old left bs) (sym (append-nil bodies)) r
 
-pub none_recorded : (old : Option (List ℕ)) (left : List ℕ) (ports : List Chapter) → Underway old left old left ports 0 ports
-none_recorded old left ports = record {
-  first = [];
-  whole = refl;
-  count = refl;
-  recorded = λ before bodies r. subst (λ (bs : List Body). Records before old left bs) (sym (append-nil bodies)) r;
+-- what is left of a chapter is written
+pub rest_written : (old : Option (List ℕ)) (left : List ℕ) (mid : Option (List ℕ)) (rest : List ℕ) (new : Option (List ℕ)) (more : List ℕ) (b : Body)
+    → Grows old left mid rest b → Stays mid rest new more → HasRecorded old left new more (b ∷ [])
+rest_written old left mid rest new more b g s before bodies r = s before (bodies ++ b ∷ []) (g before bodies r)
+
+both_recorded : (old : Option (List ℕ)) (left : List ℕ) (mid : Option (List ℕ)) (rest : List ℕ) (new : Option (List ℕ)) (more : List ℕ) (first second : List Body)
+    → HasRecorded old left mid rest first → HasRecorded mid rest new more second → HasRecorded old left new more (first ++ second)
+both_recorded old left mid rest new more first second f s before bodies r =
+    subst (λ (bs : List Body). Records before new more bs) (append_assoc bodies first second) (s before (bodies ++ first) (f before bodies r))
+
+both_some : (first second all more : List Body) → AreSome first all → AreSome second more → AreSome (first ++ second) (all ++ more)
+both_some first second [] more f s = subst (λ (bs : List Body). AreSome (bs ++ second) more) (sym f) s
+both_some first second (b ∷ bs) more (inl f) s = inl (both_some first second bs more f s)
+both_some first second (b ∷ bs) more (inr (rest, e, f)) s = inr (rest ++ second, ap (λ (cs : List Body). cs ++ second) e, both_some rest second bs more f s)
+
+-- a chapter is recorded
+pub takes_one : (old : Option (List ℕ)) (left : List ℕ) (new : Option (List ℕ)) (rest : List ℕ) (count : ℕ) (b : Body)
+    → HasRecorded old left new rest (b ∷ []) → TakesChapters old left new rest count count (b ∷ [])
+takes_one old left new rest count b h = record {
+  recorded = b ∷ [];
+  grows = h;
+  some = inr ([], refl, refl);
+  all = λ e l. refl;
+  counts = omega arith;
 }
 
-one_more : (port : ℕ) (cs : List Chapter) (c : Chapter) → bodies_from port (cs ++ c ∷ []) ≡ bodies_from port cs ++ chapter_body (port + length cs) c ∷ []
-one_more port [] c = ap (λ (p : ℕ). chapter_body p c ∷ []) (omega arith)
-one_more port (d ∷ ds) c =
-    ap (λ (bs : List Body). chapter_body port d ∷ bs) (one_more (suc port) ds c ∙ ap (λ (p : ℕ). bodies_from (suc port) ds ++ chapter_body p c ∷ []) (omega arith))
-
--- the chapter of the next port is recorded too
-pub next_recorded : (old : Option (List ℕ)) (left : List ℕ) (mid : Option (List ℕ)) (rest : List ℕ) (new : Option (List ℕ)) (more : List ℕ) (ports : List Chapter) (number : ℕ) (c : Chapter) (others : List Chapter)
-    → Underway old left mid rest ports number (c ∷ others) → HasRecorded mid rest new more (chapter_body number c ∷ [])
-    → Underway old left new more ports (number + 1) others
-next_recorded old left mid rest new more ports number c others u h = record {
-  first = u.first ++ c ∷ [];
-  whole = append_assoc u.first (c ∷ []) others ∙ u.whole;
-  count = length-append u.first (c ∷ []) ∙ ap (λ (k : ℕ). k + 1) u.count;
-  recorded = λ before bodies r.
-      let bs : List Body = bodies_from 0 u.first in
-      let at : number ≡ 0 + length u.first = omega (arith, u.count) in
-      let last : bs ++ chapter_body number c ∷ [] ≡ bodies_from 0 (u.first ++ c ∷ [])
-      = ap (λ (p : ℕ). bs ++ chapter_body p c ∷ []) at ∙ sym (one_more 0 u.first c) in
-      subst (λ (t : List Body). Records before new more t)
-      (append_assoc bodies bs (chapter_body number c ∷ []) ∙ ap (λ (t : List Body). bodies ++ t) last)
-      (h before (bodies ++ bs) (u.recorded before bodies r));
+-- a chapter is dropped and counted
+pub drops_one : (old : Option (List ℕ)) (left : List ℕ) (new : Option (List ℕ)) (rest : List ℕ) (failed : Bool) (count after : ℕ) (b : Body)
+    → IsDropped old left new rest failed b → after ≡ min (count + 1) most_dropped → TakesChapters old left new rest count after (b ∷ [])
+drops_one old left new rest failed count after b (inl h) more = record {
+  recorded = [];
+  grows = h;
+  some = inl refl;
+  all = λ e l. absurd (omega (arith, more, e, l));
+  counts = omega (arith, more);
+}
+drops_one old left new rest failed count after b (inr h) more = record {
+  recorded = b ∷ [];
+  grows = h.1;
+  some = inr ([], refl, refl);
+  all = λ e l. refl;
+  counts = omega (arith, more);
 }
 
--- the chapters of all ports are recorded, and the device is flushed
-pub all_recorded : (old : Option (List ℕ)) (left : List ℕ) (mid : Option (List ℕ)) (rest : List ℕ) (new : Option (List ℕ)) (more : List ℕ) (ports : List Chapter) (number : ℕ)
-    → Underway old left mid rest ports number [] → Stays mid rest new more → HasRecorded old left new more (bodies_from 0 ports)
-all_recorded old left mid rest new more ports number u s before bodies r =
-    let whole : u.first ≡ ports = sym (append-nil u.first) ∙ u.whole in
-    subst (λ (cs : List Chapter). Records before new more (bodies ++ bodies_from 0 cs)) whole
-    (s before (bodies ++ bodies_from 0 u.first) (u.recorded before bodies r))
+-- no chapter is taken
+pub takes_none : (old : Option (List ℕ)) (left : List ℕ) (count : ℕ) → TakesChapters old left old left count count []
+takes_none old left count = record {
+  recorded = [];
+  grows = none_recorded old left;
+  some = refl;
+  all = λ e l. refl;
+  counts = omega arith;
+}
 
--- a port that is not recorded yet has a number below that of all ports
-pub is_within : (old : Option (List ℕ)) (left : List ℕ) (now : Option (List ℕ)) (rest : List ℕ) (ports : List Chapter) (number : ℕ) (c : Chapter) (others : List Chapter)
-    → Underway old left now rest ports number (c ∷ others) → number < length ports
-is_within old left now rest ports number c others u =
-    omega (arith, ap (λ (cs : List Chapter). length cs) u.whole, length-append u.first (c ∷ others), u.count)
+-- chapters are taken after others
+pub takes_both : (old : Option (List ℕ)) (left : List ℕ) (mid : Option (List ℕ)) (rest : List ℕ) (new : Option (List ℕ)) (more : List ℕ) (before between after : ℕ) (first second : List Body)
+    → TakesChapters old left mid rest before between first → TakesChapters mid rest new more between after second
+    → TakesChapters old left new more before after (first ++ second)
+takes_both old left mid rest new more before between after first second f s = record {
+  recorded = f.recorded ++ s.recorded;
+  grows = both_recorded old left mid rest new more f.recorded s.recorded f.grows s.grows;
+  some = both_some f.recorded s.recorded first second f.some s.some;
+  all = λ e l.
+      let same : between ≡ before = omega (arith, f.counts, s.counts, e) in
+      let later : after ≡ between = omega (arith, e, same) in
+      ap (λ (bs : List Body). bs ++ s.recorded) (f.all same l)
+      ∙ ap (λ (bs : List Body). first ++ bs) (s.all later (subst (λ (n : ℕ). n < most_dropped) (sym same) l));
+  counts = omega (arith, f.counts, s.counts);
+}
 
-pub none_left : (cs : List Chapter) → length cs ≡ 0 → cs ≡ []
-none_left [] e = refl
-none_left (c ∷ cs) e = absurd (omega (arith, e))
+-- a chapter is taken also if the device fails
+pub is_taken : (why : RecordFault) → why ≡ Device → IsTaken {T = Unit {0}} (Err why)
+is_taken why e = subst (λ (w : RecordFault). IsTaken {T = Unit {0}} (Err w)) (sym e) tt
+
+-- what is not whole failed
+pub is_failed : (whole : Bool) → not (not whole) ≡ false → not whole ≡ true
+is_failed true e = absurd cc
+is_failed false e = refl
+
+-- the chapters that a worker left, in three parts
+pub rest_in_parts : (port : ℕ) (popped pending : Option Chapter) (kept : Chapter)
+    → rest_of port popped pending kept ≡ map (chapter_body port) (option_to_list popped) ++ (map (chapter_body port) (option_to_list pending) ++ chapter_body port kept ∷ [])
+rest_in_parts port popped pending kept =
+    map-append (chapter_body port) (option_to_list popped) (option_to_list pending ++ kept ∷ [])
+    ∙ ap (λ (bs : List Body). map (chapter_body port) (option_to_list popped) ++ bs) (map-append (chapter_body port) (option_to_list pending) (kept ∷ []))

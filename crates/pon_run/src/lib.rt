@@ -7,11 +7,14 @@
 
 mod arguments;
 mod end;
+mod inlet;
 mod link;
 mod operator;
 mod pace;
 mod ports;
+mod recorder;
 mod recording;
+mod recording_thread;
 mod running;
 mod serving;
 mod thread;

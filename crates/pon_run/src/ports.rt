@@ -6,10 +6,11 @@ ghost use Rattle.std.specs.Vec.{vec_len};
 use crate::end::PortEnd;
 use crate::link::Link;
 use crate::running::Served;
-use crate::thread::Worked;
+use crate::thread::{UnitsPart, Worked, WorkerPart};
 use crate::units::units_of;
 use pon_desk::{CloseFault, Desk, Seat};
 use pon_port::Port;
+use pon_ring::Sink;
 use pon_settings::{Settings, SettingsRow};
 use pon_units::PortNo;
 use pon_worker::{Why, WorkerEnd};
@@ -42,14 +43,22 @@ fn served_port<L: Ledger, M: Ledger>(
     port: PortNo,
     rows: &[SettingsRow],
     seat: Seat<L, M>,
+    sink: Sink,
     link: Link,
 ) -> Result<Served<L, M>, AllocError> {
     let units = units_of(alloc, rows)?;
+    let Link {
+        port: stream,
+        units: far,
+    } = link;
     Ok(Served {
-        port,
-        seat,
-        link,
-        units,
+        worker: WorkerPart {
+            port,
+            seat,
+            sink,
+            stream,
+        },
+        units: UnitsPart { units, stream: far },
     })
 }
 
@@ -58,12 +67,14 @@ pub(crate) fn served_ports<L: Ledger, M: Ledger>(
     alloc: Global,
     settings: &Settings,
     seats: Vec<Seat<L, M>>,
+    sinks: Vec<Sink>,
     links: Vec<Link>,
 ) -> Result<Vec<Served<L, M>>, AllocError> {
     let mut all = Vec::with_capacity(alloc, links.len())?;
-    let pairs = seats.into_iter().zip(links);
-    for ((i, port), (seat, link)) in settings.ports().iter().enumerate().zip(pairs) {
-        all.push(served_port(alloc, PortNo::at(i), port.rows(), seat, link)?)?;
+    let parts = seats.into_iter().zip(sinks).zip(links);
+    for ((i, port), ((seat, sink), link)) in settings.ports().iter().enumerate().zip(parts) {
+        let served = served_port(alloc, PortNo::at(i), port.rows(), seat, sink, link)?;
+        all.push(served)?;
     }
     Ok(all)
 }
@@ -89,6 +100,8 @@ fn end_of(port: &Port, end: &WorkerEnd) -> PortEnd
 pub(crate) struct Ended<L: Ledger, M: Ledger> {
     /// All seats of the desk.
     pub(crate) seats: Vec<Seat<L, M>>,
+    /// The sink of each worker.
+    pub(crate) sinks: Vec<Sink>,
     /// How each worker ended.
     pub(crate) ends: Vec<WorkerEnd>,
     /// Whether each worker made all its turns.
@@ -102,16 +115,19 @@ pub(crate) fn split_results<L: Ledger, M: Ledger>(
     mut seats: Vec<Seat<L, M>>,
     all: Vec<Worked<L, M>>,
 ) -> Result<Ended<L, M>, AllocError> {
+    let mut sinks = Vec::with_capacity(alloc, all.len())?;
     let mut ends = Vec::with_capacity(alloc, all.len())?;
     let mut finished = true;
-    for Worked { seat, end } in all {
+    for Worked { seat, sink, end } in all {
         let end = end?;
         finished = finished && end.why == Why::Finished;
         seats.push(seat)?;
+        sinks.push(sink)?;
         ends.push(end)?;
     }
     Ok(Ended {
         seats,
+        sinks,
         ends,
         finished,
     })

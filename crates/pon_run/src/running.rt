@@ -1,12 +1,11 @@
-//! The threads of a run, two for each port: started and joined.
+//! The threads of a run, two for each port and one for the recorder: started and joined.
 
-use crate::link::Link;
-use crate::thread::{Worked, answer, work};
-use pon_desk::{Desk, Seat};
-use pon_link::Unit;
+use crate::recording_thread::Recording;
+use crate::thread::{UnitsPart, Worked, WorkerPart, answer, work};
+use pon_desk::Desk;
+use pon_device::DevWrite;
 use pon_simulator::UnitsFault;
 use pon_stream::PlanFault;
-use pon_units::PortNo;
 use pon_worker::Gate;
 use std::alloc::Global;
 use std::sync::Wait;
@@ -14,21 +13,52 @@ use std::sync::atomic::{AtomicBool, Ordering};
 use std::sync::ledger::Ledger;
 use std::thread;
 use std::thread::{JoinHandle, Scope, Threads};
+use std::time::Clock;
 
-/// What serves one port: the worker's seat, the two ends of its connection, and its units.
+/// What serves one port: its worker, and its units.
 #[derive(Drop)]
 pub(crate) struct Served<L: Ledger, M: Ledger> {
-    pub(crate) port: PortNo,
-    pub(crate) seat: Seat<L, M>,
-    pub(crate) link: Link,
-    pub(crate) units: Vec<Unit>,
+    pub(crate) worker: WorkerPart<L, M>,
+    pub(crate) units: UnitsPart,
 }
 
 /// The two threads of a port.
 #[derive(Drop)]
-pub(crate) struct Running<L: Ledger, M: Ledger> {
+struct Running<L: Ledger, M: Ledger> {
     worker: JoinHandle<Worked<L, M>>,
     units: JoinHandle<Result<(), UnitsFault>>,
+}
+
+/// The results of a run's threads.
+#[derive(Drop)]
+pub(crate) struct Results<L: Ledger, M: Ledger, W> {
+    /// Those of the workers, in the order of their ports.
+    pub(crate) worked: Vec<Worked<L, M>>,
+    /// The recording, with what the recorder has not taken yet.
+    pub(crate) recording: Option<Recording<W>>,
+    /// How the operator ended.
+    pub(crate) operated: Result<(), PlanFault>,
+}
+
+/// The flags that stop the threads of a run.
+#[derive(Drop)]
+struct Stops {
+    workers: AtomicBool,
+    recorder: AtomicBool,
+}
+
+impl Stops {
+    fn new() -> Self {
+        Stops {
+            workers: AtomicBool::new(false),
+            recorder: AtomicBool::new(false),
+        }
+    }
+
+    fn set_both(&self) {
+        self.workers.store(true, Ordering::SeqCst);
+        self.recorder.store(true, Ordering::SeqCst);
+    }
 }
 
 // Starts the threads of a port. `None` if one of the two cannot be created; the other then finds its connection closed,
@@ -49,19 +79,10 @@ where
     G: Gate + Sync,
     R: Wait + Sync,
 {
-    let Served {
-        port,
-        seat,
-        link,
-        units,
-    } = served;
-    let Link {
-        port: near,
-        units: far,
-    } = link;
-    let units = scope.spawn(move || answer(alloc, units, far)).ok()?;
+    let Served { worker, units } = served;
+    let units = scope.spawn(move || answer(alloc, units)).ok()?;
     let worker = scope
-        .spawn(move || work(rt, alloc, desk, seat, port, gate, maps, stop, near))
+        .spawn(move || work(rt, alloc, desk, worker, gate, maps, stop))
         .ok()?;
     Some(Running { worker, units })
 }
@@ -115,48 +136,88 @@ fn join_all<L: Ledger, M: Ledger, R: Threads>(
     Ok(all)
 }
 
-/// Serves each port in its own threads, and calls `meanwhile` during that time. Returns the results of the workers and
-/// of `meanwhile`. All threads have ended when it returns.
+// Starts the recorder's thread, if there is a recording. Returns `Memory` if it cannot be created.
+fn start_recorder<'s, E, W, R>(
+    scope: &Scope<'s, E>,
+    rt: &'s R,
+    recording: Option<Recording<W>>,
+    stop: &'s AtomicBool,
+) -> Result<Option<JoinHandle<Recording<W>>>, PlanFault>
+where
+    W: DevWrite + Drop + Send + 's,
+    R: Wait + Clock + Sync,
+{
+    let Some(recording) = recording else {
+        return Ok(None);
+    };
+    match scope.spawn(move || recording.run(rt, stop)) {
+        Ok(thread) => Ok(Some(thread)),
+        Err(_) => Err(PlanFault::Memory),
+    }
+}
+
+// Waits for the threads of all ports to end, and then ends the recorder. Returns the results of the workers, and the
+// recording.
+fn end_all<L: Ledger, M: Ledger, W: Drop, R: Threads>(
+    rt: &R,
+    alloc: Global,
+    running: Vec<Running<L, M>>,
+    recorder: Option<JoinHandle<Recording<W>>>,
+    stops: &Stops,
+) -> Result<(Vec<Worked<L, M>>, Option<Recording<W>>), PlanFault> {
+    let worked = join_all(rt, alloc, running);
+    stops.recorder.store(true, Ordering::SeqCst);
+    let recording = match recorder {
+        None => None,
+        Some(thread) => Some(thread.join(rt)),
+    };
+    Ok((worked?, recording))
+}
+
+/// Serves each port in its own threads, and calls `meanwhile` during that time, while the recorder takes the ports'
+/// chapters. Returns the results of the threads and of `meanwhile`. All threads have ended when it returns.
 ///
 /// Returns `Memory` if memory is refused or a thread cannot be created; running workers then make no further turn.
-pub(crate) fn serve_all<L, M, G, R, O>(
+pub(crate) fn serve_all<L, M, G, W, R, O>(
     rt: &R,
     alloc: Global,
     desk: &Desk<L, M>,
     all: Vec<Served<L, M>>,
+    recording: Option<Recording<W>>,
     gate: &G,
     maps: u64,
     meanwhile: O,
-) -> Result<(Vec<Worked<L, M>>, Result<(), PlanFault>), PlanFault>
+) -> Result<Results<L, M, W>, PlanFault>
 where
     L: Ledger + Send + Sync,
     M: Ledger + Send + Sync,
     G: Gate + Sync,
-    R: Wait + Threads + Sync,
+    W: DevWrite + Drop + Send,
+    R: Wait + Threads + Clock + Sync,
     O: FnOnce() -> Result<(), PlanFault>,
     requires { O.pre meanwhile }
 {
-    let stop = AtomicBool::new(false);
-    let flag = &stop;
+    let stops = Stops::new();
+    let flags = &stops;
     thread::scope(
         thread::scope_env(),
         rt,
-        move |scope| -> Result<(Vec<Worked<L, M>>, Result<(), PlanFault>), PlanFault>
+        move |scope| -> Result<Results<L, M, W>, PlanFault>
             requires { O.pre meanwhile }
         {
-            match start_all(scope, rt, alloc, desk, all, gate, maps, flag) {
-                Ok(running) => {
-                    let done = meanwhile();
-                    match join_all(rt, alloc, running) {
-                        Ok(worked) => Ok((worked, done)),
-                        Err(fault) => Err(fault),
-                    }
-                }
-                Err(fault) => {
-                    flag.store(true, Ordering::SeqCst);
-                    Err(fault)
-                }
-            }
+            let recorder = start_recorder(scope, rt, recording, &flags.recorder)?;
+            let started = start_all(scope, rt, alloc, desk, all, gate, maps, &flags.workers);
+            let Ok(running) = started else {
+                flags.set_both();
+                return Err(PlanFault::Memory);
+            };
+            let operated = meanwhile();
+            let (worked, recording) = end_all(rt, alloc, running, recorder, flags)?;
+            Ok(Results {
+                worked,
+                recording,
+                operated,
+            })
         },
     )
 }

@@ -2,7 +2,6 @@
 
 ghost use Rattle.std.specs.Prelude.{◌≡◌, ◌⊎◌, ◌+◌, ◌≤◌, IfOk, IsNone, OnOk, length, true};
 ghost use Rattle.std.specs.Vec.{vec_len};
-ghost use Rattle.pon_run.specs.Ends.{TellsEnds};
 ghost use Rattle.pon_run.specs.Runs.{TellsPorts};
 
 use crate::arguments::RunArgs;
@@ -10,14 +9,16 @@ use crate::end::{PortEnd, write_ends};
 use crate::link::{Link, open_links};
 use crate::operator::{answer_lines, open_lines};
 use crate::ports::{OTHER_SEATS, admit_rows, close, ends_of, served_ports, split_results};
-use crate::recording::{begin, create_file, record_ports};
-use crate::running::{Served, serve_all};
+use crate::recorder::Recorder;
+use crate::recording::{begin, create_file};
+use crate::recording_thread::{Recording, Sinks};
+use crate::running::{Results, Served, serve_all};
 use crate::thread::Worked;
 use pon_desk::{Desk, Seat};
 use pon_device::{DevWrite, StdWrite};
 use pon_job::{exit_status, outcome_of_ports};
 use pon_port::Port;
-use pon_recorder::RecordFile;
+use pon_ring::Sink;
 use pon_settings::Settings;
 use pon_stream::PlanFault;
 use pon_units::MOST_PORTS;
@@ -30,55 +31,57 @@ use std::rt::Files;
 use std::sync::Wait;
 use std::sync::ledger::{Blank, Ledger};
 use std::thread::Threads;
+use std::time::Clock;
 
-// Serves the ports of a desk while the operator's lines are executed. Returns the workers' results, and how the
+// Serves the ports of a desk while the operator's lines are executed. Returns the threads' results, and how the
 // operator ended.
 fn serve<L, M, G, F, W, R>(
     rt: &R,
     alloc: Global,
     desk: &Desk<L, M>,
     all: Vec<Served<L, M>>,
+    recording: Option<Recording<StdWrite<F>>>,
     operator: &mut Seat<L, M>,
     gate: &G,
     maps: u64,
     lines: Option<F>,
     writer: &mut W,
-) -> Result<(Vec<Worked<L, M>>, Result<(), PlanFault>), PlanFault>
+) -> Result<Results<L, M, StdWrite<F>>, PlanFault>
 where
     L: Ledger + Send + Sync,
     M: Ledger + Send + Sync,
     G: Gate + Sync,
-    F: Read + Drop,
+    F: Read + Write + Drop + Send,
     W: DevWrite,
-    R: Wait + Threads + Sync,
+    R: Wait + Threads + Clock + Sync,
     ensures quiet { IsNone lines → W.contents writer.new ≡ W.contents writer.old }
     ensures failures { IsNone lines → W.failures writer.new ≡ W.failures writer.old }
 {
     match lines {
-        None => serve_all(rt, alloc, desk, all, gate, maps, || Ok(())),
-        Some(file) => serve_all(rt, alloc, desk, all, gate, maps, || {
+        None => serve_all(rt, alloc, desk, all, recording, gate, maps, || Ok(())),
+        Some(file) => serve_all(rt, alloc, desk, all, recording, gate, maps, || {
             answer_lines(rt, alloc, desk, operator, file, writer)
         }),
     }
 }
 
-// Records the chapters of ports, and writes what each port did, also if the recording fails.
+// Records what is left of each port, and writes what each port did, also if the recording fails.
 fn tell_ports<F: Write + Drop, W: DevWrite>(
     alloc: Global,
+    sinks: Vec<Sink>,
     ports: Vec<Port>,
-    ends: &[PortEnd],
-    recording: Option<RecordFile<StdWrite<F>>>,
+    mut ends: Vec<PortEnd>,
+    recording: Option<Recording<StdWrite<F>>>,
     writer: &mut W,
 ) -> Result<(), PlanFault>
     requires few { length ports.items ≤ MOST_PORTS }
-    ensures { OnOk result
-        (TellsEnds ends.now (W.contents writer.old) (W.contents writer.new) result) }
+    ensures { OnOk result (TellsPorts (vec_len ends) (W.contents writer.old) (W.contents writer.new)) }
 {
     let recorded = match recording {
         None => Ok(()),
-        Some(mut recording) => record_ports(&mut recording, ports),
+        Some(recording) => recording.finish(sinks, ports, ends.as_mut_slice()),
     };
-    write_ends(alloc, ends, writer)?;
+    write_ends(alloc, ends.as_slice(), writer)?;
     recorded
 }
 
@@ -88,7 +91,7 @@ fn tell<L: Ledger, M: Ledger, F: Write + Drop, W: DevWrite>(
     desk: Desk<L, M>,
     others: Vec<Seat<L, M>>,
     all: Vec<Worked<L, M>>,
-    recording: Option<RecordFile<StdWrite<F>>>,
+    recording: Option<Recording<StdWrite<F>>>,
     writer: &mut W,
 ) -> Result<bool, PlanFault>
     ensures { IfOk result (λ done. done ≡ true
@@ -105,7 +108,7 @@ fn tell<L: Ledger, M: Ledger, F: Write + Drop, W: DevWrite>(
         return Err(PlanFault::Memory);
     };
     let all = ends.len() == ports.len();
-    tell_ports(alloc, ports, ends.as_slice(), recording, writer)?;
+    tell_ports(alloc, ended.sinks, ports, ends, recording, writer)?;
     Ok(all && even && ended.finished)
 }
 
@@ -115,7 +118,7 @@ fn tell_with_seats<L: Ledger, M: Ledger, F: Write + Drop, W: DevWrite>(
     desk: Desk<L, M>,
     others: [Seat<L, M>; OTHER_SEATS],
     all: Vec<Worked<L, M>>,
-    recording: Option<RecordFile<StdWrite<F>>>,
+    recording: Option<Recording<StdWrite<F>>>,
     writer: &mut W,
 ) -> Result<bool, PlanFault>
     ensures { IfOk result (λ done. done ≡ true
@@ -135,12 +138,13 @@ fn prepare<L: Ledger, M: Ledger, R: Wait>(
     seat: &mut Seat<L, M>,
     settings: &Settings,
     seats: Vec<Seat<L, M>>,
+    sinks: Vec<Sink>,
     links: Vec<Link>,
 ) -> Result<Vec<Served<L, M>>, PlanFault> {
     if admit_rows(rt, alloc, desk, seat, settings).is_err() {
         return Err(PlanFault::Memory);
     }
-    match served_ports(alloc, settings, seats, links) {
+    match served_ports(alloc, settings, seats, sinks, links) {
         Ok(all) => Ok(all),
         Err(_) => Err(PlanFault::Memory),
     }
@@ -158,16 +162,16 @@ fn run_desk<L, M, G, F, W, R>(
     gate: &G,
     maps: u64,
     lines: Option<F>,
-    recording: Option<RecordFile<StdWrite<F>>>,
+    recorder: Option<Recorder<StdWrite<F>>>,
     writer: &mut W,
 ) -> Result<bool, PlanFault>
 where
     L: Ledger + Send + Sync,
     M: Ledger + Send + Sync,
     G: Gate + Sync,
-    F: Read + Write + Drop,
+    F: Read + Write + Drop + Send,
     W: DevWrite,
-    R: Wait + Threads + Sync,
+    R: Wait + Threads + Clock + Sync,
     requires { OTHER_SEATS ≤ vec_len seats }
     ensures { IsNone lines → IfOk result (λ done. done ≡ true
         → TellsPorts desk.ports (W.contents writer.old) (W.contents writer.new)) }
@@ -176,10 +180,18 @@ where
     let (Some(mut seat), Some(mut first)) = (seats.pop(), seats.pop()) else {
         unreachable!()
     };
-    let all = prepare(rt, alloc, &desk, &mut first, settings, seats, links)?;
-    let served = serve(rt, alloc, &desk, all, &mut seat, gate, maps, lines, writer);
-    let (all, operated) = served?;
-    let done = tell_with_seats(alloc, desk, [first, seat], all, recording, writer)?;
+    let Ok(Sinks { sinks, recording }) = Sinks::open(alloc, settings.ports().len(), recorder) else {
+        return Err(PlanFault::Memory);
+    };
+    let all = prepare(rt, alloc, &desk, &mut first, settings, seats, sinks, links)?;
+    let Results {
+        worked,
+        recording,
+        operated,
+    } = serve(
+        rt, alloc, &desk, all, recording, &mut seat, gate, maps, lines, writer,
+    )?;
+    let done = tell_with_seats(alloc, desk, [first, seat], worked, recording, writer)?;
     operated?;
     Ok(done)
 }
@@ -195,16 +207,16 @@ fn run_at<L, M, G, F, W, R>(
     gate: &G,
     maps: u64,
     lines: Option<F>,
-    recording: Option<RecordFile<StdWrite<F>>>,
+    recorder: Option<Recorder<StdWrite<F>>>,
     writer: &mut W,
 ) -> Result<bool, PlanFault>
 where
     L: Ledger + Send + Sync,
     M: Ledger + Send + Sync,
     G: Gate + Sync,
-    F: Read + Write + Drop,
+    F: Read + Write + Drop + Send,
     W: DevWrite,
-    R: Wait + Threads + Sync,
+    R: Wait + Threads + Clock + Sync,
     requires ports { (of_ports.name ≡ L.name) × (of_ports.parts ≡ L.parts)
         × (L.parts ≡ length settings.now) }
     requires seats { (of_seats.name ≡ M.name) × (of_seats.parts ≡ M.parts)
@@ -219,7 +231,7 @@ where
     match Desk::<L, M>::open(alloc, of_ports, of_seats, openings.as_slice(), seats) {
         Ok((desk, seats)) => {
             run_desk(
-                rt, alloc, desk, seats, settings, links, gate, maps, lines, recording, writer,
+                rt, alloc, desk, seats, settings, links, gate, maps, lines, recorder, writer,
             )
         }
         Err(_) => Err(PlanFault::Memory),
@@ -238,7 +250,8 @@ fn run<G, W, R>(
 where
     G: Gate + Sync,
     W: DevWrite,
-    R: Net<Listener = TcpListener, Stream = TcpStream> + Files + Threads + Wait + Sync,
+    R: Net<Listener = TcpListener, Stream = TcpStream> + Files + Threads + Wait + Clock + Sync,
+    R::File: Send,
     ensures { IsNone args.entry.operate → IfOk result (λ done. done ≡ true
         → TellsPorts (length settings.now) (W.contents writer.old) (W.contents writer.new)) }
 {
@@ -246,7 +259,7 @@ where
         None => None,
         Some(name) => Some(open_lines(rt, name)?),
     };
-    let recording = match args.record {
+    let recorder = match args.record {
         None => None,
         Some(name) => Some(begin(alloc, create_file(rt, name)?)?),
     };
@@ -262,7 +275,7 @@ where
         gate,
         args.maps,
         lines,
-        recording,
+        recorder,
         writer,
     )
 }
@@ -290,7 +303,14 @@ pub fn run_ports<G, W, R>(
 where
     G: Gate + Sync,
     W: DevWrite,
-    R: Net<Listener = TcpListener, Stream = TcpStream> + Files + Threads + Wait + Eprint + Sync,
+    R: Net<Listener = TcpListener, Stream = TcpStream>
+        + Files
+        + Threads
+        + Wait
+        + Clock
+        + Eprint
+        + Sync,
+    R::File: Send,
     ensures status { (result ≡ 0) ⊎ (result ≡ 3) }
     // Without an operator only these lines are written.
     ensures lines { IsNone args.entry.operate → result ≡ 0

@@ -4,9 +4,10 @@ use crate::pace::UntilStopped;
 use pon_desk::{Desk, Seat};
 use pon_device::{StdRead, StdWrite};
 use pon_link::Unit;
+use pon_ring::Sink;
 use pon_simulator::{UnitsFault, serve_units};
 use pon_units::PortNo;
-use pon_worker::{Gate, Sink, WorkerEnd, serve_port};
+use pon_worker::{Gate, WorkerEnd, serve_port};
 use std::alloc::{AllocError, Global};
 use std::io::{BufReader, BufWriter};
 use std::net::TcpStream;
@@ -14,11 +15,29 @@ use std::sync::Wait;
 use std::sync::atomic::AtomicBool;
 use std::sync::ledger::Ledger;
 
-/// The result of a worker: its seat, and how it ended. `end` is `Err` if memory for its buffer was refused; the worker
-/// then did nothing.
+/// What the worker of a port needs: the port's number, its own seat, where the port's chapters go, and its end of the
+/// connection.
+#[derive(Drop)]
+pub(crate) struct WorkerPart<L: Ledger, M: Ledger> {
+    pub(crate) port: PortNo,
+    pub(crate) seat: Seat<L, M>,
+    pub(crate) sink: Sink,
+    pub(crate) stream: TcpStream,
+}
+
+/// The units of a port, and their end of the connection.
+#[derive(Drop)]
+pub(crate) struct UnitsPart {
+    pub(crate) units: Vec<Unit>,
+    pub(crate) stream: TcpStream,
+}
+
+/// The result of a worker: its seat, its sink, and how it ended. `end` is `Err` if memory for its buffer was refused;
+/// the worker then did nothing.
 #[derive(Drop)]
 pub(crate) struct Worked<L: Ledger, M: Ledger> {
     pub(crate) seat: Seat<L, M>,
+    pub(crate) sink: Sink,
     pub(crate) end: Result<WorkerEnd, AllocError>,
 }
 
@@ -27,29 +46,27 @@ fn serve<L: Ledger, M: Ledger, G: Gate, R: Wait>(
     rt: &R,
     alloc: Global,
     desk: &Desk<L, M>,
-    seat: &mut Seat<L, M>,
-    port: PortNo,
+    part: &mut WorkerPart<L, M>,
     gate: &G,
     maps: u64,
     stop: &AtomicBool,
-    stream: &TcpStream,
 ) -> Result<WorkerEnd, AllocError> {
     let mut pace = UntilStopped::new(maps, stop);
-    let Ok(input) = BufReader::new(alloc, stream) else {
+    let Ok(input) = BufReader::new(alloc, &part.stream) else {
         return Err(AllocError);
     };
     let mut reader = StdRead::new(input);
-    let mut writer = StdWrite::new(stream);
+    let mut writer = StdWrite::new(&part.stream);
     Ok(serve_port(
         rt,
         desk,
-        seat,
-        port,
+        &mut part.seat,
+        part.port,
         gate,
         &mut pace,
         &mut reader,
         &mut writer,
-        &mut Sink::none(),
+        &mut part.sink,
     ))
 }
 
@@ -58,23 +75,19 @@ pub(crate) fn work<L: Ledger, M: Ledger, G: Gate, R: Wait>(
     rt: &R,
     alloc: Global,
     desk: &Desk<L, M>,
-    mut seat: Seat<L, M>,
-    port: PortNo,
+    mut part: WorkerPart<L, M>,
     gate: &G,
     maps: u64,
     stop: &AtomicBool,
-    stream: TcpStream,
 ) -> Worked<L, M> {
-    let end = serve(rt, alloc, desk, &mut seat, port, gate, maps, stop, &stream);
-    Worked { seat, end }
+    let end = serve(rt, alloc, desk, &mut part, gate, maps, stop);
+    let WorkerPart { seat, sink, .. } = part;
+    Worked { seat, sink, end }
 }
 
 /// Runs the units of a port, and closes their end of the connection.
-pub(crate) fn answer(
-    alloc: Global,
-    mut units: Vec<Unit>,
-    stream: TcpStream,
-) -> Result<(), UnitsFault> {
+pub(crate) fn answer(alloc: Global, part: UnitsPart) -> Result<(), UnitsFault> {
+    let UnitsPart { mut units, stream } = part;
     let Ok(input) = BufReader::new(alloc, &stream) else {
         return Err(UnitsFault::Memory);
     };
