@@ -13,6 +13,7 @@ use std::sync::Wait;
 use std::sync::atomic::{AtomicU64, Ordering};
 use std::thread;
 use std::thread::Threads;
+use std::time::Clock;
 
 // A port with one Alloc-ID of 10 words a frame, whose unit has 100 words.
 const PORT: &str = "\
@@ -71,9 +72,11 @@ where
         + Files
         + Threads
         + Wait
+        + Clock
         + Eprint
         + Sync
         + Abort,
+    R::File: Send,
 {
     let settings = read(rt, alloc, ports);
     let mut writer = MemWrite::new(alloc, 4096, Vec::new(alloc));
