@@ -1,6 +1,6 @@
 -- Chapters that a recording gets one after another.
-use Rattle.std.proofs.Common.{◌≡◌, ℕ, suc, ◌+◌, List, [], ◌∷◌, ◌++◌, ◌<◌, ◌≤◌, ap, arith, inl, inr, refl, subst, sym, ◌∙◌, append_assoc}
-use Rattle.std.specs.Prelude.{◌-◌, ◌^◌, ◌⊎◌, Bool, true, false, not, map, min, Option, option_to_list, Err}
+use Rattle.std.proofs.Common.{◌≡◌, ℕ, ◌+◌, List, [], ◌∷◌, ◌++◌, ◌<◌, ap, arith, inl, inr, refl, subst, sym, ◌∙◌, append_assoc}
+use Rattle.std.specs.Prelude.{Bool, true, false, not, map, min, Option, option_to_list, Err}
 use Rattle.std.proofs.lemmas.List.{append-nil, map-append}
 use Rattle.pon_port.specs.Chapters.{Chapter}
 use Rattle.pon_record.specs.Chapters.{Body}

@@ -1,4 +1,4 @@
-use Rattle.std.proofs.Common.{List, ◌++◌, [], ◌∷◌, ap, subst, sym}
+use Rattle.std.proofs.Common.{List, ◌++◌, [], ◌∷◌, subst, sym}
 use Rattle.std.specs.Prelude.{map, option_to_list}
 use Rattle.pon_record.specs.Chapters.{Body}
 use Rattle.pon_recorder.specs.Bodies.{chapter_body}
