@@ -32,6 +32,7 @@ use std::process::ExitCode;
 use std::rt::Files;
 use std::sync::Wait;
 use std::thread::Threads;
+use std::time::Clock;
 
 // Executes the management lines of standard input.
 fn plan_lines<R: Input + Print>(
@@ -86,7 +87,9 @@ where
         + Eprint
         + Threads
         + Wait
+        + Clock
         + Sync,
+    R::File: Send,
 {
     match settings_of(rt, alloc, config) {
         Ok(settings) => {
@@ -149,7 +152,9 @@ where
         + Eprint
         + Threads
         + Wait
+        + Clock
         + Sync,
+    R::File: Send,
 {
     match job(alloc, words) {
         Ok(Job::Plan { config }) => print_outcome(rt, run_plan(rt, alloc, config)),
