@@ -1,12 +1,12 @@
 -- The answers of many threads.
-use Rattle.std.proofs.Common.{◌≡◌, List, [], ◌∷◌, map, Option, Result, Ok, Err, subst, sym}
+use Rattle.std.proofs.Common.{◌≡◌, List, [], ◌∷◌, map, Result, Ok, Err, subst, sym}
 use Rattle.std.specs.Prelude.{IfOk, MatchResult}
 use Rattle.std.specs.Borrow.{Bor}
 use Rattle.std.specs.List.{AllZip}
 use Rattle.rayon.proofs.ToStd.{slice-AllZip}
 use Rattle.pon_record.specs.Chapters.{PlacedChapter}
 use Rattle.pon_audit.specs.Judging.{IsAnswer}
-use Rattle.pon_audit.specs.declared.chapters.Fault.{Fault}
+use Rattle.pon_audit.specs.declared.chapters.Judged.{Judged}
 
 -- a fact of the value of each `Ok`
 each_ok : (E : Type 0) {Z X : Type 0} (R : Z → X → Type 0) (zs : List Z) (ys : List X) → AllZip (λ z (r : Result X E). IfOk r (R z)) zs (map Result.Ok ys) → AllZip R zs ys
@@ -16,8 +16,8 @@ each_ok E R (z ∷ zs) [] h = absurd h
 each_ok E R (z ∷ zs) (y ∷ ys) h = (h.0, each_ok E R zs ys h.1)
 
 -- if each answer is `Ok`, the values are the answers of the chapters
-pub all_answered : (E : Type 0) {V : Type 0} (items : V → List (Option Fault)) (cs : List PlacedChapter) (zs : List (Bor PlacedChapter)) (xs : List (Result (Option Fault) E)) (r : Result V E) (P : E → Type 0) →
-    map (λ (z : Bor PlacedChapter). z.now) zs ≡ cs → AllZip (λ z x. IfOk x (IsAnswer z.now)) zs xs → MatchResult r (λ v. (ys : List (Option Fault)) × (xs ≡ map Result.Ok ys) × (items v ≡ ys)) P →
+pub all_answered : (E : Type 0) {V : Type 0} (items : V → List Judged) (cs : List PlacedChapter) (zs : List (Bor PlacedChapter)) (xs : List (Result Judged E)) (r : Result V E) (P : E → Type 0) →
+    map (λ (z : Bor PlacedChapter). z.now) zs ≡ cs → AllZip (λ z x. IfOk x (IsAnswer z.now)) zs xs → MatchResult r (λ v. (ys : List Judged) × (xs ≡ map Result.Ok ys) × (items v ≡ ys)) P →
     IfOk r (λ v. AllZip IsAnswer cs (items v))
 all_answered E items cs zs xs (Ok v) P shown each (ys, all, is) =
     subst (AllZip IsAnswer cs) (sym is)

@@ -19,7 +19,7 @@ use Rattle.pon_port.proofs.FairMaps.{maps_are_fair}
 use Rattle.pon_record.specs.Chapters.{PlacedChapter}
 use Rattle.pon_audit.specs.Openings.{OpensLawfully, chapter_of}
 use Rattle.pon_audit.specs.Faults.{EntryFails, FailsAt, cut_at}
-use Rattle.pon_audit.specs.Judging.{IsAnswer}
+use Rattle.pon_audit.specs.Judging.{EndsWith}
 use Rattle.pon_audit.specs.declared.chapters.Fault.{Fault}
 use Rattle.pon_audit.specs.declared.verdict.Why.{Why}
 
@@ -68,14 +68,11 @@ none_yet c s l is =
     subst (IsKept (cut_at c 0)) (sym is) start
 
 -- a chapter after its last entry
-pub all_taken : (c : Chapter) (i : ℕ) (s : State) → length c.entries ≤ i → IsKept (cut_at c i) s → IsLawfulChapter c × (s ≡ present_state c)
+pub all_taken : (c : Chapter) (i : ℕ) (s : State) → length c.entries ≤ i → IsKept (cut_at c i) s → IsKept c s
 all_taken c i s le k =
     let whole : cut_at c i ≡ c = (λ j. record { number = c.number; opening = c.opening; entries = take_all i c.entries le j }) in
-    (subst IsLawfulChapter whole k.lawful, k.replayed ∙ ap present_state whole)
+    subst (λ d. IsKept d s) whole k
 
--- the fault of a chapter whose opening is lawful
-pub answered : {E : Type 0} (c : PlacedChapter) (t : State) (r : Result (Option Fault) E) → OpensLawfully c.body →
-    IfOk r (λ found. MatchOption found (IsLawfulChapter (chapter_of c.body) × (t ≡ present_state (chapter_of c.body))) (λ f. FailsAt (chapter_of c.body) f.index f.why)) → IfOk r (λ answer. IsAnswer c answer)
-answered c t (Ok None) opens lawful = record { lawful = lawful.0; fair = maps_are_fair (chapter_of c.body) lawful.0 }
-answered c t (Ok (Some f)) opens fails = inr (record { opens = opens; entry = fails })
-answered c t (Err e) opens h = h
+-- a good chapter, and the state at its end
+pub ended : (c : PlacedChapter) (s : State) → IsKept (chapter_of c.body) s → EndsWith c s
+ended c s k = record { good = record { lawful = k.lawful; fair = maps_are_fair (chapter_of c.body) k.lawful }; kept = k }

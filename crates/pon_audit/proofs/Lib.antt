@@ -7,3 +7,5 @@ pub mod EachOk
 pub mod Sizes
 pub mod OpenedStates
 pub mod RowSearch
+pub mod SameStates
+pub mod Equality

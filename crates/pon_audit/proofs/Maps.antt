@@ -52,7 +52,7 @@ module _ (profile : ℕ) (s : Input) (surplus : Row → Frac) (carry : Row → �
 
 -- Equality.
 
-start_decides : (a b : Option ℕ) → Decides (option_eq ◌==◌ a b) (a ≡ b)
+pub start_decides : (a b : Option ℕ) → Decides (option_eq ◌==◌ a b) (a ≡ b)
 start_decides None None = (λ _. refl, λ _. refl)
 start_decides None (Some y) = (λ e. absurd cc, λ e. absurd cc)
 start_decides (Some x) None = (λ e. absurd cc, λ e. absurd cc)

@@ -18,7 +18,10 @@ use Rattle.pon_port.specs.Chapters.{Chapter, state_before}
 use Rattle.pon_record.specs.Chapters.{PlacedChapter}
 use Rattle.pon_audit.specs.Openings.{OpensLawfully, chapter_of}
 use Rattle.pon_audit.specs.Faults.{EntryFails, FailsAt, GrantsWords, HasWrongWords, MapFails, ReplyFails}
-use Rattle.pon_audit.specs.Verdicts.{ChapterFails, IsGoodChapter, Rises}
+use Rattle.pon_audit.specs.Verdicts.{ChapterFails, FallsBehind, IsChained, IsGoodChapter, MayStandAfter}
+use Rattle.pon_audit.specs.Judging.{IsAnswer}
+use Rattle.pon_audit.specs.declared.chapters.Judged.{Judged}
+use Rattle.pon_audit.specs.declared.chapters.Judged.TheVariants.{Unlawful, Fails, Ends}
 use Rattle.pon_audit.specs.declared.verdict.Why.{Why}
 use Rattle.pon_audit.specs.declared.verdict.Why.TheVariants as why
 use Rattle.pon_audit.proofs.Maps.{grants_of_map}
@@ -32,6 +35,7 @@ made_words s m made = ap (map (λ a. a.grant)) made.map ∙ grants_of_map s.prof
 -- the map that the state makes does not fail
 made_holds : (s : State) (m : MadeMap) (w : Why) → IsMade s m → MapFails s m w → ⊥
 made_holds s m why.Opening made f = f
+made_holds s m why.Chain made f = f
 made_holds s m why.Number made f = f
 made_holds s m why.Event made f = f
 made_holds s m why.Certificate made f = f made.certified
@@ -46,6 +50,7 @@ MapFault s m w =
 
 map_fault : (s : State) (m : MadeMap) (w : Why) → MapFails s m w → MapFault s m w
 map_fault s m why.Opening f = absurd f
+map_fault s m why.Chain f = absurd f
 map_fault s m why.Number f = absurd f
 map_fault s m why.Event f = absurd f
 map_fault s m why.Certificate f = inl (refl, f)
@@ -74,6 +79,7 @@ EntryFault k s e w = ((w ≡ why.Event) × (first_refusal k s e.event ≢ None))
 entry_fault : (k : ℕ) (s : State) (e : Entry) (w : Why) → EntryFails k s e w → EntryFault k s e w
 entry_fault k s e why.Event f = inl (refl, f)
 entry_fault k s e why.Opening f = inr f
+entry_fault k s e why.Chain f = inr f
 entry_fault k s e why.Number f = inr f
 entry_fault k s e why.Certificate f = inr f
 entry_fault k s e why.Words f = inr f
@@ -139,35 +145,55 @@ one_failing c i j w v f g = elim (cases_lt i j) [
 abbrev ChapterFault : List PlacedChapter → PlacedChapter → ℕ → Why → Type 0
 ChapterFault earlier c i w =
     ((OpensLawfully c.body → ⊥) × ((i ≡ 0) × (w ≡ why.Opening)))
-    ⊎ (OpensLawfully c.body × (((All (λ d. Rises d c) earlier → ⊥) × ((i ≡ 0) × (w ≡ why.Number))) ⊎ (All (λ d. Rises d c) earlier × FailsAt (chapter_of c.body) i w)))
+    ⊎ (OpensLawfully c.body × (((IsChained earlier c → ⊥) × ((i ≡ 0) × (w ≡ why.Chain)))
+    ⊎ ((FallsBehind earlier c × ((i ≡ 0) × (w ≡ why.Number))) ⊎ (MayStandAfter earlier c × FailsAt (chapter_of c.body) i w))))
 
 chapter_fault : (earlier : List PlacedChapter) (c : PlacedChapter) (i : ℕ) (w : Why) → ChapterFails earlier c i w → ChapterFault earlier c i w
 chapter_fault earlier c i why.Opening f = inl (f.0, (f.1, refl))
-chapter_fault earlier c i why.Number f = inr (f.0, inl (f.1, (f.2, refl)))
-chapter_fault earlier c i why.Event f = inr (f.0, inr (f.1, f.2))
-chapter_fault earlier c i why.Certificate f = inr (f.0, inr (f.1, f.2))
-chapter_fault earlier c i why.Words f = inr (f.0, inr (f.1, f.2))
-chapter_fault earlier c i why.Bursts f = inr (f.0, inr (f.1, f.2))
+chapter_fault earlier c i why.Chain f = inr (f.0, inl (f.1, (f.2, refl)))
+chapter_fault earlier c i why.Number f = inr (f.0, inr (inl (f.1, (f.2, refl))))
+chapter_fault earlier c i why.Event f = inr (f.0, inr (inr (f.1, f.2)))
+chapter_fault earlier c i why.Certificate f = inr (f.0, inr (inr (f.1, f.2)))
+chapter_fault earlier c i why.Words f = inr (f.0, inr (inr (f.1, f.2)))
+chapter_fault earlier c i why.Bursts f = inr (f.0, inr (inr (f.1, f.2)))
+
+same_start : (i j : ℕ) (w v u : Why) → (i ≡ 0) × (w ≡ u) → (j ≡ 0) × (v ≡ u) → SameFault i j w v
+same_start i j w v u a b = (a.0 ∙ sym b.0, a.1 ∙ sym b.1)
 
 one_chapter_fault : (earlier : List PlacedChapter) (c : PlacedChapter) (i j : ℕ) (w v : Why) → ChapterFault earlier c i w → ChapterFault earlier c j v → SameFault i j w v
-one_chapter_fault earlier c i j w v (inl a) (inl b) = (a.1.0 ∙ sym b.1.0, a.1.1 ∙ sym b.1.1)
+one_chapter_fault earlier c i j w v (inl a) (inl b) = same_start i j w v why.Opening a.1 b.1
 one_chapter_fault earlier c i j w v (inl a) (inr b) = absurd (a.0 b.0)
 one_chapter_fault earlier c i j w v (inr a) (inl b) = absurd (b.0 a.0)
-one_chapter_fault earlier c i j w v (inr (o, inl a)) (inr (p, inl b)) = (a.1.0 ∙ sym b.1.0, a.1.1 ∙ sym b.1.1)
-one_chapter_fault earlier c i j w v (inr (o, inl a)) (inr (p, inr b)) = absurd (a.0 b.0)
-one_chapter_fault earlier c i j w v (inr (o, inr a)) (inr (p, inl b)) = absurd (b.0 a.0)
-one_chapter_fault earlier c i j w v (inr (o, inr a)) (inr (p, inr b)) = one_failing (chapter_of c.body) i j w v a.1 b.1
+one_chapter_fault earlier c i j w v (inr (o, inl a)) (inr (p, inl b)) = same_start i j w v why.Chain a.1 b.1
+one_chapter_fault earlier c i j w v (inr (o, inl a)) (inr (p, inr (inl b))) = absurd (a.0 b.0.chained)
+one_chapter_fault earlier c i j w v (inr (o, inl a)) (inr (p, inr (inr b))) = absurd (a.0 b.0.chained)
+one_chapter_fault earlier c i j w v (inr (o, inr (inl a))) (inr (p, inl b)) = absurd (b.0 a.0.chained)
+one_chapter_fault earlier c i j w v (inr (o, inr (inl a))) (inr (p, inr (inl b))) = same_start i j w v why.Number a.1 b.1
+one_chapter_fault earlier c i j w v (inr (o, inr (inl a))) (inr (p, inr (inr b))) = absurd (a.0.falls b.0.rising)
+one_chapter_fault earlier c i j w v (inr (o, inr (inr a))) (inr (p, inl b)) = absurd (b.0 a.0.chained)
+one_chapter_fault earlier c i j w v (inr (o, inr (inr a))) (inr (p, inr (inl b))) = absurd (b.0.falls a.0.rising)
+one_chapter_fault earlier c i j w v (inr (o, inr (inr a))) (inr (p, inr (inr b))) = one_failing (chapter_of c.body) i j w v a.1 b.1
 
 pub one_fault_of_chapter : (earlier : List PlacedChapter) (c : PlacedChapter) (i j : ℕ) (w v : Why) → ChapterFails earlier c i w → ChapterFails earlier c j v → (i ≡ j) × (w ≡ v)
 one_fault_of_chapter earlier c i j w v f g = one_chapter_fault earlier c i j w v (chapter_fault earlier c i w f) (chapter_fault earlier c j v g)
 
--- a good chapter has no fault
-good_holds : (earlier : List PlacedChapter) (c : PlacedChapter) (i : ℕ) (w : Why) → IsGoodChapter c → All (λ d. Rises d c) earlier → ChapterFault earlier c i w → ⊥
-good_holds earlier c i w good rises (inl a) = a.0 good.lawful.opening
-good_holds earlier c i w good rises (inr (o, inl a)) = a.0 rises
-good_holds earlier c i w good rises (inr (o, inr a)) =
-    let f = a.1 in
+-- no entry of a good chapter fails
+pub none_fails_at : (c : PlacedChapter) (i : ℕ) (w : Why) → IsGoodChapter c → FailsAt (chapter_of c.body) i w → ⊥
+none_fails_at c i w good f =
     follower_holds i (state_before (chapter_of c.body) i) f.entry w (good.lawful.legal i f.entry f.here) (entry_fault i (state_before (chapter_of c.body) i) f.entry w f.fails)
 
-pub good_has_no_fault : (earlier : List PlacedChapter) (c : PlacedChapter) (i : ℕ) (w : Why) → IsGoodChapter c → All (λ d. Rises d c) earlier → ChapterFails earlier c i w → ⊥
-good_has_no_fault earlier c i w good rises f = good_holds earlier c i w good rises (chapter_fault earlier c i w f)
+-- the answer on a good chapter is its end
+pub must_end : (c : PlacedChapter) (a : Judged) → IsGoodChapter c → IsAnswer c a → ((s : State) → a ≡ Ends s → ⊥) → ⊥
+must_end c Unlawful good h n = h good.lawful.opening
+must_end c (Fails f) good h n = none_fails_at c f.index f.why good h.entry
+must_end c (Ends s) good h n = n s refl
+
+-- a good chapter has no fault
+good_holds : (earlier : List PlacedChapter) (c : PlacedChapter) (i : ℕ) (w : Why) → IsGoodChapter c → MayStandAfter earlier c → ChapterFault earlier c i w → ⊥
+good_holds earlier c i w good stands (inl a) = a.0 good.lawful.opening
+good_holds earlier c i w good stands (inr (o, inl a)) = a.0 stands.chained
+good_holds earlier c i w good stands (inr (o, inr (inl a))) = a.0.falls stands.rising
+good_holds earlier c i w good stands (inr (o, inr (inr a))) = none_fails_at c i w good a.1
+
+pub good_has_no_fault : (earlier : List PlacedChapter) (c : PlacedChapter) (i : ℕ) (w : Why) → IsGoodChapter c → MayStandAfter earlier c → ChapterFails earlier c i w → ⊥
+good_has_no_fault earlier c i w good stands f = good_holds earlier c i w good stands (chapter_fault earlier c i w f)

@@ -1,6 +1,7 @@
 -- Bytes have at most one verdict.
 use Rattle.std.proofs.Common.{◌≡◌, ℕ, zero, suc, ◌<◌, List, [], ◌∷◌, length, take, get_or, Some, ap, sym, ◌∙◌, subst, arith, inl, inr}
-use Rattle.std.specs.Prelude.{slice_get, sum_by}
+use Rattle.std.specs.Prelude.{All, slice_get, sum_by}
+use Rattle.std.specs.List.{AllPairs}
 use Rattle.std.proofs.lemmas.Bool.{cases_lt}
 use Rattle.std.proofs.lemmas.List.{get_or-take, length-take-le, take-take}
 use Rattle.std.proofs.lemmas.Option.{get_or_from_slice_get}
@@ -9,7 +10,7 @@ use Rattle.pon_record.specs.declared.fault.ReadFault.TheVariants as read
 use Rattle.pon_record.specs.Chapters.{PlacedChapter}
 use Rattle.pon_record.specs.Recordings.{IsBadFormat, IsTruncated}
 use Rattle.pon_record.proofs.OneReading.{no_bad_format, no_truncated, one_fault, one_recording}
-use Rattle.pon_audit.specs.Verdicts.{AreGood, ChapterFails, HasChapters, IsFirstFault, IsGoodChapter, IsVerdict, Rises, maps_in}
+use Rattle.pon_audit.specs.Verdicts.{AreGood, ChapterFails, Continues, HasChapters, IsFirstFault, IsGoodChapter, IsVerdict, Rises, maps_in}
 use Rattle.pon_audit.specs.declared.verdict.Verdict.{Verdict}
 use Rattle.pon_audit.specs.declared.verdict.Verdict.TheVariants.{Good, Bad, BadFormat, Truncated}
 use Rattle.pon_audit.specs.declared.verdict.Why.{Why}
@@ -20,16 +21,21 @@ within [] i x h = absurd cc
 within (y ∷ xs) zero x h = omega arith
 within (y ∷ xs) (suc i) x h = omega (arith, within xs i x h)
 
+-- what any two chapters have in order, a chapter has after each before it
+behind : (R : PlacedChapter → PlacedChapter → Type 0) (cs : List PlacedChapter) (k : ℕ) (c : PlacedChapter) → AllPairs R cs → slice_get cs k ≡ Some c → All (λ d. R d c) (take k cs)
+behind R cs k c pairs here j d less =
+    let lt : k < length cs = within cs k c here in
+    let before : j < k = omega (arith, less, length-take-le k cs (omega (arith, lt))) in
+    let there : get_or cs k d ≡ c = get_or_from_slice_get cs k d c here in
+    subst (λ x. R (get_or (take k cs) j d) x) there (subst (λ x. R x (get_or cs k d)) (sym (get_or-take k cs j d before)) (pairs j k d before lt))
+
 -- if all chapters are good, none fails after those before it
 pub none_fails : (cs : List PlacedChapter) (k : ℕ) (c : PlacedChapter) (i : ℕ) (w : Why) → AreGood cs → slice_get cs k ≡ Some c → ChapterFails (take k cs) c i w → ⊥
 none_fails cs k c i w good here fails =
     let lt : k < length cs = within cs k c here in
     let at : get_or cs k c ≡ c = get_or_from_slice_get cs k c c here in
     good_has_no_fault (take k cs) c i w (subst IsGoodChapter at (good.each k c lt))
-    (λ j d less.
-    let before : j < k = omega (arith, less, length-take-le k cs (omega (arith, lt))) in
-    let there : get_or cs k d ≡ c = get_or_from_slice_get cs k c d here in
-    subst (λ x. Rises (get_or (take k cs) j d) x) there (subst (λ x. Rises x (get_or cs k d)) (sym (get_or-take k cs j d before)) (good.rising j k d before lt)))
+    (record { chained = behind Continues cs k c good.chained here; rising = behind Rises cs k c good.rising here })
     fails
 
 pub good_no_fault : (cs : List PlacedChapter) (port number index : ℕ) (w : Why) → AreGood cs → IsFirstFault cs port number index w → ⊥

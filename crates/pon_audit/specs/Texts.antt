@@ -1,12 +1,13 @@
 -- The text of a verdict.
 use Rattle.std.specs.Prelude.{ℕ, List, ◌++◌, codes, decimal}
 use Rattle.pon_audit.specs.declared.verdict.Why.{Why}
-use Rattle.pon_audit.specs.declared.verdict.Why.TheVariants.{Opening, Number, Event, Certificate, Words, Bursts}
+use Rattle.pon_audit.specs.declared.verdict.Why.TheVariants.{Opening, Chain, Number, Event, Certificate, Words, Bursts}
 use Rattle.pon_audit.specs.declared.verdict.Verdict.{Verdict}
 use Rattle.pon_audit.specs.declared.verdict.Verdict.TheVariants.{Good, Bad, BadFormat, Truncated}
 
 abbrev pub why_text : Why → List ℕ
 why_text Opening = codes "Opening"
+why_text Chain = codes "Chain"
 why_text Number = codes "Number"
 why_text Event = codes "Event"
 why_text Certificate = codes "Certificate"

@@ -3,7 +3,7 @@ use Rattle.std.specs.Prelude.{ℕ, ◌≡◌, ◌<◌, ◌⊎◌, All, List, tak
 use Rattle.std.specs.List.{AllPairs}
 use Rattle.pon_state.specs.Replay.{makes_map}
 use Rattle.pon_state.specs.declared.reply.Entry.{Entry}
-use Rattle.pon_port.specs.Chapters.{Chapter, IsLawfulChapter, state_before}
+use Rattle.pon_port.specs.Chapters.{Chapter, Follows, IsLawfulChapter, state_before}
 use Rattle.pon_port.specs.FairMaps.{TellsFairMap}
 use Rattle.pon_record.specs.Chapters.{PlacedChapter}
 use Rattle.pon_record.specs.Recordings.{IsBadFormat, IsRecording, IsTruncated}
@@ -29,8 +29,14 @@ pub record IsGoodChapter (c : PlacedChapter) : Type 0 where
 abbrev pub Rises : PlacedChapter → PlacedChapter → Type 0
 Rises earlier later = earlier.body.port ≡ later.body.port → earlier.body.number < later.body.number
 
+-- if both are chapters of one port with consecutive numbers, the later one in the recording opens with the state at the
+-- end of the earlier one
+abbrev pub Continues : PlacedChapter → PlacedChapter → Type 0
+Continues earlier later = earlier.body.port ≡ later.body.port → Follows (chapter_of earlier.body) (chapter_of later.body)
+
 pub record AreGood (chapters : List PlacedChapter) : Type 0 where
   pub each : All IsGoodChapter chapters
+  pub chained : AllPairs Continues chapters
   pub rising : AllPairs Rises chapters
 
 -- the number of maps of a chapter
@@ -44,12 +50,31 @@ pub record IsGood (chapters : List PlacedChapter) (maps : ℕ) : Type 0 where
 
 -- The first chapter that fails.
 
--- a chapter that follows earlier ones fails by its opening, its number, or the entry at an index; the first of these
--- counts
+-- the chapter continues each earlier one
+abbrev pub IsChained : List PlacedChapter → PlacedChapter → Type 0
+IsChained earlier c = All (λ d. Continues d c) earlier
+
+-- its number is greater than that of each earlier chapter of its port
+abbrev pub Ascends : List PlacedChapter → PlacedChapter → Type 0
+Ascends earlier c = All (λ d. Rises d c) earlier
+
+-- by its opening and its number, the chapter may stand after the earlier ones
+pub record MayStandAfter (earlier : List PlacedChapter) (c : PlacedChapter) : Type 0 where
+  pub chained : IsChained earlier c
+  pub rising : Ascends earlier c
+
+-- it continues each earlier chapter, but its number does not ascend
+pub record FallsBehind (earlier : List PlacedChapter) (c : PlacedChapter) : Type 0 where
+  pub chained : IsChained earlier c
+  pub falls : Ascends earlier c → ⊥
+
+-- a chapter after earlier ones fails by its opening, by an earlier chapter that it does not continue, by its number, or
+-- by the entry at an index; the first of these counts
 abbrev pub ChapterFails : List PlacedChapter → PlacedChapter → ℕ → Why → Type 0
 ChapterFails earlier c index why.Opening = (OpensLawfully c.body → ⊥) × (index ≡ 0)
-ChapterFails earlier c index why.Number = OpensLawfully c.body × (All (λ d. Rises d c) earlier → ⊥) × (index ≡ 0)
-ChapterFails earlier c index w = OpensLawfully c.body × All (λ d. Rises d c) earlier × FailsAt (chapter_of c.body) index w
+ChapterFails earlier c index why.Chain = OpensLawfully c.body × (IsChained earlier c → ⊥) × (index ≡ 0)
+ChapterFails earlier c index why.Number = OpensLawfully c.body × FallsBehind earlier c × (index ≡ 0)
+ChapterFails earlier c index w = OpensLawfully c.body × MayStandAfter earlier c × FailsAt (chapter_of c.body) index w
 
 -- the first chapter that fails: its port and number, the index of the entry, and why
 pub record IsFirstFault (chapters : List PlacedChapter) (port number index : ℕ) (w : Why) : Type 0 where

@@ -1,7 +1,7 @@
 //! The audit of one chapter, regardless of the chapters before it.
 
 ghost use Rattle.std.specs.Prelude.{◌≡◌, IfOk, MatchOption};
-ghost use Rattle.pon_port.specs.Chapters.{IsLawfulChapter, present_state};
+ghost use Rattle.pon_port.specs.Taking.{IsKept};
 ghost use Rattle.pon_record.specs.Chapters.{FitsChapter};
 ghost use Rattle.pon_audit.specs.Openings.{OpensLawfully, chapter_of, state_of};
 ghost use Rattle.pon_audit.specs.Faults.{FailsAt};
@@ -14,12 +14,23 @@ use pon_record::RawChapter;
 use pon_state::PortState;
 use std::alloc::{AllocError, Global};
 
-/// The fault of a chapter: the index of the entry that fails, and why. The index is 0 for a fault of the opening or of
-/// the number.
+/// The fault of a chapter: the index of the entry that fails, and why. The index is 0 for a fault of the opening, the chain
+/// or the number.
 #[derive(Clone, Copy, Debug, PartialEq, Eq)]
 pub(crate) struct Fault {
     pub index: usize,
     pub why: Why,
+}
+
+/// The answer on one chapter, regardless of the chapters before it.
+#[derive(Drop)]
+pub(crate) enum Judged {
+    /// The opening is not lawful.
+    Unlawful,
+    /// The opening is lawful, and an entry fails.
+    Fails(Fault),
+    /// The chapter is good, and this is the state at its end.
+    Ends(PortState),
 }
 
 // Finds the first entry that fails, of a chapter that opens with this state. If none fails, the state is then that at the
@@ -33,8 +44,7 @@ fn entry_fault(
     requires lawful { OpensLawfully chapter.now.body }
     requires opened { state.old ≡ state_of chapter.now.body.opening }
     ensures { IfOk result (λ found. MatchOption found
-        (IsLawfulChapter (chapter_of chapter.now.body)
-        × (state.new ≡ present_state (chapter_of chapter.now.body)))
+        (IsKept (chapter_of chapter.now.body) state.new)
         (λ f. FailsAt (chapter_of chapter.now.body) f.index f.why)) }
 {
     for (index, entry) in chapter.entries.iter().enumerate() {
@@ -45,17 +55,17 @@ fn entry_fault(
     Ok(None)
 }
 
-/// Finds the fault of a chapter, except one of its number against earlier chapters. `Err` only if memory is refused.
-pub(crate) fn judge(alloc: Global, chapter: &RawChapter) -> Result<Option<Fault>, AllocError>
+/// Judges a chapter regardless of those before it. `Err` only if memory is refused.
+pub(crate) fn judge(alloc: Global, chapter: &RawChapter) -> Result<Judged, AllocError>
     requires { FitsChapter chapter.now.body }
     ensures { IfOk result (λ answer. IsAnswer chapter.now answer) }
 {
     let mut state = match open_state(alloc, chapter.number, &chapter.opening)? {
         Some(state) => state,
-        None => {
-            let why = Why::Opening;
-            return Ok(Some(Fault { index: 0, why }));
-        }
+        None => return Ok(Judged::Unlawful),
     };
-    entry_fault(alloc, chapter, &mut state)
+    match entry_fault(alloc, chapter, &mut state)? {
+        Some(fault) => Ok(Judged::Fails(fault)),
+        None => Ok(Judged::Ends(state)),
+    }
 }

@@ -1,63 +1,148 @@
-//! The first chapter that fails, from the fault of each chapter.
+//! The first chapter that fails, from the answer on each chapter.
 
-ghost use Rattle.std.specs.Prelude.{◌↔◌, All, IsTrue, MatchOption};
-ghost use Rattle.std.specs.List.{AllZip};
-ghost use Rattle.pon_audit.specs.Judging.{IsAnswer, TellsBad};
-ghost use Rattle.pon_audit.specs.Verdicts.{AreGood, ChapterFails, IsGoodChapter, Rises};
+ghost use Rattle.std.specs.Prelude.{◌+◌, ◌<◌, ◌≤◌, ◌++◌, ◌∷◌, [], All, IfOk, MatchOption, length, slice_index_or, take};
+ghost use Rattle.pon_record.specs.Chapters.{FitsChapter, PlacedChapter};
+ghost use Rattle.pon_audit.specs.Openings.{OpensLawfully};
+ghost use Rattle.pon_audit.specs.Judging.{AreJudged, IsAnswer, IsLast, TellsBad};
+ghost use Rattle.pon_audit.specs.Verdicts.{ChapterFails, IsGoodChapter, MayStandAfter};
 
-use crate::chapters::Fault;
+use crate::chain::{is_chained, opens_with};
+use crate::chapters::{Fault, Judged};
+use crate::lasts::{Last, Lasts};
 use crate::verdict::{Verdict, Why};
 use pon_record::RawChapter;
+use std::alloc::{AllocError, Global};
 
-// Returns whether each earlier chapter of the port has a lesser number.
-fn rises(earlier: &[RawChapter], chapter: &RawChapter) -> bool
-    ensures { IsTrue result ↔ All (λ d. Rises d chapter.now) earlier.now }
+// Returns why a chapter whose number does not ascend fails: if it does not continue an earlier chapter, for that. `Err` only
+// if memory is refused.
+fn number_fault(
+    alloc: Global,
+    earlier: &[RawChapter],
+    last: &Last,
+    chapter: &RawChapter,
+) -> Result<Why, AllocError>
+    requires fit { All (λ d. FitsChapter d.body) earlier.now }
+    requires good { All IsGoodChapter earlier.now }
+    requires opens { OpensLawfully chapter.now.body }
+    requires last { IsLast earlier.now chapter.now.body.port last.now }
+    requires falls { chapter.now.body.number ≤ last.now.number }
+    ensures { IfOk result (λ why. ChapterFails earlier.now chapter.now 0 why) }
 {
-    for other in earlier {
-        if other.port == chapter.port && other.number >= chapter.number {
-            return false;
-        }
-    }
-    true
-}
-
-// Returns the fault of a chapter that follows earlier ones; `alone` is its fault regardless of them.
-fn fault_behind(earlier: &[RawChapter], chapter: &RawChapter, alone: Option<Fault>) -> Option<Fault>
-    requires { IsAnswer chapter.now alone }
-    ensures { MatchOption result
-        (IsGoodChapter chapter.now × All (λ d. Rises d chapter.now) earlier.now)
-        (λ f. ChapterFails earlier.now chapter.now f.index f.why) }
-{
-    match alone {
-        Some(
-            Fault {
-                why: Why::Opening,
-                ..
-            },
-        ) => alone,
-        _ if rises(earlier, chapter) => alone,
-        _ => {
-            let why = Why::Number;
-            Some(Fault { index: 0, why })
-        }
+    let _last = last;
+    if is_chained(alloc, earlier, chapter)? {
+        Ok(Why::Number)
+    } else {
+        Ok(Why::Chain)
     }
 }
 
-/// Finds the first chapter that fails, from the fault of each chapter regardless of those before it.
-pub(crate) fn first_fault(chapters: &[RawChapter], answers: &[Option<Fault>]) -> Option<Verdict>
-    requires { AllZip IsAnswer chapters.now answers.now }
-    ensures { MatchOption result (AreGood chapters.now) (TellsBad chapters.now) }
+// Returns why a chapter may not stand after earlier good ones, `last` being the last of its port; `None` if it may. `Err`
+// only if memory is refused.
+fn fault_behind(
+    alloc: Global,
+    earlier: &[RawChapter],
+    last: &Last,
+    chapter: &RawChapter,
+) -> Result<Option<Why>, AllocError>
+    requires fit { All (λ d. FitsChapter d.body) earlier.now }
+    requires good { All IsGoodChapter earlier.now }
+    requires opens { OpensLawfully chapter.now.body }
+    requires last { IsLast earlier.now chapter.now.body.port last.now }
+    ensures { IfOk result (λ found. MatchOption found
+        (MayStandAfter earlier.now chapter.now)
+        (λ why. ChapterFails earlier.now chapter.now 0 why)) }
 {
-    for place in 0..chapters.len() {
-        let chapter = &chapters[place];
-        if let Some(fault) = fault_behind(&chapters[..place], chapter, answers[place]) {
-            return Some(Verdict::Bad {
-                port: chapter.port,
-                chapter: chapter.number,
-                index: fault.index,
-                why: fault.why,
-            });
-        }
+    if chapter.number <= last.number {
+        let why = number_fault(alloc, earlier, last, chapter)?;
+        return Ok(Some(why));
     }
-    None
+    if chapter.number - last.number == 1 && !opens_with(chapter, &last.end) {
+        return Ok(Some(Why::Chain));
+    }
+    Ok(None)
+}
+
+// Returns why a chapter may not stand after those judged; `None` if it may. `Err` only if memory is refused.
+fn place_fault(
+    alloc: Global,
+    earlier: &[RawChapter],
+    lasts: &Lasts,
+    chapter: &RawChapter,
+) -> Result<Option<Fault>, AllocError>
+    requires fit { All (λ d. FitsChapter d.body) earlier.now }
+    requires judged { AreJudged earlier.now lasts.now }
+    requires opens { OpensLawfully chapter.now.body }
+    ensures { IfOk result (λ found. MatchOption found
+        (MayStandAfter earlier.now chapter.now)
+        (λ f. ChapterFails earlier.now chapter.now f.index f.why)) }
+{
+    let found = match lasts.of(chapter.port) {
+        Some(last) => fault_behind(alloc, earlier, last, chapter)?,
+        None => None,
+    };
+    Ok(found.map(|why| Fault { index: 0, why }))
+}
+
+// Finds the fault of a chapter after those judged, from the answer on it alone. If it has none, its end is kept as the last
+// of its port. `Err` only if memory is refused.
+fn chapter_fault(
+    alloc: Global,
+    earlier: &[RawChapter],
+    lasts: &mut Lasts,
+    chapter: &RawChapter,
+    judged: Judged,
+) -> Result<Option<Fault>, AllocError>
+    requires fit { All (λ d. FitsChapter d.body) earlier.now }
+    requires judged { AreJudged earlier.now lasts.old }
+    requires answer { IsAnswer chapter.now judged }
+    ensures { IfOk result (λ found. MatchOption found
+        (AreJudged (earlier.now ++ chapter.now ∷ []) lasts.new)
+        (λ f. ChapterFails earlier.now chapter.now f.index f.why)) }
+{
+    match judged {
+        Judged::Unlawful => {
+            let why = Why::Opening;
+            Ok(Some(Fault { index: 0, why }))
+        }
+        Judged::Fails(fault) => match place_fault(alloc, earlier, lasts, chapter)? {
+            Some(first) => Ok(Some(first)),
+            None => Ok(Some(fault)),
+        },
+        Judged::Ends(end) => match place_fault(alloc, earlier, lasts, chapter)? {
+            Some(first) => Ok(Some(first)),
+            None => {
+                lasts.keep(chapter, end);
+                Ok(None)
+            }
+        },
+    }
+}
+
+/// Returns the verdict if the chapter at a place fails, from the answer on it alone; those before it are judged. `None` if
+/// it is good, and then it is judged too. `Err` only if memory is refused.
+pub(crate) fn judge_next(
+    alloc: Global,
+    chapters: &[RawChapter],
+    place: usize,
+    lasts: &mut Lasts,
+    judged: Judged,
+) -> Result<Option<Verdict>, AllocError>
+    requires within { place < length chapters.now }
+    requires fit { All (λ d. FitsChapter d.body) chapters.now }
+    requires judged { AreJudged (take place chapters.now) lasts.old }
+    requires answer { (c : PlacedChapter) → IsAnswer (slice_index_or chapters.now place c) judged }
+    ensures { IfOk result (λ found. MatchOption found
+        (AreJudged (take (place + 1) chapters.now) lasts.new)
+        (TellsBad chapters.now)) }
+{
+    let chapter = &chapters[place];
+    match chapter_fault(alloc, &chapters[..place], lasts, chapter, judged)? {
+        Some(fault) => Ok(Some(Verdict::Bad {
+            port: chapter.port,
+            chapter: chapter.number,
+            index: fault.index,
+            why: fault.why,
+        })),
+        None => Ok(None),
+    }
 }

@@ -6,9 +6,11 @@
 //! applies no event to a port.
 #![tactic(auto)]
 
+mod chain;
 mod chapters;
 mod entries;
 mod faults;
+mod lasts;
 pub mod laws;
 mod openings;
 mod parallel;

@@ -1,13 +1,13 @@
 ghost use Rattle.std.specs.Prelude.{◌≡◌, ◌<◌, ◌^◌, All, IfOk, MatchOption, sum_by};
-ghost use Rattle.std.specs.List.{AllZip};
 ghost use Rattle.pon_record.specs.Chapters.{FitsChapter};
 ghost use Rattle.pon_record.specs.Recordings.{IsRecording, IsTruncated};
-ghost use Rattle.pon_audit.specs.Judging.{IsAnswer, TellsBad};
+ghost use Rattle.pon_audit.specs.Judging.{TellsBad};
 ghost use Rattle.pon_audit.specs.Verdicts.{AreGood, IsVerdict, maps_in};
 
-use crate::chapters::{Fault, judge};
-use crate::faults::first_fault;
-use crate::parallel::judge_in_parallel;
+use crate::chapters::judge;
+use crate::faults::judge_next;
+use crate::lasts::Lasts;
+use crate::parallel::find_in_batches;
 use crate::verdict::Verdict;
 use pon_event::Event;
 use pon_record::{RawChapter, ReadFault, Recording, read_recording};
@@ -40,16 +40,20 @@ fn map_count(chapters: &[RawChapter]) -> u64
     maps
 }
 
-// Finds the fault of each chapter regardless of those before it. `Err` only if memory is refused.
-fn judge_each(alloc: Global, chapters: &[RawChapter]) -> Result<Vec<Option<Fault>>, AllocError>
+// Finds the first chapter that fails, one chapter after another. `Err` only if memory is refused.
+fn find_in_order(alloc: Global, chapters: &[RawChapter]) -> Result<Option<Verdict>, AllocError>
     requires { All (λ c. FitsChapter c.body) chapters.now }
-    ensures { IfOk result (λ answers. AllZip IsAnswer chapters.now answers.items) }
+    ensures { IfOk result (λ found. MatchOption found (AreGood chapters.now)
+        (TellsBad chapters.now)) }
 {
-    let mut answers = Vec::new(alloc);
-    for chapter in chapters {
-        answers.push(judge(alloc, chapter)?)?;
+    let mut lasts = Lasts::open(alloc)?;
+    for place in 0..chapters.len() {
+        let judged = judge(alloc, &chapters[place])?;
+        if let Some(verdict) = judge_next(alloc, chapters, place, &mut lasts, judged)? {
+            return Ok(Some(verdict));
+        }
     }
-    Ok(answers)
+    Ok(None)
 }
 
 // Finds the first of the chapters that fails; they have this number of maps. `Err` only if memory is refused.
@@ -63,12 +67,11 @@ fn find_fault(
     ensures { IfOk result (λ found. MatchOption found (AreGood chapters.now)
         (TellsBad chapters.now)) }
 {
-    let answers = if maps < PARALLEL_MAPS {
-        judge_each(alloc, chapters)?
+    if maps < PARALLEL_MAPS {
+        find_in_order(alloc, chapters)
     } else {
-        judge_in_parallel(rt, alloc, chapters)?
-    };
-    Ok(first_fault(chapters, &answers))
+        find_in_batches(rt, alloc, chapters)
+    }
 }
 
 // Returns the verdict on a recording of these chapters. `Err` only if memory is refused.
@@ -112,10 +115,11 @@ fn judge_truncated(
 
 /// Audits the bytes of a recording.
 ///
-/// `Good` only if the bytes are a recording, each opening is lawful, each entry may follow those before it, each
-/// map is fair for the state before it, and the numbers of a port's chapters ascend. `Bad` only if a chapter fails and
-/// those before it in the recording are good, also if the recording is cut in its last chapter. `Truncated` only if the
-/// whole chapters are good.
+/// `Good` only if the bytes are a recording, each opening is lawful, each entry may follow those before it, each map is fair
+/// for the state before it, the numbers of a port's chapters ascend, and a chapter opens with the state at the end of the
+/// chapter one number before in its port, if that is in the recording. `Bad` only if a chapter fails and those before it in
+/// the recording are good, also if the recording is cut in its last chapter. `Truncated` only if the whole chapters are
+/// good.
 /// `BadFormat` regardless of the chapters before the fault. Chapters with [`PARALLEL_MAPS`] maps or more are audited in
 /// as many threads as there are processors, with the same verdict. `Err` only if memory is refused.
 pub fn audit(rt: &(impl Threads + Sync), alloc: Global, bytes: &[u8]) -> Result<Verdict, AllocError>

@@ -1,14 +1,17 @@
 use pon_units::PortNo;
 use std::fmt;
 
-/// Why a chapter of a recording is bad. Of several faults the first counts, in this order: opening, number, entries in
-/// order; for one entry: event, certificate, words, bursts.
+/// Why a chapter of a recording is bad. Of several faults the first counts, in this order: opening, chain, number, entries
+/// in order; for one entry: event, certificate, words, bursts.
 #[derive(Clone, Copy, Debug, PartialEq, Eq)]
 pub enum Why {
     /// The opening is not lawful: its rows are no admitted set in map order, a since-frame or a counted report does not
     /// fit the rows, the window and the next frame, the maps are no window up to the next frame, a failed port has maps
     /// or counted reports, or chapter 0 does not open with a port just opened.
     Opening,
+    /// The chapter of the port with the number before is earlier in the recording, and the opening is not the state at its
+    /// end.
+    Chain,
     /// An earlier chapter of the port has the same number or a greater one.
     Number,
     /// A check refuses the event.
@@ -31,6 +34,7 @@ impl fmt::Display for Why {
     fn fmt<W: fmt::Write>(&self, f: &mut fmt::Formatter<W>) -> fmt::Result {
         match *self {
             Why::Opening => write!(f, "Opening"),
+            Why::Chain => write!(f, "Chain"),
             Why::Number => write!(f, "Number"),
             Why::Event => write!(f, "Event"),
             Why::Certificate => write!(f, "Certificate"),
@@ -48,7 +52,7 @@ pub enum Verdict {
         maps: u64,
     },
     /// The first chapter that fails, in the order of the recording: its port and number, the index of the entry from 0,
-    /// and why. The index is 0 for `Opening` and `Number`.
+    /// and why. The index is 0 for `Opening`, `Chain` and `Number`.
     Bad {
         port: PortNo,
         chapter: u64,

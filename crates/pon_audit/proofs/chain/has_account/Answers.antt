@@ -1,0 +1,15 @@
+use Rattle.std.proofs.Common.{◌≡◌, ◌∙◌, Some, ap, sym, rules}
+use Rattle.pon_guar.specs.Book.{account_of, known_report, known_since}
+use Rattle.pon_audit.proofs.Equality.{reports_decide}
+use Rattle.pon_audit.proofs.SameStates.{has_account}
+use Rattle.pon_audit.proofs.chain.has_account.Goals as goal
+
+pub returns-then-eq : goal.returns-then-eq
+returns-then-eq c =
+    let book = c.args.loads.now.accounts in
+    let row = c.args.raw.now in
+    let since : known_since (account_of book row.alloc_id) ≡ Some row.since = search rules in
+    let same = reports_decide c.counted.result row.counted in (
+      λ t. has_account book row (since, sym c.counted.ensures ∙ same.0 (sym c.eq-then-eq.ensures ∙ t)),
+      λ h. c.eq-then-eq.ensures ∙ same.1 (c.counted.ensures ∙ ap known_report h),
+    )
