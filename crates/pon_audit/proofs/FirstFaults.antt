@@ -1,20 +1,22 @@
 -- The first chapter that fails.
-use Rattle.std.proofs.Common.{◌≡◌, ℕ, zero, suc, ◌+◌, ◌<◌, ◌≤◌, List, [], ◌∷◌, ◌++◌, length, take, drop, get_or, set, Option, Some, None, refl, ap, sym, ◌∙◌, subst, arith, inl, inr}
-use Rattle.std.specs.Prelude.{◌≢◌, All, replicate, slice_get, slice_index_or}
+use Rattle.std.proofs.Common.{◌≡◌, ℕ, zero, suc, ◌+◌, ◌-◌, ◌<◌, ◌≤◌, List, [], ◌∷◌, ◌++◌, length, take, drop, get_or, set, Option, Some, None, refl, ap, sym, ◌∙◌, subst, arith, inl, inr}
+use Rattle.std.specs.Prelude.{◌⊎◌, All, replicate, slice_get, slice_index_or, slice_range}
 use Rattle.std.specs.List.{AllZip}
 use Rattle.std.proofs.lemmas.Bool.{cases_eq}
-use Rattle.std.proofs.lemmas.List.{get_or-set_same, get_or-set_other, length-take-le, take_more}
+use Rattle.std.proofs.lemmas.List.{get_or-drop, get_or-set_same, get_or-set_other, get_or-take, length-drop, length-take-le, take_more}
 use Rattle.std.proofs.lemmas.List.Elements.{All-nil, All-push, All-weaker}
 use Rattle.std.proofs.lemmas.List.Quantifiers.{all_pairs_push}
+use Rattle.std.proofs.lemmas.Slice.Zip.{AllZip-long}
 use Rattle.std.proofs.lemmas.Option.{get_or_from_slice_get, slice_get-get_or}
 use Rattle.pon_units.specs.declared.limits.TheConstants.{MOST_PORTS}
 use Rattle.pon_state.specs.State.{State}
 use Rattle.pon_port.specs.Chapters.{present_state}
 use Rattle.pon_record.specs.Chapters.{PlacedChapter}
 use Rattle.pon_audit.specs.Openings.{chapter_of, state_of}
-use Rattle.pon_audit.specs.Judging.{AreJudged, EndsWith, IsLast, IsLastOf}
+use Rattle.pon_audit.specs.Judging.{AreJudged, EndsWith, IsAnswer, IsLast, IsLastOf}
 use Rattle.pon_audit.specs.Verdicts.{AreGood, Ascends, ChapterFails, Continues, IsChained, IsFirstFault, IsGoodChapter, MayStandAfter, Rises}
 use Rattle.pon_audit.specs.declared.chapters.Fault.{Fault}
+use Rattle.pon_audit.specs.declared.chapters.Judged.{Judged}
 use Rattle.pon_audit.specs.declared.lasts.Last.{Last}
 
 -- a fact of the items of two lists at one index
@@ -137,7 +139,16 @@ one_more_judged earlier c lasts new end long lt judged stands ends is = record {
     last = Some (record { number = c.body.number; end = end })
 
 -- no chapters are judged yet
-none_kept : (n port : ℕ) → slice_index_or (replicate n (Option.None {A = Last})) port None ≡ None
+pub replicate_push : {X : Type 0} (n : ℕ) (x : X) → replicate n x ++ x ∷ [] ≡ replicate (n + 1) x
+replicate_push zero x = refl
+replicate_push (suc n) x =
+    let more : suc (n + 1) ≡ suc n + 1 = omega arith in
+    ap (λ t. x ∷ t) (replicate_push n x) ∙ ap (λ m. replicate m x) more
+
+abbrev no_last : Option Last
+no_last = None
+
+none_kept : (n port : ℕ) → slice_index_or (replicate n no_last) port None ≡ None
 none_kept zero port = refl
 none_kept (suc n) zero = refl
 none_kept (suc n) (suc port) = none_kept n port
@@ -164,3 +175,24 @@ first_here cs i c port number f lt here good is_port is_number fails = record {
 -- one more chapter of a list is judged
 pub more_judged : (cs : List PlacedChapter) (i : ℕ) (c : PlacedChapter) (lasts : List (Option Last)) → i < length cs → c ≡ get_or cs i c → AreJudged (take i cs ++ c ∷ []) lasts → AreJudged (take (i + 1) cs) lasts
 more_judged cs i c lasts lt here h = subst (λ l. AreJudged l lasts) (sym (take_more cs i c lt ∙ ap (λ x. take i cs ++ x ∷ []) (sym here))) h
+
+-- the answer on a chapter of a batch
+pub batch_answer : (cs : List PlacedChapter) (answers : List Judged) (start n : ℕ) (a : Judged) → AllZip IsAnswer (take (length answers) (drop start cs)) answers → n < length answers → start + length answers ≤ length cs → a ≡ get_or answers n a →
+    (c : PlacedChapter) → IsAnswer (get_or cs (start + n) c) a
+batch_answer cs answers start n a zip lt fits here c =
+    let batch : List PlacedChapter = take (length answers) (drop start cs) in
+    let long : length batch ≡ length answers = sym (AllZip-long IsAnswer batch answers zip) in
+    let at : get_or batch n c ≡ get_or cs (start + n) c = get_or-take (length answers) (drop start cs) n c lt ∙ get_or-drop start cs n c in
+    subst (λ x. IsAnswer x a) at (subst (IsAnswer (get_or batch n c)) (sym here) (at_place IsAnswer batch answers n c a zip (omega (arith, lt, long))))
+
+-- the answers on a batch of `n` chapters from a place on
+module _ (cs : List PlacedChapter) (answers : List Judged) (start n : ℕ) (fits : start + n ≤ length cs) (zip : AllZip IsAnswer (slice_range cs start (start + n)) answers) where
+  pub batch_size : length answers ≡ n
+  batch_size =
+      let count : start + n - start ≡ n = omega arith in
+      AllZip-long IsAnswer (slice_range cs start (start + n)) answers zip ∙ length-take-le (start + n - start) (drop start cs) (omega (arith, fits, length-drop start cs)) ∙ count
+
+  pub batch_answers : AllZip IsAnswer (take (length answers) (drop start cs)) answers
+  batch_answers =
+      let count : start + n - start ≡ length answers = omega (arith, batch_size) in
+      subst (λ m. AllZip IsAnswer (take m (drop start cs)) answers) count zip

@@ -26,7 +26,7 @@ behind : (R : PlacedChapter → PlacedChapter → Type 0) (cs : List PlacedChapt
 behind R cs k c pairs here j d less =
     let lt : k < length cs = within cs k c here in
     let before : j < k = omega (arith, less, length-take-le k cs (omega (arith, lt))) in
-    let there : get_or cs k d ≡ c = get_or_from_slice_get cs k d c here in
+    let there : get_or cs k d ≡ c = get_or_from_slice_get cs k c d here in
     subst (λ x. R (get_or (take k cs) j d) x) there (subst (λ x. R x (get_or cs k d)) (sym (get_or-take k cs j d before)) (pairs j k d before lt))
 
 -- if all chapters are good, none fails after those before it

@@ -138,11 +138,7 @@ fn is_next(earlier: &RawChapter, chapter: &RawChapter) -> bool
 
 // Returns whether a chapter continues an earlier good one, which is judged once more for its end if the chapter has the next
 // number. `Err` only if memory is refused.
-fn continues(
-    alloc: Global,
-    earlier: &RawChapter,
-    chapter: &RawChapter,
-) -> Result<bool, AllocError>
+fn continues(alloc: Global, earlier: &RawChapter, chapter: &RawChapter) -> Result<bool, AllocError>
     requires fits { FitsChapter earlier.now.body }
     requires good { IsGoodChapter earlier.now }
     requires opens { OpensLawfully chapter.now.body }

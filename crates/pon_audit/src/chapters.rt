@@ -22,6 +22,15 @@ pub(crate) struct Fault {
     pub why: Why,
 }
 
+impl Fault {
+    /// The fault of a chapter before its first entry.
+    pub fn at_start(why: Why) -> Fault
+        ensures { result ≡ record { index = 0; why = why } }
+    {
+        Fault { index: 0, why }
+    }
+}
+
 /// The answer on one chapter, regardless of the chapters before it.
 #[derive(Drop)]
 pub(crate) enum Judged {

@@ -13,31 +13,9 @@ use crate::verdict::{Verdict, Why};
 use pon_record::RawChapter;
 use std::alloc::{AllocError, Global};
 
-// Returns why a chapter whose number does not ascend fails: if it does not continue an earlier chapter, for that. `Err` only
-// if memory is refused.
-fn number_fault(
-    alloc: Global,
-    earlier: &[RawChapter],
-    last: &Last,
-    chapter: &RawChapter,
-) -> Result<Why, AllocError>
-    requires fit { All (λ d. FitsChapter d.body) earlier.now }
-    requires good { All IsGoodChapter earlier.now }
-    requires opens { OpensLawfully chapter.now.body }
-    requires last { IsLast earlier.now chapter.now.body.port last.now }
-    requires falls { chapter.now.body.number ≤ last.now.number }
-    ensures { IfOk result (λ why. ChapterFails earlier.now chapter.now 0 why) }
-{
-    let _last = last;
-    if is_chained(alloc, earlier, chapter)? {
-        Ok(Why::Number)
-    } else {
-        Ok(Why::Chain)
-    }
-}
-
-// Returns why a chapter may not stand after earlier good ones, `last` being the last of its port; `None` if it may. `Err`
-// only if memory is refused.
+// Returns why a chapter may not stand after earlier good ones, the last of its port being `last`; `None` if it may. Only if
+// its number does not ascend, the earlier ones are searched for one that it does not continue. `Err` only if memory is
+// refused.
 fn fault_behind(
     alloc: Global,
     earlier: &[RawChapter],
@@ -53,10 +31,15 @@ fn fault_behind(
         (λ why. ChapterFails earlier.now chapter.now 0 why)) }
 {
     if chapter.number <= last.number {
-        let why = number_fault(alloc, earlier, last, chapter)?;
-        return Ok(Some(why));
+        if is_chained(alloc, earlier, chapter)? {
+            return Ok(Some(Why::Number));
+        }
+        return Ok(Some(Why::Chain));
     }
-    if chapter.number - last.number == 1 && !opens_with(chapter, &last.end) {
+    if chapter.number - last.number > 1 {
+        return Ok(None);
+    }
+    if !opens_with(chapter, &last.end) {
         return Ok(Some(Why::Chain));
     }
     Ok(None)
@@ -68,19 +51,20 @@ fn place_fault(
     earlier: &[RawChapter],
     lasts: &Lasts,
     chapter: &RawChapter,
-) -> Result<Option<Fault>, AllocError>
+) -> Result<Option<Why>, AllocError>
     requires fit { All (λ d. FitsChapter d.body) earlier.now }
     requires judged { AreJudged earlier.now lasts.now }
     requires opens { OpensLawfully chapter.now.body }
     ensures { IfOk result (λ found. MatchOption found
         (MayStandAfter earlier.now chapter.now)
-        (λ f. ChapterFails earlier.now chapter.now f.index f.why)) }
+        (λ why. ChapterFails earlier.now chapter.now 0 why)) }
 {
-    let found = match lasts.of(chapter.port) {
-        Some(last) => fault_behind(alloc, earlier, last, chapter)?,
-        None => None,
+    let last = match lasts.of(chapter.port) {
+        Some(last) => last,
+        None => return Ok(None),
     };
-    Ok(found.map(|why| Fault { index: 0, why }))
+    let found = fault_behind(alloc, earlier, last, chapter)?;
+    Ok(found)
 }
 
 // Finds the fault of a chapter after those judged, from the answer on it alone. If it has none, its end is kept as the last
@@ -100,16 +84,13 @@ fn chapter_fault(
         (λ f. ChapterFails earlier.now chapter.now f.index f.why)) }
 {
     match judged {
-        Judged::Unlawful => {
-            let why = Why::Opening;
-            Ok(Some(Fault { index: 0, why }))
-        }
+        Judged::Unlawful => Ok(Some(Fault::at_start(Why::Opening))),
         Judged::Fails(fault) => match place_fault(alloc, earlier, lasts, chapter)? {
-            Some(first) => Ok(Some(first)),
+            Some(why) => Ok(Some(Fault::at_start(why))),
             None => Ok(Some(fault)),
         },
         Judged::Ends(end) => match place_fault(alloc, earlier, lasts, chapter)? {
-            Some(first) => Ok(Some(first)),
+            Some(why) => Ok(Some(Fault::at_start(why))),
             None => {
                 lasts.keep(chapter, end);
                 Ok(None)

@@ -1,6 +1,6 @@
 //! The last chapter of each port, so far in a recording.
 
-ghost use Rattle.std.specs.Prelude.{◌≡◌, IfOk, None, Some, replicate, set, slice_index_or};
+ghost use Rattle.std.specs.Prelude.{◌≡◌, ◌<◌, IfOk, None, Some, length, replicate, set, slice_index_or};
 ghost use Rattle.std.specs.Option.{option_copied};
 
 use pon_record::RawChapter;
@@ -48,15 +48,18 @@ impl Lasts {
 
     /// The last chapter of a port; `None` if it has none so far.
     pub fn of(&self, port: PortNo) -> Option<&Last>
-        ensures { option_copied result ≡ slice_index_or self.now port None }
+        ensures value { option_copied result ≡ slice_index_or self.now port None }
+        ensures range { port < MOST_PORTS }
     {
         self.by_port[usize::from(port.get())].as_ref()
     }
 
     /// Keeps a chapter as the last of its port, with the state at its end.
     pub fn keep(&mut self, chapter: &RawChapter, end: PortState)
-        ensures { self.new ≡ set self.old chapter.now.body.port
+        ensures kept { self.new ≡ set self.old chapter.now.body.port
             (Some (record { number = chapter.now.body.number; end = end })) }
+        ensures range { chapter.now.body.port < MOST_PORTS }
+        ensures len { length self.old ≡ MOST_PORTS }
     {
         let number = chapter.number;
         self.by_port[usize::from(chapter.port.get())] = Some(Last { number, end });
