@@ -32,10 +32,9 @@ fn wrong_bits_are_garbled(rt: HostRuntime) {
 
 #[test]
 fn occupancies_are_kept_in_order(rt: HostRuntime) {
-    let wanted = [BufOcc::new(16_777_215), None];
     let mut occupancies = Occupancies::new();
-    for occupancy in wanted {
-        occupancies.push(occupancy);
-    }
+    occupancies.push(BufOcc::new(16_777_215));
+    occupancies.push(None);
+    let wanted = [BufOcc::new(16_777_215), None];
     assert!(rt; occupancies.as_slice() == wanted.as_slice() && occupancies.copy() == occupancies);
 }
