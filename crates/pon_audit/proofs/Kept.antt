@@ -1,6 +1,5 @@
 -- The audit of a chapter, entry by entry.
-use Rattle.std.proofs.Common.{◌≡◌, ℕ, ◌+◌, ◌<◌, ◌≤◌, [], ◌∷◌, ◌++◌, length, take, get_or, Option, Some, None, Result, Ok, Err, refl, ap, sym, ◌∙◌, subst, arith, inr}
-use Rattle.std.specs.Prelude.{IfOk, MatchOption}
+use Rattle.std.proofs.Common.{◌≡◌, ℕ, ◌+◌, ◌<◌, ◌≤◌, [], ◌∷◌, ◌++◌, length, take, get_or, Option, refl, ap, sym, ◌∙◌, subst, arith}
 use Rattle.std.proofs.lemmas.List.{length-take-le, take_all, take_more}
 use Rattle.std.proofs.lemmas.Option.{slice_get-get_or}
 use Rattle.pon_event.specs.declared.event.Event.{Event}
@@ -11,16 +10,15 @@ use Rattle.pon_state.specs.Legal.{MayFollow}
 use Rattle.pon_state.specs.declared.reply.Reply.{Reply}
 use Rattle.pon_state.specs.declared.reply.Reply.TheVariants.{Taken, Map}
 use Rattle.pon_state.specs.declared.reply.Entry.{Entry}
-use Rattle.pon_port.specs.Chapters.{Chapter, IsLawfulChapter, IsLawfulOpening, present_state}
+use Rattle.pon_port.specs.Chapters.{Chapter, IsLawfulOpening}
 use Rattle.pon_port.specs.Taking.{IsKept, with_entry}
 use Rattle.pon_port.proofs.EntryByEntry.{legal_none, replay_of_none}
 use Rattle.pon_port.proofs.Kept.{mapped, taken}
 use Rattle.pon_port.proofs.FairMaps.{maps_are_fair}
 use Rattle.pon_record.specs.Chapters.{PlacedChapter}
-use Rattle.pon_audit.specs.Openings.{OpensLawfully, chapter_of}
+use Rattle.pon_audit.specs.Openings.{chapter_of}
 use Rattle.pon_audit.specs.Faults.{EntryFails, FailsAt, cut_at}
 use Rattle.pon_audit.specs.Judging.{EndsWith}
-use Rattle.pon_audit.specs.declared.chapters.Fault.{Fault}
 use Rattle.pon_audit.specs.declared.verdict.Why.{Why}
 
 -- an entry that may follow is kept

@@ -1,6 +1,6 @@
 -- A chapter fails in at most one way, and a good chapter in none.
 use Rattle.std.proofs.Common.{◌≡◌, ℕ, zero, suc, ◌<◌, List, [], ◌∷◌, map, take, Option, Some, None, refl, ap, sym, ◌∙◌, subst, arith, inl, inr}
-use Rattle.std.specs.Prelude.{◌≢◌, ◌⊎◌, All, slice_get}
+use Rattle.std.specs.Prelude.{◌≢◌, ◌⊎◌, slice_get}
 use Rattle.std.proofs.lemmas.Bool.{cases_lt}
 use Rattle.std.proofs.lemmas.List.{take-take}
 use Rattle.pon_event.specs.declared.event.Event.{Event}

@@ -1,13 +1,12 @@
 -- An opening with the parts of a state is that state.
 use Rattle.std.proofs.Common.{◌≡◌, ℕ, ◌+◌, ◌<◌, ◌≤◌, List, [], ◌∷◌, ◌++◌, map, length, take, get_or, Option, Some, None, refl, ap, sym, ◌∙◌, subst, arith}
 use Rattle.std.specs.Prelude.{◌↔◌, All}
-use Rattle.std.proofs.lemmas.List.{get_or-map, take_all, take_more}
+use Rattle.std.proofs.lemmas.List.{get_or-map, take_more}
 use Rattle.std.proofs.lemmas.List.Elements.{All-head, All-map, All-tail, All-weaker}
 use Rattle.pon_lists.proofs.Lists.{All-unmap}
 use Rattle.pon_admit.specs.declared.row.Row.{Row}
 use Rattle.pon_admit.specs.Roster.{most_carry, rule_in_force}
 use Rattle.pon_guar.specs.declared.account.Account.{Account}
-use Rattle.pon_guar.specs.declared.account.Counted.{Counted}
 use Rattle.pon_guar.specs.Book.{account_of, alloc_ids, known_report, known_since, since_of_account}
 use Rattle.pon_guar.specs.Parts.{book_from}
 use Rattle.pon_guar.proofs.Accounts.{account_is, found_each}

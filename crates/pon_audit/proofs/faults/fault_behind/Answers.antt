@@ -1,9 +1,8 @@
 use Rattle.std.proofs.Common.{◌≡◌, ◌+◌, false, true, refl, arith, rules}
 use Rattle.std.specs.Prelude.{◌↔◌}
 use Rattle.std.proofs.lemmas.Bool.{iff_false}
-use Rattle.pon_audit.specs.Openings.{state_of}
 use Rattle.pon_audit.specs.Verdicts.{IsChained}
-use Rattle.pon_audit.proofs.FirstFaults.{far_above, next_above, not_ascending, not_chained}
+use Rattle.pon_audit.proofs.FirstFaults.{next_above, not_ascending, not_chained}
 use Rattle.pon_audit.proofs.faults.fault_behind.Goals as goal
 
 pub returns-then-branch : goal.returns-then-branch

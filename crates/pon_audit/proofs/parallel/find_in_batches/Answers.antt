@@ -1,7 +1,5 @@
-use Rattle.std.proofs.Common.{◌≡◌, ◌+◌, ◌≤◌, length, take, arith, rules, subst}
-use Rattle.std.specs.Prelude.{slice_range}
-use Rattle.std.specs.List.{AllZip}
-use Rattle.pon_audit.specs.Judging.{AreJudged, IsAnswer}
+use Rattle.std.proofs.Common.{◌+◌, ◌≤◌, length, take, arith, rules, subst}
+use Rattle.pon_audit.specs.Judging.{AreJudged}
 use Rattle.pon_audit.proofs.FirstFaults.{batch_answers, batch_size, none_judged}
 use Rattle.pon_audit.proofs.parallel.find_in_batches.Goals as goal
 
