@@ -261,14 +261,15 @@ fn count(verdicts: &[Verdict], kind: Kind) -> usize {
     count
 }
 
-// Of the 2,336 bits, 72 belong to occupancies that no granted word depends on, 6 name another port, 64 give the chapter
-// another number, and 20 raise the maximum rate of an Alloc-ID that shares no surplus: these 162 recordings stay good. 27 make the body longer than the
-// bytes, so they are cut. 2 reduce the fixed rate, and then the maps grant too many words.
-static FLIPPED: [(&str, Kind, usize); 9] = [
+// Of the 2,336 bits, 72 belong to occupancies that no granted word depends on, 6 name another port, 64 name another
+// chapter, and 20 raise the maximum rate of an Alloc-ID that shares no surplus: these 162 recordings stay good. 27 make
+// the body longer than the bytes, so they are cut. 2 reduce the fixed rate, and then the maps grant too many words.
+static FLIPPED: [(&str, Kind, usize); 10] = [
     ("good", Kind::Good, 162),
     ("no recording", Kind::BadFormat, 1567),
     ("cut", Kind::Truncated, 27),
     ("opening", Kind::Bad(Why::Opening), 68),
+    ("chain", Kind::Bad(Why::Chain), 0),
     ("number", Kind::Bad(Why::Number), 0),
     ("event", Kind::Bad(Why::Event), 232),
     ("certificate", Kind::Bad(Why::Certificate), 0),

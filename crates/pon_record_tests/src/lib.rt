@@ -6,6 +6,8 @@
 #[cfg(test)]
 mod audit;
 #[cfg(test)]
+mod chains;
+#[cfg(test)]
 mod reading;
 #[cfg(test)]
 mod recordings;
