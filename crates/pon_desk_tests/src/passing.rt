@@ -130,7 +130,14 @@ fn are_passed(out: &mut RingOut, rest: Option<Rest>, dropped: u64) -> bool {
     let is_first = is_chapter(out.pop(), 0, 3) && out.pop().is_none();
     match rest {
         None => false,
-        Some(rest) => is_first && is_chapter(rest.pending, 1, 3) && rest.dropped == dropped,
+        Some(rest) => {
+            let Rest {
+                pending,
+                dropped: counted,
+                ..
+            } = rest;
+            is_chapter(pending, 1, 3) && is_first && counted == dropped
+        }
     }
 }
 
