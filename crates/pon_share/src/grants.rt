@@ -1,6 +1,6 @@
 //! The payload words of each Alloc-ID: the whole words of its guaranteed and surplus rate and its carry together.
 
-ghost use Rattle.std.specs.Prelude.{◌≡◌, ◌+◌, ◌*◌, ◌/◌, ◌<◌, ◌≤◌, ◌∷◌, length, IfOk};
+ghost use Rattle.std.specs.Prelude.{◌≡◌, ◌+◌, ◌*◌, ◌/◌, ◌<◌, ◌≤◌, ◌∷◌, [], length, vec_capacity, IfOk};
 ghost use Rattle.pon_admit.specs.Roster.{IsAdmitted};
 ghost use Rattle.pon_cert.specs.Problem.{IsItem};
 ghost use Rattle.pon_cert.specs.Certificate.{RuleHolds, amount, denominator};
@@ -83,11 +83,36 @@ pub struct Grants {
     pub carries: Vec<u8>,
 }
 
-/// Computes the grant of each admitted Alloc-ID, in map order, in the memory of `room`, and what it leaves. `carries` has
+impl Grants {
+    /// Makes empty lists that have no memory.
+    pub(crate) fn open(alloc: Global) -> Grants {
+        Grants {
+            grants: Vec::new(alloc),
+            carries: Vec::new(alloc),
+        }
+    }
+
+    // Empties both lists, and reserves memory for those of this number of Alloc-IDs.
+    fn emptied(self, count: usize) -> Result<Grants, AllocError>
+        ensures grants { IfOk result (λ g. (g.grants.items ≡ []) × (count ≤ vec_capacity g.grants)) }
+        ensures carries { IfOk result (λ g. (g.carries.items ≡ []) × (count ≤ vec_capacity g.carries)) }
+    {
+        let Grants {
+            mut grants,
+            mut carries,
+        } = self;
+        grants.clear();
+        grants.reserve(count)?;
+        carries.clear();
+        carries.reserve(count)?;
+        Ok(Grants { grants, carries })
+    }
+}
+
+/// Computes the grant of each admitted Alloc-ID, in map order, and what it leaves, in the memory of `room`. `carries` has
 /// what the last map left to each. `Err` only if memory is refused.
 pub(crate) fn grants_of(
-    alloc: Global,
-    room: Vec<Granted>,
+    room: Grants,
     input: &ShareInput,
     demands: &[Demand],
     cert: &MapCert,
@@ -104,10 +129,10 @@ pub(crate) fn grants_of(
         ≡ carried input.now (surplus_rate input.now cert.now)
         (λ r. number_of input.now.roster carries.now r.alloc_id)) }
 {
-    let mut left = Vec::with_capacity(alloc, demands.len())?;
-    let mut grants = room;
-    grants.clear();
-    grants.reserve(demands.len())?;
+    let Grants {
+        mut grants,
+        carries: mut left,
+    } = room.emptied(demands.len())?;
     let mut na = cert.na.saturated.as_slice();
     let mut be = cert.be.saturated.as_slice();
     for demand in demands {

@@ -76,5 +76,5 @@ pub fn grants_under(
         (λ r. number_of input.now.roster carries.now r.alloc_id)) }
 {
     let demands = problems.demands.as_slice();
-    grants_of(alloc, Vec::new(alloc), input, demands, cert, carries)
+    grants_of(Grants::open(alloc), input, demands, cert, carries)
 }

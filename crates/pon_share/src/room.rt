@@ -1,13 +1,13 @@
 use crate::demand::Demand;
-use pon_units::Granted;
+use crate::grants::Grants;
 use std::alloc::Global;
 use std::mem;
 
-/// Memory for the demands and grants of maps: a port keeps it, so that it is not allocated for each map.
+/// Memory for the demands, the grants and the carries of maps: a port keeps it, so that it is not allocated for each map.
 #[derive(Drop)]
 pub struct Room {
     demands: Vec<Demand>,
-    grants: Vec<Granted>,
+    grants: Grants,
 }
 
 impl Room {
@@ -15,12 +15,12 @@ impl Room {
     pub fn open(alloc: Global) -> Room {
         Room {
             demands: Vec::new(alloc),
-            grants: Vec::new(alloc),
+            grants: Grants::open(alloc),
         }
     }
 
-    /// Keeps a vector, whose memory is for the grants of the next map.
-    pub fn keep_grants(&mut self, grants: Vec<Granted>) {
+    /// Keeps the lists of an earlier map, whose memory is for the grants and carries of the next one.
+    pub fn keep_grants(&mut self, grants: Grants) {
         self.grants = grants;
     }
 
@@ -29,9 +29,9 @@ impl Room {
         self.demands = demands;
     }
 
-    /// Takes the vector for grants out.
-    pub(crate) fn take_grants(&mut self, alloc: Global) -> Vec<Granted> {
-        mem::replace(&mut self.grants, Vec::new(alloc))
+    /// Takes the lists for grants and carries out.
+    pub(crate) fn take_grants(&mut self, alloc: Global) -> Grants {
+        mem::replace(&mut self.grants, Grants::open(alloc))
     }
 
     /// Takes the vector for demands out.

@@ -56,7 +56,6 @@ pub fn share(
     } = problems_in(alloc, room.take_demands(alloc), input)?;
     let cert = map_cert(alloc, na.items.as_slice(), be.items.as_slice(), surplus)?;
     let Grants { grants, carries } = grants_of(
-        alloc,
         room.take_grants(alloc),
         input,
         demands.as_slice(),

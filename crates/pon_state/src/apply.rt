@@ -18,17 +18,19 @@ use pon_admit::Row;
 use pon_dbru::Occupancies;
 use pon_descr::{Cause, Descriptor};
 use pon_event::Event;
+use pon_share::Grants;
 use pon_units::{AllocId, FrameNo, Granted, OnuId};
 use std::alloc::AllocError;
+use std::mem;
 
 /// Updates the state by a map of the next frame, of which it keeps the grants and what they leave to each Alloc-ID. Returns
-/// a vector for the grants of a later map, with the memory of those of the map that left the window, if one did. `Err`
-/// only if memory is refused, and then the state is unchanged.
+/// lists with memory for those of a later map: that of the grants of the map that left the window, if one did, and that of
+/// the former carries. `Err` only if memory is refused, and then the state is unchanged.
 pub fn add_map(
     state: &mut PortState,
     grants: Vec<Granted>,
     carries: Vec<u8>,
-) -> Result<Vec<Granted>, AllocError>
+) -> Result<Grants, AllocError>
     requires map_order { AreInMapOrder grants.items }
     requires frames { AreConsecutive state.old.next state.old.window }
     requires next { state.old.next + 1 < 2 ^ 64 }
@@ -36,11 +38,11 @@ pub fn add_map(
     ensures ok { OnOk result (state.new ≡ after_map state.old grants.items carries.items) }
     ensures err { OnErr result (state.new ≡ state.old) }
 {
-    let left = state.loads.add_map(state.next, grants)?;
-    state.carries = carries;
+    let grants = state.loads.add_map(state.next, grants)?;
+    let carries = mem::replace(&mut state.carries, carries);
     state.next = FrameNo::new(state.next.get() + 1);
     state.taken_before += 1;
-    Ok(left)
+    Ok(Grants { grants, carries })
 }
 
 // Inserts the carry of a row just admitted, at the place of the row.

@@ -11,7 +11,7 @@ use Rattle.pon_share.proofs.grants.grants_of.Goals.{in-Plain, in-NonAssured, in-
 pub loop-demand-init : goal.loop-demand-init
 loop-demand-init c =
     record {
-      dealt = rw (c.as_slice-na.ensures, c.as_slice-be.ensures, c.reserve.ensures.items, c.clear.ensures.items, c.in_ok-left.ensures.items) (dealt_none c.args.input.now c.args.cert.now c.args.carries.now c.requires.admitted c.requires.certified);
+      dealt = rw (c.as_slice-na.ensures, c.as_slice-be.ensures, c.in_ok-grants.ensures.grants.0, c.in_ok-grants.ensures.carries.0) (dealt_none c.args.input.now c.args.cert.now c.args.carries.now c.requires.admitted c.requires.certified);
       count = search rules;
       room = search rules;
       count_left = search rules;
