@@ -1,7 +1,8 @@
 -- Posts counted twice: at the ports that took them, and by the seats that made them.
-use Rattle.std.specs.Prelude.{ℕ, ◌≡◌, ◌≢◌, ◌+◌, ◌<◌, ◌≤◌, List, length, map, replicate, slice_get, slice_index, slice_set, sum, sum_by, Some}
+use Rattle.std.specs.Prelude.{ℕ, ◌≡◌, ◌≢◌, ◌+◌, ◌<◌, ◌≤◌, List, [], length, map, replicate, slice_get, slice_index, slice_set, sum, sum_by, Some}
 use Rattle.pon_state.specs.declared.state.PortCfg.{PortCfg}
 use Rattle.pon_port.specs.Chapters.{Chapter}
+use Rattle.pon_desk.specs.Receipts.{Receipt}
 
 -- the number of ports of a desk, and of the seats that were opened, and the configuration and first frame with which each
 -- port was to be opened
@@ -15,14 +16,15 @@ pub record ClosedPorts : Type 0 where
   pub ports : List Chapter
   pub opened : List (PortCfg × ℕ)
 
--- a seat: its place in the list of all seats, and the number of its posts at each port
+-- a seat: its place in the list of all seats, the number of its posts at each port, and the receipts that it keeps
 pub record SeatCounts : Type 0 where
   pub number : ℕ
   pub counts : List ℕ
+  pub receipts : List Receipt
 
 -- a seat without posts, at a desk with this number of ports
 abbrev pub unused_seat : ℕ → ℕ → SeatCounts
-unused_seat number ports = record { number = number; counts = replicate ports 0 }
+unused_seat number ports = record { number = number; counts = replicate ports 0; receipts = [] }
 
 -- seats without posts, each numbered by its place
 pub record AreUnused (seats ports : ℕ) (opened : List SeatCounts) : Type 0 where
@@ -31,7 +33,11 @@ pub record AreUnused (seats ports : ℕ) (opened : List SeatCounts) : Type 0 whe
 
 -- a seat after one more post at a port
 abbrev pub one_more_at : ℕ → SeatCounts → SeatCounts
-one_more_at port seat = record { number = seat.number; counts = slice_set seat.counts port (slice_index seat.counts port + 1) }
+one_more_at port seat = record {
+  number = seat.number;
+  counts = slice_set seat.counts port (slice_index seat.counts port + 1);
+  receipts = seat.receipts;
+}
 
 -- the number of entries that a port took since it was opened
 abbrev pub taken_of : Chapter → ℕ

@@ -40,6 +40,17 @@ fn add_counts(sums: &mut [u64], counts: &[u64])
     }
 }
 
+// Takes a seat apart. Receipts that it still keeps are dropped.
+fn counts_and_share<M: Ledger, L: Ledger>(seat: Seat<L, M>) -> (Vec<u64>, Share<M>)
+    ensures counts { result.0.items ≡ seat.counts }
+    ensures one_each { length seat.counts ≡ L.parts }
+    ensures part { result.1.parts ≡ 1 }
+    ensures amount { result.1.amount ≡ sum seat.counts }
+{
+    let Seat { counts, share, .. } = seat;
+    (counts, share)
+}
+
 // Joins the shares of all seats, and adds their counts port by port.
 fn join_seats<M: Ledger, L: Ledger>(
     seats: Vec<Seat<L, M>>,
@@ -57,12 +68,7 @@ fn join_seats<M: Ledger, L: Ledger>(
     ensures amount { all.new.amount ≡ sum sums.new }
 {
     for seat in seats {
-        let Seat {
-            number: _,
-            counts,
-            share,
-            of: _,
-        } = seat;
+        let (counts, share) = counts_and_share(seat);
         all.merge(share);
         book.audit(all);
         add_counts(sums, counts.as_slice());

@@ -73,6 +73,7 @@ impl<L: Ledger> Held<L> {
         let Seat {
             number,
             counts,
+            kept: _,
             share: mine,
             of: _,
         } = seat;

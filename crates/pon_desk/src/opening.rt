@@ -3,6 +3,7 @@ ghost use Rattle.pon_plant.specs.Plants.{opened_port, opened_ports};
 ghost use Rattle.pon_desk.specs.Counts.{AreUnused, unused_seat};
 
 use crate::held::Held;
+use crate::kept::Kept;
 use crate::seat::Seat;
 use pon_port::{Port, PortCfg};
 use pon_units::FrameNo;
@@ -87,6 +88,7 @@ fn open_seat<L: Ledger, M: Ledger>(
     Ok(Seat {
         number,
         counts,
+        kept: Kept::Nothing,
         share,
         of: PhantomData,
     })

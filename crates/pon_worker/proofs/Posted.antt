@@ -28,6 +28,14 @@ raised_none port s = record {
   others = λ k other. refl;
 }
 
+-- the same counts, whatever receipts are kept
+pub raised_kept : (port n : ℕ) (a b c : SeatCounts) → RaisedAt port n a b → c.counts ≡ b.counts → RaisedAt port n a c
+raised_kept port n a b c p same = record {
+  size = ap (λ (xs : List ℕ). length xs) same ∙ p.size;
+  here = ap (λ (xs : List ℕ). slice_index xs port) same ∙ p.here;
+  others = λ k other. ap (λ (xs : List ℕ). slice_index xs k) same ∙ p.others k other;
+}
+
 -- the posts of one part, followed by those of another
 pub posts_more : (port x y : ℕ) (a b c : SeatCounts) (old mid new : Counts) → PostsAt port x a b old mid → PostsAt port y b c mid new → PostsAt port (x + y) a c old new
 posts_more port x y a b c old mid new p q = record {

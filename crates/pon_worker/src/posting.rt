@@ -117,7 +117,7 @@ pub(crate) fn post<L: Ledger, M: Ledger, T: Wait>(
     Ok(receipt)
 }
 
-// Posts an event at a port, and returns whether the port took it.
+// Posts an event at a port, has the seat keep its receipt, and returns whether the port took it.
 pub(crate) fn is_posted<L: Ledger, M: Ledger, T: Wait>(
     rt: &T,
     desk: &Desk<L, M>,
@@ -130,26 +130,40 @@ pub(crate) fn is_posted<L: Ledger, M: Ledger, T: Wait>(
         × (slice_index seat.new.counts port < 2 ^ 64)) (seat.new ≡ seat.old) }
     ensures sink { PassesChapters sink.old sink.new }
 {
-    post(rt, desk, seat, port, sink, event).is_ok()
+    match post(rt, desk, seat, port, sink, event) {
+        Ok(receipt) => {
+            seat.keep(receipt);
+            true
+        }
+        Err(_) => false,
+    }
 }
 
-// Posts `MakeMap` at a port, and returns the map of its next frame.
+// Posts `MakeMap` at a port, and returns the receipt of the map of its next frame.
 pub(crate) fn make_map<L: Ledger, M: Ledger, T: Wait>(
     rt: &T,
     desk: &Desk<L, M>,
     seat: &mut Seat<L, M>,
     port: PortNo,
     sink: &mut Sink,
-) -> Result<MadeMap, StepFault>
-    ensures made { IfOk result IsSomeMap }
+) -> Result<Receipt, StepFault>
+    ensures made { IfOk result (IsSomePost Event.MakeMap) }
     ensures refused { IfErr result (λ fault. TellsRefusal Event.MakeMap fault) }
     ensures counted { OnOk result (RaisedAt port 1 seat.old seat.new) }
     ensures fits { OnOk result (slice_index seat.new.counts port < 2 ^ 64) }
     ensures err { OnErr result (seat.new ≡ seat.old) }
     ensures sink { PassesChapters sink.old sink.new }
 {
-    match post(rt, desk, seat, port, sink, Event::MakeMap)?.into_reply() {
-        Reply::Map(made) => Ok(made),
+    post(rt, desk, seat, port, sink, Event::MakeMap)
+}
+
+// Returns the map that was made for a post.
+pub(crate) fn made_map(receipt: &Receipt) -> &MadeMap
+    requires { IsSomePost Event.MakeMap receipt.now }
+    ensures { IsSomeMap result.now }
+{
+    match receipt.reply() {
+        Reply::Map(made) => made,
         Reply::Taken => unreachable!(),
     }
 }

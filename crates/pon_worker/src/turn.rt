@@ -1,16 +1,14 @@
 // One turn of a worker.
-ghost use Rattle.std.specs.Prelude.{◌≡◌, ◌+◌, ◌≤◌, count_by, slice_index, IfErr, OnErr, OnOk};
+ghost use Rattle.std.specs.Prelude.{◌≡◌, ◌+◌, ◌≤◌, slice_index, IfErr, OnErr, OnOk};
 ghost use Rattle.pon_link.specs.Reading.{empty};
 ghost use Rattle.pon_worker.specs.Passing.{PassesChapters};
-ghost use Rattle.pon_worker.specs.Turns.{begins_burst, IsCutBy, PostsAt, Stopped, Turned};
+ghost use Rattle.pon_worker.specs.Turns.{IsCutBy, PostsAt, Stopped, Turned};
 
-use crate::causes::{WRITE_FAILED, cause_of};
 use crate::counts::{Counts, Why};
-use crate::gate::{Gate, Point, pass};
-use crate::posting::make_map;
+use crate::gate::Gate;
+use crate::posting::{made_map, make_map};
 use crate::reading::read_bursts;
-use crate::sending::send;
-use pon_bwmap::Alloc;
+use crate::sending::send_at_gate;
 use pon_desk::{Desk, Seat};
 use pon_device::{DevRead, DevWrite};
 use pon_link::{Direction, UpReader};
@@ -18,13 +16,6 @@ use pon_ring::Sink;
 use pon_units::PortNo;
 use std::sync::Wait;
 use std::sync::ledger::Ledger;
-
-// Returns the number of bursts of a map: the number of structures with a start.
-fn bursts_in(rows: &[Alloc]) -> usize
-    ensures { result ≡ count_by begins_burst rows.now }
-{
-    rows.iter().filter(|row| row.start().is_some()).count()
-}
 
 // Has the port make a map, sends it, and then reads and posts its bursts. Otherwise returns why the turn ended.
 pub(crate) fn turn<L: Ledger, M: Ledger, G: Gate, R: DevRead, W: DevWrite, T: Wait>(
@@ -50,24 +41,14 @@ pub(crate) fn turn<L: Ledger, M: Ledger, G: Gate, R: DevRead, W: DevWrite, T: Wa
     ensures posts { PostsAt port 0 seat.old seat.new counts.old counts.new }
     ensures sink { PassesChapters sink.old sink.new }
 {
-    let made = match make_map(rt, desk, seat, port, sink) {
-        Ok(made) => made,
+    let receipt = match make_map(rt, desk, seat, port, sink) {
+        Ok(receipt) => receipt,
         Err(fault) => return Err(Why::Refused(fault)),
     };
     counts.maps += 1;
-    if !pass(gate, port, Point::Send) {
-        return Err(Why::GateLimit);
-    }
-    match send(writer, &made) {
-        Ok(()) => {}
-        Err(_) => return Err(Why::Gave {
-            cause: cause_of(WRITE_FAILED),
-        }),
-    }
-    if !pass(gate, port, Point::Read) {
-        return Err(Why::GateLimit);
-    }
-    let bursts = bursts_in(made.map.rows());
+    let sent = send_at_gate(gate, port, made_map(&receipt), writer);
+    seat.keep(receipt);
+    let bursts = sent?;
     match read_bursts(rt, desk, seat, port, sink, bursts, up, reader, counts) {
         Ok(()) => Ok(()),
         Err(cause) => Err(Why::Gave { cause }),

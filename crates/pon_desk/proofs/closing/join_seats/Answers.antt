@@ -1,5 +1,5 @@
-use Rattle.std.proofs.Common.{◌≡◌, ℕ, List, [], ◌∷◌, ◌++◌, length, rules, subst, refl, sym, ap, ◌∙◌, arith, length-append, append_assoc}
-use Rattle.std.specs.Prelude.{sum}
+use Rattle.std.proofs.Common.{◌≡◌, ℕ, ◌+◌, ◌<◌, List, [], ◌∷◌, ◌++◌, length, rules, subst, refl, sym, ap, ◌∙◌, arith, length-append, append_assoc}
+use Rattle.std.specs.Prelude.{slice_index, sum}
 use Rattle.pon_desk.specs.Counts.{SeatCounts, AreSums}
 use Rattle.pon_desk.proofs.Sums.{no_sums, more_sums, zero_sum, sum_added}
 use Rattle.pon_desk.proofs.closing.join_seats.Goals as goal
@@ -16,26 +16,22 @@ loop-seat-init g c =
       omega (arith, c.requires.none.0),
     )
 
--- a seat with this number and these counts
-abbrev seat_of : ℕ → List ℕ → SeatCounts
-seat_of number counts = record { number = number; counts = counts }
-
 pub loop-seat-preserved : goal.loop-seat-preserved
 loop-seat-preserved g c =
     let held = c.loop-seat.invariant in
-    let seat = c.seat.invariant in
-    let counts = c.as_slice.result.now in
-    let same : seat_of c.seat.inside.number counts ≡ c.in-Some.seat = ap (seat_of c.seat.inside.number) c.as_slice.ensures.value ∙ c.seat.view_is in
-    let ports : length counts ≡ g.L.Ledger.parts = ap length c.as_slice.ensures.value ∙ seat.0 in
-    let long : length c.add_counts.new.sums ≡ length c.loop-seat.sums = search rules in
-    let added = c.add_counts.ensures in
-    let P : SeatCounts → Type 0 = λ s. AreSums c.add_counts.new.sums g.L.Ledger.parts (c.loop-seat.yielded ++ s ∷ []) in
-    let both = sum_added c.loop-seat.sums counts c.add_counts.new.sums (held.1.one_each ∙ sym ports) (long ∙ (held.1.one_each ∙ sym ports)) added in
-    let mine : c.seat.inside.share.amount ≡ sum counts = seat.2 ∙ sym (ap sum c.as_slice.ensures.value) in (
-      append_assoc c.loop-seat.yielded (c.in-Some.seat ∷ []) c.next.new.self.rest.items ∙ ap (λ rest. c.loop-seat.yielded ++ rest) (sym c.in-Some.ensures.steps.0) ∙ held.0,
-      subst P same (more_sums c.loop-seat.sums c.add_counts.new.sums g.L.Ledger.parts c.loop-seat.yielded (seat_of c.seat.inside.number counts) held.1 long ports added),
+    let old = c.loop-seat.sums in
+    let new = c.add_counts.new.sums in
+    let seat : SeatCounts = c.in-Some.seat in
+    let part = c.counts_and_share-counts.ensures in
+    let same : c.as_slice.result.now ≡ seat.counts = c.as_slice.ensures.value ∙ part.counts in
+    let long : length new ≡ length old = search rules in
+    let Added : List ℕ → Type 0 = λ xs. (p : ℕ) → p < length xs → slice_index new p ≡ slice_index old p + slice_index xs p in
+    let added = subst Added same c.add_counts.ensures in
+    let both = sum_added old seat.counts new (held.1.one_each ∙ sym part.one_each) (long ∙ (held.1.one_each ∙ sym part.one_each)) added in (
+      append_assoc c.loop-seat.yielded (seat ∷ []) c.next.new.self.rest.items ∙ ap (λ rest. c.loop-seat.yielded ++ rest) (sym c.in-Some.ensures.steps.0) ∙ held.0,
+      more_sums old new g.L.Ledger.parts c.loop-seat.yielded seat held.1 long part.one_each added,
       c.audit.ensures.total ∙ held.2,
-      omega (arith, c.audit.ensures.parts, c.merge.ensures.parts, held.3, seat.1, length-append c.loop-seat.yielded (c.in-Some.seat ∷ [])),
-      omega (arith, c.audit.ensures.amount, c.merge.ensures.amount, held.4, mine, both),
+      omega (arith, c.audit.ensures.parts, c.merge.ensures.parts, held.3, part.part, length-append c.loop-seat.yielded (seat ∷ [])),
+      omega (arith, c.audit.ensures.amount, c.merge.ensures.amount, held.4, part.amount, both),
       omega (arith, c.audit.ensures.parts, c.merge.ensures.apart),
     )
