@@ -15,6 +15,8 @@ mod held;
 pub mod laws;
 mod opening;
 mod receipt;
+#[cfg(test)]
+mod rows;
 mod seat;
 mod settling;
 mod unsettled;
