@@ -1,6 +1,11 @@
+pub mod AllTaken
 pub mod Balance
+pub mod Elements
+pub mod OneFault
 pub mod Placed
+pub mod Places
 pub mod RightChapters
+pub mod SeatOrder
 pub mod Settled
 pub mod Sums
 pub mod Walks

@@ -1,27 +1,18 @@
 -- Receipts compared with entries.
-use Rattle.std.proofs.Common.{◌≡◌, ℕ, zero, suc, ◌+◌, ◌-◌, ◌<◌, ◌≤◌, Bool, true, List, [], ◌∷◌, ◌++◌, length, take, get_or, map, Some, inl, inr, refl, sym, ap, subst, ◌∙◌, arith, below_more, eq-eqb}
+use Rattle.std.proofs.Common.{◌≡◌, ℕ, ◌+◌, ◌-◌, ◌<◌, ◌≤◌, Bool, true, List, [], ◌∷◌, ◌++◌, length, take, get_or, map, Some, inl, inr, sym, ap, subst, ◌∙◌, arith, below_more, eq-eqb}
 use Rattle.std.specs.Prelude.{slice_get, option_map, ◌==◌}
 use Rattle.std.proofs.lemmas.List.{length-take, length-take-le, length-map, length-append, take-take, take_more, map-append, append_assoc, nil_from_length, same_lists}
 use Rattle.std.proofs.lemmas.List.Sums.{count_by_more_yes, count_by-le-length}
-use Rattle.std.proofs.lemmas.Option.{get_or_from_slice_get, none-some, same_Some, slice_get-map, slice_get_cases, slice_get_within}
+use Rattle.std.proofs.lemmas.Option.{get_or_from_slice_get, same_Some, slice_get-map, slice_get_cases, slice_get_within}
 use Rattle.pon_desk.specs.Receipts.{Receipt}
-use Rattle.pon_desk.specs.Settling.{IsSettled, TellsUnsettled, IsFirstWithout, IsMiscounted, IsRightAt, IsRightChapter, IsRightReceipt, PortHistory, all_placed, posts_of}
+use Rattle.pon_desk.specs.Settling.{IsEarlier, IsSettled, TellsUnsettled, IsFirstWithout, IsMiscounted, IsRightAt, IsRightChapter, IsRightReceipt, PortHistory, all_placed, posts_of}
 use Rattle.pon_desk.specs.declared.receipt.Placed.{Placed}
 use Rattle.pon_desk.specs.declared.unsettled.Unsettled.{Unsettled}
 use Rattle.pon_desk.specs.declared.unsettled.Unsettled.TheVariants as fault
-
--- the first element behind a list
-pub get_behind : {X : Type 0} (xs ys : List X) → slice_get (xs ++ ys) (length xs) ≡ slice_get ys 0
-get_behind [] ys = refl
-get_behind (x ∷ xs) ys = get_behind xs ys
-
--- an element of the front
-pub get_in_front : {X : Type 0} (xs : List X) (n k : ℕ) (x : X) → slice_get (take n xs) k ≡ Some x → (slice_get xs k ≡ Some x) × (k < n)
-get_in_front [] zero k x h = absurd (none-some x h)
-get_in_front [] (suc n) k x h = absurd (none-some x h)
-get_in_front (y ∷ ys) zero k x h = absurd (none-some x h)
-get_in_front (y ∷ ys) (suc n) zero x h = (h, omega arith)
-get_in_front (y ∷ ys) (suc n) (suc k) x h = let rest = get_in_front ys n k x h in (rest.0, omega (arith, rest.1))
+use Rattle.pon_desk.proofs.AllTaken.{all_taken}
+use Rattle.pon_desk.proofs.Elements.{get_behind, get_in_front}
+use Rattle.pon_desk.proofs.Places.{earlier_place}
+use Rattle.pon_desk.proofs.SeatOrder.{lesser_is_earlier}
 
 -- the last receipt of a seat names the number of those before it
 pub last_of_seat : (rs : List Receipt) (left seat : ℕ) (r : Receipt) → 0 < left → left ≤ length rs → r ≡ get_or rs (left - 1) r → r.seat ≡ seat → r.nth ≡ posts_of r.seat (take (left - 1) rs) → r.nth + 1 ≡ posts_of seat (take left rs)
@@ -82,6 +73,19 @@ miscounted h port rs entries left all chapters each passed more =
       wrong = λ count. more (nil_from_length left (omega (arith, count.entries, ap (λ (l : List Placed). length l) (sym all ∙ passed), length-append (map placed rs) left, length-map rs placed)));
     }
 
+-- no entry is left
+pub settled_at_end : (h : PortHistory) (port : ℕ) (rs : List Receipt) (entries left : List Placed) → entries ≡ all_placed h → ((k : ℕ) → IsRightChapter h k) → ((k : ℕ) → IsRightAt entries port rs k) → entries ≡ map (λ (x : Receipt). x.placed) rs ++ left → left ≡ [] → IsSettled h port rs
+settled_at_end h port rs entries left all chapters each passed none =
+    let placed : Receipt → Placed = λ (x : Receipt). x.placed in
+    let P : List Placed → Type 0 = λ es. (k : ℕ) → IsRightAt es port rs k in
+    let size : List Placed → ℕ = λ (l : List Placed). length l in
+    let count : length rs ≡ length (all_placed h) = omega (arith, ap size (sym all ∙ passed), length-append (map placed rs) left, length-map rs placed, ap size none) in
+    record {
+      chapters = chapters;
+      each = subst P all each;
+      count = record { entries = count; taken = count ∙ all_taken h chapters };
+    }
+
 -- the receipts of a settled port are those of all its entries
 pub settled_entries : (h : PortHistory) (port : ℕ) (rs : List Receipt) → IsSettled h port rs → map (λ (x : Receipt). x.placed) rs ≡ all_placed h
 settled_entries h port rs s =
@@ -97,3 +101,9 @@ pub no_fault : (h : PortHistory) (port : ℕ) (rs : List Receipt) (why : Unsettl
 no_fault h port rs (fault.Chapter k) s t = t.wrong (s.chapters k)
 no_fault h port rs (fault.Receipt k) s t = t.first.wrong (s.each k)
 no_fault h port rs fault.Count s t = t.wrong s.count
+
+-- of two receipts of a seat that with the lesser number has the earlier place
+pub earlier_of_seat : (h : PortHistory) (port : ℕ) (rs : List Receipt) → IsSettled h port rs → (i j : ℕ) (r s : Receipt) → slice_get rs i ≡ Some r → slice_get rs j ≡ Some s → r.seat ≡ s.seat → r.nth < s.nth → IsEarlier r.placed s.placed
+earlier_of_seat h port rs settled i j r s at there same lesser =
+    let below = lesser_is_earlier rs (λ k x is. (settled.each k x is).nth) i j r s at there same lesser in
+    earlier_place h settled.chapters i j r.placed s.placed below (settled.each i r at).has_entry (settled.each j s there).has_entry

@@ -1,6 +1,7 @@
 -- The settlement of a closed port: its entries compared with the receipts of its posts.
-use Rattle.std.specs.Prelude.{ℕ, ◌≡◌, ◌<◌, ◌≤◌, ◌==◌, suc, List, [], ◌∷◌, ◌++◌, count_by, flat_map, length, slice_get, take, Option, None, Some, IsSomeAnd}
+use Rattle.std.specs.Prelude.{ℕ, ◌≡◌, ◌-◌, ◌<◌, ◌≤◌, ◌==◌, ◌⊎◌, suc, List, [], ◌∷◌, ◌++◌, count_by, flat_map, length, slice_get, take, Option, None, Some, IsSomeAnd}
 use Rattle.pon_state.specs.declared.reply.Entry.{Entry}
+use Rattle.pon_state.specs.State.{State}
 use Rattle.pon_state.specs.declared.state.PortCfg.{PortCfg}
 use Rattle.pon_port.specs.Chapters.{Chapter}
 use Rattle.pon_plant.specs.Plants.{opened_port}
@@ -33,12 +34,18 @@ placed_in c = placed_from c.number 0 c.entries
 abbrev pub all_placed : PortHistory → List Placed
 all_placed h = flat_map placed_in (all_chapters h)
 
+-- a state counts all entries up to the end of a chapter
+abbrev pub CountsUpTo : Chapter → State → Type 0
+CountsUpTo c s = s.taken_before ≡ taken_of c
+
 -- below the number of the kept chapter the k-th chapter was returned, and has this number; from there on none was. The
--- first of all opens with the port just opened as it was to be
+-- first of all opens with the port just opened as it was to be, and each later one counts the entries up to the end of the
+-- one before it
 pub record IsRightChapter (h : PortHistory) (k : ℕ) : Type 0 where
   pub there : k < h.kept.number → IsSomeAnd (slice_get h.chapters k) (λ c. c.number ≡ k)
   pub no_more : h.kept.number ≤ k → slice_get h.chapters k ≡ None
   pub opens : k ≡ 0 → IsSomeAnd (slice_get (all_chapters h) 0) (λ c. c.opening ≡ (opened_port h.opened).opening)
+  pub follows : (c d : Chapter) → 0 < k → slice_get (all_chapters h) (k - 1) ≡ Some c → slice_get (all_chapters h) k ≡ Some d → CountsUpTo c d.opening
 
 -- the number of receipts of a seat
 abbrev pub posts_of : ℕ → List Receipt → ℕ
@@ -79,6 +86,15 @@ pub record IsMiscounted (h : PortHistory) (port : ℕ) (receipts : List Receipt)
   pub chapters : (k : ℕ) → IsRightChapter h k
   pub each : (k : ℕ) → IsRightAt (all_placed h) port receipts k
   pub wrong : IsRightCount h receipts → ⊥
+
+-- a place is earlier than another: its chapter is, or it is of the same chapter and its index is lesser
+abbrev pub IsEarlier : Placed → Placed → Type 0
+IsEarlier p q = (p.chapter < q.chapter) ⊎ ((p.chapter ≡ q.chapter) × (p.index < q.index))
+
+-- the k-th receipt is of this seat and names this number of earlier posts, and no other is and does
+pub record IsOnlyPost (receipts : List Receipt) (seat nth k : ℕ) : Type 0 where
+  pub there : IsSomeAnd (slice_get receipts k) (λ r. (r.seat ≡ seat) × (r.nth ≡ nth))
+  pub only : (j : ℕ) (r : Receipt) → slice_get receipts j ≡ Some r → r.seat ≡ seat → r.nth ≡ nth → j ≡ k
 
 -- why a port is not settled: the first chapter that is not right, or else the first receipt, or else the count
 abbrev pub TellsUnsettled : PortHistory → ℕ → List Receipt → Unsettled → Type 0

@@ -50,9 +50,10 @@ impl Closed {
     /// receipts in the order of their places. It allocates no memory.
     ///
     /// `Ok` exactly if the chapters are numbered from 0 up to the kept one, the first of them opens as the port was to be
-    /// opened, and the receipts are those of all entries: the k-th has this port, the place, the event and the reply of the
-    /// k-th entry, names the number of earlier receipts of its seat, and there are as many as entries and as the port took.
-    /// Otherwise the first chapter that is not right, or else the first receipt, or else `Count`.
+    /// opened, each later one (also the kept one) counts the entries up to the end of the one before it, and the receipts
+    /// are those of all entries: the k-th has this port, the place, the event and the reply of the k-th entry, names the
+    /// number of earlier receipts of its seat, and there are as many as entries and as the port took. Otherwise the first
+    /// chapter that is not right, or else the first receipt, or else `Count`.
     pub fn settle(
         &self,
         port: PortNo,

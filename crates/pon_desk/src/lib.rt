@@ -16,6 +16,8 @@ mod kept;
 pub mod laws;
 mod opening;
 mod receipt;
+#[cfg(test)]
+mod rows;
 mod seat;
 mod settling;
 mod unsettled;

@@ -1,10 +1,18 @@
-use Rattle.std.proofs.Common.{◌≡◌, ◌<◌, length, Some, inl, inr, refl, sym, ◌∙◌, arith, below_more, true, false}
+use Rattle.std.proofs.Common.{◌≡◌, ◌<◌, ◌≤◌, length, take, Some, inl, inr, refl, sym, subst, ◌∙◌, arith, below_more, true, false}
 use Rattle.std.specs.Prelude.{slice_get}
+use Rattle.std.proofs.lemmas.List.{length-take-le}
 use Rattle.std.proofs.lemmas.Option.{slice_get_cases, slice_get_read}
+use Rattle.pon_port.specs.Chapters.{IsJustOpened}
 use Rattle.pon_desk.specs.Settling.{IsRightChapter, PortHistory}
-use Rattle.pon_desk.proofs.RightChapters.{Opens, absent, kept_otherwise, no_more_than, right_past, right_there}
+use Rattle.pon_desk.proofs.Elements.{get_before}
+use Rattle.pon_desk.proofs.RightChapters.{OpensRight, absent, before_kept, before_returned, kept_there, no_more_than, not_opened, right_behind, right_past, right_there}
 use Rattle.pon_desk.proofs.settling.chapter_fault.Goals as goal
-use Rattle.pon_desk.proofs.settling.chapter_fault.Goals.{else-k-eq0-via-then-k-eq0+else-not-opens_as, else-k-eq0-via-else-k-eq0, else-last-eq0-via-then-last-eq0+else-not-opens_as-2, else-last-eq0-via-else-last-eq0}
+
+pub opens_behind-requires : goal.opens_behind-requires
+opens_behind-requires c =
+    let long : length (take c.loop-k.k c.args.chapters.now) ≡ c.loop-k.k = length-take-le c.loop-k.k c.args.chapters.now (omega arith) in
+    let number : c.index-chapters-k.result.number ≡ c.loop-k.k = omega (arith, c.number.ensures) in
+    λ none. subst IsJustOpened (sym c.opening.ensures.opening) (c.opening.ensures.lawful.first (number ∙ sym long ∙ none))
 
 pub loop-k-preserved : goal.loop-k-preserved
 loop-k-preserved c =
@@ -13,11 +21,27 @@ loop-k-preserved c =
     let at : slice_get h.chapters c.loop-k.k ≡ Some d = slice_get_read h.chapters _ c.loop-k.k d refl (omega arith) c.index-chapters-k.is in
     let below : c.loop-k.k < h.kept.number = omega (arith, c.chapter_number-last.ensures) in
     let number : d.number ≡ c.loop-k.k = omega (arith, c.number.ensures) in
-    let opens : c.loop-k.k ≡ 0 → Opens h d = elim c.else-k-eq0.branch [
-      | else-k-eq0-via-then-k-eq0+else-not-opens_as w ↦ λ none. sym w.opening.ensures.opening ∙ w.if-not-opens_as.ensures.0 refl
-      | else-k-eq0-via-else-k-eq0 w ↦ λ none. absurd (w.if-k-eq0.false none)
-    ] in
-    below_more (IsRightChapter h) c.loop-k.k c.loop-k.invariant (right_there h c.loop-k.k d at below number opens)
+    let right : OpensRight h (take c.loop-k.k h.chapters) c.opening.result.now = record {
+      first = λ none. (c.if-not-opens_behind.ensures.first none).0 refl;
+      later = λ e some last. (c.if-not-opens_behind.ensures.later e some last).0 refl;
+    } in
+    below_more (IsRightChapter h) c.loop-k.k c.loop-k.invariant (right_there h c.loop-k.k d at below number (subst (OpensRight h (take c.loop-k.k h.chapters)) c.opening.ensures.opening right))
+
+pub returns-then-not-opens_behind : goal.returns-then-not-opens_behind
+returns-then-not-opens_behind c =
+    let h : PortHistory = record { opened = c.args.opened.now; chapters = c.args.chapters.now; kept = c.args.kept.now } in
+    let k = c.loop-k.k in
+    let d = c.index-chapters-k.result in
+    let at : slice_get h.chapters k ≡ Some d = slice_get_read h.chapters _ k d refl (omega arith) c.index-chapters-k.is in
+    let fits : k ≤ length h.chapters = omega arith in
+    record {
+      earlier = c.loop-k.invariant;
+      wrong = λ right.
+          not_opened h (take k h.chapters) c.opening.result.now
+          (λ none o. let t : false ≡ true = (c.if-not-opens_behind.ensures.first none).1 o in cc)
+          (λ e some last o. let t : false ≡ true = (c.if-not-opens_behind.ensures.later e some last).1 o in cc)
+          (subst (OpensRight h (take k h.chapters)) (sym c.opening.ensures.opening) (right_behind h k (take k h.chapters) d (before_returned h k fits) (get_before h.chapters h.kept k d at) right));
+    }
 
 pub returns-then-chapters-last : goal.returns-then-chapters-last
 returns-then-chapters-last c =
@@ -28,14 +52,23 @@ returns-then-chapters-last c =
       wrong = absent h (length h.chapters) (omega arith) fewer;
     }
 
-pub returns-then-not-opens_as-2 : goal.returns-then-not-opens_as-2
-returns-then-not-opens_as-2 c =
+pub opens_behind-requires-2 : goal.opens_behind-requires-2
+opens_behind-requires-2 c =
     let h : PortHistory = record { opened = c.args.opened.now; chapters = c.args.chapters.now; kept = c.args.kept.now } in
     let few = no_more_than h (λ j below. c.loop-k.invariant j (omega (arith, below))) in
-    let none : length h.chapters ≡ 0 = omega (arith, few, c.chapter_number-last.ensures) in
+    let number : c.args.kept.now.number ≡ length h.chapters = omega (arith, few, c.chapter_number-last.ensures) in
+    λ none. subst IsJustOpened (sym c.opening-2.ensures.opening) (c.opening-2.ensures.lawful.first (number ∙ none))
+
+pub returns-then-not-opens_behind-2 : goal.returns-then-not-opens_behind-2
+returns-then-not-opens_behind-2 c =
+    let h : PortHistory = record { opened = c.args.opened.now; chapters = c.args.chapters.now; kept = c.args.kept.now } in
     record {
-      earlier = λ j below. absurd (omega (arith, below));
-      wrong = kept_otherwise h none (λ o. let t : false ≡ true = c.if-not-opens_as-2.ensures.1 (c.opening-then-last-eq0.ensures.opening ∙ o) in cc);
+      earlier = λ j below. c.loop-k.invariant j (omega (arith, below));
+      wrong = λ right.
+          not_opened h h.chapters c.opening-2.result.now
+          (λ none o. let t : false ≡ true = (c.if-not-opens_behind-2.ensures.first none).1 o in cc)
+          (λ e some last o. let t : false ≡ true = (c.if-not-opens_behind-2.ensures.later e some last).1 o in cc)
+          (subst (OpensRight h h.chapters) (sym c.opening-2.ensures.opening) (right_behind h (length h.chapters) h.chapters h.kept (before_kept h) (kept_there h) right));
     }
 
 pub returns : goal.returns
@@ -43,12 +76,11 @@ returns c =
     let h : PortHistory = record { opened = c.args.opened.now; chapters = c.args.chapters.now; kept = c.args.kept.now } in
     let few = no_more_than h (λ j below. c.loop-k.invariant j (omega (arith, below))) in
     let all : length h.chapters ≡ h.kept.number = omega (arith, few, c.chapter_number-last.ensures) in
-    let last : c.chapter_number-last.result ≡ h.kept.number = c.chapter_number-last.ensures in
-    let opens : h.kept.number ≡ 0 → Opens h h.kept = elim c.else-last-eq0.branch [
-      | else-last-eq0-via-then-last-eq0+else-not-opens_as-2 w ↦ λ none. sym w.opening-then-last-eq0.ensures.opening ∙ w.if-not-opens_as-2.ensures.0 refl
-      | else-last-eq0-via-else-last-eq0 w ↦ λ none. absurd (w.if-last-eq0.false (last ∙ none))
-    ] in
+    let right : OpensRight h h.chapters c.opening-2.result.now = record {
+      first = λ none. (c.if-not-opens_behind-2.ensures.first none).0 refl;
+      later = λ e some last. (c.if-not-opens_behind-2.ensures.later e some last).0 refl;
+    } in
     λ k. elim (slice_get_cases h.chapters k).1 [
       | inl s ↦ c.loop-k.invariant k (omega (arith, s.1))
-      | inr p ↦ right_past h k all (omega (arith, all, p.0)) opens
+      | inr p ↦ right_past h k all (omega (arith, all, p.0)) (subst (OpensRight h h.chapters) c.opening-2.ensures.opening right)
     ]
