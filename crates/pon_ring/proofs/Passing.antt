@@ -3,7 +3,7 @@ use Rattle.std.proofs.Common.{◌≡◌, List, [], ◌∷◌, ◌++◌, refl, sy
 use Rattle.std.specs.Prelude.{IsSomeAnd, Option, Some, None}
 use Rattle.pon_port.specs.Chapters.{Chapter}
 use Rattle.pon_ring.specs.Passing.{PassesAll, SameRing}
-use Rattle.pon_ring.specs.Rings.{AreEnds, SameIn}
+use Rattle.pon_ring.specs.Rings.{AreEnds, SameIn, SameOut}
 use Rattle.pon_ring.specs.Sinks.{IsRest, PassesOn, StartsWith}
 use Rattle.pon_ring.specs.declared.ring_out.RingOut.{RingOut}
 use Rattle.pon_ring.specs.declared.sink.Rest.{Rest}
@@ -62,3 +62,7 @@ has_ring ring (Some a) (Some b) starts same none = cc
 -- the other end is that of the same ring
 pub ends_kept : (a b : RingIn) (o : RingOut) → AreEnds a o → SameIn a b → AreEnds b o
 ends_kept a b o ends same = (ends.0 ∙ sym same.0.0, ends.1 ∙ sym same.0.1, ends.2 ∙ sym same.0.2, ends.3 ∙ sym same.0.3)
+
+-- the end that pops stays the same over further calls
+pub same_out_more : (a b c : RingOut) → SameOut a b → SameOut b c → SameOut a c
+same_out_more a b c p q = ((q.0.0 ∙ p.0.0, q.0.1 ∙ p.0.1, q.0.2 ∙ p.0.2, q.0.3 ∙ p.0.3), q.1 ∙ p.1)

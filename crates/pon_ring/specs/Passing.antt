@@ -1,8 +1,10 @@
 -- Chapters that are passed to a sink one after another.
 use Rattle.std.specs.Prelude.{◌≡◌, ◌+◌, ◌-◌, ◌^◌, ◌++◌, ◌∷◌, ◌<◌, [], All, Contains, List, length, Option, Some, None}
+use Rattle.std.specs.Option.{ForSome}
 use Rattle.pon_port.specs.Chapters.{Chapter}
-use Rattle.pon_ring.specs.Rings.{SameIn}
+use Rattle.pon_ring.specs.Rings.{AreEnds, SameIn}
 use Rattle.pon_ring.specs.Sinks.{PassesOn, passed}
+use Rattle.pon_ring.specs.declared.ring_out.RingOut.{RingOut}
 use Rattle.pon_ring.specs.declared.sink.Outlet.{Outlet}
 use Rattle.pon_ring.specs.declared.sink.Sink.{Sink}
 
@@ -20,6 +22,10 @@ SameRing (Some old) (Some new) = SameIn old.ring new.ring
 -- a sink without a ring stays so; one with a ring keeps the end of that ring
 abbrev pub KeepsRing : Sink → Sink → Type 0
 KeepsRing old new = SameRing old.outlet new.outlet
+
+-- a sink passes its chapters to the ring that has this other end, or nowhere
+abbrev pub PassesTo : Sink → RingOut → Type 0
+PassesTo sink out = ForSome sink.outlet (λ o. AreEnds o.ring out)
 
 -- some of the chapters follow those passed before, and each of the others is counted as dropped
 pub record AreKeptOrCounted (old : Outlet) (chapters : List Chapter) (new : Outlet) : Type 0 where

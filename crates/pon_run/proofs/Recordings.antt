@@ -94,8 +94,19 @@ is_failed true e = absurd cc
 is_failed false e = refl
 
 -- the chapters that a worker left, in three parts
-pub rest_in_parts : (port : ℕ) (popped pending : Option Chapter) (kept : Chapter)
-    → rest_of port popped pending kept ≡ map (chapter_body port) (option_to_list popped) ++ (map (chapter_body port) (option_to_list pending) ++ chapter_body port kept ∷ [])
+pub rest_in_parts : (port : ℕ) (popped : List Chapter) (pending : Option Chapter) (kept : Chapter)
+    → rest_of port popped pending kept ≡ map (chapter_body port) popped ++ (map (chapter_body port) (option_to_list pending) ++ chapter_body port kept ∷ [])
 rest_in_parts port popped pending kept =
-    map-append (chapter_body port) (option_to_list popped) (option_to_list pending ++ kept ∷ [])
-    ∙ ap (λ (bs : List Body). map (chapter_body port) (option_to_list popped) ++ bs) (map-append (chapter_body port) (option_to_list pending) (kept ∷ []))
+    map-append (chapter_body port) popped (option_to_list pending ++ kept ∷ [])
+    ∙ ap (λ (bs : List Body). map (chapter_body port) popped ++ bs) (map-append (chapter_body port) (option_to_list pending) (kept ∷ []))
+
+-- one more chapter of a ring is taken
+pub takes_more : (port : ℕ) (old : Option (List ℕ)) (left : List ℕ) (mid : Option (List ℕ)) (rest : List ℕ) (new : Option (List ℕ)) (more : List ℕ) (before between after : ℕ) (popped : List Chapter) (x : Chapter)
+    → TakesChapters old left mid rest before between (map (chapter_body port) popped) → TakesChapters mid rest new more between after (chapter_body port x ∷ [])
+    → TakesChapters old left new more before after (map (chapter_body port) (popped ++ x ∷ []))
+takes_more port old left mid rest new more before between after popped x f s =
+    subst (λ (bs : List Body). TakesChapters old left new more before after bs) (sym (map-append (chapter_body port) popped (x ∷ [])))
+    (takes_both old left mid rest new more before between after (map (chapter_body port) popped) (chapter_body port x ∷ []) f s)
+
+pub received_more : (a b c popped : List Chapter) (x : Chapter) → b ≡ a ++ popped → c ≡ b ++ x ∷ [] → c ≡ a ++ (popped ++ x ∷ [])
+received_more a b c popped x first next = next ∙ ap (λ (t : List Chapter). t ++ x ∷ []) first ∙ append_assoc a popped (x ∷ [])

@@ -2,3 +2,4 @@ pub mod Ends
 pub mod Units
 pub mod Runs
 pub mod Recordings
+pub mod Rings

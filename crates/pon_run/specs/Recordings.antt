@@ -4,6 +4,8 @@ use Rattle.pon_port.specs.Chapters.{Chapter}
 use Rattle.pon_record.specs.Chapters.{Body}
 use Rattle.pon_recorder.specs.Bodies.{chapter_body}
 use Rattle.pon_recorder.specs.Recorders.{Records}
+use Rattle.pon_ring.specs.Rings.{SameOut, received_chapters}
+use Rattle.pon_ring.specs.declared.ring_out.RingOut.{RingOut}
 
 -- the recording has these additional chapters, after its earlier ones
 abbrev pub HasRecorded : Option (List ℕ) → List ℕ → Option (List ℕ) → List ℕ → List Body → Type 0
@@ -33,6 +35,11 @@ pub record TakesChapters (old : Option (List ℕ)) (left : List ℕ) (new : Opti
   pub all : after ≡ before → before < most_dropped → recorded ≡ bodies
   pub counts : min before most_dropped ≤ after
 
--- the chapters of a port that wait for room, and the one that it keeps
-abbrev pub rest_of : ℕ → Option Chapter → Option Chapter → Chapter → List Body
-rest_of port popped pending kept = map (chapter_body port) (option_to_list popped ++ (option_to_list pending ++ kept ∷ []))
+-- chapters are popped from the ring of this end, in order
+pub record Pops (old new : RingOut) (chapters : List Chapter) : Type 0 where
+  pub same : SameOut old new
+  pub received : received_chapters new ≡ received_chapters old ++ chapters
+
+-- the chapters of a port that are still in its ring, the one that waits for room, and the one that it keeps
+abbrev pub rest_of : ℕ → List Chapter → Option Chapter → Chapter → List Body
+rest_of port popped pending kept = map (chapter_body port) (popped ++ (option_to_list pending ++ kept ∷ []))

@@ -5,14 +5,14 @@ ghost use Rattle.std.specs.Vec.{vec_len};
 
 use crate::end::PortEnd;
 use crate::link::Link;
+use crate::port_sink::PortSink;
+use crate::rings::Rings;
 use crate::running::Served;
 use crate::thread::{UnitsPart, Worked, WorkerPart};
 use crate::units::units_of;
 use pon_desk::{CloseFault, Desk, Seat};
 use pon_port::Port;
-use pon_ring::Sink;
 use pon_settings::{Settings, SettingsRow};
-use pon_units::PortNo;
 use pon_worker::{Why, WorkerEnd};
 use std::alloc::{AllocError, Global};
 use std::sync::Wait;
@@ -38,42 +38,36 @@ pub(crate) fn admit_rows<L: Ledger, M: Ledger, R: Wait>(
 }
 
 // Combines what serves one port.
-fn served_port<L: Ledger, M: Ledger>(
+fn served_port<L: Ledger, M: Ledger, K: Rings>(
     alloc: Global,
-    port: PortNo,
     rows: &[SettingsRow],
     seat: Seat<L, M>,
-    sink: Sink,
+    sink: PortSink<K>,
     link: Link,
-) -> Result<Served<L, M>, AllocError> {
+) -> Result<Served<L, M, K>, AllocError> {
     let units = units_of(alloc, rows)?;
     let Link {
         port: stream,
         units: far,
     } = link;
     Ok(Served {
-        worker: WorkerPart {
-            port,
-            seat,
-            sink,
-            stream,
-        },
+        worker: WorkerPart { seat, sink, stream },
         units: UnitsPart { units, stream: far },
     })
 }
 
 /// Combines what serves each port of the settings, in order. `Err` only if memory is refused.
-pub(crate) fn served_ports<L: Ledger, M: Ledger>(
+pub(crate) fn served_ports<L: Ledger, M: Ledger, K: Rings>(
     alloc: Global,
     settings: &Settings,
     seats: Vec<Seat<L, M>>,
-    sinks: Vec<Sink>,
+    sinks: Vec<PortSink<K>>,
     links: Vec<Link>,
-) -> Result<Vec<Served<L, M>>, AllocError> {
+) -> Result<Vec<Served<L, M, K>>, AllocError> {
     let mut all = Vec::with_capacity(alloc, links.len())?;
     let parts = seats.into_iter().zip(sinks).zip(links);
-    for ((i, port), ((seat, sink), link)) in settings.ports().iter().enumerate().zip(parts) {
-        let served = served_port(alloc, PortNo::at(i), port.rows(), seat, sink, link)?;
+    for (port, ((seat, sink), link)) in settings.ports().iter().zip(parts) {
+        let served = served_port(alloc, port.rows(), seat, sink, link)?;
         all.push(served)?;
     }
     Ok(all)
@@ -97,11 +91,11 @@ fn end_of(port: &Port, end: &WorkerEnd) -> PortEnd
 
 /// How the workers of a run ended.
 #[derive(Drop)]
-pub(crate) struct Ended<L: Ledger, M: Ledger> {
+pub(crate) struct Ended<L: Ledger, M: Ledger, K: Rings> {
     /// All seats of the desk.
     pub(crate) seats: Vec<Seat<L, M>>,
     /// The sink of each worker.
-    pub(crate) sinks: Vec<Sink>,
+    pub(crate) sinks: Vec<PortSink<K>>,
     /// How each worker ended.
     pub(crate) ends: Vec<WorkerEnd>,
     /// Whether each worker made all its turns.
@@ -110,11 +104,11 @@ pub(crate) struct Ended<L: Ledger, M: Ledger> {
 
 /// Splits the results of the workers' threads, and adds their seats to `seats`. `Err` if memory was refused, here or in
 /// one of the threads.
-pub(crate) fn split_results<L: Ledger, M: Ledger>(
+pub(crate) fn split_results<L: Ledger, M: Ledger, K: Rings>(
     alloc: Global,
     mut seats: Vec<Seat<L, M>>,
-    all: Vec<Worked<L, M>>,
-) -> Result<Ended<L, M>, AllocError> {
+    all: Vec<Worked<L, M, K>>,
+) -> Result<Ended<L, M, K>, AllocError> {
     let mut sinks = Vec::with_capacity(alloc, all.len())?;
     let mut ends = Vec::with_capacity(alloc, all.len())?;
     let mut finished = true;

@@ -1,13 +1,16 @@
 //! The recorder's thread.
 
 ghost use Rattle.std.specs.Prelude.{◌≤◌};
+ghost use Rattle.std.specs.Vec.{vec_len};
+ghost use Rattle.pon_run.specs.Rings.{AreRingsOf};
 
 use crate::end::PortEnd;
 use crate::inlet::Inlet;
+use crate::port_sink::PortSink;
 use crate::recorder::Recorder;
+use crate::rings::{PortRing, Rings};
 use pon_device::DevWrite;
 use pon_port::Port;
-use pon_ring::{Sink, ring};
 use pon_stream::PlanFault;
 use pon_units::{MOST_PORTS, PortNo};
 use std::alloc::{AllocError, Global};
@@ -16,64 +19,65 @@ use std::sync::atomic::{AtomicBool, Ordering};
 use std::thread;
 use std::time::{Clock, Duration};
 
-/// Number of entries after which a worker passes the chapter of its port to the recorder.
-const CUT: u32 = 4_096;
-
 /// How long the recorder sleeps after it found all rings empty, in milliseconds: a port fills a chapter in many times
 /// that.
 const PAUSE_MILLISECONDS: u64 = 1;
 
 /// A recorder, and the ends of the rings of all ports, in order.
 #[derive(Drop)]
-pub(crate) struct Recording<W> {
+pub(crate) struct Recording<K: Rings, W> {
     pub(crate) recorder: Recorder<W>,
-    pub(crate) inlets: Vec<Inlet>,
+    pub(crate) inlets: Vec<Inlet<K>>,
 }
 
 /// Where the chapters of the ports go: the sink of each, in order, and the recording behind them, if there is one.
 #[derive(Drop)]
-pub(crate) struct Sinks<W> {
-    pub(crate) sinks: Vec<Sink>,
-    pub(crate) recording: Option<Recording<W>>,
+pub(crate) struct Sinks<K: Rings, W> {
+    pub(crate) sinks: Vec<PortSink<K>>,
+    pub(crate) recording: Option<Recording<K, W>>,
 }
 
-// Makes sinks that pass nothing on.
-fn no_sinks(alloc: Global, ports: usize) -> Result<Vec<Sink>, AllocError> {
-    let mut sinks = Vec::with_capacity(alloc, ports)?;
-    for _port in 0..ports {
-        sinks.push(Sink::none())?;
+// Splits the rings of all ports into the sinks and the recorder's ends. `Err` only if memory is refused.
+fn split_rings<K: Rings>(
+    alloc: Global,
+    rings: Vec<PortRing>,
+) -> Result<(Vec<PortSink<K>>, Vec<Inlet<K>>), AllocError>
+    requires few { vec_len rings ≤ MOST_PORTS }
+    requires named { AreRingsOf K.ring rings.items }
+{
+    let mut sinks = Vec::with_capacity(alloc, rings.len())?;
+    let mut inlets = Vec::with_capacity(alloc, rings.len())?;
+    for ring in rings {
+        let port = PortNo::at(sinks.len());
+        let PortRing { sink, out } = ring;
+        sinks.push(PortSink::new(port, sink))?;
+        if let Some(out) = out {
+            inlets.push(Inlet::new(port, out))?;
+        }
     }
-    Ok(sinks)
+    Ok((sinks, inlets))
 }
 
-impl<W: Drop> Sinks<W> {
-    /// Makes a sink for each of this number of ports, over a ring that the recorder empties, if there is a recorder.
-    /// `Err` only if memory is refused.
-    pub(crate) fn open(
+impl<K: Rings, W: Drop> Sinks<K, W> {
+    /// Splits the rings of all ports into the sinks and the recording. `Err` only if memory is refused.
+    pub(crate) fn split(
         alloc: Global,
-        ports: usize,
+        rings: Vec<PortRing>,
         recorder: Option<Recorder<W>>,
     ) -> Result<Self, AllocError>
-        requires { ports ≤ MOST_PORTS }
+        requires few { vec_len rings ≤ MOST_PORTS }
+        requires named { AreRingsOf K.ring rings.items }
     {
-        let Some(recorder) = recorder else {
-            let sinks = no_sinks(alloc, ports)?;
-            let recording = None;
-            return Ok(Sinks { sinks, recording });
+        let (sinks, inlets) = split_rings::<K>(alloc, rings)?;
+        let recording = match recorder {
+            None => None,
+            Some(recorder) => Some(Recording { recorder, inlets }),
         };
-        let mut sinks = Vec::with_capacity(alloc, ports)?;
-        let mut inlets = Vec::with_capacity(alloc, ports)?;
-        for port in 0..ports {
-            let (sent, received) = ring(alloc)?;
-            sinks.push(Sink::ring(sent, CUT))?;
-            inlets.push(Inlet::new(PortNo::at(port), received))?;
-        }
-        let recording = Some(Recording { recorder, inlets });
         Ok(Sinks { sinks, recording })
     }
 }
 
-impl<W: DevWrite + Drop> Recording<W> {
+impl<K: Rings, W: DevWrite + Drop> Recording<K, W> {
     // Records at most one chapter of each port. Returns whether there was one.
     fn take_round(&mut self) -> bool {
         let mut taken = false;
@@ -98,10 +102,11 @@ impl<W: DevWrite + Drop> Recording<W> {
 
     /// Records what is left of each port, in order, counts its dropped chapters in its end, and flushes the file.
     ///
-    /// Returns `Write` if the file failed three times in a row, and `Memory` if memory was refused for a chapter.
+    /// Returns `Write` if the file failed three times in a row, or a sink is not that of the port, and `Memory` if memory
+    /// was refused for a chapter.
     pub(crate) fn finish(
         self,
-        sinks: Vec<Sink>,
+        sinks: Vec<PortSink<K>>,
         ports: Vec<Port>,
         ends: &mut [PortEnd],
     ) -> Result<(), PlanFault> {
@@ -109,12 +114,17 @@ impl<W: DevWrite + Drop> Recording<W> {
             mut recorder,
             inlets,
         } = self;
+        let mut whole = true;
         let parts = inlets.into_iter().zip(sinks).zip(ports).zip(ends);
         for (((inlet, sink), port), end) in parts {
-            if let Some(rest) = sink.into_rest() {
-                end.dropped = inlet.take_rest(&mut recorder, rest, port.into_chapter());
+            match inlet.rest_of(sink) {
+                Some(rest) => {
+                    end.dropped = inlet.take_rest(&mut recorder, rest, port.into_chapter());
+                }
+                None => whole = false,
             }
         }
-        recorder.end()
+        recorder.end()?;
+        if whole { Ok(()) } else { Err(PlanFault::Write) }
     }
 }

@@ -1,6 +1,7 @@
 //! The threads of a run, two for each port and one for the recorder: started and joined.
 
 use crate::recording_thread::Recording;
+use crate::rings::Rings;
 use crate::thread::{UnitsPart, Worked, WorkerPart, answer, work};
 use pon_desk::Desk;
 use pon_device::DevWrite;
@@ -17,25 +18,25 @@ use std::time::Clock;
 
 /// What serves one port: its worker, and its units.
 #[derive(Drop)]
-pub(crate) struct Served<L: Ledger, M: Ledger> {
-    pub(crate) worker: WorkerPart<L, M>,
+pub(crate) struct Served<L: Ledger, M: Ledger, K: Rings> {
+    pub(crate) worker: WorkerPart<L, M, K>,
     pub(crate) units: UnitsPart,
 }
 
 /// The two threads of a port.
 #[derive(Drop)]
-struct Running<L: Ledger, M: Ledger> {
-    worker: JoinHandle<Worked<L, M>>,
+struct Running<L: Ledger, M: Ledger, K: Rings> {
+    worker: JoinHandle<Worked<L, M, K>>,
     units: JoinHandle<Result<(), UnitsFault>>,
 }
 
 /// The results of a run's threads.
 #[derive(Drop)]
-pub(crate) struct Results<L: Ledger, M: Ledger, W> {
+pub(crate) struct Results<L: Ledger, M: Ledger, K: Rings, W> {
     /// Those of the workers, in the order of their ports.
-    pub(crate) worked: Vec<Worked<L, M>>,
+    pub(crate) worked: Vec<Worked<L, M, K>>,
     /// The recording, with what the recorder has not taken yet.
-    pub(crate) recording: Option<Recording<W>>,
+    pub(crate) recording: Option<Recording<K, W>>,
     /// How the operator ended.
     pub(crate) operated: Result<(), PlanFault>,
 }
@@ -63,19 +64,20 @@ impl Stops {
 
 // Starts the threads of a port. `None` if one of the two cannot be created; the other then finds its connection closed,
 // and ends.
-fn start<'s, E, L, M, G, R>(
+fn start<'s, E, L, M, K, G, R>(
     scope: &Scope<'s, E>,
     rt: &'s R,
     alloc: Global,
     desk: &'s Desk<L, M>,
-    served: Served<L, M>,
+    served: Served<L, M, K>,
     gate: &'s G,
     maps: u64,
     stop: &'s AtomicBool,
-) -> Option<Running<L, M>>
+) -> Option<Running<L, M, K>>
 where
     L: Ledger + Send + Sync,
     M: Ledger + Send + Sync,
+    K: Rings + Send + Sync + 's,
     G: Gate + Sync,
     R: Wait + Sync,
 {
@@ -88,19 +90,20 @@ where
 }
 
 // Starts the threads of all ports. Returns `Memory` if one cannot be created.
-fn start_all<'s, E, L, M, G, R>(
+fn start_all<'s, E, L, M, K, G, R>(
     scope: &Scope<'s, E>,
     rt: &'s R,
     alloc: Global,
     desk: &'s Desk<L, M>,
-    all: Vec<Served<L, M>>,
+    all: Vec<Served<L, M, K>>,
     gate: &'s G,
     maps: u64,
     stop: &'s AtomicBool,
-) -> Result<Vec<Running<L, M>>, PlanFault>
+) -> Result<Vec<Running<L, M, K>>, PlanFault>
 where
     L: Ledger + Send + Sync,
     M: Ledger + Send + Sync,
+    K: Rings + Send + Sync + 's,
     G: Gate + Sync,
     R: Wait + Sync,
 {
@@ -119,11 +122,11 @@ where
 }
 
 // Waits for the threads of all ports to end, and returns the results of the workers.
-fn join_all<L: Ledger, M: Ledger, R: Threads>(
+fn join_all<L: Ledger, M: Ledger, K: Rings, R: Threads>(
     rt: &R,
     alloc: Global,
-    running: Vec<Running<L, M>>,
-) -> Result<Vec<Worked<L, M>>, PlanFault> {
+    running: Vec<Running<L, M, K>>,
+) -> Result<Vec<Worked<L, M, K>>, PlanFault> {
     let Ok(mut all) = Vec::with_capacity(alloc, running.len()) else {
         return Err(PlanFault::Memory);
     };
@@ -137,13 +140,14 @@ fn join_all<L: Ledger, M: Ledger, R: Threads>(
 }
 
 // Starts the recorder's thread, if there is a recording. Returns `Memory` if it cannot be created.
-fn start_recorder<'s, E, W, R>(
+fn start_recorder<'s, E, K, W, R>(
     scope: &Scope<'s, E>,
     rt: &'s R,
-    recording: Option<Recording<W>>,
+    recording: Option<Recording<K, W>>,
     stop: &'s AtomicBool,
-) -> Result<Option<JoinHandle<Recording<W>>>, PlanFault>
+) -> Result<Option<JoinHandle<Recording<K, W>>>, PlanFault>
 where
+    K: Rings + Send + Sync + 's,
     W: DevWrite + Drop + Send + 's,
     R: Wait + Clock + Sync,
 {
@@ -158,13 +162,13 @@ where
 
 // Waits for the threads of all ports to end, and then ends the recorder. Returns the results of the workers, and the
 // recording.
-fn end_all<L: Ledger, M: Ledger, W: Drop, R: Threads>(
+fn end_all<L: Ledger, M: Ledger, K: Rings, W: Drop, R: Threads>(
     rt: &R,
     alloc: Global,
-    running: Vec<Running<L, M>>,
-    recorder: Option<JoinHandle<Recording<W>>>,
+    running: Vec<Running<L, M, K>>,
+    recorder: Option<JoinHandle<Recording<K, W>>>,
     stops: &Stops,
-) -> Result<(Vec<Worked<L, M>>, Option<Recording<W>>), PlanFault> {
+) -> Result<(Vec<Worked<L, M, K>>, Option<Recording<K, W>>), PlanFault> {
     let worked = join_all(rt, alloc, running);
     stops.recorder.store(true, Ordering::SeqCst);
     let recording = match recorder {
@@ -178,19 +182,20 @@ fn end_all<L: Ledger, M: Ledger, W: Drop, R: Threads>(
 /// chapters. Returns the results of the threads and of `meanwhile`. All threads have ended when it returns.
 ///
 /// Returns `Memory` if memory is refused or a thread cannot be created; running workers then make no further turn.
-pub(crate) fn serve_all<L, M, G, W, R, O>(
+pub(crate) fn serve_all<L, M, K, G, W, R, O>(
     rt: &R,
     alloc: Global,
     desk: &Desk<L, M>,
-    all: Vec<Served<L, M>>,
-    recording: Option<Recording<W>>,
+    all: Vec<Served<L, M, K>>,
+    recording: Option<Recording<K, W>>,
     gate: &G,
     maps: u64,
     meanwhile: O,
-) -> Result<Results<L, M, W>, PlanFault>
+) -> Result<Results<L, M, K, W>, PlanFault>
 where
     L: Ledger + Send + Sync,
     M: Ledger + Send + Sync,
+    K: Rings + Send + Sync,
     G: Gate + Sync,
     W: DevWrite + Drop + Send,
     R: Wait + Threads + Clock + Sync,
@@ -202,7 +207,7 @@ where
     thread::scope(
         thread::scope_env(),
         rt,
-        move |scope| -> Result<Results<L, M, W>, PlanFault>
+        move |scope| -> Result<Results<L, M, K, W>, PlanFault>
             requires { O.pre meanwhile }
         {
             let recorder = start_recorder(scope, rt, recording, &flags.recorder)?;

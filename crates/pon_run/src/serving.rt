@@ -2,23 +2,25 @@
 
 ghost use Rattle.std.specs.Prelude.{◌≡◌, ◌⊎◌, ◌+◌, ◌≤◌, IfOk, IsNone, OnOk, length, true};
 ghost use Rattle.std.specs.Vec.{vec_len};
+ghost use Rattle.pon_run.specs.Rings.{AreRingsOf};
 ghost use Rattle.pon_run.specs.Runs.{TellsPorts};
 
 use crate::arguments::RunArgs;
 use crate::end::{PortEnd, write_ends};
 use crate::link::{Link, open_links};
 use crate::operator::{answer_lines, open_lines};
+use crate::port_sink::PortSink;
 use crate::ports::{OTHER_SEATS, admit_rows, close, ends_of, served_ports, split_results};
 use crate::recorder::Recorder;
 use crate::recording::{begin, create_file};
 use crate::recording_thread::{Recording, Sinks};
+use crate::rings::{PortRing, Rings, open_rings};
 use crate::running::{Results, Served, serve_all};
 use crate::thread::Worked;
 use pon_desk::{Desk, Seat};
 use pon_device::{DevWrite, StdWrite};
 use pon_job::{exit_status, outcome_of_ports};
 use pon_port::Port;
-use pon_ring::Sink;
 use pon_settings::Settings;
 use pon_stream::PlanFault;
 use pon_units::MOST_PORTS;
@@ -35,21 +37,22 @@ use std::time::Clock;
 
 // Serves the ports of a desk while the operator's lines are executed. Returns the threads' results, and how the
 // operator ended.
-fn serve<L, M, G, F, W, R>(
+fn serve<L, M, K, G, F, W, R>(
     rt: &R,
     alloc: Global,
     desk: &Desk<L, M>,
-    all: Vec<Served<L, M>>,
-    recording: Option<Recording<StdWrite<F>>>,
+    all: Vec<Served<L, M, K>>,
+    recording: Option<Recording<K, StdWrite<F>>>,
     operator: &mut Seat<L, M>,
     gate: &G,
     maps: u64,
     lines: Option<F>,
     writer: &mut W,
-) -> Result<Results<L, M, StdWrite<F>>, PlanFault>
+) -> Result<Results<L, M, K, StdWrite<F>>, PlanFault>
 where
     L: Ledger + Send + Sync,
     M: Ledger + Send + Sync,
+    K: Rings + Send + Sync,
     G: Gate + Sync,
     F: Read + Write + Drop + Send,
     W: DevWrite,
@@ -66,12 +69,12 @@ where
 }
 
 // Records what is left of each port, and writes what each port did, also if the recording fails.
-fn tell_ports<F: Write + Drop, W: DevWrite>(
+fn tell_ports<K: Rings, F: Write + Drop, W: DevWrite>(
     alloc: Global,
-    sinks: Vec<Sink>,
+    sinks: Vec<PortSink<K>>,
     ports: Vec<Port>,
     mut ends: Vec<PortEnd>,
-    recording: Option<Recording<StdWrite<F>>>,
+    recording: Option<Recording<K, StdWrite<F>>>,
     writer: &mut W,
 ) -> Result<(), PlanFault>
     requires few { length ports.items ≤ MOST_PORTS }
@@ -86,12 +89,12 @@ fn tell_ports<F: Write + Drop, W: DevWrite>(
 }
 
 // Closes the desk, and writes what each port did. Returns whether each worker made all its turns and no post was lost.
-fn tell<L: Ledger, M: Ledger, F: Write + Drop, W: DevWrite>(
+fn tell<L: Ledger, M: Ledger, K: Rings, F: Write + Drop, W: DevWrite>(
     alloc: Global,
     desk: Desk<L, M>,
     others: Vec<Seat<L, M>>,
-    all: Vec<Worked<L, M>>,
-    recording: Option<Recording<StdWrite<F>>>,
+    all: Vec<Worked<L, M, K>>,
+    recording: Option<Recording<K, StdWrite<F>>>,
     writer: &mut W,
 ) -> Result<bool, PlanFault>
     ensures { IfOk result (λ done. done ≡ true
@@ -113,12 +116,12 @@ fn tell<L: Ledger, M: Ledger, F: Write + Drop, W: DevWrite>(
 }
 
 // Writes what each port did, as `tell` does, once the seats of the rows and of the operator are free.
-fn tell_with_seats<L: Ledger, M: Ledger, F: Write + Drop, W: DevWrite>(
+fn tell_with_seats<L: Ledger, M: Ledger, K: Rings, F: Write + Drop, W: DevWrite>(
     alloc: Global,
     desk: Desk<L, M>,
     others: [Seat<L, M>; OTHER_SEATS],
-    all: Vec<Worked<L, M>>,
-    recording: Option<Recording<StdWrite<F>>>,
+    all: Vec<Worked<L, M, K>>,
+    recording: Option<Recording<K, StdWrite<F>>>,
     writer: &mut W,
 ) -> Result<bool, PlanFault>
     ensures { IfOk result (λ done. done ≡ true
@@ -131,16 +134,16 @@ fn tell_with_seats<L: Ledger, M: Ledger, F: Write + Drop, W: DevWrite>(
 }
 
 // Admits the rows of the settings, and combines what serves each port.
-fn prepare<L: Ledger, M: Ledger, R: Wait>(
+fn prepare<L: Ledger, M: Ledger, K: Rings, R: Wait>(
     rt: &R,
     alloc: Global,
     desk: &Desk<L, M>,
     seat: &mut Seat<L, M>,
     settings: &Settings,
     seats: Vec<Seat<L, M>>,
-    sinks: Vec<Sink>,
+    sinks: Vec<PortSink<K>>,
     links: Vec<Link>,
-) -> Result<Vec<Served<L, M>>, PlanFault> {
+) -> Result<Vec<Served<L, M, K>>, PlanFault> {
     if admit_rows(rt, alloc, desk, seat, settings).is_err() {
         return Err(PlanFault::Memory);
     }
@@ -152,7 +155,7 @@ fn prepare<L: Ledger, M: Ledger, R: Wait>(
 
 // Admits the rows of the settings at an open desk, serves its ports, and writes what each did. Returns whether each
 // worker made all its turns and no post was lost.
-fn run_desk<L, M, G, F, W, R>(
+fn run_desk<L, M, K, G, F, W, R>(
     rt: &R,
     alloc: Global,
     desk: Desk<L, M>,
@@ -162,12 +165,13 @@ fn run_desk<L, M, G, F, W, R>(
     gate: &G,
     maps: u64,
     lines: Option<F>,
-    recorder: Option<Recorder<StdWrite<F>>>,
+    sinks: Sinks<K, StdWrite<F>>,
     writer: &mut W,
 ) -> Result<bool, PlanFault>
 where
     L: Ledger + Send + Sync,
     M: Ledger + Send + Sync,
+    K: Rings + Send + Sync,
     G: Gate + Sync,
     F: Read + Write + Drop + Send,
     W: DevWrite,
@@ -180,9 +184,7 @@ where
     let (Some(mut seat), Some(mut first)) = (seats.pop(), seats.pop()) else {
         unreachable!()
     };
-    let Ok(Sinks { sinks, recording }) = Sinks::open(alloc, settings.ports().len(), recorder) else {
-        return Err(PlanFault::Memory);
-    };
+    let Sinks { sinks, recording } = sinks;
     let all = prepare(rt, alloc, &desk, &mut first, settings, seats, sinks, links)?;
     let Results {
         worked,
@@ -197,7 +199,7 @@ where
 }
 
 // Opens a desk for the ports of the settings, and runs it.
-fn run_at<L, M, G, F, W, R>(
+fn run_at<L, M, K, G, F, W, R>(
     rt: &R,
     alloc: Global,
     of_ports: Blank,
@@ -207,12 +209,14 @@ fn run_at<L, M, G, F, W, R>(
     gate: &G,
     maps: u64,
     lines: Option<F>,
+    rings: Vec<PortRing>,
     recorder: Option<Recorder<StdWrite<F>>>,
     writer: &mut W,
 ) -> Result<bool, PlanFault>
 where
     L: Ledger + Send + Sync,
     M: Ledger + Send + Sync,
+    K: Rings + Send + Sync,
     G: Gate + Sync,
     F: Read + Write + Drop + Send,
     W: DevWrite,
@@ -221,17 +225,21 @@ where
         × (L.parts ≡ length settings.now) }
     requires seats { (of_seats.name ≡ M.name) × (of_seats.parts ≡ M.parts)
         × (M.parts ≡ length settings.now + OTHER_SEATS) }
+    requires rings { (vec_len rings ≤ MOST_PORTS) × AreRingsOf K.ring rings.items }
     ensures { IsNone lines → IfOk result (λ done. done ≡ true
         → TellsPorts (length settings.now) (W.contents writer.old) (W.contents writer.new)) }
 {
     let Ok(openings) = settings.openings(alloc) else {
         return Err(PlanFault::Memory);
     };
+    let Ok(sinks) = Sinks::<K, StdWrite<F>>::split(alloc, rings, recorder) else {
+        return Err(PlanFault::Memory);
+    };
     let seats = openings.len() + OTHER_SEATS;
     match Desk::<L, M>::open(alloc, of_ports, of_seats, openings.as_slice(), seats) {
         Ok((desk, seats)) => {
             run_desk(
-                rt, alloc, desk, seats, settings, links, gate, maps, lines, recorder, writer,
+                rt, alloc, desk, seats, settings, links, gate, maps, lines, sinks, writer,
             )
         }
         Err(_) => Err(PlanFault::Memory),
@@ -265,7 +273,10 @@ where
     };
     let ports = settings.ports().len();
     let links = open_links(rt, alloc, args.listen, ports)?;
-    run_at::<Brand, Brand, G, R::File, W, R>(
+    let Ok(rings) = open_rings(alloc, ports, &recorder) else {
+        return Err(PlanFault::Memory);
+    };
+    run_at::<Brand, Brand, Brand, G, R::File, W, R>(
         rt,
         alloc,
         Blank::new(ports as u64),
@@ -275,6 +286,7 @@ where
         gate,
         args.maps,
         lines,
+        rings,
         recorder,
         writer,
     )

@@ -1,12 +1,12 @@
 //! The two threads of a port: one runs its worker, the other its units.
 
 use crate::pace::UntilStopped;
+use crate::port_sink::PortSink;
+use crate::rings::Rings;
 use pon_desk::{Desk, Seat};
 use pon_device::{StdRead, StdWrite};
 use pon_link::Unit;
-use pon_ring::Sink;
 use pon_simulator::{UnitsFault, serve_units};
-use pon_units::PortNo;
 use pon_worker::{Gate, WorkerEnd, serve_port};
 use std::alloc::{AllocError, Global};
 use std::io::{BufReader, BufWriter};
@@ -15,13 +15,12 @@ use std::sync::Wait;
 use std::sync::atomic::AtomicBool;
 use std::sync::ledger::Ledger;
 
-/// What the worker of a port needs: the port's number, its own seat, where the port's chapters go, and its end of the
+/// What the worker of a port needs: its own seat, the sink of the port, which has its number, and its end of the
 /// connection.
 #[derive(Drop)]
-pub(crate) struct WorkerPart<L: Ledger, M: Ledger> {
-    pub(crate) port: PortNo,
+pub(crate) struct WorkerPart<L: Ledger, M: Ledger, K: Rings> {
     pub(crate) seat: Seat<L, M>,
-    pub(crate) sink: Sink,
+    pub(crate) sink: PortSink<K>,
     pub(crate) stream: TcpStream,
 }
 
@@ -35,18 +34,18 @@ pub(crate) struct UnitsPart {
 /// The result of a worker: its seat, its sink, and how it ended. `end` is `Err` if memory for its buffer was refused;
 /// the worker then did nothing.
 #[derive(Drop)]
-pub(crate) struct Worked<L: Ledger, M: Ledger> {
+pub(crate) struct Worked<L: Ledger, M: Ledger, K: Rings> {
     pub(crate) seat: Seat<L, M>,
-    pub(crate) sink: Sink,
+    pub(crate) sink: PortSink<K>,
     pub(crate) end: Result<WorkerEnd, AllocError>,
 }
 
 // Serves a port over its end of a connection.
-fn serve<L: Ledger, M: Ledger, G: Gate, R: Wait>(
+fn serve<L: Ledger, M: Ledger, K: Rings, G: Gate, R: Wait>(
     rt: &R,
     alloc: Global,
     desk: &Desk<L, M>,
-    part: &mut WorkerPart<L, M>,
+    part: &mut WorkerPart<L, M, K>,
     gate: &G,
     maps: u64,
     stop: &AtomicBool,
@@ -61,25 +60,25 @@ fn serve<L: Ledger, M: Ledger, G: Gate, R: Wait>(
         rt,
         desk,
         &mut part.seat,
-        part.port,
+        part.sink.port,
         gate,
         &mut pace,
         &mut reader,
         &mut writer,
-        &mut part.sink,
+        &mut part.sink.sink,
     ))
 }
 
 /// Runs the worker of a port, and closes its end of the connection.
-pub(crate) fn work<L: Ledger, M: Ledger, G: Gate, R: Wait>(
+pub(crate) fn work<L: Ledger, M: Ledger, K: Rings, G: Gate, R: Wait>(
     rt: &R,
     alloc: Global,
     desk: &Desk<L, M>,
-    mut part: WorkerPart<L, M>,
+    mut part: WorkerPart<L, M, K>,
     gate: &G,
     maps: u64,
     stop: &AtomicBool,
-) -> Worked<L, M> {
+) -> Worked<L, M, K> {
     let end = serve(rt, alloc, desk, &mut part, gate, maps, stop);
     let WorkerPart { seat, sink, .. } = part;
     Worked { seat, sink, end }

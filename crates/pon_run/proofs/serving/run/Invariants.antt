@@ -1,3 +1,4 @@
+use Rattle.pon_run.specs.Rings.{out_at}
 use Rattle.pon_run.proofs.serving.run.Given as goal
 
 -- the two ledgers of the desk
@@ -6,3 +7,7 @@ ghosts-run_at-L-Ledger g a = record { name = a.of_ports.name; parts = a.of_ports
 
 abbrev pub ghosts-run_at-M-Ledger : goal.ghosts-run_at-M-Ledger
 ghosts-run_at-M-Ledger g a = record { name = a.of_seats.name; parts = a.of_seats.parts }
+
+-- the rings of the ports
+abbrev pub ghosts-run_at-K-Rings : goal.ghosts-run_at-K-Rings
+ghosts-run_at-K-Rings g a = record { ring = λ port. out_at a.rings.items port }
