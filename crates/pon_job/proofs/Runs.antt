@@ -1,5 +1,5 @@
 -- The matches of `run`.
-use Rattle.std.proofs.Common.{◌≡◌, ℕ, List, Option, Some, None, subst, sym}
+use Rattle.std.proofs.Common.{◌≡◌, ℕ, Bool, List, Option, Some, None, subst, sym}
 use Rattle.std.specs.Prelude.{IfSome, IsNone, IsSomeAnd, MatchOption, codes}
 use Rattle.clap.specs.Walk.{Row, first_of}
 use Rattle.pon_job.specs.Jobs.{HasMaps, IsRun, NamesNoJob, SpellsMaps}
@@ -18,17 +18,17 @@ pub number_missing : (rows : List Row) → None ≡ first_of (codes "maps") rows
 number_missing rows none maps has = subst (λ o. IsSomeAnd o (λ t. SpellsMaps t maps)) (sym none) has
 
 -- if a value is missing, there is no run
-no_run : (rows : List Row) → ((config listen : List ℕ) (maps : ℕ) (recording operate : Option (List ℕ)) → ¬ IsRun rows config listen maps recording operate) → NamesNoJob (Some (codes "run", rows))
+no_run : (rows : List Row) → ((config listen : List ℕ) (maps : ℕ) (recording operate : Option (List ℕ)) (settle : Bool) → ¬ IsRun rows config listen maps recording operate settle) → NamesNoJob (Some (codes "run", rows))
 no_run rows none (Plan config) j = absurd (cc (j.0))
 no_run rows none (Check file) j = absurd (cc (j.0))
 no_run rows none (Audit file) j = absurd (cc (j.0))
-no_run rows none (Run config listen maps recording operate) j = none _ _ _ _ _ j.1
+no_run rows none (Run config listen maps recording operate settle) j = none _ _ _ _ _ _ j.1
 
 pub without_settings : (rows : List Row) → None ≡ first_of (codes "config") rows → NamesNoJob (Some (codes "run", rows))
-without_settings rows none = no_run rows (λ config listen maps recording operate is. absurd (cc (none, is.settings)))
+without_settings rows none = no_run rows (λ config listen maps recording operate settle is. absurd (cc (none, is.settings)))
 
 pub without_address : (rows : List Row) → None ≡ first_of (codes "listen") rows → NamesNoJob (Some (codes "run", rows))
-without_address rows none = no_run rows (λ config listen maps recording operate is. absurd (cc (none, is.address)))
+without_address rows none = no_run rows (λ config listen maps recording operate settle is. absurd (cc (none, is.address)))
 
 pub without_number : (rows : List Row) → ((maps : ℕ) → ¬ HasMaps rows maps) → NamesNoJob (Some (codes "run", rows))
-without_number rows none = no_run rows (λ config listen maps recording operate is. none maps is.number)
+without_number rows none = no_run rows (λ config listen maps recording operate settle is. none maps is.number)

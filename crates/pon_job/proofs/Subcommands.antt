@@ -51,7 +51,7 @@ no_file name rows r met check none = subst NamesNoJob met go
     go (Plan config) j = absurd (cc (check, j.0))
     go (Check file) j = absurd (cc (none, j.1))
     go (Audit file) j = absurd (cc (none, j.1))
-    go (Run config listen maps recording operate) j = absurd (cc (check, j.0))
+    go (Run config listen maps recording operate settle) j = absurd (cc (check, j.0))
 
 pub no_recording : (name : List ℕ) (rows : List Row) (r : Option (List ℕ × List Row)) → Some (name, rows) ≡ r → name ≡ codes "audit" → None ≡ first_of (codes "file") rows → NamesNoJob r
 no_recording name rows r met audit none = subst NamesNoJob met go
@@ -60,7 +60,7 @@ no_recording name rows r met audit none = subst NamesNoJob met go
     go (Plan config) j = absurd (cc (audit, j.0))
     go (Check file) j = absurd (cc (none, j.1))
     go (Audit file) j = absurd (cc (none, j.1))
-    go (Run config listen maps recording operate) j = absurd (cc (audit, j.0))
+    go (Run config listen maps recording operate settle) j = absurd (cc (audit, j.0))
 
 -- the job of the matches is that of the words
 pub job_in : (a : App) (words : List (List ℕ)) (m : ArgMatches) (job : Job) → a ≡ olt_app → HasMatchesOf a words m → IsJob (subcommand_rows_of m) job → IsJob (subcommand_of olt_app words) job

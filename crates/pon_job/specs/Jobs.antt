@@ -1,11 +1,12 @@
 -- The jobs of the program, from the words of its command line.
-use Rattle.std.specs.Prelude.{◌≡◌, ◌⊎◌, ℕ, List, [], ◌∷◌, codes, Option, Some, None, IsSomeAnd, option_map, true}
+use Rattle.std.specs.Prelude.{◌≡◌, ◌⊎◌, ◌↔◌, ℕ, Bool, List, [], ◌∷◌, codes, Option, Some, None, IsSomeAnd, option_map, true}
 use Rattle.std.specs.Str.Parse.{digits_value, without_leading_plus}
 use Rattle.clap.specs.Walk.{Row, Rule, first_of}
 use Rattle.clap.specs.Simple.{App, Shape, new_shape, new_rule, subcommand_of, with_subcommand}
 use Rattle.clap.specs.Faults.{fault_of}
 use Rattle.clap.specs.Kinds.{HasKind}
 use Rattle.clap.specs.Values.{IsUnsignedIn, kind_of}
+use Rattle.clap.specs.declared.builder.action.ArgAction.TheVariants.{SetTrue}
 use Rattle.clap.specs.declared.builder.value_parser.ValueParser.TheVariants.{Unsigned}
 use Rattle.clap.specs.declared.error.Error.{Error}
 use Rattle.clap.specs.declared.error.kind.ErrorKind.TheVariants.{InvalidSubcommand}
@@ -42,6 +43,10 @@ record_rule = record (new_rule (codes "record")) { long = Some (codes "record");
 abbrev pub operate_rule : Rule
 operate_rule = record (new_rule (codes "operate")) { long = Some (codes "operate"); value_names = 1 }
 
+-- the flag of `run` that settles each port at the end
+abbrev pub settle_rule : Rule
+settle_rule = record (new_rule (codes "settle")) { long = Some (codes "settle"); action = Some SetTrue }
+
 abbrev pub plan_shape : Shape
 plan_shape = record (new_shape (codes "plan")) { rules = config_rule ∷ [] }
 
@@ -54,7 +59,7 @@ audit_shape = record (new_shape (codes "audit")) { rules = file_rule ∷ [] }
 -- `run`, for which the settings are required
 abbrev pub run_shape : Shape
 run_shape = record (new_shape (codes "run")) {
-  rules = record config_rule { required = true } ∷ listen_rule ∷ maps_rule ∷ record_rule ∷ operate_rule ∷ [];
+  rules = record config_rule { required = true } ∷ listen_rule ∷ maps_rule ∷ record_rule ∷ operate_rule ∷ settle_rule ∷ [];
 }
 
 abbrev pub top_shape : Shape
@@ -76,7 +81,7 @@ abbrev pub word_of : Job → List ℕ
 word_of (Plan config) = codes "plan"
 word_of (Check file) = codes "check"
 word_of (Audit file) = codes "audit"
-word_of (Run config listen maps recording operate) = codes "run"
+word_of (Run config listen maps recording operate settle) = codes "run"
 
 -- the text is this number, in decimal digits after an optional plus sign, in the range of the maps of a run
 pub record SpellsMaps (text : List ℕ) (maps : ℕ) : Type 0 where
@@ -88,20 +93,21 @@ abbrev pub HasMaps : List Row → ℕ → Type 0
 HasMaps rows maps = IsSomeAnd (first_of (codes "maps") rows) (λ text. SpellsMaps text maps)
 
 -- the matches of `run` have these values
-pub record IsRun (rows : List Row) (config listen : List ℕ) (maps : ℕ) (recording operate : Option (List ℕ)) : Type 0 where
+pub record IsRun (rows : List Row) (config listen : List ℕ) (maps : ℕ) (recording operate : Option (List ℕ)) (settle : Bool) : Type 0 where
   pub settings : first_of (codes "config") rows ≡ Some config
   pub address : first_of (codes "listen") rows ≡ Some listen
   pub number : HasMaps rows maps
   pub recording_file : first_of (codes "record") rows ≡ recording
   pub operator : first_of (codes "operate") rows ≡ operate
+  pub settles : (settle ≡ true) ↔ (first_of (codes "settle") rows ≡ Some (codes "true"))
 
 -- the matches of a job's subcommand have the values of the job, by the names of its arguments
 abbrev pub HasValues : List Row → Job → Type 0
 HasValues rows (Plan config) = first_of (codes "config") rows ≡ option_map (λ name. name.now) config
 HasValues rows (Check file) = first_of (codes "file") rows ≡ Some file.now
 HasValues rows (Audit file) = first_of (codes "file") rows ≡ Some file.now
-HasValues rows (Run config listen maps recording operate) =
-    IsRun rows config.now listen.now maps (option_map (λ name. name.now) recording) (option_map (λ name. name.now) operate)
+HasValues rows (Run config listen maps recording operate settle) =
+    IsRun rows config.now listen.now maps (option_map (λ name. name.now) recording) (option_map (λ name. name.now) operate) settle
 
 -- the job is that of the subcommand, with the values of its arguments
 abbrev pub IsJob : Option (List ℕ × List Row) → Job → Type 0

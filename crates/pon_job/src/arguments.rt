@@ -1,6 +1,7 @@
 //! The words of the command line.
 
-ghost use Rattle.std.specs.Prelude.{ℕ, IfErr, IfOk, IfSome, IsNone, MatchOption, codes, map, string_bytes};
+ghost use Rattle.std.specs.Prelude.{◌≡◌, ◌↔◌, ℕ, Some, true, IfErr, IfOk, IfSome, IsNone, MatchOption, codes, map, string_bytes};
+ghost use Rattle.clap.specs.Walk.{first_of};
 ghost use Rattle.clap.specs.Words.{found_of, rows_of, subcommand_rows_of};
 ghost use Rattle.clap.specs.Simple.{subcommand_of};
 ghost use Rattle.pon_job.specs.Jobs.{HasMaps, IsJob, NamesNoJob, RefusesWords, SpellsMaps, olt_app};
@@ -30,6 +31,17 @@ fn maps_of(found: &ArgMatches<'_>) -> Option<u64>
     maps_in(text)
 }
 
+// Returns whether a flag was given.
+fn is_given(found: &ArgMatches<'_>, flag: &str) -> bool
+    ensures { (result ≡ true)
+        ↔ (first_of flag.now (rows_of (found_of found.now)) ≡ Some (codes "true")) }
+{
+    match found.get_str(flag) {
+        Some(text) => text == "true",
+        None => false,
+    }
+}
+
 // Returns the run that the matches of its subcommand give.
 fn run_of<'a>(found: &ArgMatches<'a>) -> Option<Job<'a>>
     ensures some { IfSome result (IsJob (Some (codes "run", rows_of (found_of found.now)))) }
@@ -40,12 +52,14 @@ fn run_of<'a>(found: &ArgMatches<'a>) -> Option<Job<'a>>
     let maps = maps_of(found)?;
     let record = found.get_str("record");
     let operate = found.get_str("operate");
+    let settle = is_given(found, "settle");
     Some(Job::Run {
         config,
         listen,
         maps,
         record,
         operate,
+        settle,
     })
 }
 

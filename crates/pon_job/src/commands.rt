@@ -4,12 +4,12 @@ ghost use Rattle.std.specs.Prelude.{◌≡◌, IfOk, false};
 ghost use Rattle.clap.specs.declared.builder.command.Command.TheViews.{out-Command};
 ghost use Rattle.clap.specs.Walk.{rule_of};
 ghost use Rattle.clap.specs.Simple.{app_of, shape_of};
-ghost use Rattle.pon_job.specs.Jobs.{config_rule, file_rule, listen_rule, maps_rule, operate_rule, record_rule};
+ghost use Rattle.pon_job.specs.Jobs.{config_rule, file_rule, listen_rule, maps_rule, operate_rule, record_rule, settle_rule};
 ghost use Rattle.pon_job.specs.Jobs.{audit_shape, check_shape, olt_app, plan_shape, run_shape};
 
 use crate::task::MOST_MAPS;
 use clap::builder::ValueParser;
-use clap::{Arg, Command};
+use clap::{Arg, ArgAction, Command};
 use std::alloc::{AllocError, Global};
 
 fn file_arg<'a>(alloc: Global) -> Arg<'a>
@@ -85,6 +85,16 @@ fn operate_arg<'a>(alloc: Global) -> Arg<'a>
         .help("Management lines for an operator")
 }
 
+fn settle_arg<'a>(alloc: Global) -> Arg<'a>
+    ensures rule { rule_of result ≡ settle_rule }
+    ensures local { result.global ≡ false }
+{
+    Arg::new(alloc, "settle")
+        .long("settle")
+        .action(ArgAction::SetTrue)
+        .help("Keep the receipts of all posts, and settle each port with them at the end")
+}
+
 fn plan_command<'a>(alloc: Global) -> Result<Command<'a>, AllocError>
     ensures shape { IfOk result (λ c. shape_of c ≡ plan_shape) }
     ensures local { IfOk result (λ c. (out-Command c).has_globals ≡ false) }
@@ -122,7 +132,8 @@ fn run_command<'a>(alloc: Global) -> Result<Command<'a>, AllocError>
         .arg(listen_arg(alloc))?
         .arg(maps_arg(alloc))?
         .arg(record_arg(alloc))?
-        .arg(operate_arg(alloc))
+        .arg(operate_arg(alloc))?
+        .arg(settle_arg(alloc))
 }
 
 /// Builds the program's command, with its subcommands.

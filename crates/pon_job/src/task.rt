@@ -18,13 +18,14 @@ pub enum Job<'a> {
         file: &'a str,
     },
     /// Make `maps` maps, 1 to `MOST_MAPS`, at each port of the settings file `config`, over sockets at the address
-    /// `listen`; `record` is the file for a recording of their chapters, and `operate` a file of management lines for
-    /// an operator.
+    /// `listen`; `record` is the file for a recording of their chapters, `operate` a file of management lines for an
+    /// operator, and with `settle` each port is settled at the end with the receipts of all posts.
     Run {
         config: &'a str,
         listen: &'a str,
         maps: u64,
         record: Option<&'a str>,
         operate: Option<&'a str>,
+        settle: bool,
     },
 }

@@ -25,5 +25,6 @@ returns-clause-some c =
         number = c.in_ok-maps.ensures.some;
         recording_file = sym (c.get_str-record.ensures ∙ first_value-rows f (codes "record"));
         operator = sym (c.get_str-operate.ensures ∙ first_value-rows f (codes "operate"));
+        settles = c.is_given-settle.ensures;
       },
     )

@@ -2,7 +2,7 @@ use Rattle.std.proofs.Common.{◌≡◌, ◌∙◌, ap, true, false, List, [], �
 use Rattle.clap.specs.Walk.{Rule, rule_of}
 use Rattle.clap.specs.Simple.{App, app_of_fields, new_shape}
 use Rattle.clap.specs.declared.builder.arg.Arg.{Arg}
-use Rattle.pon_job.specs.Jobs.{config_rule, listen_rule, maps_rule, operate_rule, record_rule}
+use Rattle.pon_job.specs.Jobs.{config_rule, listen_rule, maps_rule, operate_rule, record_rule, settle_rule}
 use Rattle.pon_job.proofs.Builders.{Has, each, has, with_arg, with_last_arg}
 use Rattle.pon_job.proofs.commands.run_command.Goals as goal
 
@@ -27,6 +27,8 @@ returns c =
     with_arg (run_with (needed_config ∷ listen_rule ∷ [])) maps_rule c.in_ok-arg-2.field-0 c.in_ok-arg-3.field-0 c.maps_arg.result two c.maps_arg.ensures.rule c.maps_arg.ensures.local c.in_ok-arg-3.ensures in
     let four : Has (run_with (needed_config ∷ listen_rule ∷ maps_rule ∷ record_rule ∷ [])) c.in_ok-arg-4.field-0 =
     with_arg (run_with (needed_config ∷ listen_rule ∷ maps_rule ∷ [])) record_rule c.in_ok-arg-3.field-0 c.in_ok-arg-4.field-0 c.record_arg.result three c.record_arg.ensures.rule c.record_arg.ensures.local c.in_ok-arg-4.ensures in
-    let parts = each (run_with (needed_config ∷ listen_rule ∷ maps_rule ∷ record_rule ∷ operate_rule ∷ [])) c.arg-5.result
-    (with_last_arg (run_with (needed_config ∷ listen_rule ∷ maps_rule ∷ record_rule ∷ [])) operate_rule c.in_ok-arg-4.field-0 c.operate_arg.result c.arg-5.result four c.operate_arg.ensures.rule c.operate_arg.ensures.local c.arg-5.ensures) in
+    let five : Has (run_with (needed_config ∷ listen_rule ∷ maps_rule ∷ record_rule ∷ operate_rule ∷ [])) c.in_ok-arg-5.field-0 =
+    with_arg (run_with (needed_config ∷ listen_rule ∷ maps_rule ∷ record_rule ∷ [])) operate_rule c.in_ok-arg-4.field-0 c.in_ok-arg-5.field-0 c.operate_arg.result four c.operate_arg.ensures.rule c.operate_arg.ensures.local c.in_ok-arg-5.ensures in
+    let parts = each (run_with (needed_config ∷ listen_rule ∷ maps_rule ∷ record_rule ∷ operate_rule ∷ settle_rule ∷ [])) c.arg-6.result
+    (with_last_arg (run_with (needed_config ∷ listen_rule ∷ maps_rule ∷ record_rule ∷ operate_rule ∷ [])) settle_rule c.in_ok-arg-5.field-0 c.settle_arg.result c.arg-6.result five c.settle_arg.ensures.rule c.settle_arg.ensures.local c.arg-6.ensures) in
     record { shape = parts.0; local = parts.1 }
