@@ -18,7 +18,7 @@ use std::alloc::{AllocError, Global};
 use std::sync::Wait;
 use std::sync::ledger::Ledger;
 
-// Posts an event, and appends its reply or its refusal.
+// Posts an event, appends its reply or its refusal, and has the seat keep its receipt.
 fn answer_event<L: Ledger, M: Ledger, H: Wait>(
     rt: &H,
     desk: &Desk<L, M>,
@@ -34,7 +34,11 @@ fn answer_event<L: Ledger, M: Ledger, H: Wait>(
     ensures err { OnErr result (replies.new.items ≡ replies.old.items) }
 {
     match desk.post(rt, seat, port, event) {
-        Ok(receipt) => append_reply(replies, room, receipt.index(), receipt.reply()),
+        Ok(receipt) => {
+            let appended = append_reply(replies, room, receipt.index(), receipt.reply());
+            seat.keep(receipt);
+            appended
+        }
         Err(StepFault::Refused(refusal)) => match refusal {
             Refusal::OutOfMemory => Err(AllocError),
             told => append_refusal(replies, LineFault::Port(told)),
