@@ -9,6 +9,8 @@ mod bench;
 #[cfg(test)]
 mod desks;
 #[cfg(test)]
+mod gathering;
+#[cfg(test)]
 mod inspecting;
 #[cfg(test)]
 mod links;
@@ -16,6 +18,8 @@ mod links;
 mod operating;
 #[cfg(test)]
 mod passing;
+#[cfg(test)]
+mod repeating;
 #[cfg(test)]
 mod serving;
 #[cfg(test)]

@@ -177,24 +177,34 @@ static CHANGES: [(&str, Change, Unsettled); 9] = [
     ),
 ];
 
-fn taken(rt: &impl Abort, receipts: &mut Vec<Receipt>, k: usize) -> Receipt {
+pub(crate) fn taken(rt: &impl Abort, receipts: &mut Vec<Receipt>, k: usize) -> Receipt {
     assert!(rt; k < receipts.len());
     receipts.remove(k)
 }
 
-fn put(rt: &impl Abort, receipts: &mut Vec<Receipt>, k: usize, receipt: Receipt) {
+pub(crate) fn put_receipt(
+    rt: &impl Abort,
+    receipts: &mut Vec<Receipt>,
+    k: usize,
+    receipt: Receipt,
+) {
     assert!(rt; k <= receipts.len());
     receipts.insert(k, receipt).expect(rt, "memory");
 }
 
 // Moves a receipt of the second list behind the same place of the first.
-fn double(rt: &impl Abort, receipts: &mut Vec<Receipt>, equal: &mut Vec<Receipt>, k: usize) {
-    put(rt, receipts, k.wrapping_add(1), taken(rt, equal, k));
+pub(crate) fn double(
+    rt: &impl Abort,
+    receipts: &mut Vec<Receipt>,
+    equal: &mut Vec<Receipt>,
+    k: usize,
+) {
+    put_receipt(rt, receipts, k.wrapping_add(1), taken(rt, equal, k));
 }
 
 fn exchange(rt: &impl Abort, receipts: &mut Vec<Receipt>, k: usize) {
     let receipt = taken(rt, receipts, k);
-    put(rt, receipts, k.wrapping_add(1), receipt);
+    put_receipt(rt, receipts, k.wrapping_add(1), receipt);
 }
 
 fn double_chapter(rt: &impl Abort, chapters: &mut Vec<Chapter>, equal: &mut Vec<Chapter>) {
@@ -229,4 +239,31 @@ fn a_change_of_receipts_or_chapters_is_found(rt: HostRuntime) {
         let fault = fault_after(&rt, rt.alloc(), *change);
         assert!(rt; fault == Some(*wanted), "{name}");
     }
+}
+
+fn unused_chapters_at<L: Ledger, M: Ledger, R: Wait + Abort>(
+    rt: &R,
+    alloc: Global,
+    of_ports: Blank,
+    of_seats: Blank,
+) -> Vec<Chapter>
+    requires ports { (of_ports.name ≡ L.name) × (of_ports.parts ≡ L.parts) × (L.parts ≡ 2) }
+    requires seats { (of_seats.name ≡ M.name) × (of_seats.parts ≡ M.parts) × (M.parts ≡ 2) }
+{
+    let (desk, _seats) = opened::<L, M>(rt, alloc, of_ports, of_seats);
+    turn(rt, alloc, &desk)
+}
+
+// Returns the first chapter of port 0 of another desk, without entries.
+fn unused_chapters(rt: &(impl Wait + Abort), alloc: Global) -> Vec<Chapter> {
+    unused_chapters_at::<Brand, Brand, _>(rt, alloc, Blank::new(2), Blank::new(2))
+}
+
+// The kept chapter counts eight entries before it, and so not those of the other run.
+#[test]
+fn a_chapter_of_another_run_is_found(rt: HostRuntime) {
+    let mut books = closed_books(&rt, rt.alloc());
+    books.chapters = unused_chapters(&rt, rt.alloc());
+    let fault = settled_first(&rt, &books);
+    assert!(rt; fault == Some(Unsettled::Chapter { k: 1 }));
 }
