@@ -167,6 +167,7 @@ where
                 maps,
                 record,
                 operate,
+                settle,
             },
         ) => {
             let args = RunArgs {
@@ -174,6 +175,7 @@ where
                 maps,
                 record,
                 operate,
+                settle,
             };
             run_settings(rt, alloc, config, args)
         }

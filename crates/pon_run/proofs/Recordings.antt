@@ -8,7 +8,7 @@ use Rattle.pon_recorder.specs.Bodies.{chapter_body}
 use Rattle.pon_recorder.specs.Recorders.{Grows, IsTaken, Records, Stays}
 use Rattle.pon_recorder.specs.declared.fault.RecordFault.{RecordFault}
 use Rattle.pon_recorder.specs.declared.fault.RecordFault.TheVariants.{Device}
-use Rattle.pon_run.specs.Recordings.{AreSome, HasRecorded, IsDropped, TakesChapters, most_dropped, rest_of}
+use Rattle.pon_run.specs.Recordings.{AreSome, HasRecorded, IsDropped, TakesChapters, most_dropped, left_of}
 
 -- a recording that is unchanged has no additional chapters
 pub none_recorded : (old : Option (List ℕ)) (left : List ℕ) → HasRecorded old left old left []
@@ -92,13 +92,6 @@ is_taken why e = subst (λ (w : RecordFault). IsTaken {T = Unit {0}} (Err w)) (s
 pub is_failed : (whole : Bool) → not (not whole) ≡ false → not whole ≡ true
 is_failed true e = absurd cc
 is_failed false e = refl
-
--- the chapters that a worker left, in three parts
-pub rest_in_parts : (port : ℕ) (popped : List Chapter) (pending : Option Chapter) (kept : Chapter)
-    → rest_of port popped pending kept ≡ map (chapter_body port) popped ++ (map (chapter_body port) (option_to_list pending) ++ chapter_body port kept ∷ [])
-rest_in_parts port popped pending kept =
-    map-append (chapter_body port) popped (option_to_list pending ++ kept ∷ [])
-    ∙ ap (λ (bs : List Body). map (chapter_body port) popped ++ bs) (map-append (chapter_body port) (option_to_list pending) (kept ∷ []))
 
 -- one more chapter of a ring is taken
 pub takes_more : (port : ℕ) (old : Option (List ℕ)) (left : List ℕ) (mid : Option (List ℕ)) (rest : List ℕ) (new : Option (List ℕ)) (more : List ℕ) (before between after : ℕ) (popped : List Chapter) (x : Chapter)

@@ -40,6 +40,6 @@ pub record Pops (old new : RingOut) (chapters : List Chapter) : Type 0 where
   pub same : SameOut old new
   pub received : received_chapters new ≡ received_chapters old ++ chapters
 
--- the chapters of a port that are still in its ring, the one that waits for room, and the one that it keeps
-abbrev pub rest_of : ℕ → List Chapter → Option Chapter → Chapter → List Body
-rest_of port popped pending kept = map (chapter_body port) (popped ++ (option_to_list pending ++ kept ∷ []))
+-- the chapters that a worker left: those that are still in its ring, and the one that waits for room
+abbrev pub left_of : ℕ → List Chapter → Option Chapter → List Body
+left_of port popped pending = map (chapter_body port) (popped ++ option_to_list pending)

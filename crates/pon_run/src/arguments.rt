@@ -9,4 +9,6 @@ pub struct RunArgs<'a> {
     pub record: Option<&'a str>,
     /// The file of the management lines that are executed during the run.
     pub operate: Option<&'a str>,
+    /// Whether each port is settled at the end with the receipts of all posts.
+    pub settle: bool,
 }

@@ -9,10 +9,13 @@ ghost use Rattle.pon_run.specs.Recordings.{TakesChapters};
 use crate::port_sink::PortSink;
 use crate::recorder::Recorder;
 use crate::rings::Rings;
+use crate::settling::Account;
+use pon_desk::Kept;
 use pon_device::DevWrite;
 use pon_port::Chapter;
 use pon_ring::{Rest, RingIn, RingOut};
 use pon_units::PortNo;
+use std::alloc::{AllocError, Global};
 use std::marker::PhantomData;
 
 /// The recorder's end of the ring of a port, and the number of the port's chapters that the recorder dropped, at most
@@ -22,6 +25,8 @@ pub(crate) struct Inlet<K: Rings> {
     pub(crate) port: PortNo,
     pub(crate) ring: RingOut,
     pub(crate) dropped: u64,
+    // The chapters that were taken, if the port is to be settled.
+    taken: Kept<Chapter>,
     of: PhantomData<K>,
     ghost named: { is_some (K.ring port) ≡ true },
     ghost of_port: { ForSome (K.ring port) (λ o. SameOut o ring) },
@@ -43,12 +48,13 @@ fn record<W: DevWrite + Drop>(
     }
 }
 
-// Records a chapter, if there is one. Returns whether there was one.
+// Records a chapter, if there is one, and keeps it, if chapters are to be kept. Returns whether there was one.
 fn record_any<W: DevWrite + Drop>(
     recorder: &mut Recorder<W>,
     port: PortNo,
     chapter: Option<Chapter>,
     dropped: &mut u64,
+    taken: &mut Kept<Chapter>,
 ) -> bool
     ensures there { result ≡ is_some chapter }
     ensures taken { TakesChapters (W.contents recorder.old.file.device) recorder.old.file.left
@@ -58,6 +64,7 @@ fn record_any<W: DevWrite + Drop>(
     match chapter {
         Some(chapter) => {
             record(recorder, port, &chapter, dropped);
+            taken.add(chapter);
             true
         }
         None => false,
@@ -65,12 +72,12 @@ fn record_any<W: DevWrite + Drop>(
 }
 
 impl<K: Rings> Inlet<K> {
-    ghost use Rattle.std.specs.Prelude.{ℕ, ◌+◌, ◌++◌, min, IfSome, List, Option, Some};
+    ghost use Rattle.std.specs.Prelude.{ℕ, ◌+◌, ◌++◌, min, IfOk, IfSome, List, Option, Some};
     ghost use Rattle.pon_port.specs.Chapters.{Chapter};
     ghost use Rattle.pon_ring.specs.Rings.{AreEnds, received_chapters, sent_chapters};
-    ghost use Rattle.pon_run.specs.Recordings.{Pops, most_dropped, rest_of};
+    ghost use Rattle.pon_run.specs.Recordings.{Pops, left_of, most_dropped};
 
-    pub(crate) fn new(port: PortNo, ring: RingOut) -> Self
+    pub(crate) fn new(port: PortNo, ring: RingOut, taken: Kept<Chapter>) -> Self
         requires { K.ring port ≡ Some ring }
         ensures port { result.port ≡ port }
         ensures ring { result.ring ≡ ring }
@@ -79,6 +86,7 @@ impl<K: Rings> Inlet<K> {
             port,
             ring,
             dropped: 0,
+            taken,
             of: PhantomData,
         }
     }
@@ -92,7 +100,8 @@ impl<K: Rings> Inlet<K> {
             (W.contents recorder.new.file.device) recorder.new.file.left self.old.dropped
             self.new.dropped (map (chapter_body self.old.port) (option_to_list popped)) }
     {
-        record_any(recorder, self.port, self.ring.pop(), &mut self.dropped)
+        let popped = self.ring.pop();
+        record_any(recorder, self.port, popped, &mut self.dropped, &mut self.taken)
     }
 
     // Records all chapters in the ring, in a thread that has both ends.
@@ -107,6 +116,7 @@ impl<K: Rings> Inlet<K> {
     {
         while let Some(chapter) = self.ring.pop_beside(ring) {
             record(recorder, self.port, &chapter, &mut self.dropped);
+            self.taken.add(chapter);
         }
     }
 
@@ -121,22 +131,18 @@ impl<K: Rings> Inlet<K> {
         sink.into_rest()
     }
 
-    /// Records what the worker left: all chapters that are still in the ring, the one that waits for room, and the one
-    /// that the port keeps. Returns the number of the port's dropped chapters.
-    pub(crate) fn take_rest<W: DevWrite + Drop>(
-        mut self,
-        recorder: &mut Recorder<W>,
-        rest: Rest,
-        kept: Chapter,
-    ) -> u64
-        requires { AreEnds rest.ring self.ring }
+    /// Records what the worker left in its sink: all chapters that are still in the ring, and the one that waits for room.
+    /// The chapters that the sink dropped are counted with those that the recorder dropped.
+    pub(crate) fn take_left<W: DevWrite + Drop>(&mut self, recorder: &mut Recorder<W>, rest: Rest)
+        requires { AreEnds rest.ring self.old.ring }
+        ensures port { self.new.port ≡ self.old.port }
         // The chapters that were taken before, and those that are taken now, are all that were sent.
         ensures taken { (popped : List Chapter) × (after : ℕ)
-            × (received_chapters self.ring ++ popped ≡ sent_chapters rest.ring)
+            × (received_chapters self.old.ring ++ popped ≡ sent_chapters rest.ring)
             × TakesChapters (W.contents recorder.old.file.device) recorder.old.file.left
-            (W.contents recorder.new.file.device) recorder.new.file.left self.dropped after
-            (rest_of self.port popped rest.pending kept)
-            × (result ≡ min (after + rest.dropped) most_dropped) }
+            (W.contents recorder.new.file.device) recorder.new.file.left self.old.dropped after
+            (left_of self.old.port popped rest.pending)
+            × (self.new.dropped ≡ min (after + rest.dropped) most_dropped) }
     {
         let Rest {
             mut ring,
@@ -145,8 +151,37 @@ impl<K: Rings> Inlet<K> {
         } = rest;
         let port = self.port;
         self.take_all(recorder, &mut ring);
-        record_any(recorder, port, pending, &mut self.dropped);
-        record(recorder, port, &kept, &mut self.dropped);
-        self.dropped.saturating_add(dropped)
+        record_any(recorder, port, pending, &mut self.dropped, &mut self.taken);
+        self.dropped = self.dropped.saturating_add(dropped);
+    }
+
+    /// Records the chapter that the port keeps. Returns the number of the port's dropped chapters.
+    pub(crate) fn take_kept<W: DevWrite + Drop>(
+        self,
+        recorder: &mut Recorder<W>,
+        kept: &Chapter,
+    ) -> u64
+        ensures { TakesChapters (W.contents recorder.old.file.device) recorder.old.file.left
+            (W.contents recorder.new.file.device) recorder.new.file.left self.dropped result
+            (chapter_body self.port kept.now ∷ []) }
+    {
+        let mut dropped = self.dropped;
+        record(recorder, self.port, kept, &mut dropped);
+        dropped
+    }
+
+    /// Takes out the chapters that were taken, for the settlement of the port. `Err` if memory was refused for one.
+    pub(crate) fn account(&mut self, alloc: Global) -> Result<Account, AllocError>
+        ensures ring { self.new.ring ≡ self.old.ring }
+        ensures port { IfOk result (λ account. account.port ≡ self.old.port) }
+    {
+        match self.taken.take() {
+            Some(chapters) => Ok(Account {
+                port: self.port,
+                chapters,
+                receipts: Vec::new(alloc),
+            }),
+            None => Err(AllocError),
+        }
     }
 }

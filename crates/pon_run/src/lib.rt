@@ -7,6 +7,7 @@
 
 mod arguments;
 mod end;
+mod ending;
 mod inlet;
 mod link;
 mod operator;
@@ -19,6 +20,9 @@ mod recording_thread;
 mod rings;
 mod running;
 mod serving;
+mod settlement_text;
+mod settling;
+mod tape;
 mod thread;
 mod units;
 

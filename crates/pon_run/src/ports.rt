@@ -10,7 +10,7 @@ use crate::rings::Rings;
 use crate::running::Served;
 use crate::thread::{UnitsPart, Worked, WorkerPart};
 use crate::units::units_of;
-use pon_desk::{CloseFault, Desk, Seat};
+use pon_desk::{Desk, Seat};
 use pon_port::Port;
 use pon_settings::{Settings, SettingsRow};
 use pon_worker::{Why, WorkerEnd};
@@ -30,8 +30,9 @@ pub(crate) fn admit_rows<L: Ledger, M: Ledger, R: Wait>(
     settings: &Settings,
 ) -> Result<(), AllocError> {
     for step in settings.steps(alloc)? {
-        if desk.post(rt, seat, step.port, step.event).is_err() {
-            return Err(AllocError);
+        match desk.post(rt, seat, step.port, step.event) {
+            Ok(receipt) => seat.keep(receipt),
+            Err(_) => return Err(AllocError),
         }
     }
     Ok(())
@@ -138,19 +139,4 @@ pub(crate) fn ends_of(
         .zip(ends)
         .map(|(port, end)| end_of(port, end))
         .collect(alloc)
-}
-
-/// Closes the desk of a run. Returns its ports, and whether each took as many entries as the seats count at it. `None`
-/// if a seat is missing.
-pub(crate) fn close<L: Ledger, M: Ledger>(
-    desk: Desk<L, M>,
-    seats: Vec<Seat<L, M>>,
-) -> Option<(Vec<Port>, bool)>
-    ensures { IfSome result (λ closed. vec_len closed.0 ≡ desk.ports) }
-{
-    match desk.close(seats) {
-        Ok(closed) => Some((closed.into_ports(), true)),
-        Err(CloseFault::Uneven { ports, counts: _ }) => Some((ports, false)),
-        Err(CloseFault::Missing { .. }) => None,
-    }
 }

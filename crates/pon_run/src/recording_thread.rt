@@ -9,8 +9,10 @@ use crate::inlet::Inlet;
 use crate::port_sink::PortSink;
 use crate::recorder::Recorder;
 use crate::rings::{PortRing, Rings};
+use crate::settling::Account;
+use pon_desk::Kept;
 use pon_device::DevWrite;
-use pon_port::Port;
+use pon_port::{Chapter, Port};
 use pon_stream::PlanFault;
 use pon_units::{MOST_PORTS, PortNo};
 use std::alloc::{AllocError, Global};
@@ -37,10 +39,21 @@ pub(crate) struct Sinks<K: Rings, W> {
     pub(crate) recording: Option<Recording<K, W>>,
 }
 
-// Splits the rings of all ports into the sinks and the recorder's ends. `Err` only if memory is refused.
+// Returns what keeps the chapters of a port, if it is to be settled.
+fn kept_chapters(alloc: Global, settle: bool) -> Kept<Chapter> {
+    if settle {
+        Kept::open(alloc)
+    } else {
+        Kept::Nothing
+    }
+}
+
+// Splits the rings of all ports into the sinks and the recorder's ends, which keep their chapters if the ports are to be
+// settled. `Err` only if memory is refused.
 fn split_rings<K: Rings>(
     alloc: Global,
     rings: Vec<PortRing>,
+    settle: bool,
 ) -> Result<(Vec<PortSink<K>>, Vec<Inlet<K>>), AllocError>
     requires few { vec_len rings ≤ MOST_PORTS }
     requires named { AreRingsOf K.ring rings.items }
@@ -52,23 +65,25 @@ fn split_rings<K: Rings>(
         let PortRing { sink, out } = ring;
         sinks.push(PortSink::new(port, sink))?;
         if let Some(out) = out {
-            inlets.push(Inlet::new(port, out))?;
+            inlets.push(Inlet::new(port, out, kept_chapters(alloc, settle)))?;
         }
     }
     Ok((sinks, inlets))
 }
 
 impl<K: Rings, W: Drop> Sinks<K, W> {
-    /// Splits the rings of all ports into the sinks and the recording. `Err` only if memory is refused.
+    /// Splits the rings of all ports into the sinks and the recording, which keeps the chapters if the ports are to be
+    /// settled. `Err` only if memory is refused.
     pub(crate) fn split(
         alloc: Global,
         rings: Vec<PortRing>,
         recorder: Option<Recorder<W>>,
+        settle: bool,
     ) -> Result<Self, AllocError>
         requires few { vec_len rings ≤ MOST_PORTS }
         requires named { AreRingsOf K.ring rings.items }
     {
-        let (sinks, inlets) = split_rings::<K>(alloc, rings)?;
+        let (sinks, inlets) = split_rings::<K>(alloc, rings, settle)?;
         let recording = match recorder {
             None => None,
             Some(recorder) => Some(Recording { recorder, inlets }),
@@ -100,31 +115,37 @@ impl<K: Rings, W: DevWrite + Drop> Recording<K, W> {
         unreachable!()
     }
 
-    /// Records what is left of each port, in order, counts its dropped chapters in its end, and flushes the file.
+    /// Records what the workers left in their sinks, port by port in order.
+    pub(crate) fn take_left(&mut self, sinks: Vec<PortSink<K>>) {
+        for (inlet, sink) in self.inlets.iter_mut().zip(sinks) {
+            if let Some(rest) = inlet.rest_of(sink) {
+                inlet.take_left(&mut self.recorder, rest);
+            }
+        }
+    }
+
+    /// Takes out the chapters of each port, in order, for the settlement of the ports. `Err` if memory is refused, or was
+    /// refused for a chapter.
+    pub(crate) fn accounts(&mut self, alloc: Global) -> Result<Vec<Account>, AllocError> {
+        let mut accounts = Vec::with_capacity(alloc, self.inlets.len())?;
+        for inlet in &mut self.inlets {
+            accounts.push(inlet.account(alloc)?)?;
+        }
+        Ok(accounts)
+    }
+
+    /// Records the chapter that each port keeps, in order, counts the port's dropped chapters in its end, and flushes the
+    /// file.
     ///
-    /// Returns `Write` if the file failed three times in a row, or a sink is not that of the port, and `Memory` if memory
-    /// was refused for a chapter.
-    pub(crate) fn finish(
-        self,
-        sinks: Vec<PortSink<K>>,
-        ports: Vec<Port>,
-        ends: &mut [PortEnd],
-    ) -> Result<(), PlanFault> {
+    /// Returns `Write` if the file failed three times in a row, and `Memory` if memory was refused for a chapter.
+    pub(crate) fn finish(self, ports: Vec<Port>, ends: &mut [PortEnd]) -> Result<(), PlanFault> {
         let Recording {
             mut recorder,
             inlets,
         } = self;
-        let mut whole = true;
-        let parts = inlets.into_iter().zip(sinks).zip(ports).zip(ends);
-        for (((inlet, sink), port), end) in parts {
-            match inlet.rest_of(sink) {
-                Some(rest) => {
-                    end.dropped = inlet.take_rest(&mut recorder, rest, port.into_chapter());
-                }
-                None => whole = false,
-            }
+        for ((inlet, port), end) in inlets.into_iter().zip(ports).zip(ends) {
+            end.dropped = inlet.take_kept(&mut recorder, &port.into_chapter());
         }
-        recorder.end()?;
-        if whole { Ok(()) } else { Err(PlanFault::Write) }
+        recorder.end()
     }
 }

@@ -6,21 +6,21 @@ ghost use Rattle.pon_run.specs.Rings.{AreRingsOf};
 ghost use Rattle.pon_run.specs.Runs.{TellsPorts};
 
 use crate::arguments::RunArgs;
-use crate::end::{PortEnd, write_ends};
+use crate::ending::tell;
 use crate::link::{Link, open_links};
 use crate::operator::{answer_lines, open_lines};
 use crate::port_sink::PortSink;
-use crate::ports::{OTHER_SEATS, admit_rows, close, ends_of, served_ports, split_results};
+use crate::ports::{OTHER_SEATS, admit_rows, served_ports};
 use crate::recorder::Recorder;
-use crate::recording::{begin, create_file};
+use crate::recording::open_recorder;
 use crate::recording_thread::{Recording, Sinks};
 use crate::rings::{PortRing, Rings, open_rings};
 use crate::running::{Results, Served, serve_all};
+use crate::tape::Tape;
 use crate::thread::Worked;
 use pon_desk::{Desk, Seat};
-use pon_device::{DevWrite, StdWrite};
+use pon_device::DevWrite;
 use pon_job::{exit_status, outcome_of_ports};
-use pon_port::Port;
 use pon_settings::Settings;
 use pon_stream::PlanFault;
 use pon_units::MOST_PORTS;
@@ -42,13 +42,13 @@ fn serve<L, M, K, G, F, W, R>(
     alloc: Global,
     desk: &Desk<L, M>,
     all: Vec<Served<L, M, K>>,
-    recording: Option<Recording<K, StdWrite<F>>>,
+    recording: Option<Recording<K, Tape<F>>>,
     operator: &mut Seat<L, M>,
     gate: &G,
     maps: u64,
     lines: Option<F>,
     writer: &mut W,
-) -> Result<Results<L, M, K, StdWrite<F>>, PlanFault>
+) -> Result<Results<L, M, K, Tape<F>>, PlanFault>
 where
     L: Ledger + Send + Sync,
     M: Ledger + Send + Sync,
@@ -68,67 +68,21 @@ where
     }
 }
 
-// Records what is left of each port, and writes what each port did, also if the recording fails.
-fn tell_ports<K: Rings, F: Write + Drop, W: DevWrite>(
-    alloc: Global,
-    sinks: Vec<PortSink<K>>,
-    ports: Vec<Port>,
-    mut ends: Vec<PortEnd>,
-    recording: Option<Recording<K, StdWrite<F>>>,
-    writer: &mut W,
-) -> Result<(), PlanFault>
-    requires few { length ports.items ≤ MOST_PORTS }
-    ensures { OnOk result (TellsPorts (vec_len ends) (W.contents writer.old) (W.contents writer.new)) }
-{
-    let recorded = match recording {
-        None => Ok(()),
-        Some(recording) => recording.finish(sinks, ports, ends.as_mut_slice()),
-    };
-    write_ends(alloc, ends.as_slice(), writer)?;
-    recorded
-}
-
-// Closes the desk, and writes what each port did. Returns whether each worker made all its turns and no post was lost.
-fn tell<L: Ledger, M: Ledger, K: Rings, F: Write + Drop, W: DevWrite>(
-    alloc: Global,
-    desk: Desk<L, M>,
-    others: Vec<Seat<L, M>>,
-    all: Vec<Worked<L, M, K>>,
-    recording: Option<Recording<K, StdWrite<F>>>,
-    writer: &mut W,
-) -> Result<bool, PlanFault>
-    ensures { IfOk result (λ done. done ≡ true
-        → TellsPorts desk.ports (W.contents writer.old) (W.contents writer.new)) }
-{
-    let Ok(ended) = split_results(alloc, others, all) else {
-        return Err(PlanFault::Memory);
-    };
-    prove!(desk.ports() <= MOST_PORTS);
-    let Some((ports, even)) = close(desk, ended.seats) else {
-        return Ok(false);
-    };
-    let Ok(ends) = ends_of(alloc, ports.as_slice(), ended.ends.as_slice()) else {
-        return Err(PlanFault::Memory);
-    };
-    let all = ends.len() == ports.len();
-    tell_ports(alloc, ended.sinks, ports, ends, recording, writer)?;
-    Ok(all && even && ended.finished)
-}
-
 // Writes what each port did, as `tell` does, once the seats of the rows and of the operator are free.
 fn tell_with_seats<L: Ledger, M: Ledger, K: Rings, F: Write + Drop, W: DevWrite>(
     alloc: Global,
     desk: Desk<L, M>,
     others: [Seat<L, M>; OTHER_SEATS],
     all: Vec<Worked<L, M, K>>,
-    recording: Option<Recording<K, StdWrite<F>>>,
+    recording: Option<Recording<K, Tape<F>>>,
+    settle: bool,
     writer: &mut W,
 ) -> Result<bool, PlanFault>
     ensures { IfOk result (λ done. done ≡ true
-        → TellsPorts desk.ports (W.contents writer.old) (W.contents writer.new)) }
+        → TellsPorts desk.ports settle (W.contents writer.old) (W.contents writer.new)) }
 {
     match Vec::from_array(alloc, others) {
-        Ok(others) => tell(alloc, desk, others, all, recording, writer),
+        Ok(others) => tell(alloc, desk, others, all, recording, settle, writer),
         Err(_) => Err(PlanFault::Memory),
     }
 }
@@ -163,9 +117,9 @@ fn run_desk<L, M, K, G, F, W, R>(
     settings: &Settings,
     links: Vec<Link>,
     gate: &G,
-    maps: u64,
+    args: RunArgs<'_>,
     lines: Option<F>,
-    sinks: Sinks<K, StdWrite<F>>,
+    sinks: Sinks<K, Tape<F>>,
     writer: &mut W,
 ) -> Result<bool, PlanFault>
 where
@@ -178,7 +132,7 @@ where
     R: Wait + Threads + Clock + Sync,
     requires { OTHER_SEATS ≤ vec_len seats }
     ensures { IsNone lines → IfOk result (λ done. done ≡ true
-        → TellsPorts desk.ports (W.contents writer.old) (W.contents writer.new)) }
+        → TellsPorts desk.ports args.entry.settle (W.contents writer.old) (W.contents writer.new)) }
 {
     // The operator has the last seat.
     let (Some(mut seat), Some(mut first)) = (seats.pop(), seats.pop()) else {
@@ -191,11 +145,19 @@ where
         recording,
         operated,
     } = serve(
-        rt, alloc, &desk, all, recording, &mut seat, gate, maps, lines, writer,
+        rt, alloc, &desk, all, recording, &mut seat, gate, args.maps, lines, writer,
     )?;
-    let done = tell_with_seats(alloc, desk, [first, seat], worked, recording, writer)?;
+    let seats = [first, seat];
+    let done = tell_with_seats(alloc, desk, seats, worked, recording, args.settle, writer)?;
     operated?;
     Ok(done)
+}
+
+// Has each seat keep the receipts of its posts.
+fn keep_receipts<L: Ledger, M: Ledger>(alloc: Global, seats: &mut [Seat<L, M>]) {
+    for seat in seats {
+        seat.keep_receipts(alloc);
+    }
 }
 
 // Opens a desk for the ports of the settings, and runs it.
@@ -207,10 +169,10 @@ fn run_at<L, M, K, G, F, W, R>(
     settings: &Settings,
     links: Vec<Link>,
     gate: &G,
-    maps: u64,
+    args: RunArgs<'_>,
     lines: Option<F>,
     rings: Vec<PortRing>,
-    recorder: Option<Recorder<StdWrite<F>>>,
+    recorder: Option<Recorder<Tape<F>>>,
     writer: &mut W,
 ) -> Result<bool, PlanFault>
 where
@@ -227,19 +189,22 @@ where
         × (M.parts ≡ length settings.now + OTHER_SEATS) }
     requires rings { (vec_len rings ≤ MOST_PORTS) × AreRingsOf K.ring rings.items }
     ensures { IsNone lines → IfOk result (λ done. done ≡ true
-        → TellsPorts (length settings.now) (W.contents writer.old) (W.contents writer.new)) }
+        → TellsPorts (length settings.now) args.entry.settle (W.contents writer.old) (W.contents writer.new)) }
 {
     let Ok(openings) = settings.openings(alloc) else {
         return Err(PlanFault::Memory);
     };
-    let Ok(sinks) = Sinks::<K, StdWrite<F>>::split(alloc, rings, recorder) else {
+    let Ok(sinks) = Sinks::<K, Tape<F>>::split(alloc, rings, recorder, args.settle) else {
         return Err(PlanFault::Memory);
     };
     let seats = openings.len() + OTHER_SEATS;
     match Desk::<L, M>::open(alloc, of_ports, of_seats, openings.as_slice(), seats) {
-        Ok((desk, seats)) => {
+        Ok((desk, mut seats)) => {
+            if args.settle {
+                keep_receipts(alloc, seats.as_mut_slice());
+            }
             run_desk(
-                rt, alloc, desk, seats, settings, links, gate, maps, lines, sinks, writer,
+                rt, alloc, desk, seats, settings, links, gate, args, lines, sinks, writer,
             )
         }
         Err(_) => Err(PlanFault::Memory),
@@ -261,16 +226,13 @@ where
     R: Net<Listener = TcpListener, Stream = TcpStream> + Files + Threads + Wait + Clock + Sync,
     R::File: Send,
     ensures { IsNone args.entry.operate → IfOk result (λ done. done ≡ true
-        → TellsPorts (length settings.now) (W.contents writer.old) (W.contents writer.new)) }
+        → TellsPorts (length settings.now) args.entry.settle (W.contents writer.old) (W.contents writer.new)) }
 {
     let lines = match args.operate {
         None => None,
         Some(name) => Some(open_lines(rt, name)?),
     };
-    let recorder = match args.record {
-        None => None,
-        Some(name) => Some(begin(alloc, create_file(rt, name)?)?),
-    };
+    let recorder = open_recorder(rt, alloc, args.record, args.settle)?;
     let ports = settings.ports().len();
     let links = open_links(rt, alloc, args.listen, ports)?;
     let Ok(rings) = open_rings(alloc, ports, &recorder) else {
@@ -284,7 +246,7 @@ where
         settings,
         links,
         gate,
-        args.maps,
+        args,
         lines,
         rings,
         recorder,
@@ -326,7 +288,7 @@ where
     ensures status { (result ≡ 0) ⊎ (result ≡ 3) }
     // Without an operator only these lines are written.
     ensures lines { IsNone args.entry.operate → result ≡ 0
-        → TellsPorts (length settings) (W.contents writer.old) (W.contents writer.new) }
+        → TellsPorts (length settings) args.entry.settle (W.contents writer.old) (W.contents writer.new) }
 {
     let ended = run(rt, alloc, &settings, args, gate, writer);
     if let Err(fault) = ended {

@@ -102,6 +102,7 @@ fn args(maps: u64) -> RunArgs<'static> {
         maps,
         operate: None,
         record: None,
+        settle: false,
     }
 }
 
@@ -155,12 +156,24 @@ fn refuses_what_cannot_be_opened(rt: HostRuntime) {
             maps: 1,
             operate: *operate,
             record: *record,
+            settle: false,
         };
         assert!(rt;
             ended_with(ran(&rt, rt.alloc(), 1, args, &OpenGate), 3, ""),
             "row {k}"
         );
     }
+}
+
+#[test]
+fn settles_each_port(rt: HostRuntime) {
+    let settled = RunArgs {
+        settle: true,
+        ..args(5_000)
+    };
+    let run = ran(&rt, rt.alloc(), 2, settled, &OpenGate);
+    let lines = "port 0 maps 5000 entries 10001 reports 5000 dropped 0\nport 1 maps 5000 entries 10001 reports 5000 dropped 0\nsettled port 0 receipts 10001\nsettled port 1 receipts 10001\n";
+    assert!(rt; ended_with(run, 0, lines));
 }
 
 #[test]

@@ -313,7 +313,7 @@ fn a_cleared_book_keeps_its_alloc_ids_alone(rt: HostRuntime) {
     assert_load(&rt, &loads, 1024, 256);
 }
 
-// Compares the refusal of a report of `count` occupancies, as it is told without reporting.
+// Compares the refusal of a report of `count` occupancies, as it is returned without reporting.
 fn assert_report_refusal(
     rt: &impl Abort,
     loads: &Loads,

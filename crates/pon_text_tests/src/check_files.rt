@@ -245,7 +245,7 @@ fn many_items(alloc: Global, count: usize) -> Option<Vec<u8>> {
     Some(input)
 }
 
-// Returns whether a file of so many items is answered by this text.
+// Returns whether a file of this number of items is answered by this text.
 fn is_told_of_many(alloc: Global, count: usize, text: &[u8]) -> Option<bool> {
     let input = many_items(alloc, count)?;
     is_answered(alloc, &input, 4096, text)
@@ -288,7 +288,7 @@ fn a_first_line_without_an_end_is_told(rt: HostRuntime) {
     assert!(rt; unread(rt.alloc(), &input) == Some(input.len() - LONGEST_LINE - 2));
 }
 
-// Returns the number of unread bytes of a file of so many items.
+// Returns the number of unread bytes of a file of this number of items.
 fn unread_of_many(alloc: Global, count: usize) -> Option<usize> {
     let input = many_items(alloc, count)?;
     unread(alloc, &input)

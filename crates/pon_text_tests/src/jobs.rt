@@ -35,13 +35,19 @@ fn refusal(alloc: Global, line: &str) -> Option<ErrorKind> {
     }
 }
 
-fn run_of(maps: u64, record: Option<&'static str>, operate: Option<&'static str>) -> Job<'static> {
+fn run_of(
+    maps: u64,
+    record: Option<&'static str>,
+    operate: Option<&'static str>,
+    settle: bool,
+) -> Job<'static> {
     Job::Run {
         config: "a.toml",
         listen: "127.0.0.1:0",
         maps,
         record,
         operate,
+        settle,
     }
 }
 
@@ -55,15 +61,19 @@ fn reads_each_job(rt: HostRuntime) {
         ("olt audit r.bin", Job::Audit { file: "r.bin" }),
         (
             "olt run --config a.toml --listen 127.0.0.1:0 --maps 1",
-            run_of(1, None, None),
+            run_of(1, None, None, false),
         ),
         (
             "olt run --maps=1000000000 --listen=127.0.0.1:0 --config=a.toml",
-            run_of(1_000_000_000, None, None),
+            run_of(1_000_000_000, None, None, false),
         ),
         (
             "olt run --config a.toml --operate b.txt --listen 127.0.0.1:0 --maps 3 --record r.bin",
-            run_of(3, Some("r.bin"), Some("b.txt")),
+            run_of(3, Some("r.bin"), Some("b.txt"), false),
+        ),
+        (
+            "olt run --settle --config a.toml --listen 127.0.0.1:0 --maps 2",
+            run_of(2, None, None, true),
         ),
     ] {
         assert!(rt; names(rt.alloc(), line, &wanted) == Some(true), "{line}");

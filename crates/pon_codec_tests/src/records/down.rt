@@ -62,7 +62,7 @@ fn reads_a_record_in_every_cut(rt: HostRuntime) {
     }
 }
 
-// Returns whether the reader tells the fault three times, by both calls, and takes no more bytes.
+// Returns whether the reader returns the fault three times, from both calls, and takes no more bytes.
 fn keeps(reader: &mut DownReader, device: &mut MemRead, fault: LinkFault) -> bool {
     let mut kept = true;
     for _ in 0..3 {
@@ -101,7 +101,7 @@ fn keeps_a_fault(rt: HostRuntime) {
     assert!(rt; told == Some(13), "announced messages: {told:?}");
 }
 
-// Pulls a record with a wrong last byte, and returns whether the fault is told at the pull after it.
+// Pulls a record with a wrong last byte, and returns whether the pull after it returns the fault.
 fn pulls_a_wrong_map(alloc: Global) -> Option<bool> {
     let mut device = device(alloc, &changed(20, 0xcc), 4096, NEVER)?;
     let mut reader = DownReader::new(alloc);

@@ -82,8 +82,8 @@ fn fault_of(reader: &mut UpReader) -> Option<LinkFault> {
     reader.next().err()
 }
 
-// Feeds the bytes to a reader, and returns the number of bytes taken if it then tells the fault three times and takes
-// no more bytes.
+// Feeds the bytes to a reader, and returns the number of bytes taken if it then returns the fault three times and
+// takes no more bytes.
 fn taken_up_to(bytes: &[u8], fault: LinkFault) -> Option<usize> {
     let mut reader = UpReader::new();
     let taken = reader.feed(bytes);

@@ -1,0 +1,179 @@
+//! The end of a run: what the workers left is recorded, the desk is closed, its ports are settled if that is wanted, and
+//! the lines about them are written.
+
+ghost use Rattle.std.specs.Prelude.{◌≡◌, IfOk, IfSome, OnOk, true};
+ghost use Rattle.std.specs.Vec.{vec_len};
+ghost use Rattle.pon_run.specs.Runs.{TellsPorts, WritesLines};
+
+use crate::end::{PortEnd, write_ends};
+use crate::port_sink::PortSink;
+use crate::ports::{Ended, ends_of, split_results};
+use crate::recording_thread::Recording;
+use crate::rings::Rings;
+use crate::settlement_text::write_settlements;
+use crate::settling::{Account, Settlement, add_receipts, are_settled, settle_ports};
+use crate::thread::Worked;
+use pon_desk::{CloseFault, Desk, Seat};
+use pon_device::DevWrite;
+use pon_port::Port;
+use pon_stream::PlanFault;
+use std::alloc::{AllocError, Global};
+use std::sync::ledger::Ledger;
+
+/// The ports of a closed desk.
+#[derive(Drop)]
+struct ClosedRun {
+    ports: Vec<Port>,
+    // Whether each port took as many entries as the seats count at it.
+    even: bool,
+    // The settlements of the ports that have accounts, in order.
+    settlements: Vec<Settlement>,
+}
+
+// Records what the workers left in their sinks, and returns the account of each port if the ports are to be settled.
+fn accounts_of<L: Ledger, M: Ledger, K: Rings, W: DevWrite + Drop>(
+    alloc: Global,
+    seats: &mut [Seat<L, M>],
+    sinks: Vec<PortSink<K>>,
+    recording: &mut Option<Recording<K, W>>,
+    settle: bool,
+) -> Result<Vec<Account>, AllocError> {
+    let Some(recording) = recording else {
+        return Ok(Vec::new(alloc));
+    };
+    recording.take_left(sinks);
+    if !settle {
+        return Ok(Vec::new(alloc));
+    }
+    let mut accounts = recording.accounts(alloc)?;
+    add_receipts(alloc, seats, accounts.as_mut_slice())?;
+    Ok(accounts)
+}
+
+// Closes the desk of a run, and settles the ports that have accounts. `None` if a seat is missing.
+fn close<L: Ledger, M: Ledger>(
+    alloc: Global,
+    desk: Desk<L, M>,
+    seats: Vec<Seat<L, M>>,
+    accounts: &[Account],
+) -> Result<Option<ClosedRun>, AllocError>
+    ensures { IfOk result (λ run. IfSome run (λ closed. vec_len closed.ports ≡ desk.ports)) }
+{
+    match desk.close(seats) {
+        Ok(closed) => {
+            let settlements = settle_ports(alloc, &closed, accounts)?;
+            let ports = closed.into_ports();
+            let even = true;
+            Ok(Some(ClosedRun {
+                ports,
+                even,
+                settlements,
+            }))
+        }
+        Err(CloseFault::Uneven { ports, counts: _ }) => {
+            let settlements = Vec::new(alloc);
+            let even = false;
+            Ok(Some(ClosedRun {
+                ports,
+                even,
+                settlements,
+            }))
+        }
+        Err(CloseFault::Missing { .. }) => Ok(None),
+    }
+}
+
+// Records the chapter that each port keeps, if there is a recording.
+fn record_kept<K: Rings, F: DevWrite + Drop>(
+    recording: Option<Recording<K, F>>,
+    ports: Vec<Port>,
+    ends: &mut [PortEnd],
+) -> Result<(), PlanFault> {
+    match recording {
+        None => Ok(()),
+        Some(recording) => recording.finish(ports, ends),
+    }
+}
+
+// Records the chapter that each port keeps, and writes the lines about the ports and their settlements, also if the
+// recording fails.
+fn write_lines<K: Rings, F: DevWrite + Drop, W: DevWrite>(
+    alloc: Global,
+    ports: Vec<Port>,
+    mut ends: Vec<PortEnd>,
+    settlements: &[Settlement],
+    recording: Option<Recording<K, F>>,
+    writer: &mut W,
+) -> Result<(), PlanFault>
+    ensures { OnOk result (WritesLines (vec_len ends) settlements.now (W.contents writer.old)
+        (W.contents writer.new)) }
+{
+    let recorded = record_kept(recording, ports, ends.as_mut_slice());
+    write_ends(alloc, ends.as_slice(), writer)?;
+    write_settlements(alloc, settlements, writer)?;
+    recorded
+}
+
+// Writes what each port of a closed desk did, and its settlement if it is to be settled. Returns whether no post was lost,
+// each port has its line, and each that is to be settled is.
+fn tell_closed<K: Rings, F: DevWrite + Drop, W: DevWrite>(
+    alloc: Global,
+    closed: ClosedRun,
+    ends: Vec<PortEnd>,
+    recording: Option<Recording<K, F>>,
+    settle: bool,
+    writer: &mut W,
+) -> Result<bool, PlanFault>
+    ensures { IfOk result (λ done. done ≡ true → TellsPorts (vec_len closed.ports) settle
+        (W.contents writer.old) (W.contents writer.new)) }
+{
+    let ClosedRun {
+        ports,
+        even,
+        settlements,
+    } = closed;
+    let settled = if settle { ports.len() } else { 0 };
+    let all = ends.len() == ports.len() && settlements.len() == settled;
+    write_lines(alloc, ports, ends, settlements.as_slice(), recording, writer)?;
+    Ok(all && even && are_settled(settlements.as_slice()))
+}
+
+/// Records what is left of each port, closes the desk, settles its ports if that is wanted, and writes what each port did.
+/// Returns whether each worker made all its turns, no post was lost, and each port that is to be settled is.
+pub(crate) fn tell<L: Ledger, M: Ledger, K: Rings, F: DevWrite + Drop, W: DevWrite>(
+    alloc: Global,
+    desk: Desk<L, M>,
+    others: Vec<Seat<L, M>>,
+    all: Vec<Worked<L, M, K>>,
+    mut recording: Option<Recording<K, F>>,
+    settle: bool,
+    writer: &mut W,
+) -> Result<bool, PlanFault>
+    ensures { IfOk result (λ done. done ≡ true
+        → TellsPorts desk.ports settle (W.contents writer.old) (W.contents writer.new)) }
+{
+    let Ok(Ended {
+        mut seats,
+        sinks,
+        ends,
+        finished,
+    }) = split_results(alloc, others, all)
+    else {
+        return Err(PlanFault::Memory);
+    };
+    let gathered = accounts_of(alloc, seats.as_mut_slice(), sinks, &mut recording, settle);
+    let Ok(accounts) = gathered else {
+        return Err(PlanFault::Memory);
+    };
+    let Ok(closed) = close(alloc, desk, seats, accounts.as_slice()) else {
+        return Err(PlanFault::Memory);
+    };
+    let Some(closed) = closed else {
+        return Ok(false);
+    };
+    let Ok(ends) = ends_of(alloc, closed.ports.as_slice(), ends.as_slice()) else {
+        return Err(PlanFault::Memory);
+    };
+    let whole = tell_closed(alloc, closed, ends, recording, settle, writer)?;
+    Ok(whole && finished)
+}
