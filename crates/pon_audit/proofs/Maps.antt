@@ -1,16 +1,10 @@
 -- The comparison of maps: structures, their Alloc-IDs and their grants.
-use Rattle.std.proofs.Common.{◌≡◌, ℕ, ◌+◌, ◌<◌, Bool, true, false, not, List, ◌∷◌, [], ◌++◌, map, length, take, get_or, Option, Some, None, refl, ap, sym, ◌∙◌}
-use Rattle.std.specs.Prelude.{◌==◌, ◌↔◌}
-use Rattle.std.specs.Bool.{Decides}
-use Rattle.std.specs.Option.{option_eq}
-use Rattle.std.specs.Cmp.{booleans_Decides, unsigned_Decides}
-use Rattle.std.proofs.lemmas.Bool.Decides.{Decides-and}
+use Rattle.std.proofs.Common.{◌≡◌, ℕ, ◌+◌, ◌<◌, Bool, true, false, not, List, ◌∷◌, [], ◌++◌, map, length, take, get_or, refl, ap, sym, ◌∙◌}
+use Rattle.std.specs.Prelude.{◌↔◌}
 use Rattle.std.proofs.lemmas.List.{get_or-map, length-map, map_more}
-use Rattle.std.proofs.lemmas.Slice.Eq.{slice_eq-Decides}
-use Rattle.std.specs.Cmp.Lexicographic.{pointwise}
 use Rattle.pon_lists.proofs.Lists.{map-map}
 use Rattle.pon_units.specs.Frac.{Frac}
-use Rattle.pon_bwmap.specs.Alloc.{Alloc, structure_eq}
+use Rattle.pon_bwmap.specs.Alloc.{Alloc}
 use Rattle.pon_burst.specs.Maps.{structure_of}
 use Rattle.pon_admit.specs.declared.row.Row.{Row}
 use Rattle.pon_share.specs.Input.{Input}
@@ -49,37 +43,6 @@ module _ (profile : ℕ) (s : Input) (surplus : Row → Frac) (carry : Row → �
   -- the grants of the map are one more than the payload words
   pub grants_of_map : map (λ a. a.grant) (map_of profile s surplus carry) ≡ map (λ g. 1 + g.words) (granted s surplus carry)
   grants_of_map = map-map (λ a. a.grant) (structure_of s.gap profile (granted s surplus carry)) (granted s surplus carry)
-
--- Equality.
-
-pub start_decides : (a b : Option ℕ) → Decides (option_eq ◌==◌ a b) (a ≡ b)
-start_decides None None = (λ _. refl, λ _. refl)
-start_decides None (Some y) = (λ e. absurd cc, λ e. absurd cc)
-start_decides (Some x) None = (λ e. absurd cc, λ e. absurd cc)
-start_decides (Some x) (Some y) = (λ e. ap Option.Some ((unsigned_Decides x y).0 e), λ e. (unsigned_Decides x y).1 cc)
-
-structure_decides : (a b : Alloc) → Decides (structure_eq a b) (a ≡ b)
-structure_decides a b =
-    let parts = Decides-and _ _ (unsigned_Decides a.id b.id)
-    (Decides-and _ _ (booleans_Decides a.dbru b.dbru)
-    (Decides-and _ _ (booleans_Decides a.ploam b.ploam)
-    (Decides-and _ _ (start_decides a.start b.start)
-    (Decides-and _ _ (unsigned_Decides a.grant b.grant)
-    (Decides-and _ _ (booleans_Decides a.fwi b.fwi) (unsigned_Decides a.profile b.profile)))))) in (
-      λ e. let p = parts.0 e in (λ i. record {
-        id = p.0 i;
-        dbru = p.1.0 i;
-        ploam = p.1.1.0 i;
-        start = p.1.1.1.0 i;
-        grant = p.1.1.1.1.0 i;
-        fwi = p.1.1.1.1.1.0 i;
-        profile = p.1.1.1.1.1.1 i;
-      }),
-      λ e. parts.1 (ap (λ s. s.id) e, (ap (λ s. s.dbru) e, (ap (λ s. s.ploam) e, (ap (λ s. s.start) e, (ap (λ s. s.grant) e, (ap (λ s. s.fwi) e, ap (λ s. s.profile) e)))))),
-    )
-
-pub maps_decide : (xs ys : List Alloc) → Decides (pointwise structure_eq xs ys) (xs ≡ ys)
-maps_decide xs ys = slice_eq-Decides structure_decides xs ys _ refl
 
 -- The structures of a map compared with those that the state makes.
 

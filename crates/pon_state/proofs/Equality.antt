@@ -1,10 +1,9 @@
 -- Entries that compare as equal are equal.
-use Rattle.std.proofs.Common.{◌≡◌, ℕ, Bool, List, Option, Some, None, refl, ap}
+use Rattle.std.proofs.Common.{◌≡◌, Bool, List, refl, ap}
 use Rattle.std.specs.Prelude.{◌==◌}
 use Rattle.std.specs.Bool.{Decides}
 use Rattle.std.specs.Cmp.{booleans_Decides, unsigned_Decides}
 use Rattle.std.specs.Cmp.Lexicographic.{pointwise}
-use Rattle.std.specs.Option.{option_eq}
 use Rattle.std.proofs.Math.Bool.{beq}
 use Rattle.std.proofs.lemmas.Bool.Decides.{Decides-and}
 use Rattle.std.proofs.lemmas.Slice.Eq.{slice_eq-Decides}
@@ -25,72 +24,16 @@ use Rattle.pon_state.specs.declared.reply.MadeMap.{MadeMap}
 use Rattle.pon_state.specs.declared.reply.Reply.{Reply}
 use Rattle.pon_state.specs.declared.reply.Reply.TheVariants.{Taken, Map}
 use Rattle.pon_state.specs.declared.reply.Entry.{Entry}
-use Rattle.pon_descr.specs.contracts.class.ClassPartialEq.TheImpl as class_eq
-use Rattle.pon_descr.specs.declared.class.Class.{Class}
-use Rattle.pon_descr.specs.declared.class.Class.TheVariants.{Plain, NonAssured, BestEffort}
-use Rattle.pon_descr.specs.contracts.descriptor.DescriptorPartialEq.TheImpl as descriptor_eq
-use Rattle.pon_descr.specs.Descriptor.{Descriptor}
-use Rattle.pon_event.specs.contracts.event.EventPartialEq.TheImpl as event_eq
-use Rattle.pon_event.specs.declared.event.Event.{Event}
-use Rattle.pon_event.specs.declared.event.Event.TheVariants.{Admit, Change, Remove, Report, MakeMap, Fail, Restore}
-
-classes_decide : (a b : Class) → Decides ((class_eq.ghosts).eq a b) (a ≡ b)
-classes_decide Plain Plain = (λ _. refl, λ _. refl)
-classes_decide NonAssured NonAssured = (λ _. refl, λ _. refl)
-classes_decide BestEffort BestEffort = (λ _. refl, λ _. refl)
-classes_decide a b = (λ e. absurd cc, λ e. absurd cc)
-
-descriptors_decide : (a b : Descriptor) → Decides ((descriptor_eq.ghosts).eq a b) (a ≡ b)
-descriptors_decide a b =
-    let parts = Decides-and _ _ (unsigned_Decides a.fixed b.fixed)
-    (Decides-and _ _ (unsigned_Decides a.assured b.assured)
-    (Decides-and _ _ (unsigned_Decides a.max b.max) (classes_decide a.class b.class))) in (
-      λ e. let p = parts.0 e in (λ i. record { fixed = p.0 i; assured = p.1.0 i; max = p.1.1.0 i; class = p.1.1.1 i }),
-      λ e. parts.1 (ap (λ d. d.fixed) e, (ap (λ d. d.assured) e, (ap (λ d. d.max) e, ap (λ d. d.class) e))),
-    )
-
-occupancy_decides : (a b : Option ℕ) → Decides (option_eq ◌==◌ a b) (a ≡ b)
-occupancy_decides None None = (λ _. refl, λ _. refl)
-occupancy_decides None (Some y) = (λ e. absurd cc, λ e. absurd cc)
-occupancy_decides (Some x) None = (λ e. absurd cc, λ e. absurd cc)
-occupancy_decides (Some x) (Some y) = (λ e. ap Option.Some ((unsigned_Decides x y).0 e), λ e. (unsigned_Decides x y).1 cc)
-
-reports_decide : (xs ys : List (Option ℕ)) → Decides (pointwise (option_eq ◌==◌) xs ys) (xs ≡ ys)
-reports_decide xs ys = slice_eq-Decides occupancy_decides xs ys _ refl
-
-pub events_decide : (a b : Event) → Decides ((event_eq.ghosts).eq a b) (a ≡ b)
-events_decide (Admit onu alloc descriptor) (Admit onu' alloc' descriptor') =
-    let parts = Decides-and _ _ (unsigned_Decides onu onu') (Decides-and _ _ (unsigned_Decides alloc alloc') (descriptors_decide descriptor descriptor')) in (
-      λ e. let p = parts.0 e in (λ i. Admit (p.0 i) (p.1.0 i) (p.1.1 i)),
-      λ e. parts.1 (cc, (cc, cc)),
-    )
-events_decide (Change alloc descriptor) (Change alloc' descriptor') =
-    let parts = Decides-and _ _ (unsigned_Decides alloc alloc') (descriptors_decide descriptor descriptor') in (
-      λ e. let p = parts.0 e in (λ i. Change (p.0 i) (p.1 i)),
-      λ e. parts.1 (cc, cc),
-    )
-events_decide (Remove alloc) (Remove alloc') = (λ e. ap Remove ((unsigned_Decides alloc alloc').0 e), λ e. (unsigned_Decides alloc alloc').1 cc)
-events_decide (Report frame onu occ) (Report frame' onu' occ') =
-    let parts = Decides-and _ _ (unsigned_Decides frame frame') (Decides-and _ _ (unsigned_Decides onu onu') (reports_decide occ occ')) in (
-      λ e. let p = parts.0 e in (λ i. Report (p.0 i) (p.1.0 i) (p.1.1 i)),
-      λ e. parts.1 (cc, (cc, cc)),
-    )
-events_decide MakeMap MakeMap = (λ _. refl, λ _. refl)
-events_decide (Fail cause) (Fail cause') = (λ e. ap Fail ((unsigned_Decides cause cause').0 e), λ e. (unsigned_Decides cause cause').1 cc)
-events_decide Restore Restore = (λ _. refl, λ _. refl)
-events_decide a b = (λ e. absurd cc, λ e. absurd cc)
+use Rattle.pon_event.proofs.Equality.{events_decide, options_decide}
 
 -- Maps and their certificates.
-
-start_decides : (a b : Option ℕ) → Decides (option_eq ◌==◌ a b) (a ≡ b)
-start_decides = occupancy_decides
 
 structure_decides : (a b : Alloc) → Decides (structure_eq a b) (a ≡ b)
 structure_decides a b =
     let parts = Decides-and _ _ (unsigned_Decides a.id b.id)
     (Decides-and _ _ (booleans_Decides a.dbru b.dbru)
     (Decides-and _ _ (booleans_Decides a.ploam b.ploam)
-    (Decides-and _ _ (start_decides a.start b.start)
+    (Decides-and _ _ (options_decide ◌==◌ unsigned_Decides a.start b.start)
     (Decides-and _ _ (unsigned_Decides a.grant b.grant)
     (Decides-and _ _ (booleans_Decides a.fwi b.fwi) (unsigned_Decides a.profile b.profile)))))) in (
       λ e. let p = parts.0 e in (λ i. record {
@@ -105,7 +48,7 @@ structure_decides a b =
       λ e. parts.1 (ap (λ s. s.id) e, (ap (λ s. s.dbru) e, (ap (λ s. s.ploam) e, (ap (λ s. s.start) e, (ap (λ s. s.grant) e, (ap (λ s. s.fwi) e, ap (λ s. s.profile) e)))))),
     )
 
-maps_decide : (xs ys : List Alloc) → Decides (pointwise structure_eq xs ys) (xs ≡ ys)
+pub maps_decide : (xs ys : List Alloc) → Decides (pointwise structure_eq xs ys) (xs ≡ ys)
 maps_decide xs ys = slice_eq-Decides structure_decides xs ys _ refl
 
 flags_decide : (xs ys : List Bool) → Decides (pointwise beq xs ys) (xs ≡ ys)
@@ -144,7 +87,7 @@ made_maps_decide a b =
       λ e. parts.1 (ap (λ m. m.frame) e, (ap (λ m. m.map) e, ap (λ m. m.cert) e)),
     )
 
-replies_decide : (a b : Reply) → Decides ((reply_eq.ghosts).eq a b) (a ≡ b)
+pub replies_decide : (a b : Reply) → Decides ((reply_eq.ghosts).eq a b) (a ≡ b)
 replies_decide Taken Taken = (λ _. refl, λ _. refl)
 replies_decide (Map m) (Map n) = (λ e. ap Map ((made_maps_decide m n).0 e), λ e. (made_maps_decide m n).1 cc)
 replies_decide a b = (λ e. absurd cc, λ e. absurd cc)

@@ -1,6 +1,6 @@
 use Rattle.std.proofs.Common.{◌≡◌, ◌∙◌, sym, true, false}
 use Rattle.std.specs.Cmp.{unsigned_Decides}
-use Rattle.pon_audit.proofs.Maps.{maps_decide}
+use Rattle.pon_state.proofs.Equality.{maps_decide}
 use Rattle.pon_audit.proofs.entries.is_made.Goals as goal
 
 pub returns-then-eq : goal.returns-then-eq
