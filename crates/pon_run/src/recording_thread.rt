@@ -30,6 +30,8 @@ const PAUSE_MILLISECONDS: u64 = 1;
 pub(crate) struct Recording<K: Rings, W> {
     pub(crate) recorder: Recorder<W>,
     pub(crate) inlets: Vec<Inlet<K>>,
+    // Whether each sink that came back is that of its port.
+    whole: bool,
 }
 
 /// Where the chapters of the ports go: the sink of each, in order, and the recording behind them, if there is one.
@@ -86,7 +88,11 @@ impl<K: Rings, W: Drop> Sinks<K, W> {
         let (sinks, inlets) = split_rings::<K>(alloc, rings, settle)?;
         let recording = match recorder {
             None => None,
-            Some(recorder) => Some(Recording { recorder, inlets }),
+            Some(recorder) => Some(Recording {
+                recorder,
+                inlets,
+                whole: true,
+            }),
         };
         Ok(Sinks { sinks, recording })
     }
@@ -118,8 +124,9 @@ impl<K: Rings, W: DevWrite + Drop> Recording<K, W> {
     /// Records what the workers left in their sinks, port by port in order.
     pub(crate) fn take_left(&mut self, sinks: Vec<PortSink<K>>) {
         for (inlet, sink) in self.inlets.iter_mut().zip(sinks) {
-            if let Some(rest) = inlet.rest_of(sink) {
-                inlet.take_left(&mut self.recorder, rest);
+            match inlet.rest_of(sink) {
+                Some(rest) => inlet.take_left(&mut self.recorder, rest),
+                None => self.whole = false,
             }
         }
     }
@@ -137,15 +144,18 @@ impl<K: Rings, W: DevWrite + Drop> Recording<K, W> {
     /// Records the chapter that each port keeps, in order, counts the port's dropped chapters in its end, and flushes the
     /// file.
     ///
-    /// Returns `Write` if the file failed three times in a row, and `Memory` if memory was refused for a chapter.
+    /// Returns `Write` if the file failed three times in a row, or a sink was not that of its port, and `Memory` if memory
+    /// was refused for a chapter.
     pub(crate) fn finish(self, ports: Vec<Port>, ends: &mut [PortEnd]) -> Result<(), PlanFault> {
         let Recording {
             mut recorder,
             inlets,
+            whole,
         } = self;
         for ((inlet, port), end) in inlets.into_iter().zip(ports).zip(ends) {
             end.dropped = inlet.take_kept(&mut recorder, &port.into_chapter());
         }
-        recorder.end()
+        recorder.end()?;
+        if whole { Ok(()) } else { Err(PlanFault::Write) }
     }
 }
