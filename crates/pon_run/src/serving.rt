@@ -107,6 +107,16 @@ fn prepare<L: Ledger, M: Ledger, K: Rings, R: Wait>(
     }
 }
 
+// Has each seat keep the receipts of its posts, if the ports are to be settled.
+fn keep_receipts<L: Ledger, M: Ledger>(alloc: Global, seats: &mut [Seat<L, M>], settle: bool) {
+    if !settle {
+        return;
+    }
+    for seat in seats {
+        seat.keep_receipts(alloc);
+    }
+}
+
 // Admits the rows of the settings at an open desk, serves its ports, and writes what each did. Returns whether each
 // worker made all its turns and no post was lost.
 fn run_desk<L, M, K, G, F, W, R>(
@@ -134,6 +144,7 @@ where
     ensures { IsNone lines → IfOk result (λ done. done ≡ true
         → TellsPorts desk.ports args.entry.settle (W.contents writer.old) (W.contents writer.new)) }
 {
+    keep_receipts(alloc, seats.as_mut_slice(), args.settle);
     // The operator has the last seat.
     let (Some(mut seat), Some(mut first)) = (seats.pop(), seats.pop()) else {
         unreachable!()
@@ -151,13 +162,6 @@ where
     let done = tell_with_seats(alloc, desk, seats, worked, recording, args.settle, writer)?;
     operated?;
     Ok(done)
-}
-
-// Has each seat keep the receipts of its posts.
-fn keep_receipts<L: Ledger, M: Ledger>(alloc: Global, seats: &mut [Seat<L, M>]) {
-    for seat in seats {
-        seat.keep_receipts(alloc);
-    }
 }
 
 // Opens a desk for the ports of the settings, and runs it.
@@ -197,18 +201,14 @@ where
     let Ok(sinks) = Sinks::<K, Tape<F>>::split(alloc, rings, recorder, args.settle) else {
         return Err(PlanFault::Memory);
     };
-    let seats = openings.len() + OTHER_SEATS;
-    match Desk::<L, M>::open(alloc, of_ports, of_seats, openings.as_slice(), seats) {
-        Ok((desk, mut seats)) => {
-            if args.settle {
-                keep_receipts(alloc, seats.as_mut_slice());
-            }
-            run_desk(
-                rt, alloc, desk, seats, settings, links, gate, args, lines, sinks, writer,
-            )
-        }
-        Err(_) => Err(PlanFault::Memory),
-    }
+    let count = openings.len() + OTHER_SEATS;
+    let opened = Desk::<L, M>::open(alloc, of_ports, of_seats, openings.as_slice(), count);
+    let Ok((desk, seats)) = opened else {
+        return Err(PlanFault::Memory);
+    };
+    run_desk(
+        rt, alloc, desk, seats, settings, links, gate, args, lines, sinks, writer,
+    )
 }
 
 // Opens the files and the sockets of a run, in this order, and runs it.
