@@ -134,7 +134,14 @@ fn tell_closed<K: Rings, F: DevWrite + Drop, W: DevWrite>(
     } = closed;
     let settled = if settle { ports.len() } else { 0 };
     let all = ends.len() == ports.len() && settlements.len() == settled;
-    write_lines(alloc, ports, ends, settlements.as_slice(), recording, writer)?;
+    write_lines(
+        alloc,
+        ports,
+        ends,
+        settlements.as_slice(),
+        recording,
+        writer,
+    )?;
     Ok(all && even && are_settled(settlements.as_slice()))
 }
 
@@ -152,12 +159,14 @@ pub(crate) fn tell<L: Ledger, M: Ledger, K: Rings, F: DevWrite + Drop, W: DevWri
     ensures { IfOk result (λ done. done ≡ true
         → TellsPorts desk.ports settle (W.contents writer.old) (W.contents writer.new)) }
 {
-    let Ok(Ended {
-        mut seats,
-        sinks,
-        ends,
-        finished,
-    }) = split_results(alloc, others, all)
+    let Ok(
+        Ended {
+            mut seats,
+            sinks,
+            ends,
+            finished,
+        },
+    ) = split_results(alloc, others, all)
     else {
         return Err(PlanFault::Memory);
     };

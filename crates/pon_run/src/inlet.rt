@@ -101,7 +101,13 @@ impl<K: Rings> Inlet<K> {
             self.new.dropped (map (chapter_body self.old.port) (option_to_list popped)) }
     {
         let popped = self.ring.pop();
-        record_any(recorder, self.port, popped, &mut self.dropped, &mut self.taken)
+        record_any(
+            recorder,
+            self.port,
+            popped,
+            &mut self.dropped,
+            &mut self.taken,
+        )
     }
 
     // Records all chapters in the ring, in a thread that has both ends.

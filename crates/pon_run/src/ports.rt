@@ -1,7 +1,6 @@
-//! The ports of a run at a desk: opened, filled from the settings, and closed.
+//! The ports of a run at a desk: filled from the settings, and what each of them did.
 
-ghost use Rattle.std.specs.Prelude.{◌≡◌, ◌+◌, ◌≤◌, IfOk, IfSome, length};
-ghost use Rattle.std.specs.Vec.{vec_len};
+ghost use Rattle.std.specs.Prelude.{◌≡◌, ◌+◌, length};
 
 use crate::end::PortEnd;
 use crate::link::Link;

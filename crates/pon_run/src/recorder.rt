@@ -1,6 +1,6 @@
 //! The recorder of a run: it takes the chapters of all ports out of their rings, and appends them to the file.
 
-ghost use Rattle.std.specs.Prelude.{◌≡◌, [], ◌∷◌, true, false, IfOk, OnOk};
+ghost use Rattle.std.specs.Prelude.{◌≡◌, [], ◌∷◌, true, false};
 ghost use Rattle.pon_recorder.specs.Bodies.{chapter_body};
 ghost use Rattle.pon_recorder.specs.Recorders.{Stays};
 ghost use Rattle.pon_run.specs.Recordings.{HasRecorded, IsDropped};

@@ -1,6 +1,6 @@
 //! A run, from its settings to its last line.
 
-ghost use Rattle.std.specs.Prelude.{◌≡◌, ◌⊎◌, ◌+◌, ◌≤◌, IfOk, IsNone, OnOk, length, true};
+ghost use Rattle.std.specs.Prelude.{◌≡◌, ◌⊎◌, ◌+◌, ◌≤◌, IfOk, IsNone, length, true};
 ghost use Rattle.std.specs.Vec.{vec_len};
 ghost use Rattle.pon_run.specs.Rings.{AreRingsOf};
 ghost use Rattle.pon_run.specs.Runs.{TellsPorts};

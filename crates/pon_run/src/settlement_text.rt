@@ -1,6 +1,6 @@
 //! The line about the settlement of each port at the end of a run.
 
-ghost use Rattle.std.specs.Prelude.{◌≡◌, ◌++◌, [], IfOk, OnOk, string_bytes};
+ghost use Rattle.std.specs.Prelude.{◌≡◌, IfOk, OnOk, string_bytes};
 ghost use Rattle.pon_device.specs.Device.{Appends};
 ghost use Rattle.pon_run.specs.Settlements.{settlement_line, settlement_lines};
 

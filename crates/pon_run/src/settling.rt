@@ -64,7 +64,11 @@ fn settle_port(closed: &Closed, account: &Account) -> Settlement
     ensures { IsOf closed.now account.now result }
 {
     let port = account.port;
-    let settled = closed.settle(port, account.chapters.as_slice(), account.receipts.as_slice());
+    let settled = closed.settle(
+        port,
+        account.chapters.as_slice(),
+        account.receipts.as_slice(),
+    );
     Settlement {
         port,
         result: settled.map(|_| account.receipts.len()),

@@ -172,7 +172,8 @@ fn settles_each_port(rt: HostRuntime) {
         ..args(5_000)
     };
     let run = ran(&rt, rt.alloc(), 2, settled, &OpenGate);
-    let lines = "port 0 maps 5000 entries 10001 reports 5000 dropped 0\nport 1 maps 5000 entries 10001 reports 5000 dropped 0\nsettled port 0 receipts 10001\nsettled port 1 receipts 10001\n";
+    let lines =
+        "port 0 maps 5000 entries 10001 reports 5000 dropped 0\nport 1 maps 5000 entries 10001 reports 5000 dropped 0\nsettled port 0 receipts 10001\nsettled port 1 receipts 10001\n";
     assert!(rt; ended_with(run, 0, lines));
 }
 
