@@ -99,14 +99,15 @@ impl Loads {
         })
     }
 
-    /// Makes an equal book, with its own memory. `Err` only if memory is refused.
+    /// Makes an equal book, with its own memory. It has no hints, and its window no running sums ([`Window::try_copy`]).
+    /// `Err` only if memory is refused.
     pub fn try_copy(&self, alloc: Global) -> Result<Loads, AllocError>
         ensures { IfOk result (λ loads. loads ≡ self.now) }
     {
         Ok(Loads {
             accounts: Vec::from_slice(alloc, &self.accounts)?,
             window: self.window.try_copy(alloc)?,
-            places: Vec::from_slice(alloc, &self.places)?,
+            places: Vec::new(alloc),
         })
     }
 

@@ -1,4 +1,5 @@
 pub mod Frames
+pub mod KeptSums
 pub mod Polls
 pub mod RunningSums
 pub mod Series

@@ -111,7 +111,7 @@ module _ (u i : ℕ) where
   ]
 
   -- the words of the grant at the index that was found
-  words_there : (m : WindowMap) (r : Option ℕ) (k : ℕ) (d : Granted) → r ≡ position (is_to u i) m.grants → r ≡ Some k → k < length m.grants → (get_or m.grants k d).words ≡ words_to u i m
+  pub words_there : (m : WindowMap) (r : Option ℕ) (k : ℕ) (d : Granted) → r ≡ position (is_to u i) m.grants → r ≡ Some k → k < length m.grants → (get_or m.grants k d).words ≡ words_to u i m
   words_there m r k d is e l = words_found (is_to u i) m.grants r is k d e l ∙ ap words_granted (sym (find_in m.grants))
 
   ungranted : (gs : List Granted) (ns : List ℕ) → length ns ≡ length gs → sum_before u i gs ns ≡ None → words_granted (find (is_to u i) gs) ≡ 0

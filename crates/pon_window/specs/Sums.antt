@@ -1,6 +1,6 @@
 -- Running sums beside the window: for each grant of a map the words that earlier maps granted to its Alloc-ID under its
 -- ONU, counted from any map on, modulo 2^32. The words granted between two grants are the difference of their sums.
-use Rattle.std.specs.Prelude.{ℕ, ◌≡◌, ◌≤◌, ◌+◌, ◌^◌, ◌%◌, ◌==◌, ◌&&◌, Bool, All, if◌then◌else◌, List, [], ◌∷◌, drop, map, length, sum_by, Option, Some, None, option_map}
+use Rattle.std.specs.Prelude.{ℕ, ◌≡◌, ◌≢◌, ◌≤◌, ◌+◌, ◌^◌, ◌%◌, ◌==◌, ◌&&◌, Bool, All, if◌then◌else◌, List, [], ◌∷◌, drop, map, length, sum_by, Option, Some, None, option_map}
 use Rattle.std.specs.Option.{option_or}
 use Rattle.pon_units.specs.declared.limits.TheConstants.{FRAME_WORDS}
 use Rattle.pon_window.specs.Window.{Granted, IsWindow, WindowMap, words_to}
@@ -44,14 +44,10 @@ or_zero (Some n) = n
 abbrev pub sums_beside : List WindowMap → List (List ℕ) → List Granted → List ℕ
 sums_beside ms sums gs = map (λ g. or_zero (sum_now g.onu g.alloc_id ms sums)) gs
 
--- the invariant of a window with its sums
-pub record IsSummedWindow (maps : List WindowMap) (sums : List (List ℕ)) : Type 0 where
-  pub window : IsWindow maps
-  pub as_many : length sums ≡ length maps
-  pub summed : AreSummed maps sums
-
--- the invariant of a window that keeps maps which have left it before those that it has
+-- the invariant of a window that keeps maps which have left it before those that it has; if it has no sum beside each of
+-- them, it keeps none that has left
 pub record IsKeptWindow (past : ℕ) (maps : List WindowMap) (sums : List (List ℕ)) : Type 0 where
   pub within : past ≤ length maps
-  pub beside : length sums ≡ length maps
-  pub window : IsSummedWindow (drop past maps) (drop past sums)
+  pub window : IsWindow (drop past maps)
+  pub summed : length sums ≡ length maps → AreSummed (drop past maps) (drop past sums)
+  pub without : length sums ≢ length maps → past ≡ 0

@@ -1,6 +1,6 @@
 //! Running sums beside the window: the words granted since a map are the difference of two of them.
 
-ghost use Rattle.std.specs.Prelude.{◌≡◌, ◌≤◌, ◌^◌, ◌<◌, [], All, IfOk, IfSome, Some, length, position, sum_by, List, ℕ};
+ghost use Rattle.std.specs.Prelude.{◌≡◌, ◌≢◌, ◌≤◌, ◌*◌, ◌^◌, ◌<◌, [], All, IfOk, IfSome, OnErr, OnOk, Some, length, position, sum_by, List, ℕ};
 ghost use Rattle.pon_units.specs.Granted.{AreInMapOrder};
 ghost use Rattle.pon_window.specs.Window.{IsLawfulMap, words_to};
 ghost use Rattle.pon_window.specs.Sums.{AreSummed, is_to, sum_before, sum_behind, sum_now, sums_beside};
@@ -32,15 +32,6 @@ impl MapSums {
         MapSums {
             before: Vec::new(alloc),
         }
-    }
-
-    /// Makes equal sums. `Err` only if memory is refused.
-    pub(crate) fn try_copy(&self, alloc: Global) -> Result<MapSums, AllocError>
-        ensures { IfOk result (λ sums. sums ≡ self.now) }
-    {
-        Ok(MapSums {
-            before: Vec::from_slice(alloc, &self.before)?,
-        })
     }
 }
 
@@ -264,4 +255,63 @@ pub(crate) fn next_sums(
         before.push_reserved(sum);
     }
     Ok(MapSums { before })
+}
+
+// Returns the words of the grant of a map to an Alloc-ID under an ONU; 0 if the map has no such grant.
+fn words_in(map: &WindowMap, hint: usize, onu: OnuId, alloc_id: AllocId) -> u32
+    requires { AreInMapOrder map.now.grants }
+    ensures value { result ≡ words_to onu alloc_id map.now }
+    ensures most { result ≤ FRAME_WORDS }
+{
+    match place_of_grant(&map.grants, hint, onu, alloc_id) {
+        None => 0,
+        Some(place) => u32::from(map.grants[place].words.get()),
+    }
+}
+
+/// Returns the payload words that maps granted to an Alloc-ID under an ONU, by a scan of the maps; the hint is its index
+/// among the grants.
+pub(crate) fn words_scanned(maps: &[WindowMap], hint: usize, onu: OnuId, alloc_id: AllocId) -> u32
+    requires few { length maps.now ≤ MOST_MAPS }
+    requires lawful { All IsLawfulMap maps.now }
+    ensures value { result ≡ sum_by (words_to onu alloc_id) maps.now }
+    ensures most { result ≤ length maps.now * FRAME_WORDS }
+{
+    match maps.split_first() {
+        None => 0,
+        Some((map, later)) => {
+            words_in(map, hint, onu, alloc_id) + words_scanned(later, hint, onu, alloc_id)
+        }
+    }
+}
+
+// Computes the sums beside the grants of all maps. `Err` only if memory is refused.
+fn sums_of(alloc: Global, maps: &[WindowMap]) -> Result<Vec<MapSums>, AllocError>
+    requires { All IsLawfulMap maps.now }
+    ensures as_many { IfOk result (λ sums. length sums.items ≡ length maps.now) }
+    ensures summed { IfOk result (λ sums. AreSummed maps.now sums.items) }
+{
+    let mut sums = Vec::with_capacity(alloc, maps.len())?;
+    for (i, map) in maps.iter().enumerate() {
+        let next = next_sums(MapSums::empty(alloc), &maps[..i], &sums, &map.grants)?;
+        sums.push(next)?;
+    }
+    Ok(sums)
+}
+
+/// Computes the sums beside the grants of all maps, if there are not as many sums as maps. `Err` only if memory is
+/// refused, and then nothing changes.
+pub(crate) fn fill_sums(maps: &[WindowMap], sums: &mut Vec<MapSums>) -> Result<(), AllocError>
+    requires { length sums.old.items ≢ length maps.now → All IsLawfulMap maps.now }
+    ensures as_many { OnOk result (length sums.new.items ≡ length maps.now) }
+    ensures same { length sums.old.items ≡ length maps.now → sums.new.items ≡ sums.old.items }
+    ensures summed { OnOk result (length sums.old.items ≢ length maps.now
+        → AreSummed maps.now sums.new.items) }
+    ensures err { OnErr result (sums.new.items ≡ sums.old.items) }
+{
+    if sums.len() == maps.len() {
+        return Ok(());
+    }
+    *sums = sums_of(*sums.allocator(), maps)?;
+    Ok(())
 }

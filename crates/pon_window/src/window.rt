@@ -3,7 +3,7 @@ ghost use Rattle.std.specs.Prelude.{◌≡◌, ◌≤◌, ◌+◌, ◌-◌, [], 
 use crate::map::WindowMap;
 use crate::place::place_of;
 use crate::reports::{note_report, report_refusal};
-use crate::sums::{MapSums, next_sums, words_granted};
+use crate::sums::{MapSums, fill_sums, next_sums, words_granted, words_scanned};
 use pon_descr::Refusal;
 use pon_units::{AllocId, FrameNo, Granted, OnuId};
 use std::alloc::{AllocError, Global};
@@ -21,7 +21,7 @@ pub const MOST_MAPS: usize = 64;
 pub struct Window {
     // The maps of the window are those from `past` on, so that a map that leaves the window moves no other.
     maps: Vec<WindowMap>,
-    // The running sums of each map.
+    // The running sums of each map. A copy of a window has none until a map is added.
     sums: Vec<MapSums>,
     past: usize,
     // Index after the grants of the ONU that reported last, where those of the next reporter often begin: a hint.
@@ -51,17 +51,6 @@ fn copy_maps(alloc: Global, window: &[WindowMap]) -> Result<Vec<WindowMap>, Allo
         maps.push(map.try_copy(alloc)?)?;
     }
     Ok(maps)
-}
-
-// Makes equal sums. `Err` only if memory is refused.
-fn copy_sums(alloc: Global, sums: &[MapSums]) -> Result<Vec<MapSums>, AllocError>
-    ensures { IfOk result (λ copy. copy.items ≡ sums.now) }
-{
-    let mut copies = Vec::with_capacity(alloc, sums.len())?;
-    for map_sums in sums {
-        copies.push(map_sums.try_copy(alloc)?)?;
-    }
-    Ok(copies)
 }
 
 // Returns the elements from an index on.
@@ -141,15 +130,16 @@ impl Window {
         }
     }
 
-    /// Makes an equal window. `Err` only if memory is refused.
+    /// Makes an equal window. It has no running sums: the words of its maps are counted by a scan until a map is added.
+    /// `Err` only if memory is refused.
     pub fn try_copy(&self, alloc: Global) -> Result<Window, AllocError>
         ensures { IfOk result (λ window. window ≡ self.now) }
     {
         Ok(Window {
-            maps: copy_maps(alloc, from_index(&self.maps, self.past))?,
-            sums: copy_sums(alloc, from_index(&self.sums, self.past))?,
+            maps: copy_maps(alloc, self.maps())?,
+            sums: Vec::new(alloc),
             past: 0,
-            next: self.next,
+            next: 0,
             spare: MapSums::empty(alloc),
         })
     }
@@ -188,6 +178,9 @@ impl Window {
     {
         let first = self.past + place;
         let maps = from_index(&self.maps, first);
+        if self.sums.len() != self.maps.len() {
+            return words_scanned(maps, hint, onu, alloc_id);
+        }
         let sums = from_index(&self.sums, first);
         words_granted(maps, sums, hint, onu, alloc_id)
     }
@@ -235,6 +228,7 @@ impl Window {
         ensures err { OnErr result (self.new ≡ self.old) }
     {
         let alloc = *self.maps.allocator();
+        fill_sums(&self.maps, &mut self.sums)?;
         let room = mem::replace(&mut self.spare, MapSums::empty(alloc));
         let maps = from_index(&self.maps, self.past);
         let sums = from_index(&self.sums, self.past);
@@ -278,6 +272,7 @@ impl Window {
         ensures err { OnErr result (self.new ≡ self.old) }
     {
         let alloc = *self.maps.allocator();
+        fill_sums(&self.maps, &mut self.sums)?;
         let maps = from_index(&self.maps, self.past);
         let sums = from_index(&self.sums, self.past);
         let next = next_sums(MapSums::empty(alloc), maps, sums, &grants)?;

@@ -1,5 +1,4 @@
-use Rattle.std.proofs.Common.{◌≡◌, ◌∙◌, arith, drop, length, map, rules, sym}
-use Rattle.std.proofs.lemmas.List.{length-map}
+use Rattle.std.proofs.Common.{◌≡◌, arith, drop, length, map, rules}
 use Rattle.pon_lists.proofs.Parts.{written}
 use Rattle.pon_window.specs.Reports.{with_report}
 use Rattle.pon_window.proofs.RunningSums.{summed_noted}
@@ -18,10 +17,7 @@ invariant_of-self-2 c =
     let same : length c.note_report.new.kept ≡ length kept = search rules in
     rw (written kept c.note_report.new.kept c.self.inside.maps.len len same) (record {
       within = omega (arith, same, c.self.invariant.within);
-      beside = omega (arith, same, c.self.invariant.beside);
-      window = rw noted (record {
-        window = one_reported maps c.self.invariant.window.window f u;
-        as_many = c.self.invariant.window.as_many ∙ sym (length-map maps (with_report f u));
-        summed = summed_noted f u maps (drop past c.self.inside.sums.items) c.self.invariant.window.summed;
-      });
+      window = rw noted (one_reported maps c.self.invariant.window f u);
+      summed = λ e. rw noted (summed_noted f u maps (drop past c.self.inside.sums.items) (c.self.invariant.summed (omega (arith, e, same))));
+      without = λ other. c.self.invariant.without (λ e. other (omega (arith, e, same)));
     })
