@@ -109,29 +109,29 @@ impl Grants {
     }
 }
 
-/// Computes the grant of each admitted Alloc-ID, in map order, and what it leaves, in the memory of `room`. `carries` has
+/// Computes the grant of each admitted Alloc-ID, in map order, and what it leaves, in the memory of `room`. `former` has
 /// what the last map left to each. `Err` only if memory is refused.
 pub(crate) fn grants_of(
     room: Grants,
     input: &ShareInput,
     demands: &[Demand],
     cert: &MapCert,
-    carries: &[u8],
+    former: &[u8],
 ) -> Result<Grants, AllocError>
     requires admitted { IsAdmitted input.now.rule input.now.gap input.now.roster }
     requires demands { demands.now ≡ demands_of input.now }
     requires certified { IsCertified input.now cert.now }
-    requires carries { AreCarries input.now.rule input.now.roster carries.now }
+    requires carries { AreCarries input.now.rule input.now.roster former.now }
     ensures grants { IfOk result (λ g. g.grants.items
         ≡ granted input.now (surplus_rate input.now cert.now)
-        (λ r. number_of input.now.roster carries.now r.alloc_id)) }
+        (λ r. number_of input.now.roster former.now r.alloc_id)) }
     ensures carries { IfOk result (λ g. g.carries.items
         ≡ carried input.now (surplus_rate input.now cert.now)
-        (λ r. number_of input.now.roster carries.now r.alloc_id)) }
+        (λ r. number_of input.now.roster former.now r.alloc_id)) }
 {
     let Grants {
         mut grants,
-        carries: mut left,
+        mut carries,
     } = room.emptied(demands.len())?;
     let mut na = cert.na.saturated.as_slice();
     let mut be = cert.be.saturated.as_slice();
@@ -149,12 +149,9 @@ pub(crate) fn grants_of(
                 share(&cert.be.level, &demand.item, saturated)
             }
         };
-        let owed = owed(demand, surplus, carries[grants.len()]);
+        let owed = owed(demand, surplus, former[grants.len()]);
         grants.push_reserved(grant(demand, owed));
-        left.push_reserved(input.roster.rule().left_over(owed));
+        carries.push_reserved(input.roster.rule().left_over(owed));
     }
-    Ok(Grants {
-        grants,
-        carries: left,
-    })
+    Ok(Grants { grants, carries })
 }

@@ -11,11 +11,11 @@ use Rattle.pon_share.proofs.grants.grants_of.Goals.{in-Plain, in-NonAssured, in-
 pub loop-demand-init : goal.loop-demand-init
 loop-demand-init c =
     record {
-      dealt = rw (c.as_slice-na.ensures, c.as_slice-be.ensures, c.in_ok-grants.ensures.grants.0, c.in_ok-grants.ensures.carries.0) (dealt_none c.args.input.now c.args.cert.now c.args.carries.now c.requires.admitted c.requires.certified);
+      dealt = rw (c.as_slice-na.ensures, c.as_slice-be.ensures, c.in_ok-grants.ensures.grants.0, c.in_ok-grants.ensures.carries.0) (dealt_none c.args.input.now c.args.cert.now c.args.former.now c.requires.admitted c.requires.certified);
       count = search rules;
       room = search rules;
-      count_left = search rules;
-      room_left = search rules;
+      count_carries = search rules;
+      room_carries = search rules;
     }
 
 pub first_flag-saturated-requires : goal.first_flag-saturated-requires
@@ -84,7 +84,7 @@ pub loop-demand-preserved : goal.loop-demand-preserved
 loop-demand-preserved c =
     let s = c.args.input.now in
     let cert = c.args.cert.now in
-    let carries = c.args.carries.now in
+    let carries = c.args.former.now in
     let d = c.demand-item.result in
     let i : ℕ = c.loop-demand.demand-index in
     let at = row_at s c.args.demands.now d i c.requires.demands c.loop-demand-test.true c.demand-item.is in
@@ -97,28 +97,28 @@ loop-demand-preserved c =
     = record { grant = c.grant.ensures ∙ ap (words_of d) owed; leaves = c.left_over.ensures ∙ (λ j. left_over (rule j) (owed j)) } in
     let dealt : Dealt s cert carries (i + 1) c.push_reserved.new.self.items c.push_reserved-in-loop-demand.new.self.items c.match-demand.na.now c.match-demand.be.now = elim c.match-demand.branch [
       | in-Plain w ↦ rw (w.na-is, w.be-is, c.push_reserved.ensures.items, c.push_reserved-in-loop-demand.ensures.items)
-          (dealt_plain s cert carries apart same d i at c.loop-demand.grants.items c.loop-demand.left.items c.loop-demand.na.now c.loop-demand.be.now c.grant.result _ c.left_over.result
+          (dealt_plain s cert carries apart same d i at c.loop-demand.grants.items c.loop-demand.carries.items c.loop-demand.na.now c.loop-demand.be.now c.grant.result _ c.left_over.result
           c.loop-demand.invariant.dealt here w.in-Plain.is (subst (λ n. Deals s.rule d (slice_index carries c.len.result) n c.grant.result c.left_over.result) w.surplus-is deals))
       | in-NonAssured w ↦
           let flag = flag_is s NonAssured cert.na (surplus s) c.requires.admitted c.requires.certified.non_assured refl
           d i at (ap (λ k. same_class k NonAssured) w.in-NonAssured.is) c.loop-demand.na.now w.first_flag-saturated.result.1.now w.first_flag-saturated.result.0 c.loop-demand.invariant.dealt.na w.first_flag-saturated.ensures in
           rw (w.na-is, w.be-is, c.push_reserved.ensures.items, c.push_reserved-in-loop-demand.ensures.items)
-          (dealt_na s cert carries apart same d i at c.loop-demand.grants.items c.loop-demand.left.items c.loop-demand.na.now c.loop-demand.be.now w.first_flag-saturated.result.1.now w.first_flag-saturated.result.0 w.share-surplus.result c.grant.result _ c.left_over.result
+          (dealt_na s cert carries apart same d i at c.loop-demand.grants.items c.loop-demand.carries.items c.loop-demand.na.now c.loop-demand.be.now w.first_flag-saturated.result.1.now w.first_flag-saturated.result.0 w.share-surplus.result c.grant.result _ c.left_over.result
           c.loop-demand.invariant.dealt here w.in-NonAssured.is flag w.share-surplus.ensures.value (subst (λ n. Deals s.rule d (slice_index carries c.len.result) n c.grant.result c.left_over.result) w.surplus-is deals))
       | in-BestEffort w ↦
           let left : ℕ = left_surplus cert.na.level (items NonAssured s) (surplus s) in
           let flag = flag_is s BestEffort cert.be left c.requires.admitted c.requires.certified.best_effort refl
           d i at (ap (λ k. same_class k BestEffort) w.in-BestEffort.is) c.loop-demand.be.now w.first_flag-saturated-in-BestEffort.result.1.now w.first_flag-saturated-in-BestEffort.result.0 c.loop-demand.invariant.dealt.be w.first_flag-saturated-in-BestEffort.ensures in
           rw (w.na-is, w.be-is, c.push_reserved.ensures.items, c.push_reserved-in-loop-demand.ensures.items)
-          (dealt_be s cert carries apart same d i at c.loop-demand.grants.items c.loop-demand.left.items c.loop-demand.na.now c.loop-demand.be.now w.first_flag-saturated-in-BestEffort.result.1.now w.first_flag-saturated-in-BestEffort.result.0 w.share-surplus-in-BestEffort.result c.grant.result _ c.left_over.result
+          (dealt_be s cert carries apart same d i at c.loop-demand.grants.items c.loop-demand.carries.items c.loop-demand.na.now c.loop-demand.be.now w.first_flag-saturated-in-BestEffort.result.1.now w.first_flag-saturated-in-BestEffort.result.0 w.share-surplus-in-BestEffort.result c.grant.result _ c.left_over.result
           c.loop-demand.invariant.dealt here w.in-BestEffort.is flag w.share-surplus-in-BestEffort.ensures.value (subst (λ n. Deals s.rule d (slice_index carries c.len.result) n c.grant.result c.left_over.result) w.surplus-is deals))
     ] in
-    record { dealt = dealt; count = search rules; room = search rules; count_left = search rules; room_left = search rules }
+    record { dealt = dealt; count = search rules; room = search rules; count_carries = search rules; room_carries = search rules }
 
 pub returns-clause-grants : goal.returns-clause-grants
 returns-clause-grants c =
-    (dealt_all c.args.input.now c.args.cert.now c.args.carries.now c.args.demands.now c.loop-demand.demand-index c.loop-demand.grants.items c.loop-demand.left.items c.loop-demand.na.now c.loop-demand.be.now c.requires.demands c.loop-demand.invariant.dealt (omega arith)).0
+    (dealt_all c.args.input.now c.args.cert.now c.args.former.now c.args.demands.now c.loop-demand.demand-index c.loop-demand.grants.items c.loop-demand.carries.items c.loop-demand.na.now c.loop-demand.be.now c.requires.demands c.loop-demand.invariant.dealt (omega arith)).0
 
 pub returns-clause-carries : goal.returns-clause-carries
 returns-clause-carries c =
-    (dealt_all c.args.input.now c.args.cert.now c.args.carries.now c.args.demands.now c.loop-demand.demand-index c.loop-demand.grants.items c.loop-demand.left.items c.loop-demand.na.now c.loop-demand.be.now c.requires.demands c.loop-demand.invariant.dealt (omega arith)).1
+    (dealt_all c.args.input.now c.args.cert.now c.args.former.now c.args.demands.now c.loop-demand.demand-index c.loop-demand.grants.items c.loop-demand.carries.items c.loop-demand.na.now c.loop-demand.be.now c.requires.demands c.loop-demand.invariant.dealt (omega arith)).1
