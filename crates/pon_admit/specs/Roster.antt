@@ -50,7 +50,7 @@ most_carry Two = 255
 
 -- the rule of a roster that is opened without naming a rule
 abbrev pub rule_in_force : Rule
-rule_in_force = One
+rule_in_force = Two
 
 -- a roster: its rule, the gap before each burst of its port, and its rows
 pub record Roster : Type 0 where

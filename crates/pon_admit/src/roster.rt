@@ -13,13 +13,13 @@ use std::marker::Model;
 mod steps;
 
 /// Rule of a roster that is opened without naming a rule.
-pub const RULE_IN_FORCE: Rule = Rule::One;
+pub const RULE_IN_FORCE: Rule = Rule::Two;
 
 /// Maximum number of ONUs of a port.
 const MOST_ONUS: usize = 128;
 
-/// The admitted Alloc-IDs of a port in map order, at all times an admitted set under its rule: at most 256 Alloc-IDs
-/// (512 under [`Rule::Two`]) of at most 128 ONUs, at most 16 of one ONU, no Alloc-ID twice, and promised rates that fit
+/// The admitted Alloc-IDs of a port in map order, at all times an admitted set under its rule: at most 512 Alloc-IDs
+/// (256 under [`Rule::One`]) of at most 128 ONUs, at most 16 of one ONU, no Alloc-ID twice, and promised rates that fit
 /// the words that the overhead leaves of a frame.
 #[derive(Drop)]
 pub struct Roster {
@@ -42,8 +42,8 @@ impl Model for Roster {
 }
 
 impl Roster {
-    /// Opens a roster with no rows, for bursts with this gap before each, under the rule in force, [`Rule::One`]. It
-    /// allocates memory for 256 rows, and fails if that is refused.
+    /// Opens a roster with no rows, for bursts with this gap before each, under the rule in force, [`Rule::Two`]. It
+    /// allocates memory for 512 rows, and fails if that is refused.
     pub fn open(alloc: Global, gap: Gap) -> Result<Roster, AllocError>
         ensures { IfOk result
             (λ roster. roster ≡ record { rule = rule_in_force; gap = gap; rows = [] }) }
