@@ -13,7 +13,7 @@ use Rattle.pon_lists.proofs.Lists.{map-map}
 use Rattle.pon_descr.specs.declared.refusal.Refusal.TheVariants.{ChapterFull, FrameLimit}
 use Rattle.pon_descr.proofs.Checks.{or_else_none, when_none}
 use Rattle.pon_admit.specs.declared.row.Row.{Row}
-use Rattle.pon_admit.specs.Roster.{IsInRange, most_allocs, most_carry, onus_of}
+use Rattle.pon_admit.specs.Roster.{IsInRange, most_allocs, most_carry, onus_of, rule_in_force}
 use Rattle.pon_burst.specs.Maps.{grant}
 use Rattle.pon_guar.specs.declared.account.Account.{Account}
 use Rattle.pon_guar.specs.declared.account.Counted.{Counted}
@@ -131,7 +131,7 @@ module _ (s : State) (k : IsSteady s) (h : IsStateInRange s) where
       let ids : map (λ g. g.onu) gs ≡ map (λ r. r.onu) s.roster
       = map-map (λ g. g.onu) grant_to s.roster in
       let onus : onus_granted gs ≡ onus_of s.roster = ap distinct ids in
-      let most : most_allocs s.rule ≡ 256 = ap most_allocs h.rule in
+      let most : most_allocs s.rule ≡ most_allocs rule_in_force = ap most_allocs h.rule in
       subst AreGrantsInRange (sym (fair_map s k.admitted k.carries made m).words) (record {
         few = omega (arith, length-map s.roster grant_to, k.admitted.few_allocs, most);
         few_onus = omega (arith, ap length onus, k.admitted.few_onus);

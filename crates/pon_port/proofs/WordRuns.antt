@@ -1,5 +1,5 @@
 -- Over a run of maps the words are the whole part of what is owed, under the rule that carries.
-use Rattle.std.proofs.Common.{◌≡◌, ℕ, ◌+◌, ◌-◌, ◌/◌, ◌%◌, ◌≤◌, Bool, true, false, ◌||◌, List, [], ◌∷◌, ◌++◌, map, refl, ap, sym, ◌∙◌, subst, append_assoc, arith, inl, inr}
+use Rattle.std.proofs.Common.{◌≡◌, ℕ, ◌+◌, ◌-◌, ◌/◌, ◌%◌, ◌≤◌, Bool, true, false, ◌||◌, List, [], ◌∷◌, ◌++◌, map, take, refl, ap, sym, ◌∙◌, subst, append_assoc, arith, inl, inr}
 use Rattle.std.specs.Prelude.{◌==◌, if◌then◌else◌}
 use Rattle.std.specs.List.{list_any}
 use Rattle.std.proofs.lemmas.Bool.{cases_Bool, or_parts}
@@ -30,8 +30,9 @@ use Rattle.pon_state.specs.declared.reply.Reply.TheVariants.{Taken, Map}
 use Rattle.pon_state.specs.declared.reply.MadeMap.{MadeMap}
 use Rattle.pon_state.specs.declared.reply.Entry.{Entry}
 use Rattle.pon_port.specs.Chapters.{Chapter, IsLawfulChapter}
-use Rattle.pon_port.specs.WordRuns.{GrantsWholeParts, words_of_reply, words_since}
+use Rattle.pon_port.specs.WordRuns.{GrantsWholeParts, RunsAreWhole, words_of_reply, words_since}
 use Rattle.pon_port.proofs.Carries.{sum_since-append}
+use Rattle.pon_port.proofs.CutChapters.{front_lawful}
 use Rattle.pon_port.proofs.Legality.{IsLegalAfter, after_from_legal}
 
 number_absent : (i : ℕ) (rows : List Row) (ns : List ℕ) → has_alloc i rows ≡ false → number_of rows ns i ≡ 0
@@ -141,8 +142,12 @@ all_words o two i done (e ∷ es) l k =
     subst (λ t. words_since o i t ≡ owed_of o t i / 256) (append_assoc done (e ∷ []) es)
     (all_words o two i (done ++ e ∷ []) es l.1 (one_more o two i done e l.0.reply k))
 
--- the words of a lawful chapter under the rule that carries
-pub whole_parts : (c : Chapter) → IsLawfulChapter c → c.opening.rule ≡ Two → GrantsWholeParts c
+-- the words of a lawful chapter under the rule that carries, over the whole of it
+whole_parts : (c : Chapter) → IsLawfulChapter c → c.opening.rule ≡ Two → GrantsWholeParts c.opening c.entries
 whole_parts c l two i =
     let start : number_of c.opening.roster c.opening.carries i ≤ 255 = subst (λ rule. number_of c.opening.roster c.opening.carries i ≤ most_carry rule) two (carry_within (most_carry c.opening.rule) c.opening.roster c.opening.carries i l.opening.carries.range) in
     all_words c.opening two i [] c.entries (after_from_legal c.opening c.entries c.number l.legal) (omega (arith, start))
+
+-- and over each run
+pub whole_runs : (c : Chapter) → IsLawfulChapter c → RunsAreWhole c
+whole_runs c l two k = whole_parts (record { number = c.number; opening = c.opening; entries = take k c.entries }) (front_lawful c l k) two

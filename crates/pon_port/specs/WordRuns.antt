@@ -1,7 +1,8 @@
 -- The words of an Alloc-ID over a run of maps.
-use Rattle.std.specs.Prelude.{ℕ, ◌≡◌, ◌-◌, ◌/◌, List, [], map}
+use Rattle.std.specs.Prelude.{ℕ, ◌≡◌, ◌-◌, ◌/◌, List, [], map, take}
 use Rattle.pon_units.specs.declared.limits.TheConstants.{WORD_RATE}
 use Rattle.pon_admit.specs.declared.row.Row.{Row}
+use Rattle.pon_admit.specs.declared.rule.Rule.TheVariants.{Two}
 use Rattle.pon_share.specs.Carries.{number_of}
 use Rattle.pon_state.specs.State.{State}
 use Rattle.pon_state.specs.Carries.{owed_of, sum_since}
@@ -20,7 +21,12 @@ words_of_reply rows (Map made) i = number_of rows (map (λ a. a.grant - 1) made.
 abbrev pub words_since : State → ℕ → List Entry → ℕ
 words_since o i es = sum_since (λ before e. words_of_reply (replay o before).roster e.reply i) i [] es
 
--- over the run of maps since its admission, an Alloc-ID is granted the whole part of what it is owed: of the sum of its
--- rates, and of the opening's carry if the run begins before the chapter
-abbrev pub GrantsWholeParts : Chapter → Type 0
-GrantsWholeParts c = (i : ℕ) → words_since c.opening i c.entries ≡ owed_of c.opening c.entries i / WORD_RATE
+-- over the maps since its last admission, each Alloc-ID is granted the whole part of what it is owed: of the sum of its
+-- rates, and of the opening's carry if no entry admits it
+abbrev pub GrantsWholeParts : State → List Entry → Type 0
+GrantsWholeParts o es = (i : ℕ) → words_since o i es ≡ owed_of o es i / WORD_RATE
+
+-- under the rule that carries what whole words leave, each Alloc-ID is granted the whole part of what it is owed over each
+-- run of maps: from an admission, or from the opening, up to any later entry
+abbrev pub RunsAreWhole : Chapter → Type 0
+RunsAreWhole c = c.opening.rule ≡ Two → (k : ℕ) → GrantsWholeParts c.opening (take k c.entries)

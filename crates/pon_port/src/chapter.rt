@@ -31,6 +31,7 @@ impl Chapter {
     ghost use Rattle.std.specs.Prelude.{◌≡◌};
     ghost use Rattle.pon_port.specs.Chapters.{IsLawfulChapter, IsLawfulOpening};
     ghost use Rattle.pon_port.specs.Ranges.{IsStateInRange};
+    ghost use Rattle.pon_port.specs.WordRuns.{RunsAreWhole};
 
     /// The number of the chapter, counted from 0 in its port.
     pub fn number(&self) -> u64
@@ -52,6 +53,7 @@ impl Chapter {
     pub fn entries(&self) -> &[Entry]
         ensures entries { result.now ≡ self.now.entries }
         ensures lawful { IsLawfulChapter self.now }
+        ensures runs { RunsAreWhole self.now }
     {
         self.entries.as_slice()
     }

@@ -27,8 +27,7 @@ ghost use Rattle.pon_port.specs.Chapters.{Chapter, IsLawfulChapter, IsLawfulOpen
 ghost use Rattle.pon_port.specs.CountedReports.{Counts, IsReport};
 ghost use Rattle.pon_port.specs.FairMaps.{TellsFairMap};
 ghost use Rattle.pon_port.specs.OtherForms.{account_reported, before_last};
-ghost use Rattle.pon_admit.specs.declared.rule.Rule.{Rule};
-ghost use Rattle.pon_port.specs.WordRuns.{GrantsWholeParts};
+ghost use Rattle.pon_port.specs.WordRuns.{RunsAreWhole};
 ghost use Rattle.pon_port.specs.Taking.{Takes, refusal_of, with_entry};
 ghost use Rattle.pon_event.specs.declared.event.Event.{Event};
 ghost use Rattle.pon_state.specs.declared.reply.Entry.{Entry};
@@ -69,10 +68,10 @@ pub fn maps_of_lawful_chapters_are_fair()
         → slice_get c.entries k ≡ Some e → TellsFairMap (state_before c k) e.reply }
 {}
 
-/// Under the rule that carries, an Alloc-ID is granted over the maps since its last admission the whole part of the sum
-/// of its rates; if the chapter does not admit it, of the opening's carry and the rates of the chapter.
+/// Under the rule that carries what whole words leave, an Alloc-ID is granted the whole part of the sum of its rates over
+/// each run of maps from its admission on; over a run from the opening on, of the opening's carry and these rates.
 pub fn words_over_runs_are_whole_parts()
-    ensures { (c : Chapter) → IsLawfulChapter c → c.opening.rule ≡ Rule.Two → GrantsWholeParts c }
+    ensures { (c : Chapter) → IsLawfulChapter c → RunsAreWhole c }
 {}
 
 /// The state before any entry of a lawful chapter, and the state after the last, may open a later chapter.

@@ -59,6 +59,8 @@ impl Port {
     ghost use Rattle.pon_port.specs.Ranges.{IsStateInRange};
     ghost use Rattle.pon_port.specs.Taking.{IsReady, Keeps, Takes, Turns, refusal_of, turn_refusal};
     ghost use Rattle.pon_port.specs.FairMaps.{IsFairMap, TellsFairMap};
+    ghost use Rattle.pon_port.specs.WordRuns.{RunsAreWhole};
+    ghost use Rattle.pon_share.specs.Carries.{AreCarries};
     ghost use Rattle.pon_descr.specs.Checks.{IsTold};
 
     /// Opens a port: no Alloc-ID, the line up, and `first` as its next frame. `Err` only if memory is refused.
@@ -92,6 +94,7 @@ impl Port {
     pub fn history(&self) -> &[Entry]
         ensures entries { result.now ≡ self.now.entries }
         ensures lawful { IsLawfulChapter self.now }
+        ensures runs { RunsAreWhole self.now }
     {
         self.entries.as_slice()
     }
@@ -116,6 +119,7 @@ impl Port {
     pub fn state(&self) -> &PortState
         ensures replayed { result.now ≡ present_state self.now }
         ensures admitted { IsAdmitted result.now.rule result.now.gap result.now.roster }
+        ensures carries { AreCarries result.now.rule result.now.roster result.now.carries }
     {
         &self.state
     }
@@ -139,6 +143,7 @@ impl Port {
         requires plain { makes_map event ≡ false }
         requires in_range { IsEvent event }
         ensures ok { OnOk result (Takes self.old event Reply.Taken self.new) }
+        ensures runs { OnOk result (RunsAreWhole self.new) }
         ensures refused { IfErr result (λ told. IsTold (refusal_of self.old event) told) }
         ensures err { OnErr result (self.new ≡ self.old) }
     {
@@ -175,6 +180,7 @@ impl Port {
         requires accepted { refusal_of self.old Event.MakeMap ≡ None }
         ensures ok { OnOk result (Takes self.old Event.MakeMap (Reply.Map next.made) self.new) }
         ensures fair { OnOk result (IsFairMap (present_state self.old) next.made) }
+        ensures runs { OnOk result (RunsAreWhole self.new) }
         ensures refused { IfErr result (IsTold None) }
         ensures err { OnErr result (self.new ≡ self.old) }
     {
@@ -212,6 +218,9 @@ impl Port {
         ensures ok { IfOk result (λ reply. Takes self.old event reply self.new) }
         // Each map is fair: certified, the fairest, in whole words, with bursts that do not overlap.
         ensures fair { IfOk result (λ reply. TellsFairMap (present_state self.old) reply) }
+        // Over each run of maps from an admission on, the words are the whole part of the sum of the rates, under the rule
+        // that carries what whole words leave.
+        ensures runs { OnOk result (RunsAreWhole self.new) }
         ensures refused { IfErr result (λ told. IsTold (refusal_of self.old event) told) }
         ensures err { OnErr result (self.new ≡ self.old) }
     {
@@ -233,6 +242,7 @@ impl Port {
     /// of the last entry.
     pub fn keep(&mut self, event: Event) -> Result<(), Refusal>
         ensures ok { OnOk result (Keeps self.old event self.new) }
+        ensures runs { OnOk result (RunsAreWhole self.new) }
         ensures refused { IfErr result (λ told. IsTold (refusal_of self.old event) told) }
         ensures err { OnErr result (self.new ≡ self.old) }
     {

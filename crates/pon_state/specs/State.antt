@@ -1,8 +1,8 @@
 -- The state of a port.
-use Rattle.std.specs.Prelude.{ℕ, List, [], Option, None}
+use Rattle.std.specs.Prelude.{ℕ, if◌then◌else◌, List, [], Option, Some, None}
 use Rattle.pon_admit.specs.declared.row.Row.{Row}
 use Rattle.pon_admit.specs.declared.rule.Rule.{Rule}
-use Rattle.pon_admit.specs.Roster.{rule_in_force}
+use Rattle.pon_admit.specs.Roster.{has_alloc, rule_in_force}
 use Rattle.pon_guar.specs.declared.account.Account.{Account}
 use Rattle.pon_window.specs.Window.{WindowMap}
 use Rattle.pon_share.specs.Carries.{number_of}
@@ -27,6 +27,10 @@ input_of s = record { rule = s.rule; gap = s.gap; roster = s.roster; book = s.bo
 -- the carry of a row
 abbrev pub carry_at : State → Row → ℕ
 carry_at s r = number_of s.roster s.carries r.alloc_id
+
+-- the carry of an Alloc-ID; none if it is not admitted
+abbrev pub carry_of : State → ℕ → Option ℕ
+carry_of s i = if has_alloc i s.roster then Some (number_of s.roster s.carries i) else None
 
 -- a port just opened under a rule: no rows, no window, not failed, nothing taken before
 abbrev pub opened_under : Rule → ℕ → ℕ → ℕ → State

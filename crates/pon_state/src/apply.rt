@@ -24,8 +24,8 @@ use std::alloc::AllocError;
 use std::mem;
 
 /// Updates the state by a map of the next frame, of which it keeps the grants and what they leave to each Alloc-ID. Returns
-/// lists with memory for those of a later map: that of the grants of the map that left the window, if one did, and that of
-/// the former carries. `Err` only if memory is refused, and then the state is unchanged.
+/// lists that a later map may use the memory of: the grants of the map that left the window, if one did, and the former
+/// carries. `Err` only if memory is refused, and then the state is unchanged.
 pub fn add_map(
     state: &mut PortState,
     grants: Vec<Granted>,

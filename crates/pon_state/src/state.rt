@@ -3,7 +3,7 @@ ghost use Rattle.std.specs.Prelude.{◌≡◌, IfOk};
 use pon_admit::Roster;
 use pon_descr::Cause;
 use pon_guar::Loads;
-use pon_units::{FrameNo, Gap, Profile};
+use pon_units::{AllocId, FrameNo, Gap, Profile};
 use std::alloc::{AllocError, Global};
 use std::marker::Model;
 
@@ -48,7 +48,10 @@ impl Model for PortState {
 }
 
 impl PortState {
-    ghost use Rattle.pon_state.specs.State.{just_opened};
+    ghost use Rattle.std.specs.Prelude.{◌≤◌, IfSome};
+    ghost use Rattle.pon_admit.specs.Roster.{most_carry};
+    ghost use Rattle.pon_share.specs.Carries.{AreCarries};
+    ghost use Rattle.pon_state.specs.State.{carry_of, just_opened};
 
     /// Makes the state of a port just opened: no Alloc-ID, the line up, and `first` as its next frame. `Err` only if
     /// memory is refused.
@@ -101,6 +104,17 @@ impl PortState {
         &self.roster
     }
 
+    /// What the last map left to an Alloc-ID, in kbit/s, 0 to 255, always 0 under the rule that carries nothing; `None`
+    /// if it is not admitted. It searches the rows.
+    pub fn carry(&self, alloc_id: AllocId) -> Option<u8>
+        requires { AreCarries self.now.rule self.now.roster self.now.carries }
+        ensures value { result ≡ carry_of self.now alloc_id }
+        ensures range { IfSome result (λ carry. carry ≤ most_carry self.now.rule) }
+    {
+        let place = self.roster.place_of(alloc_id)?;
+        Some(self.carries[place])
+    }
+
     /// The frame of the next map.
     pub fn next_frame(&self) -> FrameNo
         ensures { result ≡ self.now.next }
@@ -114,6 +128,13 @@ impl PortState {
         ensures window { result.now.window ≡ self.now.window }
     {
         &self.loads
+    }
+
+    /// What the last map left to each row of the roster, in map order, in kbit/s: 0 under rule one, 0 to 255 under rule two.
+    pub fn carries(&self) -> &[u8]
+        ensures { result.now ≡ self.now.carries }
+    {
+        &self.carries
     }
 
     /// The cause of the line failure, or `None` if the line is up.

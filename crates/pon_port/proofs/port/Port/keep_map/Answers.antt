@@ -9,6 +9,8 @@ use Rattle.pon_state.specs.declared.reply.Reply.TheVariants.{Map}
 use Rattle.pon_port.proofs.Kept.{kept_frames, map_taken, mapped}
 use Rattle.pon_port.proofs.FairMaps.{fair_map}
 use Rattle.pon_port.proofs.LastMaps.{last_made}
+use Rattle.pon_port.proofs.OneReply.{taken_lawful}
+use Rattle.pon_port.proofs.WordRuns.{whole_runs}
 use Rattle.pon_port.proofs.port.Port.keep_map.Goals as goal
 
 -- the finished map is one of the state that the port has, in which no check refuses it
@@ -37,6 +39,13 @@ returns-clause-ok c =
     let new : Chapter = record { number = c.self.inside.number; opening = c.self.inside.opening; entries = c.push_reserved.new.self.items } in
     subst (λ old. Takes old MakeMap (Map c.args.next.made) new) c.self.view_is
     (map_taken old new c.self.inside.state c.args.next.made c.self.invariant.kept (accepted c) (ready c).made (search rules))
+
+pub returns-clause-runs : goal.returns-clause-runs
+returns-clause-runs c =
+    let old : Chapter = record { number = c.self.inside.number; opening = c.self.inside.opening; entries = c.self.inside.entries.items } in
+    let new : Chapter = record { number = c.self.inside.number; opening = c.self.inside.opening; entries = c.push_reserved.new.self.items } in
+    let takes : Takes old MakeMap (Map c.args.next.made) new = map_taken old new c.self.inside.state c.args.next.made c.self.invariant.kept (accepted c) (ready c).made (search rules) in
+    whole_runs new (taken_lawful old new MakeMap (Map c.args.next.made) c.self.invariant.kept.lawful takes)
 
 pub add_map-requires-clause-frames : goal.add_map-requires-clause-frames
 add_map-requires-clause-frames c = kept_frames _ c.self.inside.state c.self.invariant.kept
