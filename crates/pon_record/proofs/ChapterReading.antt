@@ -6,7 +6,8 @@ use Rattle.std.proofs.lemmas.List.{length-drop, drop-drop}
 use Rattle.pon_lists.specs.OptionSteps.{◌>>=◌}
 use Rattle.pon_record.specs.declared.limits.TheConstants.{CHAPTER_TAG, HEAD_BYTES}
 use Rattle.pon_record.specs.Format.{Format, all_of, number, only, sized, ◌&◌}
-use Rattle.pon_record.specs.Chapters.{PlacedChapter, body}
+use Rattle.pon_record.specs.declared.version.Version.{Version}
+use Rattle.pon_record.specs.Chapters.{PlacedChapter, body_in}
 use Rattle.pon_record.specs.ChapterReading.{BeginsWith, HasBody}
 
 -- for any format of the body
@@ -44,10 +45,10 @@ module _ {A : Type 0} (f : Format A) where
       ∙ rw (inside, whole, e, after) refl
 
 -- a chapter whose body is read begins the bytes
-pub begins_with : (bytes piece : List ℕ) (at : ℕ) (c : PlacedChapter) → HasBody bytes piece → all_of (body.read piece) ≡ Some c.body → c.at ≡ at → BeginsWith bytes at c (HEAD_BYTES + length piece)
-begins_with bytes piece at c has e place = record {
+pub begins_with : (v : Version) (bytes piece : List ℕ) (at : ℕ) (c : PlacedChapter) → HasBody bytes piece → all_of ((body_in v).read piece) ≡ Some c.body → c.at ≡ at → BeginsWith v bytes at c (HEAD_BYTES + length piece)
+begins_with v bytes piece at c has e place = record {
   place = place;
   some = omega arith;
   within = has.within;
-  read = reads body bytes piece c.body has.tag has.within has.size has.is e;
+  read = reads (body_in v) bytes piece c.body has.tag has.within has.size has.is e;
 }

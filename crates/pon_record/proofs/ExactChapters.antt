@@ -1,13 +1,19 @@
 -- The two directions of the formats of made maps, entries and chapters agree.
-use Rattle.std.proofs.Common.{◌≡◌, ℕ, List, ◌++◌, Some, refl, sym, ap, subst}
+use Rattle.std.proofs.Common.{◌≡◌, ℕ, List, ◌++◌, Some, refl, sym, ap, subst, ◌∙◌}
+use Rattle.pon_admit.specs.declared.rule.Rule.{Rule}
 use Rattle.pon_event.specs.declared.event.Event.{Event}
 use Rattle.pon_event.specs.declared.event.Event.TheVariants.{Admit, Change, Remove, Report, MakeMap, Fail, Restore}
 use Rattle.pon_state.specs.declared.reply.Reply.{Reply}
 use Rattle.pon_state.specs.declared.reply.Reply.TheVariants.{Taken, Map}
 use Rattle.pon_record.specs.MadeMaps.{made_map, made_of, made_parts}
-use Rattle.pon_record.specs.Chapters.{body, body_of, body_parts, entry, map_reply, reply_to, tagged_body}
+use Rattle.pon_state.specs.declared.reply.Entry.{Entry}
+use Rattle.pon_record.specs.declared.version.Version.{Version}
+use Rattle.pon_record.specs.Format.{as_value, followed}
+use Rattle.pon_record.specs.Fields.{rule_in}
+use Rattle.pon_record.specs.Openings.{Opening, opening_of, opening_parts}
+use Rattle.pon_record.specs.Chapters.{Body, body_in, body_of, body_parts, body_under, entry, map_reply, reply_to, tagged_body_in}
 use Rattle.pon_record.proofs.Exact.{IsExact, bind_some, both, constants, followed_by, lists, only_those, sizes, some_is, told, wide32}
-use Rattle.pon_record.proofs.Exactness.{n8, n32, n64, exact_opening}
+use Rattle.pon_record.proofs.Exactness.{n8, n32, n64, exact_opening, exact_rule}
 use Rattle.pon_record.proofs.ExactCertificates.{exact_certificate}
 use Rattle.pon_record.proofs.ExactEvents.{exact_event}
 use Rattle.pon_record.proofs.ExactMaps.{exact_map}
@@ -39,9 +45,18 @@ exact_reply_to Restore = constants Taken
 pub exact_entry : IsExact entry
 exact_entry = told _ _ _ (followed_by _ _ exact_event exact_reply_to) (λ x r fits e. ap (λ e. (e.event, e.reply)) (sym (some_is (record { event = x.0; reply = x.1 }) r e)))
 
-pub exact_body : IsExact body
-exact_body = told _ body_parts _ (both _ _ (only_those _ _ n8) (both _ _ n64 (both _ _ exact_opening (lists _ 65536 _ n32 exact_entry))))
-    (λ x b fits e. ap body_parts (sym (some_is (body_of x) b e)))
+exact_under : (v : Version) (r : Rule) → IsExact (body_under v r)
+exact_under v r = both _ _ (only_those _ _ n8) (both _ _ n64 (both _ _ (exact_opening v r) (lists _ 65536 _ n32 exact_entry)))
 
-pub exact_chapter : IsExact tagged_body
-exact_chapter = both _ _ (only_those _ _ n8) (sizes _ wide32 _ exact_body)
+-- the opening has the rule that was read before it
+one_body : (v : Version) (x : Rule × (ℕ × (ℕ × (Opening × List Entry)))) (b : Body) → (followed (rule_in v) (body_under v)).Fits x → as_value body_of x ≡ Some b → body_parts b ≡ x
+one_body v x b fits e =
+    let o : Opening = x.1.1.1.0 in
+    let same : x.0 ≡ o.rule = ap (λ o. o.rule) (some_is (opening_of x.0 (opening_parts o)) o fits.1.1.1.0.1) in
+    ap body_parts (sym (some_is (body_of x) b e)) ∙ (λ i. (sym same i, x.1))
+
+pub exact_body : (v : Version) → IsExact (body_in v)
+exact_body v = told _ body_parts _ (followed_by _ _ (exact_rule v) (exact_under v)) (one_body v)
+
+pub exact_chapter : (v : Version) → IsExact (tagged_body_in v)
+exact_chapter v = both _ _ (only_those _ _ n8) (sizes _ wide32 _ (exact_body v))

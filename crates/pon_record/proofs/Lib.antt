@@ -7,5 +7,11 @@ pub mod ExactEvents
 pub mod ExactMaps
 pub mod ExactCertificates
 pub mod ExactChapters
+pub mod Magic
 pub mod Reading
 pub mod OneReading
+pub mod Sizes
+pub mod MovedBodies
+pub mod MovedChapters
+pub mod RuleLimits
+pub mod CountedChapters

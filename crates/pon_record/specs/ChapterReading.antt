@@ -6,7 +6,8 @@ use Rattle.pon_record.specs.declared.fault.ChapterFault.{ChapterFault}
 use Rattle.pon_record.specs.declared.fault.ChapterFault.TheVariants as chapter
 use Rattle.pon_record.specs.declared.fault.Stop.{Stop}
 use Rattle.pon_record.specs.declared.fault.Stop.TheVariants as stop
-use Rattle.pon_record.specs.Chapters.{IsCutShort, PlacedChapter, body_size, tagged_body}
+use Rattle.pon_record.specs.declared.version.Version.{Version}
+use Rattle.pon_record.specs.Chapters.{IsCutShort, PlacedChapter, body_size, tagged_body_in}
 
 abbrev pub fault_of : Stop → ChapterFault
 fault_of stop.Malformed = chapter.Malformed
@@ -29,18 +30,18 @@ IsBodyOf bytes (Ok piece) = HasBody bytes piece.now
 IsBodyOf bytes (Err fault) = HasNoBody bytes fault
 
 -- the chapter at the front of the bytes, and its number of bytes
-pub record BeginsWith (bytes : List ℕ) (at : ℕ) (c : PlacedChapter) (size : ℕ) : Type 0 where
+pub record BeginsWith (v : Version) (bytes : List ℕ) (at : ℕ) (c : PlacedChapter) (size : ℕ) : Type 0 where
   pub place : c.at ≡ at
   pub some : 0 < size
   pub within : size ≤ length bytes
-  pub read : tagged_body.read bytes ≡ Some ((CHAPTER_TAG, c.body), drop size bytes)
+  pub read : (tagged_body_in v).read bytes ≡ Some ((CHAPTER_TAG, c.body), drop size bytes)
 
 -- why no chapter begins the bytes
-abbrev pub HasNoChapter : List ℕ → ChapterFault → Type 0
-HasNoChapter bytes chapter.CutShort = IsCutShort bytes
-HasNoChapter bytes chapter.Malformed = (tagged_body.read bytes ≡ None) × (IsCutShort bytes → ⊥)
-HasNoChapter bytes chapter.Memory = Unit {0}
+abbrev pub HasNoChapter : Version → List ℕ → ChapterFault → Type 0
+HasNoChapter v bytes chapter.CutShort = IsCutShort bytes
+HasNoChapter v bytes chapter.Malformed = ((tagged_body_in v).read bytes ≡ None) × (IsCutShort bytes → ⊥)
+HasNoChapter v bytes chapter.Memory = Unit {0}
 
-abbrev pub ReadsChapter : List ℕ → ℕ → Result (PlacedChapter × ℕ) ChapterFault → Type 0
-ReadsChapter bytes at (Ok r) = BeginsWith bytes at r.0 r.1
-ReadsChapter bytes at (Err fault) = HasNoChapter bytes fault
+abbrev pub ReadsChapter : Version → List ℕ → ℕ → Result (PlacedChapter × ℕ) ChapterFault → Type 0
+ReadsChapter v bytes at (Ok r) = BeginsWith v bytes at r.0 r.1
+ReadsChapter v bytes at (Err fault) = HasNoChapter v bytes fault

@@ -2,6 +2,7 @@
 use Rattle.std.specs.Prelude.{◌≡◌, ℕ, ◌+◌, ◌<◌, nat_lt, ◌==◌, List, [], ◌∷◌, drop, length, slice_index, take, Some}
 use Rattle.std.specs.Int.{w8, w32, w64, from_be_bytes}
 use Rattle.pon_lists.specs.OptionSteps.{◌>>=◌}
+use Rattle.pon_admit.specs.declared.rule.Rule.{Rule}
 use Rattle.pon_units.specs.declared.limits.TheConstants.{MOST_PORTS}
 use Rattle.pon_event.specs.declared.event.Event.{Event}
 use Rattle.pon_event.specs.declared.event.Event.TheVariants.{MakeMap}
@@ -11,7 +12,9 @@ use Rattle.pon_state.specs.declared.reply.Entry.{Entry}
 use Rattle.pon_state.specs.declared.checks.TheConstants.{MOST_ENTRIES}
 use Rattle.pon_record.specs.declared.limits.TheConstants.{CHAPTER_TAG, HEAD_BYTES}
 use Rattle.pon_record.specs.Format.{Format, ◌&◌, as_value, constant, counted, followed, number, only, sized, told_by}
-use Rattle.pon_record.specs.Openings.{Opening, opening}
+use Rattle.pon_record.specs.declared.version.Version.{Version}
+use Rattle.pon_record.specs.Fields.{rule_in}
+use Rattle.pon_record.specs.Openings.{Opening, opening_in}
 use Rattle.pon_record.specs.Events.{event}
 use Rattle.pon_record.specs.MadeMaps.{made_map}
 
@@ -45,25 +48,30 @@ pub record Body : Type 0 where
   pub opening : Opening
   pub entries : List Entry
 
-abbrev pub body_parts : Body → ℕ × (ℕ × (Opening × List Entry))
-body_parts b = (b.port, (b.number, (b.opening, b.entries)))
+-- the rule of the opening comes first
+abbrev pub body_parts : Body → Rule × (ℕ × (ℕ × (Opening × List Entry)))
+body_parts b = (b.opening.rule, (b.port, (b.number, (b.opening, b.entries))))
 
-abbrev pub body_of : ℕ × (ℕ × (Opening × List Entry)) → Body
-body_of x = record { port = x.0; number = x.1.0; opening = x.1.1.0; entries = x.1.1.1 }
+abbrev pub body_of : Rule × (ℕ × (ℕ × (Opening × List Entry))) → Body
+body_of x = record { port = x.1.0; number = x.1.1.0; opening = x.1.1.1.0; entries = x.1.1.1.1 }
 
-abbrev pub body : Format Body
-body = told_by (as_value body_of) body_parts (port & number w64 & opening & counted (number w32) MOST_ENTRIES entry)
+-- what follows the rule
+abbrev pub body_under : Version → Rule → Format (ℕ × (ℕ × (Opening × List Entry)))
+body_under v r = port & number w64 & opening_in v r & counted (number w32) MOST_ENTRIES entry
+
+abbrev pub body_in : Version → Format Body
+body_in v = told_by (as_value body_of) body_parts (followed (rule_in v) (body_under v))
 
 -- the tag of a chapter, the number of bytes of its body, and the body
-abbrev pub tagged_body : Format (ℕ × Body)
-tagged_body = only (λ n. n == CHAPTER_TAG) (number w8) & sized w32 body
+abbrev pub tagged_body_in : Version → Format (ℕ × Body)
+tagged_body_in v = only (λ n. n == CHAPTER_TAG) (number w8) & sized w32 (body_in v)
 
-abbrev pub chapter_bytes : Body → List ℕ
-chapter_bytes b = tagged_body.write (CHAPTER_TAG, b)
+abbrev pub chapter_bytes : Version → Body → List ℕ
+chapter_bytes v b = (tagged_body_in v).write (CHAPTER_TAG, b)
 
--- the chapters that the format can represent
-abbrev pub FitsChapter : Body → Type 0
-FitsChapter b = tagged_body.Fits (CHAPTER_TAG, b)
+-- the chapters that a version can represent
+abbrev pub FitsChapter : Version → Body → Type 0
+FitsChapter v b = (tagged_body_in v).Fits (CHAPTER_TAG, b)
 
 -- a chapter, and the place of its first byte in the recording
 pub record PlacedChapter : Type 0 where
@@ -71,9 +79,9 @@ pub record PlacedChapter : Type 0 where
   pub body : Body
 
 -- chapters one after another, from a place on
-abbrev pub placed : ℕ → List Body → List PlacedChapter
-placed at [] = []
-placed at (b ∷ bs) = record { at = at; body = b } ∷ placed (at + length (chapter_bytes b)) bs
+abbrev pub placed : Version → ℕ → List Body → List PlacedChapter
+placed v at [] = []
+placed v at (b ∷ bs) = record { at = at; body = b } ∷ placed v (at + length (chapter_bytes v b)) bs
 
 -- the number of bytes of the body: the 4 bytes after the tag
 abbrev pub body_size : List ℕ → ℕ

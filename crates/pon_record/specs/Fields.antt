@@ -6,8 +6,13 @@ use Rattle.pon_descr.specs.declared.class.Class.{Class}
 use Rattle.pon_descr.specs.declared.class.Class.TheVariants.{Plain, NonAssured, BestEffort}
 use Rattle.pon_descr.specs.declared.refusal.Refusal.{Refusal}
 use Rattle.pon_descr.specs.Descriptor.{Descriptor, descriptor_refusal}
+use Rattle.pon_admit.specs.Roster.{most_carry}
+use Rattle.pon_admit.specs.declared.rule.Rule.{Rule}
+use Rattle.pon_admit.specs.declared.rule.Rule.TheVariants as rule
 use Rattle.pon_guar.specs.declared.account.Counted.{Counted}
-use Rattle.pon_record.specs.Format.{Format, ◌&◌, number, only, told_by}
+use Rattle.pon_record.specs.declared.version.Version.{Version}
+use Rattle.pon_record.specs.declared.version.Version.TheVariants as version
+use Rattle.pon_record.specs.Format.{Format, ◌&◌, constant, number, only, told_by}
 
 abbrev pub onu_id : Format ℕ
 onu_id = only (λ n. nat_le n GREATEST_ONU_ID) (number w16)
@@ -87,3 +92,23 @@ report_code (Some c) = (1, (c.frame, c.words))
 
 abbrev pub report : Format (Option Counted)
 report = told_by report_meaning report_code (number w8 & frame & number w32)
+
+-- The fields that differ between the versions.
+
+-- the rule of a chapter: 1 or 2
+abbrev pub rule_meaning : ℕ → Option Rule
+rule_meaning n = if n == 1 then Some rule.One else if n == 2 then Some rule.Two else None
+
+abbrev pub rule_code : Rule → ℕ
+rule_code rule.One = 1
+rule_code rule.Two = 2
+
+-- no byte in version one, whose chapters are all under rule one
+abbrev pub rule_in : Version → Format Rule
+rule_in version.One = constant rule.One
+rule_in version.Two = told_by rule_meaning rule_code (number w8)
+
+-- what the last map left to a row, in kbit/s, under a rule; no byte in version one, where nothing is carried
+abbrev pub carry_in : Version → Rule → Format ℕ
+carry_in version.One r = constant 0
+carry_in version.Two r = only (λ n. nat_le n (most_carry r)) (number w8)

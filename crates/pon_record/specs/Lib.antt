@@ -7,3 +7,4 @@ pub mod Chapters
 pub mod Reading
 pub mod ChapterReading
 pub mod Recordings
+pub mod Migrations

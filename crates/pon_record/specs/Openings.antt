@@ -1,25 +1,35 @@
--- The state that a chapter opens with.
-use Rattle.std.specs.Prelude.{ℕ, List, Option}
+-- The state that a chapter opens with, by the version of the recording and the rule of the chapter.
+use Rattle.std.specs.Prelude.{ℕ, ◌≤◌, All, List, length, Option}
 use Rattle.std.specs.Int.{w8, w16, w64}
+use Rattle.pon_admit.specs.Roster.{most_allocs, most_carry}
+use Rattle.pon_admit.specs.declared.rule.Rule.{Rule}
 use Rattle.pon_descr.specs.Descriptor.{Descriptor}
 use Rattle.pon_units.specs.declared.granted.Granted.{Granted}
 use Rattle.pon_guar.specs.declared.account.Counted.{Counted}
 use Rattle.pon_window.specs.Window.{WindowMap}
 use Rattle.pon_window.specs.declared.window.TheConstants.{MOST_MAPS}
-use Rattle.pon_record.specs.declared.limits.TheConstants.{MOST_GRANTS, MOST_REPORTED, MOST_ROWS}
+use Rattle.pon_record.specs.declared.limits.TheConstants.{MOST_REPORTED}
 use Rattle.pon_record.specs.declared.row.RawRow.{RawRow}
+use Rattle.pon_record.specs.declared.version.Version.{Version}
 use Rattle.pon_record.specs.Format.{Format, ◌&◌, as_value, counted, number, told_by}
-use Rattle.pon_record.specs.Fields.{alloc_id, descriptor, failure, frame, gap, onu_id, profile, report, words}
+use Rattle.pon_record.specs.Fields.{alloc_id, carry_in, descriptor, failure, frame, gap, onu_id, profile, report, words}
 
--- a row: the ONU, the Alloc-ID, its descriptor, its since-frame, and its counted report
-abbrev pub row_parts : RawRow → ℕ × (ℕ × (Descriptor × (ℕ × Option Counted)))
-row_parts r = (r.onu, (r.alloc_id, (r.descriptor, (r.since, r.counted))))
+-- a row: the ONU, the Alloc-ID, its descriptor, its since-frame, its counted report, and its carry
+abbrev pub row_parts : RawRow → ℕ × (ℕ × (Descriptor × (ℕ × (Option Counted × ℕ))))
+row_parts r = (r.onu, (r.alloc_id, (r.descriptor, (r.since, (r.counted, r.carry)))))
 
-abbrev pub row_of : ℕ × (ℕ × (Descriptor × (ℕ × Option Counted))) → RawRow
-row_of x = record { onu = x.0; alloc_id = x.1.0; descriptor = x.1.1.0; since = x.1.1.1.0; counted = x.1.1.1.1 }
+abbrev pub row_of : ℕ × (ℕ × (Descriptor × (ℕ × (Option Counted × ℕ)))) → RawRow
+row_of x = record {
+  onu = x.0;
+  alloc_id = x.1.0;
+  descriptor = x.1.1.0;
+  since = x.1.1.1.0;
+  counted = x.1.1.1.1.0;
+  carry = x.1.1.1.1.1;
+}
 
-abbrev pub row : Format RawRow
-row = told_by (as_value row_of) row_parts (onu_id & alloc_id & descriptor & frame & report)
+abbrev pub row_in : Version → Rule → Format RawRow
+row_in v r = told_by (as_value row_of) row_parts (onu_id & alloc_id & descriptor & frame & report & carry_in v r)
 
 -- a grant of a map of the window: the ONU, the Alloc-ID, its payload words
 abbrev pub grant_parts : Granted → ℕ × (ℕ × ℕ)
@@ -38,11 +48,14 @@ map_parts m = (m.frame, (m.grants, m.reported))
 abbrev pub window_map_of : ℕ × (List Granted × List ℕ) → WindowMap
 window_map_of x = record { frame = x.0; grants = x.1.0; reported = x.1.1 }
 
-abbrev pub window_map : Format WindowMap
-window_map = told_by (as_value window_map_of) map_parts (frame & counted (number w16) MOST_GRANTS grant & counted (number w8) MOST_REPORTED onu_id)
+-- at most as many grants as a port may have Alloc-IDs under the rule
+abbrev pub window_map_under : Rule → Format WindowMap
+window_map_under r = told_by (as_value window_map_of) map_parts (frame & counted (number w16) (most_allocs r) grant & counted (number w8) MOST_REPORTED onu_id)
 
--- the gap, the profile, the cause of a failure, the next frame, the number of earlier entries, the rows, and the window
+-- the rule, the gap, the profile, the cause of a failure, the next frame, the number of earlier entries, the rows, and the
+-- window
 pub record Opening : Type 0 where
+  pub rule : Rule
   pub gap : ℕ
   pub profile : ℕ
   pub cause : Option ℕ
@@ -51,11 +64,13 @@ pub record Opening : Type 0 where
   pub rows : List RawRow
   pub window : List WindowMap
 
+-- what follows the rule
 abbrev pub opening_parts : Opening → ℕ × (ℕ × (Option ℕ × (ℕ × (ℕ × (List RawRow × List WindowMap)))))
 opening_parts o = (o.gap, (o.profile, (o.cause, (o.next, (o.taken_before, (o.rows, o.window))))))
 
-abbrev pub opening_of : ℕ × (ℕ × (Option ℕ × (ℕ × (ℕ × (List RawRow × List WindowMap))))) → Opening
-opening_of x = record {
+abbrev pub opening_of : Rule → ℕ × (ℕ × (Option ℕ × (ℕ × (ℕ × (List RawRow × List WindowMap))))) → Opening
+opening_of r x = record {
+  rule = r;
   gap = x.0;
   profile = x.1.0;
   cause = x.1.1.0;
@@ -65,6 +80,13 @@ opening_of x = record {
   window = x.1.1.1.1.1.1;
 }
 
-abbrev pub opening : Format Opening
-opening = told_by (as_value opening_of) opening_parts
-    (gap & profile & failure & frame & number w64 & counted (number w16) MOST_ROWS row & counted (number w8) MOST_MAPS window_map)
+-- an opening under a rule that is known: at most as many rows as a port may have Alloc-IDs
+abbrev pub opening_in : Version → Rule → Format Opening
+opening_in v r = told_by (as_value (opening_of r)) opening_parts
+    (gap & profile & failure & frame & number w64 & counted (number w16) (most_allocs r) (row_in v r) & counted (number w8) MOST_MAPS (window_map_under r))
+
+-- the rows, their carries and the grants of each map of the window are within the limits of the rule
+pub record KeepsLimits (o : Opening) : Type 0 where
+  pub few_rows : length o.rows ≤ most_allocs o.rule
+  pub carries_in_range : All (λ r. r.carry ≤ most_carry o.rule) o.rows
+  pub few_grants : All (λ m. length m.grants ≤ most_allocs o.rule) o.window

@@ -3,47 +3,57 @@
 ghost use Rattle.std.specs.Prelude.{◌≡◌, ◌<◌, IfOk, length};
 ghost use Rattle.pon_record.specs.Format.{all_of};
 ghost use Rattle.pon_record.specs.Reading.{ReadsValue};
-ghost use Rattle.pon_record.specs.Chapters.{body};
+ghost use Rattle.pon_record.specs.Chapters.{body_in};
 ghost use Rattle.pon_record.specs.ChapterReading.{IsBodyOf, ReadsChapter};
 
 use crate::chapter::RawChapter;
 use crate::cursor::Cursor;
 use crate::fault::{ChapterFault, Stop};
+use crate::layout::Layout;
 use crate::limits::{CHAPTER_TAG, HEAD_BYTES};
 use crate::lists::read_many;
 use crate::openings::read_opening;
+use crate::version::Version;
 use pon_state::MOST_ENTRIES;
 use std::alloc::Global;
 
 // Reads the body of the chapter that begins at the place `at` of the recording.
-fn read_body(alloc: Global, at: usize, cursor: &mut Cursor<'_>) -> Result<RawChapter, Stop>
-    ensures body { ReadsValue (λ c. (c.body, cursor.new)) result (body.read cursor.old) }
+fn read_body(
+    alloc: Global,
+    version: Version,
+    at: usize,
+    cursor: &mut Cursor<'_>,
+) -> Result<RawChapter, Stop>
+    ensures body { ReadsValue (λ c. (c.body, cursor.new)) result
+        ((body_in version).read cursor.old) }
     ensures at { IfOk result (λ c. c.at ≡ at) }
 {
+    let rule = cursor.rule(version)?;
+    let layout = Layout { version, rule };
     Ok(RawChapter {
         at,
         port: cursor.port()?,
         number: cursor.u64()?,
-        opening: read_opening(alloc, cursor)?,
-        entries: read_many(alloc, cursor, MOST_ENTRIES as u32)?,
+        opening: read_opening(alloc, cursor, layout)?,
+        entries: read_many(alloc, cursor, layout, MOST_ENTRIES as u32)?,
     })
 }
 
 // Reads a body that takes all of `bytes`.
-fn read_whole(alloc: Global, at: usize, bytes: &[u8]) -> Result<RawChapter, Stop>
-    ensures body { ReadsValue (λ c. c.body) result (all_of (body.read bytes.now)) }
+fn read_whole(alloc: Global, version: Version, at: usize, bytes: &[u8]) -> Result<RawChapter, Stop>
+    ensures body { ReadsValue (λ c. c.body) result (all_of ((body_in version).read bytes.now)) }
     ensures at { IfOk result (λ c. c.at ≡ at) }
 {
     let mut cursor = Cursor::new(bytes);
-    let chapter = read_body(alloc, at, &mut cursor)?;
+    let chapter = read_body(alloc, version, at, &mut cursor)?;
     if !cursor.is_at_end() {
         return Err(Stop::Malformed);
     }
     Ok(chapter)
 }
 
-// Returns the bytes of the body of the chapter at the front of `bytes`.
-fn body_of(bytes: &[u8]) -> Result<&[u8], ChapterFault>
+/// Returns the bytes of the body of the chapter at the front of `bytes`.
+pub(crate) fn body_of(bytes: &[u8]) -> Result<&[u8], ChapterFault>
     requires { 0 < length bytes.now }
     ensures { IsBodyOf bytes.now result }
 {
@@ -64,13 +74,14 @@ fn body_of(bytes: &[u8]) -> Result<&[u8], ChapterFault>
 /// Reads the chapter at the front of `bytes`, at the place `at` of the recording. Returns it with its size in bytes.
 pub(crate) fn read_chapter(
     alloc: Global,
+    version: Version,
     at: usize,
     bytes: &[u8],
 ) -> Result<(RawChapter, usize), ChapterFault>
     requires { 0 < length bytes.now }
-    ensures { ReadsChapter bytes.now at result }
+    ensures { ReadsChapter version bytes.now at result }
 {
     let body = body_of(bytes)?;
-    let chapter = read_whole(alloc, at, body)?;
+    let chapter = read_whole(alloc, version, at, body)?;
     Ok((chapter, HEAD_BYTES + body.len()))
 }

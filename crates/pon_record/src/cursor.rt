@@ -4,12 +4,16 @@ ghost use Rattle.std.specs.Prelude.{◌≡◌, ◌≤◌, ◌==◌, drop, length
 ghost use Rattle.std.specs.Int.{w8, w16, w32, w64};
 ghost use Rattle.pon_record.specs.Format.{number, only};
 ghost use Rattle.pon_record.specs.Reading.{Reads};
-ghost use Rattle.pon_record.specs.Fields.{alloc_id, cause, class, descriptor, failure, frame, gap, onu_id, profile, report, report_meaning, words};
+ghost use Rattle.pon_record.specs.Fields.{alloc_id, carry_in, cause, class, descriptor, failure, frame, gap, onu_id, profile, report, report_meaning, rule_in, words};
+ghost use Rattle.pon_record.specs.declared.version.Version.TheVariants.{Two};
 ghost use Rattle.pon_record.specs.Chapters.{port};
 ghost use Rattle.pon_record.specs.Events.{occupancy};
 
 use crate::fault::Malformed;
+use crate::layout::Layout;
 use crate::limits::GARBLED;
+use crate::version::Version;
+use pon_admit::Rule;
 use pon_descr::{Cause, Class, Descriptor};
 use pon_guar::Counted;
 use pon_units::{AllocId, BufOcc, FrameNo, Gap, OnuId, PortNo, Profile, Words};
@@ -236,6 +240,49 @@ impl<'a> Cursor<'a> {
         match report_of(flag, frame, words) {
             Some(counted) => Ok(counted),
             None => Err(Malformed),
+        }
+    }
+
+    // Reads the byte of a rule.
+    fn rule_byte(&mut self) -> Result<Rule, Malformed>
+        ensures { Reads (λ x. (x, self.new)) result ((rule_in Two).read self.old) }
+    {
+        match self.u8()? {
+            1 => Ok(Rule::One),
+            2 => Ok(Rule::Two),
+            _ => Err(Malformed),
+        }
+    }
+
+    /// Reads the rule of a chapter, which is rule one without a byte in version one.
+    pub(crate) fn rule(&mut self, version: Version) -> Result<Rule, Malformed>
+        ensures { Reads (λ x. (x, self.new)) result ((rule_in version).read self.old) }
+    {
+        match version {
+            Version::One => Ok(Rule::One),
+            Version::Two => self.rule_byte(),
+        }
+    }
+
+    // Reads the byte of a carry.
+    fn carry_byte(&mut self, layout: Layout) -> Result<u8, Malformed>
+        ensures { Reads (λ x. (x, self.new)) result ((carry_in Two layout.rule).read self.old) }
+    {
+        let carry = self.u8()?;
+        if carry > layout.most_carry() {
+            return Err(Malformed);
+        }
+        Ok(carry)
+    }
+
+    /// Reads the carry of a row, which is 0 without a byte in version one.
+    pub(crate) fn carry(&mut self, layout: Layout) -> Result<u8, Malformed>
+        ensures { Reads (λ x. (x, self.new)) result
+            ((carry_in layout.version layout.rule).read self.old) }
+    {
+        match layout.version {
+            Version::One => Ok(0),
+            Version::Two => self.carry_byte(layout),
         }
     }
 

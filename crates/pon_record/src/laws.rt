@@ -1,46 +1,68 @@
 //! Laws on the format of recordings.
 
-ghost use Rattle.std.specs.Prelude.{◌≡◌, ◌≢◌, ◌++◌, ℕ, List, Some, length};
+ghost use Rattle.std.specs.Prelude.{◌≡◌, ◌≢◌, ◌++◌, All, Bool, ℕ, List, Some, length};
 ghost use Rattle.std.specs.List.{AllByRecursion};
 ghost use Rattle.pon_lists.specs.Bytes.{AreBytes};
-ghost use Rattle.pon_record.specs.declared.limits.TheConstants.{CHAPTER_TAG, MAGIC};
+ghost use Rattle.pon_admit.specs.declared.rule.Rule.{Rule};
+ghost use Rattle.pon_record.specs.declared.limits.TheConstants.{CHAPTER_TAG, MAGIC_BYTES};
 ghost use Rattle.pon_record.specs.declared.fault.ReadFault.{ReadFault};
-ghost use Rattle.pon_record.specs.Chapters.{Body, FitsChapter, PlacedChapter, chapter_bytes, placed, tagged_body};
-ghost use Rattle.pon_record.specs.Recordings.{IsBadFormat, IsReadFault, IsRecording, IsTruncated, recording_bytes};
+ghost use Rattle.pon_record.specs.declared.version.Version.{Version};
+ghost use Rattle.pon_record.specs.Openings.{KeepsLimits};
+ghost use Rattle.pon_record.specs.Chapters.{Body, FitsChapter, PlacedChapter, chapter_bytes, placed, tagged_body_in};
+ghost use Rattle.pon_record.specs.Recordings.{IsBadFormatOf, IsReadFaultOf, IsRecordingIn, IsRecordingOf, IsTruncatedOf, recording_bytes};
 
-/// A chapter is read back from its bytes, whatever bytes follow. Bytes that are read as a chapter are exactly the bytes
-/// of that chapter, so it has no second encoding.
+/// A chapter is read back from its bytes in its version, whatever bytes follow. Bytes that are read as a chapter are
+/// exactly the bytes of that chapter, so it has no second encoding in its version.
 pub fn chapters_are_read_as_written()
-    ensures again { (b : Body) (rest : List ℕ) → FitsChapter b →
-        tagged_body.read (chapter_bytes b ++ rest) ≡ Some ((CHAPTER_TAG, b), rest) }
-    ensures takes { (bytes : List ℕ) (b : Body) (rest : List ℕ) → AreBytes bytes →
-        tagged_body.read bytes ≡ Some ((CHAPTER_TAG, b), rest) →
-        FitsChapter b × (bytes ≡ chapter_bytes b ++ rest) }
+    ensures again { (v : Version) (b : Body) (rest : List ℕ) → FitsChapter v b →
+        (tagged_body_in v).read (chapter_bytes v b ++ rest) ≡ Some ((CHAPTER_TAG, b), rest) }
+    ensures takes { (v : Version) (bytes : List ℕ) (b : Body) (rest : List ℕ) → AreBytes bytes →
+        (tagged_body_in v).read bytes ≡ Some ((CHAPTER_TAG, b), rest) →
+        FitsChapter v b × (bytes ≡ chapter_bytes v b ++ rest) }
 {}
 
-/// The bytes of chapters that fit the format are the recording of these chapters.
+/// The bytes of chapters that fit a version are the recording of these chapters in it.
 pub fn written_is_a_recording()
-    ensures { (bodies : List Body) → AllByRecursion FitsChapter bodies →
-        IsRecording (recording_bytes bodies) (placed (length MAGIC) bodies) }
+    ensures { (v : Version) (bodies : List Body) → AllByRecursion (FitsChapter v) bodies →
+        IsRecordingIn v (recording_bytes v bodies) (placed v MAGIC_BYTES bodies) }
 {}
 
-/// Bytes are the recording of at most one list of chapters.
+/// Bytes are the recording of at most one list of chapters, whichever versions are accepted, and in at most one version.
 pub fn recordings_have_one_reading()
-    ensures { (bytes : List ℕ) (chapters others : List PlacedChapter) → IsRecording bytes chapters →
-        IsRecording bytes others → chapters ≡ others }
+    ensures chapters { (versions : Version → Bool) (bytes : List ℕ) (chapters others : List PlacedChapter) →
+        IsRecordingOf versions bytes chapters → IsRecordingOf versions bytes others →
+        chapters ≡ others }
+    ensures version { (v w : Version) (bytes : List ℕ) (chapters others : List PlacedChapter) →
+        IsRecordingIn v bytes chapters → IsRecordingIn w bytes others → v ≡ w }
 {}
 
 /// A recording is neither truncated nor of bad format.
 pub fn recordings_have_no_fault()
-    ensures truncated { (bytes : List ℕ) (chapters whole : List PlacedChapter) (at : ℕ) →
-        IsRecording bytes chapters → IsTruncated bytes at whole → ⊥ }
-    ensures bad_format { (bytes : List ℕ) (chapters : List PlacedChapter) (at : ℕ) →
-        IsRecording bytes chapters → IsBadFormat bytes at → ⊥ }
+    ensures truncated { (versions : Version → Bool) (bytes : List ℕ)
+        (chapters whole : List PlacedChapter) (at : ℕ) → IsRecordingOf versions bytes chapters →
+        IsTruncatedOf versions bytes at whole → ⊥ }
+    ensures bad_format { (versions : Version → Bool) (bytes : List ℕ)
+        (chapters : List PlacedChapter) (at : ℕ) → IsRecordingOf versions bytes chapters →
+        IsBadFormatOf versions bytes at → ⊥ }
 {}
 
 /// Apart from `Memory`, bytes have at most one fault.
 pub fn one_fault()
-    ensures { (bytes : List ℕ) (fault other : ReadFault) → IsReadFault bytes fault →
-        IsReadFault bytes other → fault ≢ ReadFault.Memory → other ≢ ReadFault.Memory
-        → fault ≡ other }
+    ensures { (versions : Version → Bool) (bytes : List ℕ) (fault other : ReadFault) →
+        IsReadFaultOf versions bytes fault → IsReadFaultOf versions bytes other →
+        fault ≢ ReadFault.Memory → other ≢ ReadFault.Memory → fault ≡ other }
+{}
+
+/// A chapter of either version has at most as many rows and grants as its rule admits Alloc-IDs, and its carries are in the
+/// range of the rule.
+pub fn chapters_keep_the_limits_of_their_rule()
+    ensures { (v : Version) (b : Body) → FitsChapter v b → KeepsLimits b.opening }
+{}
+
+/// A chapter that fits version one is under rule one, has carries of 0, and fits version two.
+pub fn version_one_fits_version_two()
+    ensures rule { (b : Body) → FitsChapter Version.One b → b.opening.rule ≡ Rule.One }
+    ensures carries { (b : Body) → FitsChapter Version.One b →
+        All (λ r. r.carry ≡ 0) b.opening.rows }
+    ensures fits { (b : Body) → FitsChapter Version.One b → FitsChapter Version.Two b }
 {}

@@ -7,22 +7,30 @@
 
 mod chapter;
 mod chapters;
+mod counting;
 mod cursor;
 mod entry;
 mod events;
 mod fault;
 pub mod laws;
+mod layout;
 mod limits;
 mod lists;
 mod made;
+mod migration;
+mod moved;
 mod opening;
 mod openings;
 mod recording;
 mod row;
+mod version;
 
 pub use chapter::{RawChapter, Recording};
+pub use counting::chapter_count;
 pub use fault::ReadFault;
-pub use limits::{CHAPTER_TAG, GARBLED, MAGIC, MOST_GRANTS, MOST_REPORTED, MOST_ROWS};
+pub use limits::{CHAPTER_TAG, GARBLED, MAGIC_BYTES, MOST_REPORTED};
+pub use migration::migrate;
 pub use opening::{Opening, RawMap};
 pub use recording::read_recording;
 pub use row::RawRow;
+pub use version::Version;

@@ -1,5 +1,11 @@
-/// The first bytes of a recording.
-pub const MAGIC: [u8; 8] = *b"PONREC01";
+/// Number of the first bytes of a recording, which tell its version.
+pub const MAGIC_BYTES: usize = 8;
+
+/// The first bytes of a version one recording.
+pub(crate) const MAGIC_ONE: [u8; MAGIC_BYTES] = *b"PONREC01";
+
+/// The first bytes of a version two recording.
+pub(crate) const MAGIC_TWO: [u8; MAGIC_BYTES] = *b"PONREC02";
 
 /// The first byte of a chapter.
 pub const CHAPTER_TAG: u8 = 0x43;
@@ -9,12 +15,6 @@ pub(crate) const HEAD_BYTES: usize = 5;
 
 /// The value recorded instead of the occupancy of a garbled report.
 pub const GARBLED: u32 = 0xffff_ffff;
-
-/// Maximum number of rows of an opening (this project's choice).
-pub const MOST_ROWS: u16 = 256;
-
-/// Maximum number of grants of a map of a recorded window (this project's choice).
-pub const MOST_GRANTS: u16 = 256;
 
 /// Maximum number of ONUs that reported for a map of a recorded window: the largest count in one byte.
 pub const MOST_REPORTED: u8 = 255;

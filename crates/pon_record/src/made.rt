@@ -7,6 +7,7 @@ ghost use Rattle.pon_record.specs.MadeMaps.{certificate, head, is_map, made_map,
 
 use crate::cursor::Cursor;
 use crate::fault::{Malformed, Stop};
+use crate::layout::Layout;
 use crate::lists::{Recorded, read_list};
 use pon_bwmap::{Alloc, Map};
 use pon_cert::{CertReadFault, MapCert};
@@ -60,15 +61,15 @@ fn read_structure(cursor: &mut Cursor<'_>) -> Result<Alloc, Malformed>
 }
 
 impl Recorded for Alloc {
-    ghost form = { structure };
+    ghost form = { λ l. structure };
 
-    fn read(_alloc: Global, cursor: &mut Cursor<'_>) -> Result<Self, Stop> {
+    fn read(_alloc: Global, cursor: &mut Cursor<'_>, _layout: Layout) -> Result<Self, Stop> {
         Ok(read_structure(cursor)?)
     }
 }
 
 // Reads the head of a map and its structures.
-fn read_rows(alloc: Global, cursor: &mut Cursor<'_>) -> Result<Vec<Alloc>, Stop>
+fn read_rows(alloc: Global, cursor: &mut Cursor<'_>, layout: Layout) -> Result<Vec<Alloc>, Stop>
     ensures { ReadsValue (λ x. (x.items, cursor.new)) result
         ((counted head MOST_STRUCTURES structure).read cursor.old) }
 {
@@ -76,7 +77,7 @@ fn read_rows(alloc: Global, cursor: &mut Cursor<'_>) -> Result<Vec<Alloc>, Stop>
     if count > MOST_STRUCTURES {
         return Err(Stop::Malformed);
     }
-    read_list(alloc, cursor, count)
+    read_list(alloc, cursor, layout, count)
 }
 
 // Returns the map of these structures. `Malformed` if they break a rule of maps.
@@ -90,18 +91,18 @@ fn checked_map(rows: Vec<Alloc>) -> Result<Map, Malformed>
 }
 
 impl Recorded for Map {
-    ghost form = { map };
+    ghost form = { λ l. map };
 
-    fn read(alloc: Global, cursor: &mut Cursor<'_>) -> Result<Self, Stop> {
-        let rows = read_rows(alloc, cursor)?;
+    fn read(alloc: Global, cursor: &mut Cursor<'_>, layout: Layout) -> Result<Self, Stop> {
+        let rows = read_rows(alloc, cursor, layout)?;
         Ok(checked_map(rows)?)
     }
 }
 
 impl Recorded for MapCert {
-    ghost form = { certificate };
+    ghost form = { λ l. certificate };
 
-    fn read(alloc: Global, cursor: &mut Cursor<'_>) -> Result<Self, Stop> {
+    fn read(alloc: Global, cursor: &mut Cursor<'_>, _layout: Layout) -> Result<Self, Stop> {
         match MapCert::from_bytes(alloc, cursor.rest()) {
             Ok((cert, used)) => {
                 cursor.skip(used);
@@ -114,13 +115,13 @@ impl Recorded for MapCert {
 }
 
 impl Recorded for MadeMap {
-    ghost form = { made_map };
+    ghost form = { λ l. made_map };
 
-    fn read(alloc: Global, cursor: &mut Cursor<'_>) -> Result<Self, Stop> {
+    fn read(alloc: Global, cursor: &mut Cursor<'_>, layout: Layout) -> Result<Self, Stop> {
         Ok(MadeMap {
             frame: cursor.frame()?,
-            map: Map::read(alloc, cursor)?,
-            cert: MapCert::read(alloc, cursor)?,
+            map: Map::read(alloc, cursor, layout)?,
+            cert: MapCert::read(alloc, cursor, layout)?,
         })
     }
 }

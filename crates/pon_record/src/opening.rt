@@ -1,4 +1,5 @@
 use crate::row::RawRow;
+use pon_admit::Rule;
 use pon_descr::Cause;
 use pon_units::{FrameNo, Gap, Granted, OnuId, Profile};
 use std::marker::Model;
@@ -23,10 +24,11 @@ impl Model for RawMap {
     } };
 }
 
-/// The state that a recorded chapter opens with: gap, burst profile, cause of the failure if the port is failed, next
+/// The state that a recorded chapter opens with: rule, gap, burst profile, cause of the failure if the port is failed, next
 /// frame, number of entries before the chapter, rows of the admitted Alloc-IDs, and window.
 #[derive(Debug, Drop)]
 pub struct Opening {
+    pub rule: Rule,
     pub gap: Gap,
     pub profile: Profile,
     pub cause: Option<Cause>,
@@ -42,6 +44,7 @@ impl Model for Opening {
     ghost Value = { Opening };
 
     ghost view = { λ o. record {
+      rule = o.rule;
       gap = o.gap;
       profile = o.profile;
       cause = o.cause;

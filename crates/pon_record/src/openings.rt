@@ -2,12 +2,13 @@
 
 ghost use Rattle.std.specs.Prelude.{◌≡◌};
 ghost use Rattle.pon_record.specs.Reading.{ReadsValue, Reads};
-ghost use Rattle.pon_record.specs.Openings.{grant, opening, row, window_map};
+ghost use Rattle.pon_record.specs.Openings.{grant, opening_in, row_in, window_map_under};
 ghost use Rattle.pon_record.specs.Fields.{onu_id};
 
 use crate::cursor::Cursor;
 use crate::fault::{Malformed, Stop};
-use crate::limits::{MOST_GRANTS, MOST_REPORTED, MOST_ROWS};
+use crate::layout::Layout;
+use crate::limits::MOST_REPORTED;
 use crate::lists::{Recorded, read_few, read_some};
 use crate::opening::{Opening, RawMap};
 use crate::row::{RawRow, read_row};
@@ -16,17 +17,17 @@ use pon_window::MOST_MAPS;
 use std::alloc::Global;
 
 impl Recorded for RawRow {
-    ghost form = { row };
+    ghost form = { λ l. row_in l.version l.rule };
 
-    fn read(_alloc: Global, cursor: &mut Cursor<'_>) -> Result<Self, Stop> {
-        Ok(read_row(cursor)?)
+    fn read(_alloc: Global, cursor: &mut Cursor<'_>, layout: Layout) -> Result<Self, Stop> {
+        Ok(read_row(cursor, layout)?)
     }
 }
 
 impl Recorded for OnuId {
-    ghost form = { onu_id };
+    ghost form = { λ l. onu_id };
 
-    fn read(_alloc: Global, cursor: &mut Cursor<'_>) -> Result<Self, Stop> {
+    fn read(_alloc: Global, cursor: &mut Cursor<'_>, _layout: Layout) -> Result<Self, Stop> {
         Ok(cursor.onu()?)
     }
 }
@@ -42,35 +43,42 @@ fn read_grant(cursor: &mut Cursor<'_>) -> Result<Granted, Malformed>
 }
 
 impl Recorded for Granted {
-    ghost form = { grant };
+    ghost form = { λ l. grant };
 
-    fn read(_alloc: Global, cursor: &mut Cursor<'_>) -> Result<Self, Stop> {
+    fn read(_alloc: Global, cursor: &mut Cursor<'_>, _layout: Layout) -> Result<Self, Stop> {
         Ok(read_grant(cursor)?)
     }
 }
 
 impl Recorded for RawMap {
-    ghost form = { window_map };
+    ghost form = { λ l. window_map_under l.rule };
 
-    fn read(alloc: Global, cursor: &mut Cursor<'_>) -> Result<Self, Stop> {
+    fn read(alloc: Global, cursor: &mut Cursor<'_>, layout: Layout) -> Result<Self, Stop> {
         Ok(RawMap {
             frame: cursor.frame()?,
-            grants: read_some(alloc, cursor, MOST_GRANTS)?,
-            reported: read_few(alloc, cursor, MOST_REPORTED)?,
+            grants: read_some(alloc, cursor, layout, layout.most_allocs())?,
+            reported: read_few(alloc, cursor, layout, MOST_REPORTED)?,
         })
     }
 }
 
-pub(crate) fn read_opening(alloc: Global, cursor: &mut Cursor<'_>) -> Result<Opening, Stop>
-    ensures { ReadsValue (λ x. (x, cursor.new)) result (opening.read cursor.old) }
+/// Reads the opening of a chapter, after its rule.
+pub(crate) fn read_opening(
+    alloc: Global,
+    cursor: &mut Cursor<'_>,
+    layout: Layout,
+) -> Result<Opening, Stop>
+    ensures { ReadsValue (λ x. (x, cursor.new)) result
+        ((opening_in layout.version layout.rule).read cursor.old) }
 {
     Ok(Opening {
+        rule: layout.rule,
         gap: cursor.gap()?,
         profile: cursor.profile()?,
         cause: cursor.failure()?,
         next: cursor.frame()?,
         taken_before: cursor.u64()?,
-        rows: read_some(alloc, cursor, MOST_ROWS)?,
-        window: read_few(alloc, cursor, MOST_MAPS as u8)?,
+        rows: read_some(alloc, cursor, layout, layout.most_allocs())?,
+        window: read_few(alloc, cursor, layout, MOST_MAPS as u8)?,
     })
 }

@@ -1,14 +1,16 @@
 ghost use Rattle.std.specs.Prelude.{◌≡◌};
 ghost use Rattle.pon_record.specs.Reading.{Reads};
-ghost use Rattle.pon_record.specs.Openings.{row};
+ghost use Rattle.pon_record.specs.Openings.{row_in};
 
 use crate::cursor::Cursor;
 use crate::fault::Malformed;
+use crate::layout::Layout;
 use pon_descr::Descriptor;
 use pon_guar::Counted;
 use pon_units::{AllocId, FrameNo, OnuId};
 
-/// A row of a recorded opening: an admitted Alloc-ID, its since-frame, and its counted report, if any.
+/// A row of a recorded opening: an admitted Alloc-ID, its since-frame, its counted report, if any, and what the last map
+/// left to it, in kbit/s: 0 under rule one, 0 to 255 under rule two.
 #[derive(Clone, Copy, Debug, PartialEq, Eq)]
 pub struct RawRow {
     pub onu: OnuId,
@@ -16,10 +18,12 @@ pub struct RawRow {
     pub descriptor: Descriptor,
     pub since: FrameNo,
     pub counted: Option<Counted>,
+    pub carry: u8,
 }
 
-pub(crate) fn read_row(cursor: &mut Cursor<'_>) -> Result<RawRow, Malformed>
-    ensures { Reads (λ x. (x, cursor.new)) result (row.read cursor.old) }
+pub(crate) fn read_row(cursor: &mut Cursor<'_>, layout: Layout) -> Result<RawRow, Malformed>
+    ensures { Reads (λ x. (x, cursor.new)) result
+        ((row_in layout.version layout.rule).read cursor.old) }
 {
     Ok(RawRow {
         onu: cursor.onu()?,
@@ -27,5 +31,6 @@ pub(crate) fn read_row(cursor: &mut Cursor<'_>) -> Result<RawRow, Malformed>
         descriptor: cursor.descriptor()?,
         since: cursor.frame()?,
         counted: cursor.report()?,
+        carry: cursor.carry(layout)?,
     })
 }
