@@ -1,5 +1,5 @@
 -- The chapters of ports fit the format of recordings.
-use Rattle.std.proofs.Common.{◌≡◌, ℕ, suc, ◌-◌, ◌^◌, ◌<◌, ◌≤◌, Bool, true, false, leb, ltb, ◌||◌, List, [], ◌∷◌, length, get_or, Some, None, refl, arith, inl, inr, length-append}
+use Rattle.std.proofs.Common.{◌≡◌, ℕ, suc, ◌-◌, ◌^◌, ◌<◌, ◌≤◌, Bool, true, false, leb, ltb, ◌||◌, List, [], ◌∷◌, length, get_or, Some, None, refl, arith, inl, inr}
 use Rattle.std.specs.Prelude.{All, slice_get}
 use Rattle.std.specs.List.{AllByRecursion}
 use Rattle.std.proofs.lemmas.Bool.{cases_lt, le-leb, leb-false}
@@ -22,16 +22,13 @@ use Rattle.pon_port.specs.Ranges.{IsStateInRange}
 use Rattle.pon_port.specs.FairMaps.{TellsFairMap}
 use Rattle.pon_port.proofs.FairMaps.{maps_are_fair}
 use Rattle.pon_port.proofs.LawfulChapters.{admitted_before, carries_before}
-use Rattle.std.specs.Int.{w32}
-use Rattle.pon_state.specs.declared.checks.TheConstants.{MOST_ENTRIES}
-use Rattle.pon_record.specs.Format.{counted, number}
-use Rattle.pon_record.specs.Openings.{Opening, opening}
-use Rattle.pon_record.specs.Chapters.{FitsChapter, body, entry, reply_to}
-use Rattle.pon_recorder.specs.Bodies.{HoldsFittingCert, chapter_body, recorded_opening}
+use Rattle.pon_record.specs.declared.version.Version.TheVariants as version
+use Rattle.pon_record.specs.Chapters.{FitsChapter, body_in, entry, reply_to}
+use Rattle.pon_record.proofs.Sizes.{body_fits_length}
+use Rattle.pon_recorder.specs.Bodies.{HoldsFittingCert, chapter_body}
 use Rattle.pon_recorder.proofs.FitEvents.{event_fits, passes}
-use Rattle.pon_recorder.proofs.FitOpenings.{opening_fits}
+use Rattle.pon_recorder.proofs.FitOpenings.{opening_fits, rule_fits}
 use Rattle.pon_recorder.proofs.FitMaps.{from_places, made_fits}
-use Rattle.pon_recorder.proofs.Sizes.{entries_size, opening_size}
 
 -- ---- entries
 
@@ -101,26 +98,20 @@ certs_fit c l f = All-from_recursion (λ (e : Entry). HoldsFittingCert e.reply) 
 
 -- ---- chapters
 
-body_fits : (p : ℕ) (c : Chapter) → p < 64 → IsLawfulChapter c → c.number < 2 ^ 64 → IsStateInRange c.opening → body.Fits (chapter_body p c)
+body_fits : (p : ℕ) (c : Chapter) → p < 64 → IsLawfulChapter c → c.number < 2 ^ 64 → IsStateInRange c.opening → (body_in version.Two).Fits (chapter_body p c)
 body_fits p c lt l n f =
     let few : length c.entries ≤ 65536 = few_entries c l in (
       (
-        (omega (arith, lt), passes (λ (n : ℕ). ltb n 64) p (le-leb (suc p) 64 (omega (arith, lt)))),
-        (n, (opening_fits c.number c.opening l.opening f, (omega (arith, few), few, entries_fit c l f))),
+        rule_fits c.opening.rule,
+        (
+          (omega (arith, lt), passes (λ (n : ℕ). ltb n 64) p (le-leb (suc p) 64 (omega (arith, lt)))),
+          (n, (opening_fits c.number c.opening l.opening f, (omega (arith, few), few, entries_fit c l f))),
+        ),
       ),
       refl,
     )
 
-body_size : (p : ℕ) (c : Chapter) → IsLawfulChapter c → IsStateInRange c.opening → length (body.write (chapter_body p c)) < 2 ^ 32
-body_size p c l f =
-    let o : Opening = recorded_opening c.opening in
-    omega (
-      arith,
-      length-append (opening.write o) ((counted (number w32) MOST_ENTRIES entry).write c.entries),
-      opening_size o (opening_fits c.number c.opening l.opening f),
-      entries_size c.entries (entries_fit c l f),
-      few_entries c l,
-    )
-
-pub chapter_fits : (p : ℕ) (c : Chapter) → p < 64 → IsLawfulChapter c → c.number < 2 ^ 64 → IsStateInRange c.opening → FitsChapter (chapter_body p c)
-chapter_fits p c lt l n f = ((omega arith, refl), (body_fits p c lt l n f, body_size p c l f))
+pub chapter_fits : (p : ℕ) (c : Chapter) → p < 64 → IsLawfulChapter c → c.number < 2 ^ 64 → IsStateInRange c.opening → FitsChapter version.Two (chapter_body p c)
+chapter_fits p c lt l n f =
+    let body = body_fits p c lt l n f in
+    ((omega arith, refl), (body, body_fits_length version.Two (chapter_body p c) body))

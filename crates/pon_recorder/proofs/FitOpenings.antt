@@ -1,15 +1,18 @@
 -- The openings of chapters fit the format of recordings.
 use Rattle.std.proofs.Common.{◌≡◌, ℕ, ◌^◌, ◌<◌, ◌≤◌, Bool, true, false, cond, eqb, leb, not, ◌&&◌, List, [], ◌∷◌, map, length, get_or, Option, Some, None, refl, ap, sym, subst, arith}
 use Rattle.std.specs.Prelude.{◌==◌, All, IfSome, filter}
-use Rattle.std.specs.List.{AllByRecursion, list_any}
+use Rattle.std.specs.List.{AllByRecursion, list_any, zip}
 use Rattle.std.proofs.lemmas.Bool.{le-leb, ne_eqb}
 use Rattle.std.proofs.lemmas.List.{length-map}
 use Rattle.std.proofs.lemmas.List.Elements.{All-nil, All-cons, All-head, All-tail, All-filter, All-map, All-weaker, recursion_from_All}
 use Rattle.std.proofs.lemmas.List.Sums.{count_by-le-length, length-filter}
+use Rattle.std.proofs.lemmas.Slice.Zip.{length-zip}
 use Rattle.pon_units.specs.declared.granted.Granted.{Granted}
 use Rattle.pon_lists.specs.Distinct.{distinct}
 use Rattle.pon_admit.specs.declared.row.Row.{Row}
-use Rattle.pon_admit.specs.Roster.{IsInRange, most_allocs}
+use Rattle.pon_admit.specs.declared.rule.Rule.{Rule}
+use Rattle.pon_admit.specs.declared.rule.Rule.TheVariants as rule
+use Rattle.pon_admit.specs.Roster.{IsInRange, most_allocs, most_carry, rule_in_force}
 use Rattle.pon_guar.specs.declared.account.Account.{Account}
 use Rattle.pon_guar.specs.declared.account.Counted.{Counted}
 use Rattle.pon_guar.specs.Book.{account_of, known_report, since_of_account}
@@ -18,8 +21,10 @@ use Rattle.pon_window.proofs.Frames.{leads_below}
 use Rattle.pon_state.specs.State.{State}
 use Rattle.pon_port.specs.Chapters.{AccountIsLawful, CountedIsLawful, IsLawfulOpening}
 use Rattle.pon_port.specs.Ranges.{AreGrantsInRange, IsGrantInRange, IsStateInRange}
-use Rattle.pon_record.specs.Fields.{failure, onu_id, report}
-use Rattle.pon_record.specs.Openings.{grant, opening, row, window_map}
+use Rattle.pon_record.specs.declared.version.Version.TheVariants as version
+use Rattle.pon_record.specs.Fields.{carry_in, failure, onu_id, report, rule_in}
+use Rattle.pon_record.specs.Openings.{grant, opening_in, row_in, window_map_under}
+use Rattle.pon_record.proofs.Sizes.{few_allocs}
 use Rattle.pon_recorder.specs.Bodies.{FitsCounts, FitsWindowMap, recorded_opening, recorded_row}
 use Rattle.pon_recorder.proofs.FitEvents.{alloc_fits, between, descriptor_fits, onu_fits, passes}
 
@@ -66,14 +71,26 @@ accounts_fit s n l w i d lt =
     let lawful : AccountIsLawful s a = l i d lt in
     (omega (arith, lawful.since, n), counted_fits s a a.counted n lawful.counted (w i d lt))
 
-row_fits : (book : List Account) (r : Row) → All FitsAccount book → IsInRange r → row.Fits (recorded_row book r)
-row_fits book r h k =
-    let known : FitsKnown (account_of book r.alloc_id) = known_fits book r.alloc_id h in
-    ((onu_fits r.onu k.onu, (alloc_fits r.alloc_id k.managed k.alloc_id, (descriptor_fits r.descriptor k.descriptor, known))), refl)
+small_carries : (r : Rule) → most_carry r ≤ 255
+small_carries rule.One = omega arith
+small_carries rule.Two = omega arith
 
-rows_fit : (book : List Account) (rows : List Row) → All FitsAccount book → All IsInRange rows → AllByRecursion row.Fits (map (recorded_row book) rows)
-rows_fit book [] h k = tt
-rows_fit book (r ∷ rows) h k = (row_fits book r h (All-head IsInRange r rows k), rows_fit book rows h (All-tail IsInRange r rows k))
+carry_fits : (r : Rule) (n : ℕ) → n ≤ most_carry r → (carry_in version.Two r).Fits n
+carry_fits r n le = (omega (arith, le, small_carries r), passes (λ (k : ℕ). leb k (most_carry r)) n (le-leb n (most_carry r) le))
+
+row_fits : (rule : Rule) (book : List Account) (r : Row) (carry : ℕ) → All FitsAccount book → IsInRange r → carry ≤ most_carry rule → (row_in version.Two rule).Fits (recorded_row book (r, carry))
+row_fits rule book r carry h k le =
+    let known : FitsKnown (account_of book r.alloc_id) = known_fits book r.alloc_id h in
+    ((onu_fits r.onu k.onu, (alloc_fits r.alloc_id k.managed k.alloc_id, (descriptor_fits r.descriptor k.descriptor, (known.0, (known.1, carry_fits rule carry le))))), refl)
+
+rows_fit : (rule : Rule) (book : List Account) (rows : List Row) (carries : List ℕ) → All FitsAccount book → All IsInRange rows → All (λ c. c ≤ most_carry rule) carries
+    → AllByRecursion (row_in version.Two rule).Fits (map (recorded_row book) (zip rows carries))
+rows_fit rule book [] carries h k l = tt
+rows_fit rule book (r ∷ rows) [] h k l = tt
+rows_fit rule book (r ∷ rows) (c ∷ carries) h k l = (
+  row_fits rule book r c h (All-head IsInRange r rows k) (All-head (λ c. c ≤ most_carry rule) c carries l),
+  rows_fit rule book rows carries h (All-tail IsInRange r rows k) (All-tail (λ c. c ≤ most_carry rule) c carries l),
+)
 
 -- ---- maps of the window
 
@@ -100,14 +117,14 @@ module _ (m : WindowMap) (g : AreGrantsInRange m.grants) (l : IsLawfulMap m) whe
       (All-map onu_id.Fits (λ g. g.onu) m.grants (All-weaker IsGrantInRange (λ g. onu_id.Fits g.onu) (λ g k. onu_fits g.onu k.onu) m.grants g.each)))))
 
   pub counts_fit : FitsWindowMap m
-  counts_fit = record { grants = g.few; reported = omega (arith, few_reported) }
+  counts_fit = record { grants = omega (arith, g.few, few_allocs rule_in_force); reported = omega (arith, few_reported) }
 
-  map_fits : m.frame < 2 ^ 64 → window_map.Fits m
-  map_fits lt = (
+  map_fits : (r : Rule) → length m.grants ≤ most_allocs r → m.frame < 2 ^ 64 → (window_map_under r).Fits m
+  map_fits r few lt = (
     (
       lt,
       (
-        (omega (arith, g.few), g.few, recursion_from_All grant.Fits m.grants (All-weaker IsGrantInRange grant.Fits grant_fits m.grants g.each)),
+        (omega (arith, few, few_allocs r), few, recursion_from_All grant.Fits m.grants (All-weaker IsGrantInRange grant.Fits grant_fits m.grants g.each)),
         (omega (arith, few_reported), omega (arith, few_reported), reported_fit),
       ),
     ),
@@ -117,24 +134,26 @@ module _ (m : WindowMap) (g : AreGrantsInRange m.grants) (l : IsLawfulMap m) whe
 -- ---- openings
 
 module _ (n : ℕ) (s : State) (l : IsLawfulOpening n s) (h : IsStateInRange s) where
-  few_rows : length s.roster ≤ 256
-  few_rows = omega (arith, l.admitted.few_allocs, ap most_allocs h.rule)
-
   pub opening_counts : FitsCounts s
   opening_counts = record {
-    rows = few_rows;
+    rows = omega (arith, l.admitted.few_allocs, few_allocs s.rule);
+    carries = l.carries.count;
     maps = λ i d lt. counts_fit (get_or s.window i d) (h.maps i d lt) (l.maps i d lt);
   }
 
-  maps_fit : All window_map.Fits s.window
+  maps_fit : All (window_map_under s.rule).Fits s.window
   maps_fit i d lt =
       let m : WindowMap = get_or s.window i d in
       let below : m.frame < s.next = leads_below s.next s.window l.frames i d lt in
-      map_fits m (h.maps i d lt) (l.maps i d lt) (omega (arith, below, h.next))
+      let few : length m.grants ≤ most_allocs s.rule = subst (λ r. length m.grants ≤ most_allocs r) (sym h.rule) (h.maps i d lt).few in
+      map_fits m (h.maps i d lt) (l.maps i d lt) s.rule few (omega (arith, below, h.next))
 
-  pub opening_fits : opening.Fits (recorded_opening s)
+  pub opening_fits : (opening_in version.Two s.rule).Fits (recorded_opening s)
   opening_fits =
-      let many : length (map (recorded_row s.book) s.roster) ≡ length s.roster = length-map s.roster (recorded_row s.book) in (
+      let pairs = zip s.roster s.carries in
+      let many : length (map (recorded_row s.book) pairs) ≡ length s.roster
+      = omega (arith, length-map pairs (recorded_row s.book), length-zip s.roster s.carries, l.carries.count) in
+      let few : length s.roster ≤ most_allocs s.rule = l.admitted.few_allocs in (
         (
           (omega (arith, h.longest_gap), passes (λ (n : ℕ). leb 1 n && leb n 256) s.gap (between 1 s.gap 256 h.shortest_gap h.longest_gap)),
           (
@@ -146,8 +165,12 @@ module _ (n : ℕ) (s : State) (l : IsLawfulOpening n s) (h : IsStateInRange s) 
                 (
                   h.taken_before,
                   (
-                    (omega (arith, many, few_rows), omega (arith, many, few_rows), rows_fit s.book s.roster (accounts_fit s h.next l.accounts h.reports) l.admitted.in_range),
-                    (omega (arith, l.few_maps), l.few_maps, recursion_from_All window_map.Fits s.window maps_fit),
+                    (
+                      omega (arith, many, few, few_allocs s.rule),
+                      omega (arith, many, few),
+                      rows_fit s.rule s.book s.roster s.carries (accounts_fit s h.next l.accounts h.reports) l.admitted.in_range l.carries.range,
+                    ),
+                    (omega (arith, l.few_maps), l.few_maps, recursion_from_All (window_map_under s.rule).Fits s.window maps_fit),
                   ),
                 ),
               ),
@@ -156,3 +179,7 @@ module _ (n : ℕ) (s : State) (l : IsLawfulOpening n s) (h : IsStateInRange s) 
         ),
         refl,
       )
+
+pub rule_fits : (r : Rule) → (rule_in version.Two).Fits r
+rule_fits rule.One = (omega arith, refl)
+rule_fits rule.Two = (omega arith, refl)

@@ -8,4 +8,3 @@ mod Put
 mod PutLists
 mod ReadBack
 mod Recording
-mod Sizes

@@ -6,9 +6,9 @@ use Rattle.std.proofs.lemmas.List.{append-nil}
 use Rattle.std.proofs.lemmas.Grind.{flat_map-append}
 use Rattle.pon_device.specs.Device.{Keeps}
 use Rattle.pon_device.proofs.Pieces.{appends_kept, appends_more}
-use Rattle.pon_record.specs.declared.limits.TheConstants.{MAGIC}
+use Rattle.pon_record.specs.declared.version.Version.TheVariants.{Two}
 use Rattle.pon_record.specs.Chapters.{Body, chapter_bytes}
-use Rattle.pon_record.specs.Recordings.{recording_bytes}
+use Rattle.pon_record.specs.Recordings.{magic, recording_bytes}
 use Rattle.pon_recorder.specs.Recorders.{GoesOut, Grows, Stays}
 
 -- writing more of what was left keeps the recording
@@ -31,18 +31,18 @@ keeps mid new left k before bodies r = record {
 pub stays_kept : (mid more new : Option (List ℕ)) (left rest : List ℕ) → GoesOut mid more rest left → Keeps more new → Stays mid left new rest
 stays_kept mid more new left rest h k before bodies r = keeps more new rest k before bodies (stays mid more left rest h before bodies r)
 
-one_more : (bodies : List Body) (b : Body) → recording_bytes bodies ++ chapter_bytes b ≡ recording_bytes (bodies ++ b ∷ [])
+one_more : (bodies : List Body) (b : Body) → recording_bytes Two bodies ++ chapter_bytes Two b ≡ recording_bytes Two (bodies ++ b ∷ [])
 one_more bodies b =
-    append_assoc MAGIC (flat_map chapter_bytes bodies) (chapter_bytes b)
-    ∙ ap (λ (t : List ℕ). MAGIC ++ (flat_map chapter_bytes bodies ++ t)) (sym (append-nil (chapter_bytes b)))
-    ∙ ap (λ (t : List ℕ). MAGIC ++ t) (sym (flat_map-append chapter_bytes bodies (b ∷ [])))
+    append_assoc (magic Two) (flat_map (chapter_bytes Two) bodies) (chapter_bytes Two b)
+    ∙ ap (λ (t : List ℕ). magic Two ++ (flat_map (chapter_bytes Two) bodies ++ t)) (sym (append-nil (chapter_bytes Two b)))
+    ∙ ap (λ (t : List ℕ). magic Two ++ t) (sym (flat_map-append (chapter_bytes Two) bodies (b ∷ [])))
 
 -- a chapter is written when nothing was left
-pub grows : (mid new : Option (List ℕ)) (left rest : List ℕ) (b : Body) → left ≡ [] → GoesOut mid new rest (chapter_bytes b) → Grows mid left new rest b
+pub grows : (mid new : Option (List ℕ)) (left rest : List ℕ) (b : Body) → left ≡ [] → GoesOut mid new rest (chapter_bytes Two b) → Grows mid left new rest b
 grows mid new left rest b none h before bodies r =
-    let all : r.sent ≡ recording_bytes bodies = sym (append-nil r.sent) ∙ ap (λ (t : List ℕ). r.sent ++ t) (sym none) ∙ r.together in
+    let all : r.sent ≡ recording_bytes Two bodies = sym (append-nil r.sent) ∙ ap (λ (t : List ℕ). r.sent ++ t) (sym none) ∙ r.together in
     record {
       sent = r.sent ++ h.sent;
       appends = appends_more before mid new r.sent h.sent r.appends h.appends;
-      together = append_assoc r.sent h.sent rest ∙ ap (λ (t : List ℕ). r.sent ++ t) h.together ∙ ap (λ (t : List ℕ). t ++ chapter_bytes b) all ∙ one_more bodies b;
+      together = append_assoc r.sent h.sent rest ∙ ap (λ (t : List ℕ). r.sent ++ t) h.together ∙ ap (λ (t : List ℕ). t ++ chapter_bytes Two b) all ∙ one_more bodies b;
     }

@@ -1,6 +1,7 @@
 -- A writer of recordings: the bytes that it has written, and those that it has left.
 use Rattle.std.specs.Prelude.{◌≡◌, ℕ, ◌+◌, ◌%◌, ◌^◌, List, [], ◌∷◌, ◌++◌, Option, Result, Ok, Err}
 use Rattle.pon_device.specs.Device.{Appends}
+use Rattle.pon_record.specs.declared.version.Version.TheVariants as version
 use Rattle.pon_record.specs.Chapters.{Body}
 use Rattle.pon_record.specs.Recordings.{recording_bytes}
 use Rattle.pon_recorder.specs.declared.fault.RecordFault.{RecordFault}
@@ -17,9 +18,10 @@ pub record GoesOut (before after : Option (List ℕ)) (left bytes : List ℕ) : 
   pub appends : Appends before after sent
   pub together : sent ++ left ≡ bytes
 
--- the bytes written since the device had `before`, and then those that are left, are the recording of these chapters
+-- the bytes written since the device had `before`, and then those that are left, are the version two recording of these
+-- chapters
 abbrev pub Records : Option (List ℕ) → Option (List ℕ) → List ℕ → List Body → Type 0
-Records before now left bodies = GoesOut before now left (recording_bytes bodies)
+Records before now left bodies = GoesOut before now left (recording_bytes version.Two bodies)
 
 -- the recording has one more chapter
 abbrev pub Grows : Option (List ℕ) → List ℕ → Option (List ℕ) → List ℕ → Body → Type 0

@@ -1,11 +1,12 @@
 //! Functions that append the parts of a chapter to bytes.
 
 ghost use Rattle.std.specs.Prelude.{◌≡◌, ◌++◌, IfOk, OnOk};
-ghost use Rattle.pon_record.specs.Chapters.{FitsChapter, body, chapter_bytes};
+ghost use Rattle.pon_record.specs.declared.version.Version.{Version};
+ghost use Rattle.pon_record.specs.Chapters.{FitsChapter, body_in, chapter_bytes};
 ghost use Rattle.pon_recorder.specs.Bodies.{chapter_body};
 
 use crate::entries::put_entries;
-use crate::fields::{put_port, put_u64};
+use crate::fields::{put_port, put_rule, put_u64};
 use crate::openings::put_opening;
 use pon_port::Chapter;
 use pon_record::CHAPTER_TAG;
@@ -15,21 +16,23 @@ use std::alloc::{AllocError, Global};
 /// The tag of a chapter, and room for the length of its body in 4 bytes.
 const HEAD: [u8; 5] = [CHAPTER_TAG, 0, 0, 0, 0];
 
-// Appends the port, and its chapter.
+// Appends the rule of a chapter, the port, and the chapter.
 fn put_body(bytes: &mut Vec<u8>, port: PortNo, chapter: &Chapter) -> Result<(), AllocError>
     ensures { OnOk result (bytes.new.items
-        ≡ bytes.old.items ++ body.write (chapter_body port chapter.now)) }
+        ≡ bytes.old.items ++ (body_in Version.Two).write (chapter_body port chapter.now)) }
 {
+    let opening = chapter.opening();
+    put_rule(bytes, opening.roster().rule())?;
     put_port(bytes, port)?;
     put_u64(bytes, chapter.number())?;
-    put_opening(bytes, chapter.opening())?;
+    put_opening(bytes, opening)?;
     put_entries(bytes, chapter.entries())?;
     Ok(())
 }
 
 // Proves that a chapter of a port fits the format. Computes nothing.
 fn chapter_fits(port: PortNo, chapter: &Chapter)
-    ensures { FitsChapter (chapter_body port chapter.now) }
+    ensures { FitsChapter Version.Two (chapter_body port chapter.now) }
 {
     let _port = port.get();
     let _number = chapter.number();
@@ -44,7 +47,7 @@ pub(crate) fn chapter_bytes(
     chapter: &Chapter,
 ) -> Result<Vec<u8>, AllocError>
     ensures { IfOk result (λ bytes. bytes.items
-        ≡ chapter_bytes (chapter_body port chapter.now)) }
+        ≡ chapter_bytes Version.Two (chapter_body port chapter.now)) }
 {
     chapter_fits(port, chapter);
     let mut bytes = Vec::from_slice(alloc, &HEAD)?;

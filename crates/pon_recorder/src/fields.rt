@@ -2,10 +2,12 @@
 
 ghost use Rattle.std.specs.Prelude.{◌≡◌, ◌++◌, OnOk};
 ghost use Rattle.std.specs.Int.{to_be_bytes, w8, w16, w32, w64};
-ghost use Rattle.pon_record.specs.Fields.{alloc_id, cause_code, class_code, descriptor, failure, frame, gap, onu_id, profile};
+ghost use Rattle.pon_record.specs.Fields.{alloc_id, cause_code, class_code, descriptor, failure, frame, gap, onu_id, profile, rule_code, rule_in};
+ghost use Rattle.pon_record.specs.declared.version.Version.{Version};
 ghost use Rattle.pon_record.specs.Chapters.{port};
 ghost use Rattle.pon_record.specs.Events.{occupancy, occupancy_code};
 
+use pon_admit::Rule;
 use pon_descr::{Cause, Class, Descriptor};
 use pon_record::GARBLED;
 use pon_units::{AllocId, BufOcc, FrameNo, Gap, OnuId, PortNo, Profile};
@@ -33,6 +35,22 @@ pub(crate) fn put_u64(bytes: &mut Vec<u8>, number: u64) -> Result<(), AllocError
     ensures { OnOk result (bytes.new.items ≡ bytes.old.items ++ to_be_bytes w64 number) }
 {
     bytes.extend_from_slice(&number.to_be_bytes())
+}
+
+fn rule_code(rule: Rule) -> u8
+    ensures { result ≡ rule_code rule }
+{
+    match rule {
+        Rule::One => 1,
+        Rule::Two => 2,
+    }
+}
+
+pub(crate) fn put_rule(bytes: &mut Vec<u8>, value: Rule) -> Result<(), AllocError>
+    ensures { OnOk result (bytes.new.items
+        ≡ bytes.old.items ++ (rule_in Version.Two).write value) }
+{
+    put_u8(bytes, rule_code(value))
 }
 
 pub(crate) fn put_port(bytes: &mut Vec<u8>, value: PortNo) -> Result<(), AllocError>

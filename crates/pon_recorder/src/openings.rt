@@ -2,13 +2,16 @@
 
 ghost use Rattle.std.specs.Prelude.{◌≡◌, ◌≤◌, ◌++◌, All, OnOk, length};
 ghost use Rattle.std.specs.Int.{to_be_bytes, w8, w16};
-ghost use Rattle.std.specs.List.{flat_map};
+ghost use Rattle.std.specs.List.{flat_map, zip};
+ghost use Rattle.pon_units.specs.declared.limits.TheConstants.{MOST_STRUCTURES};
+ghost use Rattle.pon_admit.specs.declared.rule.Rule.{Rule};
 ghost use Rattle.pon_guar.specs.Book.{account_of, since_of_account};
 ghost use Rattle.pon_window.specs.declared.window.TheConstants.{MOST_MAPS};
-ghost use Rattle.pon_record.specs.declared.limits.TheConstants.{MOST_GRANTS, MOST_REPORTED, MOST_ROWS};
+ghost use Rattle.pon_record.specs.declared.limits.TheConstants.{MOST_REPORTED};
+ghost use Rattle.pon_record.specs.declared.version.Version.{Version};
 ghost use Rattle.pon_record.specs.Fields.{onu_id, report};
 ghost use Rattle.pon_record.specs.Format.{counted, number};
-ghost use Rattle.pon_record.specs.Openings.{grant, opening, row, window_map};
+ghost use Rattle.pon_record.specs.Openings.{grant, opening_in, row_in, window_map_under};
 ghost use Rattle.pon_recorder.specs.Bodies.{FitsCounts, FitsWindowMap, head_bytes, recorded_opening, recorded_row, row_bytes};
 
 use crate::fields::{
@@ -52,25 +55,33 @@ fn since_of(loads: &Loads, row: &Row) -> FrameNo
     }
 }
 
-// Appends the ONU, the Alloc-ID and its descriptor, and what the account has.
-fn put_row(bytes: &mut Vec<u8>, loads: &Loads, value: &Row) -> Result<(), AllocError>
+// Appends the ONU, the Alloc-ID and its descriptor, what the account has, and the carry.
+fn put_row(bytes: &mut Vec<u8>, loads: &Loads, value: &Row, carry: u8) -> Result<(), AllocError>
     ensures { OnOk result (bytes.new.items
-        ≡ bytes.old.items ++ row.write (recorded_row loads.now.accounts value.now)) }
+        ≡ bytes.old.items ++ row_bytes loads.now.accounts (value.now, carry)) }
 {
     put_onu(bytes, value.onu)?;
     put_alloc_id(bytes, value.alloc_id)?;
     put_descriptor(bytes, &value.descriptor)?;
     put_frame(bytes, since_of(loads, value))?;
     put_counted(bytes, loads.counted(value.alloc_id))?;
+    put_u8(bytes, carry)?;
     Ok(())
 }
 
-fn put_rows(bytes: &mut Vec<u8>, loads: &Loads, values: &[Row]) -> Result<(), AllocError>
+// Appends rows, each with its carry.
+fn put_rows(
+    bytes: &mut Vec<u8>,
+    loads: &Loads,
+    values: &[Row],
+    carries: &[u8],
+) -> Result<(), AllocError>
+    requires { length carries.now ≡ length values.now }
     ensures { OnOk result (bytes.new.items ≡ bytes.old.items
-        ++ flat_map (row_bytes loads.now.accounts) values.now) }
+        ++ flat_map (row_bytes loads.now.accounts) (zip values.now carries.now)) }
 {
-    for value in values {
-        put_row(bytes, loads, value)?;
+    for place in 0..values.len() {
+        put_row(bytes, loads, &values[place], carries[place])?;
     }
     Ok(())
 }
@@ -106,9 +117,9 @@ fn put_onus(bytes: &mut Vec<u8>, values: &[OnuId]) -> Result<(), AllocError>
 
 // Appends the number of the grants, and the grants.
 fn put_all_grants(bytes: &mut Vec<u8>, values: &[Granted]) -> Result<(), AllocError>
-    requires few { length values.now ≤ MOST_GRANTS }
+    requires few { length values.now ≤ MOST_STRUCTURES }
     ensures { OnOk result (bytes.new.items
-        ≡ bytes.old.items ++ (counted (number w16) MOST_GRANTS grant).write values.now) }
+        ≡ bytes.old.items ++ (counted (number w16) MOST_STRUCTURES grant).write values.now) }
 {
     put_u16(bytes, values.len() as u16)?;
     put_grants(bytes, values)?;
@@ -128,7 +139,7 @@ fn put_all_onus(bytes: &mut Vec<u8>, values: &[OnuId]) -> Result<(), AllocError>
 
 fn put_window_map(bytes: &mut Vec<u8>, value: &WindowMap) -> Result<(), AllocError>
     requires { FitsWindowMap value.now }
-    ensures { OnOk result (bytes.new.items ≡ bytes.old.items ++ window_map.write value.now) }
+    ensures { OnOk result (bytes.new.items ≡ bytes.old.items ++ (window_map_under Rule.Two).write value.now) }
 {
     put_frame(bytes, value.frame())?;
     put_all_grants(bytes, value.grants())?;
@@ -140,7 +151,7 @@ fn put_window_map(bytes: &mut Vec<u8>, value: &WindowMap) -> Result<(), AllocErr
 fn put_maps(bytes: &mut Vec<u8>, loads: &Loads) -> Result<(), AllocError>
     requires { All FitsWindowMap loads.now.window }
     ensures { OnOk result (bytes.new.items
-        ≡ bytes.old.items ++ flat_map window_map.write loads.now.window) }
+        ≡ bytes.old.items ++ flat_map (window_map_under Rule.Two).write loads.now.window) }
 {
     for index in 0..loads.window_len() {
         if let Some(map) = loads.window_at(index) {
@@ -150,14 +161,20 @@ fn put_maps(bytes: &mut Vec<u8>, loads: &Loads) -> Result<(), AllocError>
     Ok(())
 }
 
-// Appends the number of the rows, and the rows.
-fn put_all_rows(bytes: &mut Vec<u8>, loads: &Loads, values: &[Row]) -> Result<(), AllocError>
-    requires few { length values.now ≤ MOST_ROWS }
+// Appends the number of the rows, and the rows, each with its carry.
+fn put_all_rows(
+    bytes: &mut Vec<u8>,
+    loads: &Loads,
+    values: &[Row],
+    carries: &[u8],
+) -> Result<(), AllocError>
+    requires few { length values.now ≤ MOST_STRUCTURES }
+    requires carries { length carries.now ≡ length values.now }
     ensures { OnOk result (bytes.new.items ≡ bytes.old.items ++ to_be_bytes w16 (length values.now)
-        ++ flat_map (row_bytes loads.now.accounts) values.now) }
+        ++ flat_map (row_bytes loads.now.accounts) (zip values.now carries.now)) }
 {
     put_u16(bytes, values.len() as u16)?;
-    put_rows(bytes, loads, values)?;
+    put_rows(bytes, loads, values, carries)?;
     Ok(())
 }
 
@@ -165,7 +182,7 @@ fn put_all_rows(bytes: &mut Vec<u8>, loads: &Loads, values: &[Row]) -> Result<()
 fn put_window(bytes: &mut Vec<u8>, loads: &Loads) -> Result<(), AllocError>
     requires { All FitsWindowMap loads.now.window }
     ensures { OnOk result (bytes.new.items ≡ bytes.old.items
-        ++ (counted (number w8) MOST_MAPS window_map).write loads.now.window) }
+        ++ (counted (number w8) MOST_MAPS (window_map_under Rule.Two)).write loads.now.window) }
 {
     put_u8(bytes, loads.window_len() as u8)?;
     put_maps(bytes, loads)?;
@@ -185,16 +202,17 @@ fn put_head(bytes: &mut Vec<u8>, value: &PortState) -> Result<(), AllocError>
     Ok(())
 }
 
-/// Appends the opening of a chapter.
+/// Appends the opening of a chapter, after its rule.
 pub(crate) fn put_opening(bytes: &mut Vec<u8>, value: &PortState) -> Result<(), AllocError>
     requires { FitsCounts value.now }
     ensures { OnOk result (bytes.new.items
-        ≡ bytes.old.items ++ opening.write (recorded_opening value.now)) }
+        ≡ bytes.old.items ++ (opening_in Version.Two value.now.rule).write
+        (recorded_opening value.now)) }
 {
     let loads = value.loads();
     let rows = value.roster().rows();
     put_head(bytes, value)?;
-    put_all_rows(bytes, loads, rows)?;
+    put_all_rows(bytes, loads, rows, value.carries())?;
     put_window(bytes, loads)?;
     Ok(())
 }

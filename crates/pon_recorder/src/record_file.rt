@@ -8,7 +8,7 @@ use crate::fault::RecordFault;
 use crate::pending::Pending;
 use pon_device::{DevWrite, Failed};
 use pon_port::Chapter;
-use pon_record::MAGIC;
+use pon_record::Version;
 use pon_units::PortNo;
 use std::alloc::{AllocError, Global};
 use std::marker::Model;
@@ -32,8 +32,8 @@ impl<W> Model for RecordFile<W> {
 impl<W: DevWrite + Drop> RecordFile<W> {
     ghost use Rattle.pon_recorder.specs.Recorders.{CountsDevice, CountsOpening, Grows, IsTaken, Records, Stays};
 
-    /// Begins a recording: tries once to write the magic bytes to the device. If the device fails, the bytes that it
-    /// did not take are left. `Err` only if memory is refused.
+    /// Begins a recording of version two: tries once to write the magic bytes to the device. If the device fails, the bytes
+    /// that it did not take are left. `Err` only if memory is refused.
     pub fn open(alloc: Global, writer: W) -> Result<RecordFile<W>, AllocError>
         ensures recorded { IfOk result (λ file.
             Records (W.contents writer) (W.contents file.device) file.left []) }
@@ -41,7 +41,7 @@ impl<W: DevWrite + Drop> RecordFile<W> {
             CountsOpening (W.failures writer) (W.failures file.device) file.left) }
     {
         let mut writer = writer;
-        let mut pending = Pending::new(Vec::from_slice(alloc, &MAGIC)?);
+        let mut pending = Pending::new(Vec::from_slice(alloc, &Version::Two.magic())?);
         let _ = pending.push(&mut writer);
         Ok(RecordFile {
             alloc,

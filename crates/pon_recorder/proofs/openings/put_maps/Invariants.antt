@@ -1,7 +1,8 @@
 use Rattle.std.proofs.Common.{◌≡◌, ◌++◌, take}
 use Rattle.std.specs.List.{flat_map}
-use Rattle.pon_record.specs.Openings.{window_map}
+use Rattle.pon_admit.specs.declared.rule.Rule.TheVariants as rule
+use Rattle.pon_record.specs.Openings.{window_map_under}
 use Rattle.pon_recorder.proofs.openings.put_maps.Given as goal
 
 abbrev pub invariant-loop-index : goal.invariant-loop-index
-invariant-loop-index l = l.bytes.items ≡ l.initial.bytes.items ++ flat_map window_map.write (take l.index l.loads.window)
+invariant-loop-index l = l.bytes.items ≡ l.initial.bytes.items ++ flat_map (window_map_under rule.Two).write (take l.index l.loads.window)

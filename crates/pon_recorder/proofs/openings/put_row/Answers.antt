@@ -1,5 +1,6 @@
 use Rattle.std.proofs.Common.{◌++◌, ℕ, ap, ◌∙◌}
 use Rattle.std.specs.Prelude.{Option}
+use Rattle.std.specs.Int.{w8, to_be_bytes}
 use Rattle.pon_guar.specs.declared.account.Counted.{Counted}
 use Rattle.pon_record.specs.Fields.{alloc_id, descriptor, frame, onu_id, report}
 use Rattle.pon_recorder.specs.Bodies.{recorded_row}
@@ -9,7 +10,7 @@ use Rattle.pon_recorder.proofs.openings.put_row.Goals as goal
 pub returns : goal.returns
 returns c =
     let old = c.args.bytes.now.items in
-    let r = recorded_row c.args.loads.now.accounts c.args.value.now in
+    let r = recorded_row c.args.loads.now.accounts (c.args.value.now, c.args.carry) in
     let t1 = behind old (onu_id.write r.onu) (alloc_id.write r.alloc_id) c.put_onu.new.bytes.items c.put_alloc_id.new.bytes.items c.in_ok-put_onu.ensures c.in_ok-put_alloc_id.ensures in
     let a1 = onu_id.write r.onu ++ alloc_id.write r.alloc_id in
     let t2 = behind old a1 (descriptor.write r.descriptor) c.put_alloc_id.new.bytes.items c.put_descriptor.new.bytes.items t1 c.in_ok-put_descriptor.ensures in
@@ -18,4 +19,5 @@ returns c =
     let t3 = behind old a2 (frame.write r.since) c.put_descriptor.new.bytes.items c.put_frame.new.bytes.items t2 e3 in
     let a3 = a2 ++ frame.write r.since in
     let e4 = c.in_ok-put_counted.ensures ∙ ap (λ (o : Option Counted). c.put_frame.new.bytes.items ++ report.write o) c.counted.ensures in
-    behind old a3 (report.write r.counted) c.put_frame.new.bytes.items c.put_counted.new.bytes.items t3 e4
+    let t4 = behind old a3 (report.write r.counted) c.put_frame.new.bytes.items c.put_counted.new.bytes.items t3 e4 in
+    behind old (a3 ++ report.write r.counted) (to_be_bytes w8 r.carry) c.put_counted.new.bytes.items c.put_u8.new.bytes.items t4 c.in_ok-put_u8.ensures
