@@ -15,6 +15,7 @@ use Rattle.pon_port.specs.Taking.{IsKept, with_entry}
 use Rattle.pon_port.proofs.EntryByEntry.{legal_none, replay_of_none}
 use Rattle.pon_port.proofs.Kept.{mapped, taken}
 use Rattle.pon_port.proofs.FairMaps.{maps_are_fair}
+use Rattle.pon_port.proofs.WordRuns.{whole_runs}
 use Rattle.pon_record.specs.Chapters.{PlacedChapter}
 use Rattle.pon_audit.specs.Openings.{chapter_of}
 use Rattle.pon_audit.specs.Faults.{EntryFails, FailsAt, cut_at}
@@ -73,4 +74,4 @@ all_taken c i s le k =
 
 -- a good chapter, and the state at its end
 pub ended : (c : PlacedChapter) (s : State) → IsKept (chapter_of c.body) s → EndsWith c s
-ended c s k = record { good = record { lawful = k.lawful; fair = maps_are_fair (chapter_of c.body) k.lawful }; kept = k }
+ended c s k = record { good = record { lawful = k.lawful; fair = maps_are_fair (chapter_of c.body) k.lawful; runs = whole_runs (chapter_of c.body) k.lawful }; kept = k }

@@ -8,7 +8,7 @@ use Rattle.std.proofs.lemmas.Option.{get_or_from_slice_get}
 use Rattle.pon_record.specs.declared.fault.ReadFault.{ReadFault}
 use Rattle.pon_record.specs.declared.fault.ReadFault.TheVariants as read
 use Rattle.pon_record.specs.Chapters.{PlacedChapter}
-use Rattle.pon_record.specs.Recordings.{IsBadFormat, IsTruncated}
+use Rattle.pon_record.specs.Recordings.{IsBadFormat, IsTruncated, either_version}
 use Rattle.pon_record.proofs.OneReading.{no_bad_format, no_truncated, one_fault, one_recording}
 use Rattle.pon_audit.specs.Verdicts.{AreGood, ChapterFails, Continues, HasChapters, IsFirstFault, IsGoodChapter, IsVerdict, Rises, maps_in}
 use Rattle.pon_audit.specs.declared.verdict.Verdict.{Verdict}
@@ -95,21 +95,21 @@ is_cut read.Memory = 0
 
 module _ (bytes : List ℕ) where
   both_cut : (at at2 : ℕ) (cs ds : List PlacedChapter) → IsTruncated bytes at cs → IsTruncated bytes at2 ds → read.Truncated at cs ≡ read.Truncated at2 ds
-  both_cut at at2 cs ds t u = one_fault bytes (read.Truncated at cs) (read.Truncated at2 ds) t u (λ e. absurd cc) (λ e. absurd cc)
+  both_cut at at2 cs ds t u = one_fault either_version bytes (read.Truncated at cs) (read.Truncated at2 ds) t u (λ e. absurd cc) (λ e. absurd cc)
 
   never_both : (at at2 : ℕ) (cs : List PlacedChapter) → IsTruncated bytes at cs → IsBadFormat bytes at2 → ⊥
   never_both at at2 cs t b =
-      let e = ap is_cut (one_fault bytes (read.Truncated at cs) (read.BadFormat at2) t b (λ e. absurd cc) (λ e. absurd cc)) in
+      let e = ap is_cut (one_fault either_version bytes (read.Truncated at cs) (read.BadFormat at2) t b (λ e. absurd cc) (λ e. absurd cc)) in
       absurd (omega (arith, e))
 
   same_chapters : (cs ds : List PlacedChapter) → HasChapters bytes cs → HasChapters bytes ds → cs ≡ ds
-  same_chapters cs ds (inl r) (inl q) = one_recording bytes cs ds r q
-  same_chapters cs ds (inl r) (inr (at, t)) = absurd (no_truncated bytes cs at ds r t)
-  same_chapters cs ds (inr (at, t)) (inl q) = absurd (no_truncated bytes ds at cs q t)
+  same_chapters cs ds (inl r) (inl q) = one_recording either_version bytes cs ds r q
+  same_chapters cs ds (inl r) (inr (at, t)) = absurd (no_truncated either_version bytes cs at ds r t)
+  same_chapters cs ds (inr (at, t)) (inl q) = absurd (no_truncated either_version bytes ds at cs q t)
   same_chapters cs ds (inr (at, t)) (inr (at2, u)) = ap whole_of (both_cut at at2 cs ds t u)
 
   no_format_fault : (cs : List PlacedChapter) (at : ℕ) → HasChapters bytes cs → IsBadFormat bytes at → ⊥
-  no_format_fault cs at (inl r) b = no_bad_format bytes cs at r b
+  no_format_fault cs at (inl r) b = no_bad_format either_version bytes cs at r b
   no_format_fault cs at (inr (at2, t)) b = never_both at2 at cs t b
 
   --   good chapters of the same bytes have no fault
@@ -122,19 +122,19 @@ module _ (bytes : List ℕ) where
       λ t. Bad (same.port t) (same.number t) (same.index t) (same.why t)
 
   pub one_verdict : (v w : Verdict) → IsVerdict bytes v → IsVerdict bytes w → v ≡ w
-  one_verdict (Good a) (Good b) (cs, r, g) (ds, q, h) = ap Good (g.count ∙ ap (sum_by maps_in) (one_recording bytes cs ds r q) ∙ sym h.count)
+  one_verdict (Good a) (Good b) (cs, r, g) (ds, q, h) = ap Good (g.count ∙ ap (sum_by maps_in) (one_recording either_version bytes cs ds r q) ∙ sym h.count)
   one_verdict (Good a) (Bad p m i w) (cs, r, g) (ds, k, f) = absurd (good_and_bad cs ds p m i w (inl r) g.good k f)
-  one_verdict (Good a) (BadFormat at) (cs, r, g) b = absurd (no_bad_format bytes cs at r b)
-  one_verdict (Good a) (Truncated at) (cs, r, g) (ds, t, h) = absurd (no_truncated bytes cs at ds r t)
+  one_verdict (Good a) (BadFormat at) (cs, r, g) b = absurd (no_bad_format either_version bytes cs at r b)
+  one_verdict (Good a) (Truncated at) (cs, r, g) (ds, t, h) = absurd (no_truncated either_version bytes cs at ds r t)
   one_verdict (Bad p m i w) (Good b) (cs, k, f) (ds, q, h) = absurd (good_and_bad ds cs p m i w (inl q) h.good k f)
   one_verdict (Bad p m i w) (Bad q n j v) (cs, k, f) (ds, l, g) = both_bad cs ds p q m n i j w v k f l g
   one_verdict (Bad p m i w) (BadFormat at) (cs, k, f) b = absurd (no_format_fault cs at k b)
   one_verdict (Bad p m i w) (Truncated at) (cs, k, f) (ds, t, g) = absurd (good_and_bad ds cs p m i w (inr (at, t)) g k f)
-  one_verdict (BadFormat at) (Good b) f (ds, q, h) = absurd (no_bad_format bytes ds at q f)
+  one_verdict (BadFormat at) (Good b) f (ds, q, h) = absurd (no_bad_format either_version bytes ds at q f)
   one_verdict (BadFormat at) (Bad q n j v) f (ds, l, g) = absurd (no_format_fault ds at l f)
-  one_verdict (BadFormat at) (BadFormat at2) f g = ap BadFormat (ap at_of (one_fault bytes (read.BadFormat at) (read.BadFormat at2) f g (λ e. absurd cc) (λ e. absurd cc)))
+  one_verdict (BadFormat at) (BadFormat at2) f g = ap BadFormat (ap at_of (one_fault either_version bytes (read.BadFormat at) (read.BadFormat at2) f g (λ e. absurd cc) (λ e. absurd cc)))
   one_verdict (BadFormat at) (Truncated at2) f (ds, t, g) = absurd (never_both at2 at ds t f)
-  one_verdict (Truncated at) (Good b) (cs, t, g) (ds, q, h) = absurd (no_truncated bytes ds at cs q t)
+  one_verdict (Truncated at) (Good b) (cs, t, g) (ds, q, h) = absurd (no_truncated either_version bytes ds at cs q t)
   one_verdict (Truncated at) (Bad q n j v) (cs, t, g) (ds, l, f) = absurd (good_and_bad cs ds q n j v (inr (at, t)) g l f)
   one_verdict (Truncated at) (BadFormat at2) (cs, t, g) b = absurd (never_both at at2 cs t b)
   one_verdict (Truncated at) (Truncated at2) (cs, t, g) (ds, u, h) = ap Truncated (ap at_of (both_cut at at2 cs ds t u))

@@ -13,7 +13,7 @@ use Rattle.pon_lists.specs.Order.{IsInOrder}
 use Rattle.pon_lists.proofs.Order.{in_order-sides, in_order-front, in_order-unmap}
 use Rattle.pon_admit.specs.declared.row.Row.{Row}
 use Rattle.pon_admit.specs.declared.rule.Rule.{Rule}
-use Rattle.pon_admit.specs.Roster.{IsAdmitted, IsDistinct, IsInMapOrder, IsInRange, comes_before, has_alloc, refuses_admit, rule_in_force, with_row, without}
+use Rattle.pon_admit.specs.Roster.{IsAdmitted, IsDistinct, IsInMapOrder, IsInRange, comes_before, has_alloc, most_carry, refuses_admit, with_row, without}
 use Rattle.pon_admit.proofs.AdmittedSets.{admit_keeps, before_from, precedes, remove_keeps}
 use Rattle.pon_admit.proofs.RefusedSets.{refused_admission}
 use Rattle.pon_guar.specs.declared.account.Account.{Account}
@@ -234,7 +234,7 @@ found_any i book a e = list_any-map (λ j. j == i) (λ b. b.alloc_id) book ∙ a
 pub record PassesTests (number : ℕ) (o : Opening) : Type 0 where
   pub first : OpensFirst number (state_of o)
   pub silent : IfSome o.cause (λ c. IsSilent (state_of o))
-  pub admitted : IsAdmitted rule_in_force o.gap (roster_of o)
+  pub admitted : IsAdmitted o.rule o.gap (roster_of o)
   pub parts : AreParts (accounts_of o) o.window
   pub fits : Fits o (roster_of o) (book_from (accounts_of o))
 
@@ -316,8 +316,8 @@ module _ (o : Opening) where
             owner_has_row g.onu g.alloc_id s.roster (sym (book.1 g.alloc_id) ∙ found_any g.alloc_id s.book a e) (own a e since (sym (account_is s.book g.alloc_id a e)))
 
 -- an opening that passes the tests is lawful
-pub lawful_if_passes : (number : ℕ) (o : Opening) → PassesTests number o → IsLawfulOpening number (state_of o)
-lawful_if_passes number o p =
+pub lawful_if_passes : (number : ℕ) (o : Opening) → All (λ r. r.carry ≤ most_carry o.rule) o.rows → PassesTests number o → IsLawfulOpening number (state_of o)
+lawful_if_passes number o range p =
     let apart : IsDistinct (roster_of o) = p.admitted.apart in
     let s : State = state_of o in
     let book : AccountsFor (roster_of o) s.book = book_of_rows o.rows p.parts.apart in
@@ -326,7 +326,10 @@ lawful_if_passes number o p =
       first = p.first;
       admitted = p.admitted;
       book = book;
-      carries = record { count = length-map (roster_of o) (λ r. 0); range = All-map (λ c. c ≤ 0) (λ r. 0) (roster_of o) (λ k d l. omega arith) };
+      carries = record {
+        count = length-map o.rows (λ r. r.carry) ∙ sym (length-map o.rows admitted_row);
+        range = All-map (λ c. c ≤ most_carry o.rule) (λ r. r.carry) o.rows range;
+      };
       accounts = λ k d l.
           let a : Account = get_or s.book k d in
           record { since = (fits k d l).0; counted = (fits k d l).1; owner = owner_from o apart a (found_each s.book book.0 k d l) p.fits.owned };
@@ -357,12 +360,12 @@ passes_if_lawful number o l =
 
 pub opened_if_bare : (o : Opening) → IsBare o → IsJustOpened (state_of o)
 opened_if_bare o b = (
-  rule_in_force,
+  o.rule,
   o.gap,
   o.profile,
   o.next,
   (λ i. record {
-    rule = rule_in_force;
+    rule = o.rule;
     gap = o.gap;
     profile = o.profile;
     next = o.next;
@@ -370,7 +373,7 @@ opened_if_bare o b = (
     taken_before = b.none_before i;
     roster = map admitted_row (b.no_rows i);
     book = book_from (map row_account (b.no_rows i));
-    carries = map (λ r. 0) (map admitted_row (b.no_rows i));
+    carries = map (λ r. r.carry) (b.no_rows i);
     window = b.no_window i;
   }),
 )

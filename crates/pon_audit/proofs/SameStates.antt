@@ -1,11 +1,9 @@
 -- An opening with the parts of a state is that state.
-use Rattle.std.proofs.Common.{◌≡◌, ℕ, ◌+◌, ◌<◌, ◌≤◌, List, [], ◌∷◌, ◌++◌, map, length, take, get_or, Option, Some, None, refl, ap, sym, ◌∙◌, subst, arith}
+use Rattle.std.proofs.Common.{◌≡◌, ℕ, ◌+◌, ◌<◌, List, [], ◌∷◌, ◌++◌, map, length, take, get_or, Option, Some, None, refl, ap, sym, ◌∙◌, subst}
 use Rattle.std.specs.Prelude.{◌↔◌, All}
 use Rattle.std.proofs.lemmas.List.{get_or-map, take_more}
-use Rattle.std.proofs.lemmas.List.Elements.{All-head, All-map, All-tail, All-weaker}
+use Rattle.std.proofs.lemmas.List.Elements.{All-map, All-weaker}
 use Rattle.pon_lists.proofs.Lists.{All-unmap}
-use Rattle.pon_admit.specs.declared.row.Row.{Row}
-use Rattle.pon_admit.specs.Roster.{most_carry, rule_in_force}
 use Rattle.pon_guar.specs.declared.account.Account.{Account}
 use Rattle.pon_guar.specs.Book.{account_of, alloc_ids, known_report, known_since, since_of_account}
 use Rattle.pon_guar.specs.Parts.{book_from}
@@ -14,7 +12,6 @@ use Rattle.pon_guar.proofs.Accounts.{accounts_all as accounts_from_ids}
 use Rattle.pon_guar.proofs.RestoredParts.{same_rising}
 use Rattle.pon_state.specs.State.{State}
 use Rattle.pon_state.specs.Accounts.{AccountsFor}
-use Rattle.pon_state.specs.Parts.{no_carries}
 use Rattle.pon_port.specs.Chapters.{IsLawfulOpening}
 use Rattle.pon_port.specs.Taking.{IsKept}
 use Rattle.pon_record.specs.declared.row.RawRow.{RawRow}
@@ -83,24 +80,12 @@ has_its_accounts o book a e =
 
 -- The state.
 
-zeros : (rows : List Row) (cs : List ℕ) → length cs ≡ length rows → All (λ c. c ≤ 0) cs → no_carries rows ≡ cs
-zeros [] [] e h = refl
-zeros [] (c ∷ cs) e h = absurd (omega (arith, e))
-zeros (r ∷ rows) [] e h = absurd (omega (arith, e))
-zeros (r ∷ rows) (c ∷ cs) e h =
-    let none : 0 ≡ c = omega (arith, All-head (λ c. c ≤ 0) c cs h) in
-    let rest : no_carries rows ≡ cs = zeros rows cs (omega (arith, e)) (All-tail (λ c. c ≤ 0) c cs h) in
-    (λ k. none k ∷ rest k)
-
 module _ (number : ℕ) (o : Opening) (b : Body) (s : State) (l : IsLawfulOpening number (state_of o)) (kept : IsKept (chapter_of b) s) where
   pub is_state : HasParts o s → state_of o ≡ s
   is_state p =
-      let rule : s.rule ≡ rule_in_force = ap (λ t. t.rule) kept.replayed in
-      let none : All (λ c. c ≤ 0) s.carries = subst (λ r. All (λ c. c ≤ most_carry r) s.carries) rule kept.carries.range in
-      let carries : no_carries (roster_of o) ≡ s.carries = zeros (roster_of o) s.carries (kept.carries.count ∙ ap (λ (l : List Row). length l) (sym p.rows)) none in
       let book : book_from (accounts_of o) ≡ s.book = same_book o s.book l.book (subst (λ r. AccountsFor r s.book) (sym p.rows) kept.book) p.accounts in
       (λ i. record {
-        rule = sym rule i;
+        rule = p.numbers.rule i;
         gap = p.numbers.gap i;
         profile = p.numbers.profile i;
         next = p.numbers.next i;
@@ -108,13 +93,14 @@ module _ (number : ℕ) (o : Opening) (b : Body) (s : State) (l : IsLawfulOpenin
         taken_before = p.numbers.taken_before i;
         roster = p.rows i;
         book = book i;
-        carries = carries i;
+        carries = p.carries i;
         window = p.window i;
       })
 
   pub has_its_parts : state_of o ≡ s → HasParts o s
   has_its_parts e = record {
     numbers = record {
+      rule = ap (λ t. t.rule) e;
       gap = ap (λ t. t.gap) e;
       profile = ap (λ t. t.profile) e;
       next = ap (λ t. t.next) e;
@@ -122,6 +108,7 @@ module _ (number : ℕ) (o : Opening) (b : Body) (s : State) (l : IsLawfulOpenin
       taken_before = ap (λ t. t.taken_before) e;
     };
     rows = ap (λ t. t.roster) e;
+    carries = ap (λ t. t.carries) e;
     accounts = has_its_accounts o s.book l.book (ap (λ t. t.book) e);
     window = ap (λ t. t.window) e;
   }

@@ -6,24 +6,26 @@ use Rattle.pon_state.specs.State.{State}
 use Rattle.pon_record.specs.declared.row.RawRow.{RawRow}
 use Rattle.pon_record.specs.Openings.{Opening}
 use Rattle.pon_record.specs.Chapters.{PlacedChapter}
-use Rattle.pon_audit.specs.Openings.{roster_of, row_account}
+use Rattle.pon_audit.specs.Openings.{roster_of, row_account, row_carries}
 
 -- a report book has the account of a row
 abbrev pub HasAccount : List Account → RawRow → Type 0
 HasAccount book r = account_of book r.alloc_id ≡ Some (row_account r)
 
--- an opening has the gap, the profile, the next frame, the cause and the number of earlier entries of a state
+-- an opening has the rule, the gap, the profile, the next frame, the cause and the number of earlier entries of a state
 pub record HasNumbers (o : Opening) (s : State) : Type 0 where
+  pub rule : o.rule ≡ s.rule
   pub gap : o.gap ≡ s.gap
   pub profile : o.profile ≡ s.profile
   pub next : o.next ≡ s.next
   pub cause : o.cause ≡ s.cause
   pub taken_before : o.taken_before ≡ s.taken_before
 
--- an opening has the numbers, the rows, the accounts and the window of a state
+-- an opening has the numbers, the rows, their carries and accounts, and the window of a state
 pub record HasParts (o : Opening) (s : State) : Type 0 where
   pub numbers : HasNumbers o s
   pub rows : roster_of o ≡ s.roster
+  pub carries : row_carries o ≡ s.carries
   pub accounts : All (HasAccount s.book) o.rows
   pub window : o.window ≡ s.window
 

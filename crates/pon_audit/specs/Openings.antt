@@ -1,20 +1,24 @@
--- The state that a recorded chapter opens with.
+-- A recorded chapter, and the state that it opens with.
 use Rattle.std.specs.Prelude.{ℕ, ◌≡◌, ◌<◌, ◌≤◌, ◌&&◌, ◌==◌, Bool, true, All, Contains, IfSome, List, [], None, map}
 use Rattle.std.specs.List.{list_any}
 use Rattle.pon_units.specs.declared.granted.Granted.{Granted}
 use Rattle.pon_admit.specs.declared.row.Row.{Row}
-use Rattle.pon_admit.specs.Roster.{rule_in_force}
 use Rattle.pon_guar.specs.declared.account.Account.{Account}
 use Rattle.pon_guar.specs.declared.account.Counted.{Counted}
 use Rattle.pon_guar.specs.Book.{account_of, known_since}
 use Rattle.pon_guar.specs.Parts.{book_from}
 use Rattle.pon_window.specs.Window.{AreConsecutive, WindowMap}
 use Rattle.pon_state.specs.State.{State}
-use Rattle.pon_state.specs.Parts.{no_carries}
 use Rattle.pon_port.specs.Chapters.{Chapter, IsLawfulOpening}
 use Rattle.pon_record.specs.declared.row.RawRow.{RawRow}
 use Rattle.pon_record.specs.Openings.{Opening}
-use Rattle.pon_record.specs.Chapters.{Body}
+use Rattle.pon_record.specs.declared.version.Version.{Version}
+use Rattle.pon_record.specs.Chapters.{Body, FitsChapter}
+
+-- the chapter fits one of the versions
+pub record FitsRecording (b : Body) : Type 0 where
+  pub version : Version
+  pub fits : FitsChapter version b
 
 -- the row of the roster, and the account of the report book
 abbrev pub admitted_row : RawRow → Row
@@ -30,10 +34,14 @@ roster_of o = map admitted_row o.rows
 abbrev pub accounts_of : Opening → List Account
 accounts_of o = map row_account o.rows
 
--- the state under the rule in force; it has no carries
+-- what the last map left to each row
+abbrev pub row_carries : Opening → List ℕ
+row_carries o = map (λ r. r.carry) o.rows
+
+-- the state, under the rule of the opening
 abbrev pub state_of : Opening → State
 state_of o = record {
-  rule = rule_in_force;
+  rule = o.rule;
   gap = o.gap;
   profile = o.profile;
   next = o.next;
@@ -41,7 +49,7 @@ state_of o = record {
   taken_before = o.taken_before;
   roster = roster_of o;
   book = book_from (accounts_of o);
-  carries = no_carries (roster_of o);
+  carries = row_carries o;
   window = o.window;
 }
 

@@ -5,6 +5,7 @@ use Rattle.pon_state.specs.Replay.{makes_map}
 use Rattle.pon_state.specs.declared.reply.Entry.{Entry}
 use Rattle.pon_port.specs.Chapters.{Chapter, Follows, IsLawfulChapter, state_before}
 use Rattle.pon_port.specs.FairMaps.{TellsFairMap}
+use Rattle.pon_port.specs.WordRuns.{RunsAreWhole}
 use Rattle.pon_record.specs.Chapters.{PlacedChapter}
 use Rattle.pon_record.specs.Recordings.{IsBadFormat, IsRecording, IsTruncated}
 use Rattle.pon_audit.specs.Openings.{OpensLawfully, chapter_of}
@@ -20,10 +21,12 @@ use Rattle.pon_audit.specs.declared.verdict.Verdict.TheVariants.{Good, Bad, BadF
 abbrev pub MapsAreFair : Chapter → Type 0
 MapsAreFair c = (k : ℕ) (e : Entry) → slice_get c.entries k ≡ Some e → TellsFairMap (state_before c k) e.reply
 
--- the opening is lawful, each entry may follow those before it, and each map is fair
+-- the opening is lawful, each entry may follow those before it, and each map is fair; under the rule that carries what
+-- whole words leave, the words over each run of maps are the whole part of the sum of the rates
 pub record IsGoodChapter (c : PlacedChapter) : Type 0 where
   pub lawful : IsLawfulChapter (chapter_of c.body)
   pub fair : MapsAreFair (chapter_of c.body)
+  pub runs : RunsAreWhole (chapter_of c.body)
 
 -- if both are chapters of one port, the earlier one in the recording has the lesser number
 abbrev pub Rises : PlacedChapter → PlacedChapter → Type 0

@@ -2,8 +2,8 @@
 
 ghost use Rattle.std.specs.Prelude.{◌≡◌, ◌↔◌, All, IfOk, IsTrue, map};
 ghost use Rattle.pon_port.specs.Taking.{IsKept};
-ghost use Rattle.pon_record.specs.Chapters.{Body, FitsChapter};
-ghost use Rattle.pon_audit.specs.Openings.{OpensLawfully, admitted_row, chapter_of, state_of};
+ghost use Rattle.pon_record.specs.Chapters.{Body};
+ghost use Rattle.pon_audit.specs.Openings.{FitsRecording, OpensLawfully, admitted_row, chapter_of, state_of};
 ghost use Rattle.pon_audit.specs.Chains.{HasAccount, HasNumbers, HasParts, IsNext};
 ghost use Rattle.pon_audit.specs.Verdicts.{Continues, IsChained, IsGoodChapter};
 
@@ -32,6 +32,21 @@ fn are_same_rows(raws: &[RawRow], rows: &[Row]) -> bool
     }
     for place in 0..raws.len() {
         if !is_same_row(&raws[place], &rows[place]) {
+            return false;
+        }
+    }
+    true
+}
+
+// Returns whether the carries of recorded rows are these in the same order.
+fn are_same_carries(raws: &[RawRow], carries: &[u8]) -> bool
+    ensures { IsTrue result ↔ (map (λ r. r.carry) raws.now ≡ carries.now) }
+{
+    if raws.len() != carries.len() {
+        return false;
+    }
+    for place in 0..raws.len() {
+        if raws[place].carry != carries[place] {
             return false;
         }
     }
@@ -96,24 +111,26 @@ fn is_same_window(raws: &[RawMap], loads: &Loads) -> bool
     true
 }
 
-// Returns whether an opening has the numbers of a state: gap, profile, next frame, cause and number of earlier entries.
+// Returns whether an opening has the numbers of a state: rule, gap, profile, next frame, cause and number of earlier entries.
 fn has_numbers(opening: &Opening, state: &PortState) -> bool
     ensures { IsTrue result ↔ HasNumbers opening.now state.now }
 {
     let cfg = state.cfg();
-    opening.gap == cfg.gap
+    opening.rule == state.roster().rule()
+        && opening.gap == cfg.gap
         && opening.profile == cfg.profile
         && opening.next == state.next_frame()
         && opening.cause == state.cause()
         && opening.taken_before == state.taken_before()
 }
 
-// Returns whether an opening has the numbers, the rows, the accounts and the window of a state.
+// Returns whether an opening has the numbers, the rows, their carries and accounts, and the window of a state.
 fn has_parts(opening: &Opening, state: &PortState) -> bool
     ensures { IsTrue result ↔ HasParts opening.now state.now }
 {
     has_numbers(opening, state)
         && are_same_rows(&opening.rows, state.roster().rows())
+        && are_same_carries(&opening.rows, state.carries())
         && has_accounts(&opening.rows, state.loads())
         && is_same_window(&opening.window, state.loads())
 }
@@ -139,7 +156,7 @@ fn is_next(earlier: &RawChapter, chapter: &RawChapter) -> bool
 // Returns whether a chapter continues an earlier good one, which is judged once more for its end if the chapter has the next
 // number. `Err` only if memory is refused.
 fn continues(alloc: Global, earlier: &RawChapter, chapter: &RawChapter) -> Result<bool, AllocError>
-    requires fits { FitsChapter earlier.now.body }
+    requires fits { FitsRecording earlier.now.body }
     requires good { IsGoodChapter earlier.now }
     requires opens { OpensLawfully chapter.now.body }
     ensures { IfOk result (λ found. IsTrue found ↔ Continues earlier.now chapter.now) }
@@ -159,7 +176,7 @@ pub(crate) fn is_chained(
     earlier: &[RawChapter],
     chapter: &RawChapter,
 ) -> Result<bool, AllocError>
-    requires fit { All (λ d. FitsChapter d.body) earlier.now }
+    requires fit { All (λ d. FitsRecording d.body) earlier.now }
     requires good { All IsGoodChapter earlier.now }
     requires opens { OpensLawfully chapter.now.body }
     ensures { IfOk result (λ found. IsTrue found ↔ IsChained earlier.now chapter.now) }

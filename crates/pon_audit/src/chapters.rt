@@ -2,8 +2,7 @@
 
 ghost use Rattle.std.specs.Prelude.{◌≡◌, IfOk, MatchOption};
 ghost use Rattle.pon_port.specs.Taking.{IsKept};
-ghost use Rattle.pon_record.specs.Chapters.{FitsChapter};
-ghost use Rattle.pon_audit.specs.Openings.{OpensLawfully, chapter_of, state_of};
+ghost use Rattle.pon_audit.specs.Openings.{FitsRecording, OpensLawfully, chapter_of, state_of};
 ghost use Rattle.pon_audit.specs.Faults.{FailsAt};
 ghost use Rattle.pon_audit.specs.Judging.{IsAnswer};
 
@@ -49,7 +48,7 @@ fn entry_fault(
     chapter: &RawChapter,
     state: &mut PortState,
 ) -> Result<Option<Fault>, AllocError>
-    requires fits { FitsChapter chapter.now.body }
+    requires fits { FitsRecording chapter.now.body }
     requires lawful { OpensLawfully chapter.now.body }
     requires opened { state.old ≡ state_of chapter.now.body.opening }
     ensures { IfOk result (λ found. MatchOption found
@@ -66,7 +65,7 @@ fn entry_fault(
 
 /// Judges a chapter regardless of those before it. `Err` only if memory is refused.
 pub(crate) fn judge(alloc: Global, chapter: &RawChapter) -> Result<Judged, AllocError>
-    requires { FitsChapter chapter.now.body }
+    requires { FitsRecording chapter.now.body }
     ensures { IfOk result (λ answer. IsAnswer chapter.now answer) }
 {
     let mut state = match open_state(alloc, chapter.number, &chapter.opening)? {

@@ -1,8 +1,8 @@
 //! The first chapter that fails, from the answer on each chapter.
 
 ghost use Rattle.std.specs.Prelude.{◌+◌, ◌<◌, ◌≤◌, ◌++◌, ◌∷◌, [], All, IfOk, MatchOption, length, slice_index_or, take};
-ghost use Rattle.pon_record.specs.Chapters.{FitsChapter, PlacedChapter};
-ghost use Rattle.pon_audit.specs.Openings.{OpensLawfully};
+ghost use Rattle.pon_record.specs.Chapters.{PlacedChapter};
+ghost use Rattle.pon_audit.specs.Openings.{FitsRecording, OpensLawfully};
 ghost use Rattle.pon_audit.specs.Judging.{AreJudged, IsAnswer, IsLast, TellsBad};
 ghost use Rattle.pon_audit.specs.Verdicts.{ChapterFails, IsGoodChapter, MayStandAfter};
 
@@ -22,7 +22,7 @@ fn fault_behind(
     last: &Last,
     chapter: &RawChapter,
 ) -> Result<Option<Why>, AllocError>
-    requires fit { All (λ d. FitsChapter d.body) earlier.now }
+    requires fit { All (λ d. FitsRecording d.body) earlier.now }
     requires good { All IsGoodChapter earlier.now }
     requires opens { OpensLawfully chapter.now.body }
     requires last { IsLast earlier.now chapter.now.body.port last.now }
@@ -52,7 +52,7 @@ fn place_fault(
     lasts: &Lasts,
     chapter: &RawChapter,
 ) -> Result<Option<Why>, AllocError>
-    requires fit { All (λ d. FitsChapter d.body) earlier.now }
+    requires fit { All (λ d. FitsRecording d.body) earlier.now }
     requires judged { AreJudged earlier.now lasts.now }
     requires opens { OpensLawfully chapter.now.body }
     ensures { IfOk result (λ found. MatchOption found
@@ -76,7 +76,7 @@ fn chapter_fault(
     chapter: &RawChapter,
     judged: Judged,
 ) -> Result<Option<Fault>, AllocError>
-    requires fit { All (λ d. FitsChapter d.body) earlier.now }
+    requires fit { All (λ d. FitsRecording d.body) earlier.now }
     requires judged { AreJudged earlier.now lasts.old }
     requires answer { IsAnswer chapter.now judged }
     ensures { IfOk result (λ found. MatchOption found
@@ -109,7 +109,7 @@ pub(crate) fn judge_next(
     judged: Judged,
 ) -> Result<Option<Verdict>, AllocError>
     requires within { place < length chapters.now }
-    requires fit { All (λ d. FitsChapter d.body) chapters.now }
+    requires fit { All (λ d. FitsRecording d.body) chapters.now }
     requires judged { AreJudged (take place chapters.now) lasts.old }
     requires answer { (c : PlacedChapter) → IsAnswer (slice_index_or chapters.now place c) judged }
     ensures { IfOk result (λ found. MatchOption found

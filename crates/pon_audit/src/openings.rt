@@ -1,13 +1,14 @@
 //! The state that a recorded chapter opens with, if it is lawful.
 
 ghost use Rattle.std.specs.Prelude.{◌≡◌, ◌==◌, ◌↔◌, ◌<◌, All, Contains, IfOk, IfSome, IsTrue, MatchOption, None, map};
-ghost use Rattle.pon_admit.specs.Roster.{IsAdmitted, IsInMapOrder, comes_before, rule_in_force};
+ghost use Rattle.pon_admit.specs.Roster.{IsAdmitted, IsInMapOrder, comes_before};
 ghost use Rattle.pon_guar.specs.Parts.{AreParts, loads_from};
 ghost use Rattle.pon_window.specs.Window.{AreConsecutive, frame_after};
 ghost use Rattle.pon_port.specs.Chapters.{IsLawfulOpening, IsSilent, OpensFirst};
-ghost use Rattle.pon_audit.specs.Openings.{AreQuiet, Fits, GrantIsOwned, IsBare, MapIsOwned, ReportIsLawful, RowIsLawful, accounts_of, admitted_row, has_row, roster_of, row_account, state_of};
+ghost use Rattle.pon_record.specs.Openings.{KeepsLimits};
+ghost use Rattle.pon_audit.specs.Openings.{AreQuiet, Fits, GrantIsOwned, IsBare, MapIsOwned, ReportIsLawful, RowIsLawful, accounts_of, admitted_row, has_row, roster_of, row_account, row_carries, state_of};
 
-use pon_admit::{Roster, Row};
+use pon_admit::{Roster, Row, Rule};
 use pon_guar::{Account, Counted, Loads, LoadsFault, MapParts};
 use pon_record::{Opening, RawMap, RawRow};
 use pon_state::{PortState, StateParts};
@@ -79,13 +80,18 @@ fn are_in_map_order(rows: &[RawRow]) -> bool
     true
 }
 
-// Admits rows in order; `None` if they are no admitted set in map order. `Err` only if memory is refused.
-fn admit_rows(alloc: Global, gap: Gap, rows: &[RawRow]) -> Result<Option<Roster>, AllocError>
+// Admits rows in order, under a rule; `None` if they are no admitted set in map order. `Err` only if memory is refused.
+fn admit_rows(
+    alloc: Global,
+    rule: Rule,
+    gap: Gap,
+    rows: &[RawRow],
+) -> Result<Option<Roster>, AllocError>
     ensures { IfOk result (λ found. MatchOption found
-        (IsAdmitted rule_in_force gap (map admitted_row rows.now) → ⊥)
-        (λ roster. IsAdmitted rule_in_force gap (map admitted_row rows.now)
+        (IsAdmitted rule gap (map admitted_row rows.now) → ⊥)
+        (λ roster. IsAdmitted rule gap (map admitted_row rows.now)
         × (roster ≡ record {
-          rule = rule_in_force;
+          rule = rule;
           gap = gap;
           rows = map admitted_row rows.now;
         }))) }
@@ -93,7 +99,7 @@ fn admit_rows(alloc: Global, gap: Gap, rows: &[RawRow]) -> Result<Option<Roster>
     if !are_in_map_order(rows) {
         return Ok(None);
     }
-    let mut roster = Roster::open(alloc, gap)?;
+    let mut roster = Roster::open_with(alloc, gap, rule)?;
     for raw in rows {
         let row = Row::new(raw.onu, raw.alloc_id, raw.descriptor);
         if roster.admit_refusal(&row).is_some() {
@@ -287,6 +293,13 @@ fn is_open_as_numbered(number: u64, opening: &Opening) -> bool
     opens_first(number, opening) && is_silent_if_failed(opening)
 }
 
+// Returns what the last map left to each row. `Err` only if memory is refused.
+fn carries_of(alloc: Global, opening: &Opening) -> Result<Vec<u8>, AllocError>
+    ensures { IfOk result (λ carries. carries.items ≡ row_carries opening.now) }
+{
+    opening.rows.iter().map(|row| row.carry).collect(alloc)
+}
+
 // Makes the state of a roster and a report book that are made of an opening. `Err` only if memory is refused.
 fn state_of_parts(
     alloc: Global,
@@ -295,24 +308,23 @@ fn state_of_parts(
     loads: Loads,
 ) -> Result<PortState, AllocError>
     requires roster { roster ≡ record {
-      rule = rule_in_force;
+      rule = opening.now.rule;
       gap = opening.now.gap;
       rows = roster_of opening.now;
     } }
     requires loads { loads ≡ loads_from (accounts_of opening.now) opening.now.window }
     ensures { IfOk result (λ state. state ≡ state_of opening.now) }
 {
-    PortState::from_parts(
-        alloc,
-        StateParts {
-            profile: opening.profile,
-            next: opening.next,
-            cause: opening.cause,
-            taken_before: opening.taken_before,
-            roster,
-            loads,
-        },
-    )
+    let carries = carries_of(alloc, opening)?;
+    Ok(PortState::from_parts(StateParts {
+        profile: opening.profile,
+        next: opening.next,
+        cause: opening.cause,
+        taken_before: opening.taken_before,
+        roster,
+        loads,
+        carries,
+    }))
 }
 
 /// Makes the state that a chapter of this number opens with; `None` if the opening is not lawful. `Err` only if memory is
@@ -322,6 +334,7 @@ pub(crate) fn open_state(
     number: u64,
     opening: &Opening,
 ) -> Result<Option<PortState>, AllocError>
+    requires { KeepsLimits opening.now }
     ensures { IfOk result (λ found. MatchOption found
         (IsLawfulOpening number (state_of opening.now) → ⊥)
         (λ state. IsLawfulOpening number (state_of opening.now)
@@ -330,7 +343,7 @@ pub(crate) fn open_state(
     if !is_open_as_numbered(number, opening) {
         return Ok(None);
     }
-    let roster = match admit_rows(alloc, opening.gap, &opening.rows)? {
+    let roster = match admit_rows(alloc, opening.rule, opening.gap, &opening.rows)? {
         Some(roster) => roster,
         None => return Ok(None),
     };

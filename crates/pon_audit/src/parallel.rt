@@ -2,7 +2,7 @@
 
 ghost use Rattle.std.specs.Prelude.{◌≡◌, ◌+◌, ◌≤◌, All, IfOk, MatchOption, drop, length, take};
 ghost use Rattle.std.specs.List.{AllZip};
-ghost use Rattle.pon_record.specs.Chapters.{FitsChapter};
+ghost use Rattle.pon_audit.specs.Openings.{FitsRecording};
 ghost use Rattle.pon_audit.specs.Judging.{AreJudged, IsAnswer, TellsBad};
 ghost use Rattle.pon_audit.specs.Verdicts.{AreGood};
 
@@ -25,7 +25,7 @@ fn judge_in_parallel(
     alloc: Global,
     chapters: &[RawChapter],
 ) -> Result<Vec<Judged>, AllocError>
-    requires { All (λ c. FitsChapter c.body) chapters.now }
+    requires { All (λ c. FitsRecording c.body) chapters.now }
     ensures { IfOk result (λ answers. AllZip IsAnswer chapters.now answers.items) }
 {
     chapters
@@ -33,7 +33,7 @@ fn judge_in_parallel(
         .with_min_len(1)
         .map(
             |chapter: &RawChapter| -> Result<Judged, AllocError>
-                requires { FitsChapter chapter.now.body }
+                requires { FitsRecording chapter.now.body }
                 ensures { IfOk result (λ answer. IsAnswer chapter.now answer) }
             { judge(alloc, chapter) },
         )
@@ -50,7 +50,7 @@ fn judge_batch(
     answers: Vec<Judged>,
 ) -> Result<Option<Verdict>, AllocError>
     requires within { start + length answers.items ≤ length chapters.now }
-    requires fit { All (λ c. FitsChapter c.body) chapters.now }
+    requires fit { All (λ c. FitsRecording c.body) chapters.now }
     requires judged { AreJudged (take start chapters.now) lasts.old }
     requires answers { AllZip IsAnswer
         (take (length answers.items) (drop start chapters.now)) answers.items }
@@ -75,7 +75,7 @@ pub(crate) fn find_in_batches(
     alloc: Global,
     chapters: &[RawChapter],
 ) -> Result<Option<Verdict>, AllocError>
-    requires { All (λ c. FitsChapter c.body) chapters.now }
+    requires { All (λ c. FitsRecording c.body) chapters.now }
     ensures { IfOk result (λ found. MatchOption found (AreGood chapters.now)
         (TellsBad chapters.now)) }
 {

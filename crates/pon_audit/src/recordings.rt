@@ -1,6 +1,6 @@
 ghost use Rattle.std.specs.Prelude.{◌≡◌, ◌<◌, ◌^◌, All, IfOk, MatchOption, sum_by};
-ghost use Rattle.pon_record.specs.Chapters.{FitsChapter};
 ghost use Rattle.pon_record.specs.Recordings.{IsRecording, IsTruncated};
+ghost use Rattle.pon_audit.specs.Openings.{FitsRecording};
 ghost use Rattle.pon_audit.specs.Judging.{TellsBad};
 ghost use Rattle.pon_audit.specs.Verdicts.{AreGood, IsVerdict, maps_in};
 
@@ -42,7 +42,7 @@ fn map_count(chapters: &[RawChapter]) -> u64
 
 // Finds the first chapter that fails, one chapter after another. `Err` only if memory is refused.
 fn find_in_order(alloc: Global, chapters: &[RawChapter]) -> Result<Option<Verdict>, AllocError>
-    requires { All (λ c. FitsChapter c.body) chapters.now }
+    requires { All (λ c. FitsRecording c.body) chapters.now }
     ensures { IfOk result (λ found. MatchOption found (AreGood chapters.now)
         (TellsBad chapters.now)) }
 {
@@ -63,7 +63,7 @@ fn find_fault(
     chapters: &[RawChapter],
     maps: u64,
 ) -> Result<Option<Verdict>, AllocError>
-    requires { All (λ c. FitsChapter c.body) chapters.now }
+    requires { All (λ c. FitsRecording c.body) chapters.now }
     ensures { IfOk result (λ found. MatchOption found (AreGood chapters.now)
         (TellsBad chapters.now)) }
 {
