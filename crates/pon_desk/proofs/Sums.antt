@@ -4,7 +4,7 @@ use Rattle.std.specs.Prelude.{sum}
 use Rattle.std.proofs.lemmas.List.Sums.{sum_by-cons, sum_by_push}
 use Rattle.std.proofs.lemmas.List.Folds.{sum_by-replicate}
 use Rattle.std.proofs.lemmas.List.{get_or-replicate, length-replicate}
-use Rattle.pon_desk.specs.Counts.{SeatCounts, posts_at, AreSums}
+use Rattle.pon_desk.specs.Counts.{SeatState, posts_at, AreSums}
 
 -- if a list is added index by index, its sum is added
 pub sum_added : (xs ys zs : List ℕ) → length xs ≡ length ys → length zs ≡ length ys →
@@ -20,8 +20,8 @@ sum_added (x ∷ xs) [] zs e f h = absurd (omega (arith, e))
 sum_added (x ∷ xs) (y ∷ ys) [] e f h = absurd (omega (arith, f))
 
 -- one more seat adds its count to the posts at a port
-pub posts_at-push : (p : ℕ) (seats : List SeatCounts) (seat : SeatCounts) → posts_at p (seats ++ seat ∷ []) ≡ posts_at p seats + slice_index seat.counts p
-posts_at-push p seats seat = sum_by_push (λ (s : SeatCounts). slice_index s.counts p) seats seat
+pub posts_at-push : (p : ℕ) (seats : List SeatState) (seat : SeatState) → posts_at p (seats ++ seat ∷ []) ≡ posts_at p seats + slice_index seat.counts p
+posts_at-push p seats seat = sum_by_push (λ (s : SeatState). slice_index s.counts p) seats seat
 
 -- no seats yet
 pub no_sums : (n : ℕ) → AreSums (replicate n 0) n []
@@ -31,7 +31,7 @@ pub zero_sum : (n : ℕ) → sum (replicate n 0) ≡ 0
 zero_sum n = omega (arith, sum_by-replicate (λ (k : ℕ). k) n 0)
 
 -- one more seat
-pub more_sums : (xs zs : List ℕ) (n : ℕ) (seats : List SeatCounts) (seat : SeatCounts) → AreSums xs n seats → length zs ≡ length xs → length seat.counts ≡ n →
+pub more_sums : (xs zs : List ℕ) (n : ℕ) (seats : List SeatState) (seat : SeatState) → AreSums xs n seats → length zs ≡ length xs → length seat.counts ≡ n →
     ((p : ℕ) → p < length seat.counts → slice_index zs p ≡ slice_index xs p + slice_index seat.counts p) → AreSums zs n (seats ++ seat ∷ [])
 more_sums xs zs n seats seat s e f h = record {
   one_each = e ∙ s.one_each;

@@ -1,5 +1,5 @@
 -- Posts counted twice: at the ports that took them, and by the seats that made them.
-use Rattle.std.specs.Prelude.{ℕ, ◌≡◌, ◌≢◌, ◌+◌, ◌<◌, ◌≤◌, List, [], length, map, replicate, slice_get, slice_index, slice_set, sum, sum_by, Some}
+use Rattle.std.specs.Prelude.{ℕ, ◌≡◌, ◌≢◌, ◌+◌, ◌<◌, ◌≤◌, List, length, map, replicate, slice_get, slice_index, slice_set, sum, sum_by, Option, None, Some}
 use Rattle.pon_state.specs.declared.state.PortCfg.{PortCfg}
 use Rattle.pon_port.specs.Chapters.{Chapter}
 use Rattle.pon_desk.specs.Receipts.{Receipt}
@@ -16,23 +16,24 @@ pub record ClosedPorts : Type 0 where
   pub ports : List Chapter
   pub opened : List (PortCfg × ℕ)
 
--- a seat: its place in the list of all seats, the number of its posts at each port, and the receipts that it keeps
-pub record SeatCounts : Type 0 where
+-- a seat: its place in the list of all seats, the number of its posts at each port, and the receipts that it keeps, if it
+-- is to keep any
+pub record SeatState : Type 0 where
   pub number : ℕ
   pub counts : List ℕ
-  pub receipts : List Receipt
+  pub receipts : Option (List Receipt)
 
 -- a seat without posts, at a desk with this number of ports
-abbrev pub unused_seat : ℕ → ℕ → SeatCounts
-unused_seat number ports = record { number = number; counts = replicate ports 0; receipts = [] }
+abbrev pub unused_seat : ℕ → ℕ → SeatState
+unused_seat number ports = record { number = number; counts = replicate ports 0; receipts = None }
 
 -- seats without posts, each numbered by its place
-pub record AreUnused (seats ports : ℕ) (opened : List SeatCounts) : Type 0 where
+pub record AreUnused (seats ports : ℕ) (opened : List SeatState) : Type 0 where
   pub count : length opened ≡ seats
   pub each : (k : ℕ) → k < seats → slice_get opened k ≡ Some (unused_seat k ports)
 
 -- a seat after one more post at a port
-abbrev pub one_more_at : ℕ → SeatCounts → SeatCounts
+abbrev pub one_more_at : ℕ → SeatState → SeatState
 one_more_at port seat = record {
   number = seat.number;
   counts = slice_set seat.counts port (slice_index seat.counts port + 1);
@@ -44,15 +45,15 @@ abbrev pub taken_of : Chapter → ℕ
 taken_of port = port.opening.taken_before + length port.entries
 
 -- the number of posts at a port, of all seats
-abbrev pub posts_at : ℕ → List SeatCounts → ℕ
+abbrev pub posts_at : ℕ → List SeatState → ℕ
 posts_at port seats = sum_by (λ seat. slice_index seat.counts port) seats
 
 -- each port took as many entries as the seats count at it
-abbrev pub IsEven : List Chapter → List SeatCounts → Type 0
+abbrev pub IsEven : List Chapter → List SeatState → Type 0
 IsEven ports seats = (p : ℕ) → p < length ports → slice_index (map taken_of ports) p ≡ posts_at p seats
 
 -- the sums of the seats' counts, for each port
-pub record AreSums (counts : List ℕ) (ports : ℕ) (seats : List SeatCounts) : Type 0 where
+pub record AreSums (counts : List ℕ) (ports : ℕ) (seats : List SeatState) : Type 0 where
   pub one_each : length counts ≡ ports
   pub sums : (p : ℕ) → p < ports → slice_index counts p ≡ posts_at p seats
 

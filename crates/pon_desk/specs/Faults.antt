@@ -4,26 +4,26 @@ use Rattle.pon_event.specs.declared.event.Event.{Event}
 use Rattle.pon_port.specs.Chapters.{Chapter}
 use Rattle.pon_plant.specs.declared.fault.StepFault.{StepFault}
 use Rattle.pon_plant.specs.declared.fault.StepFault.TheVariants.{NoSuchPort, Refused}
-use Rattle.pon_desk.specs.Counts.{DeskSize, SeatCounts, AreSums, IsUneven}
+use Rattle.pon_desk.specs.Counts.{DeskSize, SeatState, AreSums, IsUneven}
 use Rattle.pon_desk.specs.Posts.{IsSomeRefusal, IsSomeTurnRefusal}
 use Rattle.pon_desk.specs.declared.fault.CloseFault.{CloseFault}
 use Rattle.pon_desk.specs.declared.fault.CloseFault.TheVariants.{Missing, Uneven}
 
 -- a seat is missing: the desk and the seats are returned
-pub record IsMissing (size : DeskSize) (seats : List SeatCounts) (desk : DeskSize) (back : List SeatCounts) : Type 0 where
+pub record IsMissing (size : DeskSize) (seats : List SeatState) (desk : DeskSize) (back : List SeatState) : Type 0 where
   pub fewer : length seats < size.seats
   pub same_desk : desk ≡ size
   pub same_seats : back ≡ seats
 
 -- all seats are given, and some port differs from the sum of their counts at it
-pub record IsNotEven (size : DeskSize) (seats : List SeatCounts) (ports : List Chapter) (counts : List ℕ) : Type 0 where
+pub record IsNotEven (size : DeskSize) (seats : List SeatState) (ports : List Chapter) (counts : List ℕ) : Type 0 where
   pub all_seats : length seats ≡ size.seats
   pub all_ports : length ports ≡ size.ports
   pub sums : AreSums counts size.ports seats
   pub uneven : IsUneven ports counts
 
 -- the fault if a desk of this size is not closed with these seats
-abbrev pub TellsClosing : {L M : Type 0} → DeskSize → List SeatCounts → CloseFault L M → Type 0
+abbrev pub TellsClosing : {L M : Type 0} → DeskSize → List SeatState → CloseFault L M → Type 0
 TellsClosing size seats (Missing desk back) = IsMissing size seats desk back.items
 TellsClosing size seats (Uneven ports counts) = IsNotEven size seats ports.items counts.items
 

@@ -7,7 +7,7 @@ use Rattle.pon_event.specs.declared.event.Event.{Event}
 use Rattle.pon_port.specs.Chapters.{Chapter, IsLawfulChapter, present_state}
 use Rattle.pon_port.specs.FairMaps.{TellsFairMap}
 use Rattle.pon_port.specs.Taking.{Takes, Turns, refusal_of, turn_refusal}
-use Rattle.pon_desk.specs.Counts.{SeatCounts}
+use Rattle.pon_desk.specs.Counts.{SeatState}
 use Rattle.pon_desk.specs.Receipts.{Receipt}
 use Rattle.pon_desk.specs.declared.receipt.Placed.{Placed}
 
@@ -23,7 +23,7 @@ pub record IsPosted (old : Chapter) (event : Event) (placed : Placed) (new : Cha
   pub index : placed.index ≡ length old.entries
 
 -- the receipt names the port and the seat, and the number of the seat's posts at the port before
-pub record NamesPost (port : ℕ) (seat : SeatCounts) (receipt : Receipt) : Type 0 where
+pub record NamesPost (port : ℕ) (seat : SeatState) (receipt : Receipt) : Type 0 where
   pub at_port : receipt.port ≡ port
   pub of_seat : receipt.seat ≡ seat.number
   pub nth : receipt.nth ≡ slice_index seat.counts port

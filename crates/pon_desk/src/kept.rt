@@ -1,5 +1,5 @@
-ghost use Rattle.std.specs.Prelude.{◌≡◌, ◌⊎◌, ◌++◌, ◌∷◌, [], MatchOption};
-ghost use Rattle.pon_desk.specs.Kept.{kept_items};
+ghost use Rattle.std.specs.Prelude.{◌≡◌, [], MatchOption, None, Some};
+ghost use Rattle.pon_desk.specs.Kept.{AddsTo, kept_items};
 
 use std::alloc::Global;
 use std::mem;
@@ -18,7 +18,7 @@ pub enum Kept<T> {
 impl<T: Drop> Kept<T> {
     /// Keeps the items that are added from now on.
     pub fn open(alloc: Global) -> Self
-        ensures { kept_items result ≡ [] }
+        ensures { kept_items result ≡ Some [] }
     {
         Kept::Items(Vec::new(alloc))
     }
@@ -26,8 +26,7 @@ impl<T: Drop> Kept<T> {
     /// Keeps one more item, if any are to be kept; otherwise it is dropped. If memory is refused, all are dropped, and no
     /// further ones are kept.
     pub fn add(&mut self, item: T)
-        ensures { (kept_items self.new ≡ kept_items self.old ++ item ∷ [])
-            ⊎ (kept_items self.new ≡ []) }
+        ensures { AddsTo (kept_items self.old) item (kept_items self.new) }
     {
         let Kept::Items(items) = self else {
             return;
@@ -40,9 +39,9 @@ impl<T: Drop> Kept<T> {
     /// Takes the items out, oldest first, and keeps no further ones. `None` if none were to be kept, or memory was refused
     /// for one.
     pub fn take(&mut self) -> Option<Vec<T>>
-        ensures taken { MatchOption result (kept_items self.old ≡ [])
-            (λ items. items.items ≡ kept_items self.old) }
-        ensures none { kept_items self.new ≡ [] }
+        ensures taken { MatchOption result (kept_items self.old ≡ None)
+            (λ items. kept_items self.old ≡ Some items.items) }
+        ensures none { kept_items self.new ≡ None }
     {
         match mem::replace(self, Kept::Nothing) {
             Kept::Items(items) => Some(items),

@@ -23,10 +23,10 @@ pub struct Seat<L: Ledger, M: Ledger> {
 
 impl<L: Ledger, M: Ledger> Model for Seat<L, M> {
     ghost use Rattle.std.specs.Prelude.{◌≡◌, length, sum};
-    ghost use Rattle.pon_desk.specs.Counts.{SeatCounts};
+    ghost use Rattle.pon_desk.specs.Counts.{SeatState};
     ghost use Rattle.pon_desk.specs.Kept.{kept_items};
 
-    ghost Value = { SeatCounts };
+    ghost Value = { SeatState };
 
     ghost view = { λ s. record {
       number = s.number;
@@ -39,7 +39,8 @@ impl<L: Ledger, M: Ledger> Model for Seat<L, M> {
 }
 
 impl<L: Ledger, M: Ledger> Seat<L, M> {
-    ghost use Rattle.std.specs.Prelude.{◌≡◌, ◌⊎◌, ◌++◌, ◌∷◌, [], length, MatchOption};
+    ghost use Rattle.std.specs.Prelude.{◌≡◌, [], length, MatchOption, None, Some};
+    ghost use Rattle.pon_desk.specs.Kept.{AddsTo};
 
     /// Place of the seat in the list that [`Desk::open`](crate::Desk::open) returned, from 0. No call changes it.
     pub fn number(&self) -> usize
@@ -60,7 +61,7 @@ impl<L: Ledger, M: Ledger> Seat<L, M> {
     pub fn keep_receipts(&mut self, alloc: Global)
         ensures number { self.new.number ≡ self.old.number }
         ensures counts { self.new.counts ≡ self.old.counts }
-        ensures none { self.new.receipts ≡ [] }
+        ensures none { self.new.receipts ≡ Some [] }
     {
         self.kept = Kept::open(alloc);
     }
@@ -70,8 +71,7 @@ impl<L: Ledger, M: Ledger> Seat<L, M> {
     pub fn keep(&mut self, receipt: Receipt)
         ensures number { self.new.number ≡ self.old.number }
         ensures counts { self.new.counts ≡ self.old.counts }
-        ensures kept { (self.new.receipts ≡ self.old.receipts ++ receipt ∷ [])
-            ⊎ (self.new.receipts ≡ []) }
+        ensures kept { AddsTo self.old.receipts receipt self.new.receipts }
     {
         self.kept.add(receipt);
     }
@@ -81,9 +81,9 @@ impl<L: Ledger, M: Ledger> Seat<L, M> {
     pub fn take_receipts(&mut self) -> Option<Vec<Receipt>>
         ensures number { self.new.number ≡ self.old.number }
         ensures counts { self.new.counts ≡ self.old.counts }
-        ensures taken { MatchOption result (self.old.receipts ≡ [])
-            (λ receipts. receipts.items ≡ self.old.receipts) }
-        ensures none { self.new.receipts ≡ [] }
+        ensures taken { MatchOption result (self.old.receipts ≡ None)
+            (λ receipts. self.old.receipts ≡ Some receipts.items) }
+        ensures none { self.new.receipts ≡ None }
     {
         self.kept.take()
     }

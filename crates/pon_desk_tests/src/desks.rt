@@ -283,7 +283,7 @@ fn is_failed<L: Ledger, M: Ledger, R: Wait + Abort>(
     desk: &Desk<L, M>,
 ) -> bool {
     let view = desk.look(rt, alloc, number(rt, 0)).expect(rt, "a view");
-    has_numbers(&view, (1, Some(4), 1, 1, 2560, 9701)) && has_first_map(rt, &view)
+    has_numbers(&view, (1, Some(4), 1, 1, 2560, 9700)) && has_first_map(rt, &view)
 }
 
 // Returns whether the view of port 1 shows it as it was opened.

@@ -3,7 +3,6 @@
 ghost use Rattle.std.specs.Prelude.{◌≡◌, ◌<◌};
 
 use crate::bench::{cfg, close, event, number, put, seat};
-use crate::settling::put_receipt;
 use pon_desk::{Closed, Desk, Receipt, Seat, Unsettled};
 use pon_port::Chapter;
 use std::alloc::Global;
@@ -112,31 +111,6 @@ pub(crate) struct Gathering {
     pub(crate) accounts: Vec<Account>,
 }
 
-fn is_later(one: &Receipt, other: &Receipt) -> bool {
-    one.chapter() > other.chapter()
-        || (one.chapter() == other.chapter() && one.index() > other.index())
-}
-
-// Returns the index of the first receipt with a later place.
-fn place_among(receipts: &[Receipt], receipt: &Receipt) -> usize {
-    for (k, other) in receipts.iter().enumerate() {
-        if is_later(other, receipt) {
-            return k;
-        }
-    }
-    receipts.len()
-}
-
-// Returns the index of the first chapter with a greater number.
-fn index_among(chapters: &[Chapter], chapter: &Chapter) -> usize {
-    for (k, other) in chapters.iter().enumerate() {
-        if other.number() > chapter.number() {
-            return k;
-        }
-    }
-    chapters.len()
-}
-
 pub(crate) fn account_of<'a>(
     rt: &impl Abort,
     accounts: &'a mut [Account],
@@ -146,16 +120,28 @@ pub(crate) fn account_of<'a>(
 }
 
 fn add_receipt(rt: &impl Abort, accounts: &mut [Account], receipt: Receipt) {
-    let receipts = &mut account_of(rt, accounts, receipt.port().get()).receipts;
-    let k = place_among(receipts.as_slice(), &receipt);
-    put_receipt(rt, receipts, k, receipt);
+    let account = account_of(rt, accounts, receipt.port().get());
+    account.receipts.push(receipt).expect(rt, "memory");
 }
 
 fn add_chapter(rt: &impl Abort, accounts: &mut [Account], port: u8, chapter: Chapter) {
-    let chapters = &mut account_of(rt, accounts, port).chapters;
-    let k = index_among(chapters.as_slice(), &chapter);
-    assert!(rt; k <= chapters.len());
-    chapters.insert(k, chapter).expect(rt, "memory");
+    let account = account_of(rt, accounts, port);
+    account.chapters.push(chapter).expect(rt, "memory");
+}
+
+// Puts the chapters of each port in the order of their numbers, and its receipts in that of their places.
+fn sort(rt: &impl Abort, alloc: Global, accounts: &mut [Account]) {
+    for account in accounts {
+        let Account { chapters, receipts } = account;
+        let chapters = chapters.as_mut_slice();
+        chapters
+            .sort_by_key(alloc, |chapter| chapter.number())
+            .expect(rt, "memory");
+        let receipts = receipts.as_mut_slice();
+        receipts
+            .sort_by_key(alloc, |receipt| (receipt.chapter(), receipt.index()))
+            .expect(rt, "memory");
+    }
 }
 
 // Gives a thread's seat back, and adds what it gathered to the accounts.
@@ -250,6 +236,7 @@ fn gather_at<L: Ledger + Send + Sync, M: Ledger + Send + Sync, R: Threads + Wait
     for hand in [one, two, three, four] {
         settle_hand(rt, accounts.as_mut_slice(), &mut seats, hand);
     }
+    sort(rt, alloc, accounts.as_mut_slice());
     let closed = close(rt, desk, seats);
     Gathering { closed, accounts }
 }

@@ -165,7 +165,7 @@ static WORKED: [(u8, &[u8], &[u8]); 6] = [
     (
         2,
         b"0 map\n1 fail 4\n1 map\n0 map\n0 show\n1 show\n",
-        b"map 0 002013ac10020010000b13cb\nok 1\nerr E17 PortDown 4\nmap 1 002013ac10020010000b13cb\nshow up next 2 allocs 1 onus 1 guaranteed 2560 capacity 2483456\nshow down 4 next 0 allocs 1 onus 1 guaranteed 2560 capacity 2483456\n",
+        b"map 0 002013ac10020010000b13cb\nok 1\nerr E17 PortDown 4\nmap 1 002013ac10020010000b13cb\nshow up next 2 allocs 1 onus 1 guaranteed 2560 capacity 2483200\nshow down 4 next 0 allocs 1 onus 1 guaranteed 2560 capacity 2483200\n",
     ),
     (
         0,

@@ -1,6 +1,5 @@
 -- Turns one after another.
 use Rattle.std.proofs.Common.{◌≡◌, ℕ, ◌+◌, ◌≤◌, List, [], ◌∷◌, ◌++◌, Option, flat_map, length, refl, sym, ap, subst, ◌∙◌, arith, rules, append_assoc, append-nil, length-append}
-use Rattle.std.specs.Prelude.{Result, Err, OnErr}
 use Rattle.std.proofs.KnownBytes.{Appends-nil, Appends-trans}
 use Rattle.std.proofs.lemmas.Grind.{flat_map-append}
 use Rattle.std.proofs.lemmas.List.Elements.{All-append}
@@ -128,7 +127,3 @@ turned_one m rs n a b wa wb ra rb is maps wrote counted read size = record {
 -- the same end, given by its fields
 pub ends_with : (why told : Why) (a b end : Counts) (wa wb ra rb : Option (List ℕ)) → told ≡ why → end ≡ b → EndsAs why a b wa wb ra rb → EndsAs told a end wa wb ra rb
 ends_with why told a b end wa wb ra rb same counts ends = subst (λ (v : Why). EndsAs v a end wa wb ra rb) (sym same) (subst (λ (k : Counts). EndsAs why a k wa wb ra rb) (sym counts) ends)
-
--- what holds on errors, of an error
-pub on_err : {T E : Type 0} {X : Type 0} (r : Result T E) (e : E) → r ≡ Err e → OnErr r X → X
-on_err {T} {E} {X} r e is p = let Q : Result T E → Type 0 = λ s. OnErr s X in subst Q is p

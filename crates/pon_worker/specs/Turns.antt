@@ -6,7 +6,7 @@ use Rattle.pon_event.specs.declared.event.Event.TheVariants.{MakeMap}
 use Rattle.pon_state.specs.declared.reply.Reply.TheVariants.{Map}
 use Rattle.pon_state.specs.declared.reply.MadeMap.{MadeMap}
 use Rattle.pon_stream.specs.Streams.{IsBeginning}
-use Rattle.pon_desk.specs.Counts.{SeatCounts}
+use Rattle.pon_desk.specs.Counts.{SeatState}
 use Rattle.pon_desk.specs.Faults.{TellsRefusal}
 use Rattle.pon_desk.specs.Posts.{IsSomePost}
 use Rattle.pon_desk.specs.Receipts.{Receipt}
@@ -21,7 +21,7 @@ use Rattle.pon_worker.specs.declared.counts.Why.TheVariants.{Finished, Gave, Gat
 use Rattle.pon_worker.specs.declared.counts.WorkerEnd.{WorkerEnd}
 
 -- the number of posts at a port increased by n, and at no other port
-pub record RaisedAt (port n : ℕ) (old new : SeatCounts) : Type 0 where
+pub record RaisedAt (port n : ℕ) (old new : SeatState) : Type 0 where
   pub size : length new.counts ≡ length old.counts
   pub here : slice_index new.counts port ≡ slice_index old.counts port + n
   pub others : (p : ℕ) → p ≢ port → slice_index new.counts p ≡ slice_index old.counts p
@@ -81,7 +81,7 @@ pub record Stopped (old new : Counts) (held_old held_new left_old left_new : Opt
   pub worked : Worked made sent records held old new held_old held_new left_old left_new
 
 -- the posts at a port are the maps and the reports counted meanwhile, and a number of others
-pub record PostsAt (port others : ℕ) (seat_old seat_new : SeatCounts) (old new : Counts) : Type 0 where
+pub record PostsAt (port others : ℕ) (seat_old seat_new : SeatState) (old new : Counts) : Type 0 where
   pub posts : ℕ
   pub raised : RaisedAt port posts seat_old seat_new
   pub are : posts + old.maps + old.reports ≡ new.maps + new.reports + others

@@ -1,6 +1,6 @@
 use Rattle.std.proofs.Common.{◌≡◌, ℕ, ◌+◌, ◌<◌, List, [], ◌∷◌, ◌++◌, length, rules, subst, refl, sym, ap, ◌∙◌, arith, length-append, append_assoc}
 use Rattle.std.specs.Prelude.{slice_index, sum}
-use Rattle.pon_desk.specs.Counts.{SeatCounts, AreSums}
+use Rattle.pon_desk.specs.Counts.{SeatState, AreSums}
 use Rattle.pon_desk.proofs.Sums.{no_sums, more_sums, zero_sum, sum_added}
 use Rattle.pon_desk.proofs.closing.join_seats.Goals as goal
 
@@ -21,7 +21,7 @@ loop-seat-preserved g c =
     let held = c.loop-seat.invariant in
     let old = c.loop-seat.sums in
     let new = c.add_counts.new.sums in
-    let seat : SeatCounts = c.in-Some.seat in
+    let seat : SeatState = c.in-Some.seat in
     let part = c.counts_and_share-counts.ensures in
     let same : c.as_slice.result.now ≡ seat.counts = c.as_slice.ensures.value ∙ part.counts in
     let long : length new ≡ length old = search rules in

@@ -1,5 +1,5 @@
 use Rattle.std.proofs.Common.{◌+◌, ◌<◌, ap, length, slice_index, arith, length-set, lt_of_not-le}
-use Rattle.pon_desk.specs.Counts.{SeatCounts}
+use Rattle.pon_desk.specs.Counts.{SeatState}
 use Rattle.pon_worker.proofs.Passed.{passes_then, turns_at_post}
 use Rattle.pon_worker.proofs.Posted.{raised_one}
 use Rattle.pon_worker.proofs.posting.post.Goals as goal
@@ -12,7 +12,7 @@ returns-clause-counted g c =
     let old = c.args.seat.now.counts in
     let port = c.args.port in
     let more = c.in_ok-receipt.ensures.counted in
-    let size = ap (λ (s : SeatCounts). length s.counts) more in
+    let size = ap (λ (s : SeatState). length s.counts) more in
     let there : port < c.args.desk.now.ports = lt_of_not-le c.in_ok-receipt.ensures.no_such.1 in
     let inside : port < length old = omega (arith, size, length-set old port (slice_index old port + 1), c.posts_at-posts.ensures.size, there) in
     raised_one port c.args.seat.now c.post_or_turn.new.seat more inside

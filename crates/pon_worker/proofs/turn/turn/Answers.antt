@@ -1,6 +1,6 @@
 use Rattle.std.proofs.Common.{List, ℕ, [], refl, ap, subst, ◌∙◌, arith, rules, append-nil, count_by}
 use Rattle.std.proofs.KnownBytes.{Appends-nil}
-use Rattle.std.proofs.lemmas.Result.{err_from_is_err_and}
+use Rattle.std.proofs.lemmas.Result.{MatchResult-at_err, err_from_is_err_and}
 use Rattle.pon_bwmap.specs.Alloc.{Alloc}
 use Rattle.pon_link.specs.Reading.{ReaderState}
 use Rattle.pon_worker.specs.Records.{HasRead}
@@ -8,7 +8,7 @@ use Rattle.pon_worker.specs.Turns.{begins_burst, map_record}
 use Rattle.pon_worker.proofs.Bursts.{counted_kept, counted_on, read_none}
 use Rattle.pon_worker.proofs.Passed.{passes_then}
 use Rattle.pon_worker.proofs.Posted.{posts_made, posts_one, raised_kept, with_map}
-use Rattle.pon_worker.proofs.Works.{on_err, stopped_none, stopped_one, turned_one}
+use Rattle.pon_worker.proofs.Works.{stopped_none, stopped_one, turned_one}
 use Rattle.pon_worker.proofs.turn.turn.Goals as goal
 
 pub returns-in-Err-clause-stopped : goal.returns-in-Err-clause-stopped
@@ -17,7 +17,7 @@ returns-in-Err-clause-stopped g c = stopped_none c.args.counts.now (g.W.DevWrite
 pub returns-in_err-bursts-clause-stopped : goal.returns-in_err-bursts-clause-stopped
 returns-in_err-bursts-clause-stopped g c =
     let left = g.R.DevRead.remaining c.args.reader.now in
-    let begun = on_err c.send_at_gate-sent.result c.in_err-bursts.field-0.0 c.in_err-bursts.was c.send_at_gate-sent.ensures.begun in
+    let begun = MatchResult-at_err _ _ c.in_err-bursts.field-0.0 c.in_err-bursts.was c.send_at_gate-sent.ensures.begun in
     let told = err_from_is_err_and c.from_residual.result c.from_residual.ensures.1 in
     rw told.1 (stopped_one c.made_map.result.now begun.0 begun.2.0 [] 0 [] c.args.counts.now (with_map c.args.counts.now) (g.W.DevWrite.contents c.args.writer.now) (g.W.DevWrite.contents c.send_at_gate-sent.new.writer) left left c.made_map.ensures refl begun.1 begun.2.1 (counted_kept c.args.counts.now (with_map c.args.counts.now) refl refl refl (omega arith) (omega arith)) (read_none left))
 
