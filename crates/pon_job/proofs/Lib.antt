@@ -1,3 +1,4 @@
 mod Builders
+mod Migrations
 mod Runs
 mod Subcommands

@@ -15,7 +15,7 @@ use Rattle.clap.specs.declared.parser.matches.ArgMatches.{ArgMatches}
 use Rattle.clap.specs.declared.parser.matches.ArgMatches.TheViews.{out-ArgMatches, out-SubCommand}
 use Rattle.pon_job.specs.Jobs.{HasValues, IsJob, NamesNoJob, RefusesWords, olt_app, word_of}
 use Rattle.pon_job.specs.declared.task.Job.{Job}
-use Rattle.pon_job.specs.declared.task.Job.TheVariants.{Plan, Check, Audit, Run}
+use Rattle.pon_job.specs.declared.task.Job.TheVariants.{Plan, Check, Audit, Migrate, Run}
 
 name_of_rows : (m : ArgMatches) → option_map (λ p. p.0) (subcommand_rows_of m) ≡ subcommand_name_of m
 name_of_rows m = elim (out-ArgMatches m).subcommand as (λ o. option_map (λ p. p.0) (subcommand_rows o) ≡ option_map (λ b. (out-SubCommand (box_value b)).name.now) o) [
@@ -43,24 +43,17 @@ clap_refuses a words e is k = inl (subst (λ a. is_simple_and_free a ≡ true �
 pub names : (r : Option (List ℕ × List Row)) (name : List ℕ) (rows : List Row) (job : Job) → Some (name, rows) ≡ r → name ≡ word_of job → HasValues rows job → IsJob r job
 names r name rows job met word values = subst (λ r. IsJob r job) met (word, values)
 
--- `check` and `audit` without a file name no job
-pub no_file : (name : List ℕ) (rows : List Row) (r : Option (List ℕ × List Row)) → Some (name, rows) ≡ r → name ≡ codes "check" → None ≡ first_of (codes "file") rows → NamesNoJob r
-no_file name rows r met check none = subst NamesNoJob met go
+-- a subcommand of a file without one names no job
+pub no_file : (name : List ℕ) (rows : List Row) (r : Option (List ℕ × List Row)) (word : List ℕ) → Some (name, rows) ≡ r → name ≡ word → (word ≡ codes "plan" → ⊥) → (word ≡ codes "run" → ⊥) →
+    None ≡ first_of (codes "file") rows → NamesNoJob r
+no_file name rows r word met is no_plan no_run none = subst NamesNoJob met go
   where
     go : NamesNoJob (Some (name, rows))
-    go (Plan config) j = absurd (cc (check, j.0))
+    go (Plan config) j = no_plan (sym is ∙ j.0)
     go (Check file) j = absurd (cc (none, j.1))
     go (Audit file) j = absurd (cc (none, j.1))
-    go (Run config listen maps recording operate settle) j = absurd (cc (check, j.0))
-
-pub no_recording : (name : List ℕ) (rows : List Row) (r : Option (List ℕ × List Row)) → Some (name, rows) ≡ r → name ≡ codes "audit" → None ≡ first_of (codes "file") rows → NamesNoJob r
-no_recording name rows r met audit none = subst NamesNoJob met go
-  where
-    go : NamesNoJob (Some (name, rows))
-    go (Plan config) j = absurd (cc (audit, j.0))
-    go (Check file) j = absurd (cc (none, j.1))
-    go (Audit file) j = absurd (cc (none, j.1))
-    go (Run config listen maps recording operate settle) j = absurd (cc (audit, j.0))
+    go (Migrate file out) j = absurd (cc (none, j.1.0))
+    go (Run config listen maps recording operate settle) j = no_run (sym is ∙ j.0)
 
 -- the job of the matches is that of the words
 pub job_in : (a : App) (words : List (List ℕ)) (m : ArgMatches) (job : Job) → a ≡ olt_app → HasMatchesOf a words m → IsJob (subcommand_rows_of m) job → IsJob (subcommand_of olt_app words) job

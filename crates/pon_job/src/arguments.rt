@@ -63,6 +63,17 @@ fn run_of<'a>(found: &ArgMatches<'a>) -> Option<Job<'a>>
     })
 }
 
+// Returns the migration that the matches of its subcommand give.
+fn migration_of<'a>(found: &ArgMatches<'a>) -> Option<Job<'a>>
+    ensures some { IfSome result (IsJob (Some (codes "migrate", rows_of (found_of found.now)))) }
+    ensures none { IsNone result
+        → NamesNoJob (Some (codes "migrate", rows_of (found_of found.now))) }
+{
+    let file = found.get_str("file")?;
+    let out = found.get_str("out")?;
+    Some(Job::Migrate { file, out })
+}
+
 // Returns the job that the subcommand of the matches gives.
 fn job_of<'a>(matches: &ArgMatches<'a>) -> Option<Job<'a>>
     ensures some { IfSome result (IsJob (subcommand_rows_of matches.now)) }
@@ -80,6 +91,9 @@ fn job_of<'a>(matches: &ArgMatches<'a>) -> Option<Job<'a>>
     if name == "audit" {
         let file = found.get_str("file")?;
         return Some(Job::Audit { file });
+    }
+    if name == "migrate" {
+        return migration_of(found);
     }
     if name == "run" {
         return run_of(found);

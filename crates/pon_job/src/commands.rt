@@ -4,8 +4,8 @@ ghost use Rattle.std.specs.Prelude.{◌≡◌, IfOk, false};
 ghost use Rattle.clap.specs.declared.builder.command.Command.TheViews.{out-Command};
 ghost use Rattle.clap.specs.Walk.{rule_of};
 ghost use Rattle.clap.specs.Simple.{app_of, shape_of};
-ghost use Rattle.pon_job.specs.Jobs.{config_rule, file_rule, listen_rule, maps_rule, operate_rule, record_rule, settle_rule};
-ghost use Rattle.pon_job.specs.Jobs.{audit_shape, check_shape, olt_app, plan_shape, run_shape};
+ghost use Rattle.pon_job.specs.Jobs.{config_rule, file_rule, listen_rule, maps_rule, operate_rule, out_rule, record_rule, settle_rule};
+ghost use Rattle.pon_job.specs.Jobs.{audit_shape, check_shape, migrate_shape, olt_app, plan_shape, run_shape};
 
 use crate::task::MOST_MAPS;
 use clap::builder::ValueParser;
@@ -29,6 +29,16 @@ fn recording_arg<'a>(alloc: Global) -> Arg<'a>
     Arg::new(alloc, "file")
         .value_name("FILE")
         .help("The recording")
+        .required(true)
+}
+
+fn out_arg<'a>(alloc: Global) -> Arg<'a>
+    ensures rule { rule_of result ≡ out_rule }
+    ensures local { result.global ≡ false }
+{
+    Arg::new(alloc, "out")
+        .value_name("OUT")
+        .help("The file of the recording that is written")
         .required(true)
 }
 
@@ -122,6 +132,16 @@ fn audit_command<'a>(alloc: Global) -> Result<Command<'a>, AllocError>
         .arg(recording_arg(alloc))
 }
 
+fn migrate_command<'a>(alloc: Global) -> Result<Command<'a>, AllocError>
+    ensures shape { IfOk result (λ c. shape_of c ≡ migrate_shape) }
+    ensures local { IfOk result (λ c. (out-Command c).has_globals ≡ false) }
+{
+    Command::new(alloc, "migrate")
+        .about("Write a recording of version 1 as one of version 2, with the same chapters")
+        .arg(recording_arg(alloc))?
+        .arg(out_arg(alloc))
+}
+
 fn run_command<'a>(alloc: Global) -> Result<Command<'a>, AllocError>
     ensures shape { IfOk result (λ c. shape_of c ≡ run_shape) }
     ensures local { IfOk result (λ c. (out-Command c).has_globals ≡ false) }
@@ -143,6 +163,7 @@ pub(crate) fn olt_command<'a>(alloc: Global) -> Result<Command<'a>, AllocError>
     let plan = plan_command(alloc)?;
     let check = check_command(alloc)?;
     let audit = audit_command(alloc)?;
+    let migrate = migrate_command(alloc)?;
     let run = run_command(alloc)?;
     Command::new(alloc, "olt")
         .bin_name("olt")?
@@ -153,5 +174,6 @@ pub(crate) fn olt_command<'a>(alloc: Global) -> Result<Command<'a>, AllocError>
         .subcommand(plan)?
         .subcommand(check)?
         .subcommand(audit)?
+        .subcommand(migrate)?
         .subcommand(run)
 }

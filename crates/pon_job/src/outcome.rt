@@ -11,9 +11,9 @@ use pon_stream::PlanFault;
 /// Outcome of a run of the program.
 #[derive(Clone, Copy, Debug, PartialEq, Eq)]
 pub enum Outcome {
-    /// The job is done; a check or an audit accepted. Also help and the version, if they were requested.
+    /// The job is done; a check or an audit accepted, or a recording was migrated. Also help and the version, if they were requested.
     Done,
-    /// A check or an audit refused its input.
+    /// A check or an audit refused its input, or a recording to migrate has a fault.
     Refused,
     /// The words of the command line name no job.
     CommandLine,
@@ -25,7 +25,7 @@ pub enum Outcome {
     Unfinished,
 }
 
-/// Returns the exit status of an outcome: 0 if the job is done, 1 if a check or an audit refused, 2 if the command line
+/// Returns the exit status of an outcome: 0 if the job is done, 1 if a check, an audit or a migration refused, 2 if the command line
 /// or the settings are refused, 3 if a device failed, memory was refused, or a port was not served to its last map.
 pub fn exit_status(outcome: Outcome) -> u8
     ensures { result ≡ exit_status outcome }
@@ -49,7 +49,7 @@ pub fn outcome_of_run<T: Drop>(ended: Result<T, PlanFault>) -> Outcome
     }
 }
 
-/// Returns the outcome of a check or an audit; `true` is acceptance.
+/// Returns the outcome of a check, an audit or a migration; `true` is acceptance.
 pub fn outcome_of_check(verdict: Result<bool, PlanFault>) -> Outcome
     ensures { result ≡ outcome_of_check verdict }
 {

@@ -17,6 +17,11 @@ pub enum Job<'a> {
     Audit {
         file: &'a str,
     },
+    /// Write the recording `file` anew, in the present version of the format, as the file `out`.
+    Migrate {
+        file: &'a str,
+        out: &'a str,
+    },
     /// Make `maps` maps, 1 to `MOST_MAPS`, at each port of the settings file `config`, over sockets at the address
     /// `listen`; `record` is the file for a recording of their chapters, `operate` a file of management lines for an
     /// operator, and with `settle` each port is settled at the end with the receipts of all posts.

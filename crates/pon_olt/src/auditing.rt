@@ -1,27 +1,14 @@
 //! The audit of a recording in a file.
 
+use crate::files::bytes_of;
 use pon_audit::{Verdict, audit};
 use pon_device::StdWrite;
 use pon_manage::PlanFault;
 use pon_stream::write_text;
 use std::alloc::Global;
-use std::fs;
-use std::io::{self, ErrorKind, Read};
+use std::io;
 use std::rt::Files;
 use std::thread::Threads;
-
-// Reads the file `name`. Returns `Read` if the file cannot be opened.
-fn bytes_of<R: Files>(rt: &R, alloc: Global, name: &str) -> Result<Vec<u8>, PlanFault> {
-    let Ok(mut file) = fs::open(rt, name) else {
-        return Err(PlanFault::Read);
-    };
-    let mut bytes = Vec::new(alloc);
-    match file.read_to_end(&mut bytes) {
-        Ok(_) => Ok(bytes),
-        Err(error) if error.kind() == ErrorKind::OutOfMemory => Err(PlanFault::Memory),
-        Err(_) => Err(PlanFault::Read),
-    }
-}
 
 /// Judges the recording in the file `name`, and prints the verdict. Returns `true` if the recording is good.
 pub(crate) fn audit_file<R: Files + Print + Threads + Sync>(

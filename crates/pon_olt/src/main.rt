@@ -1,17 +1,21 @@
 //! `olt`: the upstream bandwidth scheduler of an XG-PON optical line terminal, as a program.
 //!
 //! The program executes management lines and prints a reply or a refusal for each ([`plan`]), judges a check file
-//! ([`check_file`]) or a recording ([`audit`]), or runs ports over sockets ([`run_ports`]). This crate adds the
-//! standard streams, the files, the settings and the exit status.
+//! ([`check_file`]) or a recording ([`audit`]), writes a recording anew in the present version of its format
+//! ([`migrate`]), or runs ports over sockets ([`run_ports`]). This crate adds the standard streams, the files, the
+//! settings and the exit status.
 #![tactic(auto)]
 
 ghost use Rattle.std.specs.Prelude.{length};
 ghost use Rattle.pon_plant.specs.Plants.{IsPlantSize};
 
 mod auditing;
+mod files;
+mod migrating;
 mod opening;
 
 use crate::auditing::audit_file;
+use crate::migrating::migrate_file;
 use crate::opening::{NotOpened, Opening, settings_of, with_settings, without_settings};
 use clap::Error;
 pub use pon_audit::audit;
@@ -21,6 +25,7 @@ pub use pon_job::job;
 use pon_job::{Job, Outcome, exit_status, outcome_of_check, outcome_of_run, outcome_of_words};
 use pon_manage::PlanEnd;
 pub use pon_manage::{PlanFault, plan};
+pub use pon_record::migrate;
 use pon_run::RunArgs;
 pub use pon_run::run_ports;
 use pon_worker::OpenGate;
@@ -160,6 +165,9 @@ where
         Ok(Job::Plan { config }) => print_outcome(rt, run_plan(rt, alloc, config)),
         Ok(Job::Check { file }) => print_outcome(rt, outcome_of_check(judge_file(rt, alloc, file))),
         Ok(Job::Audit { file }) => print_outcome(rt, outcome_of_check(audit_file(rt, alloc, file))),
+        Ok(Job::Migrate { file, out }) => {
+            print_outcome(rt, outcome_of_check(migrate_file(rt, alloc, file, out)))
+        }
         Ok(
             Job::Run {
                 config,

@@ -23,7 +23,7 @@ const PROFILE_WITHOUT_SETTINGS: u8 = 0;
 /// The first frame of the port that is opened without settings.
 const FRAME_WITHOUT_SETTINGS: u64 = 0;
 
-/// Maximum size of a settings file, in bytes. 64 ports with 256 Alloc-IDs each take about two million bytes.
+/// Maximum size of a settings file, in bytes. 64 ports with 512 Alloc-IDs each take about four million bytes.
 const MOST_BYTES: u64 = 16_777_216;
 
 /// The 1 to 64 ports to open, and the steps to take before the first line.
