@@ -1,3 +1,4 @@
 pub mod Endings
 pub mod Recordings
 pub mod RingEnds
+pub mod SettledPorts

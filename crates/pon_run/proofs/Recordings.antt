@@ -10,10 +10,6 @@ use Rattle.pon_recorder.specs.declared.fault.RecordFault.{RecordFault}
 use Rattle.pon_recorder.specs.declared.fault.RecordFault.TheVariants.{Device}
 use Rattle.pon_run.specs.Recordings.{AreSome, HasRecorded, IsDropped, TakesChapters, most_dropped, left_of}
 
--- a recording that is unchanged has no additional chapters
-pub none_recorded : (old : Option (List ℕ)) (left : List ℕ) → HasRecorded old left old left []
-none_recorded old left before bodies r = subst (λ (bs : List Body). Records before old left bs) (sym (append-nil bodies)) r
-
 -- what is left of a chapter is written
 pub rest_written : (old : Option (List ℕ)) (left : List ℕ) (mid : Option (List ℕ)) (rest : List ℕ) (new : Option (List ℕ)) (more : List ℕ) (b : Body)
     → Grows old left mid rest b → Stays mid rest new more → HasRecorded old left new more (b ∷ [])
@@ -56,16 +52,6 @@ drops_one old left new rest failed count after b (inr h) more = record {
   some = inr ([], refl, refl);
   all = λ e l. refl;
   counts = omega (arith, more);
-}
-
--- no chapter is taken
-pub takes_none : (old : Option (List ℕ)) (left : List ℕ) (count : ℕ) → TakesChapters old left old left count count []
-takes_none old left count = record {
-  recorded = [];
-  grows = none_recorded old left;
-  some = refl;
-  all = λ e l. refl;
-  counts = omega arith;
 }
 
 -- chapters are taken after others

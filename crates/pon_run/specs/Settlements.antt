@@ -1,5 +1,5 @@
 -- The settlement of the ports of a run.
-use Rattle.std.specs.Prelude.{ℕ, ◌≡◌, Bool, List, [], ◌∷◌, ◌++◌, codes, decimal, is_ok, length, MatchResult, Some, Result, Ok, Err}
+use Rattle.std.specs.Prelude.{ℕ, ◌≡◌, ◌==◌, ◌&&◌, suc, Bool, true, List, [], ◌∷◌, ◌++◌, codes, decimal, is_ok, length, MatchResult, Some, Result, Ok, Err}
 use Rattle.pon_desk.specs.Counts.{ClosedPorts}
 use Rattle.pon_desk.specs.Settling.{IsSettled, PortHistory, history_at}
 use Rattle.pon_desk.specs.declared.unsettled.Unsettled.{Unsettled}
@@ -19,9 +19,16 @@ pub record IsOf (closed : ClosedPorts) (account : Account) (s : Settlement) : Ty
   pub port : s.port ≡ account.port
   pub result : MatchResult s.result (IsSettledBy closed account) (λ why. Unit {0})
 
--- the port is settled
-abbrev pub is_settled : Settlement → Bool
-is_settled s = is_ok s.result
+-- these are the settlements of the accounts, in their order
+abbrev pub AreOf : ClosedPorts → List Account → List Settlement → Type 0
+AreOf closed [] ss = ss ≡ []
+AreOf closed (a ∷ rest) [] = ⊥
+AreOf closed (a ∷ rest) (s ∷ ss) = IsOf closed a s × AreOf closed rest ss
+
+-- the ports are settled, and numbered in order from this number on
+abbrev pub settled_from : ℕ → List Settlement → Bool
+settled_from port [] = true
+settled_from port (s ∷ ss) = (s.port == port) && (is_ok s.result && settled_from (suc port) ss)
 
 -- what is not right
 abbrev pub fault_text : Unsettled → List ℕ

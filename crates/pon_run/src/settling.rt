@@ -1,8 +1,7 @@
 //! The settlement of the ports of a run with the receipts of its posts.
 
-ghost use Rattle.std.specs.Prelude.{◌≡◌};
-ghost use Rattle.std.specs.List.{list_all};
-ghost use Rattle.pon_run.specs.Settlements.{IsOf, is_settled};
+ghost use Rattle.std.specs.Prelude.{◌≡◌, IfOk};
+ghost use Rattle.pon_run.specs.Settlements.{AreOf, IsOf, settled_from};
 
 use pon_desk::{Closed, Receipt, Seat, Unsettled};
 use pon_port::Chapter;
@@ -80,7 +79,9 @@ pub(crate) fn settle_ports(
     alloc: Global,
     closed: &Closed,
     accounts: &[Account],
-) -> Result<Vec<Settlement>, AllocError> {
+) -> Result<Vec<Settlement>, AllocError>
+    ensures { IfOk result (λ all. AreOf closed.now accounts.now all.items) }
+{
     let mut all = Vec::with_capacity(alloc, accounts.len())?;
     for account in accounts {
         all.push(settle_port(closed, account))?;
@@ -88,9 +89,14 @@ pub(crate) fn settle_ports(
     Ok(all)
 }
 
-/// Returns whether each of the ports is settled.
+/// Returns whether these are settlements of the ports from 0 on, in order, and each port is settled.
 pub(crate) fn are_settled(all: &[Settlement]) -> bool
-    ensures { result ≡ list_all is_settled all.now }
+    ensures { result ≡ settled_from 0 all.now }
 {
-    all.iter().all(|settlement| settlement.result.is_ok())
+    for (place, settlement) in all.iter().enumerate() {
+        if usize::from(settlement.port.get()) != place || settlement.result.is_err() {
+            return false;
+        }
+    }
+    true
 }
