@@ -2,6 +2,7 @@
 
 use crate::recordings::{RECORDING, bytes, bytes_again};
 use pon_audit::{Verdict, Why, audit};
+use pon_record::migrate;
 use std::alloc::{AllocError, Global};
 use std::process::Abort;
 use std::thread::Threads;
@@ -12,8 +13,8 @@ fn verdict(rt: &(impl Abort + Threads + Sync), alloc: Global, recording: &[u8]) 
     format!(in alloc; "{verdict}").expect(rt, "memory")
 }
 
-// Returns whether the verdict on these bytes is this text.
-fn is_told(
+/// Returns whether the verdict on these bytes is this text.
+pub(crate) fn is_told(
     rt: &(impl Abort + Threads + Sync),
     alloc: Global,
     recording: &[u8],
@@ -84,6 +85,13 @@ fn tells_a_cut_recording(rt: HostRuntime) {
         assert!(rt; is_told(&rt, rt.alloc(), beginning, wanted), "{len}");
     }
     assert!(rt; recording.len() == 292);
+}
+
+#[test]
+fn tells_the_maps_of_a_migrated_recording(rt: HostRuntime) {
+    let old = bytes(&rt, rt.alloc(), RECORDING);
+    let new = migrate(rt.alloc(), &old).ok().expect(&rt, "a recording");
+    assert!(rt; new.len() == 293 && is_told(&rt, rt.alloc(), &new, "good maps 3"));
 }
 
 // Adds the chapter of the recording, as one of this port.

@@ -6,10 +6,18 @@
 #[cfg(test)]
 mod audit;
 #[cfg(test)]
+mod batches;
+#[cfg(test)]
+mod carries;
+#[cfg(test)]
 mod chains;
+#[cfg(test)]
+mod migrating;
 #[cfg(test)]
 mod reading;
 #[cfg(test)]
 mod recordings;
+#[cfg(test)]
+mod versions;
 #[cfg(test)]
 mod writing;

@@ -1,4 +1,4 @@
-//! Recordings that are read.
+//! Recordings of version one that are read.
 
 use crate::recordings::{bytes, bytes_again};
 use pon_bwmap::Alloc;
@@ -27,7 +27,7 @@ const THREE_MAPS: &str = "
     04 0000000000000002 0001 01 00000064";
 
 // Port 63, failed by cause 9, with two rows, a map in its window, and all seven events, with a map and certificate.
-const ALL_FIELDS: &str = "
+pub(crate) const ALL_FIELDS: &str = "
     504f4e5245433031 43 0000010b 3f 0000000000000005
     0100 03 09 0000000000000007 000000000000000b 0002
     0001 0400 00000a00 00000000 00001400 02 0000000000000005 01 0000000000000006 0000005a
@@ -42,25 +42,40 @@ const ALL_FIELDS: &str = "
     06 09
     07";
 
+/// What a reader answers: the number of chapters or of bytes, or the fault.
 #[derive(Clone, Copy, Debug, PartialEq, Eq)]
-enum Verdict {
+pub(crate) enum Verdict {
     Whole(usize),
     Cut(usize, usize),
     Bad(usize),
     OutOfMemory,
 }
 
-fn told(alloc: Global, bytes: &[u8]) -> Verdict {
-    match read_recording(alloc, bytes) {
-        Ok(recording) => Verdict::Whole(recording.chapters().len()),
-        Err(ReadFault::Truncated { at, whole }) => Verdict::Cut(at, whole.chapters().len()),
-        Err(ReadFault::BadFormat { at }) => Verdict::Bad(at),
-        Err(ReadFault::Memory) => Verdict::OutOfMemory,
+/// Returns the verdict of a fault, with the number of whole chapters before a cut.
+pub(crate) fn verdict_of(fault: ReadFault) -> Verdict {
+    match fault {
+        ReadFault::Truncated { at, whole } => Verdict::Cut(at, whole.chapters().len()),
+        ReadFault::BadFormat { at } => Verdict::Bad(at),
+        ReadFault::Memory => Verdict::OutOfMemory,
     }
 }
 
-// Returns the verdict on the bytes with the byte at `at` changed.
-fn changed(rt: &impl Abort, bytes: &mut [u8], alloc: Global, at: usize, byte: u8) -> Verdict {
+/// Returns the verdict on bytes, with the number of chapters if they are a recording.
+pub(crate) fn told(alloc: Global, bytes: &[u8]) -> Verdict {
+    match read_recording(alloc, bytes) {
+        Ok(recording) => Verdict::Whole(recording.chapters().len()),
+        Err(fault) => verdict_of(fault),
+    }
+}
+
+/// Returns the verdict on the bytes with the byte at `at` changed.
+pub(crate) fn changed(
+    rt: &impl Abort,
+    bytes: &mut [u8],
+    alloc: Global,
+    at: usize,
+    byte: u8,
+) -> Verdict {
     assert!(rt; at < bytes.len());
     let before = bytes[at];
     bytes[at] = byte;
@@ -69,14 +84,15 @@ fn changed(rt: &impl Abort, bytes: &mut [u8], alloc: Global, at: usize, byte: u8
     verdict
 }
 
-fn recording(rt: &impl Abort, alloc: Global, text: &str) -> Recording {
+/// Reads a recording from hexadecimal digits.
+pub(crate) fn recording(rt: &impl Abort, alloc: Global, text: &str) -> Recording {
     read_recording(alloc, &bytes(rt, alloc, text))
         .ok()
         .expect(rt, "a recording")
 }
 
-// Returns the only chapter.
-fn chapter<'a>(rt: &impl Abort, recording: &'a Recording) -> &'a RawChapter {
+/// Returns the only chapter.
+pub(crate) fn chapter<'a>(rt: &impl Abort, recording: &'a Recording) -> &'a RawChapter {
     match recording.chapters() {
         [chapter] => chapter,
         _ => panic!(rt; "one chapter"),
@@ -148,8 +164,8 @@ fn tells_other_magic_bytes(rt: HostRuntime) {
     }
 }
 
-// Returns the recording with its chapter a second time.
-fn twice(rt: &impl Abort, alloc: Global) -> Vec<u8> {
+/// Returns the recording of three maps with its chapter a second time.
+pub(crate) fn twice(rt: &impl Abort, alloc: Global) -> Vec<u8> {
     let once = bytes(rt, alloc, THREE_MAPS);
     let mut bytes = bytes(rt, alloc, THREE_MAPS);
     let chapter = once.as_slice().get(8..).expect(rt, "a chapter");

@@ -1,21 +1,31 @@
 //! Recordings on devices over memory, with ample memory.
 
-use crate::recordings::{RECORDING, bytes, bytes_again};
+use crate::recordings::{RECORDING_TWO, bytes, bytes_again};
 use pon_dbru::Occupancies;
 use pon_descr::{Class, Descriptor};
 use pon_device::MemWrite;
 use pon_event::Event;
 use pon_port::{Chapter, Port, PortCfg};
-use pon_record::{MAGIC, read_recording};
+use pon_record::{Version, read_recording};
 use pon_recorder::{RecordFault, RecordFile};
 use pon_units::{AllocId, BufOcc, FrameNo, Gap, OnuId, PortNo, Profile};
 use std::alloc::Global;
 use std::process::Abort;
 
-// Port 63 just opened, with a gap of 256 words, profile 3 and 7 as its first frame.
+// Port 63 just opened, under the rule in force, with a gap of 256 words, profile 3 and 7 as its first frame.
 const EMPTY_CHAPTER: &str = "
-    504f4e5245433031 43 00000024 3f 0000000000000000
+    504f4e5245433032 43 00000025 02 3f 0000000000000000
     0100 03 00 0000000000000007 0000000000000000 0000 00 00000000";
+
+// Place of the rule in the first chapter of a recording of version two.
+const RULE: usize = 13;
+
+// Returns the recording with its chapter under the rule in force.
+fn in_force(rt: &impl Abort, recording: Vec<u8>) -> Vec<u8> {
+    let mut recording = recording;
+    *recording.get_mut(RULE).expect(rt, "a rule") = 2;
+    recording
+}
 
 fn number(rt: &impl Abort, port: u8) -> PortNo {
     PortNo::new(port).expect(rt, "a port")
@@ -28,11 +38,11 @@ fn cfg(rt: &impl Abort, gap: u16, profile: u8) -> PortCfg {
     }
 }
 
-fn open_port(rt: &impl Abort, alloc: Global, gap: u16, profile: u8, first: u64) -> Port {
+pub(crate) fn open_port(rt: &impl Abort, alloc: Global, gap: u16, profile: u8, first: u64) -> Port {
     Port::open(alloc, cfg(rt, gap, profile), FrameNo::new(first)).expect(rt, "memory")
 }
 
-fn admission(rt: &impl Abort) -> Event {
+pub(crate) fn admission(rt: &impl Abort) -> Event {
     let descriptor = Descriptor::new(2560, 0, 2560, Class::Plain);
     Event::Admit {
         onu: OnuId::new(5).expect(rt, "an ONU-ID"),
@@ -41,8 +51,8 @@ fn admission(rt: &impl Abort) -> Event {
     }
 }
 
-// Reports 100 words for the map of a frame.
-fn report(rt: &impl Abort, frame: u64) -> Event {
+/// Reports 100 words for the map of a frame.
+pub(crate) fn report(rt: &impl Abort, frame: u64) -> Event {
     let mut occ = Occupancies::new();
     occ.push(BufOcc::new(100));
     Event::Report {
@@ -52,7 +62,7 @@ fn report(rt: &impl Abort, frame: u64) -> Event {
     }
 }
 
-fn take(rt: &impl Abort, port: &mut Port, event: Event) {
+pub(crate) fn take(rt: &impl Abort, port: &mut Port, event: Event) {
     assert!(rt; port.take(event).is_ok(), "taken");
 }
 
@@ -78,7 +88,7 @@ fn sound(rt: &impl Abort, alloc: Global) -> RecordFile<MemWrite> {
     failing_in(rt, alloc, 100)
 }
 
-fn append(
+pub(crate) fn append(
     rt: &impl Abort,
     file: &mut RecordFile<MemWrite>,
     port: u8,
@@ -106,9 +116,9 @@ fn is_written(rt: &impl Abort, alloc: Global, port: u8, chapter: &Chapter, wante
 
 #[test]
 fn writes_the_chapter_of_a_port(rt: HostRuntime) {
-    let wanted = bytes(&rt, rt.alloc(), RECORDING);
+    let wanted = in_force(&rt, bytes(&rt, rt.alloc(), RECORDING_TWO));
     let chapter = chapter_of(&rt, rt.alloc());
-    assert!(rt; wanted.len() == 292 && is_written(&rt, rt.alloc(), 0, &chapter, &wanted));
+    assert!(rt; wanted.len() == 293 && is_written(&rt, rt.alloc(), 0, &chapter, &wanted));
 }
 
 #[test]
@@ -135,7 +145,7 @@ fn holds_all(rt: &impl Abort, alloc: Global, call: u64, chapter: &Chapter, wante
 
 #[test]
 fn holds_all_bytes_after_a_flush(rt: HostRuntime) {
-    let wanted = bytes(&rt, rt.alloc(), RECORDING);
+    let wanted = in_force(&rt, bytes(&rt, rt.alloc(), RECORDING_TWO));
     let chapter = chapter_of(&rt, rt.alloc());
     for call in 0..7u64 {
         assert!(rt;
@@ -148,16 +158,17 @@ fn holds_all_bytes_after_a_flush(rt: HostRuntime) {
 // Returns whether a recording whose first bytes are left is busy, and is left as it is.
 fn is_busy_from_the_start(rt: &impl Abort, alloc: Global, chapter: &Chapter) -> bool {
     let mut file = failing_in(rt, alloc, 0);
-    file.left() == MAGIC.as_slice()
+    let magic = Version::Two.magic();
+    file.left() == magic.as_slice()
         && append(rt, &mut file, 0, chapter) == Err(RecordFault::Busy)
-        && file.left() == MAGIC.as_slice()
+        && file.left() == magic.as_slice()
 }
 
 // Returns whether a device that fails within the chapter leaves the rest of its bytes.
 fn is_busy_after_a_failure(rt: &impl Abort, alloc: Global, chapter: &Chapter) -> bool {
     let mut file = failing_in(rt, alloc, 2);
     append(rt, &mut file, 0, chapter) == Err(RecordFault::Device)
-        && file.left().len() == 220
+        && file.left().len() == 221
         && append(rt, &mut file, 0, chapter) == Err(RecordFault::Busy)
 }
 
@@ -225,7 +236,7 @@ fn append_again(rt: &impl Abort, file: &mut RecordFile<MemWrite>, chapter: &Chap
 // If one allocation fails (`rt try --test --fail-alloc N`), the recording has the same bytes.
 #[test]
 fn appends_again_what_memory_refused(rt: HostRuntime) {
-    let wanted = bytes_again(&rt, rt.alloc(), RECORDING);
+    let wanted = in_force(&rt, bytes_again(&rt, rt.alloc(), RECORDING_TWO));
     let chapter = chapter_again(&rt, rt.alloc());
     let mut file = file_again(&rt, rt.alloc());
     append_again(&rt, &mut file, &chapter);

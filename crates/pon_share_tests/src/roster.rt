@@ -102,7 +102,7 @@ fn assert_rows(rt: &impl Abort, roster: &Roster, wanted: &[(u16, u16)]) {
 #[test]
 fn opens_with_no_rows(rt: HostRuntime) {
     let roster = open(&rt, rt.alloc(), 16);
-    assert_opening(&rt, &roster, Rule::One, 16);
+    assert_opening(&rt, &roster, Rule::Two, 16);
     assert_len(&rt, &roster, 0);
     assert_onus(&rt, &roster, 0);
     assert_capacity(&rt, &roster, 9720);
@@ -122,7 +122,7 @@ fn keeps_map_order(rt: HostRuntime) {
     );
     assert_onus(&rt, &roster, 3);
     assert_sum(&rt, &roster, 1280);
-    assert_capacity(&rt, &roster, 9706);
+    assert_capacity(&rt, &roster, 9701);
 }
 
 #[test]
@@ -163,17 +163,17 @@ fn a_port_has_128_onus(rt: HostRuntime) {
 }
 
 #[test]
-fn a_port_has_256_alloc_ids(rt: HostRuntime) {
+fn a_port_has_512_alloc_ids(rt: HostRuntime) {
     let mut roster = open(&rt, rt.alloc(), 1);
-    for id in 0..256 {
+    for id in 0..512 {
         assert_admit(&rt, &mut roster, id / 16, 1024 + id, 0, Ok(()));
     }
-    for (owner, rate) in [(0, 0), (20, 0), (20, 2_488_320)] {
+    for (owner, rate) in [(0, 0), (40, 0), (40, 2_488_320)] {
         assert_admit(
             &rt,
             &mut roster,
             owner,
-            1280,
+            1536,
             rate,
             Err(Refusal::TooManyAllocs),
         );
@@ -186,18 +186,18 @@ fn a_port_has_256_alloc_ids(rt: HostRuntime) {
             Err(Refusal::AllocTaken),
         );
     }
-    assert_capacity(&rt, &roster, 9416);
+    assert_capacity(&rt, &roster, 8600);
 }
 
 #[test]
-fn the_second_rule_has_512_alloc_ids_of_two_words(rt: HostRuntime) {
-    let mut roster = open_with(&rt, rt.alloc(), 1, Rule::Two);
-    for id in 0..512 {
+fn the_first_rule_has_256_alloc_ids_of_one_word(rt: HostRuntime) {
+    let mut roster = open_with(&rt, rt.alloc(), 1, Rule::One);
+    for id in 0..256 {
         assert_admit(&rt, &mut roster, id / 16, 1024 + id, 0, Ok(()));
     }
-    assert_admit(&rt, &mut roster, 32, 1536, 0, Err(Refusal::TooManyAllocs));
-    assert_capacity(&rt, &roster, 8600);
-    assert_opening(&rt, &roster, Rule::Two, 1);
+    assert_admit(&rt, &mut roster, 16, 1280, 0, Err(Refusal::TooManyAllocs));
+    assert_capacity(&rt, &roster, 9416);
+    assert_opening(&rt, &roster, Rule::One, 1);
 }
 
 #[test]
@@ -206,18 +206,18 @@ fn the_overhead_fits_a_frame(rt: HostRuntime) {
     for number in 0..37 {
         assert_admit(&rt, &mut roster, number, 1024 + number, 0, Ok(()));
     }
-    assert_capacity(&rt, &roster, 137);
+    assert_capacity(&rt, &roster, 100);
     assert_admit(&rt, &mut roster, 37, 1061, 0, Err(Refusal::Capacity));
-    assert_capacity(&rt, &roster, 137);
+    assert_capacity(&rt, &roster, 100);
 }
 
 #[test]
 fn the_promised_rates_fit_the_rest(rt: HostRuntime) {
     let mut roster = open(&rt, rt.alloc(), 16);
-    assert_admit(&rt, &mut roster, 0, 1024, 2_483_457, Err(Refusal::Capacity));
+    assert_admit(&rt, &mut roster, 0, 1024, 2_483_201, Err(Refusal::Capacity));
     assert_len(&rt, &roster, 0);
-    assert_admit(&rt, &mut roster, 0, 1024, 2_483_456, Ok(()));
-    assert_sum(&rt, &roster, 2_483_456);
+    assert_admit(&rt, &mut roster, 0, 1024, 2_483_200, Ok(()));
+    assert_sum(&rt, &roster, 2_483_200);
     assert_admit(&rt, &mut roster, 0, 1025, 0, Err(Refusal::Capacity));
     assert_rows(&rt, &roster, &[(0, 1024)]);
 }
@@ -249,19 +249,19 @@ fn changes_a_descriptor(rt: HostRuntime) {
 #[test]
 fn removes_an_alloc_id(rt: HostRuntime) {
     let mut roster = open(&rt, rt.alloc(), 16);
-    assert_admit(&rt, &mut roster, 4, 1024, 2_483_200, Ok(()));
+    assert_admit(&rt, &mut roster, 4, 1024, 2_482_688, Ok(()));
     assert_admit(&rt, &mut roster, 4, 1025, 0, Ok(()));
     assert_remove(&rt, &mut roster, 1026, Err(Refusal::NoSuchAlloc));
     assert_rows(&rt, &roster, &[(4, 1024), (4, 1025)]);
     assert_onus(&rt, &roster, 1);
-    assert_capacity(&rt, &roster, 9700);
+    assert_capacity(&rt, &roster, 9698);
     assert_admit(&rt, &mut roster, 4, 1027, 0, Err(Refusal::Capacity));
     assert_remove(&rt, &mut roster, 1024, Ok(()));
     assert_rows(&rt, &roster, &[(4, 1025)]);
     assert_onus(&rt, &roster, 1);
-    assert_capacity(&rt, &roster, 9701);
+    assert_capacity(&rt, &roster, 9700);
     assert_sum(&rt, &roster, 0);
-    assert_admit(&rt, &mut roster, 4, 1027, 2_483_200, Ok(()));
+    assert_admit(&rt, &mut roster, 4, 1027, 2_482_688, Ok(()));
     assert_remove(&rt, &mut roster, 1027, Ok(()));
     assert_remove(&rt, &mut roster, 1025, Ok(()));
     assert_onus(&rt, &roster, 0);
@@ -323,7 +323,7 @@ fn a_copy_is_equal_and_its_own(rt: HostRuntime) {
     let mut copy = copy_of(&rt, rt.alloc(), &roster);
     assert_admit(&rt, &mut roster, 3, 1025, 256, Ok(()));
     assert_rows(&rt, &copy, &[(4, 1024)]);
-    assert_opening(&rt, &copy, Rule::One, 16);
+    assert_opening(&rt, &copy, Rule::Two, 16);
     assert_onus(&rt, &copy, 1);
     assert_sum(&rt, &copy, 256);
     assert_admit(&rt, &mut copy, 3, 1025, 256, Ok(()));

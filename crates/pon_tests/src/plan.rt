@@ -88,7 +88,7 @@ fn ends_by(run: Option<Answered>, text: &[u8]) -> bool {
     }
 }
 
-static WORKED: [(&[u8], &[u8]); 33] = [
+static WORKED: [(&[u8], &[u8]); 34] = [
     (FIRST_MAP, FIRST_TEXT),
     (b"0 map", b"map 0 00000000\n"),
     (b"", b""),
@@ -100,10 +100,10 @@ static WORKED: [(&[u8], &[u8]); 33] = [
     ),
     (b"0 admit 5 1024 2488321 0 0 none\n", b"err E05 RateRange\n"),
     (
-        b"0 admit 5 1024 2483457 0 2483457 none\n",
+        b"0 admit 5 1024 2483201 0 2483201 none\n",
         b"err E12 Capacity\n",
     ),
-    (b"0 admit 5 1024 2483456 0 2483456 none\n", b"ok 0\n"),
+    (b"0 admit 5 1024 2483200 0 2483200 none\n", b"ok 0\n"),
     (
         b"0 admit 5 1024 0 0 0 none\n0 admit 6 1024 0 0 0 none\n0 admit 6 1025 0 0 0 none\n",
         b"ok 0\nerr E02 AllocTaken\nok 1\n",
@@ -112,9 +112,9 @@ static WORKED: [(&[u8], &[u8]); 33] = [
         b"0 admit 5 1024 2560 0 2560 none\n0 admit 5 1025 256 0 256 none\n0 map\n0 change 1024 256 0 256 none\n0 remove 1024\n0 remove 1024\n0 admit 6 1025 0 0 0 none\n",
         b"ok 0\nok 1\nmap 0 00400d2b10020010000b13cb1006ffff0002176f\nok 3\nok 4\nerr E01 NoSuchAlloc\nerr E02 AllocTaken\n",
     ),
-    (b"0 admit 5 1024 0 2483456 2483456 none\n", b"ok 0\n"),
+    (b"0 admit 5 1024 0 2483200 2483200 none\n", b"ok 0\n"),
     (
-        b"0 admit 5 1024 0 2483457 2483457 none\n",
+        b"0 admit 5 1024 0 2483201 2483201 none\n",
         b"err E12 Capacity\n",
     ),
     (
@@ -166,12 +166,17 @@ static WORKED: [(&[u8], &[u8]); 33] = [
         b"ok 0\nmap 0 002013ac10020010000b13cb\nok 2\nmap 1 002013ac10020010005b1736\nmap 2 002013ac10020010000b13cb\ncert 2 na all - be all 1024\nok 5\ncert 2 na all - be all 1024\n",
     ),
     (
-        b"0 admit 1 1024 0 0 2488320 be\n0 admit 2 1025 0 0 1244160 be\n0 map\n0 report 0 1 16777215\n0 report 0 2 16777215\n0 map\n0 cert\n",
-        b"ok 0\nok 1\nmap 0 00400d2b1002001000010cf01006002300010ca7\nok 3\nok 4\nmap 1 00400d2b100200101937076c100619590c9c1b95\ncert 1 na all - be 2478592/3732480 -\n",
+        b"0 admit 1 1024 0 0 2488320 be\n0 admit 2 1025 0 0 1244160 be\n0 map\n0 report 0 1 16777215\n0 report 0 2 16777215\n0 map\n0 cert\n0 map\n0 map\n0 map\n",
+        b"ok 0\nok 1\nmap 0 00400d2b1002001000010cf01006002300010ca7\nok 3\nok 4\nmap 1 00400d2b1002001019360018100619580c9b09bb\ncert 1 na all - be 2478080/3732480 -\nmap 2 00400d2b1002001019360018100619580c9c1df7\nmap 3 00400d2b1002001019360018100619580c9b09bb\nmap 4 00400d2b100200101937076c100619590c9c1b95\n",
     ),
     (
         b"0 admit 1 1024 0 256000 1280000 na\n0 admit 2 1025 0 512000 2048000 na\n0 admit 2 1026 0 0 256 be\n0 map\n0 report 0 1 16777215\n0 report 0 2 16777215 16777215\n0 map\n0 cert\n",
-        b"ok 0\nok 1\nok 2\nmap 0 00601e871002001000010cf01006002300010ca7100affff0001051b\nok 4\nok 5\nmap 1 00601e87100200100c9c1a0610060cbe19371cc6100affff0001051b\ncert 1 na 1710336/768000 - be 0/256 -\n",
+        b"ok 0\nok 1\nok 2\nmap 0 00601e871002001000010cf01006002300010ca7100affff0001051b\nok 4\nok 5\nmap 1 00601e87100200100c9b0e4a10060cbd19351888100affff0001051b\ncert 1 na 1709568/768000 - be 0/256 -\n",
+    ),
+    // One and a half words a frame.
+    (
+        b"0 admit 5 1024 384 0 384 none\n0 map\n0 map\n0 map\n0 map\n",
+        b"ok 0\nmap 0 002013ac100200100002056c\nmap 1 002013ac1002001000030218\nmap 2 002013ac100200100002056c\nmap 3 002013ac1002001000030218\n",
     ),
     (
         b"0 cert\n0 cert 1\n1 cert\n0 map\n0 fail 1\n0 cert\n",
@@ -179,11 +184,11 @@ static WORKED: [(&[u8], &[u8]); 33] = [
     ),
     (
         b"0 show\n0 admit 5 1024 2560 0 2560 none\n0 map\n0 show\n0 show 1\n1 show\n",
-        b"show up next 0 allocs 0 onus 0 guaranteed 0 capacity 2488320\nok 0\nmap 0 002013ac10020010000b13cb\nshow up next 1 allocs 1 onus 1 guaranteed 2560 capacity 2483456\nerr L2 WordCount\nerr L4 NoSuchPort\n",
+        b"show up next 0 allocs 0 onus 0 guaranteed 0 capacity 2488320\nok 0\nmap 0 002013ac10020010000b13cb\nshow up next 1 allocs 1 onus 1 guaranteed 2560 capacity 2483200\nerr L2 WordCount\nerr L4 NoSuchPort\n",
     ),
     (
         b"0 admit 5 1024 2560 1280 7680 be\n0 admit 5 1025 0 256 256 none\n0 fail 3\n0 show\n0 restore\n0 remove 1024\n0 show\n",
-        b"ok 0\nok 1\nok 2\nshow down 3 next 0 allocs 2 onus 1 guaranteed 4096 capacity 2483200\nok 3\nok 4\nshow up next 0 allocs 1 onus 1 guaranteed 256 capacity 2483456\n",
+        b"ok 0\nok 1\nok 2\nshow down 3 next 0 allocs 2 onus 1 guaranteed 4096 capacity 2482688\nok 3\nok 4\nshow up next 0 allocs 1 onus 1 guaranteed 256 capacity 2483200\n",
     ),
     (b"# a comment \xff\r\n \t\n0 map\r\n\r", b"map 0 00000000\n"),
     (

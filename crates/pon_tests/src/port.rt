@@ -9,6 +9,7 @@ use std::alloc::Global;
 use std::process::Abort;
 
 mod admissions;
+mod carries;
 mod copies;
 mod full;
 mod reports;

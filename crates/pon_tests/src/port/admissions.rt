@@ -42,19 +42,19 @@ static SCRIPTS: [Script; 8] = [
             Row::Shown(65_536, 65_536, 65_536),
         ],
     },
-    // 9,720 words less the gap, header, trailer and report leave 9,701 words, each 256 kbit/s.
+    // 9,720 words less the gap, header and trailer and two words for the Alloc-ID leave 9,700 words, each 256 kbit/s.
     Script {
         name: "refuses_admissions",
         gap: 16,
         first: 0,
         rows: &[
-            Row::Refuse(Act::Admit(5, 1024, 2_483_457), Why::Capacity),
-            Row::Take(Act::Admit(5, 1024, 2_483_456)),
+            Row::Refuse(Act::Admit(5, 1024, 2_483_201), Why::Capacity),
+            Row::Take(Act::Admit(5, 1024, 2_483_200)),
             Row::Refuse(Act::Admit(5, 1024, 0), Why::AllocTaken),
             Row::Refuse(Act::Admit(5, 1024, 2_488_320), Why::AllocTaken),
             Row::Refuse(Act::Admit(5, 1025, 0), Why::Capacity),
             Row::Shown(1, 1, 0),
-            Row::Map(0, &[(1024, Some(16), 9702)]),
+            Row::Map(0, &[(1024, Some(16), 9701)]),
         ],
     },
     // Grants are in ascending order of ONU, and within an ONU of Alloc-ID, whatever the order of admission. ONU 5 has
@@ -95,17 +95,17 @@ static SCRIPTS: [Script; 8] = [
         gap: 16,
         first: 0,
         rows: &[
-            Row::Take(Act::Admit(5, 1024, 2_483_200)),
+            Row::Take(Act::Admit(5, 1024, 2_482_944)),
             Row::Refuse(Act::Change(1025, 0), Why::NoSuchAlloc),
             Row::Refuse(Act::Remove(1025), Why::NoSuchAlloc),
-            Row::Refuse(Act::Change(1024, 2_483_457), Why::Capacity),
-            Row::Take(Act::Change(1024, 2_483_456)),
+            Row::Refuse(Act::Change(1024, 2_483_201), Why::Capacity),
+            Row::Take(Act::Change(1024, 2_483_200)),
             Row::Take(Act::Remove(1024)),
             Row::Refuse(Act::Remove(1024), Why::NoSuchAlloc),
             Row::Admitted(0),
         ],
     },
-    // With a gap of 256 words each ONU takes 259 of the 9,720 words before any grant.
+    // With a gap of 256 words each ONU with one Alloc-ID takes 260 of the 9,720 words before any grant.
     Script {
         name: "admits_37_onus_at_the_longest_gap",
         gap: 256,
@@ -113,12 +113,12 @@ static SCRIPTS: [Script; 8] = [
         rows: &[
             Row::AdmitEmpty(37, 0, 1, 1024),
             Row::Cfg(256, 0),
-            Row::Capacity(137),
+            Row::Capacity(100),
             Row::Refuse(Act::Admit(37, 1061, 0), Why::Capacity),
         ],
     },
     Script {
-        name: "admits_16_of_an_onu_128_onus_and_256_in_all",
+        name: "admits_16_of_an_onu_128_onus_and_512_in_all",
         gap: 1,
         first: 0,
         rows: &[
@@ -126,9 +126,11 @@ static SCRIPTS: [Script; 8] = [
             Row::Refuse(Act::Admit(0, 1100, 0), Why::SeriesFull),
             Row::AdmitEmpty(127, 1, 1, 1101),
             Row::Refuse(Act::Admit(128, 2000, 0), Why::TooManyOnus),
-            Row::AdmitEmpty(113, 1, 1, 3000),
+            Row::AdmitEmpty(127, 1, 1, 3000),
+            Row::AdmitEmpty(127, 1, 1, 3200),
+            Row::AdmitEmpty(115, 1, 1, 3400),
             Row::Refuse(Act::Admit(128, 2000, 0), Why::TooManyAllocs),
-            Row::MapOf(256),
+            Row::MapOf(512),
         ],
     },
 ];

@@ -1,5 +1,5 @@
-// A full port: 256 Alloc-IDs of 16 ONUs in all three classes, whose ONUs report all their buffers after each map. The
-// expected map is computed here from descriptors and reports alone; the checker judges its certificate.
+// A full port: 512 Alloc-IDs of 32 ONUs in all three classes, whose ONUs report all their buffers after each map. The
+// expected map is computed here from descriptors, reports and carries alone; the checker judges its certificate.
 
 use super::*;
 use crate::acts::{id, onu};
@@ -13,10 +13,14 @@ use std::slice;
 
 const LINE: u64 = 2_488_320;
 
-// The words of a frame, less gap, header and trailer of 16 ONUs and a report of each Alloc-ID, at 256 kbit/s a word.
-const CAPACITY: u64 = 256 * (9720 - 16 * 18 - 256);
+const ALLOC_IDS: u16 = 512;
 
-// An Alloc-ID with its descriptor, and its reported words that are not granted yet.
+const ONUS: u16 = 32;
+
+// The words of a frame, less gap, header and trailer of 32 ONUs and two words of each Alloc-ID, at 256 kbit/s a word.
+const CAPACITY: u64 = 256 * (9720 - 32 * 18 - 2 * 512);
+
+// An Alloc-ID with its descriptor, its reported words that are not granted yet, and what whole words left of its rates.
 #[derive(Clone, Copy)]
 struct Buffer {
     onu: u16,
@@ -26,6 +30,7 @@ struct Buffer {
     assured: u64,
     max: u64,
     left: u64,
+    carry: u64,
 }
 
 impl Buffer {
@@ -68,12 +73,13 @@ fn buffer_of(onu: u16, alloc_id: u16) -> Buffer {
         assured,
         max,
         left: 0,
+        carry: 0,
     }
 }
 
 fn buffers(rt: &impl Abort, alloc: Global) -> Vec<Buffer> {
     let mut all = Vec::new(alloc);
-    for k in 0..256u16 {
+    for k in 0..ALLOC_IDS {
         all.push(buffer_of(k / 16, 1024 + k)).expect(rt, "memory");
     }
     all
@@ -131,8 +137,8 @@ fn rate(item: &Item, level: &Level, saturated: bool) -> u64 {
     }
 }
 
-// Returns the surplus of the next Alloc-ID of a class.
-fn next_rate(
+/// Returns the surplus of the next Alloc-ID of a class.
+pub(super) fn next_rate(
     rt: &impl Abort,
     item: &Item,
     level: &Level,
@@ -141,8 +147,8 @@ fn next_rate(
     rate(item, level, *flags.next().expect(rt, "a flag"))
 }
 
-// Returns the payload words of each Alloc-ID.
-fn words(rt: &impl Abort, alloc: Global, buffers: &[Buffer], cert: &MapCert) -> Vec<u64> {
+// Returns the payload words of each Alloc-ID, and keeps what they leave of its rate.
+fn words(rt: &impl Abort, alloc: Global, buffers: &mut [Buffer], cert: &MapCert) -> Vec<u64> {
     let mut na = cert.na.saturated.as_slice().iter();
     let mut be = cert.be.saturated.as_slice().iter();
     let mut words = Vec::new(alloc);
@@ -152,8 +158,10 @@ fn words(rt: &impl Abort, alloc: Global, buffers: &[Buffer], cert: &MapCert) -> 
             Class::NonAssured => next_rate(rt, &buffer.item(), &cert.na.level, &mut na),
             Class::BestEffort => next_rate(rt, &buffer.item(), &cert.be.level, &mut be),
         };
-        let granted = buffer.guaranteed().wrapping_add(surplus) / 256;
-        words.push(granted).expect(rt, "memory");
+        let rate = buffer.guaranteed().wrapping_add(surplus);
+        let owed = buffer.carry.wrapping_add(rate);
+        buffer.carry = owed % 256;
+        words.push(owed / 256).expect(rt, "memory");
     }
     words
 }
@@ -219,7 +227,7 @@ fn report(rt: &impl Abort, port: &mut Port, frame: u64, buffers: &mut [Buffer], 
     for (buffer, words) in buffers.iter_mut().zip(words.iter()) {
         buffer.left = waiting(buffer.alloc_id, frame).saturating_sub(*words);
     }
-    for unit in 0..16 {
+    for unit in 0..ONUS {
         take_event(rt, port, report_of(rt, frame, unit, buffers));
     }
 }
@@ -255,5 +263,5 @@ fn maps_a_full_port_under_load(rt: HostRuntime) {
     for frame in 0..6 {
         map_and_report(&rt, rt.alloc(), &mut port, frame, buffers.as_mut_slice());
     }
-    assert!(rt; port.history().len() == 256 + 6 * 17);
+    assert!(rt; port.history().len() == 512 + 6 * 33);
 }
