@@ -16,6 +16,8 @@ static SCRIPTS: [Script; 8] = [
             Row::Map(0, LONE),
             Row::Map(1, LONE),
             Row::Shown(3, 3, 2),
+            Row::Carry(1024, Some(0)),
+            Row::Carry(1025, None),
             Row::Chapter(0),
             Row::First(Act::Admit(5, 1024, 2560)),
         ],

@@ -29,6 +29,8 @@ pub(super) enum Row {
     Cause(Option<u8>),
     /// The number of admitted Alloc-IDs.
     Admitted(usize),
+    /// What the last map left to an Alloc-ID, in kbit/s, if it is admitted.
+    Carry(u16, Option<u8>),
     /// The words of a frame that are left for grants.
     Capacity(u16),
     /// The gap and the profile.
@@ -112,6 +114,7 @@ fn is_shown(rt: &impl Abort, port: &Port, row: Row) -> bool {
         Row::Window(count) => state.loads().window_len() == count,
         Row::Cause(number) => state.cause().map(|cause| cause.get()) == number,
         Row::Admitted(count) => state.roster().rows().len() == count,
+        Row::Carry(number, carry) => state.carry(id(rt, number)) == carry,
         Row::Capacity(words) => state.roster().capacity().get() == words,
         Row::Cfg(gap, profile) => {
             state.cfg().gap.get() == gap && state.cfg().profile.get() == profile
