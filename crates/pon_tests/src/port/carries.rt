@@ -49,7 +49,7 @@ fn descriptor(rt: &impl Abort, seed: &mut u64) -> Descriptor {
 // What the next map owes to an Alloc-ID, but for its share of the surplus.
 #[derive(Clone, Copy)]
 struct Owed {
-    index: usize,
+    index: u16,
     class: Class,
     item: Item,
     guaranteed: u64,
@@ -64,7 +64,7 @@ fn owed_to(port: &Port, row: &Row) -> Owed {
         _ => promised,
     };
     Owed {
-        index: usize::from(row.alloc_id.get().wrapping_sub(FIRST)),
+        index: row.alloc_id.get().wrapping_sub(FIRST),
         class,
         item: Item {
             weight,
@@ -100,11 +100,11 @@ fn rates(rt: &impl Abort, alloc: Global, owed: &[Owed], cert: &MapCert) -> Vec<u
 }
 
 // Adds the rate and the words of a map to the sums of an Alloc-ID, and checks the one by the other.
-fn add(rt: &impl Abort, port: &Port, sums: &mut [Sums], index: usize, rate: u64, words: u64) {
-    let sum = sums.get_mut(index).expect(rt, "sums");
+fn add(rt: &impl Abort, port: &Port, sums: &mut [Sums], index: u16, rate: u64, words: u64) {
+    let sum = sums.get_mut(usize::from(index)).expect(rt, "sums");
     sum.rates = sum.rates.wrapping_add(rate);
     sum.words = sum.words.wrapping_add(words);
-    let alloc_id = id(rt, FIRST.wrapping_add(index as u16));
+    let alloc_id = id(rt, FIRST.wrapping_add(index));
     let left = port.state().carry(alloc_id).map(u64::from);
     assert!(rt;
         sum.words == sum.rates / 256 && left == Some(sum.rates % 256),
