@@ -1,5 +1,5 @@
 mod AnswerLaws
-mod DeskRefusals
+mod DeskPosts
 mod EachOutput
 mod OneOutput
 mod ReadEvents

@@ -1,11 +1,13 @@
 -- The text of lines at a desk, where other threads post too: that of some port with a lawful chapter.
-use Rattle.std.specs.Prelude.{ℕ, ◌≡◌, ◌≢◌, ◌⊎◌, List, [], ◌++◌}
+use Rattle.std.specs.Prelude.{ℕ, ◌≡◌, ◌≢◌, ◌⊎◌, List, [], ◌++◌, length}
 use Rattle.pon_event.specs.declared.event.Event.{Event}
 use Rattle.pon_descr.specs.declared.refusal.Refusal.{Refusal}
 use Rattle.pon_descr.specs.declared.refusal.Refusal.TheVariants.{OutOfMemory}
 use Rattle.pon_port.specs.Chapters.{Chapter, IsLawfulChapter, present_state}
 use Rattle.pon_port.specs.Last.{last_map}
-use Rattle.pon_desk.specs.Posts.{IsSomePost, IsSomeRefusal}
+use Rattle.pon_desk.specs.Counts.{SeatState, one_more_at}
+use Rattle.pon_desk.specs.Kept.{AddsTo}
+use Rattle.pon_desk.specs.Posts.{IsSomePost, IsSomeRefusal, NamesPost}
 use Rattle.pon_desk.specs.Receipts.{Receipt}
 use Rattle.pon_desk.specs.declared.view.PortView.{PortView}
 use Rattle.pon_line.specs.Reading.{read_line}
@@ -15,9 +17,17 @@ use Rattle.pon_line.specs.declared.reading.Reading.TheVariants.{Nothing, Refused
 use Rattle.pon_manage.specs.declared.show.Shown.{Shown}
 use Rattle.pon_manage.specs.Text.{cert_line, refusal_line, reply_line, state_line}
 
--- a port with a lawful chapter took the event, and the text is its reply
-abbrev pub TellsPosted : Event → List ℕ → Type 0
-TellsPosted event text = (receipt : Receipt) × IsSomePost event receipt × (text ≡ reply_line receipt.placed.index receipt.placed.entry.reply)
+-- a seat after a post at a port, whose receipt it was given to keep
+pub record KeepsPost (port : ℕ) (old : SeatState) (receipt : Receipt) (new : SeatState) : Type 0 where
+  pub names : NamesPost port old receipt
+  pub number : new.number ≡ old.number
+  pub counts : new.counts ≡ (one_more_at port old).counts
+  pub kept : AddsTo old.receipts receipt new.receipts
+
+-- the port of this number, with a lawful chapter, took the event, the text is its reply, and the seat counts the post
+abbrev pub TellsPosted : ℕ → Event → SeatState → List ℕ → SeatState → Type 0
+TellsPosted port event old text new =
+    (receipt : Receipt) × IsSomePost event receipt × KeepsPost port old receipt new × (text ≡ reply_line receipt.placed.index receipt.placed.entry.reply)
 
 -- a check of a port with a lawful chapter refused the event, or the desk is full, and the text is the refusal
 abbrev pub TellsRefused : Event → List ℕ → Type 0
@@ -27,17 +37,25 @@ TellsRefused event text = (told : Refusal) × IsSomeRefusal event told × (told 
 abbrev pub AddsText : (List ℕ → Type 0) → List ℕ → List ℕ → Type 0
 AddsText IsText replies_old replies_new = (text : List ℕ) × IsText text × (replies_new ≡ replies_old ++ text)
 
--- the text of a reading at a desk
-abbrev pub DeskAnswers : Reading → List ℕ → Type 0
-DeskAnswers Nothing text = text ≡ []
-DeskAnswers (Refused fault) text = text ≡ refusal_line fault
-DeskAnswers (Asks port event) text = TellsPosted event text ⊎ TellsRefused event text
-DeskAnswers (AsksCert port) text = (at : Chapter) × IsLawfulChapter at × (text ≡ cert_line (last_map at))
-DeskAnswers (AsksState port) text = (at : Chapter) × IsLawfulChapter at × (text ≡ state_line (present_state at))
+-- the text is the certificate line of a port with a lawful chapter
+abbrev pub ShowsCert : List ℕ → Type 0
+ShowsCert text = (at : Chapter) × IsLawfulChapter at × (text ≡ cert_line (last_map at))
 
--- the text of a line at a desk with this number of ports, which is unchanged
-abbrev pub DeskGives : ℕ → List ℕ → List ℕ → ℕ → Type 0
-DeskGives old line text new = DeskAnswers (read_line old line) text × (new ≡ old)
+-- the text is the state line of a port with a lawful chapter
+abbrev pub ShowsState : List ℕ → Type 0
+ShowsState text = (at : Chapter) × IsLawfulChapter at × (text ≡ state_line (present_state at))
+
+-- the text of a reading at a desk, and the seat after it: one post more at the port of the reading, or as before
+abbrev pub DeskAnswers : SeatState → Reading → List ℕ → SeatState → Type 0
+DeskAnswers old Nothing text new = (text ≡ []) × (new ≡ old)
+DeskAnswers old (Refused fault) text new = (text ≡ refusal_line fault) × (new ≡ old)
+DeskAnswers old (Asks port event) text new = TellsPosted port event old text new ⊎ (TellsRefused event text × (new ≡ old))
+DeskAnswers old (AsksCert port) text new = ShowsCert text × (new ≡ old)
+DeskAnswers old (AsksState port) text new = ShowsState text × (new ≡ old)
+
+-- the text of a line at a desk, and the seat after it; a seat has a count for each port of its desk
+abbrev pub DeskGives : SeatState → List ℕ → List ℕ → SeatState → Type 0
+DeskGives old line text new = DeskAnswers old (read_line (length old.counts) line) text new
 
 -- what is shown of a view, except its last map
 abbrev pub shown_in : PortView → Shown

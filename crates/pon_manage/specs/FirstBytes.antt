@@ -13,6 +13,6 @@ gives_first old line text new = (
 
 pub desk_gives_first : ReadsFirst DeskGives
 desk_gives_first old line text new = (
-  λ g. (subst (λ r. DeskAnswers r text) (read_line-take old line) g.0, g.1),
-  λ g. (subst (λ r. DeskAnswers r text) (sym (read_line-take old line)) g.0, g.1),
+  subst (λ r. DeskAnswers old r text new) (read_line-take (length old.counts) line),
+  subst (λ r. DeskAnswers old r text new) (sym (read_line-take (length old.counts) line)),
 )

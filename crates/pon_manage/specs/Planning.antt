@@ -33,4 +33,4 @@ pub record NotBegun {T : Type 0} (left_old left_new held_old held_new : Option (
 abbrev pub PlannedAfter : {T : Type 0} → List (PortCfg × ℕ) → List Step → Option (List ℕ) → Option (List ℕ) → Option (List ℕ) → Option (List ℕ) → Result T PlanFault → Type 0
 PlannedAfter ports steps left_old left_new held_old held_new result =
     NotBegun left_old left_new held_old held_new result
-    ⊎ ((start : List Chapter) × IsStart ports steps start × Planned Gives start left_old left_new held_old held_new result)
+    ⊎ ((start last : List Chapter) × IsStart ports steps start × Planned Gives start last left_old left_new held_old held_new result)

@@ -1,10 +1,10 @@
 //! The text that one line gives at a desk.
 
-ghost use Rattle.std.specs.Prelude.{◌≡◌, ◌<◌, ◌⊎◌, ◌++◌, IfOk, OnOk, OnErr};
+ghost use Rattle.std.specs.Prelude.{◌≡◌, ◌<◌, ◌++◌, IfOk, OnOk, OnErr};
 ghost use Rattle.pon_port.specs.Chapters.{Chapter, IsLawfulChapter};
 ghost use Rattle.pon_line.specs.Reading.{AsksWithin};
 ghost use Rattle.pon_desk.specs.Views.{view_of};
-ghost use Rattle.pon_manage.specs.Desks.{AddsText, DeskAnswers, TellsPosted, TellsRefused, shown_in};
+ghost use Rattle.pon_manage.specs.Desks.{AddsText, DeskAnswers, shown_in};
 ghost use Rattle.pon_manage.specs.Text.{cert_line};
 
 use crate::show::{Shown, append_shown};
@@ -29,8 +29,8 @@ fn answer_event<L: Ledger, M: Ledger, H: Wait>(
     replies: &mut Vec<u8>,
 ) -> Result<(), AllocError>
     requires { port < desk.now.ports }
-    ensures ok { OnOk result (AddsText (λ text. TellsPosted event text ⊎ TellsRefused event text)
-        replies.old.items replies.new.items) }
+    ensures ok { OnOk result (AddsText (λ text. DeskAnswers seat.old (Reading.Asks port event) text
+        seat.new) replies.old.items replies.new.items) }
     ensures err { OnErr result (replies.new.items ≡ replies.old.items) }
 {
     match desk.post(rt, seat, port, event) {
@@ -109,7 +109,8 @@ pub(crate) fn answer_at_desk<L: Ledger, M: Ledger, H: Wait>(
     replies: &mut Vec<u8>,
 ) -> Result<(), AllocError>
     requires { AsksWithin desk.now.ports reading }
-    ensures ok { OnOk result (AddsText (DeskAnswers reading) replies.old.items replies.new.items) }
+    ensures ok { OnOk result (AddsText (λ text. DeskAnswers seat.old reading text seat.new)
+        replies.old.items replies.new.items) }
     ensures err { OnErr result (replies.new.items ≡ replies.old.items) }
 {
     let alloc = *replies.allocator();

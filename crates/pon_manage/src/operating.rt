@@ -14,41 +14,29 @@ use pon_line::read_line;
 use pon_session::{Answers, PlanEnd, answer_input};
 use pon_stream::PlanFault;
 use std::alloc::{AllocError, Global};
-use std::marker::Model;
 use std::sync::Wait;
 use std::sync::ledger::Ledger;
 
-// A desk that answers lines, with the seat that posts for them and a buffer for the bytes of a map. In contracts it is
-// the number of its ports.
+// Answers lines at a desk, with the seat that posts for them as their state; `room` is a buffer for the bytes of a map.
 #[derive(Drop)]
 struct AtDesk<'a, L: Ledger, M: Ledger, H: Wait> {
     rt: &'a H,
     desk: &'a Desk<L, M>,
-    seat: &'a mut Seat<L, M>,
     room: Vec<u8>,
 }
 
-impl<'a, L: Ledger, M: Ledger, H: Wait> Model for AtDesk<'a, L, M, H> {
-    ghost use Rattle.std.specs.Prelude.{ℕ};
-
-    ghost Value = { ℕ };
-
-    ghost view = { λ a. a.desk.now.ports };
-}
-
-impl<'a, L: Ledger, M: Ledger, H: Wait> Answers for AtDesk<'a, L, M, H> {
+impl<'a, L: Ledger, M: Ledger, H: Wait> Answers<Seat<L, M>> for AtDesk<'a, L, M, H> {
     ghost gives = { DeskGives };
 
-    fn answer_line(&mut self, line: &[u8], replies: &mut Vec<u8>) -> Result<(), AllocError> {
+    fn answer_line(
+        &mut self,
+        seat: &mut Seat<L, M>,
+        line: &[u8],
+        replies: &mut Vec<u8>,
+    ) -> Result<(), AllocError> {
+        prove!(self.desk.ports() == seat.counts().len());
         let reading = read_line(self.desk.ports(), line);
-        answer_at_desk(
-            self.rt,
-            self.desk,
-            self.seat,
-            reading,
-            &mut self.room,
-            replies,
-        )
+        answer_at_desk(self.rt, self.desk, seat, reading, &mut self.room, replies)
     }
 
     ghost reads_first = { desk_gives_first };
@@ -58,13 +46,14 @@ impl<'a, L: Ledger, M: Ledger, H: Wait> Answers for AtDesk<'a, L, M, H> {
 /// or the refusal of each. Other threads may post at the desk at the same time.
 ///
 /// The text of a line has the form that its reading allows: none for a blank line or a comment, the refusal of a line
-/// that cannot be read, otherwise the reply, the refusal or the state of some port with a lawful chapter; which chapter
-/// is not stated, since other threads post too. No lock is held during a read or a write. The replies to one read are
-/// written before the next read.
+/// that cannot be read, otherwise the reply or the refusal of an event, or the state of some port with a lawful chapter;
+/// which chapter is not stated, since other threads post too. An accepted event is posted at the port that its line
+/// names, and is one post more of the seat at that port; the seat is given the receipt to keep. Any other line leaves the
+/// seat unchanged. No lock is held during a read or a write. The replies to one read are written before the next read.
 ///
 /// `Read` if the reader failed or 2^64 - 1 reads were made: the text of all whole lines read is written.
-/// `Write` if the writer failed, and `Memory` if memory was refused: a prefix of the text is written; after
-/// `Memory` it is the text of the lines before. A line without its line feed at a fault is not answered. The writer is
+/// `Write` if the writer failed: a prefix of the text is written. `Memory` if memory was refused: the text of some first
+/// lines is written, and nothing of the next one. A line without its line feed at a fault is not answered. The writer is
 /// flushed once, at the end of the input.
 pub fn operate<L: Ledger, M: Ledger, H: Wait, R: DevRead, W: DevWrite>(
     rt: &H,
@@ -74,7 +63,7 @@ pub fn operate<L: Ledger, M: Ledger, H: Wait, R: DevRead, W: DevWrite>(
     reader: &mut R,
     writer: &mut W,
 ) -> Result<PlanEnd, PlanFault>
-    ensures text { Planned DeskGives desk.now.ports (R.remaining reader.old)
+    ensures text { Planned DeskGives seat.old seat.new (R.remaining reader.old)
         (R.remaining reader.new) (W.contents writer.old) (W.contents writer.new) result }
     ensures end { OnOk result (IsAtEnd (R.remaining reader.new)) }
     ensures read { TellsRead (R.calls reader.old) (R.calls reader.new) (R.failures reader.old)
@@ -82,11 +71,6 @@ pub fn operate<L: Ledger, M: Ledger, H: Wait, R: DevRead, W: DevWrite>(
     ensures write { TellsWrite (W.failures writer.old) (W.failures writer.new) result }
 {
     let room = Vec::new(alloc);
-    let mut at = AtDesk {
-        rt,
-        desk,
-        seat,
-        room,
-    };
-    answer_input(alloc, &mut at, reader, writer)
+    let mut at = AtDesk { rt, desk, room };
+    answer_input(alloc, &mut at, seat, reader, writer)
 }

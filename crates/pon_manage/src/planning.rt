@@ -19,40 +19,27 @@ use pon_session::{Answers, PlanEnd, answer_input};
 use pon_stream::PlanFault;
 use pon_units::FrameNo;
 use std::alloc::{AllocError, Global};
-use std::marker::Model;
 
-// A plant that answers lines, with a buffer for the bytes of a map. In contracts it is the list of its ports' chapters.
+// Answers lines at a plant, which is their state; `room` is a buffer for the bytes of a map.
 #[derive(Drop)]
 struct AtPlant {
-    plant: Plant,
     room: Vec<u8>,
 }
 
-impl Model for AtPlant {
-    ghost use Rattle.std.specs.Prelude.{List};
-    ghost use Rattle.pon_port.specs.Chapters.{Chapter};
-
-    ghost Value = { List Chapter };
-
-    ghost view = { λ a. a.plant };
-}
-
-impl Answers for AtPlant {
+impl Answers<Plant> for AtPlant {
     ghost gives = { Gives };
 
-    fn answer_line(&mut self, line: &[u8], replies: &mut Vec<u8>) -> Result<(), AllocError> {
-        let ports = self.plant.count();
+    fn answer_line(
+        &mut self,
+        plant: &mut Plant,
+        line: &[u8],
+        replies: &mut Vec<u8>,
+    ) -> Result<(), AllocError> {
+        let ports = plant.count();
         let mut occ = Occupancies::new();
         match read_frame_line(ports, line, &mut occ) {
-            Some(asked) => {
-                answer_frame_line(&mut self.plant, asked, occ, &mut self.room, replies)
-            }
-            None => answer(
-                &mut self.plant,
-                read_line(ports, line),
-                &mut self.room,
-                replies,
-            ),
+            Some(asked) => { answer_frame_line(plant, asked, occ, &mut self.room, replies) }
+            None => answer(plant, read_line(ports, line), &mut self.room, replies),
         }
     }
 
@@ -67,8 +54,8 @@ impl Answers for AtPlant {
 /// The replies to one read are written before the next read.
 ///
 /// `Read` if the reader failed or 2^64 - 1 reads were made: the text of all whole lines read is written.
-/// `Write` if the writer failed, and `Memory` if memory was refused: a prefix of the text is written; after
-/// `Memory` it is the text of the lines before. A line without its line feed at a fault is not answered. `Memory`
+/// `Write` if the writer failed: a prefix of the text is written. `Memory` if memory was refused: the text of some first
+/// lines is written, and nothing of the next one. A line without its line feed at a fault is not answered. `Memory`
 /// before the first read leaves reader and writer unchanged. The writer is flushed once, at the end of the input.
 pub fn plan<H, R: DevRead, W: DevWrite>(
     _rt: &H,
@@ -87,10 +74,9 @@ pub fn plan<H, R: DevRead, W: DevWrite>(
     ensures write { TellsWrite (W.failures writer.old) (W.failures writer.new) result }
 {
     match start(alloc, ports, steps.as_slice()) {
-        Ok(plant) => {
+        Ok(mut plant) => {
             let room = Vec::new(alloc);
-            let mut plant = AtPlant { plant, room };
-            answer_input(alloc, &mut plant, reader, writer)
+            answer_input(alloc, &mut AtPlant { room }, &mut plant, reader, writer)
         }
         Err(_) => Err(PlanFault::Memory),
     }

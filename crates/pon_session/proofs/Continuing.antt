@@ -13,8 +13,8 @@ use Rattle.pon_stream.proofs.DeviceBytes.{appends_none}
 use Rattle.pon_device.proofs.Pieces.{appends_more}
 use Rattle.pon_text.specs.Lines.{lines_of, whole_lines}
 use Rattle.pon_session.specs.Giving.{Giving, GivesLines, ReadsFirst}
-use Rattle.pon_session.specs.Planning.{BeginsNext, BeginsText}
-use Rattle.pon_session.specs.Progress.{Answered, AnswersPiece, Continues, Gathers, MayBegin, PrintsPiece, WritesBeginning}
+use Rattle.pon_session.specs.Planning.{BeginsNext, BeginsText, EndsBetween}
+use Rattle.pon_session.specs.Progress.{Answered, AnswersPiece, Continues, Gathers, MayBegin, MayStop, PrintsPiece, Reached, StopsWithin, WritesBeginning, WritesLines}
 use Rattle.pon_session.proofs.Streaming.{gives_kept, gives_more, has_feed, lines_of-feed, whole_lines-feed}
 
 -- Parts of lines.
@@ -44,9 +44,6 @@ no_items [] e = refl
 no_items (x ∷ xs) e = absurd (omega (arith, e))
 
 -- Prefixes of a text.
-
-whole_beginning : (xs : List ℕ) → IsBeginning xs xs
-whole_beginning xs = ([], append-nil xs)
 
 longer_beginning : (xs part text : List ℕ) → IsBeginning part text → IsBeginning (xs ++ part) (xs ++ text)
 longer_beginning xs part text b = (b.0, append_assoc xs part b.0 ∙ ap (λ t. xs ++ t) b.1)
@@ -208,23 +205,33 @@ module _ {S : Type 0} (gives : Giving S) where
       subst (λ i. BeginsText gives first i (written ++ part)) (append_assoc input seen tail)
       (answered_begins first new (input ++ seen) (written ++ text) line tail (written ++ part) (c first input written a) (longer_beginning written part text b))
 
+  -- the text answered so far is that of whole lines, whatever bytes follow
+  answered_stops : (first state : S) (input text line tail : List ℕ) → Answered gives first state input text line → EndsBetween gives first (input ++ tail) text
+  answered_stops first state input text line tail a = record {
+    answered = a.lines;
+    more = lines_of (a.cur ++ tail);
+    after = state;
+    lines = ap (λ t. lines_of (t ++ tail)) a.parts ∙ ap lines_of (append_assoc a.done a.cur tail) ∙ a.split (a.cur ++ tail);
+    gave = a.gave;
+  }
+
+  continues_stops : (old new : S) (kept line seen tail text : List ℕ) → Continues gives old kept new line seen text → MayStop gives old kept (seen ++ tail) text
+  continues_stops old new kept line seen tail text c first input written a =
+      subst (λ i. EndsBetween gives first i (written ++ text)) (append_assoc input seen tail)
+      (answered_stops first new (input ++ seen) (written ++ text) line tail (c first input written a))
+
   -- A piece, line by line.
 
-  pub record Reached (old : S) (kept : List ℕ) (new : S) (line piece rest gathered : List ℕ) (held_old held_new : Option (List ℕ)) : Type 0 where
-    pub seen : List ℕ
-    pub parts : piece ≡ seen ++ rest
-    pub gathers : Gathers gives old kept new line seen gathered held_old held_new
-
-  pub reach_nothing : (state : S) (line piece gathered : List ℕ) (held : Option (List ℕ)) → gathered ≡ [] → Reached state line state line piece piece gathered held held
+  pub reach_nothing : (state : S) (line piece gathered : List ℕ) (held : Option (List ℕ)) → gathered ≡ [] → Reached gives state line state line piece piece gathered held held
   reach_nothing state line piece gathered held e = record {
     seen = [];
     parts = refl;
     gathers = record { text = []; sent = []; goes = continues_nothing state line; wrote = appends_none held; all = sym e };
   }
 
-  module _ (old : S) (kept : List ℕ) (mid : S) (line piece rest gathered : List ℕ) (h0 h : Option (List ℕ)) (r : Reached old kept mid line piece rest gathered h0 h) where
+  module _ (old : S) (kept : List ℕ) (mid : S) (line piece rest gathered : List ℕ) (h0 h : Option (List ℕ)) (r : Reached gives old kept mid line piece rest gathered h0 h) where
     -- more of the piece is answered
-    pub reach_more : (new : S) (left part after text more : List ℕ) → Continues gives mid line new left part text → rest ≡ part ++ after → more ≡ gathered ++ text → Reached old kept new left piece after more h0 h
+    pub reach_more : (new : S) (left part after text more : List ℕ) → Continues gives mid line new left part text → rest ≡ part ++ after → more ≡ gathered ++ text → Reached gives old kept new left piece after more h0 h
     reach_more new left part after text more c e m = record {
       seen = r.seen ++ part;
       parts = r.parts ∙ ap (λ t. r.seen ++ t) e ∙ sym (append_assoc r.seen part after);
@@ -238,7 +245,7 @@ module _ {S : Type 0} (gives : Giving S) where
     }
 
     -- what was gathered is written
-    pub reach_sent : (k : Option (List ℕ)) (empty : List ℕ) → Appends h k gathered → empty ≡ [] → Reached old kept mid line piece rest empty h0 k
+    pub reach_sent : (k : Option (List ℕ)) (empty : List ℕ) → Appends h k gathered → empty ≡ [] → Reached gives old kept mid line piece rest empty h0 k
     reach_sent k empty w e = record {
       seen = r.seen;
       parts = r.parts;
@@ -255,17 +262,25 @@ module _ {S : Type 0} (gives : Giving S) where
     may_begin = subst (λ t. MayBegin gives old kept t (r.gathers.sent ++ gathered)) (sym r.parts)
         (subst (MayBegin gives old kept (r.seen ++ rest)) r.gathers.all (continues_begins old mid kept line r.seen rest r.gathers.text r.gathers.goes))
 
+    may_stop : MayStop gives old kept piece (r.gathers.sent ++ gathered)
+    may_stop = subst (λ t. MayStop gives old kept t (r.gathers.sent ++ gathered)) (sym r.parts)
+        (subst (MayStop gives old kept (r.seen ++ rest)) r.gathers.all (continues_stops old mid kept line r.seen rest r.gathers.text r.gathers.goes))
+
     -- memory was refused
-    pub reach_refused : (held : List ℕ) → held ≡ gathered → WritesBeginning gives old kept piece held h0 h
-    reach_refused held e = (r.gathers.sent, r.gathers.wrote, subst (λ t. MayBegin gives old kept piece (r.gathers.sent ++ t)) (sym e) may_begin)
+    pub reach_refused : (held : List ℕ) → held ≡ gathered → StopsWithin gives old kept piece held h0 h
+    reach_refused held e = record { mid = mid; line = line; rest = rest; reached = subst (λ t. Reached gives old kept mid line piece rest t h0 h) (sym e) r }
+
+    -- after that what was gathered is written
+    reach_written : (k : Option (List ℕ)) → Appends h k gathered → WritesLines gives old kept piece h0 k
+    reach_written k w = (r.gathers.sent ++ gathered, appends_more h0 h k r.gathers.sent gathered r.gathers.wrote w, may_stop)
 
     -- the writer failed
-    pub reach_failed : (k : Option (List ℕ)) (sent : List ℕ) → Appends h k sent → IsBeginning sent gathered → WritesBeginning gives old kept piece [] h0 k
+    pub reach_failed : (k : Option (List ℕ)) (sent : List ℕ) → Appends h k sent → IsBeginning sent gathered → WritesBeginning gives old kept piece h0 k
     reach_failed k sent w b = (
       r.gathers.sent ++ sent,
       appends_more h0 h k r.gathers.sent sent r.gathers.wrote w,
       λ first input written part a p. may_begin first input written part a
-          (beginning_of part (r.gathers.sent ++ sent) (r.gathers.sent ++ gathered) (subst (IsBeginning part) (append-nil (r.gathers.sent ++ sent)) p) (longer_beginning r.gathers.sent sent gathered b)),
+          (beginning_of part (r.gathers.sent ++ sent) (r.gathers.sent ++ gathered) p (longer_beginning r.gathers.sent sent gathered b)),
     )
 
     pub reach_unsent : (new : S) (left held : List ℕ) (k : Option (List ℕ)) (f : PlanFault) → TellsLine gathered h k (Err f) → AnswersPiece gives old kept new left piece held h0 k (Err f)
@@ -282,20 +297,8 @@ module _ {S : Type 0} (gives : Giving S) where
     pub rest_sent : (new : S) (line : List ℕ) → Gathers gives old kept new line piece gathered h0 h → Appends h k gathered → (text : List ℕ) × Continues gives old kept new line piece text × Appends h0 k text
     rest_sent new line g w = (g.text, g.goes, subst (Appends h0 k) (sym g.all) (appends_more h0 h k g.sent gathered g.wrote w))
 
-    pub rest_failed : (new : S) (line sent : List ℕ) → Gathers gives old kept new line piece gathered h0 h → Appends h k sent → IsBeginning sent gathered → WritesBeginning gives old kept piece [] h0 k
+    pub rest_failed : (new : S) (line sent : List ℕ) → Gathers gives old kept new line piece gathered h0 h → Appends h k sent → IsBeginning sent gathered → WritesBeginning gives old kept piece h0 k
     rest_failed new line sent g w b = reach_failed old kept new line piece [] gathered h0 h (record { seen = piece; parts = sym (append-nil piece); gathers = g }) k sent w b
-
-    -- after a refusal of memory, some of it or all
-    pub rest_begun : (sent : List ℕ) → WritesBeginning gives old kept piece gathered h0 h → Appends h k sent → IsBeginning sent gathered → WritesBeginning gives old kept piece [] h0 k
-    rest_begun sent g w b = (
-      g.0 ++ sent,
-      appends_more h0 h k g.0 sent g.1 w,
-      λ first input written part a p. g.2 first input written part a
-          (beginning_of part (g.0 ++ sent) (g.0 ++ gathered) (subst (IsBeginning part) (append-nil (g.0 ++ sent)) p) (longer_beginning g.0 sent gathered b)),
-    )
-
-    pub rest_written : WritesBeginning gives old kept piece gathered h0 h → Appends h k gathered → WritesBeginning gives old kept piece [] h0 k
-    rest_written g w = rest_begun gathered g w (whole_beginning gathered)
 
     pub sends_rest : (new : S) (line : List ℕ) (r : Result (Unit {0}) PlanFault) → Gathers gives old kept new line piece gathered h0 h → TellsLine gathered h k r → PrintsPiece gives old kept new line piece h0 k r
     sends_rest new line (Ok done) g w = rest_sent new line g w
@@ -303,7 +306,11 @@ module _ {S : Type 0} (gives : Giving S) where
     sends_rest new line (Err Write) g w = rest_failed new line w.0 g w.1 w.2
     sends_rest new line (Err Memory) g w = absurd w
 
-    pub sends_begun : (new : S) (line : List ℕ) (f : PlanFault) → WritesBeginning gives old kept piece gathered h0 h → TellsLine gathered h k (Err f) → PrintsPiece gives old kept new line piece h0 k (Err f)
+    -- after a refusal of memory
+    pub rest_written : StopsWithin gives old kept piece gathered h0 h → Appends h k gathered → WritesLines gives old kept piece h0 k
+    rest_written g w = reach_written old kept g.mid g.line piece g.rest gathered h0 h g.reached k w
+
+    pub sends_begun : (new : S) (line : List ℕ) (f : PlanFault) → StopsWithin gives old kept piece gathered h0 h → TellsLine gathered h k (Err f) → PrintsPiece gives old kept new line piece h0 k (Err f)
     sends_begun new line Read g w = absurd w
-    sends_begun new line Write g w = rest_begun w.0 g w.1 w.2
+    sends_begun new line Write g w = reach_failed old kept g.mid g.line piece g.rest gathered h0 h g.reached k w.0 w.1 w.2
     sends_begun new line Memory g w = absurd w

@@ -1,5 +1,5 @@
 -- Text that is read piece by piece, and answered line by line.
-use Rattle.std.proofs.Common.{◌≡◌, ℕ, Bool, true, false, List, [], ◌∷◌, ◌++◌, length, take, refl, ap, sym, ◌∙◌, subst, arith, append_assoc, inl, inr}
+use Rattle.std.proofs.Common.{◌≡◌, ℕ, Bool, true, false, List, [], ◌∷◌, ◌++◌, length, take, refl, ap, sym, ◌∙◌, subst, arith, append_assoc, inr}
 use Rattle.std.proofs.lemmas.List.{append-nil, length-take}
 use Rattle.std.specs.Prelude.{◌==◌, ◌≢◌, Option, Result, Ok, Err}
 use Rattle.std.specs.List.{list_any}
@@ -11,8 +11,8 @@ use Rattle.pon_stream.specs.declared.fault.PlanFault.{PlanFault}
 use Rattle.pon_stream.specs.declared.fault.PlanFault.TheVariants.{Read, Write, Memory}
 use Rattle.pon_text.specs.Lines.{lines_of, whole_lines, onto}
 use Rattle.pon_session.specs.Giving.{Giving, GivesLines, ReadsFirst}
-use Rattle.pon_session.specs.Planning.{Planned, IsText, BeginsNext, BeginsText, PrintsLine}
-use Rattle.pon_session.specs.Progress.{Answered, Continues, PrintsPiece, WritesBeginning}
+use Rattle.pon_session.specs.Planning.{Planned, PrintsLine}
+use Rattle.pon_session.specs.Progress.{Answered, Continues, PrintsPiece}
 
 abbrev pub has_feed : List ℕ → Bool
 has_feed bs = list_any (λ b. b == 10) bs
@@ -111,98 +111,102 @@ module _ {S : Type 0} (gives : Giving S) where
         }
 
     -- a piece was answered in part
-    pub piece_failed : {T : Type 0} (k : Option (List ℕ)) (piece : List ℕ) (f : PlanFault) → Consumes l m piece → WritesBeginning gives state line piece [] h k →
-        ((input written : List ℕ) → BeginsText gives first input written → IsText {T = T} gives first input written (Err f)) → Planned {T = T} gives first l0 m h0 k (Err f)
-    piece_failed k piece f c w tells = record {
+    pub print_failed : {T : Type 0} (k : Option (List ℕ)) (after last : S) (new piece : List ℕ) (f : PlanFault) → Consumes l m piece → PrintsPiece gives state line after new piece h k (Err f) → Planned {T = T} gives first last l0 m h0 k (Err f)
+    print_failed k after last new piece Read c w = absurd w
+    print_failed k after last new piece Write c w = record {
       input = (p.done ++ p.cur) ++ piece;
       written = p.written ++ w.0;
       read = consumes_more l0 l m (p.done ++ p.cur) piece p.read c;
       wrote = appends_more h0 h k p.written w.0 p.wrote w.1;
-      text = tells ((p.done ++ p.cur) ++ piece) (p.written ++ w.0) (w.2 first (p.done ++ p.cur) p.written w.0 answered ([], refl));
+      text = w.2 first (p.done ++ p.cur) p.written w.0 answered ([], append-nil w.0);
+    }
+    print_failed k after last new piece Memory c w = record {
+      input = (p.done ++ p.cur) ++ piece;
+      written = p.written ++ w.0;
+      read = consumes_more l0 l m (p.done ++ p.cur) piece p.read c;
+      wrote = appends_more h0 h k p.written w.0 p.wrote w.1;
+      text = w.2 first (p.done ++ p.cur) p.written answered;
     }
 
-    pub print_failed : {T : Type 0} (k : Option (List ℕ)) (after : S) (new piece : List ℕ) (f : PlanFault) → Consumes l m piece → PrintsPiece gives state line after new piece h k (Err f) → Planned {T = T} gives first l0 m h0 k (Err f)
-    print_failed k after new piece Read c w = absurd w
-    print_failed k after new piece Write c w = piece_failed k piece Write c w (λ input written b. b)
-    print_failed k after new piece Memory c w = piece_failed k piece Memory c w (λ input written b. b)
-
     -- the reader failed
-    pub read_failed : {T : Type 0} → Keeps l m → Planned {T = T} gives first l0 m h0 h (Err Read)
+    pub read_failed : {T : Type 0} → Keeps l m → Planned {T = T} gives first state l0 m h0 h (Err Read)
     read_failed kept = record {
       input = p.done ++ p.cur;
       written = p.written;
       read = consumes_kept l0 l m (p.done ++ p.cur) p.read kept;
       wrote = p.wrote;
-      text = (state, subst (λ ls. GivesLines gives first ls p.written state) (sym all_whole) p.gave);
+      text = subst (λ ls. GivesLines gives first ls p.written state) (sym all_whole) p.gave;
     }
       where
         all_whole : lines_of (whole_lines (p.done ++ p.cur)) ≡ p.lines
         all_whole = ap lines_of (p.whole p.cur ∙ ap (λ t. p.done ++ t) (whole_lines-open p.cur p.open_line)) ∙ p.split [] ∙ append-nil p.lines
 
-    -- a prefix was written before a fault
-    begun : {T : Type 0} (k : Option (List ℕ)) (more sent : List ℕ) (next : List (List ℕ)) → Consumes l m more → Appends h k sent → lines_of (p.cur ++ more) ≡ next → BeginsNext gives state next sent →
-        (f : PlanFault) → (BeginsText gives first ((p.done ++ p.cur) ++ more) (p.written ++ sent) → IsText {T = T} gives first ((p.done ++ p.cur) ++ more) (p.written ++ sent) (Err f)) → Planned {T = T} gives first l0 m h0 k (Err f)
-    begun k more sent next c w e b f tells = record {
+    -- the text of the line was not wholly written; `more` are the bytes that end the line
+    line_failed : {T : Type 0} → ReadsFirst gives → (k : Option (List ℕ)) (after last : S) (more : List ℕ) (next : List (List ℕ)) (f : PlanFault) → Consumes l m more → PrintsLine gives state after line h k (Err f) → lines_of (p.cur ++ more) ≡ p.cur ∷ next → Planned {T = T} gives first last l0 m h0 k (Err f)
+    line_failed law k after last more next Read c w e = absurd w
+    line_failed law k after last more next Write c w e = record {
       input = (p.done ++ p.cur) ++ more;
-      written = p.written ++ sent;
+      written = p.written ++ w.1;
       read = consumes_more l0 l m (p.done ++ p.cur) more p.read c;
-      wrote = appends_more h0 h k p.written sent p.wrote w;
-      text = tells (record {
+      wrote = appends_more h0 h k p.written w.1 p.wrote w.3;
+      text = record {
         answered = p.lines;
-        more = next;
+        more = p.cur ∷ next;
         text = p.written;
-        part = sent;
+        part = w.1;
         after = state;
         lines = ap lines_of (append_assoc p.done p.cur more) ∙ p.split (p.cur ++ more) ∙ ap (λ ls. p.lines ++ ls) e;
         gave = p.gave;
-        begins = b;
+        begins = inr (w.0, after, gives_kept law state after line p.cur w.0 p.kept w.2, w.4);
         is = refl;
-      });
+      };
     }
-
-    -- the text of the line was not wholly written; `more` are the bytes that end the line
-    line_failed : {T : Type 0} → ReadsFirst gives → (k : Option (List ℕ)) (after : S) (more : List ℕ) (next : List (List ℕ)) (f : PlanFault) → Consumes l m more → PrintsLine gives state after line h k (Err f) → lines_of (p.cur ++ more) ≡ p.cur ∷ next → Planned {T = T} gives first l0 m h0 k (Err f)
-    line_failed law k after more next Read c w e = absurd w
-    line_failed law k after more next Write c w e =
-        begun k more w.1 (p.cur ∷ next) c w.3 e (inr (w.0, after, gives_kept law state after line p.cur w.0 p.kept w.2, w.4)) Write (λ b. b)
-    line_failed law k after more next Memory c w e =
-        begun k more [] (p.cur ∷ next) c (appends_kept h h k [] (appends_none h) w) e (inl refl) Memory (λ b. b)
+    line_failed law k after last more next Memory c w e = record {
+      input = (p.done ++ p.cur) ++ more;
+      written = p.written;
+      read = consumes_more l0 l m (p.done ++ p.cur) more p.read c;
+      wrote = appends_kept h0 h k p.written p.wrote w;
+      text = record {
+        answered = p.lines;
+        more = p.cur ∷ next;
+        after = state;
+        lines = ap lines_of (append_assoc p.done p.cur more) ∙ p.split (p.cur ++ more) ∙ ap (λ ls. p.lines ++ ls) e;
+        gave = p.gave;
+      };
+    }
 
     not_empty : line ≢ [] → p.cur ≢ []
     not_empty n e = n (p.kept ∙ ap (take 4097) e)
 
-    pub end_failed : {T : Type 0} → ReadsFirst gives → (k : Option (List ℕ)) (after : S) (f : PlanFault) → Consumes l m [] → line ≢ [] → PrintsLine gives state after line h k (Err f) → Planned {T = T} gives first l0 m h0 k (Err f)
-    end_failed law k after f c n w = line_failed law k after [] [] f c w (ap lines_of (append-nil p.cur) ∙ lone_line p.cur p.open_line (not_empty n))
+    pub end_failed : {T : Type 0} → ReadsFirst gives → (k : Option (List ℕ)) (after last : S) (f : PlanFault) → Consumes l m [] → line ≢ [] → PrintsLine gives state after line h k (Err f) → Planned {T = T} gives first last l0 m h0 k (Err f)
+    end_failed law k after last f c n w = line_failed law k after last [] [] f c w (ap lines_of (append-nil p.cur) ∙ lone_line p.cur p.open_line (not_empty n))
 
     -- the input ended after a line without its line feed
-    pub ended : {T : Type 0} → ReadsFirst gives → (k : Option (List ℕ)) (after : S) (done : Unit {0}) (end : T) → Consumes l m [] → line ≢ [] → PrintsLine gives state after line h k (Ok done) → Planned {T = T} gives first l0 m h0 k (Ok end)
+    pub ended : {T : Type 0} → ReadsFirst gives → (k : Option (List ℕ)) (after : S) (done : Unit {0}) (end : T) → Consumes l m [] → line ≢ [] → PrintsLine gives state after line h k (Ok done) → Planned {T = T} gives first after l0 m h0 k (Ok end)
     ended law k after done end c n w = record {
       input = (p.done ++ p.cur) ++ [];
       written = p.written ++ w.0;
       read = consumes_more l0 l m (p.done ++ p.cur) [] p.read c;
       wrote = appends_more h0 h k p.written w.0 p.wrote w.2;
-      text = (
-        after,
-        subst (λ ls. GivesLines gives first ls (p.written ++ w.0) after) (sym all)
-            (gives_more first state after p.lines p.cur p.written w.0 p.gave (gives_kept law state after line p.cur w.0 p.kept w.1)),
-      );
+      text = subst (λ ls. GivesLines gives first ls (p.written ++ w.0) after) (sym all)
+          (gives_more first state after p.lines p.cur p.written w.0 p.gave (gives_kept law state after line p.cur w.0 p.kept w.1));
     }
       where
         all : lines_of ((p.done ++ p.cur) ++ []) ≡ p.lines ++ p.cur ∷ []
         all = ap lines_of (append_assoc p.done p.cur []) ∙ p.split (p.cur ++ []) ∙ ap (λ ls. p.lines ++ ls) (ap lines_of (append-nil p.cur) ∙ lone_line p.cur p.open_line (not_empty n))
 
-    pub last_line : ReadsFirst gives → (k : Option (List ℕ)) (after : S) (r : Result (Unit {0}) PlanFault) → Consumes l m [] → line ≢ [] → PrintsLine gives state after line h k r → Planned {T = Unit {0}} gives first l0 m h0 k r
+    pub last_line : ReadsFirst gives → (k : Option (List ℕ)) (after : S) (r : Result (Unit {0}) PlanFault) → Consumes l m [] → line ≢ [] → PrintsLine gives state after line h k r → Planned {T = Unit {0}} gives first after l0 m h0 k r
     last_line law k after (Ok done) c n w = ended law k after done done c n w
-    last_line law k after (Err f) c n w = end_failed law k after f c n w
+    last_line law k after (Err f) c n w = end_failed law k after after f c n w
 
     -- the input ended after a line feed, or at its start
-    pub ended_empty : {T : Type 0} (end : T) → Consumes l m [] → line ≡ [] → Planned {T = T} gives first l0 m h0 h (Ok end)
+    pub ended_empty : {T : Type 0} (end : T) → Consumes l m [] → line ≡ [] → Planned {T = T} gives first state l0 m h0 h (Ok end)
     ended_empty end c n = record {
       input = (p.done ++ p.cur) ++ [];
       written = p.written;
       read = consumes_more l0 l m (p.done ++ p.cur) [] p.read c;
       wrote = p.wrote;
-      text = (state, subst (λ ls. GivesLines gives first ls p.written state) (sym all) p.gave);
+      text = subst (λ ls. GivesLines gives first ls p.written state) (sym all) p.gave;
     }
       where
         nothing : (cur : List ℕ) → take 4097 cur ≡ [] → cur ≡ []
@@ -213,7 +217,7 @@ module _ {S : Type 0} (gives : Giving S) where
         all = ap lines_of (append_assoc p.done p.cur []) ∙ p.split (p.cur ++ []) ∙ ap (λ c. p.lines ++ lines_of (c ++ [])) (nothing p.cur (sym p.kept ∙ n)) ∙ append-nil p.lines
 
   -- 2 ^ 64 - 1 reads were made
-  pub ran_out : {T : Type 0} (first : S) (l0 l h0 h : Option (List ℕ)) (state : S) (line : List ℕ) → Progress first l0 l h0 h state line → Planned {T = T} gives first l0 l h0 h (Err Read)
+  pub ran_out : {T : Type 0} (first : S) (l0 l h0 h : Option (List ℕ)) (state : S) (line : List ℕ) → Progress first l0 l h0 h state line → Planned {T = T} gives first state l0 l h0 h (Err Read)
   ran_out first l0 l h0 h state line p = read_failed first l0 l l h0 h state line p (keeps_itself l)
 
   -- the same line under another name
@@ -223,18 +227,18 @@ module _ {S : Type 0} (gives : Giving S) where
   -- Before the first line, and after the last.
 
   -- nothing was read and nothing written
-  pub nothing_done : {T : Type 0} (first : S) (l h : Option (List ℕ)) → Planned {T = T} gives first l l h h (Err Memory)
-  nothing_done first l h = record {
+  pub nothing_done : {T : Type 0} (first last : S) (l h : Option (List ℕ)) → Planned {T = T} gives first last l l h h (Err Memory)
+  nothing_done first last l h = record {
     input = [];
     written = [];
     read = consumes_none l;
     wrote = appends_none h;
-    text = record { answered = []; more = []; text = []; part = []; after = first; lines = refl; gave = (refl, refl); begins = refl; is = refl };
+    text = record { answered = []; more = []; after = first; lines = refl; gave = (refl, refl) };
   }
 
   -- all was written, and the flush failed
-  pub not_flushed : {D T : Type 0} (first : S) (l0 l h0 h k : Option (List ℕ)) (done : D) → Planned {T = D} gives first l0 l h0 h (Ok done) → Keeps h k → Planned {T = T} gives first l0 l h0 k (Err Write)
-  not_flushed first l0 l h0 h k done p kept = record {
+  pub not_flushed : {D T : Type 0} (first last : S) (l0 l h0 h k : Option (List ℕ)) (done : D) → Planned {T = D} gives first last l0 l h0 h (Ok done) → Keeps h k → Planned {T = T} gives first last l0 l h0 k (Err Write)
+  not_flushed first last l0 l h0 h k done p kept = record {
     input = p.input;
     written = p.written;
     read = p.read;
@@ -244,16 +248,16 @@ module _ {S : Type 0} (gives : Giving S) where
       more = [];
       text = p.written;
       part = [];
-      after = p.text.0;
+      after = last;
       lines = sym (append-nil (lines_of p.input));
-      gave = p.text.1;
+      gave = p.text;
       begins = refl;
       is = sym (append-nil p.written);
     };
   }
 
-  pub flushed : {D T : Type 0} (first : S) (l0 l h0 h k : Option (List ℕ)) (done : D) (end : T) → Planned {T = D} gives first l0 l h0 h (Ok done) → Keeps h k → Planned {T = T} gives first l0 l h0 k (Ok end)
-  flushed first l0 l h0 h k done end p kept = record {
+  pub flushed : {D T : Type 0} (first last : S) (l0 l h0 h k : Option (List ℕ)) (done : D) (end : T) → Planned {T = D} gives first last l0 l h0 h (Ok done) → Keeps h k → Planned {T = T} gives first last l0 l h0 k (Ok end)
+  flushed first last l0 l h0 h k done end p kept = record {
     input = p.input;
     written = p.written;
     read = p.read;

@@ -5,7 +5,7 @@ use Rattle.pon_stream.specs.Streams.{IsBeginning}
 use Rattle.pon_stream.specs.declared.fault.PlanFault.{PlanFault}
 use Rattle.pon_stream.specs.declared.fault.PlanFault.TheVariants.{Read, Write, Memory}
 use Rattle.pon_text.specs.Lines.{lines_of, whole_lines}
-use Rattle.pon_session.specs.Giving.{Giving, GivesLines, GivesText}
+use Rattle.pon_session.specs.Giving.{Giving, GivesLines}
 
 -- nothing, or a prefix of the text of the next line
 abbrev pub BeginsNext : {S : Type 0} → Giving S → S → List (List ℕ) → List ℕ → Type 0
@@ -24,20 +24,28 @@ pub record BeginsText {S : Type 0} (gives : Giving S) (start : S) (input written
   pub begins : BeginsNext gives after more part
   pub is : written ≡ text ++ part
 
--- what is written for what was read, by how it ended
-abbrev pub IsText : {S T : Type 0} → Giving S → S → List ℕ → List ℕ → Result T PlanFault → Type 0
-IsText gives start input written (Ok end) = GivesText gives start input written
-IsText gives start input written (Err Read) = GivesText gives start (whole_lines input) written
-IsText gives start input written (Err Write) = BeginsText gives start input written
-IsText gives start input written (Err Memory) = BeginsText gives start input written
+-- the text of the first lines of an input, and nothing of the next one
+pub record EndsBetween {S : Type 0} (gives : Giving S) (start : S) (input written : List ℕ) : Type 0 where
+  pub answered : List (List ℕ)
+  pub more : List (List ℕ)
+  pub after : S
+  pub lines : lines_of input ≡ answered ++ more
+  pub gave : GivesLines gives start answered written after
+
+-- what is written for what was read, by how it ended; `last` is the state at the end, if all whole lines are answered
+abbrev pub IsText : {S T : Type 0} → Giving S → S → S → List ℕ → List ℕ → Result T PlanFault → Type 0
+IsText gives start last input written (Ok end) = GivesLines gives start (lines_of input) written last
+IsText gives start last input written (Err Read) = GivesLines gives start (lines_of (whole_lines input)) written last
+IsText gives start last input written (Err Write) = BeginsText gives start input written
+IsText gives start last input written (Err Memory) = EndsBetween gives start input written
 
 -- some bytes were read, and the text for them was written
-pub record Planned {S T : Type 0} (gives : Giving S) (start : S) (left_old left_new held_old held_new : Option (List ℕ)) (result : Result T PlanFault) : Type 0 where
+pub record Planned {S T : Type 0} (gives : Giving S) (start last : S) (left_old left_new held_old held_new : Option (List ℕ)) (result : Result T PlanFault) : Type 0 where
   pub input : List ℕ
   pub written : List ℕ
   pub read : Consumes left_old left_new input
   pub wrote : Appends held_old held_new written
-  pub text : IsText gives start input written result
+  pub text : IsText gives start last input written result
 
 -- the text of a line was written, or a prefix of it
 abbrev pub PrintsLine : {S : Type 0} → Giving S → S → S → List ℕ → Option (List ℕ) → Option (List ℕ) → Result (Unit {0}) PlanFault → Type 0

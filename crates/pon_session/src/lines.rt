@@ -36,26 +36,27 @@ fn keep_part(line: &mut Vec<u8>, part: &[u8]) -> Result<(), AllocError>
 }
 
 // Ends the open line with this part, and answers it.
-fn end_line<A: Answers>(
+fn end_line<S, A: Answers<S>>(
     answers: &mut A,
+    state: &mut S,
     line: &mut Vec<u8>,
     part: &[u8],
     replies: &mut Vec<u8>,
 ) -> Result<(), AllocError>
     requires no_feed { list_any (λ b. b == 10) part.now ≡ false }
     ensures ok { OnOk result ((text : List ℕ)
-        × Continues A.gives answers.old line.old.items answers.new line.new.items
+        × Continues A.gives state.old line.old.items state.new line.new.items
         (part.now ++ 10 ∷ []) text
         × (replies.new.items ≡ replies.old.items ++ text)) }
     ensures err { OnErr result (replies.new.items ≡ replies.old.items) }
 {
     if line.is_empty() {
-        return answers.answer_line(part, replies);
+        return answers.answer_line(state, part, replies);
     }
     if keep_part(line, part).is_err() {
         return Err(AllocError);
     }
-    let answered = answers.answer_line(line.as_slice(), replies);
+    let answered = answers.answer_line(state, line.as_slice(), replies);
     line.clear();
     answered
 }
@@ -76,22 +77,23 @@ fn send<W: DevWrite>(replies: &mut Vec<u8>, writer: &mut W) -> Result<(), PlanFa
 }
 
 // Answers the lines that end in a piece, keeps the bytes after them, and gathers the replies.
-fn answer_piece<A: Answers, W: DevWrite>(
+fn answer_piece<S, A: Answers<S>, W: DevWrite>(
     answers: &mut A,
+    state: &mut S,
     line: &mut Vec<u8>,
     piece: &[u8],
     replies: &mut Vec<u8>,
     writer: &mut W,
 ) -> Result<(), PlanFault>
     requires empty { replies.old.items ≡ [] }
-    ensures text { AnswersPiece A.gives answers.old line.old.items
-        answers.new line.new.items piece.now replies.new.items (W.contents writer.old)
+    ensures text { AnswersPiece A.gives state.old line.old.items
+        state.new line.new.items piece.now replies.new.items (W.contents writer.old)
         (W.contents writer.new) result }
     ensures failures { TellsWrite (W.failures writer.old) (W.failures writer.new) result }
 {
     let mut rest = piece;
     'lines: while let Some((part, after)) = cut(rest, b'\n') {
-        if end_line(answers, line, part, replies).is_err() {
+        if end_line(answers, state, line, part, replies).is_err() {
             return Err(PlanFault::Memory);
         }
         if replies.len() >= FULL {
@@ -109,21 +111,22 @@ fn answer_piece<A: Answers, W: DevWrite>(
 }
 
 // Answers the lines that end in a piece, and writes their replies, also those before memory is refused.
-fn print_piece<A: Answers, W: DevWrite>(
+fn print_piece<S, A: Answers<S>, W: DevWrite>(
     answers: &mut A,
+    state: &mut S,
     line: &mut Vec<u8>,
     piece: &[u8],
     replies: &mut Vec<u8>,
     writer: &mut W,
 ) -> Result<(), PlanFault>
     requires empty { replies.old.items ≡ [] }
-    ensures text { PrintsPiece A.gives answers.old line.old.items
-        answers.new line.new.items piece.now (W.contents writer.old)
+    ensures text { PrintsPiece A.gives state.old line.old.items
+        state.new line.new.items piece.now (W.contents writer.old)
         (W.contents writer.new) result }
     ensures failures { TellsWrite (W.failures writer.old) (W.failures writer.new) result }
     ensures empty { OnOk result (replies.new.items ≡ []) }
 {
-    match answer_piece(answers, line, piece, replies, writer) {
+    match answer_piece(answers, state, line, piece, replies, writer) {
         Ok(()) => send(replies, writer),
         Err(PlanFault::Memory) => match send(replies, writer) {
             Ok(()) => Err(PlanFault::Memory),
@@ -134,31 +137,33 @@ fn print_piece<A: Answers, W: DevWrite>(
 }
 
 // Answers the last line, which has no line feed, and writes its text or a prefix of it.
-fn print_line<A: Answers, W: DevWrite>(
+fn print_line<S, A: Answers<S>, W: DevWrite>(
     answers: &mut A,
+    state: &mut S,
     line: &[u8],
     replies: &mut Vec<u8>,
     writer: &mut W,
 ) -> Result<(), PlanFault>
     requires empty { replies.old.items ≡ [] }
-    ensures text { PrintsLine A.gives answers.old answers.new line.now (W.contents writer.old)
+    ensures text { PrintsLine A.gives state.old state.new line.now (W.contents writer.old)
         (W.contents writer.new) result }
     ensures failures { TellsWrite (W.failures writer.old) (W.failures writer.new) result }
 {
-    match answers.answer_line(line, replies) {
+    match answers.answer_line(state, line, replies) {
         Ok(()) => send(replies, writer),
         Err(_) => Err(PlanFault::Memory),
     }
 }
 
 // Reads lines to the end of the input, and writes their replies before the next read.
-fn answer_lines<A: Answers, R: DevRead, W: DevWrite>(
+fn answer_lines<S, A: Answers<S>, R: DevRead, W: DevWrite>(
     alloc: Global,
     answers: &mut A,
+    state: &mut S,
     reader: &mut R,
     writer: &mut W,
 ) -> Result<(), PlanFault>
-    ensures text { Planned A.gives answers.old (R.remaining reader.old) (R.remaining reader.new)
+    ensures text { Planned A.gives state.old state.new (R.remaining reader.old) (R.remaining reader.new)
         (W.contents writer.old) (W.contents writer.new) result }
     ensures end { OnOk result (IsAtEnd (R.remaining reader.new)) }
     ensures read { TellsRead (R.calls reader.old) (R.calls reader.new) (R.failures reader.old)
@@ -176,9 +181,16 @@ fn answer_lines<A: Answers, R: DevRead, W: DevWrite>(
             if line.is_empty() {
                 return Ok(());
             }
-            return print_line(answers, line.as_slice(), &mut replies, writer);
+            return print_line(answers, state, line.as_slice(), &mut replies, writer);
         }
-        match print_piece(answers, &mut line, &piece[..len], &mut replies, writer) {
+        match print_piece(
+            answers,
+            state,
+            &mut line,
+            &piece[..len],
+            &mut replies,
+            writer,
+        ) {
             Ok(()) => {}
             Err(fault) => return Err(fault),
         }
@@ -190,23 +202,25 @@ fn answer_lines<A: Answers, R: DevRead, W: DevWrite>(
 ///
 /// What is written is the output text of what was read, from the state before. The replies to one read are written
 /// before the next read. `Read` if the reader failed or 2^64 - 1 reads were made: the text of all whole lines read is
-/// written. `Write` if the writer failed, and `Memory` if memory was refused: a prefix of the text is written; after
-/// `Memory` it is the text of the lines before. A line without its line feed at a fault is not answered. The writer is
-/// flushed once, at the end of the input.
-pub fn answer_input<A: Answers, R: DevRead, W: DevWrite>(
+/// written. `Write` if the writer failed: a prefix of the text is written. `Memory` if memory was refused: the text of
+/// some first lines is written, and nothing of the next one. A line without its line feed at a fault is not answered.
+/// The state after is that after the last line, at the end of the input and after `Read`. The writer is flushed once, at
+/// the end of the input.
+pub fn answer_input<S, A: Answers<S>, R: DevRead, W: DevWrite>(
     alloc: Global,
     answers: &mut A,
+    state: &mut S,
     reader: &mut R,
     writer: &mut W,
 ) -> Result<PlanEnd, PlanFault>
-    ensures text { Planned A.gives answers.old (R.remaining reader.old) (R.remaining reader.new)
+    ensures text { Planned A.gives state.old state.new (R.remaining reader.old) (R.remaining reader.new)
         (W.contents writer.old) (W.contents writer.new) result }
     ensures end { OnOk result (IsAtEnd (R.remaining reader.new)) }
     ensures read { TellsRead (R.calls reader.old) (R.calls reader.new) (R.failures reader.old)
         (R.failures reader.new) result }
     ensures write { TellsWrite (W.failures writer.old) (W.failures writer.new) result }
 {
-    match answer_lines(alloc, answers, reader, writer) {
+    match answer_lines(alloc, answers, state, reader, writer) {
         Ok(()) => match writer.flush() {
             Ok(()) => Ok(PlanEnd),
             Err(_) => Err(PlanFault::Write),

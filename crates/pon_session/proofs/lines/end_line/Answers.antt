@@ -9,7 +9,7 @@ returns-then-is_empty-clause-ok g c =
     let none = eqb-true (vec_len c.args.line.now) 0 (sym c.is_empty.ensures ∙ c.if-is_empty.true) in
     let empty : c.args.line.now.items ≡ [] = no_items c.args.line.now.items (omega (arith, none, c.args.line.now.ok.0)) in
     on_ok c.answer_line.result
-    (λ a. (a.0, ends_whole g.A.Answers.gives g.met.A.Answers.reads_first c.args.answers.now c.answer_line.new.self c.args.line.now.items c.args.part.now a.0 c.requires.no_feed empty a.1, a.2))
+    (λ a. (a.0, ends_whole g.A.Answers.gives g.met.A.Answers.reads_first c.args.state.now c.answer_line.new.state c.args.line.now.items c.args.part.now a.0 c.requires.no_feed empty a.1, a.2))
     c.answer_line.ensures.ok
 
 pub returns-clause-ok : goal.returns-clause-ok
@@ -18,7 +18,7 @@ returns-clause-ok g c =
     on_ok c.answer_line-answered.result
     (λ a. (
       a.0,
-      ends_line g.A.Answers.gives g.met.A.Answers.reads_first c.args.answers.now c.answer_line-answered.new.self c.args.line.now.items c.as_slice.result.now c.clear.new.self.items c.args.part.now a.0 c.requires.no_feed kept a.1 c.clear.ensures.items,
+      ends_line g.A.Answers.gives g.met.A.Answers.reads_first c.args.state.now c.answer_line-answered.new.state c.args.line.now.items c.as_slice.result.now c.clear.new.self.items c.args.part.now a.0 c.requires.no_feed kept a.1 c.clear.ensures.items,
       a.2,
     ))
     c.answer_line-answered.ensures.ok

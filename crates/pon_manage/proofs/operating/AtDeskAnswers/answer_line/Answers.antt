@@ -1,9 +1,0 @@
-use Rattle.std.proofs.Common.{ap, subst, sym, ◌∙◌}
-use Rattle.pon_line.specs.Reading.{AsksWithin, read_line}
-use Rattle.pon_line.proofs.Asking.{read_line-within}
-use Rattle.pon_manage.proofs.operating.AtDeskAnswers.answer_line.Goals as goal
-
-pub answer_at_desk-requires : goal.answer_at_desk-requires
-answer_at_desk-requires g c =
-    let ports = c.self.inside.desk.now.ports in
-    subst (AsksWithin ports) (sym (c.read_line-reading.ensures ∙ ap (λ n. read_line n c.args.line.now) c.ports.ensures.value)) (read_line-within ports c.args.line.now)
