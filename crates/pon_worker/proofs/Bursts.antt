@@ -1,27 +1,33 @@
 -- Records that are read and counted, one after another.
-use Rattle.std.proofs.Common.{◌≡◌, ℕ, ◌+◌, ◌≤◌, min, List, [], ◌∷◌, ◌++◌, ◌⊎◌, inl, inr, Option, Some, None, cond, count_by, length, refl, sym, subst, ap, ◌∙◌, arith, append_assoc, append-nil, length-append}
+use Rattle.std.proofs.Common.{◌≡◌, ℕ, Bool, true, false, ◌+◌, ◌≤◌, min, List, [], ◌∷◌, ◌++◌, ◌⊎◌, inl, inr, Option, Some, None, cond, count_by, length, refl, sym, subst, ap, ◌∙◌, arith, append_assoc, append-nil, length-append}
 use Rattle.std.proofs.KnownBytes.{Consumes-nil, Consumes-trans}
 use Rattle.std.proofs.lemmas.List.Sums.{sum_by-append}
 use Rattle.pon_device.specs.Device.{Consumes, IsAtEnd, Keeps}
-use Rattle.pon_link.specs.Reading.{ReaderState, HasFault, IsOpen}
+use Rattle.pon_link.specs.Reading.{ReaderState, HasFault, IsOpen, MayBecomeRecord}
+use Rattle.pon_link.specs.declared.direction.Direction.{Direction}
 use Rattle.pon_link.specs.declared.direction.Direction.TheVariants.{Up, Down}
 use Rattle.pon_link.specs.declared.fault.LinkFault.{LinkFault}
 use Rattle.pon_link.proofs.Outcomes.{faultless}
 use Rattle.pon_link.specs.Runs.{AreRecords}
 use Rattle.pon_link.specs.UpRecords.{IsRecord}
 use Rattle.pon_link.specs.declared.record.UpRecord.{UpRecord}
+use Rattle.pon_desk.specs.Receipts.{Receipt}
+use Rattle.pon_worker.specs.Turns.{KeepsAll, TakesReports}
+use Rattle.pon_worker.proofs.Receipts.{keeps_more, keeps_none, takes_more}
 use Rattle.pon_worker.specs.Records.{Counted, HasRead, is_garbled}
 use Rattle.pon_worker.specs.declared.counts.Counts.{Counts}
 use Rattle.pon_worker.proofs.Posted.{with_map}
 use Rattle.pon_worker.specs.declared.counts.TheConstants.{GREATEST_COUNT}
 
--- this number of records was read and counted, and bytes of the next one were read
-pub record ReadSoFar (number : ℕ) (held : List ℕ) (old new : Counts) (left_old left_new : Option (List ℕ)) : Type 0 where
+-- this number of records was read, posted and counted, and bytes of the next one were read
+pub record ReadSoFar (port number : ℕ) (held : List ℕ) (old new : Counts) (kept_old kept_new : Option (List Receipt)) (left_old left_new : Option (List ℕ)) : Type 0 where
   pub records : List UpRecord
-  pub reports : ℕ
-  pub counted : Counted records reports old new
+  pub reports : List Receipt
+  pub takes : TakesReports port records reports
+  pub counted : Counted records (length reports) old new
   pub read : HasRead records held left_old left_new
   pub size : length records ≡ number
+  pub kept : KeepsAll kept_old reports kept_new
 
 -- two additions to a count that stays at its greatest value
 count_twice : (most a x y b c : ℕ) → b ≡ min (a + x) most → c ≡ min (b + y) most → c ≡ min (a + (x + y)) most
@@ -75,22 +81,23 @@ pub read_part : (held : List ℕ) (a b : Option (List ℕ)) → Consumes a b hel
 read_part held a b read = record { input = held; read = read; are = refl }
 
 -- one more record is read and counted
-pub so_far_more : (number : ℕ) (burst : UpRecord) (bytes : List ℕ) (reports : ℕ) (a b c : Counts) (ra rb rc : Option (List ℕ))
-    → ReadSoFar number [] a b ra rb → IsRecord bytes burst → Consumes rb rc bytes → Counted (burst ∷ []) reports b c → ReadSoFar (number + 1) [] a c ra rc
-so_far_more number burst bytes reports a b c ra rb rc far is read counted = record {
+pub so_far_more : (port number : ℕ) (burst : UpRecord) (bytes : List ℕ) (reports : List Receipt) (a b c : Counts) (ka kb kc : Option (List Receipt)) (ra rb rc : Option (List ℕ))
+    → ReadSoFar port number [] a b ka kb ra rb → IsRecord bytes burst → Consumes rb rc bytes → TakesReports port (burst ∷ []) reports → Counted (burst ∷ []) (length reports) b c → KeepsAll kb reports kc → ReadSoFar port (number + 1) [] a c ka kc ra rc
+so_far_more port number burst bytes reports a b c ka kb kc ra rb rc far is read takes counted kept = record {
   records = far.records ++ burst ∷ [];
-  reports = far.reports + reports;
-  counted = counted_more far.records (burst ∷ []) far.reports reports a b c far.counted counted;
+  reports = far.reports ++ reports;
+  takes = takes_more port far.records (burst ∷ []) far.reports reports far.takes takes;
+  counted = subst (λ k. Counted (far.records ++ burst ∷ []) k a c) (sym (length-append far.reports reports)) (counted_more far.records (burst ∷ []) (length far.reports) (length reports) a b c far.counted counted);
+  kept = keeps_more ka kb kc far.reports reports far.kept kept;
   read = read_more far.records (burst ∷ []) [] ra rb rc far.read (read_one burst bytes rb rc is read);
   size = omega (arith, far.size, length-append far.records (burst ∷ []));
 }
 
 -- after records, bytes of the next one are read
-pub so_far_part : (number : ℕ) (held : List ℕ) (a b : Counts) (ra rb rc : Option (List ℕ)) → ReadSoFar number [] a b ra rb → Consumes rb rc held
-    → (records : List UpRecord) × (reports : ℕ) × Counted records reports a b × HasRead records held ra rc
-so_far_part number held a b ra rb rc far read =
-    let all = read_more far.records [] held ra rb rc far.read (read_part held rb rc read) in
-    (far.records, far.reports, far.counted, subst (λ (xs : List UpRecord). HasRead xs held ra rc) (append-nil far.records) all)
+pub so_far_part : (port number : ℕ) (held : List ℕ) (a b : Counts) (ka kb : Option (List Receipt)) (ra rb rc : Option (List ℕ)) (far : ReadSoFar port number [] a b ka kb ra rb) → Consumes rb rc held
+    → HasRead far.records held ra rc
+so_far_part port number held a b ka kb ra rb rc far read =
+    subst (λ (xs : List UpRecord). HasRead xs held ra rc) (append-nil far.records) (read_more far.records [] held ra rb rc far.read (read_part held rb rc read))
 
 -- no bytes were read, and then these
 pub kept_read : (a b c : Option (List ℕ)) (bytes : List ℕ) → Keeps a b → Consumes b c bytes → Consumes a c bytes
@@ -99,13 +106,26 @@ kept_read (Some x) None c bytes p q = absurd p
 kept_read (Some x) (Some y) None bytes p q = absurd q
 kept_read (Some x) (Some y) (Some z) bytes p q = sym p ∙ q
 
-pub none_so_far : (a : Counts) (ra : Option (List ℕ)) → a.garbled ≤ GREATEST_COUNT → a.refused ≤ GREATEST_COUNT → ReadSoFar 0 [] a a ra ra
-none_so_far a ra garbled refused = record { records = []; reports = 0; counted = counted_none a garbled refused; read = read_none ra; size = refl }
+pub none_so_far : (port : ℕ) (a : Counts) (ka : Option (List Receipt)) (ra : Option (List ℕ)) → a.garbled ≤ GREATEST_COUNT → a.refused ≤ GREATEST_COUNT → ReadSoFar port 0 [] a a ka ka ra ra
+none_so_far port a ka ra garbled refused = record {
+  records = [];
+  reports = [];
+  takes = refl;
+  counted = counted_none a garbled refused;
+  read = read_none ra;
+  size = refl;
+  kept = keeps_none ka;
+}
 
 -- an open reader has no fault, so a pull that returns one found the end of the input
 pub ends_here : (old new : ReaderState) (rest : Option (List ℕ)) (fault : LinkFault) → old.direction ≡ Up → IsOpen old → (HasFault old fault × (new ≡ old)) ⊎ (IsOpen old × IsAtEnd rest) → IsAtEnd rest
 ends_here old new rest fault up is_open (inl faulty) = absurd (faultless old fault (λ down. let both : Up ≡ Down = sym up ∙ down in cc) is_open faulty.0)
 ends_here old new rest fault up is_open (inr ended) = ended.1
+
+-- an open reader holds the beginning of a record, and so does one with the same bytes
+pub begins_still : (old new : ReaderState) → old.direction ≡ Up → IsOpen old → new.held ≡ old.held → MayBecomeRecord Up new.held
+begins_still old new up is_open same =
+    subst (λ (h : List ℕ). MayBecomeRecord Up h) (sym same) (subst (λ (d : Direction). MayBecomeRecord d old.held) up is_open.beginning)
 
 -- no record was counted, and the counts of records are unchanged
 pub counted_kept : (a b : Counts) → b.reports ≡ a.reports → b.garbled ≡ a.garbled → b.refused ≡ a.refused → a.garbled ≤ GREATEST_COUNT → a.refused ≤ GREATEST_COUNT → Counted [] 0 a b
@@ -120,3 +140,41 @@ counted_kept a b reports garbled refused small_garbled small_refused = record {
 -- an earlier count of a map changes no count of records
 pub counted_on : (a : Counts) (records : List UpRecord) (reports : ℕ) (b : Counts) → Counted records reports (with_map a) b → Counted records reports a b
 counted_on a records reports b p = record { refusals = p.refusals; all = p.all; taken = p.taken; garbled = p.garbled; refused = p.refused }
+
+count_garbled : (burst : UpRecord) (b : Bool) → is_garbled burst ≡ b → count_by is_garbled (burst ∷ []) ≡ cond b 1 0
+count_garbled burst b is =
+    let one : ◌≡◌ {A = ℕ} (cond (is_garbled burst) 1 0) (cond b 1 0) = ap (λ (v : Bool). cond v 1 0) is in
+    omega (arith, one)
+
+-- one record without a sender
+pub counted_garbled : (burst : UpRecord) (a b : Counts) → is_garbled burst ≡ true → b.reports ≡ a.reports → b.garbled ≡ min (a.garbled + 1) GREATEST_COUNT → b.refused ≡ a.refused → a.refused ≤ GREATEST_COUNT → Counted (burst ∷ []) 0 a b
+counted_garbled burst a b is reports garbled refused small =
+    let one : count_by is_garbled (burst ∷ []) ≡ 1 = count_garbled burst true is in record {
+      refusals = 0;
+      all = omega (arith, one);
+      taken = omega (arith, reports);
+      garbled = omega (arith, one, garbled);
+      refused = omega (arith, refused, small);
+    }
+
+-- one record that the port took as a report
+pub counted_taken : (burst : UpRecord) (a b : Counts) → is_garbled burst ≡ false → b.reports ≡ a.reports + 1 → b.garbled ≡ a.garbled → b.refused ≡ a.refused → a.garbled ≤ GREATEST_COUNT → a.refused ≤ GREATEST_COUNT → Counted (burst ∷ []) 1 a b
+counted_taken burst a b is reports garbled refused small_garbled small_refused =
+    let none : count_by is_garbled (burst ∷ []) ≡ 0 = count_garbled burst false is in record {
+      refusals = 0;
+      all = omega (arith, none);
+      taken = omega (arith, reports);
+      garbled = omega (arith, none, garbled, small_garbled);
+      refused = omega (arith, refused, small_refused);
+    }
+
+-- one report that the port refused
+pub counted_refused : (burst : UpRecord) (a b : Counts) → is_garbled burst ≡ false → b.reports ≡ a.reports → b.garbled ≡ a.garbled → b.refused ≡ min (a.refused + 1) GREATEST_COUNT → a.garbled ≤ GREATEST_COUNT → Counted (burst ∷ []) 0 a b
+counted_refused burst a b is reports garbled refused small =
+    let none : count_by is_garbled (burst ∷ []) ≡ 0 = count_garbled burst false is in record {
+      refusals = 1;
+      all = omega (arith, none);
+      taken = omega (arith, reports);
+      garbled = omega (arith, none, garbled, small);
+      refused = omega (arith, refused);
+    }

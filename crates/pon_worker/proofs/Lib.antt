@@ -1,5 +1,6 @@
 mod Bursts
 mod Passed
 mod Posted
+mod Receipts
 mod Tries
 mod Works

@@ -1,10 +1,15 @@
 -- Posts one after another.
-use Rattle.std.proofs.Common.{◌≡◌, ℕ, ◌+◌, ◌<◌, ◌≤◌, List, length, refl, sym, ap, subst, ◌∙◌, arith}
+use Rattle.std.proofs.Common.{◌≡◌, ℕ, ◌+◌, ◌<◌, ◌≤◌, List, Option, inl, inr, length, refl, sym, ap, subst, ◌∙◌, arith}
 use Rattle.std.specs.Prelude.{slice_index, slice_set}
 use Rattle.std.proofs.lemmas.List.{get_or-set_same, get_or-set_other, length-set}
 use Rattle.pon_desk.specs.Counts.{SeatState, one_more_at}
-use Rattle.pon_worker.specs.Turns.{PostsAt, RaisedAt}
+use Rattle.pon_worker.specs.Turns.{IsPostAt, KeepsPost, PostsAt, PostsEnd, RaisedAt, most_others}
 use Rattle.pon_worker.specs.declared.counts.Counts.{Counts}
+use Rattle.pon_worker.specs.declared.counts.Why.{Why}
+use Rattle.pon_worker.specs.declared.counts.Why.TheVariants.{Finished, Gave, GateLimit, Refused}
+use Rattle.pon_event.specs.declared.event.Event.{Event}
+use Rattle.pon_desk.specs.Kept.{AddsTo}
+use Rattle.pon_desk.specs.Receipts.{Receipt}
 
 pub raised_one : (port : ℕ) (s t : SeatState) → t ≡ one_more_at port s → port < length s.counts → RaisedAt port 1 s t
 raised_one port s t same inside =
@@ -89,4 +94,21 @@ posts_beside port others a b c old new p raised = record {
   posts = p.posts + others;
   raised = raised_more port p.posts others a b c p.raised raised;
   are = omega (arith, p.are);
+}
+
+-- posts, followed by that of the failure of the port, if there is one
+pub posts_end : (port : ℕ) (why : Why) (a b c : SeatState) (old new : Counts) → PostsAt port 0 a b old new → PostsEnd port why b c → (others : ℕ) × (others ≤ most_others why) × PostsAt port others a c old new
+posts_end port (Gave cause) a b c old new p (inl k) = (1, omega arith, posts_beside port 1 a b c old new p k.raised)
+posts_end port (Gave cause) a b c old new p (inr e) = (0, omega arith, subst (λ (s : SeatState). PostsAt port 0 a s old new) (sym e) p)
+posts_end port Finished a b c old new p e = (0, omega arith, subst (λ (s : SeatState). PostsAt port 0 a s old new) (sym e) p)
+posts_end port GateLimit a b c old new p e = (0, omega arith, subst (λ (s : SeatState). PostsAt port 0 a s old new) (sym e) p)
+posts_end port (Refused fault) a b c old new p e = (0, omega arith, subst (λ (s : SeatState). PostsAt port 0 a s old new) (sym e) p)
+
+-- a post that was accepted, and whose receipt the seat was given
+pub keeps_post : (port : ℕ) (event : Event) (a b c : SeatState) (receipt : Receipt) → IsPostAt port event receipt → RaisedAt port 1 a b → b.receipts ≡ a.receipts → c.counts ≡ b.counts → AddsTo b.receipts receipt c.receipts → KeepsPost port event a c
+keeps_post port event a b c receipt is raised same counts kept = record {
+  receipt = receipt;
+  is_post = is;
+  raised = raised_kept port 1 a b c raised counts;
+  kept = subst (λ (o : Option (List Receipt)). AddsTo o receipt c.receipts) same kept;
 }

@@ -1,129 +1,114 @@
 -- Turns one after another.
-use Rattle.std.proofs.Common.{◌≡◌, ℕ, ◌+◌, ◌≤◌, List, [], ◌∷◌, ◌++◌, Option, flat_map, length, refl, sym, ap, subst, ◌∙◌, arith, rules, append_assoc, append-nil, length-append}
+use Rattle.std.proofs.Common.{◌≡◌, ℕ, ◌+◌, ◌<◌, ◌≤◌, List, [], ◌∷◌, ◌++◌, inl, inr, Option, flat_map, length, refl, sym, ap, subst, ◌∙◌, arith, append_assoc, append-nil, length-append}
 use Rattle.std.proofs.KnownBytes.{Appends-nil, Appends-trans}
 use Rattle.std.proofs.lemmas.Grind.{flat_map-append}
-use Rattle.std.proofs.lemmas.List.Elements.{All-append}
-use Rattle.std.proofs.lemmas.List.Sums.{sum_by-append}
+use Rattle.std.proofs.lemmas.List.Elements.{All-append, All-cons, All-nil}
 use Rattle.pon_device.specs.Device.{Appends}
-use Rattle.pon_state.specs.declared.reply.MadeMap.{MadeMap}
+use Rattle.pon_desk.specs.Counts.{SeatState}
+use Rattle.pon_desk.specs.Receipts.{Receipt}
 use Rattle.pon_link.specs.declared.record.UpRecord.{UpRecord}
 use Rattle.pon_worker.specs.Records.{Counted, HasRead}
 use Rattle.pon_worker.specs.declared.counts.Why.{Why}
 use Rattle.pon_worker.specs.declared.counts.Why.TheVariants.{Finished, Gave, GateLimit, Refused}
-use Rattle.pon_worker.specs.Turns.{AreWhole, EndsAs, IsCutBy, IsSomeMap, Stopped, Turned, Worked, bursts_of, map_record}
+use Rattle.pon_worker.specs.Turns.{CutsReading, CutsSending, EndsAs, IsTurn, IsWhole, KeepsAll, Stopped, Turn, Turned, Worked, posts_of}
 use Rattle.pon_worker.specs.declared.counts.Counts.{Counts}
 use Rattle.pon_worker.specs.declared.counts.TheConstants.{GREATEST_COUNT}
 use Rattle.pon_worker.proofs.Bursts.{counted_more, counted_none, read_more, read_none}
+use Rattle.pon_worker.proofs.Receipts.{keeps_more, keeps_none}
 
--- whole turns, followed by others
-pub worked_more : (xs ys : List MadeMap) (sent sent2 : List ℕ) (rs ss : List UpRecord) (none held : List ℕ) (a b c : Counts) (wa wb wc ra rb rc : Option (List ℕ))
-    → AreWhole xs sent rs none → Worked xs sent rs none a b wa wb ra rb → Worked ys sent2 ss held b c wb wc rb rc → Worked (xs ++ ys) (sent ++ sent2) (rs ++ ss) held a c wa wc ra rc
-worked_more xs ys sent sent2 rs ss none held a b c wa wb wc ra rb rc whole p q = record {
-  promise = All-append IsSomeMap xs ys p.promise q.promise;
-  maps = omega (arith, p.maps, q.maps, length-append xs ys);
-  wrote = Appends-trans wa wb wc sent sent2 p.wrote q.wrote;
-  begins = (
-    q.begins.0,
-    append_assoc sent sent2 q.begins.0 ∙ ap (λ (t : List ℕ). sent ++ t) q.begins.1 ∙ ap (λ (t : List ℕ). t ++ flat_map map_record ys) whole.wrote ∙ sym (flat_map-append map_record xs ys),
-  );
-  reports = p.reports + q.reports;
-  counted = counted_more rs ss p.reports q.reports a b c p.counted q.counted;
-  read = read_more rs ss held ra rb rc (subst (λ (t : List ℕ). HasRead rs t ra rb) whole.between p.read) q.read;
+abbrev sent_of : Turn → List ℕ
+sent_of t = t.sent
+
+abbrev records_of : Turn → List UpRecord
+records_of t = t.records
+
+abbrev reports_of : Turn → List Receipt
+reports_of t = t.reports
+
+-- turns, followed by others
+pub worked_more : (port : ℕ) (xs ys : List Turn) (held : List ℕ) (a b c : Counts) (s t u : SeatState) (wa wb wc ra rb rc : Option (List ℕ))
+    → Worked port xs [] a b s t wa wb ra rb → Worked port ys held b c t u wb wc rb rc → Worked port (xs ++ ys) held a c s u wa wc ra rc
+worked_more port xs ys held a b c s t u wa wb wc ra rb rc p q =
+    let reports : length (flat_map reports_of (xs ++ ys)) ≡ length (flat_map reports_of xs) + length (flat_map reports_of ys)
+    = ap (λ (l : List Receipt). length l) (flat_map-append reports_of xs ys) ∙ length-append (flat_map reports_of xs) (flat_map reports_of ys) in record {
+      each = All-append (IsTurn port) xs ys p.each q.each;
+      maps = omega (arith, p.maps, q.maps, length-append xs ys);
+      wrote = subst (Appends wa wc) (sym (flat_map-append sent_of xs ys)) (Appends-trans wa wb wc (flat_map sent_of xs) (flat_map sent_of ys) p.wrote q.wrote);
+      counted = subst (λ k. Counted (flat_map records_of (xs ++ ys)) k a c) (sym reports)
+          (subst (λ (rs : List UpRecord). Counted rs (length (flat_map reports_of xs) + length (flat_map reports_of ys)) a c) (sym (flat_map-append records_of xs ys))
+          (counted_more (flat_map records_of xs) (flat_map records_of ys) (length (flat_map reports_of xs)) (length (flat_map reports_of ys)) a b c p.counted q.counted));
+      read = subst (λ (rs : List UpRecord). HasRead rs held ra rc) (sym (flat_map-append records_of xs ys)) (read_more (flat_map records_of xs) (flat_map records_of ys) held ra rb rc p.read q.read);
+      kept = subst (λ (rs : List Receipt). KeepsAll s.receipts rs u.receipts) (sym (flat_map-append posts_of xs ys)) (keeps_more s.receipts t.receipts u.receipts (flat_map posts_of xs) (flat_map posts_of ys) p.kept q.kept);
+    }
+
+pub turned_more : (port : ℕ) (a b c : Counts) (s t u : SeatState) (wa wb wc ra rb rc : Option (List ℕ)) → Turned port a b s t wa wb ra rb → Turned port b c t u wb wc rb rc → Turned port a c s u wa wc ra rc
+turned_more port a b c s t u wa wb wc ra rb rc p q = record {
+  turns = p.turns ++ q.turns;
+  worked = worked_more port p.turns q.turns [] a b c s t u wa wb wc ra rb rc p.worked q.worked;
+  whole = All-append IsWhole p.turns q.turns p.whole q.whole;
 }
 
-pub whole_more : (xs ys : List MadeMap) (sent sent2 : List ℕ) (rs ss : List UpRecord) (held held2 : List ℕ) → AreWhole xs sent rs held → AreWhole ys sent2 ss held2 → AreWhole (xs ++ ys) (sent ++ sent2) (rs ++ ss) held2
-whole_more xs ys sent sent2 rs ss held held2 p q = record {
-  wrote = ap (λ (t : List ℕ). t ++ sent2) p.wrote ∙ ap (λ (t : List ℕ). flat_map map_record xs ++ t) q.wrote ∙ sym (flat_map-append map_record xs ys);
-  read = omega (arith, p.read, q.read, length-append rs ss, sum_by-append bursts_of xs ys);
-  between = q.between;
-}
-
-pub turned_more : (a b c : Counts) (wa wb wc ra rb rc : Option (List ℕ)) → Turned a b wa wb ra rb → Turned b c wb wc rb rc → Turned a c wa wc ra rc
-turned_more a b c wa wb wc ra rb rc p q = record {
-  made = p.made ++ q.made;
-  sent = p.sent ++ q.sent;
-  records = p.records ++ q.records;
+stopped_more : (port : ℕ) (why : Why) (a b c : Counts) (s t u : SeatState) (wa wb wc ra rb rc : Option (List ℕ)) → Turned port a b s t wa wb ra rb → Stopped port why b c t u wb wc rb rc → Stopped port why a c s u wa wc ra rc
+stopped_more port why a b c s t u wa wb wc ra rb rc p q = record {
+  turns = p.turns ++ q.turns;
+  last = q.last;
   held = q.held;
-  worked = worked_more p.made q.made p.sent q.sent p.records q.records p.held q.held a b c wa wb wc ra rb rc p.whole p.worked q.worked;
-  whole = whole_more p.made q.made p.sent q.sent p.records q.records p.held q.held p.whole q.whole;
+  worked = subst (λ (ts : List Turn). Worked port ts q.held a c s u wa wc ra rc) (sym (append_assoc p.turns q.turns (q.last ∷ [])))
+      (worked_more port p.turns (q.turns ++ q.last ∷ []) q.held a b c s t u wa wb wc ra rb rc p.worked q.worked);
+  whole = All-append IsWhole p.turns q.turns p.whole q.whole;
+  cut = q.cut;
 }
 
-pub stopped_more : (a b c : Counts) (wa wb wc ra rb rc : Option (List ℕ)) → Turned a b wa wb ra rb → Stopped b c wb wc rb rc → Stopped a c wa wc ra rc
-stopped_more a b c wa wb wc ra rb rc p q = record {
-  made = p.made ++ q.made;
-  sent = p.sent ++ q.sent;
-  records = p.records ++ q.records;
-  held = q.held;
-  worked = worked_more p.made q.made p.sent q.sent p.records q.records p.held q.held a b c wa wb wc ra rb rc p.whole p.worked q.worked;
-}
+-- whole turns, followed by others that end for this reason
+pub ends_more : (port ports : ℕ) (why : Why) (a b c : Counts) (s t u : SeatState) (wa wb wc ra rb rc : Option (List ℕ)) → Turned port a b s t wa wb ra rb → EndsAs port ports why b c t u wb wc rb rc → EndsAs port ports why a c s u wa wc ra rc
+ends_more port ports Finished a b c s t u wa wb wc ra rb rc p q = turned_more port a b c s t u wa wb wc ra rb rc p q
+ends_more port ports (Gave cause) a b c s t u wa wb wc ra rb rc p q = stopped_more port (Gave cause) a b c s t u wa wb wc ra rb rc p q
+ends_more port ports GateLimit a b c s t u wa wb wc ra rb rc p q = stopped_more port GateLimit a b c s t u wa wb wc ra rb rc p q
+ends_more port ports (Refused fault) a b c s t u wa wb wc ra rb rc p q = (q.0, turned_more port a b c s t u wa wb wc ra rb rc p q.1)
 
 -- no turn
-pub worked_none : (a : Counts) (wa ra : Option (List ℕ)) → a.garbled ≤ GREATEST_COUNT → a.refused ≤ GREATEST_COUNT → Worked [] [] [] [] a a wa wa ra ra
-worked_none a wa ra garbled refused = record {
-  promise = search rules;
-  maps = omega arith;
-  wrote = Appends-nil wa;
-  begins = ([], refl);
-  reports = 0;
-  counted = counted_none a garbled refused;
-  read = read_none ra;
+pub turned_none : (port : ℕ) (a : Counts) (s : SeatState) (wa ra : Option (List ℕ)) → a.garbled ≤ GREATEST_COUNT → a.refused ≤ GREATEST_COUNT → Turned port a a s s wa wa ra ra
+turned_none port a s wa ra garbled refused = record {
+  turns = [];
+  worked = record {
+    each = All-nil (IsTurn port);
+    maps = omega arith;
+    wrote = Appends-nil wa;
+    counted = counted_none a garbled refused;
+    read = read_none ra;
+    kept = keeps_none s.receipts;
+  };
+  whole = All-nil IsWhole;
 }
 
-pub turned_none : (a : Counts) (wa ra : Option (List ℕ)) → a.garbled ≤ GREATEST_COUNT → a.refused ≤ GREATEST_COUNT → Turned a a wa wa ra ra
-turned_none a wa ra garbled refused = record {
-  made = [];
-  sent = [];
-  records = [];
-  held = [];
-  worked = worked_none a wa ra garbled refused;
-  whole = record { wrote = refl; read = refl; between = refl };
-}
-
--- turns of which the last was cut short end for this reason
-pub ends_cut : (why : Why) (a b : Counts) (wa wb ra rb : Option (List ℕ)) → IsCutBy why rb → Stopped a b wa wb ra rb → EndsAs why a b wa wb ra rb
-ends_cut Finished a b wa wb ra rb cut stopped = absurd cut
-ends_cut (Gave cause) a b wa wb ra rb cut stopped = (cut, stopped)
-ends_cut GateLimit a b wa wb ra rb cut stopped = (cut, stopped)
-ends_cut (Refused fault) a b wa wb ra rb cut stopped = (cut, stopped)
-
-pub stopped_none : (a : Counts) (wa ra : Option (List ℕ)) → a.garbled ≤ GREATEST_COUNT → a.refused ≤ GREATEST_COUNT → Stopped a a wa wa ra ra
-stopped_none a wa ra garbled refused = record { made = []; sent = []; records = []; held = []; worked = worked_none a wa ra garbled refused }
-
--- one map, of which a prefix was sent, and the records read then
-pub worked_one : (m : MadeMap) (sent rest : List ℕ) (rs : List UpRecord) (n : ℕ) (held : List ℕ) (a b : Counts) (wa wb ra rb : Option (List ℕ))
-    → IsSomeMap m → b.maps ≡ a.maps + 1 → Appends wa wb sent → sent ++ rest ≡ map_record m → Counted rs n a b → HasRead rs held ra rb → Worked (m ∷ []) sent rs held a b wa wb ra rb
-worked_one m sent rest rs n held a b wa wb ra rb is maps wrote begins counted read = record {
-  promise = search (rules, is);
+-- one turn
+pub worked_one : (port : ℕ) (t : Turn) (held : List ℕ) (a b : Counts) (s u : SeatState) (wa wb ra rb : Option (List ℕ))
+    → IsTurn port t → b.maps ≡ a.maps + 1 → Appends wa wb t.sent → Counted t.records (length t.reports) a b → HasRead t.records held ra rb → KeepsAll s.receipts (posts_of t) u.receipts → Worked port (t ∷ []) held a b s u wa wb ra rb
+worked_one port t held a b s u wa wb ra rb is maps wrote counted read kept = record {
+  each = All-cons (IsTurn port) t [] is (All-nil (IsTurn port));
   maps = maps;
-  wrote = wrote;
-  begins = (rest, begins ∙ sym (append-nil (map_record m)));
-  reports = n;
-  counted = counted;
-  read = read;
+  wrote = subst (Appends wa wb) (sym (append-nil t.sent)) wrote;
+  counted = subst (λ (rs : List UpRecord). Counted rs (length (t.reports ++ [])) a b) (sym (append-nil t.records))
+      (subst (λ (rs : List Receipt). Counted t.records (length rs) a b) (sym (append-nil t.reports)) counted);
+  read = subst (λ (rs : List UpRecord). HasRead rs held ra rb) (sym (append-nil t.records)) read;
+  kept = subst (λ (rs : List Receipt). KeepsAll s.receipts rs u.receipts) (sym (append-nil (posts_of t))) kept;
 }
 
-pub stopped_one : (m : MadeMap) (sent rest : List ℕ) (rs : List UpRecord) (n : ℕ) (held : List ℕ) (a b : Counts) (wa wb ra rb : Option (List ℕ))
-    → IsSomeMap m → b.maps ≡ a.maps + 1 → Appends wa wb sent → sent ++ rest ≡ map_record m → Counted rs n a b → HasRead rs held ra rb → Stopped a b wa wb ra rb
-stopped_one m sent rest rs n held a b wa wb ra rb is maps wrote begins counted read = record {
-  made = m ∷ [];
-  sent = sent;
-  records = rs;
-  held = held;
-  worked = worked_one m sent rest rs n held a b wa wb ra rb is maps wrote begins counted read;
-}
+pub turned_one : (port : ℕ) (t : Turn) (a b : Counts) (s u : SeatState) (wa wb ra rb : Option (List ℕ)) → Worked port (t ∷ []) [] a b s u wa wb ra rb → IsWhole t → Turned port a b s u wa wb ra rb
+turned_one port t a b s u wa wb ra rb worked whole = record { turns = t ∷ []; worked = worked; whole = All-cons IsWhole t [] whole (All-nil IsWhole) }
 
--- one map that was sent whole, and its bursts
-pub turned_one : (m : MadeMap) (rs : List UpRecord) (n : ℕ) (a b : Counts) (wa wb ra rb : Option (List ℕ))
-    → IsSomeMap m → b.maps ≡ a.maps + 1 → Appends wa wb (map_record m) → Counted rs n a b → HasRead rs [] ra rb → length rs ≡ bursts_of m → Turned a b wa wb ra rb
-turned_one m rs n a b wa wb ra rb is maps wrote counted read size = record {
-  made = m ∷ [];
-  sent = map_record m;
-  records = rs;
-  held = [];
-  worked = worked_one m (map_record m) [] rs n [] a b wa wb ra rb is maps wrote (append-nil (map_record m)) counted read;
-  whole = record { wrote = sym (append-nil (map_record m)); read = omega (arith, size); between = refl };
-}
+-- a turn that was cut short before any burst was read
+pub sending_ends : (port ports : ℕ) (why : Why) (t : Turn) (a b : Counts) (s u : SeatState) (wa wb ra rb : Option (List ℕ)) → Worked port (t ∷ []) [] a b s u wa wb ra rb → CutsSending why t.made t.sent → t.records ≡ [] → EndsAs port ports why a b s u wa wb ra rb
+sending_ends port ports Finished t a b s u wa wb ra rb worked cut none = absurd cut
+sending_ends port ports (Gave cause) t a b s u wa wb ra rb worked cut none = record { turns = []; last = t; held = []; worked = worked; whole = All-nil IsWhole; cut = inl (cut, none, refl) }
+sending_ends port ports GateLimit t a b s u wa wb ra rb worked cut none = record { turns = []; last = t; held = []; worked = worked; whole = All-nil IsWhole; cut = (cut, none, refl) }
+sending_ends port ports (Refused fault) t a b s u wa wb ra rb worked cut none = absurd cut
+
+-- a turn that was cut short while its bursts were read
+pub reading_ends : (port ports cause : ℕ) (t : Turn) (held : List ℕ) (a b : Counts) (s u : SeatState) (wa wb ra rb : Option (List ℕ)) → Worked port (t ∷ []) held a b s u wa wb ra rb → CutsReading cause t held rb → EndsAs port ports (Gave cause) a b s u wa wb ra rb
+reading_ends port ports cause t held a b s u wa wb ra rb worked cut = record { turns = []; last = t; held = held; worked = worked; whole = All-nil IsWhole; cut = inr cut }
 
 -- the same end, given by its fields
-pub ends_with : (why told : Why) (a b end : Counts) (wa wb ra rb : Option (List ℕ)) → told ≡ why → end ≡ b → EndsAs why a b wa wb ra rb → EndsAs told a end wa wb ra rb
-ends_with why told a b end wa wb ra rb same counts ends = subst (λ (v : Why). EndsAs v a end wa wb ra rb) (sym same) (subst (λ (k : Counts). EndsAs why a k wa wb ra rb) (sym counts) ends)
+pub ends_with : (port ports : ℕ) (why told : Why) (a b end : Counts) (s u : SeatState) (wa wb ra rb : Option (List ℕ)) → told ≡ why → end ≡ b → EndsAs port ports why a b s u wa wb ra rb → EndsAs port ports told a end s u wa wb ra rb
+ends_with port ports why told a b end s u wa wb ra rb same counts ends =
+    subst (λ (v : Why). EndsAs port ports v a end s u wa wb ra rb) (sym same) (subst (λ (k : Counts). EndsAs port ports why a k s u wa wb ra rb) (sym counts) ends)

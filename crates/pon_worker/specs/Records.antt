@@ -1,23 +1,34 @@
 -- The records that a worker reads from its link, and how they are counted.
-use Rattle.std.specs.Prelude.{ℕ, ◌≡◌, ◌+◌, ◌==◌, ◌⊎◌, Bool, true, min, List, count_by, length, Option, Some, None}
+use Rattle.std.specs.Prelude.{ℕ, ◌≡◌, ◌≤◌, ◌+◌, ◌*◌, ◌%◌, ◌^◌, ◌==◌, ◌⊎◌, Bool, false, true, min, List, count_by, length, Option, Some, None}
 use Rattle.pon_device.specs.Device.{Consumes, IsAtEnd}
 use Rattle.pon_xgtc.specs.BurstHead.{BurstHead}
-use Rattle.pon_link.specs.Reading.{ReaderState, HasFault, IsOpen}
+use Rattle.pon_link.specs.Reading.{ReaderState, HasFault, IsOpen, MayBecomeRecord}
+use Rattle.pon_link.specs.declared.direction.Direction.TheVariants.{Up}
 use Rattle.pon_link.specs.Runs.{AreRecords}
 use Rattle.pon_link.specs.UpRecords.{IsRecord}
 use Rattle.pon_link.specs.declared.fault.LinkFault.{LinkFault}
 use Rattle.pon_link.specs.declared.record.UpRecord.{UpRecord}
 use Rattle.pon_worker.specs.declared.causes.TheConstants.{READ_FAILED, BAD_RECORD, INPUT_ENDED}
+use Rattle.pon_worker.specs.declared.sending.TheConstants.{MOST_TRIES}
 use Rattle.pon_worker.specs.declared.counts.Counts.{Counts}
 use Rattle.pon_worker.specs.declared.counts.TheConstants.{GREATEST_COUNT}
 use Rattle.pon_worker.specs.declared.reading.TheConstants.{NO_ONU}
 
--- why a reader in this state has no further record: reads failed, its bytes are not a record, or the input ended
+-- a device failed in some calls, counted modulo 2 ^ 64, and moved this number of bytes in others: it failed three times at
+-- least, and at most three times for each byte and three times more
+pub record FailsInRow (bytes old new : ℕ) : Type 0 where
+  pub failed : ℕ
+  pub least : MOST_TRIES ≤ failed
+  pub most : failed ≤ MOST_TRIES * (bytes + 1)
+  pub counts : new ≡ (old + failed) % 2 ^ 64
+
+-- why a reader in this state has no further record: reads failed, its bytes are not a record before the input ends, or
+-- the input ended, at most with the beginning of a record
 abbrev pub StopsFor : ℕ → ReaderState → Option (List ℕ) → Type 0
 StopsFor cause s left =
     ((cause ≡ READ_FAILED) × IsOpen s)
-    ⊎ ((cause ≡ BAD_RECORD) × ((fault : LinkFault) × HasFault s fault))
-    ⊎ ((cause ≡ INPUT_ENDED) × IsAtEnd left)
+    ⊎ ((cause ≡ BAD_RECORD) × (s.ended ≡ false) × ((fault : LinkFault) × HasFault s fault))
+    ⊎ ((cause ≡ INPUT_ENDED) × MayBecomeRecord Up s.held × IsAtEnd left)
 
 -- a burst header that names no sender
 abbrev pub is_nobodys : Option BurstHead → Bool

@@ -2,10 +2,10 @@
 ghost use Rattle.std.specs.Prelude.{◌≡◌, ◌+◌, ◌<◌, ◌≤◌, ◌^◌, ◌⊎◌, ◌↔◌, length, slice_index, IfOk, IfErr, MatchBool, OnOk, OnErr};
 ghost use Rattle.pon_desk.specs.Counts.{one_more_at};
 ghost use Rattle.pon_desk.specs.Faults.{IsNoSuchPort, TellsRefusal};
-ghost use Rattle.pon_desk.specs.Posts.{IsSomePost};
+ghost use Rattle.pon_desk.specs.Posts.{IsSomePost, NamesPost};
 ghost use Rattle.pon_ring.specs.Discarded.{Frees};
 ghost use Rattle.pon_worker.specs.Passing.{PassesChapters, TriesTurn, TurnsAtPost};
-ghost use Rattle.pon_worker.specs.Turns.{IsSomeMap, RaisedAt};
+ghost use Rattle.pon_worker.specs.Turns.{IsPostAt, KeepsPost, RaisedAt};
 
 use pon_descr::Refusal;
 use pon_desk::{Desk, Receipt, Seat, StepFault};
@@ -55,6 +55,7 @@ fn post_or_turn<L: Ledger, M: Ledger, T: Wait>(
 ) -> Result<Receipt, StepFault>
     ensures no_such { IsNoSuchPort result ↔ desk.now.ports ≤ port }
     ensures posted { IfOk result (λ receipt. IsSomePost event receipt) }
+    ensures names { IfOk result (λ receipt. NamesPost port seat.old receipt) }
     ensures refused { IfErr result (λ fault. TellsRefusal event fault) }
     ensures counted { OnOk result (seat.new ≡ one_more_at port seat.old) }
     ensures err { OnErr result (seat.new ≡ seat.old) }
@@ -103,9 +104,11 @@ pub(crate) fn post<L: Ledger, M: Ledger, T: Wait>(
     sink: &mut Sink,
     event: Event,
 ) -> Result<Receipt, StepFault>
-    ensures posted { IfOk result (λ receipt. IsSomePost event receipt) }
+    ensures no_such { IsNoSuchPort result ↔ desk.now.ports ≤ port }
+    ensures posted { IfOk result (λ receipt. IsPostAt port event receipt) }
     ensures refused { IfErr result (λ fault. TellsRefusal event fault) }
     ensures counted { OnOk result (RaisedAt port 1 seat.old seat.new) }
+    ensures receipts { OnOk result (seat.new.receipts ≡ seat.old.receipts) }
     ensures fits { OnOk result (slice_index seat.new.counts port < 2 ^ 64) }
     ensures err { OnErr result (seat.new ≡ seat.old) }
     ensures turns { IfOk result (λ receipt. TurnsAtPost sink.old receipt.placed.index sink.new) }
@@ -126,7 +129,7 @@ pub(crate) fn is_posted<L: Ledger, M: Ledger, T: Wait>(
     sink: &mut Sink,
     event: Event,
 ) -> bool
-    ensures counted { MatchBool result (RaisedAt port 1 seat.old seat.new
+    ensures counted { MatchBool result (KeepsPost port event seat.old seat.new
         × (slice_index seat.new.counts port < 2 ^ 64)) (seat.new ≡ seat.old) }
     ensures sink { PassesChapters sink.old sink.new }
 {
@@ -147,9 +150,11 @@ pub(crate) fn make_map<L: Ledger, M: Ledger, T: Wait>(
     port: PortNo,
     sink: &mut Sink,
 ) -> Result<Receipt, StepFault>
-    ensures made { IfOk result (IsSomePost Event.MakeMap) }
+    ensures no_such { IsNoSuchPort result ↔ desk.now.ports ≤ port }
+    ensures made { IfOk result (λ receipt. IsPostAt port Event.MakeMap receipt) }
     ensures refused { IfErr result (λ fault. TellsRefusal Event.MakeMap fault) }
     ensures counted { OnOk result (RaisedAt port 1 seat.old seat.new) }
+    ensures receipts { OnOk result (seat.new.receipts ≡ seat.old.receipts) }
     ensures fits { OnOk result (slice_index seat.new.counts port < 2 ^ 64) }
     ensures err { OnErr result (seat.new ≡ seat.old) }
     ensures sink { PassesChapters sink.old sink.new }
@@ -160,7 +165,7 @@ pub(crate) fn make_map<L: Ledger, M: Ledger, T: Wait>(
 // Returns the map that was made for a post.
 pub(crate) fn made_map(receipt: &Receipt) -> &MadeMap
     requires { IsSomePost Event.MakeMap receipt.now }
-    ensures { IsSomeMap result.now }
+    ensures { receipt.now.placed.entry.reply ≡ Reply.Map result.now }
 {
     match receipt.reply() {
         Reply::Map(made) => made,

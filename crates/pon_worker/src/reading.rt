@@ -1,10 +1,11 @@
 // How a worker reads the bursts of a map, and posts their reports.
-ghost use Rattle.std.specs.Prelude.{◌≡◌, ◌+◌, ◌∷◌, ◌≤◌, [], ℕ, List, false, true, length, slice_index, IfErr, IfOk, IfSome, MatchOption, OnOk};
+ghost use Rattle.std.specs.Prelude.{◌≡◌, ◌+◌, ◌∷◌, ◌<◌, ◌≤◌, [], List, false, true, length, slice_index, IfErr, IfSome, MatchOption, MatchResult, OnOk};
 ghost use Rattle.pon_link.specs.Reading.{empty};
 ghost use Rattle.pon_link.specs.declared.record.UpRecord.{UpRecord};
 ghost use Rattle.pon_worker.specs.Passing.{PassesChapters};
 ghost use Rattle.pon_worker.specs.Records.{Counted, HasRead, StopsFor, is_nobodys};
-ghost use Rattle.pon_worker.specs.Turns.{PostsAt};
+ghost use Rattle.pon_desk.specs.Receipts.{Receipt};
+ghost use Rattle.pon_worker.specs.Turns.{KeepsAll, PostsAt, TakesReports};
 
 use crate::counts::{Counts, count};
 use crate::posting::is_posted;
@@ -42,7 +43,9 @@ fn post_record<L: Ledger, M: Ledger, T: Wait>(
     counts: &mut Counts,
 )
     requires { counts.old.maps + counts.old.reports ≤ slice_index seat.old.counts port }
-    ensures counted { (n : ℕ) × Counted (burst ∷ []) n counts.old counts.new }
+    ensures counted { (reports : List Receipt) × TakesReports port (burst ∷ []) reports
+        × Counted (burst ∷ []) (length reports) counts.old counts.new
+        × KeepsAll seat.old.receipts reports seat.new.receipts }
     ensures maps { counts.new.maps ≡ counts.old.maps }
     ensures posts { PostsAt port 0 seat.old seat.new counts.old counts.new }
     ensures sink { PassesChapters sink.old sink.new }
@@ -58,9 +61,9 @@ fn post_record<L: Ledger, M: Ledger, T: Wait>(
     };
     if is_posted(rt, desk, seat, port, sink, event) {
         counts.reports += 1;
-    } else {
-        counts.refused = count(counts.refused);
+        return;
     }
+    counts.refused = count(counts.refused);
 }
 
 // Reads this number of bursts, and posts their reports. Otherwise returns the cause why a burst was not read.
@@ -77,9 +80,12 @@ pub(crate) fn read_bursts<L: Ledger, M: Ledger, R: DevRead, T: Wait>(
 ) -> Result<(), Cause>
     requires empty { up.old ≡ empty Direction.Up }
     requires posts { counts.old.maps + counts.old.reports ≤ slice_index seat.old.counts port }
-    ensures read { (records : List UpRecord) × (n : ℕ) × Counted records n counts.old counts.new
+    ensures read { (records : List UpRecord) × (reports : List Receipt)
+        × TakesReports port records reports
+        × Counted records (length reports) counts.old counts.new
         × HasRead records up.new.held (R.remaining reader.old) (R.remaining reader.new)
-        × OnOk result (length records ≡ bursts) }
+        × KeepsAll seat.old.receipts reports seat.new.receipts
+        × MatchResult result (λ _. length records ≡ bursts) (λ _. length records < bursts) }
     ensures maps { counts.new.maps ≡ counts.old.maps }
     ensures posts { PostsAt port 0 seat.old seat.new counts.old counts.new }
     ensures sink { PassesChapters sink.old sink.new }

@@ -1,8 +1,9 @@
 // How a worker sends a map between the two points of its gate.
-ghost use Rattle.std.specs.Prelude.{◌≡◌, ◌+◌, ◌%◌, ◌^◌, ℕ, List, Option, count_by, IfErr, IfOk, OnOk, OnErr};
+ghost use Rattle.std.specs.Prelude.{◌≡◌, ◌+◌, ◌<◌, ◌≤◌, ℕ, List, count_by, length, IfErr, IfOk, OnOk, OnErr};
 ghost use Rattle.pon_device.specs.Device.{Appends};
 ghost use Rattle.pon_stream.specs.Streams.{IsBeginning};
-ghost use Rattle.pon_worker.specs.Turns.{IsCutBy, begins_burst, bursts_of, map_record};
+ghost use Rattle.pon_worker.specs.Records.{FailsInRow};
+ghost use Rattle.pon_worker.specs.Turns.{CutsSending, begins_burst, bursts_of, map_record};
 
 use crate::causes::{WRITE_FAILED, cause_of};
 use crate::counts::Why;
@@ -16,26 +17,40 @@ use pon_units::PortNo;
 /// Maximum number of attempts in a row of a write or a read that fails.
 pub(crate) const MOST_TRIES: u32 = 3;
 
+// Returns the number of writes in a row that failed, after one more failed: only that one if bytes were written before
+// it, so that fewer are left.
+fn failed_in_row(before: u32, left: usize, now: usize) -> u32
+    requires { before < MOST_TRIES }
+    ensures first { now < left → result ≡ 1 }
+    ensures again { left ≤ now → result ≡ before + 1 }
+{
+    if now < left { 1 } else { before + 1 }
+}
+
 // Writes the record of a map; or only a prefix of it, if the device failed three times in a row.
 pub(crate) fn send<W: DevWrite>(writer: &mut W, made: &MadeMap) -> Result<(), Device>
     ensures sent { OnOk result (Appends (W.contents writer.old) (W.contents writer.new)
         (map_record made.now)) }
     ensures begun { OnErr result ((sent : List ℕ)
         × Appends (W.contents writer.old) (W.contents writer.new) sent
-        × IsBeginning sent (map_record made.now)) }
-    ensures failures { OnErr result
-        (W.failures writer.new ≡ (W.failures writer.old + MOST_TRIES) % 2 ^ 64) }
+        × IsBeginning sent (map_record made.now)
+        × FailsInRow (length sent) (W.failures writer.old) (W.failures writer.new)) }
 {
     let mut down = DownWriter::new();
     match down.put(made.frame, &made.map) {
         Ok(()) => {}
         Err(_) => unreachable!(),
     }
-    for _try in 0..MOST_TRIES {
+    let mut left = down.left().len();
+    let mut failed = 0;
+    'tries: while failed < MOST_TRIES {
         match down.push(writer) {
             Ok(()) => return Ok(()),
             Err(_) => {}
         }
+        let now = down.left().len();
+        failed = failed_in_row(failed, left, now);
+        left = now;
     }
     Err(Device)
 }
@@ -58,10 +73,9 @@ pub(crate) fn send_at_gate<G: Gate, W: DevWrite>(
     ensures sent { OnOk result (Appends (W.contents writer.old) (W.contents writer.new)
         (map_record made.now)) }
     ensures bursts { IfOk result (λ bursts. bursts ≡ bursts_of made.now) }
-    ensures begun { OnErr result ((sent : List ℕ)
+    ensures cut { IfErr result (λ why. (sent : List ℕ)
         × Appends (W.contents writer.old) (W.contents writer.new) sent
-        × IsBeginning sent (map_record made.now)) }
-    ensures why { IfErr result (λ why. (left : Option (List ℕ)) → IsCutBy why left) }
+        × CutsSending why made.now sent) }
 {
     if !pass(gate, port, Point::Send) {
         return Err(Why::GateLimit);

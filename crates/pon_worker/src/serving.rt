@@ -3,7 +3,8 @@
 ghost use Rattle.std.specs.Prelude.{◌≡◌, ◌≤◌, ℕ};
 ghost use Rattle.pon_ring.specs.Passing.{KeepsRing};
 ghost use Rattle.pon_worker.specs.Passing.{PassesChapters};
-ghost use Rattle.pon_worker.specs.Turns.{EndsAs, PostsAt, RaisedAt, counts_of, most_others, no_counts};
+ghost use Rattle.pon_worker.specs.Turns.{EndsAs, PostsAt, PostsEnd, counts_of, most_others, no_counts};
+ghost use Rattle.pon_desk.specs.Counts.{SeatState};
 
 use crate::counts::{Counts, Why, WorkerEnd};
 use crate::gate::{Gate, Pace};
@@ -30,8 +31,9 @@ fn make_turns<L: Ledger, M: Ledger, G: Gate, P: Pace, R: DevRead, W: DevWrite, T
     reader: &mut R,
     writer: &mut W,
 ) -> WorkerEnd
-    ensures ended { EndsAs result.why no_counts (counts_of result) (W.contents writer.old)
-        (W.contents writer.new) (R.remaining reader.old) (R.remaining reader.new) }
+    ensures ended { EndsAs port desk.now.ports result.why no_counts (counts_of result)
+        seat.old seat.new (W.contents writer.old) (W.contents writer.new)
+        (R.remaining reader.old) (R.remaining reader.new) }
     ensures posts { PostsAt port 0 seat.old seat.new no_counts (counts_of result) }
     ensures sink { PassesChapters sink.old sink.new }
 {
@@ -69,12 +71,13 @@ fn give_up<L: Ledger, M: Ledger, T: Wait>(
     sink: &mut Sink,
     why: Why,
 )
-    ensures posts { (others : ℕ) × (others ≤ most_others why) × RaisedAt port others seat.old seat.new }
+    ensures posts { PostsEnd port why seat.old seat.new }
     ensures sink { PassesChapters sink.old sink.new }
 {
-    if let Why::Gave { cause } = why {
-        let _taken = is_posted(rt, desk, seat, port, sink, Event::Fail { cause });
-    }
+    let Why::Gave { cause } = why else {
+        return;
+    };
+    let _taken = is_posted(rt, desk, seat, port, sink, Event::Fail { cause });
 }
 
 /// Serves a port over its link, for as many turns as the pace gives. In each turn it posts `MakeMap`, calls the gate at
@@ -101,9 +104,12 @@ pub fn serve_port<L: Ledger, M: Ledger, G: Gate, P: Pace, R: DevRead, W: DevWrit
     sink: &mut Sink,
 ) -> WorkerEnd
     // For devices that show their bytes: the bytes written are the maps that the port made, each with the whole promise
-    // of a map, and the records counted are those that were read.
-    ensures ended { EndsAs result.why no_counts (counts_of result) (W.contents writer.old)
-        (W.contents writer.new) (R.remaining reader.old) (R.remaining reader.new) }
+    // of a map, and the records counted are those that were read. The seat was given the receipts of the maps and of the
+    // reports, and then, in some state, that of the failure of the port, if one was posted.
+    ensures ended { (mid : SeatState) × EndsAs port desk.now.ports result.why no_counts
+        (counts_of result) seat.old mid (W.contents writer.old) (W.contents writer.new)
+        (R.remaining reader.old) (R.remaining reader.new)
+        × PostsEnd port result.why mid seat.new }
     ensures posts { (others : ℕ) × (others ≤ most_others result.why)
         × PostsAt port others seat.old seat.new no_counts (counts_of result) }
     ensures sink { PassesChapters sink.old sink.new }

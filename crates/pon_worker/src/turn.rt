@@ -1,8 +1,8 @@
 // One turn of a worker.
-ghost use Rattle.std.specs.Prelude.{◌≡◌, ◌+◌, ◌≤◌, slice_index, IfErr, OnErr, OnOk};
+ghost use Rattle.std.specs.Prelude.{◌≡◌, ◌+◌, ◌≤◌, slice_index, IfErr, OnOk};
 ghost use Rattle.pon_link.specs.Reading.{empty};
 ghost use Rattle.pon_worker.specs.Passing.{PassesChapters};
-ghost use Rattle.pon_worker.specs.Turns.{IsCutBy, PostsAt, Stopped, Turned};
+ghost use Rattle.pon_worker.specs.Turns.{EndsAs, PostsAt, Turned};
 
 use crate::counts::{Counts, Why};
 use crate::gate::Gate;
@@ -32,12 +32,13 @@ pub(crate) fn turn<L: Ledger, M: Ledger, G: Gate, R: DevRead, W: DevWrite, T: Wa
 ) -> Result<(), Why>
     requires empty { up.old ≡ empty Direction.Up }
     requires posts { counts.old.maps + counts.old.reports ≤ slice_index seat.old.counts port }
-    ensures turned { OnOk result (Turned counts.old counts.new (W.contents writer.old)
-        (W.contents writer.new) (R.remaining reader.old) (R.remaining reader.new)) }
+    ensures turned { OnOk result (Turned port counts.old counts.new seat.old seat.new
+        (W.contents writer.old) (W.contents writer.new) (R.remaining reader.old)
+        (R.remaining reader.new)) }
     ensures empty { OnOk result (up.new ≡ empty Direction.Up) }
-    ensures stopped { OnErr result (Stopped counts.old counts.new (W.contents writer.old)
-        (W.contents writer.new) (R.remaining reader.old) (R.remaining reader.new)) }
-    ensures why { IfErr result (λ why. IsCutBy why (R.remaining reader.new)) }
+    ensures ended { IfErr result (λ why. EndsAs port desk.now.ports why counts.old counts.new
+        seat.old seat.new (W.contents writer.old) (W.contents writer.new)
+        (R.remaining reader.old) (R.remaining reader.new)) }
     ensures posts { PostsAt port 0 seat.old seat.new counts.old counts.new }
     ensures sink { PassesChapters sink.old sink.new }
 {

@@ -23,3 +23,9 @@ returns-clause-turns g c =
 
 pub returns-clause-sink : goal.returns-clause-sink
 returns-clause-sink g c = passes_then c.args.sink.now c.post_or_turn.new.sink c.turn_at_cut.new.sink c.in_ok-receipt.ensures.sink c.turn_at_cut.ensures.sink
+
+pub returns-clause-posted : goal.returns-clause-posted
+returns-clause-posted g c = record { at_port = c.in_ok-receipt.ensures.names.at_port; accepted = c.in_ok-receipt.ensures.posted }
+
+pub returns-clause-receipts : goal.returns-clause-receipts
+returns-clause-receipts g c = ap (λ (s : SeatState). s.receipts) c.in_ok-receipt.ensures.counted

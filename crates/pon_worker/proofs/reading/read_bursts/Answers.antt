@@ -9,7 +9,7 @@ use Rattle.pon_worker.proofs.reading.read_bursts.Goals as goal
 pub loop-burst-init : goal.loop-burst-init
 loop-burst-init g c = record {
   empty_again = c.requires.empty;
-  so_far = none_so_far c.args.counts.now (g.R.DevRead.remaining c.args.reader.now) (omega arith) (omega arith);
+  so_far = none_so_far c.args.port c.args.counts.now c.args.seat.now.receipts (g.R.DevRead.remaining c.args.reader.now) (omega arith) (omega arith);
   maps = refl;
   posts = posts_none c.args.port c.args.seat.now c.args.counts.now c.args.counts.now refl refl;
   sink = passes_none c.args.sink.now c.args.sink.now refl refl;
@@ -25,8 +25,9 @@ post_record-requires g c = c.loop-burst.invariant.fits
 pub returns-in-Err-clause-read : goal.returns-in-Err-clause-read
 returns-in-Err-clause-read g c =
     let left = g.R.DevRead.remaining c.args.reader.now in
-    let far = so_far_part c.loop-burst._burst c.receive.new.up.held c.args.counts.now c.loop-burst.counts left (g.R.DevRead.remaining c.loop-burst.reader) (g.R.DevRead.remaining c.receive.new.reader) c.loop-burst.invariant.so_far c.in-Err.ensures.err.1 in
-    (far.0, far.1, far.2, far.3, tt)
+    let far = c.loop-burst.invariant.so_far in
+    let read = so_far_part c.args.port c.loop-burst._burst c.receive.new.up.held c.args.counts.now c.loop-burst.counts c.args.seat.now.receipts c.loop-burst.seat.receipts left (g.R.DevRead.remaining c.loop-burst.reader) (g.R.DevRead.remaining c.receive.new.reader) far c.in-Err.ensures.err.1 in
+    (far.records, far.reports, far.takes, far.counted, read, far.kept, omega (arith, far.size, c.loop-burst-test.true))
 
 pub returns-in-Err-clause-maps : goal.returns-in-Err-clause-maps
 returns-in-Err-clause-maps g c = c.loop-burst.invariant.maps
@@ -38,9 +39,9 @@ pub loop-burst-preserved : goal.loop-burst-preserved
 loop-burst-preserved g c =
     let far = c.loop-burst.invariant in
     let got = c.in-Ok.ensures.ok in
-    let counted = c.post_record.ensures.counted in record {
+    let posted = c.post_record.ensures.counted in record {
       empty_again = c.in-Ok.ensures.empty;
-      so_far = so_far_more c.loop-burst._burst c.in-Ok.burst got.0 counted.0 c.args.counts.now c.loop-burst.counts c.post_record.new.counts (g.R.DevRead.remaining c.args.reader.now) (g.R.DevRead.remaining c.loop-burst.reader) (g.R.DevRead.remaining c.receive.new.reader) far.so_far got.1 got.2 counted.1;
+      so_far = so_far_more c.args.port c.loop-burst._burst c.in-Ok.burst got.0 posted.0 c.args.counts.now c.loop-burst.counts c.post_record.new.counts c.args.seat.now.receipts c.loop-burst.seat.receipts c.post_record.new.seat.receipts (g.R.DevRead.remaining c.args.reader.now) (g.R.DevRead.remaining c.loop-burst.reader) (g.R.DevRead.remaining c.receive.new.reader) far.so_far got.1 got.2 posted.1 posted.2 posted.3;
       maps = c.post_record.ensures.maps ∙ far.maps;
       posts = posts_more c.args.port 0 0 c.args.seat.now c.loop-burst.seat c.post_record.new.seat c.args.counts.now c.loop-burst.counts c.post_record.new.counts far.posts c.post_record.ensures.posts;
       sink = passes_then c.args.sink.now c.loop-burst.sink c.post_record.new.sink far.sink c.post_record.ensures.sink;
@@ -53,7 +54,7 @@ returns-clause-read g c =
     let all = far.so_far in
     let none = sym (ap (λ (s : ReaderState). s.held) far.empty_again) in
     let number : c.loop-burst._burst ≡ c.args.bursts = omega (arith, c.loop-burst.auto._burst-end, c.loop-burst-test.false) in
-    (all.records, all.reports, all.counted, subst (λ (t : List ℕ). HasRead all.records t (g.R.DevRead.remaining c.args.reader.now) (g.R.DevRead.remaining c.loop-burst.reader)) none all.read, all.size ∙ number)
+    (all.records, all.reports, all.takes, all.counted, subst (λ (t : List ℕ). HasRead all.records t (g.R.DevRead.remaining c.args.reader.now) (g.R.DevRead.remaining c.loop-burst.reader)) none all.read, all.kept, all.size ∙ number)
 
 pub returns-clause-maps : goal.returns-clause-maps
 returns-clause-maps g c = c.loop-burst.invariant.maps

@@ -10,7 +10,7 @@ use Rattle.pon_worker.proofs.reading.read_bursts.Given as goal
 abbrev pub invariant-loop-burst : goal.invariant-loop-burst
 invariant-loop-burst g l = record {
   empty_again : l.up ≡ empty Up;
-  so_far : ReadSoFar l._burst [] l.initial.counts l.counts (g.R.DevRead.remaining l.initial.reader) (g.R.DevRead.remaining l.reader);
+  so_far : ReadSoFar l.port l._burst [] l.initial.counts l.counts l.initial.seat.receipts l.seat.receipts (g.R.DevRead.remaining l.initial.reader) (g.R.DevRead.remaining l.reader);
   maps : l.counts.maps ≡ l.initial.counts.maps;
   posts : PostsAt l.port 0 l.initial.seat l.seat l.initial.counts l.counts;
   sink : PassesChapters l.initial.sink l.sink;

@@ -4,7 +4,7 @@ use Rattle.std.proofs.KnownBytes.{Keeps-refl, Keeps-trans}
 use Rattle.pon_link.specs.Reading.{ReaderState, IsOpen, Pulls, holds_more}
 use Rattle.pon_link.specs.declared.pull.Pulled.{Pulled}
 use Rattle.pon_link.specs.declared.pull.PullFault.{PullFault}
-use Rattle.pon_worker.proofs.Bursts.{ends_here, kept_read}
+use Rattle.pon_worker.proofs.Bursts.{begins_still, ends_here, kept_read}
 use Rattle.pon_worker.proofs.receiving.pull.Goals as goal
 
 pub loop-try-init : goal.loop-try-init
@@ -22,8 +22,9 @@ returns-in-Ok-Bytes-clause-ok g c =
 pub returns-in-Ok-End-clause-err : goal.returns-in-Ok-End-clause-err
 returns-in-Ok-End-clause-err g c =
     let held = c.loop-try.invariant in
-    let v = subst (λ (p : Pulled). Pulls c.loop-try.up c.pull.new.self (g.R.DevRead.remaining c.loop-try.reader) (g.R.DevRead.remaining c.pull.new.reader) (Ok p)) c.in-Ok-End.field-0-is c.in-Ok-End.ensures.value in (
-      inr (inr (c.cause_of.ensures, v.4)),
+    let v = subst (λ (p : Pulled). Pulls c.loop-try.up c.pull.new.self (g.R.DevRead.remaining c.loop-try.reader) (g.R.DevRead.remaining c.pull.new.reader) (Ok p)) c.in-Ok-End.field-0-is c.in-Ok-End.ensures.value in
+    let begins = begins_still c.args.up.now c.pull.new.self c.requires.up c.requires.«open» (ap (λ (s : ReaderState). s.held) (v.2 ∙ held.same)) in (
+      inr (inr (c.cause_of.ensures, begins, v.4)),
       ap (λ (s : ReaderState). s.held) (v.2 ∙ held.same),
       Keeps-trans (g.R.DevRead.remaining c.args.reader.now) (g.R.DevRead.remaining c.loop-try.reader) (g.R.DevRead.remaining c.pull.new.reader) held.kept v.3,
     )
@@ -32,8 +33,9 @@ pub returns-in-Err-Link-clause-err : goal.returns-in-Err-Link-clause-err
 returns-in-Err-Link-clause-err g c =
     let held = c.loop-try.invariant in
     let v = subst (λ (p : PullFault). Pulls c.loop-try.up c.pull.new.self (g.R.DevRead.remaining c.loop-try.reader) (g.R.DevRead.remaining c.pull.new.reader) (Err p)) c.in-Err-Link.field-0-is c.in-Err-Link.ensures.value in
-    let at_end = ends_here c.loop-try.up c.pull.new.self (g.R.DevRead.remaining c.pull.new.reader) c.in-Err-Link.field-0-0 (ap (λ (s : ReaderState). s.direction) held.same ∙ c.requires.up) (subst IsOpen (sym held.same) c.requires.«open») v.3 in (
-      inr (inr (c.cause_of-in-Err-Link.ensures, at_end)),
+    let at_end = ends_here c.loop-try.up c.pull.new.self (g.R.DevRead.remaining c.pull.new.reader) c.in-Err-Link.field-0-0 (ap (λ (s : ReaderState). s.direction) held.same ∙ c.requires.up) (subst IsOpen (sym held.same) c.requires.«open») v.3 in
+    let begins = begins_still c.args.up.now c.pull.new.self c.requires.up c.requires.«open» (v.1 ∙ ap (λ (s : ReaderState). s.held) held.same) in (
+      inr (inr (c.cause_of-in-Err-Link.ensures, begins, at_end)),
       v.1 ∙ ap (λ (s : ReaderState). s.held) held.same,
       Keeps-trans (g.R.DevRead.remaining c.args.reader.now) (g.R.DevRead.remaining c.loop-try.reader) (g.R.DevRead.remaining c.pull.new.reader) held.kept v.2,
     )

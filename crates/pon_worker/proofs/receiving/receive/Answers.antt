@@ -50,6 +50,6 @@ returns-in-Err-clause-err g c =
     let v = c.in-Err.ensures.outcome in
     let left = g.R.DevRead.remaining c.args.reader.now in
     let now = g.R.DevRead.remaining c.loop.reader in (
-      inr (inl (c.cause_of.ensures, (c.in-Err.field-0, subst (λ (s : ReaderState). HasFault s c.in-Err.field-0) (sym v.1) v.0))),
+      inr (inl (c.cause_of.ensures, ap (λ (s : ReaderState). s.ended) v.1 ∙ c.loop.invariant.open_end, (c.in-Err.field-0, subst (λ (s : ReaderState). HasFault s c.in-Err.field-0) (sym v.1) v.0))),
       subst (λ (s : ReaderState). Consumes left now s.held) (sym v.1) c.loop.invariant.held,
     )

@@ -1,45 +1,43 @@
-use Rattle.std.proofs.Common.{List, ℕ, sym, subst, arith}
-use Rattle.pon_link.proofs.Left.{Sends, none_sent}
+use Rattle.std.proofs.Common.{List, ℕ, ap, length, arith}
 use Rattle.pon_worker.specs.Turns.{map_record}
-use Rattle.pon_worker.proofs.Tries.{all_sent, sent_again}
+use Rattle.pon_worker.proofs.Tries.{all_sent, fails_in_row, sent_again, tried_again, tried_none, tries_smaller}
 use Rattle.pon_worker.proofs.sending.send.Goals as goal
 
-pub loop-try-init : goal.loop-try-init
-loop-try-init g c =
-    let held = g.W.DevWrite.contents c.args.writer.now in
-    let is = c.in-Ok.ensures.ok.1 in record {
-      sent = subst (λ (t : List ℕ). Sends held held (map_record c.args.made.now) t) (sym is) (none_sent held (map_record c.args.made.now));
-      failed = omega arith;
-      round = λ none. absurd (omega (arith, none));
-    }
+pub tries-init : goal.tries-init
+tries-init g c = record {
+  tried = tried_none (g.W.DevWrite.contents c.args.writer.now) (map_record c.args.made.now) c.put.new.self (g.W.DevWrite.failures c.args.writer.now) c.in-Ok.ensures.ok.1;
+  left_is = ap (λ (t : List ℕ). length t) c.left-left.ensures;
+}
 
 pub returns-in-Ok-push-clause-sent : goal.returns-in-Ok-push-clause-sent
 returns-in-Ok-push-clause-sent g c =
-    let far = c.loop-try.invariant.sent in
+    let far = c.tries.invariant.tried.sends in
     let more = c.in-Ok-push.ensures.sent in
     let before = g.W.DevWrite.contents c.args.writer.now in
     let now = g.W.DevWrite.contents c.push.new.writer in
     let all = map_record c.args.made.now in
-    all_sent before now all c.push.new.self (sent_again before (g.W.DevWrite.contents c.loop-try.writer) now all c.loop-try.down c.push.new.self more.0 far more.1 more.2) c.in-Ok-push.ensures.ok
+    all_sent before now all c.push.new.self (sent_again before (g.W.DevWrite.contents c.tries.writer) now all c.tries.down c.push.new.self more.0 far more.1 more.2) c.in-Ok-push.ensures.ok
 
-pub loop-try-preserved : goal.loop-try-preserved
-loop-try-preserved g c =
-    let far = c.loop-try.invariant in
+pub tries-preserved : goal.tries-preserved
+tries-preserved g c =
+    let far = c.tries.invariant in
     let more = c.in-Err-push.ensures.sent in
-    let before = g.W.DevWrite.contents c.args.writer.now in
-    let now = g.W.DevWrite.contents c.push.new.writer in
-    let all = map_record c.args.made.now in record {
-      sent = sent_again before (g.W.DevWrite.contents c.loop-try.writer) now all c.loop-try.down c.push.new.self more.0 far.sent more.1 more.2;
-      failed = omega (arith, far.failed, c.in-Err-push.ensures.failures);
-      round = λ some. omega (arith, c.in-Err-push.ensures.failures);
+    let now = ap (λ (t : List ℕ). length t) c.left-now.ensures in record {
+      tried = tried_again (g.W.DevWrite.contents c.args.writer.now) (g.W.DevWrite.contents c.tries.writer) (g.W.DevWrite.contents c.push.new.writer) (map_record c.args.made.now) c.tries.down c.push.new.self more.0 c.tries.failed c.failed_in_row-failed.result
+          (g.W.DevWrite.failures c.args.writer.now) (g.W.DevWrite.failures c.tries.writer) (g.W.DevWrite.failures c.push.new.writer) far.tried c.tries-test.true more.1 more.2 c.in-Err-push.ensures.failures
+          (λ less. c.failed_in_row-failed.ensures.first (omega (arith, less, far.left_is, now))) (λ same. c.failed_in_row-failed.ensures.again (omega (arith, same, far.left_is, now)));
+      left_is = now;
     }
+
+pub tries-smaller : goal.tries-smaller
+tries-smaller g c =
+    let far = c.tries.invariant in
+    let more = c.in-Err-push.ensures.sent in
+    let now = ap (λ (t : List ℕ). length t) c.left-now.ensures in
+    tries_smaller c.tries.down c.push.new.self more.0 c.tries.failed c.failed_in_row-failed.result c.tries-test.true more.2
+    (λ less. c.failed_in_row-failed.ensures.first (omega (arith, less, far.left_is, now))) (λ same. c.failed_in_row-failed.ensures.again (omega (arith, same, far.left_is, now)))
 
 pub returns-clause-begun : goal.returns-clause-begun
 returns-clause-begun g c =
-    let far = c.loop-try.invariant.sent in
-    (far.sent, far.appends, (c.loop-try.down, far.together))
-
-pub returns-clause-failures : goal.returns-clause-failures
-returns-clause-failures g c =
-    let far = c.loop-try.invariant in
-    omega (arith, far.failed, far.round, c.loop-try.auto._try-end, c.loop-try-test.false)
+    let far = c.tries.invariant.tried in
+    (far.sends.sent, far.sends.appends, (c.tries.down, far.sends.together), fails_in_row (g.W.DevWrite.contents c.args.writer.now) (g.W.DevWrite.contents c.tries.writer) (map_record c.args.made.now) c.tries.down c.tries.failed (g.W.DevWrite.failures c.args.writer.now) (g.W.DevWrite.failures c.tries.writer) far c.tries-test.false)

@@ -9,7 +9,7 @@ use Rattle.pon_worker.proofs.serving.make_turns.Given as goal
 abbrev pub invariant-loop : goal.invariant-loop
 invariant-loop g l = record {
   empty_again : l.up ≡ empty Up;
-  turned : Turned no_counts l.counts (g.W.DevWrite.contents l.initial.writer) (g.W.DevWrite.contents l.writer) (g.R.DevRead.remaining l.initial.reader) (g.R.DevRead.remaining l.reader);
+  turned : Turned l.port no_counts l.counts l.initial.seat l.seat (g.W.DevWrite.contents l.initial.writer) (g.W.DevWrite.contents l.writer) (g.R.DevRead.remaining l.initial.reader) (g.R.DevRead.remaining l.reader);
   posts : PostsAt l.port 0 l.initial.seat l.seat no_counts l.counts;
   sink : PassesChapters l.initial.sink l.sink;
   fits : l.counts.maps + l.counts.reports ≤ slice_index l.seat.counts l.port;
