@@ -253,7 +253,10 @@ fn kept_is_posted(rt: HostRuntime) {
 
 // Returns whether a view has these numbers: next frame, cause, Alloc-IDs, ONUs, guaranteed rates in kbit/s, capacity in
 // words.
-fn has_numbers(view: &PortView, wanted: (u64, Option<u8>, usize, usize, u32, u16)) -> bool {
+pub(crate) fn has_numbers(
+    view: &PortView,
+    wanted: (u64, Option<u8>, usize, usize, u32, u16),
+) -> bool {
     let (next, cause, allocs, onus, guaranteed, capacity) = wanted;
     view.next.get() == next
         && view.cause.map(|cause| cause.get()) == cause

@@ -9,6 +9,10 @@ mod bench;
 #[cfg(test)]
 mod desks;
 #[cfg(test)]
+mod each_port;
+#[cfg(test)]
+mod gates;
+#[cfg(test)]
 mod gathering;
 #[cfg(test)]
 mod inspecting;

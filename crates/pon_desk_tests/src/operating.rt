@@ -13,7 +13,7 @@ use std::sync::Wait;
 use std::sync::ledger::{Blank, Ledger};
 
 // Maximum number of bytes that a device reads or writes in a call.
-const ALL: usize = 4096;
+pub(crate) const ALL: usize = 4096;
 
 // Makes the steps that admit an Alloc-ID at the first `count` ports. `None` if memory is refused.
 fn admissions(rt: &impl Abort, alloc: Global, count: u8) -> Option<Vec<Step>> {
@@ -30,19 +30,19 @@ fn admissions(rt: &impl Abort, alloc: Global, count: u8) -> Option<Vec<Step>> {
 
 // The result of a run, and the bytes in its writer.
 #[derive(Drop)]
-struct Answered {
-    result: Result<PlanEnd, PlanFault>,
-    text: Vec<u8>,
+pub(crate) struct Answered {
+    pub(crate) result: Result<PlanEnd, PlanFault>,
+    pub(crate) text: Vec<u8>,
 }
 
 // Devices that read and write at most `most` bytes in a call, and fail in the given calls.
 #[derive(Drop)]
-struct Devices {
-    reader: MemRead,
-    writer: MemWrite,
+pub(crate) struct Devices {
+    pub(crate) reader: MemRead,
+    pub(crate) writer: MemWrite,
 }
 
-fn make_devices(
+pub(crate) fn make_devices(
     alloc: Global,
     input: &[u8],
     most: usize,
@@ -57,7 +57,7 @@ fn make_devices(
     })
 }
 
-fn with_text(
+pub(crate) fn with_text(
     alloc: Global,
     writer: &MemWrite,
     told: Result<PlanEnd, PlanFault>,

@@ -16,7 +16,7 @@ use Rattle.pon_desk.specs.Receipts.{Receipt}
 use Rattle.pon_link.specs.DownRecords.{down_bytes}
 use Rattle.pon_link.specs.declared.record.UpRecord.{UpRecord}
 use Rattle.pon_link.specs.Reading.{ReaderState}
-use Rattle.pon_worker.specs.Records.{Counted, HasRead, StopsFor, is_nobodys}
+use Rattle.pon_worker.specs.Records.{Counted, FailsInRow, HasRead, StopsFor, is_nobodys}
 use Rattle.pon_worker.specs.declared.causes.TheConstants.{WRITE_FAILED}
 use Rattle.pon_worker.specs.declared.counts.Counts.{Counts}
 use Rattle.pon_worker.specs.declared.counts.Why.{Why}
@@ -121,6 +121,11 @@ CutsSending Finished made sent = ⊥
 CutsSending (Gave cause) made sent = (cause ≡ WRITE_FAILED) × IsBeginning sent (map_record made)
 CutsSending GateLimit made sent = (sent ≡ []) ⊎ (sent ≡ map_record made)
 CutsSending (Refused fault) made sent = ⊥
+
+-- if the link is given up, the writer failed in a row, after these bytes
+abbrev pub FailsSending : Why → ℕ → ℕ → ℕ → Type 0
+FailsSending (Gave cause) bytes old new = FailsInRow bytes old new
+FailsSending _ bytes old new = Unit {0}
 
 -- the record of the map is written whole, and some burst is not read, for this cause
 pub record CutsReading (cause : ℕ) (turn : Turn) (held : List ℕ) (left : Option (List ℕ)) : Type 0 where

@@ -1,5 +1,5 @@
 // How a worker reads the record of a burst.
-ghost use Rattle.std.specs.Prelude.{◌≡◌, ℕ, List, IfOk, IfErr, OnOk};
+ghost use Rattle.std.specs.Prelude.{◌≡◌, ◌+◌, ◌%◌, ◌^◌, ℕ, List, IfOk, IfErr, OnOk};
 ghost use Rattle.pon_device.specs.Device.{Consumes, Keeps};
 ghost use Rattle.pon_link.specs.Reading.{empty, holds_more, IsOpen};
 ghost use Rattle.pon_link.specs.UpRecords.{IsRecord};
@@ -22,6 +22,8 @@ fn pull<R: DevRead>(up: &mut UpReader, reader: &mut R) -> Result<(), Cause>
     ensures err { IfErr result (λ cause. StopsFor cause up.new (R.remaining reader.new)
         × (up.new.held ≡ up.old.held)
         × Keeps (R.remaining reader.old) (R.remaining reader.new)) }
+    ensures failures { IfErr result (λ cause. cause ≡ READ_FAILED
+        → R.failures reader.new ≡ (R.failures reader.old + MOST_TRIES) % 2 ^ 64) }
 {
     for _try in 0..MOST_TRIES {
         match up.pull(reader) {

@@ -3,7 +3,7 @@ ghost use Rattle.std.specs.Prelude.{◌≡◌, ◌+◌, ◌<◌, ◌≤◌, ℕ,
 ghost use Rattle.pon_device.specs.Device.{Appends};
 ghost use Rattle.pon_stream.specs.Streams.{IsBeginning};
 ghost use Rattle.pon_worker.specs.Records.{FailsInRow};
-ghost use Rattle.pon_worker.specs.Turns.{CutsSending, begins_burst, bursts_of, map_record};
+ghost use Rattle.pon_worker.specs.Turns.{CutsSending, FailsSending, begins_burst, bursts_of, map_record};
 
 use crate::causes::{WRITE_FAILED, cause_of};
 use crate::counts::Why;
@@ -75,7 +75,8 @@ pub(crate) fn send_at_gate<G: Gate, W: DevWrite>(
     ensures bursts { IfOk result (λ bursts. bursts ≡ bursts_of made.now) }
     ensures cut { IfErr result (λ why. (sent : List ℕ)
         × Appends (W.contents writer.old) (W.contents writer.new) sent
-        × CutsSending why made.now sent) }
+        × CutsSending why made.now sent
+        × FailsSending why (length sent) (W.failures writer.old) (W.failures writer.new)) }
 {
     if !pass(gate, port, Point::Send) {
         return Err(Why::GateLimit);

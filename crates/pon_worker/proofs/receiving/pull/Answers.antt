@@ -1,14 +1,14 @@
-use Rattle.std.proofs.Common.{refl, sym, ap, subst, ◌∙◌}
+use Rattle.std.proofs.Common.{refl, sym, ap, subst, ◌∙◌, arith}
 use Rattle.std.proofs.Common.{inl, inr, Ok, Err}
 use Rattle.std.proofs.KnownBytes.{Keeps-refl, Keeps-trans}
-use Rattle.pon_link.specs.Reading.{ReaderState, IsOpen, Pulls, holds_more}
+use Rattle.pon_link.specs.Reading.{CountsDevice, ReaderState, IsOpen, Pulls, holds_more}
 use Rattle.pon_link.specs.declared.pull.Pulled.{Pulled}
 use Rattle.pon_link.specs.declared.pull.PullFault.{PullFault}
 use Rattle.pon_worker.proofs.Bursts.{begins_still, ends_here, kept_read}
 use Rattle.pon_worker.proofs.receiving.pull.Goals as goal
 
 pub loop-try-init : goal.loop-try-init
-loop-try-init g c = record { same = refl; kept = Keeps-refl (g.R.DevRead.remaining c.args.reader.now) }
+loop-try-init g c = record { same = refl; failed = omega arith; round = λ some. absurd (omega (arith, some)); kept = Keeps-refl (g.R.DevRead.remaining c.args.reader.now) }
 
 pub returns-in-Ok-Bytes-clause-ok : goal.returns-in-Ok-Bytes-clause-ok
 returns-in-Ok-Bytes-clause-ok g c =
@@ -43,8 +43,11 @@ returns-in-Err-Link-clause-err g c =
 pub loop-try-preserved : goal.loop-try-preserved
 loop-try-preserved g c =
     let held = c.loop-try.invariant in
-    let v = subst (λ (p : PullFault). Pulls c.loop-try.up c.pull.new.self (g.R.DevRead.remaining c.loop-try.reader) (g.R.DevRead.remaining c.pull.new.reader) (Err p)) c.in-Err-Device.field-0-is c.in-Err-Device.ensures.value in record {
+    let v = subst (λ (p : PullFault). Pulls c.loop-try.up c.pull.new.self (g.R.DevRead.remaining c.loop-try.reader) (g.R.DevRead.remaining c.pull.new.reader) (Err p)) c.in-Err-Device.field-0-is c.in-Err-Device.ensures.value in
+    let device = subst (λ (p : PullFault). CountsDevice (g.R.DevRead.failures c.loop-try.reader) (g.R.DevRead.failures c.pull.new.reader) (Err p)) c.in-Err-Device.field-0-is c.in-Err-Device.ensures.failures in record {
       same = v.1 ∙ held.same;
+      failed = omega (arith, held.failed, device);
+      round = λ some. omega (arith, device);
       kept = Keeps-trans (g.R.DevRead.remaining c.args.reader.now) (g.R.DevRead.remaining c.loop-try.reader) (g.R.DevRead.remaining c.pull.new.reader) held.kept v.2;
     }
 
@@ -55,3 +58,8 @@ returns-clause-err g c =
       ap (λ (s : ReaderState). s.held) held.same,
       held.kept,
     )
+
+pub returns-clause-failures : goal.returns-clause-failures
+returns-clause-failures g c =
+    let far = c.loop-try.invariant in
+    λ is. omega (arith, far.failed, far.round, c.loop-try.auto._try-end, c.loop-try-test.false)
