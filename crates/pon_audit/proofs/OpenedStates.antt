@@ -161,11 +161,11 @@ accounts_any : (i : ℕ) (rows : List RawRow) → list_any (λ a. a.alloc_id == 
 accounts_any i [] = refl
 accounts_any i (r ∷ rows) = ap (λ b. (r.alloc_id == i) || b) (accounts_any i rows)
 
-accounts_apart : (rows : List RawRow) → IsDistinct (map admitted_row rows) → AreApart (map row_account rows)
+pub accounts_apart : (rows : List RawRow) → IsDistinct (map admitted_row rows) → AreApart (map row_account rows)
 accounts_apart [] h = tt
 accounts_apart (r ∷ rows) h = (accounts_any r.alloc_id rows ∙ h.0, accounts_apart rows h.1)
 
-book_of_rows : (rows : List RawRow) → AreApart (map row_account rows) → AccountsFor (map admitted_row rows) (book_from (map row_account rows))
+pub book_of_rows : (rows : List RawRow) → AreApart (map row_account rows) → AccountsFor (map admitted_row rows) (book_from (map row_account rows))
 book_of_rows rows apart = (book_rises (map row_account rows) apart, λ i. book_ids i (map row_account rows) ∙ accounts_any i rows)
 
 -- The rows of a roster, by Alloc-ID.

@@ -64,7 +64,7 @@ IsFound book a = account_of book a.alloc_id ≡ Some a
 rebuilt : (book : List Account) (a : Account) → IsFound book a → account_at book a.alloc_id ≡ a
 rebuilt book a found = λ k. record { alloc_id = a.alloc_id; since = since_of_account (found k); counted = known_report (found k) }
 
-same_book : (o : Opening) (book : List Account) → AccountsFor (roster_of o) (book_from (accounts_of o)) → AccountsFor (roster_of o) book → All (HasAccount book) o.rows → book_from (accounts_of o) ≡ book
+pub same_book : (o : Opening) (book : List Account) → AccountsFor (roster_of o) (book_from (accounts_of o)) → AccountsFor (roster_of o) book → All (HasAccount book) o.rows → book_from (accounts_of o) ≡ book
 same_book o book a b h =
     let made : List Account = book_from (accounts_of o) in
     let each : All (IsFound book) made = book_all (IsFound book) (accounts_of o) (All-map (IsFound book) row_account o.rows h) in

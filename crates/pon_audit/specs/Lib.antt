@@ -4,3 +4,4 @@ pub mod Chains
 pub mod Judging
 pub mod Verdicts
 pub mod Texts
+pub mod Answers

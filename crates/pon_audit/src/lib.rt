@@ -6,6 +6,7 @@
 //! applies no event to a port.
 #![tactic(auto)]
 
+mod answer;
 mod chain;
 mod chapters;
 mod entries;
@@ -17,5 +18,6 @@ mod parallel;
 mod recordings;
 mod verdict;
 
+pub use answer::write_verdict;
 pub use recordings::{PARALLEL_MAPS, audit};
 pub use verdict::{Verdict, Why};

@@ -71,6 +71,18 @@ pub enum Verdict {
     },
 }
 
+impl Verdict {
+    ghost use Rattle.std.specs.Prelude.{◌≡◌};
+    ghost use Rattle.pon_audit.specs.Answers.{is_good};
+
+    /// Returns whether the recording is good.
+    pub fn is_good(&self) -> bool
+        ensures { result ≡ is_good self.now }
+    {
+        matches!(*self, Verdict::Good { .. })
+    }
+}
+
 impl fmt::Display for Verdict {
     ghost use Rattle.std.specs.Prelude.{Some};
     ghost use Rattle.pon_audit.specs.Texts.{verdict_text};

@@ -11,6 +11,7 @@ mod task;
 
 pub use arguments::job;
 pub use outcome::{
-    Outcome, exit_status, outcome_of_check, outcome_of_ports, outcome_of_run, outcome_of_words,
+    Outcome, exit_status, outcome_of_check, outcome_of_job, outcome_of_ports, outcome_of_run,
+    outcome_of_words,
 };
 pub use task::{Job, MOST_MAPS};

@@ -2,8 +2,9 @@
 
 ghost use Rattle.std.specs.Prelude.{◌≡◌};
 ghost use Rattle.clap.specs.Values.{kind_of};
-ghost use Rattle.pon_job.specs.Outcomes.{exit_status, outcome_of_check, outcome_of_ports, outcome_of_run, outcome_of_words};
+ghost use Rattle.pon_job.specs.Outcomes.{exit_status, outcome_of_check, outcome_of_job, outcome_of_ports, outcome_of_run, outcome_of_words};
 
+use crate::task::Job;
 use clap::Error;
 use clap::error::ErrorKind;
 use pon_stream::PlanFault;
@@ -66,6 +67,18 @@ pub fn outcome_of_ports(ended: Result<bool, PlanFault>) -> Outcome
     match ended {
         Ok(false) => Outcome::Unfinished,
         ended => outcome_of_run(ended),
+    }
+}
+
+/// Returns the outcome of a job, from how it ended: `true` is acceptance, or that the job without a verdict is done, or
+/// that each port was served to its last map.
+pub fn outcome_of_job(job: &Job<'_>, ended: Result<bool, PlanFault>) -> Outcome
+    ensures { result ≡ outcome_of_job job.now ended }
+{
+    match *job {
+        Job::Plan { .. } => outcome_of_run(ended),
+        Job::Check { .. } | Job::Audit { .. } | Job::Migrate { .. } => outcome_of_check(ended),
+        Job::Run { .. } => outcome_of_ports(ended),
     }
 }
 

@@ -12,6 +12,8 @@ mod carries;
 #[cfg(test)]
 mod chains;
 #[cfg(test)]
+mod limits;
+#[cfg(test)]
 mod migrating;
 #[cfg(test)]
 mod reading;

@@ -155,6 +155,21 @@ fn holds_all_bytes_after_a_flush(rt: HostRuntime) {
     }
 }
 
+// Returns whether a device that fails in its call after the last bytes fails to be flushed, once.
+fn fails_to_be_flushed(rt: &impl Abort, alloc: Global, chapter: &Chapter) -> bool {
+    let mut file = failing_in(rt, alloc, 6);
+    append(rt, &mut file, 0, chapter) == Ok(())
+        && file.flush().is_err()
+        && file.left().is_empty()
+        && file.flush().is_ok()
+}
+
+#[test]
+fn flushes_the_device(rt: HostRuntime) {
+    let chapter = chapter_of(&rt, rt.alloc());
+    assert!(rt; fails_to_be_flushed(&rt, rt.alloc(), &chapter));
+}
+
 // Returns whether a recording whose first bytes are left is busy, and is left as it is.
 fn is_busy_from_the_start(rt: &impl Abort, alloc: Global, chapter: &Chapter) -> bool {
     let mut file = failing_in(rt, alloc, 0);

@@ -3,8 +3,8 @@ mod FitChapters
 mod FitEvents
 mod FitMaps
 mod FitOpenings
-mod OneBody
+pub mod OneBody
 mod Put
 mod PutLists
-mod ReadBack
+pub mod ReadBack
 mod Recording

@@ -53,7 +53,7 @@ same_rising (m ∷ ms) (n ∷ ns) a b h =
 -- ---- books
 
 -- an account made of what a book has for an Alloc-ID
-abbrev account_at : List Account → ℕ → Account
+abbrev pub account_at : List Account → ℕ → Account
 account_at book i = record { alloc_id = i; since = since_of_account (account_of book i); counted = known_report (account_of book i) }
 
 rebuilt : (book : List Account) → AreRising (alloc_ids book) → map (account_at book) (alloc_ids book) ≡ book
@@ -92,12 +92,12 @@ same_book rows cs ds xs ys m n a b e =
 abbrev row_again : RawRow → Row
 row_again r = record { onu = r.onu; alloc_id = r.alloc_id; descriptor = r.descriptor }
 
-rows_back : (book : List Account) (rows : List Row) (carries : List ℕ) → length carries ≡ length rows → map row_again (map (recorded_row book) (zip rows carries)) ≡ rows
+pub rows_back : (book : List Account) (rows : List Row) (carries : List ℕ) → length carries ≡ length rows → map row_again (map (recorded_row book) (zip rows carries)) ≡ rows
 rows_back book [] carries e = refl
 rows_back book (r ∷ rows) [] e = absurd (omega (arith, e))
 rows_back book (r ∷ rows) (c ∷ carries) e = (λ k. r ∷ rows_back book rows carries (omega (arith, e)) k)
 
-carries_back : (book : List Account) (rows : List Row) (carries : List ℕ) → length carries ≡ length rows → map (λ (r : RawRow). r.carry) (map (recorded_row book) (zip rows carries)) ≡ carries
+pub carries_back : (book : List Account) (rows : List Row) (carries : List ℕ) → length carries ≡ length rows → map (λ (r : RawRow). r.carry) (map (recorded_row book) (zip rows carries)) ≡ carries
 carries_back book [] [] e = refl
 carries_back book [] (c ∷ carries) e = absurd (omega (arith, e))
 carries_back book (r ∷ rows) [] e = absurd (omega (arith, e))

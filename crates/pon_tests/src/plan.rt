@@ -7,6 +7,7 @@ use pon_units::{FrameNo, Gap, Profile};
 use std::alloc::{AllocError, Global};
 use std::process::Abort;
 
+mod long;
 mod ports;
 
 const FIRST_MAP: &[u8] = b"0 admit 5 1024 2560 0 2560 none\n0 map\n";

@@ -26,10 +26,15 @@ fn names_the_place_and_the_rule(rt: HostRuntime) {
         ("", "  port must be a list of 1 to 64 tables"),
         ("port = []", "  port must be a list of 1 to 64 tables"),
         ("ports = 1", "  unknown key \"ports\""),
+        ("ports = 1\nqueues = 1", "  unknown key \"ports\""),
         ("[[port]]", "  port 0: gap must be 1 to 256"),
         ("[[port]]\ngap = 0", "  port 0: gap must be 1 to 256"),
         (
             "[[port]]\ngap = 0\ngaps = 1",
+            "  port 0: unknown key \"gaps\"",
+        ),
+        (
+            "[[port]]\ngap = 1\ngaps = 1\nqueues = 1",
             "  port 0: unknown key \"gaps\"",
         ),
         (
@@ -75,6 +80,10 @@ fn names_the_rule_of_a_row(rt: HostRuntime) {
             "onu = 1\nalloc = 1024\nqueues = 1",
             "  port 1, alloc 0: unknown key \"queues\"",
         ),
+        (
+            "onu = 1\nalloc = 1024\nqueues = 1\nwords = 1",
+            "  port 1, alloc 0: unknown key \"queues\"",
+        ),
         ("onu = 1\nalloc = 1", "  port 1, alloc 0: E03 AllocRange"),
         (
             "onu = 1023\nalloc = 1024",
@@ -83,6 +92,39 @@ fn names_the_rule_of_a_row(rt: HostRuntime) {
     ] {
         assert!(rt;
             is_told_of_row(rt.alloc(), row, wanted) == Some(true),
+            "{row}"
+        );
+    }
+}
+
+// Returns whether the line is the explanation of settings whose third row is this one.
+fn is_told_of_third_row(alloc: Global, row: &str, line: &str) -> Option<bool> {
+    let first = "[[port.alloc]]\nonu = 1\nalloc = 1024";
+    let second = "[[port.alloc]]\nonu = 1\nalloc = 1025";
+    let text = format!(in alloc;
+        "[[port]]\ngap = 1\n{first}\n{LAWFUL}\n{second}\n{LAWFUL}\n[[port.alloc]]\n{row}\n"
+    );
+    Some(is_told(alloc, text.ok()?.as_str(), line))
+}
+
+#[test]
+fn names_the_rule_of_the_third_row(rt: HostRuntime) {
+    for (row, wanted) in [
+        (
+            "onu = 2\nalloc = 1026\nfixed = 0\nassured = 0\nmax = -1\nclass = \"none\"",
+            "  port 0, alloc 2: max must be a whole number, not negative",
+        ),
+        (
+            "onu = 2\nalloc = 1026\nfixed = 0\nassured = 0\nmax = 0\nclass = \"none\"\nqueues = 1",
+            "  port 0, alloc 2: unknown key \"queues\"",
+        ),
+        (
+            "onu = 2\nalloc = 1025\nfixed = 0\nassured = 0\nmax = 0\nclass = \"none\"",
+            "  port 0, alloc 2: E02 AllocTaken",
+        ),
+    ] {
+        assert!(rt;
+            is_told_of_third_row(rt.alloc(), row, wanted) == Some(true),
             "{row}"
         );
     }
@@ -118,6 +160,18 @@ fn names_the_rule_of_a_descriptor(rt: HostRuntime) {
         (
             "fixed = 0\nassured = 0\nmax = 0\nclass = 1",
             "class must be none, na or be",
+        ),
+        (
+            "fixed = -1\nassured = -1\nmax = 0\nclass = \"none\"",
+            "fixed must be a whole number, not negative",
+        ),
+        (
+            "fixed = 0\nassured = -1\nmax = -1\nclass = \"none\"",
+            "assured must be a whole number, not negative",
+        ),
+        (
+            "fixed = 0\nassured = 0\nmax = -1\nclass = \"best\"",
+            "max must be a whole number, not negative",
         ),
         (
             "fixed = 2488321\nassured = 0\nmax = 0\nclass = \"none\"",

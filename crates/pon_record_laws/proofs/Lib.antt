@@ -1,0 +1,5 @@
+mod SameChapters
+mod GoodHistories
+mod EachRead
+mod LawfulEvents
+mod EachVerdict
