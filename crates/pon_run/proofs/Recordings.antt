@@ -15,7 +15,7 @@ pub rest_written : (old : Option (List ℕ)) (left : List ℕ) (mid : Option (Li
     → Grows old left mid rest b → Stays mid rest new more → HasRecorded old left new more (b ∷ [])
 rest_written old left mid rest new more b g s before bodies r = s before (bodies ++ b ∷ []) (g before bodies r)
 
-both_recorded : (old : Option (List ℕ)) (left : List ℕ) (mid : Option (List ℕ)) (rest : List ℕ) (new : Option (List ℕ)) (more : List ℕ) (first second : List Body)
+pub both_recorded : (old : Option (List ℕ)) (left : List ℕ) (mid : Option (List ℕ)) (rest : List ℕ) (new : Option (List ℕ)) (more : List ℕ) (first second : List Body)
     → HasRecorded old left mid rest first → HasRecorded mid rest new more second → HasRecorded old left new more (first ++ second)
 both_recorded old left mid rest new more first second f s before bodies r =
     subst (λ (bs : List Body). Records before new more bs) (append_assoc bodies first second) (s before (bodies ++ first) (f before bodies r))

@@ -1,9 +1,26 @@
 -- The lines at the end of a run: what each port did.
 use Rattle.std.specs.Prelude.{ℕ, suc, ◌≡◌, List, [], ◌∷◌, ◌++◌, codes, decimal, Option, Result, Ok, Err}
+use Rattle.pon_port.specs.Chapters.{Chapter}
+use Rattle.pon_desk.specs.Counts.{taken_of}
+use Rattle.pon_worker.specs.declared.counts.WorkerEnd.{WorkerEnd}
 use Rattle.pon_stream.specs.Streams.{TellsLine}
 use Rattle.pon_stream.specs.declared.fault.PlanFault.{PlanFault}
 use Rattle.pon_stream.specs.declared.fault.PlanFault.TheVariants.{Read, Write, Memory}
 use Rattle.pon_run.specs.declared.end.PortEnd.{PortEnd}
+
+-- what a port and its worker did, before dropped chapters are counted
+abbrev pub end_of : Chapter → WorkerEnd → PortEnd
+end_of kept worker = record { maps = worker.maps; entries = taken_of kept; reports = worker.reports; dropped = 0 }
+
+-- what each port did, from the chapters that the ports keep and the ends of their workers, in order
+abbrev pub ends_of : List Chapter → List WorkerEnd → List PortEnd
+ends_of [] workers = []
+ends_of (k ∷ ks) [] = []
+ends_of (k ∷ ks) (w ∷ ws) = end_of k w ∷ ends_of ks ws
+
+-- an end without its dropped chapters
+abbrev pub without_dropped : PortEnd → PortEnd
+without_dropped end = record { maps = end.maps; entries = end.entries; reports = end.reports; dropped = 0 }
 
 -- port P maps M entries E reports R dropped D, and a line feed
 abbrev pub line_of : ℕ → PortEnd → List ℕ

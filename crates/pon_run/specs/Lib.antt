@@ -5,3 +5,4 @@ pub mod Settlements
 pub mod Tapes
 pub mod Recordings
 pub mod Rings
+pub mod Whole

@@ -1,13 +1,15 @@
 //! The end of a run: what the workers left is recorded, the desk is closed, its ports are settled if that is wanted, and
 //! the lines about them are written.
 
-ghost use Rattle.std.specs.Prelude.{◌≡◌, IfOk, IfSome, OnOk, true};
+ghost use Rattle.std.specs.Prelude.{◌≡◌, IfOk, IfSome, OnOk, map, true};
 ghost use Rattle.std.specs.Vec.{vec_len};
-ghost use Rattle.pon_run.specs.Runs.{TellsPorts, WritesLines};
+ghost use Rattle.pon_run.specs.Ends.{without_dropped};
+ghost use Rattle.pon_run.specs.Whole.{IsWhole};
+ghost use Rattle.pon_run.specs.Runs.{AllSettled, TellsPorts, TellsWorked, WritesLines};
 
 use crate::end::{PortEnd, write_ends};
 use crate::port_sink::PortSink;
-use crate::ports::{Ended, ends_of, split_results};
+use crate::ports::{all_finished, ends_of, split_results, worker_ends};
 use crate::recording_thread::Recording;
 use crate::rings::Rings;
 use crate::settlement_text::write_settlements;
@@ -17,6 +19,7 @@ use pon_desk::{CloseFault, Desk, Seat};
 use pon_device::DevWrite;
 use pon_port::Port;
 use pon_stream::PlanFault;
+use pon_worker::WorkerEnd;
 use std::alloc::{AllocError, Global};
 use std::sync::ledger::Ledger;
 
@@ -88,7 +91,10 @@ fn record_kept<K: Rings, F: DevWrite + Drop>(
     recording: Option<Recording<K, F>>,
     ports: Vec<Port>,
     ends: &mut [PortEnd],
-) -> Result<(), PlanFault> {
+) -> Result<(), PlanFault>
+    ensures ends { map without_dropped ends.new ≡ map without_dropped ends.old }
+    ensures whole { OnOk result (IfSome recording (λ r. IsWhole r.recorder r.whole)) }
+{
     match recording {
         None => Ok(()),
         Some(recording) => recording.finish(ports, ends),
@@ -100,53 +106,69 @@ fn record_kept<K: Rings, F: DevWrite + Drop>(
 fn write_lines<K: Rings, F: DevWrite + Drop, W: DevWrite>(
     alloc: Global,
     ports: Vec<Port>,
-    mut ends: Vec<PortEnd>,
+    workers: &[WorkerEnd],
     settlements: &[Settlement],
     recording: Option<Recording<K, F>>,
     writer: &mut W,
 ) -> Result<(), PlanFault>
-    ensures { OnOk result (WritesLines (vec_len ends) settlements.now (W.contents writer.old)
-        (W.contents writer.new)) }
+    ensures lines { OnOk result (WritesLines ports.items workers.now settlements.now
+        (W.contents writer.old) (W.contents writer.new)) }
+    ensures whole { OnOk result (IfSome recording (λ r. IsWhole r.recorder r.whole)) }
 {
+    let Ok(mut ends) = ends_of(alloc, ports.as_slice(), workers) else {
+        return Err(PlanFault::Memory);
+    };
     let recorded = record_kept(recording, ports, ends.as_mut_slice());
-    write_ends(alloc, ends.as_slice(), writer)?;
+    let told = ends.as_slice();
+    write_ends(alloc, told, writer)?;
     write_settlements(alloc, settlements, writer)?;
     recorded
 }
 
-// Writes what each port of a closed desk did, and its settlement if it is to be settled. Returns whether no post was lost,
-// each port has its line, and each that is to be settled is.
+// Returns whether this number of ports is settled, in order, if they are to be settled.
+fn is_settled(ports: usize, settle: bool, settlements: &[Settlement]) -> bool
+    ensures { result ≡ true → AllSettled ports settle settlements.now }
+{
+    let wanted = if settle { ports } else { 0 };
+    settlements.len() == wanted && are_settled(settlements)
+}
+
+// Writes what each port of a closed desk and its worker did, and its settlement if it is to be settled. Returns whether the
+// run is done: each worker made all its turns, no post was lost, and each port that is to be settled is.
 fn tell_closed<K: Rings, F: DevWrite + Drop, W: DevWrite>(
     alloc: Global,
     closed: ClosedRun,
-    ends: Vec<PortEnd>,
+    workers: &[WorkerEnd],
     recording: Option<Recording<K, F>>,
     settle: bool,
     writer: &mut W,
 ) -> Result<bool, PlanFault>
-    ensures { IfOk result (λ done. done ≡ true → TellsPorts (vec_len closed.ports) settle
+    ensures done { IfOk result (λ done. done ≡ true → TellsPorts closed.ports.items workers.now settle
         (W.contents writer.old) (W.contents writer.new)) }
+    ensures even { IfOk result (λ done. done ≡ true → closed.even ≡ true) }
+    ensures whole { OnOk result (IfSome recording (λ r. IsWhole r.recorder r.whole)) }
 {
     let ClosedRun {
         ports,
         even,
         settlements,
     } = closed;
-    let settled = if settle { ports.len() } else { 0 };
-    let all = ends.len() == ports.len() && settlements.len() == settled;
+    let settled = is_settled(ports.len(), settle, settlements.as_slice());
+    let one_each = workers.len() == ports.len();
     write_lines(
         alloc,
         ports,
-        ends,
+        workers,
         settlements.as_slice(),
         recording,
         writer,
     )?;
-    Ok(all && even && are_settled(settlements.as_slice()))
+    Ok(even && settled && one_each && all_finished(workers))
 }
 
 /// Records what is left of each port, closes the desk, settles its ports if that is wanted, and writes what each port did.
-/// Returns whether each worker made all its turns, no post was lost, and each port that is to be settled is.
+/// Returns whether the run is done: each worker made all its turns, no post was lost, and each port that is to be settled
+/// is.
 pub(crate) fn tell<L: Ledger, M: Ledger, K: Rings, F: DevWrite + Drop, W: DevWrite>(
     alloc: Global,
     desk: Desk<L, M>,
@@ -156,18 +178,13 @@ pub(crate) fn tell<L: Ledger, M: Ledger, K: Rings, F: DevWrite + Drop, W: DevWri
     settle: bool,
     writer: &mut W,
 ) -> Result<bool, PlanFault>
-    ensures { IfOk result (λ done. done ≡ true
-        → TellsPorts desk.ports settle (W.contents writer.old) (W.contents writer.new)) }
+    ensures { IfOk result (λ done. done ≡ true → TellsWorked (map (λ w. w.end) all.items) desk.ports settle
+        (W.contents writer.old) (W.contents writer.new)) }
 {
-    let Ok(
-        Ended {
-            mut seats,
-            sinks,
-            ends,
-            finished,
-        },
-    ) = split_results(alloc, others, all)
-    else {
+    let Ok(workers) = worker_ends(alloc, all.as_slice()) else {
+        return Err(PlanFault::Memory);
+    };
+    let Ok((mut seats, sinks)) = split_results(alloc, others, all) else {
         return Err(PlanFault::Memory);
     };
     let gathered = accounts_of(alloc, seats.as_mut_slice(), sinks, &mut recording, settle);
@@ -177,12 +194,8 @@ pub(crate) fn tell<L: Ledger, M: Ledger, K: Rings, F: DevWrite + Drop, W: DevWri
     let Ok(closed) = close(alloc, desk, seats, accounts.as_slice()) else {
         return Err(PlanFault::Memory);
     };
-    let Some(closed) = closed else {
-        return Ok(false);
-    };
-    let Ok(ends) = ends_of(alloc, closed.ports.as_slice(), ends.as_slice()) else {
-        return Err(PlanFault::Memory);
-    };
-    let whole = tell_closed(alloc, closed, ends, recording, settle, writer)?;
-    Ok(whole && finished)
+    match closed {
+        Some(closed) => tell_closed(alloc, closed, workers.as_slice(), recording, settle, writer),
+        None => Ok(false),
+    }
 }

@@ -32,22 +32,6 @@ pub(crate) struct Inlet<K: Rings> {
     ghost of_port: { ForSome (K.ring port) (λ o. SameOut o ring) },
 }
 
-// Records a chapter, or counts it as dropped.
-fn record<W: DevWrite + Drop>(
-    recorder: &mut Recorder<W>,
-    port: PortNo,
-    chapter: &Chapter,
-    dropped: &mut u64,
-)
-    ensures { TakesChapters (W.contents recorder.old.file.device) recorder.old.file.left
-        (W.contents recorder.new.file.device) recorder.new.file.left dropped.old dropped.new
-        (chapter_body port chapter.now ∷ []) }
-{
-    if !recorder.append(port, chapter) {
-        *dropped = dropped.saturating_add(1);
-    }
-}
-
 // Records a chapter, if there is one, and keeps it, if chapters are to be kept. Returns whether there was one.
 fn record_any<W: DevWrite + Drop>(
     recorder: &mut Recorder<W>,
@@ -63,7 +47,7 @@ fn record_any<W: DevWrite + Drop>(
 {
     match chapter {
         Some(chapter) => {
-            record(recorder, port, &chapter, dropped);
+            recorder.record(port, &chapter, dropped);
             taken.add(chapter);
             true
         }
@@ -76,6 +60,7 @@ impl<K: Rings> Inlet<K> {
     ghost use Rattle.pon_port.specs.Chapters.{Chapter};
     ghost use Rattle.pon_ring.specs.Rings.{AreEnds, received_chapters, sent_chapters};
     ghost use Rattle.pon_run.specs.Recordings.{Pops, left_of, most_dropped};
+    ghost use Rattle.pon_run.specs.Whole.{RecordsAll};
 
     pub(crate) fn new(port: PortNo, ring: RingOut, taken: Kept<Chapter>) -> Self
         requires { K.ring port ≡ Some ring }
@@ -121,7 +106,7 @@ impl<K: Rings> Inlet<K> {
             self.new.dropped (map (chapter_body self.old.port) popped) }
     {
         while let Some(chapter) = self.ring.pop_beside(ring) {
-            record(recorder, self.port, &chapter, &mut self.dropped);
+            recorder.record(self.port, &chapter, &mut self.dropped);
             self.taken.add(chapter);
         }
     }
@@ -163,16 +148,18 @@ impl<K: Rings> Inlet<K> {
 
     /// Records the chapter that the port keeps. Returns the number of the port's dropped chapters.
     pub(crate) fn take_kept<W: DevWrite + Drop>(
-        self,
+        &self,
         recorder: &mut Recorder<W>,
         kept: &Chapter,
     ) -> u64
-        ensures { TakesChapters (W.contents recorder.old.file.device) recorder.old.file.left
-            (W.contents recorder.new.file.device) recorder.new.file.left self.dropped result
-            (chapter_body self.port kept.now ∷ []) }
+        ensures all { RecordsAll recorder.old recorder.new (W.contents recorder.old.file.device)
+            (W.contents recorder.new.file.device) (chapter_body self.now.port kept.now ∷ []) }
+        ensures taken { TakesChapters (W.contents recorder.old.file.device) recorder.old.file.left
+            (W.contents recorder.new.file.device) recorder.new.file.left self.now.dropped result
+            (chapter_body self.now.port kept.now ∷ []) }
     {
         let mut dropped = self.dropped;
-        record(recorder, self.port, kept, &mut dropped);
+        recorder.record(self.port, kept, &mut dropped);
         dropped
     }
 

@@ -1,6 +1,8 @@
 //! The ports of a run at a desk: filled from the settings, and what each of them did.
 
-ghost use Rattle.std.specs.Prelude.{◌≡◌, ◌+◌, length};
+ghost use Rattle.std.specs.Prelude.{◌≡◌, ◌++◌, All, IfOk, map, true};
+ghost use Rattle.pon_run.specs.Ends.{end_of, ends_of};
+ghost use Rattle.pon_run.specs.Runs.{EndedAs, IsFinished};
 
 use crate::end::PortEnd;
 use crate::link::Link;
@@ -73,13 +75,9 @@ pub(crate) fn served_ports<L: Ledger, M: Ledger, K: Rings>(
     Ok(all)
 }
 
-// Returns what a port did, from the end of its worker.
+// Returns what a port and its worker did, before dropped chapters are counted.
 fn end_of(port: &Port, end: &WorkerEnd) -> PortEnd
-    ensures maps { result.maps ≡ end.now.maps }
-    ensures reports { result.reports ≡ end.now.reports }
-    ensures entries { result.entries
-        ≡ port.now.opening.taken_before + length port.now.entries }
-    ensures dropped { result.dropped ≡ 0 }
+    ensures { result ≡ end_of port.now end.now }
 {
     PortEnd {
         maps: end.maps,
@@ -89,53 +87,63 @@ fn end_of(port: &Port, end: &WorkerEnd) -> PortEnd
     }
 }
 
-/// How the workers of a run ended.
-#[derive(Drop)]
-pub(crate) struct Ended<L: Ledger, M: Ledger, K: Rings> {
-    /// All seats of the desk.
-    pub(crate) seats: Vec<Seat<L, M>>,
-    /// The sink of each worker.
-    pub(crate) sinks: Vec<PortSink<K>>,
-    /// How each worker ended.
-    pub(crate) ends: Vec<WorkerEnd>,
-    /// Whether each worker made all its turns.
-    pub(crate) finished: bool,
+/// Returns how each worker ended, in order. `Err` if memory was refused, here or in one of the threads.
+pub(crate) fn worker_ends<L: Ledger, M: Ledger, K: Rings>(
+    alloc: Global,
+    all: &[Worked<L, M, K>],
+) -> Result<Vec<WorkerEnd>, AllocError>
+    ensures { IfOk result (λ ends. EndedAs (map (λ w. w.end) all.now) ends.items) }
+{
+    let mut ends = Vec::with_capacity(alloc, all.len())?;
+    for worked in all {
+        match &worked.end {
+            Ok(end) => ends.push(*end)?,
+            Err(_) => return Err(AllocError),
+        }
+    }
+    Ok(ends)
 }
 
-/// Splits the results of the workers' threads, and adds their seats to `seats`. `Err` if memory was refused, here or in
-/// one of the threads.
+/// Returns whether each worker made all its turns.
+pub(crate) fn all_finished(ends: &[WorkerEnd]) -> bool
+    ensures { result ≡ true → All IsFinished ends.now }
+{
+    ends.iter().all(|end| end.why == Why::Finished)
+}
+
+/// Adds the seats of the workers to these seats, and returns all with the sinks, in order. `Err` only if memory is
+/// refused.
 pub(crate) fn split_results<L: Ledger, M: Ledger, K: Rings>(
     alloc: Global,
     mut seats: Vec<Seat<L, M>>,
     all: Vec<Worked<L, M, K>>,
-) -> Result<Ended<L, M, K>, AllocError> {
+) -> Result<(Vec<Seat<L, M>>, Vec<PortSink<K>>), AllocError>
+    ensures seats { IfOk result (λ split. split.0.items ≡ seats.items ++ map (λ w. w.seat) all.items) }
+    ensures sinks { IfOk result (λ split. split.1.items ≡ map (λ w. w.sink) all.items) }
+{
     let mut sinks = Vec::with_capacity(alloc, all.len())?;
-    let mut ends = Vec::with_capacity(alloc, all.len())?;
-    let mut finished = true;
-    for Worked { seat, sink, end } in all {
-        let end = end?;
-        finished = finished && end.why == Why::Finished;
+    for Worked { seat, sink, end: _ } in all {
         seats.push(seat)?;
         sinks.push(sink)?;
-        ends.push(end)?;
     }
-    Ok(Ended {
-        seats,
-        sinks,
-        ends,
-        finished,
-    })
+    Ok((seats, sinks))
 }
 
-/// Returns what each port did, in order. `Err` only if memory is refused.
+/// Returns what each port and its worker did, in order, before dropped chapters are counted. `Err` only if memory is
+/// refused.
 pub(crate) fn ends_of(
     alloc: Global,
     ports: &[Port],
-    ends: &[WorkerEnd],
-) -> Result<Vec<PortEnd>, AllocError> {
-    ports
-        .iter()
-        .zip(ends)
-        .map(|(port, end)| end_of(port, end))
-        .collect(alloc)
+    workers: &[WorkerEnd],
+) -> Result<Vec<PortEnd>, AllocError>
+    ensures { IfOk result (λ all. all.items ≡ ends_of ports.now workers.now) }
+{
+    let mut all = Vec::with_capacity(alloc, ports.len())?;
+    for (place, port) in ports.iter().enumerate() {
+        let Some(worker) = workers.get(place) else {
+            return Ok(all);
+        };
+        all.push(end_of(port, worker))?;
+    }
+    Ok(all)
 }

@@ -3,7 +3,7 @@
 ghost use Rattle.std.specs.Prelude.{◌≡◌, [], ◌∷◌, true, false};
 ghost use Rattle.pon_recorder.specs.Bodies.{chapter_body};
 ghost use Rattle.pon_recorder.specs.Recorders.{Stays};
-ghost use Rattle.pon_run.specs.Recordings.{HasRecorded, IsDropped};
+ghost use Rattle.pon_run.specs.Recordings.{HasRecorded, IsDropped, TakesChapters};
 
 use pon_device::DevWrite;
 use pon_port::Chapter;
@@ -40,6 +40,9 @@ fn write_rest<W: DevWrite + Drop>(file: &mut RecordFile<W>) -> bool
 }
 
 impl<W: DevWrite + Drop> Recorder<W> {
+    ghost use Rattle.std.specs.Prelude.{OnOk};
+    ghost use Rattle.pon_run.specs.Whole.{IsSound, RecordsAll};
+
     /// Makes a recorder of a recording with nothing left to write.
     pub(crate) fn new(file: RecordFile<W>) -> Self
         requires { file.left ≡ [] }
@@ -53,8 +56,9 @@ impl<W: DevWrite + Drop> Recorder<W> {
     }
 
     /// Appends a chapter of a port. Returns `false` if it is dropped: memory is refused for it, or the file failed three
-    /// times in a row, now or earlier.
+    /// times in a row, now or earlier. Both are noted for [`Recorder::end`].
     pub(crate) fn append(&mut self, port: PortNo, chapter: &Chapter) -> bool
+        ensures sound { IsSound self.new → IsSound self.old × (result ≡ true) }
         ensures recorded { result ≡ true → HasRecorded (W.contents self.old.file.device)
             self.old.file.left (W.contents self.new.file.device) self.new.file.left
             (chapter_body port chapter.now ∷ []) }
@@ -79,11 +83,26 @@ impl<W: DevWrite + Drop> Recorder<W> {
         }
     }
 
+    /// Records a chapter of a port, or counts it as dropped.
+    pub(crate) fn record(&mut self, port: PortNo, chapter: &Chapter, dropped: &mut u64)
+        ensures all { RecordsAll self.old self.new (W.contents self.old.file.device)
+            (W.contents self.new.file.device) (chapter_body port chapter.now ∷ []) }
+        ensures taken { TakesChapters (W.contents self.old.file.device) self.old.file.left
+            (W.contents self.new.file.device) self.new.file.left dropped.old dropped.new
+            (chapter_body port chapter.now ∷ []) }
+    {
+        if !self.append(port, chapter) {
+            *dropped = dropped.saturating_add(1);
+        }
+    }
+
     /// Flushes the file.
     ///
     /// Returns `Write` if the file failed three times in a row, or fails now, and `Memory` if memory was refused for a
     /// chapter.
-    pub(crate) fn end(self) -> Result<(), PlanFault> {
+    pub(crate) fn end(self) -> Result<(), PlanFault>
+        ensures { OnOk result (IsSound self) }
+    {
         let Recorder {
             mut file,
             failed,

@@ -1,7 +1,9 @@
 //! The recorder's thread.
 
-ghost use Rattle.std.specs.Prelude.{◌≤◌};
+ghost use Rattle.std.specs.Prelude.{◌≡◌, ◌≤◌, OnOk, map};
 ghost use Rattle.std.specs.Vec.{vec_len};
+ghost use Rattle.pon_run.specs.Ends.{without_dropped};
+ghost use Rattle.pon_run.specs.Whole.{IsWhole, RecordsAll, kept_at, kept_bodies};
 ghost use Rattle.pon_run.specs.Rings.{AreRingsOf};
 
 use crate::end::PortEnd;
@@ -146,16 +148,65 @@ impl<K: Rings, W: DevWrite + Drop> Recording<K, W> {
     ///
     /// Returns `Write` if the file failed three times in a row, or a sink was not that of its port, and `Memory` if memory
     /// was refused for a chapter.
-    pub(crate) fn finish(self, ports: Vec<Port>, ends: &mut [PortEnd]) -> Result<(), PlanFault> {
+    pub(crate) fn finish(self, ports: Vec<Port>, ends: &mut [PortEnd]) -> Result<(), PlanFault>
+        ensures ends { map without_dropped ends.new ≡ map without_dropped ends.old }
+        ensures whole { OnOk result (IsWhole self.recorder self.whole) }
+    {
         let Recording {
             mut recorder,
             inlets,
             whole,
         } = self;
-        for ((inlet, port), end) in inlets.into_iter().zip(ports).zip(ends) {
-            end.dropped = inlet.take_kept(&mut recorder, &port.into_chapter());
-        }
+        take_all_kept(&mut recorder, inlets.as_slice(), ports, ends);
         recorder.end()?;
         if whole { Ok(()) } else { Err(PlanFault::Write) }
+    }
+}
+
+// Sets the number of dropped chapters of the port at a place.
+#[tactic(auto, using(crate::proofs::Endings::one_dropped))]
+fn set_dropped(ends: &mut [PortEnd], place: usize, dropped: u64)
+    ensures { map without_dropped ends.new ≡ map without_dropped ends.old }
+{
+    if place < ends.len() {
+        ends[place].dropped = dropped;
+    }
+}
+
+// Records the chapter that the port at a place keeps, if a ring of it has an end there, and counts the port's dropped
+// chapters in its end.
+fn take_kept_at<K: Rings, W: DevWrite + Drop>(
+    recorder: &mut Recorder<W>,
+    inlets: &[Inlet<K>],
+    place: usize,
+    port: Port,
+    ends: &mut [PortEnd],
+)
+    ensures ends { map without_dropped ends.new ≡ map without_dropped ends.old }
+    ensures kept { RecordsAll recorder.old recorder.new (W.contents recorder.old.file.device)
+        (W.contents recorder.new.file.device) (kept_at (map (λ i. i.port) inlets.now) place port) }
+{
+    let Some(inlet) = inlets.get(place) else {
+        return;
+    };
+    let dropped = inlet.take_kept(recorder, &port.into_chapter());
+    set_dropped(ends, place, dropped);
+}
+
+// Records the chapter that each port keeps, in order, and counts the port's dropped chapters in its end.
+fn take_all_kept<K: Rings, W: DevWrite + Drop>(
+    recorder: &mut Recorder<W>,
+    inlets: &[Inlet<K>],
+    ports: Vec<Port>,
+    ends: &mut [PortEnd],
+)
+    ensures ends { map without_dropped ends.new ≡ map without_dropped ends.old }
+    ensures kept { RecordsAll recorder.old recorder.new (W.contents recorder.old.file.device)
+        (W.contents recorder.new.file.device) (kept_bodies (map (λ i. i.port) inlets.now) ports.items) }
+{
+    let mut place = 0;
+    for port in ports {
+        take_kept_at(recorder, inlets, place, port, ends);
+        place += 1;
     }
 }

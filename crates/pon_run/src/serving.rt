@@ -1,9 +1,9 @@
 //! A run, from its settings to its last line.
 
-ghost use Rattle.std.specs.Prelude.{◌≡◌, ◌⊎◌, ◌+◌, ◌≤◌, IfOk, IsNone, length, true};
+ghost use Rattle.std.specs.Prelude.{◌≡◌, ◌⊎◌, ◌+◌, ◌≤◌, IfOk, IsNone, OnOk, is_ok, length, map, true};
 ghost use Rattle.std.specs.Vec.{vec_len};
 ghost use Rattle.pon_run.specs.Rings.{AreRingsOf};
-ghost use Rattle.pon_run.specs.Runs.{TellsPorts};
+ghost use Rattle.pon_run.specs.Runs.{EndsDone, TellsWorked};
 
 use crate::arguments::RunArgs;
 use crate::ending::tell;
@@ -78,13 +78,37 @@ fn tell_with_seats<L: Ledger, M: Ledger, K: Rings, F: Write + Drop, W: DevWrite>
     settle: bool,
     writer: &mut W,
 ) -> Result<bool, PlanFault>
-    ensures { IfOk result (λ done. done ≡ true
-        → TellsPorts desk.ports settle (W.contents writer.old) (W.contents writer.new)) }
+    ensures { IfOk result (λ done. done ≡ true → TellsWorked (map (λ w. w.end) all.items) desk.ports
+        settle (W.contents writer.old) (W.contents writer.new)) }
 {
     match Vec::from_array(alloc, others) {
         Ok(others) => tell(alloc, desk, others, all, recording, settle, writer),
         Err(_) => Err(PlanFault::Memory),
     }
+}
+
+// Writes what each port did, and returns whether the run is done. `Err` also if the operator's lines were not all executed.
+fn tell_results<L: Ledger, M: Ledger, K: Rings, F: Write + Drop, W: DevWrite>(
+    alloc: Global,
+    desk: Desk<L, M>,
+    others: [Seat<L, M>; OTHER_SEATS],
+    results: Results<L, M, K, Tape<F>>,
+    settle: bool,
+    writer: &mut W,
+) -> Result<bool, PlanFault>
+    ensures done { IfOk result (λ done. done ≡ true
+        → TellsWorked (map (λ w. w.end) results.worked.items) desk.ports settle
+        (W.contents writer.old) (W.contents writer.new)) }
+    ensures operated { OnOk result (is_ok results.operated ≡ true) }
+{
+    let Results {
+        worked,
+        recording,
+        operated,
+    } = results;
+    let done = tell_with_seats(alloc, desk, others, worked, recording, settle, writer)?;
+    operated?;
+    Ok(done)
 }
 
 // Admits the rows of the settings, and combines what serves each port.
@@ -141,8 +165,8 @@ where
     W: DevWrite,
     R: Wait + Threads + Clock + Sync,
     requires { OTHER_SEATS ≤ vec_len seats }
-    ensures { IsNone lines → IfOk result (λ done. done ≡ true
-        → TellsPorts desk.ports args.entry.settle (W.contents writer.old) (W.contents writer.new)) }
+    ensures { IfOk result (λ done. done ≡ true → EndsDone desk.ports args.entry.settle (IsNone lines)
+        (W.contents writer.old) (W.contents writer.new)) }
 {
     keep_receipts(alloc, seats.as_mut_slice(), args.settle);
     // The operator has the last seat.
@@ -151,17 +175,10 @@ where
     };
     let Sinks { sinks, recording } = sinks;
     let all = prepare(rt, alloc, &desk, &mut first, settings, seats, sinks, links)?;
-    let Results {
-        worked,
-        recording,
-        operated,
-    } = serve(
+    let results = serve(
         rt, alloc, &desk, all, recording, &mut seat, gate, args.maps, lines, writer,
     )?;
-    let seats = [first, seat];
-    let done = tell_with_seats(alloc, desk, seats, worked, recording, args.settle, writer)?;
-    operated?;
-    Ok(done)
+    tell_results(alloc, desk, [first, seat], results, args.settle, writer)
 }
 
 // Opens a desk for the ports of the settings, and runs it.
@@ -192,8 +209,8 @@ where
     requires seats { (of_seats.name ≡ M.name) × (of_seats.parts ≡ M.parts)
         × (M.parts ≡ length settings.now + OTHER_SEATS) }
     requires rings { (vec_len rings ≤ MOST_PORTS) × AreRingsOf K.ring rings.items }
-    ensures { IsNone lines → IfOk result (λ done. done ≡ true
-        → TellsPorts (length settings.now) args.entry.settle (W.contents writer.old) (W.contents writer.new)) }
+    ensures { IfOk result (λ done. done ≡ true → EndsDone (length settings.now) args.entry.settle
+        (IsNone lines) (W.contents writer.old) (W.contents writer.new)) }
 {
     let Ok(openings) = settings.openings(alloc) else {
         return Err(PlanFault::Memory);
@@ -225,8 +242,8 @@ where
     W: DevWrite,
     R: Net<Listener = TcpListener, Stream = TcpStream> + Files + Threads + Wait + Clock + Sync,
     R::File: Send,
-    ensures { IsNone args.entry.operate → IfOk result (λ done. done ≡ true
-        → TellsPorts (length settings.now) args.entry.settle (W.contents writer.old) (W.contents writer.new)) }
+    ensures { IfOk result (λ done. done ≡ true → EndsDone (length settings.now) args.entry.settle
+        (IsNone args.entry.operate) (W.contents writer.old) (W.contents writer.new)) }
 {
     let lines = match args.operate {
         None => None,
@@ -287,8 +304,8 @@ where
     R::File: Send,
     ensures status { (result ≡ 0) ⊎ (result ≡ 3) }
     // Without an operator only these lines are written.
-    ensures lines { IsNone args.entry.operate → result ≡ 0
-        → TellsPorts (length settings) args.entry.settle (W.contents writer.old) (W.contents writer.new) }
+    ensures lines { result ≡ 0 → EndsDone (length settings) args.entry.settle (IsNone args.entry.operate)
+        (W.contents writer.old) (W.contents writer.new) }
 {
     let ended = run(rt, alloc, &settings, args, gate, writer);
     if let Err(fault) = ended {

@@ -13,11 +13,11 @@ loop-chapter-preserved g c =
     let before = c.loop-chapter.self in
     let old = g.W.DevWrite.contents c.args.recorder.now.file.device in
     let mid = g.W.DevWrite.contents c.loop-chapter.recorder.file.device in
-    let new = g.W.DevWrite.contents c.record.new.recorder.file.device in
+    let new = g.W.DevWrite.contents c.record.new.self.file.device in
     let rest = c.loop-chapter.recorder.file.left in
-    let more = c.record.new.recorder.file.left in
+    let more = c.record.new.self.file.left in
     let popped = far.taken.0 in
-    let taken = subst (λ port. TakesChapters mid rest new more before.dropped c.record.new.dropped (chapter_body port c.in-Some.chapter ∷ [])) far.port c.record.ensures in
+    let taken = subst (λ port. TakesChapters mid rest new more before.dropped c.record.new.dropped (chapter_body port c.in-Some.chapter ∷ [])) far.port c.record.ensures.taken in
     record {
       ends = c.pop_beside.ensures.ends;
       sent = c.pop_beside.ensures.same.1 ∙ far.sent;
