@@ -49,6 +49,18 @@ impl Gate for Both {
     }
 }
 
+// Settings of three ports, with one, two and three ONUs.
+const THREE_PORTS: &str = "\
+    [[port]]\ngap = 16\n\
+    [[port.alloc]]\nonu = 5\nalloc = 1024\nfixed = 2560\nassured = 0\nmax = 2560\nclass = \"none\"\nqueue = 100\n\
+    [[port]]\ngap = 16\n\
+    [[port.alloc]]\nonu = 6\nalloc = 1025\nfixed = 2560\nassured = 0\nmax = 2560\nclass = \"none\"\nqueue = 100\n\
+    [[port.alloc]]\nonu = 7\nalloc = 1026\nfixed = 2560\nassured = 0\nmax = 2560\nclass = \"none\"\nqueue = 100\n\
+    [[port]]\ngap = 16\n\
+    [[port.alloc]]\nonu = 8\nalloc = 1027\nfixed = 2560\nassured = 0\nmax = 2560\nclass = \"none\"\nqueue = 100\n\
+    [[port.alloc]]\nonu = 9\nalloc = 1028\nfixed = 2560\nassured = 0\nmax = 2560\nclass = \"none\"\nqueue = 100\n\
+    [[port.alloc]]\nonu = 10\nalloc = 1029\nfixed = 2560\nassured = 0\nmax = 2560\nclass = \"none\"\nqueue = 100\n";
+
 // Returns the text of the settings of this number of such ports.
 fn text(rt: &impl Abort, alloc: Global, ports: usize) -> String {
     let mut text = String::new(alloc);
@@ -58,13 +70,37 @@ fn text(rt: &impl Abort, alloc: Global, ports: usize) -> String {
     text
 }
 
-fn read(rt: &impl Abort, alloc: Global, ports: usize) -> Settings {
-    settings(alloc, text(rt, alloc, ports).as_str())
-        .ok()
-        .expect(rt, "settings")
+fn read(rt: &impl Abort, alloc: Global, text: &str) -> Settings {
+    settings(alloc, text).ok().expect(rt, "settings")
 }
 
-// Runs this number of such ports. Returns the exit status and the text that was written.
+// Runs the ports of these settings. Returns the exit status and the text that was written.
+fn ran_with<G, R>(
+    rt: &R,
+    alloc: Global,
+    text: &str,
+    args: RunArgs<'_>,
+    gate: &G,
+) -> (u8, MemWrite)
+where
+    G: Gate + Sync,
+    R: Net<Listener = TcpListener, Stream = TcpStream>
+        + Files
+        + Threads
+        + Wait
+        + Clock
+        + Eprint
+        + Sync
+        + Abort,
+    R::File: Send,
+{
+    let settings = read(rt, alloc, text);
+    let mut writer = MemWrite::new(alloc, 4096, Vec::new(alloc));
+    let status = run_ports(rt, alloc, settings, args, gate, &mut writer);
+    (status, writer)
+}
+
+// Runs this number of ports that are alike. Returns the exit status and the text that was written.
 fn ran<G, R>(rt: &R, alloc: Global, ports: usize, args: RunArgs<'_>, gate: &G) -> (u8, MemWrite)
 where
     G: Gate + Sync,
@@ -78,10 +114,8 @@ where
         + Abort,
     R::File: Send,
 {
-    let settings = read(rt, alloc, ports);
-    let mut writer = MemWrite::new(alloc, 4096, Vec::new(alloc));
-    let status = run_ports(rt, alloc, settings, args, gate, &mut writer);
-    (status, writer)
+    let text = text(rt, alloc, ports);
+    ran_with(rt, alloc, text.as_str(), args, gate)
 }
 
 // Returns whether a run ended with this exit status and text.
@@ -136,6 +170,27 @@ impl Gate for Shut {
 fn tells_that_a_worker_ended_early(rt: HostRuntime) {
     let run = ran(&rt, rt.alloc(), 1, args(3), &Shut);
     assert!(rt; ended_with(run, 3, "port 0 maps 1 entries 2 reports 0 dropped 0\n"));
+}
+
+// A gate that lets no worker pass but those of the ports after the first.
+struct ShutAtPort0;
+
+impl Gate for ShutAtPort0 {
+    fn pass(&self, port: PortNo, _point: Point) -> bool {
+        port.get() > 0
+    }
+}
+
+#[test]
+fn tells_each_port_its_own_numbers(rt: HostRuntime) {
+    let run = ran_with(&rt, rt.alloc(), THREE_PORTS, args(3), &OpenGate);
+    let lines =
+        "port 0 maps 3 entries 7 reports 3 dropped 0\nport 1 maps 3 entries 11 reports 6 dropped 0\nport 2 maps 3 entries 15 reports 9 dropped 0\n";
+    assert!(rt; ended_with(run, 0, lines));
+    let run = ran_with(&rt, rt.alloc(), THREE_PORTS, args(3), &ShutAtPort0);
+    let lines =
+        "port 0 maps 1 entries 2 reports 0 dropped 0\nport 1 maps 3 entries 11 reports 6 dropped 0\nport 2 maps 3 entries 15 reports 9 dropped 0\n";
+    assert!(rt; ended_with(run, 3, lines));
 }
 
 // An address, and the paths of an operator and of a recording, one of which cannot be opened.
