@@ -1,12 +1,21 @@
-/* Preloaded into the program: refuses the allocation of the number in REFUSE_AT, counted from 1, and no other. */
+/* Preloaded into the program: refuses the allocation of the number in REFUSE_AT, counted from 1, and no other. If it was made, the file of the name in
+   REFUSE_TOLD, if there is one, is made. */
 #include <errno.h>
+#include <fcntl.h>
 #include <stddef.h>
 #include <stdlib.h>
+#include <unistd.h>
 
 extern void *__libc_malloc(size_t);
 extern void *__libc_calloc(size_t, size_t);
 extern void *__libc_realloc(void *, size_t);
 extern void *__libc_memalign(size_t, size_t);
+
+static void tell(void) {
+    const char *name = getenv("REFUSE_TOLD");
+    int file = name ? open(name, O_WRONLY | O_CREAT, 0600) : -1;
+    if (file >= 0) close(file);
+}
 
 static int is_refused(void) {
     static long made = 0;
@@ -16,6 +25,7 @@ static int is_refused(void) {
         refused = text ? atol(text) : 0;
     }
     made += 1;
+    if (made == refused) tell();
     return made == refused;
 }
 

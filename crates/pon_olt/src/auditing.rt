@@ -1,10 +1,9 @@
 //! The audit of a recording in a file.
 
 use crate::files::bytes_of;
-use pon_audit::{Verdict, audit};
+use pon_audit::write_verdict;
 use pon_device::StdWrite;
 use pon_manage::PlanFault;
-use pon_stream::write_text;
 use std::alloc::Global;
 use std::io;
 use std::rt::Files;
@@ -17,12 +16,6 @@ pub(crate) fn audit_file<R: Files + Print + Threads + Sync>(
     name: &str,
 ) -> Result<bool, PlanFault> {
     let bytes = bytes_of(rt, alloc, name)?;
-    let Ok(verdict) = audit(rt, alloc, bytes.as_slice()) else {
-        return Err(PlanFault::Memory);
-    };
-    let Ok(text) = format!(in alloc; "{verdict}\n") else {
-        return Err(PlanFault::Memory);
-    };
-    write_text(&mut StdWrite::new(io::writer(rt)), text.as_bytes())?;
-    Ok(matches!(verdict, Verdict::Good { .. }))
+    let mut writer = StdWrite::new(io::writer(rt));
+    write_verdict(rt, alloc, bytes.as_slice(), &mut writer)
 }

@@ -6,8 +6,9 @@
 //! settings and the exit status.
 #![tactic(auto)]
 
-ghost use Rattle.std.specs.Prelude.{length};
+ghost use Rattle.std.specs.Prelude.{◌≡◌, Err, IfOk, Ok, length};
 ghost use Rattle.pon_plant.specs.Plants.{IsPlantSize};
+ghost use Rattle.pon_job.specs.Outcomes.{exit_status, outcome_of_job};
 
 mod auditing;
 mod files;
@@ -18,11 +19,11 @@ use crate::auditing::audit_file;
 use crate::migrating::migrate_file;
 use crate::opening::{NotOpened, Opening, settings_of, with_settings, without_settings};
 use clap::Error;
-pub use pon_audit::audit;
+pub use pon_audit::{audit, write_verdict};
 pub use pon_check_file::check_file;
 use pon_device::{StdRead, StdWrite};
 pub use pon_job::job;
-use pon_job::{Job, Outcome, exit_status, outcome_of_check, outcome_of_run, outcome_of_words};
+use pon_job::{Job, Outcome, exit_status, outcome_of_job, outcome_of_words};
 use pon_manage::PlanEnd;
 pub use pon_manage::{PlanFault, plan};
 pub use pon_record::migrate;
@@ -56,30 +57,27 @@ fn plan_lines<R: Input + Print>(
     plan(rt, alloc, ports.as_slice(), steps, &mut reader, &mut writer)
 }
 
-// Prints why settings are refused, and returns the outcome of the run.
-fn outcome_of_opening<R: Eprint>(rt: &R, why: NotOpened) -> Outcome {
-    match why {
-        NotOpened::Failed(fault) => Outcome::Failed(fault),
-        NotOpened::Refused(line) => {
-            let _ = eprintln!(rt; "olt: settings refused\n{line}");
-            Outcome::Settings
-        }
-    }
+// Prints why settings are refused.
+fn print_refusal(rt: &impl Eprint, line: &str) -> Outcome
+    ensures { result ≡ Outcome.Settings }
+{
+    let _ = eprintln!(rt; "olt: settings refused\n{line}");
+    Outcome::Settings
 }
 
 // Executes the lines of standard input at the ports of the settings file, or at one port without settings.
-fn run_plan<R: Input + Print + Eprint + Files>(
+fn run_plan<R: Input + Print + Files>(
     rt: &R,
     alloc: Global,
     config: Option<&str>,
-) -> Outcome {
+) -> Result<bool, NotOpened> {
     let opening = match config {
-        Some(name) => with_settings(rt, alloc, name),
-        None => without_settings(alloc).map_err(NotOpened::from),
+        Some(name) => with_settings(rt, alloc, name)?,
+        None => without_settings(alloc)?,
     };
-    match opening {
-        Ok(opening) => outcome_of_run(plan_lines(rt, alloc, opening)),
-        Err(why) => outcome_of_opening(rt, why),
+    match plan_lines(rt, alloc, opening) {
+        Ok(_) => Ok(true),
+        Err(fault) => Err(NotOpened::Failed(fault)),
     }
 }
 
@@ -101,7 +99,8 @@ where
             let mut writer = StdWrite::new(io::writer(rt));
             run_ports(rt, alloc, settings, args, &OpenGate, &mut writer)
         }
-        Err(why) => print_outcome(rt, outcome_of_opening(rt, why)),
+        Err(NotOpened::Failed(fault)) => print_outcome(rt, Outcome::Failed(fault)),
+        Err(NotOpened::Refused(line)) => print_outcome(rt, print_refusal(rt, &line)),
     }
 }
 
@@ -131,7 +130,9 @@ fn show<R: Print + Eprint>(rt: &R, error: &Error) -> Outcome {
 }
 
 // Prints the fault if a device failed or memory was refused. Returns the exit status.
-fn print_outcome(rt: &impl Eprint, outcome: Outcome) -> u8 {
+fn print_outcome(rt: &impl Eprint, outcome: Outcome) -> u8
+    ensures { result ≡ exit_status outcome }
+{
     if let Outcome::Failed(fault) = outcome {
         let _ = eprintln!(rt; "olt: {fault}");
     }
@@ -145,6 +146,19 @@ fn without_words(rt: &impl Eprint, error: &io::Error) -> Outcome {
     }
     let _ = eprintln!(rt; "error: a word of the command line is not UTF-8");
     Outcome::CommandLine
+}
+
+// Returns the outcome of a job, from how it ended. Prints why settings are refused.
+fn outcome_of_end(rt: &impl Eprint, job: &Job<'_>, ended: Result<bool, NotOpened>) -> Outcome
+    ensures ok { IfOk ended (λ accepted. result ≡ outcome_of_job job.now (Ok accepted)) }
+    ensures failed { (fault : PlanFault) → ended ≡ Err (NotOpened.Failed fault)
+        → result ≡ outcome_of_job job.now (Err fault) }
+{
+    match ended {
+        Ok(accepted) => outcome_of_job(job, Ok(accepted)),
+        Err(NotOpened::Failed(fault)) => outcome_of_job(job, Err(fault)),
+        Err(NotOpened::Refused(line)) => print_refusal(rt, &line),
+    }
 }
 
 // Does the job of the command line. Returns the exit status.
@@ -161,23 +175,23 @@ where
         + Sync,
     R::File: Send,
 {
-    match job(alloc, words) {
-        Ok(Job::Plan { config }) => print_outcome(rt, run_plan(rt, alloc, config)),
-        Ok(Job::Check { file }) => print_outcome(rt, outcome_of_check(judge_file(rt, alloc, file))),
-        Ok(Job::Audit { file }) => print_outcome(rt, outcome_of_check(audit_file(rt, alloc, file))),
-        Ok(Job::Migrate { file, out }) => {
-            print_outcome(rt, outcome_of_check(migrate_file(rt, alloc, file, out)))
-        }
-        Ok(
-            Job::Run {
-                config,
-                listen,
-                maps,
-                record,
-                operate,
-                settle,
-            },
-        ) => {
+    let job = match job(alloc, words) {
+        Ok(job) => job,
+        Err(error) => return print_outcome(rt, show(rt, &error)),
+    };
+    let ended = match job {
+        Job::Plan { config } => run_plan(rt, alloc, config),
+        Job::Check { file } => judge_file(rt, alloc, file).map_err(NotOpened::Failed),
+        Job::Audit { file } => audit_file(rt, alloc, file).map_err(NotOpened::Failed),
+        Job::Migrate { file, out } => migrate_file(rt, alloc, file, out).map_err(NotOpened::Failed),
+        Job::Run {
+            config,
+            listen,
+            maps,
+            record,
+            operate,
+            settle,
+        } => {
             let args = RunArgs {
                 listen,
                 maps,
@@ -185,10 +199,10 @@ where
                 operate,
                 settle,
             };
-            run_settings(rt, alloc, config, args)
+            return run_settings(rt, alloc, config, args);
         }
-        Err(error) => print_outcome(rt, show(rt, &error)),
-    }
+    };
+    print_outcome(rt, outcome_of_end(rt, &job, ended))
 }
 
 fn main(rt: HostRuntime) -> ExitCode {

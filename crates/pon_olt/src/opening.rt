@@ -33,10 +33,10 @@ pub(crate) struct Opening {
     pub(crate) steps: Vec<Step>,
 }
 
-/// Why nothing can be opened.
+/// Why nothing was opened, or a job was not done to its end.
 #[derive(Drop)]
 pub(crate) enum NotOpened {
-    /// The settings file cannot be read, or memory was refused.
+    /// A device failed, as in reading the settings file, or memory was refused.
     Failed(PlanFault),
     /// The settings are refused. The text names the place, and the rule that is broken.
     Refused(String),
