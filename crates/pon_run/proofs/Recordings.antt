@@ -1,14 +1,14 @@
 -- Chapters that a recording gets one after another.
 use Rattle.std.proofs.Common.{◌≡◌, ℕ, ◌+◌, List, [], ◌∷◌, ◌++◌, ◌<◌, ap, arith, inl, inr, refl, subst, sym, ◌∙◌, append_assoc}
-use Rattle.std.specs.Prelude.{Bool, true, false, not, map, min, Option, option_to_list, Err}
-use Rattle.std.proofs.lemmas.List.{append-nil, map-append}
+use Rattle.std.specs.Prelude.{Bool, true, false, not, map, min, Option, Err}
+use Rattle.std.proofs.lemmas.List.{map-append}
 use Rattle.pon_port.specs.Chapters.{Chapter}
 use Rattle.pon_record.specs.Chapters.{Body}
 use Rattle.pon_recorder.specs.Bodies.{chapter_body}
 use Rattle.pon_recorder.specs.Recorders.{Grows, IsTaken, Records, Stays}
 use Rattle.pon_recorder.specs.declared.fault.RecordFault.{RecordFault}
 use Rattle.pon_recorder.specs.declared.fault.RecordFault.TheVariants.{Device}
-use Rattle.pon_run.specs.Recordings.{AreSome, HasRecorded, IsDropped, TakesChapters, most_dropped, left_of}
+use Rattle.pon_run.specs.Recordings.{AreSome, HasRecorded, IsDropped, TakesChapters, most_dropped}
 
 -- what is left of a chapter is written
 pub rest_written : (old : Option (List ℕ)) (left : List ℕ) (mid : Option (List ℕ)) (rest : List ℕ) (new : Option (List ℕ)) (more : List ℕ) (b : Body)

@@ -1,13 +1,13 @@
 -- The kept chapters, one after another.
 use Rattle.std.proofs.Common.{◌≡◌, ℕ, List, [], ◌∷◌, ◌++◌, length, ap, refl, sym, subst, ◌∙◌}
-use Rattle.std.specs.Prelude.{Option, Some, None, map, option_map, option_to_list, slice_get}
+use Rattle.std.specs.Prelude.{Option, map, option_map, option_to_list, slice_get}
 use Rattle.std.proofs.lemmas.List.{append-nil}
 use Rattle.std.proofs.lemmas.Option.{slice_get-map}
 use Rattle.pon_port.specs.Chapters.{Chapter}
 use Rattle.pon_record.specs.Chapters.{Body}
 use Rattle.pon_recorder.specs.Bodies.{chapter_body}
 use Rattle.pon_recorder.specs.Recorders.{Records}
-use Rattle.pon_run.specs.Whole.{IsSound, RecordsAll, kept_at, kept_bodies}
+use Rattle.pon_run.specs.Whole.{RecordsAll, kept_at, kept_bodies}
 use Rattle.pon_run.specs.declared.recorder.Recorder.{Recorder}
 use Rattle.pon_run.proofs.Recordings.{both_recorded}
 

@@ -1,4 +1,4 @@
-use Rattle.std.proofs.Common.{◌≡◌, ◌∙◌, ◌+◌, ◌++◌, ◌∷◌, [], ap, append_assoc, map, refl, rules, sym}
+use Rattle.std.proofs.Common.{◌∙◌, ◌+◌, ◌++◌, ◌∷◌, [], ap, append_assoc, map, refl, rules, sym}
 use Rattle.std.proofs.lemmas.List.{length_push}
 use Rattle.pon_run.proofs.Whole.{records_next, records_no_ports}
 use Rattle.pon_run.proofs.recording_thread.take_all_kept.Goals as goal
