@@ -75,13 +75,7 @@ fn read(rt: &impl Abort, alloc: Global, text: &str) -> Settings {
 }
 
 // Runs the ports of these settings. Returns the exit status and the text that was written.
-fn ran_with<G, R>(
-    rt: &R,
-    alloc: Global,
-    text: &str,
-    args: RunArgs<'_>,
-    gate: &G,
-) -> (u8, MemWrite)
+fn ran_with<G, R>(rt: &R, alloc: Global, text: &str, args: RunArgs<'_>, gate: &G) -> (u8, MemWrite)
 where
     G: Gate + Sync,
     R: Net<Listener = TcpListener, Stream = TcpStream>
