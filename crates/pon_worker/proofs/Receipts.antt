@@ -1,5 +1,5 @@
 -- Receipts that a seat is given one after another, and the reports of records.
-use Rattle.std.proofs.Common.{◌≡◌, ℕ, ◌<◌, List, [], ◌∷◌, ◌++◌, ◌⊎◌, inl, inr, Option, Some, None, length, refl, sym, subst, ap, ◌∙◌, arith, append_assoc, append-nil, length-append}
+use Rattle.std.proofs.Common.{◌≡◌, ℕ, List, [], ◌∷◌, ◌++◌, inl, inr, Option, Some, None, refl, sym, subst, ap, ◌∙◌, arith, append_assoc, append-nil, length-append}
 use Rattle.pon_desk.specs.Counts.{SeatState}
 use Rattle.pon_desk.specs.Kept.{AddsTo}
 use Rattle.pon_desk.specs.Receipts.{Receipt}
