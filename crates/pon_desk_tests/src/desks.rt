@@ -1,5 +1,4 @@
-//! Desks of two ports and two seats. Port 0 has a gap of 16 words and starts at frame 0, port 1 a gap of 32 words and
-//! frame 7.
+//! Desks of two ports and two seats. Port 0 has a gap of 16 words and frame 0, port 1 a gap of 32 words and frame 7.
 ghost use Rattle.std.specs.Prelude.{◌≡◌, ◌<◌, length};
 
 use crate::bench::{EVENTS, cause, cfg, close, each_took, event, id, number, put, seat};
@@ -251,8 +250,7 @@ fn kept_is_posted(rt: HostRuntime) {
     assert!(rt; is_all_kept::<Brand, Brand, HostRuntime>(&rt, rt.alloc(), of_ports, of_seats));
 }
 
-// Returns whether a view has these numbers: next frame, cause, Alloc-IDs, ONUs, guaranteed rates in kbit/s, capacity in
-// words.
+// Returns whether a view has these numbers: next frame, cause, Alloc-IDs, ONUs, guaranteed kbit/s, capacity in words.
 pub(crate) fn has_numbers(
     view: &PortView,
     wanted: (u64, Option<u8>, usize, usize, u32, u16),
