@@ -26,7 +26,7 @@ use Rattle.pon_window.specs.Window.{WindowMap}
 use Rattle.pon_window.proofs.Frames.{leads_after}
 use Rattle.pon_state.specs.State.{State}
 use Rattle.pon_state.specs.Accounts.{AccountsFor}
-use Rattle.pon_port.specs.Chapters.{AccountIsLawful, CountedIsLawful, IsJustOpened, IsLawfulOpening, IsSilent, OpensFirst, Owns}
+use Rattle.pon_port.specs.Chapters.{AccountIsLawful, CountedIsLawful, HasNumbersInRange, IsJustOpened, IsLawfulOpening, IsSilent, OpensFirst, Owns}
 use Rattle.pon_record.specs.declared.row.RawRow.{RawRow}
 use Rattle.pon_record.specs.Openings.{Opening}
 use Rattle.pon_audit.specs.Openings.{AreQuiet, Fits, GrantIsOwned, IsBare, MapIsOwned, ReportIsLawful, RowIsLawful, accounts_of, admitted_row, has_row, roster_of, row_account, state_of}
@@ -316,14 +316,15 @@ module _ (o : Opening) where
             owner_has_row g.onu g.alloc_id s.roster (sym (book.1 g.alloc_id) ∙ found_any g.alloc_id s.book a e) (own a e since (sym (account_is s.book g.alloc_id a e)))
 
 -- an opening that passes the tests is lawful
-pub lawful_if_passes : (number : ℕ) (o : Opening) → All (λ r. r.carry ≤ most_carry o.rule) o.rows → PassesTests number o → IsLawfulOpening number (state_of o)
-lawful_if_passes number o range p =
+pub lawful_if_passes : (number : ℕ) (o : Opening) → HasNumbersInRange (state_of o) → All (λ r. r.carry ≤ most_carry o.rule) o.rows → PassesTests number o → IsLawfulOpening number (state_of o)
+lawful_if_passes number o numbers range p =
     let apart : IsDistinct (roster_of o) = p.admitted.apart in
     let s : State = state_of o in
     let book : AccountsFor (roster_of o) s.book = book_of_rows o.rows p.parts.apart in
     let fits : All (AccountFits o) s.book = book_all (AccountFits o) (accounts_of o) (book_fits o apart p.fits.reports) in
     record {
       first = p.first;
+      numbers = numbers;
       admitted = p.admitted;
       book = book;
       carries = record {

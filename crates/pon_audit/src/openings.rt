@@ -4,7 +4,7 @@ ghost use Rattle.std.specs.Prelude.{◌≡◌, ◌==◌, ◌↔◌, ◌<◌, All
 ghost use Rattle.pon_admit.specs.Roster.{IsAdmitted, IsInMapOrder, comes_before};
 ghost use Rattle.pon_guar.specs.Parts.{AreParts, loads_from};
 ghost use Rattle.pon_window.specs.Window.{AreConsecutive, frame_after};
-ghost use Rattle.pon_port.specs.Chapters.{IsLawfulOpening, IsSilent, OpensFirst};
+ghost use Rattle.pon_port.specs.Chapters.{HasNumbersInRange, IsLawfulOpening, IsSilent, OpensFirst};
 ghost use Rattle.pon_record.specs.Openings.{KeepsLimits};
 ghost use Rattle.pon_audit.specs.Openings.{AreQuiet, Fits, GrantIsOwned, IsBare, MapIsOwned, ReportIsLawful, RowIsLawful, accounts_of, admitted_row, has_row, roster_of, row_account, row_carries, state_of};
 
@@ -327,6 +327,16 @@ fn state_of_parts(
     }))
 }
 
+// The numbers of an opening are in range by their types.
+fn prove_numbers(opening: &Opening)
+    ensures { HasNumbersInRange (state_of opening.now) }
+{
+    let _gap = opening.gap.get();
+    let _profile = opening.profile.get();
+    let _next = opening.next.get();
+    let _taken_before = opening.taken_before;
+}
+
 /// Makes the state that a chapter of this number opens with; `None` if the opening is not lawful. `Err` only if memory is
 /// refused.
 pub(crate) fn open_state(
@@ -340,6 +350,7 @@ pub(crate) fn open_state(
         (λ state. IsLawfulOpening number (state_of opening.now)
         × (state ≡ state_of opening.now))) }
 {
+    prove_numbers(opening);
     if !is_open_as_numbered(number, opening) {
         return Ok(None);
     }

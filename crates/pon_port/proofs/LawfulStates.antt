@@ -24,7 +24,7 @@ use Rattle.pon_state.specs.Loads.{account_after, candidates_in, counted_of, sinc
 use Rattle.pon_state.specs.History.{replay}
 use Rattle.pon_state.specs.Checks.{first_refusal, when_down, when_full}
 use Rattle.pon_state.specs.Legal.{MayFollow}
-use Rattle.pon_port.specs.Chapters.{AccountIsLawful, Chapter, CountedIsLawful, IsLawfulChapter, IsLawfulOpening, Owns, present_state, state_before}
+use Rattle.pon_port.specs.Chapters.{AccountIsLawful, Chapter, CountedIsLawful, HasNumbersInRange, IsLawfulChapter, IsLawfulOpening, Owns, present_state, state_before}
 use Rattle.pon_event.specs.declared.event.Event.{Event}
 use Rattle.pon_event.specs.declared.event.Event.TheVariants.{Admit, Change, Remove, Report, MakeMap, Fail, Restore}
 use Rattle.pon_state.specs.declared.reply.Reply.{Reply}
@@ -38,6 +38,7 @@ use Rattle.pon_lists.proofs.Lists.{All-unmap, none_any}
 use Rattle.pon_window.proofs.Frames.{grants_of_one, leads_below, one_of_frame}
 use Rattle.pon_window.proofs.Polls.{occurs-distinct}
 use Rattle.pon_port.proofs.Members.{any_contains, contains_any, each_has}
+use Rattle.pon_port.proofs.Numbers.{numbers_step}
 use Rattle.pon_port.proofs.Legality.{IsLegalAfter, after_from_legal, legal_push, legal_split}
 use Rattle.pon_descr.proofs.Checks.{or_else_none, when_none}
 use Rattle.pon_port.proofs.Carries.{carries_none}
@@ -429,11 +430,13 @@ account_step kept s e h k lawful i there = elim (cases_Bool (begins i e)) [
 
 -- a lawful state, for any number of its chapter
 pub record IsLawfulState (s : State) : Type 0 where
+  pub numbers : HasNumbersInRange s
   pub steady : IsSteady s
   pub accounts : All (AccountIsLawful s) s.book
 
 pub lawful_step : (kept : ℕ) (s : State) (e : Entry) → MayFollow kept s e → IsLawfulState s → IsLawfulState (replay s (e ∷ []))
 lawful_step kept s e f l = record {
+  numbers = numbers_step kept s e f l.numbers;
   steady = steady_step kept s e f l.steady;
   accounts = All-map (AccountIsLawful (replay s (e ∷ []))) (account_after s (e ∷ [])) (allocs_after (alloc_ids s.book) e.event)
       (All-weaker (λ i. has_id i (allocs_after (alloc_ids s.book) e.event) ≡ true) (λ i. AccountIsLawful (replay s (e ∷ [])) (account_after s (e ∷ []) i))
@@ -442,6 +445,7 @@ lawful_step kept s e f l = record {
 
 pub from_opening : (n : ℕ) (s : State) → IsLawfulOpening n s → IsLawfulState s
 from_opening n s o = record {
+  numbers = o.numbers;
   steady = record { admitted = o.admitted; book = o.book; carries = o.carries; few_maps = o.few_maps; frames = o.frames; maps = o.maps; failed = o.failed };
   accounts = o.accounts;
 }
@@ -449,6 +453,7 @@ from_opening n s o = record {
 opens_later : (n : ℕ) (s : State) → 0 < n → IsLawfulState s → IsLawfulOpening n s
 opens_later n s l k = record {
   first = λ e. absurd (omega (arith, l, e));
+  numbers = k.numbers;
   admitted = k.steady.admitted;
   book = k.steady.book;
   carries = k.steady.carries;

@@ -12,9 +12,12 @@ pub mod LawfulStates
 pub mod Legality
 pub mod Loads
 pub mod Members
+pub mod Numbers
+pub mod OneFloor
 pub mod OneReply
 pub mod OtherForms
 pub mod Parts
+pub mod PresentLoads
 pub mod Ranges
 pub mod ReportSteps
 pub mod Steady

@@ -1,8 +1,7 @@
 -- The states of a lawful chapter are in range.
-use Rattle.std.proofs.Common.{◌≡◌, ℕ, ◌+◌, ◌-◌, ◌^◌, ◌<◌, ◌≤◌, true, false, cond, List, [], ◌∷◌, ◌++◌, map, length, get_or, ap, sym, ◌∙◌, subst, arith, inl, inr}
-use Rattle.std.specs.Prelude.{◌==◌, nat_le, if◌then◌else◌, All, count_by, sum_by, Option, Some, None, IfSome, option_to_list}
+use Rattle.std.proofs.Common.{◌≡◌, ℕ, ◌+◌, ◌-◌, ◌^◌, ◌<◌, ◌≤◌, true, false, cond, List, [], ◌∷◌, ◌++◌, map, length, get_or, ap, sym, subst, arith}
+use Rattle.std.specs.Prelude.{◌==◌, nat_le, if◌then◌else◌, All, sum_by, Option, Some, None, IfSome, option_to_list}
 use Rattle.std.specs.List.{list_any}
-use Rattle.std.proofs.lemmas.Bool.{cases_Bool, leb-false, or_parts}
 use Rattle.std.proofs.lemmas.List.{length-map}
 use Rattle.std.proofs.lemmas.List.Elements.{All-nil, All-cons, All-head, All-tail, All-append, All-map, All-weaker}
 use Rattle.std.proofs.lemmas.List.Sums.{sum_by-cons}
@@ -10,8 +9,6 @@ use Rattle.pon_units.specs.declared.granted.Granted.{Granted}
 use Rattle.pon_units.specs.Granted.{onus_granted}
 use Rattle.pon_lists.specs.Distinct.{distinct}
 use Rattle.pon_lists.proofs.Lists.{map-map}
-use Rattle.pon_descr.specs.declared.refusal.Refusal.TheVariants.{ChapterFull, FrameLimit}
-use Rattle.pon_descr.proofs.Checks.{or_else_none, when_none}
 use Rattle.pon_admit.specs.declared.row.Row.{Row}
 use Rattle.pon_admit.specs.Roster.{IsInRange, most_allocs, most_carry, onus_of, rule_in_force}
 use Rattle.pon_burst.specs.Maps.{grant}
@@ -32,7 +29,6 @@ use Rattle.pon_state.specs.declared.reply.Entry.{Entry}
 use Rattle.pon_state.specs.declared.reply.Reply.{Reply}
 use Rattle.pon_state.specs.declared.reply.Reply.TheVariants.{Taken, Map}
 use Rattle.pon_state.specs.State.{State, carry_at, input_of}
-use Rattle.pon_state.specs.Checks.{at_limit, first_refusal, refuses, when_down, when_full}
 use Rattle.pon_state.specs.Events.{IsEvent}
 use Rattle.pon_state.specs.Legal.{IsReply, MayFollow}
 use Rattle.pon_state.specs.Replay.{all_maps, allocs_after, begins, cause_after, makes_map, maps_of, new_map, with_reports}
@@ -145,24 +141,7 @@ module _ (s : State) (k : IsSteady s) (h : IsStateInRange s) where
   new_in_range (Fail cause) a t m = absurd cc
   new_in_range Restore a t m = absurd cc
 
--- Numbers.
-
-next_small : (kept : ℕ) (s : State) (v : Event) → makes_map v ≡ true → first_refusal kept s v ≡ None → s.next < 2 ^ 64 - 1
-next_small kept s MakeMap t h =
-    let own = or_else_none (refuses s MakeMap) (when_full kept s.taken_before) h in
-    let limit = or_else_none (when_down s.cause) (at_limit s.next) own.0 in
-    leb-false (2 ^ 64 - 1) s.next (when_none _ FrameLimit limit.1)
-next_small kept s (Admit onu alloc_id descriptor) t h = absurd cc
-next_small kept s (Change alloc_id descriptor) t h = absurd cc
-next_small kept s (Remove alloc_id) t h = absurd cc
-next_small kept s (Report frame onu occ) t h = absurd cc
-next_small kept s (Fail cause) t h = absurd cc
-next_small kept s Restore t h = absurd cc
-
-count_small : (kept : ℕ) (s : State) (v : Event) → first_refusal kept s v ≡ None → s.taken_before < 2 ^ 64 - 1
-count_small kept s v h =
-    let full = or_else_none (refuses s v) (when_full kept s.taken_before) h in
-    leb-false (2 ^ 64 - 1) s.taken_before (or_parts (nat_le 65536 kept) (nat_le (2 ^ 64 - 1) s.taken_before) (when_none _ ChapterFull full.1)).1
+-- Causes.
 
 cause_in_range : (c : Option ℕ) (v : Event) → IsEvent v → IfSome c (λ c. (1 ≤ c) × (c ≤ 9)) → IfSome (cause_after c v) (λ c. (1 ≤ c) × (c ≤ 9))
 cause_in_range c (Fail cause) i h = i
@@ -177,17 +156,8 @@ cause_in_range c MakeMap i h = h
 
 range_step : (kept : ℕ) (s : State) (e : Entry) → MayFollow kept s e → IsSteady s → IsStateInRange s → IsStateInRange (replay s (e ∷ []))
 range_step kept s e f k h =
-    let count : count_by (λ e. makes_map e.event) (e ∷ []) ≡ cond (makes_map e.event) 1 0 + 0 = sum_by-cons (λ e. cond (makes_map e.event) 1 0) e [] in
     record {
       rule = h.rule;
-      shortest_gap = h.shortest_gap;
-      longest_gap = h.longest_gap;
-      profile = h.profile;
-      next = elim (cases_Bool (makes_map e.event)) [
-        | inl t ↦ omega (arith, count ∙ ap (λ b. cond b 1 0 + 0) t, next_small kept s e.event t f.accepted)
-        | inr t ↦ omega (arith, count ∙ ap (λ b. cond b 1 0 + 0) t, h.next)
-      ];
-      taken_before = omega (arith, count_small kept s e.event f.accepted);
       cause = cause_in_range s.cause e.event f.event h.cause;
       reports = All-map IsSmallAccount (account_after s (e ∷ [])) (allocs_after (alloc_ids s.book) e.event) (λ n d l. counted_small s e f.event h.reports (get_or (allocs_after (alloc_ids s.book) e.event) n d));
       maps = window_all (λ m. AreGrantsInRange m.grants) s e

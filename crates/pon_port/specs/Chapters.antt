@@ -1,5 +1,6 @@
 -- Chapters of a port's history: an opening and the entries that were taken from it.
-use Rattle.std.specs.Prelude.{ℕ, ◌≡◌, ◌+◌, ◌<◌, ◌≤◌, List, [], length, All, Contains, take, slice_get, Some, None, IfSome}
+use Rattle.std.specs.Prelude.{ℕ, ◌≡◌, ◌+◌, ◌<◌, ◌≤◌, ◌^◌, List, [], length, All, Contains, take, slice_get, Some, None, IfSome}
+use Rattle.pon_units.specs.declared.limits.TheConstants.{GREATEST_PROFILE, LONGEST_GAP, SHORTEST_GAP}
 use Rattle.pon_admit.specs.declared.row.Row.{Row}
 use Rattle.pon_admit.specs.declared.rule.Rule.{Rule}
 use Rattle.pon_admit.specs.Roster.{IsAdmitted}
@@ -61,8 +62,17 @@ IsJustOpened s = (rule : Rule) × (gap profile first : ℕ) × (s ≡ opened_und
 abbrev pub OpensFirst : ℕ → State → Type 0
 OpensFirst number s = number ≡ 0 → IsJustOpened s
 
+-- the gap and the burst profile are in their ranges, and the next frame and the number of earlier entries have 64 bits
+pub record HasNumbersInRange (s : State) : Type 0 where
+  pub shortest_gap : SHORTEST_GAP ≤ s.gap
+  pub longest_gap : s.gap ≤ LONGEST_GAP
+  pub profile : s.profile ≤ GREATEST_PROFILE
+  pub next : s.next < 2 ^ 64
+  pub taken_before : s.taken_before < 2 ^ 64
+
 pub record IsLawfulOpening (number : ℕ) (s : State) : Type 0 where
   pub first : OpensFirst number s
+  pub numbers : HasNumbersInRange s
   pub admitted : IsAdmitted s.rule s.gap s.roster
   pub book : AccountsFor s.roster s.book
   pub carries : AreCarries s.rule s.roster s.carries

@@ -1,7 +1,7 @@
--- The ranges of the numbers of a state (ITU-T G.987.3: ONU-ID, Alloc-ID, BufOcc, GrantSize; frames and causes are this
--- project's). A recording has room for a state in these ranges.
-use Rattle.std.specs.Prelude.{◌≡◌, ◌<◌, ◌≤◌, ◌^◌, All, List, length, IfSome}
-use Rattle.pon_units.specs.declared.limits.TheConstants.{FRAME_WORDS, GREATEST_ALLOC_ID, GREATEST_OCCUPANCY, GREATEST_ONU_ID, GREATEST_PROFILE, LEAST_ALLOC_ID, LONGEST_GAP, SHORTEST_GAP}
+-- The ranges of the parts of a state that a port made (ITU-T G.987.3: ONU-ID, Alloc-ID, BufOcc, GrantSize; causes are this
+-- project's). A recording has room for a lawful opening in these ranges.
+use Rattle.std.specs.Prelude.{◌≡◌, ◌≤◌, All, List, length, IfSome}
+use Rattle.pon_units.specs.declared.limits.TheConstants.{FRAME_WORDS, GREATEST_ALLOC_ID, GREATEST_OCCUPANCY, GREATEST_ONU_ID, LEAST_ALLOC_ID}
 use Rattle.pon_units.specs.declared.granted.Granted.{Granted}
 use Rattle.pon_units.specs.Granted.{onus_granted}
 use Rattle.pon_admit.specs.Roster.{most_allocs, most_onus, rule_in_force}
@@ -21,11 +21,6 @@ pub record AreGrantsInRange (gs : List Granted) : Type 0 where
 
 pub record IsStateInRange (s : State) : Type 0 where
   pub rule : s.rule ≡ rule_in_force
-  pub shortest_gap : SHORTEST_GAP ≤ s.gap
-  pub longest_gap : s.gap ≤ LONGEST_GAP
-  pub profile : s.profile ≤ GREATEST_PROFILE
-  pub next : s.next < 2 ^ 64
-  pub taken_before : s.taken_before < 2 ^ 64
   pub cause : IfSome s.cause (λ c. (1 ≤ c) × (c ≤ 9))
   pub reports : All (λ a. IfSome a.counted (λ c. c.words ≤ GREATEST_OCCUPANCY)) s.book
   pub maps : All (λ m. AreGrantsInRange m.grants) s.window

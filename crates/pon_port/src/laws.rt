@@ -1,13 +1,16 @@
 //! Laws of histories, over the definitions alone.
 
-ghost use Rattle.std.specs.Prelude.{Bool, List, Option, [], length, map, if◌then◌else◌, None, Some, drop, slice_get, take, ℕ, ◌++◌, ◌+◌, ◌<◌, ◌≡◌, ◌≢◌, ◌≤◌};
+ghost use Rattle.std.specs.Prelude.{Bool, List, Option, [], false, length, map, true, if◌then◌else◌, None, Some, drop, slice_get, take, ℕ, ◌++◌, ◌+◌, ◌*◌, ◌/◌, ◌<◌, ◌≡◌, ◌≢◌, ◌≤◌};
 ghost use Rattle.pon_descr.specs.Descriptor.{Descriptor, IsLawful};
 ghost use Rattle.pon_descr.specs.declared.refusal.Refusal.{Refusal};
-ghost use Rattle.pon_admit.specs.Roster.{IsAdmitted, IsInRange, most_carry, refuses_admit, refuses_change, with_descriptor, with_row, without};
+ghost use Rattle.pon_admit.specs.Roster.{IsAdmitted, IsInRange, has_alloc, most_carry, refuses_admit, refuses_change, with_descriptor, with_row, without};
 ghost use Rattle.pon_admit.specs.declared.row.Row.{Row};
 ghost use Rattle.pon_state.specs.State.{State};
 ghost use Rattle.std.specs.List.{list_any};
 ghost use Rattle.pon_units.specs.declared.granted.Granted.{Granted};
+ghost use Rattle.pon_units.specs.Frac.{Frac};
+ghost use Rattle.pon_units.specs.declared.limits.TheConstants.{WORD_RATE};
+ghost use Rattle.pon_guar.specs.Book.{AreRising, alloc_ids, load_of, load_of_counted};
 ghost use Rattle.pon_guar.specs.Reports.{after_occupancies};
 ghost use Rattle.pon_guar.specs.declared.account.Account.{Account};
 ghost use Rattle.pon_guar.specs.declared.account.Counted.{Counted};
@@ -22,6 +25,7 @@ ghost use Rattle.pon_cert.specs.declared.cert.MapCert.{MapCert};
 ghost use Rattle.pon_share.specs.Input.{Input};
 ghost use Rattle.pon_share.specs.Sharing.{IsCertified, surplus_rate};
 ghost use Rattle.pon_share.specs.Maps.{map_of};
+ghost use Rattle.pon_share.specs.Rates.{guaranteed_rate, payload, whole_rate};
 ghost use Rattle.pon_burst.specs.Bursts.{AreSound};
 ghost use Rattle.pon_port.specs.Chapters.{Chapter, IsLawfulChapter, IsLawfulOpening, IsLegal, present_state, state_before};
 ghost use Rattle.pon_port.specs.CountedReports.{Counts, IsReport};
@@ -153,6 +157,30 @@ pub fn the_last_accepted_report_counts()
         → Counts o es i c }
     ensures none { (o : State) (es : List Entry) (i : ℕ) → counted_of o es i ≡ None
         → (c : Counted) → IsReport o es i c → ⊥ }
+{}
+
+/// The load of an admitted Alloc-ID in the present state is of the report that counts in the history: 256 kbit/s for each
+/// of its words that was not granted since. An Alloc-ID that is not admitted has no load. The accounts are in ascending
+/// Alloc-ID.
+pub fn loads_are_of_counted_reports()
+    ensures admitted { (c : Chapter) → IsLawfulChapter c → (i : ℕ)
+        → has_alloc i (present_state c).roster ≡ true
+        → load_of (present_state c).book i ≡ load_of_counted (counted_of c.opening c.entries i) }
+    ensures others { (c : Chapter) → IsLawfulChapter c → (i : ℕ)
+        → has_alloc i (present_state c).roster ≡ false → load_of (present_state c).book i ≡ 0 }
+    ensures rising { (c : Chapter) → IsLawfulChapter c → AreRising (alloc_ids (present_state c).book) }
+{}
+
+/// Guaranteed and surplus rate are made whole once in kbit/s and once in words, and both are one whole part: the words of
+/// an Alloc-ID are the whole part of the exact sum of its carry and its rates.
+pub fn words_are_one_whole_part()
+    ensures kbits { (s : Input) (surplus : Row → Frac) (r : Row) → 0 < (surplus r).den
+        → whole_rate s surplus r
+        ≡ (guaranteed_rate s r * (surplus r).den + (surplus r).num) / (surplus r).den }
+    ensures words { (s : Input) (surplus : Row → Frac) (carry : Row → ℕ) (r : Row)
+        → 0 < (surplus r).den → payload s surplus carry r
+        ≡ ((carry r + guaranteed_rate s r) * (surplus r).den + (surplus r).num)
+        / ((surplus r).den * WORD_RATE) }
 {}
 
 /// Two definitions in another form. An ONU's report is taken account by account: from the since-frame on, the latest of

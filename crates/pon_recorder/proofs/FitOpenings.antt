@@ -146,7 +146,7 @@ module _ (n : ℕ) (s : State) (l : IsLawfulOpening n s) (h : IsStateInRange s) 
       let m : WindowMap = get_or s.window i d in
       let below : m.frame < s.next = leads_below s.next s.window l.frames i d lt in
       let few : length m.grants ≤ most_allocs s.rule = subst (λ r. length m.grants ≤ most_allocs r) (sym h.rule) (h.maps i d lt).few in
-      map_fits m (h.maps i d lt) (l.maps i d lt) s.rule few (omega (arith, below, h.next))
+      map_fits m (h.maps i d lt) (l.maps i d lt) s.rule few (omega (arith, below, l.numbers.next))
 
   pub opening_fits : (opening_in version.Two s.rule).Fits (recorded_opening s)
   opening_fits =
@@ -155,20 +155,20 @@ module _ (n : ℕ) (s : State) (l : IsLawfulOpening n s) (h : IsStateInRange s) 
       = omega (arith, length-map pairs (recorded_row s.book), length-zip s.roster s.carries, l.carries.count) in
       let few : length s.roster ≤ most_allocs s.rule = l.admitted.few_allocs in (
         (
-          (omega (arith, h.longest_gap), passes (λ (n : ℕ). leb 1 n && leb n 256) s.gap (between 1 s.gap 256 h.shortest_gap h.longest_gap)),
+          (omega (arith, l.numbers.longest_gap), passes (λ (n : ℕ). leb 1 n && leb n 256) s.gap (between 1 s.gap 256 l.numbers.shortest_gap l.numbers.longest_gap)),
           (
-            (omega (arith, h.profile), passes (λ (n : ℕ). leb n 3) s.profile (le-leb s.profile 3 h.profile)),
+            (omega (arith, l.numbers.profile), passes (λ (n : ℕ). leb n 3) s.profile (le-leb s.profile 3 l.numbers.profile)),
             (
               failure_fits s.cause h.cause,
               (
-                h.next,
+                l.numbers.next,
                 (
-                  h.taken_before,
+                  l.numbers.taken_before,
                   (
                     (
                       omega (arith, many, few, few_allocs s.rule),
                       omega (arith, many, few),
-                      rows_fit s.rule s.book s.roster s.carries (accounts_fit s h.next l.accounts h.reports) l.admitted.in_range l.carries.range,
+                      rows_fit s.rule s.book s.roster s.carries (accounts_fit s l.numbers.next l.accounts h.reports) l.admitted.in_range l.carries.range,
                     ),
                     (omega (arith, l.few_maps), l.few_maps, recursion_from_All (window_map_under s.rule).Fits s.window maps_fit),
                   ),

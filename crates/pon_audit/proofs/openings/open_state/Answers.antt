@@ -31,6 +31,6 @@ returns c =
     let rows : c.rows.result.now ≡ roster_of o = search rules in
     let book : c.in-Some-2.loads.accounts ≡ book_from (accounts_of o) = search rules in
     let fits : Fits o c.rows.result.now c.in-Some-2.loads.accounts = search rules in (
-      lawful_if_passes c.args.number o c.requires.carries_in_range (record { first = numbered.0; silent = numbered.1; admitted = admitted; parts = parts; fits = rw (← rows, ← book) fits }),
+      lawful_if_passes c.args.number o c.prove_numbers.ensures c.requires.carries_in_range (record { first = numbered.0; silent = numbered.1; admitted = admitted; parts = parts; fits = rw (← rows, ← book) fits }),
       search rules,
     )
