@@ -68,16 +68,16 @@ reply_fits k s (Report n u occ) a adm q p h r f = r
 reply_fits k s (Fail c) a adm q p h r f = r
 reply_fits k s Restore a adm q p h r f = r
 
-entry_fits : (c : Chapter) → IsLawfulChapter c → IsStateInRange c.opening → (k : ℕ) (e : Entry) → slice_get c.entries k ≡ Some e → entry.Fits e
-entry_fits c l f k e at =
+entry_fits : (c : Chapter) → IsLawfulChapter c → (k : ℕ) (e : Entry) → slice_get c.entries k ≡ Some e → entry.Fits e
+entry_fits c l k e at =
     let s : State = state_before c k in
     let m : MayFollow k s e = l.legal k e at in (
-      (event_fits k s e.event m.event m.accepted, reply_fits k s e.event e.reply (admitted_before c l k) (carries_before c k) f.profile m.accepted m.reply (maps_are_fair c l k e at)),
+      (event_fits k s e.event m.event m.accepted, reply_fits k s e.event e.reply (admitted_before c l k) (carries_before c k) l.opening.numbers.profile m.accepted m.reply (maps_are_fair c l k e at)),
       refl,
     )
 
-pub entries_fit : (c : Chapter) → IsLawfulChapter c → IsStateInRange c.opening → AllByRecursion entry.Fits c.entries
-entries_fit c l f = from_places entry.Fits c.entries (entry_fits c l f)
+pub entries_fit : (c : Chapter) → IsLawfulChapter c → AllByRecursion entry.Fits c.entries
+entries_fit c l = from_places entry.Fits c.entries (entry_fits c l)
 
 cert_of : (v : Event) (a : Reply) → (reply_to v).Fits a → HoldsFittingCert a
 cert_of v Taken fits = tt
@@ -93,8 +93,8 @@ each_cert : (es : List Entry) → AllByRecursion entry.Fits es → AllByRecursio
 each_cert [] h = tt
 each_cert (e ∷ es) h = (cert_of e.event e.reply h.0.0.1, each_cert es h.1)
 
-pub certs_fit : (c : Chapter) → IsLawfulChapter c → IsStateInRange c.opening → All (λ (e : Entry). HoldsFittingCert e.reply) c.entries
-certs_fit c l f = All-from_recursion (λ (e : Entry). HoldsFittingCert e.reply) c.entries (each_cert c.entries (entries_fit c l f))
+pub certs_fit : (c : Chapter) → IsLawfulChapter c → All (λ (e : Entry). HoldsFittingCert e.reply) c.entries
+certs_fit c l = All-from_recursion (λ (e : Entry). HoldsFittingCert e.reply) c.entries (each_cert c.entries (entries_fit c l))
 
 -- ---- chapters
 
@@ -105,7 +105,7 @@ body_fits p c lt l n f =
         rule_fits c.opening.rule,
         (
           (omega (arith, lt), passes (λ (n : ℕ). ltb n 64) p (le-leb (suc p) 64 (omega (arith, lt)))),
-          (n, (opening_fits c.number c.opening l.opening f, (omega (arith, few), few, entries_fit c l f))),
+          (n, (opening_fits c.number c.opening l.opening f, (omega (arith, few), few, entries_fit c l))),
         ),
       ),
       refl,

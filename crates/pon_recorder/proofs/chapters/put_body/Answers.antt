@@ -27,7 +27,7 @@ put_entries-requires-clause-few c =
 
 pub put_entries-requires-clause-certs : goal.put_entries-requires-clause-certs
 put_entries-requires-clause-certs c =
-    subst (λ (es : List Entry). All (λ (e : Entry). HoldsFittingCert e.reply) es) (sym c.entries.ensures.entries) (certs_fit c.args.chapter.now c.entries.ensures.lawful c.opening-opening.ensures.in_range)
+    subst (λ (es : List Entry). All (λ (e : Entry). HoldsFittingCert e.reply) es) (sym c.entries.ensures.entries) (certs_fit c.args.chapter.now c.entries.ensures.lawful)
 
 pub returns : goal.returns
 returns c =
