@@ -1,10 +1,9 @@
 -- The chapters of a recording, from head to head.
-use Rattle.std.proofs.Common.{◌≡◌, ℕ, ◌+◌, ◌<◌, List, [], ◌∷◌, ◌++◌, length, drop, refl, sym, ap, subst, ◌∙◌, arith}
+use Rattle.std.proofs.Common.{◌≡◌, ℕ, ◌+◌, ◌<◌, List, [], ◌∷◌, ◌++◌, length, drop, sym, ap, ◌∙◌, arith}
 use Rattle.std.specs.Prelude.{map, slice_index}
 use Rattle.std.specs.List.{flat_map, AllByRecursion}
 use Rattle.std.proofs.lemmas.List.{append-nil, drop_at, length-append, length-map}
 use Rattle.std.proofs.lemmas.List.Concat.{flat_map-cons}
-use Rattle.pon_record.specs.declared.limits.TheConstants.{CHAPTER_TAG}
 use Rattle.pon_record.specs.declared.fault.ChapterFault.{ChapterFault}
 use Rattle.pon_record.specs.declared.fault.ChapterFault.TheVariants.{CutShort, Malformed, Memory}
 use Rattle.pon_record.specs.declared.version.Version.{Version}

@@ -15,3 +15,5 @@ pub mod MovedBodies
 pub mod MovedChapters
 pub mod RuleLimits
 pub mod CountedChapters
+pub mod ChapterFronts
+pub mod Streams

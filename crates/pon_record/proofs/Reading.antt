@@ -62,22 +62,26 @@ module _ (v : Version) where
       ∙ ap (λ (l : List ℕ). magic v ++ l) (one_more (bodies whole) c.body)
       ∙ sym (append_assoc (magic v) (flat_map (chapter_bytes v) (bodies whole)) (chapter_bytes v c.body))
 
-  -- one more chapter
-  pub holds_more : (bytes rest : List ℕ) (whole : List PlacedChapter) (c : PlacedChapter) (at size : ℕ) → AreBytes bytes → Holds v bytes whole rest → at ≡ length bytes - length rest → BeginsWith v rest at c size → Holds v bytes (whole ++ c ∷ []) (drop size rest)
-  holds_more bytes rest whole c at size are h here begins =
+  -- one more chapter, whose bytes come next
+  pub holds_next : (bytes rest after : List ℕ) (whole : List PlacedChapter) (c : PlacedChapter) → Holds v bytes whole rest → FitsChapter v c.body → rest ≡ chapter_bytes v c.body ++ after → c.at + length rest ≡ length bytes → Holds v bytes (whole ++ c ∷ []) after
+  holds_next bytes rest after whole c h fits next here =
       let front = recording_bytes v (bodies whole) in
-      let after = drop size rest in
-      let read = (exact_chapter v).takes rest (CHAPTER_TAG, c.body) after (rest_fits front rest bytes h.parts are) begins.read in
       let list : bodies (whole ++ c ∷ []) ≡ bodies whole ++ c.body ∷ [] = map-append (λ (c : PlacedChapter). c.body) whole (c ∷ []) in
-      let at_is : 8 + length (flat_map (chapter_bytes v) (bodies whole)) ≡ c.at = omega (arith, place bytes rest whole h, here, begins.place) in
+      let at_is : 8 + length (flat_map (chapter_bytes v) (bodies whole)) ≡ c.at = omega (arith, place bytes rest whole h, here) in
       record {
-        parts = h.parts ∙ ap (λ (l : List ℕ). front ++ l) read.1 ∙ sym (append_assoc front (chapter_bytes v c.body) after)
+        parts = h.parts ∙ ap (λ (l : List ℕ). front ++ l) next ∙ sym (append_assoc front (chapter_bytes v c.body) after)
             ∙ ap (λ (l : List ℕ). l ++ after) (sym (recorded_more whole c));
-        fit = subst (AllByRecursion (FitsChapter v)) (sym list) (fit_more (bodies whole) c.body h.fit read.0);
+        fit = subst (AllByRecursion (FitsChapter v)) (sym list) (fit_more (bodies whole) c.body h.fit fits);
         places = ap (λ (l : List PlacedChapter). l ++ c ∷ []) h.places
             ∙ ap (λ (n : ℕ). placed v 8 (bodies whole) ++ record { at = n; body = c.body } ∷ []) (sym at_is)
             ∙ sym (placed_more 8 (bodies whole) c.body) ∙ ap (placed v 8) (sym list);
       }
+
+  -- one more chapter, which is read
+  pub holds_more : (bytes rest : List ℕ) (whole : List PlacedChapter) (c : PlacedChapter) (at size : ℕ) → AreBytes bytes → Holds v bytes whole rest → at ≡ length bytes - length rest → BeginsWith v rest at c size → Holds v bytes (whole ++ c ∷ []) (drop size rest)
+  holds_more bytes rest whole c at size are h here begins =
+      let read = (exact_chapter v).takes rest (CHAPTER_TAG, c.body) (drop size rest) (rest_fits (recording_bytes v (bodies whole)) rest bytes h.parts are) begins.read in
+      holds_next bytes rest (drop size rest) whole c h read.0 read.1 (omega (arith, place bytes rest whole h, here, begins.place))
 
   -- the bytes begin with no chapter
   pub no_chapter : (rest : List ℕ) → 0 < length rest → (tagged_body_in v).read rest ≡ None → (IsCutShort rest → ⊥) → IsNoChapter v rest

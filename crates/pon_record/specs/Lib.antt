@@ -8,3 +8,4 @@ pub mod Reading
 pub mod ChapterReading
 pub mod Recordings
 pub mod Migrations
+pub mod Streams

@@ -6,12 +6,14 @@
 #![tactic(auto)]
 
 mod chapter;
+mod chapter_reader;
 mod chapters;
 mod counting;
 mod cursor;
 mod entry;
 mod events;
 mod fault;
+mod fronts;
 pub mod laws;
 mod layout;
 mod limits;
@@ -23,9 +25,11 @@ mod opening;
 mod openings;
 mod recording;
 mod row;
+mod stream_fault;
 mod version;
 
 pub use chapter::{RawChapter, Recording};
+pub use chapter_reader::ChapterReader;
 pub use counting::chapter_count;
 pub use fault::ReadFault;
 pub use limits::{CHAPTER_TAG, GARBLED, MAGIC_BYTES, MOST_REPORTED};
@@ -33,4 +37,5 @@ pub use migration::migrate;
 pub use opening::{Opening, RawMap};
 pub use recording::read_recording;
 pub use row::RawRow;
+pub use stream_fault::StreamFault;
 pub use version::Version;

@@ -1,4 +1,4 @@
-use Rattle.std.proofs.Common.{◌≡◌, ◌+◌, ◌<◌, ◌≤◌, List, ap, arith, drop, length, rules, ℕ}
+use Rattle.std.proofs.Common.{◌≡◌, ◌+◌, ◌<◌, List, ap, arith, drop, length, rules, ℕ}
 use Rattle.std.proofs.lemmas.List.{length-drop, nil_from_length}
 use Rattle.pon_record.proofs.CountedChapters.{all_counted, no_fault, one_counted}
 use Rattle.pon_record.proofs.counting.chapter_count.Goals as goal

@@ -1,7 +1,0 @@
-use Rattle.std.proofs.Common.{◌≡◌}
-use Rattle.std.specs.Prelude.{None, replicate}
-use Rattle.pon_audit.proofs.lasts.Lasts.open.Given as goal
-
--- no chapter of the ports so far
-abbrev pub invariant-loop-port : goal.invariant-loop-port
-invariant-loop-port l = l.by_port.items ≡ replicate l._port None
