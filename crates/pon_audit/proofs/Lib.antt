@@ -4,7 +4,6 @@ pub mod Maps
 pub mod OneFault
 pub mod OneVerdict
 pub mod EachOk
-pub mod Sizes
 pub mod OpenedStates
 pub mod RowSearch
 pub mod SameStates

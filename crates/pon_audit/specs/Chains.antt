@@ -6,6 +6,7 @@ use Rattle.pon_state.specs.State.{State}
 use Rattle.pon_record.specs.declared.row.RawRow.{RawRow}
 use Rattle.pon_record.specs.Openings.{Opening}
 use Rattle.pon_record.specs.Chapters.{PlacedChapter}
+use Rattle.pon_audit.specs.declared.ends.End.{End}
 use Rattle.pon_audit.specs.Openings.{roster_of, row_account, row_carries}
 
 -- a report book has the account of a row
@@ -29,7 +30,7 @@ pub record HasParts (o : Opening) (s : State) : Type 0 where
   pub accounts : All (HasAccount s.book) o.rows
   pub window : o.window ≡ s.window
 
--- a chapter of the same port with the next number
-pub record IsNext (earlier later : PlacedChapter) : Type 0 where
-  pub port : earlier.body.port ≡ later.body.port
-  pub number : later.body.number ≡ earlier.body.number + 1
+-- the end of a chapter of the same port with the number before
+pub record IsBefore (e : End) (later : PlacedChapter) : Type 0 where
+  pub port : e.port ≡ later.body.port
+  pub number : later.body.number ≡ e.number + 1

@@ -1,16 +1,18 @@
 -- The fault of a chapter, alone and after earlier ones.
-use Rattle.std.specs.Prelude.{ℕ, ◌≡◌, ◌<◌, ◌⊎◌, All, List, Option, Some, None, slice_get, slice_index_or}
+use Rattle.std.specs.Prelude.{ℕ, ◌≡◌, ◌+◌, ◌<◌, ◌⊎◌, All, List, Option, Some, None, slice_get, slice_index_or}
+use Rattle.std.specs.List.{AllZip}
 use Rattle.pon_units.specs.declared.limits.TheConstants.{MOST_PORTS}
 use Rattle.pon_state.specs.State.{State}
 use Rattle.pon_port.specs.Taking.{IsKept}
-use Rattle.pon_record.specs.Chapters.{PlacedChapter}
-use Rattle.pon_audit.specs.Openings.{OpensLawfully, chapter_of}
+use Rattle.pon_record.specs.Chapters.{Body, PlacedChapter}
+use Rattle.pon_audit.specs.Openings.{OpensLawfully, chapter_of, state_of}
 use Rattle.pon_audit.specs.Faults.{FailsAt}
 use Rattle.pon_audit.specs.Verdicts.{AreGood, IsFirstFault, IsGoodChapter}
 use Rattle.pon_audit.specs.declared.chapters.Fault.{Fault}
 use Rattle.pon_audit.specs.declared.chapters.Judged.{Judged}
 use Rattle.pon_audit.specs.declared.chapters.Judged.TheVariants.{Unlawful, Fails, Ends}
-use Rattle.pon_audit.specs.declared.lasts.Last.{Last}
+use Rattle.pon_audit.specs.declared.ends.End.{End}
+use Rattle.pon_audit.specs.EndTables.{EndTable}
 use Rattle.pon_audit.specs.declared.verdict.Verdict.{Verdict}
 use Rattle.pon_audit.specs.declared.verdict.Verdict.TheVariants.{Bad}
 
@@ -34,8 +36,39 @@ IsAnswer c (Ends end) = EndsWith c end
 
 -- Earlier chapters.
 
+-- the port, the number and the end of a chapter
+pub record IsEndOf (c : PlacedChapter) (e : End) : Type 0 where
+  pub of_port : e.port ≡ c.body.port
+  pub of_number : e.number ≡ c.body.number
+  pub ends : EndsWith c e.end
+
+-- the chapter at a place is the last of a port; its other chapters have lesser numbers
+pub record IsLastPlace (earlier : List PlacedChapter) (port place : ℕ) : Type 0 where
+  pub chapter : PlacedChapter
+  pub here : slice_get earlier place ≡ Some chapter
+  pub of_port : chapter.body.port ≡ port
+  pub others : All (λ d. d.body.port ≡ port → (d.body.number < chapter.body.number) ⊎ (d ≡ chapter)) earlier
+
+abbrev pub IsPlaceOf : List PlacedChapter → ℕ → Option ℕ → Type 0
+IsPlaceOf earlier port None = All (λ d. d.body.port ≡ port → ⊥) earlier
+IsPlaceOf earlier port (Some place) = IsLastPlace earlier port place
+
+-- the chapters are good, and the table has their ends and the last ones of the ports
+pub record AreJudged (earlier : List PlacedChapter) (t : EndTable) : Type 0 where
+  pub good : AreGood earlier
+  pub each : AllZip IsEndOf earlier t.ends
+  pub lasts : (port : ℕ) → port < MOST_PORTS → IsPlaceOf earlier port (slice_index_or t.places port None)
+
+-- an end is the one before a chapter of its port only if the chapter opens with it
+abbrev pub OpensAt : PlacedChapter → End → Type 0
+OpensAt c e = e.port ≡ c.body.port → c.body.number ≡ e.number + 1 → state_of c.body.opening ≡ e.end
+
+-- the state at an end is one of a chapter
+abbrev pub IsKeptEnd : End → Type 0
+IsKeptEnd e = (b : Body) × IsKept (chapter_of b) e.end
+
 -- the number and the end of the last chapter of a port; its other chapters have lesser numbers
-pub record IsLast (earlier : List PlacedChapter) (port : ℕ) (last : Last) : Type 0 where
+pub record IsLast (earlier : List PlacedChapter) (port : ℕ) (last : End) : Type 0 where
   pub place : ℕ
   pub chapter : PlacedChapter
   pub here : slice_get earlier place ≡ Some chapter
@@ -44,14 +77,14 @@ pub record IsLast (earlier : List PlacedChapter) (port : ℕ) (last : Last) : Ty
   pub ends : EndsWith chapter last.end
   pub others : All (λ d. d.body.port ≡ port → (d.body.number < last.number) ⊎ (d ≡ chapter)) earlier
 
-abbrev pub IsLastOf : List PlacedChapter → ℕ → Option Last → Type 0
+abbrev pub IsLastOf : List PlacedChapter → ℕ → Option End → Type 0
 IsLastOf earlier port None = All (λ d. d.body.port ≡ port → ⊥) earlier
 IsLastOf earlier port (Some last) = IsLast earlier port last
 
--- the chapters are good, and these are the last ones of the ports
-pub record AreJudged (earlier : List PlacedChapter) (table : List (Option Last)) : Type 0 where
-  pub good : AreGood earlier
-  pub lasts : (port : ℕ) → port < MOST_PORTS → IsLastOf earlier port (slice_index_or table port None)
+-- the end at a place, if there is one
+abbrev pub end_at : List End → Option ℕ → Option End
+end_at ends None = None
+end_at ends (Some place) = slice_get ends place
 
 -- the verdict gives the first chapter that fails
 abbrev pub TellsBad : List PlacedChapter → Verdict → Type 0

@@ -1,7 +1,9 @@
 pub mod Openings
 pub mod Faults
 pub mod Chains
+pub mod EndTables
 pub mod Judging
 pub mod Verdicts
 pub mod Texts
+pub mod Streams
 pub mod Answers

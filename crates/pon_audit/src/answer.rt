@@ -1,12 +1,14 @@
 //! The answer to a recording: its verdict as a line.
 
-ghost use Rattle.std.specs.Prelude.{◌≡◌, IfOk, string_bytes};
+ghost use Rattle.std.specs.Prelude.{◌≡◌, ◌≢◌, ℕ, Err, IfOk, List, Option, string_bytes};
 ghost use Rattle.pon_stream.specs.Streams.{TellsWrite};
-ghost use Rattle.pon_audit.specs.Answers.{Audited, verdict_line};
+ghost use Rattle.pon_audit.specs.Answers.{Audited, TellsAudit, verdict_line};
+ghost use Rattle.pon_audit.specs.Streams.{IsVerdictOf};
+ghost use Rattle.pon_stream.specs.declared.fault.PlanFault.TheVariants.{Read};
 
-use crate::recordings::audit;
+use crate::auditing::audit_from;
 use crate::verdict::Verdict;
-use pon_device::DevWrite;
+use pon_device::{DevRead, DevWrite};
 use pon_stream::{PlanFault, write_text};
 use std::alloc::{AllocError, Global};
 use std::thread::Threads;
@@ -19,27 +21,44 @@ fn line_of(alloc: Global, verdict: &Verdict) -> Result<String, AllocError>
     format!(in alloc; "{verdict}\n")
 }
 
-/// Audits the bytes of a recording, and writes the verdict as one line. Returns `true` exactly if the recording is good.
-///
-/// `Memory` if memory is refused: nothing is written. `Write` if the writer fails: a prefix of the line is written. The
-/// writer is flushed once, after the line.
-pub fn write_verdict<W: DevWrite>(
-    rt: &(impl Threads + Sync),
+// Writes the line of a verdict.
+fn write_line<W: DevWrite>(
     alloc: Global,
-    bytes: &[u8],
+    verdict: &Verdict,
     writer: &mut W,
 ) -> Result<bool, PlanFault>
-    ensures text { Audited bytes.now (W.contents writer.old) (W.contents writer.new) result }
+    ensures text { (bytes : Option (List ℕ)) → IsVerdictOf bytes verdict.now
+        → Audited bytes (W.contents writer.old) (W.contents writer.new) result }
     ensures write { TellsWrite (W.failures writer.old) (W.failures writer.new) result }
+    ensures no_read { result ≢ Err Read }
 {
-    let Ok(verdict) = audit(rt, alloc, bytes) else {
-        return Err(PlanFault::Memory);
-    };
-    let Ok(line) = line_of(alloc, &verdict) else {
+    let Ok(line) = line_of(alloc, verdict) else {
         return Err(PlanFault::Memory);
     };
     match write_text(writer, line.as_bytes()) {
         Ok(()) => Ok(verdict.is_good()),
+        Err(_) => Err(PlanFault::Write),
+    }
+}
+
+/// Audits the recording that `reader` gives, and writes the verdict as one line. Returns `true` exactly if the recording is
+/// good.
+///
+/// `Read` exactly if the reader fails, and `Memory` if memory is refused: nothing is written. `Write` if the writer fails: a
+/// prefix of the line is written. The writer is flushed once, after the line.
+pub fn write_verdict<R: DevRead, W: DevWrite>(
+    rt: &(impl Threads + Sync),
+    alloc: Global,
+    reader: &mut R,
+    writer: &mut W,
+) -> Result<bool, PlanFault>
+    ensures text { Audited (R.remaining reader.old) (W.contents writer.old)
+        (W.contents writer.new) result }
+    ensures read { TellsAudit (R.failures reader.old) (R.failures reader.new) result }
+    ensures write { TellsWrite (W.failures writer.old) (W.failures writer.new) result }
+{
+    match audit_from(rt, alloc, reader) {
+        Ok(verdict) => write_line(alloc, &verdict, writer),
         Err(fault) => Err(fault),
     }
 }

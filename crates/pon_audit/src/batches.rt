@@ -1,22 +1,22 @@
-//! The audit of chapters in many threads.
+//! The audit of a batch of chapters.
 
-ghost use Rattle.std.specs.Prelude.{◌≡◌, ◌+◌, ◌≤◌, All, IfOk, MatchOption, drop, length, take};
+ghost use Rattle.std.specs.Prelude.{◌++◌, All, IfOk, List, MatchOption};
 ghost use Rattle.std.specs.List.{AllZip};
+ghost use Rattle.pon_record.specs.Chapters.{PlacedChapter};
 ghost use Rattle.pon_audit.specs.Openings.{FitsRecording};
 ghost use Rattle.pon_audit.specs.Judging.{AreJudged, IsAnswer, TellsBad};
-ghost use Rattle.pon_audit.specs.Verdicts.{AreGood};
 
 use crate::chapters::{Judged, judge};
+use crate::ends::Ends;
 use crate::faults::judge_next;
-use crate::lasts::Lasts;
 use crate::verdict::Verdict;
 use pon_record::RawChapter;
 use rayon::prelude::*;
 use std::alloc::{AllocError, Global};
 use std::thread::Threads;
 
-// Maximum number of chapters that are judged at a time. The states at their ends are in memory together.
-const BATCH_CHAPTERS: usize = 64;
+/// Minimum number of maps of a batch for an audit in many threads.
+pub const PARALLEL_MAPS: u64 = 2_048;
 
 // Judges each chapter regardless of those before it, in as many threads as there are processors. `Err` only if memory is
 // refused.
@@ -40,27 +40,22 @@ fn judge_in_parallel(
         .collect::<Result<Vec<Judged>, AllocError>>(rt, alloc)?
 }
 
-// Returns the verdict if a chapter of a batch fails, from the answers on the chapters alone; `start` chapters before the
-// batch are judged. `None` if all are good, and then they are judged too. `Err` only if memory is refused.
-fn judge_batch(
-    alloc: Global,
+// Returns the verdict if one of the chapters after those judged fails, from the answers on them alone. `None` if all are
+// good, and then they are judged too. `Err` only if memory is refused.
+fn place_all(
+    ends: &mut Ends,
     chapters: &[RawChapter],
-    start: usize,
-    lasts: &mut Lasts,
     answers: Vec<Judged>,
 ) -> Result<Option<Verdict>, AllocError>
-    requires within { start + length answers.items ≤ length chapters.now }
-    requires fit { All (λ c. FitsRecording c.body) chapters.now }
-    requires judged { AreJudged (take start chapters.now) lasts.old }
-    requires answers { AllZip IsAnswer
-        (take (length answers.items) (drop start chapters.now)) answers.items }
-    ensures { IfOk result (λ found. MatchOption found
-        (AreJudged (take (start + length answers.items) chapters.now) lasts.new)
-        (TellsBad chapters.now)) }
+    requires judged { (earlier : List PlacedChapter) × AreJudged earlier ends.old }
+    requires answers { AllZip IsAnswer chapters.now answers.items }
+    ensures { IfOk result (λ found. (earlier : List PlacedChapter) → AreJudged earlier ends.old
+        → MatchOption found (AreJudged (earlier ++ chapters.now) ends.new)
+        (TellsBad (earlier ++ chapters.now))) }
 {
-    let mut place = start;
+    let mut place = 0;
     for judged in answers {
-        if let Some(verdict) = judge_next(alloc, chapters, place, lasts, judged)? {
+        if let Some(verdict) = judge_next(ends, &chapters[place], judged)? {
             return Ok(Some(verdict));
         }
         place += 1;
@@ -68,26 +63,46 @@ fn judge_batch(
     Ok(None)
 }
 
-/// Finds the first chapter that fails, batch by batch, each batch in as many threads as there are processors. `Err` only if
-/// memory is refused.
-pub(crate) fn find_in_batches(
-    rt: &(impl Threads + Sync),
+// As `place_all`, and judges one chapter after another.
+fn judge_in_order(
     alloc: Global,
+    ends: &mut Ends,
     chapters: &[RawChapter],
 ) -> Result<Option<Verdict>, AllocError>
-    requires { All (λ c. FitsRecording c.body) chapters.now }
-    ensures { IfOk result (λ found. MatchOption found (AreGood chapters.now)
-        (TellsBad chapters.now)) }
+    requires fit { All (λ c. FitsRecording c.body) chapters.now }
+    requires judged { (earlier : List PlacedChapter) × AreJudged earlier ends.old }
+    ensures { IfOk result (λ found. (earlier : List PlacedChapter) → AreJudged earlier ends.old
+        → MatchOption found (AreJudged (earlier ++ chapters.now) ends.new)
+        (TellsBad (earlier ++ chapters.now))) }
 {
-    let mut lasts = Lasts::open(alloc)?;
-    let mut start = 0;
-    while start < chapters.len() {
-        let count = (chapters.len() - start).min(BATCH_CHAPTERS);
-        let answers = judge_in_parallel(rt, alloc, &chapters[start..start + count])?;
-        if let Some(verdict) = judge_batch(alloc, chapters, start, &mut lasts, answers)? {
+    for place in 0..chapters.len() {
+        let judged = judge(alloc, &chapters[place])?;
+        if let Some(verdict) = judge_next(ends, &chapters[place], judged)? {
             return Ok(Some(verdict));
         }
-        start += count;
     }
     Ok(None)
+}
+
+/// Returns the verdict if one of the chapters after those judged fails. `None` if all are good, and then they are judged too.
+/// Two or more chapters with [`PARALLEL_MAPS`] maps are judged in as many threads as there are processors. `Err` only if
+/// memory is refused.
+pub(crate) fn judge_batch(
+    rt: &(impl Threads + Sync),
+    alloc: Global,
+    ends: &mut Ends,
+    chapters: &[RawChapter],
+    maps: u64,
+) -> Result<Option<Verdict>, AllocError>
+    requires fit { All (λ c. FitsRecording c.body) chapters.now }
+    requires judged { (earlier : List PlacedChapter) × AreJudged earlier ends.old }
+    ensures { IfOk result (λ found. (earlier : List PlacedChapter) → AreJudged earlier ends.old
+        → MatchOption found (AreJudged (earlier ++ chapters.now) ends.new)
+        (TellsBad (earlier ++ chapters.now))) }
+{
+    if chapters.len() < 2 || maps < PARALLEL_MAPS {
+        return judge_in_order(alloc, ends, chapters);
+    }
+    let answers = judge_in_parallel(rt, alloc, chapters)?;
+    place_all(ends, chapters, answers)
 }

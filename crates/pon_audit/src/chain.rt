@@ -1,20 +1,19 @@
 //! Whether a chapter opens with the state at the end of another.
 
-ghost use Rattle.std.specs.Prelude.{◌≡◌, ◌↔◌, All, IfOk, IsTrue, map};
+ghost use Rattle.std.specs.Prelude.{◌≡◌, ◌↔◌, All, IsTrue, map};
 ghost use Rattle.pon_port.specs.Taking.{IsKept};
 ghost use Rattle.pon_record.specs.Chapters.{Body};
-ghost use Rattle.pon_audit.specs.Openings.{FitsRecording, OpensLawfully, admitted_row, chapter_of, state_of};
-ghost use Rattle.pon_audit.specs.Chains.{HasAccount, HasNumbers, HasParts, IsNext};
-ghost use Rattle.pon_audit.specs.Verdicts.{Continues, IsChained, IsGoodChapter};
+ghost use Rattle.pon_audit.specs.Openings.{OpensLawfully, admitted_row, chapter_of, state_of};
+ghost use Rattle.pon_audit.specs.Chains.{HasAccount, HasNumbers, HasParts, IsBefore};
+ghost use Rattle.pon_audit.specs.Judging.{IsKeptEnd, OpensAt};
 
-use crate::chapters::{Judged, judge};
+use crate::ends::End;
 use pon_admit::Row;
 use pon_guar::Loads;
 use pon_record::{Opening, RawChapter, RawMap, RawRow};
 use pon_state::PortState;
 use pon_units::{Granted, OnuId};
 use pon_window::WindowMap;
-use std::alloc::{AllocError, Global};
 
 // Returns whether a recorded row is an admitted one.
 fn is_same_row(raw: &RawRow, row: &Row) -> bool
@@ -144,47 +143,32 @@ pub(crate) fn opens_with(chapter: &RawChapter, end: &PortState) -> bool
     has_parts(&chapter.opening, end)
 }
 
-// Returns whether a chapter is of the same port as another, with the next number.
-fn is_next(earlier: &RawChapter, chapter: &RawChapter) -> bool
-    ensures { IsTrue result ↔ IsNext earlier.now chapter.now }
+// Returns whether an end is of the same port as a chapter, with the number before.
+fn is_before(end: &End, chapter: &RawChapter) -> bool
+    ensures { IsTrue result ↔ IsBefore end.now chapter.now }
 {
-    earlier.port == chapter.port
-        && earlier.number < chapter.number
-        && chapter.number - earlier.number == 1
+    end.port == chapter.port && end.number < chapter.number && chapter.number - end.number == 1
 }
 
-// Returns whether a chapter continues an earlier good one, which is judged once more for its end if the chapter has the next
-// number. `Err` only if memory is refused.
-fn continues(alloc: Global, earlier: &RawChapter, chapter: &RawChapter) -> Result<bool, AllocError>
-    requires fits { FitsRecording earlier.now.body }
-    requires good { IsGoodChapter earlier.now }
+// Returns whether a chapter opens with an end, if that is of the number before in its port.
+fn opens_at(chapter: &RawChapter, end: &End) -> bool
     requires opens { OpensLawfully chapter.now.body }
-    ensures { IfOk result (λ found. IsTrue found ↔ Continues earlier.now chapter.now) }
+    requires end { IsKeptEnd end.now }
+    ensures { IsTrue result ↔ OpensAt chapter.now end.now }
 {
-    if !is_next(earlier, chapter) {
-        return Ok(true);
-    }
-    match judge(alloc, earlier)? {
-        Judged::Ends(end) => Ok(opens_with(chapter, &end)),
-        _ => unreachable!(),
-    }
+    !is_before(end, chapter) || opens_with(chapter, &end.end)
 }
 
-/// Returns whether a chapter continues each of the earlier good ones. `Err` only if memory is refused.
-pub(crate) fn is_chained(
-    alloc: Global,
-    earlier: &[RawChapter],
-    chapter: &RawChapter,
-) -> Result<bool, AllocError>
-    requires fit { All (λ d. FitsRecording d.body) earlier.now }
-    requires good { All IsGoodChapter earlier.now }
+/// Returns whether a chapter opens with each of these ends that is of the number before in its port.
+pub(crate) fn is_chained(chapter: &RawChapter, ends: &[End]) -> bool
     requires opens { OpensLawfully chapter.now.body }
-    ensures { IfOk result (λ found. IsTrue found ↔ IsChained earlier.now chapter.now) }
+    requires ends { All IsKeptEnd ends.now }
+    ensures { IsTrue result ↔ All (OpensAt chapter.now) ends.now }
 {
-    for other in earlier {
-        if !continues(alloc, other, chapter)? {
-            return Ok(false);
+    for end in ends {
+        if !opens_at(chapter, end) {
+            return false;
         }
     }
-    Ok(true)
+    true
 }

@@ -1,7 +1,9 @@
-//! The last chapter of each port, so far in a recording.
+//! The ends of the chapters of a recording, so far.
 
-ghost use Rattle.std.specs.Prelude.{◌≡◌, ◌<◌, IfOk, None, Some, length, replicate, set, slice_index_or};
+ghost use Rattle.std.specs.Prelude.{◌≡◌, ◌<◌, ◌++◌, ◌∷◌, [], IfOk, None, OnOk, Some, length, replicate, set, slice_index_or};
 ghost use Rattle.std.specs.Option.{option_copied};
+ghost use Rattle.pon_units.specs.declared.limits.TheConstants.{MOST_PORTS};
+ghost use Rattle.pon_audit.specs.Judging.{end_at};
 
 use pon_record::RawChapter;
 use pon_state::PortState;
@@ -9,59 +11,83 @@ use pon_units::{MOST_PORTS, PortNo};
 use std::alloc::{AllocError, Global};
 use std::marker::Model;
 
-/// The number of a chapter, and the state at its end.
+/// The port and the number of a chapter, and the state at its end.
 #[derive(Drop)]
-pub(crate) struct Last {
+pub(crate) struct End {
+    pub port: PortNo,
     pub number: u64,
     pub end: PortState,
 }
 
-/// The last chapter of each port. Contracts see it as the list of them by port, [`MOST_PORTS`] long.
+/// The ends of the chapters, in the order of the recording, and the place of the last one of each port among them.
 #[derive(Drop)]
-pub(crate) struct Lasts {
-    by_port: Vec<Option<Last>>,
+pub(crate) struct Ends {
+    ends: Vec<End>,
+    places: Vec<Option<usize>>,
 }
 
-impl Model for Lasts {
-    ghost use Rattle.std.specs.Prelude.{◌≡◌, List, Option, length};
+impl Model for Ends {
+    ghost use Rattle.std.specs.Prelude.{◌≡◌, length};
     ghost use Rattle.pon_units.specs.declared.limits.TheConstants.{MOST_PORTS};
-    ghost use Rattle.pon_audit.specs.declared.lasts.Last.{Last};
+    ghost use Rattle.pon_audit.specs.EndTables.{EndTable};
 
-    ghost Value = { List (Option Last) };
+    ghost Value = { EndTable };
 
-    ghost view = { λ l. l.by_port.items };
+    ghost view = { λ e. record { ends = e.ends.items; places = e.places.items } };
 
-    ghost invariant = { λ l. length l.by_port.items ≡ MOST_PORTS };
+    ghost invariant = { λ e. length e.places.items ≡ MOST_PORTS };
 }
 
-impl Lasts {
+impl Ends {
     /// Makes the table of no chapters. `Err` only if memory is refused.
-    pub fn open(alloc: Global) -> Result<Lasts, AllocError>
-        ensures { IfOk result (λ lasts. lasts ≡ replicate MOST_PORTS None) }
+    pub fn open(alloc: Global) -> Result<Ends, AllocError>
+        ensures { IfOk result (λ e. e ≡ record { ends = []; places = replicate MOST_PORTS None }) }
     {
-        let mut by_port = Vec::with_capacity(alloc, MOST_PORTS)?;
+        let mut places = Vec::with_capacity(alloc, MOST_PORTS)?;
         for _port in 0..MOST_PORTS {
-            by_port.push(None)?;
+            places.push(None)?;
         }
-        Ok(Lasts { by_port })
+        let ends = Vec::new(alloc);
+        Ok(Ends { ends, places })
     }
 
-    /// The last chapter of a port; `None` if it has none so far.
-    pub fn of(&self, port: PortNo) -> Option<&Last>
-        ensures value { option_copied result ≡ slice_index_or self.now port None }
+    /// All ends, in the order of the recording.
+    pub fn all(&self) -> &[End]
+        ensures { result.now ≡ self.now.ends }
+    {
+        self.ends.as_slice()
+    }
+
+    /// The end of the last chapter of a port; `None` if it has none so far.
+    pub fn last_of(&self, port: PortNo) -> Option<&End>
+        ensures value { option_copied result
+            ≡ end_at self.now.ends (slice_index_or self.now.places port None) }
         ensures range { port < MOST_PORTS }
     {
-        self.by_port[usize::from(port.get())].as_ref()
+        match self.places[usize::from(port.get())] {
+            Some(place) => self.ends.get(place),
+            None => None,
+        }
     }
 
-    /// Keeps a chapter as the last of its port, with the state at its end.
-    pub fn keep(&mut self, chapter: &RawChapter, end: PortState)
-        ensures kept { self.new ≡ set self.old chapter.now.body.port
-            (Some (record { number = chapter.now.body.number; end = end })) }
+    /// Keeps the state at the end of a chapter. `Err` only if memory is refused.
+    pub fn keep(&mut self, chapter: &RawChapter, end: PortState) -> Result<(), AllocError>
+        ensures ends { OnOk result (self.new.ends ≡ self.old.ends ++ record {
+          port = chapter.now.body.port;
+          number = chapter.now.body.number;
+          end = end;
+        } ∷ []) }
+        ensures places { OnOk result (self.new.places ≡ set self.old.places
+            chapter.now.body.port (Some (length self.old.ends))) }
         ensures range { chapter.now.body.port < MOST_PORTS }
-        ensures len { length self.old ≡ MOST_PORTS }
+        ensures len { length self.old.places ≡ MOST_PORTS }
     {
-        let number = chapter.number;
-        self.by_port[usize::from(chapter.port.get())] = Some(Last { number, end });
+        let place = self.ends.len();
+        let (port, number) = (chapter.port, chapter.number);
+        if self.ends.push(End { port, number, end }).is_err() {
+            return Err(AllocError);
+        }
+        self.places[usize::from(port.get())] = Some(place);
+        Ok(())
     }
 }

@@ -1,23 +1,26 @@
 //! The audit of recordings of the ports of an XG-PON optical line terminal (upstream bandwidth assignment, ITU-T
 //! G.987.3).
 //!
-//! [`audit`] replays each chapter of a recording and checks each map against its certificate: either each entry may
+//! [`audit_from`] reads a recording from a device; [`audit`] has its bytes in memory. It replays each chapter of a recording and checks each map against its certificate: either each entry may
 //! follow those before it and each map is fair, or the first fault is returned. The crate computes no certificate and
 //! applies no event to a port.
 #![tactic(auto)]
 
 mod answer;
+mod auditing;
+mod batches;
 mod chain;
 mod chapters;
+mod ends;
 mod entries;
 mod faults;
-mod lasts;
 pub mod laws;
 mod openings;
-mod parallel;
-mod recordings;
+mod progress;
+mod reading;
 mod verdict;
 
 pub use answer::write_verdict;
-pub use recordings::{PARALLEL_MAPS, audit};
+pub use auditing::{audit, audit_from};
+pub use batches::PARALLEL_MAPS;
 pub use verdict::{Verdict, Why};

@@ -1,21 +1,30 @@
-ghost use Rattle.std.specs.Prelude.{◌≡◌, ◌<◌, ◌^◌, All, IfOk, MatchOption, sum_by};
-ghost use Rattle.pon_record.specs.Recordings.{IsRecording, IsTruncated};
-ghost use Rattle.pon_audit.specs.Openings.{FitsRecording};
-ghost use Rattle.pon_audit.specs.Judging.{TellsBad};
-ghost use Rattle.pon_audit.specs.Verdicts.{AreGood, IsVerdict, maps_in};
+//! The audit of a recording, batch by batch.
 
-use crate::chapters::judge;
-use crate::faults::judge_next;
-use crate::lasts::Lasts;
-use crate::parallel::find_in_batches;
+ghost use Rattle.std.specs.Prelude.{◌≡◌, ◌+◌, ◌++◌, ℕ, All, IfOk, IfSome, List, MatchOption, OnOk, Option, [], sum_by};
+ghost use Rattle.pon_record.specs.Chapters.{PlacedChapter};
+ghost use Rattle.pon_record.specs.Recordings.{IsRecording, IsTruncated};
+ghost use Rattle.pon_record.specs.Streams.{Position};
+ghost use Rattle.pon_audit.specs.Openings.{FitsRecording};
+ghost use Rattle.pon_audit.specs.Streams.{AreAudited, ReadsBatch};
+ghost use Rattle.pon_audit.specs.Verdicts.{IsVerdict, maps_in};
+ghost use Rattle.pon_audit.specs.declared.reading.BatchEnd.TheVariants.{More};
+
+use crate::batches::judge_batch;
+use crate::ends::Ends;
+use crate::reading::{Batch, BatchEnd};
 use crate::verdict::Verdict;
 use pon_event::Event;
-use pon_record::{RawChapter, ReadFault, Recording, read_recording};
+use pon_record::RawChapter;
 use std::alloc::{AllocError, Global};
 use std::thread::Threads;
 
-/// Minimum number of maps for an audit in many threads.
-pub const PARALLEL_MAPS: u64 = 2_048;
+/// The chapters audited so far: their ends if all are good, the number of their maps, and the verdict if one fails.
+#[derive(Drop)]
+pub(crate) struct Audit {
+    ends: Ends,
+    maps: u64,
+    found: Option<Verdict>,
+}
 
 // Counts the maps of a chapter.
 fn chapter_maps(chapter: &RawChapter) -> u64
@@ -28,107 +37,107 @@ fn chapter_maps(chapter: &RawChapter) -> u64
     maps.count() as u64
 }
 
-// Counts the maps of all chapters.
-fn map_count(chapters: &[RawChapter]) -> u64
-    requires { sum_by maps_in chapters.now < 2 ^ 64 }
-    ensures { result ≡ sum_by maps_in chapters.now }
+// Adds the number of maps of chapters; `None` if it does not fit.
+fn add_maps(maps: u64, chapters: &[RawChapter]) -> Option<u64>
+    ensures { IfSome result (λ sum. sum ≡ maps + sum_by maps_in chapters.now) }
 {
-    let mut maps = 0;
+    let mut sum = maps;
     for chapter in chapters {
-        maps += chapter_maps(chapter);
+        sum = sum.checked_add(chapter_maps(chapter))?;
     }
-    maps
+    Some(sum)
 }
 
-// Finds the first chapter that fails, one chapter after another. `Err` only if memory is refused.
-fn find_in_order(alloc: Global, chapters: &[RawChapter]) -> Result<Option<Verdict>, AllocError>
-    requires { All (λ c. FitsRecording c.body) chapters.now }
-    ensures { IfOk result (λ found. MatchOption found (AreGood chapters.now)
-        (TellsBad chapters.now)) }
-{
-    let mut lasts = Lasts::open(alloc)?;
-    for place in 0..chapters.len() {
-        let judged = judge(alloc, &chapters[place])?;
-        if let Some(verdict) = judge_next(alloc, chapters, place, &mut lasts, judged)? {
-            return Ok(Some(verdict));
+impl Audit {
+    /// Starts the audit, with no chapters. `Err` only if memory is refused.
+    pub fn open(alloc: Global) -> Result<Audit, AllocError>
+        ensures { IfOk result (λ audit. AreAudited [] audit) }
+    {
+        let ends = Ends::open(alloc)?;
+        Ok(Audit {
+            ends,
+            maps: 0,
+            found: None,
+        })
+    }
+
+    // Audits the next chapters; after one that fails it judges no more. `Err` only if memory is refused.
+    fn take(
+        &mut self,
+        rt: &(impl Threads + Sync),
+        alloc: Global,
+        chapters: &[RawChapter],
+    ) -> Result<(), AllocError>
+        requires fit { All (λ c. FitsRecording c.body) chapters.now }
+        requires audited { (earlier : List PlacedChapter) × AreAudited earlier self.old }
+        ensures { OnOk result ((earlier : List PlacedChapter) → AreAudited earlier self.old
+            → AreAudited (earlier ++ chapters.now) self.new) }
+    {
+        if let Some(_verdict) = self.found {
+            return Ok(());
+        }
+        let Some(sum) = add_maps(self.maps, chapters) else {
+            return Err(AllocError);
+        };
+        let maps = sum - self.maps;
+        self.found = judge_batch(rt, alloc, &mut self.ends, chapters, maps)?;
+        self.maps = sum;
+        Ok(())
+    }
+
+    // Returns the verdict on a recording of the chapters audited.
+    fn end(&self) -> Verdict
+        ensures { (bytes : List ℕ) (chapters : List PlacedChapter) → AreAudited chapters self.now
+            → IsRecording bytes chapters → IsVerdict bytes result }
+    {
+        match self.found {
+            Some(verdict) => verdict,
+            None => Verdict::Good { maps: self.maps },
         }
     }
-    Ok(None)
-}
 
-// Finds the first of the chapters that fails; they have this number of maps. `Err` only if memory is refused.
-fn find_fault(
-    rt: &(impl Threads + Sync),
-    alloc: Global,
-    chapters: &[RawChapter],
-    maps: u64,
-) -> Result<Option<Verdict>, AllocError>
-    requires { All (λ c. FitsRecording c.body) chapters.now }
-    ensures { IfOk result (λ found. MatchOption found (AreGood chapters.now)
-        (TellsBad chapters.now)) }
-{
-    if maps < PARALLEL_MAPS {
-        find_in_order(alloc, chapters)
-    } else {
-        find_in_batches(rt, alloc, chapters)
+    // Returns the verdict on a recording that ends inside the chapter at `at`, after the chapters audited.
+    fn cut(&self, at: usize) -> Verdict
+        ensures { (bytes : List ℕ) (chapters : List PlacedChapter) → AreAudited chapters self.now
+            → IsTruncated bytes at chapters → IsVerdict bytes result }
+    {
+        match self.found {
+            Some(verdict) => verdict,
+            None => Verdict::Truncated { at },
+        }
     }
-}
 
-// Returns the verdict on a recording of these chapters. `Err` only if memory is refused.
-fn judge_recording(
-    rt: &(impl Threads + Sync),
-    alloc: Global,
-    bytes: &[u8],
-    recording: &Recording,
-) -> Result<Verdict, AllocError>
-    requires { IsRecording bytes.now recording.now }
-    ensures { IfOk result (λ verdict. IsVerdict bytes.now verdict) }
-{
-    let chapters = recording.chapters();
-    let maps = map_count(chapters);
-    match find_fault(rt, alloc, chapters, maps)? {
-        Some(verdict) => Ok(verdict),
-        None => Ok(Verdict::Good { maps }),
-    }
-}
-
-// Returns the verdict on a recording that ends inside the chapter that begins at `at`, after whole chapters. `Err` only
-// if memory is refused.
-fn judge_truncated(
-    rt: &(impl Threads + Sync),
-    alloc: Global,
-    bytes: &[u8],
-    at: usize,
-    whole: &Recording,
-) -> Result<Verdict, AllocError>
-    requires { IsTruncated bytes.now at whole.now }
-    ensures { IfOk result (λ verdict. IsVerdict bytes.now verdict) }
-{
-    let _bytes = bytes;
-    let chapters = whole.chapters();
-    let maps = map_count(chapters);
-    match find_fault(rt, alloc, chapters, maps)? {
-        Some(verdict) => Ok(verdict),
-        None => Ok(Verdict::Truncated { at }),
-    }
-}
-
-/// Audits the bytes of a recording.
-///
-/// `Good` only if the bytes are a recording, each opening is lawful, each entry may follow those before it, each map is fair
-/// for the state before it, the numbers of a port's chapters ascend, and a chapter opens with the state at the end of the
-/// chapter one number before in its port, if that is in the recording. `Bad` only if a chapter fails and those before it in
-/// the recording are good, also if the recording is cut in its last chapter. `Truncated` only if the whole chapters are
-/// good.
-/// `BadFormat` regardless of the chapters before the fault. Chapters with [`PARALLEL_MAPS`] maps or more are audited in
-/// as many threads as there are processors, with the same verdict. `Err` only if memory is refused.
-pub fn audit(rt: &(impl Threads + Sync), alloc: Global, bytes: &[u8]) -> Result<Verdict, AllocError>
-    ensures { IfOk result (λ verdict. IsVerdict bytes.now verdict) }
-{
-    match read_recording(alloc, bytes) {
-        Ok(recording) => judge_recording(rt, alloc, bytes, &recording),
-        Err(ReadFault::Truncated { at, whole }) => judge_truncated(rt, alloc, bytes, at, &whole),
-        Err(ReadFault::BadFormat { at }) => Ok(Verdict::BadFormat { at }),
-        Err(ReadFault::Memory) => Err(AllocError),
+    /// Audits the next batch. Returns the verdict if it is the last one. `Err` only if memory is refused.
+    pub fn take_batch(
+        &mut self,
+        rt: &(impl Threads + Sync),
+        alloc: Global,
+        batch: &Batch,
+    ) -> Result<Option<Verdict>, AllocError>
+        requires fit { All (λ c. FitsRecording c.body) batch.now.chapters.items }
+        requires audited { (earlier : List PlacedChapter) × AreAudited earlier self.old }
+        ensures goes_on { IfOk result (λ found. MatchOption found ((batch.now.end ≡ More)
+            × ((earlier : List PlacedChapter) → AreAudited earlier self.old
+            → AreAudited (earlier ++ batch.now.chapters.items) self.new)) (λ v. Unit {0})) }
+        ensures verdict { IfOk result (λ found. IfSome found (λ v. (bytes : List ℕ)
+            (whole : List PlacedChapter) (p : Position) (left : Option (List ℕ))
+            → AreAudited whole self.old → ReadsBatch bytes whole p left batch.now
+            → IsVerdict bytes v)) }
+    {
+        match batch.end {
+            BatchEnd::More => {
+                self.take(rt, alloc, &batch.chapters)?;
+                Ok(None)
+            }
+            BatchEnd::Whole => {
+                self.take(rt, alloc, &batch.chapters)?;
+                Ok(Some(self.end()))
+            }
+            BatchEnd::Cut { at } => {
+                self.take(rt, alloc, &batch.chapters)?;
+                Ok(Some(self.cut(at)))
+            }
+            BatchEnd::Malformed { at } => Ok(Some(Verdict::BadFormat { at })),
+        }
     }
 }

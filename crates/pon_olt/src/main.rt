@@ -19,7 +19,7 @@ use crate::auditing::audit_file;
 use crate::migrating::migrate_file;
 use crate::opening::{NotOpened, Opening, settings_of, with_settings, without_settings};
 use clap::Error;
-pub use pon_audit::{audit, write_verdict};
+pub use pon_audit::{audit, audit_from, write_verdict};
 pub use pon_check_file::check_file;
 use pon_device::{StdRead, StdWrite};
 pub use pon_job::job;

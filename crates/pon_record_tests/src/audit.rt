@@ -1,30 +1,27 @@
 //! Verdicts on recordings.
 
 use crate::recordings::{RECORDING, bytes, bytes_again};
+use crate::streams::is_streamed;
 use pon_audit::{Verdict, Why, audit};
 use pon_record::migrate;
 use std::alloc::{AllocError, Global};
 use std::process::Abort;
 use std::thread::Threads;
 
-// Returns the text of the verdict on these bytes.
-fn verdict(rt: &(impl Abort + Threads + Sync), alloc: Global, recording: &[u8]) -> String {
-    let verdict = audit(rt, alloc, recording).expect(rt, "memory");
-    format!(in alloc; "{verdict}").expect(rt, "memory")
-}
-
-/// Returns whether the verdict on these bytes is this text.
+/// Returns whether the verdict on these bytes is this text, and the same one if a reader gives them.
 pub(crate) fn is_told(
     rt: &(impl Abort + Threads + Sync),
     alloc: Global,
     recording: &[u8],
     wanted: &str,
 ) -> bool {
-    verdict(rt, alloc, recording).as_str() == wanted
+    let verdict = audit(rt, alloc, recording).expect(rt, "memory");
+    let text = format!(in alloc; "{verdict}").expect(rt, "memory");
+    text.as_str() == wanted && is_streamed(rt, alloc, recording, &verdict)
 }
 
-// Returns the recording with some bytes replaced.
-fn with(rt: &impl Abort, alloc: Global, at: usize, replaced: &str) -> Vec<u8> {
+/// Returns the recording with some bytes replaced.
+pub(crate) fn with(rt: &impl Abort, alloc: Global, at: usize, replaced: &str) -> Vec<u8> {
     let mut recording = bytes(rt, alloc, RECORDING);
     let replaced = bytes(rt, alloc, replaced);
     let places = recording.as_mut_slice().get_mut(at..).expect(rt, "a place");

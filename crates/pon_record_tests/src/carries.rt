@@ -1,7 +1,7 @@
 //! Verdicts on chapters under each rule: whether what whole words leave of a rate is carried to the next map.
 
+use crate::audit;
 use crate::recordings::bytes;
-use pon_audit::audit;
 use std::alloc::Global;
 use std::process::Abort;
 use std::thread::Threads;
@@ -118,9 +118,7 @@ fn is_told(
     for chapter in chapters {
         extend(rt, &mut recording, chapter);
     }
-    let verdict = audit(rt, alloc, &recording).expect(rt, "memory");
-    let text = format!(in alloc; "{verdict}").expect(rt, "memory");
-    text.as_str() == wanted
+    audit::is_told(rt, alloc, &recording, wanted)
 }
 
 // 384 kbit/s are a word and a half, 128 kbit/s half a word. A change, a failure and a restoration keep what is left, and an

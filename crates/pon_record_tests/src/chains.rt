@@ -1,7 +1,7 @@
 //! Verdicts on recordings with several chapters of a port.
 
+use crate::audit;
 use crate::recordings::bytes;
-use pon_audit::audit;
 use std::alloc::Global;
 use std::process::Abort;
 use std::thread::Threads;
@@ -77,9 +77,7 @@ fn is_told(
     wanted: &str,
 ) -> bool {
     let recording = recording(rt, alloc, chapters);
-    let verdict = audit(rt, alloc, &recording).expect(rt, "memory");
-    let text = format!(in alloc; "{verdict}").expect(rt, "memory");
-    text.as_str() == wanted
+    audit::is_told(rt, alloc, &recording, wanted)
 }
 
 // Rows and window of the second chapter after the first, and the verdict: the same; another report, a failed port, no window

@@ -20,6 +20,8 @@ mod reading;
 #[cfg(test)]
 mod recordings;
 #[cfg(test)]
+mod streams;
+#[cfg(test)]
 mod versions;
 #[cfg(test)]
 mod writing;

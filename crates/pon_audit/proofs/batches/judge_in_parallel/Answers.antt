@@ -1,6 +1,6 @@
 use Rattle.std.proofs.Common.{◌∙◌, ap}
 use Rattle.pon_audit.proofs.EachOk.{all_answered}
-use Rattle.pon_audit.proofs.parallel.judge_in_parallel.Goals as goal
+use Rattle.pon_audit.proofs.batches.judge_in_parallel.Goals as goal
 
 pub returns : goal.returns
 returns g c =

@@ -1,0 +1,6 @@
+use Rattle.std.proofs.Common.{rules}
+use Rattle.pon_audit.proofs.FirstFaults.{still_told}
+use Rattle.pon_audit.proofs.progress.Audit.take.Goals as goal
+
+pub returns-in-Some : goal.returns-in-Some
+returns-in-Some g c = λ earlier audited. still_told c.args.self.now.found c.in-Some._verdict _ _ earlier c.args.chapters.now c.in-Some.is audited
