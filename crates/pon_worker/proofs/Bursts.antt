@@ -1,6 +1,7 @@
 -- Records that are read and counted, one after another.
-use Rattle.std.proofs.Common.{◌≡◌, ℕ, Bool, true, false, ◌+◌, ◌≤◌, min, List, [], ◌∷◌, ◌++◌, ◌⊎◌, inl, inr, Option, Some, None, cond, count_by, length, refl, sym, subst, ap, ◌∙◌, arith, append_assoc, append-nil, length-append}
+use Rattle.std.proofs.Common.{◌≡◌, ℕ, All, Bool, true, false, ◌+◌, ◌≤◌, min, List, [], ◌∷◌, ◌++◌, ◌⊎◌, inl, inr, Option, Some, None, cond, count_by, length, refl, sym, subst, ap, ◌∙◌, arith, append_assoc, append-nil, length-append}
 use Rattle.std.proofs.KnownBytes.{Consumes-nil, Consumes-trans}
+use Rattle.std.proofs.lemmas.List.Elements.{All-append, All-nil}
 use Rattle.std.proofs.lemmas.List.Sums.{sum_by-append}
 use Rattle.pon_device.specs.Device.{Consumes, IsAtEnd, Keeps}
 use Rattle.pon_link.specs.Reading.{ReaderState, HasFault, IsOpen, MayBecomeRecord}
@@ -11,9 +12,11 @@ use Rattle.pon_link.proofs.Outcomes.{faultless}
 use Rattle.pon_link.specs.Runs.{AreRecords}
 use Rattle.pon_link.specs.UpRecords.{IsRecord}
 use Rattle.pon_link.specs.declared.record.UpRecord.{UpRecord}
+use Rattle.pon_descr.specs.declared.refusal.Refusal.{Refusal}
+use Rattle.pon_descr.specs.declared.refusal.Refusal.TheVariants.{OutOfMemory}
 use Rattle.pon_desk.specs.Receipts.{Receipt}
-use Rattle.pon_worker.specs.Turns.{KeepsAll, TakesReports}
-use Rattle.pon_worker.proofs.Receipts.{keeps_more, keeps_none, takes_more}
+use Rattle.pon_worker.specs.Turns.{IsNotMemory, KeepsAll, LacksMemory, RefusesReport, TakesReports}
+use Rattle.pon_worker.proofs.Receipts.{keeps_more, keeps_none, takes_more, takes_refused}
 use Rattle.pon_worker.specs.Records.{Counted, HasRead, is_garbled}
 use Rattle.pon_worker.specs.declared.counts.Counts.{Counts}
 use Rattle.pon_worker.proofs.Posted.{with_map}
@@ -23,7 +26,9 @@ use Rattle.pon_worker.specs.declared.counts.TheConstants.{GREATEST_COUNT}
 pub record ReadSoFar (port number : ℕ) (held : List ℕ) (old new : Counts) (kept_old kept_new : Option (List Receipt)) (left_old left_new : Option (List ℕ)) : Type 0 where
   pub records : List UpRecord
   pub reports : List Receipt
-  pub takes : TakesReports port records reports
+  pub refusals : List Refusal
+  pub takes : TakesReports port records reports refusals
+  pub memory : All IsNotMemory refusals
   pub counted : Counted records (length reports) old new
   pub read : HasRead records held left_old left_new
   pub size : length records ≡ number
@@ -81,17 +86,45 @@ pub read_part : (held : List ℕ) (a b : Option (List ℕ)) → Consumes a b hel
 read_part held a b read = record { input = held; read = read; are = refl }
 
 -- one more record is read and counted
-pub so_far_more : (port number : ℕ) (burst : UpRecord) (bytes : List ℕ) (reports : List Receipt) (a b c : Counts) (ka kb kc : Option (List Receipt)) (ra rb rc : Option (List ℕ))
-    → ReadSoFar port number [] a b ka kb ra rb → IsRecord bytes burst → Consumes rb rc bytes → TakesReports port (burst ∷ []) reports → Counted (burst ∷ []) (length reports) b c → KeepsAll kb reports kc → ReadSoFar port (number + 1) [] a c ka kc ra rc
-so_far_more port number burst bytes reports a b c ka kb kc ra rb rc far is read takes counted kept = record {
+pub so_far_more : (port number : ℕ) (burst : UpRecord) (bytes : List ℕ) (reports : List Receipt) (refusals : List Refusal) (a b c : Counts) (ka kb kc : Option (List Receipt)) (ra rb rc : Option (List ℕ))
+    → ReadSoFar port number [] a b ka kb ra rb → IsRecord bytes burst → Consumes rb rc bytes → TakesReports port (burst ∷ []) reports refusals → All IsNotMemory refusals → Counted (burst ∷ []) (length reports) b c → KeepsAll kb reports kc → ReadSoFar port (number + 1) [] a c ka kc ra rc
+so_far_more port number burst bytes reports refusals a b c ka kb kc ra rb rc far is read takes memory counted kept = record {
   records = far.records ++ burst ∷ [];
   reports = far.reports ++ reports;
-  takes = takes_more port far.records (burst ∷ []) far.reports reports far.takes takes;
+  refusals = far.refusals ++ refusals;
+  takes = takes_more port far.records (burst ∷ []) far.reports reports far.refusals refusals far.takes takes;
+  memory = All-append IsNotMemory far.refusals refusals far.memory memory;
   counted = subst (λ k. Counted (far.records ++ burst ∷ []) k a c) (sym (length-append far.reports reports)) (counted_more far.records (burst ∷ []) (length far.reports) (length reports) a b c far.counted counted);
   kept = keeps_more ka kb kc far.reports reports far.kept kept;
   read = read_more far.records (burst ∷ []) [] ra rb rc far.read (read_one burst bytes rb rc is read);
   size = omega (arith, far.size, length-append far.records (burst ∷ []));
 }
+
+-- one more record is read, whose report is refused since memory is: what was taken and refused, why reading stops, the
+-- counts, and the bytes
+pub so_far_lacks : (port number : ℕ) (burst : UpRecord) (ka kb : Option (List Receipt)) (a b : Counts) (ra rb : Option (List ℕ)) (far : ReadSoFar port number [] a b ka kb ra rb) → RefusesReport burst OutOfMemory → LacksMemory port (far.records ++ burst ∷ []) far.reports
+so_far_lacks port number burst ka kb a b ra rb far refused = record {
+  before = far.records;
+  last = burst;
+  refusals = far.refusals;
+  are = refl;
+  takes = far.takes;
+  others = far.memory;
+  refused = refused;
+}
+
+pub so_far_refused : (port number : ℕ) (burst : UpRecord) (ka kb : Option (List Receipt)) (a b : Counts) (ra rb : Option (List ℕ)) (far : ReadSoFar port number [] a b ka kb ra rb) → RefusesReport burst OutOfMemory
+    → TakesReports port (far.records ++ burst ∷ []) far.reports (far.refusals ++ OutOfMemory ∷ [])
+so_far_refused port number burst ka kb a b ra rb far refused =
+    subst (λ (rs : List Receipt). TakesReports port (far.records ++ burst ∷ []) rs (far.refusals ++ OutOfMemory ∷ [])) (append-nil far.reports)
+    (takes_more port far.records (burst ∷ []) far.reports [] far.refusals (OutOfMemory ∷ []) far.takes (takes_refused port burst OutOfMemory refused))
+
+pub so_far_counted : (port number : ℕ) (burst : UpRecord) (ka kb : Option (List Receipt)) (a b c : Counts) (ra rb : Option (List ℕ)) (far : ReadSoFar port number [] a b ka kb ra rb) → Counted (burst ∷ []) 0 b c → Counted (far.records ++ burst ∷ []) (length far.reports) a c
+so_far_counted port number burst ka kb a b c ra rb far counted =
+    subst (λ k. Counted (far.records ++ burst ∷ []) k a c) (omega arith) (counted_more far.records (burst ∷ []) (length far.reports) 0 a b c far.counted counted)
+
+pub so_far_read : (port number : ℕ) (burst : UpRecord) (bytes : List ℕ) (ka kb : Option (List Receipt)) (a b : Counts) (ra rb rc : Option (List ℕ)) (far : ReadSoFar port number [] a b ka kb ra rb) → IsRecord bytes burst → Consumes rb rc bytes → HasRead (far.records ++ burst ∷ []) [] ra rc
+so_far_read port number burst bytes ka kb a b ra rb rc far is read = read_more far.records (burst ∷ []) [] ra rb rc far.read (read_one burst bytes rb rc is read)
 
 -- after records, bytes of the next one are read
 pub so_far_part : (port number : ℕ) (held : List ℕ) (a b : Counts) (ka kb : Option (List Receipt)) (ra rb rc : Option (List ℕ)) (far : ReadSoFar port number [] a b ka kb ra rb) → Consumes rb rc held
@@ -110,7 +143,9 @@ pub none_so_far : (port : ℕ) (a : Counts) (ka : Option (List Receipt)) (ra : O
 none_so_far port a ka ra garbled refused = record {
   records = [];
   reports = [];
-  takes = refl;
+  refusals = [];
+  takes = (refl, refl);
+  memory = All-nil IsNotMemory;
   counted = counted_none a garbled refused;
   read = read_none ra;
   size = refl;

@@ -1,5 +1,6 @@
 -- Turns one after another.
 use Rattle.std.proofs.Common.{◌≡◌, ℕ, ◌+◌, ◌≤◌, List, [], ◌∷◌, ◌++◌, inl, inr, Option, flat_map, length, refl, sym, ap, subst, ◌∙◌, arith, append_assoc, append-nil, length-append}
+use Rattle.std.specs.Prelude.{IfErr, MatchResult, OnOk, Result, Ok, Err}
 use Rattle.std.proofs.KnownBytes.{Appends-nil, Appends-trans}
 use Rattle.std.proofs.lemmas.Grind.{flat_map-append}
 use Rattle.std.proofs.lemmas.List.Elements.{All-append, All-cons, All-nil}
@@ -64,7 +65,8 @@ pub ends_more : (port ports : ℕ) (why : Why) (a b c : Counts) (s t u : SeatSta
 ends_more port ports Finished a b c s t u wa wb wc ra rb rc p q = turned_more port a b c s t u wa wb wc ra rb rc p q
 ends_more port ports (Gave cause) a b c s t u wa wb wc ra rb rc p q = stopped_more port (Gave cause) a b c s t u wa wb wc ra rb rc p q
 ends_more port ports GateLimit a b c s t u wa wb wc ra rb rc p q = stopped_more port GateLimit a b c s t u wa wb wc ra rb rc p q
-ends_more port ports (Refused fault) a b c s t u wa wb wc ra rb rc p q = (q.0, turned_more port a b c s t u wa wb wc ra rb rc p q.1)
+ends_more port ports (Refused fault) a b c s t u wa wb wc ra rb rc p (inl q) = inl (q.0, turned_more port a b c s t u wa wb wc ra rb rc p q.1)
+ends_more port ports (Refused fault) a b c s t u wa wb wc ra rb rc p (inr q) = inr (stopped_more port (Refused fault) a b c s t u wa wb wc ra rb rc p q)
 
 -- no turn
 pub turned_none : (port : ℕ) (a : Counts) (s : SeatState) (wa ra : Option (List ℕ)) → a.garbled ≤ GREATEST_COUNT → a.refused ≤ GREATEST_COUNT → Turned port a a s s wa wa ra ra
@@ -101,12 +103,24 @@ turned_one port t a b s u wa wb ra rb worked whole = record { turns = t ∷ []; 
 pub sending_ends : (port ports : ℕ) (why : Why) (t : Turn) (a b : Counts) (s u : SeatState) (wa wb ra rb : Option (List ℕ)) → Worked port (t ∷ []) [] a b s u wa wb ra rb → CutsSending why t.made t.sent → t.records ≡ [] → EndsAs port ports why a b s u wa wb ra rb
 sending_ends port ports Finished t a b s u wa wb ra rb worked cut none = absurd cut
 sending_ends port ports (Gave cause) t a b s u wa wb ra rb worked cut none = record { turns = []; last = t; held = []; worked = worked; whole = All-nil IsWhole; cut = inl (cut, none, refl) }
-sending_ends port ports GateLimit t a b s u wa wb ra rb worked cut none = record { turns = []; last = t; held = []; worked = worked; whole = All-nil IsWhole; cut = (cut, none, refl) }
+sending_ends port ports GateLimit t a b s u wa wb ra rb worked cut none = record { turns = []; last = t; held = []; worked = worked; whole = All-nil IsWhole; cut = inl (cut, none, refl) }
 sending_ends port ports (Refused fault) t a b s u wa wb ra rb worked cut none = absurd cut
 
 -- a turn that was cut short while its bursts were read
-pub reading_ends : (port ports cause : ℕ) (t : Turn) (held : List ℕ) (a b : Counts) (s u : SeatState) (wa wb ra rb : Option (List ℕ)) → Worked port (t ∷ []) held a b s u wa wb ra rb → CutsReading cause t held rb → EndsAs port ports (Gave cause) a b s u wa wb ra rb
-reading_ends port ports cause t held a b s u wa wb ra rb worked cut = record { turns = []; last = t; held = held; worked = worked; whole = All-nil IsWhole; cut = inr cut }
+pub reading_ends : (port ports : ℕ) (why : Why) (t : Turn) (held : List ℕ) (a b : Counts) (s u : SeatState) (wa wb ra rb : Option (List ℕ)) → Worked port (t ∷ []) held a b s u wa wb ra rb → CutsReading port why t held rb → EndsAs port ports why a b s u wa wb ra rb
+reading_ends port ports Finished t held a b s u wa wb ra rb worked cut = absurd cut.stops
+reading_ends port ports (Gave cause) t held a b s u wa wb ra rb worked cut = record { turns = []; last = t; held = held; worked = worked; whole = All-nil IsWhole; cut = inr cut }
+reading_ends port ports GateLimit t held a b s u wa wb ra rb worked cut = absurd cut.stops
+reading_ends port ports (Refused fault) t held a b s u wa wb ra rb worked cut = inr (record { turns = []; last = t; held = held; worked = worked; whole = All-nil IsWhole; cut = inr cut })
+
+-- what follows from each case of a result
+pub on_ok : {T E X Z : Type 0} (A : T → Type 0) (B : E → Type 0) (r : Result T E) → MatchResult r A B → OnOk r Z → ((v : T) → A v → Z → X) → OnOk r X
+on_ok A B (Ok v) m z f = f v m z
+on_ok A B (Err e) m z f = tt
+
+pub if_err : {T E : Type 0} (A : T → Type 0) (B Y : E → Type 0) (r : Result T E) → MatchResult r A B → ((e : E) → B e → Y e) → IfErr r Y
+if_err A B Y (Ok v) m f = tt
+if_err A B Y (Err e) m f = f e m
 
 -- the same end, given by its fields
 pub ends_with : (port ports : ℕ) (why told : Why) (a b end : Counts) (s u : SeatState) (wa wb ra rb : Option (List ℕ)) → told ≡ why → end ≡ b → EndsAs port ports why a b s u wa wb ra rb → EndsAs port ports told a end s u wa wb ra rb

@@ -1,22 +1,25 @@
 -- The work of a worker at its port and on its link: the maps that it had made and sent, and the bursts that it read.
-use Rattle.std.specs.Prelude.{ℕ, ◌≡◌, ◌≢◌, ◌+◌, ◌<◌, ◌≤◌, ◌↔◌, ◌⊎◌, Bool, false, List, [], ◌∷◌, ◌++◌, All, IfSome, count_by, flat_map, is_some, length, slice_index, Option, None, Some, Err}
+use Rattle.std.specs.Prelude.{ℕ, ◌≡◌, ◌≢◌, ◌+◌, ◌<◌, ◌≤◌, ◌↔◌, ◌⊎◌, Bool, false, true, List, [], ◌∷◌, ◌++◌, All, IfSome, count_by, flat_map, is_some, length, slice_index, Option, None, Some, Err}
 use Rattle.pon_device.specs.Device.{Appends}
 use Rattle.pon_bwmap.specs.Alloc.{Alloc}
 use Rattle.pon_event.specs.declared.event.Event.{Event}
 use Rattle.pon_event.specs.declared.event.Event.TheVariants.{Fail, MakeMap, Report}
 use Rattle.pon_state.specs.declared.reply.Reply.TheVariants.{Map}
 use Rattle.pon_state.specs.declared.reply.MadeMap.{MadeMap}
+use Rattle.pon_descr.specs.declared.refusal.Refusal.{Refusal}
+use Rattle.pon_descr.specs.declared.refusal.Refusal.TheVariants.{OutOfMemory}
 use Rattle.pon_plant.specs.declared.fault.StepFault.{StepFault}
+use Rattle.pon_plant.specs.declared.fault.StepFault.TheVariants as step
 use Rattle.pon_stream.specs.Streams.{IsBeginning}
 use Rattle.pon_desk.specs.Counts.{SeatState}
 use Rattle.pon_desk.specs.Faults.{IsNoSuchPort, TellsRefusal}
 use Rattle.pon_desk.specs.Kept.{AddsTo}
-use Rattle.pon_desk.specs.Posts.{IsSomePost}
+use Rattle.pon_desk.specs.Posts.{IsSomePost, IsSomeRefusal}
 use Rattle.pon_desk.specs.Receipts.{Receipt}
 use Rattle.pon_link.specs.DownRecords.{down_bytes}
 use Rattle.pon_link.specs.declared.record.UpRecord.{UpRecord}
 use Rattle.pon_link.specs.Reading.{ReaderState}
-use Rattle.pon_worker.specs.Records.{Counted, FailsInRow, HasRead, StopsFor, is_nobodys}
+use Rattle.pon_worker.specs.Records.{Counted, FailsInRow, HasRead, StopsFor, is_garbled, is_nobodys}
 use Rattle.pon_worker.specs.declared.causes.TheConstants.{WRITE_FAILED}
 use Rattle.pon_worker.specs.declared.counts.Counts.{Counts}
 use Rattle.pon_worker.specs.declared.counts.Why.{Why}
@@ -54,12 +57,36 @@ pub record TakesReport (port : ℕ) (burst : UpRecord) (receipt : Receipt) : Typ
   pub sender : is_nobodys burst.head ≡ false
   pub is_post : IsPostAt port (Report burst.frame onu burst.occ) receipt
 
--- of these records the port took some as reports, by these receipts, in order; the others are dropped
-abbrev pub TakesReports : ℕ → List UpRecord → List Receipt → Type 0
-TakesReports port [] receipts = receipts ≡ []
-TakesReports port (burst ∷ bursts) receipts =
-    TakesReports port bursts receipts
-    ⊎ ((first : Receipt) × (rest : List Receipt) × (receipts ≡ first ∷ rest) × TakesReport port burst first × TakesReports port bursts rest)
+-- the port refused a record as the report of its sender, for this reason
+pub record RefusesReport (burst : UpRecord) (told : Refusal) : Type 0 where
+  pub onu : ℕ
+  pub sent_by : IfSome burst.head (λ h. h.onu_raw ≡ onu)
+  pub sender : is_nobodys burst.head ≡ false
+  pub refused : IsSomeRefusal (Report burst.frame onu burst.occ) told
+
+-- of these records the port took some as reports, by these receipts, and refused others, for these reasons, both in
+-- order; the rest are without a sender
+abbrev pub TakesReports : ℕ → List UpRecord → List Receipt → List Refusal → Type 0
+TakesReports port [] receipts refusals = (receipts ≡ []) × (refusals ≡ [])
+TakesReports port (burst ∷ bursts) receipts refusals =
+    ((is_garbled burst ≡ true) × TakesReports port bursts receipts refusals)
+    ⊎ ((first : Receipt) × (rest : List Receipt) × (receipts ≡ first ∷ rest) × TakesReport port burst first × TakesReports port bursts rest refusals)
+    ⊎ ((first : Refusal) × (rest : List Refusal) × (refusals ≡ first ∷ rest) × RefusesReport burst first × TakesReports port bursts receipts rest)
+
+-- a refusal by a check, while memory was there
+abbrev pub IsNotMemory : Refusal → Type 0
+IsNotMemory told = told ≢ OutOfMemory
+
+-- the report of the last of these records was refused since memory was; of the records before it the port took these
+-- reports, and refused none for that reason
+pub record LacksMemory (port : ℕ) (records : List UpRecord) (reports : List Receipt) : Type 0 where
+  pub before : List UpRecord
+  pub last : UpRecord
+  pub refusals : List Refusal
+  pub are : records ≡ before ++ last ∷ []
+  pub takes : TakesReports port before reports refusals
+  pub others : All IsNotMemory refusals
+  pub refused : RefusesReport last OutOfMemory
 
 -- the bytes of the downstream record of a map
 abbrev pub map_record : MadeMap → List ℕ
@@ -73,20 +100,21 @@ begins_burst row = is_some row.start
 abbrev pub bursts_of : MadeMap → ℕ
 bursts_of made = count_by begins_burst made.map
 
--- a turn: the map, the receipt of its post, the bytes that were written of its record, the records that were read, and
--- the receipts of those that the port took as reports
+-- a turn: the map, the receipt of its post, the bytes that were written of its record, the records that were read, the
+-- receipts of those that the port took as reports, and the reasons why it refused others
 pub record Turn : Type 0 where
   pub made : MadeMap
   pub receipt : Receipt
   pub sent : List ℕ
   pub records : List UpRecord
   pub reports : List Receipt
+  pub refusals : List Refusal
 
--- the port made the map, with the whole promise of a map, and took these reports
+-- the port made the map, with the whole promise of a map, and took and refused these reports
 pub record IsTurn (port : ℕ) (turn : Turn) : Type 0 where
   pub is_post : IsPostAt port MakeMap turn.receipt
   pub reply : turn.receipt.placed.entry.reply ≡ Map turn.made
-  pub takes : TakesReports port turn.records turn.reports
+  pub takes : TakesReports port turn.records turn.reports turn.refusals
 
 -- the receipts of the posts of a turn, in order
 abbrev pub posts_of : Turn → List Receipt
@@ -103,10 +131,11 @@ pub record Worked (port : ℕ) (turns : List Turn) (held : List ℕ) (old new : 
   pub read : HasRead (flat_map (λ t. t.records) turns) held left_old left_new
   pub kept : KeepsAll seat_old.receipts (flat_map posts_of turns) seat_new.receipts
 
--- the record of the map is written whole, and a record is read for each of its bursts
+-- the record of the map is written whole, a record is read for each of its bursts, and memory is refused for no report
 pub record IsWhole (turn : Turn) : Type 0 where
   pub wrote : turn.sent ≡ map_record turn.made
   pub read : length turn.records ≡ bursts_of turn.made
+  pub memory : All IsNotMemory turn.refusals
 
 -- whole turns
 pub record Turned (port : ℕ) (old new : Counts) (seat_old seat_new : SeatState) (held_old held_new left_old left_new : Option (List ℕ)) : Type 0 where
@@ -127,19 +156,27 @@ abbrev pub FailsSending : Why → ℕ → ℕ → ℕ → Type 0
 FailsSending (Gave cause) bytes old new = FailsInRow bytes old new
 FailsSending _ bytes old new = Unit {0}
 
--- the record of the map is written whole, and some burst is not read, for this cause
-pub record CutsReading (cause : ℕ) (turn : Turn) (held : List ℕ) (left : Option (List ℕ)) : Type 0 where
+-- why no further one of this number of bursts is read, after these records with these reports and refusals: the next
+-- record is not there, for this cause, or memory was refused for the report of the last one
+abbrev pub StopsReading : ℕ → ℕ → Why → List UpRecord → List Receipt → List Refusal → ReaderState → Option (List ℕ) → Type 0
+StopsReading port bursts Finished records reports refusals reader left = ⊥
+StopsReading port bursts (Gave cause) records reports refusals reader left =
+    (length records < bursts) × All IsNotMemory refusals × StopsFor cause reader left
+StopsReading port bursts GateLimit records reports refusals reader left = ⊥
+StopsReading port bursts (Refused fault) records reports refusals reader left =
+    (fault ≡ step.Refused OutOfMemory) × (length records ≤ bursts) × (reader.held ≡ []) × LacksMemory port records reports
+
+-- the record of the map is written whole, and the reading of its bursts ended for this reason
+pub record CutsReading (port : ℕ) (why : Why) (turn : Turn) (held : List ℕ) (left : Option (List ℕ)) : Type 0 where
   pub wrote : turn.sent ≡ map_record turn.made
-  pub fewer : length turn.records < bursts_of turn.made
   pub reader : ReaderState
   pub holds : reader.held ≡ held
-  pub stops : StopsFor cause reader left
+  pub stops : StopsReading port (bursts_of turn.made) why turn.records turn.reports turn.refusals reader left
 
 -- a turn is cut short for this reason, after its map was made: before any burst is read, or while they are
-abbrev pub IsCutBy : Why → Turn → List ℕ → Option (List ℕ) → Type 0
-IsCutBy (Gave cause) turn held left =
-    (CutsSending (Gave cause) turn.made turn.sent × (turn.records ≡ []) × (held ≡ [])) ⊎ CutsReading cause turn held left
-IsCutBy why turn held left = CutsSending why turn.made turn.sent × (turn.records ≡ []) × (held ≡ [])
+abbrev pub IsCutBy : ℕ → Why → Turn → List ℕ → Option (List ℕ) → Type 0
+IsCutBy port why turn held left =
+    (CutsSending why turn.made turn.sent × (turn.records ≡ []) × (held ≡ [])) ⊎ CutsReading port why turn held left
 
 -- whole turns, and one that was cut short for this reason
 pub record Stopped (port : ℕ) (why : Why) (old new : Counts) (seat_old seat_new : SeatState) (held_old held_new left_old left_new : Option (List ℕ)) : Type 0 where
@@ -148,7 +185,7 @@ pub record Stopped (port : ℕ) (why : Why) (old new : Counts) (seat_old seat_ne
   pub held : List ℕ
   pub worked : Worked port (turns ++ last ∷ []) held old new seat_old seat_new held_old held_new left_old left_new
   pub whole : All IsWhole turns
-  pub cut : IsCutBy why last held left_new
+  pub cut : IsCutBy port why last held left_new
 
 -- the posts at a port are the maps and the reports counted meanwhile, and a number of others
 pub record PostsAt (port others : ℕ) (seat_old seat_new : SeatState) (old new : Counts) : Type 0 where
@@ -170,12 +207,13 @@ pub record MakesNoMap (port ports : ℕ) (fault : StepFault) : Type 0 where
   pub no_such : IsNoSuchPort {T = Unit {0}} (Err fault) ↔ ports ≤ port
 
 -- turns that ended for this reason: whole turns if they are over or the desk, with this number of ports, made no map;
--- otherwise one was cut short after them
+-- otherwise one was cut short after them, also if a report was refused since memory was
 abbrev pub EndsAs : ℕ → ℕ → Why → Counts → Counts → SeatState → SeatState → Option (List ℕ) → Option (List ℕ) → Option (List ℕ) → Option (List ℕ) → Type 0
 EndsAs port ports Finished old new seat_old seat_new held_old held_new left_old left_new =
     Turned port old new seat_old seat_new held_old held_new left_old left_new
 EndsAs port ports (Refused fault) old new seat_old seat_new held_old held_new left_old left_new =
-    MakesNoMap port ports fault × Turned port old new seat_old seat_new held_old held_new left_old left_new
+    (MakesNoMap port ports fault × Turned port old new seat_old seat_new held_old held_new left_old left_new)
+    ⊎ Stopped port (Refused fault) old new seat_old seat_new held_old held_new left_old left_new
 EndsAs port ports why old new seat_old seat_new held_old held_new left_old left_new =
     Stopped port why old new seat_old seat_new held_old held_new left_old left_new
 

@@ -13,7 +13,7 @@ pub enum Why {
     Gave { cause: Cause },
     /// Its gate refused it 10,000 times in a row.
     GateLimit,
-    /// The desk made no map.
+    /// The desk made no map, or memory was refused for a report: then `Refused(OutOfMemory)`.
     Refused(StepFault),
 }
 

@@ -1,8 +1,8 @@
 // The posts of a worker, and their effect on its seat and its sink.
-ghost use Rattle.std.specs.Prelude.{◌≡◌, ◌+◌, ◌<◌, ◌≤◌, ◌^◌, ◌⊎◌, ◌↔◌, length, slice_index, IfOk, IfErr, MatchBool, OnOk, OnErr};
+ghost use Rattle.std.specs.Prelude.{◌≡◌, ◌+◌, ◌<◌, ◌≤◌, ◌^◌, ◌⊎◌, ◌↔◌, length, slice_index, IfOk, IfErr, OnOk, OnErr};
 ghost use Rattle.pon_desk.specs.Counts.{one_more_at};
 ghost use Rattle.pon_desk.specs.Faults.{IsNoSuchPort, TellsRefusal};
-ghost use Rattle.pon_desk.specs.Posts.{IsSomePost, NamesPost};
+ghost use Rattle.pon_desk.specs.Posts.{IsSomePost, IsSomeRefusal, NamesPost};
 ghost use Rattle.pon_ring.specs.Discarded.{Frees};
 ghost use Rattle.pon_worker.specs.Passing.{PassesChapters, TriesTurn, TurnsAtPost};
 ghost use Rattle.pon_worker.specs.Turns.{IsPostAt, KeepsPost, RaisedAt};
@@ -120,25 +120,47 @@ pub(crate) fn post<L: Ledger, M: Ledger, T: Wait>(
     Ok(receipt)
 }
 
-// Posts an event at a port, has the seat keep its receipt, and returns whether the port took it.
-pub(crate) fn is_posted<L: Ledger, M: Ledger, T: Wait>(
+// Posts an event at a port, and has the seat keep its receipt.
+pub(crate) fn post_kept<L: Ledger, M: Ledger, T: Wait>(
     rt: &T,
     desk: &Desk<L, M>,
     seat: &mut Seat<L, M>,
     port: PortNo,
     sink: &mut Sink,
     event: Event,
-) -> bool
-    ensures counted { MatchBool result (KeepsPost port event seat.old seat.new
-        × (slice_index seat.new.counts port < 2 ^ 64)) (seat.new ≡ seat.old) }
+) -> Result<(), StepFault>
+    ensures no_such { IsNoSuchPort result ↔ desk.now.ports ≤ port }
+    ensures kept { OnOk result (KeepsPost port event seat.old seat.new) }
+    ensures fits { OnOk result (slice_index seat.new.counts port < 2 ^ 64) }
+    ensures refused { IfErr result (λ fault. TellsRefusal event fault) }
+    ensures err { OnErr result (seat.new ≡ seat.old) }
     ensures sink { PassesChapters sink.old sink.new }
 {
-    match post(rt, desk, seat, port, sink, event) {
-        Ok(receipt) => {
-            seat.keep(receipt);
-            true
-        }
-        Err(_) => false,
+    let receipt = post(rt, desk, seat, port, sink, event)?;
+    seat.keep(receipt);
+    Ok(())
+}
+
+// Posts a report at a port of the desk, and has the seat keep its receipt.
+pub(crate) fn post_report<L: Ledger, M: Ledger, T: Wait>(
+    rt: &T,
+    desk: &Desk<L, M>,
+    seat: &mut Seat<L, M>,
+    port: PortNo,
+    sink: &mut Sink,
+    event: Event,
+) -> Result<(), Refusal>
+    requires { port < desk.now.ports }
+    ensures kept { OnOk result (KeepsPost port event seat.old seat.new) }
+    ensures fits { OnOk result (slice_index seat.new.counts port < 2 ^ 64) }
+    ensures refused { IfErr result (λ told. IsSomeRefusal event told) }
+    ensures err { OnErr result (seat.new ≡ seat.old) }
+    ensures sink { PassesChapters sink.old sink.new }
+{
+    match post_kept(rt, desk, seat, port, sink, event) {
+        Ok(()) => Ok(()),
+        Err(StepFault::Refused(refusal)) => Err(refusal),
+        Err(StepFault::NoSuchPort) => unreachable!(),
     }
 }
 

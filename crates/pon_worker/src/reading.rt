@@ -1,17 +1,18 @@
 // How a worker reads the bursts of a map, and posts their reports.
-ghost use Rattle.std.specs.Prelude.{◌≡◌, ◌+◌, ◌∷◌, ◌<◌, ◌≤◌, [], List, false, true, length, slice_index, IfErr, IfSome, MatchOption, MatchResult, OnOk};
+ghost use Rattle.std.specs.Prelude.{◌≡◌, ◌+◌, ◌∷◌, ◌<◌, ◌≤◌, [], All, List, false, true, length, slice_index, IfSome, MatchBool, MatchOption, MatchResult, OnOk};
 ghost use Rattle.pon_link.specs.Reading.{empty};
 ghost use Rattle.pon_link.specs.declared.record.UpRecord.{UpRecord};
 ghost use Rattle.pon_worker.specs.Passing.{PassesChapters};
-ghost use Rattle.pon_worker.specs.Records.{Counted, HasRead, StopsFor, is_nobodys};
+ghost use Rattle.pon_worker.specs.Records.{Counted, HasRead, is_nobodys};
+ghost use Rattle.pon_descr.specs.declared.refusal.Refusal.{Refusal};
 ghost use Rattle.pon_desk.specs.Receipts.{Receipt};
-ghost use Rattle.pon_worker.specs.Turns.{KeepsAll, PostsAt, TakesReports};
+ghost use Rattle.pon_worker.specs.Turns.{IsNotMemory, KeepsAll, PostsAt, RefusesReport, StopsReading, TakesReports};
 
-use crate::counts::{Counts, count};
-use crate::posting::is_posted;
+use crate::counts::{Counts, Why, count};
+use crate::posting::post_report;
 use crate::receiving::receive;
-use pon_descr::Cause;
-use pon_desk::{Desk, Seat};
+use pon_descr::Refusal;
+use pon_desk::{Desk, Seat, StepFault};
 use pon_device::DevRead;
 use pon_event::Event;
 use pon_link::{Direction, UpReader, UpRecord};
@@ -32,7 +33,7 @@ fn sender(head: Option<BurstHead>) -> Option<OnuId>
     OnuId::new(head?.onu_raw())
 }
 
-// Posts the report of a burst, and counts the result.
+// Posts the report of a burst, and counts the result. Returns `false` if memory was refused for it.
 fn post_record<L: Ledger, M: Ledger, T: Wait>(
     rt: &T,
     desk: &Desk<L, M>,
@@ -41,32 +42,44 @@ fn post_record<L: Ledger, M: Ledger, T: Wait>(
     sink: &mut Sink,
     burst: UpRecord,
     counts: &mut Counts,
-)
-    requires { counts.old.maps + counts.old.reports ≤ slice_index seat.old.counts port }
-    ensures counted { (reports : List Receipt) × TakesReports port (burst ∷ []) reports
+) -> bool
+    requires port { port < desk.now.ports }
+    requires posts { counts.old.maps + counts.old.reports ≤ slice_index seat.old.counts port }
+    ensures counted { MatchBool result ((reports : List Receipt) × (refusals : List Refusal)
+        × TakesReports port (burst ∷ []) reports refusals × All IsNotMemory refusals
         × Counted (burst ∷ []) (length reports) counts.old counts.new
-        × KeepsAll seat.old.receipts reports seat.new.receipts }
+        × KeepsAll seat.old.receipts reports seat.new.receipts)
+        (RefusesReport burst Refusal.OutOfMemory × Counted (burst ∷ []) 0 counts.old counts.new
+        × (seat.new ≡ seat.old)) }
     ensures maps { counts.new.maps ≡ counts.old.maps }
     ensures posts { PostsAt port 0 seat.old seat.new counts.old counts.new }
     ensures sink { PassesChapters sink.old sink.new }
 {
     let Some(onu) = sender(burst.head) else {
         counts.garbled = count(counts.garbled);
-        return;
+        return true;
     };
     let event = Event::Report {
         frame: burst.frame,
         onu,
         occ: burst.occ,
     };
-    if is_posted(rt, desk, seat, port, sink, event) {
-        counts.reports += 1;
-        return;
+    match post_report(rt, desk, seat, port, sink, event) {
+        Ok(()) => {
+            counts.reports += 1;
+            true
+        }
+        Err(refusal) => {
+            counts.refused = count(counts.refused);
+            if refusal == Refusal::OutOfMemory {
+                return false;
+            }
+            true
+        }
     }
-    counts.refused = count(counts.refused);
 }
 
-// Reads this number of bursts, and posts their reports. Otherwise returns the cause why a burst was not read.
+// Reads this number of bursts, and posts their reports. Otherwise returns why no further burst is read.
 pub(crate) fn read_bursts<L: Ledger, M: Ledger, R: DevRead, T: Wait>(
     rt: &T,
     desk: &Desk<L, M>,
@@ -77,25 +90,31 @@ pub(crate) fn read_bursts<L: Ledger, M: Ledger, R: DevRead, T: Wait>(
     up: &mut UpReader,
     reader: &mut R,
     counts: &mut Counts,
-) -> Result<(), Cause>
+) -> Result<(), Why>
+    requires port { port < desk.now.ports }
     requires empty { up.old ≡ empty Direction.Up }
     requires posts { counts.old.maps + counts.old.reports ≤ slice_index seat.old.counts port }
-    ensures read { (records : List UpRecord) × (reports : List Receipt)
-        × TakesReports port records reports
+    ensures read { (records : List UpRecord) × (reports : List Receipt) × (refusals : List Refusal)
+        × TakesReports port records reports refusals
         × Counted records (length reports) counts.old counts.new
         × HasRead records up.new.held (R.remaining reader.old) (R.remaining reader.new)
         × KeepsAll seat.old.receipts reports seat.new.receipts
-        × MatchResult result (λ _. length records ≡ bursts) (λ _. length records < bursts) }
+        × MatchResult result (λ _. (length records ≡ bursts) × All IsNotMemory refusals)
+        (λ why. StopsReading port bursts why records reports refusals up.new
+        (R.remaining reader.new)) }
     ensures maps { counts.new.maps ≡ counts.old.maps }
     ensures posts { PostsAt port 0 seat.old seat.new counts.old counts.new }
     ensures sink { PassesChapters sink.old sink.new }
     ensures all { OnOk result (up.new ≡ empty Direction.Up) }
-    ensures err { IfErr result (λ cause. StopsFor cause up.new (R.remaining reader.new)) }
 {
     for _burst in 0..bursts {
         match receive(rt, up, reader) {
-            Ok(burst) => post_record(rt, desk, seat, port, sink, burst, counts),
-            Err(cause) => return Err(cause),
+            Ok(burst) => {
+                if !post_record(rt, desk, seat, port, sink, burst, counts) {
+                    return Err(Why::Refused(StepFault::Refused(Refusal::OutOfMemory)));
+                }
+            }
+            Err(cause) => return Err(Why::Gave { cause }),
         }
     }
     Ok(())

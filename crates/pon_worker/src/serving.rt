@@ -8,7 +8,7 @@ ghost use Rattle.pon_desk.specs.Counts.{SeatState};
 
 use crate::counts::{Counts, Why, WorkerEnd};
 use crate::gate::{Gate, Pace};
-use crate::posting::is_posted;
+use crate::posting::post_kept;
 use crate::turn::turn;
 use pon_desk::{Desk, Seat};
 use pon_device::{DevRead, DevWrite};
@@ -77,7 +77,7 @@ fn give_up<L: Ledger, M: Ledger, T: Wait>(
     let Why::Gave { cause } = why else {
         return;
     };
-    let _taken = is_posted(rt, desk, seat, port, sink, Event::Fail { cause });
+    let _posted = post_kept(rt, desk, seat, port, sink, Event::Fail { cause });
 }
 
 /// Serves a port over its link, for as many turns as the pace gives. In each turn it posts `MakeMap`, calls the gate at
@@ -89,7 +89,7 @@ fn give_up<L: Ledger, M: Ledger, T: Wait>(
 /// once more; only the second result counts. If the port refuses the turn, the worker goes on.
 ///
 /// A record whose burst header is refused, or has the ONU-ID 1023, is counted as garbled and dropped; a report that the
-/// port refuses is counted. It ends as [`Why`] says. A write or read that fails is tried three times in a row; then it
+/// port refuses is counted, and ends the worker only if memory was refused for it. It ends as [`Why`] says. A write or read that fails is tried three times in a row; then it
 /// posts that the port is failed, and so it does if what it read is not a record, or the input ended. It flushes
 /// nothing, so the writer must send what it takes by itself.
 pub fn serve_port<L: Ledger, M: Ledger, G: Gate, P: Pace, R: DevRead, W: DevWrite, T: Wait>(

@@ -50,8 +50,5 @@ pub(crate) fn turn<L: Ledger, M: Ledger, G: Gate, R: DevRead, W: DevWrite, T: Wa
     let sent = send_at_gate(gate, port, made_map(&receipt), writer);
     seat.keep(receipt);
     let bursts = sent?;
-    match read_bursts(rt, desk, seat, port, sink, bursts, up, reader, counts) {
-        Ok(()) => Ok(()),
-        Err(cause) => Err(Why::Gave { cause }),
-    }
+    read_bursts(rt, desk, seat, port, sink, bursts, up, reader, counts)
 }

@@ -1,7 +1,10 @@
-use Rattle.std.proofs.Common.{List, ℕ, ◌≡◌, refl, sym, ap, subst, ◌∙◌, arith}
+use Rattle.std.proofs.Common.{List, [], ◌∷◌, ◌++◌, ℕ, ◌≡◌, refl, sym, ap, subst, ◌∙◌, arith, length-append}
 use Rattle.pon_link.specs.Reading.{ReaderState}
 use Rattle.pon_worker.specs.Records.{HasRead}
-use Rattle.pon_worker.proofs.Bursts.{none_so_far, so_far_more, so_far_part}
+use Rattle.pon_descr.specs.declared.refusal.Refusal.TheVariants.{OutOfMemory}
+use Rattle.pon_desk.specs.Counts.{SeatState}
+use Rattle.pon_worker.specs.Turns.{KeepsAll}
+use Rattle.pon_worker.proofs.Bursts.{none_so_far, so_far_counted, so_far_lacks, so_far_more, so_far_part, so_far_read, so_far_refused}
 use Rattle.pon_worker.proofs.Passed.{passes_none, passes_then}
 use Rattle.pon_worker.proofs.Posted.{posts_fit, posts_more, posts_none}
 use Rattle.pon_worker.proofs.reading.read_bursts.Goals as goal
@@ -20,14 +23,14 @@ pub receive-requires : goal.receive-requires
 receive-requires g c = c.loop-burst.invariant.empty_again
 
 pub post_record-requires : goal.post_record-requires
-post_record-requires g c = c.loop-burst.invariant.fits
+post_record-requires g c = record { port = c.requires.port; posts = c.loop-burst.invariant.fits }
 
 pub returns-in-Err-clause-read : goal.returns-in-Err-clause-read
 returns-in-Err-clause-read g c =
     let left = g.R.DevRead.remaining c.args.reader.now in
     let far = c.loop-burst.invariant.so_far in
     let read = so_far_part c.args.port c.loop-burst._burst c.receive.new.up.held c.args.counts.now c.loop-burst.counts c.args.seat.now.receipts c.loop-burst.seat.receipts left (g.R.DevRead.remaining c.loop-burst.reader) (g.R.DevRead.remaining c.receive.new.reader) far c.in-Err.ensures.err.1 in
-    (far.records, far.reports, far.takes, far.counted, read, far.kept, omega (arith, far.size, c.loop-burst-test.true))
+    (far.records, far.reports, far.refusals, far.takes, far.counted, read, far.kept, (omega (arith, far.size, c.loop-burst-test.true), far.memory, c.in-Err.ensures.err.0))
 
 pub returns-in-Err-clause-maps : goal.returns-in-Err-clause-maps
 returns-in-Err-clause-maps g c = c.loop-burst.invariant.maps
@@ -39,9 +42,9 @@ pub loop-burst-preserved : goal.loop-burst-preserved
 loop-burst-preserved g c =
     let far = c.loop-burst.invariant in
     let got = c.in-Ok.ensures.ok in
-    let posted = c.post_record.ensures.counted in record {
+    let posted = c.if-not-post_record.ensures.counted in record {
       empty_again = c.in-Ok.ensures.empty;
-      so_far = so_far_more c.args.port c.loop-burst._burst c.in-Ok.burst got.0 posted.0 c.args.counts.now c.loop-burst.counts c.post_record.new.counts c.args.seat.now.receipts c.loop-burst.seat.receipts c.post_record.new.seat.receipts (g.R.DevRead.remaining c.args.reader.now) (g.R.DevRead.remaining c.loop-burst.reader) (g.R.DevRead.remaining c.receive.new.reader) far.so_far got.1 got.2 posted.1 posted.2 posted.3;
+      so_far = so_far_more c.args.port c.loop-burst._burst c.in-Ok.burst got.0 posted.0 posted.1 c.args.counts.now c.loop-burst.counts c.post_record.new.counts c.args.seat.now.receipts c.loop-burst.seat.receipts c.post_record.new.seat.receipts (g.R.DevRead.remaining c.args.reader.now) (g.R.DevRead.remaining c.loop-burst.reader) (g.R.DevRead.remaining c.receive.new.reader) far.so_far got.1 got.2 posted.2 posted.3 posted.4 posted.5;
       maps = c.post_record.ensures.maps ∙ far.maps;
       posts = posts_more c.args.port 0 0 c.args.seat.now c.loop-burst.seat c.post_record.new.seat c.args.counts.now c.loop-burst.counts c.post_record.new.counts far.posts c.post_record.ensures.posts;
       sink = passes_then c.args.sink.now c.loop-burst.sink c.post_record.new.sink far.sink c.post_record.ensures.sink;
@@ -54,7 +57,7 @@ returns-clause-read g c =
     let all = far.so_far in
     let none = sym (ap (λ (s : ReaderState). s.held) far.empty_again) in
     let number : c.loop-burst._burst ≡ c.args.bursts = omega (arith, c.loop-burst.auto._burst-end, c.loop-burst-test.false) in
-    (all.records, all.reports, all.takes, all.counted, subst (λ (t : List ℕ). HasRead all.records t (g.R.DevRead.remaining c.args.reader.now) (g.R.DevRead.remaining c.loop-burst.reader)) none all.read, all.kept, all.size ∙ number)
+    (all.records, all.reports, all.refusals, all.takes, all.counted, subst (λ (t : List ℕ). HasRead all.records t (g.R.DevRead.remaining c.args.reader.now) (g.R.DevRead.remaining c.loop-burst.reader)) none all.read, all.kept, (all.size ∙ number, all.memory))
 
 pub returns-clause-maps : goal.returns-clause-maps
 returns-clause-maps g c = c.loop-burst.invariant.maps
@@ -70,3 +73,36 @@ returns-clause-sink g c = c.loop-burst.invariant.sink
 
 pub returns-clause-all : goal.returns-clause-all
 returns-clause-all g c = c.loop-burst.invariant.empty_again
+
+pub returns-then-not-post_record-clause-read : goal.returns-then-not-post_record-clause-read
+returns-then-not-post_record-clause-read g c =
+    let far = c.loop-burst.invariant.so_far in
+    let got = c.in-Ok.ensures.ok in
+    let lacks = c.if-not-post_record.ensures.counted in
+    let kept = c.args.seat.now.receipts in
+    let old = g.R.DevRead.remaining c.args.reader.now in
+    let mid = g.R.DevRead.remaining c.loop-burst.reader in
+    let new = g.R.DevRead.remaining c.receive.new.reader in
+    let counts = c.args.counts.now in
+    let number = c.loop-burst._burst in
+    let burst = c.in-Ok.burst in
+    let held = ap (λ (s : ReaderState). s.held) c.in-Ok.ensures.empty in (
+      far.records ++ burst ∷ [],
+      far.reports,
+      far.refusals ++ OutOfMemory ∷ [],
+      so_far_refused c.args.port number burst kept c.loop-burst.seat.receipts counts c.loop-burst.counts old mid far lacks.0,
+      so_far_counted c.args.port number burst kept c.loop-burst.seat.receipts counts c.loop-burst.counts c.post_record.new.counts old mid far lacks.1,
+      subst (λ (t : List ℕ). HasRead (far.records ++ burst ∷ []) t old new) (sym held) (so_far_read c.args.port number burst got.0 kept c.loop-burst.seat.receipts counts c.loop-burst.counts old mid new far got.1 got.2),
+      subst (λ (s : SeatState). KeepsAll kept far.reports s.receipts) (sym lacks.2) far.kept,
+      (refl, omega (arith, far.size, c.loop-burst-test.true, length-append far.records (burst ∷ [])), held, so_far_lacks c.args.port number burst kept c.loop-burst.seat.receipts counts c.loop-burst.counts old mid far lacks.0),
+    )
+
+pub returns-then-not-post_record-clause-maps : goal.returns-then-not-post_record-clause-maps
+returns-then-not-post_record-clause-maps g c = c.post_record.ensures.maps ∙ c.loop-burst.invariant.maps
+
+pub returns-then-not-post_record-clause-posts : goal.returns-then-not-post_record-clause-posts
+returns-then-not-post_record-clause-posts g c =
+    posts_more c.args.port 0 0 c.args.seat.now c.loop-burst.seat c.post_record.new.seat c.args.counts.now c.loop-burst.counts c.post_record.new.counts c.loop-burst.invariant.posts c.post_record.ensures.posts
+
+pub returns-then-not-post_record-clause-sink : goal.returns-then-not-post_record-clause-sink
+returns-then-not-post_record-clause-sink g c = passes_then c.args.sink.now c.loop-burst.sink c.post_record.new.sink c.loop-burst.invariant.sink c.post_record.ensures.sink
