@@ -72,7 +72,7 @@ entry_fits : (c : Chapter) → IsLawfulChapter c → IsStateInRange c.opening �
 entry_fits c l f k e at =
     let s : State = state_before c k in
     let m : MayFollow k s e = l.legal k e at in (
-      (event_fits k s e.event m.event m.accepted, reply_fits k s e.event e.reply (admitted_before c l k) (carries_before c k) f.profile m.accepted m.reply (maps_are_fair c l k e at)),
+      (event_fits k s e.event m.event m.accepted, reply_fits k s e.event e.reply (admitted_before c l k) (carries_before c k) l.opening.numbers.profile m.accepted m.reply (maps_are_fair c l k e at)),
       refl,
     )
 
