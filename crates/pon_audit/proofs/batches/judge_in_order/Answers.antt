@@ -1,4 +1,4 @@
-use Rattle.std.proofs.Common.{◌++◌, ◌∷◌, [], arith, rules, take}
+use Rattle.std.proofs.Common.{◌++◌, ◌∷◌, [], arith, take}
 use Rattle.std.specs.Prelude.{MatchOption}
 use Rattle.pon_audit.specs.Judging.{AreJudged, TellsBad}
 use Rattle.pon_audit.proofs.FirstFaults.{told_in}

@@ -1,8 +1,7 @@
-use Rattle.std.proofs.Common.{◌≡◌, ◌++◌, ◌∷◌, [], ◌∙◌, Some, ap, append_assoc, rules, subst, sym}
-use Rattle.std.specs.Prelude.{Ok}
+use Rattle.std.proofs.Common.{◌≡◌, ◌++◌, ◌∷◌, [], ◌∙◌, ap, append_assoc, rules, subst, sym}
 use Rattle.std.proofs.lemmas.List.Elements.{All-push}
 use Rattle.pon_record.specs.Chapters.{FitsChapter}
-use Rattle.pon_record.specs.Recordings.{IsBadFormat, IsRecording, IsTruncated}
+use Rattle.pon_record.specs.Recordings.{IsBadFormat, IsTruncated}
 use Rattle.pon_record.specs.Streams.{StandsAfter}
 use Rattle.pon_audit.specs.Openings.{FitsRecording}
 use Rattle.pon_audit.proofs.reading.read_batch.Goals as goal

@@ -1,4 +1,3 @@
-use Rattle.std.proofs.Common.{rules}
 use Rattle.pon_audit.proofs.FirstFaults.{still_told}
 use Rattle.pon_audit.proofs.progress.Audit.take.Goals as goal
 

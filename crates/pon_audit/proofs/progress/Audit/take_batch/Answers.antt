@@ -1,4 +1,4 @@
-use Rattle.std.proofs.Common.{◌++◌, rules, subst}
+use Rattle.std.proofs.Common.{◌++◌, subst}
 use Rattle.pon_record.specs.Recordings.{IsRecording, IsTruncated}
 use Rattle.pon_audit.specs.Streams.{AreAudited}
 use Rattle.pon_audit.proofs.progress.Audit.take_batch.Goals as goal
