@@ -49,18 +49,22 @@ pub(crate) fn open<L: Ledger, M: Ledger, R: Wait + Abort>(
     (desk, seats)
 }
 
-/// Adds a burst of the unit with this ONU-ID in a frame. It reports 100 words.
-pub(crate) fn add_burst(rt: &impl Abort, bytes: &mut Vec<u8>, frame: u64, onu: u16) {
+/// Returns the burst of the unit with this ONU-ID in a frame. It reports 100 words.
+pub(crate) fn burst_of(rt: &impl Abort, frame: u64, onu: u16) -> UpRecord {
     let head = BurstHead::new(onu, 0);
     assert!(rt; head.is_some(), "a burst header");
     let mut occ = Occupancies::new();
     occ.push(BufOcc::new(100));
-    let record = UpRecord {
+    UpRecord {
         frame: FrameNo::new(frame),
         head,
         occ,
-    };
-    let burst = encode_up(&record);
+    }
+}
+
+/// Adds the bytes of a burst.
+pub(crate) fn add_burst(rt: &impl Abort, bytes: &mut Vec<u8>, frame: u64, onu: u16) {
+    let burst = encode_up(&burst_of(rt, frame, onu));
     bytes
         .extend_from_slice(burst.as_slice())
         .expect(rt, "memory");
