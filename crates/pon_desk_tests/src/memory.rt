@@ -3,11 +3,10 @@
 ghost use Rattle.std.specs.Prelude.{◌≡◌};
 
 use crate::bench::{ONU, admission, cfg, number};
-use crate::links::burst_of;
+use crate::links::try_add_burst;
 use pon_descr::Refusal;
 use pon_desk::{Desk, Seat, StepFault};
 use pon_device::{MemRead, MemWrite};
-use pon_link::encode_up;
 use pon_worker::{OpenGate, Sink, Turns, Why, WorkerEnd, serve_port};
 use std::alloc::Global;
 use std::marker::Brand;
@@ -27,8 +26,9 @@ struct Outcome {
 fn input(rt: &impl Abort, alloc: Global) -> Option<Vec<u8>> {
     let mut bytes = Vec::new(alloc);
     for frame in 0..TURNS {
-        let burst = encode_up(&burst_of(rt, frame, ONU));
-        bytes.extend_from_slice(burst.as_slice()).ok()?;
+        if !try_add_burst(rt, &mut bytes, frame, ONU) {
+            return None;
+        }
     }
     Some(bytes)
 }
