@@ -19,6 +19,8 @@ mod inspecting;
 #[cfg(test)]
 mod links;
 #[cfg(test)]
+mod memory;
+#[cfg(test)]
 mod operating;
 #[cfg(test)]
 mod passing;

@@ -49,8 +49,8 @@ pub(crate) fn open<L: Ledger, M: Ledger, R: Wait + Abort>(
     (desk, seats)
 }
 
-/// Adds a burst of the unit with this ONU-ID in a frame. It reports 100 words.
-pub(crate) fn add_burst(rt: &impl Abort, bytes: &mut Vec<u8>, frame: u64, onu: u16) {
+/// Adds a burst of the unit with this ONU-ID in a frame. It reports 100 words. Returns `false` if memory is refused.
+pub(crate) fn try_add_burst(rt: &impl Abort, bytes: &mut Vec<u8>, frame: u64, onu: u16) -> bool {
     let head = BurstHead::new(onu, 0);
     assert!(rt; head.is_some(), "a burst header");
     let mut occ = Occupancies::new();
@@ -61,9 +61,13 @@ pub(crate) fn add_burst(rt: &impl Abort, bytes: &mut Vec<u8>, frame: u64, onu: u
         occ,
     };
     let burst = encode_up(&record);
-    bytes
-        .extend_from_slice(burst.as_slice())
-        .expect(rt, "memory");
+    bytes.extend_from_slice(burst.as_slice()).is_ok()
+}
+
+/// Adds such a burst.
+pub(crate) fn add_burst(rt: &impl Abort, bytes: &mut Vec<u8>, frame: u64, onu: u16) {
+    let is_added = try_add_burst(rt, bytes, frame, onu);
+    assert!(rt; is_added, "memory");
 }
 
 /// Returns the bursts of the unit in the first frames, concatenated.

@@ -280,7 +280,8 @@ where
 ///
 /// Returns the exit status: 0 if each worker made all its turns, all the operator's lines were executed and the
 /// recording is whole; otherwise 3. Standard error has a text if a device failed or memory was refused: `olt: read
-/// failed` if the operator's file cannot be read, or the address cannot be read, bound, connected to or accepted on;
+/// failed` if the operator's file cannot be read, or the address cannot be read, bound, connected to or accepted on,
+/// also if connections of others keep the run from its own for 10 seconds;
 /// `olt: write failed`, also if the file of the recording cannot be created or written; or `olt: out of memory`, also
 /// if a thread cannot be created. A worker that ended early has no text. All threads have ended when it returns.
 pub fn run_ports<G, W, R>(

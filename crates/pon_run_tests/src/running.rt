@@ -94,8 +94,14 @@ where
     (status, writer)
 }
 
-// Runs this number of ports that are alike. Returns the exit status and the text that was written.
-fn ran<G, R>(rt: &R, alloc: Global, ports: usize, args: RunArgs<'_>, gate: &G) -> (u8, MemWrite)
+/// Runs this number of ports that are alike. Returns the exit status and the text that was written.
+pub(crate) fn ran<G, R>(
+    rt: &R,
+    alloc: Global,
+    ports: usize,
+    args: RunArgs<'_>,
+    gate: &G,
+) -> (u8, MemWrite)
 where
     G: Gate + Sync,
     R: Net<Listener = TcpListener, Stream = TcpStream>
@@ -112,8 +118,8 @@ where
     ran_with(rt, alloc, text.as_str(), args, gate)
 }
 
-// Returns whether a run ended with this exit status and text.
-fn ended_with(run: (u8, MemWrite), status: u8, text: &str) -> bool {
+/// Returns whether a run ended with this exit status and text.
+pub(crate) fn ended_with(run: (u8, MemWrite), status: u8, text: &str) -> bool {
     let (found, writer) = run;
     found == status && writer.bytes() == text.as_bytes()
 }
@@ -123,8 +129,8 @@ fn ended_with_lines(run: (u8, MemWrite), count: usize) -> bool {
     status == 0 && writer.bytes().iter().filter(|byte| **byte == b'\n').count() == count
 }
 
-// Arguments of a run of this number of maps for each port, without an operator.
-fn args(maps: u64) -> RunArgs<'static> {
+/// Arguments of a run of this number of maps for each port, without an operator.
+pub(crate) fn args(maps: u64) -> RunArgs<'static> {
     RunArgs {
         listen: HERE,
         maps,
