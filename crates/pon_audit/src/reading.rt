@@ -66,16 +66,12 @@ pub(crate) fn read_batch<R: DevRead>(
                 end: BatchEnd::Whole,
             }),
             Err(StreamFault::Truncated { at }) => {
-                return Ok(Batch {
-                    chapters,
-                    end: BatchEnd::Cut { at },
-                });
+                let end = BatchEnd::Cut { at };
+                return Ok(Batch { chapters, end });
             }
             Err(StreamFault::BadFormat { at }) => {
-                return Ok(Batch {
-                    chapters,
-                    end: BatchEnd::Malformed { at },
-                });
+                let end = BatchEnd::Malformed { at };
+                return Ok(Batch { chapters, end });
             }
             Err(StreamFault::Read) => return Err(PlanFault::Read),
             Err(StreamFault::Memory) => return Err(PlanFault::Memory),
