@@ -5,7 +5,7 @@ ghost use Rattle.clap.specs.declared.builder.command.Command.TheViews.{out-Comma
 ghost use Rattle.clap.specs.Walk.{rule_of};
 ghost use Rattle.clap.specs.Simple.{app_of, shape_of};
 ghost use Rattle.pon_job.specs.Jobs.{config_rule, file_rule, listen_rule, maps_rule, operate_rule, out_rule, record_rule, settle_rule};
-ghost use Rattle.pon_job.specs.Jobs.{audit_shape, check_shape, migrate_shape, olt_app, plan_shape, run_shape};
+ghost use Rattle.pon_job.specs.Jobs.{audit_shape, check_shape, migrate_shape, olt_app, plan_shape, run_shape, top_app};
 
 use crate::task::MOST_MAPS;
 use clap::builder::ValueParser;
@@ -156,24 +156,28 @@ fn run_command<'a>(alloc: Global) -> Result<Command<'a>, AllocError>
         .arg(settle_arg(alloc))
 }
 
+// Builds the program's command without its subcommands.
+fn top_command<'a>(alloc: Global) -> Result<Command<'a>, AllocError>
+    ensures { IfOk result (λ c. app_of c ≡ top_app) }
+{
+    Ok(
+        Command::new(alloc, "olt")
+            .bin_name("olt")?
+            .version("0.1.0")
+            .about("Upstream bandwidth scheduler of an XG-PON optical line terminal")
+            .subcommand_required(true)
+            .arg_required_else_help(true),
+    )
+}
+
 /// Builds the program's command, with its subcommands.
 pub(crate) fn olt_command<'a>(alloc: Global) -> Result<Command<'a>, AllocError>
     ensures { IfOk result (λ c. app_of c ≡ olt_app) }
 {
-    let plan = plan_command(alloc)?;
-    let check = check_command(alloc)?;
-    let audit = audit_command(alloc)?;
-    let migrate = migrate_command(alloc)?;
-    let run = run_command(alloc)?;
-    Command::new(alloc, "olt")
-        .bin_name("olt")?
-        .version("0.1.0")
-        .about("Upstream bandwidth scheduler of an XG-PON optical line terminal")
-        .subcommand_required(true)
-        .arg_required_else_help(true)
-        .subcommand(plan)?
-        .subcommand(check)?
-        .subcommand(audit)?
-        .subcommand(migrate)?
-        .subcommand(run)
+    top_command(alloc)?
+        .subcommand(plan_command(alloc)?)?
+        .subcommand(check_command(alloc)?)?
+        .subcommand(audit_command(alloc)?)?
+        .subcommand(migrate_command(alloc)?)?
+        .subcommand(run_command(alloc)?)
 }

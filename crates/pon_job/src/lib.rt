@@ -6,10 +6,12 @@
 
 mod arguments;
 mod commands;
+mod failure;
 mod outcome;
 mod task;
 
 pub use arguments::job;
+pub use failure::{Failure, Named};
 pub use outcome::{
     Outcome, exit_status, outcome_of_check, outcome_of_job, outcome_of_ports, outcome_of_run,
     outcome_of_words,
