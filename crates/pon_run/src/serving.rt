@@ -2,22 +2,19 @@
 
 ghost use Rattle.std.specs.Prelude.{◌≡◌, ◌⊎◌, ◌+◌, ◌≤◌, IfOk, IsNone, OnOk, is_ok, length, map, true};
 ghost use Rattle.std.specs.Vec.{vec_len};
-ghost use Rattle.pon_run.specs.Rings.{AreRingsOf};
+ghost use Rattle.pon_collector.specs.Rings.{AreRingsOf};
 ghost use Rattle.pon_run.specs.Runs.{EndsDone, TellsWorked};
 
 use crate::arguments::RunArgs;
 use crate::ending::tell;
 use crate::link::{Link, open_links};
 use crate::operator::{answer_lines, open_lines};
-use crate::port_sink::PortSink;
 use crate::ports::{OTHER_SEATS, admit_rows, served_ports};
-use crate::recorder::Recorder;
-use crate::recording::open_recorder;
-use crate::recording_thread::{Recording, Sinks};
-use crate::rings::{PortRing, Rings, open_rings};
 use crate::running::{Results, Served, serve_all};
-use crate::tape::Tape;
 use crate::thread::Worked;
+use pon_collector::{
+    PortRing, PortSink, Recorder, Recording, Rings, Sinks, Tape, open_recorder, open_rings,
+};
 use pon_desk::{Desk, Seat};
 use pon_device::DevWrite;
 use pon_job::{exit_status, outcome_of_ports};
