@@ -9,7 +9,7 @@ use Rattle.pon_desk.specs.Counts.{DeskSize, IsEven, SeatState}
 use Rattle.pon_desk.specs.Faults.{IsNotEven}
 use Rattle.pon_worker.specs.declared.counts.WorkerEnd.{WorkerEnd}
 use Rattle.pon_run.specs.Ends.{end_of, ends_of, lines_from, with_dropped, without_dropped}
-use Rattle.pon_run.specs.Runs.{EndsDone, TellsWorked, WritesLines}
+use Rattle.pon_run.specs.Runs.{EndedAs, EndsDone, TellsPorts, TellsWorked, WritesLines}
 use Rattle.pon_run.specs.Settlements.{settlement_lines}
 use Rattle.pon_run.specs.declared.end.PortEnd.{PortEnd}
 use Rattle.pon_run.specs.declared.settling.Settlement.{Settlement}
@@ -39,6 +39,12 @@ pub same_but_dropped : (ends : List PortEnd) (counts : List ℕ) → map without
 same_but_dropped [] counts = refl
 same_but_dropped (e ∷ es) [] = ap (λ (more : List PortEnd). without_dropped e ∷ more) (same_but_dropped es [])
 same_but_dropped (e ∷ es) (n ∷ ns) = ap (λ (more : List PortEnd). without_dropped e ∷ more) (same_but_dropped es ns)
+
+-- what is said of the ports is said of the workers' results
+pub tells_worked : {E : Type 0} (r : Result Bool E) (results : List (Result WorkerEnd AllocError)) (kept : List Chapter) (workers : List WorkerEnd) (ports : ℕ) (settle : Bool) (old new : Option (List ℕ)) → length kept ≡ ports → EndedAs results workers
+    → IfOk r (λ done. done ≡ true → TellsPorts kept workers settle old new) → IfOk r (λ done. done ≡ true → TellsWorked results ports settle old new)
+tells_worked (Ok done) results kept workers ports settle old new count ended told = λ e. record { kept = kept; workers = workers; count = count; ended = ended; tells = told e }
+tells_worked (Err fault) results kept workers ports settle old new count ended told = tt
 
 -- the run is done, as the workers' results say
 pub ends_done : {E : Type 0} (r : Result Bool E) (results : List (Result WorkerEnd AllocError)) (ports : ℕ) (settle : Bool) (IsAlone : Type 0) (old before new : Option (List ℕ)) → (IsAlone → before ≡ old)

@@ -1,8 +1,9 @@
 //! A run, from its settings to its last line.
 
-ghost use Rattle.std.specs.Prelude.{◌≡◌, ◌⊎◌, ◌+◌, ◌≤◌, IfOk, IsNone, OnOk, is_ok, length, map, true};
+ghost use Rattle.std.specs.Prelude.{◌≡◌, ◌⊎◌, ◌+◌, ◌≤◌, IfOk, IfSome, IsNone, OnOk, is_ok, length, map, true};
 ghost use Rattle.std.specs.Vec.{vec_len};
 ghost use Rattle.pon_collector.specs.Rings.{AreRingsOf};
+ghost use Rattle.pon_collector.specs.Whole.{IsWhole};
 ghost use Rattle.pon_run.specs.Runs.{EndsDone, TellsWorked};
 
 use crate::arguments::RunArgs;
@@ -75,8 +76,10 @@ fn tell_with_seats<L: Ledger, M: Ledger, K: Rings, F: Write + Drop, W: DevWrite>
     settle: bool,
     writer: &mut W,
 ) -> Result<bool, PlanFault>
-    ensures { IfOk result (λ done. done ≡ true → TellsWorked (map (λ w. w.end) all.items) desk.ports
+    ensures done { IfOk result (λ done. done ≡ true → TellsWorked (map (λ w. w.end) all.items) desk.ports
         settle (W.contents writer.old) (W.contents writer.new)) }
+    ensures whole { IfOk result (λ done. done ≡ true
+        → IfSome recording (λ r. IsWhole r.recorder r.whole)) }
 {
     match Vec::from_array(alloc, others) {
         Ok(others) => tell(alloc, desk, others, all, recording, settle, writer),
@@ -97,6 +100,8 @@ fn tell_results<L: Ledger, M: Ledger, K: Rings, F: Write + Drop, W: DevWrite>(
         → TellsWorked (map (λ w. w.end) results.worked.items) desk.ports settle
         (W.contents writer.old) (W.contents writer.new)) }
     ensures operated { OnOk result (is_ok results.operated ≡ true) }
+    ensures whole { IfOk result (λ done. done ≡ true
+        → IfSome results.recording (λ r. IsWhole r.recorder r.whole)) }
 {
     let Results {
         worked,
