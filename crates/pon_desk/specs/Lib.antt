@@ -1,6 +1,5 @@
 pub mod Counts
 pub mod Faults
-pub mod Kept
 pub mod Posts
 pub mod Receipts
 pub mod Settling

@@ -3,8 +3,8 @@ ghost use Rattle.pon_plant.specs.Plants.{opened_port, opened_ports};
 ghost use Rattle.pon_desk.specs.Counts.{AreUnused, unused_seat};
 
 use crate::held::Held;
-use crate::kept::Kept;
 use crate::seat::Seat;
+use pon_kept::Kept;
 use pon_port::{Port, PortCfg};
 use pon_units::FrameNo;
 use std::alloc::{AllocError, Global};

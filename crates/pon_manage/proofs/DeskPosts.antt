@@ -2,7 +2,7 @@
 use Rattle.std.proofs.Common.{◌≡◌, List, ℕ, ap, inl, inr, refl, subst, ◌∙◌}
 use Rattle.std.specs.Prelude.{Result, Ok, Err, OnOk, ◌++◌, ◌≢◌}
 use Rattle.pon_desk.specs.Counts.{SeatState, one_more_at}
-use Rattle.pon_desk.specs.Kept.{AddsTo}
+use Rattle.pon_kept.specs.Kept.{AddsTo}
 use Rattle.pon_desk.specs.Posts.{IsSomePost, IsSomeRefusal, NamesPost}
 use Rattle.pon_desk.specs.Receipts.{Receipt}
 use Rattle.pon_event.specs.declared.event.Event.{Event}

@@ -6,7 +6,7 @@ use Rattle.pon_descr.specs.declared.refusal.Refusal.TheVariants.{OutOfMemory}
 use Rattle.pon_port.specs.Chapters.{Chapter, IsLawfulChapter, present_state}
 use Rattle.pon_port.specs.Last.{last_map}
 use Rattle.pon_desk.specs.Counts.{SeatState, one_more_at}
-use Rattle.pon_desk.specs.Kept.{AddsTo}
+use Rattle.pon_kept.specs.Kept.{AddsTo}
 use Rattle.pon_desk.specs.Posts.{IsSomePost, IsSomeRefusal, NamesPost}
 use Rattle.pon_desk.specs.Receipts.{Receipt}
 use Rattle.pon_desk.specs.declared.view.PortView.{PortView}

@@ -1,15 +1,15 @@
 -- The lines at the end of a run.
-use Rattle.std.proofs.Common.{◌≡◌, ℕ, List, [], ◌∷◌, ap, map, length, refl, ◌++◌, ◌∙◌, take, slice_index_or, slice_set, Option}
-use Rattle.std.proofs.Math.Seq.{map-set_same}
-use Rattle.std.proofs.Math.Seq.{take-append_seam}
-use Rattle.std.specs.Prelude.{Bool, true, Result, Ok, Err, IfOk, OnOk}
+use Rattle.std.proofs.Common.{◌≡◌, ℕ, List, [], ◌∷◌, ap, map, length, refl, sym, subst, ◌++◌, ◌∙◌, ◌<◌, Option}
+use Rattle.std.specs.Prelude.{Bool, true, Result, Ok, Err, IfOk, IfSome, OnOk, Some, None, is_some}
 use Rattle.std.specs.declared.alloc.AllocError.{AllocError}
 use Rattle.std.proofs.KnownBytes.{Appends-trans}
 use Rattle.pon_device.specs.Device.{Appends}
 use Rattle.pon_port.specs.Chapters.{Chapter}
+use Rattle.pon_desk.specs.Counts.{DeskSize, IsEven, SeatState}
+use Rattle.pon_desk.specs.Faults.{IsNotEven}
 use Rattle.pon_worker.specs.declared.counts.WorkerEnd.{WorkerEnd}
-use Rattle.pon_run.specs.Ends.{end_of, ends_of, lines_from, without_dropped}
-use Rattle.pon_run.specs.Runs.{EndsDone, TellsWorked, WritesLines}
+use Rattle.pon_run.specs.Ends.{end_of, ends_of, lines_from, with_dropped, without_dropped}
+use Rattle.pon_run.specs.Runs.{EndedAs, EndsDone, TellsPorts, TellsWorked, WritesLines}
 use Rattle.pon_run.specs.Settlements.{settlement_lines}
 use Rattle.pon_run.specs.declared.end.PortEnd.{PortEnd}
 use Rattle.pon_run.specs.declared.settling.Settlement.{Settlement}
@@ -34,10 +34,17 @@ none_dropped [] workers = refl
 none_dropped (k ∷ ks) [] = refl
 none_dropped (k ∷ ks) (w ∷ ws) = ap (λ (ends : List PortEnd). end_of k w ∷ ends) (none_dropped ks ws)
 
--- another number of dropped chapters of one port
-pub one_dropped : (ends : List PortEnd) (place : ℕ) (end other : PortEnd) → without_dropped end ≡ without_dropped (slice_index_or ends place other)
-    → map without_dropped (slice_set ends place end) ≡ map without_dropped ends
-one_dropped ends place end other same = map-set_same without_dropped ends place end other same
+-- ends with other numbers of dropped chapters
+pub same_but_dropped : (ends : List PortEnd) (counts : List ℕ) → map without_dropped (with_dropped ends counts) ≡ map without_dropped ends
+same_but_dropped [] counts = refl
+same_but_dropped (e ∷ es) [] = ap (λ (more : List PortEnd). without_dropped e ∷ more) (same_but_dropped es [])
+same_but_dropped (e ∷ es) (n ∷ ns) = ap (λ (more : List PortEnd). without_dropped e ∷ more) (same_but_dropped es ns)
+
+-- what is said of the ports is said of the workers' results
+pub tells_worked : {E : Type 0} (r : Result Bool E) (results : List (Result WorkerEnd AllocError)) (kept : List Chapter) (workers : List WorkerEnd) (ports : ℕ) (settle : Bool) (old new : Option (List ℕ)) → length kept ≡ ports → EndedAs results workers
+    → IfOk r (λ done. done ≡ true → TellsPorts kept workers settle old new) → IfOk r (λ done. done ≡ true → TellsWorked results ports settle old new)
+tells_worked (Ok done) results kept workers ports settle old new count ended told = λ e. record { kept = kept; workers = workers; count = count; ended = ended; tells = told e }
+tells_worked (Err fault) results kept workers ports settle old new count ended told = tt
 
 -- the run is done, as the workers' results say
 pub ends_done : {E : Type 0} (r : Result Bool E) (results : List (Result WorkerEnd AllocError)) (ports : ℕ) (settle : Bool) (IsAlone : Type 0) (old before new : Option (List ℕ)) → (IsAlone → before ≡ old)
@@ -47,6 +54,15 @@ ends_done (Ok done) results ports settle IsAlone old before new alone told = λ 
     record { before = before; alone = alone; done = record { kept = worked.kept; workers = worked.workers; count = worked.count; tells = worked.tells } }
 ends_done (Err fault) results ports settle IsAlone old before new alone told = tt
 
--- a list that was lent as a whole, and is given back
-pub lent_back : {A : Type 0} (n : ℕ) (back rest : List A) → n ≡ length back → take n (back ++ rest) ≡ back
-lent_back n back rest e = ap (λ (m : ℕ). take m (back ++ rest)) e ∙ take-append_seam back rest
+-- a port differs from the counts of the seats
+pub not_even : (size : DeskSize) (seats : List SeatState) (ports : List Chapter) (counts : List ℕ) → IsNotEven size seats ports counts → IsEven ports seats → ⊥
+not_even size seats ports counts n even =
+    let p = n.uneven.somewhere.0 in
+    let d = n.uneven.somewhere.1 in
+    d.differs (even p d.is_port ∙ sym (n.sums.sums p (subst (λ (m : ℕ). p < m) n.all_ports d.is_port)))
+
+-- what is whole in the end was so before
+pub whole_before : {R : Type 0} (Whole : R → Type 0) (old new : Option R) → is_some new ≡ is_some old → IfSome new (λ n. IfSome old (λ o. Whole n → Whole o)) → IfSome new Whole → IfSome old Whole
+whole_before Whole None new same stays whole = tt
+whole_before Whole (Some o) None same stays whole = absurd cc
+whole_before Whole (Some o) (Some n) same stays whole = stays whole

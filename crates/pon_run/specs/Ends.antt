@@ -22,6 +22,12 @@ ends_of (k ∷ ks) (w ∷ ws) = end_of k w ∷ ends_of ks ws
 abbrev pub without_dropped : PortEnd → PortEnd
 without_dropped end = record { maps = end.maps; entries = end.entries; reports = end.reports; dropped = 0 }
 
+-- the ends with these numbers of dropped chapters, in order; an end without a number is unchanged
+abbrev pub with_dropped : List PortEnd → List ℕ → List PortEnd
+with_dropped [] counts = []
+with_dropped (e ∷ es) [] = e ∷ with_dropped es []
+with_dropped (e ∷ es) (n ∷ ns) = (record { maps = e.maps; entries = e.entries; reports = e.reports; dropped = n }) ∷ with_dropped es ns
+
 -- port P maps M entries E reports R dropped D, and a line feed
 abbrev pub line_of : ℕ → PortEnd → List ℕ
 line_of port end =

@@ -1,20 +1,20 @@
 //! The end of a run: what the workers left is recorded, the desk is closed, its ports are settled if that is wanted, and
 //! the lines about them are written.
 
-ghost use Rattle.std.specs.Prelude.{◌≡◌, IfOk, IfSome, OnOk, map, true};
+ghost use Rattle.std.specs.Prelude.{◌≡◌, ◌↔◌, IfOk, IfSome, OnOk, is_some, map, true};
 ghost use Rattle.std.specs.Vec.{vec_len};
-ghost use Rattle.pon_run.specs.Ends.{without_dropped};
-ghost use Rattle.pon_run.specs.Whole.{IsWhole};
+ghost use Rattle.pon_desk.specs.Counts.{IsEven};
+ghost use Rattle.pon_collector.specs.Whole.{IsWhole, StaysWhole};
 ghost use Rattle.pon_run.specs.Runs.{AllSettled, TellsPorts, TellsWorked, WritesLines};
 
-use crate::end::{PortEnd, write_ends};
-use crate::port_sink::PortSink;
-use crate::ports::{all_finished, ends_of, split_results, worker_ends};
-use crate::recording_thread::Recording;
-use crate::rings::Rings;
+use crate::end::write_ends;
+use crate::ports::{all_finished, ends_of, split_results, with_dropped, worker_ends};
 use crate::settlement_text::write_settlements;
-use crate::settling::{Account, Settlement, add_receipts, are_settled, settle_ports};
+use crate::settling::{
+    Account, Settlement, add_receipts, are_settled, open_accounts, settle_ports,
+};
 use crate::thread::Worked;
+use pon_collector::{PortSink, Recording, Rings};
 use pon_desk::{CloseFault, Desk, Seat};
 use pon_device::DevWrite;
 use pon_port::Port;
@@ -40,7 +40,11 @@ fn accounts_of<L: Ledger, M: Ledger, K: Rings, W: DevWrite + Drop>(
     sinks: Vec<PortSink<K>>,
     recording: &mut Option<Recording<K, W>>,
     settle: bool,
-) -> Result<Vec<Account>, AllocError> {
+) -> Result<Vec<Account>, AllocError>
+    ensures same { is_some recording.new ≡ is_some recording.old }
+    ensures whole { IfSome recording.new (λ new. IfSome recording.old (λ old.
+        StaysWhole old.recorder old.whole new.recorder new.whole)) }
+{
     let Some(recording) = recording else {
         return Ok(Vec::new(alloc));
     };
@@ -48,7 +52,8 @@ fn accounts_of<L: Ledger, M: Ledger, K: Rings, W: DevWrite + Drop>(
     if !settle {
         return Ok(Vec::new(alloc));
     }
-    let mut accounts = recording.accounts(alloc)?;
+    let taken = recording.taken_chapters(alloc)?;
+    let mut accounts = open_accounts(alloc, taken)?;
     add_receipts(alloc, seats, accounts.as_mut_slice())?;
     Ok(accounts)
 }
@@ -60,7 +65,9 @@ fn close<L: Ledger, M: Ledger>(
     seats: Vec<Seat<L, M>>,
     accounts: &[Account],
 ) -> Result<Option<ClosedRun>, AllocError>
-    ensures { IfOk result (λ run. IfSome run (λ closed. vec_len closed.ports ≡ desk.ports)) }
+    ensures ports { IfOk result (λ run. IfSome run (λ closed. vec_len closed.ports ≡ desk.ports)) }
+    ensures even { IfOk result (λ run. IfSome run (λ closed.
+        (closed.even ≡ true) ↔ IsEven closed.ports.items seats.items)) }
 {
     match desk.close(seats) {
         Ok(closed) => {
@@ -86,18 +93,17 @@ fn close<L: Ledger, M: Ledger>(
     }
 }
 
-// Records the chapter that each port keeps, if there is a recording.
+// Records the chapter that each port keeps, and sets the numbers of their dropped chapters, if there is a recording.
 fn record_kept<K: Rings, F: DevWrite + Drop>(
     recording: Option<Recording<K, F>>,
     ports: Vec<Port>,
-    ends: &mut [PortEnd],
+    dropped: &mut [u64],
 ) -> Result<(), PlanFault>
-    ensures ends { map without_dropped ends.new ≡ map without_dropped ends.old }
     ensures whole { OnOk result (IfSome recording (λ r. IsWhole r.recorder r.whole)) }
 {
     match recording {
         None => Ok(()),
-        Some(recording) => recording.finish(ports, ends),
+        Some(recording) => recording.finish(ports, dropped),
     }
 }
 
@@ -115,12 +121,17 @@ fn write_lines<K: Rings, F: DevWrite + Drop, W: DevWrite>(
         (W.contents writer.old) (W.contents writer.new)) }
     ensures whole { OnOk result (IfSome recording (λ r. IsWhole r.recorder r.whole)) }
 {
-    let Ok(mut ends) = ends_of(alloc, ports.as_slice(), workers) else {
+    let Ok(ends) = ends_of(alloc, ports.as_slice(), workers) else {
         return Err(PlanFault::Memory);
     };
-    let recorded = record_kept(recording, ports, ends.as_mut_slice());
-    let told = ends.as_slice();
-    write_ends(alloc, told, writer)?;
+    let Ok(mut dropped) = vec![in alloc; 0; ports.len()] else {
+        return Err(PlanFault::Memory);
+    };
+    let recorded = record_kept(recording, ports, dropped.as_mut_slice());
+    let Ok(told) = with_dropped(alloc, ends.as_slice(), dropped.as_slice()) else {
+        return Err(PlanFault::Memory);
+    };
+    write_ends(alloc, told.as_slice(), writer)?;
     write_settlements(alloc, settlements, writer)?;
     recorded
 }
@@ -178,8 +189,10 @@ pub(crate) fn tell<L: Ledger, M: Ledger, K: Rings, F: DevWrite + Drop, W: DevWri
     settle: bool,
     writer: &mut W,
 ) -> Result<bool, PlanFault>
-    ensures { IfOk result (λ done. done ≡ true → TellsWorked (map (λ w. w.end) all.items) desk.ports settle
-        (W.contents writer.old) (W.contents writer.new)) }
+    ensures done { IfOk result (λ done. done ≡ true → TellsWorked (map (λ w. w.end) all.items) desk.ports
+        settle (W.contents writer.old) (W.contents writer.new)) }
+    ensures whole { IfOk result (λ done. done ≡ true
+        → IfSome recording (λ r. IsWhole r.recorder r.whole)) }
 {
     let Ok(workers) = worker_ends(alloc, all.as_slice()) else {
         return Err(PlanFault::Memory);

@@ -8,21 +8,14 @@
 mod arguments;
 mod end;
 mod ending;
-mod inlet;
 mod link;
 mod operator;
 mod pace;
-mod port_sink;
 mod ports;
-mod recorder;
-mod recording;
-mod recording_thread;
-mod rings;
 mod running;
 mod serving;
 mod settlement_text;
 mod settling;
-mod tape;
 mod thread;
 mod units;
 

@@ -1,16 +1,15 @@
 //! The ports of a run at a desk: filled from the settings, and what each of them did.
 
 ghost use Rattle.std.specs.Prelude.{◌≡◌, ◌++◌, All, IfOk, map, true};
-ghost use Rattle.pon_run.specs.Ends.{end_of, ends_of};
+ghost use Rattle.pon_run.specs.Ends.{end_of, ends_of, with_dropped};
 ghost use Rattle.pon_run.specs.Runs.{EndedAs, IsFinished};
 
 use crate::end::PortEnd;
 use crate::link::Link;
-use crate::port_sink::PortSink;
-use crate::rings::Rings;
 use crate::running::Served;
 use crate::thread::{UnitsPart, Worked, WorkerPart};
 use crate::units::units_of;
+use pon_collector::{PortSink, Rings};
 use pon_desk::{Desk, Seat};
 use pon_port::Port;
 use pon_settings::{Settings, SettingsRow};
@@ -144,6 +143,26 @@ pub(crate) fn ends_of(
             return Ok(all);
         };
         all.push(end_of(port, worker))?;
+    }
+    Ok(all)
+}
+
+/// Returns the ends with these numbers of dropped chapters, in order; an end without a number is unchanged. `Err` only if
+/// memory is refused.
+pub(crate) fn with_dropped(
+    alloc: Global,
+    ends: &[PortEnd],
+    dropped: &[u64],
+) -> Result<Vec<PortEnd>, AllocError>
+    ensures { IfOk result (λ all. all.items ≡ with_dropped ends.now dropped.now) }
+{
+    let mut all = Vec::with_capacity(alloc, ends.len())?;
+    for (place, end) in ends.iter().enumerate() {
+        let mut end = *end;
+        if let Some(count) = dropped.get(place) {
+            end.dropped = *count;
+        }
+        all.push(end)?;
     }
     Ok(all)
 }

@@ -1,8 +1,7 @@
 //! The threads of a run, two for each port and one for the recorder: started and joined.
 
-use crate::recording_thread::Recording;
-use crate::rings::Rings;
 use crate::thread::{UnitsPart, Worked, WorkerPart, answer, work};
+use pon_collector::{Recording, Rings};
 use pon_desk::Desk;
 use pon_device::DevWrite;
 use pon_simulator::UnitsFault;

@@ -1,23 +1,21 @@
 //! A run, from its settings to its last line.
 
-ghost use Rattle.std.specs.Prelude.{◌≡◌, ◌⊎◌, ◌+◌, ◌≤◌, IfOk, IsNone, OnOk, is_ok, length, map, true};
+ghost use Rattle.std.specs.Prelude.{◌≡◌, ◌⊎◌, ◌+◌, ◌≤◌, IfOk, IfSome, IsNone, OnOk, is_ok, length, map, true};
 ghost use Rattle.std.specs.Vec.{vec_len};
-ghost use Rattle.pon_run.specs.Rings.{AreRingsOf};
+ghost use Rattle.pon_collector.specs.Rings.{AreRingsOf};
+ghost use Rattle.pon_collector.specs.Whole.{IsWhole};
 ghost use Rattle.pon_run.specs.Runs.{EndsDone, TellsWorked};
 
 use crate::arguments::RunArgs;
 use crate::ending::tell;
 use crate::link::{Link, open_links};
 use crate::operator::{answer_lines, open_lines};
-use crate::port_sink::PortSink;
 use crate::ports::{OTHER_SEATS, admit_rows, served_ports};
-use crate::recorder::Recorder;
-use crate::recording::open_recorder;
-use crate::recording_thread::{Recording, Sinks};
-use crate::rings::{PortRing, Rings, open_rings};
 use crate::running::{Results, Served, serve_all};
-use crate::tape::Tape;
 use crate::thread::Worked;
+use pon_collector::{
+    PortRing, PortSink, Recorder, Recording, Rings, Sinks, Tape, open_recorder, open_rings,
+};
 use pon_desk::{Desk, Seat};
 use pon_device::DevWrite;
 use pon_job::{exit_status, outcome_of_ports};
@@ -78,8 +76,10 @@ fn tell_with_seats<L: Ledger, M: Ledger, K: Rings, F: Write + Drop, W: DevWrite>
     settle: bool,
     writer: &mut W,
 ) -> Result<bool, PlanFault>
-    ensures { IfOk result (λ done. done ≡ true → TellsWorked (map (λ w. w.end) all.items) desk.ports
+    ensures done { IfOk result (λ done. done ≡ true → TellsWorked (map (λ w. w.end) all.items) desk.ports
         settle (W.contents writer.old) (W.contents writer.new)) }
+    ensures whole { IfOk result (λ done. done ≡ true
+        → IfSome recording (λ r. IsWhole r.recorder r.whole)) }
 {
     match Vec::from_array(alloc, others) {
         Ok(others) => tell(alloc, desk, others, all, recording, settle, writer),
@@ -100,6 +100,8 @@ fn tell_results<L: Ledger, M: Ledger, K: Rings, F: Write + Drop, W: DevWrite>(
         → TellsWorked (map (λ w. w.end) results.worked.items) desk.ports settle
         (W.contents writer.old) (W.contents writer.new)) }
     ensures operated { OnOk result (is_ok results.operated ≡ true) }
+    ensures whole { IfOk result (λ done. done ≡ true
+        → IfSome results.recording (λ r. IsWhole r.recorder r.whole)) }
 {
     let Results {
         worked,

@@ -1,8 +1,9 @@
 //! The settlement of the ports of a run with the receipts of its posts.
 
-ghost use Rattle.std.specs.Prelude.{◌≡◌, IfOk};
+ghost use Rattle.std.specs.Prelude.{◌≡◌, IfOk, map};
 ghost use Rattle.pon_run.specs.Settlements.{AreOf, IsOf, settled_from};
 
+use pon_collector::TakenChapters;
 use pon_desk::{Closed, Receipt, Seat, Unsettled};
 use pon_port::Chapter;
 use pon_units::PortNo;
@@ -22,6 +23,29 @@ pub(crate) struct Account {
 pub(crate) struct Settlement {
     pub(crate) port: PortNo,
     pub(crate) result: Result<usize, Unsettled>,
+}
+
+/// Opens an account for each port with the chapters that the recorder took for it, in order, and no receipts. `Err` only if
+/// memory is refused.
+pub(crate) fn open_accounts(
+    alloc: Global,
+    taken: Vec<TakenChapters>,
+) -> Result<Vec<Account>, AllocError>
+    ensures ports { IfOk result (λ all.
+        map (λ account. account.port) all.items ≡ map (λ t. t.port) taken.items) }
+    ensures chapters { IfOk result (λ all.
+        map (λ account. account.chapters) all.items ≡ map (λ t. t.chapters) taken.items) }
+{
+    let mut all = Vec::with_capacity(alloc, taken.len())?;
+    for TakenChapters { port, chapters } in taken {
+        let receipts = Vec::new(alloc);
+        all.push(Account {
+            port,
+            chapters,
+            receipts,
+        })?;
+    }
+    Ok(all)
 }
 
 // Adds the receipts that a seat kept to the accounts of their ports. `Err` if memory is refused, or was refused for one.

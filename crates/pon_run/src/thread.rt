@@ -1,8 +1,7 @@
 //! The two threads of a port: one runs its worker, the other its units.
 
 use crate::pace::UntilStopped;
-use crate::port_sink::PortSink;
-use crate::rings::Rings;
+use pon_collector::{PortSink, Rings};
 use pon_desk::{Desk, Seat};
 use pon_device::{StdRead, StdWrite};
 use pon_link::Unit;

@@ -8,7 +8,7 @@ use Rattle.pon_worker.specs.declared.counts.Counts.{Counts}
 use Rattle.pon_worker.specs.declared.counts.Why.{Why}
 use Rattle.pon_worker.specs.declared.counts.Why.TheVariants.{Finished, Gave, GateLimit, Refused}
 use Rattle.pon_event.specs.declared.event.Event.{Event}
-use Rattle.pon_desk.specs.Kept.{AddsTo}
+use Rattle.pon_kept.specs.Kept.{AddsTo}
 use Rattle.pon_desk.specs.Receipts.{Receipt}
 
 pub raised_one : (port : ℕ) (s t : SeatState) → t ≡ one_more_at port s → port < length s.counts → RaisedAt port 1 s t

@@ -13,7 +13,7 @@ use Rattle.pon_plant.specs.declared.fault.StepFault.TheVariants as step
 use Rattle.pon_stream.specs.Streams.{IsBeginning}
 use Rattle.pon_desk.specs.Counts.{SeatState}
 use Rattle.pon_desk.specs.Faults.{IsNoSuchPort, TellsRefusal}
-use Rattle.pon_desk.specs.Kept.{AddsTo}
+use Rattle.pon_kept.specs.Kept.{AddsTo}
 use Rattle.pon_desk.specs.Posts.{IsSomePost, IsSomeRefusal}
 use Rattle.pon_desk.specs.Receipts.{Receipt}
 use Rattle.pon_link.specs.DownRecords.{down_bytes}

@@ -1,0 +1,4 @@
+pub mod Tapes
+pub mod Recordings
+pub mod Rings
+pub mod Whole
