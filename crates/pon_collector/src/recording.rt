@@ -6,17 +6,7 @@ use pon_device::StdWrite;
 use pon_recorder::RecordFile;
 use pon_stream::PlanFault;
 use std::alloc::Global;
-use std::fs;
 use std::io::Write;
-use std::rt::Files;
-
-// Creates the file of a recording, or empties it if it exists. Returns `Write` if that fails.
-fn create_file<R: Files>(rt: &R, name: &str) -> Result<R::File, PlanFault> {
-    match fs::create(rt, name) {
-        Ok(file) => Ok(file),
-        Err(_) => Err(PlanFault::Write),
-    }
-}
 
 // Begins a recording, and writes its magic bytes. Returns `Write` if the device does not take them, and `Memory` if memory
 // is refused.
@@ -28,21 +18,17 @@ fn begin<F: Write + Drop>(alloc: Global, tape: Tape<F>) -> Result<Recorder<Tape<
     }
 }
 
-/// Begins a recording in the file of this name, which is created, or emptied if it exists; without a name, in no file, if
-/// the chapters are kept to settle their ports. `None` if no chapters are wanted.
+/// Begins a recording in this file; without a file, in none, if the chapters are kept to settle their ports. `None` if no
+/// chapters are wanted.
 ///
-/// Returns `Write` if the file cannot be created or does not take the magic bytes, and `Memory` if memory is refused.
-pub fn open_recorder<R: Files>(
-    rt: &R,
+/// Returns `Write` if the file does not take the magic bytes, and `Memory` if memory is refused.
+pub fn open_recorder<F: Write + Drop>(
     alloc: Global,
-    name: Option<&str>,
+    file: Option<F>,
     settle: bool,
-) -> Result<Option<Recorder<Tape<R::File>>>, PlanFault> {
-    match name {
-        Some(name) => {
-            let file = create_file(rt, name)?;
-            Ok(Some(begin(alloc, Tape::File(StdWrite::new(file)))?))
-        }
+) -> Result<Option<Recorder<Tape<F>>>, PlanFault> {
+    match file {
+        Some(file) => Ok(Some(begin(alloc, Tape::File(StdWrite::new(file)))?)),
         None if settle => Ok(Some(begin(alloc, Tape::Nothing)?)),
         None => Ok(None),
     }

@@ -68,7 +68,7 @@ fn reason_of(named: Named<'_>, kind: ErrorKind) -> Option<&'static str> {
         ErrorKind::AddrInUse => Some("in use"),
         ErrorKind::AddrNotAvailable => Some("not an address of this machine"),
         ErrorKind::InvalidInput => match named {
-            Named::Address(_) => Some("not an IP address with a port, as 127.0.0.1:0"),
+            Named::Address(_) => Some("not an address with a port, as 127.0.0.1:0"),
             _ => Some("not a name of a file"),
         },
         _ => None,
@@ -96,7 +96,7 @@ impl Failure {
         }
     }
 
-    /// Makes the failure of a job over a file, which its text names if it is a failed read.
+    /// Makes the failure of a job that reads a file, which its text names if it is a failed read.
     pub fn in_reading(alloc: Global, fault: PlanFault, named: Named<'_>) -> Self
         ensures { result.fault ≡ fault }
     {
@@ -105,6 +105,17 @@ impl Failure {
             _ => None,
         };
         Failure { fault, text }
+    }
+
+    /// Makes the failure of a job that writes a file, which its text names if it is a failed write.
+    pub fn in_writing(alloc: Global, fault: PlanFault, named: Named<'_>) -> Self
+        ensures { result.fault ≡ fault }
+    {
+        let text = match fault {
+            PlanFault::Write => format!(in alloc; "{named}: cannot be written").ok(),
+            _ => None,
+        };
+        Failure { text, fault }
     }
 
     /// Prints the failure to standard error: a line with the fault and, indented, the text.

@@ -1,7 +1,7 @@
-//! The command line of the program `olt`, and its exit status: the job that the words of the command line name, the
+//! The command line of the program `olt`, its exit status and its failures: the job that the words name, the
 //! outcome of a run, and the exit status of an outcome.
 //!
-//! Nothing here does a job, prints a text or ends a process.
+//! Nothing here does a job or ends a process; the one text that it prints is that of a failure.
 #![tactic(auto)]
 
 mod arguments;

@@ -1,10 +1,11 @@
 //! The audit of a recording in a file.
 
+use crate::files::open_file;
 use pon_audit::write_verdict;
 use pon_device::{StdRead, StdWrite};
+use pon_job::{Failure, Named};
 use pon_manage::PlanFault;
 use std::alloc::Global;
-use std::fs;
 use std::io::{self, BufReader};
 use std::rt::Files;
 use std::thread::Threads;
@@ -15,14 +16,16 @@ pub(crate) fn audit_file<R: Files + Print + Threads + Sync>(
     rt: &R,
     alloc: Global,
     name: &str,
-) -> Result<bool, PlanFault> {
-    let Ok(file) = fs::open(rt, name) else {
-        return Err(PlanFault::Read);
-    };
+) -> Result<bool, Failure> {
+    let named = Named::Recording(name);
+    let file = open_file(rt, alloc, name, named)?;
     let Ok(input) = BufReader::new(alloc, file) else {
-        return Err(PlanFault::Memory);
+        return Err(Failure::from(PlanFault::Memory));
     };
     let mut reader = StdRead::new(input);
     let mut writer = StdWrite::new(io::writer(rt));
-    write_verdict(rt, alloc, &mut reader, &mut writer)
+    match write_verdict(rt, alloc, &mut reader, &mut writer) {
+        Ok(is_good) => Ok(is_good),
+        Err(fault) => Err(Failure::in_reading(alloc, fault, named)),
+    }
 }

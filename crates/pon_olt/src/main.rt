@@ -16,6 +16,7 @@ mod migrating;
 mod opening;
 
 use crate::auditing::audit_file;
+use crate::files::open_file;
 use crate::migrating::migrate_file;
 use crate::opening::{NotOpened, Opening, settings_of, with_settings, without_settings};
 use clap::Error;
@@ -23,7 +24,7 @@ pub use pon_audit::{audit, audit_from, write_verdict};
 pub use pon_check_file::check_file;
 use pon_device::{StdRead, StdWrite};
 pub use pon_job::job;
-use pon_job::{Job, Outcome, exit_status, outcome_of_job, outcome_of_words};
+use pon_job::{Failure, Job, Named, Outcome, exit_status, outcome_of_job, outcome_of_words};
 use pon_manage::PlanEnd;
 pub use pon_manage::{PlanFault, plan};
 pub use pon_record::migrate;
@@ -31,7 +32,6 @@ use pon_run::RunArgs;
 pub use pon_run::run_ports;
 use pon_worker::OpenGate;
 use std::alloc::Global;
-use std::fs;
 use std::io::{self, BufReader};
 use std::net::{Net, TcpListener, TcpStream};
 use std::process::ExitCode;
@@ -77,7 +77,7 @@ fn run_plan<R: Input + Print + Files>(
     };
     match plan_lines(rt, alloc, opening) {
         Ok(_) => Ok(true),
-        Err(fault) => Err(NotOpened::Failed(fault)),
+        Err(fault) => Err(NotOpened::Failed(Failure::from(fault))),
     }
 }
 
@@ -99,22 +99,32 @@ where
             let mut writer = StdWrite::new(io::writer(rt));
             run_ports(rt, alloc, settings, args, &OpenGate, &mut writer)
         }
-        Err(NotOpened::Failed(fault)) => print_outcome(rt, Outcome::Failed(fault)),
-        Err(NotOpened::Refused(line)) => print_outcome(rt, print_refusal(rt, &line)),
+        Err(NotOpened::Failed(failure)) => exit_status(print_failure(rt, &failure)),
+        Err(NotOpened::Refused(line)) => exit_status(print_refusal(rt, &line)),
     }
 }
 
 // Judges the certificate of a check file. Returns `Read` if the file cannot be opened.
-fn judge_file<R: Files + Print>(rt: &R, alloc: Global, name: &str) -> Result<bool, PlanFault> {
-    let Ok(file) = fs::open(rt, name) else {
-        return Err(PlanFault::Read);
-    };
+fn judge_file<R: Files + Print>(rt: &R, alloc: Global, name: &str) -> Result<bool, Failure> {
+    let named = Named::CheckFile(name);
+    let file = open_file(rt, alloc, name, named)?;
     let Ok(input) = BufReader::new(alloc, file) else {
-        return Err(PlanFault::Memory);
+        return Err(Failure::from(PlanFault::Memory));
     };
     let mut reader = StdRead::new(input);
     let mut writer = StdWrite::new(io::writer(rt));
-    check_file(alloc, &mut reader, &mut writer)
+    match check_file(alloc, &mut reader, &mut writer) {
+        Ok(is_accepted) => Ok(is_accepted),
+        Err(fault) => Err(Failure::in_reading(alloc, fault, named)),
+    }
+}
+
+// Prints a failure, with the file or the address that it is of.
+fn print_failure(rt: &impl Eprint, failure: &Failure) -> Outcome
+    ensures { result ≡ Outcome.Failed failure.now.fault }
+{
+    failure.print(rt);
+    Outcome::Failed(failure.fault)
 }
 
 // Prints clap's message for the command line. The outcome is a failed write if help or version cannot be written.
@@ -148,15 +158,18 @@ fn without_words(rt: &impl Eprint, error: &io::Error) -> Outcome {
     Outcome::CommandLine
 }
 
-// Returns the outcome of a job, from how it ended. Prints why settings are refused.
+// Returns the outcome of a job, from how it ended. Prints why it failed, or why settings are refused.
 fn outcome_of_end(rt: &impl Eprint, job: &Job<'_>, ended: Result<bool, NotOpened>) -> Outcome
     ensures ok { IfOk ended (λ accepted. result ≡ outcome_of_job job.now (Ok accepted)) }
-    ensures failed { (fault : PlanFault) → ended ≡ Err (NotOpened.Failed fault)
-        → result ≡ outcome_of_job job.now (Err fault) }
+    ensures failed { (failure : Failure) → ended ≡ Err (NotOpened.Failed failure)
+        → result ≡ outcome_of_job job.now (Err failure.fault) }
 {
     match ended {
         Ok(accepted) => outcome_of_job(job, Ok(accepted)),
-        Err(NotOpened::Failed(fault)) => outcome_of_job(job, Err(fault)),
+        Err(NotOpened::Failed(failure)) => {
+            failure.print(rt);
+            outcome_of_job(job, Err(failure.fault))
+        }
         Err(NotOpened::Refused(line)) => print_refusal(rt, &line),
     }
 }
@@ -202,7 +215,7 @@ where
             return run_settings(rt, alloc, config, args);
         }
     };
-    print_outcome(rt, outcome_of_end(rt, &job, ended))
+    exit_status(outcome_of_end(rt, &job, ended))
 }
 
 fn main(rt: HostRuntime) -> ExitCode {

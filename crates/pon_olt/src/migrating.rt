@@ -1,7 +1,8 @@
 //! The migration of a recording in a file.
 
-use crate::files::bytes_of;
+use crate::files::recording_in;
 use pon_device::StdWrite;
+use pon_job::{Failure, Named};
 use pon_manage::PlanFault;
 use pon_record::{ReadFault, chapter_count, migrate};
 use pon_stream::write_text;
@@ -23,13 +24,18 @@ fn write_whole<R: Files>(rt: &R, part: &str, out: &str, bytes: &[u8]) -> io::Res
 
 // Writes bytes as the file `out`, which is replaced if there is one. After a failure a file `out` is as before, and no
 // other file is left.
-fn replace_file<R: Files>(rt: &R, alloc: Global, out: &str, bytes: &[u8]) -> Result<(), PlanFault> {
+fn replace_file<R: Files>(rt: &R, alloc: Global, out: &str, bytes: &[u8]) -> Result<(), Failure> {
     let Ok(part) = format!(in alloc; "{out}{PART}") else {
-        return Err(PlanFault::Memory);
+        return Err(Failure::from(PlanFault::Memory));
     };
-    if write_whole(rt, &part, out, bytes).is_err() {
+    if let Err(error) = write_whole(rt, &part, out, bytes) {
         let _ = fs::remove_file(rt, &part);
-        return Err(PlanFault::Write);
+        return Err(Failure::of(
+            alloc,
+            PlanFault::Write,
+            Named::Recording(out),
+            &error,
+        ));
     }
     Ok(())
 }
@@ -49,8 +55,8 @@ pub(crate) fn migrate_file<R: Files + Print>(
     alloc: Global,
     name: &str,
     out: &str,
-) -> Result<bool, PlanFault> {
-    let bytes = bytes_of(rt, alloc, name)?;
+) -> Result<bool, Failure> {
+    let bytes = recording_in(rt, alloc, name)?;
     let fault = match migrate(alloc, &bytes) {
         Ok(recording) => {
             replace_file(rt, alloc, out, &recording)?;
@@ -58,7 +64,7 @@ pub(crate) fn migrate_file<R: Files + Print>(
             print_line(rt, format!(in alloc; "migrated chapters {chapters}\n"))?;
             return Ok(true);
         }
-        Err(ReadFault::Memory) => return Err(PlanFault::Memory),
+        Err(ReadFault::Memory) => return Err(Failure::from(PlanFault::Memory)),
         Err(ReadFault::BadFormat { at }) => format!(in alloc; "badformat {at}\n"),
         Err(ReadFault::Truncated { at, .. }) => format!(in alloc; "truncated {at}\n"),
     };

@@ -5,12 +5,13 @@ ghost use Rattle.pon_plant.specs.Plants.{IsPlantSize};
 ghost use Rattle.toml.specs.Parse.{parse_document};
 ghost use Rattle.pon_settings.specs.Ports.{IsOpening, Spells, openings, steps_from};
 
+use crate::files::open_file;
+use pon_job::{Failure, Named};
 use pon_manage::{PlanFault, Step};
 use pon_port::PortCfg;
 use pon_settings::{Settings, SettingsFault, explain, settings};
 use pon_units::{FrameNo, Gap, Profile};
 use std::alloc::{AllocError, Global};
-use std::fs;
 use std::io::{self, ErrorKind, Read};
 use std::rt::Files;
 
@@ -37,21 +38,30 @@ pub(crate) struct Opening {
 #[derive(Drop)]
 pub(crate) enum NotOpened {
     /// A device failed, as in reading the settings file, or memory was refused.
-    Failed(PlanFault),
+    Failed(Failure),
     /// The settings are refused. The text names the place, and the rule that is broken.
     Refused(String),
 }
 
-impl From<AllocError> for NotOpened {
+impl From<Failure> for NotOpened {
     ghost use Rattle.std.specs.Prelude.{◌≡◌};
-    ghost use Rattle.pon_stream.specs.declared.fault.PlanFault.TheVariants.{Memory};
     ghost use Rattle.pon_olt.specs.declared.opening.NotOpened.TheVariants.{Failed};
 
-    ghost from_gives = { λ _ fault. fault ≡ Failed Memory };
+    ghost from_gives = { λ failure not_opened. not_opened ≡ Failed failure };
 
-    fn from(_: AllocError) -> Self {
-        NotOpened::Failed(PlanFault::Memory)
+    fn from(failure: Failure) -> Self {
+        NotOpened::Failed(failure)
     }
+}
+
+impl From<AllocError> for NotOpened {
+    fn from(_: AllocError) -> Self {
+        out_of_memory()
+    }
+}
+
+fn out_of_memory() -> NotOpened {
+    NotOpened::Failed(Failure::from(PlanFault::Memory))
 }
 
 // Returns the port that is opened without settings.
@@ -92,34 +102,35 @@ fn opening_of(alloc: Global, settings: &Settings) -> Result<Opening, AllocError>
 
 fn refusal(alloc: Global, text: &str, fault: SettingsFault) -> NotOpened {
     if let SettingsFault::Memory = fault {
-        return NotOpened::Failed(PlanFault::Memory);
+        return out_of_memory();
     }
     match explain(alloc, text, &fault) {
         Ok(line) => NotOpened::Refused(line),
-        Err(_) => NotOpened::Failed(PlanFault::Memory),
+        Err(_) => out_of_memory(),
     }
 }
 
 fn refused_as(alloc: Global, rule: &str) -> NotOpened {
     match format!(in alloc; "  {rule}") {
         Ok(line) => NotOpened::Refused(line),
-        Err(_) => NotOpened::Failed(PlanFault::Memory),
+        Err(_) => out_of_memory(),
     }
 }
 
-// Reads the settings file `name`. Returns `Failed` with `Read` if the file cannot be opened.
+// Reads the settings file `name`. Returns `Failed` with `Read` if it cannot be opened or read.
 fn text_of<R: Files>(rt: &R, alloc: Global, name: &str) -> Result<String, NotOpened> {
-    let Ok(file) = fs::open(rt, name) else {
-        return Err(NotOpened::Failed(PlanFault::Read));
-    };
+    let named = Named::Settings(name);
+    let file = open_file(rt, alloc, name, named)?;
     match io::read_to_string(alloc, file.take(MOST_BYTES + 1)) {
         Ok(text) if text.len() as u64 <= MOST_BYTES => Ok(text),
         Ok(_) => Err(refused_as(alloc, "the file has more than 16777216 bytes")),
-        Err(error) => match error.kind() {
-            ErrorKind::InvalidData => Err(refused_as(alloc, "the file is not UTF-8")),
-            ErrorKind::OutOfMemory => Err(NotOpened::Failed(PlanFault::Memory)),
-            _ => Err(NotOpened::Failed(PlanFault::Read)),
-        },
+        Err(error) if error.kind() == ErrorKind::InvalidData => {
+            Err(refused_as(alloc, "the file is not UTF-8"))
+        }
+        Err(error) => {
+            let failure = Failure::of(alloc, PlanFault::Read, named, &error);
+            Err(NotOpened::Failed(failure))
+        }
     }
 }
 

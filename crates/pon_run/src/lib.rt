@@ -8,6 +8,7 @@
 mod arguments;
 mod end;
 mod ending;
+mod files;
 mod link;
 mod operator;
 mod pace;

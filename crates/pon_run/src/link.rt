@@ -3,6 +3,7 @@
 ghost use Rattle.std.specs.Prelude.{◌≡◌, IfOk};
 ghost use Rattle.std.specs.Vec.{vec_len};
 
+use pon_job::{Failure, Named};
 use pon_stream::PlanFault;
 use std::alloc::Global;
 use std::io::{self, ErrorKind};
@@ -30,7 +31,7 @@ pub(crate) struct Link {
 }
 
 fn too_many_others() -> io::Error {
-    io::Error::other("others connect to the address of the run")
+    io::Error::other("others connect to it")
 }
 
 // Returns an error once a run has tried for too long.
@@ -142,12 +143,14 @@ pub(crate) fn open_links<R: Net<Listener = TcpListener, Stream = TcpStream> + Cl
     alloc: Global,
     address: &str,
     ports: usize,
-) -> Result<Vec<Link>, PlanFault>
+) -> Result<Vec<Link>, Failure>
     ensures { IfOk result (λ links. vec_len links ≡ ports) }
 {
     match listen_on(rt, alloc, address, ports) {
         Ok(links) => Ok(links),
-        Err(error) if error.kind() == ErrorKind::OutOfMemory => Err(PlanFault::Memory),
-        Err(_) => Err(PlanFault::Read),
+        Err(error) => {
+            let named = Named::Address(address);
+            Err(Failure::of(alloc, PlanFault::Read, named, &error))
+        }
     }
 }

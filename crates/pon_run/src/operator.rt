@@ -5,19 +5,9 @@ use pon_device::{DevWrite, StdRead};
 use pon_manage::operate;
 use pon_stream::PlanFault;
 use std::alloc::Global;
-use std::fs;
 use std::io::{BufReader, Read};
-use std::rt::Files;
 use std::sync::Wait;
 use std::sync::ledger::Ledger;
-
-/// Opens the file of the operator's lines. Returns `Read` if it cannot be opened.
-pub(crate) fn open_lines<R: Files>(rt: &R, name: &str) -> Result<R::File, PlanFault> {
-    match fs::open(rt, name) {
-        Ok(file) => Ok(file),
-        Err(_) => Err(PlanFault::Read),
-    }
-}
 
 /// Executes the lines of the file, as [`operate`] does.
 pub(crate) fn answer_lines<L: Ledger, M: Ledger, F: Read + Drop, W: DevWrite, R: Wait>(

@@ -8,17 +8,18 @@ ghost use Rattle.pon_run.specs.Runs.{EndsDone, TellsWorked};
 
 use crate::arguments::RunArgs;
 use crate::ending::tell;
+use crate::files::{open_lines, recorder_of};
 use crate::link::{Link, open_links};
-use crate::operator::{answer_lines, open_lines};
+use crate::operator::answer_lines;
 use crate::ports::{OTHER_SEATS, admit_rows, served_ports};
 use crate::running::{Results, Served, serve_all};
 use crate::thread::Worked;
 use pon_collector::{
-    PortRing, PortSink, Recorder, Recording, Rings, Sinks, Tape, open_recorder, open_rings,
+    PortRing, PortSink, Recorder, Recording, Rings, Sinks, Tape, open_rings,
 };
 use pon_desk::{Desk, Seat};
 use pon_device::DevWrite;
-use pon_job::{exit_status, outcome_of_ports};
+use pon_job::{Failure, exit_status, outcome_of_ports};
 use pon_settings::Settings;
 use pon_stream::PlanFault;
 use pon_units::MOST_PORTS;
@@ -238,7 +239,7 @@ fn run<G, W, R>(
     args: RunArgs<'_>,
     gate: &G,
     writer: &mut W,
-) -> Result<bool, PlanFault>
+) -> Result<bool, Failure>
 where
     G: Gate + Sync,
     W: DevWrite,
@@ -249,15 +250,15 @@ where
 {
     let lines = match args.operate {
         None => None,
-        Some(name) => Some(open_lines(rt, name)?),
+        Some(name) => Some(open_lines(rt, alloc, name)?),
     };
-    let recorder = open_recorder(rt, alloc, args.record, args.settle)?;
+    let recorder = recorder_of(rt, alloc, args.record, args.settle)?;
     let ports = settings.ports().len();
     let links = open_links(rt, alloc, args.listen, ports)?;
     let Ok(rings) = open_rings(alloc, ports, &recorder) else {
-        return Err(PlanFault::Memory);
+        return Err(Failure::from(PlanFault::Memory));
     };
-    run_at::<Brand, Brand, Brand, G, R::File, W, R>(
+    Ok(run_at::<Brand, Brand, Brand, G, R::File, W, R>(
         rt,
         alloc,
         Blank::new(ports as u64),
@@ -270,7 +271,7 @@ where
         rings,
         recorder,
         writer,
-    )
+    )?)
 }
 
 /// Runs the ports of the settings.
@@ -285,7 +286,8 @@ where
 /// failed` if the operator's file cannot be read, or the address cannot be read, bound, connected to or accepted on,
 /// also if connections of others keep the run from its own for 10 seconds;
 /// `olt: write failed`, also if the file of the recording cannot be created or written; or `olt: out of memory`, also
-/// if a thread cannot be created. A worker that ended early has no text. All threads have ended when it returns.
+/// if a thread cannot be created; then, indented, the file or the address that failed, and why. A worker that ended early has no
+/// text. All threads have ended when it returns.
 pub fn run_ports<G, W, R>(
     rt: &R,
     alloc: Global,
@@ -310,9 +312,11 @@ where
     ensures lines { result ≡ 0 → EndsDone (length settings) args.entry.settle (IsNone args.entry.operate)
         (W.contents writer.old) (W.contents writer.new) }
 {
-    let ended = run(rt, alloc, &settings, args, gate, writer);
-    if let Err(fault) = ended {
-        let _ = eprintln!(rt; "olt: {fault}");
+    match run(rt, alloc, &settings, args, gate, writer) {
+        Ok(done) => exit_status(outcome_of_ports(Ok(done))),
+        Err(failure) => {
+            failure.print(rt);
+            exit_status(outcome_of_ports(Err(failure.fault)))
+        }
     }
-    exit_status(outcome_of_ports(ended))
 }
