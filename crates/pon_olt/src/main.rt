@@ -1,7 +1,7 @@
 //! `olt`: the upstream bandwidth scheduler of an XG-PON optical line terminal, as a program.
 //!
 //! The program executes management lines and prints a reply or a refusal for each ([`plan`]), judges a check file
-//! ([`check_file`]) or a recording ([`audit`]), writes a recording anew in the present version of its format
+//! ([`check_file`]) or a recording ([`audit`]), prints what one holds, writes a recording anew in the present version of its format
 //! ([`migrate`]), or runs ports over sockets ([`run_ports`]). This crate adds the standard streams, the files, the
 //! settings and the exit status.
 #![tactic(auto)]
@@ -12,10 +12,12 @@ ghost use Rattle.pon_job.specs.Outcomes.{exit_status, outcome_of_job};
 
 mod auditing;
 mod files;
+mod looking;
 mod migrating;
 mod opening;
 
 use crate::auditing::audit_file;
+use crate::looking::{NotShown, show_chapters};
 use crate::migrating::migrate_file;
 use crate::opening::{NotOpened, Opening, settings_of, with_settings, without_settings};
 use clap::Error;
@@ -139,6 +141,20 @@ fn print_outcome(rt: &impl Eprint, outcome: Outcome) -> u8
     exit_status(outcome)
 }
 
+// Prints what the chapters of a recording hold. Returns the exit status.
+fn run_info<R: Files + Print + Eprint + Threads + Sync>(rt: &R, alloc: Global, file: &str) -> u8 {
+    match show_chapters(rt, alloc, file) {
+        Ok(good) => exit_status(outcome_of_job(&Job::Info { file }, Ok(good))),
+        Err(NotShown { fault, reason }) => {
+            let status = print_outcome(rt, Outcome::Failed(fault));
+            if fault == PlanFault::Read {
+                let _ = eprintln!(rt; "  recording {file}: {reason}");
+            }
+            status
+        }
+    }
+}
+
 // Returns the outcome if the command line cannot be read: a word is not UTF-8, or memory was refused.
 fn without_words(rt: &impl Eprint, error: &io::Error) -> Outcome {
     if error.kind() != io::ErrorKind::InvalidData {
@@ -183,6 +199,7 @@ where
         Job::Plan { config } => run_plan(rt, alloc, config),
         Job::Check { file } => judge_file(rt, alloc, file).map_err(NotOpened::Failed),
         Job::Audit { file } => audit_file(rt, alloc, file).map_err(NotOpened::Failed),
+        Job::Info { file } => return run_info(rt, alloc, file),
         Job::Migrate { file, out } => migrate_file(rt, alloc, file, out).map_err(NotOpened::Failed),
         Job::Run {
             config,

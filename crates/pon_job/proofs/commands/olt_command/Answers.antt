@@ -13,5 +13,6 @@ returns c =
     let one = with_sub _ _ _ _ _ els c.in_ok-plan.ensures.shape c.in_ok-plan.ensures.local c.in_ok-subcommand.ensures in
     let two = with_sub _ _ _ _ _ one c.in_ok-check.ensures.shape c.in_ok-check.ensures.local c.in_ok-subcommand-2.ensures in
     let three = with_sub _ _ _ _ _ two c.in_ok-audit.ensures.shape c.in_ok-audit.ensures.local c.in_ok-subcommand-3.ensures in
-    let four = with_sub _ _ _ _ _ three c.in_ok-migrate.ensures.shape c.in_ok-migrate.ensures.local c.in_ok-subcommand-4.ensures in
-    with_last_sub _ _ _ _ _ four c.in_ok-run.ensures.shape c.in_ok-run.ensures.local c.subcommand-5.ensures
+    let four = with_sub _ _ _ _ _ three c.in_ok-info.ensures.shape c.in_ok-info.ensures.local c.in_ok-subcommand-4.ensures in
+    let five = with_sub _ _ _ _ _ four c.in_ok-migrate.ensures.shape c.in_ok-migrate.ensures.local c.in_ok-subcommand-5.ensures in
+    with_last_sub _ _ _ _ _ five c.in_ok-run.ensures.shape c.in_ok-run.ensures.local c.subcommand-6.ensures
