@@ -7,12 +7,12 @@ _olt() {
     esac
     local words
     if [ "$COMP_CWORD" -eq 1 ]; then
-        words='plan run check audit migrate --help --version'
+        words='plan run check audit info migrate --help --version'
     else
         case $command in
             plan) words='--config --help' ;;
             run) words='--config --listen --maps --record --operate --settle --help' ;;
-            check | audit | migrate)
+            check | audit | info | migrate)
                 case $current in
                     -*) words='--help' ;;
                     *) mapfile -t COMPREPLY < <(compgen -f -- "$current"); return ;;

@@ -3,6 +3,7 @@ complete -c olt -n __fish_use_subcommand -f -a plan -d 'Answer management lines 
 complete -c olt -n __fish_use_subcommand -f -a run -d 'Make maps at each port, over sockets'
 complete -c olt -n __fish_use_subcommand -f -a check -d 'Judge the certificate of a shared surplus'
 complete -c olt -n __fish_use_subcommand -f -a audit -d 'Judge a recording: each entry and each map of it'
+complete -c olt -n __fish_use_subcommand -f -a info -d 'Print what each chapter of a recording holds'
 complete -c olt -n __fish_use_subcommand -f -a migrate -d 'Write a recording of version 1 as one of version 2'
 complete -c olt -n __fish_use_subcommand -l version -d 'Print the version'
 complete -c olt -l help -d 'Print help'

@@ -3,7 +3,7 @@ use Rattle.std.proofs.Common.{◌≡◌, ℕ, Bool, List, Option, Some, None, su
 use Rattle.std.specs.Prelude.{IfSome, IsNone, IsSomeAnd, MatchOption, codes}
 use Rattle.clap.specs.Walk.{Row, first_of}
 use Rattle.pon_job.specs.Jobs.{HasMaps, IsRun, NamesNoJob, SpellsMaps}
-use Rattle.pon_job.specs.declared.task.Job.TheVariants.{Plan, Check, Audit, Migrate, Run}
+use Rattle.pon_job.specs.declared.task.Job.TheVariants.{Plan, Check, Audit, Info, Migrate, Run}
 
 -- the number that is parsed from the text
 pub number_read : (rows : List Row) (text : List ℕ) (r : Option ℕ) → Some text ≡ first_of (codes "maps") rows → MatchOption r ((maps : ℕ) → ¬ SpellsMaps text maps) (SpellsMaps text) → IfSome r (HasMaps rows)
@@ -22,6 +22,7 @@ no_run : (rows : List Row) → ((config listen : List ℕ) (maps : ℕ) (recordi
 no_run rows none (Plan config) j = absurd (cc (j.0))
 no_run rows none (Check file) j = absurd (cc (j.0))
 no_run rows none (Audit file) j = absurd (cc (j.0))
+no_run rows none (Info file) j = absurd (cc (j.0))
 no_run rows none (Migrate file out) j = absurd (cc (j.0))
 no_run rows none (Run config listen maps recording operate settle) j = none _ _ _ _ _ _ j.1
 

@@ -1,5 +1,5 @@
 -- The subcommand that clap matched, and the matches of its arguments.
-use Rattle.std.proofs.Common.{◌≡◌, ℕ, List, [], refl, sym, ap, ◌∙◌, true, subst, inl, inr, Option, Some, None}
+use Rattle.std.proofs.Common.{◌≡◌, ℕ, List, [], refl, sym, ap, ◌∙◌, true, false, nat_eq, slice_index_or, subst, inl, inr, Option, Some, None}
 use Rattle.std.specs.Prelude.{codes, option_map}
 use Rattle.std.specs.Box.{box_value}
 use Rattle.clap.specs.Words.{subcommand_rows_of, rows_of}
@@ -15,7 +15,7 @@ use Rattle.clap.specs.declared.parser.matches.ArgMatches.{ArgMatches}
 use Rattle.clap.specs.declared.parser.matches.ArgMatches.TheViews.{out-ArgMatches, out-SubCommand}
 use Rattle.pon_job.specs.Jobs.{HasValues, IsJob, NamesNoJob, RefusesWords, olt_app, word_of}
 use Rattle.pon_job.specs.declared.task.Job.{Job}
-use Rattle.pon_job.specs.declared.task.Job.TheVariants.{Plan, Check, Audit, Migrate, Run}
+use Rattle.pon_job.specs.declared.task.Job.TheVariants.{Plan, Check, Audit, Info, Migrate, Run}
 
 name_of_rows : (m : ArgMatches) → option_map (λ p. p.0) (subcommand_rows_of m) ≡ subcommand_name_of m
 name_of_rows m = elim (out-ArgMatches m).subcommand as (λ o. option_map (λ p. p.0) (subcommand_rows o) ≡ option_map (λ b. (out-SubCommand (box_value b)).name.now) o) [
@@ -52,8 +52,15 @@ no_file name rows r word met is no_plan no_run none = subst NamesNoJob met go
     go (Plan config) j = no_plan (sym is ∙ j.0)
     go (Check file) j = absurd (cc (none, j.1))
     go (Audit file) j = absurd (cc (none, j.1))
+    go (Info file) j = absurd (cc (none, j.1))
     go (Migrate file out) j = absurd (cc (none, j.1.0))
     go (Run config listen maps recording operate settle) j = no_run (sym is ∙ j.0)
+
+pub info_is_not_plan : codes "info" ≡ codes "plan" → ⊥
+info_is_not_plan e = absurd (let t : true ≡ false = ap (λ l. nat_eq (slice_index_or l 0 0) 105) e in cc)
+
+pub info_is_not_run : codes "info" ≡ codes "run" → ⊥
+info_is_not_run e = absurd (cc e)
 
 -- the job of the matches is that of the words
 pub job_in : (a : App) (words : List (List ℕ)) (m : ArgMatches) (job : Job) → a ≡ olt_app → HasMatchesOf a words m → IsJob (subcommand_rows_of m) job → IsJob (subcommand_of olt_app words) job

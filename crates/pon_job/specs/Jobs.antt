@@ -12,9 +12,9 @@ use Rattle.clap.specs.declared.error.Error.{Error}
 use Rattle.clap.specs.declared.error.kind.ErrorKind.TheVariants.{InvalidSubcommand}
 use Rattle.pon_job.specs.declared.task.TheConstants.{MOST_MAPS}
 use Rattle.pon_job.specs.declared.task.Job.{Job}
-use Rattle.pon_job.specs.declared.task.Job.TheVariants.{Plan, Check, Audit, Migrate, Run}
+use Rattle.pon_job.specs.declared.task.Job.TheVariants.{Plan, Check, Audit, Info, Migrate, Run}
 
--- the file of `check`, of `audit` and of `migrate`, which is required
+-- the file of `check`, of `audit`, of `info` and of `migrate`, which is required
 abbrev pub file_rule : Rule
 file_rule = record (new_rule (codes "file")) { value_names = 1; required = true }
 
@@ -60,6 +60,9 @@ check_shape = record (new_shape (codes "check")) { rules = file_rule ∷ [] }
 abbrev pub audit_shape : Shape
 audit_shape = record (new_shape (codes "audit")) { rules = file_rule ∷ [] }
 
+abbrev pub info_shape : Shape
+info_shape = record (new_shape (codes "info")) { rules = file_rule ∷ [] }
+
 abbrev pub migrate_shape : Shape
 migrate_shape = record (new_shape (codes "migrate")) { rules = file_rule ∷ out_rule ∷ [] }
 
@@ -81,13 +84,14 @@ top_app = record { top = top_shape; subs = [] }
 
 -- the command line of the program
 abbrev pub olt_app : App
-olt_app = with_subcommand (with_subcommand (with_subcommand (with_subcommand (with_subcommand top_app plan_shape) check_shape) audit_shape) migrate_shape) run_shape
+olt_app = with_subcommand (with_subcommand (with_subcommand (with_subcommand (with_subcommand (with_subcommand top_app plan_shape) check_shape) audit_shape) info_shape) migrate_shape) run_shape
 
 -- the subcommand of a job
 abbrev pub word_of : Job → List ℕ
 word_of (Plan config) = codes "plan"
 word_of (Check file) = codes "check"
 word_of (Audit file) = codes "audit"
+word_of (Info file) = codes "info"
 word_of (Migrate file out) = codes "migrate"
 word_of (Run config listen maps recording operate settle) = codes "run"
 
@@ -114,6 +118,7 @@ abbrev pub HasValues : List Row → Job → Type 0
 HasValues rows (Plan config) = first_of (codes "config") rows ≡ option_map (λ name. name.now) config
 HasValues rows (Check file) = first_of (codes "file") rows ≡ Some file.now
 HasValues rows (Audit file) = first_of (codes "file") rows ≡ Some file.now
+HasValues rows (Info file) = first_of (codes "file") rows ≡ Some file.now
 HasValues rows (Migrate file out) = (first_of (codes "file") rows ≡ Some file.now) × (first_of (codes "out") rows ≡ Some out.now)
 HasValues rows (Run config listen maps recording operate settle) =
     IsRun rows config.now listen.now maps (option_map (λ name. name.now) recording) (option_map (λ name. name.now) operate) settle

@@ -92,6 +92,10 @@ fn job_of<'a>(matches: &ArgMatches<'a>) -> Option<Job<'a>>
         let file = found.get_str("file")?;
         return Some(Job::Audit { file });
     }
+    if name == "info" {
+        let file = found.get_str("file")?;
+        return Some(Job::Info { file });
+    }
     if name == "migrate" {
         return migration_of(found);
     }

@@ -5,7 +5,7 @@ ghost use Rattle.clap.specs.declared.builder.command.Command.TheViews.{out-Comma
 ghost use Rattle.clap.specs.Walk.{rule_of};
 ghost use Rattle.clap.specs.Simple.{app_of, shape_of};
 ghost use Rattle.pon_job.specs.Jobs.{config_rule, file_rule, listen_rule, maps_rule, operate_rule, out_rule, record_rule, settle_rule};
-ghost use Rattle.pon_job.specs.Jobs.{audit_shape, check_shape, migrate_shape, olt_app, plan_shape, run_shape, top_app};
+ghost use Rattle.pon_job.specs.Jobs.{audit_shape, check_shape, info_shape, migrate_shape, olt_app, plan_shape, run_shape, top_app};
 
 use crate::task::MOST_MAPS;
 use clap::builder::ValueParser;
@@ -132,6 +132,15 @@ fn audit_command<'a>(alloc: Global) -> Result<Command<'a>, AllocError>
         .arg(recording_arg(alloc))
 }
 
+fn info_command<'a>(alloc: Global) -> Result<Command<'a>, AllocError>
+    ensures shape { IfOk result (λ c. shape_of c ≡ info_shape) }
+    ensures local { IfOk result (λ c. (out-Command c).has_globals ≡ false) }
+{
+    Command::new(alloc, "info")
+        .about("Print what each chapter of a recording holds")
+        .arg(recording_arg(alloc))
+}
+
 fn migrate_command<'a>(alloc: Global) -> Result<Command<'a>, AllocError>
     ensures shape { IfOk result (λ c. shape_of c ≡ migrate_shape) }
     ensures local { IfOk result (λ c. (out-Command c).has_globals ≡ false) }
@@ -178,6 +187,7 @@ pub(crate) fn olt_command<'a>(alloc: Global) -> Result<Command<'a>, AllocError>
         .subcommand(plan_command(alloc)?)?
         .subcommand(check_command(alloc)?)?
         .subcommand(audit_command(alloc)?)?
+        .subcommand(info_command(alloc)?)?
         .subcommand(migrate_command(alloc)?)?
         .subcommand(run_command(alloc)?)
 }

@@ -12,9 +12,9 @@ use pon_stream::PlanFault;
 /// Outcome of a run of the program.
 #[derive(Clone, Copy, Debug, PartialEq, Eq)]
 pub enum Outcome {
-    /// The job is done; a check or an audit accepted, or a recording was migrated. Also help and the version, if they were requested.
+    /// The job is done; a check or an audit accepted, a recording was migrated, or one that is good was shown. Also help and the version, if they were requested.
     Done,
-    /// A check or an audit refused its input, or a recording to migrate has a fault.
+    /// A check or an audit refused its input, or a recording to migrate or to show has a fault.
     Refused,
     /// The words of the command line name no job.
     CommandLine,
@@ -77,7 +77,9 @@ pub fn outcome_of_job(job: &Job<'_>, ended: Result<bool, PlanFault>) -> Outcome
 {
     match *job {
         Job::Plan { .. } => outcome_of_run(ended),
-        Job::Check { .. } | Job::Audit { .. } | Job::Migrate { .. } => outcome_of_check(ended),
+        Job::Check { .. } | Job::Audit { .. } | Job::Info { .. } | Job::Migrate { .. } => {
+            outcome_of_check(ended)
+        }
         Job::Run { .. } => outcome_of_ports(ended),
     }
 }

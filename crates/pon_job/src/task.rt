@@ -17,6 +17,10 @@ pub enum Job<'a> {
     Audit {
         file: &'a str,
     },
+    /// Print what each chapter of the recording `file` holds.
+    Info {
+        file: &'a str,
+    },
     /// Write the recording `file` anew, in the present version of the format, as the file `out`.
     Migrate {
         file: &'a str,

@@ -1,7 +1,7 @@
 //! `olt`: the upstream bandwidth scheduler of an XG-PON optical line terminal, as a program.
 //!
 //! The program executes management lines and prints a reply or a refusal for each ([`plan`]), judges a check file
-//! ([`check_file`]) or a recording ([`audit`]), writes a recording anew in the present version of its format
+//! ([`check_file`]) or a recording ([`audit`]), prints what one holds, writes a recording anew in the present version of its format
 //! ([`migrate`]), or runs ports over sockets ([`run_ports`]). This crate adds the standard streams, the files, the
 //! settings and the exit status.
 #![tactic(auto)]
@@ -12,11 +12,13 @@ ghost use Rattle.pon_job.specs.Outcomes.{exit_status, outcome_of_job};
 
 mod auditing;
 mod files;
+mod looking;
 mod migrating;
 mod opening;
 
 use crate::auditing::audit_file;
 use crate::files::open_file;
+use crate::looking::show_chapters;
 use crate::migrating::migrate_file;
 use crate::opening::{NotOpened, Opening, settings_of, with_settings, without_settings};
 use clap::Error;
@@ -196,6 +198,7 @@ where
         Job::Plan { config } => run_plan(rt, alloc, config),
         Job::Check { file } => judge_file(rt, alloc, file).map_err(NotOpened::Failed),
         Job::Audit { file } => audit_file(rt, alloc, file).map_err(NotOpened::Failed),
+        Job::Info { file } => show_chapters(rt, alloc, file).map_err(NotOpened::Failed),
         Job::Migrate { file, out } => migrate_file(rt, alloc, file, out).map_err(NotOpened::Failed),
         Job::Run {
             config,

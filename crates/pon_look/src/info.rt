@@ -1,0 +1,119 @@
+//! What `olt info` prints of a recording, chapter by chapter.
+
+ghost use Rattle.pon_stream.specs.Streams.{TellsWrite};
+
+use crate::counted::CountedBytes;
+use crate::summary::{Totals, summary_of, with_chapter};
+use crate::text::{chapter_line, missing_line, total_line};
+use pon_device::{DevRead, DevWrite};
+use pon_record::{ChapterReader, RawChapter, StreamFault};
+use pon_stream::{PlanFault, write_text};
+use pon_units::MOST_PORTS;
+use std::alloc::{AllocError, Global};
+
+// The number of the last chapter of each port, if there was one.
+type LastChapters = [Option<u64>; MOST_PORTS];
+
+// Writes a line.
+fn write_line<W: DevWrite>(
+    line: Result<String, AllocError>,
+    writer: &mut W,
+) -> Result<(), PlanFault>
+    ensures write { TellsWrite (W.failures writer.old) (W.failures writer.new) result }
+{
+    match line {
+        Ok(line) => write_text(writer, line.as_bytes()),
+        Err(_) => Err(PlanFault::Memory),
+    }
+}
+
+// Writes a line about the chapters that are missing before a chapter, after the last one of its port.
+fn write_missing<W: DevWrite>(
+    alloc: Global,
+    before: Option<u64>,
+    chapter: &RawChapter,
+    writer: &mut W,
+) -> Result<(), PlanFault>
+    ensures write { TellsWrite (W.failures writer.old) (W.failures writer.new) result }
+{
+    let first = match before {
+        Some(number) => number.saturating_add(1),
+        None => return Ok(()),
+    };
+    if chapter.number <= first {
+        return Ok(());
+    }
+    let port = chapter.port.get();
+    write_line(missing_line(alloc, port, first, chapter.number - 1), writer)
+}
+
+// Writes the lines of a chapter that ends before the byte `end`. Returns the totals with it.
+fn write_chapter<W: DevWrite>(
+    alloc: Global,
+    totals: Totals,
+    chapter: &RawChapter,
+    end: u64,
+    writer: &mut W,
+) -> Result<Totals, PlanFault>
+    ensures write { TellsWrite (W.failures writer.old) (W.failures writer.new) result }
+{
+    let summary = summary_of(chapter);
+    let bytes = end.saturating_sub(chapter.at as u64);
+    let line = chapter_line(alloc, &summary, &chapter.entries, bytes);
+    match write_line(line, writer) {
+        Ok(()) => match with_chapter(totals, &summary) {
+            Some(sum) => Ok(sum),
+            None => Err(PlanFault::Memory),
+        },
+        Err(fault) => Err(fault),
+    }
+}
+
+// Reads the next chapter; `None` at the end of the recording, or at a fault of its format.
+fn next_chapter<R: DevRead>(
+    alloc: Global,
+    source: &mut ChapterReader,
+    reader: &mut R,
+) -> Result<Option<RawChapter>, PlanFault> {
+    match source.next(alloc, reader) {
+        Ok(next) => Ok(next),
+        Err(StreamFault::BadFormat { .. }) => Ok(None),
+        Err(StreamFault::Truncated { .. }) => Ok(None),
+        Err(StreamFault::Read) => Err(PlanFault::Read),
+        Err(StreamFault::Memory) => Err(PlanFault::Memory),
+    }
+}
+
+/// Writes a line for each chapter of a recording, one for chapters that are missing between two of a port, and the totals at
+/// the end of the recording or at the first fault of its format.
+///
+/// `Read` if the reader fails, `Write` if the writer fails, `Memory` if memory is refused.
+pub fn write_info<R: DevRead, W: DevWrite>(
+    alloc: Global,
+    reader: &mut CountedBytes<R>,
+    writer: &mut W,
+) -> Result<(), PlanFault> {
+    let mut source = match ChapterReader::open(alloc, reader) {
+        Ok(source) => source,
+        Err(StreamFault::Read) => return Err(PlanFault::Read),
+        Err(StreamFault::Memory) => return Err(PlanFault::Memory),
+        Err(_) => return Ok(()),
+    };
+    let mut last: LastChapters = [None; MOST_PORTS];
+    let mut totals = Totals {
+        chapters: 0,
+        maps: 0,
+        reports: 0,
+        failures: 0,
+    };
+    for _chapter in 0..u64::MAX {
+        let Some(chapter) = next_chapter(alloc, &mut source, reader)? else {
+            return write_line(total_line(alloc, &totals, reader.bytes()), writer);
+        };
+        let port = chapter.port.get() as usize;
+        write_missing(alloc, last[port], &chapter, writer)?;
+        totals = write_chapter(alloc, totals, &chapter, reader.bytes(), writer)?;
+        last[port] = Some(chapter.number);
+    }
+    Err(PlanFault::Memory)
+}

@@ -1,0 +1,80 @@
+//! The lines of `olt info`.
+
+use crate::counts::cause_count;
+use crate::summary::{Summary, Totals};
+use pon_state::Entry;
+use std::alloc::{AllocError, Global};
+
+// The length of a frame, in microseconds.
+const FRAME_MICROSECONDS: u64 = 125;
+
+// The greatest number of a cause.
+const GREATEST_CAUSE: u8 = 9;
+
+// Writes the line time of maps, in seconds with six decimal places.
+fn seconds_text(alloc: Global, maps: u64) -> Result<String, AllocError> {
+    let time = maps.saturating_mul(FRAME_MICROSECONDS);
+    let (seconds, rest) = (time / 1_000_000, time % 1_000_000);
+    format!(in alloc; "{seconds}.{rest:06}")
+}
+
+// Writes the frames of the first and the last map, or `-` without a map.
+fn frames_text(alloc: Global, summary: &Summary) -> Result<String, AllocError> {
+    match (summary.first, summary.last) {
+        (Some(first), Some(last)) => {
+            let (first, last) = (first.get(), last.get());
+            format!(in alloc; "{first} to {last}")
+        }
+        _ => format!(in alloc; "-"),
+    }
+}
+
+// Writes each cause of a failure with its number of failures.
+fn causes_text(alloc: Global, entries: &[Entry]) -> Result<String, AllocError> {
+    let mut text = String::new(alloc);
+    for cause in 1..=GREATEST_CAUSE {
+        let count = cause_count(cause, entries);
+        if count > 0 {
+            text = format!(in alloc; "{text} cause {cause} {count}")?;
+        }
+    }
+    Ok(text)
+}
+
+/// Makes the line of a chapter of `bytes` bytes. `Err` only if memory is refused.
+pub(crate) fn chapter_line(
+    alloc: Global,
+    summary: &Summary,
+    entries: &[Entry],
+    bytes: u64,
+) -> Result<String, AllocError> {
+    let (port, number) = (summary.port.get(), summary.number);
+    let frames = frames_text(alloc, summary)?;
+    let seconds = seconds_text(alloc, summary.maps)?;
+    let causes = causes_text(alloc, entries)?;
+    let (maps, reports, failures) = (summary.maps, summary.reports, summary.failures);
+    let (allocs, allocs_end) = (summary.allocs, summary.allocs_end);
+    format!(in alloc;
+        "port {port} chapter {number} bytes {bytes} frames {frames} seconds {seconds} maps {maps} reports {reports} allocs {allocs} to {allocs_end} failures {failures}{causes}\n"
+    )
+}
+
+/// Makes the line of the chapters `first` to `last` that are missing. `Err` only if memory is refused.
+pub(crate) fn missing_line(
+    alloc: Global,
+    port: u8,
+    first: u64,
+    last: u64,
+) -> Result<String, AllocError> {
+    format!(in alloc; "port {port} chapters {first} to {last} missing\n")
+}
+
+/// Makes the line of the totals. `Err` only if memory is refused.
+pub(crate) fn total_line(alloc: Global, totals: &Totals, bytes: u64) -> Result<String, AllocError> {
+    let seconds = seconds_text(alloc, totals.maps)?;
+    let (chapters, maps) = (totals.chapters, totals.maps);
+    let (reports, failures) = (totals.reports, totals.failures);
+    format!(in alloc;
+        "total chapters {chapters} bytes {bytes} seconds {seconds} maps {maps} reports {reports} failures {failures}\n"
+    )
+}
