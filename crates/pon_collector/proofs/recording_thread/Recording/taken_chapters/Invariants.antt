@@ -1,4 +1,4 @@
-use Rattle.std.proofs.Common.{◌≡◌, ◌++◌, map}
+use Rattle.std.proofs.Common.{◌≡◌, map}
 use Rattle.pon_collector.proofs.recording_thread.Recording.taken_chapters.Given as goal
 
 abbrev pub invariant-loop-inlet : goal.invariant-loop-inlet
