@@ -1,5 +1,5 @@
 -- The summary of a chapter.
-use Rattle.std.specs.Prelude.{◌≡◌, ◌+◌, ℕ, length}
+use Rattle.std.specs.Prelude.{◌≡◌, ◌+◌, length}
 use Rattle.pon_record.specs.Chapters.{Body}
 use Rattle.pon_look.specs.Counts.{allocs_at_end, failure_count, first_frame, last_frame, map_count, report_count}
 use Rattle.pon_look.specs.declared.summary.Summary.{Summary}

@@ -1,5 +1,5 @@
 -- The lines at the end of a run.
-use Rattle.std.proofs.Common.{◌≡◌, ℕ, List, [], ◌∷◌, ap, map, length, refl, sym, subst, ◌++◌, ◌∙◌, ◌<◌, Option}
+use Rattle.std.proofs.Common.{◌≡◌, ℕ, List, [], ◌∷◌, ap, map, length, refl, sym, subst, ◌∙◌, ◌<◌, Option}
 use Rattle.std.specs.Prelude.{Bool, true, Result, Ok, Err, IfOk, IfSome, OnOk, Some, None, is_some}
 use Rattle.std.specs.declared.alloc.AllocError.{AllocError}
 use Rattle.std.proofs.KnownBytes.{Appends-trans}

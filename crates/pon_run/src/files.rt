@@ -8,11 +8,7 @@ use std::fs;
 use std::rt::Files;
 
 /// Opens the file of the operator's lines. Returns `Read` if it cannot be opened.
-pub(crate) fn open_lines<R: Files>(
-    rt: &R,
-    alloc: Global,
-    name: &str,
-) -> Result<R::File, Failure> {
+pub(crate) fn open_lines<R: Files>(rt: &R, alloc: Global, name: &str) -> Result<R::File, Failure> {
     match fs::open(rt, name) {
         Ok(file) => Ok(file),
         Err(error) => Err(Failure::of(alloc, PlanFault::Read, Named::Lines(name), &error)),

@@ -14,9 +14,7 @@ use crate::operator::answer_lines;
 use crate::ports::{OTHER_SEATS, admit_rows, served_ports};
 use crate::running::{Results, Served, serve_all};
 use crate::thread::Worked;
-use pon_collector::{
-    PortRing, PortSink, Recorder, Recording, Rings, Sinks, Tape, open_rings,
-};
+use pon_collector::{PortRing, PortSink, Recorder, Recording, Rings, Sinks, Tape, open_rings};
 use pon_desk::{Desk, Seat};
 use pon_device::DevWrite;
 use pon_job::{Failure, exit_status, outcome_of_ports};
