@@ -30,12 +30,7 @@ fn replace_file<R: Files>(rt: &R, alloc: Global, out: &str, bytes: &[u8]) -> Res
     };
     if let Err(error) = write_whole(rt, &part, out, bytes) {
         let _ = fs::remove_file(rt, &part);
-        return Err(Failure::of(
-            alloc,
-            PlanFault::Write,
-            Named::Recording(out),
-            &error,
-        ));
+        return Err(Failure::of(alloc, PlanFault::Write, Named::Recording(out), &error));
     }
     Ok(())
 }
