@@ -10,7 +10,8 @@ use Rattle.std.proofs.lemmas.List.Folds.{list_any-append}
 use Rattle.std.proofs.lemmas.List.Sums.{sum_by-cons}
 use Rattle.pon_descr.specs.Descriptor.{Descriptor, IsLawful, promised}
 use Rattle.pon_lists.specs.Distinct.{distinct}
-use Rattle.pon_admit.specs.Roster.{IsAdmitted, IsDistinct, IsInMapOrder, IsInRange, Row, Rule, admit_checks, capacity, change_checks, comes_before, fits, has_alloc, has_onu, longest_series, most_allocs, most_onus, onus_of, overhead, overhead_words, owned, promised_sum, refuses_admit, refuses_change, with_descriptor, with_row, without}
+use Rattle.pon_units.specs.declared.limits.TheConstants.{MAX_ONUS, MAX_SERIES}
+use Rattle.pon_admit.specs.Roster.{IsAdmitted, IsDistinct, IsInMapOrder, IsInRange, Row, Rule, admit_checks, capacity, change_checks, comes_before, fits, has_alloc, has_onu, max_allocs, onus_of, overhead, overhead_words, owned, promised_sum, refuses_admit, refuses_change, with_descriptor, with_row, without}
 use Rattle.pon_descr.specs.declared.refusal.Refusal.TheVariants.{AllocTaken, TooManyAllocs, TooManyOnus, SeriesFull, Capacity}
 use Rattle.pon_descr.proofs.Checks.{AreNone, none_refuses, when_none}
 use Rattle.pon_lists.proofs.Inserted.{rejoined}
@@ -219,9 +220,9 @@ remove_keeps rule gap rows i k = filter_admitted (λ r. not (r.alloc_id == i)) r
 -- the checks of an admission
 pub record Passes (rule : Rule) (gap : ℕ) (rows : List Row) (r : Row) : Type 0 where
   pub free : has_alloc r.alloc_id rows ≡ false
-  pub few_allocs : length rows < (most_allocs rule)
-  pub few_onus : (nat_le most_onus (length (onus_of rows)) && not (has_onu r.onu rows)) ≡ false
-  pub short_series : owned r.onu rows < longest_series
+  pub few_allocs : length rows < (max_allocs rule)
+  pub few_onus : (nat_le MAX_ONUS (length (onus_of rows)) && not (has_onu r.onu rows)) ≡ false
+  pub short_series : owned r.onu rows < MAX_SERIES
   pub fitting : fits rule gap (with_row r rows) ≡ true
 
 pub passes : (rule : Rule) (gap : ℕ) (rows : List Row) (r : Row) → refuses_admit rule gap rows r ≡ None → Passes rule gap rows r
@@ -229,9 +230,9 @@ passes rule gap rows r h =
     let p : AreNone (admit_checks rule gap rows r) = none_refuses (admit_checks rule gap rows r) h in
     record {
       free = when_none (has_alloc r.alloc_id rows) AllocTaken p.0;
-      few_allocs = leb-false (most_allocs rule) (length rows) (when_none (nat_le (most_allocs rule) (length rows)) TooManyAllocs p.1.0);
-      few_onus = when_none (nat_le most_onus (length (onus_of rows)) && not (has_onu r.onu rows)) TooManyOnus p.1.1.0;
-      short_series = leb-false longest_series (owned r.onu rows) (when_none (nat_le longest_series (owned r.onu rows)) SeriesFull p.1.1.1.0);
+      few_allocs = leb-false (max_allocs rule) (length rows) (when_none (nat_le (max_allocs rule) (length rows)) TooManyAllocs p.1.0);
+      few_onus = when_none (nat_le MAX_ONUS (length (onus_of rows)) && not (has_onu r.onu rows)) TooManyOnus p.1.1.0;
+      short_series = leb-false MAX_SERIES (owned r.onu rows) (when_none (nat_le MAX_SERIES (owned r.onu rows)) SeriesFull p.1.1.1.0);
       fitting = not-false (fits rule gap (with_row r rows)) (when_none (not (fits rule gap (with_row r rows))) Capacity p.1.1.1.1.0);
     }
 
@@ -246,21 +247,21 @@ between_admitted rule gap r xs ys p fitting i before after k =
       apart = apart_between r xs ys k.apart p.free;
       in_range = All-between IsInRange xs ys r k.in_range i;
       few_allocs = omega (arith, longer, p.few_allocs);
-      few_onus = elim (and_cases (nat_le most_onus (length (onus_of (xs ++ ys)))) (not (has_onu r.onu (xs ++ ys))) p.few_onus) [
-        | inl e ↦ omega (arith, onus-between xs ys r, bit_le (not (has_onu r.onu (xs ++ ys))), leb-false most_onus (length (onus_of (xs ++ ys))) e)
+      few_onus = elim (and_cases (nat_le MAX_ONUS (length (onus_of (xs ++ ys)))) (not (has_onu r.onu (xs ++ ys))) p.few_onus) [
+        | inl e ↦ omega (arith, onus-between xs ys r, bit_le (not (has_onu r.onu (xs ++ ys))), leb-false MAX_ONUS (length (onus_of (xs ++ ys))) e)
         | inr e ↦ (let none : bit (not (has_onu r.onu (xs ++ ys))) ≡ 0 = ap bit e in omega (arith, onus-between xs ys r, none, k.few_onus))
       ];
       short_series = series;
       fitting = fitting;
     }
   where
-    series : (u : ℕ) → owned u (xs ++ r ∷ ys) ≤ longest_series
+    series : (u : ℕ) → owned u (xs ++ r ∷ ys) ≤ MAX_SERIES
     series u =
         let all : owned u (xs ++ r ∷ ys) ≡ owned u xs + (bit (r.onu == u) + owned u ys)
         = count_by-append (λ s. s.onu == u) xs (r ∷ ys) ∙ ap (λ n. owned u xs + n) (sum_by-cons (λ s. cond (s.onu == u) 1 0) r ys) in
         let were : owned u (xs ++ ys) ≡ owned u xs + owned u ys = count_by-append (λ s. s.onu == u) xs ys in
         elim (cases_Bool (r.onu == u)) [
-          | inl e ↦ (let few : owned u (xs ++ ys) < longest_series = subst (λ v. owned v (xs ++ ys) < longest_series) (eqb-true r.onu u e) p.short_series in
+          | inl e ↦ (let few : owned u (xs ++ ys) < MAX_SERIES = subst (λ v. owned v (xs ++ ys) < MAX_SERIES) (eqb-true r.onu u e) p.short_series in
               omega (arith, all, were, few, bit_le (r.onu == u)))
           | inr e ↦ (let none : bit (r.onu == u) ≡ 0 = ap bit e in omega (arith, all, were, none, k.short_series u))
         ]

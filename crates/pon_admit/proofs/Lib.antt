@@ -1,5 +1,6 @@
 pub mod AdmittedSets
+pub mod Equality
 pub mod OneRow
-pub mod RefusedSets
 pub mod Refusals
+pub mod RefusedSets
 pub mod Rules

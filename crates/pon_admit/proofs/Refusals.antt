@@ -3,7 +3,7 @@ use Rattle.std.proofs.Common.{◌≡◌, ℕ, ◌+◌, ◌-◌, ◌<◌, ◌≤�
 use Rattle.std.specs.Prelude.{◌==◌, nat_le, nat_lt, Option, Some, None, count_by, position}
 use Rattle.std.specs.List.{insert, remove}
 use Rattle.std.proofs.lemmas.Bool.{cases_lt, le-leb, lt-ltb, lt-leb, le-ltb}
-use Rattle.pon_descr.specs.Checks.{IsTold, when, first_of}
+use Rattle.pon_descr.specs.Checks.{IsTold, when, first_refusal_of}
 use Rattle.pon_descr.specs.Descriptor.{Descriptor, IsLawful, promised}
 use Rattle.pon_descr.specs.declared.refusal.Refusal.{Refusal}
 use Rattle.pon_descr.specs.declared.refusal.Refusal.TheVariants.{NoSuchAlloc, AllocTaken, TooManyAllocs, TooManyOnus, SeriesFull, Capacity}
@@ -11,7 +11,8 @@ use mir.Val.{bool_byte}
 use Rattle.pon_lists.proofs.Distinct.{bit}
 use Rattle.pon_lists.specs.Distinct.{distinct}
 use Rattle.pon_admit.specs.Kept.{AreSums, IsKeptRoster}
-use Rattle.pon_admit.specs.Roster.{sums_fit, IsAdmitted, IsInRange, Roster, Row, Rule, comes_before, fits, has_alloc, has_onu, longest_series, most_allocs, most_onus, onus_of, owned, refuses_admit, refuses_change, refuses_remove, with_descriptor, with_row, without}
+use Rattle.pon_units.specs.declared.limits.TheConstants.{MAX_ONUS, MAX_SERIES}
+use Rattle.pon_admit.specs.Roster.{sums_fit, IsAdmitted, IsInRange, Roster, Row, Rule, comes_before, fits, has_alloc, has_onu, max_allocs, onus_of, owned, refuses_admit, refuses_change, refuses_remove, with_descriptor, with_row, without}
 use Rattle.pon_admit.proofs.AdmittedSets.{admit_keeps, change_keeps, changed, onus-changed, remove_keeps, with_new}
 use Rattle.pon_admit.proofs.OneRow.{Stands, insert_in_order, remove_found, set_found, stands, has_alloc-none, has_alloc-some, has_alloc-there, length-with_row, not-has_onu, onus-with_row, onus-without, promised_sum-changed, promised_sum-with_row, promised_sum-without}
 use Rattle.std.proofs.lemmas.List.{length-map}
@@ -22,7 +23,7 @@ fits-sums : (rule : Rule) (gap n m s : ℕ) (rows : List Row) → AreSums n s ro
 fits-sums rule gap n m s rows are len = (λ i. sums_fit rule gap (sym are.onus i) (sym len i) (sym are.promised i))
 
 -- the capacity check as the only check
-alone : (b : Bool) → first_of (when (not b) Capacity ∷ []) ≡ when (not b) Capacity
+alone : (b : Bool) → first_refusal_of (when (not b) Capacity ∷ []) ≡ when (not b) Capacity
 alone true = refl
 alone false = refl
 
@@ -60,57 +61,57 @@ module _ {t : Roster} {r : Row} {rule : Rule} {g n s : ℕ} {rows seen : List Ro
         promised = omega (arith, more, h.kept.sums.promised, promised_sum-with_row r rows h.kept.admitted.in_map_order);
       }
 
-  too_many : (new : ℕ) → new ≡ bool_byte (owns == 0) → (nat_le most_onus (length (onus_of rows)) && not (has_onu r.onu rows)) ≡ nat_lt 128 (n + new)
+  too_many : (new : ℕ) → new ≡ bool_byte (owns == 0) → (nat_le MAX_ONUS (length (onus_of rows)) && not (has_onu r.onu rows)) ≡ nat_lt 128 (n + new)
   too_many new e =
-      (λ i. nat_le most_onus (sym h.kept.sums.onus i) && (not-has_onu r.onu rows ∙ ap (λ m. m == 0) (sym owns-is)) i)
+      (λ i. nat_le MAX_ONUS (sym h.kept.sums.onus i) && (not-has_onu r.onu rows ∙ ap (λ m. m == 0) (sym owns-is)) i)
       ∙ step (owns == 0) (subst (λ m. m ≤ 128) (sym h.kept.sums.onus) h.kept.admitted.few_onus)
       ∙ ap (λ m. nat_lt 128 (n + m)) (sym (e ∙ byte_bit (owns == 0)))
     where
-      step : (b : Bool) → n ≤ 128 → (nat_le most_onus n && b) ≡ nat_lt 128 (n + bit b)
+      step : (b : Bool) → n ≤ 128 → (nat_le MAX_ONUS n && b) ≡ nat_lt 128 (n + bit b)
       step true few = elim (cases_lt n 128) [
         | inl lt ↦ ap (λ b. b && true) (lt-leb 128 n lt) ∙ sym (le-ltb 128 (n + 1) (omega (arith, lt)))
         | inr le ↦ ap (λ b. b && true) (le-leb 128 n le) ∙ sym (lt-ltb 128 (n + 1) (omega (arith, le)))
       ]
-      step false few = elim (nat_le most_onus n) as (λ b. (b && false) ≡ nat_lt 128 (n + 0)) [
+      step false few = elim (nat_le MAX_ONUS n) as (λ b. (b && false) ≡ nat_lt 128 (n + 0)) [
         | true ↦ sym (le-ltb 128 (n + 0) (omega (arith, few)))
         | false ↦ sym (le-ltb 128 (n + 0) (omega (arith, few)))
       ]
 
   -- the refusal, from the results of the tests
-  by_tests : (long many full unfit : Bool) → nat_le (most_allocs rule) (length rows) ≡ long → (nat_le most_onus (length (onus_of rows)) && not (has_onu r.onu rows)) ≡ many →
-      nat_le longest_series (owned r.onu rows) ≡ full → not (fits rule g (with_row r rows)) ≡ unfit →
-      refuses_admit t.rule t.gap t.rows r ≡ first_of (when taken AllocTaken ∷ when long TooManyAllocs ∷ when many TooManyOnus ∷ when full SeriesFull ∷ when unfit Capacity ∷ [])
+  by_tests : (long many full unfit : Bool) → nat_le (max_allocs rule) (length rows) ≡ long → (nat_le MAX_ONUS (length (onus_of rows)) && not (has_onu r.onu rows)) ≡ many →
+      nat_le MAX_SERIES (owned r.onu rows) ≡ full → not (fits rule g (with_row r rows)) ≡ unfit →
+      refuses_admit t.rule t.gap t.rows r ≡ first_refusal_of (when taken AllocTaken ∷ when long TooManyAllocs ∷ when many TooManyOnus ∷ when full SeriesFull ∷ when unfit Capacity ∷ [])
   by_tests long many full unfit a b c d =
       let there : has_alloc r.alloc_id rows ≡ taken = sym (h.there ∙ ap (λ u. has_alloc r.alloc_id u) h.same) in
-      subst (λ u. refuses_admit u.rule u.gap u.rows r ≡ first_of (when taken AllocTaken ∷ when long TooManyAllocs ∷ when many TooManyOnus ∷ when full SeriesFull ∷ when unfit Capacity ∷ [])) h.view
-      (λ i. first_of (when (there i) AllocTaken ∷ when (a i) TooManyAllocs ∷ when (b i) TooManyOnus ∷ when (c i) SeriesFull ∷ when (d i) Capacity ∷ []))
+      subst (λ u. refuses_admit u.rule u.gap u.rows r ≡ first_refusal_of (when taken AllocTaken ∷ when long TooManyAllocs ∷ when many TooManyOnus ∷ when full SeriesFull ∷ when unfit Capacity ∷ [])) h.view
+      (λ i. first_refusal_of (when (there i) AllocTaken ∷ when (a i) TooManyAllocs ∷ when (b i) TooManyOnus ∷ when (c i) SeriesFull ∷ when (d i) Capacity ∷ []))
 
-  short : len < most_allocs rule → nat_le (most_allocs rule) (length rows) ≡ false
-  short few = lt-leb (most_allocs rule) (length rows) (omega (arith, few, allocs-is))
+  short : len < max_allocs rule → nat_le (max_allocs rule) (length rows) ≡ false
+  short few = lt-leb (max_allocs rule) (length rows) (omega (arith, few, allocs-is))
 
-  pub refuses_allocs : taken ≡ false → most_allocs rule ≤ len → refuses_admit t.rule t.gap t.rows r ≡ Some TooManyAllocs
+  pub refuses_allocs : taken ≡ false → max_allocs rule ≤ len → refuses_admit t.rule t.gap t.rows r ≡ Some TooManyAllocs
   refuses_allocs free many =
-      by_tests true (nat_le most_onus (length (onus_of rows)) && not (has_onu r.onu rows)) (nat_le longest_series (owned r.onu rows)) (not (fits rule g (with_row r rows)))
-      (le-leb (most_allocs rule) (length rows) (omega (arith, many, allocs-is))) refl refl refl
-      ∙ ap (λ b. first_of (when b AllocTaken ∷ when true TooManyAllocs ∷ when (nat_le most_onus (length (onus_of rows)) && not (has_onu r.onu rows)) TooManyOnus ∷ when (nat_le longest_series (owned r.onu rows)) SeriesFull ∷ when (not (fits rule g (with_row r rows))) Capacity ∷ [])) free
+      by_tests true (nat_le MAX_ONUS (length (onus_of rows)) && not (has_onu r.onu rows)) (nat_le MAX_SERIES (owned r.onu rows)) (not (fits rule g (with_row r rows)))
+      (le-leb (max_allocs rule) (length rows) (omega (arith, many, allocs-is))) refl refl refl
+      ∙ ap (λ b. first_refusal_of (when b AllocTaken ∷ when true TooManyAllocs ∷ when (nat_le MAX_ONUS (length (onus_of rows)) && not (has_onu r.onu rows)) TooManyOnus ∷ when (nat_le MAX_SERIES (owned r.onu rows)) SeriesFull ∷ when (not (fits rule g (with_row r rows))) Capacity ∷ [])) free
 
-  pub refuses_onus : taken ≡ false → len < most_allocs rule → (new : ℕ) → new ≡ bool_byte (owns == 0) → 128 < n + new → refuses_admit t.rule t.gap t.rows r ≡ Some TooManyOnus
+  pub refuses_onus : taken ≡ false → len < max_allocs rule → (new : ℕ) → new ≡ bool_byte (owns == 0) → 128 < n + new → refuses_admit t.rule t.gap t.rows r ≡ Some TooManyOnus
   refuses_onus free few new e many =
-      by_tests false true (nat_le longest_series (owned r.onu rows)) (not (fits rule g (with_row r rows))) (short few) (too_many new e ∙ lt-ltb 128 (n + new) many) refl refl
-      ∙ ap (λ b. first_of (when b AllocTaken ∷ when true TooManyOnus ∷ when (nat_le longest_series (owned r.onu rows)) SeriesFull ∷ when (not (fits rule g (with_row r rows))) Capacity ∷ [])) free
+      by_tests false true (nat_le MAX_SERIES (owned r.onu rows)) (not (fits rule g (with_row r rows))) (short few) (too_many new e ∙ lt-ltb 128 (n + new) many) refl refl
+      ∙ ap (λ b. first_refusal_of (when b AllocTaken ∷ when true TooManyOnus ∷ when (nat_le MAX_SERIES (owned r.onu rows)) SeriesFull ∷ when (not (fits rule g (with_row r rows))) Capacity ∷ [])) free
 
-  pub refuses_series : taken ≡ false → len < most_allocs rule → (new : ℕ) → new ≡ bool_byte (owns == 0) → n + new ≤ 128 → 16 ≤ owns → refuses_admit t.rule t.gap t.rows r ≡ Some SeriesFull
+  pub refuses_series : taken ≡ false → len < max_allocs rule → (new : ℕ) → new ≡ bool_byte (owns == 0) → n + new ≤ 128 → 16 ≤ owns → refuses_admit t.rule t.gap t.rows r ≡ Some SeriesFull
   refuses_series free few new e room many =
       by_tests false false true (not (fits rule g (with_row r rows))) (short few) (too_many new e ∙ le-ltb 128 (n + new) room) (le-leb 16 (owned r.onu rows) (omega (arith, many, owns-is))) refl
-      ∙ ap (λ b. first_of (when b AllocTaken ∷ when true SeriesFull ∷ when (not (fits rule g (with_row r rows))) Capacity ∷ [])) free
+      ∙ ap (λ b. first_refusal_of (when b AllocTaken ∷ when true SeriesFull ∷ when (not (fits rule g (with_row r rows))) Capacity ∷ [])) free
 
-  pub refuses_unfit : taken ≡ false → len < most_allocs rule → (new s' : ℕ) → new ≡ bool_byte (owns == 0) → n + new ≤ 128 → owns < 16 → s' ≡ s + promised r.descriptor →
+  pub refuses_unfit : taken ≡ false → len < max_allocs rule → (new s' : ℕ) → new ≡ bool_byte (owns == 0) → n + new ≤ 128 → owns < 16 → s' ≡ s + promised r.descriptor →
       (b : Bool) → sums_fit rule g (n + new) (len + 1) s' ≡ b → refuses_admit t.rule t.gap t.rows r ≡ when (not b) Capacity
   refuses_unfit free few new s' e room short_series more b fitting =
       let longer : len + 1 ≡ length (with_row r rows) = omega (arith, allocs-is, length-with_row r rows h.kept.admitted.in_map_order) in
       by_tests false false false (not b) (short few) (too_many new e ∙ le-ltb 128 (n + new) room) (lt-leb 16 (owned r.onu rows) (omega (arith, short_series, owns-is)))
       (ap not (fits-sums rule g (n + new) (len + 1) s' (with_row r rows) (sums_here new s' e more) longer ∙ fitting))
-      ∙ ap (λ a. first_of (when a AllocTaken ∷ when (not b) Capacity ∷ [])) free
+      ∙ ap (λ a. first_refusal_of (when a AllocTaken ∷ when (not b) Capacity ∷ [])) free
       ∙ alone b
 
   pub insert_seen : (k : ℕ) → k ≡ count_by (λ o. comes_before o r) seen → insert t.rows k r ≡ with_row r t.rows
@@ -151,7 +152,7 @@ absent_here {rows = rows} i view same none = subst (λ u. has_alloc i u.rows ≡
 pub refuses_change-absent : {t : Roster} {rule : Rule} {g : ℕ} {rows seen : List Row} (i : ℕ) (d : Descriptor) → record { rule = rule; gap = g; rows = rows } ≡ t → seen ≡ rows → None ≡ position (λ r. r.alloc_id == i) seen →
     refuses_change t.rule t.gap t.rows i d ≡ Some NoSuchAlloc
 refuses_change-absent {t = t} i d view same none =
-    (λ j. first_of (when (not (absent_here i view same none j)) NoSuchAlloc ∷ when (not (fits t.rule t.gap (with_descriptor i d t.rows))) Capacity ∷ []))
+    (λ j. first_refusal_of (when (not (absent_here i view same none j)) NoSuchAlloc ∷ when (not (fits t.rule t.gap (with_descriptor i d t.rows))) Capacity ∷ []))
 
 pub refuses_remove-absent : {t : Roster} {rule : Rule} {g : ℕ} {rows seen : List Row} (i : ℕ) → record { rule = rule; gap = g; rows = rows } ≡ t → seen ≡ rows → None ≡ position (λ r. r.alloc_id == i) seen → refuses_remove t.rows i ≡ Some NoSuchAlloc
 refuses_remove-absent i view same none = ap (λ b. when (not b) NoSuchAlloc) (absent_here i view same none)
@@ -182,7 +183,7 @@ module _ {t : Roster} {rule : Rule} {i g n s : ℕ} {rows : List Row} {k : ℕ} 
       let same : fits rule g (with_descriptor i d rows) ≡ b
       = fits-sums rule g n len s' (with_descriptor i d rows) (changed_here d s' e) (omega (arith, l, length-map rows (changed i d))) ∙ fitting in
       subst (λ u. refuses_change u.rule u.gap u.rows i d ≡ when (not b) Capacity) h.view
-      ((λ j. first_of (when (not (has_alloc-some i k x rows h.found j)) NoSuchAlloc ∷ when (not (same j)) Capacity ∷ [])) ∙ alone b)
+      ((λ j. first_refusal_of (when (not (has_alloc-some i k x rows h.found j)) NoSuchAlloc ∷ when (not (same j)) Capacity ∷ [])) ∙ alone b)
 
   pub replaced : (d : Descriptor) → set rows k (with_new d x) ≡ with_descriptor i d rows
   replaced d = set_found i k d x rows stands_here (position-Some (λ r. r.alloc_id == i) rows k x h.found).0

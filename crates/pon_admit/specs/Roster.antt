@@ -1,13 +1,13 @@
 -- The roster of a port: its admitted Alloc-IDs in map order, and the sets that are admitted.
 use Rattle.std.specs.Prelude.{ℕ, ◌≡◌, ◌+◌, ◌-◌, ◌*◌, ◌%◌, ◌≤◌, Bool, true, false, not, ◌&&◌, ◌||◌, ◌==◌, nat_lt, nat_le, if◌then◌else◌, List, [], ◌∷◌, map, length, All, sum_by, count_by, Option}
 use Rattle.std.specs.List.{list_any}
-use Rattle.pon_units.specs.declared.limits.TheConstants.{FRAME_WORDS, GREATEST_ALLOC_ID, GREATEST_ONU_ID, LEAST_ALLOC_ID, WORD_RATE}
+use Rattle.pon_units.specs.declared.limits.TheConstants.{FRAME_WORDS, MAX_ALLOC_ID, MAX_ONUS, MAX_ONU_ID, MAX_SERIES, MIN_ALLOC_ID, WORD_RATE}
 pub use Rattle.pon_admit.specs.declared.row.Row.{Row}
 pub use Rattle.pon_admit.specs.declared.rule.Rule.{Rule}
-use Rattle.pon_admit.specs.declared.rule.Rule.TheVariants.{One, Two}
+use Rattle.pon_admit.specs.declared.rule.Rule.TheVariants.{DropRemainders, CarryRemainders}
 use Rattle.pon_lists.specs.Distinct.{distinct}
 use Rattle.pon_lists.specs.Order.{IsInOrder, with_inserted, without_key}
-use Rattle.pon_descr.specs.Checks.{when, first_of}
+use Rattle.pon_descr.specs.Checks.{when, first_refusal_of}
 use Rattle.pon_descr.specs.Descriptor.{Descriptor, IsLawful, promised}
 use Rattle.pon_descr.specs.declared.refusal.Refusal.{Refusal}
 use Rattle.pon_descr.specs.declared.refusal.Refusal.TheVariants.{NoSuchAlloc, AllocTaken, TooManyAllocs, TooManyOnus, SeriesFull, Capacity}
@@ -30,39 +30,33 @@ owned u rows = count_by (λ r. r.onu == u) rows
 
 -- the words of a frame that each Alloc-ID takes in addition to its payload
 abbrev pub overhead_words : Rule → ℕ
-overhead_words One = 1
-overhead_words Two = 2
+overhead_words DropRemainders = 1
+overhead_words CarryRemainders = 2
 
 -- the maximum number of Alloc-IDs of a port
-abbrev pub most_allocs : Rule → ℕ
-most_allocs One = 256
-most_allocs Two = 512
+abbrev pub max_allocs : Rule → ℕ
+max_allocs DropRemainders = 256
+max_allocs CarryRemainders = 512
 
 -- what is left of `n` kbit/s after whole words, and is carried to the next map
 abbrev pub left_over : Rule → ℕ → ℕ
-left_over One n = 0
-left_over Two n = n % WORD_RATE
+left_over DropRemainders n = 0
+left_over CarryRemainders n = n % WORD_RATE
 
 -- the greatest number of kbit/s that is carried
-abbrev pub most_carry : Rule → ℕ
-most_carry One = 0
-most_carry Two = 255
+abbrev pub max_carry : Rule → ℕ
+max_carry DropRemainders = 0
+max_carry CarryRemainders = 255
 
 -- the rule of a roster that is opened without naming a rule
 abbrev pub rule_in_force : Rule
-rule_in_force = Two
+rule_in_force = CarryRemainders
 
 -- a roster: its rule, the gap before each burst of its port, and its rows
 pub record Roster : Type 0 where
   pub rule : Rule
   pub gap : ℕ
   pub rows : List Row
-
-abbrev pub most_onus : ℕ
-most_onus = 128
-
-abbrev pub longest_series : ℕ
-longest_series = 16
 
 -- the words of a frame that gaps, headers, trailers and reports take, for n ONUs and m Alloc-IDs
 abbrev pub overhead_of : Rule → ℕ → ℕ → ℕ → ℕ
@@ -112,9 +106,9 @@ IsDistinct (r ∷ rows) = (has_alloc r.alloc_id rows ≡ false) × IsDistinct ro
 
 -- an ONU-ID, a managed Alloc-ID and a lawful descriptor
 pub record IsInRange (r : Row) : Type 0 where
-  pub onu : r.onu ≤ GREATEST_ONU_ID
-  pub managed : LEAST_ALLOC_ID ≤ r.alloc_id
-  pub alloc_id : r.alloc_id ≤ GREATEST_ALLOC_ID
+  pub onu : r.onu ≤ MAX_ONU_ID
+  pub managed : MIN_ALLOC_ID ≤ r.alloc_id
+  pub alloc_id : r.alloc_id ≤ MAX_ALLOC_ID
   pub descriptor : IsLawful r.descriptor
 
 -- an admitted set
@@ -122,9 +116,9 @@ pub record IsAdmitted (rule : Rule) (gap : ℕ) (rows : List Row) : Type 0 where
   pub in_map_order : IsInMapOrder rows
   pub apart : IsDistinct rows
   pub in_range : All IsInRange rows
-  pub few_allocs : length rows ≤ most_allocs rule
-  pub few_onus : length (onus_of rows) ≤ most_onus
-  pub short_series : (u : ℕ) → owned u rows ≤ longest_series
+  pub few_allocs : length rows ≤ max_allocs rule
+  pub few_onus : length (onus_of rows) ≤ MAX_ONUS
+  pub short_series : (u : ℕ) → owned u rows ≤ MAX_SERIES
   pub fitting : fits rule gap rows ≡ true
 
 -- The checks of a step of the roster, in order, and the first refusal.
@@ -132,9 +126,9 @@ pub record IsAdmitted (rule : Rule) (gap : ℕ) (rows : List Row) : Type 0 where
 abbrev pub admit_checks : Rule → ℕ → List Row → Row → List (Option Refusal)
 admit_checks rule gap rows r =
     when (has_alloc r.alloc_id rows) AllocTaken
-    ∷ when (nat_le (most_allocs rule) (length rows)) TooManyAllocs
-    ∷ when (nat_le most_onus (length (onus_of rows)) && not (has_onu r.onu rows)) TooManyOnus
-    ∷ when (nat_le longest_series (owned r.onu rows)) SeriesFull
+    ∷ when (nat_le (max_allocs rule) (length rows)) TooManyAllocs
+    ∷ when (nat_le MAX_ONUS (length (onus_of rows)) && not (has_onu r.onu rows)) TooManyOnus
+    ∷ when (nat_le MAX_SERIES (owned r.onu rows)) SeriesFull
     ∷ when (not (fits rule gap (with_row r rows))) Capacity
     ∷ []
 
@@ -145,10 +139,10 @@ change_checks rule gap rows i d =
     ∷ []
 
 abbrev pub refuses_admit : Rule → ℕ → List Row → Row → Option Refusal
-refuses_admit rule gap rows r = first_of (admit_checks rule gap rows r)
+refuses_admit rule gap rows r = first_refusal_of (admit_checks rule gap rows r)
 
 abbrev pub refuses_change : Rule → ℕ → List Row → ℕ → Descriptor → Option Refusal
-refuses_change rule gap rows i d = first_of (change_checks rule gap rows i d)
+refuses_change rule gap rows i d = first_refusal_of (change_checks rule gap rows i d)
 
 abbrev pub refuses_remove : List Row → ℕ → Option Refusal
 refuses_remove rows i = when (not (has_alloc i rows)) NoSuchAlloc

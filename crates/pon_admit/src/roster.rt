@@ -6,20 +6,17 @@ use crate::row::Row;
 use crate::rule::Rule;
 use crate::search::{look_through, place_of};
 use crate::sums::{overhead, rate, words};
-use pon_units::{AllocId, FRAME_WORDS, Gap, Kbps, LINE_RATE, Words};
+use pon_units::{AllocId, FRAME_WORDS, Gap, Kbps, LINE_RATE, MAX_ONUS, Words};
 use std::alloc::{AllocError, Global};
 use std::marker::Model;
 
 mod steps;
 
 /// Rule of a roster that is opened without naming a rule.
-pub const RULE_IN_FORCE: Rule = Rule::Two;
-
-/// Maximum number of ONUs of a port.
-const MOST_ONUS: usize = 128;
+pub const RULE_IN_FORCE: Rule = Rule::CarryRemainders;
 
 /// The admitted Alloc-IDs of a port in map order, at all times an admitted set under its rule: at most 512 Alloc-IDs
-/// (256 under [`Rule::One`]) of at most 128 ONUs, at most 16 of one ONU, no Alloc-ID twice, and promised rates that fit
+/// (256 under [`Rule::DropRemainders`]) of at most 128 ONUs, at most 16 of one ONU, no Alloc-ID twice, and promised rates that fit
 /// the words that the overhead leaves of a frame.
 #[derive(Drop)]
 pub struct Roster {
@@ -42,7 +39,7 @@ impl Model for Roster {
 }
 
 impl Roster {
-    /// Opens a roster with no rows, for bursts with this gap before each, under the rule in force, [`Rule::Two`]. It
+    /// Opens a roster with no rows, for bursts with this gap before each, under the rule in force, [`Rule::CarryRemainders`]. It
     /// allocates memory for 512 rows, and fails if that is refused.
     pub fn open(alloc: Global, gap: Gap) -> Result<Roster, AllocError>
         ensures { IfOk result
@@ -56,7 +53,7 @@ impl Roster {
     pub fn open_with(alloc: Global, gap: Gap, rule: Rule) -> Result<Roster, AllocError>
         ensures { IfOk result (λ roster. roster ≡ record { rule = rule; gap = gap; rows = [] }) }
     {
-        let rows = Vec::with_capacity(alloc, rule.most_allocs())?;
+        let rows = Vec::with_capacity(alloc, rule.max_allocs())?;
         Ok(Roster {
             rule,
             gap,
@@ -105,7 +102,7 @@ impl Roster {
     /// Number of ONUs that own an Alloc-ID, 0 to 128.
     pub fn onus(&self) -> usize
         ensures value { result ≡ length (onus_of self.now.rows) }
-        ensures range { result ≤ MOST_ONUS }
+        ensures range { result ≤ MAX_ONUS }
     {
         self.onus
     }

@@ -1,5 +1,5 @@
 use pon_descr::Descriptor;
-use pon_units::{AllocId, GREATEST_ALLOC_ID, GREATEST_ONU_ID, LEAST_ALLOC_ID, LINE_RATE, OnuId};
+use pon_units::{AllocId, LINE_RATE, MAX_ALLOC_ID, MAX_ONU_ID, MIN_ALLOC_ID, OnuId};
 
 /// An admitted Alloc-ID, the ONU that owns it, and its descriptor.
 #[derive(Clone, Copy, Debug, PartialEq, Eq)]
@@ -23,17 +23,17 @@ impl Row {
             alloc_id,
             descriptor,
         };
-        row.in_range();
+        row.prove_in_range();
         row
     }
 
     /// A row is in range, since the types of its fields are.
-    pub(crate) fn in_range(&self)
+    pub(crate) fn prove_in_range(&self)
         ensures { IsInRange self.now }
     {
         let alloc_id = self.alloc_id.get();
-        prove!(self.onu.get() <= GREATEST_ONU_ID);
-        prove!(alloc_id >= LEAST_ALLOC_ID && alloc_id <= GREATEST_ALLOC_ID);
+        prove!(self.onu.get() <= MAX_ONU_ID);
+        prove!(alloc_id >= MIN_ALLOC_ID && alloc_id <= MAX_ALLOC_ID);
         prove!(u64::from(self.descriptor.promised().get()) <= LINE_RATE);
     }
 }

@@ -1,15 +1,15 @@
 // The sums that decide whether a set fits a frame.
 ghost use Rattle.std.specs.Prelude.{◌≡◌, ◌≤◌};
-ghost use Rattle.pon_admit.specs.Roster.{most_allocs, most_onus, overhead_of, sums_fit};
+ghost use Rattle.pon_admit.specs.Roster.{max_allocs, overhead_of, sums_fit};
 
 use crate::rule::Rule;
-use pon_units::{FRAME_WORDS, GREATEST_RATE, Gap, Kbps, WORD_RATE, Words};
+use pon_units::{FRAME_WORDS, Gap, Kbps, MAX_ONUS, MAX_RATE, WORD_RATE, Words};
 
 /// Computes the words of a frame that gaps, headers, trailers and reports take: for each ONU the gap, a header and a
 /// trailer, and for each Alloc-ID the overhead of the rule.
 pub(crate) fn overhead(rule: Rule, gap: Gap, onus: usize, allocs: usize) -> usize
-    requires onus { onus ≤ most_onus }
-    requires allocs { allocs ≤ most_allocs rule }
+    requires onus { onus ≤ MAX_ONUS }
+    requires allocs { allocs ≤ max_allocs rule }
     ensures { result ≡ overhead_of rule gap onus allocs }
 {
     (usize::from(gap.get()) + 2) * onus + rule.overhead(allocs)
@@ -17,8 +17,8 @@ pub(crate) fn overhead(rule: Rule, gap: Gap, onus: usize, allocs: usize) -> usiz
 
 /// Returns whether the overhead fits a frame, and the promised rates fit the remaining words.
 pub(crate) fn fits(rule: Rule, gap: Gap, onus: usize, allocs: usize, promised: Kbps) -> bool
-    requires onus { onus ≤ most_onus }
-    requires allocs { allocs ≤ most_allocs rule }
+    requires onus { onus ≤ MAX_ONUS }
+    requires allocs { allocs ≤ max_allocs rule }
     ensures { result ≡ sums_fit rule gap onus allocs promised }
 {
     let frame = usize::from(FRAME_WORDS);
@@ -28,13 +28,10 @@ pub(crate) fn fits(rule: Rule, gap: Gap, onus: usize, allocs: usize, promised: K
 
 /// Converts a number of kbit/s to a rate.
 pub(crate) fn rate(n: u32) -> Kbps
-    requires { n ≤ GREATEST_RATE }
+    requires { n ≤ MAX_RATE }
     ensures { result ≡ n }
 {
-    match Kbps::new(n) {
-        Some(rate) => rate,
-        None => unreachable!(),
-    }
+    Kbps::new(n).unwrap()
 }
 
 /// Converts a number of words of a frame.
@@ -42,8 +39,5 @@ pub(crate) fn words(n: usize) -> Words
     requires { n ≤ FRAME_WORDS }
     ensures { result ≡ n }
 {
-    match Words::new(n as u16) {
-        Some(words) => words,
-        None => unreachable!(),
-    }
+    Words::new(n as u16).unwrap()
 }

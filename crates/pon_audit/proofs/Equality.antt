@@ -9,7 +9,7 @@ use Rattle.std.proofs.lemmas.Bool.Decides.{Decides-and}
 use Rattle.std.proofs.lemmas.Slice.Eq.{slice_eq-Decides}
 use Rattle.pon_units.specs.contracts.granted.GrantedPartialEq.TheImpl as granted_eq
 use Rattle.pon_units.specs.declared.granted.Granted.{Granted}
-use Rattle.pon_event.proofs.Equality.{options_decide}
+use Rattle.pon_admit.proofs.Equality.{options_decide}
 use Rattle.pon_guar.specs.contracts.account.CountedPartialEq.TheImpl as counted_eq
 use Rattle.pon_guar.specs.declared.account.Counted.{Counted}
 

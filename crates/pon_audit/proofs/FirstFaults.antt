@@ -8,18 +8,18 @@ use Rattle.std.proofs.lemmas.List.Elements.{All-cons, All-nil, All-push, All-wea
 use Rattle.std.proofs.lemmas.List.Quantifiers.{all_pairs_push}
 use Rattle.std.proofs.lemmas.Slice.Zip.{AllZip-long}
 use Rattle.std.proofs.lemmas.Option.{get_or_from_slice_get}
-use Rattle.pon_units.specs.declared.limits.TheConstants.{MOST_PORTS}
+use Rattle.pon_units.specs.declared.limits.TheConstants.{MAX_PORTS}
 use Rattle.pon_state.specs.State.{State}
-use Rattle.pon_port.specs.Chapters.{present_state}
+use Rattle.pon_history.specs.Chapters.{present_state}
 use Rattle.pon_record.specs.Chapters.{PlacedChapter}
 use Rattle.pon_audit.specs.Openings.{chapter_of, state_of}
-use Rattle.pon_audit.specs.Judging.{AreJudged, EndsWith, IsAnswer, IsEndOf, IsKeptEnd, IsLast, IsLastOf, IsLastPlace, IsPlaceOf, OpensAt, TellsBad, end_at}
+use Rattle.pon_audit.specs.Judging.{AreJudged, EndsWith, IsJudgment, IsEndOf, IsKeptEnd, IsLast, IsLastOf, IsLastPlace, IsPlaceOf, OpensAt, TellsBad, end_at}
 use Rattle.pon_audit.specs.Verdicts.{AreGood, Ascends, ChapterFails, Continues, HasChapters, IsChained, IsFirstFault, IsGoodChapter, IsVerdict, MayStandAfter, Rises}
 use Rattle.pon_audit.specs.declared.chapters.Fault.{Fault}
 use Rattle.pon_audit.specs.declared.chapters.Judged.{Judged}
 use Rattle.pon_audit.specs.EndTables.{EndTable}
 use Rattle.pon_audit.specs.declared.ends.End.{End}
-use Rattle.pon_audit.specs.declared.verdict.Why.{Why}
+use Rattle.pon_audit.specs.declared.verdict.AuditReason.{AuditReason}
 use Rattle.pon_audit.specs.declared.verdict.Verdict.{Verdict}
 use Rattle.pon_audit.specs.declared.verdict.Verdict.TheVariants.{Good, Bad, BadFormat, Truncated}
 
@@ -171,7 +171,7 @@ module _ (earlier : List PlacedChapter) (c : PlacedChapter) (port : ℕ) where
         (λ e. inr refl);
   }
 
-pub one_more_judged : (earlier : List PlacedChapter) (c : PlacedChapter) (t new : EndTable) (end : State) → length t.places ≡ MOST_PORTS → AreJudged earlier t → MayStandAfter earlier c → EndsWith c end
+pub one_more_judged : (earlier : List PlacedChapter) (c : PlacedChapter) (t new : EndTable) (end : State) → length t.places ≡ MAX_PORTS → AreJudged earlier t → MayStandAfter earlier c → EndsWith c end
     → new.ends ≡ t.ends ++ record { port = c.body.port; number = c.body.number; end = end } ∷ [] → new.places ≡ set t.places c.body.port (Some (length t.ends)) → AreJudged (earlier ++ c ∷ []) new
 one_more_judged earlier c t new end long judged stands ends more is = record {
   good = record {
@@ -211,11 +211,11 @@ none_kept zero port = refl
 none_kept (suc n) zero = refl
 none_kept (suc n) (suc port) = none_kept n port
 
-pub none_judged : (t : EndTable) → t ≡ record { ends = []; places = replicate MOST_PORTS None } → AreJudged [] t
+pub none_judged : (t : EndTable) → t ≡ record { ends = []; places = replicate MAX_PORTS None } → AreJudged [] t
 none_judged t is = subst (AreJudged []) (sym is) (record {
   good = record { each = All-nil IsGoodChapter; chained = λ i j d lt less. absurd (omega (arith, less)); rising = λ i j d lt less. absurd (omega (arith, less)) };
   each = tt;
-  lasts = λ port lt. subst (IsPlaceOf [] port) (sym (none_kept MOST_PORTS port)) (All-nil (λ d. d.body.port ≡ port → ⊥));
+  lasts = λ port lt. subst (IsPlaceOf [] port) (sym (none_kept MAX_PORTS port)) (All-nil (λ d. d.body.port ≡ port → ⊥));
 })
 
 -- A chapter that fails after good ones.
@@ -237,7 +237,7 @@ first_here earlier c port number f good is_port is_number fails =
     }
 
 -- it is the first one also if more chapters follow
-pub first_more : (cs more : List PlacedChapter) (port number index : ℕ) (w : Why) → IsFirstFault cs port number index w → IsFirstFault (cs ++ more) port number index w
+pub first_more : (cs more : List PlacedChapter) (port number index : ℕ) (w : AuditReason) → IsFirstFault cs port number index w → IsFirstFault (cs ++ more) port number index w
 first_more cs more port number index w f =
     let lt : f.place < length cs = within cs f.place f.chapter f.here in
     let front : take f.place cs ≡ take f.place (cs ++ more) = sym (take-append-le f.place cs more (omega (arith, lt))) in
@@ -277,14 +277,14 @@ all_judged earlier cs i t le h = subst (λ l. AreJudged (earlier ++ l) t) (take_
 pub none_yet : (earlier cs : List PlacedChapter) (t : EndTable) → AreJudged earlier t → AreJudged (earlier ++ take 0 cs) t
 none_yet earlier cs t h = subst (λ l. AreJudged l t) (sym (append-nil earlier)) h
 
-pub answer_at : (cs : List PlacedChapter) (answers : List Judged) (n place : ℕ) (c : PlacedChapter) (a : Judged) → AllZip IsAnswer cs answers → n < length answers → place ≡ n → c ≡ get_or cs place c → a ≡ get_or answers n a → IsAnswer c a
+pub answer_at : (cs : List PlacedChapter) (answers : List Judged) (n place : ℕ) (c : PlacedChapter) (a : Judged) → AllZip IsJudgment cs answers → n < length answers → place ≡ n → c ≡ get_or cs place c → a ≡ get_or answers n a → IsJudgment c a
 answer_at cs answers n place c a zip lt same here is =
-    let within_cs : n < length cs = omega (arith, lt, AllZip-long IsAnswer cs answers zip) in
+    let within_cs : n < length cs = omega (arith, lt, AllZip-long IsJudgment cs answers zip) in
     let there : c ≡ get_or cs n c = here ∙ ap (λ i. get_or cs i c) same in
-    subst (λ x. IsAnswer x a) (sym there) (subst (IsAnswer (get_or cs n c)) (sym is) (at_place IsAnswer cs answers n c a zip within_cs))
+    subst (λ x. IsJudgment x a) (sym there) (subst (IsJudgment (get_or cs n c)) (sym is) (at_place IsJudgment cs answers n c a zip within_cs))
 
-pub as_many : (cs : List PlacedChapter) (answers : List Judged) → AllZip IsAnswer cs answers → length answers ≡ length cs
-as_many cs answers zip = AllZip-long IsAnswer cs answers zip
+pub as_many : (cs : List PlacedChapter) (answers : List Judged) → AllZip IsJudgment cs answers → length answers ≡ length cs
+as_many cs answers zip = AllZip-long IsJudgment cs answers zip
 
 -- the verdict stays the same if more chapters follow
 pub still_told : (o : Option Verdict) (v : Verdict) (P Q : Type 0) (cs more : List PlacedChapter) → o ≡ Some v → MatchOption o P (TellsBad cs) → MatchOption o Q (TellsBad (cs ++ more))

@@ -2,25 +2,25 @@
 use Rattle.std.proofs.Common.{◌≡◌, ℕ, ◌+◌, ◌<◌, ◌≤◌, [], ◌∷◌, ◌++◌, length, take, get_or, Option, refl, ap, sym, ◌∙◌, subst, arith}
 use Rattle.std.proofs.lemmas.List.{length-take-le, take_all, take_more}
 use Rattle.std.proofs.lemmas.Option.{slice_get-get_or}
-use Rattle.pon_event.specs.declared.event.Event.{Event}
-use Rattle.pon_event.specs.declared.event.Event.TheVariants.{Admit, Change, Remove, Report, MakeMap, Fail, Restore}
+use Rattle.pon_admit.specs.declared.event.Event.{Event}
+use Rattle.pon_admit.specs.declared.event.Event.TheVariants.{Admit, Change, Remove, Report, MakeMap, Fail, Restore}
 use Rattle.pon_state.specs.State.{State}
 use Rattle.pon_state.specs.After.{after_entry, after_reply}
 use Rattle.pon_state.specs.Legal.{MayFollow}
 use Rattle.pon_state.specs.declared.reply.Reply.{Reply}
 use Rattle.pon_state.specs.declared.reply.Reply.TheVariants.{Taken, Map}
-use Rattle.pon_state.specs.declared.reply.Entry.{Entry}
-use Rattle.pon_port.specs.Chapters.{Chapter, IsLawfulOpening}
-use Rattle.pon_port.specs.Taking.{IsKept, with_entry}
-use Rattle.pon_port.proofs.EntryByEntry.{legal_none, replay_of_none}
-use Rattle.pon_port.proofs.Kept.{mapped, taken}
-use Rattle.pon_port.proofs.FairMaps.{maps_are_fair}
-use Rattle.pon_port.proofs.WordRuns.{whole_runs}
+use Rattle.pon_state.specs.Entry.{Entry}
+use Rattle.pon_history.specs.Chapters.{Chapter, IsLawfulOpening}
+use Rattle.pon_history.specs.Taking.{IsKept, with_entry}
+use Rattle.pon_history.proofs.EntryByEntry.{legal_none, replay_of_none}
+use Rattle.pon_history.proofs.Kept.{mapped, taken}
+use Rattle.pon_history.proofs.FairMaps.{maps_are_fair}
+use Rattle.pon_history.proofs.WordRuns.{whole_runs}
 use Rattle.pon_record.specs.Chapters.{PlacedChapter}
 use Rattle.pon_audit.specs.Openings.{chapter_of}
 use Rattle.pon_audit.specs.Faults.{EntryFails, FailsAt, cut_at}
 use Rattle.pon_audit.specs.Judging.{EndsWith}
-use Rattle.pon_audit.specs.declared.verdict.Why.{Why}
+use Rattle.pon_audit.specs.declared.verdict.AuditReason.{AuditReason}
 
 -- an entry that may follow is kept
 module _ (c d : Chapter) (s t : State) (k : IsKept c s) where
@@ -46,7 +46,7 @@ one_further c i s t e lt here k follows after =
     next (cut_at c i) (cut_at c (i + 1)) s t k e.event e.reply (subst (λ n. MayFollow n s e) count follows) more after
 
 -- the first entry that fails
-pub fails_here : (c : Chapter) (i : ℕ) (s : State) (e : Entry) (w : Why) → i < length c.entries → e ≡ get_or c.entries i e → IsKept (cut_at c i) s → EntryFails i s e w → FailsAt c i w
+pub fails_here : (c : Chapter) (i : ℕ) (s : State) (e : Entry) (w : AuditReason) → i < length c.entries → e ≡ get_or c.entries i e → IsKept (cut_at c i) s → EntryFails i s e w → FailsAt c i w
 fails_here c i s e w lt here k fails = record {
   entry = e;
   here = slice_get-get_or c.entries i e lt ∙ ap Option.Some (sym here);

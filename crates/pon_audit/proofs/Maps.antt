@@ -7,11 +7,11 @@ use Rattle.pon_units.specs.Frac.{Frac}
 use Rattle.pon_bwmap.specs.Alloc.{Alloc}
 use Rattle.pon_burst.specs.Maps.{structure_of}
 use Rattle.pon_admit.specs.declared.row.Row.{Row}
-use Rattle.pon_share.specs.Input.{Input}
-use Rattle.pon_share.specs.Maps.{map_of}
-use Rattle.pon_share.specs.Rates.{granted}
-use Rattle.pon_share.specs.Sharing.{surplus_rate}
-use Rattle.pon_share.proofs.RosterMaps.{granted_to_row}
+use Rattle.pon_demand.specs.Input.{Input}
+use Rattle.pon_demand.specs.Maps.{map_of}
+use Rattle.pon_demand.specs.Rates.{planned_grants}
+use Rattle.pon_demand.specs.Sharing.{surplus_rate}
+use Rattle.pon_demand.proofs.RosterMaps.{granted_to_row}
 use Rattle.pon_state.specs.State.{State, carry_at, input_of}
 use Rattle.pon_state.specs.declared.reply.MadeMap.{MadeMap}
 use Rattle.pon_audit.specs.Faults.{GrantsWords, ListsAllocs}
@@ -38,11 +38,11 @@ module _ (f : Alloc → ℕ) (xs ys : List Alloc) where
 module _ (profile : ℕ) (s : Input) (surplus : Row → Frac) (carry : Row → ℕ) where
   -- the Alloc-IDs of the map are those of the rows
   pub ids_of_map : map (λ a. a.id) (map_of profile s surplus carry) ≡ map (λ r. r.alloc_id) s.roster
-  ids_of_map = map-map (λ a. a.id) (structure_of s.gap profile (granted s surplus carry)) (granted s surplus carry) ∙ map-map (λ g. g.alloc_id) (granted_to_row s surplus carry) s.roster
+  ids_of_map = map-map (λ a. a.id) (structure_of s.gap profile (planned_grants s surplus carry)) (planned_grants s surplus carry) ∙ map-map (λ g. g.alloc_id) (granted_to_row s surplus carry) s.roster
 
   -- the grants of the map are one more than the payload words
-  pub grants_of_map : map (λ a. a.grant) (map_of profile s surplus carry) ≡ map (λ g. 1 + g.words) (granted s surplus carry)
-  grants_of_map = map-map (λ a. a.grant) (structure_of s.gap profile (granted s surplus carry)) (granted s surplus carry)
+  pub grants_of_map : map (λ a. a.grant) (map_of profile s surplus carry) ≡ map (λ g. 1 + g.words) (planned_grants s surplus carry)
+  grants_of_map = map-map (λ a. a.grant) (structure_of s.gap profile (planned_grants s surplus carry)) (planned_grants s surplus carry)
 
 -- The structures of a map compared with those that the state makes.
 
@@ -55,7 +55,7 @@ module _ (s : State) (m : MadeMap) (rows others : List Alloc) (of_made : rows �
   pub grants_words : (map (λ a. a.grant) rows ≡ map (λ a. a.grant) others) ↔ GrantsWords s m
   grants_words =
       let surplus : Row → Frac = surplus_rate (input_of s) m.cert in
-      let wanted : map (λ a. a.grant) others ≡ map (λ g. 1 + g.words) (granted (input_of s) surplus (carry_at s)) = ap (map (λ a. a.grant)) of_state ∙ grants_of_map s.profile (input_of s) surplus (carry_at s) in
+      let wanted : map (λ a. a.grant) others ≡ map (λ g. 1 + g.words) (planned_grants (input_of s) surplus (carry_at s)) = ap (map (λ a. a.grant)) of_state ∙ grants_of_map s.profile (input_of s) surplus (carry_at s) in
       (λ e. ap (map (λ a. a.grant)) (sym of_made) ∙ e ∙ wanted, λ e. ap (map (λ a. a.grant)) of_made ∙ e ∙ sym wanted)
 
 pub other_than : (r : Bool) (P : Type 0) → (r ≡ true) ↔ P → (not r ≡ true) ↔ (P → ⊥)

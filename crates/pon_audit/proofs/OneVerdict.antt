@@ -13,7 +13,7 @@ use Rattle.pon_record.proofs.OneReading.{no_bad_format, no_truncated, one_fault,
 use Rattle.pon_audit.specs.Verdicts.{AreGood, ChapterFails, Continues, HasChapters, IsFirstFault, IsGoodChapter, IsVerdict, Rises, maps_in}
 use Rattle.pon_audit.specs.declared.verdict.Verdict.{Verdict}
 use Rattle.pon_audit.specs.declared.verdict.Verdict.TheVariants.{Good, Bad, BadFormat, Truncated}
-use Rattle.pon_audit.specs.declared.verdict.Why.{Why}
+use Rattle.pon_audit.specs.declared.verdict.AuditReason.{AuditReason}
 use Rattle.pon_audit.proofs.OneFault.{get_take, good_has_no_fault, one_fault_of_chapter, some_same}
 
 within : {X : Type 0} (xs : List X) (i : ℕ) (x : X) → slice_get xs i ≡ Some x → i < length xs
@@ -30,7 +30,7 @@ behind R cs k c pairs here j d less =
     subst (λ x. R (get_or (take k cs) j d) x) there (subst (λ x. R x (get_or cs k d)) (sym (get_or-take k cs j d before)) (pairs j k d before lt))
 
 -- if all chapters are good, none fails after those before it
-pub none_fails : (cs : List PlacedChapter) (k : ℕ) (c : PlacedChapter) (i : ℕ) (w : Why) → AreGood cs → slice_get cs k ≡ Some c → ChapterFails (take k cs) c i w → ⊥
+pub none_fails : (cs : List PlacedChapter) (k : ℕ) (c : PlacedChapter) (i : ℕ) (w : AuditReason) → AreGood cs → slice_get cs k ≡ Some c → ChapterFails (take k cs) c i w → ⊥
 none_fails cs k c i w good here fails =
     let lt : k < length cs = within cs k c here in
     let at : get_or cs k c ≡ c = get_or_from_slice_get cs k c c here in
@@ -38,18 +38,18 @@ none_fails cs k c i w good here fails =
     (record { chained = behind Continues cs k c good.chained here; rising = behind Rises cs k c good.rising here })
     fails
 
-pub good_no_fault : (cs : List PlacedChapter) (port number index : ℕ) (w : Why) → AreGood cs → IsFirstFault cs port number index w → ⊥
+pub good_no_fault : (cs : List PlacedChapter) (port number index : ℕ) (w : AuditReason) → AreGood cs → IsFirstFault cs port number index w → ⊥
 good_no_fault cs port number index w good f = none_fails cs f.place f.chapter index w good f.here f.fails
 
 -- Two faults of the same chapters.
 
-pub record SameBad (p q m n i j : ℕ) (w v : Why) : Type 0 where
+pub record SameBad (p q m n i j : ℕ) (w v : AuditReason) : Type 0 where
   pub port : p ≡ q
   pub number : m ≡ n
   pub index : i ≡ j
   pub why : w ≡ v
 
-module _ (cs : List PlacedChapter) (p q m n i j : ℕ) (w v : Why) where
+module _ (cs : List PlacedChapter) (p q m n i j : ℕ) (w v : AuditReason) where
   not_earlier : (f : IsFirstFault cs p m i w) → (g : IsFirstFault cs q n j v) → f.place < g.place → ⊥
   not_earlier f g lt =
       none_fails (take g.place cs) f.place f.chapter i w g.good (get_take cs f.place g.place lt ∙ f.here)
@@ -67,7 +67,7 @@ module _ (cs : List PlacedChapter) (p q m n i j : ℕ) (w v : Why) where
         why = one.1;
       }
 
-pub one_first : (cs : List PlacedChapter) (p q m n i j : ℕ) (w v : Why) → IsFirstFault cs p m i w → IsFirstFault cs q n j v → SameBad p q m n i j w v
+pub one_first : (cs : List PlacedChapter) (p q m n i j : ℕ) (w v : AuditReason) → IsFirstFault cs p m i w → IsFirstFault cs q n j v → SameBad p q m n i j w v
 one_first cs p q m n i j w v f g = elim (cases_lt f.place g.place) [
   | inl lt ↦ absurd (not_earlier cs p q m n i j w v f g lt)
   | inr le ↦ elim (cases_lt g.place f.place) [
@@ -113,10 +113,10 @@ module _ (bytes : List ℕ) where
   no_format_fault cs at (inr (at2, t)) b = never_both at2 at cs t b
 
   --   good chapters of the same bytes have no fault
-  good_and_bad : (cs ds : List PlacedChapter) (p m i : ℕ) (w : Why) → HasChapters bytes cs → AreGood cs → HasChapters bytes ds → IsFirstFault ds p m i w → ⊥
+  good_and_bad : (cs ds : List PlacedChapter) (p m i : ℕ) (w : AuditReason) → HasChapters bytes cs → AreGood cs → HasChapters bytes ds → IsFirstFault ds p m i w → ⊥
   good_and_bad cs ds p m i w h good k f = good_no_fault ds p m i w (subst AreGood (same_chapters cs ds h k) good) f
 
-  both_bad : (cs ds : List PlacedChapter) (p q m n i j : ℕ) (w v : Why) → HasChapters bytes cs → IsFirstFault cs p m i w → HasChapters bytes ds → IsFirstFault ds q n j v → Bad p m i w ≡ Bad q n j v
+  both_bad : (cs ds : List PlacedChapter) (p q m n i j : ℕ) (w v : AuditReason) → HasChapters bytes cs → IsFirstFault cs p m i w → HasChapters bytes ds → IsFirstFault ds q n j v → Bad p m i w ≡ Bad q n j v
   both_bad cs ds p q m n i j w v h f k g =
       let same = one_first ds p q m n i j w v (subst (λ l. IsFirstFault l p m i w) (same_chapters cs ds h k) f) g in
       λ t. Bad (same.port t) (same.number t) (same.index t) (same.why t)

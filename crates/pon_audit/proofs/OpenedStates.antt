@@ -13,7 +13,7 @@ use Rattle.pon_lists.specs.Order.{IsInOrder}
 use Rattle.pon_lists.proofs.Order.{in_order-sides, in_order-front, in_order-unmap}
 use Rattle.pon_admit.specs.declared.row.Row.{Row}
 use Rattle.pon_admit.specs.declared.rule.Rule.{Rule}
-use Rattle.pon_admit.specs.Roster.{IsAdmitted, IsDistinct, IsInMapOrder, IsInRange, comes_before, has_alloc, most_carry, refuses_admit, with_row, without}
+use Rattle.pon_admit.specs.Roster.{IsAdmitted, IsDistinct, IsInMapOrder, IsInRange, comes_before, has_alloc, max_carry, refuses_admit, with_row, without}
 use Rattle.pon_admit.proofs.AdmittedSets.{admit_keeps, before_from, precedes, remove_keeps}
 use Rattle.pon_admit.proofs.RefusedSets.{refused_admission}
 use Rattle.pon_guar.specs.declared.account.Account.{Account}
@@ -22,11 +22,11 @@ use Rattle.pon_guar.specs.Book.{account_of, alloc_ids, known_since}
 use Rattle.pon_guar.specs.Parts.{AreApart, AreParts, book_from}
 use Rattle.pon_guar.proofs.Accounts.{account_is, found_each}
 use Rattle.pon_guar.proofs.RestoredParts.{account_any, book_ids, book_rises}
-use Rattle.pon_window.specs.Window.{WindowMap}
-use Rattle.pon_window.proofs.Frames.{leads_after}
+use Rattle.pon_guar.specs.Window.{WindowMap}
+use Rattle.pon_guar.proofs.Frames.{leads_after}
 use Rattle.pon_state.specs.State.{State}
 use Rattle.pon_state.specs.Accounts.{AccountsFor}
-use Rattle.pon_port.specs.Chapters.{AccountIsLawful, CountedIsLawful, HasNumbersInRange, IsJustOpened, IsLawfulOpening, IsSilent, OpensFirst, Owns}
+use Rattle.pon_history.specs.Chapters.{AccountIsLawful, CountedIsLawful, HasNumbersInRange, IsJustOpened, IsLawfulOpening, IsSilent, OpensFirst, Owns}
 use Rattle.pon_record.specs.declared.row.RawRow.{RawRow}
 use Rattle.pon_record.specs.Openings.{Opening}
 use Rattle.pon_audit.specs.Openings.{AreQuiet, Fits, GrantIsOwned, IsBare, MapIsOwned, ReportIsLawful, RowIsLawful, accounts_of, admitted_row, has_row, roster_of, row_account, state_of}
@@ -316,7 +316,7 @@ module _ (o : Opening) where
             owner_has_row g.onu g.alloc_id s.roster (sym (book.1 g.alloc_id) ∙ found_any g.alloc_id s.book a e) (own a e since (sym (account_is s.book g.alloc_id a e)))
 
 -- an opening that passes the tests is lawful
-pub lawful_if_passes : (number : ℕ) (o : Opening) → HasNumbersInRange (state_of o) → All (λ r. r.carry ≤ most_carry o.rule) o.rows → PassesTests number o → IsLawfulOpening number (state_of o)
+pub lawful_if_passes : (number : ℕ) (o : Opening) → HasNumbersInRange (state_of o) → All (λ r. r.carry ≤ max_carry o.rule) o.rows → PassesTests number o → IsLawfulOpening number (state_of o)
 lawful_if_passes number o numbers range p =
     let apart : IsDistinct (roster_of o) = p.admitted.apart in
     let s : State = state_of o in
@@ -329,7 +329,7 @@ lawful_if_passes number o numbers range p =
       book = book;
       carries = record {
         count = length-map o.rows (λ r. r.carry) ∙ sym (length-map o.rows admitted_row);
-        range = All-map (λ c. c ≤ most_carry o.rule) (λ r. r.carry) o.rows range;
+        range = All-map (λ c. c ≤ max_carry o.rule) (λ r. r.carry) o.rows range;
       };
       accounts = λ k d l.
           let a : Account = get_or s.book k d in

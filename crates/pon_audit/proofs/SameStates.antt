@@ -12,8 +12,8 @@ use Rattle.pon_guar.proofs.Accounts.{accounts_all as accounts_from_ids}
 use Rattle.pon_guar.proofs.RestoredParts.{same_rising}
 use Rattle.pon_state.specs.State.{State}
 use Rattle.pon_state.specs.Accounts.{AccountsFor}
-use Rattle.pon_port.specs.Chapters.{IsLawfulOpening}
-use Rattle.pon_port.specs.Taking.{IsKept}
+use Rattle.pon_history.specs.Chapters.{IsLawfulOpening}
+use Rattle.pon_history.specs.Taking.{IsKept}
 use Rattle.pon_record.specs.declared.row.RawRow.{RawRow}
 use Rattle.pon_record.specs.Openings.{Opening}
 use Rattle.pon_record.specs.Chapters.{Body}

@@ -1,18 +1,18 @@
 -- The fault of an entry in the state before it. Of several faults the first counts, in this order: event, certificate,
 -- words, bursts.
 use Rattle.std.specs.Prelude.{ℕ, ◌≡◌, ◌≢◌, ◌+◌, map, take, slice_get, Some, None}
-use Rattle.pon_share.specs.Rates.{granted}
-use Rattle.pon_share.specs.Sharing.{IsCertified, surplus_rate}
+use Rattle.pon_demand.specs.Rates.{planned_grants}
+use Rattle.pon_demand.specs.Sharing.{IsCertified, surplus_rate}
 use Rattle.pon_state.specs.State.{State, carry_at, input_of}
 use Rattle.pon_state.specs.Checks.{first_refusal}
 use Rattle.pon_state.specs.Legal.{IsMade}
 use Rattle.pon_state.specs.declared.reply.MadeMap.{MadeMap}
 use Rattle.pon_state.specs.declared.reply.Reply.{Reply}
 use Rattle.pon_state.specs.declared.reply.Reply.TheVariants.{Taken, Map}
-use Rattle.pon_state.specs.declared.reply.Entry.{Entry}
-use Rattle.pon_port.specs.Chapters.{Chapter, IsLawfulChapter, state_before}
-use Rattle.pon_audit.specs.declared.verdict.Why.{Why}
-use Rattle.pon_audit.specs.declared.verdict.Why.TheVariants.{Event, Certificate, Words, Bursts}
+use Rattle.pon_state.specs.Entry.{Entry}
+use Rattle.pon_history.specs.Chapters.{Chapter, IsLawfulChapter, state_before}
+use Rattle.pon_audit.specs.declared.verdict.AuditReason.{AuditReason}
+use Rattle.pon_audit.specs.declared.verdict.AuditReason.TheVariants.{Event, Certificate, Words, Bursts}
 
 -- the Alloc-IDs of its structures are those of the admitted rows in map order
 abbrev pub ListsAllocs : State → MadeMap → Type 0
@@ -20,26 +20,26 @@ ListsAllocs s m = map (λ a. a.id) m.map ≡ map (λ r. r.alloc_id) s.roster
 
 -- each grant is one more than the payload words that the certificate and the carries give
 abbrev pub GrantsWords : State → MadeMap → Type 0
-GrantsWords s m = map (λ a. a.grant) m.map ≡ map (λ g. 1 + g.words) (granted (input_of s) (surplus_rate (input_of s) m.cert) (carry_at s))
+GrantsWords s m = map (λ a. a.grant) m.map ≡ map (λ g. 1 + g.words) (planned_grants (input_of s) (surplus_rate (input_of s) m.cert) (carry_at s))
 
 -- the Alloc-IDs are the right ones, and some grant is wrong
 abbrev pub HasWrongWords : State → MadeMap → Type 0
 HasWrongWords s m = ListsAllocs s m × (GrantsWords s m → ⊥)
 
 -- the map is not the one that the state makes, for this reason
-abbrev pub MapFails : State → MadeMap → Why → Type 0
+abbrev pub MapFails : State → MadeMap → AuditReason → Type 0
 MapFails s m Certificate = IsCertified (input_of s) m.cert → ⊥
 MapFails s m Words = IsCertified (input_of s) m.cert × HasWrongWords s m
 MapFails s m Bursts = IsCertified (input_of s) m.cert × (HasWrongWords s m → ⊥) × (IsMade s m → ⊥)
 MapFails s m why = ⊥
 
-abbrev pub ReplyFails : State → Reply → Why → Type 0
+abbrev pub ReplyFails : State → Reply → AuditReason → Type 0
 ReplyFails s (Map m) why = MapFails s m why
 ReplyFails s Taken why = ⊥
 
 -- an entry fails after `kept` entries of its chapter: a check refuses the event, or its map is not the one that the
 -- state makes
-abbrev pub EntryFails : ℕ → State → Entry → Why → Type 0
+abbrev pub EntryFails : ℕ → State → Entry → AuditReason → Type 0
 EntryFails kept s e Event = first_refusal kept s e.event ≢ None
 EntryFails kept s e why = (first_refusal kept s e.event ≡ None) × ReplyFails s e.reply why
 
@@ -48,7 +48,7 @@ abbrev pub cut_at : Chapter → ℕ → Chapter
 cut_at c index = record { number = c.number; opening = c.opening; entries = take index c.entries }
 
 -- the entry at an index is the first that fails, for this reason
-pub record FailsAt (c : Chapter) (index : ℕ) (why : Why) : Type 0 where
+pub record FailsAt (c : Chapter) (index : ℕ) (why : AuditReason) : Type 0 where
   pub entry : Entry
   pub here : slice_get c.entries index ≡ Some entry
   pub lawful : IsLawfulChapter (cut_at c index)

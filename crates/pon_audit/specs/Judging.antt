@@ -1,9 +1,9 @@
 -- The fault of a chapter, alone and after earlier ones.
 use Rattle.std.specs.Prelude.{ℕ, ◌≡◌, ◌+◌, ◌<◌, ◌⊎◌, All, List, Option, Some, None, slice_get, slice_index_or}
 use Rattle.std.specs.List.{AllZip}
-use Rattle.pon_units.specs.declared.limits.TheConstants.{MOST_PORTS}
+use Rattle.pon_units.specs.declared.limits.TheConstants.{MAX_PORTS}
 use Rattle.pon_state.specs.State.{State}
-use Rattle.pon_port.specs.Taking.{IsKept}
+use Rattle.pon_history.specs.Taking.{IsKept}
 use Rattle.pon_record.specs.Chapters.{Body, PlacedChapter}
 use Rattle.pon_audit.specs.Openings.{OpensLawfully, chapter_of, state_of}
 use Rattle.pon_audit.specs.Faults.{FailsAt}
@@ -29,10 +29,10 @@ pub record EndsWith (c : PlacedChapter) (end : State) : Type 0 where
   pub kept : IsKept (chapter_of c.body) end
 
 -- the fault of the chapter, or the state at its end, regardless of earlier chapters
-abbrev pub IsAnswer : PlacedChapter → Judged → Type 0
-IsAnswer c Unlawful = OpensLawfully c.body → ⊥
-IsAnswer c (Fails f) = FailsLater c f
-IsAnswer c (Ends end) = EndsWith c end
+abbrev pub IsJudgment : PlacedChapter → Judged → Type 0
+IsJudgment c Unlawful = OpensLawfully c.body → ⊥
+IsJudgment c (Fails f) = FailsLater c f
+IsJudgment c (Ends end) = EndsWith c end
 
 -- Earlier chapters.
 
@@ -57,7 +57,7 @@ IsPlaceOf earlier port (Some place) = IsLastPlace earlier port place
 pub record AreJudged (earlier : List PlacedChapter) (t : EndTable) : Type 0 where
   pub good : AreGood earlier
   pub each : AllZip IsEndOf earlier t.ends
-  pub lasts : (port : ℕ) → port < MOST_PORTS → IsPlaceOf earlier port (slice_index_or t.places port None)
+  pub lasts : (port : ℕ) → port < MAX_PORTS → IsPlaceOf earlier port (slice_index_or t.places port None)
 
 -- an end is the one before a chapter of its port only if the chapter opens with it
 abbrev pub OpensAt : PlacedChapter → End → Type 0

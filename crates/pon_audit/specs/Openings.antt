@@ -7,9 +7,9 @@ use Rattle.pon_guar.specs.declared.account.Account.{Account}
 use Rattle.pon_guar.specs.declared.account.Counted.{Counted}
 use Rattle.pon_guar.specs.Book.{account_of, known_since}
 use Rattle.pon_guar.specs.Parts.{book_from}
-use Rattle.pon_window.specs.Window.{AreConsecutive, WindowMap}
+use Rattle.pon_guar.specs.Window.{AreConsecutive, WindowMap}
 use Rattle.pon_state.specs.State.{State}
-use Rattle.pon_port.specs.Chapters.{Chapter, IsLawfulOpening}
+use Rattle.pon_history.specs.Chapters.{Chapter, IsLawfulOpening}
 use Rattle.pon_record.specs.declared.row.RawRow.{RawRow}
 use Rattle.pon_record.specs.Openings.{Opening}
 use Rattle.pon_record.specs.declared.version.Version.{Version}

@@ -1,7 +1,7 @@
 -- The audit of a recording that is read from a device.
 use Rattle.std.specs.Prelude.{ℕ, ◌≡◌, ◌%◌, ◌+◌, ◌^◌, ◌++◌, List, MatchOption, Option, Some, None, Result, Ok, Err, sum_by}
-use Rattle.pon_stream.specs.declared.fault.PlanFault.{PlanFault}
-use Rattle.pon_stream.specs.declared.fault.PlanFault.TheVariants.{Read, Write, Memory}
+use Rattle.pon_device.specs.declared.fault.DeviceFault.{DeviceFault}
+use Rattle.pon_device.specs.declared.fault.DeviceFault.TheVariants.{Read, Write, Memory}
 use Rattle.pon_record.specs.Chapters.{PlacedChapter}
 use Rattle.pon_record.specs.Recordings.{IsBadFormat, IsRecording, IsTruncated}
 use Rattle.pon_record.specs.Streams.{Position, StandsAfter}
@@ -34,7 +34,7 @@ IsVerdictOf None v = Unit {0}
 IsVerdictOf (Some bytes) v = IsVerdict bytes v
 
 -- `Read` exactly when a read failed; nothing is written
-abbrev pub TellsFailure : {T : Type 0} → ℕ → ℕ → Result T PlanFault → Type 0
+abbrev pub TellsFailure : {T : Type 0} → ℕ → ℕ → Result T DeviceFault → Type 0
 TellsFailure old new (Ok x) = new ≡ old
 TellsFailure old new (Err Read) = new ≡ (old + 1) % 2 ^ 64
 TellsFailure old new (Err Memory) = new ≡ old

@@ -1,11 +1,11 @@
 -- The text of a verdict.
 use Rattle.std.specs.Prelude.{ℕ, List, ◌++◌, codes, decimal}
-use Rattle.pon_audit.specs.declared.verdict.Why.{Why}
-use Rattle.pon_audit.specs.declared.verdict.Why.TheVariants.{Opening, Chain, Number, Event, Certificate, Words, Bursts}
+use Rattle.pon_audit.specs.declared.verdict.AuditReason.{AuditReason}
+use Rattle.pon_audit.specs.declared.verdict.AuditReason.TheVariants.{Opening, Chain, Number, Event, Certificate, Words, Bursts}
 use Rattle.pon_audit.specs.declared.verdict.Verdict.{Verdict}
 use Rattle.pon_audit.specs.declared.verdict.Verdict.TheVariants.{Good, Bad, BadFormat, Truncated}
 
-abbrev pub why_text : Why → List ℕ
+abbrev pub why_text : AuditReason → List ℕ
 why_text Opening = codes "Opening"
 why_text Chain = codes "Chain"
 why_text Number = codes "Number"

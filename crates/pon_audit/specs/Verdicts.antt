@@ -2,16 +2,16 @@
 use Rattle.std.specs.Prelude.{ℕ, ◌≡◌, ◌<◌, ◌⊎◌, All, List, take, slice_get, Some, count_by, sum_by}
 use Rattle.std.specs.List.{AllPairs}
 use Rattle.pon_state.specs.Replay.{makes_map}
-use Rattle.pon_state.specs.declared.reply.Entry.{Entry}
-use Rattle.pon_port.specs.Chapters.{Chapter, Follows, IsLawfulChapter, state_before}
-use Rattle.pon_port.specs.FairMaps.{TellsFairMap}
-use Rattle.pon_port.specs.WordRuns.{RunsAreWhole}
+use Rattle.pon_state.specs.Entry.{Entry}
+use Rattle.pon_history.specs.Chapters.{Chapter, Follows, IsLawfulChapter, state_before}
+use Rattle.pon_history.specs.FairMaps.{TellsFairMap}
+use Rattle.pon_history.specs.WordRuns.{RunsAreWhole}
 use Rattle.pon_record.specs.Chapters.{PlacedChapter}
 use Rattle.pon_record.specs.Recordings.{IsBadFormat, IsRecording, IsTruncated}
 use Rattle.pon_audit.specs.Openings.{OpensLawfully, chapter_of}
 use Rattle.pon_audit.specs.Faults.{FailsAt}
-use Rattle.pon_audit.specs.declared.verdict.Why.{Why}
-use Rattle.pon_audit.specs.declared.verdict.Why.TheVariants as why
+use Rattle.pon_audit.specs.declared.verdict.AuditReason.{AuditReason}
+use Rattle.pon_audit.specs.declared.verdict.AuditReason.TheVariants as why
 use Rattle.pon_audit.specs.declared.verdict.Verdict.{Verdict}
 use Rattle.pon_audit.specs.declared.verdict.Verdict.TheVariants.{Good, Bad, BadFormat, Truncated}
 
@@ -73,14 +73,14 @@ pub record FallsBehind (earlier : List PlacedChapter) (c : PlacedChapter) : Type
 
 -- a chapter after earlier ones fails by its opening, by an earlier chapter that it does not continue, by its number, or
 -- by the entry at an index; the first of these counts
-abbrev pub ChapterFails : List PlacedChapter → PlacedChapter → ℕ → Why → Type 0
+abbrev pub ChapterFails : List PlacedChapter → PlacedChapter → ℕ → AuditReason → Type 0
 ChapterFails earlier c index why.Opening = (OpensLawfully c.body → ⊥) × (index ≡ 0)
 ChapterFails earlier c index why.Chain = OpensLawfully c.body × (IsChained earlier c → ⊥) × (index ≡ 0)
 ChapterFails earlier c index why.Number = OpensLawfully c.body × FallsBehind earlier c × (index ≡ 0)
 ChapterFails earlier c index w = OpensLawfully c.body × MayStandAfter earlier c × FailsAt (chapter_of c.body) index w
 
 -- the first chapter that fails: its port and number, the index of the entry, and why
-pub record IsFirstFault (chapters : List PlacedChapter) (port number index : ℕ) (w : Why) : Type 0 where
+pub record IsFirstFault (chapters : List PlacedChapter) (port number index : ℕ) (w : AuditReason) : Type 0 where
   pub place : ℕ
   pub chapter : PlacedChapter
   pub here : slice_get chapters place ≡ Some chapter

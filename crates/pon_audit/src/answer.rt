@@ -1,15 +1,14 @@
 //! The answer to a recording: its verdict as a line.
 
 ghost use Rattle.std.specs.Prelude.{◌≡◌, ◌≢◌, ℕ, Err, IfOk, List, Option, string_bytes};
-ghost use Rattle.pon_stream.specs.Streams.{TellsWrite};
+ghost use Rattle.pon_device.specs.Streams.{TellsWrite};
 ghost use Rattle.pon_audit.specs.Answers.{Audited, TellsAudit, verdict_line};
 ghost use Rattle.pon_audit.specs.Streams.{IsVerdictOf};
-ghost use Rattle.pon_stream.specs.declared.fault.PlanFault.TheVariants.{Read};
+ghost use Rattle.pon_device.specs.declared.fault.DeviceFault.TheVariants.{Read};
 
 use crate::auditing::audit_from;
 use crate::verdict::Verdict;
-use pon_device::{DevRead, DevWrite};
-use pon_stream::{PlanFault, write_text};
+use pon_device::{DevRead, DevWrite, DeviceFault, write_text};
 use std::alloc::{AllocError, Global};
 use std::thread::Threads;
 
@@ -26,18 +25,18 @@ fn write_line<W: DevWrite>(
     alloc: Global,
     verdict: &Verdict,
     writer: &mut W,
-) -> Result<bool, PlanFault>
+) -> Result<bool, DeviceFault>
     ensures text { (bytes : Option (List ℕ)) → IsVerdictOf bytes verdict.now
         → Audited bytes (W.contents writer.old) (W.contents writer.new) result }
     ensures write { TellsWrite (W.failures writer.old) (W.failures writer.new) result }
     ensures no_read { result ≢ Err Read }
 {
     let Ok(line) = line_of(alloc, verdict) else {
-        return Err(PlanFault::Memory);
+        return Err(DeviceFault::Memory);
     };
     match write_text(writer, line.as_bytes()) {
         Ok(()) => Ok(verdict.is_good()),
-        Err(_) => Err(PlanFault::Write),
+        Err(_) => Err(DeviceFault::Write),
     }
 }
 
@@ -51,7 +50,7 @@ pub fn write_verdict<R: DevRead, W: DevWrite>(
     alloc: Global,
     reader: &mut R,
     writer: &mut W,
-) -> Result<bool, PlanFault>
+) -> Result<bool, DeviceFault>
     ensures text { Audited (R.remaining reader.old) (W.contents writer.old)
         (W.contents writer.new) result }
     ensures read { TellsAudit (R.failures reader.old) (R.failures reader.new) result }

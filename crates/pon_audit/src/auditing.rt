@@ -8,9 +8,8 @@ ghost use Rattle.pon_audit.specs.Verdicts.{IsVerdict};
 use crate::progress::Audit;
 use crate::reading::read_batch;
 use crate::verdict::Verdict;
-use pon_device::{DevRead, StdRead};
+use pon_device::{DevRead, DeviceFault, StdRead};
 use pon_record::{ChapterReader, StreamFault};
-use pon_stream::PlanFault;
 use std::alloc::{AllocError, Global};
 use std::thread::Threads;
 
@@ -20,23 +19,23 @@ fn audit_chapters<R: DevRead>(
     alloc: Global,
     source: &mut ChapterReader,
     reader: &mut R,
-) -> Result<Verdict, PlanFault>
+) -> Result<Verdict, DeviceFault>
     ensures verdict { IfOk result (λ v. (bytes : List ℕ)
         → StandsAfter bytes [] source.old (R.remaining reader.old) → IsVerdict bytes v) }
     ensures failures { TellsFailure (R.failures reader.old) (R.failures reader.new) result }
 {
     let Ok(mut audit) = Audit::open(alloc) else {
-        return Err(PlanFault::Memory);
+        return Err(DeviceFault::Memory);
     };
     for _batch in 0..u64::MAX {
         let batch = read_batch(alloc, source, reader)?;
         match audit.take_batch(rt, alloc, &batch) {
             Ok(Some(verdict)) => return Ok(verdict),
             Ok(None) => {}
-            Err(_) => return Err(PlanFault::Memory),
+            Err(_) => return Err(DeviceFault::Memory),
         }
     }
-    Err(PlanFault::Memory)
+    Err(DeviceFault::Memory)
 }
 
 /// Audits the recording that a device gives, chapter by chapter, to the end of the device or to the first fault of the
@@ -56,7 +55,7 @@ pub fn audit_from<R: DevRead>(
     rt: &(impl Threads + Sync),
     alloc: Global,
     reader: &mut R,
-) -> Result<Verdict, PlanFault>
+) -> Result<Verdict, DeviceFault>
     ensures verdict { IfOk result (λ v. IsVerdictOf (R.remaining reader.old) v) }
     ensures failures { TellsFailure (R.failures reader.old) (R.failures reader.new) result }
 {
@@ -64,8 +63,8 @@ pub fn audit_from<R: DevRead>(
         Ok(mut source) => audit_chapters(rt, alloc, &mut source, reader),
         Err(StreamFault::BadFormat { at }) => Ok(Verdict::BadFormat { at }),
         Err(StreamFault::Truncated { at }) => Ok(Verdict::Truncated { at }),
-        Err(StreamFault::Read) => Err(PlanFault::Read),
-        Err(StreamFault::Memory) => Err(PlanFault::Memory),
+        Err(StreamFault::Read) => Err(DeviceFault::Read),
+        Err(StreamFault::Memory) => Err(DeviceFault::Memory),
     }
 }
 

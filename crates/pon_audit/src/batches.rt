@@ -4,7 +4,7 @@ ghost use Rattle.std.specs.Prelude.{◌++◌, All, IfOk, List, MatchOption};
 ghost use Rattle.std.specs.List.{AllZip};
 ghost use Rattle.pon_record.specs.Chapters.{PlacedChapter};
 ghost use Rattle.pon_audit.specs.Openings.{FitsRecording};
-ghost use Rattle.pon_audit.specs.Judging.{AreJudged, IsAnswer, TellsBad};
+ghost use Rattle.pon_audit.specs.Judging.{AreJudged, IsJudgment, TellsBad};
 
 use crate::chapters::{Judged, judge};
 use crate::ends::Ends;
@@ -26,7 +26,7 @@ fn judge_in_parallel(
     chapters: &[RawChapter],
 ) -> Result<Vec<Judged>, AllocError>
     requires { All (λ c. FitsRecording c.body) chapters.now }
-    ensures { IfOk result (λ answers. AllZip IsAnswer chapters.now answers.items) }
+    ensures { IfOk result (λ answers. AllZip IsJudgment chapters.now answers.items) }
 {
     chapters
         .par_iter()
@@ -34,7 +34,7 @@ fn judge_in_parallel(
         .map(
             |chapter: &RawChapter| -> Result<Judged, AllocError>
                 requires { FitsRecording chapter.now.body }
-                ensures { IfOk result (λ answer. IsAnswer chapter.now answer) }
+                ensures { IfOk result (λ answer. IsJudgment chapter.now answer) }
             { judge(alloc, chapter) },
         )
         .collect::<Result<Vec<Judged>, AllocError>>(rt, alloc)?
@@ -48,7 +48,7 @@ fn place_all(
     answers: Vec<Judged>,
 ) -> Result<Option<Verdict>, AllocError>
     requires judged { (earlier : List PlacedChapter) × AreJudged earlier ends.old }
-    requires answers { AllZip IsAnswer chapters.now answers.items }
+    requires answers { AllZip IsJudgment chapters.now answers.items }
     ensures { IfOk result (λ found. (earlier : List PlacedChapter) → AreJudged earlier ends.old
         → MatchOption found (AreJudged (earlier ++ chapters.now) ends.new)
         (TellsBad (earlier ++ chapters.now))) }

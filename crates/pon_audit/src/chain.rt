@@ -1,7 +1,7 @@
 //! Whether a chapter opens with the state at the end of another.
 
 ghost use Rattle.std.specs.Prelude.{◌≡◌, ◌↔◌, All, IsTrue, map};
-ghost use Rattle.pon_port.specs.Taking.{IsKept};
+ghost use Rattle.pon_history.specs.Taking.{IsKept};
 ghost use Rattle.pon_record.specs.Chapters.{Body};
 ghost use Rattle.pon_audit.specs.Openings.{OpensLawfully, admitted_row, chapter_of, state_of};
 ghost use Rattle.pon_audit.specs.Chains.{HasAccount, HasNumbers, HasParts, IsBefore};
@@ -9,11 +9,10 @@ ghost use Rattle.pon_audit.specs.Judging.{IsKeptEnd, OpensAt};
 
 use crate::ends::End;
 use pon_admit::Row;
-use pon_guar::Loads;
+use pon_guar::{Loads, WindowMap};
 use pon_record::{Opening, RawChapter, RawMap, RawRow};
 use pon_state::PortState;
 use pon_units::{Granted, OnuId};
-use pon_window::WindowMap;
 
 // Returns whether a recorded row is an admitted one.
 fn is_same_row(raw: &RawRow, row: &Row) -> bool

@@ -1,14 +1,15 @@
 //! The audit of one chapter, regardless of the chapters before it.
 
 ghost use Rattle.std.specs.Prelude.{◌≡◌, IfOk, MatchOption};
-ghost use Rattle.pon_port.specs.Taking.{IsKept};
+ghost use Rattle.pon_history.specs.Taking.{IsKept};
 ghost use Rattle.pon_audit.specs.Openings.{FitsRecording, OpensLawfully, chapter_of, state_of};
 ghost use Rattle.pon_audit.specs.Faults.{FailsAt};
-ghost use Rattle.pon_audit.specs.Judging.{IsAnswer};
+ghost use Rattle.pon_audit.specs.Judging.{IsJudgment};
 
 use crate::entries::take_entry;
 use crate::openings::open_state;
-use crate::verdict::Why;
+use crate::verdict::AuditReason;
+use pon_demand::MapBuffers;
 use pon_record::RawChapter;
 use pon_state::PortState;
 use std::alloc::{AllocError, Global};
@@ -18,12 +19,12 @@ use std::alloc::{AllocError, Global};
 #[derive(Clone, Copy, Debug, PartialEq, Eq)]
 pub(crate) struct Fault {
     pub index: usize,
-    pub why: Why,
+    pub why: AuditReason,
 }
 
 impl Fault {
     /// The fault of a chapter before its first entry.
-    pub fn at_start(why: Why) -> Fault
+    pub fn at_start(why: AuditReason) -> Fault
         ensures { result ≡ record { index = 0; why = why } }
     {
         Fault { index: 0, why }
@@ -55,8 +56,9 @@ fn entry_fault(
         (IsKept (chapter_of chapter.now.body) state.new)
         (λ f. FailsAt (chapter_of chapter.now.body) f.index f.why)) }
 {
+    let mut buffers = MapBuffers::open(alloc);
     for (index, entry) in chapter.entries.iter().enumerate() {
-        if let Some(why) = take_entry(alloc, state, index, entry)? {
+        if let Some(why) = take_entry(alloc, &mut buffers, state, index, entry)? {
             return Ok(Some(Fault { index, why }));
         }
     }
@@ -66,7 +68,7 @@ fn entry_fault(
 /// Judges a chapter regardless of those before it. `Err` only if memory is refused.
 pub(crate) fn judge(alloc: Global, chapter: &RawChapter) -> Result<Judged, AllocError>
     requires { FitsRecording chapter.now.body }
-    ensures { IfOk result (λ answer. IsAnswer chapter.now answer) }
+    ensures { IfOk result (λ answer. IsJudgment chapter.now answer) }
 {
     let mut state = match open_state(alloc, chapter.number, &chapter.opening)? {
         Some(state) => state,

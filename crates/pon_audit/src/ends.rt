@@ -2,12 +2,12 @@
 
 ghost use Rattle.std.specs.Prelude.{◌≡◌, ◌<◌, ◌++◌, ◌∷◌, [], IfOk, None, OnOk, Some, length, replicate, set, slice_index_or};
 ghost use Rattle.std.specs.Option.{option_copied};
-ghost use Rattle.pon_units.specs.declared.limits.TheConstants.{MOST_PORTS};
+ghost use Rattle.pon_units.specs.declared.limits.TheConstants.{MAX_PORTS};
 ghost use Rattle.pon_audit.specs.Judging.{end_at};
 
 use pon_record::RawChapter;
 use pon_state::PortState;
-use pon_units::{MOST_PORTS, PortNo};
+use pon_units::{MAX_PORTS, PortNo};
 use std::alloc::{AllocError, Global};
 use std::marker::Model;
 
@@ -28,23 +28,23 @@ pub(crate) struct Ends {
 
 impl Model for Ends {
     ghost use Rattle.std.specs.Prelude.{◌≡◌, length};
-    ghost use Rattle.pon_units.specs.declared.limits.TheConstants.{MOST_PORTS};
+    ghost use Rattle.pon_units.specs.declared.limits.TheConstants.{MAX_PORTS};
     ghost use Rattle.pon_audit.specs.EndTables.{EndTable};
 
     ghost Value = { EndTable };
 
     ghost view = { λ e. record { ends = e.ends.items; places = e.places.items } };
 
-    ghost invariant = { λ e. length e.places.items ≡ MOST_PORTS };
+    ghost invariant = { λ e. length e.places.items ≡ MAX_PORTS };
 }
 
 impl Ends {
     /// Makes the table of no chapters. `Err` only if memory is refused.
     pub fn open(alloc: Global) -> Result<Ends, AllocError>
-        ensures { IfOk result (λ e. e ≡ record { ends = []; places = replicate MOST_PORTS None }) }
+        ensures { IfOk result (λ e. e ≡ record { ends = []; places = replicate MAX_PORTS None }) }
     {
-        let mut places = Vec::with_capacity(alloc, MOST_PORTS)?;
-        for _port in 0..MOST_PORTS {
+        let mut places = Vec::with_capacity(alloc, MAX_PORTS)?;
+        for _port in 0..MAX_PORTS {
             places.push(None)?;
         }
         let ends = Vec::new(alloc);
@@ -62,7 +62,7 @@ impl Ends {
     pub fn last_of(&self, port: PortNo) -> Option<&End>
         ensures value { option_copied result
             ≡ end_at self.now.ends (slice_index_or self.now.places port None) }
-        ensures range { port < MOST_PORTS }
+        ensures range { port < MAX_PORTS }
     {
         match self.places[usize::from(port.get())] {
             Some(place) => self.ends.get(place),
@@ -79,8 +79,8 @@ impl Ends {
         } ∷ []) }
         ensures places { OnOk result (self.new.places ≡ set self.old.places
             chapter.now.body.port (Some (length self.old.ends))) }
-        ensures range { chapter.now.body.port < MOST_PORTS }
-        ensures len { length self.old.places ≡ MOST_PORTS }
+        ensures range { chapter.now.body.port < MAX_PORTS }
+        ensures len { length self.old.places ≡ MAX_PORTS }
     {
         let place = self.ends.len();
         let (port, number) = (chapter.port, chapter.number);

@@ -2,25 +2,27 @@
 
 ghost use Rattle.std.specs.Prelude.{◌≡◌, ◌↔◌, ◌+◌, ◌<◌, ◌^◌, IfOk, IsTrue, MatchOption, map};
 ghost use Rattle.pon_admit.specs.Roster.{IsAdmitted};
-ghost use Rattle.pon_window.specs.Window.{AreConsecutive};
-ghost use Rattle.pon_share.specs.Maps.{map_of};
-ghost use Rattle.pon_share.specs.Sharing.{IsCertified, surplus_rate};
+ghost use Rattle.pon_guar.specs.Window.{AreConsecutive};
+ghost use Rattle.pon_demand.specs.Maps.{map_of};
+ghost use Rattle.pon_demand.specs.Sharing.{IsCertified, surplus_rate};
 ghost use Rattle.pon_state.specs.Accounts.{AccountsFor};
 ghost use Rattle.pon_state.specs.After.{after_entry, after_map};
 ghost use Rattle.pon_state.specs.Legal.{IsMade, MayFollow};
-ghost use Rattle.pon_state.specs.Replay.{grants_of};
-ghost use Rattle.pon_share.specs.Carries.{AreCarries};
+ghost use Rattle.pon_state.specs.Replay.{grants_in_map};
+ghost use Rattle.pon_demand.specs.Carries.{AreCarries};
 ghost use Rattle.pon_state.specs.Carries.{carries_left};
 ghost use Rattle.pon_state.specs.State.{carry_at, input_of};
 ghost use Rattle.pon_record.specs.Chapters.{reply_to};
 ghost use Rattle.pon_audit.specs.Faults.{EntryFails, HasWrongWords, MapFails};
 
-use crate::verdict::Why;
+use crate::verdict::AuditReason;
+use pon_admit::Event;
 use pon_bwmap::{Alloc, Map};
 use pon_check::check_map;
+use pon_demand::MapBuffers;
 use pon_state::{
-    Entry, MadeMap, MapUnder, PortState, Reply, add_map, in_range, map_under, next_problems,
-    refusal_of, step,
+    Entry, EntryRef, MadeMap, MapUnder, PortState, Reply, add_map, map_under, next_problems,
+    prove_in_range, refusal_of, step,
 };
 use std::alloc::{AllocError, Global};
 
@@ -78,7 +80,7 @@ fn has_wrong_words(state: &PortState, wanted: &Map, made: &MadeMap) -> bool
 
 // Returns why a map with an accepted certificate differs from the map that the state makes, which has the structures
 // `wanted`.
-fn map_fault(state: &PortState, wanted: &Map, made: &MadeMap) -> Option<Why>
+fn map_fault(state: &PortState, wanted: &Map, made: &MadeMap) -> Option<AuditReason>
     requires certified { IsCertified (input_of state.now) made.now.cert }
     requires wanted { wanted.now ≡ map_of state.now.profile (input_of state.now)
         (surplus_rate (input_of state.now) made.now.cert) (carry_at state.now) }
@@ -87,14 +89,20 @@ fn map_fault(state: &PortState, wanted: &Map, made: &MadeMap) -> Option<Why>
     if is_made(state, wanted, made) {
         None
     } else if has_wrong_words(state, wanted, made) {
-        Some(Why::Words)
+        Some(AuditReason::Words)
     } else {
-        Some(Why::Bursts)
+        Some(AuditReason::Bursts)
     }
 }
 
-// Checks a map, and applies it to the state if it is the one that the state makes. `Err` only if memory is refused.
-fn take_map(alloc: Global, state: &mut PortState, made: &MadeMap) -> Result<Option<Why>, AllocError>
+// Checks a map, and applies it to the state if it is the one that the state makes. `buffers` is memory for its demands and
+// grants. `Err` only if memory is refused.
+fn take_map(
+    alloc: Global,
+    buffers: &mut MapBuffers,
+    state: &mut PortState,
+    made: &MadeMap,
+) -> Result<Option<AuditReason>, AllocError>
     requires admitted { IsAdmitted state.old.rule state.old.gap state.old.roster }
     requires carries { AreCarries state.old.rule state.old.roster state.old.carries }
     requires frames { AreConsecutive state.old.next state.old.window }
@@ -102,35 +110,37 @@ fn take_map(alloc: Global, state: &mut PortState, made: &MadeMap) -> Result<Opti
     requires count { state.old.taken_before + 1 < 2 ^ 64 }
     ensures { IfOk result (λ found. MatchOption found
         (IsMade state.old made.now
-        × (state.new ≡ after_map state.old (grants_of state.old.roster made.now.map)
+        × (state.new ≡ after_map state.old (grants_in_map state.old.roster made.now.map)
         (carries_left state.old (Reply.Map made.now))))
         (MapFails state.old made.now)) }
 {
-    let problems = next_problems(alloc, state)?;
+    let problems = next_problems(alloc, buffers, state)?;
     let (na, be) = (problems.na.items.as_slice(), problems.be.items.as_slice());
     if check_map(na, be, problems.surplus, &made.cert).is_err() {
-        return Ok(Some(Why::Certificate));
+        return Ok(Some(AuditReason::Certificate));
     }
     let MapUnder {
         map,
         grants,
         carries,
-    } = map_under(alloc, state, &problems, &made.cert)?;
+    } = map_under(alloc, buffers, state, &problems, &made.cert)?;
+    buffers.keep_demands(problems.demands);
     let fault = map_fault(state, &map, made);
     if fault.is_none() {
-        add_map(state, grants, carries)?;
+        buffers.keep_grants(add_map(state, grants, carries)?);
     }
     Ok(fault)
 }
 
-/// Checks an entry that follows `kept` entries of its chapter, and applies it to the state if it may follow. `Err` only
-/// if memory is refused.
+/// Checks an entry that follows `kept` entries of its chapter, and applies it to the state if it may follow. `buffers` is
+/// memory for the demands and grants of a map. `Err` only if memory is refused.
 pub(crate) fn take_entry(
     alloc: Global,
+    buffers: &mut MapBuffers,
     state: &mut PortState,
     kept: usize,
     entry: &Entry,
-) -> Result<Option<Why>, AllocError>
+) -> Result<Option<AuditReason>, AllocError>
     requires reply { (reply_to entry.now.event).Fits entry.now.reply }
     requires admitted { IsAdmitted state.old.rule state.old.gap state.old.roster }
     requires carries { AreCarries state.old.rule state.old.roster state.old.carries }
@@ -140,14 +150,19 @@ pub(crate) fn take_entry(
         (MayFollow kept state.old entry.now × (state.new ≡ after_entry state.old entry.now))
         (EntryFails kept state.old entry.now)) }
 {
-    if refusal_of(state, kept, &entry.event).is_some() {
-        return Ok(Some(Why::Event));
-    }
-    in_range(&entry.event);
-    match &entry.reply {
-        Reply::Map(made) => take_map(alloc, state, made),
-        Reply::Taken => {
-            step(state, &entry.event)?;
+    match entry.as_ref() {
+        EntryRef::Map(made) => {
+            if refusal_of(state, kept, &Event::MakeMap).is_some() {
+                return Ok(Some(AuditReason::Event));
+            }
+            take_map(alloc, buffers, state, made)
+        }
+        EntryRef::Taken(event) => {
+            if refusal_of(state, kept, event).is_some() {
+                return Ok(Some(AuditReason::Event));
+            }
+            prove_in_range(event);
+            step(state, event)?;
             Ok(None)
         }
     }

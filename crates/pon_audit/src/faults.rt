@@ -3,20 +3,20 @@
 ghost use Rattle.std.specs.Prelude.{◌++◌, ◌∷◌, [], All, IfOk, List, MatchOption};
 ghost use Rattle.pon_record.specs.Chapters.{PlacedChapter};
 ghost use Rattle.pon_audit.specs.Openings.{OpensLawfully};
-ghost use Rattle.pon_audit.specs.Judging.{AreJudged, IsAnswer, IsEndOf, IsKeptEnd, IsLast, TellsBad};
+ghost use Rattle.pon_audit.specs.Judging.{AreJudged, IsJudgment, IsEndOf, IsKeptEnd, IsLast, TellsBad};
 ghost use Rattle.pon_audit.specs.Verdicts.{ChapterFails, MayStandAfter};
 ghost use Rattle.std.specs.List.{AllZip};
 
 use crate::chain::{is_chained, opens_with};
 use crate::chapters::{Fault, Judged};
 use crate::ends::{End, Ends};
-use crate::verdict::{Verdict, Why};
+use crate::verdict::{AuditReason, Verdict};
 use pon_record::RawChapter;
 use std::alloc::AllocError;
 
 // Returns why a chapter may not stand after earlier good ones with these ends, the last of its port being `last`; `None` if
 // it may. Only if its number does not ascend, all ends are searched for one that it does not open with.
-fn fault_behind(ends: &[End], last: &End, chapter: &RawChapter) -> Option<Why>
+fn fault_behind(ends: &[End], last: &End, chapter: &RawChapter) -> Option<AuditReason>
     requires kept { All IsKeptEnd ends.now }
     requires kept_last { IsKeptEnd last.now }
     requires opens { OpensLawfully chapter.now.body }
@@ -27,21 +27,21 @@ fn fault_behind(ends: &[End], last: &End, chapter: &RawChapter) -> Option<Why>
 {
     if chapter.number <= last.number {
         if is_chained(chapter, ends) {
-            return Some(Why::Number);
+            return Some(AuditReason::Number);
         }
-        return Some(Why::Chain);
+        return Some(AuditReason::Chain);
     }
     if chapter.number - last.number > 1 {
         return None;
     }
     if !opens_with(chapter, &last.end) {
-        return Some(Why::Chain);
+        return Some(AuditReason::Chain);
     }
     None
 }
 
 // Returns why a chapter may not stand after those judged; `None` if it may.
-fn place_fault(ends: &Ends, chapter: &RawChapter) -> Option<Why>
+fn place_fault(ends: &Ends, chapter: &RawChapter) -> Option<AuditReason>
     requires judged { (earlier : List PlacedChapter) × AreJudged earlier ends.now }
     requires opens { OpensLawfully chapter.now.body }
     ensures { (earlier : List PlacedChapter) → AreJudged earlier ends.now
@@ -63,13 +63,13 @@ fn chapter_fault(
     judged: Judged,
 ) -> Result<Option<Fault>, AllocError>
     requires judged { (earlier : List PlacedChapter) × AreJudged earlier ends.old }
-    requires answer { IsAnswer chapter.now judged }
+    requires answer { IsJudgment chapter.now judged }
     ensures { IfOk result (λ found. (earlier : List PlacedChapter) → AreJudged earlier ends.old
         → MatchOption found (AreJudged (earlier ++ chapter.now ∷ []) ends.new)
         (λ f. ChapterFails earlier chapter.now f.index f.why)) }
 {
     match judged {
-        Judged::Unlawful => Ok(Some(Fault::at_start(Why::Opening))),
+        Judged::Unlawful => Ok(Some(Fault::at_start(AuditReason::Opening))),
         Judged::Fails(fault) => match place_fault(ends, chapter) {
             Some(why) => Ok(Some(Fault::at_start(why))),
             None => Ok(Some(fault)),
@@ -92,7 +92,7 @@ pub(crate) fn judge_next(
     judged: Judged,
 ) -> Result<Option<Verdict>, AllocError>
     requires judged { (earlier : List PlacedChapter) × AreJudged earlier ends.old }
-    requires answer { IsAnswer chapter.now judged }
+    requires answer { IsJudgment chapter.now judged }
     ensures { IfOk result (λ found. (earlier : List PlacedChapter) → AreJudged earlier ends.old
         → MatchOption found (AreJudged (earlier ++ chapter.now ∷ []) ends.new)
         (TellsBad (earlier ++ chapter.now ∷ []))) }

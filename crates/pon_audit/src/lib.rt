@@ -23,4 +23,4 @@ mod verdict;
 pub use answer::write_verdict;
 pub use auditing::{audit, audit_from};
 pub use batches::PARALLEL_MAPS;
-pub use verdict::{Verdict, Why};
+pub use verdict::{AuditReason, Verdict};

@@ -13,7 +13,6 @@ use crate::batches::judge_batch;
 use crate::ends::Ends;
 use crate::reading::{Batch, BatchEnd};
 use crate::verdict::Verdict;
-use pon_event::Event;
 use pon_record::RawChapter;
 use std::alloc::{AllocError, Global};
 use std::thread::Threads;
@@ -30,10 +29,7 @@ pub(crate) struct Audit {
 fn chapter_maps(chapter: &RawChapter) -> u64
     ensures { result ≡ maps_in chapter.now }
 {
-    let maps = chapter
-        .entries
-        .iter()
-        .filter(|e| matches!(e.event, Event::MakeMap));
+    let maps = chapter.entries.iter().filter(|e| e.makes_map());
     maps.count() as u64
 }
 

@@ -6,17 +6,16 @@ ghost use Rattle.pon_record.specs.Streams.{StandsAfter};
 ghost use Rattle.pon_audit.specs.Openings.{FitsRecording};
 ghost use Rattle.pon_audit.specs.Streams.{ReadsBatch, TellsFailure};
 
-use pon_device::DevRead;
+use pon_device::{DevRead, DeviceFault};
 use pon_record::{ChapterReader, RawChapter, StreamFault};
-use pon_state::MOST_ENTRIES;
-use pon_stream::PlanFault;
+use pon_state::MAX_ENTRIES;
 use std::alloc::Global;
 
 // Maximum number of chapters of a batch.
 const BATCH_CHAPTERS: usize = 64;
 
 // A batch with this number of entries, of four full chapters, takes no further chapter.
-const BATCH_ENTRIES: usize = 4 * MOST_ENTRIES;
+const BATCH_ENTRIES: usize = 4 * MAX_ENTRIES;
 
 /// Why a batch has no further chapter.
 #[derive(Clone, Copy, Debug, PartialEq, Eq)]
@@ -44,7 +43,7 @@ pub(crate) fn read_batch<R: DevRead>(
     alloc: Global,
     source: &mut ChapterReader,
     reader: &mut R,
-) -> Result<Batch, PlanFault>
+) -> Result<Batch, DeviceFault>
     ensures fit { IfOk result (λ b. All (λ c. FitsRecording c.body) b.chapters.items) }
     ensures batch { IfOk result (λ b. (bytes : List ℕ) (whole : List PlacedChapter)
         → StandsAfter bytes whole source.old (R.remaining reader.old)
@@ -58,7 +57,7 @@ pub(crate) fn read_batch<R: DevRead>(
             Ok(Some(chapter)) => {
                 entries = chapter.entries.len().saturating_add(entries);
                 if chapters.push(chapter).is_err() {
-                    return Err(PlanFault::Memory);
+                    return Err(DeviceFault::Memory);
                 }
             }
             Ok(None) => return Ok(Batch {
@@ -73,8 +72,8 @@ pub(crate) fn read_batch<R: DevRead>(
                 let end = BatchEnd::Malformed { at };
                 return Ok(Batch { chapters, end });
             }
-            Err(StreamFault::Read) => return Err(PlanFault::Read),
-            Err(StreamFault::Memory) => return Err(PlanFault::Memory),
+            Err(StreamFault::Read) => return Err(DeviceFault::Read),
+            Err(StreamFault::Memory) => return Err(DeviceFault::Memory),
         }
     }
     Ok(Batch {

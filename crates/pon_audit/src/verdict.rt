@@ -4,7 +4,7 @@ use std::fmt;
 /// Why a chapter of a recording is bad. Of several faults the first counts, in this order: opening, chain, number, entries
 /// in order; for one entry: event, certificate, words, bursts.
 #[derive(Clone, Copy, Debug, PartialEq, Eq)]
-pub enum Why {
+pub enum AuditReason {
     /// The opening is not lawful: its rows are no admitted set in map order, a since-frame or a counted report does not
     /// fit the rows, the window and the next frame, the maps are no window up to the next frame, a failed port has maps
     /// or counted reports, or chapter 0 does not open with a port just opened.
@@ -25,7 +25,7 @@ pub enum Why {
     Bursts,
 }
 
-impl fmt::Display for Why {
+impl fmt::Display for AuditReason {
     ghost use Rattle.std.specs.Prelude.{Some};
     ghost use Rattle.pon_audit.specs.Texts.{why_text};
 
@@ -33,13 +33,13 @@ impl fmt::Display for Why {
 
     fn fmt<W: fmt::Write>(&self, f: &mut fmt::Formatter<W>) -> fmt::Result {
         match *self {
-            Why::Opening => write!(f, "Opening"),
-            Why::Chain => write!(f, "Chain"),
-            Why::Number => write!(f, "Number"),
-            Why::Event => write!(f, "Event"),
-            Why::Certificate => write!(f, "Certificate"),
-            Why::Words => write!(f, "Words"),
-            Why::Bursts => write!(f, "Bursts"),
+            AuditReason::Opening => write!(f, "Opening"),
+            AuditReason::Chain => write!(f, "Chain"),
+            AuditReason::Number => write!(f, "Number"),
+            AuditReason::Event => write!(f, "Event"),
+            AuditReason::Certificate => write!(f, "Certificate"),
+            AuditReason::Words => write!(f, "Words"),
+            AuditReason::Bursts => write!(f, "Bursts"),
         }
     }
 }
@@ -57,7 +57,7 @@ pub enum Verdict {
         port: PortNo,
         chapter: u64,
         index: usize,
-        why: Why,
+        why: AuditReason,
     },
     /// The bytes are not a recording: the fault is in the magic bytes, at 0, or in the chapter whose first byte is at
     /// `at`.

@@ -6,20 +6,20 @@ use Rattle.pon_units.specs.declared.Granted.{Granted}
 use Rattle.pon_units.specs.Granted.{AreInMapOrder}
 use Rattle.pon_burst.specs.Bursts.{AreSound}
 use Rattle.pon_burst.specs.Maps.{frame_words, grant, map_granting, structure_of}
-use Rattle.pon_burst.proofs.Laid.{AreLaid, BeginsAt, behind, continued_end, end_of, laid_sound}
+use Rattle.pon_burst.proofs.Laid.{AreLaid, BeginsAt, word_past, continued_end, end_of, laid_sound}
 use Rattle.pon_burst.proofs.MapRows.{begins_burst, continues_burst, has_onu, word_after, words_of}
 
 module _ (gap profile : ℕ) (gs : List Granted) (order : AreInMapOrder gs) where
   -- a structure is laid after those before it
   row_laid : (r : Granted) (xs ys : List Granted) → gs ≡ xs ++ r ∷ ys →
-      BeginsAt (word_after gap xs) (structure_of gap profile gs r).start × (behind gap (word_after gap xs) (grant r) (structure_of gap profile gs r).start ≡ word_after gap (xs ++ r ∷ []))
+      BeginsAt (word_after gap xs) (structure_of gap profile gs r).start × (word_past gap (word_after gap xs) (grant r) (structure_of gap profile gs r).start ≡ word_after gap (xs ++ r ∷ []))
   row_laid r xs ys e = elim (cases_Bool (has_onu r.onu xs)) [
     | inl h ↦
         let at = continues_burst gap profile gs order r xs ys e h in
-        subst (λ o. BeginsAt (word_after gap xs) o × (behind gap (word_after gap xs) (grant r) o ≡ word_after gap (xs ++ r ∷ []))) (sym at.0) (tt, sym at.1)
+        subst (λ o. BeginsAt (word_after gap xs) o × (word_past gap (word_after gap xs) (grant r) o ≡ word_after gap (xs ++ r ∷ []))) (sym at.0) (tt, sym at.1)
     | inr n ↦
         let at = begins_burst gap profile gs order r xs ys e n in
-        subst (λ o. BeginsAt (word_after gap xs) o × (behind gap (word_after gap xs) (grant r) o ≡ word_after gap (xs ++ r ∷ []))) (sym at.0) (refl, omega (arith, at.1))
+        subst (λ o. BeginsAt (word_after gap xs) o × (word_past gap (word_after gap xs) (grant r) o ≡ word_after gap (xs ++ r ∷ []))) (sym at.0) (refl, omega (arith, at.1))
   ]
 
   -- the structures of later grants are laid after those of earlier ones
@@ -27,7 +27,7 @@ module _ (gap profile : ℕ) (gs : List Granted) (order : AreInMapOrder gs) wher
       AreLaid gap (word_after gap xs) (map (structure_of gap profile gs) ys) × (end_of gap (word_after gap xs) (map (structure_of gap profile gs) ys) ≡ word_after gap gs)
   rest_laid xs [] e = (tt, ap (word_after gap) (sym (append-nil xs) ∙ sym e))
   rest_laid xs (r ∷ ys) e =
-      let here : BeginsAt (word_after gap xs) (structure_of gap profile gs r).start × (behind gap (word_after gap xs) (grant r) (structure_of gap profile gs r).start ≡ word_after gap (xs ++ r ∷ []))
+      let here : BeginsAt (word_after gap xs) (structure_of gap profile gs r).start × (word_past gap (word_after gap xs) (grant r) (structure_of gap profile gs r).start ≡ word_after gap (xs ++ r ∷ []))
       = row_laid r xs ys e in
       let rest : AreLaid gap (word_after gap (xs ++ r ∷ [])) (map (structure_of gap profile gs) ys) × (end_of gap (word_after gap (xs ++ r ∷ [])) (map (structure_of gap profile gs) ys) ≡ word_after gap gs)
       = rest_laid (xs ++ r ∷ []) ys (e ∙ sym (append_assoc xs (r ∷ []) ys)) in (

@@ -7,7 +7,7 @@ ghost use Rattle.pon_bwmap.specs.MapRules.{IsMap};
 ghost use Rattle.pon_burst.specs.Bursts.{AreSound};
 ghost use Rattle.pon_burst.specs.Maps.{frame_words, map_granting};
 
-use pon_units::{FRAME_WORDS, LONGEST_SERIES, MOST_STRUCTURES};
+use pon_units::{FRAME_WORDS, MAX_SERIES, MAX_STRUCTURES};
 
 /// Grants in map order that fit a frame with their gaps have sound bursts: within the frame, and no two overlap.
 pub fn grants_in_map_order_have_sound_bursts()
@@ -18,6 +18,6 @@ pub fn grants_in_map_order_have_sound_bursts()
 /// Their structures are a map if there are at most 512 of them, and at most 16 of each ONU.
 pub fn map_rules()
     ensures { (gap profile : ℕ) (gs : List Granted) → AreInMapOrder gs
-        → ((u : ℕ) → count_by (λ g. g.onu == u) gs ≤ LONGEST_SERIES) → length gs ≤ MOST_STRUCTURES
+        → ((u : ℕ) → count_by (λ g. g.onu == u) gs ≤ MAX_SERIES) → length gs ≤ MAX_STRUCTURES
         → frame_words gap gs ≤ FRAME_WORDS → IsMap (map_granting gap profile gs) }
 {}

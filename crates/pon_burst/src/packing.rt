@@ -6,9 +6,7 @@ ghost use Rattle.pon_burst.specs.Series.{FitsFrame, burst_structures, grants_of_
 
 use arrayvec::ArrayVec;
 use pon_bwmap::Alloc;
-use pon_units::{
-    AllocId, FRAME_WORDS, Gap, LONGEST_SERIES, MOST_STRUCTURES, OnuId, Profile, Words,
-};
+use pon_units::{AllocId, FRAME_WORDS, Gap, MAX_SERIES, MAX_STRUCTURES, OnuId, Profile, Words};
 
 /// Writes to the front of `out` the structures of the map that grants each Alloc-ID its payload words, 0 to 9,720 of 4
 /// bytes, and one word for its report; returns the number of structures. The bursts are in ascending order of ONU-ID,
@@ -20,7 +18,7 @@ use pon_units::{
 pub fn pack(
     gap: Gap,
     profile: Profile,
-    onus: &[(OnuId, ArrayVec<(AllocId, Words), LONGEST_SERIES>)],
+    onus: &[(OnuId, ArrayVec<(AllocId, Words), MAX_SERIES>)],
     out: &mut [Alloc],
 ) -> usize
     requires fit { FitsFrame gap onus.now }
@@ -30,7 +28,7 @@ pub fn pack(
         ≡ map_granting gap profile (grants_of_series onus.now) }
     ensures rest { drop result out.new ≡ drop result out.old }
     ensures sound { AreSound gap (take result out.new) }
-    ensures map { result ≤ MOST_STRUCTURES → IsMap (take result out.new) }
+    ensures map { result ≤ MAX_STRUCTURES → IsMap (take result out.new) }
 {
     let gap_words = gap.get();
     let mut start = gap_words;

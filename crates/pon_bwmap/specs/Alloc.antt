@@ -5,7 +5,7 @@ use Rattle.std.specs.Ordering.{on, eq_of_both}
 use Rattle.std.specs.Cmp.{IsEquivalence, and_equiv, on_equiv, nat_eq_equiv, bool_eq_equiv}
 use Rattle.std.specs.Cmp.Lexicographic.{options_equiv}
 use Rattle.std.proofs.Math.Bool.{beq}
-use Rattle.pon_units.specs.declared.limits.TheConstants.{GREATEST_ALLOC_ID, GREATEST_PROFILE}
+use Rattle.pon_units.specs.declared.limits.TheConstants.{MAX_ALLOC_ID, MAX_PROFILE}
 
 -- the fields of an allocation structure; one without a start continues the series before it
 pub record Alloc : Type 0 where
@@ -19,9 +19,9 @@ pub record Alloc : Type 0 where
 
 -- the ranges of the fields of a structure, except its start
 pub record FitsFields (a : Alloc) : Type 0 where
-  pub id : a.id ≤ GREATEST_ALLOC_ID
+  pub id : a.id ≤ MAX_ALLOC_ID
   pub grant : a.grant ≤ 65535
-  pub profile : a.profile ≤ GREATEST_PROFILE
+  pub profile : a.profile ≤ MAX_PROFILE
 
 -- whether two structures are equal, field by field
 abbrev pub structure_eq : Alloc → Alloc → Bool

@@ -1,7 +1,7 @@
 -- The first fault of the bytes of a bandwidth map, from left to right.
 use Rattle.std.specs.Prelude.{◌≡◌, ℕ, ◌+◌, ◌*◌, ◌^◌, ◌<◌, ◌≤◌, ◌⊎◌, List, length, drop, Some}
 use Rattle.std.specs.Int.{w64, from_be_bytes}
-use Rattle.pon_units.specs.declared.limits.TheConstants.{MOST_STRUCTURES}
+use Rattle.pon_units.specs.declared.limits.TheConstants.{MAX_STRUCTURES}
 use Rattle.pon_hec.specs.HeaderCode.{Reads}
 use Rattle.pon_xgtc.specs.Header.{IsHeaderFault}
 use Rattle.pon_xgtc.specs.HLend.{HLend, ReadsHLend}
@@ -50,13 +50,13 @@ pub record IsFaultOfRows (bytes : List ℕ) (fault : MapFault) : Type 0 where
 
 -- fewer bytes than the head has, or than it announces
 abbrev pub IsShort : List ℕ → Type 0
-IsShort bytes = (length bytes < 4) ⊎ ((head : HLend) × (corrected : ℕ) × ReadsHLend bytes head corrected × (head.n ≤ MOST_STRUCTURES) × (length bytes < map_size head))
+IsShort bytes = (length bytes < 4) ⊎ ((head : HLend) × (corrected : ℕ) × ReadsHLend bytes head corrected × (head.n ≤ MAX_STRUCTURES) × (length bytes < map_size head))
 
 -- this is the first fault of the bytes
 abbrev pub IsFirstMapFault : List ℕ → MapFault → Type 0
 IsFirstMapFault bytes Short = IsShort bytes
 IsFirstMapFault bytes HeadHec = IsHeaderFault bytes Hec
-IsFirstMapFault bytes TooMany = (head : HLend) × (corrected : ℕ) × ReadsHLend bytes head corrected × (MOST_STRUCTURES < head.n)
+IsFirstMapFault bytes TooMany = (head : HLend) × (corrected : ℕ) × ReadsHLend bytes head corrected × (MAX_STRUCTURES < head.n)
 IsFirstMapFault bytes (StructHec k) = IsFaultOfRows bytes (StructHec k)
 IsFirstMapFault bytes (SeriesStart k) = IsFaultOfRows bytes (SeriesStart k)
 IsFirstMapFault bytes (StartRange k) = IsFaultOfRows bytes (StartRange k)

@@ -2,7 +2,7 @@
 -- bytes.
 use Rattle.std.specs.Prelude.{◌≡◌, ℕ, ◌+◌, ◌*◌, ◌^◌, ◌<◌, ◌≤◌, List, [], ◌∷◌, length, drop, IfSome}
 use Rattle.std.specs.Int.{w64, from_be_bytes}
-use Rattle.pon_units.specs.declared.limits.TheConstants.{GREATEST_ALLOC_ID, GREATEST_PROFILE, MOST_STRUCTURES}
+use Rattle.pon_units.specs.declared.limits.TheConstants.{MAX_ALLOC_ID, MAX_PROFILE, MAX_STRUCTURES}
 use Rattle.pon_hec.specs.HeaderCode.{Reads}
 use Rattle.pon_xgtc.specs.HLend.{HLend, ReadsHLend}
 use Rattle.pon_bwmap.specs.Alloc.{Alloc}
@@ -11,10 +11,10 @@ use Rattle.pon_bwmap.specs.MapRules.{IsMap}
 
 -- the ranges of the fields of a structure; a start of all ones means no start
 pub record FitsStructure (a : Alloc) : Type 0 where
-  pub id : a.id ≤ GREATEST_ALLOC_ID
+  pub id : a.id ≤ MAX_ALLOC_ID
   pub start : IfSome a.start (λ start. start < 0xffff)
   pub grant : a.grant ≤ 65535
-  pub profile : a.profile ≤ GREATEST_PROFILE
+  pub profile : a.profile ≤ MAX_PROFILE
 
 -- the first 8 bytes read as this structure, with this number of corrected bits
 pub record ReadsStructure (bytes : List ℕ) (a : Alloc) (places : ℕ) : Type 0 where
@@ -37,11 +37,11 @@ pub record ReadsMapRows (bytes : List ℕ) (count : ℕ) (rows : List Alloc) (co
 abbrev pub map_size : HLend → ℕ
 map_size head = 4 + 8 * head.n + 48 * head.p
 
--- the bytes begin with this head of a map, which announces at most MOST_STRUCTURES structures, and contain all that it
+-- the bytes begin with this head of a map, which announces at most MAX_STRUCTURES structures, and contain all that it
 -- announces
 pub record ReadsWholeHead (bytes : List ℕ) (head : HLend) (corrected : ℕ) : Type 0 where
   pub reads : ReadsHLend bytes head corrected
-  pub count : head.n ≤ MOST_STRUCTURES
+  pub count : head.n ≤ MAX_STRUCTURES
   pub whole : map_size head ≤ length bytes
 
 -- the bytes begin with this map, with this number of corrected bits in its header words and this number of bytes

@@ -1,4 +1,4 @@
-use pon_units::{GREATEST_ALLOC_ID, GREATEST_PROFILE};
+use pon_units::{MAX_ALLOC_ID, MAX_PROFILE};
 use std::marker::Model;
 
 /// An allocation structure of a bandwidth map (ITU-T G.987.3): the grant of one Alloc-ID.
@@ -15,7 +15,7 @@ pub struct Alloc {
 
 impl Model for Alloc {
     ghost use Rattle.std.specs.Prelude.{◌≤◌};
-    ghost use Rattle.pon_units.specs.declared.limits.TheConstants.{GREATEST_ALLOC_ID, GREATEST_PROFILE};
+    ghost use Rattle.pon_units.specs.declared.limits.TheConstants.{MAX_ALLOC_ID, MAX_PROFILE};
     ghost use Rattle.pon_bwmap.specs.Alloc.{Alloc};
 
     ghost Value = { Alloc };
@@ -30,7 +30,7 @@ impl Model for Alloc {
       profile = a.profile;
     } };
 
-    ghost invariant = { λ a. (a.id ≤ GREATEST_ALLOC_ID) × (a.profile ≤ GREATEST_PROFILE) };
+    ghost invariant = { λ a. (a.id ≤ MAX_ALLOC_ID) × (a.profile ≤ MAX_PROFILE) };
 
     ghost inverse = { λ v. record {
       id = v.id;
@@ -57,7 +57,7 @@ impl Alloc {
         fwi: bool,
         profile: u8,
     ) -> Option<Self>
-        ensures { SomeIff result ((id ≤ GREATEST_ALLOC_ID) × (profile ≤ GREATEST_PROFILE)) record {
+        ensures { SomeIff result ((id ≤ MAX_ALLOC_ID) × (profile ≤ MAX_PROFILE)) record {
           id = id;
           dbru = dbru;
           ploam = ploam;
@@ -67,7 +67,7 @@ impl Alloc {
           profile = profile;
         } }
     {
-        if id > GREATEST_ALLOC_ID || profile > GREATEST_PROFILE {
+        if id > MAX_ALLOC_ID || profile > MAX_PROFILE {
             return None;
         }
         Some(Alloc {
@@ -83,8 +83,8 @@ impl Alloc {
 
     /// Makes a structure that requests a report and no message.
     pub fn polled(id: u16, start: Option<u16>, grant: u16, profile: u8) -> Self
-        requires id { id ≤ GREATEST_ALLOC_ID }
-        requires profile { profile ≤ GREATEST_PROFILE }
+        requires id { id ≤ MAX_ALLOC_ID }
+        requires profile { profile ≤ MAX_PROFILE }
         ensures { result ≡ record {
           id = id;
           dbru = true;
@@ -109,7 +109,7 @@ impl Alloc {
     /// Alloc-ID, 0 to 16,383.
     pub fn id(&self) -> u16
         ensures value { result ≡ self.now.id }
-        ensures range { result ≤ GREATEST_ALLOC_ID }
+        ensures range { result ≤ MAX_ALLOC_ID }
     {
         self.id
     }
@@ -154,7 +154,7 @@ impl Alloc {
     /// Burst profile, 0 to 3.
     pub fn profile(&self) -> u8
         ensures value { result ≡ self.now.profile }
-        ensures range { result ≤ GREATEST_PROFILE }
+        ensures range { result ≤ MAX_PROFILE }
     {
         self.profile
     }

@@ -13,7 +13,7 @@ use crate::fault::MapFault;
 use crate::map::Map;
 use crate::rules::{next_place, start_fault};
 use pon_hec::open64;
-use pon_units::MOST_STRUCTURES;
+use pon_units::MAX_STRUCTURES;
 use pon_xgtc::{HLend, HeadFault};
 use std::alloc::Global;
 
@@ -60,7 +60,7 @@ fn read_head(bytes: &[u8]) -> Result<(HLend, u8), MapFault>
         Err(HeadFault::Short) => return Err(MapFault::Short),
         Err(HeadFault::Hec) => return Err(MapFault::HeadHec),
     };
-    if usize::from(head.n()) > MOST_STRUCTURES {
+    if usize::from(head.n()) > MAX_STRUCTURES {
         return Err(MapFault::TooMany);
     }
     if bytes.len() < size(&head) {
@@ -86,7 +86,7 @@ fn room_for(alloc: Global, count: usize) -> Option<Vec<Alloc>>
 // of them even without room, since a fault of a structure is returned before `Memory`.
 fn read_rows(room: Option<Vec<Alloc>>, bytes: &[u8], count: usize) -> Result<(Map, u32), MapFault>
     requires room { IfSome room (λ v. v.items ≡ []) }
-    requires count { count ≤ MOST_STRUCTURES }
+    requires count { count ≤ MAX_STRUCTURES }
     requires whole { 8 * count ≤ length bytes.now }
     ensures ok { IfOk result (λ r. ReadsMapRows bytes.now count r.0 r.1) }
     ensures small { IfOk result (λ r. r.1 ≤ 1024) }

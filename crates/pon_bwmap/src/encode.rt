@@ -6,7 +6,7 @@ ghost use Rattle.pon_hec.specs.HeaderCode.{sealed};
 use crate::alloc::Alloc;
 use crate::map::Map;
 use pon_hec::seal64;
-use pon_units::MOST_STRUCTURES;
+use pon_units::MAX_STRUCTURES;
 use pon_xgtc::HLend;
 use std::alloc::{AllocError, Global};
 
@@ -48,7 +48,7 @@ fn put(room: &mut [u8], at: usize, piece: &[u8])
 }
 
 fn head(count: usize) -> HLend
-    requires { count ≤ MOST_STRUCTURES }
+    requires { count ≤ MAX_STRUCTURES }
     ensures { result ≡ record { n = count; p = 0 } }
 {
     HLend::new(count as u16, 0).unwrap()

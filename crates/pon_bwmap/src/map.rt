@@ -1,6 +1,6 @@
 use crate::alloc::Alloc;
 use crate::fault::MapFault;
-use crate::rules::{fit_ranges, rows_fault};
+use crate::rules::{prove_ranges, rows_fault};
 use std::alloc::{AllocError, Global};
 use std::marker::Model;
 
@@ -70,7 +70,7 @@ impl Map {
         requires { IsMap rows.items }
         ensures { result ≡ rows.items }
     {
-        fit_ranges(&rows);
+        prove_ranges(&rows);
         Map { rows }
     }
 

@@ -4,14 +4,14 @@ ghost use Rattle.pon_bwmap.specs.MapRules.{IsMap, IsRowsFault, start_fault};
 
 use crate::alloc::Alloc;
 use crate::fault::MapFault;
-use pon_units::{FRAME_WORDS, LONGEST_SERIES, MOST_STRUCTURES};
+use pon_units::{FRAME_WORDS, MAX_SERIES, MAX_STRUCTURES};
 
 // Finds the first fault of the structures.
 pub(crate) fn rows_fault(rows: &[Alloc]) -> Option<MapFault>
     ensures none { IsNone result ↔ IsMap rows.now }
     ensures fault { IfSome result (IsRowsFault rows.now) }
 {
-    if rows.len() > MOST_STRUCTURES {
+    if rows.len() > MAX_STRUCTURES {
         return Some(MapFault::TooMany);
     }
     let mut place = 0;
@@ -27,7 +27,7 @@ pub(crate) fn rows_fault(rows: &[Alloc]) -> Option<MapFault>
 }
 
 // Proves that each structure of a map fits its ranges, by reading its fields. It computes nothing.
-pub(crate) fn fit_ranges(rows: &[Alloc])
+pub(crate) fn prove_ranges(rows: &[Alloc])
     requires { IsMap rows.now }
     ensures { All FitsStructure rows.now }
 {
@@ -38,7 +38,7 @@ pub(crate) fn fit_ranges(rows: &[Alloc])
 
 // Computes the place in its series of structure k, which follows one at the place `before`.
 pub(crate) fn next_place(k: usize, start: Option<u16>, before: usize) -> usize
-    requires { before < LONGEST_SERIES }
+    requires { before < MAX_SERIES }
     ensures first { k ≡ 0 → result ≡ 0 }
     ensures starts { IsSome start → result ≡ 0 }
     ensures continues { 0 < k → IsNone start → result ≡ before + 1 }
@@ -58,7 +58,7 @@ pub(crate) fn start_fault(k: usize, start: Option<u16>, place: usize) -> Option<
         Some(start) if start >= FRAME_WORDS => Some(MapFault::StartRange { k }),
         Some(_) => None,
         None if k == 0 => Some(MapFault::SeriesStart { k }),
-        None if place >= LONGEST_SERIES => Some(MapFault::SeriesLong { k }),
+        None if place >= MAX_SERIES => Some(MapFault::SeriesLong { k }),
         None => None,
     }
 }

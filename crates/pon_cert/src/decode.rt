@@ -6,7 +6,7 @@ ghost use Rattle.pon_cert.specs.Reading.{ReadsAs, ReadsCert, IsByteFault, IsTail
 ghost use Rattle.pon_cert.specs.declared.cert.CertReadFault.{CertReadFault};
 
 use crate::cert::{CertReadFault, ClassCert, Level, MapCert};
-use crate::problem::MOST_ITEMS;
+use crate::problem::MAX_ITEMS;
 use crate::sat::Sat;
 use pon_units::Frac;
 use std::alloc::{AllocError, Global};
@@ -89,7 +89,7 @@ fn read_class(bytes: &[u8]) -> Result<(LentClass<'_>, &[u8]), CertReadFault>
     };
     let (count, rest) = read_u16(rest)?;
     let count = usize::from(count);
-    if count > MOST_ITEMS {
+    if count > MAX_ITEMS {
         return Err(CertReadFault::Form);
     }
     let (flags, rest) = read_flags(rest, count)?;

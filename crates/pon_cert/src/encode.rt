@@ -4,15 +4,15 @@ ghost use Rattle.std.specs.Int.{w64, to_be_bytes};
 ghost use Rattle.pon_cert.specs.Spelling.{flag_byte, level_bytes, class_bytes, cert_bytes};
 
 use crate::cert::{ClassCert, Level, MapCert};
-use crate::problem::MOST_ITEMS;
+use crate::problem::MAX_ITEMS;
 use std::alloc::{AllocError, Global};
 
 impl MapCert {
     /// Encodes the certificate: its non-assured class, then its best-effort class. A class has 19 bytes, and one for
     /// each item. Each class must have at most 512 items. `AllocError` if memory is refused.
     pub fn to_bytes(&self, alloc: Global) -> Result<Vec<u8>, AllocError>
-        requires non_assured { length self.now.na.saturated ≤ MOST_ITEMS }
-        requires best_effort { length self.now.be.saturated ≤ MOST_ITEMS }
+        requires non_assured { length self.now.na.saturated ≤ MAX_ITEMS }
+        requires best_effort { length self.now.be.saturated ≤ MAX_ITEMS }
         ensures { IfOk result (λ bytes. bytes.items ≡ cert_bytes self.now) }
     {
         let mut bytes = Vec::new(alloc);
@@ -24,7 +24,7 @@ impl MapCert {
 
 // Appends the bytes of a class.
 fn put_class(bytes: &mut Vec<u8>, class: &ClassCert) -> Result<(), AllocError>
-    requires { length class.now.saturated ≤ MOST_ITEMS }
+    requires { length class.now.saturated ≤ MAX_ITEMS }
     ensures { IsOk result → bytes.new.items ≡ bytes.old.items ++ class_bytes class.now }
 {
     let saturated = class.saturated.as_slice();

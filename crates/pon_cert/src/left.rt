@@ -1,14 +1,14 @@
 // The surplus that a class leaves.
-ghost use Rattle.std.specs.Prelude.{◌≡◌, ◌+◌, ◌*◌, ◌≤◌, All, length, sum_by};
+ghost use Rattle.std.specs.Prelude.{◌≡◌, ◌+◌, ◌≤◌, All, length, sum_by};
 ghost use Rattle.pon_cert.specs.Problem.{IsItem, IsProblem};
 ghost use Rattle.pon_cert.specs.Certificate.{left_surplus};
 
 use crate::cert::Level;
-use crate::problem::{Item, MOST_ITEMS};
+use crate::problem::{Item, MAX_ITEMS};
 
 // Computes the sum of the caps of the items.
 fn caps_sum(items: &[Item]) -> u64
-    requires few { length items.now ≤ MOST_ITEMS }
+    requires few { length items.now ≤ MAX_ITEMS }
     requires each { All IsItem items.now }
     ensures { result ≡ sum_by (λ item. item.cap) items.now }
 {

@@ -16,5 +16,5 @@ mod sat;
 
 pub use cert::{CertReadFault, ClassCert, Level, MapCert};
 pub use left::left_surplus;
-pub use problem::{Item, MOST_ITEMS, is_problem};
+pub use problem::{Item, MAX_ITEMS, is_problem};
 pub use sat::Sat;

@@ -3,7 +3,7 @@ ghost use Rattle.std.specs.Prelude.{◌≡◌, ◌≤◌, ◌<◌, ◌++◌, ◌
 ghost use Rattle.pon_cert.specs.Spelling.{level_text, saturated_names, names_text, class_text, cert_text};
 
 use crate::cert::{ClassCert, Level, MapCert};
-use crate::problem::MOST_ITEMS;
+use crate::problem::MAX_ITEMS;
 use pon_units::AllocId;
 use std::alloc::{AllocError, Global};
 
@@ -19,8 +19,8 @@ impl MapCert {
     ) -> Result<String, AllocError>
         requires non_assured { length self.now.na.saturated ≡ length na.now }
         requires best_effort { length self.now.be.saturated ≡ length be.now }
-        requires non_assured_count { length na.now ≤ MOST_ITEMS }
-        requires best_effort_count { length be.now ≤ MOST_ITEMS }
+        requires non_assured_count { length na.now ≤ MAX_ITEMS }
+        requires best_effort_count { length be.now ≤ MAX_ITEMS }
         ensures { IfOk result (λ text. string_bytes text ≡ cert_text na.now be.now self.now) }
     {
         let na = class_text(alloc, &self.na, na)?;

@@ -4,7 +4,7 @@ ghost use Rattle.pon_cert.specs.Problem.{IsItem, IsProblem};
 use pon_units::LINE_RATE;
 
 /// Maximum number of items of a class problem (this project's choice).
-pub const MOST_ITEMS: usize = 512;
+pub const MAX_ITEMS: usize = 512;
 
 /// An item of a class problem: a weight above 0, and a cap in kbit/s, the most surplus that it can use.
 ///
@@ -26,5 +26,5 @@ fn is_item(item: Item) -> bool
 pub fn is_problem(items: &[Item], surplus: u64) -> bool
     ensures { IsTrue result ↔ IsProblem items.now surplus }
 {
-    items.len() <= MOST_ITEMS && surplus <= LINE_RATE && items.iter().all(|item| is_item(*item))
+    items.len() <= MAX_ITEMS && surplus <= LINE_RATE && items.iter().all(|item| is_item(*item))
 }

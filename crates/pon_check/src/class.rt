@@ -9,7 +9,7 @@ ghost use Rattle.pon_check.specs.Faults.{IsFirstClassFault, IsSumFault, FailsFir
 
 use crate::fault::CertFault;
 use crate::sums::{total_of, weight_left};
-use pon_cert::{ClassCert, Item, Level, MOST_ITEMS};
+use pon_cert::{ClassCert, Item, Level, MAX_ITEMS};
 
 // Returns whether an item keeps the rule of its flag: at a fraction, a saturated item's cap is at most its share at the
 // level, and the cap of any other item is above it; at a level of all each item is saturated.
@@ -46,7 +46,7 @@ fn first_failing(level: &Level, items: &[Item], saturated: &[bool]) -> Option<us
 // Returns whether the denominator of a fraction is the weight of the unsaturated items, and above 0.
 fn denominator_holds(level: &Level, items: &[Item], saturated: &[bool]) -> bool
     requires lengths { length items.now ≡ length saturated.now }
-    requires count { length items.now ≤ MOST_ITEMS }
+    requires count { length items.now ≤ MAX_ITEMS }
     requires each { All IsItem items.now }
     ensures { IsTrue result ↔ DenominatorHolds level.now items.now saturated.now }
 {

@@ -4,12 +4,12 @@ ghost use Rattle.std.specs.List.{zip};
 ghost use Rattle.pon_cert.specs.Problem.{IsItem};
 ghost use Rattle.pon_cert.specs.Certificate.{amount, unsaturated_weight};
 
-use pon_cert::{Item, Level, MOST_ITEMS};
+use pon_cert::{Item, Level, MAX_ITEMS};
 
 // Computes the sum of the weights of the unsaturated items.
 pub fn weight_left(items: &[Item], saturated: &[bool]) -> u64
     requires lengths { length items.now ≡ length saturated.now }
-    requires count { length items.now ≤ MOST_ITEMS }
+    requires count { length items.now ≤ MAX_ITEMS }
     requires each { All IsItem items.now }
     ensures { result ≡ unsaturated_weight items.now saturated.now }
 {
@@ -43,7 +43,7 @@ fn amount_of(level: &Level, item: Item, saturated: bool) -> u128
 // Computes the sum of the rates of all items, times the denominator.
 pub fn total_of(level: &Level, items: &[Item], saturated: &[bool]) -> u128
     requires lengths { length items.now ≡ length saturated.now }
-    requires count { length items.now ≤ MOST_ITEMS }
+    requires count { length items.now ≤ MAX_ITEMS }
     requires each { All IsItem items.now }
     ensures { result ≡ sum (map (λ p. amount level.now p.0 p.1) (zip items.now saturated.now)) }
 {

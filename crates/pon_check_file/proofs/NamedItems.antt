@@ -2,12 +2,12 @@
 use Rattle.std.proofs.Common.{◌≡◌, ℕ, zero, suc, ◌<◌, ◌≤◌, Bool, true, false, List, [], ◌∷◌, length, map, refl, ap, sym, ◌∙◌, arith, Option, Some, None}
 use Rattle.std.specs.Prelude.{◌↔◌}
 use Rattle.std.proofs.lemmas.Bool.{eq-eqb, eqb-true, ne_eqb}
-use Rattle.pon_check_file.specs.Parts.{behind, with_first}
+use Rattle.pon_check_file.specs.Parts.{left_after, with_first}
 use Rattle.pon_text.specs.Lines.{number_of}
 use Rattle.pon_check_file.specs.CheckLines.{WritesFlags, flags_from, indexes_from, is_index, is_next}
 
 -- a flag put before others
-named_then : (k : ℕ) (b : Bool) (ps : List (List ℕ)) (gs : List Bool) → is_next k ps ≡ b → map number_of (behind b ps) ≡ map Some (indexes_from (suc k) gs) → map number_of ps ≡ map Some (indexes_from k (b ∷ gs))
+named_then : (k : ℕ) (b : Bool) (ps : List (List ℕ)) (gs : List Bool) → is_next k ps ≡ b → map number_of (left_after b ps) ≡ map Some (indexes_from (suc k) gs) → map number_of ps ≡ map Some (indexes_from k (b ∷ gs))
 named_then k true [] gs e m = absurd (cc)
 named_then k true (p ∷ ps) gs e m = this (number_of p) refl e
   where
@@ -20,16 +20,16 @@ written : (k n : ℕ) (ps : List (List ℕ)) (fs : List Bool) → flags_from k n
 unfolding flags_from
 written k zero [] fs e = let none : [] ≡ fs = cc in (ap length (sym none), ap (λ fs. map Some (indexes_from k fs)) none)
 written k zero (p ∷ ps) fs e = absurd (cc)
-written k (suc n) ps fs e = by (λ b gs. written (suc k) n (behind b ps) gs) (is_next k ps) refl (flags_from (suc k) n (behind (is_next k ps) ps)) refl e
+written k (suc n) ps fs e = by (λ b gs. written (suc k) n (left_after b ps) gs) (is_next k ps) refl (flags_from (suc k) n (left_after (is_next k ps) ps)) refl e
   where
     same_list : (xs ys : List Bool) → Some xs ≡ Some ys → xs ≡ ys
     same_list xs ys e = cc
 
-    by : ((b : Bool) (gs : List Bool) → flags_from (suc k) n (behind b ps) ≡ Some gs → (length gs ≡ n) × (map number_of (behind b ps) ≡ map Some (indexes_from (suc k) gs))) →
-        (b : Bool) → is_next k ps ≡ b → (r : Option (List Bool)) → flags_from (suc k) n (behind (is_next k ps) ps) ≡ r → with_first (is_next k ps) r ≡ Some fs → (length fs ≡ suc n) × (map number_of ps ≡ map Some (indexes_from k fs))
+    by : ((b : Bool) (gs : List Bool) → flags_from (suc k) n (left_after b ps) ≡ Some gs → (length gs ≡ n) × (map number_of (left_after b ps) ≡ map Some (indexes_from (suc k) gs))) →
+        (b : Bool) → is_next k ps ≡ b → (r : Option (List Bool)) → flags_from (suc k) n (left_after (is_next k ps) ps) ≡ r → with_first (is_next k ps) r ≡ Some fs → (length fs ≡ suc n) × (map number_of ps ≡ map Some (indexes_from k fs))
     by more b is None rest e = absurd (cc)
     by more b is (Some gs) rest e =
-        let two = more b gs (ap (λ b. flags_from (suc k) n (behind b ps)) (sym is) ∙ rest) in
+        let two = more b gs (ap (λ b. flags_from (suc k) n (left_after b ps)) (sym is) ∙ rest) in
         let same : b ∷ gs ≡ fs = ap (λ b. b ∷ gs) (sym is) ∙ same_list (is_next k ps ∷ gs) fs e in
         (ap length (sym same) ∙ ap suc two.0, named_then k b ps gs is two.1 ∙ ap (λ fs. map Some (indexes_from k fs)) same)
 

@@ -4,7 +4,7 @@ use Rattle.std.specs.Prelude.{◌==◌, is_some}
 use Rattle.std.specs.Borrow.{Bor}
 use Rattle.std.proofs.lemmas.List.{append-nil}
 use Rattle.std.proofs.lemmas.List.Splits.{length-slice_split}
-use Rattle.pon_check_file.specs.Parts.{behind, left_of, with_first, after_flags}
+use Rattle.pon_check_file.specs.Parts.{left_after, left_of, with_first, after_flags}
 use Rattle.pon_check_file.specs.CheckLines.{is_next, flags_from}
 
 -- the flags of the items from item k on, after the flags found already
@@ -30,18 +30,18 @@ none_given n parts left e = record {
 }
 
 step_given : (k n more : ℕ) (all : Option (List Bool)) (done : List Bool) (left : List (List ℕ)) → k + more ≡ n → k < n → all ≡ after_flags done (flags_from k more left) →
-    Given (suc k) n all (done ++ is_next k left ∷ []) (behind (is_next k left) left)
+    Given (suc k) n all (done ++ is_next k left ∷ []) (left_after (is_next k left) left)
 unfolding flags_from
 step_given k n zero all done left count l rest = absurd (omega (arith, count, l))
 step_given k n (suc more) all done left count l rest = record {
   more = more;
   count = omega (arith, count);
-  rest = rest ∙ after_one done (is_next k left) (flags_from (suc k) more (behind (is_next k left) left));
+  rest = rest ∙ after_one done (is_next k left) (flags_from (suc k) more (left_after (is_next k left) left));
 }
 
 -- one more item
 pub one_given : (k n : ℕ) (all : Option (List Bool)) (done new : List Bool) (left after : List (List ℕ)) (b : Bool) → Given k n all done left → k < n →
-    b ≡ is_next k left → after ≡ behind b left → new ≡ done ++ b ∷ [] → Given (k + 1) n all new after
+    b ≡ is_next k left → after ≡ left_after b left → new ≡ done ++ b ∷ [] → Given (k + 1) n all new after
 one_given k n all done new left after b g l named rest pushed =
     let step = step_given k n g.more all done left g.count l g.rest in
     rw (add-one, pushed, rest, named) step

@@ -6,7 +6,7 @@ use Rattle.std.specs.List.{list_any}
 use Rattle.std.proofs.lemmas.List.{append-nil, length-take-le, length_push}
 use Rattle.std.proofs.lemmas.List.Folds.{list_any-append}
 use Rattle.pon_device.specs.Device.{Consumes, IsAtEnd}
-use Rattle.pon_stream.proofs.DeviceBytes.{consumes_more}
+use Rattle.pon_device.proofs.DeviceBytes.{consumes_more}
 use Rattle.pon_text.specs.Lines.{file_lines, lines_of, onto, without_return}
 use Rattle.pon_check_file.specs.CheckFiles.{file_of}
 use Rattle.pon_check_file.specs.Stages.{Decides, EndsLine, Grows, IsOpen, TakesByte, goes_on, lines_before, opens, said}

@@ -9,11 +9,11 @@ use Rattle.pon_cert.specs.declared.cert.ClassCert.{ClassCert}
 use Rattle.pon_check.specs.Faults.{IsFirstClassFault, cert_fault_text}
 use Rattle.pon_check.specs.declared.fault.CertFault.{CertFault}
 use Rattle.pon_text.specs.Lines.{file_lines}
-use Rattle.pon_stream.specs.Streams.{IsBeginning}
-use Rattle.pon_stream.specs.declared.fault.PlanFault.{PlanFault}
-use Rattle.pon_stream.specs.declared.fault.PlanFault.TheVariants.{Read, Write, Memory}
+use Rattle.pon_device.specs.Streams.{IsBeginning}
+use Rattle.pon_device.specs.declared.fault.DeviceFault.{DeviceFault}
+use Rattle.pon_device.specs.declared.fault.DeviceFault.TheVariants.{Read, Write, Memory}
 use Rattle.pon_check_file.specs.CheckLines.{surplus_of, item_on_line, level_on_line, flags_of}
-use Rattle.pon_cert.specs.declared.problem.TheConstants.{MOST_ITEMS}
+use Rattle.pon_cert.specs.declared.problem.TheConstants.{MAX_ITEMS}
 
 -- a problem, and a certificate to be checked for it
 pub record Filed : Type 0 where
@@ -31,7 +31,7 @@ abbrev pub on_line : {T : Type 0} → ℕ → Option T → Result T ℕ
 on_line n None = Err n
 on_line n (Some x) = Ok x
 
--- the items of the lines up to the first line that is not an item, and at most MOST_ITEMS of them
+-- the items of the lines up to the first line that is not an item, and at most MAX_ITEMS of them
 abbrev pub and_others : Option Item → List Item → List Item
 and_others None is = []
 and_others (Some i) is = i ∷ is
@@ -41,7 +41,7 @@ items_in_row [] = []
 items_in_row (l ∷ ls) = and_others (item_on_line l) (items_in_row ls)
 
 abbrev pub items_of : List (List ℕ) → List Item
-items_of ls = take MOST_ITEMS (items_in_row ls)
+items_of ls = take MAX_ITEMS (items_in_row ls)
 
 -- all lines are empty, or the number of the first that is not, if the first line has the number n
 abbrev pub are_empty : ℕ → List (List ℕ) → Result (Unit {0}) ℕ
@@ -65,28 +65,28 @@ file_of ls = do
 
 -- the answer line of a file: yes for a certificate, whose assignment is the fairest share, or why not; 10 is the line
 -- feed
-abbrev pub IsAnswer : Result Filed ℕ → Bool → List ℕ → Type 0
-IsAnswer (Err line) accepted text = (accepted ≡ false) × (text ≡ codes "no Syntax " ++ decimal line ++ 10 ∷ [])
-IsAnswer (Ok f) true text =
+abbrev pub IsFileAnswer : Result Filed ℕ → Bool → List ℕ → Type 0
+IsFileAnswer (Err line) accepted text = (accepted ≡ false) × (text ≡ codes "no Syntax " ++ decimal line ++ 10 ∷ [])
+IsFileAnswer (Ok f) true text =
     IsCertificate f.items f.surplus f.cert × IsFairest f.items f.surplus (spelled f.items f.cert) × (text ≡ codes "yes" ++ 10 ∷ [])
-IsAnswer (Ok f) false text =
+IsFileAnswer (Ok f) false text =
     (fault : CertFault) × IsFirstClassFault f.items f.surplus f.cert fault × (text ≡ codes "no " ++ cert_fault_text fault ++ 10 ∷ [])
 
 -- the bytes have this answer: at the end of the input, or `no` whatever bytes follow
 abbrev pub IsDecided : List ℕ → Option (List ℕ) → Bool → List ℕ → Type 0
 IsDecided input left accepted text =
-    (IsAtEnd left × IsAnswer (file_of (file_lines input)) accepted text)
-    ⊎ ((accepted ≡ false) × ((rest : List ℕ) → IsAnswer (file_of (file_lines (input ++ rest))) accepted text))
+    (IsAtEnd left × IsFileAnswer (file_of (file_lines input)) accepted text)
+    ⊎ ((accepted ≡ false) × ((rest : List ℕ) → IsFileAnswer (file_of (file_lines (input ++ rest))) accepted text))
 
 -- the bytes written for the bytes read, by the result
-abbrev pub IsChecked : List ℕ → Option (List ℕ) → List ℕ → Result Bool PlanFault → Type 0
+abbrev pub IsChecked : List ℕ → Option (List ℕ) → List ℕ → Result Bool DeviceFault → Type 0
 IsChecked input left written (Ok accepted) = IsDecided input left accepted written
 IsChecked input left written (Err Read) = written ≡ []
 IsChecked input left written (Err Memory) = written ≡ []
 IsChecked input left written (Err Write) = (accepted : Bool) × (text : List ℕ) × IsDecided input left accepted text × IsBeginning written text
 
 -- some bytes were read, and a line was written for them
-pub record Checked (left_old left_new held_old held_new : Option (List ℕ)) (result : Result Bool PlanFault) : Type 0 where
+pub record Checked (left_old left_new held_old held_new : Option (List ℕ)) (result : Result Bool DeviceFault) : Type 0 where
   pub input : List ℕ
   pub written : List ℕ
   pub read : Consumes left_old left_new input
@@ -94,7 +94,7 @@ pub record Checked (left_old left_new held_old held_new : Option (List ℕ)) (re
   pub text : IsChecked input left_new written result
 
 -- `yes` is answered only at the end of the input
-abbrev pub ReadsToEnd : Option (List ℕ) → Result Bool PlanFault → Type 0
+abbrev pub ReadsToEnd : Option (List ℕ) → Result Bool DeviceFault → Type 0
 ReadsToEnd left (Ok true) = IsAtEnd left
 ReadsToEnd left (Ok false) = Unit {0}
 ReadsToEnd left (Err fault) = Unit {0}

@@ -5,7 +5,7 @@ use Rattle.pon_lists.specs.OptionSteps.{◌>>=◌}
 use Rattle.pon_cert.specs.declared.problem.Item.{Item}
 use Rattle.pon_cert.specs.declared.cert.Level.{Level}
 use Rattle.pon_cert.specs.declared.cert.Level.TheVariants as level
-use Rattle.pon_check_file.specs.Parts.{behind, parts_of, with_first}
+use Rattle.pon_check_file.specs.Parts.{left_after, parts_of, with_first}
 use Rattle.pon_text.specs.Cuts.{cut_at, follows}
 use Rattle.pon_text.specs.Lines.{number_of}
 use Rattle.pon_units.specs.declared.limits.TheConstants.{LINE_RATE}
@@ -54,7 +54,7 @@ is_next k (p ∷ ps) = is_index k (number_of p)
 unfoldable pub flags_from : ℕ → ℕ → List (List ℕ) → Option (List Bool)
 flags_from k zero [] = Some []
 flags_from k zero (p ∷ ps) = None
-flags_from k (suc n) ps = with_first (is_next k ps) (flags_from (suc k) n (behind (is_next k ps) ps))
+flags_from k (suc n) ps = with_first (is_next k ps) (flags_from (suc k) n (left_after (is_next k ps) ps))
 
 -- the indexes of the saturated items, if the first flag is that of item k
 abbrev pub indexes_from : ℕ → List Bool → List ℕ

@@ -13,10 +13,10 @@ left_of (Some t) = slice_split (λ b. b == 44) t.now
 abbrev pub parts_of : List ℕ → List (List ℕ)
 parts_of set = if bytes_eq set (codes "-") then [] else slice_split (λ b. b == 44) set
 
-abbrev pub behind : Bool → List (List ℕ) → List (List ℕ)
-behind true (p ∷ ps) = ps
-behind true [] = []
-behind false ps = ps
+abbrev pub left_after : Bool → List (List ℕ) → List (List ℕ)
+left_after true (p ∷ ps) = ps
+left_after true [] = []
+left_after false ps = ps
 
 abbrev pub with_first : Bool → Option (List Bool) → Option (List Bool)
 with_first b None = None

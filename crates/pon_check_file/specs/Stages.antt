@@ -5,12 +5,12 @@ use Rattle.pon_lists.specs.ResultSteps.{◌>>=◌}
 use Rattle.pon_device.specs.Device.{Consumes, IsAtEnd}
 use Rattle.pon_cert.specs.declared.problem.Item.{Item}
 use Rattle.pon_cert.specs.declared.cert.Level.{Level}
-use Rattle.pon_stream.specs.declared.fault.PlanFault.{PlanFault}
-use Rattle.pon_stream.specs.declared.fault.PlanFault.TheVariants.{Read, Write, Memory}
+use Rattle.pon_device.specs.declared.fault.DeviceFault.{DeviceFault}
+use Rattle.pon_device.specs.declared.fault.DeviceFault.TheVariants.{Read, Write, Memory}
 use Rattle.pon_text.specs.Lines.{file_lines, without_return}
 use Rattle.pon_check_file.specs.CheckLines.{flags_of}
 use Rattle.pon_check_file.specs.CheckFiles.{Filed, are_empty, file_of, file_with, first_spells, items_in_row, on_line}
-use Rattle.pon_cert.specs.declared.problem.TheConstants.{MOST_ITEMS}
+use Rattle.pon_cert.specs.declared.problem.TheConstants.{MAX_ITEMS}
 use Rattle.pon_check_file.specs.declared.file.CheckFile.{CheckFile}
 use Rattle.pon_check_file.specs.declared.file.Parsed.{Parsed}
 use Rattle.pon_check_file.specs.declared.file.Parsed.TheVariants as parsed
@@ -22,7 +22,7 @@ use Rattle.pon_check_file.specs.declared.stage.Stage.TheVariants as stage
 
 -- the content of a file with these lines after a surplus and items
 unfoldable pub behind_items : ℕ → List Item → List (List ℕ) → Result Filed ℕ
-behind_items surplus is ls = file_with surplus (is ++ take (MOST_ITEMS - length is) (items_in_row ls)) (drop (length (take (MOST_ITEMS - length is) (items_in_row ls))) ls)
+behind_items surplus is ls = file_with surplus (is ++ take (MAX_ITEMS - length is) (items_in_row ls)) (drop (length (take (MAX_ITEMS - length is) (items_in_row ls))) ls)
 
 -- the content of a file with these lines after a level
 unfoldable pub behind_level : ℕ → List Item → Level → List (List ℕ) → Result Filed ℕ
@@ -57,11 +57,11 @@ lines_before (stage.Items s) = length s.items.items + 1
 lines_before (stage.Level l) = length l.shared.items.items + 2
 lines_before (stage.Whole w) = w.lines
 
--- the items are at most MOST_ITEMS
+-- the items are at most MAX_ITEMS
 abbrev pub IsFew : Stage → Type 0
 IsFew stage.First = Unit {0}
-IsFew (stage.Items s) = length s.items.items ≤ MOST_ITEMS
-IsFew (stage.Level l) = length l.shared.items.items ≤ MOST_ITEMS
+IsFew (stage.Items s) = length s.items.items ≤ MAX_ITEMS
+IsFew (stage.Level l) = length l.shared.items.items ≤ MAX_ITEMS
 IsFew (stage.Whole w) = Unit {0}
 
 -- a line that fits leads from the old stage to the new one
@@ -76,7 +76,7 @@ Takes old line None = (ls : List (List ℕ)) → goes_on old (line ∷ ls) ≡ E
 Takes old line (Some new) = Fits old line new
 
 -- ---- the open line
--- the items are at most MOST_ITEMS, and the open line has no line feed
+-- the items are at most MAX_ITEMS, and the open line has no line feed
 pub record IsOpen (o : Open) : Type 0 where
   pub few : IsFew o.stage
   pub no_feed : list_any (λ b. b == 10) o.line.items ≡ false
@@ -119,7 +119,7 @@ Decides input left p =
     (IsAtEnd left × (file_of (file_lines input) ≡ said p))
     ⊎ ((n : ℕ) × (said p ≡ Err n) × ((rest : List ℕ) → file_of (file_lines (input ++ rest)) ≡ Err n))
 
-abbrev pub ReadsFile : Option (List ℕ) → Option (List ℕ) → Result Parsed PlanFault → Type 0
+abbrev pub ReadsFile : Option (List ℕ) → Option (List ℕ) → Result Parsed DeviceFault → Type 0
 ReadsFile old new (Ok p) = (input : List ℕ) × Consumes old new input × Decides input new p
 ReadsFile old new (Err Read) = (input : List ℕ) × Consumes old new input
 ReadsFile old new (Err Memory) = (input : List ℕ) × Consumes old new input

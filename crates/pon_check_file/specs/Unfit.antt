@@ -4,14 +4,14 @@ use Rattle.pon_cert.specs.declared.problem.Item.{Item}
 use Rattle.pon_cert.specs.declared.cert.Level.{Level}
 use Rattle.pon_check_file.specs.CheckLines.{surplus_of, item_on_line, level_on_line, flags_of}
 use Rattle.pon_check_file.specs.CheckFiles.{first_spells}
-use Rattle.pon_cert.specs.declared.problem.TheConstants.{MOST_ITEMS}
+use Rattle.pon_cert.specs.declared.problem.TheConstants.{MAX_ITEMS}
 
 -- the lines are a surplus and one line for each item
 pub record AreProblem (lines : List (List ℕ)) (items : List Item) : Type 0 where
   pub surplus : ℕ
   pub is_surplus : first_spells surplus_of lines ≡ Some surplus
   pub are_items : map item_on_line (drop 1 lines) ≡ map Some items
-  pub count : length items ≤ MOST_ITEMS
+  pub count : length items ≤ MAX_ITEMS
 
 -- no lines yet, and then no surplus
 pub record LacksSurplus (before rest : List (List ℕ)) : Type 0 where
@@ -23,7 +23,7 @@ pub record LacksLevel (before rest : List (List ℕ)) : Type 0 where
   pub items : List Item
   pub problem : AreProblem before items
   pub no_level : first_spells level_on_line rest ≡ None
-  pub no_item : length items < MOST_ITEMS → first_spells item_on_line rest ≡ None
+  pub no_item : length items < MAX_ITEMS → first_spells item_on_line rest ≡ None
 
 -- a problem and a level, and then no set of its items
 pub record LacksSet (before rest : List (List ℕ)) : Type 0 where

@@ -3,15 +3,14 @@
 ghost use Rattle.std.specs.Prelude.{◌≡◌, ◌∷◌, ◌++◌, [], Ok, IfOk, codes, decimal, string_bytes};
 ghost use Rattle.pon_cert.specs.Problem.{IsProblem};
 ghost use Rattle.pon_check.specs.Faults.{cert_fault_text};
-ghost use Rattle.pon_stream.specs.Streams.{TellsRead, TellsWrite};
-ghost use Rattle.pon_check_file.specs.CheckFiles.{Checked, IsAnswer, ReadsToEnd};
+ghost use Rattle.pon_device.specs.Streams.{TellsRead, TellsWrite};
+ghost use Rattle.pon_check_file.specs.CheckFiles.{Checked, IsFileAnswer, ReadsToEnd};
 ghost use Rattle.pon_check_file.specs.Stages.{IsSaid, said};
 
 use crate::file::{CheckFile, Parsed};
 use crate::reading::read_file;
 use pon_check::{CertFault, check_class};
-use pon_device::{DevRead, DevWrite};
-use pon_stream::{PlanFault, write_text};
+use pon_device::{DevRead, DevWrite, DeviceFault, write_text};
 use std::alloc::{AllocError, Global};
 
 // Whether a file is accepted, and its answer line.
@@ -45,7 +44,7 @@ fn yes_line(alloc: Global) -> Result<String, AllocError>
 fn judge(alloc: Global, file: &CheckFile) -> Result<Answer, AllocError>
     requires { IsProblem file.now.items.items file.now.surplus }
     ensures { IfOk result
-        (λ a. IsAnswer (Ok (record {
+        (λ a. IsFileAnswer (Ok (record {
           surplus = file.now.surplus;
           items = file.now.items.items;
           cert = file.now.cert;
@@ -66,7 +65,7 @@ fn judge(alloc: Global, file: &CheckFile) -> Result<Answer, AllocError>
 // Makes the answer to a parsed file.
 fn answer_of(alloc: Global, parsed: Parsed) -> Result<Answer, AllocError>
     requires { IsSaid parsed }
-    ensures { IfOk result (λ a. IsAnswer (said parsed) a.accepted (string_bytes a.line)) }
+    ensures { IfOk result (λ a. IsFileAnswer (said parsed) a.accepted (string_bytes a.line)) }
 {
     match parsed {
         Parsed::File(file) => judge(alloc, &file),
@@ -87,7 +86,7 @@ fn answer_of(alloc: Global, parsed: Parsed) -> Result<Answer, AllocError>
 /// and then only empty lines. Rates are in kbit/s, 0 to 2,488,320; a weight is 1 to 2,488,320; the saturated items are
 /// given by their indexes, from 0, in ascending order.
 ///
-/// At most 512 items and one line are kept, and of the line at most [`LONGEST_LINE`](crate::LONGEST_LINE) + 1 bytes: a
+/// At most 512 items and one line are kept, and of the line at most [`MAX_LINE_BYTES`](crate::MAX_LINE_BYTES) + 1 bytes: a
 /// longer line does not fit.
 ///
 /// `Read` if the reader fails or 2^64 - 1 reads reach no answer, and `Memory` if memory is refused: nothing is written.
@@ -96,7 +95,7 @@ pub fn check_file<R: DevRead, W: DevWrite>(
     alloc: Global,
     reader: &mut R,
     writer: &mut W,
-) -> Result<bool, PlanFault>
+) -> Result<bool, DeviceFault>
     ensures text { Checked (R.remaining reader.old) (R.remaining reader.new) (W.contents writer.old)
         (W.contents writer.new) result }
     ensures end { ReadsToEnd (R.remaining reader.new) result }
@@ -110,7 +109,7 @@ pub fn check_file<R: DevRead, W: DevWrite>(
     };
     let answer = match answer_of(alloc, parsed) {
         Ok(answer) => answer,
-        Err(_) => return Err(PlanFault::Memory),
+        Err(_) => return Err(DeviceFault::Memory),
     };
     match write_text(writer, answer.line.as_bytes()) {
         Ok(()) => Ok(answer.accepted),

@@ -14,5 +14,5 @@ mod set;
 mod stage;
 
 pub use answer::check_file;
-pub use pon_stream::PlanFault;
-pub use reading::LONGEST_LINE;
+pub use pon_device::DeviceFault as PlanFault;
+pub use reading::MAX_LINE_BYTES;

@@ -1,20 +1,19 @@
 //! The bytes of a check file, split into lines.
 
-ghost use Rattle.std.specs.Prelude.{◌≡◌, ◌<◌, ◌-◌, ◌^◌, IfOk, length};
-ghost use Rattle.pon_stream.specs.Streams.{TellsRead};
+ghost use Rattle.std.specs.Prelude.{◌≡◌, ◌<◌, ◌-◌, ◌^◌, IfOk};
+ghost use Rattle.pon_device.specs.Streams.{TellsRead};
 ghost use Rattle.pon_text.specs.Lines.{file_lines};
 ghost use Rattle.pon_check_file.specs.Stages.{EndsLine, IsOpen, ReadsFile, TakesByte, goes_on, lines_before, said, size};
 
 use crate::file::Parsed;
 use crate::stage::Stage;
-use pon_device::DevRead;
-use pon_stream::{PlanFault, next_byte};
+use pon_device::{DevRead, DeviceFault, next_byte};
 use pon_text::without_return;
 use std::alloc::{AllocError, Global};
 
 /// Maximum number of bytes of a line that fits, without its carriage return and line feed: a set of 512 indexes of 20
 /// digits. No longer line fits anywhere.
-pub const LONGEST_LINE: usize = 10_761;
+pub const MAX_LINE_BYTES: usize = 10_761;
 
 // The parsed whole lines, and the bytes of the open line after them.
 #[derive(Drop)]
@@ -59,7 +58,7 @@ impl Open {
         if byte == b'\n' {
             return self.end_line(alloc);
         }
-        if self.line.len() > LONGEST_LINE {
+        if self.line.len() > MAX_LINE_BYTES {
             return Ok(Taken::Syntax(self.stage.line()));
         }
         let mut line = self.line;
@@ -89,7 +88,7 @@ impl Open {
 /// Reads a check file, one byte a call, to the end of the input or until a line does not fit.
 ///
 /// `Read` if the reader fails or 2^64 - 1 reads reach no result, and `Memory` if memory is refused.
-pub(crate) fn read_file<R: DevRead>(alloc: Global, reader: &mut R) -> Result<Parsed, PlanFault>
+pub(crate) fn read_file<R: DevRead>(alloc: Global, reader: &mut R) -> Result<Parsed, DeviceFault>
     ensures text { ReadsFile (R.remaining reader.old) (R.remaining reader.new) result }
     ensures read { TellsRead (R.calls reader.old) (R.calls reader.new) (R.failures reader.old)
         (R.failures reader.new) result }
@@ -100,19 +99,19 @@ pub(crate) fn read_file<R: DevRead>(alloc: Global, reader: &mut R) -> Result<Par
     };
     for _turn in 0..u64::MAX {
         match next_byte(reader) {
-            Err(_) => return Err(PlanFault::Read),
+            Err(_) => return Err(DeviceFault::Read),
             Ok(None) => {
                 return match open.end(alloc) {
                     Ok(parsed) => Ok(parsed),
-                    Err(_) => Err(PlanFault::Memory),
+                    Err(_) => Err(DeviceFault::Memory),
                 };
             }
             Ok(Some(byte)) => match open.take(alloc, byte) {
                 Ok(Taken::Open(next)) => open = next,
                 Ok(Taken::Syntax(line)) => return Ok(Parsed::Syntax(line)),
-                Err(_) => return Err(PlanFault::Memory),
+                Err(_) => return Err(DeviceFault::Memory),
             },
         }
     }
-    Err(PlanFault::Read)
+    Err(DeviceFault::Read)
 }

@@ -2,7 +2,7 @@
 
 ghost use Rattle.std.specs.Prelude.{◌≡◌, ◌==◌, ◌∷◌, IfOk};
 ghost use Rattle.std.specs.List.{slice_split};
-ghost use Rattle.pon_check_file.specs.Parts.{left_of, parts_of, behind};
+ghost use Rattle.pon_check_file.specs.Parts.{left_of, parts_of, left_after};
 ghost use Rattle.pon_text.specs.Lines.{number_of};
 ghost use Rattle.pon_check_file.specs.CheckLines.{is_next, is_index, flags_from, flags_of};
 
@@ -48,7 +48,7 @@ impl<'a> Indexes<'a> {
     // Removes the first remaining index if it is that of this item, and returns whether it was.
     fn take(&mut self, item: usize) -> bool
         ensures named { result ≡ is_next item (left_of self.old.left) }
-        ensures left { left_of self.new.left ≡ behind result (left_of self.old.left) }
+        ensures left { left_of self.new.left ≡ left_after result (left_of self.old.left) }
     {
         let Some(text) = self.left else {
             return false;

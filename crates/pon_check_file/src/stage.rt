@@ -8,7 +8,7 @@ ghost use Rattle.pon_check_file.specs.declared.stage.Stage.TheVariants as stage;
 use crate::file::{CheckFile, Parsed};
 use crate::lines::{item_on_line, level_on_line, surplus_of};
 use crate::set::flags_of;
-use pon_cert::{ClassCert, Item, Level, MOST_ITEMS};
+use pon_cert::{ClassCert, Item, Level, MAX_ITEMS};
 use std::alloc::{AllocError, Global};
 
 /// A surplus, and the items that share it so far.
@@ -66,8 +66,8 @@ fn take_surplus(alloc: Global, line: &[u8]) -> Option<Stage>
 
 // Parses the line of the level.
 fn take_level(shared: Shared, line: &[u8]) -> Option<Stage>
-    requires few { length shared.items.items ≤ MOST_ITEMS }
-    requires no_item { length shared.items.items < MOST_ITEMS → item_on_line line.now ≡ None }
+    requires few { length shared.items.items ≤ MAX_ITEMS }
+    requires no_item { length shared.items.items < MAX_ITEMS → item_on_line line.now ≡ None }
     ensures { Takes (stage.Items shared) line.now result }
 {
     match level_on_line(line) {
@@ -78,10 +78,10 @@ fn take_level(shared: Shared, line: &[u8]) -> Option<Stage>
 
 // Parses the line of an item, if there may be more of them, or of the level.
 fn take_item(shared: Shared, line: &[u8]) -> Result<Option<Stage>, AllocError>
-    requires { length shared.items.items ≤ MOST_ITEMS }
+    requires { length shared.items.items ≤ MAX_ITEMS }
     ensures { IfOk result (Takes (stage.Items shared) line.now) }
 {
-    if shared.items.len() < MOST_ITEMS {
+    if shared.items.len() < MAX_ITEMS {
         if let Some(item) = item_on_line(line) {
             let mut items = shared.items;
             items.push(item)?;

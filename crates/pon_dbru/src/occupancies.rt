@@ -1,12 +1,12 @@
 use arrayvec::ArrayVec;
-use pon_units::{BufOcc, LONGEST_SERIES};
+use pon_units::{BufOcc, MAX_SERIES};
 use std::marker::Model;
 
 /// The occupancies that an ONU reports in one burst, in words, for its structures in order: at most 16. A garbled
 /// report is `None`.
 #[derive(Debug, PartialEq, Eq, Drop)]
 pub struct Occupancies {
-    reports: ArrayVec<Option<BufOcc>, LONGEST_SERIES>,
+    reports: ArrayVec<Option<BufOcc>, MAX_SERIES>,
 }
 
 impl Model for Occupancies {
@@ -33,7 +33,7 @@ impl Occupancies {
 
     /// Appends the occupancy of the next report, or `None` if it is garbled. The list holds at most 16.
     pub fn push(&mut self, report: Option<BufOcc>)
-        requires { length self.old < LONGEST_SERIES }
+        requires { length self.old < MAX_SERIES }
         ensures { self.new ≡ self.old ++ report ∷ [] }
     {
         self.reports.push(report);
@@ -54,7 +54,7 @@ impl Occupancies {
     /// Returns the occupancies, in order, at most 16.
     pub fn as_slice(&self) -> &[Option<BufOcc>]
         ensures value { result.now ≡ self.now }
-        ensures range { length self.now ≤ LONGEST_SERIES }
+        ensures range { length self.now ≤ MAX_SERIES }
     {
         self.reports.as_slice()
     }

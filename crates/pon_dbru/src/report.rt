@@ -39,10 +39,7 @@ fn occupancy_of(words: u32) -> BufOcc
     requires { words < 2 ^ 24 }
     ensures { result ≡ words }
 {
-    match BufOcc::new(words) {
-        Some(occupancy) => occupancy,
-        None => unreachable!(),
-    }
+    BufOcc::new(words).unwrap()
 }
 
 /// Returns the four bytes that report this occupancy: the number of words of 4 bytes, most significant byte first, and

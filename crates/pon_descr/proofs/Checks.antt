@@ -1,7 +1,7 @@
 -- Lists of checks of which none refuses.
 use Rattle.std.proofs.Common.{◌≡◌, Bool, true, false, List, [], ◌∷◌, refl}
 use Rattle.std.specs.Prelude.{Option, Some, None}
-use Rattle.pon_descr.specs.Checks.{when, or_else, first_of}
+use Rattle.pon_descr.specs.Checks.{when, or_else, first_refusal_of}
 use Rattle.pon_descr.specs.declared.refusal.Refusal.{Refusal}
 
 pub or_else_none : (q r : Option Refusal) → or_else q r ≡ None → (q ≡ None) × (r ≡ None)
@@ -17,6 +17,6 @@ abbrev pub AreNone : List (Option Refusal) → Type 0
 AreNone [] = Unit {0}
 AreNone (r ∷ rs) = (r ≡ None) × AreNone rs
 
-pub none_refuses : (rs : List (Option Refusal)) → first_of rs ≡ None → AreNone rs
+pub none_refuses : (rs : List (Option Refusal)) → first_refusal_of rs ≡ None → AreNone rs
 none_refuses [] h = tt
-none_refuses (r ∷ rs) h = let two : (r ≡ None) × (first_of rs ≡ None) = or_else_none r (first_of rs) h in (two.0, none_refuses rs two.1)
+none_refuses (r ∷ rs) h = let two : (r ≡ None) × (first_refusal_of rs ≡ None) = or_else_none r (first_refusal_of rs) h in (two.0, none_refuses rs two.1)

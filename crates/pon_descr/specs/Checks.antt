@@ -13,9 +13,9 @@ abbrev pub or_else : Option Refusal → Option Refusal → Option Refusal
 or_else None r = r
 or_else (Some q) r = Some q
 
-abbrev pub first_of : List (Option Refusal) → Option Refusal
-first_of [] = None
-first_of (r ∷ rs) = or_else r (first_of rs)
+abbrev pub first_refusal_of : List (Option Refusal) → Option Refusal
+first_refusal_of [] = None
+first_refusal_of (r ∷ rs) = or_else r (first_refusal_of rs)
 
 -- the refusal of the checks, and `OutOfMemory` only if none refuses
 abbrev pub IsTold : Option Refusal → Refusal → Type 0

@@ -3,7 +3,7 @@ use Rattle.std.specs.Prelude.{ℕ, ◌+◌, ◌<◌, ◌≤◌, ◌==◌, ◌||�
 use Rattle.pon_units.specs.declared.limits.TheConstants.{LINE_RATE}
 use Rattle.pon_descr.specs.declared.class.Class.{Class}
 use Rattle.pon_descr.specs.declared.class.Class.TheVariants.{Plain, NonAssured, BestEffort}
-use Rattle.pon_descr.specs.Checks.{when, first_of}
+use Rattle.pon_descr.specs.Checks.{when, first_refusal_of}
 use Rattle.pon_descr.specs.declared.refusal.Refusal.{Refusal}
 use Rattle.pon_descr.specs.declared.refusal.Refusal.TheVariants.{RateRange, MaxBelowGuaranteed, NeedsGuarantee, NoSurplusRoom}
 
@@ -33,12 +33,12 @@ pub record IsLawful (d : Descriptor) : Type 0 where
 -- the refusal of a class for its promised and maximum rate
 abbrev pub class_refusal : Class → ℕ → ℕ → Option Refusal
 class_refusal Plain promise most = None
-class_refusal NonAssured promise most = first_of (when (promise == 0) NeedsGuarantee ∷ when (promise == most) NoSurplusRoom ∷ [])
+class_refusal NonAssured promise most = first_refusal_of (when (promise == 0) NeedsGuarantee ∷ when (promise == most) NoSurplusRoom ∷ [])
 class_refusal BestEffort promise most = when (promise == most) NoSurplusRoom
 
 -- the first refusal of the numbers of a descriptor
 abbrev pub descriptor_refusal : Descriptor → Option Refusal
-descriptor_refusal d = first_of (
+descriptor_refusal d = first_refusal_of (
     when (nat_lt LINE_RATE d.fixed || (nat_lt LINE_RATE d.assured || nat_lt LINE_RATE d.max)) RateRange
     ∷ when (nat_lt d.max (promised d)) MaxBelowGuaranteed
     ∷ class_refusal d.class (promised d) d.max

@@ -46,14 +46,11 @@ fn rate(n: u64) -> Kbps
     requires { n ≤ LINE_RATE }
     ensures { result ≡ n }
 {
-    match Kbps::new(n as u32) {
-        Some(rate) => rate,
-        None => unreachable!(),
-    }
+    Kbps::new(n as u32).unwrap()
 }
 
 impl Descriptor {
-    ghost use Rattle.std.specs.Prelude.{◌≡◌, ◌≤◌, ◌↔◌, IsOk, IfOk, IfErr, Some, None};
+    ghost use Rattle.std.specs.Prelude.{◌≡◌, ◌≤◌, ◌↔◌, IsOk, IfOk, IfErr, Some};
     ghost use Rattle.pon_descr.specs.Descriptor.{Descriptor, IsLawful, descriptor_refusal, promised};
 
     /// Makes a descriptor of these rates in kbit/s.

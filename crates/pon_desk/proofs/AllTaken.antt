@@ -4,7 +4,7 @@ use Rattle.std.specs.Prelude.{flat_map, slice_get}
 use Rattle.std.proofs.lemmas.Grind.{flat_map-append}
 use Rattle.std.proofs.lemmas.List.{append-nil, length-append, take_at, take_more}
 use Rattle.std.proofs.lemmas.Option.{slice_get_cases, slice_get_within}
-use Rattle.pon_port.specs.Chapters.{Chapter}
+use Rattle.pon_history.specs.Chapters.{Chapter}
 use Rattle.pon_desk.specs.Counts.{taken_of}
 use Rattle.pon_desk.specs.Settling.{IsRightChapter, PortHistory, all_chapters, all_placed, placed_in}
 use Rattle.pon_desk.specs.declared.receipt.Placed.{Placed}

@@ -3,7 +3,7 @@ use Rattle.std.proofs.Common.{◌≡◌, ℕ, zero, suc, ◌+◌, ◌≤◌, Lis
 use Rattle.std.specs.Prelude.{slice_get}
 use Rattle.std.proofs.lemmas.List.{drop_all}
 use Rattle.std.proofs.lemmas.Option.{none-some, same_Some}
-use Rattle.pon_state.specs.declared.reply.Entry.{Entry}
+use Rattle.pon_state.specs.Entry.{Entry}
 use Rattle.pon_desk.specs.Settling.{placed_from}
 use Rattle.pon_desk.specs.declared.receipt.Placed.{Placed}
 

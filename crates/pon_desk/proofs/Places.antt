@@ -6,8 +6,8 @@ use Rattle.std.proofs.lemmas.List.Elements.{All-append}
 use Rattle.std.proofs.lemmas.Option.{get_or_from_slice_get, none-some, slice_get_cases, slice_get_within}
 use Rattle.pon_lists.specs.Order.{IsInOrder}
 use Rattle.pon_lists.proofs.Order.{in_order-append, in_order_at}
-use Rattle.pon_state.specs.declared.reply.Entry.{Entry}
-use Rattle.pon_port.specs.Chapters.{Chapter}
+use Rattle.pon_state.specs.Entry.{Entry}
+use Rattle.pon_history.specs.Chapters.{Chapter}
 use Rattle.pon_desk.specs.Settling.{IsEarlier, IsRightChapter, PortHistory, all_chapters, all_placed, placed_from, placed_in}
 use Rattle.pon_desk.specs.declared.receipt.Placed.{Placed}
 use Rattle.pon_desk.proofs.Elements.{get_either}

@@ -5,7 +5,7 @@ use Rattle.std.proofs.lemmas.Bool.{cases_lt}
 use Rattle.std.proofs.lemmas.List.{length-take-le}
 use Rattle.std.proofs.lemmas.Option.{none-some, same_Some, slice_get_cases, slice_get_past, slice_get_within}
 use Rattle.pon_state.specs.State.{State}
-use Rattle.pon_port.specs.Chapters.{Chapter}
+use Rattle.pon_history.specs.Chapters.{Chapter}
 use Rattle.pon_plant.specs.Plants.{opened_port}
 use Rattle.pon_desk.specs.Settling.{CountsUpTo, IsRightChapter, PortHistory, all_chapters}
 use Rattle.pon_desk.proofs.Elements.{get_before, get_behind, get_either, get_from_front}

@@ -1,7 +1,7 @@
 -- A walk through the entries of a port.
 use Rattle.std.proofs.Common.{◌≡◌, ℕ, suc, ◌+◌, ◌≤◌, List, ◌∷◌, ◌++◌, length, drop, Some, ap, ◌∙◌, arith}
 use Rattle.std.specs.Prelude.{slice_get}
-use Rattle.pon_state.specs.declared.reply.Entry.{Entry}
+use Rattle.pon_state.specs.Entry.{Entry}
 use Rattle.pon_desk.specs.Settling.{placed_from}
 use Rattle.pon_desk.specs.declared.receipt.Placed.{Placed}
 use Rattle.pon_desk.proofs.Placed.{at, next_placed, past_placed}

@@ -1,7 +1,7 @@
 -- Posts counted twice: at the ports that took them, and by the seats that made them.
 use Rattle.std.specs.Prelude.{ℕ, ◌≡◌, ◌≢◌, ◌+◌, ◌<◌, ◌≤◌, List, length, map, replicate, slice_get, slice_index, slice_set, sum, sum_by, Option, None, Some}
-use Rattle.pon_state.specs.declared.state.PortCfg.{PortCfg}
-use Rattle.pon_port.specs.Chapters.{Chapter}
+use Rattle.pon_admit.specs.declared.port_cfg.PortCfg.{PortCfg}
+use Rattle.pon_history.specs.Chapters.{Chapter}
 use Rattle.pon_desk.specs.Receipts.{Receipt}
 
 -- the number of ports of a desk, and of the seats that were opened, and the configuration and first frame with which each

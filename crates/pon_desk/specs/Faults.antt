@@ -1,7 +1,7 @@
 -- The faults of a desk.
 use Rattle.std.specs.Prelude.{ℕ, ◌≡◌, ◌<◌, List, length, Result, Ok, Err}
-use Rattle.pon_event.specs.declared.event.Event.{Event}
-use Rattle.pon_port.specs.Chapters.{Chapter}
+use Rattle.pon_admit.specs.declared.event.Event.{Event}
+use Rattle.pon_history.specs.Chapters.{Chapter}
 use Rattle.pon_plant.specs.declared.fault.StepFault.{StepFault}
 use Rattle.pon_plant.specs.declared.fault.StepFault.TheVariants.{NoSuchPort, Refused}
 use Rattle.pon_desk.specs.Counts.{DeskSize, SeatState, AreSums, IsUneven}

@@ -3,10 +3,10 @@ use Rattle.std.specs.Prelude.{ℕ, ◌≡◌, ◌⊎◌, length, slice_index}
 use Rattle.pon_descr.specs.Checks.{IsTold}
 use Rattle.pon_descr.specs.declared.refusal.Refusal.{Refusal}
 use Rattle.pon_descr.specs.declared.refusal.Refusal.TheVariants.{ChapterFull}
-use Rattle.pon_event.specs.declared.event.Event.{Event}
-use Rattle.pon_port.specs.Chapters.{Chapter, IsLawfulChapter, present_state}
-use Rattle.pon_port.specs.FairMaps.{TellsFairMap}
-use Rattle.pon_port.specs.Taking.{Takes, Turns, refusal_of, turn_refusal}
+use Rattle.pon_admit.specs.declared.event.Event.{Event}
+use Rattle.pon_history.specs.Chapters.{Chapter, IsLawfulChapter, present_state}
+use Rattle.pon_history.specs.FairMaps.{TellsFairMap}
+use Rattle.pon_history.specs.Taking.{Takes, Turns, refusal_of, turn_refusal}
 use Rattle.pon_desk.specs.Counts.{SeatState}
 use Rattle.pon_desk.specs.Receipts.{Receipt}
 use Rattle.pon_desk.specs.declared.receipt.Placed.{Placed}

@@ -1,9 +1,9 @@
 -- The settlement of a closed port: its entries compared with the receipts of its posts.
 use Rattle.std.specs.Prelude.{ℕ, ◌≡◌, ◌-◌, ◌<◌, ◌≤◌, ◌==◌, ◌⊎◌, suc, List, [], ◌∷◌, ◌++◌, count_by, flat_map, length, slice_get, take, Option, None, Some, IsSomeAnd}
-use Rattle.pon_state.specs.declared.reply.Entry.{Entry}
+use Rattle.pon_state.specs.Entry.{Entry}
 use Rattle.pon_state.specs.State.{State}
-use Rattle.pon_state.specs.declared.state.PortCfg.{PortCfg}
-use Rattle.pon_port.specs.Chapters.{Chapter}
+use Rattle.pon_admit.specs.declared.port_cfg.PortCfg.{PortCfg}
+use Rattle.pon_history.specs.Chapters.{Chapter}
 use Rattle.pon_plant.specs.Plants.{opened_port}
 use Rattle.pon_desk.specs.Counts.{ClosedPorts, taken_of}
 use Rattle.pon_desk.specs.Receipts.{Receipt}

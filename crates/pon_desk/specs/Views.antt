@@ -1,8 +1,8 @@
 -- The view of a port.
 use Rattle.std.specs.Prelude.{length}
 use Rattle.pon_admit.specs.Roster.{capacity, onus_of, promised_sum}
-use Rattle.pon_port.specs.Chapters.{Chapter, present_state}
-use Rattle.pon_port.specs.Last.{last_map}
+use Rattle.pon_history.specs.Chapters.{Chapter, present_state}
+use Rattle.pon_history.specs.Last.{last_map}
 use Rattle.pon_desk.specs.declared.view.PortView.{PortView}
 
 -- the numbers of its present state, and its last map

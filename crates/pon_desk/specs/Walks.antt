@@ -1,7 +1,7 @@
 -- A walk through the entries of a port.
 use Rattle.std.specs.Prelude.{ℕ, ◌+◌, List, [], ◌++◌, drop, flat_map, length, Option, None, Some}
 use denote.Ref.{Bor}
-use Rattle.pon_port.specs.Chapters.{Chapter}
+use Rattle.pon_history.specs.Chapters.{Chapter}
 use Rattle.pon_desk.specs.Settling.{placed_from, placed_in}
 use Rattle.pon_desk.specs.declared.receipt.Placed.{Placed}
 use Rattle.pon_desk.specs.declared.walk.Walk.{Walk}

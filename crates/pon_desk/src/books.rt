@@ -3,7 +3,7 @@ ghost use Rattle.std.specs.Prelude.{◌≡◌, ◌+◌, ◌<◌, ◌^◌, true, 
 use std::sync::ledger::{Book, Ledger, Share};
 
 /// The greatest number of entries of all ports of a desk.
-pub(crate) const MOST_ENTRIES: u64 = u64::MAX;
+pub(crate) const MAX_ENTRIES: u64 = u64::MAX;
 
 /// The books of both ledgers, under one lock: the posts of all ports, and the posts of all seats. The two totals are
 /// equal.
@@ -51,11 +51,11 @@ impl<L: Ledger, M: Ledger> Books<L, M> {
         ensures at_port { result ≡ true → port.new.amount ≡ port.old.amount + 1 }
         ensures at_seat { result ≡ true → seat.new.amount ≡ seat.old.amount + 1 }
         ensures fits { result ≡ true → seat.new.amount < 2 ^ 64 }
-        ensures most { result ≡ false → self.old.entries ≡ MOST_ENTRIES }
+        ensures most { result ≡ false → self.old.entries ≡ MAX_ENTRIES }
         ensures full { result ≡ false →
             (port.new.amount ≡ port.old.amount) × (seat.new.amount ≡ seat.old.amount) }
     {
-        if self.entries == MOST_ENTRIES {
+        if self.entries == MAX_ENTRIES {
             return false;
         }
         let Books {

@@ -27,8 +27,8 @@ impl Model for Closed {
 }
 
 impl Closed {
-    ghost use Rattle.std.specs.Prelude.{ℕ, ◌≡◌, ◌≤◌, Err, length, MatchOption, MatchResult, Some, slice_get};
-    ghost use Rattle.pon_port.specs.Chapters.{Chapter};
+    ghost use Rattle.std.specs.Prelude.{◌≡◌, ◌≤◌, Err, length, MatchOption, MatchResult, Some, slice_get};
+    ghost use Rattle.pon_history.specs.Chapters.{Chapter};
     ghost use Rattle.pon_desk.specs.Settling.{IsSettled, TellsUnsettled, history_at};
 
     /// Port of a number, or `None` exactly if the desk had no such port.

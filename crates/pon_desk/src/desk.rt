@@ -7,11 +7,11 @@ use crate::opening::{open_ports, open_seats};
 use crate::receipt::Receipt;
 use crate::seat::Seat;
 use crate::view::{PortView, view_of};
+use pon_admit::Event;
 use pon_descr::Refusal;
-use pon_event::Event;
 use pon_plant::{PlantFault, StepFault};
 use pon_port::{Chapter, Port, PortCfg};
-use pon_units::{FrameNo, MOST_PORTS, PortNo};
+use pon_units::{FrameNo, MAX_PORTS, PortNo};
 use std::alloc::Global;
 use std::marker::Model;
 use std::sync::ledger::{Blank, Ledger};
@@ -49,7 +49,7 @@ impl<L: Ledger, M: Ledger> Model for Desk<L, M> {
 impl<L: Ledger, M: Ledger> Desk<L, M> {
     ghost use Rattle.std.specs.Prelude.{◌≡◌, ◌<◌, ◌≤◌, ◌↔◌, ◌⊎◌, length, IfOk, IfErr, OnOk, OnErr};
     ghost use Rattle.std.specs.Fn.{FnOnceReturnsAt};
-    ghost use Rattle.pon_port.specs.Chapters.{Chapter, IsLawfulChapter};
+    ghost use Rattle.pon_history.specs.Chapters.{Chapter, IsLawfulChapter};
     ghost use Rattle.pon_plant.specs.Plants.{IsPlantSize, TellsOpening};
     ghost use Rattle.pon_desk.specs.Counts.{AreUnused, IsEven, one_more_at};
     ghost use Rattle.pon_desk.specs.Faults.{IsNoSuchPort, TellsClosing, TellsRefusal, TellsTurn};
@@ -81,7 +81,7 @@ impl<L: Ledger, M: Ledger> Desk<L, M> {
         ensures size { IfOk result (λ r. IsPlantSize (length ports.now)) }
         ensures err { IfErr result (λ fault. TellsOpening (length ports.now) fault) }
     {
-        if ports.is_empty() || ports.len() > MOST_PORTS {
+        if ports.is_empty() || ports.len() > MAX_PORTS {
             return Err(PlantFault::Ports);
         }
         let (of_ports, mut all_ports) = of_ports.open::<L>();

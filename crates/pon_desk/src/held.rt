@@ -1,15 +1,15 @@
 ghost use Rattle.std.specs.Prelude.{◌≡◌, ◌<◌, ◌⊎◌, length, IfOk, IfErr, OnOk, OnErr};
 ghost use Rattle.pon_descr.specs.Checks.{IsTold};
-ghost use Rattle.pon_port.specs.Chapters.{IsLawfulChapter};
-ghost use Rattle.pon_port.specs.Taking.{Turns, refusal_of, turn_refusal};
+ghost use Rattle.pon_history.specs.Chapters.{IsLawfulChapter};
+ghost use Rattle.pon_history.specs.Taking.{Turns, refusal_of, turn_refusal};
 ghost use Rattle.pon_desk.specs.Counts.{one_more_at};
 ghost use Rattle.pon_desk.specs.Posts.{IsPosted, NamesPost};
 
 use crate::books::Books;
 use crate::receipt::{Receipt, take};
 use crate::seat::{Seat, count_at};
+use pon_admit::Event;
 use pon_descr::Refusal;
-use pon_event::Event;
 use pon_port::{Chapter, Port};
 use pon_units::PortNo;
 use std::marker::Model;
@@ -27,7 +27,7 @@ pub struct Held<L: Ledger> {
 
 impl<L: Ledger> Model for Held<L> {
     ghost use Rattle.std.specs.Prelude.{◌≡◌};
-    ghost use Rattle.pon_port.specs.Chapters.{Chapter};
+    ghost use Rattle.pon_history.specs.Chapters.{Chapter};
     ghost use Rattle.pon_desk.specs.Counts.{taken_of};
 
     ghost Value = { Chapter };

@@ -28,7 +28,7 @@ pub use closed::Closed;
 pub use desk::Desk;
 pub use fault::CloseFault;
 pub use held::Held;
-pub use pon_kept::Kept;
+pub use pon_lists::Kept;
 pub use pon_plant::{PlantFault, StepFault};
 pub use receipt::Receipt;
 pub use seat::Seat;

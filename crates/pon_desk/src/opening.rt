@@ -4,7 +4,7 @@ ghost use Rattle.pon_desk.specs.Counts.{AreUnused, unused_seat};
 
 use crate::held::Held;
 use crate::seat::Seat;
-use pon_kept::Kept;
+use pon_lists::Kept;
 use pon_port::{Port, PortCfg};
 use pon_units::FrameNo;
 use std::alloc::{AllocError, Global};

@@ -1,16 +1,16 @@
 ghost use Rattle.std.specs.Prelude.{◌≡◌, IfOk, IfErr, OnErr};
 ghost use Rattle.pon_descr.specs.Checks.{IsTold};
-ghost use Rattle.pon_port.specs.Taking.{refusal_of};
+ghost use Rattle.pon_history.specs.Taking.{refusal_of};
 ghost use Rattle.pon_desk.specs.Posts.{IsPosted};
 
+use pon_admit::Event;
 use pon_descr::Refusal;
-use pon_event::Event;
-use pon_port::{Entry, Port, Reply};
+use pon_port::{Entry, Port};
 use pon_units::PortNo;
 use std::marker::Model;
 
 /// An entry of a port with its place: the number of its chapter, and its index in that chapter, from 0.
-#[derive(Debug, PartialEq, Eq, Drop)]
+#[derive(Debug, Drop)]
 pub(crate) struct Placed {
     pub(crate) chapter: u64,
     pub(crate) index: usize,
@@ -66,25 +66,11 @@ impl Receipt {
         self.placed.index
     }
 
-    /// Event that was posted.
-    pub fn event(&self) -> &Event
-        ensures { result.now ≡ self.now.placed.entry.event }
+    /// Entry that the port kept: the event that was posted, and the reply of the port.
+    pub fn entry(&self) -> &Entry
+        ensures { result.now ≡ self.now.placed.entry }
     {
-        &self.placed.entry.event
-    }
-
-    /// Reply of the port to the event.
-    pub fn reply(&self) -> &Reply
-        ensures { result.now ≡ self.now.placed.entry.reply }
-    {
-        &self.placed.entry.reply
-    }
-
-    /// Returns the reply of the port to the event.
-    pub fn into_reply(self) -> Reply
-        ensures { result ≡ self.placed.entry.reply }
-    {
-        self.placed.entry.reply
+        &self.placed.entry
     }
 
     /// Number of the seat that made the post.
@@ -112,7 +98,7 @@ pub(crate) fn take(port: &mut Port, event: Event) -> Result<Placed, Refusal>
     let index = port.history().len();
     let kept = event.copy();
     let reply = port.take(event)?;
-    let entry = Entry { event: kept, reply };
+    let entry = Entry::new(kept, reply);
     Ok(Placed {
         chapter,
         index,

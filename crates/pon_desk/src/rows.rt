@@ -4,9 +4,9 @@
 use crate::closed::Closed;
 use crate::receipt::{Receipt, take};
 use crate::unsettled::Unsettled;
+use pon_admit::Event;
 use pon_dbru::Occupancies;
 use pon_descr::{Class, Descriptor};
-use pon_event::Event;
 use pon_port::{Chapter, Port, PortCfg};
 use pon_units::{AllocId, BufOcc, FrameNo, Gap, OnuId, PortNo, Profile};
 use std::alloc::Global;
@@ -163,7 +163,10 @@ fn make_change(rt: &impl Abort, books: &mut Books, change: Change) {
     match change {
         Change::Nothing => {}
         Change::WithoutLastReceipt => receipts.truncate(3),
-        Change::Occupancy => receipt_at(rt, receipts, 2).placed.entry.event = report(rt, 101),
+        Change::Occupancy => {
+            let entry = Entry::new(report(rt, 101), Reply::Taken);
+            receipt_at(rt, receipts, 2).placed.entry = entry;
+        }
         Change::Exchanged(k) => exchange(rt, receipts, k),
         Change::ExchangedNth => {
             receipt_at(rt, receipts, 0).nth = 1;

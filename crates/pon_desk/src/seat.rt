@@ -1,7 +1,7 @@
 ghost use Rattle.std.specs.Prelude.{◌≡◌, ◌+◌, ◌<◌, ◌^◌, length, slice_index, slice_set, sum};
 
 use crate::receipt::Receipt;
-use pon_kept::Kept;
+use pon_lists::Kept;
 use pon_units::PortNo;
 use std::alloc::Global;
 use std::marker::{Model, PhantomData};
@@ -24,7 +24,7 @@ pub struct Seat<L: Ledger, M: Ledger> {
 impl<L: Ledger, M: Ledger> Model for Seat<L, M> {
     ghost use Rattle.std.specs.Prelude.{◌≡◌, length, sum};
     ghost use Rattle.pon_desk.specs.Counts.{SeatState};
-    ghost use Rattle.pon_kept.specs.Kept.{kept_items};
+    ghost use Rattle.pon_lists.specs.Kept.{kept_items};
 
     ghost Value = { SeatState };
 
@@ -40,7 +40,7 @@ impl<L: Ledger, M: Ledger> Model for Seat<L, M> {
 
 impl<L: Ledger, M: Ledger> Seat<L, M> {
     ghost use Rattle.std.specs.Prelude.{◌≡◌, [], length, MatchOption, None, Some};
-    ghost use Rattle.pon_kept.specs.Kept.{AddsTo};
+    ghost use Rattle.pon_lists.specs.Kept.{AddsTo};
 
     /// Place of the seat in the list that [`Desk::open`](crate::Desk::open) returned, from 0. No call changes it.
     pub fn number(&self) -> usize

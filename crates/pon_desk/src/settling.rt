@@ -1,11 +1,11 @@
 //! The settlement of a closed port: its entries compared with the receipts of its posts.
 
-ghost use Rattle.std.specs.Prelude.{◌≡◌, ◌↔◌, ◌-◌, ◌<◌, ◌≤◌, ◌++◌, ℕ, IsTrue, MatchOption, MatchResult, length, map, slice_get, Some, take};
+ghost use Rattle.std.specs.Prelude.{◌≡◌, ◌↔◌, ◌-◌, ◌<◌, ◌++◌, ℕ, IsTrue, MatchOption, MatchResult, length, map, slice_get, Some, take};
 ghost use Rattle.pon_state.specs.State.{opened_under};
-ghost use Rattle.pon_port.specs.Chapters.{Chapter, OpensFirst};
+ghost use Rattle.pon_history.specs.Chapters.{Chapter, OpensFirst};
 ghost use Rattle.pon_plant.specs.Plants.{opened_port};
 ghost use Rattle.pon_desk.specs.Receipts.{Receipt};
-ghost use Rattle.pon_desk.specs.Settling.{CountsUpTo, PortHistory, IsFirstWithout, IsRightAt, IsRightChapter, IsSettled, TellsUnsettled, all_placed, posts_of};
+ghost use Rattle.pon_desk.specs.Settling.{CountsUpTo, PortHistory, IsFirstWithout, IsRightAt, IsRightChapter, IsSettled, TellsUnsettled, posts_of};
 ghost use Rattle.pon_desk.specs.Walks.{left_of};
 
 use crate::receipt::Receipt;

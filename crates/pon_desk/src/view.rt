@@ -1,5 +1,5 @@
 ghost use Rattle.std.specs.Prelude.{◌≡◌, IfOk};
-ghost use Rattle.pon_port.specs.Last.{MatchesMembers, last_map};
+ghost use Rattle.pon_history.specs.Last.{MatchesMembers, last_map};
 ghost use Rattle.pon_desk.specs.Views.{view_of};
 
 use pon_descr::Cause;
@@ -18,7 +18,7 @@ pub struct LastView {
 }
 
 impl Model for LastView {
-    ghost use Rattle.pon_port.specs.Last.{LastMap, MatchesMembers};
+    ghost use Rattle.pon_history.specs.Last.{LastMap, MatchesMembers};
 
     ghost Value = { LastMap };
 

@@ -29,7 +29,7 @@ fn is_placed(placed: &Placed, chapter: u64, index: usize, entry: &Entry) -> bool
     if placed.index != index {
         return false;
     }
-    placed.entry == *entry
+    placed.entry.is_same(entry)
 }
 
 // Returns the entry at an index, if there is one.

@@ -1,9 +1,9 @@
 //! Numbers, events, and the seats and the end of a desk.
 
+use pon_admit::Event;
 use pon_dbru::Occupancies;
 use pon_descr::{Cause, Class, Descriptor};
 use pon_desk::{Closed, Desk, Seat};
-use pon_event::Event;
 use pon_port::PortCfg;
 use pon_units::{AllocId, BufOcc, FrameNo, Gap, OnuId, PortNo, Profile};
 use std::process::Abort;

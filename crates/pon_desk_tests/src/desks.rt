@@ -2,11 +2,11 @@
 ghost use Rattle.std.specs.Prelude.{◌≡◌, ◌<◌, length};
 
 use crate::bench::{EVENTS, cause, cfg, close, each_took, event, id, number, put, seat};
+use pon_admit::Event;
 use pon_descr::Refusal;
 use pon_desk::{CloseFault, Closed, Desk, PlantFault, PortView, Receipt, Seat, StepFault};
-use pon_event::Event;
-use pon_port::{Entry, Port, PortCfg, Reply};
-use pon_units::{FrameNo, PortNo};
+use pon_port::{Entry, EntryRef, Port, PortCfg};
+use pon_units::FrameNo;
 use std::alloc::Global;
 use std::marker::Brand;
 use std::process::Abort;
@@ -168,11 +168,11 @@ pub(crate) fn add(rt: &impl Abort, posted: &mut Vec<Receipt>, receipt: Receipt) 
     posted.push(receipt).expect(rt, "memory");
 }
 
-// Returns whether a map is of this frame; true if the reply is no map.
-fn is_of_frame(reply: &Reply, frame: u64) -> bool {
-    match reply {
-        Reply::Taken => true,
-        Reply::Map(made) => made.frame.get() == frame,
+// Returns whether a map is of this frame; true if the entry has no map.
+fn is_of_frame(entry: &Entry, frame: u64) -> bool {
+    match entry.as_ref() {
+        EntryRef::Taken(_) => true,
+        EntryRef::Map(made) => made.frame.get() == frame,
     }
 }
 
@@ -180,9 +180,9 @@ fn is_of_frame(reply: &Reply, frame: u64) -> bool {
 fn is_kept(rt: &impl Abort, entry: &Entry, receipt: &Receipt, first: u64, k: u8) -> bool {
     receipt.chapter() == 0
         && receipt.index() == usize::from(k)
-        && entry.event == event(rt, first, k)
-        && entry.reply == *receipt.reply()
-        && is_of_frame(&entry.reply, first.wrapping_add(u64::from(k > 1)))
+        && entry.event() == event(rt, first, k)
+        && entry.is_same(receipt.entry())
+        && is_of_frame(entry, first.wrapping_add(u64::from(k > 1)))
 }
 
 // Returns whether the port has its gap and has made two maps.

@@ -3,12 +3,12 @@ ghost use Rattle.std.specs.Prelude.{◌≡◌};
 
 use crate::bench::{cause, number, seat};
 use crate::links::{bursts, open};
+use pon_admit::Event;
 use pon_descr::Refusal;
 use pon_desk::{Desk, Seat, StepFault};
 use pon_device::{MemRead, MemWrite};
-use pon_event::Event;
 use pon_units::PortNo;
-use pon_worker::{Gate, OpenGate, Point, Sink, Turns, Why, WorkerEnd, serve_port};
+use pon_worker::{Gate, OpenGate, Point, Sink, StopReason, Turns, WorkerEnd, serve_port};
 use std::alloc::Global;
 use std::marker::Brand;
 use std::process::Abort;
@@ -90,7 +90,7 @@ fn ends_at_gate(
     alloc: Global,
     point: Point,
     refusals: u64,
-    why: Why,
+    why: StopReason,
     calls: u64,
 ) -> bool {
     let gate = OpensLate {
@@ -106,8 +106,8 @@ fn ends_at_gate(
 fn a_gate_is_called_10000_times_in_a_row(rt: HostRuntime) {
     for point in [Point::Send, Point::Read] {
         for (refusals, why, calls) in [
-            (9_999, Why::Finished, 10_000),
-            (10_000, Why::GateLimit, 10_000),
+            (9_999, StopReason::Finished, 10_000),
+            (10_000, StopReason::GateLimit, 10_000),
         ] {
             let is_end = ends_at_gate(&rt, rt.alloc(), point, refusals, why, calls);
             assert!(rt; is_end, "{refusals} refusals");
@@ -118,7 +118,7 @@ fn a_gate_is_called_10000_times_in_a_row(rt: HostRuntime) {
 // Returns whether a worker of this port ends at once for this reason, since the desk makes no map.
 fn is_refused(rt: &(impl Wait + Abort), alloc: Global, port: u8, fault: StepFault) -> bool {
     let end = serve(rt, alloc, port, &OpenGate);
-    end.why == Why::Refused(fault) && end.maps == 0 && end.reports == 0
+    end.why == StopReason::Refused(fault) && end.maps == 0 && end.reports == 0
 }
 
 #[test]

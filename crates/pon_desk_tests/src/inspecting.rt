@@ -3,8 +3,8 @@
 ghost use Rattle.std.specs.Prelude.{◌≡◌};
 
 use crate::bench::{cfg, number, seat};
+use pon_admit::Event;
 use pon_desk::{Desk, Seat};
-use pon_event::Event;
 use std::alloc::Global;
 use std::marker::Brand;
 use std::process::Abort;

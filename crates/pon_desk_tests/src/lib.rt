@@ -1,11 +1,14 @@
-//! Tests of the desk and of the worker of a port: posts from threads, kept entries, looks and inspections, refused
-//! memory, management lines, settlements of receipts, and workers over memory and sockets, with their chapters.
+//! Tests of the desk, of the worker of a port and of runs: posts from threads, kept entries, looks and inspections,
+//! refused memory, management lines, settlements of receipts, workers over memory and sockets with their chapters, and
+//! ports that are served over sockets in threads.
 //!
 //! They are in a crate above those that they test, so that each of these is proved once.
 #![tactic(auto)]
 
 #[cfg(test)]
 mod bench;
+#[cfg(test)]
+mod crowded;
 #[cfg(test)]
 mod desks;
 #[cfg(test)]
@@ -26,6 +29,8 @@ mod operating;
 mod passing;
 #[cfg(test)]
 mod repeating;
+#[cfg(test)]
+mod running;
 #[cfg(test)]
 mod serving;
 #[cfg(test)]

@@ -7,7 +7,7 @@ use crate::links::try_add_burst;
 use pon_descr::Refusal;
 use pon_desk::{Desk, Seat, StepFault};
 use pon_device::{MemRead, MemWrite};
-use pon_worker::{OpenGate, Sink, Turns, Why, WorkerEnd, serve_port};
+use pon_worker::{OpenGate, Sink, StopReason, Turns, WorkerEnd, serve_port};
 use std::alloc::Global;
 use std::marker::Brand;
 use std::process::Abort;
@@ -83,7 +83,7 @@ fn keeps_all(served: Option<Outcome>) -> bool {
     match served {
         None => false,
         Some(Outcome { end, receipts }) => {
-            end.why == Why::Finished && end.reports == TURNS && receipts == Some(12)
+            end.why == StopReason::Finished && end.reports == TURNS && receipts == Some(12)
         }
     }
 }
@@ -96,8 +96,8 @@ fn a_seat_keeps_all_receipts_of_a_worker(rt: HostRuntime) {
 // Returns whether each record was taken, or only the last one refused, and the worker made all its turns exactly if none
 // was and no map was refused.
 fn is_right(end: &WorkerEnd) -> bool {
-    let is_whole = end.why == Why::Finished && end.maps == TURNS && end.refused == 0;
-    let refused = Why::Refused(StepFault::Refused(Refusal::OutOfMemory));
+    let is_whole = end.why == StopReason::Finished && end.maps == TURNS && end.refused == 0;
+    let refused = StopReason::Refused(StepFault::Refused(Refusal::OutOfMemory));
     let is_cut = end.why == refused && end.maps <= TURNS && end.refused <= 1;
     (is_whole || is_cut) && end.reports.wrapping_add(end.refused) == end.maps
 }

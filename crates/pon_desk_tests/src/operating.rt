@@ -1,11 +1,11 @@
 //! Management lines at desks: the text is that of a plant with the same ports. Each port has a gap of 16 words and
 //! starts at frame 0.
-ghost use Rattle.std.specs.Prelude.{◌≡◌, ◌<◌, length};
+ghost use Rattle.std.specs.Prelude.{◌≡◌, ◌<◌};
 
 use crate::bench::{admission, cfg, number};
 use pon_desk::{Desk, Seat};
-use pon_device::{MemRead, MemWrite};
-use pon_manage::{PlanEnd, PlanFault, Step, operate, plan};
+use pon_device::{DeviceFault, MemRead, MemWrite};
+use pon_manage::{PlanEnd, Step, operate, plan};
 use std::alloc::Global;
 use std::marker::Brand;
 use std::process::Abort;
@@ -31,7 +31,7 @@ fn admissions(rt: &impl Abort, alloc: Global, count: u8) -> Option<Vec<Step>> {
 // The result of a run, and the bytes in its writer.
 #[derive(Drop)]
 pub(crate) struct Answered {
-    pub(crate) result: Result<PlanEnd, PlanFault>,
+    pub(crate) result: Result<PlanEnd, DeviceFault>,
     pub(crate) text: Vec<u8>,
 }
 
@@ -60,7 +60,7 @@ pub(crate) fn make_devices(
 pub(crate) fn with_text(
     alloc: Global,
     writer: &MemWrite,
-    told: Result<PlanEnd, PlanFault>,
+    told: Result<PlanEnd, DeviceFault>,
 ) -> Option<Answered> {
     let text = writer.bytes().to_vec(alloc).ok()?;
     Some(Answered { result: told, text })
@@ -143,7 +143,7 @@ fn at_plant(
 }
 
 // Returns whether the run was not refused memory, and ended with this result and text.
-fn ends_with(run: Option<Answered>, wanted: Result<PlanEnd, PlanFault>, text: &[u8]) -> bool {
+fn ends_with(run: Option<Answered>, wanted: Result<PlanEnd, DeviceFault>, text: &[u8]) -> bool {
     match run {
         None => false,
         Some(run) => run.result == wanted && run.text.as_slice() == text,
@@ -216,7 +216,7 @@ fn stops(
     alloc: Global,
     reads: &[u64],
     writes: &[u64],
-    fault: PlanFault,
+    fault: DeviceFault,
     len: usize,
 ) -> bool {
     let devices = make_devices(alloc, FIRST_MAP, 1, reads, writes).expect(rt, "memory");
@@ -228,7 +228,7 @@ fn stops(
 #[test]
 fn a_failed_read_leaves_the_whole_lines(rt: HostRuntime) {
     for (call, written) in [(0, 0), (31, 0), (32, 5), (37, 5), (38, 36)] {
-        let is_left = stops(&rt, rt.alloc(), &[call], &[], PlanFault::Read, written);
+        let is_left = stops(&rt, rt.alloc(), &[call], &[], DeviceFault::Read, written);
         assert!(rt; is_left, "{call}");
     }
 }
@@ -237,7 +237,7 @@ fn a_failed_read_leaves_the_whole_lines(rt: HostRuntime) {
 #[test]
 fn a_failed_write_leaves_a_beginning(rt: HostRuntime) {
     for (call, written) in [(0, 0), (4, 4), (5, 5), (35, 35), (36, 36)] {
-        let is_left = stops(&rt, rt.alloc(), &[], &[call], PlanFault::Write, written);
+        let is_left = stops(&rt, rt.alloc(), &[], &[call], DeviceFault::Write, written);
         assert!(rt; is_left, "{call}");
     }
 }
@@ -254,7 +254,7 @@ fn is_beginning(run: Option<Answered>) -> bool {
     };
     match run.result {
         Ok(PlanEnd) => run.text.as_slice() == FIRST_TEXT,
-        Err(PlanFault::Read) => false,
+        Err(DeviceFault::Read) => false,
         Err(_) => FIRST_TEXT.starts_with(run.text.as_slice()),
     }
 }

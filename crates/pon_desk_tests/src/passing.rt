@@ -4,12 +4,12 @@ ghost use Rattle.std.specs.Prelude.{◌≡◌};
 
 use crate::bench::{ONU, close, number, put, seat};
 use crate::links::{add_burst, open};
+use pon_admit::Event;
 use pon_desk::{Closed, Desk, Seat};
 use pon_device::{MemRead, MemWrite};
-use pon_event::Event;
 use pon_port::Chapter;
 use pon_ring::{Rest, RingIn, RingOut, Sink, ring};
-use pon_worker::{OpenGate, Turns, Why, WorkerEnd, serve_port};
+use pon_worker::{OpenGate, StopReason, Turns, WorkerEnd, serve_port};
 use std::alloc::Global;
 use std::marker::Brand;
 use std::process::Abort;
@@ -106,7 +106,7 @@ fn made_turns(end: &WorkerEnd, turns: u64) -> bool {
         && end.reports == turns
         && end.garbled == 0
         && end.refused == 0
-        && end.why == Why::Finished
+        && end.why == StopReason::Finished
 }
 
 // Returns whether port 0 keeps a chapter of this number with this number of entries.

@@ -27,7 +27,7 @@ fn post_again<L: Ledger, M: Ledger, R: Wait + Abort>(
         rt,
         seat.expect(rt, "a seat"),
         number(rt, 0),
-        receipt.event().copy(),
+        receipt.entry().event(),
     )
     .expect(rt, "an event that is taken")
 }

@@ -6,7 +6,7 @@ use crate::links::{add_burst, are_maps, bursts, open};
 use pon_desk::Closed;
 use pon_device::{MemRead, MemWrite};
 use pon_units::PortNo;
-use pon_worker::{Gate, OpenGate, Point, Sink, Turns, Why, WorkerEnd, serve_port};
+use pon_worker::{Gate, OpenGate, Point, Sink, StopReason, Turns, WorkerEnd, serve_port};
 use std::alloc::Global;
 use std::marker::Brand;
 use std::process::Abort;
@@ -318,13 +318,13 @@ fn writer(rt: &impl Abort, alloc: Global, case: &Case) -> MemWrite {
     MemWrite::new(alloc, 5, case.writes.to_vec(alloc).expect(rt, "memory"))
 }
 
-fn why(rt: &impl Abort, end: End) -> Why {
+fn why(rt: &impl Abort, end: End) -> StopReason {
     match end {
-        End::Finished => Why::Finished,
-        End::Gave(number) => Why::Gave {
+        End::Finished => StopReason::Finished,
+        End::Gave(number) => StopReason::Gave {
             cause: cause(rt, number),
         },
-        End::GateLimit => Why::GateLimit,
+        End::GateLimit => StopReason::GateLimit,
     }
 }
 

@@ -6,7 +6,7 @@ use crate::links::{are_maps, bursts, open};
 use pon_desk::{Desk, Seat};
 use pon_device::{StdRead, StdWrite};
 use pon_units::PortNo;
-use pon_worker::{OpenGate, Sink, Turns, Why, WorkerEnd, serve_port};
+use pon_worker::{OpenGate, Sink, StopReason, Turns, WorkerEnd, serve_port};
 use std::alloc::Global;
 use std::io::{Read, Write};
 use std::marker::Brand;
@@ -85,11 +85,11 @@ where
 
 fn is_given_up(rt: &impl Abort, end: &WorkerEnd, number: u8) -> bool {
     let cause = cause(rt, number);
-    end.why == Why::Gave { cause }
+    end.why == StopReason::Gave { cause }
 }
 
 fn is_finished(end: &WorkerEnd) -> bool {
-    end.maps == 3 && end.reports == 3 && end.why == Why::Finished
+    end.maps == 3 && end.reports == 3 && end.why == StopReason::Finished
 }
 
 fn has_all_maps(rt: &impl Abort, alloc: Global, units: &mut TcpStream) -> bool {

@@ -6,7 +6,7 @@ use crate::links::{are_maps, bursts, open};
 use pon_desk::{Desk, Seat};
 use pon_device::{MemRead, MemWrite};
 use pon_units::PortNo;
-use pon_worker::{Gate, Point, Sink, Turns, Why, WorkerEnd, serve_port};
+use pon_worker::{Gate, Point, Sink, StopReason, Turns, WorkerEnd, serve_port};
 use std::alloc::Global;
 use std::marker::Brand;
 use std::process::Abort;
@@ -110,7 +110,7 @@ fn is_done<L: Ledger, M: Ledger>(
     put(rt, seats, seat);
     end.maps == 2
         && end.reports == 2
-        && end.why == Why::Finished
+        && end.why == StopReason::Finished
         && are_maps(rt, alloc, writer.bytes(), 2)
 }
 

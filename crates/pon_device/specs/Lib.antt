@@ -1,3 +1,4 @@
 pub mod Counts
 pub mod Device
 pub mod Memory
+pub mod Streams

@@ -1,6 +1,6 @@
 // A reader and a writer over memory, whose contracts give their bytes. The calls that fail are chosen when the device
 // is made.
-ghost use Rattle.std.specs.Prelude.{◌≡◌, ◌<◌, ◌≤◌, ◌↔◌, ◌⊎◌, ℕ, Some, [], length, min, IfOk, IsErr, Contains};
+ghost use Rattle.std.specs.Prelude.{◌≡◌, ◌<◌, ◌≤◌, ◌↔◌, ◌⊎◌, Some, [], length, min, IfOk, IsErr, Contains};
 ghost use Rattle.pon_device.specs.Device.{CountsCall, CountsFailure, ReadConsumes, WriteAppends, Keeps};
 ghost use Rattle.pon_device.specs.Memory.{LacksRoom};
 

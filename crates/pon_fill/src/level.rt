@@ -4,14 +4,14 @@ ghost use Rattle.pon_cert.specs.Certificate.{IsCertificate};
 
 use crate::order::order;
 use crate::rounds::fill_in_rounds;
-use pon_cert::{Item, Level, MOST_ITEMS};
+use pon_cert::{Item, Level, MAX_ITEMS};
 use pon_units::{Frac, LINE_RATE};
 
 pub(crate) fn total_weight(items: &[Item]) -> u64
-    requires count { length items.now ≤ MOST_ITEMS }
+    requires count { length items.now ≤ MAX_ITEMS }
     requires each { All IsItem items.now }
     ensures value { result ≡ sum_by (λ item. item.weight) items.now }
-    ensures small { result ≤ MOST_ITEMS * LINE_RATE }
+    ensures small { result ≤ MAX_ITEMS * LINE_RATE }
 {
     let mut total = 0;
     for item in items {
@@ -45,7 +45,7 @@ fn fill_sorted(items: &[Item], surplus: u64, scratch: &mut [u16], saturated: &mu
 }
 
 // Maximum number of rounds before the items are sorted.
-const MOST_ROUNDS: u32 = 4;
+const MAX_ROUNDS: u32 = 4;
 
 /// Shares the surplus among the items in proportion to their weights, none above its cap: writes to `saturated` which
 /// items are, and returns the level, the rate of an unsaturated item for each unit of its weight. Both together are the
@@ -64,7 +64,7 @@ pub fn fill(items: &[Item], surplus: u64, scratch: &mut [u16], saturated: &mut [
     requires scratch { length scratch.old ≡ length items.now }
     ensures { IsCertificate items.now surplus record { level = result; saturated = saturated.new } }
 {
-    match fill_in_rounds(items, surplus, MOST_ROUNDS, saturated) {
+    match fill_in_rounds(items, surplus, MAX_ROUNDS, saturated) {
         Some(level) => level,
         None => fill_sorted(items, surplus, scratch, saturated),
     }

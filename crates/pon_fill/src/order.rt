@@ -1,9 +1,9 @@
 // Items in the order in which their caps are met as the level increases.
-ghost use Rattle.std.specs.Prelude.{◌≡◌, ◌<◌, ◌≤◌, ◌*◌, ◌/◌, All, length};
+ghost use Rattle.std.specs.Prelude.{◌≡◌, ◌≤◌, ◌*◌, ◌/◌, All, length};
 ghost use Rattle.pon_cert.specs.Problem.{IsItem};
 ghost use Rattle.pon_fill.specs.Order.{IsOrder};
 
-use pon_cert::{Item, MOST_ITEMS};
+use pon_cert::{Item, MAX_ITEMS};
 use pon_units::LINE_RATE;
 
 // The square of the maximum weight. Fractions with denominators up to that weight are equal or differ by 1 / PARTS or
@@ -13,11 +13,11 @@ const PARTS: u64 = LINE_RATE * LINE_RATE;
 // Writes the indexes of the items, sorted by cap over weight.
 pub(crate) fn order(items: &[Item], numbers: &mut [u16])
     requires each { All IsItem items.now }
-    requires count { length items.now ≤ MOST_ITEMS }
+    requires count { length items.now ≤ MAX_ITEMS }
     requires lengths { length numbers.old ≡ length items.now }
     ensures { IsOrder items.now numbers.new }
 {
-    let mut keys = [0; MOST_ITEMS];
+    let mut keys = [0; MAX_ITEMS];
     for (i, item) in items.iter().enumerate() {
         keys[i] = met_at(item);
         numbers[i] = i as u16;

@@ -1,10 +1,10 @@
-ghost use Rattle.std.specs.Prelude.{◌≡◌, ◌+◌, ◌*◌, ◌≤◌, length, All, IfSome, sum_by};
+ghost use Rattle.std.specs.Prelude.{◌≡◌, ◌+◌, ◌*◌, ◌≤◌, length, All, IfSome};
 ghost use Rattle.pon_cert.specs.Problem.{IsItem, IsProblem};
 ghost use Rattle.pon_cert.specs.Certificate.{IsCertificate, unsaturated_weight};
 ghost use Rattle.pon_fill.specs.Rounds.{taken_in, saturated_caps};
 
 use crate::level::total_weight;
-use pon_cert::{Item, Level, MOST_ITEMS};
+use pon_cert::{Item, Level, MAX_ITEMS};
 use pon_units::{Frac, LINE_RATE};
 
 // The sums over the items that a round saturates.
@@ -17,10 +17,10 @@ struct Taken {
 // Makes one round at the level `left / weight`: saturates every item whose cap is met there.
 fn take_in(items: &[Item], left: u64, weight: u64, saturated: &mut [bool]) -> Taken
     requires lengths { length items.now ≡ length saturated.old }
-    requires count { length items.now ≤ MOST_ITEMS }
+    requires count { length items.now ≤ MAX_ITEMS }
     requires each { All IsItem items.now }
     requires left { left ≤ LINE_RATE }
-    requires weight { weight ≤ MOST_ITEMS * LINE_RATE }
+    requires weight { weight ≤ MAX_ITEMS * LINE_RATE }
     ensures taken { saturated.new ≡ taken_in left weight items.now saturated.old }
     ensures weight { unsaturated_weight items.now saturated.new + result.weight
         ≡ unsaturated_weight items.now saturated.old }

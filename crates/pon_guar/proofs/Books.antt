@@ -9,13 +9,13 @@ use Rattle.std.proofs.lemmas.List.Sums.{sum_by-cons}
 use Rattle.pon_units.specs.declared.granted.Granted.{Granted}
 use Rattle.pon_lists.proofs.Lists.{flat_map-map, list_any-map, map_filter, map-map, none_any, sum_by-map, sum_by_agree}
 use Rattle.pon_guar.specs.Book.{Account, AreRising, Counted, alloc_ids, with_alloc}
-use Rattle.pon_window.specs.Window.{IsPlaceOf, AreConsecutive, WindowMap, grants_at, is_of, words_to, words_to_from}
-use Rattle.pon_window.specs.Reports.{with_report}
+use Rattle.pon_guar.specs.Window.{IsPlaceOf, AreConsecutive, WindowMap, grants_at, is_of, words_to, words_to_from}
+use Rattle.pon_guar.specs.ReportChecks.{with_report}
 use Rattle.pon_guar.specs.Reports.{after_occupancies, counting}
 use Rattle.pon_guar.specs.Loads.{afresh, with_account, without_account}
 use Rattle.pon_lists.proofs.Order.{in_order-filter}
 use Rattle.pon_lists.proofs.Inserted.{in_order-inserted, rejoined_at}
-use Rattle.pon_window.proofs.Frames.{frame_at, leads_above, polled_there}
+use Rattle.pon_guar.proofs.Frames.{frame_at, leads_above, polled_there}
 use Rattle.pon_guar.proofs.TakenReports.{counting_ids}
 
 -- One more Alloc-ID.

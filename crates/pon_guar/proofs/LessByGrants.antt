@@ -7,7 +7,7 @@ use Rattle.std.proofs.lemmas.List.Sums.{sum_by-append, sum_by-cons}
 use Rattle.pon_lists.proofs.Lists.{map-map}
 use Rattle.pon_guar.specs.Book.{Account, AreRising, Counted, alloc_ids}
 use Rattle.pon_units.specs.declared.granted.Granted.{Granted}
-use Rattle.pon_window.specs.Window.{words_among}
+use Rattle.pon_guar.specs.Window.{words_among}
 use Rattle.pon_guar.specs.Loads.{less, less_by, lessened}
 use Rattle.pon_guar.proofs.Accounts.{changing}
 

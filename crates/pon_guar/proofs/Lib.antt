@@ -1,5 +1,11 @@
 pub mod Accounts
-pub mod LessByGrants
-pub mod TakenReports
 pub mod Books
+pub mod Frames
+pub mod KeptSums
+pub mod LessByGrants
+pub mod Polls
 pub mod RestoredParts
+pub mod RunningSums
+pub mod Series
+pub mod TakenReports
+pub mod Windows

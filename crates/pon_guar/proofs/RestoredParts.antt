@@ -21,9 +21,9 @@ use Rattle.pon_guar.specs.Book.{Account, StandsAt, account_of, alloc_ids}
 use Rattle.pon_guar.specs.Loads.{with_account}
 use Rattle.pon_guar.specs.Parts.{AreApart, book_from}
 use Rattle.pon_guar.proofs.Books.{admitted_rise}
-use Rattle.pon_window.specs.Window.{AreConsecutive, IsLawfulMap, WindowMap, frame_after, onus_polled}
-use Rattle.pon_window.proofs.Frames.{frame_at}
-use Rattle.pon_window.proofs.Polls.{occurs-distinct, onus_rise}
+use Rattle.pon_guar.specs.Window.{AreConsecutive, IsLawfulMap, WindowMap, frame_after, onus_polled}
+use Rattle.pon_guar.proofs.Frames.{frame_at}
+use Rattle.pon_guar.proofs.Polls.{occurs-distinct, onus_rise}
 
 -- What a test found.
 

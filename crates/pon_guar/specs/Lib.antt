@@ -1,5 +1,8 @@
-pub mod Rates
 pub mod Book
-pub mod Reports
 pub mod Loads
 pub mod Parts
+pub mod Rates
+pub mod ReportChecks
+pub mod Reports
+pub mod Sums
+pub mod Window

@@ -3,8 +3,8 @@ use Rattle.std.specs.Prelude.{ℕ, ◌-◌, nat_lt, List, [], map, Option, None,
 use Rattle.pon_lists.specs.Order.{with_inserted, without_key}
 use Rattle.pon_guar.specs.Book.{Account, Counted}
 use Rattle.pon_units.specs.declared.granted.Granted.{Granted}
-use Rattle.pon_window.specs.Window.{WindowMap, grants_at, with_map, words_among, words_to_from}
-use Rattle.pon_window.specs.Reports.{with_report}
+use Rattle.pon_guar.specs.Window.{WindowMap, grants_at, with_map, words_among, words_to_from}
+use Rattle.pon_guar.specs.ReportChecks.{with_report}
 use Rattle.pon_guar.specs.Reports.{after_occupancies}
 
 -- accounts in ascending Alloc-ID, and the window in ascending frame

@@ -1,7 +1,7 @@
 -- A report book from its parts: the accounts in any order, and the maps of the window.
 use Rattle.std.specs.Prelude.{◌≡◌, ◌==◌, false, List, [], ◌∷◌}
 use Rattle.std.specs.List.{list_any}
-use Rattle.pon_window.specs.Window.{IsWindow, WindowMap}
+use Rattle.pon_guar.specs.Window.{IsWindow, WindowMap}
 use Rattle.pon_guar.specs.declared.parts.LoadsFault.{LoadsFault}
 use Rattle.pon_guar.specs.declared.parts.LoadsFault.TheVariants.{Unlawful, Memory}
 use Rattle.pon_guar.specs.Book.{Account}

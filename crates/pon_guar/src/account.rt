@@ -1,6 +1,6 @@
 //! The accounts of the report book: one for each admitted Alloc-ID, in ascending Alloc-ID.
 
-ghost use Rattle.std.specs.Prelude.{◌≡◌, ◌<◌, ◌≤◌, ◌++◌, ◌∷◌, nat_lt, not, None, filter, take, drop, length, MatchOption, vec_len, vec_capacity};
+ghost use Rattle.std.specs.Prelude.{◌≡◌, ◌<◌, ◌≤◌, nat_lt, not, None, filter, take, drop, length, MatchOption, vec_len, vec_capacity};
 ghost use Rattle.pon_guar.specs.Book.{AreRising, StandsAt, account_of, alloc_ids};
 ghost use Rattle.pon_guar.specs.Loads.{with_account, without_account};
 

@@ -2,15 +2,16 @@
 
 ghost use Rattle.std.specs.Prelude.{◌≡◌, ◌≤◌, ◌==◌, true, drop, filter, length, map, sum_by};
 ghost use Rattle.std.specs.List.{list_any};
-ghost use Rattle.pon_window.specs.Window.{IsLawfulMap, grants_at, is_of, words_to, words_to_from};
+ghost use Rattle.pon_guar.specs.Window.{IsLawfulMap, grants_at, is_of, words_to, words_to_from};
 ghost use Rattle.pon_guar.specs.Book.{AreRising, alloc_ids};
 ghost use Rattle.pon_guar.specs.Reports.{after_occupancies, counting, taking};
 ghost use Rattle.pon_guar.specs.Loads.{afresh};
 
 use crate::account::{Account, Counted, index_near};
 use crate::deduction::{hint_at, words_left};
+use crate::map::WindowMap;
+use crate::window::Window;
 use pon_units::{AllocId, BufOcc, FrameNo, OnuId};
-use pon_window::{Window, WindowMap};
 
 // Returns an account after a report: the report counts if its frame is at least `since` and no report of a later frame
 // counts.
@@ -97,10 +98,7 @@ pub(crate) fn count_report(
     ensures { accounts.new ≡ after_occupancies (λ i. words_to_from onu i frame window.now) frame
         (grants_at frame onu window.now) occupancies.now accounts.old }
 {
-    let place = match window.place_of(frame) {
-        Some(place) => place,
-        None => unreachable!(),
-    };
+    let place = window.place_of(frame).unwrap();
     let maps = window.maps();
     count_occupancies(
         accounts,

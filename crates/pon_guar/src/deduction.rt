@@ -11,10 +11,7 @@ use pon_units::{BufOcc, Granted, Words};
 pub(crate) fn words_left(reported: BufOcc, granted: u32) -> BufOcc
     ensures { result ≡ reported - granted }
 {
-    match BufOcc::new(reported.get().saturating_sub(granted)) {
-        None => unreachable!(),
-        Some(words) => words,
-    }
+    BufOcc::new(reported.get().saturating_sub(granted)).unwrap()
 }
 
 // Returns an account after a grant of these words: its report is reduced by them.

@@ -4,10 +4,11 @@ ghost use Rattle.pon_guar.specs.Book.{load_of_counted};
 use crate::account::{Account, Counted, account_of, add_account, index_near, remove_account};
 use crate::counting::{count_report, forget};
 use crate::deduction::{deduct_grants, hint_at};
+use crate::map::WindowMap;
 use crate::parts::{LoadsFault, MapParts, in_ascending_order, is_window, restore_window};
+use crate::window::Window;
 use pon_descr::Refusal;
 use pon_units::{AllocId, BufOcc, FrameNo, Granted, Kbps, OnuId, WORD_RATE};
-use pon_window::{Window, WindowMap};
 use std::alloc::{AllocError, Global};
 use std::marker::Model;
 
@@ -42,10 +43,7 @@ fn load_of_report(counted: Option<Counted>) -> Kbps
         None => 0,
         Some(report) => report.words.get(),
     };
-    match Kbps::new(WORD_RATE as u32 * words) {
-        Some(load) => load,
-        None => unreachable!(),
-    }
+    Kbps::new(WORD_RATE as u32 * words).unwrap()
 }
 
 impl Loads {
@@ -55,8 +53,8 @@ impl Loads {
     ghost use Rattle.pon_units.specs.Granted.{AreInMapOrder};
     ghost use Rattle.pon_descr.specs.Checks.{IsTold};
     ghost use Rattle.pon_guar.specs.Book.{account_of, alloc_ids, known_report, known_since, load_of};
-    ghost use Rattle.pon_window.specs.Window.{IsWindow, AreConsecutive};
-    ghost use Rattle.pon_window.specs.Reports.{refuses_report};
+    ghost use Rattle.pon_guar.specs.Window.{IsWindow, AreConsecutive};
+    ghost use Rattle.pon_guar.specs.ReportChecks.{refuses_report};
     ghost use Rattle.pon_guar.specs.Parts.{AreParts, RefusesParts, loads_from};
     ghost use Rattle.pon_guar.specs.Loads.{after_admitted, after_cleared, after_mapped, after_removed, after_reported};
 

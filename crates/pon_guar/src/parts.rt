@@ -4,13 +4,13 @@ ghost use Rattle.std.specs.Prelude.{◌≡◌, ◌+◌, ◌==◌, ◌↔◌, All
 ghost use Rattle.std.specs.List.{list_any};
 ghost use Rattle.pon_units.specs.Granted.{AreInMapOrder, ComesBefore};
 ghost use Rattle.pon_lists.specs.Order.{AreRising};
-ghost use Rattle.pon_window.specs.Window.{AreConsecutive, IsLawfulMap, IsWindow, frame_after};
+ghost use Rattle.pon_guar.specs.Window.{AreConsecutive, IsLawfulMap, IsWindow, frame_after};
 ghost use Rattle.pon_guar.specs.Parts.{AreApart, book_from};
 ghost use Rattle.pon_guar.specs.declared.parts.LoadsFault.TheVariants as fault;
 
 use crate::account::{Account, add_account, index_of};
+use crate::window::{MAX_MAPS, Window};
 use pon_units::{FrameNo, Granted, OnuId};
-use pon_window::{MOST_MAPS, Window};
 use std::alloc::{AllocError, Global};
 use std::marker::Model;
 
@@ -23,7 +23,7 @@ pub struct MapParts<'a> {
 }
 
 impl<'a> Model for MapParts<'a> {
-    ghost use Rattle.pon_window.specs.Window.{WindowMap};
+    ghost use Rattle.pon_guar.specs.Window.{WindowMap};
 
     ghost Value = { WindowMap };
 
@@ -160,7 +160,7 @@ fn are_consecutive(maps: &[MapParts<'_>]) -> bool
 pub(crate) fn is_window(maps: &[MapParts<'_>]) -> bool
     ensures { IsTrue result ↔ IsWindow maps.now }
 {
-    maps.len() <= MOST_MAPS && are_consecutive(maps) && are_lawful_maps(maps)
+    maps.len() <= MAX_MAPS && are_consecutive(maps) && are_lawful_maps(maps)
 }
 
 /// Makes a window of copies of maps. `Err` only if memory is refused.

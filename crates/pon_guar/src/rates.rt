@@ -24,8 +24,5 @@ pub fn cap(descriptor: &Descriptor, load: Kbps) -> Kbps
     prove!(descriptor.promised() <= descriptor.max());
     let most = load.max(descriptor.fixed()).min(descriptor.max());
     let rest = most.get() - guaranteed(descriptor, load).get();
-    match Kbps::new(rest) {
-        Some(rate) => rate,
-        None => unreachable!(),
-    }
+    Kbps::new(rest).unwrap()
 }

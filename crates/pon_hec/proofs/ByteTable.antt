@@ -2,7 +2,7 @@
 use Rattle.std.proofs.Common.{◌≡◌, ℕ, zero, suc, ◌+◌, ◌-◌, ◌*◌, ◌/◌, ◌%◌, ◌^◌, ◌<◌, ◌≤◌, Bool, true, ◌&&◌, List, [], ◌∷◌, length, get_or, eqb, refl, ap, sym, ◌∙◌, subst, arith, lit<}
 use Rattle.std.specs.Prelude.{bit_xor}
 use Rattle.std.specs.Int.Bits.{xor_shifted}
-use Rattle.std.proofs.lemmas.Nat.{xor_comm, xor_block, xor_lt, pow_pos, pow-add, pow_below, mod_below, mod_low, shl_below}
+use Rattle.std.proofs.lemmas.Nat.{xor_comm, xor_block, xor_lt, pow_pos, pow-add, mod_below, mod_low, shl_below}
 use Rattle.std.proofs.Math.Nat.{pow-le-pow_right}
 use lib.Arith.{mod-mul}
 use Rattle.std.proofs.lemmas.Bool.{and_parts, eqb-true}

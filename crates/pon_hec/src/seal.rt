@@ -1,4 +1,4 @@
-ghost use Rattle.std.specs.Prelude.{◌≡◌, ◌^◌, ◌*◌, ◌<◌, ◌≤◌, ◌/◌, bit_xor};
+ghost use Rattle.std.specs.Prelude.{◌≡◌, ◌^◌, ◌*◌, ◌<◌, ◌≤◌, ◌/◌};
 ghost use Rattle.pon_units.specs.Polynomial.{remainder};
 ghost use Rattle.pon_hec.specs.HeaderCode.{generator, IsCodeword, sealed};
 

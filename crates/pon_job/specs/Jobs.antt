@@ -10,7 +10,7 @@ use Rattle.clap.specs.declared.builder.action.ArgAction.TheVariants.{SetTrue}
 use Rattle.clap.specs.declared.builder.value_parser.ValueParser.TheVariants.{Unsigned}
 use Rattle.clap.specs.declared.error.Error.{Error}
 use Rattle.clap.specs.declared.error.kind.ErrorKind.TheVariants.{InvalidSubcommand}
-use Rattle.pon_job.specs.declared.task.TheConstants.{MOST_MAPS}
+use Rattle.pon_job.specs.declared.task.TheConstants.{MAX_MAPS}
 use Rattle.pon_job.specs.declared.task.Job.{Job}
 use Rattle.pon_job.specs.declared.task.Job.TheVariants.{Plan, Check, Audit, Info, Migrate, Run}
 
@@ -35,7 +35,7 @@ abbrev pub maps_rule : Rule
 maps_rule = record (new_rule (codes "maps")) {
   long = Some (codes "maps");
   value_names = 1;
-  parser = Some (Unsigned 1 MOST_MAPS);
+  parser = Some (Unsigned 1 MAX_MAPS);
   required = true;
 }
 
@@ -97,7 +97,7 @@ word_of (Run config listen maps recording operate settle) = codes "run"
 
 -- the text is this number, in decimal digits after an optional plus sign, in the range of the maps of a run
 pub record SpellsMaps (text : List ℕ) (maps : ℕ) : Type 0 where
-  pub in_range : IsUnsignedIn 1 MOST_MAPS text
+  pub in_range : IsUnsignedIn 1 MAX_MAPS text
   pub number : digits_value 10 (without_leading_plus text) ≡ maps
 
 -- the matches have this number of maps

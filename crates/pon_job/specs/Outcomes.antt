@@ -2,8 +2,8 @@
 use Rattle.std.specs.Prelude.{ℕ, Bool, true, false, Result, Ok, Err}
 use Rattle.clap.specs.declared.error.kind.ErrorKind.{ErrorKind}
 use Rattle.clap.specs.declared.error.kind.ErrorKind.TheVariants.{DisplayHelp, DisplayVersion, OutOfMemory}
-use Rattle.pon_stream.specs.declared.fault.PlanFault.{PlanFault}
-use Rattle.pon_stream.specs.declared.fault.PlanFault.TheVariants.{Memory}
+use Rattle.pon_device.specs.declared.fault.DeviceFault.{DeviceFault}
+use Rattle.pon_device.specs.declared.fault.DeviceFault.TheVariants.{Memory}
 use Rattle.pon_job.specs.declared.outcome.Outcome.{Outcome}
 use Rattle.pon_job.specs.declared.task.Job.{Job}
 use Rattle.pon_job.specs.declared.task.Job.TheVariants.{Plan, Check, Audit, Info, Migrate, Run}
@@ -20,24 +20,24 @@ exit_status (Failed fault) = 3
 exit_status Unfinished = 3
 
 -- a job without a verdict is done, or failed
-abbrev pub outcome_of_run : {T : Type 0} → Result T PlanFault → Outcome
+abbrev pub outcome_of_run : {T : Type 0} → Result T DeviceFault → Outcome
 outcome_of_run (Ok end) = Done
 outcome_of_run (Err fault) = Failed fault
 
 -- a check accepts or refuses, or failed
-abbrev pub outcome_of_check : Result Bool PlanFault → Outcome
+abbrev pub outcome_of_check : Result Bool DeviceFault → Outcome
 outcome_of_check (Ok true) = Done
 outcome_of_check (Ok false) = Refused
 outcome_of_check (Err fault) = Failed fault
 
 -- a run at ports serves each of them to its last map, or does not, or failed
-abbrev pub outcome_of_ports : Result Bool PlanFault → Outcome
+abbrev pub outcome_of_ports : Result Bool DeviceFault → Outcome
 outcome_of_ports (Ok true) = Done
 outcome_of_ports (Ok false) = Unfinished
 outcome_of_ports (Err fault) = Failed fault
 
 -- lines have no verdict; a check file, a recording and a recording to show or to migrate are accepted or refused; ports are served
-abbrev pub outcome_of_job : Job → Result Bool PlanFault → Outcome
+abbrev pub outcome_of_job : Job → Result Bool DeviceFault → Outcome
 outcome_of_job (Plan config) ended = outcome_of_run ended
 outcome_of_job (Check file) ended = outcome_of_check ended
 outcome_of_job (Audit file) ended = outcome_of_check ended

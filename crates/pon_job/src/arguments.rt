@@ -7,7 +7,7 @@ ghost use Rattle.clap.specs.Simple.{subcommand_of};
 ghost use Rattle.pon_job.specs.Jobs.{HasMaps, IsJob, NamesNoJob, RefusesWords, SpellsMaps, olt_app};
 
 use crate::commands::olt_command;
-use crate::task::{Job, MOST_MAPS};
+use crate::task::{Job, MAX_MAPS};
 use clap::error::ErrorKind;
 use clap::{ArgMatches, Error};
 use std::alloc::Global;
@@ -17,7 +17,7 @@ fn maps_in(text: &str) -> Option<u64>
     ensures { MatchOption result ((maps : ℕ) → ¬ SpellsMaps text.now maps) (SpellsMaps text.now) }
 {
     match text.parse::<u64>() {
-        Ok(maps @ 1..=MOST_MAPS) => Some(maps),
+        Ok(maps @ 1..=MAX_MAPS) => Some(maps),
         _ => None,
     }
 }

@@ -7,7 +7,7 @@ ghost use Rattle.clap.specs.Simple.{app_of, shape_of};
 ghost use Rattle.pon_job.specs.Jobs.{config_rule, file_rule, listen_rule, maps_rule, operate_rule, out_rule, record_rule, settle_rule};
 ghost use Rattle.pon_job.specs.Jobs.{audit_shape, check_shape, info_shape, migrate_shape, olt_app, plan_shape, run_shape, top_app};
 
-use crate::task::MOST_MAPS;
+use crate::task::MAX_MAPS;
 use clap::builder::ValueParser;
 use clap::{Arg, ArgAction, Command};
 use std::alloc::{AllocError, Global};
@@ -71,7 +71,7 @@ fn maps_arg<'a>(alloc: Global) -> Arg<'a>
         .long("maps")
         .value_name("NUMBER")
         .help("The number of maps that each port makes, 1 to 1000000000")
-        .value_parser(ValueParser::unsigned(1, MOST_MAPS))
+        .value_parser(ValueParser::unsigned(1, MAX_MAPS))
         .required(true)
 }
 

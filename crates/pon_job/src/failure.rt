@@ -2,10 +2,10 @@
 
 ghost use Rattle.std.specs.Prelude.{◌≡◌};
 ghost use Rattle.std.specs.IoError.{error_kind};
-ghost use Rattle.pon_stream.specs.declared.fault.PlanFault.TheVariants.{Memory};
+ghost use Rattle.pon_device.specs.declared.fault.DeviceFault.TheVariants.{Memory};
 ghost use Rattle.std.specs.declared.io.ErrorKind.TheVariants.{OutOfMemory};
 
-use pon_stream::PlanFault;
+use pon_device::DeviceFault;
 use std::alloc::Global;
 use std::fmt::{self, Display, Formatter, Write};
 use std::io::{self, ErrorKind};
@@ -41,17 +41,17 @@ impl Display for Named<'_> {
 #[derive(Debug, PartialEq, Eq, Drop)]
 pub struct Failure {
     /// What failed.
-    pub fault: PlanFault,
+    pub fault: DeviceFault,
     /// The file or the address and the reason, as `settings ports.toml: not found`.
     pub text: Option<String>,
 }
 
-impl From<PlanFault> for Failure {
+impl From<DeviceFault> for Failure {
     ghost use Rattle.std.specs.Prelude.{◌≡◌, None};
 
     ghost from_gives = { λ fault failure. failure ≡ record { fault = fault; text = None } };
 
-    fn from(fault: PlanFault) -> Self {
+    fn from(fault: DeviceFault) -> Self {
         Failure { fault, text: None }
     }
 }
@@ -78,13 +78,13 @@ fn reason_of(named: Named<'_>, kind: ErrorKind) -> Option<&'static str> {
 impl Failure {
     /// Makes the failure of a file or an address. It is `Memory`, without a text, if the error is of refused memory; if
     /// memory for the text is refused, there is none.
-    pub fn of(alloc: Global, fault: PlanFault, named: Named<'_>, error: &io::Error) -> Self
+    pub fn of(alloc: Global, fault: DeviceFault, named: Named<'_>, error: &io::Error) -> Self
         ensures memory { error_kind error.now ≡ OutOfMemory → result.fault ≡ Memory }
         ensures other { ¬ (error_kind error.now ≡ OutOfMemory) → result.fault ≡ fault }
     {
         let kind = error.kind();
         if kind == ErrorKind::OutOfMemory {
-            return Failure::from(PlanFault::Memory);
+            return Failure::from(DeviceFault::Memory);
         }
         let text = match reason_of(named, kind) {
             Some(reason) => format!(in alloc; "{named}: {reason}"),
@@ -97,22 +97,22 @@ impl Failure {
     }
 
     /// Makes the failure of a job that reads a file, which its text names if it is a failed read.
-    pub fn in_reading(alloc: Global, fault: PlanFault, named: Named<'_>) -> Self
+    pub fn in_reading(alloc: Global, fault: DeviceFault, named: Named<'_>) -> Self
         ensures { result.fault ≡ fault }
     {
         let text = match fault {
-            PlanFault::Read => format!(in alloc; "{named}: cannot be read").ok(),
+            DeviceFault::Read => format!(in alloc; "{named}: cannot be read").ok(),
             _ => None,
         };
         Failure { fault, text }
     }
 
     /// Makes the failure of a job that writes a file, which its text names if it is a failed write.
-    pub fn in_writing(alloc: Global, fault: PlanFault, named: Named<'_>) -> Self
+    pub fn in_writing(alloc: Global, fault: DeviceFault, named: Named<'_>) -> Self
         ensures { result.fault ≡ fault }
     {
         let text = match fault {
-            PlanFault::Write => format!(in alloc; "{named}: cannot be written").ok(),
+            DeviceFault::Write => format!(in alloc; "{named}: cannot be written").ok(),
             _ => None,
         };
         Failure { text, fault }

@@ -7,7 +7,7 @@ ghost use Rattle.pon_job.specs.Outcomes.{exit_status, outcome_of_check, outcome_
 use crate::task::Job;
 use clap::Error;
 use clap::error::ErrorKind;
-use pon_stream::PlanFault;
+use pon_device::DeviceFault;
 
 /// Outcome of a run of the program.
 #[derive(Clone, Copy, Debug, PartialEq, Eq)]
@@ -21,7 +21,7 @@ pub enum Outcome {
     /// The settings are refused.
     Settings,
     /// A device failed, or memory was refused.
-    Failed(PlanFault),
+    Failed(DeviceFault),
     /// A port was not served to its last map.
     Unfinished,
 }
@@ -41,7 +41,7 @@ pub fn exit_status(outcome: Outcome) -> u8
 }
 
 /// Returns the outcome of a job without a verdict, such as answering management lines.
-pub fn outcome_of_run<T: Drop>(ended: Result<T, PlanFault>) -> Outcome
+pub fn outcome_of_run<T: Drop>(ended: Result<T, DeviceFault>) -> Outcome
     ensures { result ≡ outcome_of_run ended }
 {
     match ended {
@@ -51,7 +51,7 @@ pub fn outcome_of_run<T: Drop>(ended: Result<T, PlanFault>) -> Outcome
 }
 
 /// Returns the outcome of a check, an audit or a migration; `true` is acceptance.
-pub fn outcome_of_check(verdict: Result<bool, PlanFault>) -> Outcome
+pub fn outcome_of_check(verdict: Result<bool, DeviceFault>) -> Outcome
     ensures { result ≡ outcome_of_check verdict }
 {
     match verdict {
@@ -61,7 +61,7 @@ pub fn outcome_of_check(verdict: Result<bool, PlanFault>) -> Outcome
 }
 
 /// Returns the outcome of a run at ports; `true` means that each port was served to its last map.
-pub fn outcome_of_ports(ended: Result<bool, PlanFault>) -> Outcome
+pub fn outcome_of_ports(ended: Result<bool, DeviceFault>) -> Outcome
     ensures { result ≡ outcome_of_ports ended }
 {
     match ended {
@@ -72,7 +72,7 @@ pub fn outcome_of_ports(ended: Result<bool, PlanFault>) -> Outcome
 
 /// Returns the outcome of a job, from how it ended: `true` is acceptance, or that the job without a verdict is done, or
 /// that each port was served to its last map.
-pub fn outcome_of_job(job: &Job<'_>, ended: Result<bool, PlanFault>) -> Outcome
+pub fn outcome_of_job(job: &Job<'_>, ended: Result<bool, DeviceFault>) -> Outcome
     ensures { result ≡ outcome_of_job job.now ended }
 {
     match *job {
@@ -90,7 +90,7 @@ pub fn outcome_of_words(error: &Error) -> Outcome
 {
     match error.kind() {
         ErrorKind::DisplayHelp | ErrorKind::DisplayVersion => Outcome::Done,
-        ErrorKind::OutOfMemory => Outcome::Failed(PlanFault::Memory),
+        ErrorKind::OutOfMemory => Outcome::Failed(DeviceFault::Memory),
         _ => Outcome::CommandLine,
     }
 }

@@ -1,5 +1,5 @@
 /// Maximum number of maps of a run at each port.
-pub const MOST_MAPS: u64 = 1_000_000_000;
+pub const MAX_MAPS: u64 = 1_000_000_000;
 
 /// A job of the program.
 #[derive(Clone, Copy, Debug, PartialEq, Eq)]
@@ -26,7 +26,7 @@ pub enum Job<'a> {
         file: &'a str,
         out: &'a str,
     },
-    /// Make `maps` maps, 1 to `MOST_MAPS`, at each port of the settings file `config`, over sockets at the address
+    /// Make `maps` maps, 1 to `MAX_MAPS`, at each port of the settings file `config`, over sockets at the address
     /// `listen`; `record` is the file for a recording of their chapters, `operate` a file of management lines for an
     /// operator, and with `settle` each port is settled at the end with the receipts of all posts.
     Run {

@@ -3,7 +3,7 @@ use Rattle.std.proofs.Common.{ℕ, Bool, true, false, List, [], ◌∷◌, lengt
 use Rattle.std.specs.Prelude.{nat_lt, not, codes, if◌then◌else◌, Result, Ok, Err}
 use Rattle.std.specs.Str.{bytes_eq}
 use Rattle.std.specs.List.{list_all}
-use Rattle.pon_event.specs.declared.event.Event.{Event}
+use Rattle.pon_admit.specs.declared.event.Event.{Event}
 use Rattle.pon_text.specs.Lines.{words_of, without_return}
 use Rattle.pon_line.specs.Commands.{no_arguments, event_of}
 use Rattle.pon_line.specs.Reading.{read_line, read_words, request_of, by_port, shows, takes, port_of, is_comment, is_text}

@@ -3,7 +3,7 @@ use Rattle.std.proofs.Common.{◌≡◌, ℕ, ◌<◌, Bool, true, false, List, 
 use Rattle.std.specs.Prelude.{nat_lt, not, codes, if◌then◌else◌, Result, Ok, Err}
 use Rattle.std.specs.List.{list_all}
 use Rattle.std.specs.Str.{bytes_eq}
-use Rattle.pon_event.specs.declared.event.Event.{Event}
+use Rattle.pon_admit.specs.declared.event.Event.{Event}
 use Rattle.std.proofs.lemmas.Bool.{ltb-true}
 use Rattle.pon_text.specs.Lines.{words_of, without_return}
 use Rattle.pon_lists.specs.ResultSteps.{◌>>=◌}

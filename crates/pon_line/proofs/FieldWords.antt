@@ -5,7 +5,7 @@ use Rattle.std.specs.Str.{bytes_eq}
 use Rattle.pon_text.specs.Lines.{number_of}
 use Rattle.std.proofs.lemmas.Bool.{cases_lt, le-ltb, lt-ltb}
 use Rattle.std.proofs.lemmas.List.{append-nil}
-use Rattle.pon_units.specs.declared.limits.TheConstants.{GREATEST_OCCUPANCY}
+use Rattle.pon_units.specs.declared.limits.TheConstants.{MAX_OCCUPANCY}
 use Rattle.pon_lists.specs.ResultSteps.{◌>>=◌}
 use Rattle.pon_line.specs.Fields.{number_field, or_bad_field}
 use Rattle.pon_line.specs.Commands.{occupancy_field, occupancy_fields, report, report_of}
@@ -78,9 +78,9 @@ occupancy_fault w fault h = by (bytes_eq w (codes "x")) (number_field w) (one_fa
     above true n h = grind (arith, h)
     above false n h = grind (arith, h)
 
-    by : (b : Bool) (r : Result ℕ LineFault) → ((f : LineFault) → r ≡ Err f → f ≡ BadField) → (if b then Ok None else (r >>= λ n. if nat_lt GREATEST_OCCUPANCY n then Err BadField else Ok (Some n))) ≡ Err fault → fault ≡ BadField
+    by : (b : Bool) (r : Result ℕ LineFault) → ((f : LineFault) → r ≡ Err f → f ≡ BadField) → (if b then Ok None else (r >>= λ n. if nat_lt MAX_OCCUPANCY n then Err BadField else Ok (Some n))) ≡ Err fault → fault ≡ BadField
     by true r one h = grind (arith, h)
-    by false (Ok n) one h = above (nat_lt GREATEST_OCCUPANCY n) n h
+    by false (Ok n) one h = above (nat_lt MAX_OCCUPANCY n) n h
     by false (Err f) one h = grind (arith, h, one f refl)
 
 bad_report : (frame onu : List ℕ) (ws : List (List ℕ)) (fault : LineFault) → count_fails ws ≡ false → occupancy_fields ws ≡ Err fault → fault ≡ BadField → report_of (frame ∷ onu ∷ ws) ≡ Err fault

@@ -2,11 +2,11 @@
 use Rattle.std.proofs.Common.{◌≡◌, ℕ, Bool, true, false, List, [], ◌∷◌}
 use Rattle.std.specs.Prelude.{◌||◌, nat_lt, codes, if◌then◌else◌, Option, Some, None, Result, Ok, Err}
 use Rattle.std.specs.Str.{bytes_eq}
-use Rattle.pon_descr.specs.Checks.{first_of}
+use Rattle.pon_descr.specs.Checks.{first_refusal_of}
 use Rattle.pon_descr.specs.Descriptor.{Descriptor, descriptor_refusal}
 use Rattle.pon_descr.specs.declared.refusal.Refusal.{Refusal}
-use Rattle.pon_event.specs.declared.event.Event.{Event}
-use Rattle.pon_event.specs.declared.event.Event.TheVariants.{Admit, Change, Fail, Remove, Restore}
+use Rattle.pon_admit.specs.declared.event.Event.{Event}
+use Rattle.pon_admit.specs.declared.event.Event.TheVariants.{Admit, Change, Fail, Remove, Restore}
 use Rattle.pon_lists.specs.ResultSteps.{◌>>=◌}
 use Rattle.pon_line.specs.Commands.{admit, admit_of, alloc_refusal, change, change_of, event_of, fail_of, no_arguments, onu_refusal, remove, remove_of, unless}
 use Rattle.pon_line.specs.Fields.{descriptor_words, number_field, rate_fields}
@@ -28,11 +28,11 @@ unrefused (Some refusal) v h = tt
 
 admits : (onu alloc : ℕ) (d : Descriptor) → Reads IsOtherEvent (admit onu alloc d)
 unfolding admit
-admits onu alloc d = unrefused (first_of (alloc_refusal alloc ∷ onu_refusal onu ∷ descriptor_refusal d ∷ [])) (Admit onu alloc d) tt
+admits onu alloc d = unrefused (first_refusal_of (alloc_refusal alloc ∷ onu_refusal onu ∷ descriptor_refusal d ∷ [])) (Admit onu alloc d) tt
 
 changes : (alloc : ℕ) (d : Descriptor) → Reads IsOtherEvent (change alloc d)
 unfolding change
-changes alloc d = unrefused (first_of (alloc_refusal alloc ∷ descriptor_refusal d ∷ [])) (Change alloc d) tt
+changes alloc d = unrefused (first_refusal_of (alloc_refusal alloc ∷ descriptor_refusal d ∷ [])) (Change alloc d) tt
 
 removes : (alloc : ℕ) → Reads IsOtherEvent (remove alloc)
 unfolding remove

@@ -1,13 +1,13 @@
 -- The commands of management lines: what the words after the port request.
 use Rattle.std.specs.Prelude.{ℕ, ◌≤◌, ◌==◌, ◌||◌, nat_lt, if◌then◌else◌, List, [], ◌∷◌, length, codes, Option, Some, None, Result, Ok, Err}
 use Rattle.std.specs.Str.{bytes_eq}
-use Rattle.pon_units.specs.declared.limits.TheConstants.{GREATEST_ALLOC_ID, GREATEST_OCCUPANCY, GREATEST_ONU_ID, LEAST_ALLOC_ID, LONGEST_SERIES}
-use Rattle.pon_descr.specs.Checks.{when, first_of}
+use Rattle.pon_units.specs.declared.limits.TheConstants.{MAX_ALLOC_ID, MAX_OCCUPANCY, MAX_ONU_ID, MIN_ALLOC_ID, MAX_SERIES}
+use Rattle.pon_descr.specs.Checks.{when, first_refusal_of}
 use Rattle.pon_descr.specs.Descriptor.{Descriptor, descriptor_refusal}
 use Rattle.pon_descr.specs.declared.refusal.Refusal.{Refusal}
 use Rattle.pon_descr.specs.declared.refusal.Refusal.TheVariants.{AllocRange, OnuRange}
-use Rattle.pon_event.specs.declared.event.Event.{Event}
-use Rattle.pon_event.specs.declared.event.Event.TheVariants.{Admit, Change, Fail, MakeMap, Remove, Report, Restore}
+use Rattle.pon_admit.specs.declared.event.Event.{Event}
+use Rattle.pon_admit.specs.declared.event.Event.TheVariants.{Admit, Change, Fail, MakeMap, Remove, Report, Restore}
 use Rattle.pon_lists.specs.ResultSteps.{◌>>=◌}
 use Rattle.pon_line.specs.Fields.{number_field, descriptor_words, rate_fields}
 use Rattle.pon_line.specs.declared.fault.LineFault.{LineFault}
@@ -19,17 +19,17 @@ unless None event = Ok event
 unless (Some refusal) event = Err (Port refusal)
 
 abbrev pub alloc_refusal : ℕ → Option Refusal
-alloc_refusal alloc = when (nat_lt alloc LEAST_ALLOC_ID || nat_lt GREATEST_ALLOC_ID alloc) AllocRange
+alloc_refusal alloc = when (nat_lt alloc MIN_ALLOC_ID || nat_lt MAX_ALLOC_ID alloc) AllocRange
 
 abbrev pub onu_refusal : ℕ → Option Refusal
-onu_refusal onu = when (nat_lt GREATEST_ONU_ID onu) OnuRange
+onu_refusal onu = when (nat_lt MAX_ONU_ID onu) OnuRange
 
 -- the events of numbers, or the first refusal
 unfoldable pub admit : ℕ → ℕ → Descriptor → Result Event LineFault
-admit onu alloc d = unless (first_of (alloc_refusal alloc ∷ onu_refusal onu ∷ descriptor_refusal d ∷ [])) (Admit onu alloc d)
+admit onu alloc d = unless (first_refusal_of (alloc_refusal alloc ∷ onu_refusal onu ∷ descriptor_refusal d ∷ [])) (Admit onu alloc d)
 
 unfoldable pub change : ℕ → Descriptor → Result Event LineFault
-change alloc d = unless (first_of (alloc_refusal alloc ∷ descriptor_refusal d ∷ [])) (Change alloc d)
+change alloc d = unless (first_refusal_of (alloc_refusal alloc ∷ descriptor_refusal d ∷ [])) (Change alloc d)
 
 unfoldable pub remove : ℕ → Result Event LineFault
 remove alloc = unless (alloc_refusal alloc) (Remove alloc)
@@ -62,7 +62,7 @@ remove_of _ = Err WordCount
 unfoldable pub occupancy_field : List ℕ → Result (Option ℕ) LineFault
 occupancy_field w = if bytes_eq w (codes "x") then Ok None else (do
   n ← number_field w
-  if nat_lt GREATEST_OCCUPANCY n then Err BadField else Ok (Some n))
+  if nat_lt MAX_OCCUPANCY n then Err BadField else Ok (Some n))
 
 unfoldable pub occupancy_fields : List (List ℕ) → Result (List (Option ℕ)) LineFault
 occupancy_fields [] = Ok []
@@ -77,11 +77,11 @@ report frame onu ns = unless (onu_refusal onu) (Report frame onu ns)
 -- the number of occupancies of a report
 pub record IsReportCount (n : ℕ) : Type 0 where
   pub some : 1 ≤ n
-  pub few : n ≤ LONGEST_SERIES
+  pub few : n ≤ MAX_SERIES
 
 -- the words after `report`: frame, onu, and 1 to 16 occupancies
 unfoldable pub report_of : List (List ℕ) → Result Event LineFault
-report_of (frame ∷ onu ∷ ws) = if length ws == 0 || nat_lt LONGEST_SERIES (length ws) then Err WordCount else (do
+report_of (frame ∷ onu ∷ ws) = if length ws == 0 || nat_lt MAX_SERIES (length ws) then Err WordCount else (do
   f ← number_field frame
   u ← number_field onu
   ns ← occupancy_fields ws

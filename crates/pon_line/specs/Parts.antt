@@ -1,11 +1,11 @@
 -- The readings of lines that are read in parts.
 use Rattle.std.specs.Prelude.{ℕ, List, Option}
-use Rattle.pon_event.specs.declared.event.Event.{Event}
-use Rattle.pon_event.specs.declared.event.Event.TheVariants.{Admit, Change, Fail, MakeMap, Remove, Report, Restore}
+use Rattle.pon_admit.specs.declared.event.Event.{Event}
+use Rattle.pon_admit.specs.declared.event.Event.TheVariants.{Admit, Change, Fail, MakeMap, Remove, Report, Restore}
 use Rattle.pon_text.specs.Lines.{words_of}
 use Rattle.pon_line.specs.Reading.{request_of}
 use Rattle.pon_line.specs.declared.reading.Front.{Front}
-use Rattle.pon_line.specs.declared.reading.FrameLine.{FrameLine}
+use Rattle.pon_line.specs.declared.reading.FrameCommand.{FrameCommand}
 use Rattle.pon_line.specs.declared.reading.Reading.{Reading}
 use Rattle.pon_line.specs.declared.reading.Reading.TheVariants.{Nothing, Refused, Asks, AsksCert, AsksState}
 
@@ -16,9 +16,9 @@ goes_on (Front.Refused fault) = Refused fault
 goes_on (Front.Names port rest) = request_of port (words_of rest.now)
 
 -- the reading of a line that each frame brings, with the occupancies of its report
-abbrev pub asks_in : FrameLine → List (Option ℕ) → Reading
-asks_in (FrameLine.Map port) ns = Asks port MakeMap
-asks_in (FrameLine.Report port frame onu) ns = Asks port (Report frame onu ns)
+abbrev pub asks_in : FrameCommand → List (Option ℕ) → Reading
+asks_in (FrameCommand.Map port) ns = Asks port MakeMap
+asks_in (FrameCommand.Report port frame onu) ns = Asks port (Report frame onu ns)
 
 -- neither a request for a map nor a report
 abbrev pub IsOtherEvent : Event → Type 0

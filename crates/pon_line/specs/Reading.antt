@@ -5,7 +5,7 @@ use Rattle.std.specs.Str.{bytes_eq}
 use Rattle.pon_text.specs.Lines.{words_of, without_return}
 use Rattle.pon_lists.specs.ResultSteps.{◌>>=◌}
 use Rattle.pon_line.specs.Fields.{number_field}
-use Rattle.pon_event.specs.declared.event.Event.{Event}
+use Rattle.pon_admit.specs.declared.event.Event.{Event}
 use Rattle.pon_line.specs.Commands.{event_of}
 use Rattle.pon_line.specs.declared.fault.LineFault.{LineFault}
 use Rattle.pon_line.specs.declared.fault.LineFault.TheVariants.{NoSuchPort, LineLong, NotText, WordCount}

@@ -14,10 +14,10 @@ use crate::fields::{
     onu_id_of, rate_fields,
 };
 use crate::occupancies::occupancy_fields;
-use crate::reading::{FrameLine, Reading};
+use crate::reading::{FrameCommand, Reading};
+use pon_admit::Event;
 use pon_dbru::Occupancies;
 use pon_descr::Refusal;
-use pon_event::Event;
 use pon_text::{Word, first_word};
 use pon_units::{FrameNo, OnuId};
 
@@ -263,26 +263,26 @@ pub(crate) fn request_of(port: usize, text: &[u8]) -> Reading
 }
 
 // Returns the request for a map, or `None` if a word follows.
-fn map_line(port: usize, text: &[u8]) -> Option<FrameLine>
+fn map_line(port: usize, text: &[u8]) -> Option<FrameCommand>
     ensures { MatchOption result
         (IsOtherReading (takes port (no_arguments Event.MakeMap (words_of text.now))))
-        (λ asked. (asked ≡ FrameLine.Map port) × (words_of text.now ≡ [])) }
+        (λ asked. (asked ≡ FrameCommand.Map port) × (words_of text.now ≡ [])) }
 {
     match first_word(text) {
-        None => Some(FrameLine::Map { port }),
+        None => Some(FrameCommand::Map { port }),
         Some(_) => None,
     }
 }
 
 // Returns the report of the words after `report`, or `None` if they write none.
-fn report_line(port: usize, text: &[u8], occ: &mut Occupancies) -> Option<FrameLine>
+fn report_line(port: usize, text: &[u8], occ: &mut Occupancies) -> Option<FrameCommand>
     requires { occ.old ≡ [] }
     ensures { MatchOption result
         (IsOtherReading (takes port (report_of (words_of text.now))))
         (λ asked. takes port (report_of (words_of text.now)) ≡ asks_in asked occ.new) }
 {
     match read_report(text, occ) {
-        Ok(Reporter { frame, onu }) => Some(FrameLine::Report { port, frame, onu }),
+        Ok(Reporter { frame, onu }) => Some(FrameCommand::Report { port, frame, onu }),
         Err(_) => None,
     }
 }
@@ -290,7 +290,7 @@ fn report_line(port: usize, text: &[u8], occ: &mut Occupancies) -> Option<FrameL
 /// Returns the request for a map or the report that the words after the port are, and appends the occupancies to the empty
 /// list; `None` for any other words.
 #[tactic(auto, unfolding(crate::specs::Reading::request_of, crate::specs::Commands::event_of))]
-pub(crate) fn frame_line_of(port: usize, text: &[u8], occ: &mut Occupancies) -> Option<FrameLine>
+pub(crate) fn frame_line_of(port: usize, text: &[u8], occ: &mut Occupancies) -> Option<FrameCommand>
     requires { occ.old ≡ [] }
     ensures { MatchOption result
         (IsOtherReading (request_of port (words_of text.now)))

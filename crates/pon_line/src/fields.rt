@@ -10,7 +10,7 @@ ghost use Rattle.pon_line.specs.Written.{rates_in, words_in};
 use crate::fault::LineFault;
 use pon_descr::{Cause, Class, Descriptor, Refusal};
 use pon_text::{Word, first_word, number_of};
-use pon_units::{AllocId, GREATEST_ALLOC_ID, GREATEST_ONU_ID, LEAST_ALLOC_ID, OnuId};
+use pon_units::{AllocId, MAX_ALLOC_ID, MAX_ONU_ID, MIN_ALLOC_ID, OnuId};
 
 /// The words of a descriptor.
 #[derive(Clone, Copy)]
@@ -117,14 +117,14 @@ pub(crate) fn descriptor_of(rates: &Rates) -> Result<Descriptor, Refusal>
 
 /// Returns the Alloc-ID of a number, or `None` outside 1024 to 16383.
 pub(crate) fn alloc_id_of(number: u64) -> Option<AllocId>
-    ensures { SomeIff result ((LEAST_ALLOC_ID ≤ number) × (number ≤ GREATEST_ALLOC_ID)) number }
+    ensures { SomeIff result ((MIN_ALLOC_ID ≤ number) × (number ≤ MAX_ALLOC_ID)) number }
 {
     AllocId::new(u16::try_from(number).ok()?)
 }
 
 /// Returns the ONU-ID of a number, or `None` above 1022.
 pub(crate) fn onu_id_of(number: u64) -> Option<OnuId>
-    ensures { SomeIff result (number ≤ GREATEST_ONU_ID) number }
+    ensures { SomeIff result (number ≤ MAX_ONU_ID) number }
 {
     OnuId::new(u16::try_from(number).ok()?)
 }

@@ -11,4 +11,4 @@ mod occupancies;
 mod reading;
 
 pub use fault::LineFault;
-pub use reading::{FrameLine, Reading, long_lines, read_frame_line, read_line};
+pub use reading::{FrameCommand, Reading, long_lines, read_frame_line, read_line};

@@ -9,11 +9,11 @@ use crate::fault::LineFault;
 use crate::fields::number_field;
 use pon_dbru::Occupancies;
 use pon_text::{count_words, first_word};
-use pon_units::{BufOcc, GREATEST_OCCUPANCY, LONGEST_SERIES};
+use pon_units::{BufOcc, MAX_OCCUPANCY, MAX_SERIES};
 
 // Returns the occupancy of a number of words, or `None` above 16,777,215.
 fn occupancy_of(number: u64) -> Option<BufOcc>
-    ensures { SomeIff result (number ≤ GREATEST_OCCUPANCY) number }
+    ensures { SomeIff result (number ≤ MAX_OCCUPANCY) number }
 {
     BufOcc::new(u32::try_from(number).ok()?)
 }
@@ -35,11 +35,11 @@ fn occupancy_field(word: &[u8]) -> Result<Option<BufOcc>, LineFault>
 // Returns the fault of a report that has `fault` in the occupancy after the first `before`: `WordCount` if there are more
 // than 16 occupancies with those in `rest`, otherwise `fault`.
 fn first_fault(fault: LineFault, before: usize, rest: &[u8]) -> LineFault
-    requires { before < LONGEST_SERIES }
-    ensures { result ≡ (if nat_lt LONGEST_SERIES (before + 1 + length (words_of rest.now))
+    requires { before < MAX_SERIES }
+    ensures { result ≡ (if nat_lt MAX_SERIES (before + 1 + length (words_of rest.now))
         then LineFault.WordCount else fault) }
 {
-    if count_words(rest) >= LONGEST_SERIES - before {
+    if count_words(rest) >= MAX_SERIES - before {
         LineFault::WordCount
     } else {
         fault
@@ -59,7 +59,7 @@ pub(crate) fn occupancy_fields(text: &[u8], occupancies: &mut Occupancies) -> Re
     let mut rest = text;
     let mut count = 0;
     while let Some(word) = first_word(rest) {
-        if count == LONGEST_SERIES {
+        if count == MAX_SERIES {
             return Err(LineFault::WordCount);
         }
         match occupancy_field(word.word) {

@@ -8,8 +8,8 @@ ghost use Rattle.pon_line.specs.Parts.{IsOtherReading, asks_in, goes_on};
 use crate::command::{frame_line_of, request_of};
 use crate::fault::LineFault;
 use crate::fields::number_field;
+use pon_admit::Event;
 use pon_dbru::Occupancies;
-use pon_event::Event;
 use pon_text::{first_word, without_return};
 use pon_units::{FrameNo, OnuId};
 
@@ -18,7 +18,7 @@ const LONGEST: usize = 4096;
 
 /// A line that each frame brings: a request for the next map, or a report, whose occupancies are in a list of the caller.
 #[derive(Clone, Copy, Debug, PartialEq, Eq)]
-pub enum FrameLine {
+pub enum FrameCommand {
     /// The line requests that the port make the next map.
     Map {
         port: usize,
@@ -140,7 +140,7 @@ pub fn read_line(ports: usize, line: &[u8]) -> Reading
 /// Reads a line that requests a map or brings a report, of which it appends the occupancies to the empty list. `None` for
 /// any other line, and for one that is refused: then [`read_line`] reads it. An event is large, so these lines, which come
 /// in each frame, are read without one.
-pub fn read_frame_line(ports: usize, line: &[u8], occ: &mut Occupancies) -> Option<FrameLine>
+pub fn read_frame_line(ports: usize, line: &[u8], occ: &mut Occupancies) -> Option<FrameCommand>
     requires { occ.old ≡ [] }
     ensures { MatchOption result
         (IsOtherReading (read_line ports line.now))

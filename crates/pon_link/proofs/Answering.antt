@@ -10,7 +10,7 @@ use Rattle.pon_bwmap.specs.declared.fault.MapFault.TheVariants as map_fault
 use Rattle.pon_bwmap.proofs.OneMap.{one_head}
 use Rattle.pon_lists.specs.Bytes.{AreBytes}
 use Rattle.pon_link.specs.DownRecords.{IsDownRecord, KeepsDown, GivesDown}
-use Rattle.pon_link.specs.Reading.{ReaderState, KeepsForm, IsWhole, HasFault}
+use Rattle.pon_link.specs.Reading.{ReaderState, KeepsForm, IsWholeRecord, HasFault}
 use Rattle.pon_link.specs.declared.direction.Direction.{Direction}
 use Rattle.pon_link.specs.declared.direction.Direction.TheVariants.{Down}
 use Rattle.pon_link.specs.declared.fault.LinkFault.{LinkFault}
@@ -31,13 +31,13 @@ rest_of : (bytes : List ℕ) → take (length bytes - 9) (drop 9 bytes) ≡ drop
 rest_of bytes = between_to_end bytes 9 (length bytes) (omega arith)
 
 -- a refused map is the reader's fault
-pub refused_shown : (s : ReaderState) (bytes : List ℕ) (f : MapFault) → bytes ≡ s.held → s.direction ≡ Down → IsWhole s.direction s.held → IsFirstMapFault (take (length bytes - 9) (drop 9 bytes)) f → f ≢ map_fault.Memory → HasFault s BadMap
+pub refused_shown : (s : ReaderState) (bytes : List ℕ) (f : MapFault) → bytes ≡ s.held → s.direction ≡ Down → IsWholeRecord s.direction s.held → IsFirstMapFault (take (length bytes - 9) (drop 9 bytes)) f → f ≢ map_fault.Memory → HasFault s BadMap
 refused_shown s bytes f is down whole first other =
     let here : IsFirstMapFault (drop 9 s.held) f = subst (λ (t : List ℕ). IsFirstMapFault (drop 9 t) f) is (subst (λ (t : List ℕ). IsFirstMapFault t f) (rest_of bytes) first) in
-    (down, inr (subst (λ (d : Direction). IsWhole d s.held) down whole, (f, here, other)))
+    (down, inr (subst (λ (d : Direction). IsWholeRecord d s.held) down whole, (f, here, other)))
 
 -- a whole record's bytes, of which the map is read, are the record
-pub down_record : (bytes : List ℕ) (frame : ℕ) (rows : List Alloc) (corrected used : ℕ) → AreBytes bytes → IsWhole Down bytes → ReadsMap (take (length bytes - 9) (drop 9 bytes)) rows corrected used → from_be_bytes w64 (take 8 (drop 1 bytes)) ≡ frame → IsDownRecord bytes (record { frame = frame; map = rows })
+pub down_record : (bytes : List ℕ) (frame : ℕ) (rows : List Alloc) (corrected used : ℕ) → AreBytes bytes → IsWholeRecord Down bytes → ReadsMap (take (length bytes - 9) (drop 9 bytes)) rows corrected used → from_be_bytes w64 (take 8 (drop 1 bytes)) ≡ frame → IsDownRecord bytes (record { frame = frame; map = rows })
 down_record bytes frame rows corrected used small w read here =
     let r : ReadsMap (drop 9 bytes) rows corrected used = subst (λ (t : List ℕ). ReadsMap t rows corrected used) (rest_of bytes) read in
     let told = w.size in
@@ -52,7 +52,7 @@ down_record bytes frame rows corrected used small w read here =
     }
 
 -- why a whole record's bytes have no record
-pub down_fault : (bytes : List ℕ) (f : MapFault) (told : DownFault) → IsWhole Down bytes → IsFirstMapFault (take (length bytes - 9) (drop 9 bytes)) f → ((f ≡ map_fault.Memory) × (told ≡ Memory)) ⊎ ((f ≢ map_fault.Memory) × (told ≡ Link BadMap)) → KeepsDown bytes told
+pub down_fault : (bytes : List ℕ) (f : MapFault) (told : DownFault) → IsWholeRecord Down bytes → IsFirstMapFault (take (length bytes - 9) (drop 9 bytes)) f → ((f ≡ map_fault.Memory) × (told ≡ Memory)) ⊎ ((f ≢ map_fault.Memory) × (told ≡ Link BadMap)) → KeepsDown bytes told
 down_fault bytes f told w first cases =
     let here : IsFirstMapFault (drop 9 bytes) f = subst (λ (t : List ℕ). IsFirstMapFault t f) (rest_of bytes) first in
     elim cases [

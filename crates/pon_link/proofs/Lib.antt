@@ -4,10 +4,15 @@ pub mod Growth
 pub mod Left
 pub mod OneReading
 pub mod Outcomes
+pub mod Owners
 pub mod Reports
+pub mod Rounds
 pub mod RunEnds
 pub mod RunLaws
 pub mod Sizes
+pub mod Splits
+pub mod Turns
 pub mod UnitSteps
+pub mod Writable
 pub mod Written
 pub mod WrittenDown

@@ -8,7 +8,7 @@ use Rattle.pon_lists.specs.Bytes.{AreBytes}
 use Rattle.pon_lists.proofs.Bytes.{All-from_bytes, bytes-drop}
 use Rattle.pon_link.specs.UpRecords.{IsRecord}
 use Rattle.pon_link.specs.DownRecords.{IsDownRecord, WantsMemory, GivesDown}
-use Rattle.pon_link.specs.Reading.{ReaderState, IsOpen, MayBecomeRecord, IsWhole, IsReady, HasFault, HasBadForm, HasBadTag, HasRefusedMap, Returns, Pulls}
+use Rattle.pon_link.specs.Reading.{ReaderState, IsOpen, MayBecomeRecord, IsWholeRecord, IsReady, HasFault, HasBadForm, HasBadTag, HasRefusedMap, Returns, Pulls}
 use Rattle.pon_link.specs.declared.direction.Direction.{Direction}
 use Rattle.pon_link.specs.declared.direction.Direction.TheVariants.{Up, Down}
 use Rattle.pon_link.specs.declared.record.UpRecord.{UpRecord}
@@ -49,7 +49,7 @@ pub form_begun : (d : Direction) (bytes : List ℕ) → MayBecomeRecord d bytes 
 form_begun d bytes b f = let size = b.form.size f.0 in no_size d bytes size.0 f.2 size.1
 
 -- a proper prefix of a record is not a whole one
-whole_begun : (d : Direction) (bytes : List ℕ) → AreBytes bytes → MayBecomeRecord d bytes → IsWhole d bytes → ⊥
+whole_begun : (d : Direction) (bytes : List ℕ) → AreBytes bytes → MayBecomeRecord d bytes → IsWholeRecord d bytes → ⊥
 whole_begun d bytes small b w = omega (arith, more_needed d bytes (length bytes) small w.told w.size b)
 
 no_form_fault : (s : ReaderState) (f : LinkFault) → (s.direction ≡ Down → AreBytes s.held) → MayBecomeRecord s.direction s.held → HasFault s f → f ≡ Truncated (length s.held)
@@ -102,13 +102,13 @@ one_fault s BadMap BadCount small h k = absurd (not_down s k.0 h.0)
 
 -- ---- a whole record, and memory
 
-whole_sound : (s : ReaderState) (d : Direction) (f : LinkFault) → s.direction ≡ d → AreBytes s.held → IsWhole d s.held → HasFault s f → (f ≡ BadMap) × HasRefusedMap s.held
+whole_sound : (s : ReaderState) (d : Direction) (f : LinkFault) → s.direction ≡ d → AreBytes s.held → IsWholeRecord d s.held → HasFault s f → (f ≡ BadMap) × HasRefusedMap s.held
 whole_sound s d BadTag is small w f = let bad : HasBadTag d s.held = subst (λ (e : Direction). HasBadTag e s.held) is f in absurd (bad.1 (w.form.tag bad.0))
 whole_sound s d BadCount is small w f =
-    let up : IsWhole Up s.held = subst (λ (e : Direction). IsWhole e s.held) (sym is ∙ f.0) w in
+    let up : IsWholeRecord Up s.held = subst (λ (e : Direction). IsWholeRecord e s.held) (sym is ∙ f.0) w in
     absurd (no_size Up s.held (length s.held) f.1.2 up.size)
 whole_sound s d BadMap is small w f =
-    let down : IsWhole Down s.held = subst (λ (e : Direction). IsWhole e s.held) (sym is ∙ f.0) w in
+    let down : IsWholeRecord Down s.held = subst (λ (e : Direction). IsWholeRecord e s.held) (sym is ∙ f.0) w in
     elim f.1 [
       | inl bad ↦ absurd (no_size Down s.held (length s.held) bad.2 down.size)
       | inr refused ↦ (refl, refused)

@@ -2,7 +2,7 @@
 use Rattle.std.proofs.Common.{◌≡◌, ℕ, ◌+◌, ◌<◌, ◌≤◌, ◌⊎◌, Bool, IsTrue, List, [], ◌++◌, length, get_or, Option, Some, None, inl, inr, refl, ap, sym, ◌∙◌, subst, length-append, arith}
 use Rattle.std.proofs.lemmas.List.{append-nil, get_or_append_left}
 use Rattle.pon_lists.specs.Bytes.{AreBytes}
-use Rattle.pon_link.specs.Reading.{ReaderState, Announces, HasBadSize, HasBadTag, HasBadForm, HasRefusedMap, HasFault, MayBecomeRecord, IsWhole, tag_of, header_len, bad_size}
+use Rattle.pon_link.specs.Reading.{ReaderState, Announces, HasBadSize, HasBadTag, HasBadForm, HasRefusedMap, HasFault, MayBecomeRecord, IsWholeRecord, tag_of, header_len, bad_size}
 use Rattle.pon_link.specs.Runs.{ComesTo}
 use Rattle.pon_link.specs.declared.direction.Direction.{Direction}
 use Rattle.pon_link.specs.declared.direction.Direction.TheVariants.{Up, Down}
@@ -25,7 +25,7 @@ late s d e f is there bad form =
 refused : (s : ReaderState) (d : Direction) → s.direction ≡ d → s.direction ≡ Down → HasRefusedMap s.held → Ends d s BadMap
 refused s d is down map =
     let same : Down ≡ d = sym down ∙ is in
-    let whole : IsWhole d s.held = subst (λ (x : Direction). IsWhole x s.held) same map.0 in
+    let whole : IsWholeRecord d s.held = subst (λ (x : Direction). IsWholeRecord x s.held) same map.0 in
     Form whole.told (whole.form.tag (omega (arith, whole.told, some_told d))) (inr whole.size) (ap bad_size same)
 
 pub ends : (d : Direction) (s : ReaderState) (f : LinkFault) → s.direction ≡ d → HasFault s f → Ends d s f

@@ -10,7 +10,7 @@ use Rattle.pon_bwmap.proofs.OneMap.{one_head}
 use Rattle.pon_link.specs.UpRecords.{count_in}
 use Rattle.pon_lists.specs.Bytes.{AreBytes}
 use Rattle.pon_lists.proofs.Bytes.{bytes-drop}
-use Rattle.pon_link.specs.Reading.{Announces, AnnouncesMap, HasBadSize, KeepsForm, MayBecomeRecord, IsWhole, IsWithinRecord, tag_of, header_len, longest}
+use Rattle.pon_link.specs.Reading.{Announces, AnnouncesMap, HasBadSize, KeepsForm, MayBecomeRecord, IsWholeRecord, IsWithinRecord, tag_of, header_len, longest}
 use Rattle.pon_link.specs.declared.direction.Direction.{Direction}
 use Rattle.pon_link.specs.declared.direction.Direction.TheVariants.{Up, Down}
 
@@ -176,7 +176,7 @@ big_head map h k n small r big a =
     elim big [ inl rows ↦ omega (arith, rows, same.0, a.3) | inr messages ↦ omega (arith, messages, same.1, a.4) ]
 
 -- a reader that needs no more bytes holds a whole record
-pub whole_now : (d e : Direction) (held bytes : List ℕ) (n : ℕ) → e ≡ d → bytes ≡ held → KeepsForm d held → (length bytes < header_len e → length bytes + n ≡ header_len e) → (header_len e ≤ length bytes → Announces e bytes (length bytes + n)) → n ≡ 0 → IsWhole d held
+pub whole_now : (d e : Direction) (held bytes : List ℕ) (n : ℕ) → e ≡ d → bytes ≡ held → KeepsForm d held → (length bytes < header_len e → length bytes + n ≡ header_len e) → (header_len e ≤ length bytes → Announces e bytes (length bytes + n)) → n ≡ 0 → IsWholeRecord d held
 whole_now d e held bytes n same is form untold told none =
     let ge : header_len e ≤ length bytes = elim (cases_lt (length bytes) (header_len e)) [ inl lt ↦ omega (arith, none, lt, untold lt) | inr ge ↦ ge ] in
     let whole : length bytes + n ≡ length bytes = omega (arith, none) in

@@ -7,7 +7,7 @@ use Rattle.pon_bwmap.specs.MapBytes.{map_bytes}
 use Rattle.pon_bwmap.specs.MapReading.{ReadsMap}
 use Rattle.pon_bwmap.specs.MapFaults.{IsFirstMapFault}
 use Rattle.pon_bwmap.specs.declared.fault.MapFault.TheVariants as map_fault
-use Rattle.pon_link.specs.Reading.{ReaderState, Returns, IsWhole, HasRefusedMap}
+use Rattle.pon_link.specs.Reading.{ReaderState, Returns, IsWholeRecord, HasRefusedMap}
 use Rattle.pon_link.specs.declared.direction.Direction.TheVariants.{Down}
 use Rattle.pon_link.specs.declared.record.DownRecord.{DownRecord}
 use Rattle.pon_link.specs.declared.fault.DownFault.{DownFault}
@@ -28,7 +28,7 @@ pub record IsDownRecord (bytes : List ℕ) (r : DownRecord) : Type 0 where
 
 -- The bytes are a whole record without a fault, for whose map memory is needed.
 abbrev pub WantsMemory : List ℕ → Type 0
-WantsMemory bytes = IsWhole Down bytes × IsFirstMapFault (drop 9 bytes) map_fault.Memory
+WantsMemory bytes = IsWholeRecord Down bytes × IsFirstMapFault (drop 9 bytes) map_fault.Memory
 
 -- why the bytes of a whole record have no record
 abbrev pub KeepsDown : List ℕ → DownFault → Type 0

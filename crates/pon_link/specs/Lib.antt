@@ -1,5 +1,10 @@
+pub mod Answers
 pub mod DownRecords
+pub mod Outputs
+pub mod Progress
 pub mod Reading
 pub mod Runs
+pub mod Series
+pub mod Serving
 pub mod Units
 pub mod UpRecords

@@ -1,6 +1,6 @@
 -- The bytes that a reader of a link's records holds, and the effect of its calls, in either direction.
 use Rattle.std.specs.Prelude.{◌≡◌, ◌≢◌, ℕ, ◌+◌, ◌*◌, ◌^◌, ◌%◌, ◌<◌, ◌≤◌, ◌⊎◌, Bool, false, IsTrue, List, [], ◌++◌, length, drop, slice_index, Option, Some, None, Result, Ok, Err}
-use Rattle.pon_units.specs.declared.limits.TheConstants.{LONGEST_SERIES, MOST_STRUCTURES}
+use Rattle.pon_units.specs.declared.limits.TheConstants.{MAX_SERIES, MAX_STRUCTURES}
 use Rattle.pon_device.specs.Device.{Consumes, Keeps, IsAtEnd}
 use Rattle.pon_xgtc.specs.HLend.{HLend, ReadsHLend}
 use Rattle.pon_bwmap.specs.MapReading.{BeginsWithMap}
@@ -44,12 +44,12 @@ longest Down = 4109
 
 -- The bytes of a map give the number of bytes of its record: at most 512 structures, and no message.
 abbrev pub AnnouncesMap : List ℕ → ℕ → Type 0
-AnnouncesMap map n = (head : HLend) × (corrected : ℕ) × ReadsHLend map head corrected × (head.n ≤ MOST_STRUCTURES) × (head.p ≡ 0) × (n ≡ 13 + 8 * head.n)
+AnnouncesMap map n = (head : HLend) × (corrected : ℕ) × ReadsHLend map head corrected × (head.n ≤ MAX_STRUCTURES) × (head.p ≡ 0) × (n ≡ 13 + 8 * head.n)
 
 -- The bytes give the number of bytes of their record: the count byte is 1 to 16, or the map's head announces at most
 -- 512 structures and no message.
 abbrev pub Announces : Direction → List ℕ → ℕ → Type 0
-Announces Up bytes n = (1 ≤ count_in bytes) × (count_in bytes ≤ LONGEST_SERIES) × (n ≡ 14 + 4 * count_in bytes)
+Announces Up bytes n = (1 ≤ count_in bytes) × (count_in bytes ≤ MAX_SERIES) × (n ≡ 14 + 4 * count_in bytes)
 Announces Down bytes n = AnnouncesMap (drop 9 bytes) n
 
 -- The first byte, if present, is the tag of the direction, and the bytes that give the size, if present, give one.
@@ -63,14 +63,14 @@ pub record MayBecomeRecord (d : Direction) (bytes : List ℕ) : Type 0 where
   pub more : header_len d ≤ length bytes → (n : ℕ) × Announces d bytes n × (length bytes < n)
 
 -- The bytes have the form of a record, and the number of bytes that they give.
-pub record IsWhole (d : Direction) (bytes : List ℕ) : Type 0 where
+pub record IsWholeRecord (d : Direction) (bytes : List ℕ) : Type 0 where
   pub form : KeepsForm d bytes
   pub told : header_len d ≤ length bytes
   pub size : Announces d bytes (length bytes)
 
 -- the bytes that should give the size give none
 abbrev pub HasBadSize : Direction → List ℕ → Type 0
-HasBadSize Up bytes = (count_in bytes ≡ 0) ⊎ (LONGEST_SERIES < count_in bytes)
+HasBadSize Up bytes = (count_in bytes ≡ 0) ⊎ (MAX_SERIES < count_in bytes)
 HasBadSize Down bytes = (n : ℕ) → Announces Down bytes n → ⊥
 
 -- the fault of a bad size, by direction
@@ -88,12 +88,12 @@ HasBadForm d bytes = (header_len d ≤ length bytes) × (slice_index bytes 0 ≡
 
 -- The bytes are a whole downstream record, and the map in them is refused.
 abbrev pub HasRefusedMap : List ℕ → Type 0
-HasRefusedMap bytes = IsWhole Down bytes × ((fault : MapFault) × IsFirstMapFault (drop 9 bytes) fault × (fault ≢ Memory))
+HasRefusedMap bytes = IsWholeRecord Down bytes × ((fault : MapFault) × IsFirstMapFault (drop 9 bytes) fault × (fault ≢ Memory))
 
 -- The bytes are a whole record that is not refused.
 abbrev pub IsReady : Direction → List ℕ → Type 0
-IsReady Up bytes = IsWhole Up bytes
-IsReady Down bytes = IsWhole Down bytes × BeginsWithMap (drop 9 bytes)
+IsReady Up bytes = IsWholeRecord Up bytes
+IsReady Down bytes = IsWholeRecord Down bytes × BeginsWithMap (drop 9 bytes)
 
 -- The bytes do not go past one record: not past those that give its size if the form is not kept, otherwise not past
 -- the size that they give.

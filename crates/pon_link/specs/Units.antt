@@ -2,7 +2,7 @@
 -- it.
 use Rattle.std.specs.Prelude.{ℕ, ◌-◌, ◌==◌, ◌&&◌, min, Bool, if◌then◌else◌, List, [], ◌∷◌, map, take, filter, Option, Some}
 use Rattle.std.specs.List.{list_any}
-use Rattle.pon_units.specs.declared.limits.TheConstants.{GREATEST_OCCUPANCY, LONGEST_SERIES}
+use Rattle.pon_units.specs.declared.limits.TheConstants.{MAX_OCCUPANCY, MAX_SERIES}
 use Rattle.pon_bwmap.specs.Alloc.{Alloc}
 
 -- a simulated ONU: its ONU-ID, and the words that wait for each of its own Alloc-IDs
@@ -20,7 +20,7 @@ asks queues a = a.dbru && owns queues a.id
 
 -- the structures of a map that an ONU with these queues answers: the first 16 that request a report of it
 abbrev pub answered : List (ℕ × ℕ) → List Alloc → List Alloc
-answered queues rows = take LONGEST_SERIES (filter (asks queues) rows)
+answered queues rows = take MAX_SERIES (filter (asks queues) rows)
 
 -- the words that wait for an Alloc-ID
 abbrev pub waiting : List (ℕ × ℕ) → ℕ → ℕ
@@ -40,4 +40,4 @@ served queues (a ∷ rows) = served (map (queue_after a) queues) rows
 -- The reports for these structures, in order: the words that wait then, or the maximum of a report.
 abbrev pub reported_occupancies : List (ℕ × ℕ) → List Alloc → List (Option ℕ)
 reported_occupancies queues [] = []
-reported_occupancies queues (a ∷ rows) = Some (min (waiting queues a.id) GREATEST_OCCUPANCY) ∷ reported_occupancies (map (queue_after a) queues) rows
+reported_occupancies queues (a ∷ rows) = Some (min (waiting queues a.id) MAX_OCCUPANCY) ∷ reported_occupancies (map (queue_after a) queues) rows

@@ -2,7 +2,7 @@
 -- byte, and a report of 4 bytes for each occupancy (header and report: ITU-T G.987.3).
 use Rattle.std.specs.Prelude.{◌≡◌, ℕ, ◌+◌, ◌*◌, ◌≤◌, List, [], ◌∷◌, ◌++◌, length, slice_index, slice_range, drop, Option, Some, None}
 use Rattle.std.specs.Int.{w64, from_be_bytes}
-use Rattle.pon_units.specs.declared.limits.TheConstants.{LONGEST_SERIES}
+use Rattle.pon_units.specs.declared.limits.TheConstants.{MAX_SERIES}
 use Rattle.pon_dbru.specs.Report.{Reports}
 use Rattle.pon_xgtc.specs.Header.{IsHeaderFault}
 use Rattle.pon_xgtc.specs.BurstHead.{BurstHead, ReadsBurstHead}
@@ -36,5 +36,5 @@ pub record IsRecord (bytes : List ℕ) (r : UpRecord) : Type 0 where
   pub head : ReadsHead (slice_range bytes 9 13) r.head
   pub count : count_in bytes ≡ length r.occ
   pub some : 1 ≤ length r.occ
-  pub limit : length r.occ ≤ LONGEST_SERIES
+  pub limit : length r.occ ≤ MAX_SERIES
   pub reports : ReadsReports (drop 14 bytes) r.occ

@@ -2,17 +2,17 @@
 ghost use Rattle.std.specs.Prelude.{◌≡◌, ◌*◌, ◌≤◌, length};
 ghost use Rattle.std.specs.Int.{w64, from_be_bytes};
 ghost use Rattle.pon_link.specs.UpRecords.{IsRecord, ReadsHead, ReadsReport, ReadsReports};
-ghost use Rattle.pon_link.specs.Reading.{IsWhole};
+ghost use Rattle.pon_link.specs.Reading.{IsWholeRecord};
 
 use crate::direction::Direction;
 use crate::record::UpRecord;
 use pon_dbru::{Garbled, Occupancies};
-use pon_units::{BufOcc, FrameNo, LONGEST_SERIES};
+use pon_units::{BufOcc, FrameNo, MAX_SERIES};
 use pon_xgtc::BurstHead;
 
 // Decodes the bytes of a whole record.
 pub(crate) fn decode_up(bytes: &[u8]) -> UpRecord
-    requires { IsWhole Direction.Up bytes.now }
+    requires { IsWholeRecord Direction.Up bytes.now }
     ensures { IsRecord bytes.now result }
 {
     UpRecord {
@@ -27,9 +27,7 @@ pub(crate) fn frame_in(bytes: &[u8]) -> FrameNo
     requires { length bytes.now ≡ 8 }
     ensures { from_be_bytes w64 bytes.now ≡ result }
 {
-    let Some(number) = bytes.first_chunk::<8>() else {
-        unreachable!()
-    };
+    let number = bytes.first_chunk::<8>().unwrap();
     FrameNo::new(u64::from_be_bytes(*number))
 }
 
@@ -47,7 +45,7 @@ fn head_in(bytes: &[u8]) -> Option<BurstHead>
 // Decodes the occupancies of `count` reports.
 fn occupancies_in(bytes: &[u8], count: usize) -> Occupancies
     requires size { length bytes.now ≡ 4 * count }
-    requires limit { count ≤ LONGEST_SERIES }
+    requires limit { count ≤ MAX_SERIES }
     ensures count { length result ≡ count }
     ensures reports { ReadsReports bytes.now result }
 {

@@ -1,7 +1,7 @@
 // Decoding of whole downstream records.
 ghost use Rattle.std.specs.Prelude.{◌≡◌, ◌≢◌, ◌⊎◌, IfOk, IfErr};
 ghost use Rattle.pon_link.specs.DownRecords.{IsDownRecord, KeepsDown};
-ghost use Rattle.pon_link.specs.Reading.{IsWhole};
+ghost use Rattle.pon_link.specs.Reading.{IsWholeRecord};
 
 use crate::decode::frame_in;
 use crate::direction::Direction;
@@ -12,7 +12,7 @@ use std::alloc::Global;
 
 // Decodes the bytes of a whole record.
 pub(crate) fn decode_down(alloc: Global, bytes: &[u8]) -> Result<DownRecord, DownFault>
-    requires { IsWhole Direction.Down bytes.now }
+    requires { IsWholeRecord Direction.Down bytes.now }
     ensures ok { IfOk result (IsDownRecord bytes.now) }
     ensures err { IfErr result (KeepsDown bytes.now) }
 {

@@ -8,7 +8,7 @@ ghost use Rattle.pon_link.specs.Reading.{empty, IsOpen, HasFault, IsWithinRecord
 use crate::decode_down::decode_down;
 use crate::direction::Direction;
 use crate::fault::DownFault;
-use crate::held::Held;
+use crate::held::RecordBuffer;
 use crate::pull::{PullFault, Pulled};
 use crate::record::DownRecord;
 use pon_device::DevRead;
@@ -19,7 +19,7 @@ use std::marker::Model;
 /// record, at most 4,109, and allocates memory only for the map that [`DownReader::next`] returns.
 #[derive(Drop)]
 pub struct DownReader {
-    reading: Held<4109>,
+    reading: RecordBuffer<4109>,
     alloc: Global,
 }
 
@@ -42,7 +42,7 @@ impl DownReader {
         ensures { result ≡ empty Direction.Down }
     {
         DownReader {
-            reading: Held::new(Direction::Down),
+            reading: RecordBuffer::new(Direction::Down),
             alloc,
         }
     }

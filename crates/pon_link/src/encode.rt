@@ -8,7 +8,7 @@ use crate::buffer::append;
 use crate::form::UP_TAG;
 use crate::record::UpRecord;
 use arrayvec::ArrayVec;
-use pon_units::{FrameNo, LONGEST_SERIES};
+use pon_units::{FrameNo, MAX_SERIES};
 use pon_xgtc::BurstHead;
 
 /// Encodes a record that has a burst header and 1 to 16 occupancies, none of them garbled, in 18 to 78 bytes. The
@@ -16,7 +16,7 @@ use pon_xgtc::BurstHead;
 pub fn encode_up(burst: &UpRecord) -> ArrayVec<u8, 78>
     requires head { IsSome burst.now.head }
     requires some { 1 ≤ length burst.now.occ }
-    requires limit { length burst.now.occ ≤ LONGEST_SERIES }
+    requires limit { length burst.now.occ ≤ MAX_SERIES }
     requires reports { All IsSome burst.now.occ }
     ensures reads { IsRecord result.items burst.now }
     ensures sealed { IfSome burst.now.head (λ h. slice_range result.items 9 13
@@ -38,7 +38,7 @@ pub fn encode_up(burst: &UpRecord) -> ArrayVec<u8, 78>
 
 // Encodes the bytes of a record before its reports.
 fn front(frame: FrameNo, head: &BurstHead, count: usize) -> ArrayVec<u8, 78>
-    requires { count ≤ LONGEST_SERIES }
+    requires { count ≤ MAX_SERIES }
     ensures frame { frame < 2 ^ 64 }
     ensures head { FitsBurstHead head.now }
     ensures spelled { result.items ≡ 0x55 ∷ (to_be_bytes w64 frame

@@ -4,7 +4,7 @@ ghost use Rattle.pon_link.specs.Reading.{KeepsForm, HasFault, HasBadSize, MayBec
 
 use crate::direction::Direction;
 use crate::fault::LinkFault;
-use pon_units::{LONGEST_SERIES, MOST_STRUCTURES};
+use pon_units::{MAX_SERIES, MAX_STRUCTURES};
 use pon_xgtc::HLend;
 
 /// Tag of an upstream record.
@@ -46,10 +46,10 @@ fn announced_size(direction: Direction, bytes: &[u8]) -> Option<usize>
 
 // Returns the size of a record with this count byte, in bytes.
 fn up_size(count: u8) -> Option<usize>
-    ensures { MatchOption result ((count ≡ 0) ⊎ (LONGEST_SERIES < count))
-        (λ n. (1 ≤ count) × (count ≤ LONGEST_SERIES) × (n ≡ 14 + 4 * count)) }
+    ensures { MatchOption result ((count ≡ 0) ⊎ (MAX_SERIES < count))
+        (λ n. (1 ≤ count) × (count ≤ MAX_SERIES) × (n ≡ 14 + 4 * count)) }
 {
-    if count == 0 || usize::from(count) > LONGEST_SERIES {
+    if count == 0 || usize::from(count) > MAX_SERIES {
         return None;
     }
     Some(14 + 4 * usize::from(count))
@@ -64,7 +64,7 @@ fn down_size(map: &[u8]) -> Option<usize>
         Ok((head, _)) => head,
         Err(_) => return None,
     };
-    if usize::from(head.n()) > MOST_STRUCTURES || head.p() > 0 {
+    if usize::from(head.n()) > MAX_STRUCTURES || head.p() > 0 {
         return None;
     }
     Some(13 + 8 * usize::from(head.n()))

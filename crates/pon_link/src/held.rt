@@ -2,9 +2,9 @@
 ghost use Rattle.std.specs.Prelude.{◌≡◌, ◌<◌, ◌≤◌, ◌+◌, ℕ, List, false, [], ◌++◌, length, take, MatchOption, OnSome};
 ghost use Rattle.pon_lists.specs.Bytes.{AreBytes};
 ghost use Rattle.pon_device.specs.Device.{CountsCall};
-ghost use Rattle.pon_link.specs.Reading.{ReaderState, empty, longest, header_len, Announces, IsOpen, HasFault, KeepsForm, MayBecomeRecord, IsWhole, IsReady, IsWithinRecord, Pulls, CountsDevice, holds_more};
+ghost use Rattle.pon_link.specs.Reading.{ReaderState, empty, longest, header_len, Announces, IsOpen, HasFault, KeepsForm, MayBecomeRecord, IsWholeRecord, IsReady, IsWithinRecord, Pulls, CountsDevice, holds_more};
 
-use crate::buffer::{append, are_bytes};
+use crate::buffer::{append, prove_bytes};
 use crate::direction::Direction;
 use crate::fault::LinkFault;
 use crate::form::{form_fault, needed};
@@ -16,13 +16,13 @@ use std::marker::Model;
 
 /// A reader of one direction, with room for `N` bytes.
 #[derive(Drop)]
-pub(crate) struct Held<const N: usize> {
+pub(crate) struct RecordBuffer<const N: usize> {
     direction: Direction,
     bytes: ArrayVec<u8, N>,
     ended: bool,
 }
 
-impl<const N: usize> Model for Held<N> {
+impl<const N: usize> Model for RecordBuffer<N> {
     ghost use Rattle.std.specs.Prelude.{◌<◌, ◌≤◌, IsTrue, length};
     ghost use Rattle.pon_link.specs.Reading.{ReaderState, MayBecomeRecord, IsWithinRecord, longest};
 
@@ -35,13 +35,13 @@ impl<const N: usize> Model for Held<N> {
         × (0 < length s.bytes.items)) };
 }
 
-impl<const N: usize> Held<N> {
+impl<const N: usize> RecordBuffer<N> {
     // Makes a reader that holds no bytes.
     pub(crate) fn new(direction: Direction) -> Self
         requires { longest direction ≤ N }
         ensures { result ≡ empty direction }
     {
-        Held {
+        RecordBuffer {
             direction,
             bytes: ArrayVec::new(),
             ended: false,
@@ -54,7 +54,7 @@ impl<const N: usize> Held<N> {
         ensures bytes { AreBytes self.now.held }
     {
         let bytes = self.bytes.as_slice();
-        are_bytes(bytes);
+        prove_bytes(bytes);
         bytes
     }
 
@@ -128,7 +128,7 @@ impl<const N: usize> Held<N> {
         ensures told { header_len self.now.direction ≤ length self.now.held
             → Announces self.now.direction self.now.held (length self.now.held + result) }
         ensures some { 0 < result → MayBecomeRecord self.now.direction self.now.held }
-        ensures none { result ≡ 0 → IsWhole self.now.direction self.now.held }
+        ensures none { result ≡ 0 → IsWholeRecord self.now.direction self.now.held }
         ensures more { MayBecomeRecord self.now.direction self.now.held → 0 < result }
         ensures fits { length self.now.held + result ≤ N }
     {
@@ -137,7 +137,7 @@ impl<const N: usize> Held<N> {
 
     // Returns the fault of a whole record whose map is refused.
     fn refused_map(&self) -> Option<LinkFault>
-        requires { IsWhole self.now.direction self.now.held }
+        requires { IsWholeRecord self.now.direction self.now.held }
         ensures { MatchOption result (IsReady self.now.direction self.now.held)
             (λ f. HasFault self.now f) }
     {

@@ -3,6 +3,9 @@
 //! pieces of any size, from memory or from a device; a writer keeps the bytes that are not written yet; a simulated ONU
 //! answers maps.
 //!
+//! Simulated units, of several ONUs, answer the maps that they read from a device: one record for each series of a map,
+//! the burst that one ONU is granted. They open no device, start no thread and have no clock.
+//!
 //! The records are this project's own; the map, the burst header and a report in them are those of ITU-T G.987.3.
 //! Nothing here allocates memory except the reader of downstream records.
 #![tactic(auto)]
@@ -14,14 +17,21 @@ mod direction;
 mod down_reader;
 mod encode;
 mod fault;
+mod foreign;
 mod form;
 mod held;
 pub mod laws;
+mod owner;
 mod pull;
 mod reader;
 mod record;
+mod series;
+mod series_answers;
+mod serving;
 mod unit;
+mod units_fault;
 mod writer;
+mod writing;
 
 pub use direction::Direction;
 pub use down_reader::DownReader;
@@ -30,5 +40,7 @@ pub use fault::{DownFault, LinkFault};
 pub use pull::{PullFault, Pulled};
 pub use reader::UpReader;
 pub use record::{DownRecord, UpRecord};
+pub use serving::serve_units;
 pub use unit::Unit;
+pub use units_fault::UnitsFault;
 pub use writer::{Busy, Device, DownWriter};

@@ -8,7 +8,7 @@ ghost use Rattle.pon_link.specs.Reading.{empty, IsOpen, HasFault, Returns, IsWit
 use crate::decode::decode_up;
 use crate::direction::Direction;
 use crate::fault::LinkFault;
-use crate::held::Held;
+use crate::held::RecordBuffer;
 use crate::pull::{PullFault, Pulled};
 use crate::record::UpRecord;
 use pon_device::DevRead;
@@ -18,7 +18,7 @@ use std::marker::Model;
 /// record, at most 78.
 #[derive(Drop)]
 pub struct UpReader {
-    reading: Held<78>,
+    reading: RecordBuffer<78>,
 }
 
 impl Model for UpReader {
@@ -40,7 +40,7 @@ impl UpReader {
         ensures { result ≡ empty Direction.Up }
     {
         UpReader {
-            reading: Held::new(Direction::Up),
+            reading: RecordBuffer::new(Direction::Up),
         }
     }
 

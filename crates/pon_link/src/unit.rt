@@ -6,7 +6,7 @@ use crate::record::UpRecord;
 use arrayvec::ArrayVec;
 use pon_bwmap::{Alloc, Map};
 use pon_dbru::Occupancies;
-use pon_units::{AllocId, BufOcc, FrameNo, GREATEST_OCCUPANCY, LONGEST_SERIES, OnuId};
+use pon_units::{AllocId, BufOcc, FrameNo, MAX_OCCUPANCY, MAX_SERIES, OnuId};
 use pon_xgtc::BurstHead;
 use std::marker::Model;
 
@@ -15,7 +15,7 @@ use std::marker::Model;
 #[derive(Drop)]
 pub struct Unit {
     onu: OnuId,
-    queues: ArrayVec<(AllocId, u32), LONGEST_SERIES>,
+    queues: ArrayVec<(AllocId, u32), MAX_SERIES>,
 }
 
 impl Model for Unit {
@@ -29,7 +29,7 @@ impl Model for Unit {
 impl Unit {
     /// Makes a simulated ONU with this ONU-ID, and with the words that wait for each Alloc-ID; for an Alloc-ID listed
     /// twice the first number is reported.
-    pub fn open(onu: OnuId, queues: ArrayVec<(AllocId, u32), LONGEST_SERIES>) -> Self
+    pub fn open(onu: OnuId, queues: ArrayVec<(AllocId, u32), MAX_SERIES>) -> Self
         ensures { result ≡ record { onu = onu; queues = queues.items } }
     {
         Unit { onu, queues }
@@ -93,7 +93,7 @@ fn answer_all(queues: &mut [(AllocId, u32)], rows: &[Alloc]) -> Occupancies
 {
     let mut occ = Occupancies::new();
     for row in rows {
-        if occ.as_slice().len() < LONGEST_SERIES {
+        if occ.as_slice().len() < MAX_SERIES {
             answer_one(queues, &mut occ, row);
         }
     }
@@ -102,9 +102,9 @@ fn answer_all(queues: &mut [(AllocId, u32)], rows: &[Alloc]) -> Occupancies
 
 // Answers a structure, if it requests a report.
 fn answer_one(queues: &mut [(AllocId, u32)], occ: &mut Occupancies, row: &Alloc)
-    requires { length occ.old < LONGEST_SERIES }
+    requires { length occ.old < MAX_SERIES }
     ensures asks { asks queues.old row.now ≡ true
-        → (occ.new ≡ occ.old ++ Some (min (waiting queues.old row.now.id) GREATEST_OCCUPANCY) ∷ [])
+        → (occ.new ≡ occ.old ++ Some (min (waiting queues.old row.now.id) MAX_OCCUPANCY) ∷ [])
         × (queues.new ≡ map (queue_after row.now) queues.old) }
     ensures others { asks queues.old row.now ≡ false
         → (occ.new ≡ occ.old) × (queues.new ≡ queues.old) }
@@ -113,7 +113,7 @@ fn answer_one(queues: &mut [(AllocId, u32)], occ: &mut Occupancies, row: &Alloc)
         return;
     }
     if let Some(words) = words_waiting(queues, row.id()) {
-        occ.push(BufOcc::new(words.min(GREATEST_OCCUPANCY)));
+        occ.push(BufOcc::new(words.min(MAX_OCCUPANCY)));
         deduct_grant(queues, row);
     }
 }

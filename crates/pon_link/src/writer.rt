@@ -5,7 +5,7 @@ ghost use Rattle.pon_link.specs.DownRecords.{down_bytes, IsDownRecord};
 use crate::form::DOWN_TAG;
 use pon_bwmap::{Map, write_map};
 use pon_device::DevWrite;
-use pon_units::{FrameNo, MOST_STRUCTURES};
+use pon_units::{FrameNo, MAX_STRUCTURES};
 use std::marker::Model;
 
 /// Number of bytes of the longest downstream record, with 512 structures.
@@ -117,7 +117,7 @@ fn write_record(frame: FrameNo, map: &Map, room: &mut [u8]) -> usize
     } }
 {
     let rows = map.rows();
-    prove!(rows.len() <= MOST_STRUCTURES);
+    prove!(rows.len() <= MAX_STRUCTURES);
     room[0] = DOWN_TAG;
     room[1..9].copy_from_slice(&frame.get().to_be_bytes());
     9 + write_map(map, &mut room[9..])

@@ -1,5 +1,9 @@
-//! Definitions and lemmas on lists for several crates: a list in an order, an element inserted in its place, bytes, the
-//! distinct numbers of a list, and decoders that read step by step.
+//! Lists for several crates: a list in an order, an element inserted in its place, bytes, the distinct numbers of a list,
+//! decoders that read step by step, and items that are all kept or, once memory was refused, none.
 //!
-//! It has definitions (`specs/`) and lemmas (`proofs/`), and no code that runs.
+//! Beside [`Kept`] it has definitions (`specs/`) and lemmas (`proofs/`), and no code that runs.
 #![tactic(auto)]
+
+mod kept;
+
+pub use kept::Kept;

@@ -3,16 +3,16 @@
 ghost use Rattle.std.specs.Prelude.{◌≡◌};
 ghost use Rattle.pon_look.specs.Counts.{first_frame, frame_in, last_frame};
 
-use pon_state::{Entry, Reply};
+use pon_state::{Entry, EntryRef};
 use pon_units::FrameNo;
 
-// Returns the frame of the map of a reply.
-fn frame_in(reply: &Reply) -> Option<FrameNo>
-    ensures { result ≡ frame_in reply.now }
+// Returns the frame of the map of an entry.
+fn frame_in(entry: &Entry) -> Option<FrameNo>
+    ensures { result ≡ frame_in entry.now.reply }
 {
-    match reply {
-        Reply::Map(made) => Some(made.frame),
-        Reply::Taken => None,
+    match entry.as_ref() {
+        EntryRef::Map(made) => Some(made.frame),
+        EntryRef::Taken(_) => None,
     }
 }
 
@@ -21,7 +21,7 @@ pub fn first_frame(entries: &[Entry]) -> Option<FrameNo>
     ensures { result ≡ first_frame entries.now }
 {
     for entry in entries {
-        if let Some(frame) = frame_in(&entry.reply) {
+        if let Some(frame) = frame_in(entry) {
             return Some(frame);
         }
     }
@@ -35,7 +35,7 @@ pub fn last_frame(entries: &[Entry]) -> Option<FrameNo>
 {
     let mut last = None;
     for entry in entries {
-        if let Some(frame) = frame_in(&entry.reply) {
+        if let Some(frame) = frame_in(entry) {
             last = Some(frame);
         }
     }

@@ -1,29 +1,28 @@
 //! What `olt info` prints of a recording, chapter by chapter.
 
-ghost use Rattle.pon_stream.specs.Streams.{TellsWrite};
+ghost use Rattle.pon_device.specs.Streams.{TellsWrite};
 
 use crate::counted::CountedBytes;
 use crate::summary::{Totals, summary_of, with_chapter};
 use crate::text::{chapter_line, missing_line, total_line};
-use pon_device::{DevRead, DevWrite};
+use pon_device::{DevRead, DevWrite, DeviceFault, write_text};
 use pon_record::{ChapterReader, RawChapter, StreamFault};
-use pon_stream::{PlanFault, write_text};
-use pon_units::MOST_PORTS;
+use pon_units::MAX_PORTS;
 use std::alloc::{AllocError, Global};
 
 // The number of the last chapter of each port, if there was one.
-type LastChapters = [Option<u64>; MOST_PORTS];
+type LastChapters = [Option<u64>; MAX_PORTS];
 
 // Writes a line.
 fn write_line<W: DevWrite>(
     line: Result<String, AllocError>,
     writer: &mut W,
-) -> Result<(), PlanFault>
+) -> Result<(), DeviceFault>
     ensures write { TellsWrite (W.failures writer.old) (W.failures writer.new) result }
 {
     match line {
         Ok(line) => write_text(writer, line.as_bytes()),
-        Err(_) => Err(PlanFault::Memory),
+        Err(_) => Err(DeviceFault::Memory),
     }
 }
 
@@ -33,7 +32,7 @@ fn write_missing<W: DevWrite>(
     before: Option<u64>,
     chapter: &RawChapter,
     writer: &mut W,
-) -> Result<(), PlanFault>
+) -> Result<(), DeviceFault>
     ensures write { TellsWrite (W.failures writer.old) (W.failures writer.new) result }
 {
     let first = match before {
@@ -54,7 +53,7 @@ fn write_chapter<W: DevWrite>(
     chapter: &RawChapter,
     end: u64,
     writer: &mut W,
-) -> Result<Totals, PlanFault>
+) -> Result<Totals, DeviceFault>
     ensures write { TellsWrite (W.failures writer.old) (W.failures writer.new) result }
 {
     let summary = summary_of(chapter);
@@ -63,7 +62,7 @@ fn write_chapter<W: DevWrite>(
     match write_line(line, writer) {
         Ok(()) => match with_chapter(totals, &summary) {
             Some(sum) => Ok(sum),
-            None => Err(PlanFault::Memory),
+            None => Err(DeviceFault::Memory),
         },
         Err(fault) => Err(fault),
     }
@@ -74,13 +73,13 @@ fn next_chapter<R: DevRead>(
     alloc: Global,
     source: &mut ChapterReader,
     reader: &mut R,
-) -> Result<Option<RawChapter>, PlanFault> {
+) -> Result<Option<RawChapter>, DeviceFault> {
     match source.next(alloc, reader) {
         Ok(next) => Ok(next),
         Err(StreamFault::BadFormat { .. }) => Ok(None),
         Err(StreamFault::Truncated { .. }) => Ok(None),
-        Err(StreamFault::Read) => Err(PlanFault::Read),
-        Err(StreamFault::Memory) => Err(PlanFault::Memory),
+        Err(StreamFault::Read) => Err(DeviceFault::Read),
+        Err(StreamFault::Memory) => Err(DeviceFault::Memory),
     }
 }
 
@@ -92,14 +91,14 @@ pub fn write_info<R: DevRead, W: DevWrite>(
     alloc: Global,
     reader: &mut CountedBytes<R>,
     writer: &mut W,
-) -> Result<(), PlanFault> {
+) -> Result<(), DeviceFault> {
     let mut source = match ChapterReader::open(alloc, reader) {
         Ok(source) => source,
-        Err(StreamFault::Read) => return Err(PlanFault::Read),
-        Err(StreamFault::Memory) => return Err(PlanFault::Memory),
+        Err(StreamFault::Read) => return Err(DeviceFault::Read),
+        Err(StreamFault::Memory) => return Err(DeviceFault::Memory),
         Err(_) => return Ok(()),
     };
-    let mut last: LastChapters = [None; MOST_PORTS];
+    let mut last: LastChapters = [None; MAX_PORTS];
     let mut totals = Totals {
         chapters: 0,
         maps: 0,
@@ -115,5 +114,5 @@ pub fn write_info<R: DevRead, W: DevWrite>(
         totals = write_chapter(alloc, totals, &chapter, reader.bytes(), writer)?;
         last[port] = Some(chapter.number);
     }
-    Err(PlanFault::Memory)
+    Err(DeviceFault::Memory)
 }

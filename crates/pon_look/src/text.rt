@@ -9,7 +9,7 @@ use std::alloc::{AllocError, Global};
 const FRAME_MICROSECONDS: u64 = 125;
 
 // The greatest number of a cause.
-const GREATEST_CAUSE: u8 = 9;
+const MAX_CAUSE: u8 = 9;
 
 // Writes the line time of maps, in seconds with six decimal places.
 fn seconds_text(alloc: Global, maps: u64) -> Result<String, AllocError> {
@@ -32,7 +32,7 @@ fn frames_text(alloc: Global, summary: &Summary) -> Result<String, AllocError> {
 // Writes each cause of a failure with its number of failures.
 fn causes_text(alloc: Global, entries: &[Entry]) -> Result<String, AllocError> {
     let mut text = String::new(alloc);
-    for cause in 1..=GREATEST_CAUSE {
+    for cause in 1..=MAX_CAUSE {
         let count = cause_count(cause, entries);
         if count > 0 {
             text = format!(in alloc; "{text} cause {cause} {count}")?;

@@ -7,11 +7,11 @@ use Rattle.std.proofs.lemmas.Option.{slice_get-get_or}
 use Rattle.pon_descr.specs.Checks.{IsTold}
 use Rattle.pon_descr.specs.declared.refusal.Refusal.{Refusal}
 use Rattle.pon_descr.specs.declared.refusal.Refusal.TheVariants.{OutOfMemory}
-use Rattle.pon_event.specs.declared.event.Event.{Event}
-use Rattle.pon_event.specs.declared.step.Step.{Step}
+use Rattle.pon_admit.specs.declared.event.Event.{Event}
+use Rattle.pon_admit.specs.declared.step.Step.{Step}
 use Rattle.pon_state.specs.declared.reply.Reply.{Reply}
-use Rattle.pon_port.specs.Chapters.{Chapter}
-use Rattle.pon_port.specs.Taking.{refusal_of}
+use Rattle.pon_history.specs.Chapters.{Chapter}
+use Rattle.pon_history.specs.Taking.{refusal_of}
 use Rattle.pon_plant.specs.Answers.{IsAnswer, KeepsStep}
 use Rattle.pon_plant.proofs.Interleaving.{slice_get-set_same}
 use Rattle.pon_plant.specs.declared.fault.StepFault.TheVariants.{Refused}

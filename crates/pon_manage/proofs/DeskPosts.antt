@@ -2,16 +2,16 @@
 use Rattle.std.proofs.Common.{◌≡◌, List, ℕ, ap, inl, inr, refl, subst, ◌∙◌}
 use Rattle.std.specs.Prelude.{Result, Ok, Err, OnOk, ◌++◌, ◌≢◌}
 use Rattle.pon_desk.specs.Counts.{SeatState, one_more_at}
-use Rattle.pon_kept.specs.Kept.{AddsTo}
+use Rattle.pon_lists.specs.Kept.{AddsTo}
 use Rattle.pon_desk.specs.Posts.{IsSomePost, IsSomeRefusal, NamesPost}
 use Rattle.pon_desk.specs.Receipts.{Receipt}
-use Rattle.pon_event.specs.declared.event.Event.{Event}
+use Rattle.pon_admit.specs.declared.event.Event.{Event}
 use Rattle.pon_descr.specs.declared.refusal.Refusal.{Refusal}
 use Rattle.pon_descr.specs.declared.refusal.Refusal.TheVariants.{OutOfMemory}
 use Rattle.pon_state.specs.declared.reply.Reply.{Reply}
 use Rattle.pon_line.specs.declared.fault.LineFault.TheVariants.{Port}
 use Rattle.pon_line.specs.declared.reading.Reading.TheVariants.{Asks}
-use Rattle.pon_manage.specs.Desks.{AddsText, DeskAnswers, KeepsPost}
+use Rattle.pon_manage.specs.Desks.{AddsText, DeskAnswers, KeepsReceipt}
 use Rattle.pon_manage.specs.Text.{refusal_line, reply_line}
 
 pub refused_post : {T E : Type 0} (port : ℕ) (event : Event) (old new : SeatState) (told : Refusal) (replies_old replies_new : List ℕ) (r : Result T E) → IsSomeRefusal event told → told ≢ OutOfMemory → new ≡ old →
@@ -30,7 +30,7 @@ kept_post port event old mid new receipt index reply replies_old replies_new (Ok
   is,
 )
   where
-    keeps : KeepsPost port old receipt new
+    keeps : KeepsReceipt port old receipt new
     keeps = record {
       names = names;
       number = number ∙ ap (λ (s : SeatState). s.number) counted;

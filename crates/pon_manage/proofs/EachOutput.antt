@@ -2,23 +2,23 @@
 use Rattle.std.proofs.Common.{◌≡◌, ℕ, ◌<◌, List, [], ◌∷◌, ◌++◌, length, refl, ap, sym, ◌∙◌, subst, append_assoc, inl, inr, arith}
 use Rattle.std.proofs.lemmas.Option.{slice_get-get_or}
 use Rattle.std.specs.Prelude.{Option, Some, None, slice_get, slice_set}
-use Rattle.pon_port.specs.Chapters.{Chapter, IsLawfulChapter, present_state}
-use Rattle.pon_port.specs.Last.{last_map}
-use Rattle.pon_port.specs.Taking.{Takes, refusal_of}
-use Rattle.pon_port.proofs.OneReply.{each_taken}
-use Rattle.pon_event.specs.declared.event.Event.{Event}
+use Rattle.pon_history.specs.Chapters.{Chapter, IsLawfulChapter, present_state}
+use Rattle.pon_history.specs.Last.{last_map}
+use Rattle.pon_history.specs.Taking.{Takes, refusal_of}
+use Rattle.pon_port.proofs.EachReply.{each_taken}
+use Rattle.pon_admit.specs.declared.event.Event.{Event}
 use Rattle.pon_state.specs.Events.{IsEvent}
 use Rattle.pon_state.specs.declared.reply.Reply.{Reply}
 use Rattle.pon_descr.specs.declared.refusal.Refusal.{Refusal}
-use Rattle.pon_stream.specs.Streams.{IsBeginning}
+use Rattle.pon_device.specs.Streams.{IsBeginning}
 use Rattle.pon_text.specs.Lines.{lines_of}
 use Rattle.pon_line.specs.Reading.{AsksWithin, read_line}
 use Rattle.pon_line.specs.declared.fault.LineFault.TheVariants.{Port}
 use Rattle.pon_line.specs.declared.reading.Reading.{Reading}
 use Rattle.pon_line.specs.declared.reading.Reading.TheVariants.{Nothing, Refused, Asks, AsksCert, AsksState}
 use Rattle.pon_line.proofs.Asking.{read_line-within}
-use Rattle.pon_session.specs.Giving.{GivesLines}
-use Rattle.pon_session.specs.Planning.{BeginsNext}
+use Rattle.pon_text.specs.Giving.{GivesLines}
+use Rattle.pon_text.specs.Planning.{BeginsNext}
 use Rattle.pon_manage.specs.Planning.{BeginsOutput}
 use Rattle.pon_manage.specs.Text.{refusal_line, reply_line, cert_line, state_line, Answers, AsksPort, Posts, TellsCert, TellsState, Gives, IsOutput}
 use Rattle.pon_manage.proofs.OneOutput.{AreLawful, lawful_at, lawful_answer}

@@ -3,14 +3,14 @@ use Rattle.std.proofs.Common.{◌≡◌, ℕ, List, [], ◌∷◌, ◌++◌, ref
 use Rattle.std.proofs.lemmas.Option.{get_or_from_slice_get, slice_get_within}
 use Rattle.std.proofs.lemmas.List.Elements.{All-set}
 use Rattle.std.specs.Prelude.{All, Option, Some, None, slice_get, slice_set, length}
-use Rattle.pon_port.specs.Chapters.{Chapter, IsLawfulChapter}
-use Rattle.pon_port.specs.Taking.{refusal_of}
-use Rattle.pon_port.proofs.OneReply.{one_taken, taken_lawful}
-use Rattle.pon_event.specs.declared.event.Event.{Event}
+use Rattle.pon_history.specs.Chapters.{Chapter, IsLawfulChapter}
+use Rattle.pon_history.specs.Taking.{refusal_of}
+use Rattle.pon_history.proofs.OneReply.{one_taken, taken_lawful}
+use Rattle.pon_admit.specs.declared.event.Event.{Event}
 use Rattle.pon_descr.specs.declared.refusal.Refusal.{Refusal}
 use Rattle.pon_text.specs.Lines.{lines_of}
 use Rattle.pon_line.specs.Reading.{read_line}
-use Rattle.pon_session.specs.Giving.{GivesLines}
+use Rattle.pon_text.specs.Giving.{GivesLines}
 use Rattle.pon_manage.specs.Text.{reply_line, Answers, AsksPort, Posts, TellsCert, TellsState, Gives, IsOutput}
 use Rattle.pon_line.specs.declared.reading.Reading.{Reading}
 use Rattle.pon_line.specs.declared.reading.Reading.TheVariants.{Nothing, Refused, Asks, AsksCert, AsksState}

@@ -9,15 +9,15 @@ use Rattle.std.proofs.lemmas.List.Elements.{All-from_recursion}
 use Rattle.pon_units.specs.declared.limits.TheConstants.{LINE_RATE}
 use Rattle.pon_lists.specs.ResultSteps.{◌>>=◌}
 use Rattle.pon_text.specs.Lines.{is_numeral}
-use Rattle.pon_descr.specs.Checks.{when, first_of}
+use Rattle.pon_descr.specs.Checks.{when, first_refusal_of}
 use Rattle.pon_descr.specs.Descriptor.{Descriptor, IsLawful, SuitsClass, class_refusal, descriptor_refusal, promised}
 use Rattle.pon_descr.specs.declared.class.Class.{Class}
 use Rattle.pon_descr.specs.declared.class.Class.TheVariants.{Plain, NonAssured, BestEffort}
 use Rattle.pon_descr.specs.declared.refusal.Refusal.{Refusal}
 use Rattle.pon_descr.specs.declared.refusal.Refusal.TheVariants.{AllocRange, OnuRange, RateRange, MaxBelowGuaranteed, NeedsGuarantee, NoSurplusRoom}
 use Rattle.pon_descr.proofs.Checks.{none_refuses, when_none}
-use Rattle.pon_event.specs.declared.event.Event.{Event}
-use Rattle.pon_event.specs.declared.event.Event.TheVariants.{Admit, Change, Remove, Report, MakeMap, Fail, Restore}
+use Rattle.pon_admit.specs.declared.event.Event.{Event}
+use Rattle.pon_admit.specs.declared.event.Event.TheVariants.{Admit, Change, Remove, Report, MakeMap, Fail, Restore}
 use Rattle.pon_state.specs.Events.{IsEvent, IsManaged}
 use Rattle.pon_line.specs.Fields.{number_field, or_bad_field, descriptor_words, rate_fields}
 use Rattle.pon_line.specs.Commands.{unless, alloc_refusal, onu_refusal, admit, change, remove, report, admit_of, change_of, remove_of, occupancy_field, occupancy_fields, report_of, fail_of, event_of}
@@ -87,14 +87,14 @@ lawful d h =
 
 admit_reads : (onu alloc : ℕ) (d : Descriptor) → Reads IsEvent (admit onu alloc d)
 unfolding admit
-admit_reads onu alloc d = unrefused (first_of (alloc_refusal alloc ∷ onu_refusal onu ∷ descriptor_refusal d ∷ [])) (Admit onu alloc d) (λ h.
+admit_reads onu alloc d = unrefused (first_refusal_of (alloc_refusal alloc ∷ onu_refusal onu ∷ descriptor_refusal d ∷ [])) (Admit onu alloc d) (λ h.
     let none = none_refuses (alloc_refusal alloc ∷ onu_refusal onu ∷ descriptor_refusal d ∷ []) h in
     let i : IsManaged alloc = managed alloc none.0 in
     record { onu = onu_small onu none.1.0; managed = i.0; alloc_id = i.1; descriptor = lawful d none.1.1.0 })
 
 change_reads : (alloc : ℕ) (d : Descriptor) → Reads IsEvent (change alloc d)
 unfolding change
-change_reads alloc d = unrefused (first_of (alloc_refusal alloc ∷ descriptor_refusal d ∷ [])) (Change alloc d) (λ h.
+change_reads alloc d = unrefused (first_refusal_of (alloc_refusal alloc ∷ descriptor_refusal d ∷ [])) (Change alloc d) (λ h.
     let none = none_refuses (alloc_refusal alloc ∷ descriptor_refusal d ∷ []) h in
     (managed alloc none.0, lawful d none.1.0))
 

@@ -1,7 +1,7 @@
 -- The replies with the text of a view of some port.
 use Rattle.std.proofs.Common.{◌≡◌, ℕ, List, ap, ◌∙◌}
 use Rattle.std.specs.Prelude.{Result, Ok, Err, OnOk, ◌++◌}
-use Rattle.pon_port.specs.Chapters.{Chapter, IsLawfulChapter}
+use Rattle.pon_history.specs.Chapters.{Chapter, IsLawfulChapter}
 use Rattle.pon_desk.specs.Counts.{SeatState}
 use Rattle.pon_desk.specs.Views.{view_of}
 use Rattle.pon_desk.specs.declared.view.PortView.{PortView}

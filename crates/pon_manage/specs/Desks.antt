@@ -1,12 +1,12 @@
 -- The text of lines at a desk, where other threads post too: that of some port with a lawful chapter.
 use Rattle.std.specs.Prelude.{ℕ, ◌≡◌, ◌≢◌, ◌⊎◌, List, [], ◌++◌, length}
-use Rattle.pon_event.specs.declared.event.Event.{Event}
+use Rattle.pon_admit.specs.declared.event.Event.{Event}
 use Rattle.pon_descr.specs.declared.refusal.Refusal.{Refusal}
 use Rattle.pon_descr.specs.declared.refusal.Refusal.TheVariants.{OutOfMemory}
-use Rattle.pon_port.specs.Chapters.{Chapter, IsLawfulChapter, present_state}
-use Rattle.pon_port.specs.Last.{last_map}
+use Rattle.pon_history.specs.Chapters.{Chapter, IsLawfulChapter, present_state}
+use Rattle.pon_history.specs.Last.{last_map}
 use Rattle.pon_desk.specs.Counts.{SeatState, one_more_at}
-use Rattle.pon_kept.specs.Kept.{AddsTo}
+use Rattle.pon_lists.specs.Kept.{AddsTo}
 use Rattle.pon_desk.specs.Posts.{IsSomePost, IsSomeRefusal, NamesPost}
 use Rattle.pon_desk.specs.Receipts.{Receipt}
 use Rattle.pon_desk.specs.declared.view.PortView.{PortView}
@@ -18,7 +18,7 @@ use Rattle.pon_manage.specs.declared.show.Shown.{Shown}
 use Rattle.pon_manage.specs.Text.{cert_line, refusal_line, reply_line, state_line}
 
 -- a seat after a post at a port, whose receipt it was given to keep
-pub record KeepsPost (port : ℕ) (old : SeatState) (receipt : Receipt) (new : SeatState) : Type 0 where
+pub record KeepsReceipt (port : ℕ) (old : SeatState) (receipt : Receipt) (new : SeatState) : Type 0 where
   pub names : NamesPost port old receipt
   pub number : new.number ≡ old.number
   pub counts : new.counts ≡ (one_more_at port old).counts
@@ -27,7 +27,7 @@ pub record KeepsPost (port : ℕ) (old : SeatState) (receipt : Receipt) (new : S
 -- the port of this number, with a lawful chapter, took the event, the text is its reply, and the seat counts the post
 abbrev pub TellsPosted : ℕ → Event → SeatState → List ℕ → SeatState → Type 0
 TellsPosted port event old text new =
-    (receipt : Receipt) × IsSomePost event receipt × KeepsPost port old receipt new × (text ≡ reply_line receipt.placed.index receipt.placed.entry.reply)
+    (receipt : Receipt) × IsSomePost event receipt × KeepsReceipt port old receipt new × (text ≡ reply_line receipt.placed.index receipt.placed.entry.reply)
 
 -- a check of a port with a lawful chapter refused the event, or the desk is full, and the text is the refusal
 abbrev pub TellsRefused : Event → List ℕ → Type 0

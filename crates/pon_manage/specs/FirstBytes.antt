@@ -1,7 +1,7 @@
 -- A line has the same text as its first 4,097 bytes.
 use Rattle.std.proofs.Common.{length, subst, sym}
 use Rattle.pon_line.proofs.LongLines.{read_line-take}
-use Rattle.pon_session.specs.Giving.{ReadsFirst}
+use Rattle.pon_text.specs.Giving.{ReadsFirst}
 use Rattle.pon_manage.specs.Desks.{DeskAnswers, DeskGives}
 use Rattle.pon_manage.specs.Text.{Answers, Gives}
 

@@ -6,10 +6,10 @@ use Rattle.pon_bwmap.specs.MapBytes.{map_bytes}
 use Rattle.pon_cert.specs.Spelling.{cert_text}
 use Rattle.pon_admit.specs.Roster.{capacity, onus_of, promised_sum}
 use Rattle.pon_state.specs.State.{State}
-use Rattle.pon_port.specs.Chapters.{Chapter, present_state}
-use Rattle.pon_port.specs.Last.{LastMap, last_map}
-use Rattle.pon_port.specs.Taking.{Takes, refusal_of}
-use Rattle.pon_event.specs.declared.event.Event.{Event}
+use Rattle.pon_history.specs.Chapters.{Chapter, present_state}
+use Rattle.pon_history.specs.Last.{LastMap, last_map}
+use Rattle.pon_history.specs.Taking.{Takes, refusal_of}
+use Rattle.pon_admit.specs.declared.event.Event.{Event}
 use Rattle.pon_state.specs.declared.reply.Reply.{Reply}
 use Rattle.pon_state.specs.declared.reply.Reply.TheVariants.{Taken, Map}
 use Rattle.pon_descr.specs.declared.refusal.Refusal.{Refusal}
@@ -19,7 +19,7 @@ use Rattle.pon_line.specs.declared.fault.LineFault.{LineFault}
 use Rattle.pon_line.specs.declared.fault.LineFault.TheVariants.{NoMap, Port}
 use Rattle.pon_line.specs.declared.reading.Reading.{Reading}
 use Rattle.pon_line.specs.declared.reading.Reading.TheVariants.{Nothing, Refused, Asks, AsksCert, AsksState}
-use Rattle.pon_session.specs.Giving.{GivesText}
+use Rattle.pon_text.specs.Giving.{GivesText}
 use Rattle.pon_manage.specs.declared.show.Shown.{Shown}
 
 -- a refusal line

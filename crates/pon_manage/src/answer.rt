@@ -1,8 +1,8 @@
 //! The text that one line gives at a plant.
 
 ghost use Rattle.std.specs.Prelude.{◌≡◌, ◌<◌, ◌++◌, IfSome, IsSome, OnOk, OnErr, Some, length, slice_get};
-ghost use Rattle.pon_port.specs.Chapters.{present_state};
-ghost use Rattle.pon_port.specs.Last.{last_map};
+ghost use Rattle.pon_history.specs.Chapters.{present_state};
+ghost use Rattle.pon_history.specs.Last.{last_map};
 ghost use Rattle.pon_line.specs.Parts.{asks_in};
 ghost use Rattle.pon_line.specs.Reading.{AsksWithin};
 ghost use Rattle.pon_manage.specs.Text.{AddsAnswer, cert_line, last_reply, state_line};
@@ -11,10 +11,10 @@ use crate::show::{append_shown, shown_of};
 use crate::texts::{append_cert, append_refusal, append_reply};
 use pon_dbru::Occupancies;
 use pon_descr::Refusal;
-use pon_line::{FrameLine, LineFault, Reading};
+use pon_line::{FrameCommand, LineFault, Reading};
 use pon_plant::{Plant, Step, StepFault};
-use pon_port::{Event, Port, Reply};
-use pon_units::{MOST_PORTS, PortNo};
+use pon_port::{Entry, Event, Port};
+use pon_units::{MAX_PORTS, PortNo};
 use std::alloc::AllocError;
 
 // Returns the number of entries that a port keeps.
@@ -22,25 +22,15 @@ fn kept_entries(plant: &Plant, port: PortNo) -> usize
     requires { port < length plant.now }
     ensures { IfSome (slice_get plant.now port) (λ c. result ≡ length c.entries) }
 {
-    match plant.port(port) {
-        Some(port) => port.history().len(),
-        None => unreachable!(),
-    }
+    plant.port(port).unwrap().history().len()
 }
 
-// Returns the reply of the last entry of a port.
-fn last_reply(plant: &Plant, port: PortNo) -> &Reply
+// Returns the last entry of a port.
+fn last_entry(plant: &Plant, port: PortNo) -> &Entry
     requires { IsSome (last_reply (slice_get plant.now port)) }
-    ensures { last_reply (slice_get plant.now port) ≡ Some result.now }
+    ensures { last_reply (slice_get plant.now port) ≡ Some result.now.reply }
 {
-    let history = match plant.port(port) {
-        Some(port) => port.history(),
-        None => unreachable!(),
-    };
-    match history.last() {
-        Some(entry) => &entry.reply,
-        None => unreachable!(),
-    }
+    plant.port(port).unwrap().history().last().unwrap()
 }
 
 // Returns the number of the port at an index.
@@ -48,7 +38,7 @@ fn port_no(plant: &Plant, place: usize) -> PortNo
     requires { place < length plant.now }
     ensures { result ≡ place }
 {
-    prove!(plant.count() <= MOST_PORTS);
+    prove!(plant.count() <= MAX_PORTS);
     PortNo::at(place)
 }
 
@@ -68,7 +58,7 @@ fn answer_event(
     let port = port_no(plant, port);
     let index = kept_entries(plant, port);
     match plant.keep(Step { port, event }) {
-        Ok(()) => append_reply(replies, room, index, last_reply(plant, port)),
+        Ok(()) => append_reply(replies, room, index, last_entry(plant, port)),
         Err(StepFault::Refused(refusal)) => match refusal {
             Refusal::OutOfMemory => Err(AllocError),
             told => append_refusal(replies, LineFault::Port(told)),
@@ -103,10 +93,7 @@ fn port_at(plant: &Plant, place: usize) -> &Port
     requires { place < length plant.now }
     ensures { slice_get plant.now place ≡ Some result.now }
 {
-    match plant.port(port_no(plant, place)) {
-        Some(port) => port,
-        None => unreachable!(),
-    }
+    plant.port(port_no(plant, place)).unwrap()
 }
 
 /// Appends the text of a reading; `room` is a buffer for the bytes of a map. `Err` only if memory is refused; then the
@@ -135,7 +122,7 @@ pub(crate) fn answer(
 /// bytes of a map. `Err` as that of [`answer`].
 pub(crate) fn answer_frame_line(
     plant: &mut Plant,
-    asked: FrameLine,
+    asked: FrameCommand,
     occ: Occupancies,
     room: &mut Vec<u8>,
     replies: &mut Vec<u8>,
@@ -146,8 +133,8 @@ pub(crate) fn answer_frame_line(
     ensures err { OnErr result (replies.new.items ≡ replies.old.items) }
 {
     match asked {
-        FrameLine::Map { port } => answer_event(plant, port, Event::MakeMap, room, replies),
-        FrameLine::Report { port, frame, onu } => {
+        FrameCommand::Map { port } => answer_event(plant, port, Event::MakeMap, room, replies),
+        FrameCommand::Report { port, frame, onu } => {
             let event = Event::Report { frame, onu, occ };
             answer_event(plant, port, event, room, replies)
         }

@@ -1,7 +1,7 @@
 //! The text that one line gives at a desk.
 
 ghost use Rattle.std.specs.Prelude.{◌≡◌, ◌<◌, ◌++◌, IfOk, OnOk, OnErr};
-ghost use Rattle.pon_port.specs.Chapters.{Chapter, IsLawfulChapter};
+ghost use Rattle.pon_history.specs.Chapters.{Chapter, IsLawfulChapter};
 ghost use Rattle.pon_line.specs.Reading.{AsksWithin};
 ghost use Rattle.pon_desk.specs.Views.{view_of};
 ghost use Rattle.pon_manage.specs.Desks.{AddsText, DeskAnswers, shown_in};
@@ -13,7 +13,7 @@ use pon_descr::Refusal;
 use pon_desk::{Desk, PortView, Seat, StepFault};
 use pon_line::{LineFault, Reading};
 use pon_port::Event;
-use pon_units::{MOST_PORTS, PortNo};
+use pon_units::{MAX_PORTS, PortNo};
 use std::alloc::{AllocError, Global};
 use std::sync::Wait;
 use std::sync::ledger::Ledger;
@@ -35,7 +35,7 @@ fn answer_event<L: Ledger, M: Ledger, H: Wait>(
 {
     match desk.post(rt, seat, port, event) {
         Ok(receipt) => {
-            let appended = append_reply(replies, room, receipt.index(), receipt.reply());
+            let appended = append_reply(replies, room, receipt.index(), receipt.entry());
             seat.keep(receipt);
             appended
         }
@@ -94,7 +94,7 @@ fn port_no<L: Ledger, M: Ledger>(desk: &Desk<L, M>, place: usize) -> PortNo
     requires { place < desk.now.ports }
     ensures { result ≡ place }
 {
-    prove!(desk.ports() <= MOST_PORTS);
+    prove!(desk.ports() <= MAX_PORTS);
     PortNo::at(place)
 }
 

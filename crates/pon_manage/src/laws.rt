@@ -1,8 +1,8 @@
 //! The laws of the output text, over the definitions alone.
 
 ghost use Rattle.std.specs.Prelude.{◌≡◌, ℕ, List, All};
-ghost use Rattle.pon_port.specs.Chapters.{Chapter, IsLawfulChapter};
-ghost use Rattle.pon_stream.specs.Streams.{IsBeginning};
+ghost use Rattle.pon_history.specs.Chapters.{Chapter, IsLawfulChapter};
+ghost use Rattle.pon_device.specs.Streams.{IsBeginning};
 ghost use Rattle.pon_manage.specs.Planning.{BeginsOutput};
 ghost use Rattle.pon_manage.specs.Text.{IsOutput};
 

@@ -15,6 +15,6 @@ mod texts;
 
 pub use operating::operate;
 pub use planning::plan;
+pub use pon_device::DeviceFault as PlanFault;
 pub use pon_plant::Step;
-pub use pon_session::PlanEnd;
-pub use pon_stream::PlanFault;
+pub use pon_text::PlanEnd;

@@ -2,17 +2,16 @@
 
 ghost use Rattle.std.specs.Prelude.{OnOk};
 ghost use Rattle.pon_device.specs.Device.{IsAtEnd};
-ghost use Rattle.pon_stream.specs.Streams.{TellsRead, TellsWrite};
-ghost use Rattle.pon_session.specs.Planning.{Planned};
+ghost use Rattle.pon_device.specs.Streams.{TellsRead, TellsWrite};
+ghost use Rattle.pon_text.specs.Planning.{Planned};
 ghost use Rattle.pon_manage.specs.Desks.{DeskGives};
 ghost use Rattle.pon_manage.specs.FirstBytes.{desk_gives_first};
 
 use crate::at_desk::answer_at_desk;
 use pon_desk::{Desk, Seat};
-use pon_device::{DevRead, DevWrite};
+use pon_device::{DevRead, DevWrite, DeviceFault};
 use pon_line::read_line;
-use pon_session::{Answers, PlanEnd, answer_input};
-use pon_stream::PlanFault;
+use pon_text::{Answers, PlanEnd, answer_input};
 use std::alloc::{AllocError, Global};
 use std::sync::Wait;
 use std::sync::ledger::Ledger;
@@ -62,7 +61,7 @@ pub fn operate<L: Ledger, M: Ledger, H: Wait, R: DevRead, W: DevWrite>(
     seat: &mut Seat<L, M>,
     reader: &mut R,
     writer: &mut W,
-) -> Result<PlanEnd, PlanFault>
+) -> Result<PlanEnd, DeviceFault>
     ensures text { Planned DeskGives seat.old seat.new (R.remaining reader.old)
         (R.remaining reader.new) (W.contents writer.old) (W.contents writer.new) result }
     ensures end { OnOk result (IsAtEnd (R.remaining reader.new)) }

@@ -2,7 +2,7 @@
 
 ghost use Rattle.std.specs.Prelude.{length, OnOk};
 ghost use Rattle.pon_device.specs.Device.{IsAtEnd};
-ghost use Rattle.pon_stream.specs.Streams.{TellsRead, TellsWrite};
+ghost use Rattle.pon_device.specs.Streams.{TellsRead, TellsWrite};
 ghost use Rattle.pon_plant.specs.Plants.{IsPlantSize};
 ghost use Rattle.pon_manage.specs.Planning.{PlannedAfter};
 ghost use Rattle.pon_manage.specs.Text.{Gives};
@@ -11,12 +11,11 @@ ghost use Rattle.pon_manage.specs.FirstBytes.{gives_first};
 use crate::answer::{answer, answer_frame_line};
 use crate::start::start;
 use pon_dbru::Occupancies;
-use pon_device::{DevRead, DevWrite};
+use pon_device::{DevRead, DevWrite, DeviceFault};
 use pon_line::{read_frame_line, read_line};
 use pon_plant::{Plant, Step};
 use pon_port::PortCfg;
-use pon_session::{Answers, PlanEnd, answer_input};
-use pon_stream::PlanFault;
+use pon_text::{Answers, PlanEnd, answer_input};
 use pon_units::FrameNo;
 use std::alloc::{AllocError, Global};
 
@@ -64,7 +63,7 @@ pub fn plan<H, R: DevRead, W: DevWrite>(
     steps: Vec<Step>,
     reader: &mut R,
     writer: &mut W,
-) -> Result<PlanEnd, PlanFault>
+) -> Result<PlanEnd, DeviceFault>
     requires ports { IsPlantSize (length ports.now) }
     ensures text { PlannedAfter ports.now steps.items (R.remaining reader.old)
         (R.remaining reader.new) (W.contents writer.old) (W.contents writer.new) result }
@@ -78,6 +77,6 @@ pub fn plan<H, R: DevRead, W: DevWrite>(
             let room = Vec::new(alloc);
             answer_input(alloc, &mut AtPlant { room }, &mut plant, reader, writer)
         }
-        Err(_) => Err(PlanFault::Memory),
+        Err(_) => Err(DeviceFault::Memory),
     }
 }

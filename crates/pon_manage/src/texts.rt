@@ -3,14 +3,14 @@
 ghost use Rattle.std.specs.Prelude.{◌≡◌, ◌+◌, ◌*◌, ◌≤◌, ◌++◌, ◌∷◌, [], OnOk, OnErr, Some, codes, decimal, length, vec_len, vec_capacity};
 ghost use Rattle.hex.specs.Hex.{encode_lower};
 ghost use Rattle.pon_bwmap.specs.MapBytes.{map_bytes};
-ghost use Rattle.pon_port.specs.Last.{MatchesMembers};
+ghost use Rattle.pon_history.specs.Last.{MatchesMembers};
 ghost use Rattle.pon_manage.specs.Text.{cert_line, refusal_line, reply_line};
 
 use itoa::Buffer;
 use pon_bwmap::{Map, write_map};
 use pon_line::LineFault;
-use pon_port::{MadeMap, Reply};
-use pon_units::{AllocId, FrameNo, MOST_STRUCTURES};
+use pon_port::{Entry, EntryRef, MadeMap, Reply};
+use pon_units::{AllocId, FrameNo, MAX_STRUCTURES};
 use std::alloc::AllocError;
 
 /// Appends the refusal of a line. `Err` only if memory is refused, and then the replies are unchanged.
@@ -25,7 +25,7 @@ pub(crate) fn append_refusal(replies: &mut Vec<u8>, fault: LineFault) -> Result<
 // Replaces the content of `room` by the bytes of a map.
 fn write_bytes(room: &mut Vec<u8>, map: &Map) -> Result<(), AllocError>
     ensures bytes { OnOk result (room.new.items ≡ map_bytes map.now) }
-    ensures count { OnOk result (vec_len room.new ≤ 4 + 8 * MOST_STRUCTURES) }
+    ensures count { OnOk result (vec_len room.new ≤ 4 + 8 * MAX_STRUCTURES) }
 {
     room.resize(4 + 8 * map.rows().len(), 0)?;
     write_map(map, room.as_mut_slice());
@@ -46,7 +46,7 @@ fn append_hex(replies: &mut Vec<u8>, bytes: &[u8])
 
 // Appends the reply line of a map, of which the frame and the bytes are given.
 fn append_bytes(replies: &mut Vec<u8>, frame: FrameNo, bytes: &[u8]) -> Result<(), AllocError>
-    requires { length bytes.now ≤ 4 + 8 * MOST_STRUCTURES }
+    requires { length bytes.now ≤ 4 + 8 * MAX_STRUCTURES }
     ensures ok { OnOk result (replies.new.items ≡ replies.old.items
         ++ (codes "map " ++ (decimal frame ++ (32 ∷ encode_lower bytes.now ++ 10 ∷ [])))) }
     ensures err { OnErr result (replies.new.items ≡ replies.old.items) }
@@ -85,20 +85,21 @@ fn append_taken(replies: &mut Vec<u8>, index: usize) -> Result<(), AllocError>
     replies.extend_from_slice(b"\n")
 }
 
-/// Appends the reply line of an event; `index` is that of its entry. `room` is a buffer for the bytes of a map, with
+/// Appends the reply line of an entry with this index. `room` is a buffer for the bytes of a map, with
 /// any content. `Err` only if memory is refused, and then the replies are unchanged.
 pub(crate) fn append_reply(
     replies: &mut Vec<u8>,
     room: &mut Vec<u8>,
     index: usize,
-    reply: &Reply,
+    entry: &Entry,
 ) -> Result<(), AllocError>
-    ensures ok { OnOk result (replies.new.items ≡ replies.old.items ++ reply_line index reply.now) }
+    ensures ok { OnOk result (replies.new.items
+        ≡ replies.old.items ++ reply_line index entry.now.reply) }
     ensures err { OnErr result (replies.new.items ≡ replies.old.items) }
 {
-    match reply {
-        Reply::Taken => append_taken(replies, index),
-        Reply::Map(made) => append_map(replies, room, made),
+    match entry.as_ref() {
+        EntryRef::Taken(_) => append_taken(replies, index),
+        EntryRef::Map(made) => append_map(replies, room, made),
     }
 }
 

@@ -2,9 +2,8 @@
 
 use crate::files::open_file;
 use pon_audit::write_verdict;
-use pon_device::{StdRead, StdWrite};
+use pon_device::{DeviceFault, StdRead, StdWrite};
 use pon_job::{Failure, Named};
-use pon_manage::PlanFault;
 use std::alloc::Global;
 use std::io::{self, BufReader};
 use std::rt::Files;
@@ -20,7 +19,7 @@ pub(crate) fn audit_file<R: Files + Print + Threads + Sync>(
     let named = Named::Recording(name);
     let file = open_file(rt, alloc, name, named)?;
     let Ok(input) = BufReader::new(alloc, file) else {
-        return Err(Failure::from(PlanFault::Memory));
+        return Err(Failure::from(DeviceFault::Memory));
     };
     let mut reader = StdRead::new(input);
     let mut writer = StdWrite::new(io::writer(rt));

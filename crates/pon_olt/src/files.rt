@@ -1,7 +1,7 @@
 //! Opening and reading the files that the command line names.
 
+use pon_device::DeviceFault;
 use pon_job::{Failure, Named};
-use pon_manage::PlanFault;
 use std::alloc::Global;
 use std::fs;
 use std::io::Read;
@@ -16,7 +16,7 @@ pub(crate) fn open_file<R: Files>(
 ) -> Result<R::File, Failure> {
     match fs::open(rt, name) {
         Ok(file) => Ok(file),
-        Err(error) => Err(Failure::of(alloc, PlanFault::Read, named, &error)),
+        Err(error) => Err(Failure::of(alloc, DeviceFault::Read, named, &error)),
     }
 }
 
@@ -32,6 +32,6 @@ pub(crate) fn recording_in<R: Files>(
     let mut bytes = Vec::new(alloc);
     match file.read_to_end(&mut bytes) {
         Ok(_) => Ok(bytes),
-        Err(error) => Err(Failure::of(alloc, PlanFault::Read, named, &error)),
+        Err(error) => Err(Failure::of(alloc, DeviceFault::Read, named, &error)),
     }
 }

@@ -2,10 +2,9 @@
 
 use crate::files::open_file;
 use pon_audit::audit_from;
-use pon_device::{StdRead, StdWrite};
+use pon_device::{DeviceFault, StdRead, StdWrite};
 use pon_job::{Failure, Named};
 use pon_look::{CountedBytes, write_info};
-use pon_manage::PlanFault;
 use std::alloc::Global;
 use std::io::{self, BufReader};
 use std::rt::Files;
@@ -20,7 +19,7 @@ fn open_recording<R: Files>(
     let file = open_file(rt, alloc, name, Named::Recording(name))?;
     match BufReader::new(alloc, file) {
         Ok(input) => Ok(StdRead::new(input)),
-        Err(_) => Err(Failure::from(PlanFault::Memory)),
+        Err(_) => Err(Failure::from(DeviceFault::Memory)),
     }
 }
 

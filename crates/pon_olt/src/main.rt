@@ -24,11 +24,11 @@ use crate::opening::{NotOpened, Opening, settings_of, with_settings, without_set
 use clap::Error;
 pub use pon_audit::{audit, audit_from, write_verdict};
 pub use pon_check_file::check_file;
-use pon_device::{StdRead, StdWrite};
+use pon_device::{DeviceFault, StdRead, StdWrite};
 pub use pon_job::job;
 use pon_job::{Failure, Job, Named, Outcome, exit_status, outcome_of_job, outcome_of_words};
 use pon_manage::PlanEnd;
-pub use pon_manage::{PlanFault, plan};
+pub use pon_manage::plan;
 pub use pon_record::migrate;
 use pon_run::RunArgs;
 pub use pon_run::run_ports;
@@ -47,11 +47,11 @@ fn plan_lines<R: Input + Print>(
     rt: &R,
     alloc: Global,
     opening: Opening,
-) -> Result<PlanEnd, PlanFault>
+) -> Result<PlanEnd, DeviceFault>
     requires { IsPlantSize (length opening.ports.items) }
 {
     let Ok(input) = BufReader::new(alloc, rt.reader()) else {
-        return Err(PlanFault::Memory);
+        return Err(DeviceFault::Memory);
     };
     let mut reader = StdRead::new(input);
     let mut writer = StdWrite::new(io::writer(rt));
@@ -111,7 +111,7 @@ fn judge_file<R: Files + Print>(rt: &R, alloc: Global, name: &str) -> Result<boo
     let named = Named::CheckFile(name);
     let file = open_file(rt, alloc, name, named)?;
     let Ok(input) = BufReader::new(alloc, file) else {
-        return Err(Failure::from(PlanFault::Memory));
+        return Err(Failure::from(DeviceFault::Memory));
     };
     let mut reader = StdRead::new(input);
     let mut writer = StdWrite::new(io::writer(rt));
@@ -136,7 +136,7 @@ fn show<R: Print + Eprint>(rt: &R, error: &Error) -> Outcome {
         return outcome;
     }
     match error.print(rt) {
-        Err(_) if outcome == Outcome::Done => Outcome::Failed(PlanFault::Write),
+        Err(_) if outcome == Outcome::Done => Outcome::Failed(DeviceFault::Write),
         _ => outcome,
     }
 }
@@ -154,7 +154,7 @@ fn print_outcome(rt: &impl Eprint, outcome: Outcome) -> u8
 // Returns the outcome if the command line cannot be read: a word is not UTF-8, or memory was refused.
 fn without_words(rt: &impl Eprint, error: &io::Error) -> Outcome {
     if error.kind() != io::ErrorKind::InvalidData {
-        return Outcome::Failed(PlanFault::Memory);
+        return Outcome::Failed(DeviceFault::Memory);
     }
     let _ = eprintln!(rt; "error: a word of the command line is not UTF-8");
     Outcome::CommandLine
@@ -228,6 +228,6 @@ fn main(rt: HostRuntime) -> ExitCode {
     };
     match args.collect::<Vec<String>>(rt.alloc()) {
         Ok(words) => ExitCode::from(run(&rt, rt.alloc(), words.as_slice())),
-        Err(_) => ExitCode::from(print_outcome(&rt, Outcome::Failed(PlanFault::Memory))),
+        Err(_) => ExitCode::from(print_outcome(&rt, Outcome::Failed(DeviceFault::Memory))),
     }
 }

@@ -1,11 +1,9 @@
 //! The migration of a recording in a file.
 
 use crate::files::recording_in;
-use pon_device::StdWrite;
+use pon_device::{DeviceFault, StdWrite, write_text};
 use pon_job::{Failure, Named};
-use pon_manage::PlanFault;
 use pon_record::{ReadFault, chapter_count, migrate};
-use pon_stream::write_text;
 use std::alloc::{AllocError, Global};
 use std::fs::{self, OpenFile};
 use std::io::{self, Write};
@@ -26,19 +24,19 @@ fn write_whole<R: Files>(rt: &R, part: &str, out: &str, bytes: &[u8]) -> io::Res
 // other file is left.
 fn replace_file<R: Files>(rt: &R, alloc: Global, out: &str, bytes: &[u8]) -> Result<(), Failure> {
     let Ok(part) = format!(in alloc; "{out}{PART}") else {
-        return Err(Failure::from(PlanFault::Memory));
+        return Err(Failure::from(DeviceFault::Memory));
     };
     if let Err(error) = write_whole(rt, &part, out, bytes) {
         let _ = fs::remove_file(rt, &part);
-        return Err(Failure::of(alloc, PlanFault::Write, Named::Recording(out), &error));
+        return Err(Failure::of(alloc, DeviceFault::Write, Named::Recording(out), &error));
     }
     Ok(())
 }
 
 // Prints a line of text.
-fn print_line<R: Print>(rt: &R, line: Result<String, AllocError>) -> Result<(), PlanFault> {
+fn print_line<R: Print>(rt: &R, line: Result<String, AllocError>) -> Result<(), DeviceFault> {
     let Ok(line) = line else {
-        return Err(PlanFault::Memory);
+        return Err(DeviceFault::Memory);
     };
     write_text(&mut StdWrite::new(io::writer(rt)), line.as_bytes())
 }
@@ -59,7 +57,7 @@ pub(crate) fn migrate_file<R: Files + Print>(
             print_line(rt, format!(in alloc; "migrated chapters {chapters}\n"))?;
             return Ok(true);
         }
-        Err(ReadFault::Memory) => return Err(Failure::from(PlanFault::Memory)),
+        Err(ReadFault::Memory) => return Err(Failure::from(DeviceFault::Memory)),
         Err(ReadFault::BadFormat { at }) => format!(in alloc; "badformat {at}\n"),
         Err(ReadFault::Truncated { at, .. }) => format!(in alloc; "truncated {at}\n"),
     };

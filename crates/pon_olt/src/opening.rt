@@ -6,8 +6,9 @@ ghost use Rattle.toml.specs.Parse.{parse_document};
 ghost use Rattle.pon_settings.specs.Ports.{IsOpening, Spells, openings, steps_from};
 
 use crate::files::open_file;
+use pon_device::DeviceFault;
 use pon_job::{Failure, Named};
-use pon_manage::{PlanFault, Step};
+use pon_manage::Step;
 use pon_port::PortCfg;
 use pon_settings::{Settings, SettingsFault, explain, settings};
 use pon_units::{FrameNo, Gap, Profile};
@@ -25,7 +26,7 @@ const PROFILE_WITHOUT_SETTINGS: u8 = 0;
 const FRAME_WITHOUT_SETTINGS: u64 = 0;
 
 /// Maximum size of a settings file, in bytes. 64 ports with 512 Alloc-IDs each take about four million bytes.
-const MOST_BYTES: u64 = 16_777_216;
+const MAX_BYTES: u64 = 16_777_216;
 
 /// The 1 to 64 ports to open, and the steps to take before the first line.
 #[derive(Drop)]
@@ -61,7 +62,7 @@ impl From<AllocError> for NotOpened {
 }
 
 fn out_of_memory() -> NotOpened {
-    NotOpened::Failed(Failure::from(PlanFault::Memory))
+    NotOpened::Failed(Failure::from(DeviceFault::Memory))
 }
 
 // Returns the port that is opened without settings.
@@ -121,14 +122,14 @@ fn refused_as(alloc: Global, rule: &str) -> NotOpened {
 fn text_of<R: Files>(rt: &R, alloc: Global, name: &str) -> Result<String, NotOpened> {
     let named = Named::Settings(name);
     let file = open_file(rt, alloc, name, named)?;
-    match io::read_to_string(alloc, file.take(MOST_BYTES + 1)) {
-        Ok(text) if text.len() as u64 <= MOST_BYTES => Ok(text),
+    match io::read_to_string(alloc, file.take(MAX_BYTES + 1)) {
+        Ok(text) if text.len() as u64 <= MAX_BYTES => Ok(text),
         Ok(_) => Err(refused_as(alloc, "the file has more than 16777216 bytes")),
         Err(error) if error.kind() == ErrorKind::InvalidData => {
             Err(refused_as(alloc, "the file is not UTF-8"))
         }
         Err(error) => {
-            let failure = Failure::of(alloc, PlanFault::Read, named, &error);
+            let failure = Failure::of(alloc, DeviceFault::Read, named, &error);
             Err(NotOpened::Failed(failure))
         }
     }

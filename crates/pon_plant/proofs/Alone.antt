@@ -2,13 +2,13 @@
 use Rattle.std.proofs.Common.{◌≡◌, ℕ, suc, zero, List, [], ◌∷◌, length, take, refl, ap, sym, ◌∙◌, subst}
 use Rattle.std.specs.Prelude.{Some, Result, slice_get}
 use Rattle.std.proofs.lemmas.Option.{none-some, same_Some}
-use Rattle.pon_event.specs.declared.event.Event.{Event}
-use Rattle.pon_event.specs.declared.step.Step.{Step}
-use Rattle.pon_state.specs.declared.reply.Entry.{Entry}
+use Rattle.pon_admit.specs.declared.event.Event.{Event}
+use Rattle.pon_admit.specs.declared.step.Step.{Step}
+use Rattle.pon_state.specs.Entry.{Entry}
 use Rattle.pon_state.specs.declared.reply.Reply.{Reply}
-use Rattle.pon_port.specs.Chapters.{Chapter}
+use Rattle.pon_history.specs.Chapters.{Chapter}
 use Rattle.pon_plant.specs.declared.fault.StepFault.{StepFault}
-use Rattle.pon_plant.specs.Answers.{IsAnswer}
+use Rattle.pon_plant.specs.Answers.{IsStepAnswer}
 use Rattle.pon_plant.specs.Projections.{accepted, answers_at, entries_of, events_at, steps_alone}
 use Rattle.pon_plant.specs.Runs.{Ran, chapter_after, with_entries}
 use Rattle.pon_plant.proofs.Interleaving.{accepted-cons, with_more, with_none}
@@ -39,17 +39,17 @@ first_left c v r zero ss rs =
 first_left c v r (suc p) ss rs = refl
 
 each_alone : (c : Chapter) (vs : List Event) (rs : List (Result Reply StepFault)) → Answered c vs rs → (k : ℕ) (s : Step) (a : Result Reply StepFault) →
-    slice_get (steps_alone vs) k ≡ Some s → slice_get rs k ≡ Some a → IsAnswer (chapter_after (c ∷ []) s.port (take k (steps_alone vs)) (take k rs)) s.event a
+    slice_get (steps_alone vs) k ≡ Some s → slice_get rs k ≡ Some a → IsStepAnswer (chapter_after (c ∷ []) s.port (take k (steps_alone vs)) (take k rs)) s.event a
 each_alone c [] rs h k s a at told = absurd (none-some s at)
 each_alone c (v ∷ vs) [] h k s a at told = absurd h
 each_alone c (v ∷ vs) (r ∷ rs) h zero s a at told =
     let step : record { port = 0; event = v } ≡ s = same_Some (record { port = 0; event = v }) s at in
     let answer : r ≡ a = same_Some r a told in
-    subst (λ s. IsAnswer (chapter_after (c ∷ []) s.port [] []) s.event a) step
-    (subst (λ a. IsAnswer (chapter_after (c ∷ []) 0 [] []) v a) answer
-    (subst (λ d. IsAnswer (Some d) v r) (sym (with_none c)) h.0))
+    subst (λ s. IsStepAnswer (chapter_after (c ∷ []) s.port [] []) s.event a) step
+    (subst (λ a. IsStepAnswer (chapter_after (c ∷ []) 0 [] []) v a) answer
+    (subst (λ d. IsStepAnswer (Some d) v r) (sym (with_none c)) h.0))
 each_alone c (v ∷ vs) (r ∷ rs) h (suc k) s a at told =
-    subst (λ o. IsAnswer o s.event a) (first_left c v r s.port (take k (steps_alone vs)) (take k rs))
+    subst (λ o. IsStepAnswer o s.event a) (first_left c v r s.port (take k (steps_alone vs)) (take k rs))
     (each_alone (after_answer c v r) vs rs h.1 k s a at told)
 
 ends_alone : (c : Chapter) (vs : List Event) (rs : List (Result Reply StepFault)) → Answered c vs rs → (p : ℕ) →

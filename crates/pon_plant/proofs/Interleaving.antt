@@ -7,15 +7,15 @@ use Rattle.std.proofs.lemmas.Bool.{cases_eq, cases_lt, eq-eqb, ne_eqb}
 use Rattle.std.proofs.lemmas.List.{append-nil, take-append-le}
 use Rattle.std.proofs.lemmas.Option.{none-some, same_Some, slice_get_within}
 use Rattle.std.proofs.Math.Seq.{take-append_seam}
-use Rattle.pon_event.specs.declared.event.Event.{Event}
-use Rattle.pon_event.specs.declared.step.Step.{Step}
-use Rattle.pon_state.specs.declared.reply.Entry.{Entry}
+use Rattle.pon_admit.specs.declared.event.Event.{Event}
+use Rattle.pon_admit.specs.declared.step.Step.{Step}
+use Rattle.pon_state.specs.Entry.{Entry}
 use Rattle.pon_state.specs.declared.reply.Reply.{Reply}
-use Rattle.pon_port.specs.Chapters.{Chapter}
-use Rattle.pon_port.specs.Taking.{with_entry}
+use Rattle.pon_history.specs.Chapters.{Chapter}
+use Rattle.pon_history.specs.Taking.{with_entry}
 use Rattle.pon_plant.specs.declared.fault.StepFault.{StepFault}
 use Rattle.pon_plant.specs.declared.fault.StepFault.TheVariants.{NoSuchPort}
-use Rattle.pon_plant.specs.Answers.{IsAnswer, after_entry, after_step}
+use Rattle.pon_plant.specs.Answers.{IsStepAnswer, after_accepted, after_step}
 use Rattle.pon_plant.specs.Projections.{accepted, answers_at, entries_of, events_at}
 use Rattle.pon_plant.specs.Runs.{Ran, chapter_after, with_entries}
 
@@ -107,12 +107,12 @@ module _ (p : ℕ) where
       ∙ ap (λ (es : List Entry). es ++ accepted p (s ∷ []) (a ∷ [])) (sym (accepted-cons t ss b rs))
 
 -- a step adds its accepted entry at its own port, and none at the others
-after_step_at : (p : ℕ) (mid : List Chapter) (s : Step) (a : Result Reply StepFault) → IsAnswer (slice_get mid s.port) s.event a →
+after_step_at : (p : ℕ) (mid : List Chapter) (s : Step) (a : Result Reply StepFault) → IsStepAnswer (slice_get mid s.port) s.event a →
     slice_get (after_step mid s a) p ≡ option_map (with_entries (accepted p (s ∷ []) (a ∷ []))) (slice_get mid p)
 after_step_at p mid s (Err fault) h =
     sym (ap (λ (es : List Entry). option_map (with_entries es) (slice_get mid p)) (accepted_refused p s fault) ∙ map_with_none (slice_get mid p))
-after_step_at p mid s (Ok reply) h = (elim (slice_get mid s.port) as (λ o. slice_get mid s.port ≡ o → IsAnswer o s.event (Ok reply) →
-    slice_get (after_entry mid s reply o) p ≡ option_map (with_entries (accepted p (s ∷ []) (Ok reply ∷ []))) (slice_get mid p)) [
+after_step_at p mid s (Ok reply) h = (elim (slice_get mid s.port) as (λ o. slice_get mid s.port ≡ o → IsStepAnswer o s.event (Ok reply) →
+    slice_get (after_accepted mid s reply o) p ≡ option_map (with_entries (accepted p (s ∷ []) (Ok reply ∷ []))) (slice_get mid p)) [
       | None ↦ λ found none. absurd (impossible none)
       | Some c ↦ λ found taken. at_a_port c found (cases_eq p s.port)
     ]) refl h
@@ -142,10 +142,10 @@ no_steps old = record {
   chapters = λ p. sym (map_with_none (slice_get old p));
 }
 
-module _ (old mid : List Chapter) (ss : List Step) (rs : List (Result Reply StepFault)) (s : Step) (a : Result Reply StepFault) (ran : Ran old ss rs mid) (answer : IsAnswer (slice_get mid s.port) s.event a) where
+module _ (old mid : List Chapter) (ss : List Step) (rs : List (Result Reply StepFault)) (s : Step) (a : Result Reply StepFault) (ran : Ran old ss rs mid) (answer : IsStepAnswer (slice_get mid s.port) s.event a) where
   -- the property of the k-th step of a run
   abbrev IsAnswered : List Step → List (Result Reply StepFault) → Step → Result Reply StepFault → Type 0
-  IsAnswered before answers t b = IsAnswer (chapter_after old t.port before answers) t.event b
+  IsAnswered before answers t b = IsStepAnswer (chapter_after old t.port before answers) t.event b
 
   earlier : (k : ℕ) (t : Step) (b : Result Reply StepFault) → k < length ss → slice_get (ss ++ s ∷ []) k ≡ Some t → slice_get (rs ++ a ∷ []) k ≡ Some b →
       IsAnswered (take k (ss ++ s ∷ [])) (take k (rs ++ a ∷ [])) t b
@@ -159,7 +159,7 @@ module _ (old mid : List Chapter) (ss : List Step) (rs : List (Result Reply Step
   at_last =
       subst (λ before. IsAnswered before (take (length ss) (rs ++ a ∷ [])) s a) (sym (take-append_seam ss (s ∷ [])))
       (subst (λ answers. IsAnswered ss answers s a) (sym (ap (λ n. take n (rs ++ a ∷ [])) (sym ran.one_each) ∙ take-append_seam rs (a ∷ [])))
-      (subst (λ o. IsAnswer o s.event a) (ran.chapters s.port) answer))
+      (subst (λ o. IsStepAnswer o s.event a) (ran.chapters s.port) answer))
 
   last : (k : ℕ) (t : Step) (b : Result Reply StepFault) → k ≡ length ss → slice_get (ss ++ s ∷ []) k ≡ Some t → slice_get (rs ++ a ∷ []) k ≡ Some b →
       IsAnswered (take k (ss ++ s ∷ [])) (take k (rs ++ a ∷ [])) t b

@@ -9,16 +9,16 @@ use Rattle.std.proofs.lemmas.Option.{none-some, slice_get_within}
 use Rattle.pon_descr.specs.Checks.{IsTold}
 use Rattle.pon_descr.specs.declared.refusal.Refusal.{Refusal}
 use Rattle.pon_descr.specs.declared.refusal.Refusal.TheVariants.{OutOfMemory}
-use Rattle.pon_event.specs.declared.event.Event.{Event}
-use Rattle.pon_event.specs.declared.step.Step.{Step}
-use Rattle.pon_state.specs.declared.reply.Entry.{Entry}
+use Rattle.pon_admit.specs.declared.event.Event.{Event}
+use Rattle.pon_admit.specs.declared.step.Step.{Step}
+use Rattle.pon_state.specs.Entry.{Entry}
 use Rattle.pon_state.specs.declared.reply.Reply.{Reply}
-use Rattle.pon_port.specs.Chapters.{Chapter, IsLawfulChapter}
-use Rattle.pon_port.specs.Taking.{Takes, refusal_of, with_entry}
-use Rattle.pon_port.proofs.OneReply.{one_taken, taken_lawful}
+use Rattle.pon_history.specs.Chapters.{Chapter, IsLawfulChapter}
+use Rattle.pon_history.specs.Taking.{Takes, refusal_of, with_entry}
+use Rattle.pon_history.proofs.OneReply.{one_taken, taken_lawful}
 use Rattle.pon_plant.specs.declared.fault.StepFault.{StepFault}
 use Rattle.pon_plant.specs.declared.fault.StepFault.TheVariants.{NoSuchPort, Refused}
-use Rattle.pon_plant.specs.Answers.{IsAccepted, IsAnswer, NoneIsOutOfMemory}
+use Rattle.pon_plant.specs.Answers.{IsAccepted, IsStepAnswer, NoneIsOutOfMemory}
 use Rattle.pon_plant.specs.Projections.{accepted, answers_at, entries_of, events_at}
 use Rattle.pon_plant.specs.Runs.{Ran, RanFrom, chapter_after, with_entries}
 use Rattle.pon_plant.proofs.Interleaving.{accepted-cons, accepted_elsewhere, accepted_here, with_more, with_none}
@@ -34,7 +34,7 @@ abbrev pub Answered : Chapter → List Event → List (Result Reply StepFault) �
 Answered c [] [] = Unit {0}
 Answered c [] (a ∷ rs) = ⊥
 Answered c (v ∷ vs) [] = ⊥
-Answered c (v ∷ vs) (a ∷ rs) = IsAnswer (Some c) v a × Answered (after_answer c v a) vs rs
+Answered c (v ∷ vs) (a ∷ rs) = IsStepAnswer (Some c) v a × Answered (after_answer c v a) vs rs
 
 taken : (c : Chapter) (v : Event) (reply : Reply) → IsAccepted c v reply → Takes c v reply (with_entry c v reply)
 taken c v reply h = record { follows = h.follows; kept = refl }
@@ -47,7 +47,7 @@ one_told (Some r) a b h k = h ∙ sym k
 not_refused : (c : Chapter) (v : Event) (told : Refusal) → refusal_of c v ≡ None → IsTold (refusal_of c v) told → told ≡ OutOfMemory
 not_refused c v told e h = subst (λ q. IsTold q told) e h
 
-one_answer : (c : Chapter) (v : Event) (a b : Result Reply StepFault) → IsLawfulChapter c → IsAnswer (Some c) v a → IsAnswer (Some c) v b →
+one_answer : (c : Chapter) (v : Event) (a b : Result Reply StepFault) → IsLawfulChapter c → IsStepAnswer (Some c) v a → IsStepAnswer (Some c) v b →
     a ≢ Err (Refused OutOfMemory) → b ≢ Err (Refused OutOfMemory) → a ≡ b
 one_answer c v (Ok x) (Ok y) l h k na nb = ap Ok (one_taken c (with_entry c v x) (with_entry c v y) v x y l (taken c v x h) (taken c v y k)).0
 one_answer c v (Ok x) (Err NoSuchPort) l h k na nb = absurd k
@@ -57,7 +57,7 @@ one_answer c v (Err (Refused told)) (Ok y) l h k na nb = absurd (na (ap (λ t. E
 one_answer c v (Err (Refused told)) (Err NoSuchPort) l h k na nb = absurd k
 one_answer c v (Err (Refused told)) (Err (Refused other)) l h k na nb = ap (λ t. Err (Refused t)) (one_told (refusal_of c v) told other h k)
 
-stays_lawful : (c : Chapter) (v : Event) (a : Result Reply StepFault) → IsLawfulChapter c → IsAnswer (Some c) v a → IsLawfulChapter (after_answer c v a)
+stays_lawful : (c : Chapter) (v : Event) (a : Result Reply StepFault) → IsLawfulChapter c → IsStepAnswer (Some c) v a → IsLawfulChapter (after_answer c v a)
 stays_lawful c v (Ok reply) l h = taken_lawful c (with_entry c v reply) v reply l (taken c v reply h)
 stays_lawful c v (Err fault) l h = subst IsLawfulChapter (sym (with_none c)) l
 
@@ -81,14 +81,14 @@ module _ (p : ℕ) where
   -- the answers to the steps of the port in a run
   abbrev AnswersHere : Chapter → List Step → List (Result Reply StepFault) → Type 0
   AnswersHere c ss rs = (k : ℕ) (s : Step) (a : Result Reply StepFault) → slice_get ss k ≡ Some s → slice_get rs k ≡ Some a → s.port ≡ p →
-      IsAnswer (Some (with_entries (accepted p (take k ss) (take k rs)) c)) s.event a
+      IsStepAnswer (Some (with_entries (accepted p (take k ss) (take k rs)) c)) s.event a
 
   later : (c : Chapter) (s : Step) (ss : List Step) (a : Result Reply StepFault) (rs : List (Result Reply StepFault)) (es : List Entry) →
       accepted p (s ∷ []) (a ∷ []) ≡ es → AnswersHere c (s ∷ ss) (a ∷ rs) → AnswersHere (with_entries es c) ss rs
   later c s ss a rs es e h = λ k t b at told here.
       let xs : List Entry = accepted p (take k ss) (take k rs) in
       let more : accepted p (s ∷ take k ss) (a ∷ take k rs) ≡ es ++ xs = accepted-cons p s (take k ss) a (take k rs) ∙ ap (λ (ys : List Entry). ys ++ xs) e in
-      subst (λ d. IsAnswer (Some d) t.event b) (ap (λ (ys : List Entry). with_entries ys c) more ∙ with_more es xs c) (h (suc k) t b at told here)
+      subst (λ d. IsStepAnswer (Some d) t.event b) (ap (λ (ys : List Entry). with_entries ys c) more ∙ with_more es xs c) (h (suc k) t b at told here)
 
   projected : (c : Chapter) (ss : List Step) (rs : List (Result Reply StepFault)) → length rs ≡ length ss → AnswersHere c ss rs → Answered c (events_at p ss) (answers_at p ss rs)
   projected c [] [] n h = tt
@@ -97,7 +97,7 @@ module _ (p : ℕ) where
   projected c (s ∷ ss) (a ∷ rs) n h = (elim (s.port == p) as (λ b. (s.port == p) ≡ b →
       Answered c (map (λ s. s.event) (cond b (s ∷ filter (λ s. s.port == p) ss) (filter (λ s. s.port == p) ss))) (if b then a ∷ answers_at p ss rs else answers_at p ss rs)) [
         | true ↦ λ e. (
-          subst (λ d. IsAnswer (Some d) s.event a) (with_none c) (h zero s a refl refl (eqb-true s.port p e)),
+          subst (λ d. IsStepAnswer (Some d) s.event a) (with_none c) (h zero s a refl refl (eqb-true s.port p e)),
           projected (after_answer c s.event a) ss rs (omega (arith, n)) (later c s ss a rs (entries_of (s.event ∷ []) (a ∷ [])) (accepted_here p s a e) h),
         )
         | false ↦ λ e. projected c ss rs (omega (arith, n)) (subst (λ d. AnswersHere d ss rs) (with_none c) (later c s ss a rs [] (accepted_elsewhere p s a e) h))
@@ -106,7 +106,7 @@ module _ (p : ℕ) where
   module _ (c : Chapter) (old new : List Chapter) (ss : List Step) (rs : List (Result Reply StepFault)) (found : slice_get old p ≡ Some c) (ran : Ran old ss rs new) where
     answers_here : AnswersHere c ss rs
     answers_here = λ k s a at told here.
-        subst (λ o. IsAnswer o s.event a) (ap (λ q. chapter_after old q (take k ss) (take k rs)) here ∙ ap (option_map (with_entries (accepted p (take k ss) (take k rs)))) found)
+        subst (λ o. IsStepAnswer o s.event a) (ap (λ q. chapter_after old q (take k ss) (take k rs)) here ∙ ap (option_map (with_entries (accepted p (take k ss) (take k rs)))) found)
         (ran.answered k s a at told)
 
     pub seen_alone : Answered c (events_at p ss) (answers_at p ss rs)
@@ -137,9 +137,9 @@ beyond (x ∷ xs) zero h = absurd (none-some x (sym h))
 beyond (x ∷ xs) (suc i) h = omega (arith, beyond xs i h)
 
 past : (plant : List Chapter) (p : ℕ) (v : Event) (a : Result Reply StepFault) (o : Option Chapter) → slice_get plant p ≡ o → (es : List Entry) →
-    IsAnswer (option_map (with_entries es) o) v a → (a ≡ Err NoSuchPort) ↔ (length plant ≤ p)
+    IsStepAnswer (option_map (with_entries es) o) v a → (a ≡ Err NoSuchPort) ↔ (length plant ≤ p)
 past plant p v a None found es h = (λ _. beyond plant p found, λ _. h)
-past plant p v a (Some c) found es h = (λ e. absurd (subst (λ b. IsAnswer (Some (with_entries es c)) v b) e h), λ le. absurd (omega (arith, le, slice_get_within plant p c found)))
+past plant p v a (Some c) found es h = (λ e. absurd (subst (λ b. IsStepAnswer (Some (with_entries es c)) v b) e h), λ le. absurd (omega (arith, le, slice_get_within plant p c found)))
 
 pub no_such_port : (old new : List Chapter) (ss : List Step) (rs : List (Result Reply StepFault)) (k : ℕ) (s : Step) (a : Result Reply StepFault) → Ran old ss rs new →
     slice_get ss k ≡ Some s → slice_get rs k ≡ Some a → (a ≡ Err NoSuchPort) ↔ (length old ≤ s.port)

@@ -7,16 +7,16 @@ use Rattle.std.proofs.lemmas.Option.{slice_get_read}
 use Rattle.std.proofs.lemmas.Result.{err_from_is_err_and}
 use Rattle.pon_descr.specs.Checks.{IsTold}
 use Rattle.pon_descr.specs.declared.refusal.Refusal.{Refusal}
-use Rattle.pon_event.specs.declared.event.Event.{Event}
-use Rattle.pon_event.specs.declared.step.Step.{Step}
+use Rattle.pon_admit.specs.declared.event.Event.{Event}
+use Rattle.pon_admit.specs.declared.step.Step.{Step}
 use Rattle.pon_state.specs.declared.reply.Reply.{Reply}
-use Rattle.pon_state.specs.declared.state.PortCfg.{PortCfg}
-use Rattle.pon_port.specs.Chapters.{Chapter, IsLawfulChapter, present_state}
-use Rattle.pon_port.specs.FairMaps.{TellsFairMap}
-use Rattle.pon_port.specs.Taking.{Keeps, Takes, refusal_of}
-use Rattle.pon_port.proofs.OneReply.{taken_lawful}
+use Rattle.pon_admit.specs.declared.port_cfg.PortCfg.{PortCfg}
+use Rattle.pon_history.specs.Chapters.{Chapter, IsLawfulChapter, present_state}
+use Rattle.pon_history.specs.FairMaps.{TellsFairMap}
+use Rattle.pon_history.specs.Taking.{Keeps, Takes, refusal_of}
+use Rattle.pon_history.proofs.OneReply.{taken_lawful}
 use Rattle.pon_plant.specs.Plants.{IsPlant, opened_port, opened_ports}
-use Rattle.pon_plant.specs.Answers.{IsAnswer, KeepsStep, after_entry, after_step}
+use Rattle.pon_plant.specs.Answers.{IsStepAnswer, KeepsStep, after_accepted, after_step}
 use Rattle.pon_plant.specs.Runs.{Ran}
 use Rattle.pon_plant.specs.declared.fault.StepFault.{StepFault}
 use Rattle.pon_plant.specs.declared.fault.StepFault.TheVariants.{Refused}
@@ -53,15 +53,15 @@ told_by (Err refusal) a h = let p = err_from_is_err_and a h in p.1 ∙ ap Err p.
 
 -- the result of the port is the answer to the step
 pub asked : (plant : List Chapter) (s : Step) (c d : Chapter) (r : Result Reply Refusal) → slice_get plant s.port ≡ Some c → IfOk r (λ reply. Takes c s.event reply d) →
-    IfOk r (λ reply. TellsFairMap (present_state c) reply) → IfErr r (λ told. IsTold (refusal_of c s.event) told) → IsAnswer (slice_get plant s.port) s.event (answer_of r)
-asked plant s c d (Ok reply) found taken fair told = subst (λ o. IsAnswer o s.event (Ok reply)) (sym found) (record { follows = taken.follows; fair = fair })
-asked plant s c d (Err refusal) found taken fair told = subst (λ o. IsAnswer o s.event (Err (Refused refusal))) (sym found) told
+    IfOk r (λ reply. TellsFairMap (present_state c) reply) → IfErr r (λ told. IsTold (refusal_of c s.event) told) → IsStepAnswer (slice_get plant s.port) s.event (answer_of r)
+asked plant s c d (Ok reply) found taken fair told = subst (λ o. IsStepAnswer o s.event (Ok reply)) (sym found) (record { follows = taken.follows; fair = fair })
+asked plant s c d (Err refusal) found taken fair told = subst (λ o. IsStepAnswer o s.event (Err (Refused refusal))) (sym found) told
 
 -- the new chapter at its port gives the plant after the step
 pub left : (plant : List Chapter) (s : Step) (i : ℕ) (c d : Chapter) (r : Result Reply Refusal) → slice_get plant s.port ≡ Some c → i ≡ s.port → c ≡ get_or plant i c →
     IfOk r (λ reply. Takes c s.event reply d) → OnErr r (d ≡ c) → set plant i d ≡ after_step plant s (answer_of r)
 left plant s i c d (Ok reply) found e is taken kept =
-    ap (λ n. set plant n d) e ∙ ap (set plant s.port) taken.kept ∙ sym (ap (after_entry plant s reply) found)
+    ap (λ n. set plant n d) e ∙ ap (set plant s.port) taken.kept ∙ sym (ap (after_accepted plant s reply) found)
 left plant s i c d (Err refusal) found e is taken kept = ap (set plant i) (kept ∙ is) ∙ set-get_or plant i c
 
 -- an event whose entry the port keeps, or that it refuses
@@ -74,9 +74,9 @@ module _ (plant : List Chapter) (s : Step) (c d : Chapter) (found : slice_get pl
   kept_ok (Ok _) i e ok = record { before = c; after = d; at = found; keeps = ok; plant = ap (λ n. set plant n d) e }
   kept_ok (Err told) i e ok = tt
 
-  pub kept_refused : (r : Result (Unit {0}) Refusal) → IfErr r (λ told. IsTold (refusal_of c s.event) told) → IfErr (answer_of r) (λ fault. IsAnswer (slice_get plant s.port) s.event (Err fault))
+  pub kept_refused : (r : Result (Unit {0}) Refusal) → IfErr r (λ told. IsTold (refusal_of c s.event) told) → IfErr (answer_of r) (λ fault. IsStepAnswer (slice_get plant s.port) s.event (Err fault))
   kept_refused (Ok _) told = tt
-  kept_refused (Err refusal) told = subst (λ o. IsAnswer o s.event (Err (Refused refusal))) (sym found) told
+  kept_refused (Err refusal) told = subst (λ o. IsStepAnswer o s.event (Err (Refused refusal))) (sym found) told
 
   pub kept_unchanged : (r : Result (Unit {0}) Refusal) (i : ℕ) → c ≡ get_or plant i c → OnErr r (d ≡ c) → OnErr (answer_of r) (set plant i d ≡ plant)
   kept_unchanged (Ok _) i is err = tt
@@ -93,11 +93,11 @@ one_more_port ports k opened c d so_far lt is e =
 
 -- one more step is taken, with a copy of its event
 pub run_more : (old mid new : List Chapter) (steps : List Step) (answers : List (Result Reply StepFault)) (k : ℕ) (item : Step) (v : Event) (a : Result Reply StepFault) →
-    Ran old (take k steps) answers mid → k < length steps → item ≡ get_or steps k item → v ≡ item.event → IsAnswer (slice_get mid item.port) v a →
+    Ran old (take k steps) answers mid → k < length steps → item ≡ get_or steps k item → v ≡ item.event → IsStepAnswer (slice_get mid item.port) v a →
     new ≡ after_step mid (record { port = item.port; event = v }) a → Ran old (take (k + 1) steps) (answers ++ a ∷ []) new
 run_more old mid new steps answers k item v a ran lt is copied told after =
     let more : Ran old (take k steps ++ item ∷ []) (answers ++ a ∷ []) (after_step mid item a)
-    = one_more old mid (take k steps) answers item a ran (subst (λ w. IsAnswer (slice_get mid item.port) w a) copied told) in
+    = one_more old mid (take k steps) answers item a ran (subst (λ w. IsStepAnswer (slice_get mid item.port) w a) copied told) in
     let same : new ≡ after_step mid item a = after ∙ ap (λ (w : Event). after_step mid (record { port = item.port; event = w }) a) copied in
     subst (λ ss. Ran old ss (answers ++ a ∷ []) new) (ap (λ (s : Step). take k steps ++ s ∷ []) is ∙ sym (take_more steps k item lt))
     (subst (Ran old (take k steps ++ item ∷ []) (answers ++ a ∷ [])) (sym same) more)

@@ -1,9 +1,9 @@
 -- Steps at many ports, seen at one of them.
 use Rattle.std.specs.Prelude.{ℕ, ◌==◌, if◌then◌else◌, List, [], ◌∷◌, map, Result, Ok, Err}
 use Rattle.std.specs.List.{filter}
-use Rattle.pon_event.specs.declared.event.Event.{Event}
-use Rattle.pon_event.specs.declared.step.Step.{Step}
-use Rattle.pon_state.specs.declared.reply.Entry.{Entry}
+use Rattle.pon_admit.specs.declared.event.Event.{Event}
+use Rattle.pon_admit.specs.declared.step.Step.{Step}
+use Rattle.pon_state.specs.Entry.{Entry}
 use Rattle.pon_state.specs.declared.reply.Reply.{Reply}
 use Rattle.pon_plant.specs.declared.fault.StepFault.{StepFault}
 

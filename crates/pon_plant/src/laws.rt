@@ -1,12 +1,12 @@
 //! Laws on runs, stated over the definitions alone.
 
 ghost use Rattle.std.specs.Prelude.{◌≡◌, ◌≤◌, ◌↔◌, ℕ, List, [], ◌∷◌, ◌++◌, Err, Some, Result, length, slice_get};
-ghost use Rattle.pon_event.specs.declared.step.Step.{Step};
+ghost use Rattle.pon_admit.specs.declared.step.Step.{Step};
 ghost use Rattle.pon_state.specs.declared.reply.Reply.{Reply};
-ghost use Rattle.pon_port.specs.Chapters.{Chapter, IsLawfulChapter};
+ghost use Rattle.pon_history.specs.Chapters.{Chapter, IsLawfulChapter};
 ghost use Rattle.pon_plant.specs.declared.fault.StepFault.{StepFault};
 ghost use Rattle.pon_plant.specs.Projections.{answers_at, events_at, steps_alone};
-ghost use Rattle.pon_plant.specs.Answers.{IsAnswer, after_step};
+ghost use Rattle.pon_plant.specs.Answers.{IsStepAnswer, after_step};
 ghost use Rattle.pon_plant.specs.Runs.{Ran, RanFrom};
 
 /// A run proceeds step by step: a run without steps leaves the plant unchanged, and an additional step is answered in
@@ -16,7 +16,7 @@ pub fn runs_go_step_by_step()
     ensures one_more { (old mid : List Chapter) (steps : List Step)
         (answers : List (Result Reply StepFault)) (step : Step) (answer : Result Reply StepFault)
         → Ran old steps answers mid
-        → IsAnswer (slice_get mid step.port) step.event answer →
+        → IsStepAnswer (slice_get mid step.port) step.event answer →
         Ran old (steps ++ step ∷ []) (answers ++ answer ∷ []) (after_step mid step answer) }
 {}
 

@@ -11,4 +11,4 @@ mod plant;
 
 pub use fault::{PlantFault, StepFault};
 pub use plant::Plant;
-pub use pon_event::Step;
+pub use pon_admit::Step;

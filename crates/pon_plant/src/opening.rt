@@ -1,9 +1,9 @@
 ghost use Rattle.std.specs.Prelude.{◌≡◌, All, IfOk};
-ghost use Rattle.pon_port.specs.Chapters.{IsLawfulChapter};
+ghost use Rattle.pon_history.specs.Chapters.{IsLawfulChapter};
 ghost use Rattle.pon_plant.specs.Plants.{opened_port, opened_ports};
 
+use pon_admit::PortCfg;
 use pon_port::Port;
-use pon_state::PortCfg;
 use pon_units::FrameNo;
 use std::alloc::{AllocError, Global};
 

@@ -1,9 +1,9 @@
 use crate::fault::{PlantFault, StepFault};
 use crate::opening::open_ports;
-use pon_event::Step;
+use pon_admit::{PortCfg, Step};
 use pon_port::Port;
-use pon_state::{PortCfg, Reply};
-use pon_units::{FrameNo, MOST_PORTS, PortNo};
+use pon_state::Reply;
+use pon_units::{FrameNo, MAX_PORTS, PortNo};
 use std::alloc::{AllocError, Global};
 use std::marker::Model;
 
@@ -17,7 +17,7 @@ pub struct Plant {
 
 impl Model for Plant {
     ghost use Rattle.std.specs.Prelude.{List};
-    ghost use Rattle.pon_port.specs.Chapters.{Chapter};
+    ghost use Rattle.pon_history.specs.Chapters.{Chapter};
     ghost use Rattle.pon_plant.specs.Plants.{IsPlant};
 
     ghost Value = { List Chapter };
@@ -30,7 +30,7 @@ impl Model for Plant {
 impl Plant {
     ghost use Rattle.std.specs.Prelude.{◌≡◌, ◌≤◌, length, Err, IfOk, IfErr, MatchOption, OnErr, OnOk, Some, slice_get};
     ghost use Rattle.pon_plant.specs.Plants.{IsPlant, IsPlantSize, TellsOpening, opened_ports};
-    ghost use Rattle.pon_plant.specs.Answers.{IsAnswer, KeepsStep, after_step};
+    ghost use Rattle.pon_plant.specs.Answers.{IsStepAnswer, KeepsStep, after_step};
     ghost use Rattle.pon_plant.specs.Runs.{Ran};
 
     /// Opens a port for each configuration and first frame, numbered from 0 in this order.
@@ -41,7 +41,7 @@ impl Plant {
         ensures size { IfOk result (λ plant. IsPlantSize (length ports.now)) }
         ensures err { IfErr result (λ fault. TellsOpening (length ports.now) fault) }
     {
-        if ports.is_empty() || ports.len() > MOST_PORTS {
+        if ports.is_empty() || ports.len() > MAX_PORTS {
             return Err(PlantFault::Ports);
         }
         let ports = open_ports(alloc, ports)?;
@@ -70,7 +70,7 @@ impl Plant {
     /// with `OutOfMemory` if no check refuses but memory does. Only an accepted step changes the plant, and only its
     /// own port.
     pub fn step(&mut self, step: Step) -> Result<Reply, StepFault>
-        ensures answer { IsAnswer (slice_get self.old step.port) step.event result }
+        ensures answer { IsStepAnswer (slice_get self.old step.port) step.event result }
         ensures plant { self.new ≡ after_step self.old step result }
         ensures lawful { IsPlant self.new }
     {
@@ -84,7 +84,7 @@ impl Plant {
     /// the last entry of the port.
     pub fn keep(&mut self, step: Step) -> Result<(), StepFault>
         ensures ok { OnOk result (KeepsStep self.old step self.new) }
-        ensures refused { IfErr result (λ fault. IsAnswer
+        ensures refused { IfErr result (λ fault. IsStepAnswer
             (slice_get self.old step.port) step.event (Err fault)) }
         ensures err { OnErr result (self.new ≡ self.old) }
         ensures lawful { IsPlant self.new }
@@ -109,7 +109,7 @@ impl Plant {
         ensures lawful { IsPlant self.new }
     {
         // The histories are lawful, also after a run without steps or without room.
-        prove!(self.count() <= MOST_PORTS);
+        prove!(self.count() <= MAX_PORTS);
         let mut answers = Vec::with_capacity(alloc, steps.len())?;
         for step in steps {
             let answer = self.step(Step {

@@ -7,24 +7,25 @@ use Rattle.std.proofs.lemmas.Slice.Zip.{AllZip-long}
 use Rattle.pon_descr.specs.declared.class.Class.{Class}
 use Rattle.pon_descr.specs.declared.class.Class.TheVariants.{NonAssured, BestEffort}
 use Rattle.pon_admit.specs.declared.row.Row.{Row}
-use Rattle.pon_share.specs.Input.{Input}
+use Rattle.pon_demand.specs.Input.{Input}
 use Rattle.pon_state.specs.State.{State, input_of}
 use Rattle.pon_admit.specs.Roster.{IsAdmitted}
 use Rattle.pon_admit.proofs.Rules.{few_allowed}
 use Rattle.pon_cert.specs.declared.cert.ClassCert.{ClassCert}
 use Rattle.pon_cert.specs.Certificate.{IsCertificate, RuleHolds, left_surplus}
-use Rattle.pon_share.specs.Sharing.{item_of, items, member_ids, members, surplus}
+use Rattle.pon_demand.specs.Sharing.{item_of, items, member_ids, members, surplus}
 use Rattle.pon_state.specs.Legal.{IsMade}
 use Rattle.pon_state.specs.Replay.{roster_after, roster_of}
-use Rattle.pon_port.specs.Chapters.{Chapter}
-use Rattle.pon_port.specs.Last.{KeepsLast, LastMap, MatchesMembers, last_map, last_told, told_last}
-use Rattle.pon_port.specs.Taking.{IsKept, with_entry}
-use Rattle.pon_share.proofs.Dealing.{few_members}
-use Rattle.pon_event.specs.declared.event.Event.{Event}
-use Rattle.pon_event.specs.declared.event.Event.TheVariants.{MakeMap}
+use Rattle.pon_history.specs.Chapters.{Chapter}
+use Rattle.pon_history.specs.Last.{LastMap, MatchesMembers, last_map, last_told, told_last}
+use Rattle.pon_port.specs.Ports.{KeepsLast}
+use Rattle.pon_history.specs.Taking.{IsKept, with_entry}
+use Rattle.pon_demand.proofs.Dealing.{few_members}
+use Rattle.pon_admit.specs.declared.event.Event.{Event}
+use Rattle.pon_admit.specs.declared.event.Event.TheVariants.{MakeMap}
 use Rattle.pon_state.specs.declared.reply.Reply.TheVariants.{Taken, Map}
 use Rattle.pon_state.specs.declared.reply.MadeMap.{MadeMap}
-use Rattle.pon_state.specs.declared.reply.Entry.{Entry}
+use Rattle.pon_state.specs.Entry.{Entry}
 
 last_push : (before : Option LastMap) (rows : List Row) (es : List Entry) (e : Entry) → last_told before rows (es ++ e ∷ []) ≡ told_last (last_told before rows es) (roster_of rows es) e.reply
 last_push before rows [] e = refl

@@ -2,12 +2,13 @@
 use Rattle.std.proofs.Common.{◌≡◌, ℕ, ◌+◌, List, [], ap, sym, ◌∙◌, subst, refl, arith}
 use Rattle.std.specs.Prelude.{Option, None}
 use Rattle.pon_state.specs.State.{State}
-use Rattle.pon_state.specs.declared.reply.Entry.{Entry}
-use Rattle.pon_port.specs.Chapters.{Chapter, IsLawfulOpening, chapter_after, present_state}
-use Rattle.pon_port.specs.Taking.{IsKept, IsPort, Turns}
-use Rattle.pon_port.proofs.EntryByEntry.{legal_none, replay_of_none}
-use Rattle.pon_port.proofs.LawfulStates.{opens_at_present}
-use Rattle.pon_port.proofs.Ranges.{in_range_at_present}
+use Rattle.pon_state.specs.Entry.{Entry}
+use Rattle.pon_history.specs.Chapters.{Chapter, IsLawfulOpening, chapter_after, present_state}
+use Rattle.pon_history.specs.Taking.{IsKept, Turns}
+use Rattle.pon_port.specs.Ports.{IsPort}
+use Rattle.pon_history.proofs.EntryByEntry.{legal_none, replay_of_none}
+use Rattle.pon_history.proofs.LawfulStates.{opens_at_present}
+use Rattle.pon_history.proofs.Ranges.{in_range_at_present}
 
 module _ (c : Chapter) (s : State) (k : IsKept c s) where
   opens : IsLawfulOpening (c.number + 1) (present_state c)

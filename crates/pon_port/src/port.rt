@@ -3,13 +3,13 @@ ghost use Rattle.pon_state.specs.State.{just_opened};
 ghost use Rattle.pon_state.specs.Events.{IsEvent};
 ghost use Rattle.pon_state.specs.Replay.{makes_map};
 
-use crate::chapter::Chapter;
+use crate::next_map::{ReadyMap, next_map};
+use pon_admit::{Event, PortCfg};
+use pon_demand::MapBuffers;
 use pon_descr::Refusal;
-use pon_event::Event;
-use pon_share::Room;
+use pon_history::Chapter;
 use pon_state::{
-    Entry, MadeMap, PortCfg, PortState, ReadyMap, Reply, add_map, in_range, next_map, refusal_of,
-    step,
+    Entry, EntryRef, MadeMap, PortState, Reply, add_map, prove_in_range, refusal_of, step,
 };
 use pon_units::{AllocId, FrameNo};
 use std::alloc::{AllocError, Global};
@@ -30,12 +30,12 @@ pub struct Port {
     last: Option<usize>,
     na: Vec<AllocId>,
     be: Vec<AllocId>,
-    room: Room,
+    room: MapBuffers,
 }
 
 impl Model for Port {
-    ghost use Rattle.pon_port.specs.Chapters.{Chapter};
-    ghost use Rattle.pon_port.specs.Taking.{IsPort};
+    ghost use Rattle.pon_history.specs.Chapters.{Chapter};
+    ghost use Rattle.pon_port.specs.Ports.{IsPort};
 
     ghost Value = { Chapter };
 
@@ -52,15 +52,15 @@ impl Model for Port {
 
 impl Port {
     ghost use Rattle.std.specs.Prelude.{[], ◌+◌, false, length, IfOk, IfErr, IfSome, MatchOption, None, OnOk, OnErr, Some};
-    ghost use Rattle.pon_descr.specs.Descriptor.{IsLawful};
-    ghost use Rattle.pon_admit.specs.Roster.{IsAdmitted, IsInRange};
-    ghost use Rattle.pon_port.specs.Chapters.{IsLawfulChapter, IsLawfulOpening, present_state};
-    ghost use Rattle.pon_port.specs.Last.{MatchesMembers, last_map};
-    ghost use Rattle.pon_port.specs.Ranges.{IsStateInRange};
-    ghost use Rattle.pon_port.specs.Taking.{IsReady, Keeps, Takes, Turns, refusal_of, turn_refusal};
-    ghost use Rattle.pon_port.specs.FairMaps.{IsFairMap, TellsFairMap};
-    ghost use Rattle.pon_port.specs.WordRuns.{RunsAreWhole};
-    ghost use Rattle.pon_share.specs.Carries.{AreCarries};
+    ghost use Rattle.pon_admit.specs.Roster.{IsAdmitted};
+    ghost use Rattle.pon_history.specs.Chapters.{IsLawfulChapter, IsLawfulOpening, present_state};
+    ghost use Rattle.pon_history.specs.Last.{MatchesMembers, last_map};
+    ghost use Rattle.pon_history.specs.Ranges.{IsStateInRange};
+    ghost use Rattle.pon_history.specs.Taking.{Keeps, Takes, Turns, refusal_of, turn_refusal};
+    ghost use Rattle.pon_port.specs.Ports.{IsReady};
+    ghost use Rattle.pon_history.specs.FairMaps.{IsFairMap, TellsFairMap};
+    ghost use Rattle.pon_history.specs.WordRuns.{RunsAreWhole};
+    ghost use Rattle.pon_demand.specs.Carries.{AreCarries};
     ghost use Rattle.pon_descr.specs.Checks.{IsTold};
 
     /// Opens a port: no Alloc-ID, the line up, and `first` as its next frame. `Err` only if memory is refused.
@@ -78,7 +78,7 @@ impl Port {
             last: None,
             na: Vec::new(alloc),
             be: Vec::new(alloc),
-            room: Room::open(alloc),
+            room: MapBuffers::open(alloc),
         })
     }
 
@@ -132,9 +132,9 @@ impl Port {
             (λ l. last_map self.now
             ≡ Some (record { made = l.0.now; na = l.1.now; be = l.2.now })) }
     {
-        match &self.entries[self.last?].reply {
-            Reply::Map(made) => Some((made, self.na.as_slice(), self.be.as_slice())),
-            Reply::Taken => unreachable!(),
+        match self.entries[self.last?].as_ref() {
+            EntryRef::Map(made) => Some((made, self.na.as_slice(), self.be.as_slice())),
+            EntryRef::Taken(_) => unreachable!(),
         }
     }
 
@@ -153,8 +153,7 @@ impl Port {
         if self.entries.reserve(1).is_err() || step(&mut self.state, &event).is_err() {
             return Err(Refusal::OutOfMemory);
         }
-        let reply = Reply::Taken;
-        self.entries.push_reserved(Entry { event, reply });
+        self.entries.push_reserved(Entry::new(event, Reply::Taken));
         Ok(())
     }
 
@@ -201,9 +200,8 @@ impl Port {
         self.last = Some(self.entries.len());
         self.na = na;
         self.be = be;
-        let event = Event::MakeMap;
-        let reply = Reply::Map(made);
-        self.entries.push_reserved(Entry { event, reply });
+        self.entries
+            .push_reserved(Entry::new(Event::MakeMap, Reply::Map(made)));
         Ok(())
     }
 
@@ -233,7 +231,7 @@ impl Port {
             self.keep_map(next)?;
             return Ok(Reply::Map(made));
         }
-        in_range(&event);
+        prove_in_range(&event);
         self.take_plain(event)?;
         Ok(Reply::Taken)
     }
@@ -250,7 +248,7 @@ impl Port {
             let next = self.ready_map()?;
             return self.keep_map(next);
         }
-        in_range(&event);
+        prove_in_range(&event);
         self.take_plain(event)
     }
 
@@ -272,11 +270,9 @@ impl Port {
             Ok(opening) => opening,
             Err(_) => return Err(Refusal::OutOfMemory),
         };
-        let chapter = Chapter {
-            number: self.number,
-            opening: mem::replace(&mut self.opening, opening),
-            entries: mem::replace(&mut self.entries, Vec::new(alloc)),
-        };
+        let opening = mem::replace(&mut self.opening, opening);
+        let entries = mem::replace(&mut self.entries, Vec::new(alloc));
+        let chapter = Chapter::new(self.number, opening, entries);
         self.number += 1;
         self.last = None;
         Ok(chapter)
@@ -286,10 +282,6 @@ impl Port {
     pub fn into_chapter(self) -> Chapter
         ensures { result ≡ self }
     {
-        Chapter {
-            number: self.number,
-            opening: self.opening,
-            entries: self.entries,
-        }
+        Chapter::new(self.number, self.opening, self.entries)
     }
 }

@@ -1,12 +1,12 @@
 -- The two directions of the formats of made maps, entries and chapters agree.
 use Rattle.std.proofs.Common.{◌≡◌, ℕ, List, ◌++◌, Some, refl, sym, ap, subst, ◌∙◌}
 use Rattle.pon_admit.specs.declared.rule.Rule.{Rule}
-use Rattle.pon_event.specs.declared.event.Event.{Event}
-use Rattle.pon_event.specs.declared.event.Event.TheVariants.{Admit, Change, Remove, Report, MakeMap, Fail, Restore}
+use Rattle.pon_admit.specs.declared.event.Event.{Event}
+use Rattle.pon_admit.specs.declared.event.Event.TheVariants.{Admit, Change, Remove, Report, MakeMap, Fail, Restore}
 use Rattle.pon_state.specs.declared.reply.Reply.{Reply}
 use Rattle.pon_state.specs.declared.reply.Reply.TheVariants.{Taken, Map}
 use Rattle.pon_record.specs.MadeMaps.{made_map, made_of, made_parts}
-use Rattle.pon_state.specs.declared.reply.Entry.{Entry}
+use Rattle.pon_state.specs.Entry.{Entry}
 use Rattle.pon_record.specs.declared.version.Version.{Version}
 use Rattle.pon_record.specs.Format.{as_value, followed}
 use Rattle.pon_record.specs.Fields.{rule_in}

@@ -2,7 +2,7 @@
 use Rattle.std.proofs.Common.{◌≡◌, ℕ, Bool, true, false, cond, eqb, leb, ◌&&◌, Option, Some, None, refl, sym, ap, ◌∙◌}
 use Rattle.std.specs.Int.{w8, w16, w32, w64}
 use Rattle.std.proofs.lemmas.Bool.{eqb-true, and_parts}
-use Rattle.pon_admit.specs.Roster.{most_allocs, most_carry}
+use Rattle.pon_admit.specs.Roster.{max_allocs, max_carry}
 use Rattle.pon_admit.specs.declared.rule.Rule.{Rule}
 use Rattle.pon_admit.specs.declared.rule.Rule.TheVariants as rule
 use Rattle.pon_descr.specs.declared.class.Class.{Class}
@@ -82,18 +82,18 @@ pub exact_report : IsExact Fields.report
 exact_report = told Fields.report_meaning Fields.report_code (number w8 & Fields.frame & number w32) (both _ _ n8 (both _ _ n64 n32))
     (λ x c fits e. report_is x.0 x.1.0 x.1.1 c _ _ _ refl refl refl e)
 
-rule_is : (n : ℕ) (r : Rule) (x y : Bool) → eqb n 1 ≡ x → eqb n 2 ≡ y → cond x (Some rule.One) (cond y (Some rule.Two) None) ≡ Some r → Fields.rule_code r ≡ n
-rule_is n r true y a b e = ap Fields.rule_code (sym (some_is rule.One r e)) ∙ sym (eqb-true n 1 a)
-rule_is n r false true a b e = ap Fields.rule_code (sym (some_is rule.Two r e)) ∙ sym (eqb-true n 2 b)
+rule_is : (n : ℕ) (r : Rule) (x y : Bool) → eqb n 1 ≡ x → eqb n 2 ≡ y → cond x (Some rule.DropRemainders) (cond y (Some rule.CarryRemainders) None) ≡ Some r → Fields.rule_code r ≡ n
+rule_is n r true y a b e = ap Fields.rule_code (sym (some_is rule.DropRemainders r e)) ∙ sym (eqb-true n 1 a)
+rule_is n r false true a b e = ap Fields.rule_code (sym (some_is rule.CarryRemainders r e)) ∙ sym (eqb-true n 2 b)
 rule_is n r false false a b e = absurd cc
 
 pub exact_rule : (v : Version) → IsExact (Fields.rule_in v)
-exact_rule version.One = constants rule.One
+exact_rule version.One = constants rule.DropRemainders
 exact_rule version.Two = told Fields.rule_meaning Fields.rule_code (number w8) n8 (λ n r fits e. rule_is n r (eqb n 1) (eqb n 2) refl refl e)
 
 exact_carry : (v : Version) (r : Rule) → IsExact (Fields.carry_in v r)
 exact_carry version.One r = constants 0
-exact_carry version.Two r = only_those (λ n. leb n (most_carry r)) (number w8) n8
+exact_carry version.Two r = only_those (λ n. leb n (max_carry r)) (number w8) n8
 
 -- ---- openings
 
@@ -109,10 +109,10 @@ exact_grant = told (as_value Openings.grant_of) Openings.grant_parts _
 
 exact_map : (r : Rule) → IsExact (Openings.window_map_under r)
 exact_map r = told (as_value Openings.window_map_of) Openings.map_parts _
-    (both _ _ n64 (both _ _ (lists _ (most_allocs r) _ n16 exact_grant) (lists _ 255 _ n8 exact_onu)))
+    (both _ _ n64 (both _ _ (lists _ (max_allocs r) _ n16 exact_grant) (lists _ 255 _ n8 exact_onu)))
     (λ x m fits e. ap Openings.map_parts (sym (some_is (Openings.window_map_of x) m e)))
 
 pub exact_opening : (v : Version) (r : Rule) → IsExact (Openings.opening_in v r)
 exact_opening v r = told (as_value (Openings.opening_of r)) Openings.opening_parts _
-    (both _ _ (only_those _ _ n16) (both _ _ (only_those _ _ n8) (both _ _ exact_failure (both _ _ n64 (both _ _ n64 (both _ _ (lists _ (most_allocs r) _ n16 (exact_row v r)) (lists _ 64 _ n8 (exact_map r))))))))
+    (both _ _ (only_those _ _ n16) (both _ _ (only_those _ _ n8) (both _ _ exact_failure (both _ _ n64 (both _ _ n64 (both _ _ (lists _ (max_allocs r) _ n16 (exact_row v r)) (lists _ 64 _ n8 (exact_map r))))))))
     (λ x o fits e. ap Openings.opening_parts (sym (some_is (Openings.opening_of r x) o e)))

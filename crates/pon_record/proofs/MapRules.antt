@@ -2,7 +2,7 @@
 use Rattle.std.proofs.Common.{◌≡◌, ℕ, zero, suc, Bool, true, false, cond, leb, List, length, Option, Some, None, refl, subst, arith, inl, inr}
 use Rattle.std.specs.Prelude.{is_none}
 use Rattle.std.proofs.lemmas.Bool.{and_parts, cases_lt, le-leb, leb-true}
-use Rattle.pon_units.specs.declared.limits.TheConstants.{MOST_STRUCTURES}
+use Rattle.pon_units.specs.declared.limits.TheConstants.{MAX_STRUCTURES}
 use Rattle.pon_bwmap.specs.declared.fault.MapFault.{MapFault}
 use Rattle.pon_bwmap.specs.MapRules.{FirstKeepRules, IsMap, row_fault}
 use Rattle.pon_bwmap.specs.Alloc.{Alloc}
@@ -28,11 +28,11 @@ keep rows (suc n) h = rw (keep rows n (λ k lt. h k (omega arith)), h n (omega a
 
 -- structures pass the test exactly when they make a map
 pub passes : (rows : List Alloc) → IsMap rows → passing is_map rows ≡ Some rows
-passes rows map = rw (le-leb (length rows) MOST_STRUCTURES map.count, keep rows (length rows) map.keep_rules) refl
+passes rows map = rw (le-leb (length rows) MAX_STRUCTURES map.count, keep rows (length rows) map.keep_rules) refl
 
 pub are_map : (rows : List Alloc) → is_map rows ≡ true → IsMap rows
 are_map rows e =
-    let both = and_parts (leb (length rows) MOST_STRUCTURES) (keeps_rules rows (length rows)) e in
+    let both = and_parts (leb (length rows) MAX_STRUCTURES) (keeps_rules rows (length rows)) e in
     record { count = leb-true _ _ both.0; keep_rules = kept rows (length rows) both.1 }
 
 fails_if : (rows : List Alloc) (b : Bool) → is_map rows ≡ b → (IsMap rows → ⊥) → cond b (Some rows) None ≡ None

@@ -8,11 +8,11 @@ use Rattle.std.proofs.lemmas.List.Elements.{All-from_recursion}
 use Rattle.std.proofs.lemmas.Bool.{le-leb}
 use Rattle.std.proofs.lemmas.List.{drop_at, flat_map_more, length-append, take_at}
 use Rattle.std.proofs.lemmas.List.Concat.{flat_map-cons}
-use Rattle.pon_admit.specs.Roster.{most_carry}
+use Rattle.pon_admit.specs.Roster.{max_carry}
 use Rattle.pon_admit.specs.declared.rule.Rule.{Rule}
 use Rattle.pon_admit.specs.declared.rule.Rule.TheVariants as rule
-use Rattle.pon_window.specs.declared.window.TheConstants.{MOST_MAPS}
-use Rattle.pon_state.specs.declared.checks.TheConstants.{MOST_ENTRIES}
+use Rattle.pon_guar.specs.declared.window.TheConstants.{MAX_MAPS}
+use Rattle.pon_state.specs.declared.checks.TheConstants.{MAX_ENTRIES}
 use Rattle.pon_record.specs.declared.limits.TheConstants.{CHAPTER_TAG}
 use Rattle.pon_record.specs.declared.row.RawRow.{RawRow}
 use Rattle.pon_record.specs.declared.version.Version.{Version}
@@ -26,7 +26,7 @@ use Rattle.pon_record.proofs.Sizes.{body_fits_length}
 -- ---- what fits version one fits version two
 
 no_carry : (r : Rule) (n : ℕ) → n ≡ 0 → (carry_in version.Two r).Fits n
-no_carry r n e = subst (carry_in version.Two r).Fits (sym e) (omega arith, rw (le-leb 0 (most_carry r) (omega arith)) refl)
+no_carry r n e = subst (carry_in version.Two r).Fits (sym e) (omega arith, rw (le-leb 0 (max_carry r) (omega arith)) refl)
 
 row_fits_two : (r : Rule) (x : RawRow) → (row_in version.One r).Fits x → (row_in version.Two r).Fits x
 row_fits_two r x fits = let f = fits.0 in ((f.0, (f.1.0, (f.1.1.0, (f.1.1.1.0, (f.1.1.1.1.0, no_carry r x.carry f.1.1.1.1.1))))), fits.1)
@@ -64,58 +64,58 @@ front b = let o = b.opening in
     ++ to_be_bytes w64 o.next ++ to_be_bytes w64 o.taken_before ++ to_be_bytes w16 (length o.rows)
 
 abbrev pub back : Body → List ℕ
-back b = (counted (number w8) MOST_MAPS (window_map_under rule.One)).write b.opening.window ++ (counted (number w32) MOST_ENTRIES entry).write b.entries
+back b = (counted (number w8) MAX_MAPS (window_map_under rule.DropRemainders)).write b.opening.window ++ (counted (number w32) MAX_ENTRIES entry).write b.entries
 
 abbrev pub rows_in : Version → List RawRow → List ℕ
-rows_in v rows = flat_map (row_in v rule.One).write rows
+rows_in v rows = flat_map (row_in v rule.DropRemainders).write rows
 
 pub front_size : (b : Body) → length (front b) ≡ 31
 front_size b = omega arith
 
 pub body_one : (b : Body) → (body_in version.One).write b ≡ front b ++ (rows_in version.One b.opening.rows ++ back b)
 body_one b = ap (λ (l : List ℕ). front b ++ l)
-    (append_assoc (rows_in version.One b.opening.rows) ((counted (number w8) MOST_MAPS (window_map_under rule.One)).write b.opening.window) ((counted (number w32) MOST_ENTRIES entry).write b.entries))
+    (append_assoc (rows_in version.One b.opening.rows) ((counted (number w8) MAX_MAPS (window_map_under rule.DropRemainders)).write b.opening.window) ((counted (number w32) MAX_ENTRIES entry).write b.entries))
 
 -- ---- a row more
 
 -- a row of version two is one of version one, and its carry
-moved_row : (x : RawRow) → x.carry ≡ 0 → (row_in version.Two rule.One).write x ≡ (row_in version.One rule.One).write x ++ x.carry ∷ []
+moved_row : (x : RawRow) → x.carry ≡ 0 → (row_in version.Two rule.DropRemainders).write x ≡ (row_in version.One rule.DropRemainders).write x ++ x.carry ∷ []
 moved_row x none =
     let with_carry = λ (n : ℕ). let y : RawRow = record { onu = x.onu; alloc_id = x.alloc_id; descriptor = x.descriptor; since = x.since; counted = x.counted; carry = n } in y in
-    subst (λ (n : ℕ). (row_in version.Two rule.One).write (with_carry n) ≡ (row_in version.One rule.One).write (with_carry n) ++ n ∷ []) (sym none) refl
+    subst (λ (n : ℕ). (row_in version.Two rule.DropRemainders).write (with_carry n) ≡ (row_in version.One rule.DropRemainders).write (with_carry n) ++ n ∷ []) (sym none) refl
 
 -- the row at a place begins the bytes of the rows from there on
 rows_from : (rows : List RawRow) (i : ℕ) (x : RawRow) (rest : List ℕ) → i < length rows → x ≡ get_or rows i x → rest ≡ rows_in version.One (drop i rows)
-    → rest ≡ (row_in version.One rule.One).write x ++ rows_in version.One (drop (i + 1) rows)
+    → rest ≡ (row_in version.One rule.DropRemainders).write x ++ rows_in version.One (drop (i + 1) rows)
 rows_from rows i x rest lt at is =
     let next : suc i ≡ i + 1 = omega arith in
     is ∙ ap (rows_in version.One) (drop-cons rows i x lt) ∙ (λ k. rows_in version.One (sym at k ∷ drop (next k) rows))
-    ∙ flat_map-cons (row_in version.One rule.One).write x (drop (i + 1) rows)
+    ∙ flat_map-cons (row_in version.One rule.DropRemainders).write x (drop (i + 1) rows)
 
 pub row_length : (rows : List RawRow) (i : ℕ) (x : RawRow) (rest : List ℕ) → i < length rows → x ≡ get_or rows i x → rest ≡ rows_in version.One (drop i rows) → 38 ≤ length rest
 row_length rows i x rest lt at is = omega (arith, ap (λ (l : List ℕ). length l) (rows_from rows i x rest lt at is))
 
 pub rows_left : (rows : List RawRow) (i : ℕ) (x : RawRow) (rest : List ℕ) → i < length rows → x ≡ get_or rows i x → rest ≡ rows_in version.One (drop i rows) → drop 38 rest ≡ rows_in version.One (drop (i + 1) rows)
 rows_left rows i x rest lt at is =
-    ap (λ (l : List ℕ). drop 38 l) (rows_from rows i x rest lt at is) ∙ drop_at ((row_in version.One rule.One).write x) (rows_in version.One (drop (i + 1) rows)) 38 refl
+    ap (λ (l : List ℕ). drop 38 l) (rows_from rows i x rest lt at is) ∙ drop_at ((row_in version.One rule.DropRemainders).write x) (rows_in version.One (drop (i + 1) rows)) 38 refl
 
 pub row_put : (old out new rest : List ℕ) (rows : List RawRow) (i : ℕ) (x : RawRow) → i < length rows → x ≡ get_or rows i x → x.carry ≡ 0 → rest ≡ rows_in version.One (drop i rows) → out ≡ old ++ rows_in version.Two (take i rows)
     → new ≡ (out ++ take 38 rest) ++ x.carry ∷ [] → new ≡ old ++ rows_in version.Two (take (i + 1) rows)
 row_put old out new rest rows i x lt at none is before after =
-    let write = (row_in version.One rule.One).write x in
+    let write = (row_in version.One rule.DropRemainders).write x in
     let next : suc i ≡ i + 1 = omega arith in
     let fields : take 38 rest ≡ write = ap (λ (l : List ℕ). take 38 l) (rows_from rows i x rest lt at is) ∙ take_at write (rows_in version.One (drop (i + 1) rows)) 38 refl in
     after
     ∙ ap (λ (l : List ℕ). (out ++ l) ++ x.carry ∷ []) fields
     ∙ append_assoc out write (x.carry ∷ [])
     ∙ ap (λ (l : List ℕ). out ++ l) (sym (moved_row x none))
-    ∙ ap (λ (l : List ℕ). l ++ (row_in version.Two rule.One).write x) before
-    ∙ flat_map_more (row_in version.Two rule.One).write old (take i rows) x
+    ∙ ap (λ (l : List ℕ). l ++ (row_in version.Two rule.DropRemainders).write x) before
+    ∙ flat_map_more (row_in version.Two rule.DropRemainders).write old (take i rows) x
     ∙ ap (λ (l : List RawRow). old ++ rows_in version.Two l) ((λ k. take i rows ++ at k ∷ []) ∙ sym (take-suc rows i x lt) ∙ ap (λ (n : ℕ). take n rows) next)
 
 -- ---- a body, and a chapter
 
-pub rule_is_one : (b : Body) → FitsChapter version.One b → b.opening.rule ≡ rule.One
+pub rule_is_one : (b : Body) → FitsChapter version.One b → b.opening.rule ≡ rule.DropRemainders
 rule_is_one b fits = fits.1.0.0.0
 
 none_carried : (r : Rule) (rows : List RawRow) → AllByRecursion (row_in version.One r).Fits rows → AllByRecursion (λ (x : RawRow). x.carry ≡ 0) rows
@@ -127,14 +127,14 @@ no_carries b fits = All-from_recursion (λ (x : RawRow). x.carry ≡ 0) b.openin
 
 rows_size : (rows : List RawRow) → length (rows_in version.One rows) ≡ 38 * length rows
 rows_size [] = refl
-rows_size (x ∷ rows) = ap (λ (l : List ℕ). length l) (flat_map-cons (row_in version.One rule.One).write x rows) ∙ omega (arith, rows_size rows)
+rows_size (x ∷ rows) = ap (λ (l : List ℕ). length l) (flat_map-cons (row_in version.One rule.DropRemainders).write x rows) ∙ omega (arith, rows_size rows)
 
-pub body_two : (b : Body) → b.opening.rule ≡ rule.One → (body_in version.Two).write b ≡ 1 ∷ (front b ++ (rows_in version.Two b.opening.rows ++ back b))
+pub body_two : (b : Body) → b.opening.rule ≡ rule.DropRemainders → (body_in version.Two).write b ≡ 1 ∷ (front b ++ (rows_in version.Two b.opening.rows ++ back b))
 body_two b one =
-    let with_rule = λ (r : Rule). (rule_in version.Two).write r ++ (body_under version.Two rule.One).write (b.port, (b.number, (b.opening, b.entries))) in
+    let with_rule = λ (r : Rule). (rule_in version.Two).write r ++ (body_under version.Two rule.DropRemainders).write (b.port, (b.number, (b.opening, b.entries))) in
     ap with_rule one
     ∙ ap (λ (l : List ℕ). 1 ∷ (front b ++ l))
-    (append_assoc (rows_in version.Two b.opening.rows) ((counted (number w8) MOST_MAPS (window_map_under rule.One)).write b.opening.window) ((counted (number w32) MOST_ENTRIES entry).write b.entries))
+    (append_assoc (rows_in version.Two b.opening.rows) ((counted (number w8) MAX_MAPS (window_map_under rule.DropRemainders)).write b.opening.window) ((counted (number w32) MAX_ENTRIES entry).write b.entries))
 
 -- the parts of a body of version one
 pub record AreParts (b : Body) (body : List ℕ) : Type 0 where
@@ -175,7 +175,7 @@ body_put b rows bytes rest part old out1 out2 out3 out4 fits is same after last 
     ∙ ap (λ (l : List ℕ). old ++ l) (sym (body_two b (rule_is_one b fits)))
 
 -- the number of bytes of a body of version two
-size_two : (b : Body) → b.opening.rule ≡ rule.One → length ((body_in version.Two).write b) ≡ length ((body_in version.One).write b) + length b.opening.rows + 1
+size_two : (b : Body) → b.opening.rule ≡ rule.DropRemainders → length ((body_in version.Two).write b) ≡ length ((body_in version.One).write b) + length b.opening.rows + 1
 size_two b one =
     let ones = rows_in version.One b.opening.rows in
     let twos = rows_in version.Two b.opening.rows in
@@ -193,7 +193,7 @@ size_two b one =
   where
     moved_size : (rows : List RawRow) → length (rows_in version.Two rows) ≡ 39 * length rows
     moved_size [] = refl
-    moved_size (x ∷ rows) = ap (λ (l : List ℕ). length l) (flat_map-cons (row_in version.Two rule.One).write x rows) ∙ omega (arith, moved_size rows)
+    moved_size (x ∷ rows) = ap (λ (l : List ℕ). length l) (flat_map-cons (row_in version.Two rule.DropRemainders).write x rows) ∙ omega (arith, moved_size rows)
 
 -- the head of a chapter of version two, and its body
 pub record IsHead (b : Body) (size : ℕ) : Type 0 where

@@ -5,7 +5,7 @@ use Rattle.std.specs.Int.{w8, w16, w32, w64, to_be_bytes}
 use Rattle.std.specs.List.{AllByRecursion, flat_map}
 use Rattle.std.proofs.lemmas.List.{length-map}
 use Rattle.std.proofs.lemmas.List.Concat.{flat_map-cons}
-use Rattle.pon_admit.specs.Roster.{most_allocs}
+use Rattle.pon_admit.specs.Roster.{max_allocs}
 use Rattle.pon_admit.specs.declared.rule.Rule.{Rule}
 use Rattle.pon_admit.specs.declared.rule.Rule.TheVariants as rule
 use Rattle.pon_bwmap.specs.Alloc.{Alloc}
@@ -15,13 +15,13 @@ use Rattle.pon_cert.specs.declared.cert.Level.TheVariants as level
 use Rattle.pon_cert.specs.declared.cert.MapCert.{MapCert}
 use Rattle.pon_cert.specs.Spelling.{cert_bytes, class_bytes, flag_byte, level_bytes}
 use Rattle.pon_cert.specs.Texts.{FitsCert, FitsClass}
-use Rattle.pon_event.specs.declared.event.Event.{Event}
-use Rattle.pon_event.specs.declared.event.Event.TheVariants.{Admit, Change, Remove, Report, MakeMap, Fail, Restore}
-use Rattle.pon_state.specs.declared.reply.Entry.{Entry}
+use Rattle.pon_admit.specs.declared.event.Event.{Event}
+use Rattle.pon_admit.specs.declared.event.Event.TheVariants.{Admit, Change, Remove, Report, MakeMap, Fail, Restore}
+use Rattle.pon_state.specs.Entry.{Entry}
 use Rattle.pon_state.specs.declared.reply.MadeMap.{MadeMap}
 use Rattle.pon_state.specs.declared.reply.Reply.{Reply}
 use Rattle.pon_state.specs.declared.reply.Reply.TheVariants.{Taken, Map}
-use Rattle.pon_state.specs.declared.checks.TheConstants.{MOST_ENTRIES}
+use Rattle.pon_state.specs.declared.checks.TheConstants.{MAX_ENTRIES}
 use Rattle.pon_record.specs.declared.version.Version.{Version}
 use Rattle.pon_record.specs.declared.version.Version.TheVariants as version
 use Rattle.pon_record.specs.Format.{counted, followed, number}
@@ -29,7 +29,7 @@ use Rattle.pon_record.specs.Events.{event, occupancy}
 use Rattle.pon_record.specs.MadeMaps.{made_map, structure}
 use Rattle.pon_record.specs.Chapters.{Body, body_in, entry, port, reply_to}
 use Rattle.pon_units.specs.declared.granted.Granted.{Granted}
-use Rattle.pon_window.specs.Window.{WindowMap}
+use Rattle.pon_guar.specs.Window.{WindowMap}
 use Rattle.pon_record.specs.declared.row.RawRow.{RawRow}
 use Rattle.pon_record.specs.Fields.{onu_id, rule_in}
 use Rattle.pon_record.specs.Openings.{Opening, grant, opening_in, row_in, window_map_under}
@@ -110,14 +110,14 @@ onus_size : (us : List ℕ) → length (flat_map onu_id.write us) ≡ 2 * length
 onus_size [] = refl
 onus_size (u ∷ us) = ap (λ (bs : List ℕ). length bs) (flat_map-cons onu_id.write u us) ∙ omega (arith, onus_size us)
 
-pub few_allocs : (r : Rule) → most_allocs r ≤ 512
-few_allocs rule.One = omega arith
-few_allocs rule.Two = omega arith
+pub few_allocs : (r : Rule) → max_allocs r ≤ 512
+few_allocs rule.DropRemainders = omega arith
+few_allocs rule.CarryRemainders = omega arith
 
 map_size : (r : Rule) (m : WindowMap) → (window_map_under r).Fits m → length ((window_map_under r).write m) ≤ 3593
 map_size r m fits =
     let grants : List ℕ = flat_map grant.write m.grants in
-    let few : length m.grants ≤ most_allocs r = fits.0.1.0.1 in
+    let few : length m.grants ≤ max_allocs r = fits.0.1.0.1 in
     let reported : length m.reported ≤ 255 = fits.0.1.1.1 in
     omega (arith, length-append grants (to_be_bytes w8 (length m.reported) ++ flat_map onu_id.write m.reported), grants_size m.grants, onus_size m.reported, few, few_allocs r, reported)
 
@@ -130,7 +130,7 @@ maps_size r (m ∷ ms) h =
 opening_size : (v : Version) (r : Rule) (o : Opening) → (opening_in v r).Fits o → length ((opening_in v r).write o) ≤ 260000
 opening_size v r o fits =
     let rows : List ℕ = flat_map (row_in v r).write o.rows in
-    let few : length o.rows ≤ most_allocs r = fits.0.1.1.1.1.1.0.1 in
+    let few : length o.rows ≤ max_allocs r = fits.0.1.1.1.1.1.0.1 in
     let maps : length o.window ≤ 64 = fits.0.1.1.1.1.1.1.1 in
     omega (
       arith,
@@ -151,7 +151,7 @@ rule_size version.Two r = omega arith
 pub body_fits_length : (v : Version) (b : Body) → (body_in v).Fits b → length ((body_in v).write b) < 2 ^ 32
 body_fits_length v b fits =
     let r : Rule = b.opening.rule in
-    let es : List ℕ = (counted (number w32) MOST_ENTRIES entry).write b.entries in
+    let es : List ℕ = (counted (number w32) MAX_ENTRIES entry).write b.entries in
     let few : length b.entries ≤ 65536 = fits.0.1.1.1.1.1 in
     omega (
       arith,

@@ -3,13 +3,13 @@ use Rattle.std.specs.Prelude.{◌≡◌, ℕ, ◌+◌, ◌<◌, nat_lt, ◌==◌
 use Rattle.std.specs.Int.{w8, w32, w64, from_be_bytes}
 use Rattle.pon_lists.specs.OptionSteps.{◌>>=◌}
 use Rattle.pon_admit.specs.declared.rule.Rule.{Rule}
-use Rattle.pon_units.specs.declared.limits.TheConstants.{MOST_PORTS}
-use Rattle.pon_event.specs.declared.event.Event.{Event}
-use Rattle.pon_event.specs.declared.event.Event.TheVariants.{MakeMap}
+use Rattle.pon_units.specs.declared.limits.TheConstants.{MAX_PORTS}
+use Rattle.pon_admit.specs.declared.event.Event.{Event}
+use Rattle.pon_admit.specs.declared.event.Event.TheVariants.{MakeMap}
 use Rattle.pon_state.specs.declared.reply.Reply.{Reply}
 use Rattle.pon_state.specs.declared.reply.Reply.TheVariants.{Taken, Map}
-use Rattle.pon_state.specs.declared.reply.Entry.{Entry}
-use Rattle.pon_state.specs.declared.checks.TheConstants.{MOST_ENTRIES}
+use Rattle.pon_state.specs.Entry.{Entry}
+use Rattle.pon_state.specs.declared.checks.TheConstants.{MAX_ENTRIES}
 use Rattle.pon_record.specs.declared.limits.TheConstants.{CHAPTER_TAG, HEAD_BYTES}
 use Rattle.pon_record.specs.Format.{Format, ◌&◌, as_value, constant, counted, followed, number, only, sized, told_by}
 use Rattle.pon_record.specs.declared.version.Version.{Version}
@@ -39,7 +39,7 @@ abbrev pub entry : Format Entry
 entry = told_by (as_value (λ x. record { event = x.0; reply = x.1 })) (λ e. (e.event, e.reply)) (followed event reply_to)
 
 abbrev pub port : Format ℕ
-port = only (λ n. nat_lt n MOST_PORTS) (number w8)
+port = only (λ n. nat_lt n MAX_PORTS) (number w8)
 
 -- a chapter of a port
 pub record Body : Type 0 where
@@ -57,7 +57,7 @@ body_of x = record { port = x.1.0; number = x.1.1.0; opening = x.1.1.1.0; entrie
 
 -- what follows the rule
 abbrev pub body_under : Version → Rule → Format (ℕ × (ℕ × (Opening × List Entry)))
-body_under v r = port & number w64 & opening_in v r & counted (number w32) MOST_ENTRIES entry
+body_under v r = port & number w64 & opening_in v r & counted (number w32) MAX_ENTRIES entry
 
 abbrev pub body_in : Version → Format Body
 body_in v = told_by (as_value body_of) body_parts (followed (rule_in v) (body_under v))

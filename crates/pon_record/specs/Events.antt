@@ -2,17 +2,17 @@
 use Rattle.std.specs.Prelude.{ℕ, ◌==◌, nat_le, if◌then◌else◌, List, [], ◌∷◌, Option, Some, None}
 use Rattle.std.specs.Int.{w8, w32}
 use Rattle.pon_lists.specs.OptionSteps.{◌>>=◌}
-use Rattle.pon_units.specs.declared.limits.TheConstants.{GREATEST_OCCUPANCY, LONGEST_SERIES}
+use Rattle.pon_units.specs.declared.limits.TheConstants.{MAX_OCCUPANCY, MAX_SERIES}
 use Rattle.pon_descr.specs.Descriptor.{Descriptor}
-use Rattle.pon_event.specs.declared.event.Event.{Event}
-use Rattle.pon_event.specs.declared.event.Event.TheVariants.{Admit, Change, Remove, Report, MakeMap, Fail, Restore}
+use Rattle.pon_admit.specs.declared.event.Event.{Event}
+use Rattle.pon_admit.specs.declared.event.Event.TheVariants.{Admit, Change, Remove, Report, MakeMap, Fail, Restore}
 use Rattle.pon_record.specs.declared.limits.TheConstants.{GARBLED}
 use Rattle.pon_record.specs.Format.{Format, ◌&◌, counted, number, only, told_by}
 use Rattle.pon_record.specs.Fields.{alloc_id, cause, descriptor, frame, onu_id}
 
 -- the words of an occupancy, or all ones if the report was garbled
 abbrev pub occupancy_meaning : ℕ → Option (Option ℕ)
-occupancy_meaning n = if n == GARBLED then Some None else if nat_le n GREATEST_OCCUPANCY then Some (Some n) else None
+occupancy_meaning n = if n == GARBLED then Some None else if nat_le n MAX_OCCUPANCY then Some (Some n) else None
 
 abbrev pub occupancy_code : Option ℕ → ℕ
 occupancy_code None = GARBLED
@@ -22,7 +22,7 @@ abbrev pub occupancy : Format (Option ℕ)
 occupancy = told_by occupancy_meaning occupancy_code (number w32)
 
 abbrev pub occupancies : Format (List (Option ℕ))
-occupancies = counted (only (λ n. nat_le 1 n) (number w8)) LONGEST_SERIES occupancy
+occupancies = counted (only (λ n. nat_le 1 n) (number w8)) MAX_SERIES occupancy
 
 -- The fields of each kind of event.
 

@@ -1,12 +1,12 @@
 -- The fields of a recording.
 use Rattle.std.specs.Prelude.{ℕ, ◌&&◌, ◌==◌, nat_le, if◌then◌else◌, Option, Some, None}
 use Rattle.std.specs.Int.{w8, w16, w32, w64}
-use Rattle.pon_units.specs.declared.limits.TheConstants.{FRAME_WORDS, GREATEST_ALLOC_ID, GREATEST_OCCUPANCY, GREATEST_ONU_ID, GREATEST_PROFILE, LEAST_ALLOC_ID, LONGEST_GAP, SHORTEST_GAP}
+use Rattle.pon_units.specs.declared.limits.TheConstants.{FRAME_WORDS, MAX_ALLOC_ID, MAX_OCCUPANCY, MAX_ONU_ID, MAX_PROFILE, MIN_ALLOC_ID, MAX_GAP, MIN_GAP}
 use Rattle.pon_descr.specs.declared.class.Class.{Class}
 use Rattle.pon_descr.specs.declared.class.Class.TheVariants.{Plain, NonAssured, BestEffort}
 use Rattle.pon_descr.specs.declared.refusal.Refusal.{Refusal}
 use Rattle.pon_descr.specs.Descriptor.{Descriptor, descriptor_refusal}
-use Rattle.pon_admit.specs.Roster.{most_carry}
+use Rattle.pon_admit.specs.Roster.{max_carry}
 use Rattle.pon_admit.specs.declared.rule.Rule.{Rule}
 use Rattle.pon_admit.specs.declared.rule.Rule.TheVariants as rule
 use Rattle.pon_guar.specs.declared.account.Counted.{Counted}
@@ -15,16 +15,16 @@ use Rattle.pon_record.specs.declared.version.Version.TheVariants as version
 use Rattle.pon_record.specs.Format.{Format, ◌&◌, constant, number, only, told_by}
 
 abbrev pub onu_id : Format ℕ
-onu_id = only (λ n. nat_le n GREATEST_ONU_ID) (number w16)
+onu_id = only (λ n. nat_le n MAX_ONU_ID) (number w16)
 
 abbrev pub alloc_id : Format ℕ
-alloc_id = only (λ n. nat_le LEAST_ALLOC_ID n && nat_le n GREATEST_ALLOC_ID) (number w16)
+alloc_id = only (λ n. nat_le MIN_ALLOC_ID n && nat_le n MAX_ALLOC_ID) (number w16)
 
 abbrev pub gap : Format ℕ
-gap = only (λ n. nat_le SHORTEST_GAP n && nat_le n LONGEST_GAP) (number w16)
+gap = only (λ n. nat_le MIN_GAP n && nat_le n MAX_GAP) (number w16)
 
 abbrev pub profile : Format ℕ
-profile = only (λ n. nat_le n GREATEST_PROFILE) (number w8)
+profile = only (λ n. nat_le n MAX_PROFILE) (number w8)
 
 abbrev pub frame : Format ℕ
 frame = number w64
@@ -83,7 +83,7 @@ descriptor = told_by descriptor_meaning descriptor_code (rate & rate & rate & cl
 abbrev pub report_meaning : ℕ × (ℕ × ℕ) → Option (Option Counted)
 report_meaning x =
     if x.0 == 0 then (if (x.1.0 == 0) && (x.1.1 == 0) then Some None else None)
-    else if (x.0 == 1) && nat_le x.1.1 GREATEST_OCCUPANCY then Some (Some (record { frame = x.1.0; words = x.1.1 }))
+    else if (x.0 == 1) && nat_le x.1.1 MAX_OCCUPANCY then Some (Some (record { frame = x.1.0; words = x.1.1 }))
     else None
 
 abbrev pub report_code : Option Counted → ℕ × (ℕ × ℕ)
@@ -97,18 +97,18 @@ report = told_by report_meaning report_code (number w8 & frame & number w32)
 
 -- the rule of a chapter: 1 or 2
 abbrev pub rule_meaning : ℕ → Option Rule
-rule_meaning n = if n == 1 then Some rule.One else if n == 2 then Some rule.Two else None
+rule_meaning n = if n == 1 then Some rule.DropRemainders else if n == 2 then Some rule.CarryRemainders else None
 
 abbrev pub rule_code : Rule → ℕ
-rule_code rule.One = 1
-rule_code rule.Two = 2
+rule_code rule.DropRemainders = 1
+rule_code rule.CarryRemainders = 2
 
 -- no byte in version one, whose chapters are all under rule one
 abbrev pub rule_in : Version → Format Rule
-rule_in version.One = constant rule.One
+rule_in version.One = constant rule.DropRemainders
 rule_in version.Two = told_by rule_meaning rule_code (number w8)
 
 -- what the last map left to a row, in kbit/s, under a rule; no byte in version one, where nothing is carried
 abbrev pub carry_in : Version → Rule → Format ℕ
 carry_in version.One r = constant 0
-carry_in version.Two r = only (λ n. nat_le n (most_carry r)) (number w8)
+carry_in version.Two r = only (λ n. nat_le n (max_carry r)) (number w8)

@@ -3,7 +3,7 @@
 use Rattle.std.specs.Prelude.{ℕ, zero, suc, ◌/◌, ◌%◌, ◌^◌, ◌&&◌, ◌==◌, nat_le, Bool, true, if◌then◌else◌, List, length, Option, Some, None, is_none}
 use Rattle.std.specs.Int.{w32, w64}
 use Rattle.std.specs.Result.{result_ok}
-use Rattle.pon_units.specs.declared.limits.TheConstants.{MOST_STRUCTURES}
+use Rattle.pon_units.specs.declared.limits.TheConstants.{MAX_STRUCTURES}
 use Rattle.pon_hec.specs.HeaderCode.{sealed}
 use Rattle.pon_xgtc.specs.HLend.{hlend_payload}
 use Rattle.pon_bwmap.specs.MapBytes.{structure_payload}
@@ -60,10 +60,10 @@ keeps_rules rows (suc k) = keeps_rules rows k && is_none (row_fault rows k)
 
 -- the structures make a map
 abbrev pub is_map : List Alloc → Bool
-is_map rows = nat_le (length rows) MOST_STRUCTURES && keeps_rules rows (length rows)
+is_map rows = nat_le (length rows) MAX_STRUCTURES && keeps_rules rows (length rows)
 
 abbrev pub map : Format (List Alloc)
-map = only is_map (counted head MOST_STRUCTURES structure)
+map = only is_map (counted head MAX_STRUCTURES structure)
 
 abbrev pub certificate : Format MapCert
 certificate = record { Fits = FitsCert; write = cert_bytes; read = λ bytes. result_ok (cert_at bytes) }

@@ -1,14 +1,14 @@
 -- The state that a chapter opens with, by the version of the recording and the rule of the chapter.
 use Rattle.std.specs.Prelude.{ℕ, ◌≤◌, All, List, length, Option}
 use Rattle.std.specs.Int.{w8, w16, w64}
-use Rattle.pon_admit.specs.Roster.{most_allocs, most_carry}
+use Rattle.pon_admit.specs.Roster.{max_allocs, max_carry}
 use Rattle.pon_admit.specs.declared.rule.Rule.{Rule}
 use Rattle.pon_descr.specs.Descriptor.{Descriptor}
 use Rattle.pon_units.specs.declared.granted.Granted.{Granted}
 use Rattle.pon_guar.specs.declared.account.Counted.{Counted}
-use Rattle.pon_window.specs.Window.{WindowMap}
-use Rattle.pon_window.specs.declared.window.TheConstants.{MOST_MAPS}
-use Rattle.pon_record.specs.declared.limits.TheConstants.{MOST_REPORTED}
+use Rattle.pon_guar.specs.Window.{WindowMap}
+use Rattle.pon_guar.specs.declared.window.TheConstants.{MAX_MAPS}
+use Rattle.pon_record.specs.declared.limits.TheConstants.{MAX_REPORTED}
 use Rattle.pon_record.specs.declared.row.RawRow.{RawRow}
 use Rattle.pon_record.specs.declared.version.Version.{Version}
 use Rattle.pon_record.specs.Format.{Format, ◌&◌, as_value, counted, number, told_by}
@@ -50,7 +50,7 @@ window_map_of x = record { frame = x.0; grants = x.1.0; reported = x.1.1 }
 
 -- at most as many grants as a port may have Alloc-IDs under the rule
 abbrev pub window_map_under : Rule → Format WindowMap
-window_map_under r = told_by (as_value window_map_of) map_parts (frame & counted (number w16) (most_allocs r) grant & counted (number w8) MOST_REPORTED onu_id)
+window_map_under r = told_by (as_value window_map_of) map_parts (frame & counted (number w16) (max_allocs r) grant & counted (number w8) MAX_REPORTED onu_id)
 
 -- the rule, the gap, the profile, the cause of a failure, the next frame, the number of earlier entries, the rows, and the
 -- window
@@ -83,10 +83,10 @@ opening_of r x = record {
 -- an opening under a rule that is known: at most as many rows as a port may have Alloc-IDs
 abbrev pub opening_in : Version → Rule → Format Opening
 opening_in v r = told_by (as_value (opening_of r)) opening_parts
-    (gap & profile & failure & frame & number w64 & counted (number w16) (most_allocs r) (row_in v r) & counted (number w8) MOST_MAPS (window_map_under r))
+    (gap & profile & failure & frame & number w64 & counted (number w16) (max_allocs r) (row_in v r) & counted (number w8) MAX_MAPS (window_map_under r))
 
 -- the rows, their carries and the grants of each map of the window are within the limits of the rule
 pub record KeepsLimits (o : Opening) : Type 0 where
-  pub few_rows : length o.rows ≤ most_allocs o.rule
-  pub carries_in_range : All (λ r. r.carry ≤ most_carry o.rule) o.rows
-  pub few_grants : All (λ m. length m.grants ≤ most_allocs o.rule) o.window
+  pub few_rows : length o.rows ≤ max_allocs o.rule
+  pub carries_in_range : All (λ r. r.carry ≤ max_carry o.rule) o.rows
+  pub few_grants : All (λ m. length m.grants ≤ max_allocs o.rule) o.window

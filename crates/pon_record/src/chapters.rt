@@ -14,7 +14,7 @@ use crate::limits::{CHAPTER_TAG, HEAD_BYTES};
 use crate::lists::read_many;
 use crate::openings::read_opening;
 use crate::version::Version;
-use pon_state::MOST_ENTRIES;
+use pon_state::MAX_ENTRIES;
 use std::alloc::Global;
 
 // Reads the body of the chapter that begins at the place `at` of the recording.
@@ -35,7 +35,7 @@ fn read_body(
         port: cursor.port()?,
         number: cursor.u64()?,
         opening: read_opening(alloc, cursor, layout)?,
-        entries: read_many(alloc, cursor, layout, MOST_ENTRIES as u32)?,
+        entries: read_many(alloc, cursor, layout, MAX_ENTRIES as u32)?,
     })
 }
 

@@ -1,6 +1,6 @@
 //! Reads fields from the front of bytes, one after another.
 
-ghost use Rattle.std.specs.Prelude.{◌≡◌, ◌≤◌, ◌==◌, drop, length, nat_le, nat_lt, take};
+ghost use Rattle.std.specs.Prelude.{◌≡◌, ◌≤◌, ◌==◌, drop, length, nat_le};
 ghost use Rattle.std.specs.Int.{w8, w16, w32, w64};
 ghost use Rattle.pon_record.specs.Format.{number, only};
 ghost use Rattle.pon_record.specs.Reading.{Reads};
@@ -248,8 +248,8 @@ impl<'a> Cursor<'a> {
         ensures { Reads (λ x. (x, self.new)) result ((rule_in Two).read self.old) }
     {
         match self.u8()? {
-            1 => Ok(Rule::One),
-            2 => Ok(Rule::Two),
+            1 => Ok(Rule::DropRemainders),
+            2 => Ok(Rule::CarryRemainders),
             _ => Err(Malformed),
         }
     }
@@ -259,7 +259,7 @@ impl<'a> Cursor<'a> {
         ensures { Reads (λ x. (x, self.new)) result ((rule_in version).read self.old) }
     {
         match version {
-            Version::One => Ok(Rule::One),
+            Version::One => Ok(Rule::DropRemainders),
             Version::Two => self.rule_byte(),
         }
     }
@@ -269,7 +269,7 @@ impl<'a> Cursor<'a> {
         ensures { Reads (λ x. (x, self.new)) result ((carry_in Two layout.rule).read self.old) }
     {
         let carry = self.u8()?;
-        if carry > layout.most_carry() {
+        if carry > layout.max_carry() {
             return Err(Malformed);
         }
         Ok(carry)

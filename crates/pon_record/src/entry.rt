@@ -1,6 +1,5 @@
 //! Reads entries: an event and its reply.
 
-ghost use Rattle.std.specs.Prelude.{◌≡◌};
 ghost use Rattle.pon_record.specs.Reading.{ReadsValue};
 ghost use Rattle.pon_record.specs.Chapters.{entry, reply_to};
 
@@ -9,7 +8,7 @@ use crate::events::read_event;
 use crate::fault::Stop;
 use crate::layout::Layout;
 use crate::lists::Recorded;
-use pon_event::Event;
+use pon_admit::Event;
 use pon_state::{Entry, MadeMap, Reply};
 use std::alloc::Global;
 
@@ -34,6 +33,6 @@ impl Recorded for Entry {
     fn read(alloc: Global, cursor: &mut Cursor<'_>, layout: Layout) -> Result<Self, Stop> {
         let event = read_event(cursor)?;
         let reply = read_reply(alloc, cursor, layout, &event)?;
-        Ok(Entry { event, reply })
+        Ok(Entry::new(event, reply))
     }
 }

@@ -1,15 +1,15 @@
 //! The events of a chapter.
 
-ghost use Rattle.std.specs.Prelude.{◌≡◌, ◌≤◌};
+ghost use Rattle.std.specs.Prelude.{◌≤◌};
 ghost use Rattle.pon_record.specs.Format.{read_times};
 ghost use Rattle.pon_record.specs.Reading.{Reads};
 ghost use Rattle.pon_record.specs.Events.{event, occupancies, occupancy};
 
 use crate::cursor::Cursor;
 use crate::fault::Malformed;
+use pon_admit::Event;
 use pon_dbru::Occupancies;
-use pon_event::Event;
-use pon_units::LONGEST_SERIES;
+use pon_units::MAX_SERIES;
 
 pub(crate) fn read_event(cursor: &mut Cursor<'_>) -> Result<Event, Malformed>
     ensures { Reads (λ x. (x, cursor.new)) result (event.read cursor.old) }
@@ -46,7 +46,7 @@ fn read_occupancies(cursor: &mut Cursor<'_>) -> Result<Occupancies, Malformed>
     ensures { Reads (λ x. (x, cursor.new)) result (occupancies.read cursor.old) }
 {
     let count = cursor.u8()?;
-    if count < 1 || usize::from(count) > LONGEST_SERIES {
+    if count < 1 || usize::from(count) > MAX_SERIES {
         return Err(Malformed);
     }
     occupancies_in(cursor, count)
@@ -54,7 +54,7 @@ fn read_occupancies(cursor: &mut Cursor<'_>) -> Result<Occupancies, Malformed>
 
 // Reads `count` occupancies.
 fn occupancies_in(cursor: &mut Cursor<'_>, count: u8) -> Result<Occupancies, Malformed>
-    requires { count ≤ LONGEST_SERIES }
+    requires { count ≤ MAX_SERIES }
     ensures { Reads (λ x. (x, cursor.new)) result (read_times occupancy count cursor.old) }
 {
     let mut occupancies = Occupancies::new();

@@ -1,6 +1,6 @@
 //! Laws on the format of recordings.
 
-ghost use Rattle.std.specs.Prelude.{◌≡◌, ◌≢◌, ◌++◌, All, Bool, ℕ, List, Some, length};
+ghost use Rattle.std.specs.Prelude.{◌≡◌, ◌≢◌, ◌++◌, All, Bool, ℕ, List, Some};
 ghost use Rattle.std.specs.List.{AllByRecursion};
 ghost use Rattle.pon_lists.specs.Bytes.{AreBytes};
 ghost use Rattle.pon_admit.specs.declared.rule.Rule.{Rule};
@@ -61,7 +61,7 @@ pub fn chapters_keep_the_limits_of_their_rule()
 
 /// A chapter that fits version one is under rule one, has carries of 0, and fits version two.
 pub fn version_one_fits_version_two()
-    ensures rule { (b : Body) → FitsChapter Version.One b → b.opening.rule ≡ Rule.One }
+    ensures rule { (b : Body) → FitsChapter Version.One b → b.opening.rule ≡ Rule.DropRemainders }
     ensures carries { (b : Body) → FitsChapter Version.One b →
         All (λ r. r.carry ≡ 0) b.opening.rows }
     ensures fits { (b : Body) → FitsChapter Version.One b → FitsChapter Version.Two b }

@@ -1,5 +1,5 @@
 ghost use Rattle.std.specs.Prelude.{◌≡◌};
-ghost use Rattle.pon_admit.specs.Roster.{most_allocs, most_carry};
+ghost use Rattle.pon_admit.specs.Roster.{max_allocs, max_carry};
 
 use crate::version::Version;
 use pon_admit::Rule;
@@ -14,19 +14,19 @@ pub(crate) struct Layout {
 
 impl Layout {
     /// Maximum number of rows of an opening, and of grants of a map of its window: 256 or 512.
-    pub(crate) fn most_allocs(self) -> u16
-        ensures { result ≡ most_allocs self.rule }
+    pub(crate) fn max_allocs(self) -> u16
+        ensures { result ≡ max_allocs self.rule }
     {
-        self.rule.most_allocs() as u16
+        self.rule.max_allocs() as u16
     }
 
     /// Maximum carry of a row, in kbit/s: 0 or 255.
-    pub(crate) fn most_carry(self) -> u8
-        ensures { result ≡ most_carry self.rule }
+    pub(crate) fn max_carry(self) -> u8
+        ensures { result ≡ max_carry self.rule }
     {
         match self.rule {
-            Rule::One => 0,
-            Rule::Two => (WORD_RATE - 1) as u8,
+            Rule::DropRemainders => 0,
+            Rule::CarryRemainders => (WORD_RATE - 1) as u8,
         }
     }
 }

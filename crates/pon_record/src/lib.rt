@@ -32,7 +32,7 @@ pub use chapter::{RawChapter, Recording};
 pub use chapter_reader::ChapterReader;
 pub use counting::chapter_count;
 pub use fault::ReadFault;
-pub use limits::{CHAPTER_TAG, GARBLED, MAGIC_BYTES, MOST_REPORTED};
+pub use limits::{CHAPTER_TAG, GARBLED, MAGIC_BYTES, MAX_REPORTED};
 pub use migration::migrate;
 pub use opening::{Opening, RawMap};
 pub use recording::read_recording;

@@ -17,4 +17,4 @@ pub(crate) const HEAD_BYTES: usize = 5;
 pub const GARBLED: u32 = 0xffff_ffff;
 
 /// Maximum number of ONUs that reported for a map of a recorded window: the largest count in one byte.
-pub const MOST_REPORTED: u8 = 255;
+pub const MAX_REPORTED: u8 = 255;

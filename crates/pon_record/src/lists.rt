@@ -1,6 +1,5 @@
 //! Lists of values of any one format.
 
-ghost use Rattle.std.specs.Prelude.{◌≡◌};
 ghost use Rattle.std.specs.Int.{w8, w16, w32};
 ghost use Rattle.pon_record.specs.declared.layout.Layout.{Layout};
 ghost use Rattle.pon_record.specs.Format.{Format, counted, number, read_times};

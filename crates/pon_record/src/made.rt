@@ -13,7 +13,7 @@ use pon_bwmap::{Alloc, Map};
 use pon_cert::{CertReadFault, MapCert};
 use pon_hec::{seal32, seal64};
 use pon_state::MadeMap;
-use pon_units::MOST_STRUCTURES;
+use pon_units::MAX_STRUCTURES;
 use std::alloc::Global;
 
 /// The StartTime field of a structure without a start.
@@ -71,10 +71,10 @@ impl Recorded for Alloc {
 // Reads the head of a map and its structures.
 fn read_rows(alloc: Global, cursor: &mut Cursor<'_>, layout: Layout) -> Result<Vec<Alloc>, Stop>
     ensures { ReadsValue (λ x. (x.items, cursor.new)) result
-        ((counted head MOST_STRUCTURES structure).read cursor.old) }
+        ((counted head MAX_STRUCTURES structure).read cursor.old) }
 {
     let count = read_head(cursor)? as usize;
-    if count > MOST_STRUCTURES {
+    if count > MAX_STRUCTURES {
         return Err(Stop::Malformed);
     }
     read_list(alloc, cursor, layout, count)

@@ -28,9 +28,9 @@ const RULE_ONE: u8 = 1;
 // Appends rows of version one, each followed by its carry.
 fn put_rows(out: &mut Vec<u8>, rows: &[RawRow], bytes: &[u8]) -> Result<(), AllocError>
     requires none { All (λ r. r.carry ≡ 0) rows.now }
-    requires is { bytes.now ≡ flat_map (row_in Version.One Rule.One).write rows.now }
+    requires is { bytes.now ≡ flat_map (row_in Version.One Rule.DropRemainders).write rows.now }
     ensures { OnOk result (out.new.items
-        ≡ out.old.items ++ flat_map (row_in Version.Two Rule.One).write rows.now) }
+        ≡ out.old.items ++ flat_map (row_in Version.Two Rule.DropRemainders).write rows.now) }
 {
     let mut rest = bytes;
     for row in rows {

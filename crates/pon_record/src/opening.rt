@@ -13,7 +13,7 @@ pub struct RawMap {
 }
 
 impl Model for RawMap {
-    ghost use Rattle.pon_window.specs.Window.{WindowMap};
+    ghost use Rattle.pon_guar.specs.Window.{WindowMap};
 
     ghost Value = { WindowMap };
 

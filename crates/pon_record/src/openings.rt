@@ -1,6 +1,5 @@
 //! Reads openings.
 
-ghost use Rattle.std.specs.Prelude.{◌≡◌};
 ghost use Rattle.pon_record.specs.Reading.{ReadsValue, Reads};
 ghost use Rattle.pon_record.specs.Openings.{grant, opening_in, row_in, window_map_under};
 ghost use Rattle.pon_record.specs.Fields.{onu_id};
@@ -8,12 +7,12 @@ ghost use Rattle.pon_record.specs.Fields.{onu_id};
 use crate::cursor::Cursor;
 use crate::fault::{Malformed, Stop};
 use crate::layout::Layout;
-use crate::limits::MOST_REPORTED;
+use crate::limits::MAX_REPORTED;
 use crate::lists::{Recorded, read_few, read_some};
 use crate::opening::{Opening, RawMap};
 use crate::row::{RawRow, read_row};
+use pon_guar::MAX_MAPS;
 use pon_units::{Granted, OnuId};
-use pon_window::MOST_MAPS;
 use std::alloc::Global;
 
 impl Recorded for RawRow {
@@ -56,8 +55,8 @@ impl Recorded for RawMap {
     fn read(alloc: Global, cursor: &mut Cursor<'_>, layout: Layout) -> Result<Self, Stop> {
         Ok(RawMap {
             frame: cursor.frame()?,
-            grants: read_some(alloc, cursor, layout, layout.most_allocs())?,
-            reported: read_few(alloc, cursor, layout, MOST_REPORTED)?,
+            grants: read_some(alloc, cursor, layout, layout.max_allocs())?,
+            reported: read_few(alloc, cursor, layout, MAX_REPORTED)?,
         })
     }
 }
@@ -78,7 +77,7 @@ pub(crate) fn read_opening(
         cause: cursor.failure()?,
         next: cursor.frame()?,
         taken_before: cursor.u64()?,
-        rows: read_some(alloc, cursor, layout, layout.most_allocs())?,
-        window: read_few(alloc, cursor, layout, MOST_MAPS as u8)?,
+        rows: read_some(alloc, cursor, layout, layout.max_allocs())?,
+        window: read_few(alloc, cursor, layout, MAX_MAPS as u8)?,
     })
 }

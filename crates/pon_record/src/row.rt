@@ -1,4 +1,3 @@
-ghost use Rattle.std.specs.Prelude.{◌≡◌};
 ghost use Rattle.pon_record.specs.Reading.{Reads};
 ghost use Rattle.pon_record.specs.Openings.{row_in};
 

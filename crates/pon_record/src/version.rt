@@ -1,4 +1,4 @@
-ghost use Rattle.std.specs.Prelude.{◌≡◌, ◌≢◌, MatchOption, ℕ, take, length, ◌≤◌};
+ghost use Rattle.std.specs.Prelude.{◌≡◌, ◌≢◌, MatchOption, take, length, ◌≤◌};
 ghost use Rattle.pon_record.specs.declared.limits.TheConstants.{MAGIC_BYTES};
 ghost use Rattle.pon_record.specs.declared.version.Version.{Version};
 ghost use Rattle.pon_record.specs.Recordings.{magic};

@@ -7,8 +7,8 @@ use Rattle.std.proofs.lemmas.List.Elements.{All-nil, All-cons, All-head, All-pus
 use Rattle.std.proofs.lemmas.List.Quantifiers.{all_pairs_push}
 use Rattle.pon_lists.specs.Bytes.{AreBytes}
 use Rattle.pon_descr.specs.declared.refusal.Refusal.{Refusal}
-use Rattle.pon_event.specs.declared.event.Event.{Event}
-use Rattle.pon_event.specs.declared.event.Event.TheVariants.{Admit, Change, Remove, Report, MakeMap, Fail, Restore}
+use Rattle.pon_admit.specs.declared.event.Event.{Event}
+use Rattle.pon_admit.specs.declared.event.Event.TheVariants.{Admit, Change, Remove, Report, MakeMap, Fail, Restore}
 use Rattle.pon_state.specs.State.{State}
 use Rattle.pon_state.specs.Checks.{first_refusal}
 use Rattle.pon_state.specs.Events.{IsEvent}
@@ -16,10 +16,10 @@ use Rattle.pon_state.specs.Legal.{MayFollow}
 use Rattle.pon_state.specs.declared.reply.MadeMap.{MadeMap}
 use Rattle.pon_state.specs.declared.reply.Reply.{Reply}
 use Rattle.pon_state.specs.declared.reply.Reply.TheVariants.{Taken, Map}
-use Rattle.pon_state.specs.declared.reply.Entry.{Entry}
+use Rattle.pon_state.specs.Entry.{Entry}
 use Rattle.pon_state.specs.After.{after_entry}
-use Rattle.pon_port.specs.Chapters.{Chapter, state_before}
-use Rattle.pon_port.specs.Taking.{IsKept}
+use Rattle.pon_history.specs.Chapters.{Chapter, state_before}
+use Rattle.pon_history.specs.Taking.{IsKept}
 use Rattle.pon_record.specs.declared.fault.ReadFault.{ReadFault}
 use Rattle.pon_record.specs.declared.fault.ReadFault.TheVariants as read
 use Rattle.pon_record.specs.declared.version.Version.{Version}
@@ -30,8 +30,8 @@ use Rattle.pon_audit.specs.Faults.{EntryFails, FailsAt, ReplyFails, cut_at}
 use Rattle.pon_audit.specs.Verdicts.{AreGood, ChapterFails, Continues, IsFirstFault, IsGoodChapter, IsVerdict, MayStandAfter, Rises, maps_in}
 use Rattle.pon_audit.specs.declared.verdict.Verdict.{Verdict}
 use Rattle.pon_audit.specs.declared.verdict.Verdict.TheVariants.{Good, Bad, BadFormat, Truncated}
-use Rattle.pon_audit.specs.declared.verdict.Why.{Why}
-use Rattle.pon_audit.specs.declared.verdict.Why.TheVariants as why
+use Rattle.pon_audit.specs.declared.verdict.AuditReason.{AuditReason}
+use Rattle.pon_audit.specs.declared.verdict.AuditReason.TheVariants as why
 use Rattle.pon_audit.proofs.Kept.{all_taken, ended, fails_here, none_yet, one_further}
 use Rattle.pon_record_laws.proofs.EachRead.{each_read}
 use Rattle.pon_record_laws.proofs.LawfulEvents.{IsFitting, entries_fit}
@@ -39,7 +39,7 @@ use Rattle.pon_record_laws.proofs.LawfulEvents.{IsFitting, entries_fit}
 -- An entry: it may follow, unless it fails.
 
 module _ (k : ℕ) (s : State) where
-  map_follows : (m : MadeMap) → ((w : Why) → EntryFails k s (record { event = MakeMap; reply = Map m }) w → ⊥) → first_refusal k s MakeMap ≡ None → (MayFollow k s (record { event = MakeMap; reply = Map m }) → ⊥) → ⊥
+  map_follows : (m : MadeMap) → ((w : AuditReason) → EntryFails k s (record { event = MakeMap; reply = Map m }) w → ⊥) → first_refusal k s MakeMap ≡ None → (MayFollow k s (record { event = MakeMap; reply = Map m }) → ⊥) → ⊥
   map_follows m sound none n =
       sound why.Certificate (
         none,
@@ -54,7 +54,7 @@ module _ (k : ℕ) (s : State) where
             )),
       )
 
-  reply_follows : (v : Event) (r : Reply) → IsEvent v → (reply_to v).Fits r → ((w : Why) → EntryFails k s (record { event = v; reply = r }) w → ⊥) → first_refusal k s v ≡ None → (MayFollow k s (record { event = v; reply = r }) → ⊥) → ⊥
+  reply_follows : (v : Event) (r : Reply) → IsEvent v → (reply_to v).Fits r → ((w : AuditReason) → EntryFails k s (record { event = v; reply = r }) w → ⊥) → first_refusal k s v ≡ None → (MayFollow k s (record { event = v; reply = r }) → ⊥) → ⊥
   reply_follows MakeMap Taken range fits sound none n = fits
   reply_follows MakeMap (Map m) range fits sound none n = map_follows m sound none n
   reply_follows (Admit u i d) r range fits sound none n = n (record { event = range; accepted = none; reply = fits })
@@ -64,7 +64,7 @@ module _ (k : ℕ) (s : State) where
   reply_follows (Fail c) r range fits sound none n = n (record { event = range; accepted = none; reply = fits })
   reply_follows Restore r range fits sound none n = n (record { event = range; accepted = none; reply = fits })
 
-  follows : (e : Entry) → IsFitting e → ((w : Why) → EntryFails k s e w → ⊥) → (MayFollow k s e → ⊥) → ⊥
+  follows : (e : Entry) → IsFitting e → ((w : AuditReason) → EntryFails k s e w → ⊥) → (MayFollow k s e → ⊥) → ⊥
   follows e fit sound n = go (first_refusal k s e.event) refl
     where
       go : (r : Option Refusal) → first_refusal k s e.event ≡ r → ⊥
@@ -77,7 +77,7 @@ first_of : (es : List Entry) (i : ℕ) → i < length es → Entry
 first_of [] i lt = absurd (omega (arith, lt))
 first_of (e ∷ es) i lt = e
 
-module _ (c : Chapter) (fit : All IsFitting c.entries) (sound : (i : ℕ) (w : Why) → FailsAt c i w → ⊥) (n : ((s : State) → IsKept c s → ⊥)) where
+module _ (c : Chapter) (fit : All IsFitting c.entries) (sound : (i : ℕ) (w : AuditReason) → FailsAt c i w → ⊥) (n : ((s : State) → IsKept c s → ⊥)) where
   -- with `more` entries to come
   entries_hold : (more i : ℕ) (s : State) → i + more ≡ length c.entries → IsKept (cut_at c i) s → ⊥
   entries_hold zero i s count k = n s (all_taken c i s (omega (arith, count)) k)
@@ -92,11 +92,11 @@ module _ (c : Chapter) (fit : All IsFitting c.entries) (sound : (i : ℕ) (w : W
 -- The chapters of a recording: they are good, unless there is a first fault.
 
 abbrev NoFault : List PlacedChapter → Type 0
-NoFault cs = (port number index : ℕ) (w : Why) → IsFirstFault cs port number index w → ⊥
+NoFault cs = (port number index : ℕ) (w : AuditReason) → IsFirstFault cs port number index w → ⊥
 
 -- a fault of an entry is that of the chapter
 module _ (earlier : List PlacedChapter) (c : PlacedChapter) (opens : OpensLawfully c.body) (stands : MayStandAfter earlier c) (i : ℕ) where
-  no_reply : (s : State) (r : Reply) (w : Why) → ReplyFails s r w → (w ≡ why.Opening) ⊎ ((w ≡ why.Chain) ⊎ (w ≡ why.Number)) → ⊥
+  no_reply : (s : State) (r : Reply) (w : AuditReason) → ReplyFails s r w → (w ≡ why.Opening) ⊎ ((w ≡ why.Chain) ⊎ (w ≡ why.Number)) → ⊥
   no_reply s Taken w f e = f
   no_reply s (Map m) why.Opening f e = f
   no_reply s (Map m) why.Chain f e = f
@@ -112,7 +112,7 @@ module _ (earlier : List PlacedChapter) (c : PlacedChapter) (opens : OpensLawful
   no_reply s (Map m) why.Bursts f (inr (inl e)) = absurd cc
   no_reply s (Map m) why.Bursts f (inr (inr e)) = absurd cc
 
-  fails_later : (w : Why) → FailsAt (chapter_of c.body) i w → ChapterFails earlier c i w
+  fails_later : (w : AuditReason) → FailsAt (chapter_of c.body) i w → ChapterFails earlier c i w
   fails_later why.Opening f = absurd (no_reply (state_before (chapter_of c.body) i) f.entry.reply why.Opening f.fails.1 (inl refl))
   fails_later why.Chain f = absurd (no_reply (state_before (chapter_of c.body) i) f.entry.reply why.Chain f.fails.1 (inr (inl refl)))
   fails_later why.Number f = absurd (no_reply (state_before (chapter_of c.body) i) f.entry.reply why.Number f.fails.1 (inr (inr refl)))
@@ -122,7 +122,7 @@ module _ (earlier : List PlacedChapter) (c : PlacedChapter) (opens : OpensLawful
   fails_later why.Bursts f = (opens, stands, f)
 
 -- a chapter after others is good, unless it fails
-module _ (earlier : List PlacedChapter) (c : PlacedChapter) (fit : All IsFitting c.body.entries) (sound : (i : ℕ) (w : Why) → ChapterFails earlier c i w → ⊥) (n : MayStandAfter earlier c → IsGoodChapter c → ⊥) where
+module _ (earlier : List PlacedChapter) (c : PlacedChapter) (fit : All IsFitting c.body.entries) (sound : (i : ℕ) (w : AuditReason) → ChapterFails earlier c i w → ⊥) (n : MayStandAfter earlier c → IsGoodChapter c → ⊥) where
   stands_good : OpensLawfully c.body → MayStandAfter earlier c → ⊥
   stands_good opens stands =
       entries_hold (chapter_of c.body) fit (λ i w f. sound i w (fails_later earlier c opens stands i w f)) (λ s k. n stands (ended c s k).good)

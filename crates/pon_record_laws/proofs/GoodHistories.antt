@@ -6,9 +6,9 @@ use Rattle.std.proofs.lemmas.List.{append-nil}
 use Rattle.std.proofs.lemmas.List.Elements.{All-nil, All-cons, All-head, All-tail}
 use Rattle.std.proofs.lemmas.List.Sums.{sum_by-cons}
 use Rattle.pon_state.specs.Replay.{makes_map}
-use Rattle.pon_port.specs.Chapters.{IsLawfulChapter, present_state}
-use Rattle.pon_port.proofs.FairMaps.{maps_are_fair}
-use Rattle.pon_port.proofs.WordRuns.{whole_runs}
+use Rattle.pon_history.specs.Chapters.{IsLawfulChapter, present_state}
+use Rattle.pon_history.proofs.FairMaps.{maps_are_fair}
+use Rattle.pon_history.proofs.WordRuns.{whole_runs}
 use Rattle.pon_record.specs.declared.limits.TheConstants.{MAGIC_BYTES}
 use Rattle.pon_record.specs.declared.version.Version.TheVariants.{Two}
 use Rattle.pon_record.specs.Chapters.{PlacedChapter, chapter_bytes, placed}

@@ -12,10 +12,10 @@ use Rattle.pon_descr.specs.declared.refusal.Refusal.TheVariants.{MaxBelowGuarant
 use Rattle.pon_descr.specs.Checks.{when}
 use Rattle.pon_descr.specs.Descriptor.{Descriptor, IsLawful, SuitsClass, class_refusal, descriptor_refusal, promised}
 use Rattle.pon_descr.proofs.Checks.{none_refuses, when_none}
-use Rattle.pon_event.specs.declared.event.Event.{Event}
-use Rattle.pon_event.specs.declared.event.Event.TheVariants.{Admit, Change, Remove, Report, MakeMap, Fail, Restore}
+use Rattle.pon_admit.specs.declared.event.Event.{Event}
+use Rattle.pon_admit.specs.declared.event.Event.TheVariants.{Admit, Change, Remove, Report, MakeMap, Fail, Restore}
 use Rattle.pon_state.specs.Events.{IsEvent, IsManaged}
-use Rattle.pon_state.specs.declared.reply.Entry.{Entry}
+use Rattle.pon_state.specs.Entry.{Entry}
 use Rattle.pon_record.specs.declared.version.Version.{Version}
 use Rattle.pon_record.specs.Fields.{alloc_id, descriptor, onu_id, unless_refused}
 use Rattle.pon_record.specs.Events.{event, occupancy}

@@ -14,7 +14,7 @@ use Rattle.pon_guar.proofs.Accounts.{account_is}
 use Rattle.pon_guar.proofs.RestoredParts.{account_any}
 use Rattle.pon_state.specs.State.{State}
 use Rattle.pon_state.specs.Accounts.{AccountsFor}
-use Rattle.pon_port.specs.Chapters.{Chapter, IsLawfulChapter, IsLawfulOpening}
+use Rattle.pon_history.specs.Chapters.{Chapter, IsLawfulChapter, IsLawfulOpening}
 use Rattle.pon_record.specs.Openings.{Opening}
 use Rattle.pon_recorder.specs.Bodies.{chapter_body, recorded_opening, recorded_row}
 use Rattle.pon_recorder.proofs.OneBody.{account_at, carries_back, rows_back}

@@ -1,9 +1,9 @@
 -- Chapters of ports in the order in which a recording has them.
 use Rattle.std.specs.Prelude.{ℕ, ◌≡◌, ◌<◌, ◌^◌, All, AllPairs, List, count_by, sum_by}
-use Rattle.pon_units.specs.declared.limits.TheConstants.{MOST_PORTS}
+use Rattle.pon_units.specs.declared.limits.TheConstants.{MAX_PORTS}
 use Rattle.pon_state.specs.Replay.{makes_map}
-use Rattle.pon_port.specs.Chapters.{Chapter, Follows, IsLawfulChapter}
-use Rattle.pon_port.specs.Ranges.{IsStateInRange}
+use Rattle.pon_history.specs.Chapters.{Chapter, Follows, IsLawfulChapter}
+use Rattle.pon_history.specs.Ranges.{IsStateInRange}
 use Rattle.pon_record.specs.Chapters.{Body}
 use Rattle.pon_recorder.specs.Bodies.{chapter_body}
 
@@ -18,7 +18,7 @@ body_of x = chapter_body x.port x.chapter
 
 -- a lawful chapter, from an opening in range, of a port that there may be
 pub record IsRecordable (x : PortChapter) : Type 0 where
-  pub numbered : x.port < MOST_PORTS
+  pub numbered : x.port < MAX_PORTS
   pub lawful : IsLawfulChapter x.chapter
   pub count : x.chapter.number < 2 ^ 64
   pub in_range : IsStateInRange x.chapter.opening

@@ -2,7 +2,7 @@
 
 ghost use Rattle.std.specs.Prelude.{◌≡◌, ℕ, Bool, List, Option, [], map};
 ghost use Rattle.pon_lists.specs.Bytes.{AreBytes};
-ghost use Rattle.pon_port.specs.Chapters.{Chapter, IsLawfulChapter};
+ghost use Rattle.pon_history.specs.Chapters.{Chapter, IsLawfulChapter};
 ghost use Rattle.pon_record.specs.declared.version.Version.{Version};
 ghost use Rattle.pon_record.specs.Recordings.{recording_bytes};
 ghost use Rattle.pon_recorder.specs.Bodies.{chapter_body};

@@ -2,7 +2,7 @@
 
 use crate::recordings::{RECORDING, bytes, bytes_again};
 use crate::streams::is_streamed;
-use pon_audit::{Verdict, Why, audit};
+use pon_audit::{AuditReason, Verdict, audit};
 use pon_record::migrate;
 use std::alloc::{AllocError, Global};
 use std::process::Abort;
@@ -250,7 +250,7 @@ enum Kind {
     Good,
     BadFormat,
     Truncated,
-    Bad(Why),
+    Bad(AuditReason),
 }
 
 fn is_kind(verdict: &Verdict, kind: Kind) -> bool {
@@ -280,13 +280,13 @@ static FLIPPED: [(&str, Kind, usize); 10] = [
     ("good", Kind::Good, 162),
     ("no recording", Kind::BadFormat, 1567),
     ("cut", Kind::Truncated, 27),
-    ("opening", Kind::Bad(Why::Opening), 68),
-    ("chain", Kind::Bad(Why::Chain), 0),
-    ("number", Kind::Bad(Why::Number), 0),
-    ("event", Kind::Bad(Why::Event), 232),
-    ("certificate", Kind::Bad(Why::Certificate), 0),
-    ("words", Kind::Bad(Why::Words), 2),
-    ("bursts", Kind::Bad(Why::Bursts), 278),
+    ("opening", Kind::Bad(AuditReason::Opening), 68),
+    ("chain", Kind::Bad(AuditReason::Chain), 0),
+    ("number", Kind::Bad(AuditReason::Number), 0),
+    ("event", Kind::Bad(AuditReason::Event), 232),
+    ("certificate", Kind::Bad(AuditReason::Certificate), 0),
+    ("words", Kind::Bad(AuditReason::Words), 2),
+    ("bursts", Kind::Bad(AuditReason::Bursts), 278),
 ];
 
 #[test]

@@ -2,8 +2,8 @@
 
 use crate::audit::is_told;
 use crate::writing::{admission, append, open_port, report, take};
+use pon_admit::Event;
 use pon_device::MemWrite;
-use pon_event::Event;
 use pon_port::Port;
 use pon_record::MAGIC_BYTES;
 use pon_recorder::RecordFile;

@@ -3,9 +3,9 @@
 
 use crate::audit::is_told;
 use crate::writing::{admission, append, open_port, take};
+use pon_admit::Event;
 use pon_descr::Cause;
 use pon_device::MemWrite;
-use pon_event::Event;
 use pon_port::{Chapter, Port};
 use pon_record::read_recording;
 use pon_recorder::RecordFile;

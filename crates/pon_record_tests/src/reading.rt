@@ -1,12 +1,12 @@
 //! Recordings of version one that are read.
 
 use crate::recordings::{bytes, bytes_again};
+use pon_admit::Event;
 use pon_bwmap::Alloc;
 use pon_cert::Level;
 use pon_descr::{Cause, Class};
-use pon_event::Event;
 use pon_record::{Opening, RawChapter, RawMap, ReadFault, Recording, read_recording};
-use pon_state::{MadeMap, Reply};
+use pon_state::{EntryRef, MadeMap};
 use pon_units::{BufOcc, Frac};
 use std::alloc::Global;
 use std::process::Abort;
@@ -101,16 +101,16 @@ pub(crate) fn chapter<'a>(rt: &impl Abort, recording: &'a Recording) -> &'a RawC
 
 // Returns the map of an entry.
 fn map(chapter: &RawChapter, index: usize) -> Option<&MadeMap> {
-    match &chapter.entries.as_slice().get(index)?.reply {
-        Reply::Map(made) => Some(made),
-        Reply::Taken => None,
+    match chapter.entries.as_slice().get(index)?.as_ref() {
+        EntryRef::Map(made) => Some(made),
+        EntryRef::Taken(_) => None,
     }
 }
 
 fn has_event(chapter: &RawChapter, index: usize, event: &Event) -> bool {
     match chapter.entries.as_slice().get(index) {
         None => false,
-        Some(entry) => entry.event == *event,
+        Some(entry) => entry.event() == *event,
     }
 }
 
@@ -231,8 +231,8 @@ fn reads_each_field(rt: HostRuntime) {
 fn has_report(chapter: &RawChapter) -> bool {
     let wanted = [None, BufOcc::new(16_777_215)];
     match chapter.entries.as_slice() {
-        [_, _, _, entry, ..] => match &entry.event {
-            Event::Report { frame, onu, occ } => {
+        [_, _, _, entry, ..] => match entry.as_ref() {
+            EntryRef::Taken(Event::Report { frame, onu, occ }) => {
                 frame.get() == 6 && onu.get() == 2 && occ.as_slice() == wanted.as_slice()
             }
             _ => false,

@@ -3,8 +3,7 @@
 use crate::audit::with;
 use crate::recordings::{RECORDING, bytes};
 use pon_audit::{Verdict, audit_from};
-use pon_device::MemRead;
-use pon_stream::PlanFault;
+use pon_device::{DeviceFault, MemRead};
 use std::alloc::Global;
 use std::process::Abort;
 use std::thread::Threads;
@@ -19,7 +18,7 @@ fn streamed(
     recording: &[u8],
     most: usize,
     failing: u64,
-) -> Result<Verdict, PlanFault> {
+) -> Result<Verdict, DeviceFault> {
     let bytes = Vec::from_slice(alloc, recording).expect(rt, "memory");
     let failing = vec![in alloc; failing; 1].expect(rt, "memory");
     let mut reader = MemRead::new(bytes, most.max(1), failing);
@@ -57,7 +56,7 @@ fn fails_in_each(
 ) -> bool {
     let recording = bytes(rt, alloc, RECORDING);
     for call in 0..calls {
-        if streamed(rt, alloc, &recording, most, call) != Err(PlanFault::Read) {
+        if streamed(rt, alloc, &recording, most, call) != Err(DeviceFault::Read) {
             return false;
         }
     }

@@ -27,7 +27,7 @@ fn has_carries(opening: &Opening, wanted: [u8; 2]) -> bool {
 fn reads_the_rule_and_the_carries(rt: HostRuntime) {
     let recording = recording(&rt, rt.alloc(), RULE_TWO);
     let chapter = chapter(&rt, &recording);
-    assert!(rt; chapter.port.get() == 63 && chapter.opening.rule == Rule::Two);
+    assert!(rt; chapter.port.get() == 63 && chapter.opening.rule == Rule::CarryRemainders);
     assert!(rt; has_carries(&chapter.opening, [255, 1]));
 }
 
@@ -35,7 +35,7 @@ fn reads_the_rule_and_the_carries(rt: HostRuntime) {
 fn reads_rule_one_in_version_two(rt: HostRuntime) {
     let recording = recording(&rt, rt.alloc(), RECORDING_TWO);
     let chapter = chapter(&rt, &recording);
-    assert!(rt; chapter.opening.rule == Rule::One && chapter.entries.len() == 7);
+    assert!(rt; chapter.opening.rule == Rule::DropRemainders && chapter.entries.len() == 7);
 }
 
 // Place and new value of a byte of `RULE_TWO`, and the verdict.

@@ -1,10 +1,10 @@
 //! Recordings on devices over memory, with ample memory.
 
 use crate::recordings::{RECORDING_TWO, bytes, bytes_again};
+use pon_admit::Event;
 use pon_dbru::Occupancies;
 use pon_descr::{Class, Descriptor};
 use pon_device::MemWrite;
-use pon_event::Event;
 use pon_port::{Chapter, Port, PortCfg};
 use pon_record::{Version, read_recording};
 use pon_recorder::{RecordFault, RecordFile};

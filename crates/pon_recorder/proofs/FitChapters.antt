@@ -8,20 +8,20 @@ use Rattle.std.proofs.lemmas.List.Elements.{All-from_recursion}
 use Rattle.pon_descr.specs.declared.refusal.Refusal.TheVariants.{ChapterFull, FrameLimit}
 use Rattle.pon_descr.proofs.Checks.{or_else_none, when_none}
 use Rattle.pon_admit.specs.Roster.{IsAdmitted}
-use Rattle.pon_share.specs.Carries.{AreCarries}
-use Rattle.pon_event.specs.declared.event.Event.{Event}
-use Rattle.pon_event.specs.declared.event.Event.TheVariants.{Admit, Change, Remove, Report, MakeMap, Fail, Restore}
+use Rattle.pon_demand.specs.Carries.{AreCarries}
+use Rattle.pon_admit.specs.declared.event.Event.{Event}
+use Rattle.pon_admit.specs.declared.event.Event.TheVariants.{Admit, Change, Remove, Report, MakeMap, Fail, Restore}
 use Rattle.pon_state.specs.State.{State}
 use Rattle.pon_state.specs.Checks.{at_limit, first_refusal, refuses, when_down, when_full}
 use Rattle.pon_state.specs.Legal.{IsReply, MayFollow}
-use Rattle.pon_state.specs.declared.reply.Entry.{Entry}
+use Rattle.pon_state.specs.Entry.{Entry}
 use Rattle.pon_state.specs.declared.reply.Reply.{Reply}
 use Rattle.pon_state.specs.declared.reply.Reply.TheVariants.{Taken, Map}
-use Rattle.pon_port.specs.Chapters.{Chapter, IsLawfulChapter, state_before}
-use Rattle.pon_port.specs.Ranges.{IsStateInRange}
-use Rattle.pon_port.specs.FairMaps.{TellsFairMap}
-use Rattle.pon_port.proofs.FairMaps.{maps_are_fair}
-use Rattle.pon_port.proofs.LawfulChapters.{admitted_before, carries_before}
+use Rattle.pon_history.specs.Chapters.{Chapter, IsLawfulChapter, state_before}
+use Rattle.pon_history.specs.Ranges.{IsStateInRange}
+use Rattle.pon_history.specs.FairMaps.{TellsFairMap}
+use Rattle.pon_history.proofs.FairMaps.{maps_are_fair}
+use Rattle.pon_history.proofs.LawfulChapters.{admitted_before, carries_before}
 use Rattle.pon_record.specs.declared.version.Version.TheVariants as version
 use Rattle.pon_record.specs.Chapters.{FitsChapter, body_in, entry, reply_to}
 use Rattle.pon_record.proofs.Sizes.{body_fits_length}

@@ -11,10 +11,10 @@ use Rattle.pon_descr.specs.declared.refusal.Refusal.TheVariants.{AlreadyReported
 use Rattle.pon_descr.specs.Checks.{when}
 use Rattle.pon_descr.specs.Descriptor.{Descriptor, IsLawful, SuitsClass, class_refusal, descriptor_refusal, promised}
 use Rattle.pon_descr.proofs.Checks.{none_refuses, or_else_none, when_none}
-use Rattle.pon_window.specs.Window.{WindowMap, grants_at, is_of}
-use Rattle.pon_window.specs.Reports.{refuses_report}
-use Rattle.pon_event.specs.declared.event.Event.{Event}
-use Rattle.pon_event.specs.declared.event.Event.TheVariants.{Admit, Change, Remove, Report, MakeMap, Fail, Restore}
+use Rattle.pon_guar.specs.Window.{WindowMap, grants_at, is_of}
+use Rattle.pon_guar.specs.ReportChecks.{refuses_report}
+use Rattle.pon_admit.specs.declared.event.Event.{Event}
+use Rattle.pon_admit.specs.declared.event.Event.TheVariants.{Admit, Change, Remove, Report, MakeMap, Fail, Restore}
 use Rattle.pon_state.specs.State.{State}
 use Rattle.pon_state.specs.Checks.{first_refusal, when_down, when_full}
 use Rattle.pon_state.specs.Events.{IsEvent}

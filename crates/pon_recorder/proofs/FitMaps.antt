@@ -18,17 +18,17 @@ use Rattle.pon_bwmap.proofs.SeriesLaw.{map_rules}
 use Rattle.pon_burst.specs.Maps.{grant, map_granting, structure_of as structure_granting}
 use Rattle.pon_burst.proofs.MapRules.{is_map_of_rising}
 use Rattle.pon_admit.specs.declared.row.Row.{Row}
-use Rattle.pon_admit.specs.Roster.{IsAdmitted, IsInRange, most_carry}
-use Rattle.pon_share.specs.Carries.{AreCarries}
-use Rattle.pon_share.proofs.Carries.{carry_within}
-use Rattle.pon_share.specs.Input.{Input}
-use Rattle.pon_share.specs.Packing.{AreOneMap}
-use Rattle.pon_share.specs.Rates.{granted, payload}
-use Rattle.pon_share.specs.Sharing.{surplus_rate}
-use Rattle.pon_share.proofs.RosterMaps.{one_map}
+use Rattle.pon_admit.specs.Roster.{IsAdmitted, IsInRange, max_carry}
+use Rattle.pon_demand.specs.Carries.{AreCarries}
+use Rattle.pon_demand.proofs.Carries.{carry_within}
+use Rattle.pon_demand.specs.Input.{Input}
+use Rattle.pon_demand.specs.Packing.{AreOneMap}
+use Rattle.pon_demand.specs.Rates.{planned_grants, payload}
+use Rattle.pon_demand.specs.Sharing.{surplus_rate}
+use Rattle.pon_demand.proofs.RosterMaps.{one_map}
 use Rattle.pon_state.specs.State.{State, carry_at, input_of}
 use Rattle.pon_state.specs.declared.reply.MadeMap.{MadeMap}
-use Rattle.pon_port.specs.FairMaps.{IsFairMap}
+use Rattle.pon_history.specs.FairMaps.{IsFairMap}
 use Rattle.pon_record.specs.MadeMaps.{head, head_code, made_map, start_of, structure, structure_code, structure_of}
 use Rattle.pon_record.proofs.MapRules.{passes}
 use Rattle.pon_recorder.proofs.FitCerts.{class_cert_fits}
@@ -137,8 +137,8 @@ ids_fit s surplus carry (r ∷ rows) a = (a.0.alloc_id, ids_fit s surplus carry 
 pub made_fits : (s : State) (made : MadeMap) → IsAdmitted s.rule s.gap s.roster → AreCarries s.rule s.roster s.carries → s.profile ≤ 3 → s.next < 2 ^ 64 → IsFairMap s made → made_map.Fits made
 made_fits s made k carries p next f =
     let t : Input = input_of s in
-    let gs : List Granted = granted t (surplus_rate t made.cert) (carry_at s) in
-    let one : AreOneMap s.gap gs = one_map t made.cert (carry_at s) k f.certificate (λ r. carry_within (most_carry s.rule) s.roster s.carries r.alloc_id carries.range) in
+    let gs : List Granted = planned_grants t (surplus_rate t made.cert) (carry_at s) in
+    let one : AreOneMap s.gap gs = one_map t made.cert (carry_at s) k f.certificate (λ r. carry_within (max_carry s.rule) s.roster s.carries r.alloc_id carries.range) in
     let m : IsMap (map_granting s.gap s.profile gs) = is_map_of_rising s.gap s.profile gs one.in_map_order one.short_series one.few one.fitting in
     let grants : sum_by grant gs ≤ 9720 = omega (arith, one.fitting) in
     let each = rest_fits s.gap s.profile gs gs p (ids_fit t (surplus_rate t made.cert) (carry_at s) s.roster (recursion_from_All IsInRange s.roster k.in_range)) (each_below grant gs 9720 grants) in

@@ -12,15 +12,15 @@ use Rattle.pon_lists.specs.Distinct.{distinct}
 use Rattle.pon_admit.specs.declared.row.Row.{Row}
 use Rattle.pon_admit.specs.declared.rule.Rule.{Rule}
 use Rattle.pon_admit.specs.declared.rule.Rule.TheVariants as rule
-use Rattle.pon_admit.specs.Roster.{IsInRange, most_allocs, most_carry, rule_in_force}
+use Rattle.pon_admit.specs.Roster.{IsInRange, max_allocs, max_carry, rule_in_force}
 use Rattle.pon_guar.specs.declared.account.Account.{Account}
 use Rattle.pon_guar.specs.declared.account.Counted.{Counted}
 use Rattle.pon_guar.specs.Book.{account_of, known_report, since_of_account}
-use Rattle.pon_window.specs.Window.{IsLawfulMap, WindowMap, onus_polled}
-use Rattle.pon_window.proofs.Frames.{leads_below}
+use Rattle.pon_guar.specs.Window.{IsLawfulMap, WindowMap, onus_polled}
+use Rattle.pon_guar.proofs.Frames.{leads_below}
 use Rattle.pon_state.specs.State.{State}
-use Rattle.pon_port.specs.Chapters.{AccountIsLawful, CountedIsLawful, IsLawfulOpening}
-use Rattle.pon_port.specs.Ranges.{AreGrantsInRange, IsGrantInRange, IsStateInRange}
+use Rattle.pon_history.specs.Chapters.{AccountIsLawful, CountedIsLawful, IsLawfulOpening}
+use Rattle.pon_history.specs.Ranges.{AreGrantsInRange, IsGrantInRange, IsStateInRange}
 use Rattle.pon_record.specs.declared.version.Version.TheVariants as version
 use Rattle.pon_record.specs.Fields.{carry_in, failure, onu_id, report, rule_in}
 use Rattle.pon_record.specs.Openings.{grant, opening_in, row_in, window_map_under}
@@ -71,25 +71,25 @@ accounts_fit s n l w i d lt =
     let lawful : AccountIsLawful s a = l i d lt in
     (omega (arith, lawful.since, n), counted_fits s a a.counted n lawful.counted (w i d lt))
 
-small_carries : (r : Rule) → most_carry r ≤ 255
-small_carries rule.One = omega arith
-small_carries rule.Two = omega arith
+small_carries : (r : Rule) → max_carry r ≤ 255
+small_carries rule.DropRemainders = omega arith
+small_carries rule.CarryRemainders = omega arith
 
-carry_fits : (r : Rule) (n : ℕ) → n ≤ most_carry r → (carry_in version.Two r).Fits n
-carry_fits r n le = (omega (arith, le, small_carries r), passes (λ (k : ℕ). leb k (most_carry r)) n (le-leb n (most_carry r) le))
+carry_fits : (r : Rule) (n : ℕ) → n ≤ max_carry r → (carry_in version.Two r).Fits n
+carry_fits r n le = (omega (arith, le, small_carries r), passes (λ (k : ℕ). leb k (max_carry r)) n (le-leb n (max_carry r) le))
 
-row_fits : (rule : Rule) (book : List Account) (r : Row) (carry : ℕ) → All FitsAccount book → IsInRange r → carry ≤ most_carry rule → (row_in version.Two rule).Fits (recorded_row book (r, carry))
+row_fits : (rule : Rule) (book : List Account) (r : Row) (carry : ℕ) → All FitsAccount book → IsInRange r → carry ≤ max_carry rule → (row_in version.Two rule).Fits (recorded_row book (r, carry))
 row_fits rule book r carry h k le =
     let known : FitsKnown (account_of book r.alloc_id) = known_fits book r.alloc_id h in
     ((onu_fits r.onu k.onu, (alloc_fits r.alloc_id k.managed k.alloc_id, (descriptor_fits r.descriptor k.descriptor, (known.0, (known.1, carry_fits rule carry le))))), refl)
 
-rows_fit : (rule : Rule) (book : List Account) (rows : List Row) (carries : List ℕ) → All FitsAccount book → All IsInRange rows → All (λ c. c ≤ most_carry rule) carries
+rows_fit : (rule : Rule) (book : List Account) (rows : List Row) (carries : List ℕ) → All FitsAccount book → All IsInRange rows → All (λ c. c ≤ max_carry rule) carries
     → AllByRecursion (row_in version.Two rule).Fits (map (recorded_row book) (zip rows carries))
 rows_fit rule book [] carries h k l = tt
 rows_fit rule book (r ∷ rows) [] h k l = tt
 rows_fit rule book (r ∷ rows) (c ∷ carries) h k l = (
-  row_fits rule book r c h (All-head IsInRange r rows k) (All-head (λ c. c ≤ most_carry rule) c carries l),
-  rows_fit rule book rows carries h (All-tail IsInRange r rows k) (All-tail (λ c. c ≤ most_carry rule) c carries l),
+  row_fits rule book r c h (All-head IsInRange r rows k) (All-head (λ c. c ≤ max_carry rule) c carries l),
+  rows_fit rule book rows carries h (All-tail IsInRange r rows k) (All-tail (λ c. c ≤ max_carry rule) c carries l),
 )
 
 -- ---- maps of the window
@@ -119,7 +119,7 @@ module _ (m : WindowMap) (g : AreGrantsInRange m.grants) (l : IsLawfulMap m) whe
   pub counts_fit : FitsWindowMap m
   counts_fit = record { grants = omega (arith, g.few, few_allocs rule_in_force); reported = omega (arith, few_reported) }
 
-  map_fits : (r : Rule) → length m.grants ≤ most_allocs r → m.frame < 2 ^ 64 → (window_map_under r).Fits m
+  map_fits : (r : Rule) → length m.grants ≤ max_allocs r → m.frame < 2 ^ 64 → (window_map_under r).Fits m
   map_fits r few lt = (
     (
       lt,
@@ -145,7 +145,7 @@ module _ (n : ℕ) (s : State) (l : IsLawfulOpening n s) (h : IsStateInRange s) 
   maps_fit i d lt =
       let m : WindowMap = get_or s.window i d in
       let below : m.frame < s.next = leads_below s.next s.window l.frames i d lt in
-      let few : length m.grants ≤ most_allocs s.rule = subst (λ r. length m.grants ≤ most_allocs r) (sym h.rule) (h.maps i d lt).few in
+      let few : length m.grants ≤ max_allocs s.rule = subst (λ r. length m.grants ≤ max_allocs r) (sym h.rule) (h.maps i d lt).few in
       map_fits m (h.maps i d lt) (l.maps i d lt) s.rule few (omega (arith, below, l.numbers.next))
 
   pub opening_fits : (opening_in version.Two s.rule).Fits (recorded_opening s)
@@ -153,7 +153,7 @@ module _ (n : ℕ) (s : State) (l : IsLawfulOpening n s) (h : IsStateInRange s) 
       let pairs = zip s.roster s.carries in
       let many : length (map (recorded_row s.book) pairs) ≡ length s.roster
       = omega (arith, length-map pairs (recorded_row s.book), length-zip s.roster s.carries, l.carries.count) in
-      let few : length s.roster ≤ most_allocs s.rule = l.admitted.few_allocs in (
+      let few : length s.roster ≤ max_allocs s.rule = l.admitted.few_allocs in (
         (
           (omega (arith, l.numbers.longest_gap), passes (λ (n : ℕ). leb 1 n && leb n 256) s.gap (between 1 s.gap 256 l.numbers.shortest_gap l.numbers.longest_gap)),
           (
@@ -181,5 +181,5 @@ module _ (n : ℕ) (s : State) (l : IsLawfulOpening n s) (h : IsStateInRange s) 
       )
 
 pub rule_fits : (r : Rule) → (rule_in version.Two).Fits r
-rule_fits rule.One = (omega arith, refl)
-rule_fits rule.Two = (omega arith, refl)
+rule_fits rule.DropRemainders = (omega arith, refl)
+rule_fits rule.CarryRemainders = (omega arith, refl)

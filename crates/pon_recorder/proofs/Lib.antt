@@ -1,10 +1,13 @@
-mod FitCerts
-mod FitChapters
-mod FitEvents
-mod FitMaps
-mod FitOpenings
+pub mod FitCerts
+pub mod FitChapters
+pub mod FitEvents
+pub mod FitMaps
+pub mod FitOpenings
 pub mod OneBody
-mod Put
-mod PutLists
+pub mod Put
+pub mod PutLists
 pub mod ReadBack
-mod Recording
+pub mod RecordedBytes
+pub mod Recordings
+pub mod RingEnds
+pub mod Whole

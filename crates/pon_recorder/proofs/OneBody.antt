@@ -11,7 +11,7 @@ use Rattle.pon_guar.specs.Book.{AreRising, account_of, alloc_ids, known_report, 
 use Rattle.pon_guar.proofs.Accounts.{accounts_all, found_each}
 use Rattle.pon_state.specs.State.{State}
 use Rattle.pon_state.specs.Accounts.{AccountsFor}
-use Rattle.pon_port.specs.Chapters.{Chapter, IsLawfulChapter, IsLawfulOpening}
+use Rattle.pon_history.specs.Chapters.{Chapter, IsLawfulChapter, IsLawfulOpening}
 use Rattle.pon_record.specs.declared.row.RawRow.{RawRow}
 use Rattle.pon_recorder.specs.Bodies.{chapter_body, recorded_opening, recorded_row}
 

@@ -5,8 +5,8 @@ use Rattle.std.proofs.lemmas.List.{take_at}
 use Rattle.pon_bwmap.specs.MapBytes.{map_bytes}
 use Rattle.pon_bwmap.specs.Alloc.{Alloc}
 use Rattle.pon_bwmap.proofs.ReadsBack.{map_length}
-use Rattle.pon_event.specs.declared.event.Event.{Event}
-use Rattle.pon_event.specs.declared.event.Event.TheVariants.{Admit, Change, Remove, Report, MakeMap, Fail, Restore}
+use Rattle.pon_admit.specs.declared.event.Event.{Event}
+use Rattle.pon_admit.specs.declared.event.Event.TheVariants.{Admit, Change, Remove, Report, MakeMap, Fail, Restore}
 use Rattle.pon_record.specs.Events.{event}
 use Rattle.pon_record.specs.MadeMaps.{map}
 use Rattle.pon_recorder.specs.EventParts.{event_fields, event_tag}

@@ -38,9 +38,9 @@ zip_at (a ∷ xs) (b ∷ ys) (suc i) x y e f = zip_at xs ys i x y e f
 -- the bytes of rows with their accounts and carries are those of the recorded rows
 pub rows_written : (book : List Account) (rows : List Row) (carries : List ℕ) → length carries ≡ length rows →
     to_be_bytes w16 (length rows) ++ flat_map (row_bytes book) (zip rows carries)
-    ≡ to_be_bytes w16 (length (map (recorded_row book) (zip rows carries))) ++ flat_map (row_in version.Two rule.Two).write (map (recorded_row book) (zip rows carries))
+    ≡ to_be_bytes w16 (length (map (recorded_row book) (zip rows carries))) ++ flat_map (row_in version.Two rule.CarryRemainders).write (map (recorded_row book) (zip rows carries))
 rows_written book rows carries same =
     let pairs = zip rows carries in
     let count : length rows ≡ length (map (recorded_row book) pairs) = omega (arith, length-map pairs (recorded_row book), length-zip rows carries, same) in
-    let each : flat_map (row_bytes book) pairs ≡ flat_map (row_in version.Two rule.Two).write (map (recorded_row book) pairs) = sym (flat_map-map (row_in version.Two rule.Two).write (recorded_row book) pairs) in
+    let each : flat_map (row_bytes book) pairs ≡ flat_map (row_in version.Two rule.CarryRemainders).write (map (recorded_row book) pairs) = sym (flat_map-map (row_in version.Two rule.CarryRemainders).write (recorded_row book) pairs) in
     (λ i. to_be_bytes w16 (count i) ++ each i)

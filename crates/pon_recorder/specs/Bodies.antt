@@ -2,19 +2,19 @@
 use Rattle.std.specs.Prelude.{◌≡◌, ℕ, ◌<◌, ◌≤◌, ◌^◌, ◌++◌, All, List, length, map}
 use Rattle.std.specs.Int.{w64, to_be_bytes}
 use Rattle.std.specs.List.{zip}
-use Rattle.pon_units.specs.declared.limits.TheConstants.{MOST_PORTS, MOST_STRUCTURES}
+use Rattle.pon_units.specs.declared.limits.TheConstants.{MAX_PORTS, MAX_STRUCTURES}
 use Rattle.pon_cert.specs.Texts.{FitsCert}
 use Rattle.pon_admit.specs.declared.row.Row.{Row}
 use Rattle.pon_admit.specs.declared.rule.Rule.TheVariants as rule
 use Rattle.pon_guar.specs.declared.account.Account.{Account}
 use Rattle.pon_guar.specs.Book.{account_of, known_report, since_of_account}
-use Rattle.pon_window.specs.Window.{WindowMap}
+use Rattle.pon_guar.specs.Window.{WindowMap}
 use Rattle.pon_state.specs.State.{State}
 use Rattle.pon_state.specs.declared.reply.Reply.{Reply}
 use Rattle.pon_state.specs.declared.reply.Reply.TheVariants.{Taken, Map}
-use Rattle.pon_port.specs.Chapters.{Chapter, IsLawfulChapter}
-use Rattle.pon_port.specs.Ranges.{IsStateInRange}
-use Rattle.pon_record.specs.declared.limits.TheConstants.{MOST_REPORTED}
+use Rattle.pon_history.specs.Chapters.{Chapter, IsLawfulChapter}
+use Rattle.pon_history.specs.Ranges.{IsStateInRange}
+use Rattle.pon_record.specs.declared.limits.TheConstants.{MAX_REPORTED}
 use Rattle.pon_record.specs.declared.row.RawRow.{RawRow}
 use Rattle.pon_record.specs.declared.version.Version.TheVariants as version
 use Rattle.pon_record.specs.Fields.{failure, gap, profile}
@@ -34,7 +34,7 @@ recorded_row book x = record {
 
 -- the bytes of such a row; they are the same under each rule
 abbrev pub row_bytes : List Account → Row × ℕ → List ℕ
-row_bytes book x = (row_in version.Two rule.Two).write (recorded_row book x)
+row_bytes book x = (row_in version.Two rule.CarryRemainders).write (recorded_row book x)
 
 -- the opening of a chapter
 abbrev pub recorded_opening : State → Opening
@@ -57,7 +57,7 @@ chapter_body port c = record { port = port; number = c.number; opening = recorde
 pub record IsOfPort (b : Body) : Type 0 where
   pub port : ℕ
   pub chapter : Chapter
-  pub numbered : port < MOST_PORTS
+  pub numbered : port < MAX_PORTS
   pub lawful : IsLawfulChapter chapter
   pub count : chapter.number < 2 ^ 64
   pub in_range : IsStateInRange chapter.opening
@@ -70,12 +70,12 @@ HoldsFittingCert (Map made) = FitsCert made.cert
 
 -- the counts of a map of the window fit the format
 pub record FitsWindowMap (m : WindowMap) : Type 0 where
-  pub grants : length m.grants ≤ MOST_STRUCTURES
-  pub reported : length m.reported ≤ MOST_REPORTED
+  pub grants : length m.grants ≤ MAX_STRUCTURES
+  pub reported : length m.reported ≤ MAX_REPORTED
 
 -- the counts of an opening fit the format
 pub record FitsCounts (s : State) : Type 0 where
-  pub rows : length s.roster ≤ MOST_STRUCTURES
+  pub rows : length s.roster ≤ MAX_STRUCTURES
   pub carries : length s.carries ≡ length s.roster
   pub maps : All FitsWindowMap s.window
 

@@ -1,7 +1,7 @@
 -- An event in two parts: its tag, and the fields after it.
 use Rattle.std.specs.Prelude.{ℕ, List, []}
-use Rattle.pon_event.specs.declared.event.Event.{Event}
-use Rattle.pon_event.specs.declared.event.Event.TheVariants.{Admit, Change, Remove, Report, MakeMap, Fail, Restore}
+use Rattle.pon_admit.specs.declared.event.Event.{Event}
+use Rattle.pon_admit.specs.declared.event.Event.TheVariants.{Admit, Change, Remove, Report, MakeMap, Fail, Restore}
 use Rattle.pon_record.specs.Fields.{alloc_id, cause}
 use Rattle.pon_record.specs.Events.{admit_fields, change_fields, report_fields}
 

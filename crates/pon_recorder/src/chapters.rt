@@ -8,7 +8,7 @@ ghost use Rattle.pon_recorder.specs.Bodies.{chapter_body};
 use crate::entries::put_entries;
 use crate::fields::{put_port, put_rule, put_u64};
 use crate::openings::put_opening;
-use pon_port::Chapter;
+use pon_history::Chapter;
 use pon_record::CHAPTER_TAG;
 use pon_units::PortNo;
 use std::alloc::{AllocError, Global};
@@ -31,7 +31,7 @@ fn put_body(bytes: &mut Vec<u8>, port: PortNo, chapter: &Chapter) -> Result<(), 
 }
 
 // Proves that a chapter of a port fits the format. Computes nothing.
-fn chapter_fits(port: PortNo, chapter: &Chapter)
+fn prove_fits(port: PortNo, chapter: &Chapter)
     ensures { FitsChapter Version.Two (chapter_body port chapter.now) }
 {
     let _port = port.get();
@@ -49,7 +49,7 @@ pub(crate) fn chapter_bytes(
     ensures { IfOk result (λ bytes. bytes.items
         ≡ chapter_bytes Version.Two (chapter_body port chapter.now)) }
 {
-    chapter_fits(port, chapter);
+    prove_fits(port, chapter);
     let mut bytes = Vec::from_slice(alloc, &HEAD)?;
     put_body(&mut bytes, port, chapter)?;
     let size = (bytes.len() - HEAD.len()) as u32;

@@ -3,10 +3,10 @@
 ghost use Rattle.std.specs.Prelude.{◌≡◌, ◌≤◌, ◌++◌, All, OnOk, length};
 ghost use Rattle.std.specs.Int.{w32};
 ghost use Rattle.std.specs.List.{flat_map};
-ghost use Rattle.pon_state.specs.declared.checks.TheConstants.{MOST_ENTRIES};
+ghost use Rattle.pon_state.specs.declared.checks.TheConstants.{MAX_ENTRIES};
 ghost use Rattle.pon_record.specs.Format.{counted, number};
 ghost use Rattle.pon_record.specs.Events.{admit_fields, change_fields, event, occupancies, occupancy, report_fields};
-ghost use Rattle.pon_record.specs.Chapters.{entry, map_reply, reply_to};
+ghost use Rattle.pon_record.specs.Chapters.{entry};
 ghost use Rattle.pon_recorder.specs.Bodies.{HoldsFittingCert};
 ghost use Rattle.pon_recorder.specs.EventParts.{event_fields, event_tag};
 
@@ -14,10 +14,10 @@ use crate::fields::{
     put_alloc_id, put_descriptor, put_frame, put_occupancy, put_onu, put_u8, put_u32,
 };
 use crate::made::put_made;
+use pon_admit::Event;
 use pon_dbru::Occupancies;
 use pon_descr::Descriptor;
-use pon_event::Event;
-use pon_state::{Entry, Reply};
+use pon_state::{Entry, EntryRef};
 use pon_units::{AllocId, BufOcc, FrameNo, OnuId};
 use std::alloc::AllocError;
 
@@ -128,36 +128,18 @@ fn put_event(bytes: &mut Vec<u8>, value: &Event) -> Result<(), AllocError>
     Ok(())
 }
 
-// Appends the reply to MakeMap.
-fn put_map_reply(bytes: &mut Vec<u8>, reply: &Reply) -> Result<(), AllocError>
-    requires { HoldsFittingCert reply.now }
-    ensures { OnOk result (bytes.new.items ≡ bytes.old.items ++ map_reply.write reply.now) }
-{
-    match reply {
-        Reply::Map(made) => put_made(bytes, made),
-        Reply::Taken => Ok(()),
-    }
-}
-
-// Appends the reply to an event.
-fn put_reply(bytes: &mut Vec<u8>, event: &Event, reply: &Reply) -> Result<(), AllocError>
-    requires { HoldsFittingCert reply.now }
-    ensures { OnOk result (bytes.new.items
-        ≡ bytes.old.items ++ (reply_to event.now).write reply.now) }
-{
-    match event {
-        Event::MakeMap => put_map_reply(bytes, reply),
-        _ => Ok(()),
-    }
-}
-
+// Appends an event, and its map if it got one.
 fn put_entry(bytes: &mut Vec<u8>, value: &Entry) -> Result<(), AllocError>
     requires { HoldsFittingCert value.now.reply }
     ensures { OnOk result (bytes.new.items ≡ bytes.old.items ++ entry.write value.now) }
 {
-    put_event(bytes, &value.event)?;
-    put_reply(bytes, &value.event, &value.reply)?;
-    Ok(())
+    match value.as_ref() {
+        EntryRef::Taken(event) => put_event(bytes, event),
+        EntryRef::Map(made) => {
+            put_event(bytes, &Event::MakeMap)?;
+            put_made(bytes, made)
+        }
+    }
 }
 
 fn put_all(bytes: &mut Vec<u8>, values: &[Entry]) -> Result<(), AllocError>
@@ -173,10 +155,10 @@ fn put_all(bytes: &mut Vec<u8>, values: &[Entry]) -> Result<(), AllocError>
 
 /// Appends the number of the entries, and the entries.
 pub(crate) fn put_entries(bytes: &mut Vec<u8>, values: &[Entry]) -> Result<(), AllocError>
-    requires few { length values.now ≤ MOST_ENTRIES }
+    requires few { length values.now ≤ MAX_ENTRIES }
     requires certs { All (λ e. HoldsFittingCert e.reply) values.now }
     ensures { OnOk result (bytes.new.items
-        ≡ bytes.old.items ++ (counted (number w32) MOST_ENTRIES entry).write values.now) }
+        ≡ bytes.old.items ++ (counted (number w32) MAX_ENTRIES entry).write values.now) }
 {
     put_u32(bytes, values.len() as u32)?;
     put_all(bytes, values)?;

@@ -41,8 +41,8 @@ fn rule_code(rule: Rule) -> u8
     ensures { result ≡ rule_code rule }
 {
     match rule {
-        Rule::One => 1,
-        Rule::Two => 2,
+        Rule::DropRemainders => 1,
+        Rule::CarryRemainders => 2,
     }
 }
 

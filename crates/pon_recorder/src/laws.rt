@@ -1,10 +1,10 @@
 //! Laws on the recordings of ports, stated over the definitions alone.
 
-ghost use Rattle.std.specs.Prelude.{◌≡◌, ◌<◌, ◌^◌, ℕ, List, length};
+ghost use Rattle.std.specs.Prelude.{◌≡◌, ◌<◌, ◌^◌, ℕ, List};
 ghost use Rattle.std.specs.List.{AllByRecursion};
-ghost use Rattle.pon_units.specs.declared.limits.TheConstants.{MOST_PORTS};
-ghost use Rattle.pon_port.specs.Chapters.{Chapter, IsLawfulChapter};
-ghost use Rattle.pon_port.specs.Ranges.{IsStateInRange};
+ghost use Rattle.pon_units.specs.declared.limits.TheConstants.{MAX_PORTS};
+ghost use Rattle.pon_history.specs.Chapters.{Chapter, IsLawfulChapter};
+ghost use Rattle.pon_history.specs.Ranges.{IsStateInRange};
 ghost use Rattle.pon_record.specs.declared.limits.TheConstants.{MAGIC_BYTES};
 ghost use Rattle.pon_record.specs.declared.fault.ReadFault.{ReadFault};
 ghost use Rattle.pon_record.specs.declared.version.Version.{Version};
@@ -15,7 +15,7 @@ ghost use Rattle.pon_recorder.specs.Bodies.{IsOfPort, chapter_body};
 /// A lawful chapter of a port, from an opening in range, fits version two of the format: each field is in its range, and
 /// the body is shorter than 2^32 bytes.
 pub fn chapters_fit_the_format()
-    ensures { (port : ℕ) (c : Chapter) → port < MOST_PORTS → IsLawfulChapter c
+    ensures { (port : ℕ) (c : Chapter) → port < MAX_PORTS → IsLawfulChapter c
         → c.number < 2 ^ 64 → IsStateInRange c.opening → FitsChapter Version.Two (chapter_body port c) }
 {}
 

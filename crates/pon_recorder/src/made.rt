@@ -8,18 +8,18 @@ use crate::fields::put_frame;
 use pon_bwmap::{Map, write_map};
 use pon_cert::MapCert;
 use pon_state::MadeMap;
-use pon_units::MOST_STRUCTURES;
+use pon_units::MAX_STRUCTURES;
 use std::alloc::AllocError;
 
 /// Number of bytes of the longest map, one of 512 structures.
-const LONGEST_MAP: usize = 4100;
+const MAX_MAP_BYTES: usize = 4100;
 
 fn put_map(bytes: &mut Vec<u8>, value: &Map) -> Result<(), AllocError>
     ensures { OnOk result (bytes.new.items ≡ bytes.old.items ++ map.write value.now) }
 {
     let rows = value.rows();
-    prove!(rows.len() <= MOST_STRUCTURES);
-    let mut room = [0; LONGEST_MAP];
+    prove!(rows.len() <= MAX_STRUCTURES);
+    let mut room = [0; MAX_MAP_BYTES];
     let size = write_map(value, &mut room);
     bytes.extend_from_slice(&room[..size])?;
     Ok(())

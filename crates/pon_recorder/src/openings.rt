@@ -3,26 +3,25 @@
 ghost use Rattle.std.specs.Prelude.{◌≡◌, ◌≤◌, ◌++◌, All, OnOk, length};
 ghost use Rattle.std.specs.Int.{to_be_bytes, w8, w16};
 ghost use Rattle.std.specs.List.{flat_map, zip};
-ghost use Rattle.pon_units.specs.declared.limits.TheConstants.{MOST_STRUCTURES};
+ghost use Rattle.pon_units.specs.declared.limits.TheConstants.{MAX_STRUCTURES};
 ghost use Rattle.pon_admit.specs.declared.rule.Rule.{Rule};
 ghost use Rattle.pon_guar.specs.Book.{account_of, since_of_account};
-ghost use Rattle.pon_window.specs.declared.window.TheConstants.{MOST_MAPS};
-ghost use Rattle.pon_record.specs.declared.limits.TheConstants.{MOST_REPORTED};
+ghost use Rattle.pon_guar.specs.declared.window.TheConstants.{MAX_MAPS};
+ghost use Rattle.pon_record.specs.declared.limits.TheConstants.{MAX_REPORTED};
 ghost use Rattle.pon_record.specs.declared.version.Version.{Version};
 ghost use Rattle.pon_record.specs.Fields.{onu_id, report};
 ghost use Rattle.pon_record.specs.Format.{counted, number};
-ghost use Rattle.pon_record.specs.Openings.{grant, opening_in, row_in, window_map_under};
-ghost use Rattle.pon_recorder.specs.Bodies.{FitsCounts, FitsWindowMap, head_bytes, recorded_opening, recorded_row, row_bytes};
+ghost use Rattle.pon_record.specs.Openings.{grant, opening_in, window_map_under};
+ghost use Rattle.pon_recorder.specs.Bodies.{FitsCounts, FitsWindowMap, head_bytes, recorded_opening, row_bytes};
 
 use crate::fields::{
     put_alloc_id, put_descriptor, put_failure, put_frame, put_gap, put_onu, put_profile, put_u8,
     put_u16, put_u32, put_u64,
 };
 use pon_admit::Row;
-use pon_guar::{Counted, Loads};
-use pon_port::PortState;
+use pon_guar::{Counted, Loads, WindowMap};
+use pon_state::PortState;
 use pon_units::{FrameNo, Granted, OnuId};
-use pon_window::WindowMap;
 use std::alloc::AllocError;
 
 // Appends the report that counts, or zeros.
@@ -117,9 +116,9 @@ fn put_onus(bytes: &mut Vec<u8>, values: &[OnuId]) -> Result<(), AllocError>
 
 // Appends the number of the grants, and the grants.
 fn put_all_grants(bytes: &mut Vec<u8>, values: &[Granted]) -> Result<(), AllocError>
-    requires few { length values.now ≤ MOST_STRUCTURES }
+    requires few { length values.now ≤ MAX_STRUCTURES }
     ensures { OnOk result (bytes.new.items
-        ≡ bytes.old.items ++ (counted (number w16) MOST_STRUCTURES grant).write values.now) }
+        ≡ bytes.old.items ++ (counted (number w16) MAX_STRUCTURES grant).write values.now) }
 {
     put_u16(bytes, values.len() as u16)?;
     put_grants(bytes, values)?;
@@ -128,9 +127,9 @@ fn put_all_grants(bytes: &mut Vec<u8>, values: &[Granted]) -> Result<(), AllocEr
 
 // Appends the number of the ONUs, and the ONUs.
 fn put_all_onus(bytes: &mut Vec<u8>, values: &[OnuId]) -> Result<(), AllocError>
-    requires few { length values.now ≤ MOST_REPORTED }
+    requires few { length values.now ≤ MAX_REPORTED }
     ensures { OnOk result (bytes.new.items
-        ≡ bytes.old.items ++ (counted (number w8) MOST_REPORTED onu_id).write values.now) }
+        ≡ bytes.old.items ++ (counted (number w8) MAX_REPORTED onu_id).write values.now) }
 {
     put_u8(bytes, values.len() as u8)?;
     put_onus(bytes, values)?;
@@ -139,7 +138,7 @@ fn put_all_onus(bytes: &mut Vec<u8>, values: &[OnuId]) -> Result<(), AllocError>
 
 fn put_window_map(bytes: &mut Vec<u8>, value: &WindowMap) -> Result<(), AllocError>
     requires { FitsWindowMap value.now }
-    ensures { OnOk result (bytes.new.items ≡ bytes.old.items ++ (window_map_under Rule.Two).write value.now) }
+    ensures { OnOk result (bytes.new.items ≡ bytes.old.items ++ (window_map_under Rule.CarryRemainders).write value.now) }
 {
     put_frame(bytes, value.frame())?;
     put_all_grants(bytes, value.grants())?;
@@ -151,7 +150,7 @@ fn put_window_map(bytes: &mut Vec<u8>, value: &WindowMap) -> Result<(), AllocErr
 fn put_maps(bytes: &mut Vec<u8>, loads: &Loads) -> Result<(), AllocError>
     requires { All FitsWindowMap loads.now.window }
     ensures { OnOk result (bytes.new.items
-        ≡ bytes.old.items ++ flat_map (window_map_under Rule.Two).write loads.now.window) }
+        ≡ bytes.old.items ++ flat_map (window_map_under Rule.CarryRemainders).write loads.now.window) }
 {
     for index in 0..loads.window_len() {
         if let Some(map) = loads.window_at(index) {
@@ -168,7 +167,7 @@ fn put_all_rows(
     values: &[Row],
     carries: &[u8],
 ) -> Result<(), AllocError>
-    requires few { length values.now ≤ MOST_STRUCTURES }
+    requires few { length values.now ≤ MAX_STRUCTURES }
     requires carries { length carries.now ≡ length values.now }
     ensures { OnOk result (bytes.new.items ≡ bytes.old.items ++ to_be_bytes w16 (length values.now)
         ++ flat_map (row_bytes loads.now.accounts) (zip values.now carries.now)) }
@@ -182,7 +181,7 @@ fn put_all_rows(
 fn put_window(bytes: &mut Vec<u8>, loads: &Loads) -> Result<(), AllocError>
     requires { All FitsWindowMap loads.now.window }
     ensures { OnOk result (bytes.new.items ≡ bytes.old.items
-        ++ (counted (number w8) MOST_MAPS (window_map_under Rule.Two)).write loads.now.window) }
+        ++ (counted (number w8) MAX_MAPS (window_map_under Rule.CarryRemainders)).write loads.now.window) }
 {
     put_u8(bytes, loads.window_len() as u8)?;
     put_maps(bytes, loads)?;

@@ -7,7 +7,7 @@ use crate::chapters::chapter_bytes;
 use crate::fault::RecordFault;
 use crate::pending::Pending;
 use pon_device::{DevWrite, Failed};
-use pon_port::Chapter;
+use pon_history::Chapter;
 use pon_record::Version;
 use pon_units::PortNo;
 use std::alloc::{AllocError, Global};

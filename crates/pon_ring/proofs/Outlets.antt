@@ -2,7 +2,7 @@
 use Rattle.std.proofs.Common.{◌≡◌, ℕ, ◌+◌, List, [], ◌∷◌, ◌++◌, append-nil, sym, ◌∙◌, subst}
 use Rattle.std.specs.Prelude.{Option, Some, None, option_to_list}
 use Rattle.std.specs.Option.{ForSome}
-use Rattle.pon_port.specs.Chapters.{Chapter}
+use Rattle.pon_history.specs.Chapters.{Chapter}
 use Rattle.pon_ring.specs.Numbers.{AreBelow, ComesAfter}
 use Rattle.pon_ring.proofs.Numbers.{below_pushed}
 

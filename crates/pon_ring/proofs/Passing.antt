@@ -1,7 +1,7 @@
 -- Chapters that are passed to a sink one after another.
 use Rattle.std.proofs.Common.{◌≡◌, List, [], ◌∷◌, ◌++◌, refl, sym, subst, ◌∙◌}
 use Rattle.std.specs.Prelude.{IsSomeAnd, Option, Some, None}
-use Rattle.pon_port.specs.Chapters.{Chapter}
+use Rattle.pon_history.specs.Chapters.{Chapter}
 use Rattle.pon_ring.specs.Passing.{PassesAll, SameRing}
 use Rattle.pon_ring.specs.Rings.{AreEnds, SameIn, SameOut}
 use Rattle.pon_ring.specs.Sinks.{IsRest, PassesOn, StartsWith}

@@ -1,7 +1,7 @@
 -- The entries of chapters that are not passed on, which wait to be freed.
 use Rattle.std.specs.Prelude.{◌≡◌, ◌-◌, ◌⊎◌, List, [], length, take, Option, Some, None, Vec}
-use Rattle.pon_state.specs.declared.reply.Entry.{Entry}
-use Rattle.pon_port.specs.Chapters.{Chapter}
+use Rattle.pon_state.specs.Entry.{Entry}
+use Rattle.pon_history.specs.Chapters.{Chapter}
 use Rattle.pon_ring.specs.Sinks.{IsPassed}
 use Rattle.pon_ring.specs.declared.sink.Outlet.{Outlet}
 use Rattle.pon_ring.specs.declared.sink.Sink.{Sink}

@@ -1,6 +1,6 @@
 -- The numbers of chapters that follow one another.
 use Rattle.std.specs.Prelude.{ℕ, ◌+◌, ◌<◌, All, List, [], ◌∷◌, Option, Some, None}
-use Rattle.pon_port.specs.Chapters.{Chapter}
+use Rattle.pon_history.specs.Chapters.{Chapter}
 
 -- its number is above those of all chapters before
 abbrev pub ComesAfter : List Chapter → Chapter → Type 0

@@ -1,7 +1,7 @@
 -- Chapters that are passed to a sink one after another.
 use Rattle.std.specs.Prelude.{◌≡◌, ◌+◌, ◌-◌, ◌^◌, ◌++◌, ◌∷◌, ◌<◌, [], All, Contains, List, length, Option, Some, None}
 use Rattle.std.specs.Option.{ForSome}
-use Rattle.pon_port.specs.Chapters.{Chapter}
+use Rattle.pon_history.specs.Chapters.{Chapter}
 use Rattle.pon_ring.specs.Rings.{AreEnds, SameIn}
 use Rattle.pon_ring.specs.Sinks.{PassesOn, passed}
 use Rattle.pon_ring.specs.declared.ring_out.RingOut.{RingOut}

@@ -2,7 +2,7 @@
 use Rattle.std.specs.Prelude.{List}
 use Rattle.rtrb.specs.Ring.{IsFinishedOf, IsPair, SameConsumer, SameProducer, all_sent, known_items, received, sent}
 use Rattle.rtrb.specs.Ring.{Finishes as FinishesProducer}
-use Rattle.pon_port.specs.Chapters.{Chapter}
+use Rattle.pon_history.specs.Chapters.{Chapter}
 use Rattle.pon_ring.specs.declared.ring_in.RingIn.{RingIn}
 use Rattle.pon_ring.specs.declared.ring_in.RingEnd.{RingEnd}
 use Rattle.pon_ring.specs.declared.ring_out.RingOut.{RingOut}

@@ -1,6 +1,6 @@
 -- The chapters that are passed to a sink.
 use Rattle.std.specs.Prelude.{ℕ, ◌≡◌, ◌+◌, ◌^◌, ◌-◌, ◌++◌, ◌∷◌, [], ◌⊎◌, ◌<◌, IsSome, List, min, Option, Some, None, option_to_list}
-use Rattle.pon_port.specs.Chapters.{Chapter}
+use Rattle.pon_history.specs.Chapters.{Chapter}
 use Rattle.pon_ring.specs.Numbers.{next_number}
 use Rattle.pon_ring.specs.Rings.{SameIn, sent_chapters}
 use Rattle.pon_ring.specs.declared.ring_in.RingIn.{RingIn}

@@ -4,7 +4,7 @@ ghost use Rattle.pon_ring.specs.Rings.{AreEnds, known_chapters, received_chapter
 use crate::ring_in::RingIn;
 use crate::ring_out::RingOut;
 use crate::rising::Rising;
-use pon_port::Chapter;
+use pon_history::Chapter;
 use rtrb::RingBuffer;
 use std::alloc::{AllocError, Global};
 

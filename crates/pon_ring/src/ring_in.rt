@@ -3,7 +3,7 @@ ghost use Rattle.rtrb.specs.Ring.{sent};
 ghost use Rattle.pon_ring.specs.Numbers.{AreBelow, last_number, next_number};
 
 use crate::rising::Rising;
-use pon_port::Chapter;
+use pon_history::Chapter;
 use rtrb::{Finished, Producer, PushError};
 use std::alloc::Global;
 

@@ -1,6 +1,6 @@
 use crate::ring_in::{RingEnd, RingIn};
 use crate::rising::Rising;
-use pon_port::Chapter;
+use pon_history::Chapter;
 use rtrb::Consumer;
 use std::alloc::Global;
 

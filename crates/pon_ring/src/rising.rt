@@ -1,6 +1,6 @@
 ghost use Rattle.pon_ring.specs.Numbers.{ComesAfter};
 
-use pon_port::Chapter;
+use pon_history::Chapter;
 use rtrb::Protocol;
 
 /// The protocol of the ring: each chapter has a greater number than those before it.

@@ -4,7 +4,8 @@ ghost use Rattle.pon_ring.specs.Numbers.{AreBelow, ComesAfter, next_number};
 ghost use Rattle.pon_ring.specs.Rings.{sent_chapters};
 
 use crate::ring_in::RingIn;
-use pon_port::{Chapter, Entry};
+use pon_history::Chapter;
+use pon_state::Entry;
 
 /// The end of a ring, with at most one chapter that waits for room, and the number of dropped chapters.
 #[derive(Drop)]
@@ -93,7 +94,7 @@ pub struct Rest {
 }
 
 impl Sink {
-    ghost use Rattle.std.specs.Prelude.{◌≡◌, ◌++◌, ◌↔◌, ◌≤◌, ◌<◌, ◌+◌, ◌-◌, ◌^◌, true, length, take, IsSomeAnd, MatchOption, None, option_to_list};
+    ghost use Rattle.std.specs.Prelude.{◌≡◌, ◌++◌, ◌↔◌, ◌≤◌, ◌<◌, ◌+◌, ◌-◌, ◌^◌, true, take, IsSomeAnd, MatchOption, None, option_to_list};
     ghost use Rattle.pon_ring.specs.Discarded.{Discards, Frees, discarded_entries};
     ghost use Rattle.pon_ring.specs.Sinks.{IsRest, PassesOn, StartsWith, dropped_of};
 

@@ -4,7 +4,7 @@ use Rattle.std.specs.Prelude.{Bool, true, Result, Ok, Err, IfOk, IfSome, OnOk, S
 use Rattle.std.specs.declared.alloc.AllocError.{AllocError}
 use Rattle.std.proofs.KnownBytes.{Appends-trans}
 use Rattle.pon_device.specs.Device.{Appends}
-use Rattle.pon_port.specs.Chapters.{Chapter}
+use Rattle.pon_history.specs.Chapters.{Chapter}
 use Rattle.pon_desk.specs.Counts.{DeskSize, IsEven, SeatState}
 use Rattle.pon_desk.specs.Faults.{IsNotEven}
 use Rattle.pon_worker.specs.declared.counts.WorkerEnd.{WorkerEnd}

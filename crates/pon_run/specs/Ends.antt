@@ -1,11 +1,11 @@
 -- The lines at the end of a run: what each port did.
 use Rattle.std.specs.Prelude.{ℕ, suc, ◌≡◌, List, [], ◌∷◌, ◌++◌, codes, decimal, Option, Result, Ok, Err}
-use Rattle.pon_port.specs.Chapters.{Chapter}
+use Rattle.pon_history.specs.Chapters.{Chapter}
 use Rattle.pon_desk.specs.Counts.{taken_of}
 use Rattle.pon_worker.specs.declared.counts.WorkerEnd.{WorkerEnd}
-use Rattle.pon_stream.specs.Streams.{TellsLine}
-use Rattle.pon_stream.specs.declared.fault.PlanFault.{PlanFault}
-use Rattle.pon_stream.specs.declared.fault.PlanFault.TheVariants.{Read, Write, Memory}
+use Rattle.pon_device.specs.Streams.{TellsLine}
+use Rattle.pon_device.specs.declared.fault.DeviceFault.{DeviceFault}
+use Rattle.pon_device.specs.declared.fault.DeviceFault.TheVariants.{Read, Write, Memory}
 use Rattle.pon_run.specs.declared.end.PortEnd.{PortEnd}
 
 -- what a port and its worker did, before dropped chapters are counted
@@ -41,7 +41,7 @@ lines_from port [] = []
 lines_from port (end ∷ ends) = line_of port end ++ lines_from (suc port) ends
 
 -- the lines of all ports were written, or a prefix of them, or none if memory was refused
-abbrev pub TellsEnds : List PortEnd → Option (List ℕ) → Option (List ℕ) → Result (Unit {0}) PlanFault → Type 0
+abbrev pub TellsEnds : List PortEnd → Option (List ℕ) → Option (List ℕ) → Result (Unit {0}) DeviceFault → Type 0
 TellsEnds ends old new (Err Memory) = new ≡ old
 TellsEnds ends old new (Err Read) = TellsLine (lines_from 0 ends) old new (Err Read)
 TellsEnds ends old new (Err Write) = TellsLine (lines_from 0 ends) old new (Err Write)

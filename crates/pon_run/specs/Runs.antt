@@ -2,8 +2,8 @@
 use Rattle.std.specs.Prelude.{ℕ, ◌≡◌, ◌++◌, All, Bool, if◌then◌else◌, List, length, map, Option, Result, Ok, true}
 use Rattle.std.specs.declared.alloc.AllocError.{AllocError}
 use Rattle.pon_device.specs.Device.{Appends}
-use Rattle.pon_port.specs.Chapters.{Chapter}
-use Rattle.pon_worker.specs.declared.counts.Why.TheVariants.{Finished}
+use Rattle.pon_history.specs.Chapters.{Chapter}
+use Rattle.pon_worker.specs.declared.counts.StopReason.TheVariants.{Finished}
 use Rattle.pon_worker.specs.declared.counts.WorkerEnd.{WorkerEnd}
 use Rattle.pon_run.specs.declared.end.PortEnd.{PortEnd}
 use Rattle.pon_run.specs.Ends.{ends_of, lines_from, without_dropped}

@@ -1,7 +1,7 @@
 -- The simulated units of a port.
 use Rattle.std.specs.Prelude.{ℕ, ◌==◌, ◌++◌, Bool, if◌then◌else◌, List, [], ◌∷◌, map, filter, take}
 use Rattle.std.specs.List.{list_any}
-use Rattle.pon_units.specs.declared.limits.TheConstants.{LONGEST_SERIES}
+use Rattle.pon_units.specs.declared.limits.TheConstants.{MAX_SERIES}
 use Rattle.pon_link.specs.Units.{UnitState}
 use Rattle.pon_settings.specs.declared.row.SettingsRow.{SettingsRow}
 
@@ -15,7 +15,7 @@ own_queues rows onu = map (λ r. (r.row.alloc_id, r.queue)) (filter (is_row_of o
 
 -- the first 16 queues of an ONU
 abbrev pub queues_of : List SettingsRow → ℕ → List (ℕ × ℕ)
-queues_of rows onu = take LONGEST_SERIES (own_queues rows onu)
+queues_of rows onu = take MAX_SERIES (own_queues rows onu)
 
 -- the units of the ONUs whose first row is in this part of all rows, given the rows before this part
 abbrev pub units_behind : List SettingsRow → List SettingsRow → List SettingsRow → List UnitState

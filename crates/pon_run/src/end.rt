@@ -1,11 +1,10 @@
 //! The line about each port at the end of a run.
 
-ghost use Rattle.std.specs.Prelude.{◌≡◌, ◌≤◌, ◌++◌, [], IfOk, OnOk, string_bytes};
-ghost use Rattle.pon_stream.specs.Streams.{TellsWrite};
+ghost use Rattle.std.specs.Prelude.{◌≡◌, IfOk, string_bytes};
+ghost use Rattle.pon_device.specs.Streams.{TellsWrite};
 ghost use Rattle.pon_run.specs.Ends.{TellsEnds, line_of, lines_from};
 
-use pon_device::DevWrite;
-use pon_stream::{PlanFault, write_text};
+use pon_device::{DevWrite, DeviceFault, write_text};
 use std::alloc::{AllocError, Global};
 
 /// What one port did in a run.
@@ -53,12 +52,12 @@ pub(crate) fn write_ends<W: DevWrite>(
     alloc: Global,
     ends: &[PortEnd],
     writer: &mut W,
-) -> Result<(), PlanFault>
+) -> Result<(), DeviceFault>
     ensures text { TellsEnds ends.now (W.contents writer.old) (W.contents writer.new) result }
     ensures write { TellsWrite (W.failures writer.old) (W.failures writer.new) result }
 {
     match lines_of(alloc, ends) {
         Ok(text) => write_text(writer, text.as_bytes()),
-        Err(_) => Err(PlanFault::Memory),
+        Err(_) => Err(DeviceFault::Memory),
     }
 }

@@ -4,7 +4,7 @@
 ghost use Rattle.std.specs.Prelude.{◌≡◌, ◌↔◌, IfOk, IfSome, OnOk, is_some, map, true};
 ghost use Rattle.std.specs.Vec.{vec_len};
 ghost use Rattle.pon_desk.specs.Counts.{IsEven};
-ghost use Rattle.pon_collector.specs.Whole.{IsWhole, StaysWhole};
+ghost use Rattle.pon_recorder.specs.Whole.{IsWholeRecording, StaysWhole};
 ghost use Rattle.pon_run.specs.Runs.{AllSettled, TellsPorts, TellsWorked, WritesLines};
 
 use crate::end::write_ends;
@@ -14,11 +14,10 @@ use crate::settling::{
     Account, Settlement, add_receipts, are_settled, open_accounts, settle_ports,
 };
 use crate::thread::Worked;
-use pon_collector::{PortSink, Recording, Rings};
 use pon_desk::{CloseFault, Desk, Seat};
-use pon_device::DevWrite;
+use pon_device::{DevWrite, DeviceFault};
 use pon_port::Port;
-use pon_stream::PlanFault;
+use pon_recorder::{PortSink, Recording, Rings};
 use pon_worker::WorkerEnd;
 use std::alloc::{AllocError, Global};
 use std::sync::ledger::Ledger;
@@ -98,8 +97,8 @@ fn record_kept<K: Rings, F: DevWrite + Drop>(
     recording: Option<Recording<K, F>>,
     ports: Vec<Port>,
     dropped: &mut [u64],
-) -> Result<(), PlanFault>
-    ensures whole { OnOk result (IfSome recording (λ r. IsWhole r.recorder r.whole)) }
+) -> Result<(), DeviceFault>
+    ensures whole { OnOk result (IfSome recording (λ r. IsWholeRecording r.recorder r.whole)) }
 {
     match recording {
         None => Ok(()),
@@ -116,20 +115,20 @@ fn write_lines<K: Rings, F: DevWrite + Drop, W: DevWrite>(
     settlements: &[Settlement],
     recording: Option<Recording<K, F>>,
     writer: &mut W,
-) -> Result<(), PlanFault>
+) -> Result<(), DeviceFault>
     ensures lines { OnOk result (WritesLines ports.items workers.now settlements.now
         (W.contents writer.old) (W.contents writer.new)) }
-    ensures whole { OnOk result (IfSome recording (λ r. IsWhole r.recorder r.whole)) }
+    ensures whole { OnOk result (IfSome recording (λ r. IsWholeRecording r.recorder r.whole)) }
 {
     let Ok(ends) = ends_of(alloc, ports.as_slice(), workers) else {
-        return Err(PlanFault::Memory);
+        return Err(DeviceFault::Memory);
     };
     let Ok(mut dropped) = vec![in alloc; 0; ports.len()] else {
-        return Err(PlanFault::Memory);
+        return Err(DeviceFault::Memory);
     };
     let recorded = record_kept(recording, ports, dropped.as_mut_slice());
     let Ok(told) = with_dropped(alloc, ends.as_slice(), dropped.as_slice()) else {
-        return Err(PlanFault::Memory);
+        return Err(DeviceFault::Memory);
     };
     write_ends(alloc, told.as_slice(), writer)?;
     write_settlements(alloc, settlements, writer)?;
@@ -153,11 +152,11 @@ fn tell_closed<K: Rings, F: DevWrite + Drop, W: DevWrite>(
     recording: Option<Recording<K, F>>,
     settle: bool,
     writer: &mut W,
-) -> Result<bool, PlanFault>
+) -> Result<bool, DeviceFault>
     ensures done { IfOk result (λ done. done ≡ true → TellsPorts closed.ports.items workers.now settle
         (W.contents writer.old) (W.contents writer.new)) }
     ensures even { IfOk result (λ done. done ≡ true → closed.even ≡ true) }
-    ensures whole { OnOk result (IfSome recording (λ r. IsWhole r.recorder r.whole)) }
+    ensures whole { OnOk result (IfSome recording (λ r. IsWholeRecording r.recorder r.whole)) }
 {
     let ClosedRun {
         ports,
@@ -188,24 +187,24 @@ pub(crate) fn tell<L: Ledger, M: Ledger, K: Rings, F: DevWrite + Drop, W: DevWri
     mut recording: Option<Recording<K, F>>,
     settle: bool,
     writer: &mut W,
-) -> Result<bool, PlanFault>
+) -> Result<bool, DeviceFault>
     ensures done { IfOk result (λ done. done ≡ true → TellsWorked (map (λ w. w.end) all.items) desk.ports
         settle (W.contents writer.old) (W.contents writer.new)) }
     ensures whole { IfOk result (λ done. done ≡ true
-        → IfSome recording (λ r. IsWhole r.recorder r.whole)) }
+        → IfSome recording (λ r. IsWholeRecording r.recorder r.whole)) }
 {
     let Ok(workers) = worker_ends(alloc, all.as_slice()) else {
-        return Err(PlanFault::Memory);
+        return Err(DeviceFault::Memory);
     };
     let Ok((mut seats, sinks)) = split_results(alloc, others, all) else {
-        return Err(PlanFault::Memory);
+        return Err(DeviceFault::Memory);
     };
     let gathered = accounts_of(alloc, seats.as_mut_slice(), sinks, &mut recording, settle);
     let Ok(accounts) = gathered else {
-        return Err(PlanFault::Memory);
+        return Err(DeviceFault::Memory);
     };
     let Ok(closed) = close(alloc, desk, seats, accounts.as_slice()) else {
-        return Err(PlanFault::Memory);
+        return Err(DeviceFault::Memory);
     };
     match closed {
         Some(closed) => tell_closed(alloc, closed, workers.as_slice(), recording, settle, writer),

@@ -1,8 +1,8 @@
 //! The files of a run: the operator's lines, and the recording.
 
-use pon_collector::{Recorder, Tape, open_recorder};
+use pon_device::DeviceFault;
 use pon_job::{Failure, Named};
-use pon_stream::PlanFault;
+use pon_recorder::{Recorder, Tape, open_recorder};
 use std::alloc::Global;
 use std::fs;
 use std::rt::Files;
@@ -11,7 +11,7 @@ use std::rt::Files;
 pub(crate) fn open_lines<R: Files>(rt: &R, alloc: Global, name: &str) -> Result<R::File, Failure> {
     match fs::open(rt, name) {
         Ok(file) => Ok(file),
-        Err(error) => Err(Failure::of(alloc, PlanFault::Read, Named::Lines(name), &error)),
+        Err(error) => Err(Failure::of(alloc, DeviceFault::Read, Named::Lines(name), &error)),
     }
 }
 
@@ -19,7 +19,7 @@ pub(crate) fn open_lines<R: Files>(rt: &R, alloc: Global, name: &str) -> Result<
 fn create_file<R: Files>(rt: &R, alloc: Global, name: &str) -> Result<R::File, Failure> {
     match fs::create(rt, name) {
         Ok(file) => Ok(file),
-        Err(error) => Err(Failure::of(alloc, PlanFault::Write, Named::Recording(name), &error)),
+        Err(error) => Err(Failure::of(alloc, DeviceFault::Write, Named::Recording(name), &error)),
     }
 }
 

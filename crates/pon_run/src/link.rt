@@ -3,8 +3,8 @@
 ghost use Rattle.std.specs.Prelude.{◌≡◌, IfOk};
 ghost use Rattle.std.specs.Vec.{vec_len};
 
+use pon_device::DeviceFault;
 use pon_job::{Failure, Named};
-use pon_stream::PlanFault;
 use std::alloc::Global;
 use std::io::{self, ErrorKind};
 use std::net::{Net, SocketAddr, TcpListener, TcpStream};
@@ -12,7 +12,7 @@ use std::thread;
 use std::time::{Clock, Duration, Instant};
 
 /// How long a run tries to open its connections while others connect to its address, in seconds.
-const MOST_SECONDS: u64 = 10;
+const MAX_SECONDS: u64 = 10;
 
 /// How long one attempt to connect waits, in milliseconds. A listener whose queue is full answers none.
 const ATTEMPT_MILLISECONDS: u64 = 100;
@@ -21,7 +21,7 @@ const ATTEMPT_MILLISECONDS: u64 = 100;
 const PAUSE_MILLISECONDS: u64 = 1;
 
 /// Maximum number of connections that are dropped before each attempt to connect: more than the queue of a listener has.
-const MOST_DROPPED: u32 = 256;
+const MAX_DROPPED: u32 = 256;
 
 /// A connection: the end of the port, and the end of its units.
 #[derive(Drop)]
@@ -36,7 +36,7 @@ fn too_many_others() -> io::Error {
 
 // Returns an error once a run has tried for too long.
 fn check_time<R: Clock>(rt: &R, begun: Instant) -> io::Result<()> {
-    if begun.elapsed(rt)? < Duration::from_secs(MOST_SECONDS) {
+    if begun.elapsed(rt)? < Duration::from_secs(MAX_SECONDS) {
         Ok(())
     } else {
         Err(too_many_others())
@@ -54,7 +54,7 @@ fn next_connection(listener: &TcpListener) -> io::Result<Option<(TcpStream, Sock
 
 // Drops the connections in the queue of the listener, which are all of others.
 fn drop_others(listener: &TcpListener) -> io::Result<()> {
-    for _other in 0..MOST_DROPPED {
+    for _other in 0..MAX_DROPPED {
         if next_connection(listener)?.is_none() {
             return Ok(());
         }
@@ -150,7 +150,7 @@ pub(crate) fn open_links<R: Net<Listener = TcpListener, Stream = TcpStream> + Cl
         Ok(links) => Ok(links),
         Err(error) => {
             let named = Named::Address(address);
-            Err(Failure::of(alloc, PlanFault::Read, named, &error))
+            Err(Failure::of(alloc, DeviceFault::Read, named, &error))
         }
     }
 }

@@ -1,9 +1,8 @@
 //! The operator of a run: the management lines of a file, executed while the workers run.
 
 use pon_desk::{Desk, Seat};
-use pon_device::{DevWrite, StdRead};
+use pon_device::{DevWrite, DeviceFault, StdRead};
 use pon_manage::operate;
-use pon_stream::PlanFault;
 use std::alloc::Global;
 use std::io::{BufReader, Read};
 use std::sync::Wait;
@@ -17,9 +16,9 @@ pub(crate) fn answer_lines<L: Ledger, M: Ledger, F: Read + Drop, W: DevWrite, R:
     seat: &mut Seat<L, M>,
     file: F,
     writer: &mut W,
-) -> Result<(), PlanFault> {
+) -> Result<(), DeviceFault> {
     let Ok(input) = BufReader::new(alloc, file) else {
-        return Err(PlanFault::Memory);
+        return Err(DeviceFault::Memory);
     };
     let mut reader = StdRead::new(input);
     match operate(rt, alloc, desk, seat, &mut reader, writer) {

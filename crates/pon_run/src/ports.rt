@@ -9,11 +9,11 @@ use crate::link::Link;
 use crate::running::Served;
 use crate::thread::{UnitsPart, Worked, WorkerPart};
 use crate::units::units_of;
-use pon_collector::{PortSink, Rings};
 use pon_desk::{Desk, Seat};
 use pon_port::Port;
+use pon_recorder::{PortSink, Rings};
 use pon_settings::{Settings, SettingsRow};
-use pon_worker::{Why, WorkerEnd};
+use pon_worker::{StopReason, WorkerEnd};
 use std::alloc::{AllocError, Global};
 use std::sync::Wait;
 use std::sync::ledger::Ledger;
@@ -107,7 +107,7 @@ pub(crate) fn worker_ends<L: Ledger, M: Ledger, K: Rings>(
 pub(crate) fn all_finished(ends: &[WorkerEnd]) -> bool
     ensures { result ≡ true → All IsFinished ends.now }
 {
-    ends.iter().all(|end| end.why == Why::Finished)
+    ends.iter().all(|end| end.why == StopReason::Finished)
 }
 
 /// Adds the seats of the workers to these seats, and returns all with the sinks, in order. `Err` only if memory is

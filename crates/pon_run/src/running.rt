@@ -1,11 +1,10 @@
 //! The threads of a run, two for each port and one for the recorder: started and joined.
 
 use crate::thread::{UnitsPart, Worked, WorkerPart, answer, work};
-use pon_collector::{Recording, Rings};
 use pon_desk::Desk;
-use pon_device::DevWrite;
-use pon_simulator::UnitsFault;
-use pon_stream::PlanFault;
+use pon_device::{DevWrite, DeviceFault};
+use pon_link::UnitsFault;
+use pon_recorder::{Recording, Rings};
 use pon_worker::Gate;
 use std::alloc::Global;
 use std::sync::Wait;
@@ -37,7 +36,7 @@ pub(crate) struct Results<L: Ledger, M: Ledger, K: Rings, W> {
     /// The recording, with what the recorder has not taken yet.
     pub(crate) recording: Option<Recording<K, W>>,
     /// How the operator ended.
-    pub(crate) operated: Result<(), PlanFault>,
+    pub(crate) operated: Result<(), DeviceFault>,
 }
 
 /// The flags that stop the threads of a run.
@@ -98,7 +97,7 @@ fn start_all<'s, E, L, M, K, G, R>(
     gate: &'s G,
     maps: u64,
     stop: &'s AtomicBool,
-) -> Result<Vec<Running<L, M, K>>, PlanFault>
+) -> Result<Vec<Running<L, M, K>>, DeviceFault>
 where
     L: Ledger + Send + Sync,
     M: Ledger + Send + Sync,
@@ -107,14 +106,14 @@ where
     R: Wait + Sync,
 {
     let Ok(mut running) = Vec::with_capacity(alloc, all.len()) else {
-        return Err(PlanFault::Memory);
+        return Err(DeviceFault::Memory);
     };
     for served in all {
         let Some(threads) = start(scope, rt, alloc, desk, served, gate, maps, stop) else {
-            return Err(PlanFault::Memory);
+            return Err(DeviceFault::Memory);
         };
         if running.push(threads).is_err() {
-            return Err(PlanFault::Memory);
+            return Err(DeviceFault::Memory);
         }
     }
     Ok(running)
@@ -125,14 +124,14 @@ fn join_all<L: Ledger, M: Ledger, K: Rings, R: Threads>(
     rt: &R,
     alloc: Global,
     running: Vec<Running<L, M, K>>,
-) -> Result<Vec<Worked<L, M, K>>, PlanFault> {
+) -> Result<Vec<Worked<L, M, K>>, DeviceFault> {
     let Ok(mut all) = Vec::with_capacity(alloc, running.len()) else {
-        return Err(PlanFault::Memory);
+        return Err(DeviceFault::Memory);
     };
     for Running { worker, units } in running {
         let _answered = units.join(rt);
         if all.push(worker.join(rt)).is_err() {
-            return Err(PlanFault::Memory);
+            return Err(DeviceFault::Memory);
         }
     }
     Ok(all)
@@ -144,7 +143,7 @@ fn start_recorder<'s, E, K, W, R>(
     rt: &'s R,
     recording: Option<Recording<K, W>>,
     stop: &'s AtomicBool,
-) -> Result<Option<JoinHandle<Recording<K, W>>>, PlanFault>
+) -> Result<Option<JoinHandle<Recording<K, W>>>, DeviceFault>
 where
     K: Rings + Send + Sync + 's,
     W: DevWrite + Drop + Send + 's,
@@ -155,7 +154,7 @@ where
     };
     match scope.spawn(move || recording.run(rt, stop)) {
         Ok(thread) => Ok(Some(thread)),
-        Err(_) => Err(PlanFault::Memory),
+        Err(_) => Err(DeviceFault::Memory),
     }
 }
 
@@ -167,7 +166,7 @@ fn end_all<L: Ledger, M: Ledger, K: Rings, W: Drop, R: Threads>(
     running: Vec<Running<L, M, K>>,
     recorder: Option<JoinHandle<Recording<K, W>>>,
     stops: &Stops,
-) -> Result<(Vec<Worked<L, M, K>>, Option<Recording<K, W>>), PlanFault> {
+) -> Result<(Vec<Worked<L, M, K>>, Option<Recording<K, W>>), DeviceFault> {
     let worked = join_all(rt, alloc, running);
     stops.recorder.store(true, Ordering::SeqCst);
     let recording = match recorder {
@@ -190,7 +189,7 @@ pub(crate) fn serve_all<L, M, K, G, W, R, O>(
     gate: &G,
     maps: u64,
     meanwhile: O,
-) -> Result<Results<L, M, K, W>, PlanFault>
+) -> Result<Results<L, M, K, W>, DeviceFault>
 where
     L: Ledger + Send + Sync,
     M: Ledger + Send + Sync,
@@ -198,7 +197,7 @@ where
     G: Gate + Sync,
     W: DevWrite + Drop + Send,
     R: Wait + Threads + Clock + Sync,
-    O: FnOnce() -> Result<(), PlanFault>,
+    O: FnOnce() -> Result<(), DeviceFault>,
     requires { O.pre meanwhile }
 {
     let stops = Stops::new();
@@ -206,14 +205,14 @@ where
     thread::scope(
         thread::scope_env(),
         rt,
-        move |scope| -> Result<Results<L, M, K, W>, PlanFault>
+        move |scope| -> Result<Results<L, M, K, W>, DeviceFault>
             requires { O.pre meanwhile }
         {
             let recorder = start_recorder(scope, rt, recording, &flags.recorder)?;
             let started = start_all(scope, rt, alloc, desk, all, gate, maps, &flags.workers);
             let Ok(running) = started else {
                 flags.set_both();
-                return Err(PlanFault::Memory);
+                return Err(DeviceFault::Memory);
             };
             let operated = meanwhile();
             let (worked, recording) = end_all(rt, alloc, running, recorder, flags)?;

@@ -2,8 +2,8 @@
 
 ghost use Rattle.std.specs.Prelude.{◌≡◌, ◌⊎◌, ◌+◌, ◌≤◌, IfOk, IfSome, IsNone, OnOk, is_ok, length, map, true};
 ghost use Rattle.std.specs.Vec.{vec_len};
-ghost use Rattle.pon_collector.specs.Rings.{AreRingsOf};
-ghost use Rattle.pon_collector.specs.Whole.{IsWhole};
+ghost use Rattle.pon_recorder.specs.Rings.{AreRingsOf};
+ghost use Rattle.pon_recorder.specs.Whole.{IsWholeRecording};
 ghost use Rattle.pon_run.specs.Runs.{EndsDone, TellsWorked};
 
 use crate::arguments::RunArgs;
@@ -14,13 +14,12 @@ use crate::operator::answer_lines;
 use crate::ports::{OTHER_SEATS, admit_rows, served_ports};
 use crate::running::{Results, Served, serve_all};
 use crate::thread::Worked;
-use pon_collector::{PortRing, PortSink, Recorder, Recording, Rings, Sinks, Tape, open_rings};
 use pon_desk::{Desk, Seat};
-use pon_device::DevWrite;
+use pon_device::{DevWrite, DeviceFault};
 use pon_job::{Failure, exit_status, outcome_of_ports};
+use pon_recorder::{PortRing, PortSink, Recorder, Recording, Rings, Sinks, Tape, open_rings};
 use pon_settings::Settings;
-use pon_stream::PlanFault;
-use pon_units::MOST_PORTS;
+use pon_units::MAX_PORTS;
 use pon_worker::Gate;
 use std::alloc::Global;
 use std::io::{Read, Write};
@@ -45,7 +44,7 @@ fn serve<L, M, K, G, F, W, R>(
     maps: u64,
     lines: Option<F>,
     writer: &mut W,
-) -> Result<Results<L, M, K, Tape<F>>, PlanFault>
+) -> Result<Results<L, M, K, Tape<F>>, DeviceFault>
 where
     L: Ledger + Send + Sync,
     M: Ledger + Send + Sync,
@@ -74,15 +73,15 @@ fn tell_with_seats<L: Ledger, M: Ledger, K: Rings, F: Write + Drop, W: DevWrite>
     recording: Option<Recording<K, Tape<F>>>,
     settle: bool,
     writer: &mut W,
-) -> Result<bool, PlanFault>
+) -> Result<bool, DeviceFault>
     ensures done { IfOk result (λ done. done ≡ true → TellsWorked (map (λ w. w.end) all.items) desk.ports
         settle (W.contents writer.old) (W.contents writer.new)) }
     ensures whole { IfOk result (λ done. done ≡ true
-        → IfSome recording (λ r. IsWhole r.recorder r.whole)) }
+        → IfSome recording (λ r. IsWholeRecording r.recorder r.whole)) }
 {
     match Vec::from_array(alloc, others) {
         Ok(others) => tell(alloc, desk, others, all, recording, settle, writer),
-        Err(_) => Err(PlanFault::Memory),
+        Err(_) => Err(DeviceFault::Memory),
     }
 }
 
@@ -94,13 +93,13 @@ fn tell_results<L: Ledger, M: Ledger, K: Rings, F: Write + Drop, W: DevWrite>(
     results: Results<L, M, K, Tape<F>>,
     settle: bool,
     writer: &mut W,
-) -> Result<bool, PlanFault>
+) -> Result<bool, DeviceFault>
     ensures done { IfOk result (λ done. done ≡ true
         → TellsWorked (map (λ w. w.end) results.worked.items) desk.ports settle
         (W.contents writer.old) (W.contents writer.new)) }
     ensures operated { OnOk result (is_ok results.operated ≡ true) }
     ensures whole { IfOk result (λ done. done ≡ true
-        → IfSome results.recording (λ r. IsWhole r.recorder r.whole)) }
+        → IfSome results.recording (λ r. IsWholeRecording r.recorder r.whole)) }
 {
     let Results {
         worked,
@@ -122,13 +121,13 @@ fn prepare<L: Ledger, M: Ledger, K: Rings, R: Wait>(
     seats: Vec<Seat<L, M>>,
     sinks: Vec<PortSink<K>>,
     links: Vec<Link>,
-) -> Result<Vec<Served<L, M, K>>, PlanFault> {
+) -> Result<Vec<Served<L, M, K>>, DeviceFault> {
     if admit_rows(rt, alloc, desk, seat, settings).is_err() {
-        return Err(PlanFault::Memory);
+        return Err(DeviceFault::Memory);
     }
     match served_ports(alloc, settings, seats, sinks, links) {
         Ok(all) => Ok(all),
-        Err(_) => Err(PlanFault::Memory),
+        Err(_) => Err(DeviceFault::Memory),
     }
 }
 
@@ -156,7 +155,7 @@ fn run_desk<L, M, K, G, F, W, R>(
     lines: Option<F>,
     sinks: Sinks<K, Tape<F>>,
     writer: &mut W,
-) -> Result<bool, PlanFault>
+) -> Result<bool, DeviceFault>
 where
     L: Ledger + Send + Sync,
     M: Ledger + Send + Sync,
@@ -196,7 +195,7 @@ fn run_at<L, M, K, G, F, W, R>(
     rings: Vec<PortRing>,
     recorder: Option<Recorder<Tape<F>>>,
     writer: &mut W,
-) -> Result<bool, PlanFault>
+) -> Result<bool, DeviceFault>
 where
     L: Ledger + Send + Sync,
     M: Ledger + Send + Sync,
@@ -209,20 +208,20 @@ where
         × (L.parts ≡ length settings.now) }
     requires seats { (of_seats.name ≡ M.name) × (of_seats.parts ≡ M.parts)
         × (M.parts ≡ length settings.now + OTHER_SEATS) }
-    requires rings { (vec_len rings ≤ MOST_PORTS) × AreRingsOf K.ring rings.items }
+    requires rings { (vec_len rings ≤ MAX_PORTS) × AreRingsOf K.ring rings.items }
     ensures { IfOk result (λ done. done ≡ true → EndsDone (length settings.now) args.entry.settle
         (IsNone lines) (W.contents writer.old) (W.contents writer.new)) }
 {
     let Ok(openings) = settings.openings(alloc) else {
-        return Err(PlanFault::Memory);
+        return Err(DeviceFault::Memory);
     };
     let Ok(sinks) = Sinks::<K, Tape<F>>::split(alloc, rings, recorder, args.settle) else {
-        return Err(PlanFault::Memory);
+        return Err(DeviceFault::Memory);
     };
     let count = openings.len() + OTHER_SEATS;
     let opened = Desk::<L, M>::open(alloc, of_ports, of_seats, openings.as_slice(), count);
     let Ok((desk, seats)) = opened else {
-        return Err(PlanFault::Memory);
+        return Err(DeviceFault::Memory);
     };
     run_desk(
         rt, alloc, desk, seats, settings, links, gate, args, lines, sinks, writer,
@@ -254,7 +253,7 @@ where
     let ports = settings.ports().len();
     let links = open_links(rt, alloc, args.listen, ports)?;
     let Ok(rings) = open_rings(alloc, ports, &recorder) else {
-        return Err(Failure::from(PlanFault::Memory));
+        return Err(Failure::from(DeviceFault::Memory));
     };
     Ok(run_at::<Brand, Brand, Brand, G, R::File, W, R>(
         rt,

@@ -6,8 +6,7 @@ ghost use Rattle.pon_run.specs.Settlements.{settlement_line, settlement_lines};
 
 use crate::settling::Settlement;
 use pon_desk::Unsettled;
-use pon_device::DevWrite;
-use pon_stream::{PlanFault, write_text};
+use pon_device::{DevWrite, DeviceFault, write_text};
 use std::alloc::{AllocError, Global};
 
 fn line_of(alloc: Global, settlement: &Settlement) -> Result<String, AllocError>
@@ -40,12 +39,12 @@ pub(crate) fn write_settlements<W: DevWrite>(
     alloc: Global,
     all: &[Settlement],
     writer: &mut W,
-) -> Result<(), PlanFault>
+) -> Result<(), DeviceFault>
     ensures { OnOk result (Appends (W.contents writer.old) (W.contents writer.new)
         (settlement_lines all.now)) }
 {
     match lines_of(alloc, all) {
         Ok(text) => write_text(writer, text.as_bytes()),
-        Err(_) => Err(PlanFault::Memory),
+        Err(_) => Err(DeviceFault::Memory),
     }
 }

@@ -3,9 +3,9 @@
 ghost use Rattle.std.specs.Prelude.{◌≡◌, IfOk, map};
 ghost use Rattle.pon_run.specs.Settlements.{AreOf, IsOf, settled_from};
 
-use pon_collector::TakenChapters;
 use pon_desk::{Closed, Receipt, Seat, Unsettled};
 use pon_port::Chapter;
+use pon_recorder::TakenChapters;
 use pon_units::PortNo;
 use std::alloc::{AllocError, Global};
 use std::sync::ledger::Ledger;

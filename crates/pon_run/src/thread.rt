@@ -1,11 +1,10 @@
 //! The two threads of a port: one runs its worker, the other its units.
 
 use crate::pace::UntilStopped;
-use pon_collector::{PortSink, Rings};
 use pon_desk::{Desk, Seat};
 use pon_device::{StdRead, StdWrite};
-use pon_link::Unit;
-use pon_simulator::{UnitsFault, serve_units};
+use pon_link::{Unit, UnitsFault, serve_units};
+use pon_recorder::{PortSink, Rings};
 use pon_worker::{Gate, WorkerEnd, serve_port};
 use std::alloc::{AllocError, Global};
 use std::io::{BufReader, BufWriter};

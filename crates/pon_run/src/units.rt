@@ -7,7 +7,7 @@ ghost use Rattle.pon_run.specs.Units.{is_row_of, own_queues, units_of};
 use arrayvec::ArrayVec;
 use pon_link::Unit;
 use pon_settings::SettingsRow;
-use pon_units::{AllocId, LONGEST_SERIES, OnuId};
+use pon_units::{AllocId, MAX_SERIES, OnuId};
 use std::alloc::{AllocError, Global};
 
 // Returns the number of waiting words of each Alloc-ID of an ONU, in the order of the rows.
@@ -25,8 +25,8 @@ fn own_queues(
 }
 
 // Returns the first 16 queues.
-fn first_queues(own: &[(AllocId, u32)]) -> ArrayVec<(AllocId, u32), LONGEST_SERIES>
-    ensures { result.items ≡ take LONGEST_SERIES own.now }
+fn first_queues(own: &[(AllocId, u32)]) -> ArrayVec<(AllocId, u32), MAX_SERIES>
+    ensures { result.items ≡ take MAX_SERIES own.now }
 {
     let mut queues = ArrayVec::new();
     for queue in own {

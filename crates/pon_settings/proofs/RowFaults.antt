@@ -2,7 +2,7 @@
 use Rattle.std.proofs.Common.{◌≡◌, Bool, true, false, [], ◌∷◌, refl, ap, ◌∙◌, sym}
 use Rattle.std.specs.Prelude.{Option, Some, None}
 use Rattle.toml.specs.Data.{Data}
-use Rattle.pon_descr.specs.Checks.{when, or_else, first_of, IsTold}
+use Rattle.pon_descr.specs.Checks.{when, or_else, first_refusal_of, IsTold}
 use Rattle.pon_descr.specs.Descriptor.{Descriptor, descriptor_refusal}
 use Rattle.pon_descr.specs.Tables.{IsDescrFault}
 use Rattle.pon_descr.specs.declared.refusal.Refusal.{Refusal}
@@ -23,7 +23,7 @@ other_refusal OutOfMemory h = absurd (h refl)
 other_refusal why h = refl
 
 -- a roster's checks are not about memory
-not_memory : (a b c d e : Bool) → first_of (when a AllocTaken ∷ when b TooManyAllocs ∷ when c TooManyOnus ∷ when d SeriesFull ∷ when e Capacity ∷ []) ≡ Some OutOfMemory → ⊥
+not_memory : (a b c d e : Bool) → first_refusal_of (when a AllocTaken ∷ when b TooManyAllocs ∷ when c TooManyOnus ∷ when d SeriesFull ∷ when e Capacity ∷ []) ≡ Some OutOfMemory → ⊥
 not_memory true b c d e h = cc
 not_memory false true c d e h = cc
 not_memory false false true d e h = cc

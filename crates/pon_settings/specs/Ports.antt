@@ -3,10 +3,10 @@ use Rattle.std.specs.Prelude.{ℕ, suc, ◌≡◌, ◌≤◌, nat_le, ◌&&◌, 
 use Rattle.std.specs.List.{AllZip}
 use Rattle.toml.specs.Data.{Data, Members, as_table}
 use Rattle.toml.specs.Parse.{parse_document}
-use Rattle.pon_units.specs.declared.limits.TheConstants.{LONGEST_GAP, MOST_PORTS, SHORTEST_GAP}
-use Rattle.pon_event.specs.declared.event.Event.TheVariants.{Admit}
-use Rattle.pon_event.specs.declared.step.Step.{Step}
-use Rattle.pon_state.specs.declared.state.PortCfg.{PortCfg}
+use Rattle.pon_units.specs.declared.limits.TheConstants.{MAX_GAP, MAX_PORTS, MIN_GAP}
+use Rattle.pon_admit.specs.declared.event.Event.TheVariants.{Admit}
+use Rattle.pon_admit.specs.declared.step.Step.{Step}
+use Rattle.pon_admit.specs.declared.port_cfg.PortCfg.{PortCfg}
 use Rattle.pon_settings.specs.declared.place.Place.TheVariants as place
 use Rattle.pon_settings.specs.declared.fault.SettingsFault.{SettingsFault}
 use Rattle.pon_settings.specs.declared.fault.SettingsFault.TheVariants as fault
@@ -27,7 +27,7 @@ pub record PortFields : Type 0 where
 
 -- the gap in words, the burst profile, and the first frame
 abbrev pub gap_of : Members → Option ℕ
-gap_of t = required (codes "gap") SHORTEST_GAP LONGEST_GAP t
+gap_of t = required (codes "gap") MIN_GAP MAX_GAP t
 
 abbrev pub profile_of : Members → Option ℕ
 profile_of t = optional (codes "profile") 3 t
@@ -79,10 +79,10 @@ IsPortFault port found fault.Memory = Unit {0}
 
 -- the permitted number of ports
 abbrev pub IsPortCount : ℕ → Type 0
-IsPortCount n = (1 ≤ n) × (n ≤ MOST_PORTS)
+IsPortCount n = (1 ≤ n) × (n ≤ MAX_PORTS)
 
 abbrev pub if_few : List Data → Option (List Data)
-if_few ds = if nat_le 1 (length ds) && nat_le (length ds) MOST_PORTS then Some ds else None
+if_few ds = if nat_le 1 (length ds) && nat_le (length ds) MAX_PORTS then Some ds else None
 
 -- the tables of the ports, 1 to 64; no other key is allowed at the top
 abbrev pub port_tables : Members → Option (List Data)

@@ -1,8 +1,8 @@
 -- The rows of a port in settings (TOML): the row of each table, and their admission in order.
 use Rattle.std.specs.Prelude.{ℕ, ◌≡◌, nat_lt, ◌||◌, if◌then◌else◌, List, [], ◌∷◌, map, take, fold, slice_get, codes, Option, Some, None, option_and_then}
-use Rattle.pon_units.specs.declared.limits.TheConstants.{GREATEST_ALLOC_ID, GREATEST_ONU_ID, LEAST_ALLOC_ID}
+use Rattle.pon_units.specs.declared.limits.TheConstants.{MAX_ALLOC_ID, MAX_ONU_ID, MIN_ALLOC_ID}
 use Rattle.toml.specs.Data.{Data, Members, as_table}
-use Rattle.pon_descr.specs.Checks.{when, or_else, first_of}
+use Rattle.pon_descr.specs.Checks.{when, or_else, first_refusal_of}
 use Rattle.pon_descr.specs.Descriptor.{Descriptor, descriptor_refusal}
 use Rattle.pon_descr.specs.Tables.{described}
 use Rattle.pon_descr.specs.declared.refusal.Refusal.{Refusal}
@@ -48,7 +48,7 @@ row_at d = option_and_then row_of (as_table d)
 
 -- the refusal of the numbers of a row: the Alloc-ID is checked first, then the ONU-ID, then the descriptor
 abbrev pub id_refusal : ℕ → ℕ → Option Refusal
-id_refusal alloc onu = first_of (when (nat_lt alloc LEAST_ALLOC_ID || nat_lt GREATEST_ALLOC_ID alloc) AllocRange ∷ when (nat_lt GREATEST_ONU_ID onu) OnuRange ∷ [])
+id_refusal alloc onu = first_refusal_of (when (nat_lt alloc MIN_ALLOC_ID || nat_lt MAX_ALLOC_ID alloc) AllocRange ∷ when (nat_lt MAX_ONU_ID onu) OnuRange ∷ [])
 
 abbrev pub number_refusal : Row → Option Refusal
 number_refusal r = or_else (id_refusal r.alloc_id r.onu) (descriptor_refusal r.descriptor)

@@ -8,7 +8,7 @@ ghost use Rattle.pon_settings.specs.Fields.{number, optional, required, optional
 use toml::{Table, Value};
 
 /// The greatest whole number of TOML.
-pub(crate) const GREATEST_INTEGER: u64 = 9_223_372_036_854_775_807;
+pub(crate) const MAX_INTEGER: u64 = 9_223_372_036_854_775_807;
 
 // Returns `n` if it is in the range.
 fn whole(least: u64, most: u64, n: i64) -> Option<u64>

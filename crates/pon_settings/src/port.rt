@@ -1,16 +1,16 @@
 //! A port of settings: its own fields, and its rows.
 
-ghost use Rattle.std.specs.Prelude.{◌≡◌, ◌≤◌, Some, None, map, option_map, IfOk, IfErr};
+ghost use Rattle.std.specs.Prelude.{◌≡◌, Some, None, IfOk, IfErr};
 ghost use Rattle.toml.specs.View.{table_view, view};
 ghost use Rattle.pon_settings.specs.Ports.{IsPortFault, SpellsPort, first_frame_of, gap_of, opening_of, profile_of};
 
 use crate::fault::SettingsFault;
-use crate::fields::{GREATEST_INTEGER, optional, optional_tables, required};
+use crate::fields::{MAX_INTEGER, optional, optional_tables, required};
 use crate::place::Place;
 use crate::row::SettingsRow;
 use crate::rows::rows_of;
-use pon_state::PortCfg;
-use pon_units::{FrameNo, GREATEST_PROFILE, Gap, LONGEST_GAP, PortNo, Profile, SHORTEST_GAP};
+use pon_admit::PortCfg;
+use pon_units::{FrameNo, Gap, MAX_GAP, MAX_PROFILE, MIN_GAP, PortNo, Profile};
 use std::alloc::Global;
 use std::marker::Model;
 use toml::{Table, Value};
@@ -51,12 +51,7 @@ impl PortSettings {
 pub(crate) fn gap_of(table: &Table) -> Option<Gap>
     ensures { result ≡ gap_of (table_view table.now) }
 {
-    let gap = required(
-        table,
-        "gap",
-        u64::from(SHORTEST_GAP),
-        u64::from(LONGEST_GAP),
-    )?;
+    let gap = required(table, "gap", u64::from(MIN_GAP), u64::from(MAX_GAP))?;
     Gap::new(gap as u16)
 }
 
@@ -64,7 +59,7 @@ pub(crate) fn gap_of(table: &Table) -> Option<Gap>
 pub(crate) fn profile_of(table: &Table) -> Option<Profile>
     ensures { result ≡ profile_of (table_view table.now) }
 {
-    let profile = optional(table, "profile", u64::from(GREATEST_PROFILE))?;
+    let profile = optional(table, "profile", u64::from(MAX_PROFILE))?;
     Profile::new(profile as u8)
 }
 
@@ -72,7 +67,7 @@ pub(crate) fn profile_of(table: &Table) -> Option<Profile>
 pub(crate) fn first_frame(table: &Table) -> Option<FrameNo>
     ensures { result ≡ first_frame_of (table_view table.now) }
 {
-    let first = optional(table, "first", GREATEST_INTEGER)?;
+    let first = optional(table, "first", MAX_INTEGER)?;
     Some(FrameNo::new(first))
 }
 

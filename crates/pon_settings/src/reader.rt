@@ -11,7 +11,7 @@ use crate::fields::required_tables;
 use crate::place::Place;
 use crate::port::{PortSettings, port_of};
 use crate::terminal::Settings;
-use pon_units::{MOST_PORTS, PortNo};
+use pon_units::{MAX_PORTS, PortNo};
 use std::alloc::Global;
 use toml::{Table, Value};
 
@@ -28,7 +28,7 @@ fn port_tables(table: &Table) -> Option<&[Value]>
     let Some(tables) = required_tables(table, "port") else {
         return None;
     };
-    if tables.len() >= 1 && tables.len() <= MOST_PORTS {
+    if tables.len() >= 1 && tables.len() <= MAX_PORTS {
         Some(tables)
     } else {
         None
@@ -37,7 +37,7 @@ fn port_tables(table: &Table) -> Option<&[Value]>
 
 // Reads the ports from tables. Otherwise returns the first fault, port by port.
 fn ports_of(alloc: Global, tables: &[Value]) -> Result<Vec<PortSettings>, SettingsFault>
-    requires { length tables.now ≤ MOST_PORTS }
+    requires { length tables.now ≤ MAX_PORTS }
     ensures ok { IfOk result (λ ports. AllZip SpellsPort (map view tables.now) ports.items) }
     ensures fault { IfErr result (IsPortsFault (map view tables.now)) }
 {

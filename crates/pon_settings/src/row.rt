@@ -3,19 +3,17 @@
 ghost use Rattle.std.specs.Prelude.{◌≡◌, ◌≤◌, Some, None, IfOk, IfErr};
 ghost use Rattle.std.specs.Option.{SomeIff};
 ghost use Rattle.toml.specs.View.{table_view, view};
-ghost use Rattle.pon_descr.specs.Checks.{IsTold};
-ghost use Rattle.pon_admit.specs.Roster.{with_row};
 ghost use Rattle.pon_settings.specs.Rows.{Admits, admission_fault, descriptor_fault, IsRowFault, IsAdmissionFault, id_refusal, numbers_of, number_refusal, row_at, row_of};
 
-use crate::fields::{GREATEST_INTEGER, optional, required};
+use crate::fields::{MAX_INTEGER, optional, required};
 use crate::place::Place;
 use pon_admit::{Roster, Row};
 use pon_descr::{DescrFault, Refusal, from_toml};
-use pon_units::{AllocId, GREATEST_ALLOC_ID, GREATEST_ONU_ID, LEAST_ALLOC_ID, OnuId};
+use pon_units::{AllocId, MAX_ALLOC_ID, MAX_ONU_ID, MIN_ALLOC_ID, OnuId};
 use toml::{Table, Value};
 
 /// Maximum number of words that wait in a simulated unit.
-pub(crate) const MOST_QUEUE: u64 = 4_294_967_295;
+pub(crate) const MAX_QUEUE: u64 = 4_294_967_295;
 
 /// An Alloc-ID that is admitted before the first line, and the number of words that wait for it in its simulated unit,
 /// 0 to 4,294,967,295.
@@ -49,9 +47,9 @@ fn numbers_of(table: &Table) -> Option<Numbers>
     if !Place::Row.knows_keys(table) {
         return None;
     }
-    let onu = required(table, "onu", 0, GREATEST_INTEGER)?;
-    let alloc_id = required(table, "alloc", 0, GREATEST_INTEGER)?;
-    let queue = optional(table, "queue", MOST_QUEUE)?;
+    let onu = required(table, "onu", 0, MAX_INTEGER)?;
+    let alloc_id = required(table, "alloc", 0, MAX_INTEGER)?;
+    let queue = optional(table, "queue", MAX_QUEUE)?;
     Some(Numbers {
         onu,
         alloc_id,
@@ -61,14 +59,14 @@ fn numbers_of(table: &Table) -> Option<Numbers>
 
 // Returns a managed Alloc-ID, 1024 to 16383. `None` outside this range.
 fn alloc_id_of(number: u64) -> Option<AllocId>
-    ensures { SomeIff result ((LEAST_ALLOC_ID ≤ number) × (number ≤ GREATEST_ALLOC_ID)) number }
+    ensures { SomeIff result ((MIN_ALLOC_ID ≤ number) × (number ≤ MAX_ALLOC_ID)) number }
 {
     AllocId::new(u16::try_from(number).ok()?)
 }
 
 // Returns an ONU-ID, 0 to 1022. `None` outside this range.
 fn onu_id_of(number: u64) -> Option<OnuId>
-    ensures { SomeIff result (number ≤ GREATEST_ONU_ID) number }
+    ensures { SomeIff result (number ≤ MAX_ONU_ID) number }
 {
     OnuId::new(u16::try_from(number).ok()?)
 }

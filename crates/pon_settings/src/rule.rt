@@ -1,9 +1,9 @@
 //! The rule that a table of settings breaks, as a text.
 
-use crate::fields::{GREATEST_INTEGER, optional, optional_tables, required};
+use crate::fields::{MAX_INTEGER, optional, optional_tables, required};
 use crate::place::Place;
 use crate::port::{first_frame, gap_of, profile_of};
-use crate::row::MOST_QUEUE;
+use crate::row::MAX_QUEUE;
 use pon_descr::Class;
 use std::fmt;
 use toml::Table;
@@ -65,7 +65,7 @@ pub(crate) fn port_rule(table: &Table) -> Option<Rule<'_>> {
 
 // Returns whether a whole number of 0 or more is at the key.
 fn has_number(table: &Table, key: &str) -> bool {
-    required(table, key, 0, GREATEST_INTEGER).is_some()
+    required(table, key, 0, MAX_INTEGER).is_some()
 }
 
 // Returns whether the table has a valid class.
@@ -96,7 +96,7 @@ pub(crate) fn row_rule(table: &Table) -> Option<Rule<'_>> {
         "max must be a whole number, not negative"
     } else if !has_class(table) {
         "class must be none, na or be"
-    } else if optional(table, "queue", MOST_QUEUE).is_none() {
+    } else if optional(table, "queue", MAX_QUEUE).is_none() {
         "queue must be 0 to 4294967295"
     } else {
         return None;

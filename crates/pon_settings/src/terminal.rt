@@ -5,9 +5,7 @@ ghost use Rattle.pon_settings.specs.Ports.{IsPortCount, admission, openings, ste
 
 use crate::port::PortSettings;
 use crate::row::SettingsRow;
-use pon_admit::Row;
-use pon_event::{Event, Step};
-use pon_state::PortCfg;
+use pon_admit::{Event, PortCfg, Row, Step};
 use pon_units::{FrameNo, PortNo};
 use std::alloc::{AllocError, Global};
 use std::marker::Model;

@@ -9,8 +9,8 @@ use Rattle.pon_descr.specs.declared.refusal.Refusal.TheVariants.{NoSuchAlloc}
 use Rattle.pon_admit.specs.declared.row.Row.{Row}
 use Rattle.pon_admit.specs.Roster.{IsDistinct, comes_before, refuses_remove, without}
 use Rattle.pon_admit.proofs.OneRow.{has_alloc-none, stands}
-use Rattle.pon_share.specs.Carries.{carries_of, number_of}
-use Rattle.pon_share.proofs.Carries.{carries_removed}
+use Rattle.pon_demand.specs.Carries.{carries_of, number_of}
+use Rattle.pon_demand.proofs.Carries.{carries_removed}
 
 pub place_within : (r : Row) (rows : List Row) (carries : List ℕ) (k : ℕ) → length carries ≡ length rows → k ≡ count_by (λ s. comes_before s r) rows → k ≤ length carries
 place_within r rows carries k same is = omega (arith, same, is, count_by-le-length (λ s. comes_before s r) rows)

@@ -1,4 +1,4 @@
--- Entries that compare as equal are equal.
+-- Maps that compare as equal are equal.
 use Rattle.std.proofs.Common.{◌≡◌, Bool, List, refl, ap}
 use Rattle.std.specs.Prelude.{◌==◌}
 use Rattle.std.specs.Bool.{Decides}
@@ -18,13 +18,8 @@ use Rattle.pon_cert.specs.declared.cert.Level.TheVariants as level
 use Rattle.pon_cert.specs.declared.cert.ClassCert.{ClassCert}
 use Rattle.pon_cert.specs.declared.cert.MapCert.{MapCert}
 use Rattle.pon_state.specs.contracts.reply.MadeMapPartialEq.TheImpl as made_map_eq
-use Rattle.pon_state.specs.contracts.reply.ReplyPartialEq.TheImpl as reply_eq
-use Rattle.pon_state.specs.contracts.reply.EntryPartialEq.TheImpl as entry_eq
 use Rattle.pon_state.specs.declared.reply.MadeMap.{MadeMap}
-use Rattle.pon_state.specs.declared.reply.Reply.{Reply}
-use Rattle.pon_state.specs.declared.reply.Reply.TheVariants.{Taken, Map}
-use Rattle.pon_state.specs.declared.reply.Entry.{Entry}
-use Rattle.pon_event.proofs.Equality.{events_decide, options_decide}
+use Rattle.pon_admit.proofs.Equality.{options_decide}
 
 -- Maps and their certificates.
 
@@ -80,21 +75,9 @@ certs_decide a b =
       λ e. parts.1 (ap (λ c. c.na) e, ap (λ c. c.be) e),
     )
 
-made_maps_decide : (a b : MadeMap) → Decides ((made_map_eq.ghosts).eq a b) (a ≡ b)
+pub made_maps_decide : (a b : MadeMap) → Decides ((made_map_eq.ghosts).eq a b) (a ≡ b)
 made_maps_decide a b =
     let parts = Decides-and _ _ (unsigned_Decides a.frame b.frame) (Decides-and _ _ (maps_decide a.map b.map) (certs_decide a.cert b.cert)) in (
       λ e. let p = parts.0 e in (λ i. record { frame = p.0 i; map = p.1.0 i; cert = p.1.1 i }),
       λ e. parts.1 (ap (λ m. m.frame) e, (ap (λ m. m.map) e, ap (λ m. m.cert) e)),
-    )
-
-pub replies_decide : (a b : Reply) → Decides ((reply_eq.ghosts).eq a b) (a ≡ b)
-replies_decide Taken Taken = (λ _. refl, λ _. refl)
-replies_decide (Map m) (Map n) = (λ e. ap Map ((made_maps_decide m n).0 e), λ e. (made_maps_decide m n).1 cc)
-replies_decide a b = (λ e. absurd cc, λ e. absurd cc)
-
-pub entries_decide : (a b : Entry) → Decides ((entry_eq.ghosts).eq a b) (a ≡ b)
-entries_decide a b =
-    let parts = Decides-and _ _ (events_decide a.event b.event) (replies_decide a.reply b.reply) in (
-      λ e. let p = parts.0 e in (λ i. record { event = p.0 i; reply = p.1 i }),
-      λ e. parts.1 (ap (λ d. d.event) e, ap (λ d. d.reply) e),
     )

@@ -1,4 +1,5 @@
 pub mod CarryPlaces
 pub mod Equality
 pub mod KeptMaps
+pub mod Replies
 pub mod Undone

@@ -5,14 +5,14 @@ use Rattle.pon_descr.specs.Descriptor.{Descriptor}
 use Rattle.pon_admit.specs.declared.row.Row.{Row}
 use Rattle.pon_admit.specs.Roster.{with_row, with_descriptor, without}
 use Rattle.pon_guar.specs.Loads.{Loads, after_admitted, after_cleared, after_mapped, after_removed, after_reported}
-use Rattle.pon_share.specs.Carries.{carries_of, number_of}
+use Rattle.pon_demand.specs.Carries.{carries_of, number_of}
 use Rattle.pon_state.specs.State.{State}
 use Rattle.pon_state.specs.Carries.{carries_left}
-use Rattle.pon_event.specs.declared.event.Event.{Event}
-use Rattle.pon_event.specs.declared.event.Event.TheVariants.{Admit, Change, Remove, Report, MakeMap, Fail, Restore}
-use Rattle.pon_state.specs.Replay.{grants_of, structures}
+use Rattle.pon_admit.specs.declared.event.Event.{Event}
+use Rattle.pon_admit.specs.declared.event.Event.TheVariants.{Admit, Change, Remove, Report, MakeMap, Fail, Restore}
+use Rattle.pon_state.specs.Replay.{grants_in_map, structures}
 use Rattle.pon_state.specs.declared.reply.Reply.{Reply}
-use Rattle.pon_state.specs.declared.reply.Entry.{Entry}
+use Rattle.pon_state.specs.Entry.{Entry}
 
 -- the report book of a state
 abbrev pub loads_of : State → Loads
@@ -71,7 +71,7 @@ after_event s Restore = after_cut s None
 
 -- the state after an event and its reply: the grants of a map are those of the reply
 abbrev pub after_reply : State → Event → Reply → State
-after_reply s MakeMap reply = after_map s (grants_of s.roster (structures reply)) (carries_left s reply)
+after_reply s MakeMap reply = after_map s (grants_in_map s.roster (structures reply)) (carries_left s reply)
 after_reply s event reply = after_event s event
 
 abbrev pub after_entry : State → Entry → State

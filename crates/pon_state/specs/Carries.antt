@@ -3,16 +3,16 @@
 use Rattle.std.specs.Prelude.{ℕ, ◌+◌, Bool, if◌then◌else◌, List, [], ◌∷◌, ◌++◌, map}
 use Rattle.std.specs.List.{list_any}
 use Rattle.pon_admit.specs.Roster.{left_over}
-use Rattle.pon_share.specs.Carries.{number_of}
-use Rattle.pon_share.specs.Input.{Input}
-use Rattle.pon_share.specs.Rates.{carried, whole_rate}
-use Rattle.pon_share.specs.Sharing.{surplus_rate}
+use Rattle.pon_demand.specs.Carries.{number_of}
+use Rattle.pon_demand.specs.Input.{Input}
+use Rattle.pon_demand.specs.Rates.{carried, whole_rate}
+use Rattle.pon_demand.specs.Sharing.{surplus_rate}
 use Rattle.pon_state.specs.State.{State, carry_at, input_of}
 use Rattle.pon_state.specs.Replay.{admits, roster_of}
 use Rattle.pon_state.specs.Loads.{book_of}
 use Rattle.pon_state.specs.declared.reply.Reply.{Reply}
 use Rattle.pon_state.specs.declared.reply.Reply.TheVariants.{Taken, Map}
-use Rattle.pon_state.specs.declared.reply.Entry.{Entry}
+use Rattle.pon_state.specs.Entry.{Entry}
 
 -- the share input of the next map after the entries; no rate depends on a carry
 abbrev pub input_after : State → List Entry → Input

@@ -1,12 +1,12 @@
 -- The first refusal of an event.
 use Rattle.std.specs.Prelude.{ℕ, ◌-◌, ◌^◌, ◌||◌, nat_le, length, Option, Some, None}
-use Rattle.pon_state.specs.declared.checks.TheConstants.{MOST_ENTRIES}
+use Rattle.pon_state.specs.declared.checks.TheConstants.{MAX_ENTRIES}
 use Rattle.pon_descr.specs.Checks.{when, or_else}
 use Rattle.pon_admit.specs.Roster.{refuses_admit, refuses_change, refuses_remove}
-use Rattle.pon_window.specs.Reports.{refuses_report}
+use Rattle.pon_guar.specs.ReportChecks.{refuses_report}
 use Rattle.pon_state.specs.State.{State}
-use Rattle.pon_event.specs.declared.event.Event.{Event}
-use Rattle.pon_event.specs.declared.event.Event.TheVariants.{Admit, Change, Remove, Report, MakeMap, Fail, Restore}
+use Rattle.pon_admit.specs.declared.event.Event.{Event}
+use Rattle.pon_admit.specs.declared.event.Event.TheVariants.{Admit, Change, Remove, Report, MakeMap, Fail, Restore}
 use Rattle.pon_descr.specs.declared.refusal.Refusal.{Refusal}
 use Rattle.pon_descr.specs.declared.refusal.Refusal.TheVariants.{PortDown, PortUp, FrameLimit, ChapterFull}
 
@@ -24,7 +24,7 @@ at_limit next = when (nat_le (2 ^ 64 - 1) next) FrameLimit
 
 -- the chapter, or the count of entries over all chapters, is full
 abbrev pub when_full : ℕ → ℕ → Option Refusal
-when_full kept taken_before = when (nat_le MOST_ENTRIES kept || nat_le (2 ^ 64 - 1) (taken_before)) ChapterFull
+when_full kept taken_before = when (nat_le MAX_ENTRIES kept || nat_le (2 ^ 64 - 1) (taken_before)) ChapterFull
 
 -- Each event's own checks, in order.
 abbrev pub refuses : State → Event → Option Refusal

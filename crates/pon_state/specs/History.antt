@@ -1,11 +1,11 @@
 -- The replay of a history: each part of the state, put together.
 use Rattle.std.specs.Prelude.{◌+◌, List, length}
-use Rattle.pon_share.specs.Carries.{carries_of}
+use Rattle.pon_demand.specs.Carries.{carries_of}
 use Rattle.pon_state.specs.State.{State}
 use Rattle.pon_state.specs.Replay.{next_of, cause_of, roster_of, window_of}
 use Rattle.pon_state.specs.Loads.{book_of}
 use Rattle.pon_state.specs.Carries.{carry_after}
-use Rattle.pon_state.specs.declared.reply.Entry.{Entry}
+use Rattle.pon_state.specs.Entry.{Entry}
 
 -- the state after the entries
 abbrev pub replay : State → List Entry → State

@@ -1,16 +1,16 @@
 -- The entries that may follow in a history.
 use Rattle.std.specs.Prelude.{ℕ, ◌≡◌, None}
 use Rattle.pon_state.specs.State.{State, carry_at, input_of}
-use Rattle.pon_share.specs.Sharing.{IsCertified, surplus_rate}
-use Rattle.pon_share.specs.Maps.{map_of}
+use Rattle.pon_demand.specs.Sharing.{IsCertified, surplus_rate}
+use Rattle.pon_demand.specs.Maps.{map_of}
 use Rattle.pon_state.specs.Checks.{first_refusal}
 use Rattle.pon_state.specs.Events.{IsEvent}
-use Rattle.pon_event.specs.declared.event.Event.{Event}
-use Rattle.pon_event.specs.declared.event.Event.TheVariants.{MakeMap}
+use Rattle.pon_admit.specs.declared.event.Event.{Event}
+use Rattle.pon_admit.specs.declared.event.Event.TheVariants.{MakeMap}
 use Rattle.pon_state.specs.declared.reply.Reply.{Reply}
 use Rattle.pon_state.specs.declared.reply.Reply.TheVariants.{Taken, Map}
 use Rattle.pon_state.specs.declared.reply.MadeMap.{MadeMap}
-use Rattle.pon_state.specs.declared.reply.Entry.{Entry}
+use Rattle.pon_state.specs.Entry.{Entry}
 
 -- the map of a state: of its next frame, with an accepted certificate, and with the rates of its assignment and the
 -- state's carries

@@ -2,8 +2,11 @@ pub mod Accounts
 pub mod After
 pub mod Carries
 pub mod Checks
+pub mod Entries
+pub mod Entry
 pub mod Events
 pub mod History
+pub mod KeptEntries
 pub mod Legal
 pub mod Loads
 pub mod Parts

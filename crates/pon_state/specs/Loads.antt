@@ -4,13 +4,13 @@ use Rattle.std.specs.List.{list_any}
 use Rattle.pon_guar.specs.declared.account.Account.{Account}
 use Rattle.pon_guar.specs.declared.account.Counted.{Counted}
 use Rattle.pon_guar.specs.Book.{account_of, alloc_ids, counted_of_account, since_of_account}
-use Rattle.pon_window.specs.Window.{WindowMap, grants_at, words_from}
+use Rattle.pon_guar.specs.Window.{WindowMap, grants_at, words_from}
 use Rattle.pon_guar.specs.Reports.{latest, occupancies}
 use Rattle.pon_state.specs.State.{State}
 use Rattle.pon_state.specs.Replay.{begins, allocs_of, frame_at_last, maps_of, all_maps}
-use Rattle.pon_event.specs.declared.event.Event.{Event}
-use Rattle.pon_event.specs.declared.event.Event.TheVariants.{Report}
-use Rattle.pon_state.specs.declared.reply.Entry.{Entry}
+use Rattle.pon_admit.specs.declared.event.Event.{Event}
+use Rattle.pon_admit.specs.declared.event.Event.TheVariants.{Report}
+use Rattle.pon_state.specs.Entry.{Entry}
 
 -- the frame from which an Alloc-ID's reports count
 abbrev pub since_of : State → List Entry → ℕ → ℕ

@@ -5,14 +5,14 @@ use Rattle.pon_bwmap.specs.Alloc.{Alloc}
 use Rattle.pon_admit.specs.declared.row.Row.{Row}
 use Rattle.pon_admit.specs.Roster.{with_row, with_descriptor, without}
 use Rattle.pon_guar.specs.Book.{with_alloc, without_alloc}
-use Rattle.pon_window.specs.Window.{WindowMap, last_64, onus_polled}
+use Rattle.pon_guar.specs.Window.{WindowMap, last_64, onus_polled}
 use Rattle.pon_units.specs.declared.granted.Granted.{Granted}
 use Rattle.pon_state.specs.State.{State}
-use Rattle.pon_event.specs.declared.event.Event.{Event}
-use Rattle.pon_event.specs.declared.event.Event.TheVariants.{Admit, Change, Remove, Report, MakeMap, Fail, Restore}
+use Rattle.pon_admit.specs.declared.event.Event.{Event}
+use Rattle.pon_admit.specs.declared.event.Event.TheVariants.{Admit, Change, Remove, Report, MakeMap, Fail, Restore}
 use Rattle.pon_state.specs.declared.reply.Reply.{Reply}
 use Rattle.pon_state.specs.declared.reply.Reply.TheVariants.{Taken, Map}
-use Rattle.pon_state.specs.declared.reply.Entry.{Entry}
+use Rattle.pon_state.specs.Entry.{Entry}
 
 -- Kinds of event.
 
@@ -83,10 +83,10 @@ frame_at_last test start next (e ∷ es) = frame_at_last test (if test e then ne
 -- The maps of a list, and their reports.
 
 -- the grants of a map's structures, each with the ONU that owns it
-abbrev pub grants_of : List Row → List Alloc → List Granted
-grants_of (r ∷ rows) (a ∷ more) = record { onu = r.onu; alloc_id = r.alloc_id; words = a.grant - 1 } ∷ grants_of rows more
-grants_of [] more = []
-grants_of (r ∷ rows) [] = []
+abbrev pub grants_in_map : List Row → List Alloc → List Granted
+grants_in_map (r ∷ rows) (a ∷ more) = record { onu = r.onu; alloc_id = r.alloc_id; words = a.grant - 1 } ∷ grants_in_map rows more
+grants_in_map [] more = []
+grants_in_map (r ∷ rows) [] = []
 
 -- an ONU that has reported for the map, before or in one of the entries
 abbrev pub has_reported : List Entry → WindowMap → ℕ → Bool
@@ -101,7 +101,7 @@ structures Taken = []
 structures (Map made) = made.map
 
 abbrev pub new_map : List Row → ℕ → Reply → WindowMap
-new_map rows next reply = record { frame = next; grants = grants_of rows (structures reply); reported = [] }
+new_map rows next reply = record { frame = next; grants = grants_in_map rows (structures reply); reported = [] }
 
 -- the map of an entry that makes one
 abbrev pub map_made : List Row → ℕ → Entry → List WindowMap

@@ -4,9 +4,9 @@ use Rattle.pon_admit.specs.declared.row.Row.{Row}
 use Rattle.pon_admit.specs.declared.rule.Rule.{Rule}
 use Rattle.pon_admit.specs.Roster.{has_alloc, rule_in_force}
 use Rattle.pon_guar.specs.declared.account.Account.{Account}
-use Rattle.pon_window.specs.Window.{WindowMap}
-use Rattle.pon_share.specs.Carries.{number_of}
-use Rattle.pon_share.specs.Input.{Input}
+use Rattle.pon_guar.specs.Window.{WindowMap}
+use Rattle.pon_demand.specs.Carries.{number_of}
+use Rattle.pon_demand.specs.Input.{Input}
 
 pub record State : Type 0 where
   pub rule : Rule  -- the rule that the port is under

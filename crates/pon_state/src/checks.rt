@@ -4,20 +4,19 @@ ghost use Rattle.std.specs.Prelude.{◌≡◌};
 ghost use Rattle.pon_state.specs.Checks.{first_refusal, when_down, when_full};
 
 use crate::state::PortState;
-use pon_admit::Row;
+use pon_admit::{Event, Row};
 use pon_dbru::Occupancies;
 use pon_descr::{Cause, Descriptor, Refusal};
-use pon_event::Event;
 use pon_units::{AllocId, FrameNo, OnuId};
 
 /// The greatest number of entries of a chapter.
-pub const MOST_ENTRIES: usize = 65_536;
+pub const MAX_ENTRIES: usize = 65_536;
 
 // Returns `ChapterFull` if a chapter with `kept` entries, or the count over all chapters, is full.
 fn chapter_refusal(kept: usize, taken_before: u64) -> Option<Refusal>
     ensures { result ≡ when_full kept taken_before }
 {
-    if kept >= MOST_ENTRIES || taken_before == u64::MAX {
+    if kept >= MAX_ENTRIES || taken_before == u64::MAX {
         Some(Refusal::ChapterFull)
     } else {
         None

@@ -1,21 +1,23 @@
 //! The state of one port of an XG-PON optical line terminal (upstream bandwidth assignment, ITU-T G.987.3): the checks
-//! that refuse an event, the step of an accepted event, and the next map.
+//! that refuse an event, the step of an accepted event, and the map under a given certificate.
 //!
 //! A [`PortState`] is the state after the history of a port. The crate keeps no history.
 #![tactic(auto)]
 
 mod apply;
 mod checks;
+mod entry;
+mod maps;
 mod parts;
 mod ranges;
-mod ready_map;
 mod reply;
 mod state;
 
 pub use apply::{add_map, step};
-pub use checks::{MOST_ENTRIES, refusal_of};
+pub use checks::{MAX_ENTRIES, refusal_of};
+pub use entry::{Entry, EntryRef};
+pub use maps::{MapUnder, map_under, next_problems};
 pub use parts::StateParts;
-pub use ranges::in_range;
-pub use ready_map::{MapUnder, ReadyMap, map_under, next_map, next_problems};
-pub use reply::{Entry, MadeMap, Reply};
-pub use state::{PortCfg, PortState};
+pub use ranges::prove_in_range;
+pub use reply::{MadeMap, Reply};
+pub use state::PortState;

@@ -2,33 +2,30 @@
 
 ghost use Rattle.pon_state.specs.Events.{AreOccupancies, IsEvent, IsManaged};
 
-use pon_admit::Row;
+use pon_admit::{Event, Row};
 use pon_dbru::Occupancies;
-use pon_event::Event;
-use pon_units::{
-    AllocId, GREATEST_ALLOC_ID, GREATEST_OCCUPANCY, GREATEST_ONU_ID, LEAST_ALLOC_ID, LINE_RATE,
-};
+use pon_units::{AllocId, LINE_RATE, MAX_ALLOC_ID, MAX_OCCUPANCY, MAX_ONU_ID, MIN_ALLOC_ID};
 
 // States that an Alloc-ID is in range, by its type.
-fn is_managed(alloc_id: AllocId)
+fn prove_managed(alloc_id: AllocId)
     ensures { IsManaged alloc_id }
 {
-    prove!(alloc_id.get() >= LEAST_ALLOC_ID && alloc_id.get() <= GREATEST_ALLOC_ID);
+    prove!(alloc_id.get() >= MIN_ALLOC_ID && alloc_id.get() <= MAX_ALLOC_ID);
 }
 
 // States that occupancies are at most 16 and in range, by their types.
-fn are_occupancies(occ: &Occupancies)
+fn prove_occupancies(occ: &Occupancies)
     ensures { AreOccupancies occ.now }
 {
     for report in occ.as_slice() {
         if let Some(words) = report {
-            prove!(words.get() <= GREATEST_OCCUPANCY);
+            prove!(words.get() <= MAX_OCCUPANCY);
         }
     }
 }
 
 /// States that the numbers of an event are in range, by their types.
-pub fn in_range(event: &Event)
+pub fn prove_in_range(event: &Event)
     ensures { IsEvent event.now }
 {
     match event {
@@ -43,13 +40,13 @@ pub fn in_range(event: &Event)
             alloc_id,
             descriptor,
         } => {
-            is_managed(*alloc_id);
+            prove_managed(*alloc_id);
             prove!(u64::from(descriptor.promised().get()) <= LINE_RATE);
         }
-        Event::Remove { alloc_id } => is_managed(*alloc_id),
+        Event::Remove { alloc_id } => prove_managed(*alloc_id),
         Event::Report { frame, onu, occ } => {
-            prove!(frame.get() <= u64::MAX && onu.get() <= GREATEST_ONU_ID);
-            are_occupancies(occ);
+            prove!(frame.get() <= u64::MAX && onu.get() <= MAX_ONU_ID);
+            prove_occupancies(occ);
         }
         Event::Fail { cause } => prove!(cause.get() >= 1 && cause.get() <= 9),
         Event::MakeMap | Event::Restore => {}

@@ -2,7 +2,6 @@ ghost use Rattle.std.specs.Prelude.{◌≡◌, IfOk};
 
 use pon_bwmap::Map;
 use pon_cert::MapCert;
-use pon_event::Event;
 use pon_units::FrameNo;
 use std::alloc::{AllocError, Global};
 
@@ -32,11 +31,4 @@ impl MadeMap {
 pub enum Reply {
     Taken,
     Map(MadeMap),
-}
-
-/// An event that was taken, and its reply.
-#[derive(Debug, PartialEq, Eq, Drop)]
-pub struct Entry {
-    pub event: Event,
-    pub reply: Reply,
 }

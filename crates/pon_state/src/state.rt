@@ -1,18 +1,11 @@
 ghost use Rattle.std.specs.Prelude.{◌≡◌, IfOk};
 
-use pon_admit::Roster;
+use pon_admit::{PortCfg, Roster};
 use pon_descr::Cause;
 use pon_guar::Loads;
-use pon_units::{AllocId, FrameNo, Gap, Profile};
+use pon_units::{AllocId, FrameNo, Profile};
 use std::alloc::{AllocError, Global};
 use std::marker::Model;
-
-/// The configuration of a port: the gap before each burst, 1 to 256 words, and the burst profile, 0 to 3.
-#[derive(Clone, Copy, Debug, PartialEq, Eq)]
-pub struct PortCfg {
-    pub gap: Gap,
-    pub profile: Profile,
-}
 
 /// The state of a port: rule, configuration, next frame, cause of failure, roster, report book and window, and what the
 /// last map left to each Alloc-ID.
@@ -49,8 +42,8 @@ impl Model for PortState {
 
 impl PortState {
     ghost use Rattle.std.specs.Prelude.{◌≤◌, IfSome};
-    ghost use Rattle.pon_admit.specs.Roster.{most_carry};
-    ghost use Rattle.pon_share.specs.Carries.{AreCarries};
+    ghost use Rattle.pon_admit.specs.Roster.{max_carry};
+    ghost use Rattle.pon_demand.specs.Carries.{AreCarries};
     ghost use Rattle.pon_state.specs.State.{carry_of, just_opened};
 
     /// Makes the state of a port just opened: no Alloc-ID, the line up, and `first` as its next frame. `Err` only if
@@ -109,7 +102,7 @@ impl PortState {
     pub fn carry(&self, alloc_id: AllocId) -> Option<u8>
         requires { AreCarries self.now.rule self.now.roster self.now.carries }
         ensures value { result ≡ carry_of self.now alloc_id }
-        ensures range { IfSome result (λ carry. carry ≤ most_carry self.now.rule) }
+        ensures range { IfSome result (λ carry. carry ≤ max_carry self.now.rule) }
     {
         let place = self.roster.place_of(alloc_id)?;
         Some(self.carries[place])

@@ -1,8 +1,8 @@
 //! Events in plain numbers, so that tables of them are constants.
 
+use pon_admit::Event;
 use pon_dbru::Occupancies;
 use pon_descr::{Cause, Class, Descriptor, Refusal};
-use pon_event::Event;
 use pon_units::{AllocId, BufOcc, FrameNo, Gap, OnuId, Profile};
 use std::process::Abort;
 

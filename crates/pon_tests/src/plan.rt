@@ -1,7 +1,7 @@
 ghost use Rattle.std.specs.Prelude.{◌<◌, ◌≤◌};
 
-use pon_device::{MemRead, MemWrite};
-use pon_manage::{PlanEnd, PlanFault, plan};
+use pon_device::{DeviceFault, MemRead, MemWrite};
+use pon_manage::{PlanEnd, plan};
 use pon_port::PortCfg;
 use pon_units::{FrameNo, Gap, Profile};
 use std::alloc::{AllocError, Global};
@@ -17,7 +17,7 @@ const FIRST_TEXT: &[u8] = b"ok 0\nmap 0 002013ac10020010000b13cb\n";
 // The result of a run, and the bytes of its writer.
 #[derive(Drop)]
 struct Answered {
-    result: Result<PlanEnd, PlanFault>,
+    result: Result<PlanEnd, DeviceFault>,
     text: Vec<u8>,
 }
 
@@ -74,7 +74,7 @@ fn run(alloc: Global, gap: u16, input: &[u8], devices: Devices<'_>) -> Option<An
 }
 
 // Returns whether the run was not refused memory, and ended with this result and text.
-fn ends_with(run: Option<Answered>, wanted: Result<PlanEnd, PlanFault>, text: &[u8]) -> bool {
+fn ends_with(run: Option<Answered>, wanted: Result<PlanEnd, DeviceFault>, text: &[u8]) -> bool {
     match run {
         None => false,
         Some(run) => run.result == wanted && run.text.as_slice() == text,
@@ -301,7 +301,7 @@ fn a_failed_read_leaves_the_whole_lines(rt: HostRuntime) {
         };
         let run = run(rt.alloc(), 16, FIRST_MAP, devices);
         assert!(rt;
-            ends_with(run, Err(PlanFault::Read), text_before(call)),
+            ends_with(run, Err(DeviceFault::Read), text_before(call)),
             "{call}"
         );
     }
@@ -317,7 +317,7 @@ fn a_failed_write_leaves_a_beginning(rt: HostRuntime) {
         };
         let run = run(rt.alloc(), 16, FIRST_MAP, devices);
         let text = FIRST_TEXT.get(..call).expect(&rt, "36 bytes");
-        assert!(rt; ends_with(run, Err(PlanFault::Write), text), "{call}");
+        assert!(rt; ends_with(run, Err(DeviceFault::Write), text), "{call}");
     }
     assert!(rt; FIRST_TEXT.len() == 36);
 }
@@ -329,7 +329,7 @@ fn is_beginning(run: Option<Answered>) -> bool {
     };
     match run.result {
         Ok(PlanEnd) => run.text.as_slice() == FIRST_TEXT,
-        Err(PlanFault::Read) => false,
+        Err(DeviceFault::Read) => false,
         Err(_) => FIRST_TEXT.starts_with(run.text.as_slice()),
     }
 }

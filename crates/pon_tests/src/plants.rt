@@ -1,8 +1,9 @@
 //! Plants with ample memory: rows of steps, each with its expected answer.
 
 use crate::acts::{Act, Why, event, gap, profile, refusal};
+use pon_admit::PortCfg;
 use pon_plant::{Plant, PlantFault, Step, StepFault};
-use pon_state::{PortCfg, Reply};
+use pon_state::Reply;
 use pon_units::{FrameNo, PortNo};
 use std::alloc::Global;
 use std::process::Abort;

@@ -1,13 +1,13 @@
 -- Texts split at a byte, and the lines of a file.
-use Rattle.std.proofs.Common.{◌≡◌, ℕ, suc, ◌+◌, ◌-◌, ◌<◌, Bool, true, false, cond, not, eqb, List, [], ◌∷◌, length, take, drop, map, refl, ap, sym, ◌∙◌, arith, Some, None}
+use Rattle.std.proofs.Common.{◌≡◌, ℕ, ◌+◌, ◌-◌, ◌<◌, Bool, true, false, cond, not, List, [], ◌∷◌, length, take, drop, refl, ap, sym, ◌∙◌, arith, Some, None}
 use Rattle.std.specs.Prelude.{◌==◌, nat_lt, option_map}
-use Rattle.std.specs.List.{before_first, after_first, onto_first, position_or_len, prefix_len, slice_split}
+use Rattle.std.specs.List.{before_first, after_first, onto_first, position_or_len, slice_split}
 use Rattle.std.proofs.lemmas.Bool.{ltb-true, ltb-false}
 use Rattle.std.proofs.lemmas.List.{length-drop, take_all}
-use Rattle.std.proofs.lemmas.List.Splits.{length-slice_split, slice_split-cons_no, slice_split_first}
+use Rattle.std.proofs.lemmas.List.Splits.{length-slice_split, slice_split_first}
 use Rattle.std.proofs.lemmas.List.Sums.{prefix_len-le-length}
 use Rattle.pon_lists.proofs.Splits.{slice_split_absent}
-use Rattle.pon_text.specs.Lines.{file_lines, lines_of, onto, without_return}
+use Rattle.pon_text.specs.Lines.{lines_of, onto}
 use Rattle.pon_text.specs.Cuts.{cut_at}
 
 -- all that is left after a place

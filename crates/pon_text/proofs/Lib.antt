@@ -1,4 +1,7 @@
+pub mod Continuing
 pub mod Cutting
-mod Digits
-mod Splitting
+pub mod Digits
+pub mod Feeds
+pub mod Splitting
+pub mod Streaming
 pub mod WordCounts

@@ -1,2 +1,5 @@
 pub mod Cuts
+pub mod Giving
 pub mod Lines
+pub mod Planning
+pub mod Progress

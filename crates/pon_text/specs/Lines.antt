@@ -4,7 +4,7 @@ use Rattle.std.specs.Char.{is_ascii_digit}
 use Rattle.std.specs.List.{list_any, list_all}
 use Rattle.std.specs.Str.Lines.{strip_carriage_return}
 use Rattle.std.specs.Str.Parse.{digits_value}
-use Rattle.pon_text.specs.declared.numbers.TheConstants.{MOST_DIGITS}
+use Rattle.pon_text.specs.declared.numbers.TheConstants.{MAX_DIGITS}
 
 -- a byte prepended to the first of some pieces
 abbrev pub onto : ℕ → List (List ℕ) → List (List ℕ)
@@ -47,7 +47,7 @@ words_of (b ∷ bs) =
 
 -- 1 to 20 decimal digits
 abbrev pub is_numeral : List ℕ → Bool
-is_numeral w = not (length w == 0) && (nat_le (length w) MOST_DIGITS && list_all is_ascii_digit w)
+is_numeral w = not (length w == 0) && (nat_le (length w) MAX_DIGITS && list_all is_ascii_digit w)
 
 -- the value of a word of digits, if it is below 2 ^ 64
 abbrev pub number_of : List ℕ → Option ℕ

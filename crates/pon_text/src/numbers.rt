@@ -8,7 +8,7 @@ ghost use Rattle.std.specs.Str.Parse.{digits_value};
 ghost use Rattle.pon_text.specs.Lines.{number_of, is_numeral};
 
 /// Maximum number of digits of a number, that of 2^64 - 1. Leading zeros count.
-pub const MOST_DIGITS: usize = 20;
+pub const MAX_DIGITS: usize = 20;
 
 fn all_digits(word: &[u8]) -> bool
     ensures { result ≡ list_all is_ascii_digit word.now }
@@ -20,7 +20,7 @@ fn all_digits(word: &[u8]) -> bool
 fn is_numeral(word: &[u8]) -> bool
     ensures { result ≡ is_numeral word.now }
 {
-    !word.is_empty() && word.len() <= MOST_DIGITS && all_digits(word)
+    !word.is_empty() && word.len() <= MAX_DIGITS && all_digits(word)
 }
 
 // Returns the value of digits. `None` if it is 2^64 or more.

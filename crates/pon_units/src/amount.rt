@@ -2,7 +2,7 @@
 ghost use Rattle.std.specs.Prelude.{◌≡◌, ◌≤◌};
 ghost use Rattle.std.specs.Option.{SomeIff};
 
-use crate::limits::{FRAME_WORDS, GREATEST_OCCUPANCY, GREATEST_RATE};
+use crate::limits::{FRAME_WORDS, MAX_OCCUPANCY, MAX_RATE};
 use std::marker::Model;
 
 /// A rate in kbit/s, 0 to 4,294,967,040. One word of 4 bytes in each frame of 125 µs is 256 kbit/s,
@@ -14,23 +14,23 @@ pub struct Kbps {
 
 impl Model for Kbps {
     ghost use Rattle.std.specs.Prelude.{ℕ, ◌≤◌};
-    ghost use Rattle.pon_units.specs.declared.limits.TheConstants.{GREATEST_RATE};
+    ghost use Rattle.pon_units.specs.declared.limits.TheConstants.{MAX_RATE};
 
     ghost Value = { ℕ };
 
     ghost view = { λ a. a.rate };
 
-    ghost invariant = { λ a. a.rate ≤ GREATEST_RATE };
+    ghost invariant = { λ a. a.rate ≤ MAX_RATE };
 
     ghost inverse = { λ n. record { rate = n } };
 }
 
 impl Kbps {
-    /// Returns `None` above [`GREATEST_RATE`].
+    /// Returns `None` above [`MAX_RATE`].
     pub fn new(n: u32) -> Option<Self>
-        ensures { SomeIff result (n ≤ GREATEST_RATE) n }
+        ensures { SomeIff result (n ≤ MAX_RATE) n }
     {
-        if n <= GREATEST_RATE {
+        if n <= MAX_RATE {
             Some(Kbps { rate: n })
         } else {
             None
@@ -40,7 +40,7 @@ impl Kbps {
     /// Rate in kbit/s, 0 to 4,294,967,040.
     pub fn get(self) -> u32
         ensures value { result ≡ self }
-        ensures range { self ≤ GREATEST_RATE }
+        ensures range { self ≤ MAX_RATE }
     {
         self.rate
     }
@@ -107,23 +107,23 @@ pub struct BufOcc {
 
 impl Model for BufOcc {
     ghost use Rattle.std.specs.Prelude.{ℕ, ◌≤◌};
-    ghost use Rattle.pon_units.specs.declared.limits.TheConstants.{GREATEST_OCCUPANCY};
+    ghost use Rattle.pon_units.specs.declared.limits.TheConstants.{MAX_OCCUPANCY};
 
     ghost Value = { ℕ };
 
     ghost view = { λ a. a.occupancy };
 
-    ghost invariant = { λ a. a.occupancy ≤ GREATEST_OCCUPANCY };
+    ghost invariant = { λ a. a.occupancy ≤ MAX_OCCUPANCY };
 
     ghost inverse = { λ n. record { occupancy = n } };
 }
 
 impl BufOcc {
-    /// Returns `None` above [`GREATEST_OCCUPANCY`].
+    /// Returns `None` above [`MAX_OCCUPANCY`].
     pub fn new(n: u32) -> Option<Self>
-        ensures { SomeIff result (n ≤ GREATEST_OCCUPANCY) n }
+        ensures { SomeIff result (n ≤ MAX_OCCUPANCY) n }
     {
-        if n <= GREATEST_OCCUPANCY {
+        if n <= MAX_OCCUPANCY {
             Some(BufOcc { occupancy: n })
         } else {
             None
@@ -133,7 +133,7 @@ impl BufOcc {
     /// Number of words, 0 to 16,777,215.
     pub fn get(self) -> u32
         ensures value { result ≡ self }
-        ensures range { self ≤ GREATEST_OCCUPANCY }
+        ensures range { self ≤ MAX_OCCUPANCY }
     {
         self.occupancy
     }

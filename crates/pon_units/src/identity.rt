@@ -2,7 +2,7 @@
 ghost use Rattle.std.specs.Prelude.{◌≡◌, ◌<◌, ◌≤◌};
 ghost use Rattle.std.specs.Option.{SomeIff};
 
-use crate::limits::{GREATEST_ALLOC_ID, GREATEST_ONU_ID, LEAST_ALLOC_ID, MOST_PORTS};
+use crate::limits::{MAX_ALLOC_ID, MAX_ONU_ID, MAX_PORTS, MIN_ALLOC_ID};
 use std::marker::Model;
 
 /// An ONU-ID, 0 to 1022: the number of an optical network unit on its line (ITU-T G.987.3, ONU-ID).
@@ -13,23 +13,23 @@ pub struct OnuId {
 
 impl Model for OnuId {
     ghost use Rattle.std.specs.Prelude.{ℕ, ◌≤◌};
-    ghost use Rattle.pon_units.specs.declared.limits.TheConstants.{GREATEST_ONU_ID};
+    ghost use Rattle.pon_units.specs.declared.limits.TheConstants.{MAX_ONU_ID};
 
     ghost Value = { ℕ };
 
     ghost view = { λ a. a.onu };
 
-    ghost invariant = { λ a. a.onu ≤ GREATEST_ONU_ID };
+    ghost invariant = { λ a. a.onu ≤ MAX_ONU_ID };
 
     ghost inverse = { λ n. record { onu = n } };
 }
 
 impl OnuId {
-    /// Returns `None` above [`GREATEST_ONU_ID`].
+    /// Returns `None` above [`MAX_ONU_ID`].
     pub fn new(n: u16) -> Option<Self>
-        ensures { SomeIff result (n ≤ GREATEST_ONU_ID) n }
+        ensures { SomeIff result (n ≤ MAX_ONU_ID) n }
     {
-        if n <= GREATEST_ONU_ID {
+        if n <= MAX_ONU_ID {
             Some(OnuId { onu: n })
         } else {
             None
@@ -39,7 +39,7 @@ impl OnuId {
     /// Number of the ONU, 0 to 1022.
     pub fn get(self) -> u16
         ensures value { result ≡ self }
-        ensures range { self ≤ GREATEST_ONU_ID }
+        ensures range { self ≤ MAX_ONU_ID }
     {
         self.onu
     }
@@ -54,23 +54,23 @@ pub struct AllocId {
 
 impl Model for AllocId {
     ghost use Rattle.std.specs.Prelude.{ℕ, ◌≤◌};
-    ghost use Rattle.pon_units.specs.declared.limits.TheConstants.{GREATEST_ALLOC_ID, LEAST_ALLOC_ID};
+    ghost use Rattle.pon_units.specs.declared.limits.TheConstants.{MAX_ALLOC_ID, MIN_ALLOC_ID};
 
     ghost Value = { ℕ };
 
     ghost view = { λ a. a.alloc_id };
 
-    ghost invariant = { λ a. (LEAST_ALLOC_ID ≤ a.alloc_id) × (a.alloc_id ≤ GREATEST_ALLOC_ID) };
+    ghost invariant = { λ a. (MIN_ALLOC_ID ≤ a.alloc_id) × (a.alloc_id ≤ MAX_ALLOC_ID) };
 
     ghost inverse = { λ n. record { alloc_id = n } };
 }
 
 impl AllocId {
-    /// Returns `None` outside [`LEAST_ALLOC_ID`] to [`GREATEST_ALLOC_ID`].
+    /// Returns `None` outside [`MIN_ALLOC_ID`] to [`MAX_ALLOC_ID`].
     pub fn new(n: u16) -> Option<Self>
-        ensures { SomeIff result ((LEAST_ALLOC_ID ≤ n) × (n ≤ GREATEST_ALLOC_ID)) n }
+        ensures { SomeIff result ((MIN_ALLOC_ID ≤ n) × (n ≤ MAX_ALLOC_ID)) n }
     {
-        if n >= LEAST_ALLOC_ID && n <= GREATEST_ALLOC_ID {
+        if n >= MIN_ALLOC_ID && n <= MAX_ALLOC_ID {
             Some(AllocId { alloc_id: n })
         } else {
             None
@@ -80,7 +80,7 @@ impl AllocId {
     /// Number of the Alloc-ID, 1024 to 16383.
     pub fn get(self) -> u16
         ensures value { result ≡ self }
-        ensures range { (LEAST_ALLOC_ID ≤ self) × (self ≤ GREATEST_ALLOC_ID) }
+        ensures range { (MIN_ALLOC_ID ≤ self) × (self ≤ MAX_ALLOC_ID) }
     {
         self.alloc_id
     }
@@ -89,13 +89,13 @@ impl AllocId {
 /// The least Alloc-ID.
 impl Default for AllocId {
     ghost use Rattle.std.specs.Prelude.{◌≡◌};
-    ghost use Rattle.pon_units.specs.declared.limits.TheConstants.{LEAST_ALLOC_ID};
+    ghost use Rattle.pon_units.specs.declared.limits.TheConstants.{MIN_ALLOC_ID};
 
-    ghost is_default = { λ a. a ≡ LEAST_ALLOC_ID };
+    ghost is_default = { λ a. a ≡ MIN_ALLOC_ID };
 
     fn default() -> Self {
         AllocId {
-            alloc_id: LEAST_ALLOC_ID,
+            alloc_id: MIN_ALLOC_ID,
         }
     }
 }
@@ -108,32 +108,32 @@ pub struct PortNo {
 
 impl Model for PortNo {
     ghost use Rattle.std.specs.Prelude.{ℕ, ◌<◌};
-    ghost use Rattle.pon_units.specs.declared.limits.TheConstants.{MOST_PORTS};
+    ghost use Rattle.pon_units.specs.declared.limits.TheConstants.{MAX_PORTS};
 
     ghost Value = { ℕ };
 
     ghost view = { λ a. a.port };
 
-    ghost invariant = { λ a. a.port < MOST_PORTS };
+    ghost invariant = { λ a. a.port < MAX_PORTS };
 
     ghost inverse = { λ n. record { port = n } };
 }
 
 impl PortNo {
-    /// Returns `None` from [`MOST_PORTS`] on.
+    /// Returns `None` from [`MAX_PORTS`] on.
     pub fn new(n: u8) -> Option<Self>
-        ensures { SomeIff result (n < MOST_PORTS) n }
+        ensures { SomeIff result (n < MAX_PORTS) n }
     {
-        if usize::from(n) < MOST_PORTS {
+        if usize::from(n) < MAX_PORTS {
             Some(PortNo { port: n })
         } else {
             None
         }
     }
 
-    /// Returns the number of the port at an index of a list of ports. The index must be below [`MOST_PORTS`].
+    /// Returns the number of the port at an index of a list of ports. The index must be below [`MAX_PORTS`].
     pub fn at(place: usize) -> Self
-        requires { place < MOST_PORTS }
+        requires { place < MAX_PORTS }
         ensures { result ≡ place }
     {
         PortNo { port: place as u8 }
@@ -142,7 +142,7 @@ impl PortNo {
     /// Number of the port, 0 to 63.
     pub fn get(self) -> u8
         ensures value { result ≡ self }
-        ensures range { self < MOST_PORTS }
+        ensures range { self < MAX_PORTS }
     {
         self.port
     }

@@ -10,34 +10,37 @@ pub const WORD_RATE: u64 = 256;
 pub const LINE_RATE: u64 = 2_488_320;
 
 /// The greatest ONU-ID: 1023 identifies no unit (ITU-T G.987.3, ONU-ID).
-pub const GREATEST_ONU_ID: u16 = 1022;
+pub const MAX_ONU_ID: u16 = 1022;
 
 /// The least Alloc-ID that is assigned by management (ITU-T G.987.3, Alloc-ID).
-pub const LEAST_ALLOC_ID: u16 = 1024;
+pub const MIN_ALLOC_ID: u16 = 1024;
 
 /// The greatest number in the 14 bits of an Alloc-ID (ITU-T G.987.3, Alloc-ID).
-pub const GREATEST_ALLOC_ID: u16 = 16_383;
+pub const MAX_ALLOC_ID: u16 = 16_383;
 
 /// The greatest occupancy in the 24 bits of a report, in words of 4 bytes (ITU-T G.987.3, BufOcc).
-pub const GREATEST_OCCUPANCY: u32 = 16_777_215;
+pub const MAX_OCCUPANCY: u32 = 16_777_215;
 
-/// The greatest rate, in kbit/s: that of [`GREATEST_OCCUPANCY`] words sent in every frame.
-pub const GREATEST_RATE: u32 = 4_294_967_040;
+/// The greatest rate, in kbit/s: that of [`MAX_OCCUPANCY`] words sent in every frame.
+pub const MAX_RATE: u32 = 4_294_967_040;
 
 /// The shortest gap before a burst, in words of 4 bytes, so that bursts never touch (this project's choice).
-pub const SHORTEST_GAP: u16 = 1;
+pub const MIN_GAP: u16 = 1;
 
 /// The longest gap before a burst, in words of 4 bytes (this project's choice).
-pub const LONGEST_GAP: u16 = 256;
+pub const MAX_GAP: u16 = 256;
 
 /// The greatest number in the 2 bits of a burst profile (ITU-T G.987.3, BurstProfile).
-pub const GREATEST_PROFILE: u8 = 3;
+pub const MAX_PROFILE: u8 = 3;
 
 /// Maximum number of allocation structures of a bandwidth map (this project's choice).
-pub const MOST_STRUCTURES: usize = 512;
+pub const MAX_STRUCTURES: usize = 512;
 
 /// Maximum number of allocation structures of a burst, and so of Alloc-IDs of an ONU (this project's choice).
-pub const LONGEST_SERIES: usize = 16;
+pub const MAX_SERIES: usize = 16;
+
+/// Maximum number of ONUs of a port (this project's choice).
+pub const MAX_ONUS: usize = 128;
 
 /// Maximum number of ports of a line terminal (this project's choice).
-pub const MOST_PORTS: usize = 64;
+pub const MAX_PORTS: usize = 64;

@@ -2,7 +2,7 @@
 ghost use Rattle.std.specs.Prelude.{◌≡◌, ◌≤◌};
 ghost use Rattle.std.specs.Option.{SomeIff};
 
-use crate::limits::{GREATEST_PROFILE, LONGEST_GAP, SHORTEST_GAP};
+use crate::limits::{MAX_GAP, MAX_PROFILE, MIN_GAP};
 use std::marker::Model;
 
 /// Gap before each burst, in words of 4 bytes, 1 to 256: guard time, preamble and delimiter (ITU-T G.987.3,
@@ -14,23 +14,23 @@ pub struct Gap {
 
 impl Model for Gap {
     ghost use Rattle.std.specs.Prelude.{ℕ, ◌≤◌};
-    ghost use Rattle.pon_units.specs.declared.limits.TheConstants.{LONGEST_GAP, SHORTEST_GAP};
+    ghost use Rattle.pon_units.specs.declared.limits.TheConstants.{MAX_GAP, MIN_GAP};
 
     ghost Value = { ℕ };
 
     ghost view = { λ a. a.gap };
 
-    ghost invariant = { λ a. (SHORTEST_GAP ≤ a.gap) × (a.gap ≤ LONGEST_GAP) };
+    ghost invariant = { λ a. (MIN_GAP ≤ a.gap) × (a.gap ≤ MAX_GAP) };
 
     ghost inverse = { λ n. record { gap = n } };
 }
 
 impl Gap {
-    /// Returns `None` outside [`SHORTEST_GAP`] to [`LONGEST_GAP`].
+    /// Returns `None` outside [`MIN_GAP`] to [`MAX_GAP`].
     pub fn new(n: u16) -> Option<Self>
-        ensures { SomeIff result ((SHORTEST_GAP ≤ n) × (n ≤ LONGEST_GAP)) n }
+        ensures { SomeIff result ((MIN_GAP ≤ n) × (n ≤ MAX_GAP)) n }
     {
-        if n >= SHORTEST_GAP && n <= LONGEST_GAP {
+        if n >= MIN_GAP && n <= MAX_GAP {
             Some(Gap { gap: n })
         } else {
             None
@@ -40,7 +40,7 @@ impl Gap {
     /// Number of words, 1 to 256.
     pub fn get(self) -> u16
         ensures value { result ≡ self }
-        ensures range { (SHORTEST_GAP ≤ self) × (self ≤ LONGEST_GAP) }
+        ensures range { (MIN_GAP ≤ self) × (self ≤ MAX_GAP) }
     {
         self.gap
     }
@@ -54,23 +54,23 @@ pub struct Profile {
 
 impl Model for Profile {
     ghost use Rattle.std.specs.Prelude.{ℕ, ◌≤◌};
-    ghost use Rattle.pon_units.specs.declared.limits.TheConstants.{GREATEST_PROFILE};
+    ghost use Rattle.pon_units.specs.declared.limits.TheConstants.{MAX_PROFILE};
 
     ghost Value = { ℕ };
 
     ghost view = { λ a. a.profile };
 
-    ghost invariant = { λ a. a.profile ≤ GREATEST_PROFILE };
+    ghost invariant = { λ a. a.profile ≤ MAX_PROFILE };
 
     ghost inverse = { λ n. record { profile = n } };
 }
 
 impl Profile {
-    /// Returns `None` above [`GREATEST_PROFILE`].
+    /// Returns `None` above [`MAX_PROFILE`].
     pub fn new(n: u8) -> Option<Self>
-        ensures { SomeIff result (n ≤ GREATEST_PROFILE) n }
+        ensures { SomeIff result (n ≤ MAX_PROFILE) n }
     {
-        if n <= GREATEST_PROFILE {
+        if n <= MAX_PROFILE {
             Some(Profile { profile: n })
         } else {
             None
@@ -80,7 +80,7 @@ impl Profile {
     /// Index of the profile, 0 to 3.
     pub fn get(self) -> u8
         ensures value { result ≡ self }
-        ensures range { self ≤ GREATEST_PROFILE }
+        ensures range { self ≤ MAX_PROFILE }
     {
         self.profile
     }

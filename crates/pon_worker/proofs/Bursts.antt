@@ -17,10 +17,10 @@ use Rattle.pon_descr.specs.declared.refusal.Refusal.TheVariants.{OutOfMemory}
 use Rattle.pon_desk.specs.Receipts.{Receipt}
 use Rattle.pon_worker.specs.Turns.{IsNotMemory, KeepsAll, LacksMemory, RefusesReport, TakesReports}
 use Rattle.pon_worker.proofs.Receipts.{keeps_more, keeps_none, takes_more, takes_refused}
-use Rattle.pon_worker.specs.Records.{Counted, HasRead, is_garbled}
+use Rattle.pon_worker.specs.Records.{CountsRecords, HasRead, is_garbled}
 use Rattle.pon_worker.specs.declared.counts.Counts.{Counts}
 use Rattle.pon_worker.proofs.Posted.{with_map}
-use Rattle.pon_worker.specs.declared.counts.TheConstants.{GREATEST_COUNT}
+use Rattle.pon_worker.specs.declared.counts.TheConstants.{MAX_COUNT}
 
 -- this number of records was read, posted and counted, and bytes of the next one were read
 pub record ReadSoFar (port number : ℕ) (held : List ℕ) (old new : Counts) (kept_old kept_new : Option (List Receipt)) (left_old left_new : Option (List ℕ)) : Type 0 where
@@ -29,7 +29,7 @@ pub record ReadSoFar (port number : ℕ) (held : List ℕ) (old new : Counts) (k
   pub refusals : List Refusal
   pub takes : TakesReports port records reports refusals
   pub memory : All IsNotMemory refusals
-  pub counted : Counted records (length reports) old new
+  pub counted : CountsRecords records (length reports) old new
   pub read : HasRead records held left_old left_new
   pub size : length records ≡ number
   pub kept : KeepsAll kept_old reports kept_new
@@ -42,18 +42,18 @@ count_append : (xs ys : List UpRecord) → count_by is_garbled (xs ++ ys) ≡ co
 count_append xs ys = sum_by-append (λ (r : UpRecord). cond (is_garbled r) 1 0) xs ys
 
 -- the counts of records, followed by those of other records
-pub counted_more : (xs ys : List UpRecord) (n m : ℕ) (a b c : Counts) → Counted xs n a b → Counted ys m b c → Counted (xs ++ ys) (n + m) a c
+pub counted_more : (xs ys : List UpRecord) (n m : ℕ) (a b c : Counts) → CountsRecords xs n a b → CountsRecords ys m b c → CountsRecords (xs ++ ys) (n + m) a c
 counted_more xs ys n m a b c p q =
     let split = count_append xs ys in record {
       refusals = p.refusals + q.refusals;
       all = omega (arith, p.all, q.all, split, length-append xs ys);
       taken = omega (arith, p.taken, q.taken);
-      garbled = count_twice GREATEST_COUNT a.garbled (count_by is_garbled xs) (count_by is_garbled ys) b.garbled c.garbled p.garbled q.garbled ∙ ap (λ k. min (a.garbled + k) GREATEST_COUNT) (sym split);
-      refused = count_twice GREATEST_COUNT a.refused p.refusals q.refusals b.refused c.refused p.refused q.refused;
+      garbled = count_twice MAX_COUNT a.garbled (count_by is_garbled xs) (count_by is_garbled ys) b.garbled c.garbled p.garbled q.garbled ∙ ap (λ k. min (a.garbled + k) MAX_COUNT) (sym split);
+      refused = count_twice MAX_COUNT a.refused p.refusals q.refusals b.refused c.refused p.refused q.refused;
     }
 
 -- nothing to count
-pub counted_none : (a : Counts) → a.garbled ≤ GREATEST_COUNT → a.refused ≤ GREATEST_COUNT → Counted [] 0 a a
+pub counted_none : (a : Counts) → a.garbled ≤ MAX_COUNT → a.refused ≤ MAX_COUNT → CountsRecords [] 0 a a
 counted_none a garbled refused = record {
   refusals = 0;
   all = refl;
@@ -87,14 +87,14 @@ read_part held a b read = record { input = held; read = read; are = refl }
 
 -- one more record is read and counted
 pub so_far_more : (port number : ℕ) (burst : UpRecord) (bytes : List ℕ) (reports : List Receipt) (refusals : List Refusal) (a b c : Counts) (ka kb kc : Option (List Receipt)) (ra rb rc : Option (List ℕ))
-    → ReadSoFar port number [] a b ka kb ra rb → IsRecord bytes burst → Consumes rb rc bytes → TakesReports port (burst ∷ []) reports refusals → All IsNotMemory refusals → Counted (burst ∷ []) (length reports) b c → KeepsAll kb reports kc → ReadSoFar port (number + 1) [] a c ka kc ra rc
+    → ReadSoFar port number [] a b ka kb ra rb → IsRecord bytes burst → Consumes rb rc bytes → TakesReports port (burst ∷ []) reports refusals → All IsNotMemory refusals → CountsRecords (burst ∷ []) (length reports) b c → KeepsAll kb reports kc → ReadSoFar port (number + 1) [] a c ka kc ra rc
 so_far_more port number burst bytes reports refusals a b c ka kb kc ra rb rc far is read takes memory counted kept = record {
   records = far.records ++ burst ∷ [];
   reports = far.reports ++ reports;
   refusals = far.refusals ++ refusals;
   takes = takes_more port far.records (burst ∷ []) far.reports reports far.refusals refusals far.takes takes;
   memory = All-append IsNotMemory far.refusals refusals far.memory memory;
-  counted = subst (λ k. Counted (far.records ++ burst ∷ []) k a c) (sym (length-append far.reports reports)) (counted_more far.records (burst ∷ []) (length far.reports) (length reports) a b c far.counted counted);
+  counted = subst (λ k. CountsRecords (far.records ++ burst ∷ []) k a c) (sym (length-append far.reports reports)) (counted_more far.records (burst ∷ []) (length far.reports) (length reports) a b c far.counted counted);
   kept = keeps_more ka kb kc far.reports reports far.kept kept;
   read = read_more far.records (burst ∷ []) [] ra rb rc far.read (read_one burst bytes rb rc is read);
   size = omega (arith, far.size, length-append far.records (burst ∷ []));
@@ -119,9 +119,9 @@ so_far_refused port number burst ka kb a b ra rb far refused =
     subst (λ (rs : List Receipt). TakesReports port (far.records ++ burst ∷ []) rs (far.refusals ++ OutOfMemory ∷ [])) (append-nil far.reports)
     (takes_more port far.records (burst ∷ []) far.reports [] far.refusals (OutOfMemory ∷ []) far.takes (takes_refused port burst OutOfMemory refused))
 
-pub so_far_counted : (port number : ℕ) (burst : UpRecord) (ka kb : Option (List Receipt)) (a b c : Counts) (ra rb : Option (List ℕ)) (far : ReadSoFar port number [] a b ka kb ra rb) → Counted (burst ∷ []) 0 b c → Counted (far.records ++ burst ∷ []) (length far.reports) a c
+pub so_far_counted : (port number : ℕ) (burst : UpRecord) (ka kb : Option (List Receipt)) (a b c : Counts) (ra rb : Option (List ℕ)) (far : ReadSoFar port number [] a b ka kb ra rb) → CountsRecords (burst ∷ []) 0 b c → CountsRecords (far.records ++ burst ∷ []) (length far.reports) a c
 so_far_counted port number burst ka kb a b c ra rb far counted =
-    subst (λ k. Counted (far.records ++ burst ∷ []) k a c) (omega arith) (counted_more far.records (burst ∷ []) (length far.reports) 0 a b c far.counted counted)
+    subst (λ k. CountsRecords (far.records ++ burst ∷ []) k a c) (omega arith) (counted_more far.records (burst ∷ []) (length far.reports) 0 a b c far.counted counted)
 
 pub so_far_read : (port number : ℕ) (burst : UpRecord) (bytes : List ℕ) (ka kb : Option (List Receipt)) (a b : Counts) (ra rb rc : Option (List ℕ)) (far : ReadSoFar port number [] a b ka kb ra rb) → IsRecord bytes burst → Consumes rb rc bytes → HasRead (far.records ++ burst ∷ []) [] ra rc
 so_far_read port number burst bytes ka kb a b ra rb rc far is read = read_more far.records (burst ∷ []) [] ra rb rc far.read (read_one burst bytes rb rc is read)
@@ -139,7 +139,7 @@ kept_read (Some x) None c bytes p q = absurd p
 kept_read (Some x) (Some y) None bytes p q = absurd q
 kept_read (Some x) (Some y) (Some z) bytes p q = sym p ∙ q
 
-pub none_so_far : (port : ℕ) (a : Counts) (ka : Option (List Receipt)) (ra : Option (List ℕ)) → a.garbled ≤ GREATEST_COUNT → a.refused ≤ GREATEST_COUNT → ReadSoFar port 0 [] a a ka ka ra ra
+pub none_so_far : (port : ℕ) (a : Counts) (ka : Option (List Receipt)) (ra : Option (List ℕ)) → a.garbled ≤ MAX_COUNT → a.refused ≤ MAX_COUNT → ReadSoFar port 0 [] a a ka ka ra ra
 none_so_far port a ka ra garbled refused = record {
   records = [];
   reports = [];
@@ -163,7 +163,7 @@ begins_still old new up is_open same =
     subst (λ (h : List ℕ). MayBecomeRecord Up h) (sym same) (subst (λ (d : Direction). MayBecomeRecord d old.held) up is_open.beginning)
 
 -- no record was counted, and the counts of records are unchanged
-pub counted_kept : (a b : Counts) → b.reports ≡ a.reports → b.garbled ≡ a.garbled → b.refused ≡ a.refused → a.garbled ≤ GREATEST_COUNT → a.refused ≤ GREATEST_COUNT → Counted [] 0 a b
+pub counted_kept : (a b : Counts) → b.reports ≡ a.reports → b.garbled ≡ a.garbled → b.refused ≡ a.refused → a.garbled ≤ MAX_COUNT → a.refused ≤ MAX_COUNT → CountsRecords [] 0 a b
 counted_kept a b reports garbled refused small_garbled small_refused = record {
   refusals = 0;
   all = refl;
@@ -173,7 +173,7 @@ counted_kept a b reports garbled refused small_garbled small_refused = record {
 }
 
 -- an earlier count of a map changes no count of records
-pub counted_on : (a : Counts) (records : List UpRecord) (reports : ℕ) (b : Counts) → Counted records reports (with_map a) b → Counted records reports a b
+pub counted_on : (a : Counts) (records : List UpRecord) (reports : ℕ) (b : Counts) → CountsRecords records reports (with_map a) b → CountsRecords records reports a b
 counted_on a records reports b p = record { refusals = p.refusals; all = p.all; taken = p.taken; garbled = p.garbled; refused = p.refused }
 
 count_garbled : (burst : UpRecord) (b : Bool) → is_garbled burst ≡ b → count_by is_garbled (burst ∷ []) ≡ cond b 1 0
@@ -182,7 +182,7 @@ count_garbled burst b is =
     omega (arith, one)
 
 -- one record without a sender
-pub counted_garbled : (burst : UpRecord) (a b : Counts) → is_garbled burst ≡ true → b.reports ≡ a.reports → b.garbled ≡ min (a.garbled + 1) GREATEST_COUNT → b.refused ≡ a.refused → a.refused ≤ GREATEST_COUNT → Counted (burst ∷ []) 0 a b
+pub counted_garbled : (burst : UpRecord) (a b : Counts) → is_garbled burst ≡ true → b.reports ≡ a.reports → b.garbled ≡ min (a.garbled + 1) MAX_COUNT → b.refused ≡ a.refused → a.refused ≤ MAX_COUNT → CountsRecords (burst ∷ []) 0 a b
 counted_garbled burst a b is reports garbled refused small =
     let one : count_by is_garbled (burst ∷ []) ≡ 1 = count_garbled burst true is in record {
       refusals = 0;
@@ -193,7 +193,7 @@ counted_garbled burst a b is reports garbled refused small =
     }
 
 -- one record that the port took as a report
-pub counted_taken : (burst : UpRecord) (a b : Counts) → is_garbled burst ≡ false → b.reports ≡ a.reports + 1 → b.garbled ≡ a.garbled → b.refused ≡ a.refused → a.garbled ≤ GREATEST_COUNT → a.refused ≤ GREATEST_COUNT → Counted (burst ∷ []) 1 a b
+pub counted_taken : (burst : UpRecord) (a b : Counts) → is_garbled burst ≡ false → b.reports ≡ a.reports + 1 → b.garbled ≡ a.garbled → b.refused ≡ a.refused → a.garbled ≤ MAX_COUNT → a.refused ≤ MAX_COUNT → CountsRecords (burst ∷ []) 1 a b
 counted_taken burst a b is reports garbled refused small_garbled small_refused =
     let none : count_by is_garbled (burst ∷ []) ≡ 0 = count_garbled burst false is in record {
       refusals = 0;
@@ -204,7 +204,7 @@ counted_taken burst a b is reports garbled refused small_garbled small_refused =
     }
 
 -- one report that the port refused
-pub counted_refused : (burst : UpRecord) (a b : Counts) → is_garbled burst ≡ false → b.reports ≡ a.reports → b.garbled ≡ a.garbled → b.refused ≡ min (a.refused + 1) GREATEST_COUNT → a.garbled ≤ GREATEST_COUNT → Counted (burst ∷ []) 0 a b
+pub counted_refused : (burst : UpRecord) (a b : Counts) → is_garbled burst ≡ false → b.reports ≡ a.reports → b.garbled ≡ a.garbled → b.refused ≡ min (a.refused + 1) MAX_COUNT → a.garbled ≤ MAX_COUNT → CountsRecords (burst ∷ []) 0 a b
 counted_refused burst a b is reports garbled refused small =
     let none : count_by is_garbled (burst ∷ []) ≡ 0 = count_garbled burst false is in record {
       refusals = 1;

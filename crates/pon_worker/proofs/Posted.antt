@@ -5,10 +5,10 @@ use Rattle.std.proofs.lemmas.List.{get_or-set_same, get_or-set_other, length-set
 use Rattle.pon_desk.specs.Counts.{SeatState, one_more_at}
 use Rattle.pon_worker.specs.Turns.{IsPostAt, KeepsPost, PostsAt, PostsEnd, RaisedAt, most_others}
 use Rattle.pon_worker.specs.declared.counts.Counts.{Counts}
-use Rattle.pon_worker.specs.declared.counts.Why.{Why}
-use Rattle.pon_worker.specs.declared.counts.Why.TheVariants.{Finished, Gave, GateLimit, Refused}
-use Rattle.pon_event.specs.declared.event.Event.{Event}
-use Rattle.pon_kept.specs.Kept.{AddsTo}
+use Rattle.pon_worker.specs.declared.counts.StopReason.{StopReason}
+use Rattle.pon_worker.specs.declared.counts.StopReason.TheVariants.{Finished, Gave, GateLimit, Refused}
+use Rattle.pon_admit.specs.declared.event.Event.{Event}
+use Rattle.pon_lists.specs.Kept.{AddsTo}
 use Rattle.pon_desk.specs.Receipts.{Receipt}
 
 pub raised_one : (port : ℕ) (s t : SeatState) → t ≡ one_more_at port s → port < length s.counts → RaisedAt port 1 s t
@@ -97,7 +97,7 @@ posts_beside port others a b c old new p raised = record {
 }
 
 -- posts, followed by that of the failure of the port, if there is one
-pub posts_end : (port : ℕ) (why : Why) (a b c : SeatState) (old new : Counts) → PostsAt port 0 a b old new → PostsEnd port why b c → (others : ℕ) × (others ≤ most_others why) × PostsAt port others a c old new
+pub posts_end : (port : ℕ) (why : StopReason) (a b c : SeatState) (old new : Counts) → PostsAt port 0 a b old new → PostsEnd port why b c → (others : ℕ) × (others ≤ most_others why) × PostsAt port others a c old new
 posts_end port (Gave cause) a b c old new p (inl k) = (1, omega arith, posts_beside port 1 a b c old new p k.raised)
 posts_end port (Gave cause) a b c old new p (inr e) = (0, omega arith, subst (λ (s : SeatState). PostsAt port 0 a s old new) (sym e) p)
 posts_end port Finished a b c old new p e = (0, omega arith, subst (λ (s : SeatState). PostsAt port 0 a s old new) (sym e) p)

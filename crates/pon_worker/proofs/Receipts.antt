@@ -2,7 +2,7 @@
 use Rattle.std.proofs.Common.{◌≡◌, ℕ, true, List, [], ◌∷◌, ◌++◌, inl, inr, Option, Some, None, refl, sym, subst, ap, ◌∙◌, arith, append_assoc, append-nil, length-append}
 use Rattle.pon_descr.specs.declared.refusal.Refusal.{Refusal}
 use Rattle.pon_desk.specs.Counts.{SeatState}
-use Rattle.pon_kept.specs.Kept.{AddsTo}
+use Rattle.pon_lists.specs.Kept.{AddsTo}
 use Rattle.pon_desk.specs.Receipts.{Receipt}
 use Rattle.pon_link.specs.declared.record.UpRecord.{UpRecord}
 use Rattle.pon_worker.specs.Records.{is_garbled}

@@ -1,7 +1,7 @@
 -- The chapters that a worker passes to its sink.
 use Rattle.std.specs.Prelude.{ℕ, ◌≡◌, ◌+◌, ◌<◌, ◌≤◌, ◌⊎◌, All, List, Option}
 use Rattle.pon_descr.specs.declared.refusal.Refusal.{Refusal}
-use Rattle.pon_port.specs.Chapters.{Chapter}
+use Rattle.pon_history.specs.Chapters.{Chapter}
 use Rattle.pon_desk.specs.Posts.{IsSomeTurn, IsSomeTurnRefusal}
 use Rattle.pon_ring.specs.Passing.{PassesAll}
 use Rattle.pon_ring.specs.Sinks.{PassesOn}

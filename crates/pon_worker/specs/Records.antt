@@ -9,17 +9,17 @@ use Rattle.pon_link.specs.UpRecords.{IsRecord}
 use Rattle.pon_link.specs.declared.fault.LinkFault.{LinkFault}
 use Rattle.pon_link.specs.declared.record.UpRecord.{UpRecord}
 use Rattle.pon_worker.specs.declared.causes.TheConstants.{READ_FAILED, BAD_RECORD, INPUT_ENDED}
-use Rattle.pon_worker.specs.declared.sending.TheConstants.{MOST_TRIES}
+use Rattle.pon_worker.specs.declared.sending.TheConstants.{MAX_TRIES}
 use Rattle.pon_worker.specs.declared.counts.Counts.{Counts}
-use Rattle.pon_worker.specs.declared.counts.TheConstants.{GREATEST_COUNT}
+use Rattle.pon_worker.specs.declared.counts.TheConstants.{MAX_COUNT}
 use Rattle.pon_worker.specs.declared.reading.TheConstants.{NO_ONU}
 
 -- a device failed in some calls, counted modulo 2 ^ 64, and moved this number of bytes in others: it failed three times at
 -- least, and at most three times for each byte and three times more
 pub record FailsInRow (bytes old new : ℕ) : Type 0 where
   pub failed : ℕ
-  pub least : MOST_TRIES ≤ failed
-  pub most : failed ≤ MOST_TRIES * (bytes + 1)
+  pub least : MAX_TRIES ≤ failed
+  pub most : failed ≤ MAX_TRIES * (bytes + 1)
   pub counts : new ≡ (old + failed) % 2 ^ 64
 
 -- why a reader in this state has no further record: reads failed, its bytes are not a record before the input ends, or
@@ -40,12 +40,12 @@ abbrev pub is_garbled : UpRecord → Bool
 is_garbled burst = is_nobodys burst.head
 
 -- the counts of these records: this number of reports was taken, and the others were without a sender or refused
-pub record Counted (records : List UpRecord) (reports : ℕ) (old new : Counts) : Type 0 where
+pub record CountsRecords (records : List UpRecord) (reports : ℕ) (old new : Counts) : Type 0 where
   pub refusals : ℕ
   pub all : reports + count_by is_garbled records + refusals ≡ length records
   pub taken : new.reports ≡ old.reports + reports
-  pub garbled : new.garbled ≡ min (old.garbled + count_by is_garbled records) GREATEST_COUNT
-  pub refused : new.refused ≡ min (old.refused + refusals) GREATEST_COUNT
+  pub garbled : new.garbled ≡ min (old.garbled + count_by is_garbled records) MAX_COUNT
+  pub refused : new.refused ≡ min (old.refused + refusals) MAX_COUNT
 
 -- records that were read, and bytes of the next one
 pub record HasRead (records : List UpRecord) (held : List ℕ) (left_old left_new : Option (List ℕ)) : Type 0 where

@@ -2,28 +2,28 @@
 use Rattle.std.specs.Prelude.{ℕ, ◌≡◌, ◌≢◌, ◌+◌, ◌<◌, ◌≤◌, ◌↔◌, ◌⊎◌, Bool, false, true, List, [], ◌∷◌, ◌++◌, All, IfSome, count_by, flat_map, is_some, length, slice_index, Option, None, Some, Err}
 use Rattle.pon_device.specs.Device.{Appends}
 use Rattle.pon_bwmap.specs.Alloc.{Alloc}
-use Rattle.pon_event.specs.declared.event.Event.{Event}
-use Rattle.pon_event.specs.declared.event.Event.TheVariants.{Fail, MakeMap, Report}
+use Rattle.pon_admit.specs.declared.event.Event.{Event}
+use Rattle.pon_admit.specs.declared.event.Event.TheVariants.{Fail, MakeMap, Report}
 use Rattle.pon_state.specs.declared.reply.Reply.TheVariants.{Map}
 use Rattle.pon_state.specs.declared.reply.MadeMap.{MadeMap}
 use Rattle.pon_descr.specs.declared.refusal.Refusal.{Refusal}
 use Rattle.pon_descr.specs.declared.refusal.Refusal.TheVariants.{OutOfMemory}
 use Rattle.pon_plant.specs.declared.fault.StepFault.{StepFault}
 use Rattle.pon_plant.specs.declared.fault.StepFault.TheVariants as step
-use Rattle.pon_stream.specs.Streams.{IsBeginning}
+use Rattle.pon_device.specs.Streams.{IsBeginning}
 use Rattle.pon_desk.specs.Counts.{SeatState}
 use Rattle.pon_desk.specs.Faults.{IsNoSuchPort, TellsRefusal}
-use Rattle.pon_kept.specs.Kept.{AddsTo}
+use Rattle.pon_lists.specs.Kept.{AddsTo}
 use Rattle.pon_desk.specs.Posts.{IsSomePost, IsSomeRefusal}
 use Rattle.pon_desk.specs.Receipts.{Receipt}
 use Rattle.pon_link.specs.DownRecords.{down_bytes}
 use Rattle.pon_link.specs.declared.record.UpRecord.{UpRecord}
 use Rattle.pon_link.specs.Reading.{ReaderState}
-use Rattle.pon_worker.specs.Records.{Counted, FailsInRow, HasRead, StopsFor, is_garbled, is_nobodys}
+use Rattle.pon_worker.specs.Records.{CountsRecords, FailsInRow, HasRead, StopsFor, is_garbled, is_nobodys}
 use Rattle.pon_worker.specs.declared.causes.TheConstants.{WRITE_FAILED}
 use Rattle.pon_worker.specs.declared.counts.Counts.{Counts}
-use Rattle.pon_worker.specs.declared.counts.Why.{Why}
-use Rattle.pon_worker.specs.declared.counts.Why.TheVariants.{Finished, Gave, GateLimit, Refused}
+use Rattle.pon_worker.specs.declared.counts.StopReason.{StopReason}
+use Rattle.pon_worker.specs.declared.counts.StopReason.TheVariants.{Finished, Gave, GateLimit, Refused}
 use Rattle.pon_worker.specs.declared.counts.WorkerEnd.{WorkerEnd}
 
 -- the number of posts at a port increased by n, and at no other port
@@ -117,8 +117,8 @@ pub record IsTurn (port : ℕ) (turn : Turn) : Type 0 where
   pub takes : TakesReports port turn.records turn.reports turn.refusals
 
 -- the receipts of the posts of a turn, in order
-abbrev pub posts_of : Turn → List Receipt
-posts_of turn = turn.receipt ∷ turn.reports
+abbrev pub receipts_in : Turn → List Receipt
+receipts_in turn = turn.receipt ∷ turn.reports
 
 -- turns one after another: the bytes that were written and read, those of a further record last, the counts, and the
 -- receipts that the seat was given
@@ -127,12 +127,12 @@ pub record Worked (port : ℕ) (turns : List Turn) (held : List ℕ) (old new : 
   pub each : All (IsTurn port) turns
   pub maps : new.maps ≡ old.maps + length turns
   pub wrote : Appends held_old held_new (flat_map (λ t. t.sent) turns)
-  pub counted : Counted (flat_map (λ t. t.records) turns) (length (flat_map (λ t. t.reports) turns)) old new
+  pub counted : CountsRecords (flat_map (λ t. t.records) turns) (length (flat_map (λ t. t.reports) turns)) old new
   pub read : HasRead (flat_map (λ t. t.records) turns) held left_old left_new
-  pub kept : KeepsAll seat_old.receipts (flat_map posts_of turns) seat_new.receipts
+  pub kept : KeepsAll seat_old.receipts (flat_map receipts_in turns) seat_new.receipts
 
 -- the record of the map is written whole, a record is read for each of its bursts, and memory is refused for no report
-pub record IsWhole (turn : Turn) : Type 0 where
+pub record IsWholeTurn (turn : Turn) : Type 0 where
   pub wrote : turn.sent ≡ map_record turn.made
   pub read : length turn.records ≡ bursts_of turn.made
   pub memory : All IsNotMemory turn.refusals
@@ -141,24 +141,24 @@ pub record IsWhole (turn : Turn) : Type 0 where
 pub record Turned (port : ℕ) (old new : Counts) (seat_old seat_new : SeatState) (held_old held_new left_old left_new : Option (List ℕ)) : Type 0 where
   pub turns : List Turn
   pub worked : Worked port turns [] old new seat_old seat_new held_old held_new left_old left_new
-  pub whole : All IsWhole turns
+  pub whole : All IsWholeTurn turns
 
 -- why no burst of a map is read, and what was written of its record: nothing or all of it if the gate held the worker,
 -- or a prefix if writes failed
-abbrev pub CutsSending : Why → MadeMap → List ℕ → Type 0
+abbrev pub CutsSending : StopReason → MadeMap → List ℕ → Type 0
 CutsSending Finished made sent = ⊥
 CutsSending (Gave cause) made sent = (cause ≡ WRITE_FAILED) × IsBeginning sent (map_record made)
 CutsSending GateLimit made sent = (sent ≡ []) ⊎ (sent ≡ map_record made)
 CutsSending (Refused fault) made sent = ⊥
 
 -- if the link is given up, the writer failed in a row, after these bytes
-abbrev pub FailsSending : Why → ℕ → ℕ → ℕ → Type 0
+abbrev pub FailsSending : StopReason → ℕ → ℕ → ℕ → Type 0
 FailsSending (Gave cause) bytes old new = FailsInRow bytes old new
 FailsSending _ bytes old new = Unit {0}
 
 -- why no further one of this number of bursts is read, after these records with these reports and refusals: the next
 -- record is not there, for this cause, or memory was refused for the report of the last one
-abbrev pub StopsReading : ℕ → ℕ → Why → List UpRecord → List Receipt → List Refusal → ReaderState → Option (List ℕ) → Type 0
+abbrev pub StopsReading : ℕ → ℕ → StopReason → List UpRecord → List Receipt → List Refusal → ReaderState → Option (List ℕ) → Type 0
 StopsReading port bursts Finished records reports refusals reader left = ⊥
 StopsReading port bursts (Gave cause) records reports refusals reader left =
     (length records < bursts) × All IsNotMemory refusals × StopsFor cause reader left
@@ -167,24 +167,24 @@ StopsReading port bursts (Refused fault) records reports refusals reader left =
     (fault ≡ step.Refused OutOfMemory) × (length records ≤ bursts) × (reader.held ≡ []) × LacksMemory port records reports
 
 -- the record of the map is written whole, and the reading of its bursts ended for this reason
-pub record CutsReading (port : ℕ) (why : Why) (turn : Turn) (held : List ℕ) (left : Option (List ℕ)) : Type 0 where
+pub record CutsReading (port : ℕ) (why : StopReason) (turn : Turn) (held : List ℕ) (left : Option (List ℕ)) : Type 0 where
   pub wrote : turn.sent ≡ map_record turn.made
   pub reader : ReaderState
   pub holds : reader.held ≡ held
   pub stops : StopsReading port (bursts_of turn.made) why turn.records turn.reports turn.refusals reader left
 
 -- a turn is cut short for this reason, after its map was made: before any burst is read, or while they are
-abbrev pub IsCutBy : ℕ → Why → Turn → List ℕ → Option (List ℕ) → Type 0
+abbrev pub IsCutBy : ℕ → StopReason → Turn → List ℕ → Option (List ℕ) → Type 0
 IsCutBy port why turn held left =
     (CutsSending why turn.made turn.sent × (turn.records ≡ []) × (held ≡ [])) ⊎ CutsReading port why turn held left
 
 -- whole turns, and one that was cut short for this reason
-pub record Stopped (port : ℕ) (why : Why) (old new : Counts) (seat_old seat_new : SeatState) (held_old held_new left_old left_new : Option (List ℕ)) : Type 0 where
+pub record Stopped (port : ℕ) (why : StopReason) (old new : Counts) (seat_old seat_new : SeatState) (held_old held_new left_old left_new : Option (List ℕ)) : Type 0 where
   pub turns : List Turn
   pub last : Turn
   pub held : List ℕ
   pub worked : Worked port (turns ++ last ∷ []) held old new seat_old seat_new held_old held_new left_old left_new
-  pub whole : All IsWhole turns
+  pub whole : All IsWholeTurn turns
   pub cut : IsCutBy port why last held left_new
 
 -- the posts at a port are the maps and the reports counted meanwhile, and a number of others
@@ -208,7 +208,7 @@ pub record MakesNoMap (port ports : ℕ) (fault : StepFault) : Type 0 where
 
 -- turns that ended for this reason: whole turns if they are over or the desk, with this number of ports, made no map;
 -- otherwise one was cut short after them, also if a report was refused since memory was
-abbrev pub EndsAs : ℕ → ℕ → Why → Counts → Counts → SeatState → SeatState → Option (List ℕ) → Option (List ℕ) → Option (List ℕ) → Option (List ℕ) → Type 0
+abbrev pub EndsAs : ℕ → ℕ → StopReason → Counts → Counts → SeatState → SeatState → Option (List ℕ) → Option (List ℕ) → Option (List ℕ) → Option (List ℕ) → Type 0
 EndsAs port ports Finished old new seat_old seat_new held_old held_new left_old left_new =
     Turned port old new seat_old seat_new held_old held_new left_old left_new
 EndsAs port ports (Refused fault) old new seat_old seat_new held_old held_new left_old left_new =
@@ -219,11 +219,11 @@ EndsAs port ports why old new seat_old seat_new held_old held_new left_old left_
 
 -- after its turns a worker that gave up its link posted the failure of its port for that cause, and the seat was given
 -- the receipt, or that was refused; any other worker posted nothing
-abbrev pub PostsEnd : ℕ → Why → SeatState → SeatState → Type 0
+abbrev pub PostsEnd : ℕ → StopReason → SeatState → SeatState → Type 0
 PostsEnd port (Gave cause) old new = KeepsPost port (Fail cause) old new ⊎ (new ≡ old)
 PostsEnd port _ old new = new ≡ old
 
 -- the maximum number of posts besides the counted ones: one, for the failure of the port, if the link was given up
-abbrev pub most_others : Why → ℕ
+abbrev pub most_others : StopReason → ℕ
 most_others (Gave cause) = 1
 most_others _ = 0

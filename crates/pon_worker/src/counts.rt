@@ -5,7 +5,7 @@ use pon_plant::StepFault;
 
 /// Why a worker ended.
 #[derive(Clone, Copy, Debug, PartialEq, Eq)]
-pub enum Why {
+pub enum StopReason {
     /// Its pace gave it no more turns.
     Finished,
     /// It gave up its link, and posted that the port is failed, with this cause: 2 if three reads in a row failed, 3 if
@@ -29,11 +29,11 @@ pub struct WorkerEnd {
     /// The number of reports that its port refused.
     pub refused: u64,
     /// Why it ended.
-    pub why: Why,
+    pub why: StopReason,
 }
 
 /// The greatest value of a count.
-pub(crate) const GREATEST_COUNT: u64 = u64::MAX;
+pub(crate) const MAX_COUNT: u64 = u64::MAX;
 
 /// The counts of a worker so far.
 #[derive(Clone, Copy, Debug, PartialEq, Eq)]
@@ -46,7 +46,7 @@ pub(crate) struct Counts {
 
 // Returns the next count, at most the greatest value.
 pub(crate) fn count(number: u64) -> u64
-    ensures { result ≡ min (number + 1) GREATEST_COUNT }
+    ensures { result ≡ min (number + 1) MAX_COUNT }
 {
     number.saturating_add(1)
 }
@@ -68,7 +68,7 @@ impl Counts {
     }
 
     // Returns the end of a worker with these counts.
-    pub(crate) fn end(&self, why: Why) -> WorkerEnd
+    pub(crate) fn end(&self, why: StopReason) -> WorkerEnd
         ensures counts { counts_of result ≡ self.now }
         ensures why { result.why ≡ why }
     {

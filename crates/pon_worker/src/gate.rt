@@ -72,11 +72,11 @@ impl Pace for Turns {
 }
 
 /// Maximum number of calls in a row of a gate at one point.
-const MOST_ASKS: usize = 10_000;
+const MAX_ASKS: usize = 10_000;
 
 // Calls the gate until the worker may pass, and gives up after 10,000 refusals.
 pub(crate) fn pass<G: Gate>(gate: &G, port: PortNo, point: Point) -> bool {
-    for _ask in 0..MOST_ASKS {
+    for _ask in 0..MAX_ASKS {
         if gate.pass(port, point) {
             return true;
         }

@@ -15,7 +15,7 @@ mod sending;
 mod serving;
 mod turn;
 
-pub use counts::{Why, WorkerEnd};
+pub use counts::{StopReason, WorkerEnd};
 pub use gate::{Gate, OpenGate, Pace, Point, Turns};
 pub use pon_ring::Sink;
 pub use serving::serve_port;

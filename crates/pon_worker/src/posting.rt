@@ -7,10 +7,10 @@ ghost use Rattle.pon_ring.specs.Discarded.{Frees};
 ghost use Rattle.pon_worker.specs.Passing.{PassesChapters, TriesTurn, TurnsAtPost};
 ghost use Rattle.pon_worker.specs.Turns.{IsPostAt, KeepsPost, RaisedAt};
 
+use pon_admit::Event;
 use pon_descr::Refusal;
 use pon_desk::{Desk, Receipt, Seat, StepFault};
-use pon_event::Event;
-use pon_port::{MadeMap, Reply};
+use pon_port::{EntryRef, MadeMap, Reply};
 use pon_ring::Sink;
 use pon_units::PortNo;
 use std::sync::Wait;
@@ -189,8 +189,8 @@ pub(crate) fn made_map(receipt: &Receipt) -> &MadeMap
     requires { IsSomePost Event.MakeMap receipt.now }
     ensures { receipt.now.placed.entry.reply ≡ Reply.Map result.now }
 {
-    match receipt.reply() {
-        Reply::Map(made) => made,
-        Reply::Taken => unreachable!(),
+    match receipt.entry().as_ref() {
+        EntryRef::Map(made) => made,
+        EntryRef::Taken(_) => unreachable!(),
     }
 }

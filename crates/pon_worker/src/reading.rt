@@ -3,18 +3,18 @@ ghost use Rattle.std.specs.Prelude.{◌≡◌, ◌+◌, ◌∷◌, ◌<◌, ◌�
 ghost use Rattle.pon_link.specs.Reading.{empty};
 ghost use Rattle.pon_link.specs.declared.record.UpRecord.{UpRecord};
 ghost use Rattle.pon_worker.specs.Passing.{PassesChapters};
-ghost use Rattle.pon_worker.specs.Records.{Counted, HasRead, is_nobodys};
+ghost use Rattle.pon_worker.specs.Records.{CountsRecords, HasRead, is_nobodys};
 ghost use Rattle.pon_descr.specs.declared.refusal.Refusal.{Refusal};
 ghost use Rattle.pon_desk.specs.Receipts.{Receipt};
 ghost use Rattle.pon_worker.specs.Turns.{IsNotMemory, KeepsAll, PostsAt, RefusesReport, StopsReading, TakesReports};
 
-use crate::counts::{Counts, Why, count};
+use crate::counts::{Counts, StopReason, count};
 use crate::posting::post_report;
 use crate::receiving::receive;
+use pon_admit::Event;
 use pon_descr::Refusal;
 use pon_desk::{Desk, Seat, StepFault};
 use pon_device::DevRead;
-use pon_event::Event;
 use pon_link::{Direction, UpReader, UpRecord};
 use pon_ring::Sink;
 use pon_units::{OnuId, PortNo};
@@ -47,9 +47,9 @@ fn post_record<L: Ledger, M: Ledger, T: Wait>(
     requires posts { counts.old.maps + counts.old.reports ≤ slice_index seat.old.counts port }
     ensures counted { MatchBool result ((reports : List Receipt) × (refusals : List Refusal)
         × TakesReports port (burst ∷ []) reports refusals × All IsNotMemory refusals
-        × Counted (burst ∷ []) (length reports) counts.old counts.new
+        × CountsRecords (burst ∷ []) (length reports) counts.old counts.new
         × KeepsAll seat.old.receipts reports seat.new.receipts)
-        (RefusesReport burst Refusal.OutOfMemory × Counted (burst ∷ []) 0 counts.old counts.new
+        (RefusesReport burst Refusal.OutOfMemory × CountsRecords (burst ∷ []) 0 counts.old counts.new
         × (seat.new ≡ seat.old)) }
     ensures maps { counts.new.maps ≡ counts.old.maps }
     ensures posts { PostsAt port 0 seat.old seat.new counts.old counts.new }
@@ -90,13 +90,13 @@ pub(crate) fn read_bursts<L: Ledger, M: Ledger, R: DevRead, T: Wait>(
     up: &mut UpReader,
     reader: &mut R,
     counts: &mut Counts,
-) -> Result<(), Why>
+) -> Result<(), StopReason>
     requires port { port < desk.now.ports }
     requires empty { up.old ≡ empty Direction.Up }
     requires posts { counts.old.maps + counts.old.reports ≤ slice_index seat.old.counts port }
     ensures read { (records : List UpRecord) × (reports : List Receipt) × (refusals : List Refusal)
         × TakesReports port records reports refusals
-        × Counted records (length reports) counts.old counts.new
+        × CountsRecords records (length reports) counts.old counts.new
         × HasRead records up.new.held (R.remaining reader.old) (R.remaining reader.new)
         × KeepsAll seat.old.receipts reports seat.new.receipts
         × MatchResult result (λ _. (length records ≡ bursts) × All IsNotMemory refusals)
@@ -111,10 +111,10 @@ pub(crate) fn read_bursts<L: Ledger, M: Ledger, R: DevRead, T: Wait>(
         match receive(rt, up, reader) {
             Ok(burst) => {
                 if !post_record(rt, desk, seat, port, sink, burst, counts) {
-                    return Err(Why::Refused(StepFault::Refused(Refusal::OutOfMemory)));
+                    return Err(StopReason::Refused(StepFault::Refused(Refusal::OutOfMemory)));
                 }
             }
-            Err(cause) => return Err(Why::Gave { cause }),
+            Err(cause) => return Err(StopReason::Gave { cause }),
         }
     }
     Ok(())

@@ -6,7 +6,7 @@ ghost use Rattle.pon_link.specs.UpRecords.{IsRecord};
 ghost use Rattle.pon_worker.specs.Records.{StopsFor};
 
 use crate::causes::{BAD_RECORD, INPUT_ENDED, READ_FAILED, cause_of};
-use crate::sending::MOST_TRIES;
+use crate::sending::MAX_TRIES;
 use pon_descr::Cause;
 use pon_device::DevRead;
 use pon_link::{Direction, PullFault, Pulled, UpReader, UpRecord};
@@ -23,9 +23,9 @@ fn pull<R: DevRead>(up: &mut UpReader, reader: &mut R) -> Result<(), Cause>
         × (up.new.held ≡ up.old.held)
         × Keeps (R.remaining reader.old) (R.remaining reader.new)) }
     ensures failures { IfErr result (λ cause. cause ≡ READ_FAILED
-        → R.failures reader.new ≡ (R.failures reader.old + MOST_TRIES) % 2 ^ 64) }
+        → R.failures reader.new ≡ (R.failures reader.old + MAX_TRIES) % 2 ^ 64) }
 {
-    for _try in 0..MOST_TRIES {
+    for _try in 0..MAX_TRIES {
         match up.pull(reader) {
             Ok(Pulled::Bytes(_)) => return Ok(()),
             Ok(Pulled::End) => return Err(cause_of(INPUT_ENDED)),

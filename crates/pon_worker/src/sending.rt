@@ -1,12 +1,12 @@
 // How a worker sends a map between the two points of its gate.
 ghost use Rattle.std.specs.Prelude.{◌≡◌, ◌+◌, ◌<◌, ◌≤◌, ℕ, List, count_by, length, IfErr, IfOk, OnOk, OnErr};
 ghost use Rattle.pon_device.specs.Device.{Appends};
-ghost use Rattle.pon_stream.specs.Streams.{IsBeginning};
+ghost use Rattle.pon_device.specs.Streams.{IsBeginning};
 ghost use Rattle.pon_worker.specs.Records.{FailsInRow};
 ghost use Rattle.pon_worker.specs.Turns.{CutsSending, FailsSending, begins_burst, bursts_of, map_record};
 
 use crate::causes::{WRITE_FAILED, cause_of};
-use crate::counts::Why;
+use crate::counts::StopReason;
 use crate::gate::{Gate, Point, pass};
 use pon_bwmap::Alloc;
 use pon_device::DevWrite;
@@ -15,12 +15,12 @@ use pon_port::MadeMap;
 use pon_units::PortNo;
 
 /// Maximum number of attempts in a row of a write or a read that fails.
-pub(crate) const MOST_TRIES: u32 = 3;
+pub(crate) const MAX_TRIES: u32 = 3;
 
 // Returns the number of writes in a row that failed, after one more failed: only that one if bytes were written before
 // it, so that fewer are left.
 fn failed_in_row(before: u32, left: usize, now: usize) -> u32
-    requires { before < MOST_TRIES }
+    requires { before < MAX_TRIES }
     ensures first { now < left → result ≡ 1 }
     ensures again { left ≤ now → result ≡ before + 1 }
 {
@@ -43,7 +43,7 @@ pub(crate) fn send<W: DevWrite>(writer: &mut W, made: &MadeMap) -> Result<(), De
     }
     let mut left = down.left().len();
     let mut failed = 0;
-    'tries: while failed < MOST_TRIES {
+    'tries: while failed < MAX_TRIES {
         match down.push(writer) {
             Ok(()) => return Ok(()),
             Err(_) => {}
@@ -69,7 +69,7 @@ pub(crate) fn send_at_gate<G: Gate, W: DevWrite>(
     port: PortNo,
     made: &MadeMap,
     writer: &mut W,
-) -> Result<usize, Why>
+) -> Result<usize, StopReason>
     ensures sent { OnOk result (Appends (W.contents writer.old) (W.contents writer.new)
         (map_record made.now)) }
     ensures bursts { IfOk result (λ bursts. bursts ≡ bursts_of made.now) }
@@ -79,16 +79,16 @@ pub(crate) fn send_at_gate<G: Gate, W: DevWrite>(
         × FailsSending why (length sent) (W.failures writer.old) (W.failures writer.new)) }
 {
     if !pass(gate, port, Point::Send) {
-        return Err(Why::GateLimit);
+        return Err(StopReason::GateLimit);
     }
     match send(writer, made) {
         Ok(()) => {}
-        Err(_) => return Err(Why::Gave {
+        Err(_) => return Err(StopReason::Gave {
             cause: cause_of(WRITE_FAILED),
         }),
     }
     if !pass(gate, port, Point::Read) {
-        return Err(Why::GateLimit);
+        return Err(StopReason::GateLimit);
     }
     Ok(bursts_in(made.map.rows()))
 }

@@ -1,18 +1,18 @@
 //! The turns of a worker.
 
-ghost use Rattle.std.specs.Prelude.{◌≡◌, ◌≤◌, ℕ};
+ghost use Rattle.std.specs.Prelude.{◌≤◌, ℕ};
 ghost use Rattle.pon_ring.specs.Passing.{KeepsRing};
 ghost use Rattle.pon_worker.specs.Passing.{PassesChapters};
 ghost use Rattle.pon_worker.specs.Turns.{EndsAs, PostsAt, PostsEnd, counts_of, most_others, no_counts};
 ghost use Rattle.pon_desk.specs.Counts.{SeatState};
 
-use crate::counts::{Counts, Why, WorkerEnd};
+use crate::counts::{Counts, StopReason, WorkerEnd};
 use crate::gate::{Gate, Pace};
 use crate::posting::post_kept;
 use crate::turn::turn;
+use pon_admit::Event;
 use pon_desk::{Desk, Seat};
 use pon_device::{DevRead, DevWrite};
-use pon_event::Event;
 use pon_link::UpReader;
 use pon_ring::Sink;
 use pon_units::PortNo;
@@ -41,7 +41,7 @@ fn make_turns<L: Ledger, M: Ledger, G: Gate, P: Pace, R: DevRead, W: DevWrite, T
     let mut counts = Counts::new();
     for _ in rt.forever() {
         if !pace.next() {
-            return counts.end(Why::Finished);
+            return counts.end(StopReason::Finished);
         }
         match turn(
             rt,
@@ -69,12 +69,12 @@ fn give_up<L: Ledger, M: Ledger, T: Wait>(
     seat: &mut Seat<L, M>,
     port: PortNo,
     sink: &mut Sink,
-    why: Why,
+    why: StopReason,
 )
     ensures posts { PostsEnd port why seat.old seat.new }
     ensures sink { PassesChapters sink.old sink.new }
 {
-    let Why::Gave { cause } = why else {
+    let StopReason::Gave { cause } = why else {
         return;
     };
     let _posted = post_kept(rt, desk, seat, port, sink, Event::Fail { cause });
@@ -89,7 +89,7 @@ fn give_up<L: Ledger, M: Ledger, T: Wait>(
 /// once more; only the second result counts. If the port refuses the turn, the worker goes on.
 ///
 /// A record whose burst header is refused, or has the ONU-ID 1023, is counted as garbled and dropped; a report that the
-/// port refuses is counted, and ends the worker only if memory was refused for it. It ends as [`Why`] says. A write or read that fails is tried three times in a row; then it
+/// port refuses is counted, and ends the worker only if memory was refused for it. It ends as [`StopReason`] says. A write or read that fails is tried three times in a row; then it
 /// posts that the port is failed, and so it does if what it read is not a record, or the input ended. It flushes
 /// nothing, so the writer must send what it takes by itself.
 pub fn serve_port<L: Ledger, M: Ledger, G: Gate, P: Pace, R: DevRead, W: DevWrite, T: Wait>(

@@ -4,7 +4,7 @@ ghost use Rattle.pon_link.specs.Reading.{empty};
 ghost use Rattle.pon_worker.specs.Passing.{PassesChapters};
 ghost use Rattle.pon_worker.specs.Turns.{EndsAs, PostsAt, Turned};
 
-use crate::counts::{Counts, Why};
+use crate::counts::{Counts, StopReason};
 use crate::gate::Gate;
 use crate::posting::{made_map, make_map};
 use crate::reading::read_bursts;
@@ -29,7 +29,7 @@ pub(crate) fn turn<L: Ledger, M: Ledger, G: Gate, R: DevRead, W: DevWrite, T: Wa
     reader: &mut R,
     writer: &mut W,
     counts: &mut Counts,
-) -> Result<(), Why>
+) -> Result<(), StopReason>
     requires empty { up.old ≡ empty Direction.Up }
     requires posts { counts.old.maps + counts.old.reports ≤ slice_index seat.old.counts port }
     ensures turned { OnOk result (Turned port counts.old counts.new seat.old seat.new
@@ -44,7 +44,7 @@ pub(crate) fn turn<L: Ledger, M: Ledger, G: Gate, R: DevRead, W: DevWrite, T: Wa
 {
     let receipt = match make_map(rt, desk, seat, port, sink) {
         Ok(receipt) => receipt,
-        Err(fault) => return Err(Why::Refused(fault)),
+        Err(fault) => return Err(StopReason::Refused(fault)),
     };
     counts.maps += 1;
     let sent = send_at_gate(gate, port, made_map(&receipt), writer);

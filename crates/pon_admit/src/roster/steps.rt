@@ -3,12 +3,12 @@ ghost use Rattle.std.specs.Prelude.{◌≡◌, Some, None, IfErr, OnOk, OnErr};
 ghost use Rattle.pon_descr.specs.Checks.{IsTold};
 ghost use Rattle.pon_admit.specs.Roster.{refuses_admit, refuses_change, refuses_remove, with_descriptor, with_row, without};
 
-use super::{MOST_ONUS, Roster};
+use super::Roster;
 use crate::row::Row;
 use crate::search::{count_owned, look_through, place_of};
 use crate::sums::{fits, rate};
 use pon_descr::{Descriptor, Refusal};
-use pon_units::{AllocId, LONGEST_SERIES, OnuId};
+use pon_units::{AllocId, MAX_ONUS, MAX_SERIES, OnuId};
 use std::alloc::AllocError;
 
 impl Roster {
@@ -20,7 +20,7 @@ impl Roster {
     {
         let seen = look_through(&self.rows, row);
         let allocs = self.rows.len();
-        let most = self.rule.most_allocs();
+        let most = self.rule.max_allocs();
         if seen.taken {
             return Some(Refusal::AllocTaken);
         }
@@ -28,10 +28,10 @@ impl Roster {
             return Some(Refusal::TooManyAllocs);
         }
         let onus = self.onus + usize::from(seen.owned == 0);
-        if onus > MOST_ONUS {
+        if onus > MAX_ONUS {
             return Some(Refusal::TooManyOnus);
         }
-        if seen.owned >= LONGEST_SERIES {
+        if seen.owned >= MAX_SERIES {
             return Some(Refusal::SeriesFull);
         }
         let promised = rate(self.promised.get() + row.descriptor.promised().get());
@@ -80,7 +80,7 @@ impl Roster {
             }) }
         ensures err { OnErr result (self.new ≡ self.old) }
     {
-        row.in_range();
+        row.prove_in_range();
         let seen = look_through(&self.rows, &row);
         let promised = rate(self.promised.get() + row.descriptor.promised().get());
         self.rows.insert(seen.place, row)?;

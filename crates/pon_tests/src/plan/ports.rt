@@ -2,8 +2,8 @@
 ghost use Rattle.std.specs.Prelude.{◌<◌};
 
 use super::*;
+use pon_admit::Event;
 use pon_descr::{Class, Descriptor};
-use pon_event::Event;
 use pon_manage::Step;
 use pon_units::{AllocId, OnuId, PortNo};
 

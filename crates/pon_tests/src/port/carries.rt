@@ -3,11 +3,10 @@
 use super::full::next_rate;
 use super::*;
 use crate::acts::{cause, id, onu};
-use pon_admit::Row;
+use pon_admit::{Event, Row};
 use pon_cert::{Item, MapCert};
 use pon_dbru::Occupancies;
 use pon_descr::{Class, Descriptor};
-use pon_event::Event;
 use pon_guar::{cap, guaranteed};
 use pon_units::BufOcc;
 

@@ -1,7 +1,7 @@
 //! Copies of a map and of a state, the chapter that a port hands out, and events kept without a copy of the reply.
 
 use super::*;
-use pon_port::Chapter;
+use pon_port::{Chapter, EntryRef};
 
 const ROWS: &[Structure] = &[(1024, Some(16), 11)];
 
@@ -59,7 +59,7 @@ fn opens_at_7(chapter: &Chapter) -> bool {
 
 fn ends_by_failure(rt: &impl Abort, chapter: &Chapter) -> bool {
     match chapter.entries() {
-        [_, last] => last.event == event(rt, Act::Fail(4)),
+        [_, last] => last.event() == event(rt, Act::Fail(4)),
         _ => false,
     }
 }
@@ -72,7 +72,7 @@ fn hands_out_its_chapter(rt: HostRuntime) {
 
 fn begins_by_a_map(port: &Port) -> bool {
     match port.history() {
-        [first, _] => matches!(first.reply, Reply::Map(_)),
+        [first, _] => matches!(first.as_ref(), EntryRef::Map(_)),
         _ => false,
     }
 }

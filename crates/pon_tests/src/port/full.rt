@@ -3,11 +3,11 @@
 
 use super::*;
 use crate::acts::{id, onu};
+use pon_admit::Event;
 use pon_cert::{Item, Level, MapCert, is_problem};
 use pon_check::check_map;
 use pon_dbru::Occupancies;
 use pon_descr::{Class, Descriptor};
-use pon_event::Event;
 use pon_units::BufOcc;
 use std::slice;
 

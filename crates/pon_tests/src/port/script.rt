@@ -2,7 +2,6 @@
 
 use super::*;
 use crate::acts::id;
-use pon_event::Event;
 
 /// A row of a script. A taken event or a map adds one entry, and a refused one changes nothing.
 #[derive(Clone, Copy)]
@@ -134,14 +133,10 @@ fn counts(rt: &impl Abort, port: &Port, frame: u64, words: u32) -> bool {
     }
 }
 
-/// Returns whether the first entry is of this event, and so is a copy of its event.
+/// Returns whether the first entry is of this event.
 fn is_first(rt: &impl Abort, port: &Port, act: Act) -> bool {
     match port.history().first() {
         None => false,
-        Some(entry) => is_event(rt, &entry.event, act) && is_event(rt, &entry.event.copy(), act),
+        Some(entry) => entry.event() == event(rt, act),
     }
-}
-
-fn is_event(rt: &impl Abort, found: &Event, act: Act) -> bool {
-    *found == event(rt, act)
 }

@@ -2,9 +2,9 @@
 
 use super::*;
 use crate::acts::{id, onu};
+use pon_admit::Event;
 use pon_cert::Level;
 use pon_descr::{Class, Descriptor};
-use pon_event::Event;
 use pon_units::AllocId;
 
 // Admits an Alloc-ID of ONU 5 that shares surplus.

@@ -1,4 +1,4 @@
-use Rattle.pon_port.specs.Taking.{IsKept}
+use Rattle.pon_history.specs.Taking.{IsKept}
 use Rattle.pon_audit.specs.Openings.{chapter_of}
 use Rattle.pon_audit.specs.Faults.{cut_at}
 use Rattle.pon_audit.proofs.chapters.entry_fault.Given as goal

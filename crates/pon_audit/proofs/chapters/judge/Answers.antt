@@ -1,5 +1,5 @@
 use Rattle.std.proofs.Common.{rules, subst, sym}
-use Rattle.pon_port.specs.Taking.{IsKept}
+use Rattle.pon_history.specs.Taking.{IsKept}
 use Rattle.pon_audit.specs.Openings.{chapter_of}
 use Rattle.pon_record.specs.Openings.{KeepsLimits}
 use Rattle.pon_record.specs.Chapters.{PlacedChapter}

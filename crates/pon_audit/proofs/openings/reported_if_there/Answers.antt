@@ -1,6 +1,6 @@
 use Rattle.std.proofs.Common.{◌≡◌, arith, rules}
 use Rattle.std.specs.Prelude.{Contains}
-use Rattle.pon_window.specs.Window.{WindowMap}
+use Rattle.pon_guar.specs.Window.{WindowMap}
 use Rattle.pon_guar.proofs.RestoredParts.{all_done, all_more, found}
 use Rattle.pon_audit.proofs.openings.reported_if_there.Goals as goal
 

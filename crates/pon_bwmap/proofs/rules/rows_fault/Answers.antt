@@ -5,7 +5,7 @@ use Rattle.pon_bwmap.proofs.rules.rows_fault.Goals as goal
 
 pub loop-k-init : goal.loop-k-init
 loop-k-init c = record {
-  count = c.if-rows-gt-MOST_STRUCTURES.false;
+  count = c.if-rows-gt-MAX_STRUCTURES.false;
   keep_rules = λ k lt. absurd (omega (arith, lt));
   place = sym (first_place c.args.rows.now);
   short = omega arith;

@@ -1,6 +1,6 @@
 use Rattle.std.proofs.Common.{◌∙◌, ◌∷◌, [], arith}
 use Rattle.pon_device.specs.Device.{Consumes, IsAtEnd}
-use Rattle.pon_stream.proofs.ReadCounts.{read_more}
+use Rattle.pon_device.proofs.ReadCounts.{read_more}
 use Rattle.pon_check_file.specs.Stages.{Grows}
 use Rattle.pon_check_file.proofs.OpenLines.{byte_read, ended_file, one_more, unfit_file}
 use Rattle.pon_check_file.proofs.reading.read_file.Goals as goal

@@ -1,5 +1,5 @@
 use Rattle.std.proofs.Common.{◌≡◌, ◌≤◌}
-use Rattle.pon_stream.proofs.ReadCounts.{AfterReads}
+use Rattle.pon_device.proofs.ReadCounts.{AfterReads}
 use Rattle.pon_check_file.specs.Stages.{IsOpen, size}
 use Rattle.pon_check_file.proofs.OpenLines.{Progress}
 use Rattle.pon_check_file.proofs.reading.read_file.Given as goal

@@ -2,7 +2,7 @@ use Rattle.std.proofs.Common.{◌≡◌, ◌<◌, ◌≤◌, length, take, Some,
 use Rattle.std.specs.Prelude.{slice_get}
 use Rattle.std.proofs.lemmas.List.{length-take-le}
 use Rattle.std.proofs.lemmas.Option.{slice_get_cases, slice_get_read}
-use Rattle.pon_port.specs.Chapters.{IsJustOpened}
+use Rattle.pon_history.specs.Chapters.{IsJustOpened}
 use Rattle.pon_desk.specs.Settling.{IsRightChapter, PortHistory}
 use Rattle.pon_desk.proofs.Elements.{get_before}
 use Rattle.pon_desk.proofs.RightChapters.{OpensRight, absent, before_kept, before_returned, kept_there, no_more_than, not_opened, right_behind, right_past, right_there}

@@ -1,6 +1,6 @@
 use Rattle.std.proofs.Common.{ℕ, ◌∷◌, ap, drop, inl, inr, ◌∙◌}
 use Rattle.std.specs.Prelude.{sum_by}
-use Rattle.pon_window.specs.Window.{words_to}
+use Rattle.pon_guar.specs.Window.{words_to}
 use Rattle.pon_guar.proofs.TakenReports.{counting_rising, none_left, took_none, took_one}
 use Rattle.pon_guar.proofs.counting.count_occupancies.Goals as goal
 use Rattle.pon_guar.proofs.counting.count_occupancies.Goals.{in-Some-occupancy, in_default}

@@ -1,7 +1,7 @@
 use Rattle.std.proofs.Common.{◌≡◌, drop}
 use Rattle.std.specs.Prelude.{◌==◌, filter, sum_by}
 use Rattle.pon_guar.specs.Book.{AreRising, alloc_ids}
-use Rattle.pon_window.specs.Window.{words_to}
+use Rattle.pon_guar.specs.Window.{words_to}
 use Rattle.pon_guar.specs.Reports.{after_occupancies}
 use Rattle.pon_guar.proofs.counting.count_occupancies.Given as goal
 

@@ -1,6 +1,6 @@
 use Rattle.std.proofs.Common.{◌≡◌, false, arith, rules}
 use Rattle.std.proofs.lemmas.Bool.{iff_false}
-use Rattle.pon_window.specs.Window.{IsLawfulMap}
+use Rattle.pon_guar.specs.Window.{IsLawfulMap}
 use Rattle.pon_guar.proofs.RestoredParts.{all_done, all_more, found, not_all, not_found}
 use Rattle.pon_guar.proofs.parts.are_lawful_maps.Goals as goal
 

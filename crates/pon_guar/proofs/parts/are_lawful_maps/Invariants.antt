@@ -1,6 +1,6 @@
 use Rattle.std.proofs.Common.{take}
 use Rattle.std.specs.Prelude.{All}
-use Rattle.pon_window.specs.Window.{IsLawfulMap}
+use Rattle.pon_guar.specs.Window.{IsLawfulMap}
 use Rattle.pon_guar.proofs.parts.are_lawful_maps.Given as goal
 
 -- the maps so far are lawful

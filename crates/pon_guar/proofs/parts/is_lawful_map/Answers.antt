@@ -2,8 +2,8 @@ use Rattle.std.proofs.Common.{◌≡◌, false, rules, subst, sym}
 use Rattle.std.proofs.lemmas.Bool.{iff_false}
 use Rattle.pon_lists.specs.Order.{AreRising}
 use Rattle.pon_units.specs.Granted.{AreInMapOrder}
-use Rattle.pon_window.specs.Window.{IsLawfulMap, WindowMap}
-use Rattle.pon_window.proofs.Polls.{reporters_rise}
+use Rattle.pon_guar.specs.Window.{IsLawfulMap, WindowMap}
+use Rattle.pon_guar.proofs.Polls.{reporters_rise}
 use Rattle.pon_guar.proofs.RestoredParts.{lawful_map, not_found, polled_if_lawful}
 use Rattle.pon_guar.proofs.parts.is_lawful_map.Goals as goal
 

@@ -3,7 +3,7 @@ use Rattle.std.specs.Prelude.{nat_lt}
 use Rattle.std.proofs.lemmas.Fn.{always_returns_same}
 use Rattle.std.proofs.lemmas.List.Sorted.{IsPartitionedBy-ltb}
 use Rattle.pon_lists.proofs.Parts.{parts_at}
-use Rattle.pon_window.proofs.Series.{by_onu}
+use Rattle.pon_guar.proofs.Series.{by_onu}
 use Rattle.pon_guar.proofs.RestoredParts.{polled_first, polled_none}
 use Rattle.pon_guar.proofs.parts.is_polled.Goals as goal
 

@@ -1,5 +1,5 @@
 use Rattle.std.proofs.Common.{ap, arith, rules, subst, sym, take}
-use Rattle.pon_window.specs.Window.{AreConsecutive}
+use Rattle.pon_guar.specs.Window.{AreConsecutive}
 use Rattle.pon_guar.proofs.RestoredParts.{leads_to}
 use Rattle.pon_guar.proofs.parts.restore_window.Goals as goal
 

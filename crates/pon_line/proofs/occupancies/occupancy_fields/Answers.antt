@@ -23,10 +23,10 @@ returns-then-count-eq0-clause-err c =
     let words : words_of c.loop-word.rest.now ≡ [] = search rules in
     λ frame onu. too_few frame onu (words_of c.args.text.now) (omega (arith, c.if-count-eq0.true, c.loop-word.invariant.count, ap length words))
 
-pub returns-then-count-eq-LONGEST_SERIES-clause-err : goal.returns-then-count-eq-LONGEST_SERIES-clause-err
-returns-then-count-eq-LONGEST_SERIES-clause-err c =
+pub returns-then-count-eq-MAX_SERIES-clause-err : goal.returns-then-count-eq-MAX_SERIES-clause-err
+returns-then-count-eq-MAX_SERIES-clause-err c =
     let words : words_of c.loop-word.rest.now ≡ c.in-Some.word.word.now ∷ words_of c.in-Some.word.rest.now = search rules in
-    λ frame onu. too_many frame onu (words_of c.args.text.now) (omega (arith, c.if-count-eq-LONGEST_SERIES.true, c.loop-word.invariant.count, ap length words))
+    λ frame onu. too_many frame onu (words_of c.args.text.now) (omega (arith, c.if-count-eq-MAX_SERIES.true, c.loop-word.invariant.count, ap length words))
 
 pub returns-in-Err : goal.returns-in-Err
 returns-in-Err c =
@@ -49,7 +49,7 @@ loop-word-preserved c =
     let read : occupancy_field c.in-Some.word.word.now ≡ Ok c.in-Ok.occupancy = search rules in
     let pushed : c.push.new.self ≡ c.loop-word.occupancies ++ c.in-Ok.occupancy ∷ [] = search rules in
     record {
-      few = omega (arith, c.if-count-eq-LONGEST_SERIES.false, c.loop-word.invariant.few);
+      few = omega (arith, c.if-count-eq-MAX_SERIES.false, c.loop-word.invariant.few);
       read = omega (arith, c.loop-word.invariant.read, ap length pushed, length_push c.loop-word.occupancies c.in-Ok.occupancy);
       count = omega (arith, c.loop-word.invariant.count, ap length words);
       all = ap (λ ns. after_those ns (occupancy_fields (words_of c.in-Some.word.rest.now))) pushed

@@ -1,6 +1,6 @@
 use Rattle.std.proofs.Common.{rules, ◌∙◌}
 use Rattle.std.proofs.lemmas.List.Elements.{All-push}
-use Rattle.pon_port.specs.Chapters.{IsLawfulChapter}
+use Rattle.pon_history.specs.Chapters.{IsLawfulChapter}
 use Rattle.pon_plant.proofs.Stepping.{one_more_port}
 use Rattle.pon_plant.proofs.opening.open_ports.Goals as goal
 

@@ -1,6 +1,6 @@
 use Rattle.std.proofs.Common.{◌≡◌, ◌≤◌, length, take, vec_len, vec_capacity}
 use Rattle.std.specs.Prelude.{All}
-use Rattle.pon_port.specs.Chapters.{IsLawfulChapter}
+use Rattle.pon_history.specs.Chapters.{IsLawfulChapter}
 use Rattle.pon_plant.specs.Plants.{opened_ports}
 use Rattle.pon_plant.proofs.opening.open_ports.Given as goal
 

@@ -1,4 +1,4 @@
-use Rattle.pon_port.proofs.OneReply.{each_follows, each_taken}
+use Rattle.pon_port.proofs.EachReply.{each_follows, each_taken}
 use Rattle.pon_port.proofs.laws.each_accepted_event_has_a_reply.Goals as goal
 
 pub returns : goal.returns

@@ -3,8 +3,8 @@ use Rattle.std.specs.Prelude.{All}
 use Rattle.std.specs.Int.{w32, w64, to_be_bytes}
 use Rattle.pon_admit.specs.declared.rule.Rule.{Rule}
 use Rattle.pon_state.specs.State.{State}
-use Rattle.pon_state.specs.declared.checks.TheConstants.{MOST_ENTRIES}
-use Rattle.pon_state.specs.declared.reply.Entry.{Entry}
+use Rattle.pon_state.specs.declared.checks.TheConstants.{MAX_ENTRIES}
+use Rattle.pon_state.specs.Entry.{Entry}
 use Rattle.pon_record.specs.Format.{counted, number}
 use Rattle.pon_record.specs.declared.version.Version.TheVariants as version
 use Rattle.pon_record.specs.Fields.{rule_in}
@@ -23,7 +23,7 @@ put_opening-requires c =
 
 pub put_entries-requires-clause-few : goal.put_entries-requires-clause-few
 put_entries-requires-clause-few c =
-    subst (λ (es : List Entry). length es ≤ MOST_ENTRIES) (sym c.entries.ensures.entries) (few_entries c.args.chapter.now c.entries.ensures.lawful)
+    subst (λ (es : List Entry). length es ≤ MAX_ENTRIES) (sym c.entries.ensures.entries) (few_entries c.args.chapter.now c.entries.ensures.lawful)
 
 pub put_entries-requires-clause-certs : goal.put_entries-requires-clause-certs
 put_entries-requires-clause-certs c =
@@ -39,7 +39,7 @@ returns c =
     let e1 = c.in_ok-put_port.ensures in
     let e2 = c.in_ok-put_u64.ensures ∙ ap (λ (n : ℕ). c.put_port.new.bytes.items ++ to_be_bytes w64 n) c.number.ensures in
     let e3 = c.in_ok-put_opening.ensures ∙ ap (λ (s : State). c.put_u64.new.bytes.items ++ (opening_in version.Two s.rule).write (recorded_opening s)) c.opening-opening.ensures.opening in
-    let e4 = c.in_ok-put_entries.ensures ∙ ap (λ (es : List Entry). c.put_opening.new.bytes.items ++ (counted (number w32) MOST_ENTRIES entry).write es) c.entries.ensures.entries in
+    let e4 = c.in_ok-put_entries.ensures ∙ ap (λ (es : List Entry). c.put_opening.new.bytes.items ++ (counted (number w32) MAX_ENTRIES entry).write es) c.entries.ensures.entries in
     let a0 = (rule_in version.Two).write r in
     let a1 = a0 ++ port.write c.args.port in
     let a2 = a1 ++ to_be_bytes w64 h.number in
@@ -47,4 +47,4 @@ returns c =
     let t1 = behind old a0 (port.write c.args.port) c.put_rule.new.bytes.items c.put_port.new.bytes.items e0 e1 in
     let t2 = behind old a1 (to_be_bytes w64 h.number) c.put_port.new.bytes.items c.put_u64.new.bytes.items t1 e2 in
     let t3 = behind old a2 opening c.put_u64.new.bytes.items c.put_opening.new.bytes.items t2 e3 in
-    behind old (a2 ++ opening) ((counted (number w32) MOST_ENTRIES entry).write h.entries) c.put_opening.new.bytes.items c.put_entries.new.bytes.items t3 e4
+    behind old (a2 ++ opening) ((counted (number w32) MAX_ENTRIES entry).write h.entries) c.put_opening.new.bytes.items c.put_entries.new.bytes.items t3 e4

@@ -11,7 +11,7 @@ pub loop-index-preserved : goal.loop-index-preserved
 loop-index-preserved c = elim c.match-window_at.branch [
   | in-Some+in_ok-put_window_map w ↦
       (let at : slice_get c.args.loads.now.window c.loop-index.index ≡ Some w.in-Some.map.now = search rules in
-      one_more_put (window_map_under rule.Two).write c.args.bytes.now.items c.loop-index.bytes.items c.match-window_at.bytes.items
+      one_more_put (window_map_under rule.CarryRemainders).write c.args.bytes.now.items c.loop-index.bytes.items c.match-window_at.bytes.items
       c.args.loads.now.window c.loop-index.index w.in-Some.map.now at c.loop-index.invariant (search rules))
   | in_default w ↦
       (let none : slice_get c.args.loads.now.window c.loop-index.index ≡ None = search rules in

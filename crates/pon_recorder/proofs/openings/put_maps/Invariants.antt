@@ -5,4 +5,4 @@ use Rattle.pon_record.specs.Openings.{window_map_under}
 use Rattle.pon_recorder.proofs.openings.put_maps.Given as goal
 
 abbrev pub invariant-loop-index : goal.invariant-loop-index
-invariant-loop-index l = l.bytes.items ≡ l.initial.bytes.items ++ flat_map (window_map_under rule.Two).write (take l.index l.loads.window)
+invariant-loop-index l = l.bytes.items ≡ l.initial.bytes.items ++ flat_map (window_map_under rule.CarryRemainders).write (take l.index l.loads.window)

@@ -1,4 +1,4 @@
-use Rattle.pon_collector.specs.Rings.{out_at}
+use Rattle.pon_recorder.specs.Rings.{out_at}
 use Rattle.pon_run.proofs.serving.run.Given as goal
 
 -- the two ledgers of the desk

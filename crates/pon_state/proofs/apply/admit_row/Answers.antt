@@ -5,8 +5,8 @@ use Rattle.pon_admit.specs.Roster.{IsAdmitted, Roster, refuses_admit, with_row}
 use Rattle.pon_admit.proofs.AdmittedSets.{passes}
 use Rattle.pon_guar.specs.Book.{AreRising, alloc_ids}
 use Rattle.pon_guar.specs.Loads.{after_admitted, after_removed}
-use Rattle.pon_share.specs.Carries.{AreCarries}
-use Rattle.pon_share.proofs.Carries.{carries_admitted}
+use Rattle.pon_demand.specs.Carries.{AreCarries}
+use Rattle.pon_demand.proofs.Carries.{carries_admitted}
 use Rattle.pon_state.specs.After.{after_admit}
 use Rattle.pon_state.proofs.CarryPlaces.{place_within}
 use Rattle.pon_state.proofs.Undone.{undone}

@@ -2,7 +2,7 @@ use Rattle.std.proofs.Common.{◌≡◌, ◌∙◌, ◌+◌, ap, subst, sym}
 use Rattle.std.specs.Prelude.{None}
 use Rattle.pon_admit.specs.Roster.{IsAdmitted, Roster, refuses_remove, without}
 use Rattle.pon_guar.specs.Loads.{after_removed}
-use Rattle.pon_share.specs.Carries.{AreCarries}
+use Rattle.pon_demand.specs.Carries.{AreCarries}
 use Rattle.pon_state.specs.After.{after_remove}
 use Rattle.pon_state.proofs.CarryPlaces.{found_within, not_absent, removed_at}
 use Rattle.pon_state.proofs.apply.remove_row.Goals as goal

@@ -1,6 +1,6 @@
 use Rattle.std.proofs.Common.{◌∙◌, ap, sym}
 use Rattle.pon_state.specs.Checks.{first_refusal}
-use Rattle.pon_event.specs.declared.event.Event.TheVariants.{Admit}
+use Rattle.pon_admit.specs.declared.event.Event.TheVariants.{Admit}
 use Rattle.pon_state.proofs.checks.refusal_of.Goals as goal
 
 pub returns-in-Admit : goal.returns-in-Admit

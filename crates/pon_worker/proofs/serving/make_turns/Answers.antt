@@ -1,7 +1,7 @@
 use Rattle.std.proofs.Common.{refl, sym, ap, subst, arith}
 use Rattle.pon_worker.specs.Turns.{PostsAt, Turned, counts_of, no_counts}
 use Rattle.pon_worker.specs.declared.counts.Counts.{Counts}
-use Rattle.pon_worker.specs.declared.counts.Why.TheVariants.{Finished}
+use Rattle.pon_worker.specs.declared.counts.StopReason.TheVariants.{Finished}
 use Rattle.pon_worker.proofs.Passed.{passes_none, passes_then}
 use Rattle.pon_worker.proofs.Posted.{posts_fit, posts_more, posts_none}
 use Rattle.pon_worker.proofs.Works.{ends_more, ends_with, turned_more, turned_none}

@@ -2,7 +2,7 @@ use Rattle.std.proofs.Common.{List, ℕ, [], inl, length, lt_of_not-le, refl, ap
 use Rattle.std.proofs.lemmas.Result.{MatchResult-at_err, err_from_is_err_and}
 use Rattle.pon_desk.specs.Counts.{SeatState}
 use Rattle.pon_link.specs.Reading.{ReaderState}
-use Rattle.pon_worker.specs.declared.counts.Why.{Why}
+use Rattle.pon_worker.specs.declared.counts.StopReason.{StopReason}
 use Rattle.pon_worker.specs.Records.{HasRead}
 use Rattle.pon_worker.specs.Turns.{CutsReading, EndsAs, IsTurn, StopsReading, Turn, Turned, map_record}
 use Rattle.pon_worker.proofs.Bursts.{counted_kept, counted_on, read_none}
@@ -30,7 +30,7 @@ returns-in_err-bursts-clause-ended g c =
     let worked = worked_one c.args.port t [] c.args.counts.now (with_map c.args.counts.now) c.args.seat.now c.keep.new.self (g.W.DevWrite.contents c.args.writer.now) (g.W.DevWrite.contents c.send_at_gate-sent.new.writer) left left is refl begun.1
     (counted_kept c.args.counts.now (with_map c.args.counts.now) refl refl refl (omega arith) (omega arith)) (read_none left) kept in
     let all = sending_ends c.args.port c.args.desk.now.ports c.in_err-bursts.field-0.0 t c.args.counts.now (with_map c.args.counts.now) c.args.seat.now c.keep.new.self (g.W.DevWrite.contents c.args.writer.now) (g.W.DevWrite.contents c.send_at_gate-sent.new.writer) left left worked begun.2 refl in
-    rw told.1 (subst (λ (w : Why). EndsAs c.args.port c.args.desk.now.ports w c.args.counts.now (with_map c.args.counts.now) c.args.seat.now c.keep.new.self (g.W.DevWrite.contents c.args.writer.now) (g.W.DevWrite.contents c.send_at_gate-sent.new.writer) left left) (sym told.2) all)
+    rw told.1 (subst (λ (w : StopReason). EndsAs c.args.port c.args.desk.now.ports w c.args.counts.now (with_map c.args.counts.now) c.args.seat.now c.keep.new.self (g.W.DevWrite.contents c.args.writer.now) (g.W.DevWrite.contents c.send_at_gate-sent.new.writer) left left) (sym told.2) all)
 
 pub returns-in_err-bursts-clause-posts : goal.returns-in_err-bursts-clause-posts
 returns-in_err-bursts-clause-posts g c =

@@ -6,7 +6,7 @@ use Rattle.pon_admit.proofs.roster.Roster.take_row.Goals as goal
 pub invariant_of-self-2 : goal.invariant_of-self-2
 invariant_of-self-2 c =
     let seen = sees c.args.row c.self.invariant c.self.view_is c.deref.ensures.value c.look_through-seen.ensures.taken (sym c.deref.ensures.len) c.look_through-seen.ensures.owned in
-    kept_with_row c.look_through-seen.result.place c.args.row c.self.invariant c.self.view_is c.requires.accepted c.in_range.ensures
+    kept_with_row c.look_through-seen.result.place c.args.row c.self.invariant c.self.view_is c.requires.accepted c.prove_in_range.ensures
     (insert_seen seen c.look_through-seen.result.place c.look_through-seen.ensures.place)
     (sums_seen seen c.from.result c.rate-promised.result c.from.ensures (c.rate-promised.ensures ∙ (λ j. c.get.ensures.value j + (c.get-2.ensures.value ∙ c.promised.ensures.sum) j)))
     c.in_ok-insert.ensures.items

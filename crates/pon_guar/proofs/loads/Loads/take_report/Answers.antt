@@ -1,9 +1,9 @@
 use Rattle.std.proofs.Common.{◌≡◌, ◌∙◌, ◌++◌, ap, drop, length, map, rules, take}
 use Rattle.std.specs.Prelude.{None}
 use Rattle.pon_lists.proofs.Parts.{written}
-use Rattle.pon_window.specs.Reports.{refuses_report, with_report}
-use Rattle.pon_window.specs.Window.{grants_at, words_to_from}
-use Rattle.pon_window.proofs.Frames.{frame_there}
+use Rattle.pon_guar.specs.ReportChecks.{refuses_report, with_report}
+use Rattle.pon_guar.specs.Window.{grants_at, words_to_from}
+use Rattle.pon_guar.proofs.Frames.{frame_there}
 use Rattle.pon_guar.specs.Loads.{after_reported}
 use Rattle.pon_guar.specs.Reports.{after_occupancies}
 use Rattle.pon_guar.proofs.Books.{counted_after, noted_there, occupancies_length, reported_rise}

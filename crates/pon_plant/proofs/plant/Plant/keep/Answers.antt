@@ -1,6 +1,6 @@
 use Rattle.std.proofs.Common.{◌≡◌, List, get_or, set, subst, sym, rules}
 use Rattle.std.specs.Prelude.{OnErr, OnOk, Some, slice_get}
-use Rattle.pon_port.specs.Chapters.{Chapter, IsLawfulChapter}
+use Rattle.pon_history.specs.Chapters.{Chapter, IsLawfulChapter}
 use Rattle.pon_plant.specs.Plants.{IsPlant}
 use Rattle.pon_plant.specs.Answers.{KeepsStep}
 use Rattle.pon_plant.proofs.Stepping.{at_port, chapter_at, kept_lawful, kept_ok, kept_refused, kept_unchanged, stays_plant, told_by}

@@ -1,6 +1,6 @@
 use Rattle.std.proofs.Common.{◌≡◌, List, get_or, set, ◌∙◌, ap, subst, rules}
 use Rattle.std.specs.Prelude.{Some, slice_get}
-use Rattle.pon_port.specs.Chapters.{Chapter, IsLawfulChapter}
+use Rattle.pon_history.specs.Chapters.{Chapter, IsLawfulChapter}
 use Rattle.pon_plant.specs.Plants.{IsPlant}
 use Rattle.pon_plant.proofs.Stepping.{asked, at_port, chapter_at, left, stays_lawful, stays_plant, told_by}
 use Rattle.pon_plant.proofs.plant.Plant.step.Goals as goal

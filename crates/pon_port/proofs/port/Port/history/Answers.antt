@@ -1,6 +1,6 @@
 use Rattle.std.proofs.Common.{subst}
-use Rattle.pon_port.specs.WordRuns.{RunsAreWhole}
-use Rattle.pon_port.proofs.WordRuns.{whole_runs}
+use Rattle.pon_history.specs.WordRuns.{RunsAreWhole}
+use Rattle.pon_history.proofs.WordRuns.{whole_runs}
 use Rattle.pon_port.proofs.port.Port.history.Goals as goal
 
 pub returns-clause-runs : goal.returns-clause-runs

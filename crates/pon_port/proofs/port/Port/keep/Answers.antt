@@ -1,9 +1,9 @@
 use Rattle.std.proofs.Common.{Result, Ok, Err, OnOk, subst, sym}
-use Rattle.pon_event.specs.declared.event.Event.TheVariants.{MakeMap}
+use Rattle.pon_admit.specs.declared.event.Event.TheVariants.{MakeMap}
 use Rattle.pon_state.specs.declared.reply.Reply.TheVariants.{Map}
-use Rattle.pon_port.specs.Chapters.{present_state}
-use Rattle.pon_port.specs.FairMaps.{IsFairMap}
-use Rattle.pon_port.specs.Taking.{Keeps, Takes}
+use Rattle.pon_history.specs.Chapters.{present_state}
+use Rattle.pon_history.specs.FairMaps.{IsFairMap}
+use Rattle.pon_history.specs.Taking.{Keeps, Takes}
 use Rattle.pon_port.proofs.port.Port.keep.Goals as goal
 
 pub keep_map-requires-clause-ready : goal.keep_map-requires-clause-ready

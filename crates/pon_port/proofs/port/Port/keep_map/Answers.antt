@@ -1,16 +1,17 @@
 use Rattle.std.proofs.Common.{◌≡◌, rules, subst, sym}
 use Rattle.std.specs.Prelude.{None, length}
-use Rattle.pon_port.specs.Chapters.{Chapter, present_state}
-use Rattle.pon_port.specs.FairMaps.{IsFairMap}
-use Rattle.pon_port.specs.Taking.{IsReady, Takes, refusal_of, with_entry}
+use Rattle.pon_history.specs.Chapters.{Chapter, present_state}
+use Rattle.pon_history.specs.FairMaps.{IsFairMap}
+use Rattle.pon_history.specs.Taking.{Takes, refusal_of, with_entry}
+use Rattle.pon_port.specs.Ports.{IsReady}
 use Rattle.pon_state.specs.Checks.{first_refusal}
-use Rattle.pon_event.specs.declared.event.Event.TheVariants.{MakeMap}
+use Rattle.pon_admit.specs.declared.event.Event.TheVariants.{MakeMap}
 use Rattle.pon_state.specs.declared.reply.Reply.TheVariants.{Map}
-use Rattle.pon_port.proofs.Kept.{kept_frames, map_taken, mapped}
-use Rattle.pon_port.proofs.FairMaps.{fair_map}
+use Rattle.pon_history.proofs.Kept.{kept_frames, map_taken, mapped}
+use Rattle.pon_history.proofs.FairMaps.{fair_map}
 use Rattle.pon_port.proofs.LastMaps.{last_made}
-use Rattle.pon_port.proofs.OneReply.{taken_lawful}
-use Rattle.pon_port.proofs.WordRuns.{whole_runs}
+use Rattle.pon_history.proofs.OneReply.{taken_lawful}
+use Rattle.pon_history.proofs.WordRuns.{whole_runs}
 use Rattle.pon_port.proofs.port.Port.keep_map.Goals as goal
 
 -- the finished map is one of the state that the port has, in which no check refuses it

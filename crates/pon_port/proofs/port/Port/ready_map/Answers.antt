@@ -1,6 +1,6 @@
 use Rattle.std.proofs.Common.{subst}
-use Rattle.pon_port.specs.Chapters.{present_state}
-use Rattle.pon_port.specs.Taking.{IsReady}
+use Rattle.pon_history.specs.Chapters.{present_state}
+use Rattle.pon_port.specs.Ports.{IsReady}
 use Rattle.pon_port.proofs.port.Port.ready_map.Goals as goal
 use Rattle.pon_port.proofs.port.Port.ready_map.Goals.{in-Ok, in-Err}
 

@@ -1,9 +1,9 @@
 use Rattle.std.proofs.Common.{rules}
-use Rattle.pon_port.specs.Chapters.{Chapter}
-use Rattle.pon_port.specs.Taking.{IsKept}
-use Rattle.pon_port.proofs.Kept.{taken}
+use Rattle.pon_history.specs.Chapters.{Chapter}
+use Rattle.pon_history.specs.Taking.{IsKept}
+use Rattle.pon_history.proofs.Kept.{taken}
 use Rattle.pon_port.proofs.LastMaps.{last_kept}
-use Rattle.pon_port.proofs.WordRuns.{whole_runs}
+use Rattle.pon_history.proofs.WordRuns.{whole_runs}
 use Rattle.pon_port.proofs.port.Port.take_plain.Goals as goal
 
 -- the port with one more entry

@@ -5,7 +5,7 @@ use Rattle.pon_record.specs.declared.version.Version.TheVariants.{Two}
 use Rattle.pon_record.specs.Chapters.{chapter_bytes}
 use Rattle.pon_recorder.specs.Bodies.{chapter_body}
 use Rattle.pon_recorder.specs.Recorders.{GoesOut}
-use Rattle.pon_recorder.proofs.Recording.{grows}
+use Rattle.pon_recorder.proofs.RecordedBytes.{grows}
 use Rattle.pon_recorder.proofs.record_file.RecordFile.append.Goals as goal
 
 pub returns-clause-taken : goal.returns-clause-taken

@@ -1,6 +1,6 @@
 use Rattle.std.proofs.Common.{subst}
 use Rattle.pon_recorder.specs.Recorders.{Stays}
-use Rattle.pon_recorder.proofs.Recording.{stays}
+use Rattle.pon_recorder.proofs.RecordedBytes.{stays}
 use Rattle.pon_recorder.proofs.record_file.RecordFile.flush.Goals as goal
 
 pub returns-in_err-push-clause-recorded : goal.returns-in_err-push-clause-recorded

@@ -1,7 +1,7 @@
 use Rattle.std.proofs.Common.{◌≡◌, ◌∙◌, ap, length, subst, sym}
 use Rattle.std.specs.Prelude.{if◌then◌else◌, Option, Some, None}
 use Rattle.pon_admit.proofs.OneRow.{has_alloc-none, has_alloc-there}
-use Rattle.pon_share.specs.Carries.{number_of}
+use Rattle.pon_demand.specs.Carries.{number_of}
 use Rattle.pon_state.specs.State.{carry_of}
 use Rattle.pon_state.proofs.CarryPlaces.{carry_found}
 use Rattle.pon_state.proofs.state.PortState.carry.Goals as goal

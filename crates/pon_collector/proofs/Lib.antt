@@ -1,3 +1,0 @@
-pub mod Recordings
-pub mod RingEnds
-pub mod Whole

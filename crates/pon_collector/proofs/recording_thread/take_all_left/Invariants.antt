@@ -1,5 +1,0 @@
-use Rattle.pon_collector.specs.Whole.{StaysSound}
-use Rattle.pon_collector.proofs.recording_thread.take_all_left.Given as goal
-
-abbrev pub invariant-loop-inlet : goal.invariant-loop-inlet
-invariant-loop-inlet g l = StaysSound l.initial.recorder l.recorder

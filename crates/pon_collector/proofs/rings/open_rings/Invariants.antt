@@ -1,6 +1,0 @@
-use Rattle.std.proofs.Common.{◌≡◌}
-use Rattle.std.specs.Vec.{vec_len}
-use Rattle.pon_collector.proofs.rings.open_rings.Given as goal
-
-abbrev pub invariant-loop-port : goal.invariant-loop-port
-invariant-loop-port g l = vec_len l.rings ≡ l._port

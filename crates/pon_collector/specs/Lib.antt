@@ -1,4 +1,0 @@
-pub mod Tapes
-pub mod Recordings
-pub mod Rings
-pub mod Whole

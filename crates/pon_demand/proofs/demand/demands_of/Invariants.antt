@@ -1,0 +1,10 @@
+use Rattle.std.proofs.Common.{◌≡◌, ◌≤◌, length, map, take, vec_capacity}
+use Rattle.pon_demand.specs.Demands.{demand_of}
+use Rattle.pon_demand.proofs.demand.demands_of.Given as goal
+
+-- the demands of the rows so far, and room for all
+abbrev pub invariant-loop-row : goal.invariant-loop-row
+invariant-loop-row l = record {
+  demands : l.found.items ≡ map (demand_of l.input) (take l.row-index l.row-items);
+  room : length l.row-items ≤ vec_capacity l.found;
+}

@@ -1,0 +1,74 @@
+//! The class problems of a map, against which its certificate is checked.
+
+ghost use Rattle.std.specs.Prelude.{◌≡◌, IfOk};
+ghost use Rattle.pon_admit.specs.Roster.{IsAdmitted};
+ghost use Rattle.pon_demand.specs.Problems.{AreProblems};
+ghost use Rattle.pon_demand.specs.Carries.{AreCarries, number_of};
+ghost use Rattle.pon_demand.specs.Rates.{carried, planned_grants};
+ghost use Rattle.pon_demand.specs.Sharing.{IsCertified, surplus_rate};
+
+use crate::buffers::MapBuffers;
+use crate::demand::{Demand, demands_of};
+use crate::grants::{Grants, planned_grants};
+use crate::input::ShareInput;
+use crate::sharing::{Members, class_members, surplus_of};
+use pon_cert::MapCert;
+use pon_descr::Class;
+use std::alloc::{AllocError, Global};
+
+/// The class problems of a map: the demand of each admitted Alloc-ID in map order, the members of the non-assured and of
+/// the best-effort class with their items, and the surplus in kbit/s that the non-assured class shares first.
+#[derive(Drop)]
+pub struct Problems {
+    pub demands: Vec<Demand>,
+    pub na: Members,
+    pub be: Members,
+    pub surplus: u64,
+}
+
+/// Makes the class problems of the next map, with the demands in the memory of `buffers`. `Err` only if memory is refused.
+pub fn class_problems(
+    alloc: Global,
+    buffers: &mut MapBuffers,
+    input: &ShareInput,
+) -> Result<Problems, AllocError>
+    requires admitted { IsAdmitted input.now.rule input.now.gap input.now.roster }
+    ensures { IfOk result (λ problems. AreProblems input.now problems) }
+{
+    let demands = demands_of(buffers.take_demands(alloc), input)?;
+    let na = class_members(alloc, demands.as_slice(), Class::NonAssured)?;
+    let be = class_members(alloc, demands.as_slice(), Class::BestEffort)?;
+    let surplus = surplus_of(input, demands.as_slice());
+    Ok(Problems {
+        demands,
+        na,
+        be,
+        surplus,
+    })
+}
+
+/// Computes the grant of each admitted Alloc-ID under a certificate, in map order: the whole words of its guaranteed
+/// rate, of the surplus rate that the certificate gives it, and of its carry; and what they leave. Both lists are in the
+/// memory of `buffers`. `Err` only if memory is refused.
+pub fn grants_under(
+    alloc: Global,
+    buffers: &mut MapBuffers,
+    input: &ShareInput,
+    problems: &Problems,
+    cert: &MapCert,
+    carries: &[u8],
+) -> Result<Grants, AllocError>
+    requires admitted { IsAdmitted input.now.rule input.now.gap input.now.roster }
+    requires problems { AreProblems input.now problems.now }
+    requires certified { IsCertified input.now cert.now }
+    requires carries { AreCarries input.now.rule input.now.roster carries.now }
+    ensures grants { IfOk result (λ g. g.grants.items
+        ≡ planned_grants input.now (surplus_rate input.now cert.now)
+        (λ r. number_of input.now.roster carries.now r.alloc_id)) }
+    ensures carries { IfOk result (λ g. g.carries.items
+        ≡ carried input.now (surplus_rate input.now cert.now)
+        (λ r. number_of input.now.roster carries.now r.alloc_id)) }
+{
+    let demands = problems.demands.as_slice();
+    planned_grants(buffers.take_grants(alloc), input, demands, cert, carries)
+}

@@ -1,0 +1,25 @@
+use Rattle.std.proofs.Common.{◌∙◌, rules}
+use Rattle.std.specs.Prelude.{nat_lt}
+use Rattle.std.proofs.lemmas.Fn.{always_returns_same}
+use Rattle.std.proofs.Math.Seq.{take-length, drop-length}
+use Rattle.pon_lists.proofs.Parts.{parts_at}
+use Rattle.pon_guar.proofs.Polls.{lesser_kept, lesser_left_out, parted}
+use Rattle.pon_guar.proofs.map.place_among.Goals as goal
+
+pub returns-then-are_lesser-clause-lesser : goal.returns-then-are_lesser-clause-lesser
+returns-then-are_lesser-clause-lesser c = take-length c.args.onus.now ∙ lesser_kept c.args.onu c.args.onus.now (c.are_lesser.ensures c.if-are_lesser.true)
+
+pub returns-then-are_lesser-clause-others : goal.returns-then-are_lesser-clause-others
+returns-then-are_lesser-clause-others c = drop-length c.args.onus.now ∙ lesser_left_out c.args.onu c.args.onus.now (c.are_lesser.ensures c.if-are_lesser.true)
+
+pub returns-clause-lesser : goal.returns-clause-lesser
+returns-clause-lesser c =
+    let facts = c.partition_point.ensures in
+    let parted = facts.partitioned (λ v. nat_lt v c.args.onu) (always_returns_same _ _ _ (λ a r f k. search rules)) (parted c.args.onu c.args.onus.now c.requires) in
+    (parts_at (λ v. nat_lt v c.args.onu) c.args.onus.now c.partition_point.result facts.bound parted).0
+
+pub returns-clause-others : goal.returns-clause-others
+returns-clause-others c =
+    let facts = c.partition_point.ensures in
+    let parted = facts.partitioned (λ v. nat_lt v c.args.onu) (always_returns_same _ _ _ (λ a r f k. search rules)) (parted c.args.onu c.args.onus.now c.requires) in
+    (parts_at (λ v. nat_lt v c.args.onu) c.args.onus.now c.partition_point.result facts.bound parted).1

@@ -1,0 +1,26 @@
+use Rattle.std.proofs.Common.{◌≡◌, ◌≤◌, ◌∙◌, ◌+◌, ◌++◌, ◌∷◌, [], ap, rules, subst, sym, take}
+use Rattle.std.specs.Prelude.{All}
+use Rattle.std.proofs.lemmas.List.{take_more}
+use Rattle.std.proofs.lemmas.List.Elements.{All-append, All-cons, All-nil}
+use Rattle.pon_guar.specs.Sums.{or_zero, sum_now}
+use Rattle.pon_guar.proofs.RunningSums.{beside_more}
+use Rattle.pon_guar.proofs.sums.next_sums.Goals as goal
+use Rattle.pon_guar.proofs.sums.next_sums.Goals.{in-Some, in-None}
+
+pub loop-granted-preserved : goal.loop-granted-preserved
+loop-granted-preserved c =
+    let done = take c.loop-granted.granted-index c.args.grants.now in
+    let granted = c.granted-item.result in
+    let more : take (c.loop-granted.granted-index + 1) c.args.grants.now ≡ done ++ granted ∷ []
+    = take_more c.args.grants.now c.loop-granted.granted-index granted (search rules) ∙ ap (λ g. done ++ g ∷ []) (sym c.granted-item.is) in
+    let sum : c.match-sum_now.sum ≡ or_zero (sum_now granted.onu granted.alloc_id c.args.maps.now c.args.sums.now)
+    = elim c.match-sum_now.branch [
+      | in-Some w ↦ w.sum-is ∙ sym (ap or_zero (sym c.sum_now.ensures ∙ w.in-Some.is))
+      | in-None w ↦ w.sum-is ∙ sym (ap or_zero (sym c.sum_now.ensures ∙ w.in-None.is))
+    ] in record {
+      sums = c.push_reserved.ensures.items ∙ beside_more c.args.maps.now c.args.sums.now done (take (c.loop-granted.granted-index + 1) c.args.grants.now) granted c.match-sum_now.sum c.loop-granted.before.items sum c.loop-granted.invariant.sums more;
+      small = subst (All (λ g. g.words ≤ 9720)) (sym more)
+          (All-append (λ g. g.words ≤ 9720) done (granted ∷ []) c.loop-granted.invariant.small (All-cons (λ g. g.words ≤ 9720) granted [] (search rules) (All-nil (λ g. g.words ≤ 9720))));
+      count = search rules;
+      room = search rules;
+    }

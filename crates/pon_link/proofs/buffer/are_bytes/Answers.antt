@@ -1,5 +1,0 @@
-use Rattle.std.proofs.Common.{arith}
-use Rattle.pon_link.proofs.buffer.are_bytes.Goals as goal
-
-pub returns : goal.returns
-returns c k = omega (arith, c.type_inv.bytes k)

@@ -1,0 +1,195 @@
+use pon_admit::Event;
+use pon_dbru::Occupancies;
+use pon_descr::Refusal;
+use pon_line::{FrameCommand, LineFault, Reading, read_frame_line, read_line};
+use pon_units::{BufOcc, FrameNo, OnuId};
+
+fn fault_of(line: &[u8]) -> Option<LineFault> {
+    match read_line(2, line) {
+        Reading::Refused(fault) => Some(fault),
+        Reading::Nothing
+        | Reading::Asks { .. }
+        | Reading::AsksCert { .. }
+        | Reading::AsksState { .. } => None,
+    }
+}
+
+fn asks_nothing(line: &[u8]) -> bool {
+    matches!(read_line(2, line), Reading::Nothing)
+}
+
+fn port_of_map(line: &[u8]) -> Option<usize> {
+    match read_line(2, line) {
+        Reading::Asks {
+            port,
+            event: Event::MakeMap,
+        } => Some(port),
+        _ => None,
+    }
+}
+
+fn port_of_admit(line: &[u8]) -> Option<usize> {
+    match read_line(2, line) {
+        Reading::Asks {
+            port,
+            event: Event::Admit { .. },
+        } => Some(port),
+        _ => None,
+    }
+}
+
+// Most of these lines fail two checks, and the fault is that of the earlier check.
+#[test]
+fn tells_the_first_check_that_fails(rt: HostRuntime) {
+    for (line, fault) in [
+        (b"x map \x80".as_slice(), LineFault::NotText),
+        (b"0 map\r\r".as_slice(), LineFault::NotText),
+        (b"x".as_slice(), LineFault::BadField),
+        (b"18446744073709551616 map".as_slice(), LineFault::BadField),
+        (b"000000000000000000000 map".as_slice(), LineFault::BadField),
+        (
+            b"18446744073709551615 map".as_slice(),
+            LineFault::NoSuchPort,
+        ),
+        (b"2".as_slice(), LineFault::NoSuchPort),
+        (b"0 ".as_slice(), LineFault::WordCount),
+        (b"0 maps x".as_slice(), LineFault::UnknownCommand),
+        (b"0 map x".as_slice(), LineFault::WordCount),
+        (b"0 admit x 1024 0 0 0".as_slice(), LineFault::WordCount),
+        (b"0 admit 5 1023 x 0 0 none".as_slice(), LineFault::BadField),
+        (b"0 admit 5 1023 0 0 0 NA".as_slice(), LineFault::BadField),
+        (b"0 change 1023 x 0 0".as_slice(), LineFault::WordCount),
+        (b"0 change 1023 0 0 x na".as_slice(), LineFault::BadField),
+        (b"0 remove x 1".as_slice(), LineFault::WordCount),
+        (b"2 cert 1".as_slice(), LineFault::NoSuchPort),
+        (b"0 cert x".as_slice(), LineFault::WordCount),
+        (b"0 remove x".as_slice(), LineFault::BadField),
+    ] {
+        assert!(rt; fault_of(line) == Some(fault), "at {line:?}");
+    }
+}
+
+#[test]
+fn tells_what_the_port_would_refuse_of_the_numbers(rt: HostRuntime) {
+    for (line, refusal) in [
+        (
+            b"0 admit 1023 1023 2488321 0 0 none".as_slice(),
+            Refusal::AllocRange,
+        ),
+        (
+            b"0 admit 5 16384 0 0 0 none".as_slice(),
+            Refusal::AllocRange,
+        ),
+        (
+            b"0 admit 1023 1024 2488321 0 0 none".as_slice(),
+            Refusal::OnuRange,
+        ),
+        (
+            b"0 admit 5 1024 2488321 0 0 none".as_slice(),
+            Refusal::RateRange,
+        ),
+        (
+            b"0 admit 5 1024 2560 0 2559 none".as_slice(),
+            Refusal::MaxBelowGuaranteed,
+        ),
+        (
+            b"0 admit 5 1024 0 0 9 na".as_slice(),
+            Refusal::NeedsGuarantee,
+        ),
+        (
+            b"0 change 1023 2488321 0 0 be".as_slice(),
+            Refusal::AllocRange,
+        ),
+        (b"0 change 1024 0 9 9 be".as_slice(), Refusal::NoSurplusRoom),
+        (b"0 remove 16384".as_slice(), Refusal::AllocRange),
+    ] {
+        assert!(rt;
+            fault_of(line) == Some(LineFault::Port(refusal)),
+            "at {line:?}"
+        );
+    }
+}
+
+#[test]
+fn gives_no_reply_to_blank_lines_and_comments(rt: HostRuntime) {
+    for line in [
+        b"".as_slice(),
+        b" \t".as_slice(),
+        b"\r".as_slice(),
+        b" # \x80".as_slice(),
+    ] {
+        assert!(rt; asks_nothing(line), "at {line:?}");
+    }
+}
+
+#[test]
+fn counts_the_bytes_of_a_line_with_its_carriage_return(rt: HostRuntime) {
+    let mut line = [b'#'; 4097];
+    assert!(rt; asks_nothing(&line[..4096]));
+    assert!(rt; fault_of(&line) == Some(LineFault::LineLong));
+    line[4096] = b'\r';
+    assert!(rt; fault_of(&line) == Some(LineFault::LineLong));
+}
+
+#[test]
+fn reads_each_command(rt: HostRuntime) {
+    assert!(rt; port_of_admit(b"0 admit 5 1024 2560 0 2560 none") == Some(0));
+    let changes = matches!(
+        read_line(2, b"1 change 1024 0 0 1 be"),
+        Reading::Asks {
+            port: 1,
+            event: Event::Change { .. },
+        }
+    );
+    assert!(rt; changes);
+    let removes = matches!(
+        read_line(2, b"0 remove 16383"),
+        Reading::Asks {
+            port: 0,
+            event: Event::Remove { .. },
+        }
+    );
+    assert!(rt; removes);
+    let asks_cert = matches!(read_line(2, b"1 cert"), Reading::AsksCert { port: 1 });
+    assert!(rt; asks_cert);
+    let asks_state = matches!(read_line(2, b"1 show"), Reading::AsksState { port: 1 });
+    assert!(rt; asks_state);
+    for (line, port) in [(b"00 map".as_slice(), 0), (b"\t 1 \t map \r".as_slice(), 1)] {
+        assert!(rt; port_of_map(line) == Some(port), "at {line:?}");
+    }
+}
+
+fn frame_line(line: &[u8]) -> Option<FrameCommand> {
+    read_frame_line(2, line, &mut Occupancies::new())
+}
+
+#[test]
+fn reads_the_lines_of_each_frame(rt: HostRuntime) {
+    let map = FrameCommand::Map { port: 1 };
+    assert!(rt; frame_line(b"1 map") == Some(map));
+    let mut occ = Occupancies::new();
+    let read = read_frame_line(2, b"0 report 7 5 9 x\r", &mut occ);
+    let report = FrameCommand::Report {
+        port: 0,
+        frame: FrameNo::new(7),
+        onu: OnuId::new(5).unwrap(),
+    };
+    assert!(rt; read == Some(report));
+    let wanted = [BufOcc::new(9), None];
+    assert!(rt; occ.as_slice() == wanted.as_slice());
+}
+
+#[test]
+fn leaves_other_lines_and_refused_ones(rt: HostRuntime) {
+    for line in [
+        b"1 cert".as_slice(),
+        b"0 restore".as_slice(),
+        b"0 map x".as_slice(),
+        b"2 map".as_slice(),
+        b"0 report 7 5".as_slice(),
+        b"# map".as_slice(),
+        b"".as_slice(),
+    ] {
+        assert!(rt; frame_line(line).is_none(), "at {line:?}");
+    }
+}

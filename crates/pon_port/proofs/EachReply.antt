@@ -1,0 +1,45 @@
+-- A state has a reply to each event that no check refuses: there is a certificate of its map.
+use Rattle.std.proofs.Common.{◌≡◌, length, refl}
+use Rattle.std.specs.Prelude.{None}
+use Rattle.pon_admit.specs.Roster.{IsAdmitted}
+use Rattle.pon_state.specs.State.{State, carry_at, input_of}
+use Rattle.pon_cert.specs.declared.cert.MapCert.{MapCert}
+use Rattle.pon_demand.specs.Sharing.{IsCertified, surplus_rate}
+use Rattle.pon_demand.specs.Maps.{map_of}
+use Rattle.pon_state.specs.Events.{IsEvent}
+use Rattle.pon_state.specs.Legal.{IsMade, IsReply, MayFollow}
+use Rattle.pon_history.specs.Chapters.{Chapter, IsLawfulChapter, present_state}
+use Rattle.pon_history.specs.Taking.{Takes, refusal_of, with_entry}
+use Rattle.pon_admit.specs.declared.event.Event.{Event}
+use Rattle.pon_admit.specs.declared.event.Event.TheVariants.{Admit, Change, Remove, Report, MakeMap, Fail, Restore}
+use Rattle.pon_state.specs.declared.reply.Reply.{Reply}
+use Rattle.pon_state.specs.declared.reply.Reply.TheVariants.{Taken, Map}
+use Rattle.pon_state.specs.declared.reply.MadeMap.{MadeMap}
+use Rattle.pon_port.proofs.EachCertificate.{each_map_certificate}
+use Rattle.pon_history.proofs.LawfulChapters.{admitted_at_present}
+
+module _ (s : State) (k : IsAdmitted s.rule s.gap s.roster) where
+  each_made : (made : MadeMap) × IsMade s made
+  each_made =
+      let cert : (cert : MapCert) × IsCertified (input_of s) cert = each_map_certificate (input_of s) k in
+      (record { frame = s.next; map = map_of s.profile (input_of s) (surplus_rate (input_of s) cert.0) (carry_at s); cert = cert.0 }, record { frame = refl; certified = cert.1; map = refl })
+
+  pub each_reply : (v : Event) → (a : Reply) × IsReply s v a
+  each_reply MakeMap = (Map each_made.0, each_made.1)
+  each_reply (Admit onu alloc_id descriptor) = (Taken, refl)
+  each_reply (Change alloc_id descriptor) = (Taken, refl)
+  each_reply (Remove alloc_id) = (Taken, refl)
+  each_reply (Report frame onu occ) = (Taken, refl)
+  each_reply (Fail cause) = (Taken, refl)
+  each_reply Restore = (Taken, refl)
+
+-- a lawful chapter has a reply to an event that no check refuses
+pub each_follows : (c : Chapter) (v : Event) → IsLawfulChapter c → IsEvent v → refusal_of c v ≡ None → (reply : Reply) × MayFollow (length c.entries) (present_state c) (record { event = v; reply = reply })
+each_follows c v l range accepted =
+    let reply : (a : Reply) × IsReply (present_state c) v a = each_reply (present_state c) (admitted_at_present c l) v in
+    (reply.0, record { event = range; accepted = accepted; reply = reply.1 })
+
+pub each_taken : (c : Chapter) (v : Event) → IsLawfulChapter c → IsEvent v → refusal_of c v ≡ None → (reply : Reply) × (next : Chapter) × Takes c v reply next
+each_taken c v l range accepted =
+    let reply : (a : Reply) × MayFollow (length c.entries) (present_state c) (record { event = v; reply = a }) = each_follows c v l range accepted in
+    (reply.0, with_entry c v reply.0, record { follows = reply.1; kept = refl })

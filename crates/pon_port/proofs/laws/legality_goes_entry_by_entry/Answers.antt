@@ -1,5 +1,0 @@
-use Rattle.pon_port.proofs.EntryByEntry.{legal_none, legal_one_less, legal_one_more}
-use Rattle.pon_port.proofs.laws.legality_goes_entry_by_entry.Goals as goal
-
-pub returns : goal.returns
-returns c = record { none = legal_none; one_more = legal_one_more; one_less = legal_one_less }

@@ -1,5 +1,0 @@
-use Rattle.pon_port.proofs.EntryByEntry.{replay_of_none, replay_of_one_more}
-use Rattle.pon_port.proofs.laws.replay_goes_entry_by_entry.Goals as goal
-
-pub returns : goal.returns
-returns c = record { none = replay_of_none; one_more = replay_of_one_more }

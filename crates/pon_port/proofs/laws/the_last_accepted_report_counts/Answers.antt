@@ -1,5 +1,0 @@
-use Rattle.pon_port.proofs.CountedReports.{counts, none_counts}
-use Rattle.pon_port.proofs.laws.the_last_accepted_report_counts.Goals as goal
-
-pub returns : goal.returns
-returns c = record { some = counts; none = none_counts }

@@ -1,5 +1,0 @@
-use Rattle.pon_port.proofs.OneFloor.{whole_kbits, whole_words}
-use Rattle.pon_port.proofs.laws.words_are_one_whole_part.Goals as goal
-
-pub returns : goal.returns
-returns c = record { kbits = whole_kbits; words = whole_words }

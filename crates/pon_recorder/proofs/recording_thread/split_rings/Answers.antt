@@ -1,0 +1,15 @@
+use Rattle.std.proofs.Common.{◌∙◌, rules, sym}
+use Rattle.pon_recorder.proofs.RingEnds.{ring_here}
+use Rattle.pon_recorder.proofs.recording_thread.split_rings.Goals as goal
+
+pub new-requires : goal.new-requires
+new-requires g c = λ o e.
+    c.in-Some.ring.ends o
+    (sym (ring_here g.K.Rings.ring c.args.rings.items c.loop-ring.yielded c.loop-ring.ring-iterator.rest.items c.next.new.self.rest.items c.in-Some.ring c.at-port.result
+    c.requires.named c.loop-ring.invariant.all c.in-Some.ensures.steps.0 (search rules)) ∙ e)
+
+pub new-requires-in-Some-out : goal.new-requires-in-Some-out
+new-requires-in-Some-out g c =
+    ring_here g.K.Rings.ring c.args.rings.items c.loop-ring.yielded c.loop-ring.ring-iterator.rest.items c.next.new.self.rest.items c.in-Some.ring c.at-port.result
+    c.requires.named c.loop-ring.invariant.all c.in-Some.ensures.steps.0 (search rules)
+    ∙ c.in-Some-out.is

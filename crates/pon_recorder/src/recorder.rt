@@ -1,0 +1,119 @@
+//! The recorder of a run: it takes the chapters of all ports out of their rings, and appends them to the file.
+
+ghost use Rattle.std.specs.Prelude.{◌≡◌, [], ◌∷◌, true, false};
+ghost use Rattle.pon_recorder.specs.Bodies.{chapter_body};
+ghost use Rattle.pon_recorder.specs.Recorders.{Stays};
+ghost use Rattle.pon_recorder.specs.Recordings.{HasRecorded, IsDropped, TakesChapters};
+
+use crate::fault::RecordFault;
+use crate::record_file::RecordFile;
+use pon_device::{DevWrite, DeviceFault};
+use pon_port::Chapter;
+use pon_units::PortNo;
+
+/// Maximum number of attempts in a row to write a chapter to a file that fails.
+const MAX_TRIES: u32 = 3;
+
+/// The file of a recording, and what kept chapters out of it: the file failed, or memory was refused.
+#[derive(Drop)]
+pub struct Recorder<W> {
+    file: RecordFile<W>,
+    // Whether the file failed three times in a row: it takes no further chapter.
+    failed: bool,
+    // Whether memory was refused for a chapter.
+    lacked_memory: bool,
+    ghost whole: { failed ≡ false → file.left ≡ [] },
+}
+
+// Writes what is left of a chapter, in at most two further attempts. Returns whether nothing is left.
+fn write_rest<W: DevWrite + Drop>(file: &mut RecordFile<W>) -> bool
+    ensures same { Stays (W.contents file.old.device) file.old.left (W.contents file.new.device)
+        file.new.left }
+    ensures whole { result ≡ true → file.new.left ≡ [] }
+{
+    for _try in 1..MAX_TRIES {
+        if file.flush().is_ok() {
+            return true;
+        }
+    }
+    false
+}
+
+impl<W: DevWrite + Drop> Recorder<W> {
+    ghost use Rattle.std.specs.Prelude.{OnOk};
+    ghost use Rattle.pon_recorder.specs.Whole.{IsSound, RecordsAll};
+
+    /// Makes a recorder of a recording with nothing left to write.
+    pub(crate) fn new(file: RecordFile<W>) -> Self
+        requires { file.left ≡ [] }
+        ensures { result.file ≡ file }
+    {
+        Recorder {
+            file,
+            failed: false,
+            lacked_memory: false,
+        }
+    }
+
+    /// Appends a chapter of a port. Returns `false` if it is dropped: memory is refused for it, or the file failed three
+    /// times in a row, now or earlier. Both are noted for [`Recorder::end`].
+    pub(crate) fn append(&mut self, port: PortNo, chapter: &Chapter) -> bool
+        ensures sound { IsSound self.new → IsSound self.old × (result ≡ true) }
+        ensures recorded { result ≡ true → HasRecorded (W.contents self.old.file.device)
+            self.old.file.left (W.contents self.new.file.device) self.new.file.left
+            (chapter_body port chapter.now ∷ []) }
+        ensures dropped { result ≡ false → IsDropped (W.contents self.old.file.device)
+            self.old.file.left (W.contents self.new.file.device) self.new.file.left self.new.failed
+            (chapter_body port chapter.now) }
+    {
+        if self.failed {
+            return false;
+        }
+        match self.file.append(port, chapter) {
+            Ok(()) => true,
+            Err(RecordFault::Device) => {
+                self.failed = !write_rest(&mut self.file);
+                !self.failed
+            }
+            Err(RecordFault::Memory) => {
+                self.lacked_memory = true;
+                false
+            }
+            Err(RecordFault::Busy) => unreachable!(),
+        }
+    }
+
+    /// Records a chapter of a port, or counts it as dropped.
+    pub(crate) fn record(&mut self, port: PortNo, chapter: &Chapter, dropped: &mut u64)
+        ensures all { RecordsAll self.old self.new (W.contents self.old.file.device)
+            (W.contents self.new.file.device) (chapter_body port chapter.now ∷ []) }
+        ensures taken { TakesChapters (W.contents self.old.file.device) self.old.file.left
+            (W.contents self.new.file.device) self.new.file.left dropped.old dropped.new
+            (chapter_body port chapter.now ∷ []) }
+    {
+        if !self.append(port, chapter) {
+            *dropped = dropped.saturating_add(1);
+        }
+    }
+
+    /// Flushes the file.
+    ///
+    /// Returns `Write` if the file failed three times in a row, or fails now, and `Memory` if memory was refused for a
+    /// chapter.
+    pub(crate) fn end(self) -> Result<(), DeviceFault>
+        ensures { OnOk result (IsSound self) }
+    {
+        let Recorder {
+            mut file,
+            failed,
+            lacked_memory,
+        } = self;
+        if failed || file.flush().is_err() {
+            return Err(DeviceFault::Write);
+        }
+        if lacked_memory {
+            return Err(DeviceFault::Memory);
+        }
+        Ok(())
+    }
+}

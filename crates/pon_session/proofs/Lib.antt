@@ -1,3 +1,0 @@
-mod Continuing
-mod Feeds
-mod Streaming

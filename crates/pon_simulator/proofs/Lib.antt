@@ -1,5 +1,0 @@
-mod Owners
-mod Rounds
-mod Splits
-mod Turns
-mod Writable

@@ -1,5 +1,0 @@
-pub mod Answers
-pub mod Outputs
-pub mod Progress
-pub mod Series
-pub mod Serving

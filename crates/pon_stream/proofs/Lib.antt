@@ -1,2 +1,0 @@
-pub mod DeviceBytes
-pub mod ReadCounts

@@ -1,9 +1,0 @@
-use Rattle.std.proofs.Common.{◌∙◌, ap, take}
-use Rattle.pon_window.proofs.Series.{own_series}
-use Rattle.pon_window.proofs.map.series_of.Goals as goal
-
-pub returns-clause-grants : goal.returns-clause-grants
-returns-clause-grants c =
-    c.split_at-2.ensures.front
-    ∙ ap (λ n. take n c.split_at.result.1.now) c.series_len.ensures.len
-    ∙ own_series c.args.onu c.args.grants.now c.split_at.result.1.now c.requires (c.split_at.ensures.back ∙ c.lesser_count-first.ensures.others)

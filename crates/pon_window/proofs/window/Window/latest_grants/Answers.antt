@@ -1,7 +1,0 @@
-use Rattle.std.proofs.Common.{◌∙◌, ap, sym}
-use Rattle.pon_window.specs.Window.{latest_grants}
-use Rattle.pon_window.proofs.Windows.{latest_of}
-use Rattle.pon_window.proofs.window.Window.latest_grants.Goals as goal
-
-pub returns-in-Some : goal.returns-in-Some
-returns-in-Some c = c.grants.ensures ∙ sym (latest_of c.in-Some.field-0-1.now c.in-Some.latest.now) ∙ ap latest_grants (sym c.in-Some.ensures.cases.0 ∙ c.maps.ensures.value)
