@@ -7,8 +7,8 @@ use Rattle.pon_check_file.specs.Stages.{Decides, IsSaid, said}
 use Rattle.pon_check_file.specs.declared.file.Parsed.{Parsed}
 use Rattle.pon_text.specs.Lines.{file_lines}
 use Rattle.pon_device.specs.Streams.{TellsLine}
-use Rattle.pon_device.specs.declared.fault.StreamFault.{StreamFault}
-use Rattle.pon_device.specs.declared.fault.StreamFault.TheVariants.{Read, Write, Memory}
+use Rattle.pon_device.specs.declared.fault.DeviceFault.{DeviceFault}
+use Rattle.pon_device.specs.declared.fault.DeviceFault.TheVariants.{Read, Write, Memory}
 
 -- a result of bytes is a result of some lines
 pub is_said : (input : List ℕ) (left : Option (List ℕ)) (p : Parsed) → Decides input left p → IsSaid p
@@ -30,7 +30,7 @@ at_end input left line (inl d) = d.0
 at_end input left line (inr d) = let wrong : true ≡ false = d.0 in absurd (cc)
 
 -- the answer was not written whole
-pub not_told : (l0 l h0 h : Option (List ℕ)) (input bytes line : List ℕ) (accepted : Bool) (f : StreamFault) → Consumes l0 l input → IsDecided input l accepted line → bytes ≡ line → TellsLine bytes h0 h (Err f) → Checked l0 l h0 h (Err f)
+pub not_told : (l0 l h0 h : Option (List ℕ)) (input bytes line : List ℕ) (accepted : Bool) (f : DeviceFault) → Consumes l0 l input → IsDecided input l accepted line → bytes ≡ line → TellsLine bytes h0 h (Err f) → Checked l0 l h0 h (Err f)
 not_told l0 l h0 h input bytes line accepted Read c a s t = absurd t
 not_told l0 l h0 h input bytes line accepted Memory c a s t = absurd t
 not_told l0 l h0 h input bytes line accepted Write c a s t = record {

@@ -12,7 +12,7 @@ use Rattle.pon_admit.specs.declared.step.Step.{Step}
 use Rattle.pon_state.specs.declared.reply.Reply.{Reply}
 use Rattle.pon_history.specs.Chapters.{Chapter}
 use Rattle.pon_history.specs.Taking.{refusal_of}
-use Rattle.pon_plant.specs.Answers.{IsAnswer, KeepsStep}
+use Rattle.pon_plant.specs.Answers.{IsStepAnswer, KeepsStep}
 use Rattle.pon_plant.proofs.Interleaving.{slice_get-set_same}
 use Rattle.pon_plant.specs.declared.fault.StepFault.TheVariants.{Refused}
 use Rattle.pon_line.specs.declared.fault.LineFault.TheVariants.{Port}
@@ -24,7 +24,7 @@ at port event = record { port = port; event = event }
 
 -- the text of a refused event is that of its first refusal, unless memory was refused
 refused_at : (old : List Chapter) (port : ℕ) (event : Event) (told : Refusal) (text : List ℕ) (o : Option Chapter) →
-    IsAnswer o event (Err (Refused told)) → told ≢ OutOfMemory → text ≡ refusal_line (Port told) → AsksPort old port o event text old
+    IsStepAnswer o event (Err (Refused told)) → told ≢ OutOfMemory → text ≡ refusal_line (Port told) → AsksPort old port o event text old
 refused_at old port event told text None h other is = absurd (cc)
 refused_at old port event told text (Some c) h other is = by_check (refusal_of c event) h
   where
@@ -33,7 +33,7 @@ refused_at old port event told text (Some c) h other is = by_check (refusal_of c
     by_check (Some r) h = (subst (λ r. text ≡ refusal_line (Port r)) h is, refl)
 
 pub refused_text : {T E : Type 0} (old new : List Chapter) (port : ℕ) (event : Event) (told : Refusal) (replies_old replies_new : List ℕ) (r : Result T E) →
-    IsAnswer (slice_get old port) event (Err (Refused told)) → told ≢ OutOfMemory → new ≡ old →
+    IsStepAnswer (slice_get old port) event (Err (Refused told)) → told ≢ OutOfMemory → new ≡ old →
     OnOk r (replies_new ≡ replies_old ++ refusal_line (Port told)) → OnOk r (AddsAnswer old (Asks port event) new replies_old replies_new)
 refused_text old new port event told replies_old replies_new (Ok done) h other after is = (
   refusal_line (Port told),

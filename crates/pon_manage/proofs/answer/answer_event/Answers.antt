@@ -1,13 +1,13 @@
 use Rattle.pon_manage.proofs.AnswerLaws.{at, kept_text, refused_text, reply_there}
 use Rattle.pon_manage.proofs.answer.answer_event.Goals as goal
 
-pub last_reply-requires : goal.last_reply-requires
-last_reply-requires c = reply_there c.args.plant.now c.keep.new.self (at c.port_no-port.result c.args.event) c.in-Ok.ensures.ok
+pub last_entry-requires : goal.last_entry-requires
+last_entry-requires c = reply_there c.args.plant.now c.keep.new.self (at c.port_no-port.result c.args.event) c.in-Ok.ensures.ok
 
 pub returns-in-Ok-clause-ok : goal.returns-in-Ok-clause-ok
 returns-in-Ok-clause-ok c =
-    rw (← c.port_no-port.ensures) (kept_text c.args.plant.now c.keep.new.self c.port_no-port.result c.args.event c.kept_entries-index.result c.last_reply.result.now c.args.replies.now.items c.append_reply.new.replies.items c.append_reply.result
-    c.in-Ok.ensures.ok c.kept_entries-index.ensures c.last_reply.ensures c.append_reply.ensures.ok)
+    rw (← c.port_no-port.ensures) (kept_text c.args.plant.now c.keep.new.self c.port_no-port.result c.args.event c.kept_entries-index.result c.last_entry.result.now.reply c.args.replies.now.items c.append_reply.new.replies.items c.append_reply.result
+    c.in-Ok.ensures.ok c.kept_entries-index.ensures c.last_entry.ensures c.append_reply.ensures.ok)
 
 pub returns-in_default-clause-ok : goal.returns-in_default-clause-ok
 returns-in_default-clause-ok c =
