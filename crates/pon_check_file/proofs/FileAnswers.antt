@@ -1,8 +1,7 @@
 -- The answer line of a file, if it is written.
-use Rattle.std.proofs.Common.{◌≡◌, ℕ, Bool, true, false, List, [], ◌++◌, Option, sym, ◌∙◌, subst, Ok, Err, inl, inr}
+use Rattle.std.proofs.Common.{◌≡◌, ℕ, Bool, true, false, List, [], ◌++◌, Option, sym, ◌∙◌, subst, Err, inl, inr}
 use Rattle.pon_device.specs.Device.{Consumes, IsAtEnd}
-use Rattle.pon_cert.specs.Problem.{IsProblem}
-use Rattle.pon_check_file.specs.CheckFiles.{Checked, Filed, IsFileAnswer, IsDecided, file_of}
+use Rattle.pon_check_file.specs.CheckFiles.{Checked, IsFileAnswer, IsDecided}
 use Rattle.pon_check_file.specs.Stages.{Decides, IsSaid, said}
 use Rattle.pon_check_file.specs.declared.file.Parsed.{Parsed}
 use Rattle.pon_text.specs.Lines.{file_lines}

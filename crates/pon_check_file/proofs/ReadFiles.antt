@@ -1,12 +1,11 @@
 -- The surplus and the items that are read are in range.
-use Rattle.std.proofs.Common.{◌≡◌, ℕ, ◌^◌, ◌<◌, ◌≤◌, Bool, true, false, List, [], ◌∷◌, length, map, refl, arith, subst, Option, Some, None}
-use Rattle.std.specs.Prelude.{codes, if◌then◌else◌, ◌&&◌, nat_lt, nat_le}
+use Rattle.std.proofs.Common.{◌≡◌, ℕ, ◌≤◌, Bool, true, false, List, [], ◌∷◌, map, refl, arith, subst, Option, Some, None}
+use Rattle.std.specs.Prelude.{codes, if◌then◌else◌, ◌&&◌, nat_le}
 use Rattle.std.specs.List.{AllByRecursion}
-use Rattle.std.specs.Str.Parse.{digits_value}
-use Rattle.std.proofs.lemmas.Bool.{and_parts, leb-true, ltb-true}
+use Rattle.std.proofs.lemmas.Bool.{and_parts, leb-true}
 use Rattle.pon_lists.specs.OptionSteps.{◌>>=◌}
 use Rattle.pon_text.specs.Cuts.{cut_at, follows}
-use Rattle.pon_text.specs.Lines.{is_numeral, number_of}
+use Rattle.pon_text.specs.Lines.{number_of}
 use Rattle.pon_cert.specs.declared.problem.Item.{Item}
 use Rattle.pon_cert.specs.Problem.{IsItem}
 use Rattle.pon_check_file.specs.CheckLines.{surplus_of, item_on_line, number_within}
