@@ -7,7 +7,7 @@ use crate::unsettled::Unsettled;
 use pon_admit::Event;
 use pon_dbru::Occupancies;
 use pon_descr::{Class, Descriptor};
-use pon_port::{Chapter, Port, PortCfg};
+use pon_port::{Chapter, Entry, Port, PortCfg, Reply};
 use pon_units::{AllocId, BufOcc, FrameNo, Gap, OnuId, PortNo, Profile};
 use std::alloc::Global;
 use std::process::Abort;
