@@ -3,7 +3,7 @@
 use crate::acts::{Act, Why, event, gap, profile, refusal};
 use pon_bwmap::Alloc;
 use pon_descr::Refusal;
-use pon_port::{MadeMap, Port, PortCfg, Reply};
+use pon_port::{Entry, MadeMap, Port, PortCfg, Reply};
 use pon_units::FrameNo;
 use std::alloc::Global;
 use std::process::Abort;
@@ -38,6 +38,16 @@ fn shown(port: &Port) -> Shown {
         port.taken(),
         port.state().next_frame().get(),
     )
+}
+
+/// Returns whether both lists have the same entries.
+fn are_same(entries: &[Entry], others: &[Entry]) -> bool {
+    for (entry, other) in entries.iter().zip(others) {
+        if !entry.is_same(other) {
+            return false;
+        }
+    }
+    entries.len() == others.len()
 }
 
 /// Takes an event, at most this number of times if memory is refused.

@@ -84,7 +84,7 @@ fn keeps_no_map(rt: &impl Abort, port: &mut Port) -> bool {
 
 // Returns whether both ports keep the same, beginning by a map, and the second refuses one more.
 fn keep_alike(rt: &impl Abort, taking: &Port, keeping: &mut Port) -> bool {
-    let is_same = taking.history() == keeping.history();
+    let is_same = are_same(taking.history(), keeping.history());
     is_same && begins_by_a_map(keeping) && keeps_no_map(rt, keeping)
 }
 

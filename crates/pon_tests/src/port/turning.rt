@@ -24,16 +24,6 @@ fn full_port(rt: &impl Abort, alloc: Global) -> Port {
     port
 }
 
-/// Returns whether both lists have the same entries.
-fn are_same(entries: &[Entry], others: &[Entry]) -> bool {
-    for (entry, other) in entries.iter().zip(others) {
-        if !entry.is_same(other) {
-            return false;
-        }
-    }
-    entries.len() == others.len()
-}
-
 /// Returns whether a chapter has these entries, and opens as a port just opened does.
 fn is_first_chapter(chapter: &Chapter, entries: &[Entry]) -> bool {
     chapter.number() == 0
