@@ -8,6 +8,7 @@ mod counted;
 mod counts;
 mod frames;
 mod info;
+mod query;
 mod summary;
 mod text;
 
@@ -17,4 +18,5 @@ pub use counts::{
 };
 pub use frames::{first_frame, last_frame};
 pub use info::write_info;
+pub use query::{Answer, Format, Missing, RatesQuery, WhyQuery};
 pub use summary::{Summary, Totals, summary_of, with_chapter};
