@@ -1,44 +1,49 @@
 -- A command after each step of its building.
-use Rattle.std.proofs.Common.{◌≡◌, ap, ◌∙◌, true, false, Result, Ok, Err, IfOk}
-use Rattle.std.specs.Prelude.{Bool, ◌||◌}
-use Rattle.clap.specs.Built.{AddsArg, AddsSubcommand}
+use Rattle.std.proofs.Common.{◌≡◌, ap, ◌∙◌, subst, sym, true, false, Result, Ok, Err, IfOk, List, [], ◌∷◌, ◌++◌}
+use Rattle.std.proofs.lemmas.List.{append_assoc, append-nil}
+use Rattle.std.specs.Prelude.{Bool, ◌||◌, map}
+use Rattle.clap.specs.Built.{AddsArg, AddsInTurn, AddsSubcommand}
 use Rattle.clap.specs.Walk.{Rule, rule_of}
-use Rattle.clap.specs.Simple.{App, Shape, app_of, shape_of, with_rule, with_subcommand}
+use Rattle.clap.specs.Simple.{App, Shape, app_of, on_top, shape_of, with_rule, with_subcommand}
 use Rattle.clap.specs.declared.builder.arg.Arg.{Arg}
 use Rattle.clap.specs.declared.builder.command.Command.{Command}
-use Rattle.clap.specs.declared.builder.command.Command.TheViews.{out-Command}
-
--- the command has no global argument, and this is its definition
-pub record Has (app : App) (c : Command) : Type 0 where
-  pub reads : app_of c ≡ app
-  pub local : (out-Command c).has_globals ≡ false
-
-pub has : (app : App) (c : Command) → app_of c ≡ app → (out-Command c).has_globals ≡ false → Has app c
-has app c reads local = record { reads = reads; local = local }
+use Rattle.pon_job.specs.Jobs.{AreLocal, IsDefined, leaf}
 
 neither : (a b : Bool) → a ≡ false → b ≡ false → (a || b) ≡ false
 neither false b h k = k
 neither true b h k = absurd (cc)
 
-pub with_arg : (app : App) (rule : Rule) (old new : Command) (a : Arg) → Has app old → rule_of a ≡ rule → a.global ≡ false → AddsArg old a new → Has (with_rule app rule) new
-with_arg app rule old new a h is local adds = record {
-  reads = adds.shape local ∙ ap (λ k. with_rule k (rule_of a)) h.reads ∙ ap (with_rule app) is;
+-- a definition with these rules added
+abbrev pub with_rules : App → List Rule → App
+with_rules app rules = on_top (λ s. record s { rules = s.rules ++ rules }) app
+
+one_more : (app : App) (r : Rule) (rules : List Rule) → with_rules (with_rule app r) rules ≡ with_rules app (r ∷ rules)
+one_more app r rules = ap (λ all. on_top (λ s. record s { rules = all }) app) (append_assoc app.top.rules (r ∷ []) rules)
+
+with_arg : (app : App) (old new : Command) (a : Arg) → IsDefined app old → a.global ≡ false → AddsArg old a new → IsDefined (with_rule app (rule_of a)) new
+with_arg app old new a h local adds = record {
+  definition = adds.shape local ∙ ap (λ k. with_rule k (rule_of a)) h.definition;
   local = adds.globals ∙ neither _ _ h.local local;
 }
 
-pub with_last_arg : {E : Type 0} (app : App) (rule : Rule) (old : Command) (a : Arg) (r : Result Command E) → Has app old → rule_of a ≡ rule → a.global ≡ false → IfOk r (λ new. AddsArg old a new) → IfOk r (Has (with_rule app rule))
-with_last_arg app rule old a (Ok new) h is local adds = with_arg app rule old new a h is local adds
-with_last_arg app rule old a (Err e) h is local adds = tt
+with_all : (app : App) (args : List Arg) (old new : Command) → IsDefined app old → AreLocal args → AddsInTurn AddsArg old args new → IsDefined (with_rules app (map rule_of args)) new
+with_all app [] old new h local same =
+    let none : app ≡ with_rules app [] = ap (λ all. on_top (λ s. record s { rules = all }) app) (sym (append-nil app.top.rules)) in
+    subst (λ app. IsDefined app new) none (subst (IsDefined app) same h)
+with_all app (a ∷ args) old new h local adds =
+    subst (λ app. IsDefined app new) (one_more app (rule_of a) (map rule_of args)) (with_all (with_rule app (rule_of a)) args adds.0 new (with_arg app old adds.0 a h local.0 adds.1) local.1 adds.2)
 
--- each part of the definition of a command
-pub each : {E : Type 0} (app : App) (r : Result Command E) → IfOk r (Has app) → IfOk r (λ c. shape_of c ≡ app.top) × IfOk r (λ c. (out-Command c).has_globals ≡ false)
-each app (Ok c) h = (ap (λ a. a.top) h.reads, h.local)
-each app (Err e) h = (tt, tt)
+-- a command with further arguments
+pub with_args : {E : Type 0} (app : App) (args : List Arg) (old : Command) (r : Result Command E) → IsDefined app old → AreLocal args
+    → IfOk r (λ new. AddsInTurn AddsArg old args new) → IfOk r (IsDefined (with_rules app (map rule_of args)))
+with_args app args old (Ok new) h local adds = with_all app args old new h local adds
+with_args app args old (Err e) h local adds = tt
 
-pub with_sub : (app : App) (shape : Shape) (old sub new : Command) → app_of old ≡ app → shape_of sub ≡ shape → (out-Command sub).has_globals ≡ false → AddsSubcommand old sub new → app_of new ≡ with_subcommand app shape
-with_sub app shape old sub new e is local adds = adds.shape local ∙ ap (λ k. with_subcommand k (shape_of sub)) e ∙ ap (with_subcommand app) is
+-- a command with one more subcommand
+pub with_sub : (app : App) (shape : Shape) (old sub new : Command) → app_of old ≡ app → IsDefined (leaf shape) sub → AddsSubcommand old sub new → app_of new ≡ with_subcommand app shape
+with_sub app shape old sub new is defined adds = adds.shape defined.local ∙ ap (λ k. with_subcommand k (shape_of sub)) is ∙ ap (with_subcommand app) (ap (λ (a : App). a.top) defined.definition)
 
-pub with_last_sub : {E : Type 0} (app : App) (shape : Shape) (old sub : Command) (r : Result Command E) → app_of old ≡ app → shape_of sub ≡ shape → (out-Command sub).has_globals ≡ false
+pub with_last_sub : {E : Type 0} (app : App) (shape : Shape) (old sub : Command) (r : Result Command E) → app_of old ≡ app → IsDefined (leaf shape) sub
     → IfOk r (λ new. AddsSubcommand old sub new) → IfOk r (λ new. app_of new ≡ with_subcommand app shape)
-with_last_sub app shape old sub (Ok new) e is local adds = with_sub app shape old sub new e is local adds
-with_last_sub app shape old sub (Err e) p is local adds = tt
+with_last_sub app shape old sub (Ok new) is defined adds = with_sub app shape old sub new is defined adds
+with_last_sub app shape old sub (Err e) is defined adds = tt

@@ -2,3 +2,4 @@ mod Builders
 mod Migrations
 mod Runs
 mod Subcommands
+mod Views

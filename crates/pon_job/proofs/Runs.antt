@@ -1,28 +1,37 @@
--- The matches of `run`.
-use Rattle.std.proofs.Common.{◌≡◌, ℕ, Bool, List, Option, Some, None, subst, sym}
+-- The numbers of the matches, and the matches of `run`.
+use Rattle.std.proofs.Common.{◌≡◌, ℕ, Bool, List, Option, Some, None, refl, subst, sym}
 use Rattle.std.specs.Prelude.{IfSome, IsNone, IsSomeAnd, MatchOption, codes}
 use Rattle.clap.specs.Walk.{Row, first_of}
-use Rattle.pon_job.specs.Jobs.{HasMaps, IsRun, NamesNoJob, SpellsMaps}
-use Rattle.pon_job.specs.declared.task.Job.TheVariants.{Plan, Check, Audit, Info, Migrate, Run}
+use Rattle.pon_job.specs.Jobs.{HasMaps, HasNumber, IsRun, MayHave, NamesNoJob, Spells}
+use Rattle.pon_job.specs.declared.task.Job.TheVariants.{Plan, Check, Audit, Show, Migrate, Run}
+use Rattle.pon_job.proofs.Views.{view_is_no_word}
 
--- the number that is parsed from the text
-pub number_read : (rows : List Row) (text : List ℕ) (r : Option ℕ) → Some text ≡ first_of (codes "maps") rows → MatchOption r ((maps : ℕ) → ¬ SpellsMaps text maps) (SpellsMaps text) → IfSome r (HasMaps rows)
-number_read rows text None is spells = tt
-number_read rows text (Some maps) is spells = subst (λ o. IsSomeAnd o (λ t. SpellsMaps t maps)) is spells
+-- the number that is parsed from the text of an argument
+pub number_read : (id : List ℕ) (low high : ℕ) (rows : List Row) (text : List ℕ) (r : Option ℕ) → Some text ≡ first_of id rows
+    → MatchOption r ((number : ℕ) → ¬ Spells low high text number) (Spells low high text) → IfSome r (HasNumber id low high rows)
+number_read id low high rows text None is spells = tt
+number_read id low high rows text (Some number) is spells = subst (λ o. IsSomeAnd o (λ t. Spells low high t number)) is spells
 
-pub number_refused : (rows : List Row) (text : List ℕ) (r : Option ℕ) → Some text ≡ first_of (codes "maps") rows → MatchOption r ((maps : ℕ) → ¬ SpellsMaps text maps) (SpellsMaps text) → IsNone r → (maps : ℕ) → ¬ HasMaps rows maps
-number_refused rows text None is spells none maps has = spells maps (subst (λ o. IsSomeAnd o (λ t. SpellsMaps t maps)) (sym is) has)
-number_refused rows text (Some n) is spells none maps has = absurd (cc none)
+pub number_refused : (id : List ℕ) (low high : ℕ) (rows : List Row) (text : List ℕ) (r : Option ℕ) → Some text ≡ first_of id rows
+    → MatchOption r ((number : ℕ) → ¬ Spells low high text number) (Spells low high text) → IsNone r → (number : ℕ) → ¬ HasNumber id low high rows number
+number_refused id low high rows text None is spells none number has = spells number (subst (λ o. IsSomeAnd o (λ t. Spells low high t number)) (sym is) has)
+number_refused id low high rows text (Some n) is spells none number has = absurd (cc none)
 
-pub number_missing : (rows : List Row) → None ≡ first_of (codes "maps") rows → (maps : ℕ) → ¬ HasMaps rows maps
-number_missing rows none maps has = subst (λ o. IsSomeAnd o (λ t. SpellsMaps t maps)) (sym none) has
+pub number_missing : (id : List ℕ) (low high : ℕ) (rows : List Row) → None ≡ first_of id rows → (number : ℕ) → ¬ HasNumber id low high rows number
+number_missing id low high rows none number has = subst (λ o. IsSomeAnd o (λ t. Spells low high t number)) (sym none) has
+
+-- a value that is no number leaves no choice
+pub choice_refused : (id : List ℕ) (low high : ℕ) (rows : List Row) (text : List ℕ) → Some text ≡ first_of id rows
+    → ((number : ℕ) → ¬ Spells low high text number) → (number : Option ℕ) → ¬ MayHave id low high rows number
+choice_refused id low high rows text is none None has = absurd (cc (is, has))
+choice_refused id low high rows text is none (Some number) has = none number (subst (λ o. IsSomeAnd o (λ t. Spells low high t number)) (sym is) has)
 
 -- if a value is missing, there is no run
 no_run : (rows : List Row) → ((config listen : List ℕ) (maps : ℕ) (recording operate : Option (List ℕ)) (settle : Bool) → ¬ IsRun rows config listen maps recording operate settle) → NamesNoJob (Some (codes "run", rows))
 no_run rows none (Plan config) j = absurd (cc (j.0))
 no_run rows none (Check file) j = absurd (cc (j.0))
 no_run rows none (Audit file) j = absurd (cc (j.0))
-no_run rows none (Info file) j = absurd (cc (j.0))
+no_run rows none (Show view file part svg json) j = absurd (view_is_no_word view (codes "run") refl (sym j.0))
 no_run rows none (Migrate file out) j = absurd (cc (j.0))
 no_run rows none (Run config listen maps recording operate settle) j = none _ _ _ _ _ _ j.1
 

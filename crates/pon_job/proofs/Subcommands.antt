@@ -15,7 +15,7 @@ use Rattle.clap.specs.declared.parser.matches.ArgMatches.{ArgMatches}
 use Rattle.clap.specs.declared.parser.matches.ArgMatches.TheViews.{out-ArgMatches, out-SubCommand}
 use Rattle.pon_job.specs.Jobs.{HasValues, IsJob, NamesNoJob, RefusesWords, olt_app, word_of}
 use Rattle.pon_job.specs.declared.task.Job.{Job}
-use Rattle.pon_job.specs.declared.task.Job.TheVariants.{Plan, Check, Audit, Info, Migrate, Run}
+use Rattle.pon_job.specs.declared.task.Job.TheVariants.{Plan, Check, Audit, Show, Migrate, Run}
 
 name_of_rows : (m : ArgMatches) → option_map (λ p. p.0) (subcommand_rows_of m) ≡ subcommand_name_of m
 name_of_rows m = elim (out-ArgMatches m).subcommand as (λ o. option_map (λ p. p.0) (subcommand_rows o) ≡ option_map (λ b. (out-SubCommand (box_value b)).name.now) o) [
@@ -52,15 +52,9 @@ no_file name rows r word met is no_plan no_run none = subst NamesNoJob met go
     go (Plan config) j = no_plan (sym is ∙ j.0)
     go (Check file) j = absurd (cc (none, j.1))
     go (Audit file) j = absurd (cc (none, j.1))
-    go (Info file) j = absurd (cc (none, j.1))
+    go (Show view file part svg json) j = absurd (cc (none, j.1.recording))
     go (Migrate file out) j = absurd (cc (none, j.1.0))
     go (Run config listen maps recording operate settle) j = no_run (sym is ∙ j.0)
-
-pub info_is_not_plan : codes "info" ≡ codes "plan" → ⊥
-info_is_not_plan e = absurd (let t : true ≡ false = ap (λ l. nat_eq (slice_index_or l 0 0) 105) e in cc)
-
-pub info_is_not_run : codes "info" ≡ codes "run" → ⊥
-info_is_not_run e = absurd (cc e)
 
 -- the job of the matches is that of the words
 pub job_in : (a : App) (words : List (List ℕ)) (m : ArgMatches) (job : Job) → a ≡ olt_app → HasMatchesOf a words m → IsJob (subcommand_rows_of m) job → IsJob (subcommand_of olt_app words) job

@@ -1,8 +1,11 @@
 -- The jobs of the program, from the words of its command line.
-use Rattle.std.specs.Prelude.{◌≡◌, ◌⊎◌, ◌↔◌, ℕ, Bool, List, [], ◌∷◌, codes, Option, Some, None, IsSomeAnd, option_map, true}
+use Rattle.std.specs.Prelude.{◌≡◌, ◌⊎◌, ◌↔◌, ℕ, Bool, List, [], ◌∷◌, codes, Option, Some, None, IsSomeAnd, option_map, false, true, ⊤}
 use Rattle.std.specs.Str.Parse.{digits_value, without_leading_plus}
 use Rattle.clap.specs.Walk.{Row, Rule, first_of}
-use Rattle.clap.specs.Simple.{App, Shape, new_shape, new_rule, subcommand_of, with_subcommand}
+use Rattle.clap.specs.declared.builder.arg.Arg.{Arg}
+use Rattle.clap.specs.declared.builder.command.Command.{Command}
+use Rattle.clap.specs.declared.builder.command.Command.TheViews.{out-Command}
+use Rattle.clap.specs.Simple.{App, Shape, app_of, new_shape, new_rule, subcommand_of}
 use Rattle.clap.specs.Faults.{fault_of}
 use Rattle.clap.specs.Kinds.{HasKind}
 use Rattle.clap.specs.Values.{IsUnsignedIn, kind_of}
@@ -10,67 +13,122 @@ use Rattle.clap.specs.declared.builder.action.ArgAction.TheVariants.{SetTrue}
 use Rattle.clap.specs.declared.builder.value_parser.ValueParser.TheVariants.{Unsigned}
 use Rattle.clap.specs.declared.error.Error.{Error}
 use Rattle.clap.specs.declared.error.kind.ErrorKind.TheVariants.{InvalidSubcommand}
-use Rattle.pon_job.specs.declared.task.TheConstants.{MAX_MAPS}
+use Rattle.pon_job.specs.declared.task.TheConstants.{MAX_ALLOC, MAX_FRAME, MAX_MAPS, MAX_PORT, MIN_ALLOC}
 use Rattle.pon_job.specs.declared.task.Job.{Job}
-use Rattle.pon_job.specs.declared.task.Job.TheVariants.{Plan, Check, Audit, Info, Migrate, Run}
+use Rattle.pon_job.specs.declared.task.Part.{Part}
+use Rattle.pon_job.specs.declared.task.View.{View}
+use Rattle.pon_job.specs.declared.task.View.TheVariants.{Info, Rates, Why, Dump, Picture}
+use Rattle.pon_job.specs.declared.task.Job.TheVariants.{Plan, Check, Audit, Show, Migrate, Run}
 
--- the file of `check`, of `audit`, of `info` and of `migrate`, which is required
+-- an argument that is given by its place, and is required
+abbrev pub place_rule : List ℕ → Rule
+place_rule id = record (new_rule id) { value_names = 1; required = true }
+
+-- an option with a value
+abbrev pub option_rule : List ℕ → Rule
+option_rule id = record (new_rule id) { long = Some id; value_names = 1 }
+
+-- an option whose value is a number in a range
+abbrev pub number_rule : List ℕ → ℕ → ℕ → Rule
+number_rule id low high = record (option_rule id) { parser = Some (Unsigned low high) }
+
+-- an option without a value
+abbrev pub flag_rule : List ℕ → Rule
+flag_rule id = record (new_rule id) { long = Some id; action = Some SetTrue }
+
+-- the file of `check`, of `audit`, of `migrate` and of each view
 abbrev pub file_rule : Rule
-file_rule = record (new_rule (codes "file")) { value_names = 1; required = true }
+file_rule = place_rule (codes "file")
 
--- the file that `migrate` writes, which is required
+-- the file that `migrate` writes
 abbrev pub out_rule : Rule
-out_rule = record (new_rule (codes "out")) { value_names = 1; required = true }
+out_rule = place_rule (codes "out")
 
--- the settings of `plan`, which are optional
+-- the settings of `plan`
 abbrev pub config_rule : Rule
-config_rule = record (new_rule (codes "config")) { long = Some (codes "config"); value_names = 1 }
+config_rule = option_rule (codes "config")
+
+-- the settings of `run`, which are required
+abbrev pub needed_config_rule : Rule
+needed_config_rule = record config_rule { required = true }
 
 -- the address of the sockets of `run`, which is required
 abbrev pub listen_rule : Rule
-listen_rule = record (new_rule (codes "listen")) { long = Some (codes "listen"); value_names = 1; required = true }
+listen_rule = record (option_rule (codes "listen")) { required = true }
 
--- the number of maps of `run`, which is required, within its range
+-- the number of maps of `run`, which is required
 abbrev pub maps_rule : Rule
-maps_rule = record (new_rule (codes "maps")) {
-  long = Some (codes "maps");
-  value_names = 1;
-  parser = Some (Unsigned 1 MAX_MAPS);
-  required = true;
-}
+maps_rule = record (number_rule (codes "maps") 1 MAX_MAPS) { required = true }
 
--- the file of a recording of `run`, which is optional
+-- the file of a recording of `run`
 abbrev pub record_rule : Rule
-record_rule = record (new_rule (codes "record")) { long = Some (codes "record"); value_names = 1 }
+record_rule = option_rule (codes "record")
 
--- the file of management lines for an operator of `run`, which is optional
+-- the file of management lines for an operator of `run`
 abbrev pub operate_rule : Rule
-operate_rule = record (new_rule (codes "operate")) { long = Some (codes "operate"); value_names = 1 }
+operate_rule = option_rule (codes "operate")
 
 -- the flag of `run` that settles each port at the end
 abbrev pub settle_rule : Rule
-settle_rule = record (new_rule (codes "settle")) { long = Some (codes "settle"); action = Some SetTrue }
+settle_rule = flag_rule (codes "settle")
+
+-- the part of a recording that a view shows
+abbrev pub port_rule : Rule
+port_rule = number_rule (codes "port") 0 MAX_PORT
+
+abbrev pub alloc_rule : Rule
+alloc_rule = number_rule (codes "alloc") MIN_ALLOC MAX_ALLOC
+
+abbrev pub frame_rule : Rule
+frame_rule = number_rule (codes "frame") 0 MAX_FRAME
+
+abbrev pub from_rule : Rule
+from_rule = number_rule (codes "from") 0 MAX_FRAME
+
+abbrev pub to_rule : Rule
+to_rule = number_rule (codes "to") 0 MAX_FRAME
+
+-- the flag of a view that is printed as JSON
+abbrev pub json_rule : Rule
+json_rule = flag_rule (codes "json")
+
+-- the file of a picture
+abbrev pub svg_rule : Rule
+svg_rule = option_rule (codes "svg")
+
+-- a subcommand with these arguments
+abbrev pub shape_with : List ℕ → List Rule → Shape
+shape_with name rules = record (new_shape name) { rules = rules }
 
 abbrev pub plan_shape : Shape
-plan_shape = record (new_shape (codes "plan")) { rules = config_rule ∷ [] }
+plan_shape = shape_with (codes "plan") (config_rule ∷ [])
 
 abbrev pub check_shape : Shape
-check_shape = record (new_shape (codes "check")) { rules = file_rule ∷ [] }
+check_shape = shape_with (codes "check") (file_rule ∷ [])
 
 abbrev pub audit_shape : Shape
-audit_shape = record (new_shape (codes "audit")) { rules = file_rule ∷ [] }
+audit_shape = shape_with (codes "audit") (file_rule ∷ [])
 
 abbrev pub info_shape : Shape
-info_shape = record (new_shape (codes "info")) { rules = file_rule ∷ [] }
+info_shape = shape_with (codes "info") (file_rule ∷ json_rule ∷ [])
+
+abbrev pub rates_shape : Shape
+rates_shape = shape_with (codes "rates") (file_rule ∷ port_rule ∷ alloc_rule ∷ from_rule ∷ to_rule ∷ json_rule ∷ [])
+
+abbrev pub why_shape : Shape
+why_shape = shape_with (codes "why") (file_rule ∷ port_rule ∷ frame_rule ∷ alloc_rule ∷ json_rule ∷ [])
+
+abbrev pub dump_shape : Shape
+dump_shape = shape_with (codes "dump") (file_rule ∷ port_rule ∷ [])
+
+abbrev pub picture_shape : Shape
+picture_shape = shape_with (codes "picture") (file_rule ∷ port_rule ∷ frame_rule ∷ svg_rule ∷ [])
 
 abbrev pub migrate_shape : Shape
-migrate_shape = record (new_shape (codes "migrate")) { rules = file_rule ∷ out_rule ∷ [] }
+migrate_shape = shape_with (codes "migrate") (file_rule ∷ out_rule ∷ [])
 
--- `run`, for which the settings are required
 abbrev pub run_shape : Shape
-run_shape = record (new_shape (codes "run")) {
-  rules = record config_rule { required = true } ∷ listen_rule ∷ maps_rule ∷ record_rule ∷ operate_rule ∷ settle_rule ∷ [];
-}
+run_shape = shape_with (codes "run") (needed_config_rule ∷ listen_rule ∷ maps_rule ∷ record_rule ∷ operate_rule ∷ settle_rule ∷ [])
 
 abbrev pub top_shape : Shape
 top_shape = record (new_shape (codes "olt")) {
@@ -79,30 +137,80 @@ top_shape = record (new_shape (codes "olt")) {
   arg_required_else_help = true;
 }
 
-abbrev pub top_app : App
-top_app = record { top = top_shape; subs = [] }
+-- no argument is one of the subcommands too
+abbrev pub AreLocal : List Arg → Type 0
+AreLocal [] = ⊤
+AreLocal (a ∷ args) = (a.global ≡ false) × AreLocal args
 
--- the command line of the program
+-- a subcommand, which has none itself
+abbrev pub leaf : Shape → App
+leaf shape = record { top = shape; subs = [] }
+
+-- the command line of the program: its subcommands in the order of its help
 abbrev pub olt_app : App
-olt_app = with_subcommand (with_subcommand (with_subcommand (with_subcommand (with_subcommand (with_subcommand top_app plan_shape) check_shape) audit_shape) info_shape) migrate_shape) run_shape
+olt_app = record {
+  top = record top_shape { is_leaf = false };
+  subs = plan_shape ∷ check_shape ∷ audit_shape ∷ info_shape ∷ rates_shape ∷ why_shape ∷ dump_shape ∷ picture_shape ∷ migrate_shape ∷ run_shape ∷ [];
+}
+
+-- the command has this definition, and no global argument
+pub record IsDefined (app : App) (c : Command) : Type 0 where
+  pub definition : app_of c ≡ app
+  pub local : (out-Command c).has_globals ≡ false
+
+-- the subcommand of a view
+abbrev pub word_of_view : View → List ℕ
+word_of_view Info = codes "info"
+word_of_view Rates = codes "rates"
+word_of_view Why = codes "why"
+word_of_view Dump = codes "dump"
+word_of_view Picture = codes "picture"
 
 -- the subcommand of a job
 abbrev pub word_of : Job → List ℕ
 word_of (Plan config) = codes "plan"
 word_of (Check file) = codes "check"
 word_of (Audit file) = codes "audit"
-word_of (Info file) = codes "info"
+word_of (Show view file part svg json) = word_of_view view
 word_of (Migrate file out) = codes "migrate"
 word_of (Run config listen maps recording operate settle) = codes "run"
 
--- the text is this number, in decimal digits after an optional plus sign, in the range of the maps of a run
-pub record SpellsMaps (text : List ℕ) (maps : ℕ) : Type 0 where
-  pub in_range : IsUnsignedIn 1 MAX_MAPS text
-  pub number : digits_value 10 (without_leading_plus text) ≡ maps
+-- the text is this number, in decimal digits after an optional plus sign, in a range
+pub record Spells (low high : ℕ) (text : List ℕ) (number : ℕ) : Type 0 where
+  pub in_range : IsUnsignedIn low high text
+  pub value : digits_value 10 (without_leading_plus text) ≡ number
+
+-- the matches have this number as the value of an argument
+abbrev pub HasNumber : List ℕ → ℕ → ℕ → List Row → ℕ → Type 0
+HasNumber id low high rows number = IsSomeAnd (first_of id rows) (λ text. Spells low high text number)
 
 -- the matches have this number of maps
 abbrev pub HasMaps : List Row → ℕ → Type 0
-HasMaps rows maps = IsSomeAnd (first_of (codes "maps") rows) (λ text. SpellsMaps text maps)
+HasMaps = HasNumber (codes "maps") 1 MAX_MAPS
+
+-- the matches have this number as the value of an argument, or no value
+abbrev pub MayHave : List ℕ → ℕ → ℕ → List Row → Option ℕ → Type 0
+MayHave id low high rows None = first_of id rows ≡ None
+MayHave id low high rows (Some number) = HasNumber id low high rows number
+
+-- the matches have the numbers of this part of a recording
+pub record IsPart (rows : List Row) (part : Part) : Type 0 where
+  pub port : MayHave (codes "port") 0 MAX_PORT rows part.port
+  pub alloc_id : MayHave (codes "alloc") MIN_ALLOC MAX_ALLOC rows part.alloc
+  pub frame : MayHave (codes "frame") 0 MAX_FRAME rows part.frame
+  pub first : MayHave (codes "from") 0 MAX_FRAME rows part.from
+  pub last : MayHave (codes "to") 0 MAX_FRAME rows part.to
+
+-- the flag was given
+abbrev pub HasFlag : List ℕ → List Row → Bool → Type 0
+HasFlag id rows given = (given ≡ true) ↔ (first_of id rows ≡ Some (codes "true"))
+
+-- the matches of a view have these values
+pub record IsShown (rows : List Row) (file : List ℕ) (part : Part) (svg : Option (List ℕ)) (json : Bool) : Type 0 where
+  pub recording : first_of (codes "file") rows ≡ Some file
+  pub selection : IsPart rows part
+  pub picture : first_of (codes "svg") rows ≡ svg
+  pub format : HasFlag (codes "json") rows json
 
 -- the matches of `run` have these values
 pub record IsRun (rows : List Row) (config listen : List ℕ) (maps : ℕ) (recording operate : Option (List ℕ)) (settle : Bool) : Type 0 where
@@ -111,14 +219,14 @@ pub record IsRun (rows : List Row) (config listen : List ℕ) (maps : ℕ) (reco
   pub number : HasMaps rows maps
   pub recording_file : first_of (codes "record") rows ≡ recording
   pub operator : first_of (codes "operate") rows ≡ operate
-  pub settles : (settle ≡ true) ↔ (first_of (codes "settle") rows ≡ Some (codes "true"))
+  pub settles : HasFlag (codes "settle") rows settle
 
 -- the matches of a job's subcommand have the values of the job, by the names of its arguments
 abbrev pub HasValues : List Row → Job → Type 0
 HasValues rows (Plan config) = first_of (codes "config") rows ≡ option_map (λ name. name.now) config
 HasValues rows (Check file) = first_of (codes "file") rows ≡ Some file.now
 HasValues rows (Audit file) = first_of (codes "file") rows ≡ Some file.now
-HasValues rows (Info file) = first_of (codes "file") rows ≡ Some file.now
+HasValues rows (Show view file part svg json) = IsShown rows file.now part (option_map (λ name. name.now) svg) json
 HasValues rows (Migrate file out) = (first_of (codes "file") rows ≡ Some file.now) × (first_of (codes "out") rows ≡ Some out.now)
 HasValues rows (Run config listen maps recording operate settle) =
     IsRun rows config.now listen.now maps (option_map (λ name. name.now) recording) (option_map (λ name. name.now) operate) settle

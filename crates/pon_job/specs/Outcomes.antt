@@ -6,7 +6,7 @@ use Rattle.pon_device.specs.declared.fault.DeviceFault.{DeviceFault}
 use Rattle.pon_device.specs.declared.fault.DeviceFault.TheVariants.{Memory}
 use Rattle.pon_job.specs.declared.outcome.Outcome.{Outcome}
 use Rattle.pon_job.specs.declared.task.Job.{Job}
-use Rattle.pon_job.specs.declared.task.Job.TheVariants.{Plan, Check, Audit, Info, Migrate, Run}
+use Rattle.pon_job.specs.declared.task.Job.TheVariants.{Plan, Check, Audit, Show, Migrate, Run}
 use Rattle.pon_job.specs.declared.outcome.Outcome.TheVariants.{Done, Refused, CommandLine, Settings, Failed, Unfinished}
 
 -- The exit status is 0 if the job is done, 1 if a check or an audit refused, 2 if the command line or the settings are
@@ -41,7 +41,7 @@ abbrev pub outcome_of_job : Job → Result Bool DeviceFault → Outcome
 outcome_of_job (Plan config) ended = outcome_of_run ended
 outcome_of_job (Check file) ended = outcome_of_check ended
 outcome_of_job (Audit file) ended = outcome_of_check ended
-outcome_of_job (Info file) ended = outcome_of_check ended
+outcome_of_job (Show view file part svg json) ended = outcome_of_check ended
 outcome_of_job (Migrate file out) ended = outcome_of_check ended
 outcome_of_job (Run config listen maps recording operate settle) ended = outcome_of_ports ended
 

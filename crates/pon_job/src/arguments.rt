@@ -1,40 +1,54 @@
 //! The words of the command line.
 
-ghost use Rattle.std.specs.Prelude.{◌≡◌, ◌↔◌, ℕ, Some, true, IfErr, IfOk, IfSome, IsNone, MatchOption, codes, map, string_bytes};
-ghost use Rattle.clap.specs.Walk.{first_of};
+ghost use Rattle.std.specs.Prelude.{◌≡◌, ℕ, Option, Some, IfErr, IfOk, IfSome, IsNone, MatchOption, codes, map, string_bytes};
+ghost use Rattle.pon_job.specs.declared.task.Part.{Part};
+ghost use Rattle.pon_job.specs.declared.task.View.{View};
 ghost use Rattle.clap.specs.Words.{found_of, rows_of, subcommand_rows_of};
 ghost use Rattle.clap.specs.Simple.{subcommand_of};
-ghost use Rattle.pon_job.specs.Jobs.{HasMaps, IsJob, NamesNoJob, RefusesWords, SpellsMaps, olt_app};
+ghost use Rattle.pon_job.specs.Jobs.{HasFlag, HasNumber, IsJob, IsPart, MayHave, NamesNoJob, RefusesWords, Spells, olt_app, word_of_view};
 
 use crate::commands::olt_command;
-use crate::task::{Job, MAX_MAPS};
+use crate::task::{Job, MAX_ALLOC, MAX_FRAME, MAX_MAPS, MAX_PORT, MIN_ALLOC, Part, View};
 use clap::error::ErrorKind;
 use clap::{ArgMatches, Error};
 use std::alloc::Global;
 
-// Parses the number of maps of a run.
-fn maps_in(text: &str) -> Option<u64>
-    ensures { MatchOption result ((maps : ℕ) → ¬ SpellsMaps text.now maps) (SpellsMaps text.now) }
+// Parses a number, which is in a range.
+fn number_in(text: &str, low: u64, high: u64) -> Option<u64>
+    ensures { MatchOption result ((number : ℕ) → ¬ Spells low high text.now number)
+        (Spells low high text.now) }
 {
     match text.parse::<u64>() {
-        Ok(maps @ 1..=MAX_MAPS) => Some(maps),
+        Ok(number) if low <= number && number <= high => Some(number),
         _ => None,
     }
 }
 
-// Returns the number of maps of a run.
-fn maps_of(found: &ArgMatches<'_>) -> Option<u64>
-    ensures some { IfSome result (HasMaps (rows_of (found_of found.now))) }
-    ensures none { IsNone result → (maps : ℕ) → ¬ HasMaps (rows_of (found_of found.now)) maps }
+// Returns the number of an argument, which is in a range.
+fn number_of(found: &ArgMatches<'_>, id: &str, low: u64, high: u64) -> Option<u64>
+    ensures some { IfSome result (HasNumber id.now low high (rows_of (found_of found.now))) }
+    ensures none { IsNone result → (number : ℕ)
+        → ¬ HasNumber id.now low high (rows_of (found_of found.now)) number }
 {
-    let text = found.get_str("maps")?;
-    maps_in(text)
+    let text = found.get_str(id)?;
+    number_in(text, low, high)
+}
+
+// Returns the number of an option, if it was given. `None` if its value is no number in the range.
+fn chosen(found: &ArgMatches<'_>, id: &str, low: u64, high: u64) -> Option<Option<u64>>
+    ensures some { IfSome result (MayHave id.now low high (rows_of (found_of found.now))) }
+    ensures none { IsNone result → (number : Option ℕ)
+        → ¬ MayHave id.now low high (rows_of (found_of found.now)) number }
+{
+    match found.get_str(id) {
+        None => Some(None),
+        Some(text) => Some(Some(number_in(text, low, high)?)),
+    }
 }
 
 // Returns whether a flag was given.
 fn is_given(found: &ArgMatches<'_>, flag: &str) -> bool
-    ensures { (result ≡ true)
-        ↔ (first_of flag.now (rows_of (found_of found.now)) ≡ Some (codes "true")) }
+    ensures { HasFlag flag.now (rows_of (found_of found.now)) result }
 {
     match found.get_str(flag) {
         Some(text) => text == "true",
@@ -49,7 +63,7 @@ fn run_of<'a>(found: &ArgMatches<'a>) -> Option<Job<'a>>
 {
     let config = found.get_str("config")?;
     let listen = found.get_str("listen")?;
-    let maps = maps_of(found)?;
+    let maps = number_of(found, "maps", 1, MAX_MAPS)?;
     let record = found.get_str("record");
     let operate = found.get_str("operate");
     let settle = is_given(found, "settle");
@@ -74,6 +88,62 @@ fn migration_of<'a>(found: &ArgMatches<'a>) -> Option<Job<'a>>
     Some(Job::Migrate { file, out })
 }
 
+// Returns the part of a recording that the matches of a view name.
+fn part_of(found: &ArgMatches<'_>) -> Option<Part>
+    ensures some { IfSome result (IsPart (rows_of (found_of found.now))) }
+    ensures none { IsNone result → (part : Part) → ¬ IsPart (rows_of (found_of found.now)) part }
+{
+    Some(Part {
+        port: chosen(found, "port", 0, MAX_PORT)?,
+        alloc: chosen(found, "alloc", MIN_ALLOC, MAX_ALLOC)?,
+        frame: chosen(found, "frame", 0, MAX_FRAME)?,
+        from: chosen(found, "from", 0, MAX_FRAME)?,
+        to: chosen(found, "to", 0, MAX_FRAME)?,
+    })
+}
+
+// Returns the view of a subcommand.
+fn view_of(name: &str) -> Option<View>
+    ensures { MatchOption result ((view : View) → ¬ (name.now ≡ word_of_view view))
+        (λ view. name.now ≡ word_of_view view) }
+{
+    if name == "info" {
+        return Some(View::Info);
+    }
+    if name == "rates" {
+        return Some(View::Rates);
+    }
+    if name == "why" {
+        return Some(View::Why);
+    }
+    if name == "dump" {
+        return Some(View::Dump);
+    }
+    if name == "picture" {
+        return Some(View::Picture);
+    }
+    None
+}
+
+// Returns the view of a recording that the matches of its subcommand give.
+fn shown_by<'a>(view: View, found: &ArgMatches<'a>) -> Option<Job<'a>>
+    ensures some { IfSome result (IsJob (Some (word_of_view view, rows_of (found_of found.now)))) }
+    ensures none { IsNone result
+        → NamesNoJob (Some (word_of_view view, rows_of (found_of found.now))) }
+{
+    let file = found.get_str("file")?;
+    let part = part_of(found)?;
+    let svg = found.get_str("svg");
+    let json = is_given(found, "json");
+    Some(Job::Show {
+        view,
+        file,
+        part,
+        svg,
+        json,
+    })
+}
+
 // Returns the job that the subcommand of the matches gives.
 fn job_of<'a>(matches: &ArgMatches<'a>) -> Option<Job<'a>>
     ensures some { IfSome result (IsJob (subcommand_rows_of matches.now)) }
@@ -92,9 +162,8 @@ fn job_of<'a>(matches: &ArgMatches<'a>) -> Option<Job<'a>>
         let file = found.get_str("file")?;
         return Some(Job::Audit { file });
     }
-    if name == "info" {
-        let file = found.get_str("file")?;
-        return Some(Job::Info { file });
+    if let Some(view) = view_of(name) {
+        return shown_by(view, found);
     }
     if name == "migrate" {
         return migration_of(found);

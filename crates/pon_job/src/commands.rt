@@ -1,173 +1,324 @@
 //! The command line of the program.
 
 ghost use Rattle.std.specs.Prelude.{◌≡◌, IfOk, false};
-ghost use Rattle.clap.specs.declared.builder.command.Command.TheViews.{out-Command};
 ghost use Rattle.clap.specs.Walk.{rule_of};
-ghost use Rattle.clap.specs.Simple.{app_of, shape_of};
-ghost use Rattle.pon_job.specs.Jobs.{config_rule, file_rule, listen_rule, maps_rule, operate_rule, out_rule, record_rule, settle_rule};
-ghost use Rattle.pon_job.specs.Jobs.{audit_shape, check_shape, info_shape, migrate_shape, olt_app, plan_shape, run_shape, top_app};
+ghost use Rattle.clap.specs.Simple.{app_of};
+ghost use Rattle.std.specs.Prelude.{map};
+ghost use Rattle.pon_job.specs.Jobs.{AreLocal, IsDefined, leaf, olt_app, shape_with};
+ghost use Rattle.pon_job.specs.Jobs.{alloc_rule, config_rule, file_rule, flag_rule, frame_rule, from_rule, json_rule, listen_rule, maps_rule, needed_config_rule, number_rule, operate_rule, option_rule, out_rule, place_rule, port_rule, record_rule, settle_rule, svg_rule, to_rule};
+ghost use Rattle.pon_job.specs.Jobs.{audit_shape, check_shape, dump_shape, info_shape, migrate_shape, picture_shape, plan_shape, rates_shape, run_shape, top_shape, why_shape};
 
-use crate::task::MAX_MAPS;
+use crate::task::{MAX_ALLOC, MAX_FRAME, MAX_MAPS, MAX_PORT, MIN_ALLOC};
 use clap::builder::ValueParser;
 use clap::{Arg, ArgAction, Command};
 use std::alloc::{AllocError, Global};
 
-fn file_arg<'a>(alloc: Global) -> Arg<'a>
+// Makes an argument that is given by its place, and is required.
+fn place_arg<'a>(alloc: Global, id: &'a str, value: &'a str, help: &'a str) -> Arg<'a>
+    ensures rule { rule_of result ≡ place_rule id.now }
+    ensures local { result.global ≡ false }
+{
+    Arg::new(alloc, id)
+        .value_name(value)
+        .help(help)
+        .required(true)
+}
+
+// Makes an option with a value.
+fn option_arg<'a>(alloc: Global, id: &'a str, value: &'a str, help: &'a str) -> Arg<'a>
+    ensures rule { rule_of result ≡ option_rule id.now }
+    ensures local { result.global ≡ false }
+{
+    Arg::new(alloc, id).long(id).value_name(value).help(help)
+}
+
+// Makes an option whose value is a number in a range.
+fn number_arg<'a>(alloc: Global, id: &'a str, low: u64, high: u64, help: &'a str) -> Arg<'a>
+    ensures rule { rule_of result ≡ number_rule id.now low high }
+    ensures local { result.global ≡ false }
+{
+    option_arg(alloc, id, "NUMBER", help).value_parser(ValueParser::unsigned(low, high))
+}
+
+// Makes a flag.
+fn flag_arg<'a>(alloc: Global, id: &'a str, help: &'a str) -> Arg<'a>
+    ensures rule { rule_of result ≡ flag_rule id.now }
+    ensures local { result.global ≡ false }
+{
+    Arg::new(alloc, id)
+        .long(id)
+        .action(ArgAction::SetTrue)
+        .help(help)
+}
+
+fn check_file_arg<'a>(alloc: Global) -> Arg<'a>
     ensures rule { rule_of result ≡ file_rule }
     ensures local { result.global ≡ false }
 {
-    Arg::new(alloc, "file")
-        .value_name("FILE")
-        .help("The check file: a surplus, its items and their certificate")
-        .required(true)
+    let help = "The check file: a surplus, its items and their certificate";
+    place_arg(alloc, "file", "FILE", help)
 }
 
 fn recording_arg<'a>(alloc: Global) -> Arg<'a>
     ensures rule { rule_of result ≡ file_rule }
     ensures local { result.global ≡ false }
 {
-    Arg::new(alloc, "file")
-        .value_name("FILE")
-        .help("The recording")
-        .required(true)
+    place_arg(alloc, "file", "FILE", "The recording")
 }
 
 fn out_arg<'a>(alloc: Global) -> Arg<'a>
     ensures rule { rule_of result ≡ out_rule }
     ensures local { result.global ≡ false }
 {
-    Arg::new(alloc, "out")
-        .value_name("OUT")
-        .help("The file of the recording that is written")
-        .required(true)
+    let help = "The file of the recording that is written";
+    place_arg(alloc, "out", "OUT", help)
 }
 
 fn config_arg<'a>(alloc: Global) -> Arg<'a>
     ensures rule { rule_of result ≡ config_rule }
     ensures local { result.global ≡ false }
 {
-    Arg::new(alloc, "config")
-        .long("config")
-        .value_name("FILE")
-        .help("The settings of the ports and their Alloc-IDs, in TOML")
+    let help = "The settings of the ports and their Alloc-IDs, in TOML";
+    option_arg(alloc, "config", "FILE", help)
 }
 
 fn listen_arg<'a>(alloc: Global) -> Arg<'a>
     ensures rule { rule_of result ≡ listen_rule }
     ensures local { result.global ≡ false }
 {
-    Arg::new(alloc, "listen")
-        .long("listen")
-        .value_name("ADDRESS")
-        .help("The socket address that the ports listen on, such as 127.0.0.1:0")
-        .required(true)
+    let help = "The socket address that the ports listen on, such as 127.0.0.1:0";
+    option_arg(alloc, "listen", "ADDRESS", help).required(true)
 }
 
 fn maps_arg<'a>(alloc: Global) -> Arg<'a>
     ensures rule { rule_of result ≡ maps_rule }
     ensures local { result.global ≡ false }
 {
-    Arg::new(alloc, "maps")
-        .long("maps")
-        .value_name("NUMBER")
-        .help("The number of maps that each port makes, 1 to 1000000000")
-        .value_parser(ValueParser::unsigned(1, MAX_MAPS))
-        .required(true)
+    let help = "The number of maps that each port makes, 1 to 1000000000";
+    number_arg(alloc, "maps", 1, MAX_MAPS, help).required(true)
 }
 
 fn record_arg<'a>(alloc: Global) -> Arg<'a>
     ensures rule { rule_of result ≡ record_rule }
     ensures local { result.global ≡ false }
 {
-    Arg::new(alloc, "record")
-        .long("record")
-        .value_name("FILE")
-        .help("The file of a recording, which is made anew")
+    let help = "The file of a recording, which is made anew";
+    option_arg(alloc, "record", "FILE", help)
 }
 
 fn operate_arg<'a>(alloc: Global) -> Arg<'a>
     ensures rule { rule_of result ≡ operate_rule }
     ensures local { result.global ≡ false }
 {
-    Arg::new(alloc, "operate")
-        .long("operate")
-        .value_name("FILE")
-        .help("Management lines for an operator")
+    option_arg(alloc, "operate", "FILE", "Management lines for an operator")
 }
 
 fn settle_arg<'a>(alloc: Global) -> Arg<'a>
     ensures rule { rule_of result ≡ settle_rule }
     ensures local { result.global ≡ false }
 {
-    Arg::new(alloc, "settle")
-        .long("settle")
-        .action(ArgAction::SetTrue)
-        .help("Keep the receipts of all posts, and settle each port with them at the end")
+    let help = "Keep the receipts of all posts, and settle each port with them at the end";
+    flag_arg(alloc, "settle", help)
+}
+
+fn port_arg<'a>(alloc: Global) -> Arg<'a>
+    ensures rule { rule_of result ≡ port_rule }
+    ensures local { result.global ≡ false }
+{
+    number_arg(alloc, "port", 0, MAX_PORT, "The port, 0 to 63")
+}
+
+fn alloc_arg<'a>(alloc: Global) -> Arg<'a>
+    ensures rule { rule_of result ≡ alloc_rule }
+    ensures local { result.global ≡ false }
+{
+    number_arg(
+        alloc,
+        "alloc",
+        MIN_ALLOC,
+        MAX_ALLOC,
+        "The Alloc-ID, 1024 to 16383",
+    )
+}
+
+fn frame_arg<'a>(alloc: Global) -> Arg<'a>
+    ensures rule { rule_of result ≡ frame_rule }
+    ensures local { result.global ≡ false }
+{
+    number_arg(
+        alloc,
+        "frame",
+        0,
+        MAX_FRAME,
+        "The frame of the map; the last one if it is not given",
+    )
+}
+
+fn from_arg<'a>(alloc: Global) -> Arg<'a>
+    ensures rule { rule_of result ≡ from_rule }
+    ensures local { result.global ≡ false }
+{
+    number_arg(alloc, "from", 0, MAX_FRAME, "The first frame of the maps")
+}
+
+fn to_arg<'a>(alloc: Global) -> Arg<'a>
+    ensures rule { rule_of result ≡ to_rule }
+    ensures local { result.global ≡ false }
+{
+    number_arg(alloc, "to", 0, MAX_FRAME, "The last frame of the maps")
+}
+
+fn json_arg<'a>(alloc: Global) -> Arg<'a>
+    ensures rule { rule_of result ≡ json_rule }
+    ensures local { result.global ≡ false }
+{
+    flag_arg(alloc, "json", "Print JSON, an object a line")
+}
+
+fn svg_arg<'a>(alloc: Global) -> Arg<'a>
+    ensures rule { rule_of result ≡ svg_rule }
+    ensures local { result.global ≡ false }
+{
+    option_arg(
+        alloc,
+        "svg",
+        "FILE",
+        "The file of the picture as SVG, which is made anew",
+    )
+}
+
+// Makes a subcommand with these arguments.
+fn command<'a>(
+    alloc: Global,
+    name: &'a str,
+    about: &'a str,
+    args: Vec<Arg<'a>>,
+) -> Result<Command<'a>, AllocError>
+    requires { AreLocal args.items }
+    ensures { IfOk result (IsDefined (leaf (shape_with name.now (map rule_of args.entry.items)))) }
+{
+    Command::new(alloc, name).about(about).args(args)
 }
 
 fn plan_command<'a>(alloc: Global) -> Result<Command<'a>, AllocError>
-    ensures shape { IfOk result (λ c. shape_of c ≡ plan_shape) }
-    ensures local { IfOk result (λ c. (out-Command c).has_globals ≡ false) }
+    ensures { IfOk result (IsDefined (leaf plan_shape)) }
 {
-    Command::new(alloc, "plan")
-        .about("Answer management lines from standard input")
-        .arg(config_arg(alloc))
+    let about = "Answer management lines from standard input";
+    let args = Vec::from_array(alloc, [config_arg(alloc)])?;
+    command(alloc, "plan", about, args)
 }
 
 fn check_command<'a>(alloc: Global) -> Result<Command<'a>, AllocError>
-    ensures shape { IfOk result (λ c. shape_of c ≡ check_shape) }
-    ensures local { IfOk result (λ c. (out-Command c).has_globals ≡ false) }
+    ensures { IfOk result (IsDefined (leaf check_shape)) }
 {
-    Command::new(alloc, "check")
-        .about("Judge the certificate of a shared surplus")
-        .arg(file_arg(alloc))
+    let about = "Judge the certificate of a shared surplus";
+    let args = Vec::from_array(alloc, [check_file_arg(alloc)])?;
+    command(alloc, "check", about, args)
 }
 
 fn audit_command<'a>(alloc: Global) -> Result<Command<'a>, AllocError>
-    ensures shape { IfOk result (λ c. shape_of c ≡ audit_shape) }
-    ensures local { IfOk result (λ c. (out-Command c).has_globals ≡ false) }
+    ensures { IfOk result (IsDefined (leaf audit_shape)) }
 {
-    Command::new(alloc, "audit")
-        .about("Judge a recording: each entry and each map of it")
-        .arg(recording_arg(alloc))
+    let about = "Judge a recording: each entry and each map of it";
+    let args = Vec::from_array(alloc, [recording_arg(alloc)])?;
+    command(alloc, "audit", about, args)
 }
 
 fn info_command<'a>(alloc: Global) -> Result<Command<'a>, AllocError>
-    ensures shape { IfOk result (λ c. shape_of c ≡ info_shape) }
-    ensures local { IfOk result (λ c. (out-Command c).has_globals ≡ false) }
+    ensures { IfOk result (IsDefined (leaf info_shape)) }
 {
-    Command::new(alloc, "info")
-        .about("Print what each chapter of a recording holds")
-        .arg(recording_arg(alloc))
+    let about = "Print what each chapter of a recording holds";
+    let args = Vec::from_array(alloc, [recording_arg(alloc), json_arg(alloc)])?;
+    command(alloc, "info", about, args)
+}
+
+fn rates_command<'a>(alloc: Global) -> Result<Command<'a>, AllocError>
+    ensures { IfOk result (IsDefined (leaf rates_shape)) }
+{
+    let about = "Print the rates of each Alloc-ID of a recording";
+    let args = Vec::from_array(
+        alloc,
+        [
+            recording_arg(alloc),
+            port_arg(alloc),
+            alloc_arg(alloc),
+            from_arg(alloc),
+            to_arg(alloc),
+            json_arg(alloc),
+        ],
+    )?;
+    command(alloc, "rates", about, args)
+}
+
+fn why_command<'a>(alloc: Global) -> Result<Command<'a>, AllocError>
+    ensures { IfOk result (IsDefined (leaf why_shape)) }
+{
+    let about = "Print how the numbers of a map of a recording follow from its definitions";
+    let args = Vec::from_array(
+        alloc,
+        [
+            recording_arg(alloc),
+            port_arg(alloc),
+            frame_arg(alloc),
+            alloc_arg(alloc),
+            json_arg(alloc),
+        ],
+    )?;
+    command(alloc, "why", about, args)
+}
+
+fn dump_command<'a>(alloc: Global) -> Result<Command<'a>, AllocError>
+    ensures { IfOk result (IsDefined (leaf dump_shape)) }
+{
+    let about = "Print the events of a recording as management lines, each with its reply";
+    let args = Vec::from_array(alloc, [recording_arg(alloc), port_arg(alloc)])?;
+    command(alloc, "dump", about, args)
+}
+
+fn picture_command<'a>(alloc: Global) -> Result<Command<'a>, AllocError>
+    ensures { IfOk result (IsDefined (leaf picture_shape)) }
+{
+    let about = "Print the time line of a map of a recording";
+    let args = Vec::from_array(
+        alloc,
+        [
+            recording_arg(alloc),
+            port_arg(alloc),
+            frame_arg(alloc),
+            svg_arg(alloc),
+        ],
+    )?;
+    command(alloc, "picture", about, args)
 }
 
 fn migrate_command<'a>(alloc: Global) -> Result<Command<'a>, AllocError>
-    ensures shape { IfOk result (λ c. shape_of c ≡ migrate_shape) }
-    ensures local { IfOk result (λ c. (out-Command c).has_globals ≡ false) }
+    ensures { IfOk result (IsDefined (leaf migrate_shape)) }
 {
-    Command::new(alloc, "migrate")
-        .about("Write a recording of version 1 as one of version 2, with the same chapters")
-        .arg(recording_arg(alloc))?
-        .arg(out_arg(alloc))
+    let about = "Write a recording of version 1 as one of version 2, with the same chapters";
+    let args = Vec::from_array(alloc, [recording_arg(alloc), out_arg(alloc)])?;
+    command(alloc, "migrate", about, args)
 }
 
 fn run_command<'a>(alloc: Global) -> Result<Command<'a>, AllocError>
-    ensures shape { IfOk result (λ c. shape_of c ≡ run_shape) }
-    ensures local { IfOk result (λ c. (out-Command c).has_globals ≡ false) }
+    ensures { IfOk result (IsDefined (leaf run_shape)) }
 {
-    Command::new(alloc, "run")
-        .about("Make maps at each port, over sockets")
-        .arg(config_arg(alloc).required(true))?
-        .arg(listen_arg(alloc))?
-        .arg(maps_arg(alloc))?
-        .arg(record_arg(alloc))?
-        .arg(operate_arg(alloc))?
-        .arg(settle_arg(alloc))
+    let args = Vec::from_array(
+        alloc,
+        [
+            config_arg(alloc).required(true),
+            listen_arg(alloc),
+            maps_arg(alloc),
+            record_arg(alloc),
+            operate_arg(alloc),
+            settle_arg(alloc),
+        ],
+    )?;
+    command(alloc, "run", "Make maps at each port, over sockets", args)
 }
 
-// Builds the program's command without its subcommands.
+// Makes the program's command without its subcommands.
 fn top_command<'a>(alloc: Global) -> Result<Command<'a>, AllocError>
-    ensures { IfOk result (λ c. app_of c ≡ top_app) }
+    ensures { IfOk result (λ c. app_of c ≡ leaf top_shape) }
 {
     Ok(
         Command::new(alloc, "olt")
@@ -179,7 +330,7 @@ fn top_command<'a>(alloc: Global) -> Result<Command<'a>, AllocError>
     )
 }
 
-/// Builds the program's command, with its subcommands.
+/// Makes the program's command, with its subcommands.
 pub(crate) fn olt_command<'a>(alloc: Global) -> Result<Command<'a>, AllocError>
     ensures { IfOk result (λ c. app_of c ≡ olt_app) }
 {
@@ -188,6 +339,10 @@ pub(crate) fn olt_command<'a>(alloc: Global) -> Result<Command<'a>, AllocError>
         .subcommand(check_command(alloc)?)?
         .subcommand(audit_command(alloc)?)?
         .subcommand(info_command(alloc)?)?
+        .subcommand(rates_command(alloc)?)?
+        .subcommand(why_command(alloc)?)?
+        .subcommand(dump_command(alloc)?)?
+        .subcommand(picture_command(alloc)?)?
         .subcommand(migrate_command(alloc)?)?
         .subcommand(run_command(alloc)?)
 }

@@ -19,6 +19,8 @@ pub enum Named<'a> {
     CheckFile(&'a str),
     /// A recording, which is read or written.
     Recording(&'a str),
+    /// A picture of a map, which is written.
+    Picture(&'a str),
     /// The management lines of an operator.
     Lines(&'a str),
     /// The socket address that ports listen on.
@@ -31,6 +33,7 @@ impl Display for Named<'_> {
             Named::Settings(name) => write!(f, "settings {name}"),
             Named::CheckFile(name) => write!(f, "check file {name}"),
             Named::Recording(name) => write!(f, "recording {name}"),
+            Named::Picture(name) => write!(f, "picture {name}"),
             Named::Lines(name) => write!(f, "lines {name}"),
             Named::Address(name) => write!(f, "address {name}"),
         }

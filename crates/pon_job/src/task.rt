@@ -1,6 +1,47 @@
 /// Maximum number of maps of a run at each port.
 pub const MAX_MAPS: u64 = 1_000_000_000;
 
+/// The greatest number of a port.
+pub(crate) const MAX_PORT: u64 = 63;
+
+/// The least and the greatest Alloc-ID that can be admitted (ITU-T G.987.3).
+pub(crate) const MIN_ALLOC: u64 = 1_024;
+
+pub(crate) const MAX_ALLOC: u64 = 16_383;
+
+/// The greatest frame of a map.
+pub(crate) const MAX_FRAME: u64 = 18_446_744_073_709_551_615;
+
+/// A view of a recording.
+#[derive(Clone, Copy, Debug, PartialEq, Eq)]
+pub enum View {
+    /// What each chapter holds.
+    Info,
+    /// The rates of each Alloc-ID.
+    Rates,
+    /// How the numbers of a map follow from the state before it.
+    Why,
+    /// The events as management lines, each with its reply.
+    Dump,
+    /// The time line of a map.
+    Picture,
+}
+
+/// The part of a recording that a view shows: each number chooses, and `None` leaves the choice open.
+#[derive(Clone, Copy, Debug, PartialEq, Eq)]
+pub struct Part {
+    /// The number of a port, 0 to 63.
+    pub port: Option<u64>,
+    /// An Alloc-ID, 1,024 to 16,383.
+    pub alloc: Option<u64>,
+    /// The frame of a map.
+    pub frame: Option<u64>,
+    /// The first frame of a range.
+    pub from: Option<u64>,
+    /// The last frame of a range.
+    pub to: Option<u64>,
+}
+
 /// A job of the program.
 #[derive(Clone, Copy, Debug, PartialEq, Eq)]
 pub enum Job<'a> {
@@ -17,9 +58,13 @@ pub enum Job<'a> {
     Audit {
         file: &'a str,
     },
-    /// Print what each chapter of the recording `file` holds.
-    Info {
+    /// Show a part of the recording `file`: as text, or as JSON; with `svg` also as a picture in that file.
+    Show {
+        view: View,
         file: &'a str,
+        part: Part,
+        svg: Option<&'a str>,
+        json: bool,
     },
     /// Write the recording `file` anew, in the present version of the format, as the file `out`.
     Migrate {

@@ -3,7 +3,7 @@ use Rattle.std.proofs.lemmas.Slice.Eq.{bytes_eq-Decides}
 use Rattle.clap.specs.Matches.{found_of}
 use Rattle.clap.specs.Walk.{rows_of}
 use Rattle.clap.proofs.WalkLemmas.{first_value-rows}
-use Rattle.pon_job.proofs.Subcommands.{info_is_not_plan, info_is_not_run, met_is, names, no_file}
+use Rattle.pon_job.proofs.Subcommands.{met_is, names, no_file}
 use Rattle.pon_job.proofs.arguments.job_of.Goals as goal
 
 pub returns-then-eq-clause-some : goal.returns-then-eq-clause-some
@@ -37,16 +37,3 @@ returns-then-eq-3-clause-some c =
     let met = met_is _ _ _ c.in_ok-name.ensures.name c.in_ok-name.ensures.rows in
     let word = (bytes_eq-Decides _ (codes "audit")).0 (sym c.eq-3.ensures ∙ c.if-eq-3.true) in
     names _ _ _ _ met word (sym (c.in_ok-file-2.ensures ∙ first_value-rows (found_of c.in_ok-name.found.now) (codes "file")))
-
-pub returns-in_err-file-3-clause-none : goal.returns-in_err-file-3-clause-none
-returns-in_err-file-3-clause-none c =
-    let met = met_is _ _ _ c.in_ok-name.ensures.name c.in_ok-name.ensures.rows in
-    let word = (bytes_eq-Decides _ (codes "info")).0 (sym c.eq-4.ensures ∙ c.if-eq-4.true) in
-    let none = no_file _ (rows_of (found_of c.in_ok-name.found.now)) _ (codes "info") met word info_is_not_plan info_is_not_run (c.in_err-file-3.ensures ∙ first_value-rows (found_of c.in_ok-name.found.now) (codes "file")) in
-    λ _. none
-
-pub returns-then-eq-4-clause-some : goal.returns-then-eq-4-clause-some
-returns-then-eq-4-clause-some c =
-    let met = met_is _ _ _ c.in_ok-name.ensures.name c.in_ok-name.ensures.rows in
-    let word = (bytes_eq-Decides _ (codes "info")).0 (sym c.eq-4.ensures ∙ c.if-eq-4.true) in
-    names _ _ _ _ met word (sym (c.in_ok-file-3.ensures ∙ first_value-rows (found_of c.in_ok-name.found.now) (codes "file")))
