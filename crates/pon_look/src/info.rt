@@ -2,11 +2,12 @@
 
 ghost use Rattle.pon_device.specs.Streams.{TellsWrite};
 
+use crate::chapters::{next_chapter, open_chapters};
 use crate::counted::CountedBytes;
 use crate::summary::{Totals, summary_of, with_chapter};
 use crate::text::{chapter_line, missing_line, total_line};
 use pon_device::{DevRead, DevWrite, DeviceFault, write_text};
-use pon_record::{ChapterReader, RawChapter, StreamFault};
+use pon_record::RawChapter;
 use pon_units::MAX_PORTS;
 use std::alloc::{AllocError, Global};
 
@@ -68,21 +69,6 @@ fn write_chapter<W: DevWrite>(
     }
 }
 
-// Reads the next chapter; `None` at the end of the recording, or at a fault of its format.
-fn next_chapter<R: DevRead>(
-    alloc: Global,
-    source: &mut ChapterReader,
-    reader: &mut R,
-) -> Result<Option<RawChapter>, DeviceFault> {
-    match source.next(alloc, reader) {
-        Ok(next) => Ok(next),
-        Err(StreamFault::BadFormat { .. }) => Ok(None),
-        Err(StreamFault::Truncated { .. }) => Ok(None),
-        Err(StreamFault::Read) => Err(DeviceFault::Read),
-        Err(StreamFault::Memory) => Err(DeviceFault::Memory),
-    }
-}
-
 /// Writes a line for each chapter of a recording, one for chapters that are missing between two of a port, and the totals at
 /// the end of the recording or at the first fault of its format.
 ///
@@ -92,11 +78,8 @@ pub fn write_info<R: DevRead, W: DevWrite>(
     reader: &mut CountedBytes<R>,
     writer: &mut W,
 ) -> Result<(), DeviceFault> {
-    let mut source = match ChapterReader::open(alloc, reader) {
-        Ok(source) => source,
-        Err(StreamFault::Read) => return Err(DeviceFault::Read),
-        Err(StreamFault::Memory) => return Err(DeviceFault::Memory),
-        Err(_) => return Ok(()),
+    let Some(mut source) = open_chapters(alloc, reader)? else {
+        return Ok(());
     };
     let mut last: LastChapters = [None; MAX_PORTS];
     let mut totals = Totals {

@@ -86,7 +86,10 @@ fn write_no_maps<W: fmt::Write>(port: Option<PortNo>, f: &mut fmt::Formatter<W>)
     match port {
         Some(port) => {
             let port = port.get();
-            write!(f, "no map of port {port} in these frames is in the recording")
+            write!(
+                f,
+                "no map of port {port} in these frames is in the recording"
+            )
         }
         None => write!(f, "no map of these frames is in the recording"),
     }
@@ -101,7 +104,8 @@ fn write_no_frame<W: fmt::Write>(
     f: &mut fmt::Formatter<W>,
 ) -> fmt::Result {
     let (port, frame, first, last) = (port.get(), frame.get(), first.get(), last.get());
-    write!(f,
+    write!(
+        f,
         "frame {frame} of port {port} is not in the recording (frames {first} to {last})"
     )
 }
@@ -112,7 +116,10 @@ impl fmt::Display for Missing {
             Missing::Chapters => write!(f, "the recording has no chapter"),
             Missing::Port { port, first, last } => {
                 let (port, first, last) = (port.get(), first.get(), last.get());
-                write!(f, "port {port} is not in the recording (ports {first} to {last})")
+                write!(
+                    f,
+                    "port {port} is not in the recording (ports {first} to {last})"
+                )
             }
             Missing::Frame {
                 port,
@@ -123,7 +130,10 @@ impl fmt::Display for Missing {
             Missing::Maps { port } => write_no_maps(port, f),
             Missing::Alloc { alloc_id } => {
                 let alloc_id = alloc_id.get();
-                write!(f, "Alloc-ID {alloc_id} is in none of these maps of the recording")
+                write!(
+                    f,
+                    "Alloc-ID {alloc_id} is in none of these maps of the recording"
+                )
             }
             Missing::State {
                 port,
@@ -132,7 +142,8 @@ impl fmt::Display for Missing {
                 entry,
             } => {
                 let (port, frame) = (port.get(), frame.get());
-                write!(f,
+                write!(
+                    f,
                     "frame {frame} of port {port} has no known state: chapter {chapter} is refused at entry {entry}"
                 )
             }

@@ -1,0 +1,84 @@
+//! The time line of a map of a recording.
+
+use crate::drawing::{Drawing, FRAME_WORDS};
+use crate::finding::{FoundMap, find_map};
+use crate::owners::Owners;
+use crate::parts::{bursts_of, grant_places};
+use crate::query::Missing;
+use crate::svg::svg_text;
+use crate::timeline::{parts_text, rows_text};
+use pon_device::{DevRead, DeviceFault};
+use pon_state::EntryRef;
+use pon_units::{FrameNo, PortNo};
+use std::alloc::{AllocError, Global};
+
+/// The picture of a map: as text of at most 80 columns, and as SVG.
+#[derive(Debug, Drop)]
+pub struct Picture {
+    pub text: String,
+    pub svg: String,
+}
+
+// Returns the line about the whole map.
+fn heading_of(
+    alloc: Global,
+    found: &FoundMap,
+    drawing: &Drawing<'_>,
+    frame: FrameNo,
+) -> Result<String, AllocError> {
+    let (port, chapter) = (found.chapter.port.get(), found.chapter.number);
+    let (frame, gap) = (frame.get(), drawing.gap);
+    let (bursts, structures) = (drawing.bursts.len(), drawing.structures.len());
+    let used = drawing.used();
+    format!(in alloc;
+        "port {port} chapter {chapter} frame {frame} gap {gap} bursts {bursts} structures {structures} words {used} of {FRAME_WORDS}"
+    )
+}
+
+// Draws a map that was found.
+fn draw(alloc: Global, found: &FoundMap) -> Result<Option<Picture>, AllocError> {
+    let Some(entry) = found.chapter.entries.get(found.entry) else {
+        return Ok(None);
+    };
+    let EntryRef::Map(made) = entry.as_ref() else {
+        return Ok(None);
+    };
+    let structures = made.map.rows();
+    let places = grant_places(alloc, &made.map)?;
+    let bursts = bursts_of(alloc, structures, &places)?;
+    let owners = Owners::before(alloc, &found.chapter, found.entry)?;
+    let drawing = Drawing {
+        structures,
+        places: &places,
+        bursts: &bursts,
+        gap: u64::from(found.chapter.opening.gap.get()),
+        owners: &owners,
+    };
+    let heading = heading_of(alloc, found, &drawing, made.frame)?;
+    let svg = svg_text(alloc, heading.as_str(), &drawing)?;
+    let rows = rows_text(alloc, &drawing)?;
+    let parts = parts_text(alloc, &drawing)?;
+    let text = format!(in alloc; "{heading}\n\n{rows}\n{parts}")?;
+    Ok(Some(Picture { text, svg }))
+}
+
+/// Draws the map of a frame of a port in a recording: of the first port in it without a port, and the last map of the port
+/// without a frame. A recording that is not good is drawn as it stands, up to the first fault of its format.
+///
+/// `Read` if the reader fails, `Memory` if memory is refused.
+pub fn picture_of<R: DevRead>(
+    alloc: Global,
+    reader: &mut R,
+    port: Option<PortNo>,
+    frame: Option<FrameNo>,
+) -> Result<Result<Picture, Missing>, DeviceFault> {
+    let found = match find_map(alloc, reader, port, frame)? {
+        Ok(found) => found,
+        Err(missing) => return Ok(Err(missing)),
+    };
+    match draw(alloc, &found) {
+        Ok(Some(picture)) => Ok(Ok(picture)),
+        Ok(None) => Ok(Err(Missing::Chapters)),
+        Err(_) => Err(DeviceFault::Memory),
+    }
+}

@@ -1,0 +1,219 @@
+//! The time line of a map as SVG: one unit to the right is a word.
+
+use crate::drawing::{Drawing, FRAME_WORDS, Grant, Micros, OnuName, class_name};
+use crate::parts::{Burst, HEADER_WORDS};
+use pon_admit::Row;
+use pon_descr::Class;
+use std::alloc::{AllocError, Global};
+
+/// Units left of the frame, for the names of the ONUs, and right of it.
+const LEFT: u64 = 1_000;
+
+const RIGHT: u64 = 300;
+
+/// Units above the first burst, of a row, and of its bar.
+const TOP: u64 = 500;
+
+const ROW: u64 = 220;
+
+const BAR: u64 = 160;
+
+/// Units of the letters.
+const LETTERS: u64 = 140;
+
+/// Words between two marks of the scale.
+const MARK_WORDS: u64 = 1_620;
+
+/// Colours.
+const GAP_COLOUR: &str = "#d9d9d9";
+
+const EDGE_COLOUR: &str = "#333333";
+
+const NO_COLOUR: &str = "#999999";
+
+const GUARANTEED_COLOUR: &str = "#4e79a7";
+
+const NON_ASSURED_COLOUR: &str = "#59a14f";
+
+const BEST_EFFORT_COLOUR: &str = "#f28e2b";
+
+/// The meaning of the colours, from left to right.
+const LEGEND: [(u64, &str, &str); 4] = [
+    (1_000, GUARANTEED_COLOUR, "guaranteed only"),
+    (3_000, NON_ASSURED_COLOUR, "non-assured"),
+    (5_000, BEST_EFFORT_COLOUR, "best effort"),
+    (7_000, GAP_COLOUR, "gap"),
+];
+
+/// Where a part is drawn: its first word, its words, and its row.
+#[derive(Clone, Copy)]
+struct Place {
+    first: u64,
+    words: u64,
+    row: u64,
+}
+
+/// The upper edge of a row.
+fn top_of(row: u64) -> u64 {
+    row.saturating_mul(ROW).saturating_add(TOP)
+}
+
+fn colour_of(row: Option<Row>) -> &'static str {
+    match row {
+        None => NO_COLOUR,
+        Some(row) => match row.descriptor.class() {
+            Class::Plain => GUARANTEED_COLOUR,
+            Class::NonAssured => NON_ASSURED_COLOUR,
+            Class::BestEffort => BEST_EFFORT_COLOUR,
+        },
+    }
+}
+
+// Appends a part. A pointer on it shows its title and its numbers.
+fn push_bar(
+    alloc: Global,
+    text: &mut String,
+    place: Place,
+    colour: &str,
+    title: &str,
+) -> Result<(), AllocError> {
+    let Place { first, words, row } = place;
+    let (x, y) = (first.saturating_add(LEFT), top_of(row));
+    let (end, at, time) = (first.saturating_add(words), Micros(first), Micros(words));
+    let line = format!(in alloc;
+        "<rect x=\"{x}\" y=\"{y}\" width=\"{words}\" height=\"{BAR}\" fill=\"{colour}\"><title>{title}: {words} words from {first} to before {end}, {time} us from {at} us</title></rect>\n"
+    )?;
+    text.push_str(line.as_str())
+}
+
+fn push_text(
+    alloc: Global,
+    text: &mut String,
+    x: u64,
+    y: u64,
+    words: &str,
+) -> Result<(), AllocError> {
+    let line = format!(in alloc; "<text x=\"{x}\" y=\"{y}\">{words}</text>\n")?;
+    text.push_str(line.as_str())
+}
+
+fn title_of(alloc: Global, id: u16, class: &str) -> Result<String, AllocError> {
+    format!(in alloc; "Alloc-ID {id}, {class}")
+}
+
+// Appends the grants of a burst.
+fn push_grants(
+    alloc: Global,
+    text: &mut String,
+    drawing: &Drawing<'_>,
+    burst: &Burst,
+    row: u64,
+) -> Result<(), AllocError> {
+    for place in burst.first..burst.end {
+        let Some(Grant { id, first, words }) = drawing.grant(place) else {
+            continue;
+        };
+        let title = title_of(alloc, id, class_name(drawing.row_of(place)))?;
+        let colour = colour_of(drawing.row_of(place));
+        push_bar(
+            alloc,
+            text,
+            Place { first, words, row },
+            colour,
+            title.as_str(),
+        )?;
+    }
+    Ok(())
+}
+
+// Appends the header or the trailer of a burst.
+fn push_edge(
+    alloc: Global,
+    text: &mut String,
+    first: u64,
+    row: u64,
+    title: &str,
+) -> Result<(), AllocError> {
+    let words = HEADER_WORDS;
+    push_bar(alloc, text, Place { first, words, row }, EDGE_COLOUR, title)
+}
+
+// Appends a burst: its ONU, the gap before it, its header, its grants and its trailer.
+fn push_burst(
+    alloc: Global,
+    text: &mut String,
+    drawing: &Drawing<'_>,
+    burst: &Burst,
+    row: u64,
+) -> Result<(), AllocError> {
+    let name = format!(in alloc; "{}", OnuName(drawing.row_of(burst.first)))?;
+    push_text(
+        alloc,
+        text,
+        0,
+        top_of(row).saturating_add(LETTERS),
+        name.as_str(),
+    )?;
+    let words = drawing.gap.min(burst.header);
+    let first = burst.header - words;
+    push_bar(alloc, text, Place { first, words, row }, GAP_COLOUR, "gap")?;
+    push_edge(alloc, text, burst.header, row, "header")?;
+    push_grants(alloc, text, drawing, burst, row)?;
+    push_edge(alloc, text, burst.trailer, row, "trailer")
+}
+
+// Appends the scale in words and microseconds.
+fn push_scale(alloc: Global, text: &mut String, bottom: u64) -> Result<(), AllocError> {
+    for mark in 0..=FRAME_WORDS / MARK_WORDS {
+        let word = mark * MARK_WORDS;
+        let x = LEFT + word;
+        let label = format!(in alloc; "{word}")?;
+        push_text(alloc, text, x, TOP - 2 * LETTERS, label.as_str())?;
+        let label = format!(in alloc; "{} us", Micros(word))?;
+        push_text(
+            alloc,
+            text,
+            x,
+            TOP - LETTERS / 2,
+            label.as_str().trim_start(),
+        )?;
+        let line = format!(in alloc;
+            "<line x1=\"{x}\" y1=\"{TOP}\" x2=\"{x}\" y2=\"{bottom}\" stroke=\"#cccccc\" stroke-width=\"6\"/>\n"
+        )?;
+        text.push_str(line.as_str())?;
+    }
+    Ok(())
+}
+
+// Appends what the colours mean.
+fn push_legend(alloc: Global, text: &mut String, top: u64) -> Result<(), AllocError> {
+    let low = top.saturating_add(LETTERS);
+    for (x, colour, name) in LEGEND {
+        let line = format!(in alloc;
+            "<rect x=\"{x}\" y=\"{top}\" width=\"{BAR}\" height=\"{BAR}\" fill=\"{colour}\"/>\n"
+        )?;
+        text.push_str(line.as_str())?;
+        push_text(alloc, text, x.saturating_add(ROW), low, name)?;
+    }
+    Ok(())
+}
+
+/// The picture of a map as SVG: a row for each burst, its colours by class, and the numbers of a part as its title.
+pub(crate) fn svg_text(
+    alloc: Global,
+    heading: &str,
+    drawing: &Drawing<'_>,
+) -> Result<String, AllocError> {
+    let bottom = top_of(drawing.bursts.len() as u64);
+    let (width, height) = (LEFT + FRAME_WORDS + RIGHT, bottom.saturating_add(2 * ROW));
+    let mut text = format!(in alloc;
+        "<svg xmlns=\"http://www.w3.org/2000/svg\" viewBox=\"0 0 {width} {height}\" font-family=\"sans-serif\" font-size=\"{LETTERS}\">\n<title>{heading}</title>\n<rect width=\"{width}\" height=\"{height}\" fill=\"#ffffff\"/>\n"
+    )?;
+    push_scale(alloc, &mut text, bottom)?;
+    for (row, burst) in drawing.bursts.iter().enumerate() {
+        push_burst(alloc, &mut text, drawing, burst, row as u64)?;
+    }
+    push_legend(alloc, &mut text, bottom.saturating_add(ROW / 2))?;
+    text.push_str("</svg>\n")?;
+    Ok(text)
+}
