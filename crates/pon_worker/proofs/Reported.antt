@@ -1,5 +1,5 @@
 -- The report of a record that was posted, and how it is counted.
-use Rattle.std.proofs.Common.{◌≡◌, ◌≢◌, ℕ, ◌+◌, ◌<◌, ◌≤◌, ◌^◌, Bool, true, false, [], ◌∷◌, refl, sym, ap, subst, arith}
+use Rattle.std.proofs.Common.{◌≡◌, ◌≢◌, ℕ, ◌+◌, ◌<◌, ◌≤◌, ◌^◌, Bool, true, false, [], ◌∷◌, ap, subst, arith}
 use Rattle.std.specs.Prelude.{IfErr, IfSome, MatchBool, OnErr, OnOk, Result, Ok, Err, slice_index}
 use Rattle.std.proofs.lemmas.List.Elements.{All-cons, All-nil}
 use Rattle.pon_admit.specs.declared.event.Event.{Event}

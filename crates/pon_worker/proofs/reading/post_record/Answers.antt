@@ -1,8 +1,7 @@
-use Rattle.std.proofs.Common.{[], refl, arith}
+use Rattle.std.proofs.Common.{[], refl}
 use Rattle.std.proofs.lemmas.List.Elements.{All-nil}
 use Rattle.pon_worker.specs.Turns.{IsNotMemory}
 use Rattle.pon_worker.proofs.Bursts.{counted_garbled}
-use Rattle.pon_worker.proofs.Posted.{posts_none}
 use Rattle.pon_worker.proofs.Receipts.{keeps_none, takes_garbled}
 use Rattle.pon_worker.proofs.Reported.{fits_one, reported, reported_maps, reported_posts}
 use Rattle.pon_worker.proofs.reading.post_record.Goals as goal
