@@ -76,12 +76,8 @@ impl<'a, L: Ledger, M: Ledger, H: Wait> AtDesk<'a, L, M, H> {
     {
         match self.desk.post(self.rt, seat, port, event) {
             Ok(receipt) => {
-                let appended = append_reply(
-                    replies,
-                    &mut self.room,
-                    receipt.index(),
-                    receipt.entry(),
-                );
+                let room = &mut self.room;
+                let appended = append_reply(replies, room, receipt.index(), receipt.entry());
                 seat.keep(receipt);
                 appended
             }
