@@ -18,52 +18,6 @@ use std::alloc::{AllocError, Global};
 use std::sync::Wait;
 use std::sync::ledger::Ledger;
 
-// Posts an event, appends its reply or its refusal, and has the seat keep its receipt.
-fn answer_event<L: Ledger, M: Ledger, H: Wait>(
-    rt: &H,
-    desk: &Desk<L, M>,
-    seat: &mut Seat<L, M>,
-    port: PortNo,
-    event: Event,
-    room: &mut Vec<u8>,
-    replies: &mut Vec<u8>,
-) -> Result<(), AllocError>
-    requires { port < desk.now.ports }
-    ensures ok { OnOk result (AddsText (λ text. DeskAnswers seat.old (Reading.Asks port event) text
-        seat.new) replies.old.items replies.new.items) }
-    ensures err { OnErr result (replies.new.items ≡ replies.old.items) }
-{
-    match desk.post(rt, seat, port, event) {
-        Ok(receipt) => {
-            let appended = append_reply(replies, room, receipt.index(), receipt.entry());
-            seat.keep(receipt);
-            appended
-        }
-        Err(StepFault::Refused(refusal)) => match refusal {
-            Refusal::OutOfMemory => Err(AllocError),
-            told => append_refusal(replies, LineFault::Port(told)),
-        },
-        Err(StepFault::NoSuchPort) => unreachable!(),
-    }
-}
-
-// Returns the view of a port at some moment.
-fn view_at<L: Ledger, M: Ledger, H: Wait>(
-    rt: &H,
-    alloc: Global,
-    desk: &Desk<L, M>,
-    port: PortNo,
-) -> Result<PortView, AllocError>
-    requires { port < desk.now.ports }
-    ensures { IfOk result (λ view. (at : Chapter) × IsLawfulChapter at × (view ≡ view_of at)) }
-{
-    match desk.look(rt, alloc, port) {
-        Ok(view) => Ok(view),
-        Err(StepFault::Refused(_)) => Err(AllocError),
-        Err(StepFault::NoSuchPort) => unreachable!(),
-    }
-}
-
 // Appends the certificate of the last map, or `NoMap`.
 fn show_cert(view: &PortView, replies: &mut Vec<u8>) -> Result<(), AllocError>
     ensures ok { OnOk result (replies.new.items ≡ replies.old.items ++ cert_line view.now.last) }
@@ -98,36 +52,83 @@ fn port_no<L: Ledger, M: Ledger>(desk: &Desk<L, M>, place: usize) -> PortNo
     PortNo::at(place)
 }
 
-/// Appends the text of a reading: an event is posted, and what is shown is copied, each under the lock of its port
-/// only. `room` is a buffer for the bytes of a map. `Err` only if memory is refused; then the replies are unchanged.
-pub(crate) fn answer_at_desk<L: Ledger, M: Ledger, H: Wait>(
-    rt: &H,
-    desk: &Desk<L, M>,
-    seat: &mut Seat<L, M>,
-    reading: Reading,
-    room: &mut Vec<u8>,
-    replies: &mut Vec<u8>,
-) -> Result<(), AllocError>
-    requires { AsksWithin desk.now.ports reading }
-    ensures ok { OnOk result (AddsText (λ text. DeskAnswers seat.old reading text seat.new)
-        replies.old.items replies.new.items) }
-    ensures err { OnErr result (replies.new.items ≡ replies.old.items) }
-{
-    let alloc = *replies.allocator();
-    match reading {
-        Reading::Nothing => Ok(()),
-        Reading::Refused(fault) => append_refusal(replies, fault),
-        Reading::Asks { port, event } => {
-            let port = port_no(desk, port);
-            answer_event(rt, desk, seat, port, event, room, replies)
+/// What answers lines at a desk, with a buffer for the bytes of a map.
+#[derive(Drop)]
+pub(crate) struct AtDesk<'a, L: Ledger, M: Ledger, H: Wait> {
+    pub(crate) rt: &'a H,
+    pub(crate) desk: &'a Desk<L, M>,
+    pub(crate) room: Vec<u8>,
+}
+
+impl<'a, L: Ledger, M: Ledger, H: Wait> AtDesk<'a, L, M, H> {
+    // Posts an event, appends its reply or its refusal, and has the seat keep its receipt.
+    fn answer_event(
+        &mut self,
+        seat: &mut Seat<L, M>,
+        port: PortNo,
+        event: Event,
+        replies: &mut Vec<u8>,
+    ) -> Result<(), AllocError>
+        requires { port < self.old.desk.now.ports }
+        ensures ok { OnOk result (AddsText (λ text. DeskAnswers seat.old (Reading.Asks port event) text
+            seat.new) replies.old.items replies.new.items) }
+        ensures err { OnErr result (replies.new.items ≡ replies.old.items) }
+    {
+        match self.desk.post(self.rt, seat, port, event) {
+            Ok(receipt) => {
+                let room = &mut self.room;
+                let appended = append_reply(replies, room, receipt.index(), receipt.entry());
+                seat.keep(receipt);
+                appended
+            }
+            Err(StepFault::Refused(refusal)) => match refusal {
+                Refusal::OutOfMemory => Err(AllocError),
+                told => append_refusal(replies, LineFault::Port(told)),
+            },
+            Err(StepFault::NoSuchPort) => unreachable!(),
         }
-        Reading::AsksCert { port } => {
-            let view = view_at(rt, alloc, desk, port_no(desk, port))?;
-            show_cert(&view, replies)
+    }
+
+    // Returns the view of a port at some moment. `Err` only if memory is refused.
+    fn view_at(&self, alloc: Global, place: usize) -> Result<PortView, AllocError>
+        requires { place < self.now.desk.now.ports }
+        ensures { IfOk result (λ view. (at : Chapter) × IsLawfulChapter at × (view ≡ view_of at)) }
+    {
+        match self.desk.look(self.rt, alloc, port_no(self.desk, place)) {
+            Ok(view) => Ok(view),
+            Err(_) => Err(AllocError),
         }
-        Reading::AsksState { port } => {
-            let view = view_at(rt, alloc, desk, port_no(desk, port))?;
-            append_shown(replies, &shown_in(&view))
+    }
+
+    /// Appends the text of a reading: an event is posted, and what is shown is copied, each under the lock of its port
+    /// only. `Err` only if memory is refused; then the replies are unchanged.
+    pub(crate) fn answer(
+        &mut self,
+        seat: &mut Seat<L, M>,
+        reading: Reading,
+        replies: &mut Vec<u8>,
+    ) -> Result<(), AllocError>
+        requires { AsksWithin self.old.desk.now.ports reading }
+        ensures ok { OnOk result (AddsText (λ text. DeskAnswers seat.old reading text seat.new)
+            replies.old.items replies.new.items) }
+        ensures err { OnErr result (replies.new.items ≡ replies.old.items) }
+    {
+        let alloc = *replies.allocator();
+        match reading {
+            Reading::Nothing => Ok(()),
+            Reading::Refused(fault) => append_refusal(replies, fault),
+            Reading::Asks { port, event } => {
+                let port = port_no(self.desk, port);
+                self.answer_event(seat, port, event, replies)
+            }
+            Reading::AsksCert { port } => {
+                let view = self.view_at(alloc, port)?;
+                show_cert(&view, replies)
+            }
+            Reading::AsksState { port } => {
+                let view = self.view_at(alloc, port)?;
+                append_shown(replies, &shown_in(&view))
+            }
         }
     }
 }

@@ -7,7 +7,7 @@ ghost use Rattle.pon_text.specs.Planning.{Planned};
 ghost use Rattle.pon_manage.specs.Desks.{DeskGives};
 ghost use Rattle.pon_manage.specs.FirstBytes.{desk_gives_first};
 
-use crate::at_desk::answer_at_desk;
+use crate::at_desk::AtDesk;
 use pon_desk::{Desk, Seat};
 use pon_device::{DevRead, DevWrite, DeviceFault};
 use pon_line::read_line;
@@ -16,14 +16,7 @@ use std::alloc::{AllocError, Global};
 use std::sync::Wait;
 use std::sync::ledger::Ledger;
 
-// Answers lines at a desk, with the seat that posts for them as their state; `room` is a buffer for the bytes of a map.
-#[derive(Drop)]
-struct AtDesk<'a, L: Ledger, M: Ledger, H: Wait> {
-    rt: &'a H,
-    desk: &'a Desk<L, M>,
-    room: Vec<u8>,
-}
-
+// Answers lines at a desk, with the seat that posts for them as their state.
 impl<'a, L: Ledger, M: Ledger, H: Wait> Answers<Seat<L, M>> for AtDesk<'a, L, M, H> {
     ghost gives = { DeskGives };
 
@@ -35,7 +28,7 @@ impl<'a, L: Ledger, M: Ledger, H: Wait> Answers<Seat<L, M>> for AtDesk<'a, L, M,
     ) -> Result<(), AllocError> {
         prove!(self.desk.ports() == seat.counts().len());
         let reading = read_line(self.desk.ports(), line);
-        answer_at_desk(self.rt, self.desk, seat, reading, &mut self.room, replies)
+        self.answer(seat, reading, replies)
     }
 
     ghost reads_first = { desk_gives_first };

@@ -9,12 +9,13 @@ ghost use Rattle.pon_run.specs.Runs.{AllSettled, TellsPorts, TellsWorked, Writes
 
 use crate::end::write_ends;
 use crate::ports::{all_finished, ends_of, split_results, with_dropped, worker_ends};
+use crate::running::Results;
 use crate::settlement_text::write_settlements;
 use crate::settling::{
     Account, Settlement, add_receipts, are_settled, open_accounts, settle_ports,
 };
 use crate::thread::Worked;
-use pon_desk::{CloseFault, Desk, Seat};
+use pon_desk::{CloseFault, Closed, Desk, Seat};
 use pon_device::{DevWrite, DeviceFault};
 use pon_port::Port;
 use pon_recorder::{PortSink, Recording, Rings};
@@ -57,6 +58,25 @@ fn accounts_of<L: Ledger, M: Ledger, K: Rings, W: DevWrite + Drop>(
     Ok(accounts)
 }
 
+// Settles the ports of a closed desk that have accounts.
+fn settle_closed(
+    alloc: Global,
+    closed: Closed,
+    accounts: &[Account],
+) -> Result<ClosedRun, AllocError>
+    ensures ports { IfOk result (λ run. run.ports.items ≡ closed.ports) }
+    ensures even { IfOk result (λ run. run.even ≡ true) }
+{
+    let settlements = settle_ports(alloc, &closed, accounts)?;
+    let ports = closed.into_ports();
+    let even = true;
+    Ok(ClosedRun {
+        ports,
+        even,
+        settlements,
+    })
+}
+
 // Closes the desk of a run, and settles the ports that have accounts. `None` if a seat is missing.
 fn close<L: Ledger, M: Ledger>(
     alloc: Global,
@@ -69,16 +89,7 @@ fn close<L: Ledger, M: Ledger>(
         (closed.even ≡ true) ↔ IsEven closed.ports.items seats.items)) }
 {
     match desk.close(seats) {
-        Ok(closed) => {
-            let settlements = settle_ports(alloc, &closed, accounts)?;
-            let ports = closed.into_ports();
-            let even = true;
-            Ok(Some(ClosedRun {
-                ports,
-                even,
-                settlements,
-            }))
-        }
+        Ok(closed) => Ok(Some(settle_closed(alloc, closed, accounts)?)),
         Err(CloseFault::Uneven { ports, counts: _ }) => {
             let settlements = Vec::new(alloc);
             let even = false;
@@ -176,6 +187,25 @@ fn tell_closed<K: Rings, F: DevWrite + Drop, W: DevWrite>(
     Ok(even && settled && one_each && all_finished(workers))
 }
 
+// Records what is left of each port, closes the desk, and settles its ports if that is wanted. `None` if a seat is missing.
+fn close_run<L: Ledger, M: Ledger, K: Rings, F: DevWrite + Drop>(
+    alloc: Global,
+    desk: Desk<L, M>,
+    others: Vec<Seat<L, M>>,
+    worked: Vec<Worked<L, M, K>>,
+    recording: &mut Option<Recording<K, F>>,
+    settle: bool,
+) -> Result<Option<ClosedRun>, AllocError>
+    ensures ports { IfOk result (λ run. IfSome run (λ closed. vec_len closed.ports ≡ desk.ports)) }
+    ensures same { is_some recording.new ≡ is_some recording.old }
+    ensures whole { IfSome recording.new (λ new. IfSome recording.old (λ old.
+        StaysWhole old.recorder old.whole new.recorder new.whole)) }
+{
+    let (mut seats, sinks) = split_results(alloc, others, worked)?;
+    let accounts = accounts_of(alloc, seats.as_mut_slice(), sinks, recording, settle)?;
+    close(alloc, desk, seats, accounts.as_slice())
+}
+
 /// Records what is left of each port, closes the desk, settles its ports if that is wanted, and writes what each port did.
 /// Returns whether the run is done: each worker made all its turns, no post was lost, and each port that is to be settled
 /// is.
@@ -183,31 +213,25 @@ pub(crate) fn tell<L: Ledger, M: Ledger, K: Rings, F: DevWrite + Drop, W: DevWri
     alloc: Global,
     desk: Desk<L, M>,
     others: Vec<Seat<L, M>>,
-    all: Vec<Worked<L, M, K>>,
-    mut recording: Option<Recording<K, F>>,
+    results: Results<L, M, K, F>,
     settle: bool,
     writer: &mut W,
 ) -> Result<bool, DeviceFault>
-    ensures done { IfOk result (λ done. done ≡ true → TellsWorked (map (λ w. w.end) all.items) desk.ports
-        settle (W.contents writer.old) (W.contents writer.new)) }
+    ensures done { IfOk result (λ done. done ≡ true
+        → TellsWorked (map (λ w. w.end) results.worked.items) desk.ports settle
+        (W.contents writer.old) (W.contents writer.new)) }
     ensures whole { IfOk result (λ done. done ≡ true
-        → IfSome recording (λ r. IsWholeRecording r.recorder r.whole)) }
+        → IfSome results.recording (λ r. IsWholeRecording r.recorder r.whole)) }
 {
-    let Ok(workers) = worker_ends(alloc, all.as_slice()) else {
+    let mut recording = results.recording;
+    let Ok(workers) = worker_ends(alloc, results.worked.as_slice()) else {
         return Err(DeviceFault::Memory);
     };
-    let Ok((mut seats, sinks)) = split_results(alloc, others, all) else {
-        return Err(DeviceFault::Memory);
-    };
-    let gathered = accounts_of(alloc, seats.as_mut_slice(), sinks, &mut recording, settle);
-    let Ok(accounts) = gathered else {
-        return Err(DeviceFault::Memory);
-    };
-    let Ok(closed) = close(alloc, desk, seats, accounts.as_slice()) else {
-        return Err(DeviceFault::Memory);
-    };
-    match closed {
-        Some(closed) => tell_closed(alloc, closed, workers.as_slice(), recording, settle, writer),
-        None => Ok(false),
+    match close_run(alloc, desk, others, results.worked, &mut recording, settle) {
+        Ok(Some(closed)) => {
+            tell_closed(alloc, closed, workers.as_slice(), recording, settle, writer)
+        }
+        Ok(None) => Ok(false),
+        Err(_) => Err(DeviceFault::Memory),
     }
 }

@@ -6,10 +6,12 @@
 #![tactic(auto)]
 
 mod arguments;
+mod context;
 mod end;
 mod ending;
 mod files;
 mod link;
+mod opening;
 mod operator;
 mod pace;
 mod ports;

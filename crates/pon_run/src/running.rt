@@ -1,5 +1,6 @@
 //! The threads of a run, two for each port and one for the recorder: started and joined.
 
+use crate::context::RunContext;
 use crate::thread::{UnitsPart, Worked, WorkerPart, answer, work};
 use pon_desk::Desk;
 use pon_device::{DevWrite, DeviceFault};
@@ -21,11 +22,25 @@ pub(crate) struct Served<L: Ledger, M: Ledger, K: Rings> {
     pub(crate) units: UnitsPart,
 }
 
+/// What serves each port of a run, in order, and the recording of their chapters, if there is one.
+#[derive(Drop)]
+pub(crate) struct PortsServed<L: Ledger, M: Ledger, K: Rings, W> {
+    pub(crate) all: Vec<Served<L, M, K>>,
+    pub(crate) recording: Option<Recording<K, W>>,
+}
+
 /// The two threads of a port.
 #[derive(Drop)]
 struct Running<L: Ledger, M: Ledger, K: Rings> {
     worker: JoinHandle<Worked<L, M, K>>,
     units: JoinHandle<Result<(), UnitsFault>>,
+}
+
+/// The threads of a run: those of each port, in order, and the recorder's, if there is a recording.
+#[derive(Drop)]
+struct RunThreads<L: Ledger, M: Ledger, K: Rings, W> {
+    ports: Vec<Running<L, M, K>>,
+    recorder: Option<JoinHandle<Recording<K, W>>>,
 }
 
 /// The results of a run's threads.
@@ -64,12 +79,9 @@ impl Stops {
 // and ends.
 fn start<'s, E, L, M, K, G, R>(
     scope: &Scope<'s, E>,
-    rt: &'s R,
-    alloc: Global,
+    run: &'s RunContext<'s, G, R>,
     desk: &'s Desk<L, M>,
     served: Served<L, M, K>,
-    gate: &'s G,
-    maps: u64,
     stop: &'s AtomicBool,
 ) -> Option<Running<L, M, K>>
 where
@@ -80,22 +92,18 @@ where
     R: Wait + Sync,
 {
     let Served { worker, units } = served;
+    let alloc = run.alloc;
     let units = scope.spawn(move || answer(alloc, units)).ok()?;
-    let worker = scope
-        .spawn(move || work(rt, alloc, desk, worker, gate, maps, stop))
-        .ok()?;
+    let worker = scope.spawn(move || work(run, desk, worker, stop)).ok()?;
     Some(Running { worker, units })
 }
 
 // Starts the threads of all ports. Returns `Memory` if one cannot be created.
 fn start_all<'s, E, L, M, K, G, R>(
     scope: &Scope<'s, E>,
-    rt: &'s R,
-    alloc: Global,
+    run: &'s RunContext<'s, G, R>,
     desk: &'s Desk<L, M>,
     all: Vec<Served<L, M, K>>,
-    gate: &'s G,
-    maps: u64,
     stop: &'s AtomicBool,
 ) -> Result<Vec<Running<L, M, K>>, DeviceFault>
 where
@@ -105,11 +113,11 @@ where
     G: Gate + Sync,
     R: Wait + Sync,
 {
-    let Ok(mut running) = Vec::with_capacity(alloc, all.len()) else {
+    let Ok(mut running) = Vec::with_capacity(run.alloc, all.len()) else {
         return Err(DeviceFault::Memory);
     };
     for served in all {
-        let Some(threads) = start(scope, rt, alloc, desk, served, gate, maps, stop) else {
+        let Some(threads) = start(scope, run, desk, served, stop) else {
             return Err(DeviceFault::Memory);
         };
         if running.push(threads).is_err() {
@@ -158,22 +166,53 @@ where
     }
 }
 
-// Waits for the threads of all ports to end, and then ends the recorder. Returns the results of the workers, and the
-// recording.
-fn end_all<L: Ledger, M: Ledger, K: Rings, W: Drop, R: Threads>(
-    rt: &R,
-    alloc: Global,
-    running: Vec<Running<L, M, K>>,
-    recorder: Option<JoinHandle<Recording<K, W>>>,
+// Starts the threads of a run. Returns `Memory` if one cannot be created; running workers then make no further turn.
+fn start_threads<'s, E, L, M, K, G, W, R>(
+    scope: &Scope<'s, E>,
+    run: &'s RunContext<'s, G, R>,
+    desk: &'s Desk<L, M>,
+    ports: PortsServed<L, M, K, W>,
+    stops: &'s Stops,
+) -> Result<RunThreads<L, M, K, W>, DeviceFault>
+where
+    L: Ledger + Send + Sync,
+    M: Ledger + Send + Sync,
+    K: Rings + Send + Sync + 's,
+    G: Gate + Sync,
+    W: DevWrite + Drop + Send + 's,
+    R: Wait + Clock + Sync,
+{
+    let PortsServed { all, recording } = ports;
+    let recorder = start_recorder(scope, run.rt, recording, &stops.recorder)?;
+    match start_all(scope, run, desk, all, &stops.workers) {
+        Ok(ports) => Ok(RunThreads { ports, recorder }),
+        Err(fault) => {
+            stops.set_both();
+            Err(fault)
+        }
+    }
+}
+
+// Waits for the threads of all ports to end, and then ends the recorder. Returns their results, with how the operator
+// ended.
+fn end_threads<L: Ledger, M: Ledger, K: Rings, G: Gate, W: Drop, R: Threads>(
+    run: &RunContext<'_, G, R>,
+    threads: RunThreads<L, M, K, W>,
     stops: &Stops,
-) -> Result<(Vec<Worked<L, M, K>>, Option<Recording<K, W>>), DeviceFault> {
-    let worked = join_all(rt, alloc, running);
+    operated: Result<(), DeviceFault>,
+) -> Result<Results<L, M, K, W>, DeviceFault> {
+    let RunThreads { ports, recorder } = threads;
+    let worked = join_all(run.rt, run.alloc, ports);
     stops.recorder.store(true, Ordering::SeqCst);
     let recording = match recorder {
         None => None,
-        Some(thread) => Some(thread.join(rt)),
+        Some(thread) => Some(thread.join(run.rt)),
     };
-    Ok((worked?, recording))
+    Ok(Results {
+        worked: worked?,
+        recording,
+        operated,
+    })
 }
 
 /// Serves each port in its own threads, and calls `meanwhile` during that time, while the recorder takes the ports'
@@ -181,13 +220,9 @@ fn end_all<L: Ledger, M: Ledger, K: Rings, W: Drop, R: Threads>(
 ///
 /// Returns `Memory` if memory is refused or a thread cannot be created; running workers then make no further turn.
 pub(crate) fn serve_all<L, M, K, G, W, R, O>(
-    rt: &R,
-    alloc: Global,
+    run: &RunContext<'_, G, R>,
     desk: &Desk<L, M>,
-    all: Vec<Served<L, M, K>>,
-    recording: Option<Recording<K, W>>,
-    gate: &G,
-    maps: u64,
+    ports: PortsServed<L, M, K, W>,
     meanwhile: O,
 ) -> Result<Results<L, M, K, W>, DeviceFault>
 where
@@ -204,23 +239,13 @@ where
     let flags = &stops;
     thread::scope(
         thread::scope_env(),
-        rt,
+        run.rt,
         move |scope| -> Result<Results<L, M, K, W>, DeviceFault>
             requires { O.pre meanwhile }
         {
-            let recorder = start_recorder(scope, rt, recording, &flags.recorder)?;
-            let started = start_all(scope, rt, alloc, desk, all, gate, maps, &flags.workers);
-            let Ok(running) = started else {
-                flags.set_both();
-                return Err(DeviceFault::Memory);
-            };
+            let threads = start_threads(scope, run, desk, ports, flags)?;
             let operated = meanwhile();
-            let (worked, recording) = end_all(rt, alloc, running, recorder, flags)?;
-            Ok(Results {
-                worked,
-                recording,
-                operated,
-            })
+            end_threads(run, threads, flags, operated)
         },
     )
 }

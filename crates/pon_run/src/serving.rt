@@ -7,17 +7,17 @@ ghost use Rattle.pon_recorder.specs.Whole.{IsWholeRecording};
 ghost use Rattle.pon_run.specs.Runs.{EndsDone, TellsWorked};
 
 use crate::arguments::RunArgs;
+use crate::context::RunContext;
 use crate::ending::tell;
-use crate::files::{open_lines, recorder_of};
-use crate::link::{Link, open_links};
+use crate::files::open_lines;
+use crate::opening::{Opened, RunParts, open_desk, open_parts, split_rings};
 use crate::operator::answer_lines;
 use crate::ports::{OTHER_SEATS, admit_rows, served_ports};
-use crate::running::{Results, Served, serve_all};
-use crate::thread::Worked;
+use crate::running::{PortsServed, Results, serve_all};
 use pon_desk::{Desk, Seat};
 use pon_device::{DevWrite, DeviceFault};
 use pon_job::{Failure, exit_status, outcome_of_ports};
-use pon_recorder::{PortRing, PortSink, Recorder, Recording, Rings, Sinks, Tape, open_rings};
+use pon_recorder::{Rings, Sinks, Tape};
 use pon_settings::Settings;
 use pon_units::MAX_PORTS;
 use pon_worker::Gate;
@@ -34,14 +34,10 @@ use std::time::Clock;
 // Serves the ports of a desk while the operator's lines are executed. Returns the threads' results, and how the
 // operator ended.
 fn serve<L, M, K, G, F, W, R>(
-    rt: &R,
-    alloc: Global,
+    run: &RunContext<'_, G, R>,
     desk: &Desk<L, M>,
-    all: Vec<Served<L, M, K>>,
-    recording: Option<Recording<K, Tape<F>>>,
+    ports: PortsServed<L, M, K, Tape<F>>,
     operator: &mut Seat<L, M>,
-    gate: &G,
-    maps: u64,
     lines: Option<F>,
     writer: &mut W,
 ) -> Result<Results<L, M, K, Tape<F>>, DeviceFault>
@@ -57,9 +53,9 @@ where
     ensures failures { IsNone lines → W.failures writer.new ≡ W.failures writer.old }
 {
     match lines {
-        None => serve_all(rt, alloc, desk, all, recording, gate, maps, || Ok(())),
-        Some(file) => serve_all(rt, alloc, desk, all, recording, gate, maps, || {
-            answer_lines(rt, alloc, desk, operator, file, writer)
+        None => serve_all(run, desk, ports, || Ok(())),
+        Some(file) => serve_all(run, desk, ports, || {
+            answer_lines(run.rt, run.alloc, desk, operator, file, writer)
         }),
     }
 }
@@ -69,18 +65,18 @@ fn tell_with_seats<L: Ledger, M: Ledger, K: Rings, F: Write + Drop, W: DevWrite>
     alloc: Global,
     desk: Desk<L, M>,
     others: [Seat<L, M>; OTHER_SEATS],
-    all: Vec<Worked<L, M, K>>,
-    recording: Option<Recording<K, Tape<F>>>,
+    results: Results<L, M, K, Tape<F>>,
     settle: bool,
     writer: &mut W,
 ) -> Result<bool, DeviceFault>
-    ensures done { IfOk result (λ done. done ≡ true → TellsWorked (map (λ w. w.end) all.items) desk.ports
-        settle (W.contents writer.old) (W.contents writer.new)) }
+    ensures done { IfOk result (λ done. done ≡ true
+        → TellsWorked (map (λ w. w.end) results.worked.items) desk.ports settle
+        (W.contents writer.old) (W.contents writer.new)) }
     ensures whole { IfOk result (λ done. done ≡ true
-        → IfSome recording (λ r. IsWholeRecording r.recorder r.whole)) }
+        → IfSome results.recording (λ r. IsWholeRecording r.recorder r.whole)) }
 {
     match Vec::from_array(alloc, others) {
-        Ok(others) => tell(alloc, desk, others, all, recording, settle, writer),
+        Ok(others) => tell(alloc, desk, others, results, settle, writer),
         Err(_) => Err(DeviceFault::Memory),
     }
 }
@@ -101,32 +97,27 @@ fn tell_results<L: Ledger, M: Ledger, K: Rings, F: Write + Drop, W: DevWrite>(
     ensures whole { IfOk result (λ done. done ≡ true
         → IfSome results.recording (λ r. IsWholeRecording r.recorder r.whole)) }
 {
-    let Results {
-        worked,
-        recording,
-        operated,
-    } = results;
-    let done = tell_with_seats(alloc, desk, others, worked, recording, settle, writer)?;
+    let operated = results.operated;
+    let done = tell_with_seats(alloc, desk, others, results, settle, writer)?;
     operated?;
     Ok(done)
 }
 
 // Admits the rows of the settings, and combines what serves each port.
-fn prepare<L: Ledger, M: Ledger, K: Rings, R: Wait>(
-    rt: &R,
-    alloc: Global,
+fn prepare<L: Ledger, M: Ledger, K: Rings, G: Gate, F: Drop, R: Wait>(
+    run: &RunContext<'_, G, R>,
     desk: &Desk<L, M>,
     seat: &mut Seat<L, M>,
-    settings: &Settings,
     seats: Vec<Seat<L, M>>,
-    sinks: Vec<PortSink<K>>,
-    links: Vec<Link>,
-) -> Result<Vec<Served<L, M, K>>, DeviceFault> {
-    if admit_rows(rt, alloc, desk, seat, settings).is_err() {
+    parts: RunParts<K, F>,
+) -> Result<PortsServed<L, M, K, Tape<F>>, DeviceFault> {
+    if admit_rows(run.rt, run.alloc, desk, seat, run.settings).is_err() {
         return Err(DeviceFault::Memory);
     }
-    match served_ports(alloc, settings, seats, sinks, links) {
-        Ok(all) => Ok(all),
+    let RunParts { links, sinks } = parts;
+    let Sinks { sinks, recording } = sinks;
+    match served_ports(run.alloc, run.settings, seats, sinks, links) {
+        Ok(all) => Ok(PortsServed { all, recording }),
         Err(_) => Err(DeviceFault::Memory),
     }
 }
@@ -144,16 +135,11 @@ fn keep_receipts<L: Ledger, M: Ledger>(alloc: Global, seats: &mut [Seat<L, M>], 
 // Admits the rows of the settings at an open desk, serves its ports, and writes what each did. Returns whether each
 // worker made all its turns and no post was lost.
 fn run_desk<L, M, K, G, F, W, R>(
-    rt: &R,
-    alloc: Global,
+    run: &RunContext<'_, G, R>,
     desk: Desk<L, M>,
     mut seats: Vec<Seat<L, M>>,
-    settings: &Settings,
-    links: Vec<Link>,
-    gate: &G,
-    args: RunArgs<'_>,
+    parts: RunParts<K, F>,
     lines: Option<F>,
-    sinks: Sinks<K, Tape<F>>,
     writer: &mut W,
 ) -> Result<bool, DeviceFault>
 where
@@ -165,35 +151,25 @@ where
     W: DevWrite,
     R: Wait + Threads + Clock + Sync,
     requires { OTHER_SEATS ≤ vec_len seats }
-    ensures { IfOk result (λ done. done ≡ true → EndsDone desk.ports args.entry.settle (IsNone lines)
+    ensures { IfOk result (λ done. done ≡ true → EndsDone desk.ports run.now.args.settle (IsNone lines)
         (W.contents writer.old) (W.contents writer.new)) }
 {
-    keep_receipts(alloc, seats.as_mut_slice(), args.settle);
-    // The operator has the last seat.
-    let (Some(mut seat), Some(mut first)) = (seats.pop(), seats.pop()) else {
-        unreachable!()
-    };
-    let Sinks { sinks, recording } = sinks;
-    let all = prepare(rt, alloc, &desk, &mut first, settings, seats, sinks, links)?;
-    let results = serve(
-        rt, alloc, &desk, all, recording, &mut seat, gate, args.maps, lines, writer,
-    )?;
-    tell_results(alloc, desk, [first, seat], results, args.settle, writer)
+    keep_receipts(run.alloc, seats.as_mut_slice(), run.args.settle);
+    let mut operator = seats.pop().unwrap();
+    let mut first = seats.pop().unwrap();
+    let ports = prepare(run, &desk, &mut first, seats, parts)?;
+    let results = serve(run, &desk, ports, &mut operator, lines, writer)?;
+    let others = [first, operator];
+    tell_results(run.alloc, desk, others, results, run.args.settle, writer)
 }
 
 // Opens a desk for the ports of the settings, and runs it.
 fn run_at<L, M, K, G, F, W, R>(
-    rt: &R,
-    alloc: Global,
+    run: &RunContext<'_, G, R>,
     of_ports: Blank,
     of_seats: Blank,
-    settings: &Settings,
-    links: Vec<Link>,
-    gate: &G,
-    args: RunArgs<'_>,
+    opened: Opened<F>,
     lines: Option<F>,
-    rings: Vec<PortRing>,
-    recorder: Option<Recorder<Tape<F>>>,
     writer: &mut W,
 ) -> Result<bool, DeviceFault>
 where
@@ -205,70 +181,57 @@ where
     W: DevWrite,
     R: Wait + Threads + Clock + Sync,
     requires ports { (of_ports.name ≡ L.name) × (of_ports.parts ≡ L.parts)
-        × (L.parts ≡ length settings.now) }
+        × (L.parts ≡ length run.now.settings.now) }
     requires seats { (of_seats.name ≡ M.name) × (of_seats.parts ≡ M.parts)
-        × (M.parts ≡ length settings.now + OTHER_SEATS) }
-    requires rings { (vec_len rings ≤ MAX_PORTS) × AreRingsOf K.ring rings.items }
-    ensures { IfOk result (λ done. done ≡ true → EndsDone (length settings.now) args.entry.settle
-        (IsNone lines) (W.contents writer.old) (W.contents writer.new)) }
+        × (M.parts ≡ length run.now.settings.now + OTHER_SEATS) }
+    requires rings { (vec_len opened.rings ≤ MAX_PORTS) × AreRingsOf K.ring opened.rings.items }
+    ensures { IfOk result (λ done. done ≡ true → EndsDone (length run.now.settings.now)
+        run.now.args.settle (IsNone lines) (W.contents writer.old) (W.contents writer.new)) }
 {
-    let Ok(openings) = settings.openings(alloc) else {
-        return Err(DeviceFault::Memory);
-    };
-    let Ok(sinks) = Sinks::<K, Tape<F>>::split(alloc, rings, recorder, args.settle) else {
-        return Err(DeviceFault::Memory);
-    };
-    let count = openings.len() + OTHER_SEATS;
-    let opened = Desk::<L, M>::open(alloc, of_ports, of_seats, openings.as_slice(), count);
-    let Ok((desk, seats)) = opened else {
-        return Err(DeviceFault::Memory);
-    };
-    run_desk(
-        rt, alloc, desk, seats, settings, links, gate, args, lines, sinks, writer,
-    )
+    let (desk, seats) = open_desk::<L, M>(run.alloc, run.settings, of_ports, of_seats)?;
+    let parts = split_rings::<K, F>(run.alloc, opened, run.args.settle)?;
+    run_desk(run, desk, seats, parts, lines, writer)
 }
 
 // Opens the files and the sockets of a run, in this order, and runs it.
-fn run<G, W, R>(
-    rt: &R,
-    alloc: Global,
-    settings: &Settings,
-    args: RunArgs<'_>,
-    gate: &G,
-    writer: &mut W,
-) -> Result<bool, Failure>
+fn open_and_run<G, W, R>(run: &RunContext<'_, G, R>, writer: &mut W) -> Result<bool, Failure>
 where
     G: Gate + Sync,
     W: DevWrite,
     R: Net<Listener = TcpListener, Stream = TcpStream> + Files + Threads + Wait + Clock + Sync,
     R::File: Send,
-    ensures { IfOk result (λ done. done ≡ true → EndsDone (length settings.now) args.entry.settle
-        (IsNone args.entry.operate) (W.contents writer.old) (W.contents writer.new)) }
+    ensures { IfOk result (λ done. done ≡ true → EndsDone (length run.now.settings.now)
+        run.now.args.settle (IsNone run.now.args.operate)
+        (W.contents writer.old) (W.contents writer.new)) }
 {
-    let lines = match args.operate {
+    let lines = match run.args.operate {
         None => None,
-        Some(name) => Some(open_lines(rt, alloc, name)?),
+        Some(name) => Some(open_lines(run.rt, run.alloc, name)?),
     };
-    let recorder = recorder_of(rt, alloc, args.record, args.settle)?;
-    let ports = settings.ports().len();
-    let links = open_links(rt, alloc, args.listen, ports)?;
-    let Ok(rings) = open_rings(alloc, ports, &recorder) else {
-        return Err(Failure::from(DeviceFault::Memory));
-    };
+    let opened = open_parts(run)?;
+    let ports = run.settings.ports().len();
     Ok(run_at::<Brand, Brand, Brand, G, R::File, W, R>(
-        rt,
-        alloc,
+        run,
         Blank::new(ports as u64),
         Blank::new((ports + OTHER_SEATS) as u64),
-        settings,
-        links,
-        gate,
-        args,
+        opened,
         lines,
-        rings,
-        recorder,
         writer,
     )?)
+}
+
+// Returns the exit status of a run that ended so, and prints its failure.
+fn status_of(rt: &impl Eprint, ended: Result<bool, Failure>) -> u8
+    ensures status { (result ≡ 0) ⊎ (result ≡ 3) }
+    ensures done { result ≡ 0 → ended ≡ Ok true }
+{
+    match ended {
+        Ok(done) => exit_status(outcome_of_ports(Ok(done))),
+        Err(failure) => {
+            failure.print(rt);
+            exit_status(outcome_of_ports(Err(failure.fault)))
+        }
+    }
 }
 
 /// Runs the ports of the settings.
@@ -309,11 +272,7 @@ where
     ensures lines { result ≡ 0 → EndsDone (length settings) args.entry.settle (IsNone args.entry.operate)
         (W.contents writer.old) (W.contents writer.new) }
 {
-    match run(rt, alloc, &settings, args, gate, writer) {
-        Ok(done) => exit_status(outcome_of_ports(Ok(done))),
-        Err(failure) => {
-            failure.print(rt);
-            exit_status(outcome_of_ports(Err(failure.fault)))
-        }
-    }
+    let run = RunContext::new(rt, alloc, &settings, args, gate);
+    let ended = open_and_run(&run, writer);
+    status_of(rt, ended)
 }

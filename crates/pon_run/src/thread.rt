@@ -1,5 +1,6 @@
 //! The two threads of a port: one runs its worker, the other its units.
 
+use crate::context::RunContext;
 use crate::pace::UntilStopped;
 use pon_desk::{Desk, Seat};
 use pon_device::{StdRead, StdWrite};
@@ -40,26 +41,23 @@ pub(crate) struct Worked<L: Ledger, M: Ledger, K: Rings> {
 
 // Serves a port over its end of a connection.
 fn serve<L: Ledger, M: Ledger, K: Rings, G: Gate, R: Wait>(
-    rt: &R,
-    alloc: Global,
+    run: &RunContext<'_, G, R>,
     desk: &Desk<L, M>,
     part: &mut WorkerPart<L, M, K>,
-    gate: &G,
-    maps: u64,
     stop: &AtomicBool,
 ) -> Result<WorkerEnd, AllocError> {
-    let mut pace = UntilStopped::new(maps, stop);
-    let Ok(input) = BufReader::new(alloc, &part.stream) else {
+    let mut pace = UntilStopped::new(run.args.maps, stop);
+    let Ok(input) = BufReader::new(run.alloc, &part.stream) else {
         return Err(AllocError);
     };
     let mut reader = StdRead::new(input);
     let mut writer = StdWrite::new(&part.stream);
     Ok(serve_port(
-        rt,
+        run.rt,
         desk,
         &mut part.seat,
         part.sink.port,
-        gate,
+        run.gate,
         &mut pace,
         &mut reader,
         &mut writer,
@@ -69,15 +67,12 @@ fn serve<L: Ledger, M: Ledger, K: Rings, G: Gate, R: Wait>(
 
 /// Runs the worker of a port, and closes its end of the connection.
 pub(crate) fn work<L: Ledger, M: Ledger, K: Rings, G: Gate, R: Wait>(
-    rt: &R,
-    alloc: Global,
+    run: &RunContext<'_, G, R>,
     desk: &Desk<L, M>,
     mut part: WorkerPart<L, M, K>,
-    gate: &G,
-    maps: u64,
     stop: &AtomicBool,
 ) -> Worked<L, M, K> {
-    let end = serve(rt, alloc, desk, &mut part, gate, maps, stop);
+    let end = serve(run, desk, &mut part, stop);
     let WorkerPart { seat, sink, .. } = part;
     Worked { seat, sink, end }
 }

@@ -2,5 +2,6 @@ mod Bursts
 mod Passed
 mod Posted
 mod Receipts
+mod Reported
 mod Tries
 mod Works

@@ -1,5 +1,5 @@
 -- The work of a worker at its port and on its link: the maps that it had made and sent, and the bursts that it read.
-use Rattle.std.specs.Prelude.{ℕ, ◌≡◌, ◌≢◌, ◌+◌, ◌<◌, ◌≤◌, ◌↔◌, ◌⊎◌, Bool, false, true, List, [], ◌∷◌, ◌++◌, All, IfSome, count_by, flat_map, is_some, length, slice_index, Option, None, Some, Err}
+use Rattle.std.specs.Prelude.{ℕ, ◌≡◌, ◌≢◌, ◌+◌, ◌<◌, ◌≤◌, ◌↔◌, ◌⊎◌, Bool, false, true, List, [], ◌∷◌, ◌++◌, All, IfSome, count_by, flat_map, is_some, length, slice_index, MatchResult, Option, None, Some, Result, Err}
 use Rattle.pon_device.specs.Device.{Appends}
 use Rattle.pon_bwmap.specs.Alloc.{Alloc}
 use Rattle.pon_admit.specs.declared.event.Event.{Event}
@@ -88,6 +88,25 @@ pub record LacksMemory (port : ℕ) (records : List UpRecord) (reports : List Re
   pub others : All IsNotMemory refusals
   pub refused : RefusesReport last OutOfMemory
 
+-- the seat counts at least as many posts at a port as maps and reports are counted
+abbrev pub CoversCounts : ℕ → SeatState → Counts → Type 0
+CoversCounts port seat counts = counts.maps + counts.reports ≤ slice_index seat.counts port
+
+-- a record is counted: it is without a sender, or its report was posted, and the port took it or a check refused it
+pub record PostsRecord (port : ℕ) (burst : UpRecord) (old new : Counts) (seat_old seat_new : SeatState) : Type 0 where
+  pub reports : List Receipt
+  pub refusals : List Refusal
+  pub takes : TakesReports port (burst ∷ []) reports refusals
+  pub memory : All IsNotMemory refusals
+  pub counted : CountsRecords (burst ∷ []) (length reports) old new
+  pub kept : KeepsAll seat_old.receipts reports seat_new.receipts
+
+-- a record is counted whose report was refused since memory was
+pub record LacksReport (burst : UpRecord) (old new : Counts) (seat_old seat_new : SeatState) : Type 0 where
+  pub refused : RefusesReport burst OutOfMemory
+  pub counted : CountsRecords (burst ∷ []) 0 old new
+  pub same : seat_new ≡ seat_old
+
 -- the bytes of the downstream record of a map
 abbrev pub map_record : MadeMap → List ℕ
 map_record made = down_bytes made.frame made.map
@@ -165,6 +184,19 @@ StopsReading port bursts (Gave cause) records reports refusals reader left =
 StopsReading port bursts GateLimit records reports refusals reader left = ⊥
 StopsReading port bursts (Refused fault) records reports refusals reader left =
     (fault ≡ step.Refused OutOfMemory) × (length records ≤ bursts) × (reader.held ≡ []) × LacksMemory port records reports
+
+-- records were read and counted, and their reports posted: one record for each of this number of bursts, while memory was
+-- refused for no report, or the reading ended for this reason
+pub record ReadsBursts (port bursts : ℕ) (result : Result (Unit {0}) StopReason) (seat_old seat_new : SeatState) (old new : Counts) (reader : ReaderState) (left_old left_new : Option (List ℕ)) : Type 0 where
+  pub records : List UpRecord
+  pub reports : List Receipt
+  pub refusals : List Refusal
+  pub takes : TakesReports port records reports refusals
+  pub counted : CountsRecords records (length reports) old new
+  pub read : HasRead records reader.held left_old left_new
+  pub kept : KeepsAll seat_old.receipts reports seat_new.receipts
+  pub ends : MatchResult result (λ done. (length records ≡ bursts) × All IsNotMemory refusals)
+      (λ why. StopsReading port bursts why records reports refusals reader left_new)
 
 -- the record of the map is written whole, and the reading of its bursts ended for this reason
 pub record CutsReading (port : ℕ) (why : StopReason) (turn : Turn) (held : List ℕ) (left : Option (List ℕ)) : Type 0 where

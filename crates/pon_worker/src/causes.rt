@@ -20,8 +20,5 @@ pub(crate) fn cause_of(number: u8) -> Cause
     requires { (1 ≤ number) × (number ≤ 9) }
     ensures { result ≡ number }
 {
-    match Cause::new(number) {
-        Some(cause) => cause,
-        None => unreachable!(),
-    }
+    Cause::new(number).unwrap()
 }

@@ -1,6 +1,6 @@
 ghost use Rattle.std.specs.Prelude.{◌≡◌, ◌+◌, min};
 
-use pon_descr::Cause;
+use pon_descr::{Cause, Refusal};
 use pon_plant::StepFault;
 
 /// Why a worker ended.
@@ -52,8 +52,9 @@ pub(crate) fn count(number: u64) -> u64
 }
 
 impl Counts {
+    ghost use Rattle.pon_worker.specs.Records.{after_report};
     ghost use Rattle.pon_worker.specs.Turns.{counts_of, no_counts};
-    ghost use Rattle.std.specs.Prelude.{◌≡◌};
+    ghost use Rattle.std.specs.Prelude.{◌≡◌, ◌≢◌, ◌+◌, ◌<◌, ◌≤◌, ◌^◌, MatchBool, OnOk};
 
     // Returns counts of 0.
     pub(crate) fn new() -> Counts
@@ -64,6 +65,37 @@ impl Counts {
             reports: 0,
             garbled: 0,
             refused: 0,
+        }
+    }
+
+    // Proves that no count is above the greatest value.
+    pub(crate) fn prove_in_range(&self)
+        ensures garbled { self.now.garbled ≤ MAX_COUNT }
+        ensures refused { self.now.refused ≤ MAX_COUNT }
+    {
+        let _garbled = self.garbled;
+        let _refused = self.refused;
+    }
+
+    // Counts a report that was posted. Returns `false` if memory was refused for it.
+    pub(crate) fn count_report(&mut self, posted: Result<(), Refusal>) -> bool
+        requires { OnOk posted (self.old.reports + 1 < 2 ^ 64) }
+        ensures counts { self.new ≡ after_report posted self.old }
+        ensures memory { MatchBool result (posted ≢ Err Refusal.OutOfMemory)
+            (posted ≡ Err Refusal.OutOfMemory) }
+    {
+        match posted {
+            Ok(()) => {
+                self.reports += 1;
+                true
+            }
+            Err(refusal) => {
+                self.refused = count(self.refused);
+                if refusal == Refusal::OutOfMemory {
+                    return false;
+                }
+                true
+            }
         }
     }
 

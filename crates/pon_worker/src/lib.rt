@@ -14,6 +14,7 @@ mod receiving;
 mod sending;
 mod serving;
 mod turn;
+mod work;
 
 pub use counts::{StopReason, WorkerEnd};
 pub use gate::{Gate, OpenGate, Pace, Point, Turns};

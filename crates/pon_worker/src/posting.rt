@@ -7,6 +7,7 @@ ghost use Rattle.pon_ring.specs.Discarded.{Frees};
 ghost use Rattle.pon_worker.specs.Passing.{PassesChapters, TriesTurn, TurnsAtPost};
 ghost use Rattle.pon_worker.specs.Turns.{IsPostAt, KeepsPost, RaisedAt};
 
+use crate::gate::Gate;
 use pon_admit::Event;
 use pon_descr::Refusal;
 use pon_desk::{Desk, Receipt, Seat, StepFault};
@@ -16,172 +17,174 @@ use pon_units::PortNo;
 use std::sync::Wait;
 use std::sync::ledger::Ledger;
 
-// Returns the number of posts that a seat counts at a port of the desk.
-fn posts_at<L: Ledger, M: Ledger>(desk: &Desk<L, M>, seat: &Seat<L, M>, port: PortNo) -> u64
-    requires { port < desk.now.ports }
-    ensures value { result ≡ slice_index seat.now.counts port }
-    ensures size { length seat.now.counts ≡ desk.now.ports }
-{
-    prove!(desk.ports() == seat.counts().len());
-    seat.counts()[usize::from(port.get())]
+/// A port that a worker serves: the desk with its number there, the gate, and the handle that waits for the desk's locks.
+#[derive(Drop)]
+pub(crate) struct ServedPort<'a, L: Ledger, M: Ledger, G: Gate, T: Wait> {
+    pub(crate) rt: &'a T,
+    pub(crate) desk: &'a Desk<L, M>,
+    pub(crate) port: PortNo,
+    pub(crate) gate: &'a G,
 }
 
-// Turns a port, and passes its chapter to the sink. If the port refuses, nothing happens.
-fn turn_port<L: Ledger, M: Ledger, T: Wait>(
-    rt: &T,
-    desk: &Desk<L, M>,
-    port: PortNo,
-    sink: &mut Sink,
-)
-    requires { port < desk.now.ports }
-    ensures turned { TriesTurn sink.old.outlet sink.new.outlet }
-    ensures cut { sink.new.cut ≡ sink.old.cut }
-    ensures sink { PassesChapters sink.old sink.new }
-{
-    match desk.turn(rt, port) {
-        Ok(chapter) => sink.pass(chapter),
-        Err(_) => {}
-    }
-}
-
-// Posts an event at a port. If its chapter is full, turns the port, and posts the event once more.
-fn post_or_turn<L: Ledger, M: Ledger, T: Wait>(
-    rt: &T,
-    desk: &Desk<L, M>,
-    seat: &mut Seat<L, M>,
-    port: PortNo,
-    sink: &mut Sink,
-    event: Event,
-) -> Result<Receipt, StepFault>
-    ensures no_such { IsNoSuchPort result ↔ desk.now.ports ≤ port }
-    ensures posted { IfOk result (λ receipt. IsSomePost event receipt) }
-    ensures names { IfOk result (λ receipt. NamesPost port seat.old receipt) }
-    ensures refused { IfErr result (λ fault. TellsRefusal event fault) }
-    ensures counted { OnOk result (seat.new ≡ one_more_at port seat.old) }
-    ensures err { OnErr result (seat.new ≡ seat.old) }
-    ensures turned { (sink.new.outlet ≡ sink.old.outlet) ⊎ TriesTurn sink.old.outlet sink.new.outlet }
-    ensures cut { sink.new.cut ≡ sink.old.cut }
-    ensures sink { PassesChapters sink.old sink.new }
-{
-    let again = event.copy();
-    match desk.post(rt, seat, port, event) {
-        Err(StepFault::Refused(Refusal::ChapterFull)) => {
-            turn_port(rt, desk, port, sink);
-            desk.post(rt, seat, port, again)
+impl<'a, L: Ledger, M: Ledger, G: Gate, T: Wait> ServedPort<'a, L, M, G, T> {
+    pub(crate) fn new(rt: &'a T, desk: &'a Desk<L, M>, port: PortNo, gate: &'a G) -> Self
+        ensures desk { result.desk.now ≡ desk.now }
+        ensures port { result.port ≡ port }
+    {
+        ServedPort {
+            rt,
+            desk,
+            port,
+            gate,
         }
-        first => first,
     }
-}
 
-// After a post that was kept with this index, frees some entries of a dropped chapter, and turns the port if the sink
-// wants it.
-fn turn_at_cut<L: Ledger, M: Ledger, T: Wait>(
-    rt: &T,
-    desk: &Desk<L, M>,
-    port: PortNo,
-    sink: &mut Sink,
-    index: usize,
-)
-    requires { port < desk.now.ports }
-    ensures at_cut { sink.old.cut ≤ index + 1 → TriesTurn sink.old.outlet sink.new.outlet }
-    ensures below_cut { index + 1 < sink.old.cut → sink.new.outlet ≡ sink.old.outlet }
-    ensures frees { index + 1 < sink.old.cut → Frees sink.old sink.new }
-    ensures cut { sink.new.cut ≡ sink.old.cut }
-    ensures sink { PassesChapters sink.old sink.new }
-{
-    sink.free_some();
-    if sink.wants_turn(index) {
-        turn_port(rt, desk, port, sink);
+    // Returns the number of posts that a seat counts at the port.
+    fn posts_of(&self, seat: &Seat<L, M>) -> u64
+        requires { self.now.port < self.now.desk.now.ports }
+        ensures value { result ≡ slice_index seat.now.counts self.now.port }
+        ensures size { length seat.now.counts ≡ self.now.desk.now.ports }
+    {
+        prove!(self.desk.ports() == seat.counts().len());
+        seat.counts()[usize::from(self.port.get())]
     }
-}
 
-// Posts an event at a port, and turns the port before if its chapter is full, and after if the sink wants it.
-pub(crate) fn post<L: Ledger, M: Ledger, T: Wait>(
-    rt: &T,
-    desk: &Desk<L, M>,
-    seat: &mut Seat<L, M>,
-    port: PortNo,
-    sink: &mut Sink,
-    event: Event,
-) -> Result<Receipt, StepFault>
-    ensures no_such { IsNoSuchPort result ↔ desk.now.ports ≤ port }
-    ensures posted { IfOk result (λ receipt. IsPostAt port event receipt) }
-    ensures refused { IfErr result (λ fault. TellsRefusal event fault) }
-    ensures counted { OnOk result (RaisedAt port 1 seat.old seat.new) }
-    ensures receipts { OnOk result (seat.new.receipts ≡ seat.old.receipts) }
-    ensures fits { OnOk result (slice_index seat.new.counts port < 2 ^ 64) }
-    ensures err { OnErr result (seat.new ≡ seat.old) }
-    ensures turns { IfOk result (λ receipt. TurnsAtPost sink.old receipt.placed.index sink.new) }
-    ensures sink { PassesChapters sink.old sink.new }
-{
-    let receipt = post_or_turn(rt, desk, seat, port, sink, event)?;
-    turn_at_cut(rt, desk, port, sink, receipt.index());
-    let _posts = posts_at(desk, seat, port);
-    Ok(receipt)
-}
-
-// Posts an event at a port, and has the seat keep its receipt.
-pub(crate) fn post_kept<L: Ledger, M: Ledger, T: Wait>(
-    rt: &T,
-    desk: &Desk<L, M>,
-    seat: &mut Seat<L, M>,
-    port: PortNo,
-    sink: &mut Sink,
-    event: Event,
-) -> Result<(), StepFault>
-    ensures no_such { IsNoSuchPort result ↔ desk.now.ports ≤ port }
-    ensures kept { OnOk result (KeepsPost port event seat.old seat.new) }
-    ensures fits { OnOk result (slice_index seat.new.counts port < 2 ^ 64) }
-    ensures refused { IfErr result (λ fault. TellsRefusal event fault) }
-    ensures err { OnErr result (seat.new ≡ seat.old) }
-    ensures sink { PassesChapters sink.old sink.new }
-{
-    let receipt = post(rt, desk, seat, port, sink, event)?;
-    seat.keep(receipt);
-    Ok(())
-}
-
-// Posts a report at a port of the desk, and has the seat keep its receipt.
-pub(crate) fn post_report<L: Ledger, M: Ledger, T: Wait>(
-    rt: &T,
-    desk: &Desk<L, M>,
-    seat: &mut Seat<L, M>,
-    port: PortNo,
-    sink: &mut Sink,
-    event: Event,
-) -> Result<(), Refusal>
-    requires { port < desk.now.ports }
-    ensures kept { OnOk result (KeepsPost port event seat.old seat.new) }
-    ensures fits { OnOk result (slice_index seat.new.counts port < 2 ^ 64) }
-    ensures refused { IfErr result (λ told. IsSomeRefusal event told) }
-    ensures err { OnErr result (seat.new ≡ seat.old) }
-    ensures sink { PassesChapters sink.old sink.new }
-{
-    match post_kept(rt, desk, seat, port, sink, event) {
-        Ok(()) => Ok(()),
-        Err(StepFault::Refused(refusal)) => Err(refusal),
-        Err(StepFault::NoSuchPort) => unreachable!(),
+    // Turns the port, and passes its chapter to the sink. If the port refuses, nothing happens.
+    fn turn_port(&self, sink: &mut Sink)
+        requires { self.now.port < self.now.desk.now.ports }
+        ensures turned { TriesTurn sink.old.outlet sink.new.outlet }
+        ensures cut { sink.new.cut ≡ sink.old.cut }
+        ensures sink { PassesChapters sink.old sink.new }
+    {
+        match self.desk.turn(self.rt, self.port) {
+            Ok(chapter) => sink.pass(chapter),
+            Err(_) => {}
+        }
     }
-}
 
-// Posts `MakeMap` at a port, and returns the receipt of the map of its next frame.
-pub(crate) fn make_map<L: Ledger, M: Ledger, T: Wait>(
-    rt: &T,
-    desk: &Desk<L, M>,
-    seat: &mut Seat<L, M>,
-    port: PortNo,
-    sink: &mut Sink,
-) -> Result<Receipt, StepFault>
-    ensures no_such { IsNoSuchPort result ↔ desk.now.ports ≤ port }
-    ensures made { IfOk result (λ receipt. IsPostAt port Event.MakeMap receipt) }
-    ensures refused { IfErr result (λ fault. TellsRefusal Event.MakeMap fault) }
-    ensures counted { OnOk result (RaisedAt port 1 seat.old seat.new) }
-    ensures receipts { OnOk result (seat.new.receipts ≡ seat.old.receipts) }
-    ensures fits { OnOk result (slice_index seat.new.counts port < 2 ^ 64) }
-    ensures err { OnErr result (seat.new ≡ seat.old) }
-    ensures sink { PassesChapters sink.old sink.new }
-{
-    post(rt, desk, seat, port, sink, Event::MakeMap)
+    // Posts an event. If the chapter of the port is full, turns the port, and posts the event once more.
+    fn post_or_turn(
+        &self,
+        seat: &mut Seat<L, M>,
+        sink: &mut Sink,
+        event: Event,
+    ) -> Result<Receipt, StepFault>
+        ensures no_such { IsNoSuchPort result ↔ self.now.desk.now.ports ≤ self.now.port }
+        ensures posted { IfOk result (λ receipt. IsSomePost event receipt) }
+        ensures names { IfOk result (λ receipt. NamesPost self.now.port seat.old receipt) }
+        ensures refused { IfErr result (λ fault. TellsRefusal event fault) }
+        ensures counted { OnOk result (seat.new ≡ one_more_at self.now.port seat.old) }
+        ensures err { OnErr result (seat.new ≡ seat.old) }
+        ensures turned { (sink.new.outlet ≡ sink.old.outlet) ⊎ TriesTurn sink.old.outlet sink.new.outlet }
+        ensures cut { sink.new.cut ≡ sink.old.cut }
+        ensures sink { PassesChapters sink.old sink.new }
+    {
+        let again = event.copy();
+        match self.desk.post(self.rt, seat, self.port, event) {
+            Err(StepFault::Refused(Refusal::ChapterFull)) => {
+                self.turn_port(sink);
+                self.desk.post(self.rt, seat, self.port, again)
+            }
+            first => first,
+        }
+    }
+
+    // After a post that was kept with this index, frees some entries of a dropped chapter, and turns the port if the sink
+    // wants it.
+    fn turn_at_cut(&self, sink: &mut Sink, index: usize)
+        requires { self.now.port < self.now.desk.now.ports }
+        ensures at_cut { sink.old.cut ≤ index + 1 → TriesTurn sink.old.outlet sink.new.outlet }
+        ensures below_cut { index + 1 < sink.old.cut → sink.new.outlet ≡ sink.old.outlet }
+        ensures frees { index + 1 < sink.old.cut → Frees sink.old sink.new }
+        ensures cut { sink.new.cut ≡ sink.old.cut }
+        ensures sink { PassesChapters sink.old sink.new }
+    {
+        sink.free_some();
+        if sink.wants_turn(index) {
+            self.turn_port(sink);
+        }
+    }
+
+    // Posts an event, and turns the port before if its chapter is full, and after if the sink wants it.
+    fn post(
+        &self,
+        seat: &mut Seat<L, M>,
+        sink: &mut Sink,
+        event: Event,
+    ) -> Result<Receipt, StepFault>
+        ensures no_such { IsNoSuchPort result ↔ self.now.desk.now.ports ≤ self.now.port }
+        ensures posted { IfOk result (λ receipt. IsPostAt self.now.port event receipt) }
+        ensures refused { IfErr result (λ fault. TellsRefusal event fault) }
+        ensures counted { OnOk result (RaisedAt self.now.port 1 seat.old seat.new) }
+        ensures receipts { OnOk result (seat.new.receipts ≡ seat.old.receipts) }
+        ensures fits { OnOk result (slice_index seat.new.counts self.now.port < 2 ^ 64) }
+        ensures err { OnErr result (seat.new ≡ seat.old) }
+        ensures turns { IfOk result (λ receipt. TurnsAtPost sink.old receipt.placed.index sink.new) }
+        ensures sink { PassesChapters sink.old sink.new }
+    {
+        let receipt = self.post_or_turn(seat, sink, event)?;
+        self.turn_at_cut(sink, receipt.index());
+        let _posts = self.posts_of(seat);
+        Ok(receipt)
+    }
+
+    // Posts an event, and has the seat keep its receipt.
+    pub(crate) fn post_kept(
+        &self,
+        seat: &mut Seat<L, M>,
+        sink: &mut Sink,
+        event: Event,
+    ) -> Result<(), StepFault>
+        ensures no_such { IsNoSuchPort result ↔ self.now.desk.now.ports ≤ self.now.port }
+        ensures kept { OnOk result (KeepsPost self.now.port event seat.old seat.new) }
+        ensures fits { OnOk result (slice_index seat.new.counts self.now.port < 2 ^ 64) }
+        ensures refused { IfErr result (λ fault. TellsRefusal event fault) }
+        ensures err { OnErr result (seat.new ≡ seat.old) }
+        ensures sink { PassesChapters sink.old sink.new }
+    {
+        let receipt = self.post(seat, sink, event)?;
+        seat.keep(receipt);
+        Ok(())
+    }
+
+    // Posts a report, and has the seat keep its receipt.
+    pub(crate) fn post_report(
+        &self,
+        seat: &mut Seat<L, M>,
+        sink: &mut Sink,
+        event: Event,
+    ) -> Result<(), Refusal>
+        requires { self.now.port < self.now.desk.now.ports }
+        ensures kept { OnOk result (KeepsPost self.now.port event seat.old seat.new) }
+        ensures fits { OnOk result (slice_index seat.new.counts self.now.port < 2 ^ 64) }
+        ensures refused { IfErr result (λ told. IsSomeRefusal event told) }
+        ensures err { OnErr result (seat.new ≡ seat.old) }
+        ensures sink { PassesChapters sink.old sink.new }
+    {
+        match self.post_kept(seat, sink, event) {
+            Ok(()) => Ok(()),
+            Err(StepFault::Refused(refusal)) => Err(refusal),
+            Err(StepFault::NoSuchPort) => unreachable!(),
+        }
+    }
+
+    // Posts `MakeMap`, and returns the receipt of the map of the next frame.
+    pub(crate) fn make_map(
+        &self,
+        seat: &mut Seat<L, M>,
+        sink: &mut Sink,
+    ) -> Result<Receipt, StepFault>
+        ensures no_such { IsNoSuchPort result ↔ self.now.desk.now.ports ≤ self.now.port }
+        ensures made { IfOk result (λ receipt. IsPostAt self.now.port Event.MakeMap receipt) }
+        ensures refused { IfErr result (λ fault. TellsRefusal Event.MakeMap fault) }
+        ensures counted { OnOk result (RaisedAt self.now.port 1 seat.old seat.new) }
+        ensures receipts { OnOk result (seat.new.receipts ≡ seat.old.receipts) }
+        ensures fits { OnOk result (slice_index seat.new.counts self.now.port < 2 ^ 64) }
+        ensures err { OnErr result (seat.new ≡ seat.old) }
+        ensures sink { PassesChapters sink.old sink.new }
+    {
+        self.post(seat, sink, Event::MakeMap)
+    }
 }
 
 // Returns the map that was made for a post.

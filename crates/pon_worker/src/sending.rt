@@ -37,10 +37,7 @@ pub(crate) fn send<W: DevWrite>(writer: &mut W, made: &MadeMap) -> Result<(), De
         × FailsInRow (length sent) (W.failures writer.old) (W.failures writer.new)) }
 {
     let mut down = DownWriter::new();
-    match down.put(made.frame, &made.map) {
-        Ok(()) => {}
-        Err(_) => unreachable!(),
-    }
+    down.put(made.frame, &made.map).unwrap();
     let mut left = down.left().len();
     let mut failed = 0;
     'tries: while failed < MAX_TRIES {

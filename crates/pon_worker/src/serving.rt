@@ -6,14 +6,14 @@ ghost use Rattle.pon_worker.specs.Passing.{PassesChapters};
 ghost use Rattle.pon_worker.specs.Turns.{EndsAs, PostsAt, PostsEnd, counts_of, most_others, no_counts};
 ghost use Rattle.pon_desk.specs.Counts.{SeatState};
 
-use crate::counts::{Counts, StopReason, WorkerEnd};
+use crate::counts::{StopReason, WorkerEnd};
 use crate::gate::{Gate, Pace};
-use crate::posting::post_kept;
+use crate::posting::ServedPort;
 use crate::turn::turn;
+use crate::work::Work;
 use pon_admit::Event;
 use pon_desk::{Desk, Seat};
 use pon_device::{DevRead, DevWrite};
-use pon_link::UpReader;
 use pon_ring::Sink;
 use pon_units::PortNo;
 use std::sync::Wait;
@@ -21,63 +21,46 @@ use std::sync::ledger::Ledger;
 
 // Makes the turns that the pace gives, and counts their results.
 fn make_turns<L: Ledger, M: Ledger, G: Gate, P: Pace, R: DevRead, W: DevWrite, T: Wait>(
-    rt: &T,
-    desk: &Desk<L, M>,
+    served: &ServedPort<'_, L, M, G, T>,
     seat: &mut Seat<L, M>,
-    port: PortNo,
     sink: &mut Sink,
-    gate: &G,
     pace: &mut P,
     reader: &mut R,
     writer: &mut W,
 ) -> WorkerEnd
-    ensures ended { EndsAs port desk.now.ports result.why no_counts (counts_of result)
-        seat.old seat.new (W.contents writer.old) (W.contents writer.new)
+    ensures ended { EndsAs served.now.port served.now.desk.now.ports result.why no_counts
+        (counts_of result) seat.old seat.new (W.contents writer.old) (W.contents writer.new)
         (R.remaining reader.old) (R.remaining reader.new) }
-    ensures posts { PostsAt port 0 seat.old seat.new no_counts (counts_of result) }
+    ensures posts { PostsAt served.now.port 0 seat.old seat.new no_counts (counts_of result) }
     ensures sink { PassesChapters sink.old sink.new }
 {
-    let mut up = UpReader::new();
-    let mut counts = Counts::new();
-    for _ in rt.forever() {
+    let mut work = Work::new();
+    for _ in served.rt.forever() {
         if !pace.next() {
-            return counts.end(StopReason::Finished);
+            return work.counts.end(StopReason::Finished);
         }
-        match turn(
-            rt,
-            desk,
-            seat,
-            port,
-            sink,
-            gate,
-            &mut up,
-            reader,
-            writer,
-            &mut counts,
-        ) {
+        match turn(served, seat, sink, &mut work, reader, writer) {
             Ok(()) => {}
-            Err(why) => return counts.end(why),
+            Err(why) => return work.counts.end(why),
         }
     }
     unreachable!()
 }
 
 // Posts that the port is failed, if its link was given up.
-fn give_up<L: Ledger, M: Ledger, T: Wait>(
-    rt: &T,
-    desk: &Desk<L, M>,
+fn give_up<L: Ledger, M: Ledger, G: Gate, T: Wait>(
+    served: &ServedPort<'_, L, M, G, T>,
     seat: &mut Seat<L, M>,
-    port: PortNo,
     sink: &mut Sink,
     why: StopReason,
 )
-    ensures posts { PostsEnd port why seat.old seat.new }
+    ensures posts { PostsEnd served.now.port why seat.old seat.new }
     ensures sink { PassesChapters sink.old sink.new }
 {
     let StopReason::Gave { cause } = why else {
         return;
     };
-    let _posted = post_kept(rt, desk, seat, port, sink, Event::Fail { cause });
+    let _posted = served.post_kept(seat, sink, Event::Fail { cause });
 }
 
 /// Serves a port over its link, for as many turns as the pace gives. In each turn it posts `MakeMap`, calls the gate at
@@ -115,7 +98,8 @@ pub fn serve_port<L: Ledger, M: Ledger, G: Gate, P: Pace, R: DevRead, W: DevWrit
     ensures sink { PassesChapters sink.old sink.new }
     ensures ring { KeepsRing sink.old sink.new }
 {
-    let end = make_turns(rt, desk, seat, port, sink, gate, pace, reader, writer);
-    give_up(rt, desk, seat, port, sink, end.why);
+    let served = ServedPort::new(rt, desk, port, gate);
+    let end = make_turns(&served, seat, sink, pace, reader, writer);
+    give_up(&served, seat, sink, end.why);
     end
 }

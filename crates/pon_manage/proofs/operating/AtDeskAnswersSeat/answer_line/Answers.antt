@@ -3,7 +3,7 @@ use Rattle.pon_line.specs.Reading.{AsksWithin, read_line}
 use Rattle.pon_line.proofs.Asking.{read_line-within}
 use Rattle.pon_manage.proofs.operating.AtDeskAnswersSeat.answer_line.Goals as goal
 
-pub answer_at_desk-requires : goal.answer_at_desk-requires
-answer_at_desk-requires g c =
+pub answer-requires : goal.answer-requires
+answer-requires g c =
     let ports = c.args.self.now.desk.now.ports in
     subst (AsksWithin ports) (sym (c.read_line-reading.ensures ∙ ap (λ n. read_line n c.args.line.now) c.ports-2.ensures.value)) (read_line-within ports c.args.line.now)

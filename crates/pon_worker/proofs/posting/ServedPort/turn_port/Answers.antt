@@ -1,6 +1,6 @@
 use Rattle.std.proofs.Common.{inl}
 use Rattle.pon_worker.proofs.Passed.{passes_tried}
-use Rattle.pon_worker.proofs.posting.turn_port.Goals as goal
+use Rattle.pon_worker.proofs.posting.ServedPort.turn_port.Goals as goal
 
 pub returns-in-Ok-clause-sink : goal.returns-in-Ok-clause-sink
 returns-in-Ok-clause-sink g c =

@@ -2,7 +2,7 @@ use Rattle.std.proofs.Common.{◌+◌, ◌<◌, ap, length, slice_index, arith, 
 use Rattle.pon_desk.specs.Counts.{SeatState}
 use Rattle.pon_worker.proofs.Passed.{passes_then, turns_at_post}
 use Rattle.pon_worker.proofs.Posted.{raised_one}
-use Rattle.pon_worker.proofs.posting.post.Goals as goal
+use Rattle.pon_worker.proofs.posting.ServedPort.post.Goals as goal
 
 pub turn_at_cut-requires : goal.turn_at_cut-requires
 turn_at_cut-requires g c = lt_of_not-le c.in_ok-receipt.ensures.no_such.1
@@ -10,11 +10,11 @@ turn_at_cut-requires g c = lt_of_not-le c.in_ok-receipt.ensures.no_such.1
 pub returns-clause-counted : goal.returns-clause-counted
 returns-clause-counted g c =
     let old = c.args.seat.now.counts in
-    let port = c.args.port in
+    let port = c.args.self.now.port in
     let more = c.in_ok-receipt.ensures.counted in
     let size = ap (λ (s : SeatState). length s.counts) more in
-    let there : port < c.args.desk.now.ports = lt_of_not-le c.in_ok-receipt.ensures.no_such.1 in
-    let inside : port < length old = omega (arith, size, length-set old port (slice_index old port + 1), c.posts_at-posts.ensures.size, there) in
+    let there : port < c.args.self.now.desk.now.ports = lt_of_not-le c.in_ok-receipt.ensures.no_such.1 in
+    let inside : port < length old = omega (arith, size, length-set old port (slice_index old port + 1), c.posts_of-posts.ensures.size, there) in
     raised_one port c.args.seat.now c.post_or_turn.new.seat more inside
 
 pub returns-clause-turns : goal.returns-clause-turns

@@ -2,7 +2,7 @@ use Rattle.std.proofs.Common.{ap}
 use Rattle.pon_state.specs.Entry.{Entry}
 use Rattle.pon_desk.specs.Posts.{IsSomeRefusal}
 use Rattle.pon_manage.proofs.DeskPosts.{kept_post, refused_post}
-use Rattle.pon_manage.proofs.at_desk.answer_event.Goals as goal
+use Rattle.pon_manage.proofs.at_desk.AtDesk.answer_event.Goals as goal
 
 pub returns-in-Ok-clause-ok : goal.returns-in-Ok-clause-ok
 returns-in-Ok-clause-ok g c =

@@ -1,7 +1,7 @@
 use Rattle.std.proofs.Common.{refl}
 use Rattle.pon_manage.proofs.DeskPosts.{at_port}
 use Rattle.pon_manage.proofs.ShownViews.{shown_text}
-use Rattle.pon_manage.proofs.at_desk.answer_at_desk.Goals as goal
+use Rattle.pon_manage.proofs.at_desk.AtDesk.answer.Goals as goal
 
 pub returns-in_ok-view-in-AsksState-clause-ok : goal.returns-in_ok-view-in-AsksState-clause-ok
 returns-in_ok-view-in-AsksState-clause-ok g c =

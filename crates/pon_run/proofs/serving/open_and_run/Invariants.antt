@@ -1,5 +1,5 @@
 use Rattle.pon_recorder.specs.Rings.{out_at}
-use Rattle.pon_run.proofs.serving.run.Given as goal
+use Rattle.pon_run.proofs.serving.open_and_run.Given as goal
 
 -- the two ledgers of the desk
 abbrev pub ghosts-run_at-L-Ledger : goal.ghosts-run_at-L-Ledger
@@ -10,4 +10,4 @@ ghosts-run_at-M-Ledger g a = record { name = a.of_seats.name; parts = a.of_seats
 
 -- the rings of the ports
 abbrev pub ghosts-run_at-K-Rings : goal.ghosts-run_at-K-Rings
-ghosts-run_at-K-Rings g a = record { ring = λ port. out_at a.rings.items port }
+ghosts-run_at-K-Rings g a = record { ring = λ port. out_at a.opened.rings.items port }

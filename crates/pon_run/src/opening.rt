@@ -1,0 +1,103 @@
+//! What a run opens before its first thread: the connections and the rings of its ports, its recorder, and its desk.
+
+ghost use Rattle.std.specs.Prelude.{◌≡◌, ◌+◌, ◌≤◌, IfOk, length};
+ghost use Rattle.std.specs.Vec.{vec_len};
+ghost use Rattle.pon_recorder.specs.Rings.{AreRingsOf};
+
+use crate::context::RunContext;
+use crate::files::recorder_of;
+use crate::link::{Link, open_links};
+use crate::ports::OTHER_SEATS;
+use pon_desk::{Desk, Seat};
+use pon_device::DeviceFault;
+use pon_job::Failure;
+use pon_recorder::{PortRing, Recorder, Rings, Sinks, Tape, open_rings};
+use pon_settings::Settings;
+use pon_units::MAX_PORTS;
+use pon_worker::Gate;
+use std::alloc::Global;
+use std::net::{Net, TcpListener, TcpStream};
+use std::rt::Files;
+use std::sync::ledger::{Blank, Ledger};
+use std::time::Clock;
+
+/// What a run opened: the connection and the ring of each port, in order, and the recorder, if chapters are wanted.
+#[derive(Drop)]
+pub(crate) struct Opened<F> {
+    pub(crate) links: Vec<Link>,
+    pub(crate) rings: Vec<PortRing>,
+    pub(crate) recorder: Option<Recorder<Tape<F>>>,
+}
+
+/// The connection and the sink of each port, in order, and the recording behind the sinks, if chapters are wanted.
+#[derive(Drop)]
+pub(crate) struct RunParts<K: Rings, F> {
+    pub(crate) links: Vec<Link>,
+    pub(crate) sinks: Sinks<K, Tape<F>>,
+}
+
+/// Creates the file of the recording, and then opens a connection and a ring for each port of the settings.
+pub(crate) fn open_parts<G, R>(run: &RunContext<'_, G, R>) -> Result<Opened<R::File>, Failure>
+where
+    G: Gate,
+    R: Net<Listener = TcpListener, Stream = TcpStream> + Files + Clock,
+    ensures { IfOk result (λ opened. vec_len opened.rings ≡ length run.now.settings.now) }
+{
+    let ports = run.settings.ports().len();
+    let recorder = recorder_of(run.rt, run.alloc, run.args.record, run.args.settle)?;
+    let links = open_links(run.rt, run.alloc, run.args.listen, ports)?;
+    let Ok(rings) = open_rings(run.alloc, ports, &recorder) else {
+        return Err(Failure::from(DeviceFault::Memory));
+    };
+    Ok(Opened {
+        links,
+        rings,
+        recorder,
+    })
+}
+
+/// Splits the rings of the ports into their sinks and the recording, which keeps the chapters if the ports are to be
+/// settled. `Err` only if memory is refused.
+pub(crate) fn split_rings<K: Rings, F: Drop>(
+    alloc: Global,
+    opened: Opened<F>,
+    settle: bool,
+) -> Result<RunParts<K, F>, DeviceFault>
+    requires few { vec_len opened.rings ≤ MAX_PORTS }
+    requires named { AreRingsOf K.ring opened.rings.items }
+{
+    let Opened {
+        links,
+        rings,
+        recorder,
+    } = opened;
+    match Sinks::split(alloc, rings, recorder, settle) {
+        Ok(sinks) => Ok(RunParts { links, sinks }),
+        Err(_) => Err(DeviceFault::Memory),
+    }
+}
+
+/// Opens a desk for the ports of the settings, with a seat for each worker and the other seats. `Err` only if memory is
+/// refused.
+pub(crate) fn open_desk<L: Ledger, M: Ledger>(
+    alloc: Global,
+    settings: &Settings,
+    of_ports: Blank,
+    of_seats: Blank,
+) -> Result<(Desk<L, M>, Vec<Seat<L, M>>), DeviceFault>
+    requires ports { (of_ports.name ≡ L.name) × (of_ports.parts ≡ L.parts)
+        × (L.parts ≡ length settings.now) }
+    requires seats { (of_seats.name ≡ M.name) × (of_seats.parts ≡ M.parts)
+        × (M.parts ≡ length settings.now + OTHER_SEATS) }
+    ensures ports { IfOk result (λ opened. opened.0.ports ≡ length settings.now) }
+    ensures seats { IfOk result (λ opened. OTHER_SEATS ≤ vec_len opened.1) }
+{
+    let Ok(openings) = settings.openings(alloc) else {
+        return Err(DeviceFault::Memory);
+    };
+    let count = openings.len() + OTHER_SEATS;
+    match Desk::open(alloc, of_ports, of_seats, openings.as_slice(), count) {
+        Ok(opened) => Ok(opened),
+        Err(_) => Err(DeviceFault::Memory),
+    }
+}
