@@ -3,7 +3,7 @@ use Rattle.std.proofs.Common.{◌≡◌, ℕ, Bool, List, Some, None, Option, �
 use Rattle.std.specs.Prelude.{◌||◌, codes}
 use Rattle.std.specs.Str.{bytes_eq}
 use Rattle.clap.specs.Walk.{Row, first_of}
-use Rattle.pon_job.specs.Jobs.{IsPart, IsShown, NamesNoJob, word_of_view}
+use Rattle.pon_job.specs.Jobs.{IsFormat, IsPart, IsShown, NamesNoJob, word_of_view}
 use Rattle.pon_job.specs.declared.task.Part.{Part}
 use Rattle.pon_job.specs.declared.task.View.{View}
 use Rattle.pon_job.specs.declared.task.View.TheVariants.{Info, Rates, Why, Dump, Picture}
@@ -38,3 +38,6 @@ without_recording view rows none = no_view view rows (λ file part svg json is. 
 
 pub without_part : (view : View) (rows : List Row) → ((part : Part) → ¬ IsPart rows part) → NamesNoJob (Some (word_of_view view, rows))
 without_part view rows none = no_view view rows (λ file part svg json is. none part is.selection)
+
+pub without_format : (view : View) (rows : List Row) → ((json : Bool) → ¬ IsFormat (first_of (codes "format") rows) json) → NamesNoJob (Some (word_of_view view, rows))
+without_format view rows none = no_view view rows (λ file part svg json is. none json is.format)

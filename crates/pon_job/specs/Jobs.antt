@@ -88,9 +88,9 @@ from_rule = number_rule (codes "from") 0 MAX_FRAME
 abbrev pub to_rule : Rule
 to_rule = number_rule (codes "to") 0 MAX_FRAME
 
--- the flag of a view that is printed as JSON
-abbrev pub json_rule : Rule
-json_rule = flag_rule (codes "json")
+-- the format that a view is printed in
+abbrev pub format_rule : Rule
+format_rule = option_rule (codes "format")
 
 -- the file of a picture
 abbrev pub svg_rule : Rule
@@ -110,13 +110,13 @@ abbrev pub audit_shape : Shape
 audit_shape = shape_with (codes "audit") (file_rule ∷ [])
 
 abbrev pub info_shape : Shape
-info_shape = shape_with (codes "info") (file_rule ∷ json_rule ∷ [])
+info_shape = shape_with (codes "info") (file_rule ∷ format_rule ∷ [])
 
 abbrev pub rates_shape : Shape
-rates_shape = shape_with (codes "rates") (file_rule ∷ port_rule ∷ alloc_rule ∷ from_rule ∷ to_rule ∷ json_rule ∷ [])
+rates_shape = shape_with (codes "rates") (file_rule ∷ port_rule ∷ alloc_rule ∷ from_rule ∷ to_rule ∷ format_rule ∷ [])
 
 abbrev pub why_shape : Shape
-why_shape = shape_with (codes "why") (file_rule ∷ port_rule ∷ frame_rule ∷ alloc_rule ∷ json_rule ∷ [])
+why_shape = shape_with (codes "why") (file_rule ∷ port_rule ∷ frame_rule ∷ alloc_rule ∷ format_rule ∷ [])
 
 abbrev pub dump_shape : Shape
 dump_shape = shape_with (codes "dump") (file_rule ∷ port_rule ∷ [])
@@ -205,12 +205,18 @@ pub record IsPart (rows : List Row) (part : Part) : Type 0 where
 abbrev pub HasFlag : List ℕ → List Row → Bool → Type 0
 HasFlag id rows given = (given ≡ true) ↔ (first_of id rows ≡ Some (codes "true"))
 
+-- the value of the format means JSON, or text, which it also is without a value
+abbrev pub IsFormat : Option (List ℕ) → Bool → Type 0
+IsFormat None json = json ≡ false
+IsFormat (Some text) true = text ≡ codes "json"
+IsFormat (Some text) false = text ≡ codes "text"
+
 -- the matches of a view have these values
 pub record IsShown (rows : List Row) (file : List ℕ) (part : Part) (svg : Option (List ℕ)) (json : Bool) : Type 0 where
   pub recording : first_of (codes "file") rows ≡ Some file
   pub selection : IsPart rows part
   pub picture : first_of (codes "svg") rows ≡ svg
-  pub format : HasFlag (codes "json") rows json
+  pub format : IsFormat (first_of (codes "format") rows) json
 
 -- the matches of `run` have these values
 pub record IsRun (rows : List Row) (config listen : List ℕ) (maps : ℕ) (recording operate : Option (List ℕ)) (settle : Bool) : Type 0 where

@@ -1,17 +1,20 @@
 //! The words of the command line.
 
-ghost use Rattle.std.specs.Prelude.{◌≡◌, ℕ, Option, Some, IfErr, IfOk, IfSome, IsNone, MatchOption, codes, map, string_bytes};
+ghost use Rattle.std.specs.Prelude.{◌≡◌, ℕ, Bool, Option, Some, IfErr, IfOk, IfSome, IsNone, MatchOption, codes, map, option_map, string_bytes};
 ghost use Rattle.pon_job.specs.declared.task.Part.{Part};
 ghost use Rattle.pon_job.specs.declared.task.View.{View};
 ghost use Rattle.clap.specs.Words.{found_of, rows_of, subcommand_rows_of};
 ghost use Rattle.clap.specs.Simple.{subcommand_of};
-ghost use Rattle.pon_job.specs.Jobs.{HasFlag, HasNumber, IsJob, IsPart, MayHave, NamesNoJob, RefusesWords, Spells, olt_app, word_of_view};
+ghost use Rattle.pon_job.specs.Jobs.{HasFlag, HasNumber, IsFormat, IsJob, IsPart, MayHave, NamesNoJob, RefusesWords, Spells, olt_app, word_of_view};
 
 use crate::commands::olt_command;
 use crate::task::{Job, MAX_ALLOC, MAX_FRAME, MAX_MAPS, MAX_PORT, MIN_ALLOC, Part, View};
 use clap::error::ErrorKind;
 use clap::{ArgMatches, Error};
 use std::alloc::Global;
+
+/// What is said of words that clap accepts, and that name no job.
+const NO_JOB: &str = "a format is text or json";
 
 // Parses a number, which is in a range.
 fn number_in(text: &str, low: u64, high: u64) -> Option<u64>
@@ -53,6 +56,22 @@ fn is_given(found: &ArgMatches<'_>, flag: &str) -> bool
     match found.get_str(flag) {
         Some(text) => text == "true",
         None => false,
+    }
+}
+
+// Returns whether a format is JSON. `None` if it is no format.
+fn is_json(text: Option<&str>) -> Option<bool>
+    ensures some { IfSome result (IsFormat (option_map (λ t. t.now) text.entry)) }
+    ensures none { IsNone result → (json : Bool) → ¬ IsFormat (option_map (λ t. t.now) text.entry) json }
+{
+    match text {
+        None => Some(false),
+        Some(text) => {
+            if text == "json" {
+                return Some(true);
+            }
+            if text == "text" { Some(false) } else { None }
+        }
     }
 }
 
@@ -134,7 +153,8 @@ fn shown_by<'a>(view: View, found: &ArgMatches<'a>) -> Option<Job<'a>>
     let file = found.get_str("file")?;
     let part = part_of(found)?;
     let svg = found.get_str("svg");
-    let json = is_given(found, "json");
+    let format = found.get_str("format");
+    let json = is_json(format)?;
     Some(Job::Show {
         view,
         file,
@@ -188,5 +208,5 @@ pub fn job<'a>(alloc: Global, words: &'a [String]) -> Result<Job<'a>, Error>
     if let Some(job) = job_of(&matches) {
         return Ok(job);
     }
-    Err(command.error(ErrorKind::InvalidSubcommand, "no such job")?)
+    Err(command.error(ErrorKind::InvalidSubcommand, NO_JOB)?)
 }

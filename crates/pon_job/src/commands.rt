@@ -5,7 +5,7 @@ ghost use Rattle.clap.specs.Walk.{rule_of};
 ghost use Rattle.clap.specs.Simple.{app_of};
 ghost use Rattle.std.specs.Prelude.{map};
 ghost use Rattle.pon_job.specs.Jobs.{AreLocal, IsDefined, leaf, olt_app, shape_with};
-ghost use Rattle.pon_job.specs.Jobs.{alloc_rule, config_rule, file_rule, flag_rule, frame_rule, from_rule, json_rule, listen_rule, maps_rule, needed_config_rule, number_rule, operate_rule, option_rule, out_rule, place_rule, port_rule, record_rule, settle_rule, svg_rule, to_rule};
+ghost use Rattle.pon_job.specs.Jobs.{alloc_rule, config_rule, file_rule, flag_rule, frame_rule, format_rule, from_rule, listen_rule, maps_rule, needed_config_rule, number_rule, operate_rule, option_rule, out_rule, place_rule, port_rule, record_rule, settle_rule, svg_rule, to_rule};
 ghost use Rattle.pon_job.specs.Jobs.{audit_shape, check_shape, dump_shape, info_shape, migrate_shape, picture_shape, plan_shape, rates_shape, run_shape, top_shape, why_shape};
 
 use crate::task::{MAX_ALLOC, MAX_FRAME, MAX_MAPS, MAX_PORT, MIN_ALLOC};
@@ -168,11 +168,12 @@ fn to_arg<'a>(alloc: Global) -> Arg<'a>
     number_arg(alloc, "to", 0, MAX_FRAME, "The last frame of the maps")
 }
 
-fn json_arg<'a>(alloc: Global) -> Arg<'a>
-    ensures rule { rule_of result ≡ json_rule }
+fn format_arg<'a>(alloc: Global) -> Arg<'a>
+    ensures rule { rule_of result ≡ format_rule }
     ensures local { result.global ≡ false }
 {
-    flag_arg(alloc, "json", "Print JSON, an object a line")
+    let help = "text, or json: an object a line";
+    option_arg(alloc, "format", "FORMAT", help)
 }
 
 fn svg_arg<'a>(alloc: Global) -> Arg<'a>
@@ -228,7 +229,7 @@ fn info_command<'a>(alloc: Global) -> Result<Command<'a>, AllocError>
     ensures { IfOk result (IsDefined (leaf info_shape)) }
 {
     let about = "Print what each chapter of a recording holds";
-    let args = Vec::from_array(alloc, [recording_arg(alloc), json_arg(alloc)])?;
+    let args = Vec::from_array(alloc, [recording_arg(alloc), format_arg(alloc)])?;
     command(alloc, "info", about, args)
 }
 
@@ -244,7 +245,7 @@ fn rates_command<'a>(alloc: Global) -> Result<Command<'a>, AllocError>
             alloc_arg(alloc),
             from_arg(alloc),
             to_arg(alloc),
-            json_arg(alloc),
+            format_arg(alloc),
         ],
     )?;
     command(alloc, "rates", about, args)
@@ -261,7 +262,7 @@ fn why_command<'a>(alloc: Global) -> Result<Command<'a>, AllocError>
             port_arg(alloc),
             frame_arg(alloc),
             alloc_arg(alloc),
-            json_arg(alloc),
+            format_arg(alloc),
         ],
     )?;
     command(alloc, "why", about, args)

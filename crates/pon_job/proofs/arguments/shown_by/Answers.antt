@@ -1,8 +1,9 @@
-use Rattle.std.proofs.Common.{◌∙◌, refl, rules, sym, codes}
+use Rattle.std.proofs.Common.{◌∙◌, refl, rules, subst, sym, codes}
 use Rattle.clap.specs.Matches.{found_of}
 use Rattle.clap.specs.Walk.{rows_of}
 use Rattle.clap.proofs.WalkLemmas.{first_value-rows}
-use Rattle.pon_job.proofs.Views.{without_part, without_recording}
+use Rattle.pon_job.specs.Jobs.{IsFormat}
+use Rattle.pon_job.proofs.Views.{without_format, without_part, without_recording}
 use Rattle.pon_job.proofs.arguments.shown_by.Goals as goal
 
 pub returns-in_err-file-clause-none : goal.returns-in_err-file-clause-none
@@ -23,6 +24,12 @@ returns-clause-some c =
         recording = sym (c.in_ok-file.ensures ∙ first_value-rows f (codes "file"));
         selection = c.in_ok-part.ensures.some;
         picture = sym (c.get_str-svg.ensures ∙ first_value-rows f (codes "svg"));
-        format = c.is_given-json.ensures;
+        format = subst (λ o. IsFormat o c.in_ok-json.json) (c.get_str-format.ensures ∙ first_value-rows f (codes "format")) c.in_ok-json.ensures.some;
       },
     )
+
+pub returns-in_err-json-clause-none : goal.returns-in_err-json-clause-none
+returns-in_err-json-clause-none c =
+    let f = found_of c.args.found.now in
+    let none = without_format c.args.view (rows_of f) (λ json is. c.in_err-json.ensures.none (search rules) json (subst (λ o. IsFormat o json) (sym (c.get_str-format.ensures ∙ first_value-rows f (codes "format"))) is)) in
+    λ _. none
