@@ -1,2 +1,6 @@
 pub mod Counts
+pub mod Explanations
 pub mod Summaries
+pub mod Sums
+pub mod Tallies
+pub mod Whys

@@ -1,8 +1,11 @@
 //! What `olt info` prints of a recording, chapter by chapter.
 
+ghost use Rattle.std.specs.Prelude.{IfOk, IfSome};
 ghost use Rattle.pon_device.specs.Streams.{TellsWrite};
+ghost use Rattle.pon_audit.specs.Openings.{FitsRecording};
 
 use crate::counted::CountedBytes;
+use crate::query::Format;
 use crate::summary::{Totals, summary_of, with_chapter};
 use crate::text::{chapter_line, missing_line, total_line};
 use pon_device::{DevRead, DevWrite, DeviceFault, write_text};
@@ -13,8 +16,8 @@ use std::alloc::{AllocError, Global};
 // The number of the last chapter of each port, if there was one.
 type LastChapters = [Option<u64>; MAX_PORTS];
 
-// Writes a line.
-fn write_line<W: DevWrite>(
+/// Writes a line, of which the text may be refused memory.
+pub(crate) fn write_line<W: DevWrite>(
     line: Result<String, AllocError>,
     writer: &mut W,
 ) -> Result<(), DeviceFault>
@@ -29,6 +32,7 @@ fn write_line<W: DevWrite>(
 // Writes a line about the chapters that are missing before a chapter, after the last one of its port.
 fn write_missing<W: DevWrite>(
     alloc: Global,
+    format: Format,
     before: Option<u64>,
     chapter: &RawChapter,
     writer: &mut W,
@@ -43,12 +47,14 @@ fn write_missing<W: DevWrite>(
         return Ok(());
     }
     let port = chapter.port.get();
-    write_line(missing_line(alloc, port, first, chapter.number - 1), writer)
+    let line = missing_line(alloc, format, port, first, chapter.number - 1);
+    write_line(line, writer)
 }
 
 // Writes the lines of a chapter that ends before the byte `end`. Returns the totals with it.
 fn write_chapter<W: DevWrite>(
     alloc: Global,
+    format: Format,
     totals: Totals,
     chapter: &RawChapter,
     end: u64,
@@ -58,7 +64,7 @@ fn write_chapter<W: DevWrite>(
 {
     let summary = summary_of(chapter);
     let bytes = end.saturating_sub(chapter.at as u64);
-    let line = chapter_line(alloc, &summary, &chapter.entries, bytes);
+    let line = chapter_line(alloc, format, &summary, &chapter.entries, bytes);
     match write_line(line, writer) {
         Ok(()) => match with_chapter(totals, &summary) {
             Some(sum) => Ok(sum),
@@ -68,12 +74,28 @@ fn write_chapter<W: DevWrite>(
     }
 }
 
-// Reads the next chapter; `None` at the end of the recording, or at a fault of its format.
-fn next_chapter<R: DevRead>(
+/// Opens the chapters of a recording; `None` if its magic bytes are wrong or cut.
+pub(crate) fn open_chapters<R: DevRead>(
+    alloc: Global,
+    reader: &mut R,
+) -> Result<Option<ChapterReader>, DeviceFault> {
+    match ChapterReader::open(alloc, reader) {
+        Ok(source) => Ok(Some(source)),
+        Err(StreamFault::BadFormat { .. }) => Ok(None),
+        Err(StreamFault::Truncated { .. }) => Ok(None),
+        Err(StreamFault::Read) => Err(DeviceFault::Read),
+        Err(StreamFault::Memory) => Err(DeviceFault::Memory),
+    }
+}
+
+/// Reads the next chapter; `None` at the end of the recording, or at a fault of its format.
+pub(crate) fn next_chapter<R: DevRead>(
     alloc: Global,
     source: &mut ChapterReader,
     reader: &mut R,
-) -> Result<Option<RawChapter>, DeviceFault> {
+) -> Result<Option<RawChapter>, DeviceFault>
+    ensures { IfOk result (λ next. IfSome next (λ c. FitsRecording c.body)) }
+{
     match source.next(alloc, reader) {
         Ok(next) => Ok(next),
         Err(StreamFault::BadFormat { .. }) => Ok(None),
@@ -92,11 +114,18 @@ pub fn write_info<R: DevRead, W: DevWrite>(
     reader: &mut CountedBytes<R>,
     writer: &mut W,
 ) -> Result<(), DeviceFault> {
-    let mut source = match ChapterReader::open(alloc, reader) {
-        Ok(source) => source,
-        Err(StreamFault::Read) => return Err(DeviceFault::Read),
-        Err(StreamFault::Memory) => return Err(DeviceFault::Memory),
-        Err(_) => return Ok(()),
+    write_info_as(alloc, reader, Format::Text, writer)
+}
+
+/// Writes what [`write_info`] writes, in the given form.
+pub fn write_info_as<R: DevRead, W: DevWrite>(
+    alloc: Global,
+    reader: &mut CountedBytes<R>,
+    format: Format,
+    writer: &mut W,
+) -> Result<(), DeviceFault> {
+    let Some(mut source) = open_chapters(alloc, reader)? else {
+        return Ok(());
     };
     let mut last: LastChapters = [None; MAX_PORTS];
     let mut totals = Totals {
@@ -107,11 +136,11 @@ pub fn write_info<R: DevRead, W: DevWrite>(
     };
     for _chapter in 0..u64::MAX {
         let Some(chapter) = next_chapter(alloc, &mut source, reader)? else {
-            return write_line(total_line(alloc, &totals, reader.bytes()), writer);
+            return write_line(total_line(alloc, format, &totals, reader.bytes()), writer);
         };
         let port = chapter.port.get() as usize;
-        write_missing(alloc, last[port], &chapter, writer)?;
-        totals = write_chapter(alloc, totals, &chapter, reader.bytes(), writer)?;
+        write_missing(alloc, format, last[port], &chapter, writer)?;
+        totals = write_chapter(alloc, format, totals, &chapter, reader.bytes(), writer)?;
         last[port] = Some(chapter.number);
     }
     Err(DeviceFault::Memory)

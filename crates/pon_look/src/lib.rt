@@ -6,17 +6,40 @@
 
 mod counted;
 mod counts;
+mod explain;
+mod frame_range;
 mod frames;
 mod info;
+mod info_json;
+mod json;
+mod mean;
+mod notes;
 mod query;
+mod rates;
+mod rates_text;
+mod replay;
+mod reported;
+mod seen;
 mod summary;
+mod sums;
+mod tally;
 mod text;
+mod why;
+mod why_text;
+mod words;
 
 pub use counted::CountedBytes;
 pub use counts::{
     admission_count, cause_count, failure_count, map_count, removal_count, report_count,
 };
+pub use explain::Explanation;
+pub use frame_range::FrameRange;
 pub use frames::{first_frame, last_frame};
-pub use info::write_info;
+pub use info::{write_info, write_info_as};
 pub use query::{Answer, Format, Missing, RatesQuery, WhyQuery};
+pub use rates::write_rates;
+pub use replay::MapExplanation;
 pub use summary::{Summary, Totals, summary_of, with_chapter};
+pub use sums::{Sums, with_row};
+pub use tally::{PortTally, Summed, tally_chapter};
+pub use why::{MapAnswer, explain_entry, write_why};

@@ -16,6 +16,13 @@ pub struct RatesQuery {
     pub to: Option<u64>,
 }
 
+impl RatesQuery {
+    /// Returns whether the maps of a port are summed up.
+    pub(crate) fn wants(&self, port: PortNo) -> bool {
+        self.port.is_none() || self.port == Some(port)
+    }
+}
+
 /// Which map `olt why` explains.
 #[derive(Clone, Copy, Debug, PartialEq, Eq)]
 pub struct WhyQuery {
@@ -86,7 +93,10 @@ fn write_no_maps<W: fmt::Write>(port: Option<PortNo>, f: &mut fmt::Formatter<W>)
     match port {
         Some(port) => {
             let port = port.get();
-            write!(f, "no map of port {port} in these frames is in the recording")
+            write!(
+                f,
+                "no map of port {port} in these frames is in the recording"
+            )
         }
         None => write!(f, "no map of these frames is in the recording"),
     }
@@ -101,7 +111,8 @@ fn write_no_frame<W: fmt::Write>(
     f: &mut fmt::Formatter<W>,
 ) -> fmt::Result {
     let (port, frame, first, last) = (port.get(), frame.get(), first.get(), last.get());
-    write!(f,
+    write!(
+        f,
         "frame {frame} of port {port} is not in the recording (frames {first} to {last})"
     )
 }
@@ -112,7 +123,10 @@ impl fmt::Display for Missing {
             Missing::Chapters => write!(f, "the recording has no chapter"),
             Missing::Port { port, first, last } => {
                 let (port, first, last) = (port.get(), first.get(), last.get());
-                write!(f, "port {port} is not in the recording (ports {first} to {last})")
+                write!(
+                    f,
+                    "port {port} is not in the recording (ports {first} to {last})"
+                )
             }
             Missing::Frame {
                 port,
@@ -123,7 +137,10 @@ impl fmt::Display for Missing {
             Missing::Maps { port } => write_no_maps(port, f),
             Missing::Alloc { alloc_id } => {
                 let alloc_id = alloc_id.get();
-                write!(f, "Alloc-ID {alloc_id} is in none of these maps of the recording")
+                write!(
+                    f,
+                    "Alloc-ID {alloc_id} is in none of these maps of the recording"
+                )
             }
             Missing::State {
                 port,
@@ -132,7 +149,8 @@ impl fmt::Display for Missing {
                 entry,
             } => {
                 let (port, frame) = (port.get(), frame.get());
-                write!(f,
+                write!(
+                    f,
                     "frame {frame} of port {port} has no known state: chapter {chapter} is refused at entry {entry}"
                 )
             }
