@@ -134,7 +134,7 @@ fn take_map(
 
 /// Checks an entry that follows `kept` entries of its chapter, and applies it to the state if it may follow. `buffers` is
 /// memory for the demands and grants of a map. `Err` only if memory is refused.
-pub(crate) fn take_entry(
+pub fn take_entry(
     alloc: Global,
     buffers: &mut MapBuffers,
     state: &mut PortState,

@@ -23,4 +23,6 @@ mod verdict;
 pub use answer::write_verdict;
 pub use auditing::{audit, audit_from};
 pub use batches::PARALLEL_MAPS;
+pub use entries::take_entry;
+pub use openings::open_state;
 pub use verdict::{AuditReason, Verdict};

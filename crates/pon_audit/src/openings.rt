@@ -339,7 +339,7 @@ fn prove_numbers(opening: &Opening)
 
 /// Makes the state that a chapter of this number opens with; `None` if the opening is not lawful. `Err` only if memory is
 /// refused.
-pub(crate) fn open_state(
+pub fn open_state(
     alloc: Global,
     number: u64,
     opening: &Opening,

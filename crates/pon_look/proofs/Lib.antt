@@ -1,1 +1,4 @@
+pub mod Explaining
 pub mod LastFrames
+pub mod SumLaws
+pub mod Tallying

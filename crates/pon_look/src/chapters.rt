@@ -1,26 +1,23 @@
 //! The chapters of a recording, one after another, up to the first fault of its format.
 
+ghost use Rattle.std.specs.Prelude.{IfOk, IfSome};
+ghost use Rattle.pon_audit.specs.Openings.{FitsRecording};
+
 use pon_device::{DevRead, DeviceFault};
 use pon_record::{ChapterReader, RawChapter, StreamFault};
 use std::alloc::Global;
 
-// Returns the fault of the device or of memory; a fault of the format is the end of the chapters.
-fn end_of<T>(fault: StreamFault) -> Result<Option<T>, DeviceFault> {
-    match fault {
-        StreamFault::BadFormat { .. } | StreamFault::Truncated { .. } => Ok(None),
-        StreamFault::Read => Err(DeviceFault::Read),
-        StreamFault::Memory => Err(DeviceFault::Memory),
-    }
-}
-
-/// Reads the magic bytes; `None` if they are those of no recording.
+/// Opens the chapters of a recording; `None` if its magic bytes are wrong or cut.
 pub(crate) fn open_chapters<R: DevRead>(
     alloc: Global,
     reader: &mut R,
 ) -> Result<Option<ChapterReader>, DeviceFault> {
     match ChapterReader::open(alloc, reader) {
         Ok(source) => Ok(Some(source)),
-        Err(fault) => end_of(fault),
+        Err(StreamFault::BadFormat { .. }) => Ok(None),
+        Err(StreamFault::Truncated { .. }) => Ok(None),
+        Err(StreamFault::Read) => Err(DeviceFault::Read),
+        Err(StreamFault::Memory) => Err(DeviceFault::Memory),
     }
 }
 
@@ -29,9 +26,14 @@ pub(crate) fn next_chapter<R: DevRead>(
     alloc: Global,
     source: &mut ChapterReader,
     reader: &mut R,
-) -> Result<Option<RawChapter>, DeviceFault> {
+) -> Result<Option<RawChapter>, DeviceFault>
+    ensures { IfOk result (λ next. IfSome next (λ c. FitsRecording c.body)) }
+{
     match source.next(alloc, reader) {
         Ok(next) => Ok(next),
-        Err(fault) => end_of(fault),
+        Err(StreamFault::BadFormat { .. }) => Ok(None),
+        Err(StreamFault::Truncated { .. }) => Ok(None),
+        Err(StreamFault::Read) => Err(DeviceFault::Read),
+        Err(StreamFault::Memory) => Err(DeviceFault::Memory),
     }
 }

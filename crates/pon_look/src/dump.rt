@@ -3,7 +3,7 @@
 use crate::chapters::{next_chapter, open_chapters};
 use crate::lines::{Line, Rates};
 use crate::query::{Answer, Missing};
-use crate::seen::SeenPorts;
+use crate::seen::{missing_port, with_port};
 use pon_admit::Rule;
 use pon_bwmap::encode_map;
 use pon_device::{DevRead, DevWrite, DeviceFault, write_text};
@@ -126,17 +126,17 @@ pub fn write_dump<R: DevRead, W: DevWrite>(
     let Some(mut source) = open_chapters(alloc, reader)? else {
         return Ok(Answer::NotFound(Missing::Chapters));
     };
-    let mut seen = SeenPorts::new();
+    let mut ports = None;
     let mut shown = false;
     for _chapter in 0..u64::MAX {
         let Some(chapter) = next_chapter(alloc, &mut source, reader)? else {
             return Ok(if shown {
                 Answer::Shown
             } else {
-                Answer::NotFound(seen.missing(port))
+                Answer::NotFound(missing_port(ports, port))
             });
         };
-        seen.add(chapter.port);
+        ports = Some(with_port(ports, chapter.port));
         if port.is_none() || port == Some(chapter.port) {
             write_chapter(alloc, &chapter, writer)?;
             shown = true;

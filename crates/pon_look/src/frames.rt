@@ -6,8 +6,8 @@ ghost use Rattle.pon_look.specs.Counts.{first_frame, frame_in, last_frame};
 use pon_state::{Entry, EntryRef};
 use pon_units::FrameNo;
 
-/// Returns the frame of the map of an entry.
-pub(crate) fn frame_in(entry: &Entry) -> Option<FrameNo>
+// Returns the frame of the map of an entry.
+fn frame_in(entry: &Entry) -> Option<FrameNo>
     ensures { result ≡ frame_in entry.now.reply }
 {
     match entry.as_ref() {

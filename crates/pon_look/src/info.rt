@@ -4,6 +4,7 @@ ghost use Rattle.pon_device.specs.Streams.{TellsWrite};
 
 use crate::chapters::{next_chapter, open_chapters};
 use crate::counted::CountedBytes;
+use crate::query::Format;
 use crate::summary::{Totals, summary_of, with_chapter};
 use crate::text::{chapter_line, missing_line, total_line};
 use pon_device::{DevRead, DevWrite, DeviceFault, write_text};
@@ -14,8 +15,8 @@ use std::alloc::{AllocError, Global};
 // The number of the last chapter of each port, if there was one.
 type LastChapters = [Option<u64>; MAX_PORTS];
 
-// Writes a line.
-fn write_line<W: DevWrite>(
+/// Writes a line, of which the text may be refused memory.
+pub(crate) fn write_line<W: DevWrite>(
     line: Result<String, AllocError>,
     writer: &mut W,
 ) -> Result<(), DeviceFault>
@@ -30,6 +31,7 @@ fn write_line<W: DevWrite>(
 // Writes a line about the chapters that are missing before a chapter, after the last one of its port.
 fn write_missing<W: DevWrite>(
     alloc: Global,
+    format: Format,
     before: Option<u64>,
     chapter: &RawChapter,
     writer: &mut W,
@@ -44,12 +46,14 @@ fn write_missing<W: DevWrite>(
         return Ok(());
     }
     let port = chapter.port.get();
-    write_line(missing_line(alloc, port, first, chapter.number - 1), writer)
+    let line = missing_line(alloc, format, port, first, chapter.number - 1);
+    write_line(line, writer)
 }
 
 // Writes the lines of a chapter that ends before the byte `end`. Returns the totals with it.
 fn write_chapter<W: DevWrite>(
     alloc: Global,
+    format: Format,
     totals: Totals,
     chapter: &RawChapter,
     end: u64,
@@ -59,7 +63,7 @@ fn write_chapter<W: DevWrite>(
 {
     let summary = summary_of(chapter);
     let bytes = end.saturating_sub(chapter.at as u64);
-    let line = chapter_line(alloc, &summary, &chapter.entries, bytes);
+    let line = chapter_line(alloc, format, &summary, &chapter.entries, bytes);
     match write_line(line, writer) {
         Ok(()) => match with_chapter(totals, &summary) {
             Some(sum) => Ok(sum),
@@ -78,6 +82,16 @@ pub fn write_info<R: DevRead, W: DevWrite>(
     reader: &mut CountedBytes<R>,
     writer: &mut W,
 ) -> Result<(), DeviceFault> {
+    write_info_as(alloc, reader, Format::Text, writer)
+}
+
+/// Writes what [`write_info`] writes, in the given form.
+pub fn write_info_as<R: DevRead, W: DevWrite>(
+    alloc: Global,
+    reader: &mut CountedBytes<R>,
+    format: Format,
+    writer: &mut W,
+) -> Result<(), DeviceFault> {
     let Some(mut source) = open_chapters(alloc, reader)? else {
         return Ok(());
     };
@@ -90,11 +104,11 @@ pub fn write_info<R: DevRead, W: DevWrite>(
     };
     for _chapter in 0..u64::MAX {
         let Some(chapter) = next_chapter(alloc, &mut source, reader)? else {
-            return write_line(total_line(alloc, &totals, reader.bytes()), writer);
+            return write_line(total_line(alloc, format, &totals, reader.bytes()), writer);
         };
         let port = chapter.port.get() as usize;
-        write_missing(alloc, last[port], &chapter, writer)?;
-        totals = write_chapter(alloc, totals, &chapter, reader.bytes(), writer)?;
+        write_missing(alloc, format, last[port], &chapter, writer)?;
+        totals = write_chapter(alloc, format, totals, &chapter, reader.bytes(), writer)?;
         last[port] = Some(chapter.number);
     }
     Err(DeviceFault::Memory)

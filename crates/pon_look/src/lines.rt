@@ -1,18 +1,10 @@
 //! Events as management lines.
 
+use crate::words::class_word;
 use pon_admit::Event;
 use pon_dbru::Occupancies;
-use pon_descr::{Class, Descriptor};
+use pon_descr::Descriptor;
 use std::fmt::{self, Display, Formatter, Write};
-
-/// A class by its word in management lines: `none`, `na` or `be`.
-pub(crate) fn class_word(class: Class) -> &'static str {
-    match class {
-        Class::Plain => "none",
-        Class::NonAssured => "na",
-        Class::BestEffort => "be",
-    }
-}
 
 /// A descriptor as in a management line: fixed, assured and maximum rate, in kbit/s, and class.
 #[derive(Clone, Copy)]

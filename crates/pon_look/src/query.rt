@@ -16,13 +16,20 @@ pub struct RatesQuery {
     pub to: Option<u64>,
 }
 
+impl RatesQuery {
+    /// Returns whether the maps of a port are summed up.
+    pub(crate) fn wants(&self, port: PortNo) -> bool {
+        self.port.is_none() || self.port == Some(port)
+    }
+}
+
 /// Which map `olt why` explains.
 #[derive(Clone, Copy, Debug, PartialEq, Eq)]
 pub struct WhyQuery {
-    /// The port, 0 to 63.
-    pub port: PortNo,
-    /// The frame of the map, of 125 µs.
-    pub frame: FrameNo,
+    /// The port, 0 to 63; `None` for the first one in the recording.
+    pub port: Option<PortNo>,
+    /// The frame of the map, of 125 µs; `None` for the last map of the port.
+    pub frame: Option<FrameNo>,
     /// The Alloc-ID, 1024 to 16383; `None` for each Alloc-ID of the map.
     pub alloc: Option<AllocId>,
 }

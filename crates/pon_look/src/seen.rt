@@ -1,33 +1,33 @@
-//! The ports of a recording.
+//! The ports that a recording has.
 
 use crate::query::Missing;
 use pon_units::PortNo;
 
-/// The least and the greatest port that has a chapter; `None` without a chapter.
+/// The least and the greatest port of the chapters.
 #[derive(Clone, Copy, Debug, PartialEq, Eq)]
-pub(crate) struct SeenPorts(Option<(PortNo, PortNo)>);
+pub(crate) struct Ports {
+    pub first: PortNo,
+    pub last: PortNo,
+}
 
-impl SeenPorts {
-    /// No port.
-    pub(crate) fn new() -> Self {
-        SeenPorts(None)
+/// Returns the ports with one more.
+pub(crate) fn with_port(ports: Option<Ports>, port: PortNo) -> Ports {
+    match ports {
+        Some(ports) => Ports {
+            first: ports.first.min(port),
+            last: ports.last.max(port),
+        },
+        None => Ports {
+            first: port,
+            last: port,
+        },
     }
+}
 
-    /// Adds a port that has a chapter.
-    pub(crate) fn add(&mut self, port: PortNo) {
-        self.0 = match self.0 {
-            None => Some((port, port)),
-            Some((first, last)) if port.get() < first.get() => Some((port, last)),
-            Some((first, last)) if last.get() < port.get() => Some((first, port)),
-            both => both,
-        };
-    }
-
-    /// What is missing if no chapter of a port was found; of any port if it is `None`.
-    pub(crate) fn missing(self, port: Option<PortNo>) -> Missing {
-        match (self.0, port) {
-            (Some((first, last)), Some(port)) => Missing::Port { port, first, last },
-            _ => Missing::Chapters,
-        }
+/// Returns what is missing if no chapter is of a port; of any port if it is `None`.
+pub(crate) fn missing_port(ports: Option<Ports>, port: Option<PortNo>) -> Missing {
+    match (ports, port) {
+        (Some(Ports { first, last }), Some(port)) => Missing::Port { port, first, last },
+        _ => Missing::Chapters,
     }
 }

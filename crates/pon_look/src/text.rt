@@ -1,6 +1,8 @@
 //! The lines of `olt info`.
 
 use crate::counts::cause_count;
+use crate::info_json::{chapter_json, missing_json, total_json};
+use crate::query::Format;
 use crate::summary::{Summary, Totals};
 use pon_state::Entry;
 use std::alloc::{AllocError, Global};
@@ -44,10 +46,14 @@ fn causes_text(alloc: Global, entries: &[Entry]) -> Result<String, AllocError> {
 /// Makes the line of a chapter of `bytes` bytes. `Err` only if memory is refused.
 pub(crate) fn chapter_line(
     alloc: Global,
+    format: Format,
     summary: &Summary,
     entries: &[Entry],
     bytes: u64,
 ) -> Result<String, AllocError> {
+    if format == Format::Json {
+        return chapter_json(alloc, summary, entries, MAX_CAUSE, bytes);
+    }
     let (port, number) = (summary.port.get(), summary.number);
     let frames = frames_text(alloc, summary)?;
     let seconds = seconds_text(alloc, summary.maps)?;
@@ -62,15 +68,27 @@ pub(crate) fn chapter_line(
 /// Makes the line of the chapters `first` to `last` that are missing. `Err` only if memory is refused.
 pub(crate) fn missing_line(
     alloc: Global,
+    format: Format,
     port: u8,
     first: u64,
     last: u64,
 ) -> Result<String, AllocError> {
+    if format == Format::Json {
+        return missing_json(alloc, port, first, last);
+    }
     format!(in alloc; "port {port} chapters {first} to {last} missing\n")
 }
 
 /// Makes the line of the totals. `Err` only if memory is refused.
-pub(crate) fn total_line(alloc: Global, totals: &Totals, bytes: u64) -> Result<String, AllocError> {
+pub(crate) fn total_line(
+    alloc: Global,
+    format: Format,
+    totals: &Totals,
+    bytes: u64,
+) -> Result<String, AllocError> {
+    if format == Format::Json {
+        return total_json(alloc, totals, bytes);
+    }
     let seconds = seconds_text(alloc, totals.maps)?;
     let (chapters, maps) = (totals.chapters, totals.maps);
     let (reports, failures) = (totals.reports, totals.failures);

@@ -1,0 +1,74 @@
+-- What the maps of a chapter add up to for an Alloc-ID.
+use Rattle.std.specs.Prelude.{ℕ, zero, suc, ◌+◌, ◌-◌, ◌/◌, ◌==◌, ◌&&◌, nat_le, nat_lt, Bool, if◌then◌else◌, List, [], ◌∷◌, slice_get, slice_index_or, Option, Some, None}
+use Rattle.pon_units.specs.declared.limits.TheConstants.{WORD_RATE}
+use Rattle.pon_bwmap.specs.Alloc.{Alloc}
+use Rattle.pon_state.specs.State.{State}
+use Rattle.pon_state.specs.Entry.{Entry}
+use Rattle.pon_state.specs.declared.reply.Reply.{Reply}
+use Rattle.pon_state.specs.declared.reply.Reply.TheVariants.{Taken, Map}
+use Rattle.pon_history.specs.Chapters.{Chapter, state_before}
+use Rattle.pon_look.specs.Explanations.{explanations_of}
+use Rattle.pon_look.specs.declared.explain.Explanation.{Explanation}
+use Rattle.pon_look.specs.declared.frame_range.FrameRange.{FrameRange}
+use Rattle.pon_look.specs.declared.sums.Sums.{Sums}
+
+abbrev pub no_sums : Sums
+no_sums = record { maps = 0; load = 0; guaranteed = 0; surplus = 0; granted = 0; below = 0 }
+
+abbrev pub plus : Sums → Sums → Sums
+plus a b = record {
+  maps = a.maps + b.maps;
+  load = a.load + b.load;
+  guaranteed = a.guaranteed + b.guaranteed;
+  surplus = a.surplus + b.surplus;
+  granted = a.granted + b.granted;
+  below = a.below + b.below;
+}
+
+-- One map.
+
+-- the structure grants fewer payload words than the whole ones of the guaranteed rate
+abbrev pub is_below : Explanation → Alloc → Bool
+is_below x a = nat_lt (a.grant - 1) (x.guaranteed / WORD_RATE)
+
+-- what a row and its structure add: rates in kbit/s, of the surplus rate the whole ones, and payload words
+abbrev pub amounts_of : Explanation → Alloc → Sums
+amounts_of x a = record {
+  maps = 1;
+  load = x.load;
+  guaranteed = x.guaranteed;
+  surplus = x.surplus.num / x.surplus.den;
+  granted = a.grant - 1;
+  below = if is_below x a then 1 else 0;
+}
+
+-- what the rows of an Alloc-ID and their structures add
+abbrev pub amounts_in : ℕ → List Explanation → List Alloc → Sums
+amounts_in i (x ∷ xs) (a ∷ more) = plus (if x.row.alloc_id == i then amounts_of x a else no_sums) (amounts_in i xs more)
+amounts_in i (x ∷ xs) [] = no_sums
+amounts_in i [] more = no_sums
+
+-- The maps of a chapter.
+
+-- a frame of the range
+abbrev pub is_within : FrameRange → ℕ → Bool
+is_within range frame = nat_le range.first frame && nat_le frame range.last
+
+-- what an entry adds for an Alloc-ID, in the state before it: the amounts of its map, if its frame is in the range
+abbrev pub amounts_in_reply : FrameRange → ℕ → State → Reply → Sums
+amounts_in_reply range i s Taken = no_sums
+amounts_in_reply range i s (Map made) = if is_within range made.frame then amounts_in i (explanations_of s made.cert) made.map else no_sums
+
+abbrev pub amounts_in_entry : FrameRange → ℕ → State → Option Entry → Sums
+amounts_in_entry range i s None = no_sums
+amounts_in_entry range i s (Some e) = amounts_in_reply range i s e.reply
+
+-- the sums of an Alloc-ID over the first `n` entries of a chapter
+abbrev pub sums_of : FrameRange → ℕ → Chapter → ℕ → Sums
+sums_of range i c zero = no_sums
+sums_of range i c (suc n) = plus (sums_of range i c n) (amounts_in_entry range i (state_before c n) (slice_get c.entries n))
+
+-- Tables of sums, by Alloc-ID.
+
+abbrev pub sums_at : List Sums → ℕ → Sums
+sums_at table i = slice_index_or table i no_sums

@@ -1,0 +1,24 @@
+-- What an entry does to the sums of a port.
+use Rattle.std.specs.Prelude.{ℕ, ◌≡◌, true, false, List}
+use Rattle.pon_state.specs.State.{State}
+use Rattle.pon_state.specs.After.{after_entry}
+use Rattle.pon_state.specs.Entry.{Entry}
+use Rattle.pon_state.specs.Legal.{MayFollow}
+use Rattle.pon_look.specs.Sums.{amounts_in_reply, plus, sums_at}
+use Rattle.pon_look.specs.declared.frame_range.FrameRange.{FrameRange}
+use Rattle.pon_look.specs.declared.sums.Sums.{Sums}
+use Rattle.pon_look.specs.declared.tally.Tallied.{Tallied}
+use Rattle.pon_look.specs.declared.tally.Tallied.TheVariants.{Follows, Ends}
+
+-- the sums of each Alloc-ID have what the entry adds in a state
+abbrev pub AddsEntry : FrameRange → State → Entry → List Sums → List Sums → Type 0
+AddsEntry range s e old new = (i : ℕ) → sums_at new i ≡ plus (sums_at old i) (amounts_in_reply range i s e.reply)
+
+abbrev pub StaySame : List Sums → List Sums → Type 0
+StaySame old new = (i : ℕ) → sums_at new i ≡ sums_at old i
+
+-- the entry may follow, the state is the one after it, and it is in the sums; or it may not follow
+abbrev pub IsTallied : FrameRange → ℕ → State → Entry → State → List Sums → List Sums → Tallied → Type 0
+IsTallied range kept s e t old new Follows = MayFollow kept s e × (t ≡ after_entry s e) × AddsEntry range s e old new
+IsTallied range kept s e t old new (Ends true) = AddsEntry range s e old new
+IsTallied range kept s e t old new (Ends false) = StaySame old new

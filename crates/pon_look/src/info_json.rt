@@ -1,0 +1,70 @@
+//! What `olt info` says, as JSON.
+
+use crate::counts::cause_count;
+use crate::json::line_of;
+use crate::summary::{Summary, Totals};
+use pon_state::Entry;
+use pon_units::FrameNo;
+use serde_json::{Map, Value, json};
+use std::alloc::{AllocError, Global};
+
+// Makes the value of a frame, or null.
+fn frame_json(frame: Option<FrameNo>) -> Value {
+    match frame {
+        Some(frame) => Value::from(frame.get()),
+        None => Value::Null,
+    }
+}
+
+// Makes the object of the numbers of failures, by the cause.
+fn causes_json(alloc: Global, entries: &[Entry], max_cause: u8) -> Result<Value, AllocError> {
+    let mut causes = Map::new(alloc);
+    for cause in 1..=max_cause {
+        let count = cause_count(cause, entries);
+        if count > 0 {
+            causes.insert(format!(in alloc; "{cause}")?, Value::from(count))?;
+        }
+    }
+    Ok(Value::Object(causes))
+}
+
+/// Makes the object of a chapter of `bytes` bytes. `Err` only if memory is refused.
+pub(crate) fn chapter_json(
+    alloc: Global,
+    summary: &Summary,
+    entries: &[Entry],
+    max_cause: u8,
+    bytes: u64,
+) -> Result<String, AllocError> {
+    let (port, number) = (summary.port.get(), summary.number);
+    let (first, last) = (frame_json(summary.first), frame_json(summary.last));
+    let (maps, reports, failures) = (summary.maps, summary.reports, summary.failures);
+    let (allocs, allocs_end) = (summary.allocs, summary.allocs_end);
+    let causes = causes_json(alloc, entries, max_cause)?;
+    let value = json!(in alloc; {
+        "port": port, "chapter": number, "bytes": bytes, "first": &first, "last": &last, "maps": maps, "reports": reports,
+        "allocs": allocs, "allocs_end": allocs_end, "failures": failures, "causes": &causes
+    })?;
+    line_of(alloc, &value)
+}
+
+/// Makes the object of the chapters `first` to `last` that are missing. `Err` only if memory is refused.
+pub(crate) fn missing_json(
+    alloc: Global,
+    port: u8,
+    first: u64,
+    last: u64,
+) -> Result<String, AllocError> {
+    let value = json!(in alloc; {"port": port, "missing": [first, last]})?;
+    line_of(alloc, &value)
+}
+
+/// Makes the object of the totals. `Err` only if memory is refused.
+pub(crate) fn total_json(alloc: Global, totals: &Totals, bytes: u64) -> Result<String, AllocError> {
+    let (chapters, maps) = (totals.chapters, totals.maps);
+    let (reports, failures) = (totals.reports, totals.failures);
+    let value = json!(in alloc; {
+        "chapters": chapters, "bytes": bytes, "maps": maps, "reports": reports, "failures": failures
+    })?;
+    line_of(alloc, &value)
+}

@@ -1,0 +1,73 @@
+//! The lines of `olt rates`.
+
+use crate::json::{change_json, refused_json, sums_json};
+use crate::mean::mean_text;
+use crate::notes::Change;
+use crate::query::Format;
+use crate::sums::Sums;
+use crate::words::class_word;
+use pon_admit::Row;
+use pon_units::{PortNo, WORD_RATE};
+use std::alloc::{AllocError, Global};
+
+// The rate of a word in each frame, in kbit/s.
+const RATE_OF_WORD: u16 = WORD_RATE as u16;
+
+/// Makes the line of a chapter that is refused at an entry. `Err` only if memory is refused.
+pub(crate) fn refused_line(
+    alloc: Global,
+    format: Format,
+    port: PortNo,
+    chapter: u64,
+    entry: usize,
+) -> Result<String, AllocError> {
+    if format == Format::Json {
+        return refused_json(alloc, port, chapter, entry);
+    }
+    let port = port.get();
+    format!(in alloc; "port {port} chapter {chapter} refused at entry {entry}\n")
+}
+
+/// Makes the line of the descriptor that an Alloc-ID has from a frame on. `Err` only if memory is refused.
+pub(crate) fn change_line(
+    alloc: Global,
+    format: Format,
+    port: PortNo,
+    change: &Change,
+) -> Result<String, AllocError> {
+    if format == Format::Json {
+        return change_json(alloc, port, change);
+    }
+    let (port, alloc_id) = (port.get(), change.row.alloc_id.get());
+    let (onu, frame, weight) = (change.row.onu.get(), change.frame.get(), change.weight);
+    let descriptor = &change.row.descriptor;
+    let (fixed, assured) = (descriptor.fixed().get(), descriptor.assured().get());
+    let max = descriptor.max().get();
+    let class = class_word(descriptor.class());
+    format!(in alloc;
+        "port {port} alloc {alloc_id} from frame {frame} onu {onu} fixed {fixed} assured {assured} max {max} class {class} weight {weight}\n"
+    )
+}
+
+/// Makes the line of the sums of an Alloc-ID: mean rates in kbit/s. `Err` only if memory is refused.
+pub(crate) fn sums_line(
+    alloc: Global,
+    format: Format,
+    port: PortNo,
+    row: &Row,
+    sums: &Sums,
+    idle: u64,
+) -> Result<String, AllocError> {
+    if format == Format::Json {
+        return sums_json(alloc, port, row, sums, idle);
+    }
+    let (port, alloc_id, onu) = (port.get(), row.alloc_id.get(), row.onu.get());
+    let (frames, below) = (sums.maps, sums.below);
+    let load = mean_text(alloc, sums.load, 1, frames)?;
+    let owed = mean_text(alloc, sums.guaranteed, 1, frames)?;
+    let granted = mean_text(alloc, sums.granted, RATE_OF_WORD, frames)?;
+    let surplus = mean_text(alloc, sums.surplus, 1, frames)?;
+    format!(in alloc;
+        "port {port} alloc {alloc_id} onu {onu} frames {frames} load {load} owed {owed} granted {granted} surplus {surplus} below {below} idle {idle}\n"
+    )
+}

@@ -1,0 +1,184 @@
+//! What `olt why` prints: the map of a frame, explained for each Alloc-ID.
+
+ghost use Rattle.std.specs.Prelude.{◌<◌, IfOk, length};
+ghost use Rattle.pon_audit.specs.Openings.{FitsRecording, chapter_of};
+ghost use Rattle.pon_look.specs.Finding.{IsFound};
+ghost use Rattle.pon_look.specs.Whys.{IsExplained};
+
+use crate::explain::Explanation;
+use crate::finding::{FoundMap, find_map};
+use crate::info::write_line;
+use crate::query::{Answer, Format, Missing, WhyQuery};
+use crate::replay::{MapExplanation, explain_map, open_replay, replay_to};
+use crate::reported::{Reports, reports_of};
+use crate::why_text::{MapPlace, Shown, map_line, row_lines};
+use pon_cert::{Level, MapCert};
+use pon_descr::Class;
+use pon_device::{DevRead, DevWrite, DeviceFault};
+use pon_record::RawChapter;
+use pon_state::{EntryRef, MadeMap};
+use pon_units::AllocId;
+use std::alloc::{AllocError, Global};
+
+/// The explanation of a map of a chapter, or why there is none.
+#[derive(Drop)]
+pub enum MapAnswer {
+    /// The map follows from the state before its entry.
+    Explained(MapExplanation),
+    /// No state is known before the entry, or it is not the one that the map's certificate is of: the chapter is refused at
+    /// the entry of this index, 0 also if its opening is not lawful.
+    Refused(usize),
+}
+
+/// Explains the map of the entry at an index of a chapter by the state before it, which is the replay of the entries before
+/// it. `Err` only if memory is refused.
+pub fn explain_entry(
+    alloc: Global,
+    chapter: &RawChapter,
+    index: usize,
+) -> Result<MapAnswer, AllocError>
+    requires fits { FitsRecording chapter.now.body }
+    requires index { index < length chapter.now.body.entries }
+    ensures { IfOk result (λ answer. IsExplained (chapter_of chapter.now.body) index answer) }
+{
+    let Some(mut replay) = open_replay(alloc, chapter)? else {
+        return Ok(MapAnswer::Refused(0));
+    };
+    let refused = replay_to(alloc, chapter, &mut replay, index)?;
+    match refused {
+        Some(entry) => return Ok(MapAnswer::Refused(entry)),
+        None => {}
+    }
+    match chapter.entries[index].as_ref() {
+        EntryRef::Map(made) => match explain_map(alloc, &mut replay, made)? {
+            Some(told) => Ok(MapAnswer::Explained(told)),
+            None => Ok(MapAnswer::Refused(index)),
+        },
+        EntryRef::Taken(_) => Ok(MapAnswer::Refused(index)),
+    }
+}
+
+// Writes the lines of the rows that the query asks for, each with its structure.
+fn write_rows<W: DevWrite>(
+    alloc: Global,
+    place: &MapPlace,
+    made: &MadeMap,
+    told: &MapExplanation,
+    reports: &Reports,
+    writer: &mut W,
+) -> Result<(), DeviceFault> {
+    let structures = made.map.rows();
+    for (index, row) in told.rows.iter().enumerate() {
+        let wanted = place.alloc.is_none() || place.alloc == Some(row.row.alloc_id);
+        if wanted {
+            let shown = Shown {
+                row,
+                structure: structures.get(index),
+                level: level_of(&made.cert, row.row.descriptor.class()),
+                reported: reports.of(row.row.alloc_id),
+            };
+            write_line(row_lines(alloc, place, &shown), writer)?;
+        }
+    }
+    Ok(())
+}
+
+// Returns the level of a class; `None` for the class that shares no surplus.
+fn level_of(cert: &MapCert, class: Class) -> Option<Level> {
+    match class {
+        Class::Plain => None,
+        Class::NonAssured => Some(cert.na.level),
+        Class::BestEffort => Some(cert.be.level),
+    }
+}
+
+// Returns what is missing if a query asks for an Alloc-ID that no row has.
+fn missing_alloc(rows: &[Explanation], alloc_id: Option<AllocId>) -> Option<Missing> {
+    let alloc_id = alloc_id?;
+    if rows.iter().any(|row| row.row.alloc_id == alloc_id) {
+        return None;
+    }
+    Some(Missing::Alloc { alloc_id })
+}
+
+// Writes the explanation of the map at an index of a chapter.
+fn write_map<W: DevWrite>(
+    alloc: Global,
+    chapter: &RawChapter,
+    place: &MapPlace,
+    told: &MapExplanation,
+    writer: &mut W,
+) -> Result<(), DeviceFault>
+    requires { place.now.entry < length chapter.now.body.entries }
+{
+    let EntryRef::Map(made) = chapter.entries[place.entry].as_ref() else {
+        return Ok(());
+    };
+    let Ok(reports) = reports_of(alloc, &chapter.entries[..place.entry], &told.rows) else {
+        return Err(DeviceFault::Memory);
+    };
+    if place.alloc.is_none() {
+        write_line(map_line(alloc, place, told, &made.cert), writer)?;
+    }
+    write_rows(alloc, place, made, told, &reports, writer)
+}
+
+// Answers the query by a map that was found.
+fn answer_by<W: DevWrite>(
+    alloc: Global,
+    found: &FoundMap,
+    query: &WhyQuery,
+    format: Format,
+    writer: &mut W,
+) -> Result<Answer, DeviceFault>
+    requires { IsFound found.now }
+{
+    let FoundMap {
+        chapter,
+        entry,
+        frame,
+    } = found;
+    let place = MapPlace {
+        port: chapter.port,
+        chapter: chapter.number,
+        entry: *entry,
+        frame: *frame,
+        alloc: query.alloc,
+        format,
+    };
+    match explain_entry(alloc, chapter, *entry) {
+        Ok(MapAnswer::Explained(told)) => match missing_alloc(&told.rows, query.alloc) {
+            Some(missing) => Ok(Answer::NotFound(missing)),
+            None => {
+                write_map(alloc, chapter, &place, &told, writer)?;
+                Ok(Answer::Shown)
+            }
+        },
+        Ok(MapAnswer::Refused(entry)) => Ok(Answer::NotFound(Missing::State {
+            port: chapter.port,
+            frame: *frame,
+            chapter: chapter.number,
+            entry: entry as u64,
+        })),
+        Err(_) => Err(DeviceFault::Memory),
+    }
+}
+
+/// Writes the explanation of the first map of a frame at a port, or of the last map without a frame, and of the first port
+/// in the recording without a port: the surpluses and levels of the classes, and for each Alloc-ID, or for one, each number
+/// from which its words follow, and its structure. The recording is read up to that map's chapter, its end or the first
+/// fault of its format.
+///
+/// `Read` if the reader fails, `Write` if the writer fails, `Memory` if memory is refused.
+pub fn write_why<R: DevRead, W: DevWrite>(
+    alloc: Global,
+    reader: &mut R,
+    query: WhyQuery,
+    format: Format,
+    writer: &mut W,
+) -> Result<Answer, DeviceFault> {
+    match find_map(alloc, reader, query.port, query.frame)? {
+        Ok(found) => answer_by(alloc, &found, &query, format, writer),
+        Err(missing) => Ok(Answer::NotFound(missing)),
+    }
+}
