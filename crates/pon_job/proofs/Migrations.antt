@@ -11,9 +11,9 @@ no_migration : (rows : List Row) → ((file out : List ℕ) → first_of (codes 
 no_migration rows none (Plan config) j = absurd (cc (j.0))
 no_migration rows none (Check file) j = absurd (cc (j.0))
 no_migration rows none (Audit file) j = absurd (cc (j.0))
-no_migration rows none (Show view file part svg json) j = absurd (view_is_no_word view (codes "migrate") refl (sym j.0))
+no_migration rows none (Show shown) j = absurd (view_is_no_word shown.view (codes "migrate") refl (sym j.0))
 no_migration rows none (Migrate file out) j = none _ _ j.1.0 j.1.1
-no_migration rows none (Run config listen maps recording operate settle) j = absurd (cc (j.0))
+no_migration rows none (Run run) j = absurd (cc (j.0))
 
 pub without_file : (rows : List Row) → None ≡ first_of (codes "file") rows → NamesNoJob (Some (codes "migrate", rows))
 without_file rows none = no_migration rows (λ file out is written. absurd (cc (none, is)))

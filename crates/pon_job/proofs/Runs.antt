@@ -3,6 +3,7 @@ use Rattle.std.proofs.Common.{◌≡◌, ℕ, Bool, List, Option, Some, None, re
 use Rattle.std.specs.Prelude.{IfSome, IsNone, IsSomeAnd, MatchOption, codes}
 use Rattle.clap.specs.Walk.{Row, first_of}
 use Rattle.pon_job.specs.Jobs.{HasMaps, HasNumber, IsRun, MayHave, NamesNoJob, Spells}
+use Rattle.pon_job.specs.declared.task.Run.{Run as RunOf}
 use Rattle.pon_job.specs.declared.task.Job.TheVariants.{Plan, Check, Audit, Show, Migrate, Run}
 use Rattle.pon_job.proofs.Views.{view_is_no_word}
 
@@ -27,19 +28,19 @@ choice_refused id low high rows text is none None has = absurd (cc (is, has))
 choice_refused id low high rows text is none (Some number) has = none number (subst (λ o. IsSomeAnd o (λ t. Spells low high t number)) (sym is) has)
 
 -- if a value is missing, there is no run
-no_run : (rows : List Row) → ((config listen : List ℕ) (maps : ℕ) (recording operate : Option (List ℕ)) (settle : Bool) → ¬ IsRun rows config listen maps recording operate settle) → NamesNoJob (Some (codes "run", rows))
+no_run : (rows : List Row) → ((run : RunOf) → ¬ IsRun rows run) → NamesNoJob (Some (codes "run", rows))
 no_run rows none (Plan config) j = absurd (cc (j.0))
 no_run rows none (Check file) j = absurd (cc (j.0))
 no_run rows none (Audit file) j = absurd (cc (j.0))
-no_run rows none (Show view file part svg json) j = absurd (view_is_no_word view (codes "run") refl (sym j.0))
+no_run rows none (Show shown) j = absurd (view_is_no_word shown.view (codes "run") refl (sym j.0))
 no_run rows none (Migrate file out) j = absurd (cc (j.0))
-no_run rows none (Run config listen maps recording operate settle) j = none _ _ _ _ _ _ j.1
+no_run rows none (Run run) j = none run j.1
 
 pub without_settings : (rows : List Row) → None ≡ first_of (codes "config") rows → NamesNoJob (Some (codes "run", rows))
-without_settings rows none = no_run rows (λ config listen maps recording operate settle is. absurd (cc (none, is.settings)))
+without_settings rows none = no_run rows (λ run is. absurd (cc (none, is.settings)))
 
 pub without_address : (rows : List Row) → None ≡ first_of (codes "listen") rows → NamesNoJob (Some (codes "run", rows))
-without_address rows none = no_run rows (λ config listen maps recording operate settle is. absurd (cc (none, is.address)))
+without_address rows none = no_run rows (λ run is. absurd (cc (none, is.address)))
 
 pub without_number : (rows : List Row) → ((maps : ℕ) → ¬ HasMaps rows maps) → NamesNoJob (Some (codes "run", rows))
-without_number rows none = no_run rows (λ config listen maps recording operate settle is. none maps is.number)
+without_number rows none = no_run rows (λ run is. none run.maps is.number)

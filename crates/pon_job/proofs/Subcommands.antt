@@ -52,9 +52,9 @@ no_file name rows r word met is no_plan no_run none = subst NamesNoJob met go
     go (Plan config) j = no_plan (sym is ∙ j.0)
     go (Check file) j = absurd (cc (none, j.1))
     go (Audit file) j = absurd (cc (none, j.1))
-    go (Show view file part svg json) j = absurd (cc (none, j.1.recording))
+    go (Show shown) j = absurd (cc (none, j.1.recording))
     go (Migrate file out) j = absurd (cc (none, j.1.0))
-    go (Run config listen maps recording operate settle) j = no_run (sym is ∙ j.0)
+    go (Run run) j = no_run (sym is ∙ j.0)
 
 -- the job of the matches is that of the words
 pub job_in : (a : App) (words : List (List ℕ)) (m : ArgMatches) (job : Job) → a ≡ olt_app → HasMatchesOf a words m → IsJob (subcommand_rows_of m) job → IsJob (subcommand_of olt_app words) job

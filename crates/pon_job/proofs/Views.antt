@@ -5,6 +5,7 @@ use Rattle.std.specs.Str.{bytes_eq}
 use Rattle.clap.specs.Walk.{Row, first_of}
 use Rattle.pon_job.specs.Jobs.{IsFormat, IsPart, IsShown, NamesNoJob, word_of_view}
 use Rattle.pon_job.specs.declared.task.Part.{Part}
+use Rattle.pon_job.specs.declared.task.Show.{Show as Shown}
 use Rattle.pon_job.specs.declared.task.View.{View}
 use Rattle.pon_job.specs.declared.task.View.TheVariants.{Info, Rates, Why, Dump, Picture}
 use Rattle.pon_job.specs.declared.task.Job.TheVariants.{Plan, Check, Audit, Show, Migrate, Run}
@@ -25,19 +26,19 @@ pub view_is_no_word : (view : View) (word : List ℕ) → is_view word ≡ false
 view_is_no_word view word other e = absurd (let t : true ≡ false = sym (viewed view word e) ∙ other in cc)
 
 -- without its values there is no view
-no_view : (view : View) (rows : List Row) → ((file : List ℕ) (part : Part) (svg : Option (List ℕ)) (json : Bool) → ¬ IsShown rows file part svg json) → NamesNoJob (Some (word_of_view view, rows))
+no_view : (view : View) (rows : List Row) → ((shown : Shown) → ¬ IsShown rows shown) → NamesNoJob (Some (word_of_view view, rows))
 no_view view rows none (Plan config) j = view_is_no_word view (codes "plan") refl j.0
 no_view view rows none (Check file) j = view_is_no_word view (codes "check") refl j.0
 no_view view rows none (Audit file) j = view_is_no_word view (codes "audit") refl j.0
-no_view view rows none (Show other file part svg json) j = none _ _ _ _ j.1
+no_view view rows none (Show shown) j = none shown j.1
 no_view view rows none (Migrate file out) j = view_is_no_word view (codes "migrate") refl j.0
-no_view view rows none (Run config listen maps recording operate settle) j = view_is_no_word view (codes "run") refl j.0
+no_view view rows none (Run run) j = view_is_no_word view (codes "run") refl j.0
 
 pub without_recording : (view : View) (rows : List Row) → None ≡ first_of (codes "file") rows → NamesNoJob (Some (word_of_view view, rows))
-without_recording view rows none = no_view view rows (λ file part svg json is. absurd (cc (none, is.recording)))
+without_recording view rows none = no_view view rows (λ shown is. absurd (cc (none, is.recording)))
 
 pub without_part : (view : View) (rows : List Row) → ((part : Part) → ¬ IsPart rows part) → NamesNoJob (Some (word_of_view view, rows))
-without_part view rows none = no_view view rows (λ file part svg json is. none part is.selection)
+without_part view rows none = no_view view rows (λ shown is. none shown.part is.selection)
 
 pub without_format : (view : View) (rows : List Row) → ((json : Bool) → ¬ IsFormat (first_of (codes "format") rows) json) → NamesNoJob (Some (word_of_view view, rows))
-without_format view rows none = no_view view rows (λ file part svg json is. none json is.format)
+without_format view rows none = no_view view rows (λ shown is. none shown.json is.format)

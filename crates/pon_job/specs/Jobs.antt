@@ -16,6 +16,8 @@ use Rattle.clap.specs.declared.error.kind.ErrorKind.TheVariants.{InvalidSubcomma
 use Rattle.pon_job.specs.declared.task.TheConstants.{MAX_ALLOC, MAX_FRAME, MAX_MAPS, MAX_PORT, MIN_ALLOC}
 use Rattle.pon_job.specs.declared.task.Job.{Job}
 use Rattle.pon_job.specs.declared.task.Part.{Part}
+use Rattle.pon_job.specs.declared.task.Run.{Run as RunOf}
+use Rattle.pon_job.specs.declared.task.Show.{Show as Shown}
 use Rattle.pon_job.specs.declared.task.View.{View}
 use Rattle.pon_job.specs.declared.task.View.TheVariants.{Info, Rates, Why, Dump, Picture}
 use Rattle.pon_job.specs.declared.task.Job.TheVariants.{Plan, Check, Audit, Show, Migrate, Run}
@@ -171,9 +173,9 @@ abbrev pub word_of : Job → List ℕ
 word_of (Plan config) = codes "plan"
 word_of (Check file) = codes "check"
 word_of (Audit file) = codes "audit"
-word_of (Show view file part svg json) = word_of_view view
+word_of (Show shown) = word_of_view shown.view
 word_of (Migrate file out) = codes "migrate"
-word_of (Run config listen maps recording operate settle) = codes "run"
+word_of (Run run) = codes "run"
 
 -- the text is this number, in decimal digits after an optional plus sign, in a range
 pub record Spells (low high : ℕ) (text : List ℕ) (number : ℕ) : Type 0 where
@@ -212,30 +214,29 @@ IsFormat (Some text) true = text ≡ codes "json"
 IsFormat (Some text) false = text ≡ codes "text"
 
 -- the matches of a view have these values
-pub record IsShown (rows : List Row) (file : List ℕ) (part : Part) (svg : Option (List ℕ)) (json : Bool) : Type 0 where
-  pub recording : first_of (codes "file") rows ≡ Some file
-  pub selection : IsPart rows part
-  pub picture : first_of (codes "svg") rows ≡ svg
-  pub format : IsFormat (first_of (codes "format") rows) json
+pub record IsShown (rows : List Row) (shown : Shown) : Type 0 where
+  pub recording : first_of (codes "file") rows ≡ Some shown.file.now
+  pub selection : IsPart rows shown.part
+  pub picture : first_of (codes "svg") rows ≡ option_map (λ name. name.now) shown.svg
+  pub format : IsFormat (first_of (codes "format") rows) shown.json
 
 -- the matches of `run` have these values
-pub record IsRun (rows : List Row) (config listen : List ℕ) (maps : ℕ) (recording operate : Option (List ℕ)) (settle : Bool) : Type 0 where
-  pub settings : first_of (codes "config") rows ≡ Some config
-  pub address : first_of (codes "listen") rows ≡ Some listen
-  pub number : HasMaps rows maps
-  pub recording_file : first_of (codes "record") rows ≡ recording
-  pub operator : first_of (codes "operate") rows ≡ operate
-  pub settles : HasFlag (codes "settle") rows settle
+pub record IsRun (rows : List Row) (run : RunOf) : Type 0 where
+  pub settings : first_of (codes "config") rows ≡ Some run.config.now
+  pub address : first_of (codes "listen") rows ≡ Some run.listen.now
+  pub number : HasMaps rows run.maps
+  pub recording_file : first_of (codes "record") rows ≡ option_map (λ name. name.now) run.record
+  pub operator : first_of (codes "operate") rows ≡ option_map (λ name. name.now) run.operate
+  pub settles : HasFlag (codes "settle") rows run.settle
 
 -- the matches of a job's subcommand have the values of the job, by the names of its arguments
 abbrev pub HasValues : List Row → Job → Type 0
 HasValues rows (Plan config) = first_of (codes "config") rows ≡ option_map (λ name. name.now) config
 HasValues rows (Check file) = first_of (codes "file") rows ≡ Some file.now
 HasValues rows (Audit file) = first_of (codes "file") rows ≡ Some file.now
-HasValues rows (Show view file part svg json) = IsShown rows file.now part (option_map (λ name. name.now) svg) json
+HasValues rows (Show shown) = IsShown rows shown
 HasValues rows (Migrate file out) = (first_of (codes "file") rows ≡ Some file.now) × (first_of (codes "out") rows ≡ Some out.now)
-HasValues rows (Run config listen maps recording operate settle) =
-    IsRun rows config.now listen.now maps (option_map (λ name. name.now) recording) (option_map (λ name. name.now) operate) settle
+HasValues rows (Run run) = IsRun rows run
 
 -- the job is that of the subcommand, with the values of its arguments
 abbrev pub IsJob : Option (List ℕ × List Row) → Job → Type 0

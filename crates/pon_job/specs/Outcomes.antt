@@ -41,9 +41,9 @@ abbrev pub outcome_of_job : Job → Result Bool DeviceFault → Outcome
 outcome_of_job (Plan config) ended = outcome_of_run ended
 outcome_of_job (Check file) ended = outcome_of_check ended
 outcome_of_job (Audit file) ended = outcome_of_check ended
-outcome_of_job (Show view file part svg json) ended = outcome_of_check ended
+outcome_of_job (Show shown) ended = outcome_of_check ended
 outcome_of_job (Migrate file out) ended = outcome_of_check ended
-outcome_of_job (Run config listen maps recording operate settle) ended = outcome_of_ports ended
+outcome_of_job (Run run) ended = outcome_of_ports ended
 
 -- help and the version are shown; any other error refuses the words, unless memory was refused
 abbrev pub outcome_of_words : ErrorKind → Outcome

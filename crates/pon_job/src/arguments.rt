@@ -8,7 +8,9 @@ ghost use Rattle.clap.specs.Simple.{subcommand_of};
 ghost use Rattle.pon_job.specs.Jobs.{HasFlag, HasNumber, IsFormat, IsJob, IsPart, MayHave, NamesNoJob, RefusesWords, Spells, olt_app, word_of_view};
 
 use crate::commands::olt_command;
-use crate::task::{Job, MAX_ALLOC, MAX_FRAME, MAX_MAPS, MAX_PORT, MIN_ALLOC, Part, View};
+use crate::task::{
+    Job, MAX_ALLOC, MAX_FRAME, MAX_MAPS, MAX_PORT, MIN_ALLOC, Part, Run, Show, View,
+};
 use clap::error::ErrorKind;
 use clap::{ArgMatches, Error};
 use std::alloc::Global;
@@ -86,14 +88,14 @@ fn run_of<'a>(found: &ArgMatches<'a>) -> Option<Job<'a>>
     let record = found.get_str("record");
     let operate = found.get_str("operate");
     let settle = is_given(found, "settle");
-    Some(Job::Run {
+    Some(Job::Run(Run {
         config,
         listen,
         maps,
         record,
         operate,
         settle,
-    })
+    }))
 }
 
 // Returns the migration that the matches of its subcommand give.
@@ -155,13 +157,13 @@ fn shown_by<'a>(view: View, found: &ArgMatches<'a>) -> Option<Job<'a>>
     let svg = found.get_str("svg");
     let format = found.get_str("format");
     let json = is_json(format)?;
-    Some(Job::Show {
+    Some(Job::Show(Show {
         view,
         file,
         part,
         svg,
         json,
-    })
+    }))
 }
 
 // Returns the job that the subcommand of the matches gives.

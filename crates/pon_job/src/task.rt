@@ -42,44 +42,43 @@ pub struct Part {
     pub to: Option<u64>,
 }
 
+/// A view of a part of the recording `file`: as text, or as JSON; with `svg` also as a picture in that file.
+#[derive(Clone, Copy, Debug, PartialEq, Eq)]
+pub struct Show<'a> {
+    pub view: View,
+    pub file: &'a str,
+    pub part: Part,
+    pub svg: Option<&'a str>,
+    pub json: bool,
+}
+
+/// A run: `maps` maps, 1 to `MAX_MAPS`, at each port of the settings file `config`, over sockets at the address `listen`;
+/// `record` is the file for a recording of their chapters, `operate` a file of management lines for an operator, and with
+/// `settle` each port is settled at the end with the receipts of all posts.
+#[derive(Clone, Copy, Debug, PartialEq, Eq)]
+pub struct Run<'a> {
+    pub config: &'a str,
+    pub listen: &'a str,
+    pub maps: u64,
+    pub record: Option<&'a str>,
+    pub operate: Option<&'a str>,
+    pub settle: bool,
+}
+
 /// A job of the program.
 #[derive(Clone, Copy, Debug, PartialEq, Eq)]
 pub enum Job<'a> {
     /// Answer management lines from standard input, at the ports of the settings file `config`, or at one port if there
     /// is none.
-    Plan {
-        config: Option<&'a str>,
-    },
+    Plan { config: Option<&'a str> },
     /// Check the certificate of the check file `file`.
-    Check {
-        file: &'a str,
-    },
+    Check { file: &'a str },
     /// Audit the recording `file`.
-    Audit {
-        file: &'a str,
-    },
-    /// Show a part of the recording `file`: as text, or as JSON; with `svg` also as a picture in that file.
-    Show {
-        view: View,
-        file: &'a str,
-        part: Part,
-        svg: Option<&'a str>,
-        json: bool,
-    },
+    Audit { file: &'a str },
+    /// Show a part of a recording.
+    Show(Show<'a>),
     /// Write the recording `file` anew, in the present version of the format, as the file `out`.
-    Migrate {
-        file: &'a str,
-        out: &'a str,
-    },
-    /// Make `maps` maps, 1 to `MAX_MAPS`, at each port of the settings file `config`, over sockets at the address
-    /// `listen`; `record` is the file for a recording of their chapters, `operate` a file of management lines for an
-    /// operator, and with `settle` each port is settled at the end with the receipts of all posts.
-    Run {
-        config: &'a str,
-        listen: &'a str,
-        maps: u64,
-        record: Option<&'a str>,
-        operate: Option<&'a str>,
-        settle: bool,
-    },
+    Migrate { file: &'a str, out: &'a str },
+    /// Serve ports over sockets.
+    Run(Run<'a>),
 }

@@ -9,6 +9,9 @@ const COLUMNS: u64 = 60;
 
 const COLUMN_WORDS: u64 = FRAME_WORDS / COLUMNS;
 
+/// Tenths of a microsecond of a frame.
+const FRAME_TENTHS: u64 = 1_250;
+
 /// Columns between two marks of the scale.
 const MARK_COLUMNS: u64 = 10;
 
@@ -67,12 +70,12 @@ fn push_row(
 ) -> Result<(), AllocError> {
     let name = OnuName(drawing.row_of(burst.first));
     let label = format!(in alloc; "{name}")?;
-    let label = format!(in alloc; "{label:<10}")?;
-    text.push_str(label.as_str())?;
+    let mut row = format!(in alloc; "{label:<10}")?;
     let end = (burst.trailer / COLUMN_WORDS).min(COLUMNS - 1);
     for column in 0..=end {
-        text.push(sign_of(drawing, burst, column))?;
+        row.push(sign_of(drawing, burst, column))?;
     }
+    text.push_str(row.as_str().trim_end())?;
     text.push('\n')
 }
 
@@ -85,7 +88,7 @@ fn push_scale(alloc: Global, text: &mut String) -> Result<(), AllocError> {
     let mut marks = format!(in alloc; "          ")?;
     for mark in 0..=COLUMNS / MARK_COLUMNS {
         let word = mark * MARK_COLUMNS * COLUMN_WORDS;
-        let tenths = mark * MARK_COLUMNS * 1_250 / COLUMNS;
+        let tenths = (mark * MARK_COLUMNS * FRAME_TENTHS + COLUMNS / 2) / COLUMNS;
         let time = format!(in alloc; "{}.{}", tenths / 10, tenths % 10)?;
         words.push_str(format!(in alloc; "{word:<10}")?.as_str())?;
         times.push_str(format!(in alloc; "{time:<10}")?.as_str())?;

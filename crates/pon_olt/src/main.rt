@@ -18,7 +18,7 @@ mod opening;
 
 use crate::auditing::audit_file;
 use crate::files::open_file;
-use crate::looking::show_chapters;
+use crate::looking::show_recording;
 use crate::migrating::migrate_file;
 use crate::opening::{NotOpened, Opening, settings_of, with_settings, without_settings};
 use clap::Error;
@@ -26,7 +26,7 @@ pub use pon_audit::{audit, audit_from, write_verdict};
 pub use pon_check_file::check_file;
 use pon_device::{DeviceFault, StdRead, StdWrite};
 pub use pon_job::job;
-use pon_job::{Failure, Job, Named, Outcome, exit_status, outcome_of_job, outcome_of_words};
+use pon_job::{Failure, Job, Named, Outcome, Run, exit_status, outcome_of_job, outcome_of_words};
 use pon_manage::PlanEnd;
 pub use pon_manage::plan;
 pub use pon_record::migrate;
@@ -84,7 +84,7 @@ fn run_plan<R: Input + Print + Files>(
 }
 
 // Runs the ports of the settings file over sockets. Returns the exit status.
-fn run_settings<R>(rt: &R, alloc: Global, config: &str, args: RunArgs<'_>) -> u8
+fn run_settings<R>(rt: &R, alloc: Global, run: &Run<'_>) -> u8
 where
     R: Net<Listener = TcpListener, Stream = TcpStream>
         + Files
@@ -96,7 +96,14 @@ where
         + Sync,
     R::File: Send,
 {
-    match settings_of(rt, alloc, config) {
+    let args = RunArgs {
+        listen: run.listen,
+        maps: run.maps,
+        record: run.record,
+        operate: run.operate,
+        settle: run.settle,
+    };
+    match settings_of(rt, alloc, run.config) {
         Ok(settings) => {
             let mut writer = StdWrite::new(io::writer(rt));
             run_ports(rt, alloc, settings, args, &OpenGate, &mut writer)
@@ -198,25 +205,9 @@ where
         Job::Plan { config } => run_plan(rt, alloc, config),
         Job::Check { file } => judge_file(rt, alloc, file).map_err(NotOpened::Failed),
         Job::Audit { file } => audit_file(rt, alloc, file).map_err(NotOpened::Failed),
-        Job::Info { file } => show_chapters(rt, alloc, file).map_err(NotOpened::Failed),
+        Job::Show(show) => show_recording(rt, alloc, &show).map_err(NotOpened::Failed),
         Job::Migrate { file, out } => migrate_file(rt, alloc, file, out).map_err(NotOpened::Failed),
-        Job::Run {
-            config,
-            listen,
-            maps,
-            record,
-            operate,
-            settle,
-        } => {
-            let args = RunArgs {
-                listen,
-                maps,
-                record,
-                operate,
-                settle,
-            };
-            return run_settings(rt, alloc, config, args);
-        }
+        Job::Run(run) => return run_settings(rt, alloc, &run),
     };
     exit_status(outcome_of_end(rt, &job, ended))
 }

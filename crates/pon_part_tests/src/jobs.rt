@@ -1,6 +1,6 @@
 // The results of whole command lines, as clap parses them.
 use clap::error::ErrorKind;
-use pon_job::{Job, job};
+use pon_job::{Job, Part, Run, Show, View, job};
 use std::alloc::Global;
 
 fn push_word(alloc: Global, words: &mut Vec<String>, word: &str) -> Option<()> {
@@ -41,14 +41,14 @@ fn run_of(
     operate: Option<&'static str>,
     settle: bool,
 ) -> Job<'static> {
-    Job::Run {
+    Job::Run(Run {
         config: "a.toml",
         listen: "127.0.0.1:0",
         maps,
         record,
         operate,
         settle,
-    }
+    })
 }
 
 #[test]
@@ -80,12 +80,93 @@ fn reads_each_job(rt: HostRuntime) {
     }
 }
 
+// The whole of a recording.
+static WHOLE: Part = Part {
+    port: None,
+    alloc: None,
+    frame: None,
+    from: None,
+    to: None,
+};
+
+fn shown(view: View, part: Part, svg: Option<&'static str>, json: bool) -> Job<'static> {
+    Job::Show(Show {
+        view,
+        file: "r.bin",
+        part,
+        svg,
+        json,
+    })
+}
+
 #[test]
-fn refuses_numbers_of_maps(rt: HostRuntime) {
+fn reads_each_view(rt: HostRuntime) {
+    let part = |port, alloc, frame, from, to| Part {
+        port,
+        alloc,
+        frame,
+        from,
+        to,
+    };
+    let most = part(Some(63), Some(16_383), None, Some(0), Some(u64::MAX));
+    for (line, wanted) in [
+        (
+            "olt info r.bin --format text",
+            shown(View::Info, WHOLE, None, false),
+        ),
+        (
+            "olt info --format json r.bin",
+            shown(View::Info, WHOLE, None, true),
+        ),
+        ("olt rates r.bin", shown(View::Rates, WHOLE, None, false)),
+        (
+            "olt rates r.bin --port 63 --alloc 16383 --from 0 --to 18446744073709551615 --format json",
+            shown(View::Rates, most, None, true),
+        ),
+        (
+            "olt why --port=0 --frame=7 --alloc=1024 r.bin",
+            shown(
+                View::Why,
+                part(Some(0), Some(1024), Some(7), None, None),
+                None,
+                false,
+            ),
+        ),
+        (
+            "olt dump r.bin --port 2",
+            shown(
+                View::Dump,
+                part(Some(2), None, None, None, None),
+                None,
+                false,
+            ),
+        ),
+        (
+            "olt picture r.bin --frame 5 --svg p.svg",
+            shown(
+                View::Picture,
+                part(None, None, Some(5), None, None),
+                Some("p.svg"),
+                false,
+            ),
+        ),
+    ] {
+        assert!(rt; names(rt.alloc(), line, &wanted) == Some(true), "{line}");
+    }
+}
+
+#[test]
+fn refuses_numbers_out_of_range(rt: HostRuntime) {
     for line in [
         "olt run --config a.toml --listen 127.0.0.1:0 --maps 0",
         "olt run --config a.toml --listen 127.0.0.1:0 --maps 1000000001",
         "olt run --config a.toml --listen 127.0.0.1:0 --maps x",
+        "olt rates r.bin --port 64",
+        "olt rates r.bin --alloc 1023",
+        "olt rates r.bin --alloc 16384",
+        "olt rates r.bin --from x",
+        "olt why r.bin --frame 18446744073709551616",
+        "olt dump r.bin --port -1",
     ] {
         let kind = refusal(rt.alloc(), line);
         assert!(rt;
@@ -130,6 +211,8 @@ fn refuses_other_words(rt: HostRuntime) {
             "olt rum --config a.toml --listen 127.0.0.1:0 --maps 3",
             ErrorKind::InvalidSubcommand,
         ),
+        ("olt dump r.bin --alloc 1024", ErrorKind::UnknownArgument),
+        ("olt info r.bin --format xml", ErrorKind::InvalidSubcommand),
         ("olt run --help", ErrorKind::DisplayHelp),
     ] {
         let kind = refusal(rt.alloc(), line);
