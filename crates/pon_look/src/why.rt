@@ -130,9 +130,7 @@ fn write_map<W: DevWrite>(
     let Ok(reports) = reports_of(alloc, &chapter.entries[..place.entry], &told.rows) else {
         return Err(DeviceFault::Memory);
     };
-    if place.alloc.is_none() {
-        write_line(map_line(alloc, place, told, &made.cert), writer)?;
-    }
+    write_line(map_line(alloc, place, told, &made.cert), writer)?;
     write_rows(alloc, place, made, told, &reports, writer)
 }
 

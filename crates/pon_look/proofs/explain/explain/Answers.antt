@@ -1,12 +1,12 @@
-use Rattle.std.proofs.Common.{◌≡◌, ◌∙◌, ◌+◌, ap, arith, get_or, refl, rules, sym, subst, ℕ}
+use Rattle.std.proofs.Common.{◌≡◌, ◌∙◌, ◌+◌, ap, get_or, refl, rules, sym, subst, ℕ}
 use Rattle.std.specs.Prelude.{slice_index}
 use Rattle.pon_descr.specs.declared.class.Class.TheVariants.{NonAssured, BestEffort}
 use Rattle.pon_guar.specs.Book.{account_of, known_report}
 use Rattle.pon_cert.specs.Certificate.{RuleHolds, left_surplus}
 use Rattle.pon_demand.specs.Sharing.{items, same_class, surplus}
-use Rattle.pon_demand.proofs.Dealing.{denominator_range, flag_is, has_flag, item_at, rates_at, row_at, rule_at}
+use Rattle.pon_demand.proofs.Dealing.{denominator_range, flag_is, has_flag, item_at, row_at, rule_at}
 use Rattle.pon_state.specs.State.{input_of}
-use Rattle.pon_look.proofs.Explaining.{Explained, explained_all, explained_be, explained_na, explained_none, explained_plain}
+use Rattle.pon_look.proofs.Explaining.{Explained, explained_be, explained_na, explained_none, explained_plain}
 use Rattle.pon_look.specs.Explanations.{numbers_of}
 use Rattle.pon_look.proofs.explain.explain.Goals as goal
 use Rattle.pon_look.proofs.explain.explain.Goals.{in-Plain, in-NonAssured, in-BestEffort}

@@ -1,12 +1,8 @@
-use Rattle.std.proofs.Common.{◌≡◌, ◌+◌, ◌<◌, ◌^◌, ◌∙◌, ap, arith, length, rules, sym}
-use Rattle.pon_state.specs.After.{after_entry}
-use Rattle.pon_state.specs.Legal.{MayFollow}
+use Rattle.std.proofs.Common.{◌≡◌, ◌∙◌, ap, arith, length, rules, sym}
 use Rattle.pon_history.proofs.Kept.{kept_frames}
-use Rattle.pon_audit.specs.Openings.{OpensLawfully, chapter_of, state_of}
+use Rattle.pon_audit.specs.Openings.{chapter_of}
 use Rattle.pon_audit.proofs.Kept.{none_yet, one_further}
 use Rattle.pon_look.specs.Sums.{plus, sums_at, sums_of}
-use Rattle.pon_look.specs.Tallies.{IsTallied}
-use Rattle.pon_look.specs.declared.tally.Tallied.TheVariants.{Follows, Ends}
 use Rattle.pon_look.proofs.SumLaws.{plus_none}
 use Rattle.pon_look.proofs.Tallying.{ended_with, with_entry}
 use Rattle.pon_look.proofs.tally.tally_chapter.Goals as goal
