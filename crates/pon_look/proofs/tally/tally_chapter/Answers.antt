@@ -20,18 +20,18 @@ tally_entry-requires-clause-frames c = kept_frames _ c.loop-index.replay.state c
 
 pub returns-in-Ends-clause-sums : goal.returns-in-Ends-clause-sums
 returns-in-Ends-clause-sums c =
-    let told = rw c.in-Ends.is at c.in_ok-told.ensures in
+    let tallied = rw c.in-Ends.is at c.in_ok-tallied.ensures in
     let sums = ended_with c.args.range.now (chapter_of c.args.chapter.now.body) c.loop-index.index c.entry-item.result c.loop-index.replay.state (search rules) (search rules) c.loop-index.invariant.kept
-    c.args.tally.now.sums.items c.loop-index.tally.sums.items c.tally_entry.new.tally.sums.items c.loop-index.invariant.sums c.tally_entry.new.replay.state c.in-Ends.added told in
+    c.args.tally.now.sums.items c.loop-index.tally.sums.items c.tally_entry.new.tally.sums.items c.loop-index.invariant.sums c.tally_entry.new.replay.state c.in-Ends.added tallied in
     λ i. sums i ∙ ap (λ n. plus (sums_at c.args.tally.now.sums.items i) (sums_of c.args.range.now i (chapter_of c.args.chapter.now.body) n)) (sym (ap (λ t. t.entries) c.ended.ensures))
 
 pub loop-index-preserved : goal.loop-index-preserved
 loop-index-preserved c =
-    let told = rw c.in-Follows.is at c.in_ok-told.ensures in
+    let tallied = rw c.in-Follows.is at c.in_ok-tallied.ensures in
     record {
-      kept = one_further (chapter_of c.args.chapter.now.body) c.loop-index.index c.loop-index.replay.state c.tally_entry.new.replay.state c.entry-item.result (search rules) (search rules) c.loop-index.invariant.kept told.0 told.1;
+      kept = one_further (chapter_of c.args.chapter.now.body) c.loop-index.index c.loop-index.replay.state c.tally_entry.new.replay.state c.entry-item.result (search rules) (search rules) c.loop-index.invariant.kept tallied.0 tallied.1;
       sums = with_entry c.args.range.now (chapter_of c.args.chapter.now.body) c.loop-index.index c.entry-item.result c.loop-index.replay.state (search rules) (search rules) c.loop-index.invariant.kept
-          c.args.tally.now.sums.items c.loop-index.tally.sums.items c.tally_entry.new.tally.sums.items c.loop-index.invariant.sums told.2;
+          c.args.tally.now.sums.items c.loop-index.tally.sums.items c.tally_entry.new.tally.sums.items c.loop-index.invariant.sums tallied.2;
     }
 
 pub returns-clause-sums : goal.returns-clause-sums
