@@ -1,5 +1,5 @@
 -- Sums of Alloc-IDs, added up.
-use Rattle.std.proofs.Common.{◌≡◌, ℕ, ◌+◌, ◌<◌, ◌≤◌, Bool, List, [], ◌∷◌, map, length, drop, get_or, refl, ap, sym, ◌∙◌, add_assoc, add-zero, zero-add}
+use Rattle.std.proofs.Common.{◌≡◌, ℕ, ◌+◌, ◌<◌, ◌≤◌, List, ◌∷◌, map, length, drop, get_or, ap, sym, ◌∙◌, add_assoc, add-zero}
 use Rattle.std.specs.Prelude.{◌==◌, if◌then◌else◌}
 use Rattle.std.proofs.lemmas.List.{drop_all, drop_more, get_or-map, length-map}
 use Rattle.pon_bwmap.specs.Alloc.{Alloc}

@@ -147,8 +147,8 @@ pub(crate) fn explain(
         let place = found.len();
         let row = &rows[place];
         let counted = state.loads().counted(row.alloc_id);
-        let told = explain_row(row, demand, &counted, surplus, carries[place]);
-        found.push_reserved(told);
+        let explained = explain_row(row, demand, &counted, surplus, carries[place]);
+        found.push_reserved(explained);
     }
     Ok(found)
 }

@@ -78,11 +78,15 @@ pub(crate) fn sums_json(
 pub(crate) fn map_json(
     alloc: Global,
     place: &MapPlace,
-    told: &MapExplanation,
+    explained: &MapExplanation,
     cert: &MapCert,
 ) -> Result<String, AllocError> {
     let (port, chapter, entry) = (place.port.get(), place.chapter, place.entry);
-    let (frame, na, be) = (place.frame.get(), told.non_assured, told.best_effort);
+    let (frame, na, be) = (
+        place.frame.get(),
+        explained.non_assured,
+        explained.best_effort,
+    );
     let na_level = level_text(alloc, &cert.na.level)?;
     let be_level = level_text(alloc, &cert.be.level)?;
     let value = json!(in alloc; {

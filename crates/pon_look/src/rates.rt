@@ -77,14 +77,14 @@ fn read_rates<R: DevRead, W: DevWrite>(
         };
         ports = Some(with_port(ports, chapter.port));
         if query.wants(chapter.port) {
-            add_and_tell(alloc, &mut rates, &chapter, &range, format, writer)?;
+            add_and_report(alloc, &mut rates, &chapter, &range, format, writer)?;
         }
     }
     Err(DeviceFault::Memory)
 }
 
 // Adds a chapter to the tally of its port, and writes a line if it is refused at an entry.
-fn add_and_tell<W: DevWrite>(
+fn add_and_report<W: DevWrite>(
     alloc: Global,
     rates: &mut Vec<PortRates>,
     chapter: &RawChapter,

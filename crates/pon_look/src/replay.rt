@@ -92,7 +92,7 @@ pub(crate) fn explain_map(
     ensures same { replay.new.state ≡ replay.old.state }
     ensures numbers { IfOk result (λ found. MatchOption found
         (IsCertified (input_of replay.old.state) made.now.cert → ⊥)
-        (λ told. Explains replay.old.state made.now.cert told)) }
+        (λ explained. Explains replay.old.state made.now.cert explained)) }
 {
     let Replay { state, buffers } = replay;
     let problems = next_problems(alloc, buffers, state)?;

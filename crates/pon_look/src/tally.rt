@@ -133,8 +133,8 @@ fn tally_entry(
     requires carries { AreCarries replay.old.state.rule replay.old.state.roster replay.old.state.carries }
     requires book { AccountsFor replay.old.state.roster replay.old.state.book }
     requires frames { AreConsecutive replay.old.state.next replay.old.state.window }
-    ensures { IfOk result (λ told. IsTallied range.now kept replay.old.state entry.now
-        replay.new.state tally.old.sums.items tally.new.sums.items told) }
+    ensures { IfOk result (λ tallied. IsTallied range.now kept replay.old.state entry.now
+        replay.new.state tally.old.sums.items tally.new.sums.items tallied) }
 {
     let added = match entry.as_ref() {
         EntryRef::Map(made) if range.holds(made.frame) => tally_map(alloc, replay, tally, made)?,
@@ -171,11 +171,11 @@ pub fn tally_chapter(
     tally: &mut PortTally,
 ) -> Result<Summed, AllocError>
     requires { FitsRecording chapter.now.body }
-    ensures sums { IfOk result (λ told. (i : ℕ) → sums_at tally.new.sums.items i
+    ensures sums { IfOk result (λ summed. (i : ℕ) → sums_at tally.new.sums.items i
         ≡ plus (sums_at tally.old.sums.items i)
-        (sums_of range.now i (chapter_of chapter.now.body) told.entries)) }
-    ensures whole { IfOk result (λ told. IfNone told.refused
-        (told.entries ≡ length chapter.now.body.entries)) }
+        (sums_of range.now i (chapter_of chapter.now.body) summed.entries)) }
+    ensures whole { IfOk result (λ summed. IfNone summed.refused
+        (summed.entries ≡ length chapter.now.body.entries)) }
 {
     let Some(mut replay) = open_replay(alloc, chapter)? else {
         return Ok(Summed {
@@ -184,8 +184,8 @@ pub fn tally_chapter(
         });
     };
     for (index, entry) in chapter.entries.iter().enumerate() {
-        let told = tally_entry(alloc, &mut replay, tally, range, index, entry)?;
-        match told {
+        let tallied = tally_entry(alloc, &mut replay, tally, range, index, entry)?;
+        match tallied {
             Tallied::Follows => {}
             Tallied::Ends(added) => return Ok(ended(index, added)),
         }

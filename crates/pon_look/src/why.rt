@@ -51,7 +51,7 @@ pub fn explain_entry(
     }
     match chapter.entries[index].as_ref() {
         EntryRef::Map(made) => match explain_map(alloc, &mut replay, made)? {
-            Some(told) => Ok(MapAnswer::Explained(told)),
+            Some(explained) => Ok(MapAnswer::Explained(explained)),
             None => Ok(MapAnswer::Refused(index)),
         },
         EntryRef::Taken(_) => Ok(MapAnswer::Refused(index)),
@@ -63,12 +63,12 @@ fn write_rows<W: DevWrite>(
     alloc: Global,
     place: &MapPlace,
     made: &MadeMap,
-    told: &MapExplanation,
+    explained: &MapExplanation,
     reports: &Reports,
     writer: &mut W,
 ) -> Result<(), DeviceFault> {
     let structures = made.map.rows();
-    for (index, row) in told.rows.iter().enumerate() {
+    for (index, row) in explained.rows.iter().enumerate() {
         let wanted = place.alloc.is_none() || place.alloc == Some(row.row.alloc_id);
         if wanted {
             let shown = Shown {
@@ -106,7 +106,7 @@ fn write_map<W: DevWrite>(
     alloc: Global,
     chapter: &RawChapter,
     place: &MapPlace,
-    told: &MapExplanation,
+    explained: &MapExplanation,
     writer: &mut W,
 ) -> Result<(), DeviceFault>
     requires { place.now.entry < length chapter.now.body.entries }
@@ -114,13 +114,11 @@ fn write_map<W: DevWrite>(
     let EntryRef::Map(made) = chapter.entries[place.entry].as_ref() else {
         return Ok(());
     };
-    let Ok(reports) = reports_of(alloc, &chapter.entries[..place.entry], &told.rows) else {
+    let Ok(reports) = reports_of(alloc, &chapter.entries[..place.entry], &explained.rows) else {
         return Err(DeviceFault::Memory);
     };
-    if place.alloc.is_none() {
-        write_line(map_line(alloc, place, told, &made.cert), writer)?;
-    }
-    write_rows(alloc, place, made, told, &reports, writer)
+    write_line(map_line(alloc, place, explained, &made.cert), writer)?;
+    write_rows(alloc, place, made, explained, &reports, writer)
 }
 
 // Answers the query by a map that was found.
@@ -147,10 +145,10 @@ fn answer_by<W: DevWrite>(
         format,
     };
     match explain_entry(alloc, chapter, *entry) {
-        Ok(MapAnswer::Explained(told)) => match missing_alloc(&told.rows, query.alloc) {
+        Ok(MapAnswer::Explained(explained)) => match missing_alloc(&explained.rows, query.alloc) {
             Some(missing) => Ok(Answer::NotFound(missing)),
             None => {
-                write_map(alloc, chapter, &place, &told, writer)?;
+                write_map(alloc, chapter, &place, &explained, writer)?;
                 Ok(Answer::Shown)
             }
         },

@@ -38,15 +38,15 @@ pub(crate) struct Shown<'a> {
 pub(crate) fn map_line(
     alloc: Global,
     place: &MapPlace,
-    told: &MapExplanation,
+    explained: &MapExplanation,
     cert: &MapCert,
 ) -> Result<String, AllocError> {
     if place.format == Format::Json {
-        return map_json(alloc, place, told, cert);
+        return map_json(alloc, place, explained, cert);
     }
     let (port, chapter, entry) = (place.port.get(), place.chapter, place.entry);
     let frame = place.frame.get();
-    let (na, be) = (told.non_assured, told.best_effort);
+    let (na, be) = (explained.non_assured, explained.best_effort);
     let na_level = level_text(alloc, &cert.na.level)?;
     let be_level = level_text(alloc, &cert.be.level)?;
     format!(in alloc;

@@ -1,12 +1,12 @@
-use Rattle.std.proofs.Common.{◌≡◌, ◌∙◌, ◌+◌, ap, arith, get_or, refl, rules, sym, subst, ℕ}
+use Rattle.std.proofs.Common.{◌≡◌, ◌∙◌, ◌+◌, ap, get_or, refl, rules, sym, subst, ℕ}
 use Rattle.std.specs.Prelude.{slice_index}
 use Rattle.pon_descr.specs.declared.class.Class.TheVariants.{NonAssured, BestEffort}
 use Rattle.pon_guar.specs.Book.{account_of, known_report}
 use Rattle.pon_cert.specs.Certificate.{RuleHolds, left_surplus}
 use Rattle.pon_demand.specs.Sharing.{items, same_class, surplus}
-use Rattle.pon_demand.proofs.Dealing.{denominator_range, flag_is, has_flag, item_at, rates_at, row_at, rule_at}
+use Rattle.pon_demand.proofs.Dealing.{denominator_range, flag_is, has_flag, item_at, row_at, rule_at}
 use Rattle.pon_state.specs.State.{input_of}
-use Rattle.pon_look.proofs.Explaining.{Explained, explained_all, explained_be, explained_na, explained_none, explained_plain}
+use Rattle.pon_look.proofs.Explaining.{Explained, explained_be, explained_na, explained_none, explained_plain}
 use Rattle.pon_look.specs.Explanations.{numbers_of}
 use Rattle.pon_look.proofs.explain.explain.Goals as goal
 use Rattle.pon_look.proofs.explain.explain.Goals.{in-Plain, in-NonAssured, in-BestEffort}
@@ -93,11 +93,11 @@ loop-demand-preserved c =
     let r = c.index-rows-place.result in
     let o = c.counted-counted.result in
     let n : ℕ = slice_index c.carries-carries.result.now c.len-place.result in
-    let x = c.explain_row-told.result in
+    let x = c.explain_row-explained.result in
     let here : r ≡ get_or s.roster i r = c.index-rows-place.is ∙ (λ j. get_or (rows j) (place j) r) in
     let report : o ≡ known_report (account_of s.book r.alloc_id) = c.counted-counted.ensures ∙ ap (λ b. known_report (account_of b r.alloc_id)) c.loads.ensures.accounts in
     let carry : n ≡ slice_index s.carries i = (λ j. slice_index (c.carries-carries.ensures j) (place j)) in
-    let is : x ≡ numbers_of r d o c.match-demand.surplus n = c.explain_row-told.ensures in
+    let is : x ≡ numbers_of r d o c.match-demand.surplus n = c.explain_row-explained.ensures in
     let explained : Explained s cert (i + 1) c.push_reserved.new.self.items c.match-demand.na.now c.match-demand.be.now = elim c.match-demand.branch [
       | in-Plain w ↦ rw (w.na-is, w.be-is, c.push_reserved.ensures.items)
           (explained_plain s cert apart same d i at c.loop-demand.found.items c.loop-demand.na.now c.loop-demand.be.now r o n x c.loop-demand.invariant.explained w.in-Plain.is

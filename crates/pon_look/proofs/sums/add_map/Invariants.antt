@@ -1,4 +1,4 @@
-use Rattle.std.proofs.Common.{◌≡◌, ℕ, drop, length}
+use Rattle.std.proofs.Common.{◌≡◌, ℕ, drop}
 use Rattle.pon_look.specs.Sums.{amounts_in, plus, sums_at}
 use Rattle.pon_look.proofs.sums.add_map.Given as goal
 

@@ -1,12 +1,8 @@
-use Rattle.std.proofs.Common.{◌≡◌, ◌+◌, ◌<◌, ◌^◌, ◌∙◌, ap, arith, length, rules, sym}
-use Rattle.pon_state.specs.After.{after_entry}
-use Rattle.pon_state.specs.Legal.{MayFollow}
+use Rattle.std.proofs.Common.{◌≡◌, ◌∙◌, ap, arith, length, rules, sym}
 use Rattle.pon_history.proofs.Kept.{kept_frames}
-use Rattle.pon_audit.specs.Openings.{OpensLawfully, chapter_of, state_of}
+use Rattle.pon_audit.specs.Openings.{chapter_of}
 use Rattle.pon_audit.proofs.Kept.{none_yet, one_further}
 use Rattle.pon_look.specs.Sums.{plus, sums_at, sums_of}
-use Rattle.pon_look.specs.Tallies.{IsTallied}
-use Rattle.pon_look.specs.declared.tally.Tallied.TheVariants.{Follows, Ends}
 use Rattle.pon_look.proofs.SumLaws.{plus_none}
 use Rattle.pon_look.proofs.Tallying.{ended_with, with_entry}
 use Rattle.pon_look.proofs.tally.tally_chapter.Goals as goal
@@ -24,18 +20,18 @@ tally_entry-requires-clause-frames c = kept_frames _ c.loop-index.replay.state c
 
 pub returns-in-Ends-clause-sums : goal.returns-in-Ends-clause-sums
 returns-in-Ends-clause-sums c =
-    let told = rw c.in-Ends.is at c.in_ok-told.ensures in
+    let tallied = rw c.in-Ends.is at c.in_ok-tallied.ensures in
     let sums = ended_with c.args.range.now (chapter_of c.args.chapter.now.body) c.loop-index.index c.entry-item.result c.loop-index.replay.state (search rules) (search rules) c.loop-index.invariant.kept
-    c.args.tally.now.sums.items c.loop-index.tally.sums.items c.tally_entry.new.tally.sums.items c.loop-index.invariant.sums c.tally_entry.new.replay.state c.in-Ends.added told in
+    c.args.tally.now.sums.items c.loop-index.tally.sums.items c.tally_entry.new.tally.sums.items c.loop-index.invariant.sums c.tally_entry.new.replay.state c.in-Ends.added tallied in
     λ i. sums i ∙ ap (λ n. plus (sums_at c.args.tally.now.sums.items i) (sums_of c.args.range.now i (chapter_of c.args.chapter.now.body) n)) (sym (ap (λ t. t.entries) c.ended.ensures))
 
 pub loop-index-preserved : goal.loop-index-preserved
 loop-index-preserved c =
-    let told = rw c.in-Follows.is at c.in_ok-told.ensures in
+    let tallied = rw c.in-Follows.is at c.in_ok-tallied.ensures in
     record {
-      kept = one_further (chapter_of c.args.chapter.now.body) c.loop-index.index c.loop-index.replay.state c.tally_entry.new.replay.state c.entry-item.result (search rules) (search rules) c.loop-index.invariant.kept told.0 told.1;
+      kept = one_further (chapter_of c.args.chapter.now.body) c.loop-index.index c.loop-index.replay.state c.tally_entry.new.replay.state c.entry-item.result (search rules) (search rules) c.loop-index.invariant.kept tallied.0 tallied.1;
       sums = with_entry c.args.range.now (chapter_of c.args.chapter.now.body) c.loop-index.index c.entry-item.result c.loop-index.replay.state (search rules) (search rules) c.loop-index.invariant.kept
-          c.args.tally.now.sums.items c.loop-index.tally.sums.items c.tally_entry.new.tally.sums.items c.loop-index.invariant.sums told.2;
+          c.args.tally.now.sums.items c.loop-index.tally.sums.items c.tally_entry.new.tally.sums.items c.loop-index.invariant.sums tallied.2;
     }
 
 pub returns-clause-sums : goal.returns-clause-sums

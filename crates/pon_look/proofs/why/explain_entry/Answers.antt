@@ -10,7 +10,7 @@ pub returns-in-Some-2 : goal.returns-in-Some-2
 returns-in-Some-2 c =
     let chapter = chapter_of c.args.chapter.now.body in
     let kept : IsKept (cut_at chapter c.args.index) c.replay_to.new.replay.state = rw c.in-None.is at c.in_ok-refused.ensures in
-    let told : Explains c.replay_to.new.replay.state c.in-Map.made.now.cert c.in-Some-2.told = rw c.in-Some-2.is at c.in_ok-told-in-Map.ensures.numbers in
+    let told : Explains c.replay_to.new.replay.state c.in-Map.made.now.cert c.in-Some-2.explained = rw c.in-Some-2.is at c.in_ok-explained-in-Map.ensures.numbers in
     let at : c.index.result.now ≡ get_or c.args.chapter.now.body.entries c.args.index c.index.result.now = search rules in
     record {
       entry = c.index.result.now;
@@ -18,5 +18,5 @@ returns-in-Some-2 c =
       made = c.in-Map.made.now;
       is_map = ap (λ e. e.reply) (sym c.in-Map.ensures);
       lawful = kept.lawful;
-      explains = subst (λ s. Explains s c.in-Map.made.now.cert c.in-Some-2.told) kept.replayed told;
+      explains = subst (λ s. Explains s c.in-Map.made.now.cert c.in-Some-2.explained) kept.replayed told;
     }
