@@ -12,6 +12,7 @@ mod frames;
 mod info;
 mod info_json;
 mod json;
+pub mod laws;
 mod mean;
 mod notes;
 mod query;
