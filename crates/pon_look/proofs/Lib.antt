@@ -1,4 +1,5 @@
 pub mod Explaining
 pub mod LastFrames
+pub mod Owed
 pub mod SumLaws
 pub mod Tallying

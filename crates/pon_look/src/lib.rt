@@ -16,6 +16,7 @@ mod frames;
 mod info;
 mod info_json;
 mod json;
+pub mod laws;
 mod lines;
 mod mean;
 mod notes;
