@@ -2,19 +2,29 @@
 _olt() {
     local current=${COMP_WORDS[COMP_CWORD]} before=${COMP_WORDS[COMP_CWORD - 1]} command=${COMP_WORDS[1]}
     case $before in
-        --config | --record | --operate) mapfile -t COMPREPLY < <(compgen -f -- "$current"); return ;;
-        --listen | --maps) return ;;
+        --config | --record | --operate | --svg) mapfile -t COMPREPLY < <(compgen -f -- "$current"); return ;;
+        --listen | --maps | --port | --alloc | --frame | --from | --to) return ;;
+        --format) mapfile -t COMPREPLY < <(compgen -W 'text json' -- "$current"); return ;;
     esac
     local words
     if [ "$COMP_CWORD" -eq 1 ]; then
-        words='plan run check audit info migrate --help --version'
+        words='plan run check audit info rates why dump picture migrate --help --version'
     else
         case $command in
             plan) words='--config --help' ;;
             run) words='--config --listen --maps --record --operate --settle --help' ;;
-            check | audit | info | migrate)
+            check | audit | info | rates | why | dump | picture | migrate)
                 case $current in
-                    -*) words='--help' ;;
+                    -*)
+                        case $command in
+                            info) words='--format --help' ;;
+                            rates) words='--port --alloc --from --to --format --help' ;;
+                            why) words='--port --frame --alloc --format --help' ;;
+                            dump) words='--port --help' ;;
+                            picture) words='--port --frame --svg --help' ;;
+                            *) words='--help' ;;
+                        esac
+                        ;;
                     *) mapfile -t COMPREPLY < <(compgen -f -- "$current"); return ;;
                 esac
                 ;;

@@ -13,6 +13,9 @@ use clap::builder::ValueParser;
 use clap::{Arg, ArgAction, Command};
 use std::alloc::{AllocError, Global};
 
+/// The help of the option for an Alloc-ID, with its range.
+const ALLOC_HELP: &str = "The Alloc-ID, 1024 to 16383";
+
 // Makes an argument that is given by its place, and is required.
 fn place_arg<'a>(alloc: Global, id: &'a str, value: &'a str, help: &'a str) -> Arg<'a>
     ensures rule { rule_of result ≡ place_rule id.now }
@@ -132,13 +135,7 @@ fn alloc_arg<'a>(alloc: Global) -> Arg<'a>
     ensures rule { rule_of result ≡ alloc_rule }
     ensures local { result.global ≡ false }
 {
-    number_arg(
-        alloc,
-        "alloc",
-        MIN_ALLOC,
-        MAX_ALLOC,
-        "The Alloc-ID, 1024 to 16383",
-    )
+    number_arg(alloc, "alloc", MIN_ALLOC, MAX_ALLOC, ALLOC_HELP)
 }
 
 fn frame_arg<'a>(alloc: Global) -> Arg<'a>

@@ -166,7 +166,6 @@ fn refuses_numbers_out_of_range(rt: HostRuntime) {
         "olt rates r.bin --alloc 16384",
         "olt rates r.bin --from x",
         "olt why r.bin --frame 18446744073709551616",
-        "olt dump r.bin --port -1",
     ] {
         let kind = refusal(rt.alloc(), line);
         assert!(rt;
@@ -212,6 +211,7 @@ fn refuses_other_words(rt: HostRuntime) {
             ErrorKind::InvalidSubcommand,
         ),
         ("olt dump r.bin --alloc 1024", ErrorKind::UnknownArgument),
+        ("olt dump r.bin --port -1", ErrorKind::UnknownArgument),
         ("olt info r.bin --format xml", ErrorKind::InvalidSubcommand),
         ("olt run --help", ErrorKind::DisplayHelp),
     ] {
