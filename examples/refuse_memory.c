@@ -25,8 +25,10 @@ static int is_refused(void) {
         refused = text ? atol(text) : 0;
     }
     made += 1;
-    if (made == refused) tell();
-    return made == refused;
+    if (made != refused) return 0;
+    tell();
+    errno = ENOMEM;
+    return 1;
 }
 
 void *malloc(size_t size) { return is_refused() ? NULL : __libc_malloc(size); }
