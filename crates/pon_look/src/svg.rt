@@ -97,6 +97,16 @@ fn push_text(
     text.push_str(line.as_str())
 }
 
+// Appends a line between a grant and the one before it.
+fn push_border(alloc: Global, text: &mut String, first: u64, row: u64) -> Result<(), AllocError> {
+    let (x, top) = (first.saturating_add(LEFT), top_of(row));
+    let low = top.saturating_add(BAR);
+    let line = format!(in alloc;
+        "<line x1=\"{x}\" y1=\"{top}\" x2=\"{x}\" y2=\"{low}\" stroke=\"#ffffff\" stroke-width=\"8\"/>\n"
+    )?;
+    text.push_str(line.as_str())
+}
+
 fn title_of(alloc: Global, id: u16, class: &str) -> Result<String, AllocError> {
     format!(in alloc; "Alloc-ID {id}, {class}")
 }
