@@ -10,7 +10,7 @@ use Rattle.pon_job.specs.declared.task.Job.TheVariants.{Plan, Check, Audit, Show
 no_migration : (rows : List Row) → ((file out : List ℕ) → first_of (codes "file") rows ≡ Some file → first_of (codes "out") rows ≡ Some out → ⊥) → NamesNoJob (Some (codes "migrate", rows))
 no_migration rows none (Plan config) j = absurd (cc (j.0))
 no_migration rows none (Check file) j = absurd (cc (j.0))
-no_migration rows none (Audit file) j = absurd (cc (j.0))
+no_migration rows none (Audit audit) j = absurd (cc (j.0))
 no_migration rows none (Show shown) j = absurd (view_is_no_word shown.view (codes "migrate") refl (sym j.0))
 no_migration rows none (Migrate file out) j = none _ _ j.1.0 j.1.1
 no_migration rows none (Run run) j = absurd (cc (j.0))

@@ -1,5 +1,5 @@
 -- The numbers of the matches, and the matches of `run`.
-use Rattle.std.proofs.Common.{◌≡◌, ℕ, Bool, List, Option, Some, None, refl, subst, sym}
+use Rattle.std.proofs.Common.{◌≡◌, ℕ, List, Option, Some, None, refl, subst, sym}
 use Rattle.std.specs.Prelude.{IfSome, IsNone, IsSomeAnd, MatchOption, codes}
 use Rattle.clap.specs.Walk.{Row, first_of}
 use Rattle.pon_job.specs.Jobs.{HasMaps, HasNumber, IsRun, MayHave, NamesNoJob, Spells}
@@ -31,7 +31,7 @@ choice_refused id low high rows text is none (Some number) has = none number (su
 no_run : (rows : List Row) → ((run : RunOf) → ¬ IsRun rows run) → NamesNoJob (Some (codes "run", rows))
 no_run rows none (Plan config) j = absurd (cc (j.0))
 no_run rows none (Check file) j = absurd (cc (j.0))
-no_run rows none (Audit file) j = absurd (cc (j.0))
+no_run rows none (Audit audit) j = absurd (cc (j.0))
 no_run rows none (Show shown) j = absurd (view_is_no_word shown.view (codes "run") refl (sym j.0))
 no_run rows none (Migrate file out) j = absurd (cc (j.0))
 no_run rows none (Run run) j = none run j.1

@@ -1,7 +1,9 @@
 -- The subcommand that clap matched, and the matches of its arguments.
-use Rattle.std.proofs.Common.{◌≡◌, ℕ, List, [], refl, sym, ap, ◌∙◌, true, false, nat_eq, slice_index_or, subst, inl, inr, Option, Some, None}
+use Rattle.std.proofs.Common.{◌≡◌, ℕ, List, [], refl, sym, ap, ◌∙◌, true, false, subst, inl, inr, Option, Some, None}
 use Rattle.std.specs.Prelude.{codes, option_map}
 use Rattle.std.specs.Box.{box_value}
+use Rattle.std.specs.Str.{bytes_eq}
+use Rattle.std.proofs.lemmas.Slice.Eq.{bytes_eq-Decides}
 use Rattle.clap.specs.Words.{subcommand_rows_of, rows_of}
 use Rattle.clap.specs.Walk.{Row, first_of}
 use Rattle.clap.specs.Matches.{found_of, subcommand_name_of}
@@ -13,7 +15,9 @@ use Rattle.clap.specs.declared.error.Error.{Error}
 use Rattle.clap.specs.declared.error.kind.ErrorKind.TheVariants.{InvalidSubcommand}
 use Rattle.clap.specs.declared.parser.matches.ArgMatches.{ArgMatches}
 use Rattle.clap.specs.declared.parser.matches.ArgMatches.TheViews.{out-ArgMatches, out-SubCommand}
-use Rattle.pon_job.specs.Jobs.{HasValues, IsJob, NamesNoJob, RefusesWords, olt_app, word_of}
+use Rattle.pon_job.specs.Jobs.{HasValues, IsAudit, IsJob, NamesNoJob, RefusesWords, olt_app, word_of}
+use Rattle.pon_job.proofs.Views.{view_is_no_word}
+use Rattle.pon_job.specs.declared.task.Audit.{Audit as AuditOf}
 use Rattle.pon_job.specs.declared.task.Job.{Job}
 use Rattle.pon_job.specs.declared.task.Job.TheVariants.{Plan, Check, Audit, Show, Migrate, Run}
 
@@ -43,18 +47,26 @@ clap_refuses a words e is k = inl (subst (λ a. is_simple_and_free a ≡ true �
 pub names : (r : Option (List ℕ × List Row)) (name : List ℕ) (rows : List Row) (job : Job) → Some (name, rows) ≡ r → name ≡ word_of job → HasValues rows job → IsJob r job
 names r name rows job met word values = subst (λ r. IsJob r job) met (word, values)
 
--- a subcommand of a file without one names no job
-pub no_file : (name : List ℕ) (rows : List Row) (r : Option (List ℕ × List Row)) (word : List ℕ) → Some (name, rows) ≡ r → name ≡ word → (word ≡ codes "plan" → ⊥) → (word ≡ codes "run" → ⊥) →
-    None ≡ first_of (codes "file") rows → NamesNoJob r
-no_file name rows r word met is no_plan no_run none = subst NamesNoJob met go
-  where
-    go : NamesNoJob (Some (name, rows))
-    go (Plan config) j = no_plan (sym is ∙ j.0)
-    go (Check file) j = absurd (cc (none, j.1))
-    go (Audit file) j = absurd (cc (none, j.1))
-    go (Show shown) j = absurd (cc (none, j.1.recording))
-    go (Migrate file out) j = absurd (cc (none, j.1.0))
-    go (Run run) j = no_run (sym is ∙ j.0)
+words_differ : (a b : List ℕ) → bytes_eq a b ≡ false → a ≡ b → ⊥
+words_differ a b other e = absurd (let t : true ≡ false = sym ((bytes_eq-Decides a b).1 e) ∙ other in cc)
+
+-- `check` without a file names no job
+pub no_check : (name : List ℕ) (rows : List Row) → name ≡ codes "check" → None ≡ first_of (codes "file") rows → NamesNoJob (Some (name, rows))
+no_check name rows is none (Plan config) j = words_differ (codes "check") (codes "plan") refl (sym is ∙ j.0)
+no_check name rows is none (Check file) j = absurd (cc (none, j.1))
+no_check name rows is none (Audit audit) j = words_differ (codes "check") (codes "audit") refl (sym is ∙ j.0)
+no_check name rows is none (Show shown) j = absurd (cc (none, j.1.recording))
+no_check name rows is none (Migrate file out) j = absurd (cc (none, j.1.0))
+no_check name rows is none (Run run) j = words_differ (codes "check") (codes "run") refl (sym is ∙ j.0)
+
+-- `audit` without its values names no job
+pub no_audit : (rows : List Row) → ((audit : AuditOf) → ¬ IsAudit rows audit) → NamesNoJob (Some (codes "audit", rows))
+no_audit rows none (Plan config) j = words_differ (codes "audit") (codes "plan") refl j.0
+no_audit rows none (Check file) j = words_differ (codes "audit") (codes "check") refl j.0
+no_audit rows none (Audit audit) j = none audit j.1
+no_audit rows none (Show shown) j = view_is_no_word shown.view (codes "audit") refl (sym j.0)
+no_audit rows none (Migrate file out) j = words_differ (codes "audit") (codes "migrate") refl j.0
+no_audit rows none (Run run) j = words_differ (codes "audit") (codes "run") refl j.0
 
 -- the job of the matches is that of the words
 pub job_in : (a : App) (words : List (List ℕ)) (m : ArgMatches) (job : Job) → a ≡ olt_app → HasMatchesOf a words m → IsJob (subcommand_rows_of m) job → IsJob (subcommand_of olt_app words) job

@@ -1,5 +1,5 @@
 -- The subcommands of the views of a recording, and the matches of a view.
-use Rattle.std.proofs.Common.{◌≡◌, ℕ, Bool, List, Some, None, Option, ◌∙◌, refl, subst, sym, true, false}
+use Rattle.std.proofs.Common.{◌≡◌, ℕ, Bool, List, Some, None, ◌∙◌, refl, subst, sym, true, false}
 use Rattle.std.specs.Prelude.{◌||◌, codes}
 use Rattle.std.specs.Str.{bytes_eq}
 use Rattle.clap.specs.Walk.{Row, first_of}
@@ -7,12 +7,12 @@ use Rattle.pon_job.specs.Jobs.{IsFormat, IsPart, IsShown, NamesNoJob, word_of_vi
 use Rattle.pon_job.specs.declared.task.Part.{Part}
 use Rattle.pon_job.specs.declared.task.Show.{Show as Shown}
 use Rattle.pon_job.specs.declared.task.View.{View}
-use Rattle.pon_job.specs.declared.task.View.TheVariants.{Info, Rates, Why, Dump, Picture}
+use Rattle.pon_job.specs.declared.task.View.TheVariants.{Info, Rates, Why, Dump, Picture, Loads}
 use Rattle.pon_job.specs.declared.task.Job.TheVariants.{Plan, Check, Audit, Show, Migrate, Run}
 
 -- a word is one of the views'
 abbrev pub is_view : List ℕ → Bool
-is_view word = bytes_eq (codes "info") word || (bytes_eq (codes "rates") word || (bytes_eq (codes "why") word || (bytes_eq (codes "dump") word || bytes_eq (codes "picture") word)))
+is_view word = bytes_eq (codes "info") word || (bytes_eq (codes "rates") word || (bytes_eq (codes "why") word || (bytes_eq (codes "dump") word || (bytes_eq (codes "picture") word || bytes_eq (codes "loads") word))))
 
 viewed : (view : View) (word : List ℕ) → word_of_view view ≡ word → is_view word ≡ true
 viewed Info word e = subst (λ w. is_view w ≡ true) e refl
@@ -20,6 +20,7 @@ viewed Rates word e = subst (λ w. is_view w ≡ true) e refl
 viewed Why word e = subst (λ w. is_view w ≡ true) e refl
 viewed Dump word e = subst (λ w. is_view w ≡ true) e refl
 viewed Picture word e = subst (λ w. is_view w ≡ true) e refl
+viewed Loads word e = subst (λ w. is_view w ≡ true) e refl
 
 -- another word is of no view
 pub view_is_no_word : (view : View) (word : List ℕ) → is_view word ≡ false → word_of_view view ≡ word → ⊥
@@ -29,7 +30,7 @@ view_is_no_word view word other e = absurd (let t : true ≡ false = sym (viewed
 no_view : (view : View) (rows : List Row) → ((shown : Shown) → ¬ IsShown rows shown) → NamesNoJob (Some (word_of_view view, rows))
 no_view view rows none (Plan config) j = view_is_no_word view (codes "plan") refl j.0
 no_view view rows none (Check file) j = view_is_no_word view (codes "check") refl j.0
-no_view view rows none (Audit file) j = view_is_no_word view (codes "audit") refl j.0
+no_view view rows none (Audit audit) j = view_is_no_word view (codes "audit") refl j.0
 no_view view rows none (Show shown) j = none shown j.1
 no_view view rows none (Migrate file out) j = view_is_no_word view (codes "migrate") refl j.0
 no_view view rows none (Run run) j = view_is_no_word view (codes "run") refl j.0

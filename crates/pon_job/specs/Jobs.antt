@@ -1,7 +1,7 @@
 -- The jobs of the program, from the words of its command line.
-use Rattle.std.specs.Prelude.{◌≡◌, ◌⊎◌, ◌↔◌, ℕ, Bool, List, [], ◌∷◌, codes, Option, Some, None, IsSomeAnd, option_map, false, true, ⊤}
+use Rattle.std.specs.Prelude.{◌≡◌, ◌⊎◌, ◌↔◌, ℕ, Bool, List, [], ◌∷◌, codes, map, Option, Some, None, IsSomeAnd, option_map, false, true, ⊤}
 use Rattle.std.specs.Str.Parse.{digits_value, without_leading_plus}
-use Rattle.clap.specs.Walk.{Row, Rule, first_of}
+use Rattle.clap.specs.Walk.{Row, Rule, all_of, first_of}
 use Rattle.clap.specs.declared.builder.arg.Arg.{Arg}
 use Rattle.clap.specs.declared.builder.command.Command.{Command}
 use Rattle.clap.specs.declared.builder.command.Command.TheViews.{out-Command}
@@ -9,17 +9,18 @@ use Rattle.clap.specs.Simple.{App, Shape, app_of, new_shape, new_rule, subcomman
 use Rattle.clap.specs.Faults.{fault_of}
 use Rattle.clap.specs.Kinds.{HasKind}
 use Rattle.clap.specs.Values.{IsUnsignedIn, kind_of}
-use Rattle.clap.specs.declared.builder.action.ArgAction.TheVariants.{SetTrue}
+use Rattle.clap.specs.declared.builder.action.ArgAction.TheVariants.{Append, SetTrue}
 use Rattle.clap.specs.declared.builder.value_parser.ValueParser.TheVariants.{Unsigned}
 use Rattle.clap.specs.declared.error.Error.{Error}
 use Rattle.clap.specs.declared.error.kind.ErrorKind.TheVariants.{InvalidSubcommand}
 use Rattle.pon_job.specs.declared.task.TheConstants.{MAX_ALLOC, MAX_FRAME, MAX_MAPS, MAX_PORT, MIN_ALLOC}
+use Rattle.pon_job.specs.declared.task.Audit.{Audit as AuditOf}
 use Rattle.pon_job.specs.declared.task.Job.{Job}
 use Rattle.pon_job.specs.declared.task.Part.{Part}
 use Rattle.pon_job.specs.declared.task.Run.{Run as RunOf}
 use Rattle.pon_job.specs.declared.task.Show.{Show as Shown}
 use Rattle.pon_job.specs.declared.task.View.{View}
-use Rattle.pon_job.specs.declared.task.View.TheVariants.{Info, Rates, Why, Dump, Picture}
+use Rattle.pon_job.specs.declared.task.View.TheVariants.{Info, Rates, Why, Dump, Picture, Loads}
 use Rattle.pon_job.specs.declared.task.Job.TheVariants.{Plan, Check, Audit, Show, Migrate, Run}
 
 -- an argument that is given by its place, and is required
@@ -38,9 +39,13 @@ number_rule id low high = record (option_rule id) { parser = Some (Unsigned low 
 abbrev pub flag_rule : List ℕ → Rule
 flag_rule id = record (new_rule id) { long = Some id; action = Some SetTrue }
 
--- the file of `check`, of `audit`, of `migrate` and of each view
+-- the file of `check`, of `migrate` and of each view
 abbrev pub file_rule : Rule
 file_rule = place_rule (codes "file")
+
+-- the files of `audit`, one or more
+abbrev pub files_rule : Rule
+files_rule = record file_rule { action = Some Append }
 
 -- the file that `migrate` writes
 abbrev pub out_rule : Rule
@@ -81,6 +86,10 @@ port_rule = number_rule (codes "port") 0 MAX_PORT
 abbrev pub alloc_rule : Rule
 alloc_rule = number_rule (codes "alloc") MIN_ALLOC MAX_ALLOC
 
+-- the Alloc-ID of `loads`, which is required
+abbrev pub needed_alloc_rule : Rule
+needed_alloc_rule = record alloc_rule { required = true }
+
 abbrev pub frame_rule : Rule
 frame_rule = number_rule (codes "frame") 0 MAX_FRAME
 
@@ -90,7 +99,7 @@ from_rule = number_rule (codes "from") 0 MAX_FRAME
 abbrev pub to_rule : Rule
 to_rule = number_rule (codes "to") 0 MAX_FRAME
 
--- the format that a view is printed in
+-- the format that a view or verdicts are printed in
 abbrev pub format_rule : Rule
 format_rule = option_rule (codes "format")
 
@@ -109,7 +118,7 @@ abbrev pub check_shape : Shape
 check_shape = shape_with (codes "check") (file_rule ∷ [])
 
 abbrev pub audit_shape : Shape
-audit_shape = shape_with (codes "audit") (file_rule ∷ [])
+audit_shape = shape_with (codes "audit") (files_rule ∷ format_rule ∷ [])
 
 abbrev pub info_shape : Shape
 info_shape = shape_with (codes "info") (file_rule ∷ format_rule ∷ [])
@@ -125,6 +134,9 @@ dump_shape = shape_with (codes "dump") (file_rule ∷ port_rule ∷ [])
 
 abbrev pub picture_shape : Shape
 picture_shape = shape_with (codes "picture") (file_rule ∷ port_rule ∷ frame_rule ∷ svg_rule ∷ [])
+
+abbrev pub loads_shape : Shape
+loads_shape = shape_with (codes "loads") (file_rule ∷ needed_alloc_rule ∷ port_rule ∷ from_rule ∷ to_rule ∷ svg_rule ∷ [])
 
 abbrev pub migrate_shape : Shape
 migrate_shape = shape_with (codes "migrate") (file_rule ∷ out_rule ∷ [])
@@ -152,7 +164,7 @@ leaf shape = record { top = shape; subs = [] }
 abbrev pub olt_app : App
 olt_app = record {
   top = record top_shape { is_leaf = false };
-  subs = plan_shape ∷ check_shape ∷ audit_shape ∷ info_shape ∷ rates_shape ∷ why_shape ∷ dump_shape ∷ picture_shape ∷ migrate_shape ∷ run_shape ∷ [];
+  subs = plan_shape ∷ check_shape ∷ audit_shape ∷ info_shape ∷ rates_shape ∷ why_shape ∷ dump_shape ∷ picture_shape ∷ loads_shape ∷ migrate_shape ∷ run_shape ∷ [];
 }
 
 -- the command has this definition, and no global argument
@@ -167,12 +179,13 @@ word_of_view Rates = codes "rates"
 word_of_view Why = codes "why"
 word_of_view Dump = codes "dump"
 word_of_view Picture = codes "picture"
+word_of_view Loads = codes "loads"
 
 -- the subcommand of a job
 abbrev pub word_of : Job → List ℕ
 word_of (Plan config) = codes "plan"
 word_of (Check file) = codes "check"
-word_of (Audit file) = codes "audit"
+word_of (Audit audit) = codes "audit"
 word_of (Show shown) = word_of_view shown.view
 word_of (Migrate file out) = codes "migrate"
 word_of (Run run) = codes "run"
@@ -213,6 +226,11 @@ IsFormat None json = json ≡ false
 IsFormat (Some text) true = text ≡ codes "json"
 IsFormat (Some text) false = text ≡ codes "text"
 
+-- the matches of `audit` have these values
+pub record IsAudit (rows : List Row) (audit : AuditOf) : Type 0 where
+  pub recordings : all_of (codes "file") rows ≡ Some (map (λ name. name.now) audit.files.items)
+  pub format : IsFormat (first_of (codes "format") rows) audit.json
+
 -- the matches of a view have these values
 pub record IsShown (rows : List Row) (shown : Shown) : Type 0 where
   pub recording : first_of (codes "file") rows ≡ Some shown.file.now
@@ -233,7 +251,7 @@ pub record IsRun (rows : List Row) (run : RunOf) : Type 0 where
 abbrev pub HasValues : List Row → Job → Type 0
 HasValues rows (Plan config) = first_of (codes "config") rows ≡ option_map (λ name. name.now) config
 HasValues rows (Check file) = first_of (codes "file") rows ≡ Some file.now
-HasValues rows (Audit file) = first_of (codes "file") rows ≡ Some file.now
+HasValues rows (Audit audit) = IsAudit rows audit
 HasValues rows (Show shown) = IsShown rows shown
 HasValues rows (Migrate file out) = (first_of (codes "file") rows ≡ Some file.now) × (first_of (codes "out") rows ≡ Some out.now)
 HasValues rows (Run run) = IsRun rows run

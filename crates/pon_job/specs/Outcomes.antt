@@ -40,7 +40,7 @@ outcome_of_ports (Err fault) = Failed fault
 abbrev pub outcome_of_job : Job → Result Bool DeviceFault → Outcome
 outcome_of_job (Plan config) ended = outcome_of_run ended
 outcome_of_job (Check file) ended = outcome_of_check ended
-outcome_of_job (Audit file) ended = outcome_of_check ended
+outcome_of_job (Audit audit) ended = outcome_of_check ended
 outcome_of_job (Show shown) ended = outcome_of_check ended
 outcome_of_job (Migrate file out) ended = outcome_of_check ended
 outcome_of_job (Run run) ended = outcome_of_ports ended

@@ -9,11 +9,11 @@ ghost use Rattle.pon_job.specs.Jobs.{HasFlag, HasNumber, IsFormat, IsJob, IsPart
 
 use crate::commands::olt_command;
 use crate::task::{
-    Job, MAX_ALLOC, MAX_FRAME, MAX_MAPS, MAX_PORT, MIN_ALLOC, Part, Run, Show, View,
+    Audit, Job, MAX_ALLOC, MAX_FRAME, MAX_MAPS, MAX_PORT, MIN_ALLOC, Part, Run, Show, View,
 };
 use clap::error::ErrorKind;
 use clap::{ArgMatches, Error};
-use std::alloc::Global;
+use std::alloc::{AllocError, Global};
 
 /// What is said of words that clap accepts, and that name no job.
 const NO_JOB: &str = "a format is text or json";
@@ -143,6 +143,9 @@ fn view_of(name: &str) -> Option<View>
     if name == "picture" {
         return Some(View::Picture);
     }
+    if name == "loads" {
+        return Some(View::Loads);
+    }
     None
 }
 
@@ -166,12 +169,41 @@ fn shown_by<'a>(view: View, found: &ArgMatches<'a>) -> Option<Job<'a>>
     }))
 }
 
-// Returns the job that the subcommand of the matches gives.
-fn job_of<'a>(matches: &ArgMatches<'a>) -> Option<Job<'a>>
-    ensures some { IfSome result (IsJob (subcommand_rows_of matches.now)) }
-    ensures none { IsNone result → NamesNoJob (subcommand_rows_of matches.now) }
+// Copies the files of an audit.
+fn files_of<'a>(alloc: Global, names: &[&'a str]) -> Result<Vec<&'a str>, AllocError>
+    ensures { IfOk result (λ files. files.items ≡ names.now) }
 {
-    let (name, found) = matches.subcommand()?;
+    let mut files = Vec::new(alloc);
+    files.extend_from_slice(names)?;
+    Ok(files)
+}
+
+// Returns the audit that the matches of its subcommand give. `Err` only if memory is refused.
+fn audit_of<'a>(alloc: Global, found: &ArgMatches<'a>) -> Result<Option<Job<'a>>, AllocError>
+    ensures some { IfOk result (λ job. IfSome job
+        (IsJob (Some (codes "audit", rows_of (found_of found.now))))) }
+    ensures none { IfOk result (λ job. IsNone job
+        → NamesNoJob (Some (codes "audit", rows_of (found_of found.now)))) }
+{
+    let names = match found.get_strs("file") {
+        Some(names) => names,
+        None => return Ok(None),
+    };
+    let format = found.get_str("format");
+    let json = match is_json(format) {
+        Some(json) => json,
+        None => return Ok(None),
+    };
+    let files = files_of(alloc, names)?;
+    Ok(Some(Job::Audit(Audit { files, json })))
+}
+
+// Returns the job that a subcommand other than `audit` gives.
+fn other_job_of<'a>(name: &str, found: &ArgMatches<'a>) -> Option<Job<'a>>
+    ensures some { IfSome result (IsJob (Some (name.now, rows_of (found_of found.now)))) }
+    ensures none { IsNone result → ¬ (name.now ≡ codes "audit")
+        → NamesNoJob (Some (name.now, rows_of (found_of found.now))) }
+{
     if name == "plan" {
         let config = found.get_str("config");
         return Some(Job::Plan { config });
@@ -179,10 +211,6 @@ fn job_of<'a>(matches: &ArgMatches<'a>) -> Option<Job<'a>>
     if name == "check" {
         let file = found.get_str("file")?;
         return Some(Job::Check { file });
-    }
-    if name == "audit" {
-        let file = found.get_str("file")?;
-        return Some(Job::Audit { file });
     }
     if let Some(view) = view_of(name) {
         return shown_by(view, found);
@@ -196,6 +224,22 @@ fn job_of<'a>(matches: &ArgMatches<'a>) -> Option<Job<'a>>
     None
 }
 
+// Returns the job that the subcommand of the matches gives. `Err` only if memory is refused.
+fn job_of<'a>(alloc: Global, matches: &ArgMatches<'a>) -> Result<Option<Job<'a>>, AllocError>
+    ensures some { IfOk result (λ job. IfSome job (IsJob (subcommand_rows_of matches.now))) }
+    ensures none { IfOk result (λ job. IsNone job → NamesNoJob (subcommand_rows_of matches.now)) }
+{
+    match matches.subcommand() {
+        None => Ok(None),
+        Some((name, found)) => {
+            if name == "audit" {
+                return audit_of(alloc, found);
+            }
+            Ok(other_job_of(name, found))
+        }
+    }
+}
+
 /// Parses the words of the command line, the program's name first, and returns the job of their subcommand, with the
 /// values of its arguments.
 ///
@@ -207,7 +251,7 @@ pub fn job<'a>(alloc: Global, words: &'a [String]) -> Result<Job<'a>, Error>
 {
     let mut command = olt_command(alloc)?;
     let matches = command.try_get_matches_from_mut(words)?;
-    if let Some(job) = job_of(&matches) {
+    if let Some(job) = job_of(alloc, &matches)? {
         return Ok(job);
     }
     Err(command.error(ErrorKind::InvalidSubcommand, NO_JOB)?)

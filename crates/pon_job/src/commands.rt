@@ -5,8 +5,8 @@ ghost use Rattle.clap.specs.Walk.{rule_of};
 ghost use Rattle.clap.specs.Simple.{app_of};
 ghost use Rattle.std.specs.Prelude.{map};
 ghost use Rattle.pon_job.specs.Jobs.{AreLocal, IsDefined, leaf, olt_app, shape_with};
-ghost use Rattle.pon_job.specs.Jobs.{alloc_rule, config_rule, file_rule, flag_rule, frame_rule, format_rule, from_rule, listen_rule, maps_rule, needed_config_rule, number_rule, operate_rule, option_rule, out_rule, place_rule, port_rule, record_rule, settle_rule, svg_rule, to_rule};
-ghost use Rattle.pon_job.specs.Jobs.{audit_shape, check_shape, dump_shape, info_shape, migrate_shape, picture_shape, plan_shape, rates_shape, run_shape, top_shape, why_shape};
+ghost use Rattle.pon_job.specs.Jobs.{alloc_rule, config_rule, file_rule, files_rule, flag_rule, frame_rule, format_rule, from_rule, listen_rule, maps_rule, needed_alloc_rule, needed_config_rule, number_rule, operate_rule, option_rule, out_rule, place_rule, port_rule, record_rule, settle_rule, svg_rule, to_rule};
+ghost use Rattle.pon_job.specs.Jobs.{audit_shape, check_shape, dump_shape, info_shape, loads_shape, migrate_shape, picture_shape, plan_shape, rates_shape, run_shape, top_shape, why_shape};
 
 use crate::task::{MAX_ALLOC, MAX_FRAME, MAX_MAPS, MAX_PORT, MIN_ALLOC};
 use clap::builder::ValueParser;
@@ -67,6 +67,13 @@ fn recording_arg<'a>(alloc: Global) -> Arg<'a>
     ensures local { result.global ≡ false }
 {
     place_arg(alloc, "file", "FILE", "The recording")
+}
+
+fn recordings_arg<'a>(alloc: Global) -> Arg<'a>
+    ensures rule { rule_of result ≡ files_rule }
+    ensures local { result.global ≡ false }
+{
+    place_arg(alloc, "file", "FILE", "The recordings").action(ArgAction::Append)
 }
 
 fn out_arg<'a>(alloc: Global) -> Arg<'a>
@@ -217,8 +224,8 @@ fn check_command<'a>(alloc: Global) -> Result<Command<'a>, AllocError>
 fn audit_command<'a>(alloc: Global) -> Result<Command<'a>, AllocError>
     ensures { IfOk result (IsDefined (leaf audit_shape)) }
 {
-    let about = "Judge a recording: each entry and each map of it";
-    let args = Vec::from_array(alloc, [recording_arg(alloc)])?;
+    let about = "Judge recordings: each entry and each map of them";
+    let args = Vec::from_array(alloc, [recordings_arg(alloc), format_arg(alloc)])?;
     command(alloc, "audit", about, args)
 }
 
@@ -289,6 +296,24 @@ fn picture_command<'a>(alloc: Global) -> Result<Command<'a>, AllocError>
     command(alloc, "picture", about, args)
 }
 
+fn loads_command<'a>(alloc: Global) -> Result<Command<'a>, AllocError>
+    ensures { IfOk result (IsDefined (leaf loads_shape)) }
+{
+    let about = "Print what an Alloc-ID requested and got, along the frames of a recording";
+    let args = Vec::from_array(
+        alloc,
+        [
+            recording_arg(alloc),
+            alloc_arg(alloc).required(true),
+            port_arg(alloc),
+            from_arg(alloc),
+            to_arg(alloc),
+            svg_arg(alloc),
+        ],
+    )?;
+    command(alloc, "loads", about, args)
+}
+
 fn migrate_command<'a>(alloc: Global) -> Result<Command<'a>, AllocError>
     ensures { IfOk result (IsDefined (leaf migrate_shape)) }
 {
@@ -341,6 +366,7 @@ pub(crate) fn olt_command<'a>(alloc: Global) -> Result<Command<'a>, AllocError>
         .subcommand(why_command(alloc)?)?
         .subcommand(dump_command(alloc)?)?
         .subcommand(picture_command(alloc)?)?
+        .subcommand(loads_command(alloc)?)?
         .subcommand(migrate_command(alloc)?)?
         .subcommand(run_command(alloc)?)
 }

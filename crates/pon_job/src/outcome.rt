@@ -77,7 +77,7 @@ pub fn outcome_of_job(job: &Job<'_>, ended: Result<bool, DeviceFault>) -> Outcom
 {
     match *job {
         Job::Plan { .. } => outcome_of_run(ended),
-        Job::Check { .. } | Job::Audit { .. } | Job::Show(_) | Job::Migrate { .. } => {
+        Job::Check { .. } | Job::Audit(_) | Job::Show(_) | Job::Migrate { .. } => {
             outcome_of_check(ended)
         }
         Job::Run(_) => outcome_of_ports(ended),

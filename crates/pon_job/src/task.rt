@@ -25,6 +25,8 @@ pub enum View {
     Dump,
     /// The time line of a map.
     Picture,
+    /// The loads and the rates of an Alloc-ID along the frames.
+    Loads,
 }
 
 /// The part of a recording that a view shows: each number chooses, and `None` leaves the choice open.
@@ -52,6 +54,13 @@ pub struct Show<'a> {
     pub json: bool,
 }
 
+/// An audit of the recordings `files`, each by itself; with `json` an object of each is printed in place of a line.
+#[derive(Debug, PartialEq, Eq, Drop)]
+pub struct Audit<'a> {
+    pub files: Vec<&'a str>,
+    pub json: bool,
+}
+
 /// A run: `maps` maps, 1 to `MAX_MAPS`, at each port of the settings file `config`, over sockets at the address `listen`;
 /// `record` is the file for a recording of their chapters, `operate` a file of management lines for an operator, and with
 /// `settle` each port is settled at the end with the receipts of all posts.
@@ -66,15 +75,15 @@ pub struct Run<'a> {
 }
 
 /// A job of the program.
-#[derive(Clone, Copy, Debug, PartialEq, Eq)]
+#[derive(Debug, PartialEq, Eq, Drop)]
 pub enum Job<'a> {
     /// Answer management lines from standard input, at the ports of the settings file `config`, or at one port if there
     /// is none.
     Plan { config: Option<&'a str> },
     /// Check the certificate of the check file `file`.
     Check { file: &'a str },
-    /// Audit the recording `file`.
-    Audit { file: &'a str },
+    /// Audit recordings.
+    Audit(Audit<'a>),
     /// Show a part of a recording.
     Show(Show<'a>),
     /// Write the recording `file` anew, in the present version of the format, as the file `out`.

@@ -1,7 +1,7 @@
 ghost use Rattle.std.specs.Prelude.{◌≡◌};
 ghost use Rattle.pon_look.specs.Sums.{is_within};
 
-use crate::query::RatesQuery;
+use crate::query::{LoadsQuery, RatesQuery};
 use pon_units::FrameNo;
 
 /// A range of frames of 125 µs, both ends included.
@@ -20,11 +20,24 @@ impl FrameRange {
     }
 }
 
+impl FrameRange {
+    // Makes the range of given ends; all frames without any.
+    fn between(from: Option<u64>, to: Option<u64>) -> FrameRange {
+        FrameRange {
+            first: from.unwrap_or(0),
+            last: to.unwrap_or(u64::MAX),
+        }
+    }
+}
+
 impl From<&RatesQuery> for FrameRange {
     fn from(query: &RatesQuery) -> FrameRange {
-        FrameRange {
-            first: query.from.unwrap_or(0),
-            last: query.to.unwrap_or(u64::MAX),
-        }
+        FrameRange::between(query.from, query.to)
+    }
+}
+
+impl From<&LoadsQuery> for FrameRange {
+    fn from(query: &LoadsQuery) -> FrameRange {
+        FrameRange::between(query.from, query.to)
     }
 }

@@ -63,7 +63,7 @@ fn write_chapter<W: DevWrite>(
 {
     let summary = summary_of(chapter);
     let bytes = end.saturating_sub(chapter.at as u64);
-    let line = chapter_line(alloc, format, &summary, &chapter.entries, bytes);
+    let line = chapter_line(alloc, format, &summary, chapter, bytes);
     match write_line(line, writer) {
         Ok(()) => match with_chapter(totals, &summary) {
             Some(sum) => Ok(sum),

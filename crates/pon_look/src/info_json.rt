@@ -2,11 +2,17 @@
 
 use crate::counts::cause_count;
 use crate::json::line_of;
+use crate::onus::OnuCounts;
 use crate::summary::{Summary, Totals};
+use crate::text::MAX_CAUSE;
 use pon_state::Entry;
 use pon_units::FrameNo;
 use serde_json::{Map, Value, json};
 use std::alloc::{AllocError, Global};
+use std::num::nearest_u64_to_f64;
+
+/// The frames of a second.
+const FRAMES_PER_SECOND: f64 = 8_000.0;
 
 // Makes the value of a frame, or null.
 fn frame_json(frame: Option<FrameNo>) -> Value {
@@ -16,10 +22,15 @@ fn frame_json(frame: Option<FrameNo>) -> Value {
     }
 }
 
+/// The line time of maps, in seconds.
+pub(crate) fn line_seconds(maps: u64) -> Value {
+    Value::from(nearest_u64_to_f64(maps) / FRAMES_PER_SECOND)
+}
+
 // Makes the object of the numbers of failures, by the cause.
-fn causes_json(alloc: Global, entries: &[Entry], max_cause: u8) -> Result<Value, AllocError> {
+fn causes_json(alloc: Global, entries: &[Entry]) -> Result<Value, AllocError> {
     let mut causes = Map::new(alloc);
-    for cause in 1..=max_cause {
+    for cause in 1..=MAX_CAUSE {
         let count = cause_count(cause, entries);
         if count > 0 {
             causes.insert(format!(in alloc; "{cause}")?, Value::from(count))?;
@@ -32,18 +43,20 @@ fn causes_json(alloc: Global, entries: &[Entry], max_cause: u8) -> Result<Value,
 pub(crate) fn chapter_json(
     alloc: Global,
     summary: &Summary,
+    onus: OnuCounts,
     entries: &[Entry],
-    max_cause: u8,
     bytes: u64,
 ) -> Result<String, AllocError> {
     let (port, number) = (summary.port.get(), summary.number);
     let (first, last) = (frame_json(summary.first), frame_json(summary.last));
     let (maps, reports, failures) = (summary.maps, summary.reports, summary.failures);
     let (allocs, allocs_end) = (summary.allocs, summary.allocs_end);
-    let causes = causes_json(alloc, entries, max_cause)?;
+    let causes = causes_json(alloc, entries)?;
+    let (onus, onus_end, seconds) = (onus.opening, onus.end, line_seconds(maps));
     let value = json!(in alloc; {
-        "port": port, "chapter": number, "bytes": bytes, "first": &first, "last": &last, "maps": maps, "reports": reports,
-        "allocs": allocs, "allocs_end": allocs_end, "failures": failures, "causes": &causes
+        "port": port, "chapter": number, "bytes": bytes, "first": &first, "last": &last, "seconds": &seconds, "maps": maps,
+        "reports": reports, "allocs": allocs, "allocs_end": allocs_end, "onus": onus, "onus_end": onus_end,
+        "failures": failures, "causes": &causes
     })?;
     line_of(alloc, &value)
 }
@@ -63,8 +76,9 @@ pub(crate) fn missing_json(
 pub(crate) fn total_json(alloc: Global, totals: &Totals, bytes: u64) -> Result<String, AllocError> {
     let (chapters, maps) = (totals.chapters, totals.maps);
     let (reports, failures) = (totals.reports, totals.failures);
+    let seconds = line_seconds(maps);
     let value = json!(in alloc; {
-        "chapters": chapters, "bytes": bytes, "maps": maps, "reports": reports, "failures": failures
+        "chapters": chapters, "bytes": bytes, "seconds": &seconds, "maps": maps, "reports": reports, "failures": failures
     })?;
     line_of(alloc, &value)
 }

@@ -4,10 +4,11 @@ ghost use Rattle.std.specs.Prelude.{◌≡◌, length};
 ghost use Rattle.pon_look.specs.declared.sums.TheConstants.{PLACES};
 
 use crate::explain::Explanation;
+use crate::series::Series;
 use crate::sums::{PLACES, words_of};
 use pon_admit::Row;
 use pon_bwmap::Alloc;
-use pon_units::FrameNo;
+use pon_units::{AllocId, FrameNo};
 use std::alloc::{AllocError, Global};
 
 /// The frame of the first map from which on an Alloc-ID has this ONU and this descriptor.
@@ -67,11 +68,20 @@ struct Seen {
     row: Option<Row>,
 }
 
-/// The runs of each Alloc-ID, and the changes of ONU or descriptor in the order of the maps.
+// An Alloc-ID, and what the maps give it along the frames.
+#[derive(Drop)]
+struct Followed {
+    alloc_id: AllocId,
+    series: Series,
+}
+
+/// The runs of each Alloc-ID, the changes of ONU or descriptor in the order of the maps, and the series of one Alloc-ID if
+/// one is followed.
 #[derive(Drop)]
 pub struct Notes {
     seen: Vec<Seen>,
     changes: Vec<Change>,
+    followed: Option<Followed>,
     ghost places: { length seen.items ≡ PLACES },
 }
 
@@ -85,7 +95,34 @@ impl Notes {
         Ok(Notes {
             seen: vec![in alloc; nothing; PLACES]?,
             changes: Vec::new(alloc),
+            followed: None,
         })
+    }
+
+    /// Follows an Alloc-ID along the frames, from the next map on.
+    pub(crate) fn follow(&mut self, alloc: Global, alloc_id: AllocId) {
+        let series = Series::new(alloc);
+        self.followed = Some(Followed { alloc_id, series });
+    }
+
+    /// The series of the Alloc-ID that is followed.
+    pub(crate) fn series(&self) -> Option<&Series> {
+        Some(&self.followed.as_ref()?.series)
+    }
+
+    // Adds a row of the map of a frame and its structure to the series, if it is of the Alloc-ID that is followed.
+    fn note_followed(
+        &mut self,
+        frame: FrameNo,
+        explained: &Explanation,
+        structure: &Alloc,
+    ) -> Result<(), AllocError> {
+        match &mut self.followed {
+            Some(Followed { alloc_id, series }) if *alloc_id == explained.row.alloc_id => {
+                series.add_map(frame, explained, structure)
+            }
+            _ => Ok(()),
+        }
     }
 
     /// The changes, in the order of the maps.
@@ -113,6 +150,7 @@ impl Notes {
         let before = self.seen[place];
         let idle = before.idle.after(frame, words_of(structure));
         let row = Some(explained.row);
+        self.note_followed(frame, explained, structure)?;
         self.seen[place] = Seen { idle, row };
         if before.row != row {
             self.changes.push(Change {

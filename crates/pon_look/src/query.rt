@@ -23,6 +23,19 @@ impl RatesQuery {
     }
 }
 
+/// Which Alloc-ID `olt loads` follows, and along which frames.
+#[derive(Clone, Copy, Debug, PartialEq, Eq)]
+pub struct LoadsQuery {
+    /// The port, 0 to 63; `None` for the first one in the recording.
+    pub port: Option<PortNo>,
+    /// The Alloc-ID, 1024 to 16383.
+    pub alloc_id: AllocId,
+    /// The first frame, of 125 µs.
+    pub from: Option<u64>,
+    /// The last frame, of 125 µs.
+    pub to: Option<u64>,
+}
+
 /// Which map `olt why` explains.
 #[derive(Clone, Copy, Debug, PartialEq, Eq)]
 pub struct WhyQuery {

@@ -112,14 +112,16 @@ impl Reports {
         }
     }
 
-    // Takes note of a report of an ONU for the map of a frame.
+    // Takes note of a report of an ONU for the map of a frame. The rows are in map order, so those of an ONU stand together.
     fn add_report(&mut self, rows: &[Explanation], frame: FrameNo, onu: OnuId, occ: &Occupancies) {
-        for row in rows {
+        let first = rows.partition_point(|row| row.row.onu.get() < onu.get());
+        for row in rows.iter().skip(first) {
+            if row.row.onu != onu {
+                return;
+            }
             let number = usize::from(row.row.alloc_id.get());
-            if row.row.onu == onu {
-                if let Some(report) = self.table[number] {
-                    self.table[number] = Some(report.after_report(frame.get(), occ.as_slice()));
-                }
+            if let Some(report) = self.table[number] {
+                self.table[number] = Some(report.after_report(frame.get(), occ.as_slice()));
             }
         }
     }

@@ -71,6 +71,20 @@ pub fn with_row(sums: Sums, row: &Explanation, structure: &Alloc) -> Option<Sums
     })
 }
 
+/// Adds sums to sums; `None` if a sum is 2^64 or more.
+pub fn with_sums(sums: Sums, others: &Sums) -> Option<Sums>
+    ensures { IfSome result (λ new. new ≡ plus sums others.now) }
+{
+    Some(Sums {
+        maps: sums.maps.checked_add(others.maps)?,
+        load: sums.load.checked_add(others.load)?,
+        guaranteed: sums.guaranteed.checked_add(others.guaranteed)?,
+        surplus: sums.surplus.checked_add(others.surplus)?,
+        granted: sums.granted.checked_add(others.granted)?,
+        below: sums.below.checked_add(others.below)?,
+    })
+}
+
 // Adds a row and its structure to the sums of its Alloc-ID. Returns false if a sum is 2^64 or more.
 fn add_row(table: &mut [Sums], row: &Explanation, structure: &Alloc) -> bool
     requires { length table.old ≡ PLACES }

@@ -2,6 +2,9 @@
 
 use crate::drawing::{Drawing, FRAME_WORDS, Grant, Micros, OnuName, class_name};
 use crate::parts::{Burst, HEADER_WORDS};
+use crate::svg_parts::{
+    BAR, BLUE, GREEN, GREY, LETTERS, ORANGE, ROW, head_text, push_legend, push_text,
+};
 use pon_admit::Row;
 use pon_descr::Class;
 use std::alloc::{AllocError, Global};
@@ -11,38 +14,22 @@ const LEFT: u64 = 1_000;
 
 const RIGHT: u64 = 300;
 
-/// Units above the first burst, of a row, and of its bar.
+/// Units above the first burst.
 const TOP: u64 = 500;
-
-const ROW: u64 = 220;
-
-const BAR: u64 = 160;
-
-/// Units of the letters.
-const LETTERS: u64 = 140;
 
 /// Words between two marks of the scale.
 const MARK_WORDS: u64 = 1_620;
-
-/// Colours.
-const GAP_COLOUR: &str = "#d9d9d9";
 
 const EDGE_COLOUR: &str = "#333333";
 
 const NO_COLOUR: &str = "#999999";
 
-const GUARANTEED_COLOUR: &str = "#4e79a7";
-
-const NON_ASSURED_COLOUR: &str = "#59a14f";
-
-const BEST_EFFORT_COLOUR: &str = "#f28e2b";
-
 /// The meaning of the colours, from left to right.
 const LEGEND: [(u64, &str, &str); 4] = [
-    (1_000, GUARANTEED_COLOUR, "guaranteed only"),
-    (3_000, NON_ASSURED_COLOUR, "non-assured"),
-    (5_000, BEST_EFFORT_COLOUR, "best effort"),
-    (7_000, GAP_COLOUR, "gap"),
+    (1_000, BLUE, "guaranteed only"),
+    (3_000, GREEN, "non-assured"),
+    (5_000, ORANGE, "best effort"),
+    (7_000, GREY, "gap"),
 ];
 
 /// Where a part is drawn: its first word, its words, and its row.
@@ -62,9 +49,9 @@ fn colour_of(row: Option<Row>) -> &'static str {
     match row {
         None => NO_COLOUR,
         Some(row) => match row.descriptor.class() {
-            Class::Plain => GUARANTEED_COLOUR,
-            Class::NonAssured => NON_ASSURED_COLOUR,
-            Class::BestEffort => BEST_EFFORT_COLOUR,
+            Class::Plain => BLUE,
+            Class::NonAssured => GREEN,
+            Class::BestEffort => ORANGE,
         },
     }
 }
@@ -83,17 +70,6 @@ fn push_bar(
     let line = format!(in alloc;
         "<rect x=\"{x}\" y=\"{y}\" width=\"{words}\" height=\"{BAR}\" fill=\"{colour}\"><title>{title}: {words} words from {first} to before {end}, {time} us from {at} us</title></rect>\n"
     )?;
-    text.push_str(line.as_str())
-}
-
-fn push_text(
-    alloc: Global,
-    text: &mut String,
-    x: u64,
-    y: u64,
-    words: &str,
-) -> Result<(), AllocError> {
-    let line = format!(in alloc; "<text x=\"{x}\" y=\"{y}\">{words}</text>\n")?;
     text.push_str(line.as_str())
 }
 
@@ -166,7 +142,7 @@ fn push_burst(
     )?;
     let words = drawing.gap.min(burst.header);
     let first = burst.header - words;
-    push_bar(alloc, text, Place { first, words, row }, GAP_COLOUR, "gap")?;
+    push_bar(alloc, text, Place { first, words, row }, GREY, "gap")?;
     push_edge(alloc, text, burst.header, row, "header")?;
     push_grants(alloc, text, drawing, burst, row)?;
     push_edge(alloc, text, burst.trailer, row, "trailer")
@@ -195,19 +171,6 @@ fn push_scale(alloc: Global, text: &mut String, bottom: u64) -> Result<(), Alloc
     Ok(())
 }
 
-// Appends what the colours mean.
-fn push_legend(alloc: Global, text: &mut String, top: u64) -> Result<(), AllocError> {
-    let low = top.saturating_add(LETTERS);
-    for (x, colour, name) in LEGEND {
-        let line = format!(in alloc;
-            "<rect x=\"{x}\" y=\"{top}\" width=\"{BAR}\" height=\"{BAR}\" fill=\"{colour}\"/>\n"
-        )?;
-        text.push_str(line.as_str())?;
-        push_text(alloc, text, x.saturating_add(ROW), low, name)?;
-    }
-    Ok(())
-}
-
 /// The picture of a map as SVG: a row for each burst, its colours by class, and the numbers of a part as its title.
 pub(crate) fn svg_text(
     alloc: Global,
@@ -216,14 +179,12 @@ pub(crate) fn svg_text(
 ) -> Result<String, AllocError> {
     let bottom = top_of(drawing.bursts.len() as u64);
     let (width, height) = (LEFT + FRAME_WORDS + RIGHT, bottom.saturating_add(2 * ROW));
-    let mut text = format!(in alloc;
-        "<svg xmlns=\"http://www.w3.org/2000/svg\" viewBox=\"0 0 {width} {height}\" font-family=\"sans-serif\" font-size=\"{LETTERS}\">\n<title>{heading}</title>\n<rect width=\"{width}\" height=\"{height}\" fill=\"#ffffff\"/>\n"
-    )?;
+    let mut text = head_text(alloc, width, height, heading)?;
     push_scale(alloc, &mut text, bottom)?;
     for (row, burst) in drawing.bursts.iter().enumerate() {
         push_burst(alloc, &mut text, drawing, burst, row as u64)?;
     }
-    push_legend(alloc, &mut text, bottom.saturating_add(ROW / 2))?;
+    push_legend(alloc, &mut text, bottom.saturating_add(ROW / 2), &LEGEND)?;
     text.push_str("</svg>\n")?;
     Ok(text)
 }

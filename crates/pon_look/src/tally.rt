@@ -17,6 +17,7 @@ use crate::explain::Explanation;
 use crate::frame_range::FrameRange;
 use crate::notes::{Change, Notes};
 use crate::replay::{Replay, explain_map, open_replay};
+use crate::series::Series;
 use crate::sums::{PLACES, Sums, add_map};
 use pon_audit::take_entry;
 use pon_bwmap::Alloc;
@@ -40,6 +41,18 @@ impl PortTally {
             sums: vec![in alloc; Sums::NONE; PLACES]?,
             notes: Notes::new(alloc)?,
         })
+    }
+
+    /// Makes the tally of no maps that follows an Alloc-ID along the frames. `Err` only if memory is refused.
+    pub(crate) fn following(alloc: Global, alloc_id: AllocId) -> Result<PortTally, AllocError> {
+        let mut tally = PortTally::new(alloc)?;
+        tally.notes.follow(alloc, alloc_id);
+        Ok(tally)
+    }
+
+    /// The series of the Alloc-ID that is followed.
+    pub(crate) fn series(&self) -> Option<&Series> {
+        self.notes.series()
     }
 
     /// The ONU and the descriptors of each Alloc-ID, in the order of the maps.

@@ -2,16 +2,18 @@
 
 use crate::counts::cause_count;
 use crate::info_json::{chapter_json, missing_json, total_json};
+use crate::onus::onu_counts;
 use crate::query::Format;
 use crate::summary::{Summary, Totals};
+use pon_record::RawChapter;
 use pon_state::Entry;
 use std::alloc::{AllocError, Global};
 
 // The length of a frame, in microseconds.
 const FRAME_MICROSECONDS: u64 = 125;
 
-// The greatest number of a cause.
-const MAX_CAUSE: u8 = 9;
+/// The greatest number of a cause.
+pub(crate) const MAX_CAUSE: u8 = 9;
 
 // Writes the line time of maps, in seconds with six decimal places.
 fn seconds_text(alloc: Global, maps: u64) -> Result<String, AllocError> {
@@ -48,11 +50,13 @@ pub(crate) fn chapter_line(
     alloc: Global,
     format: Format,
     summary: &Summary,
-    entries: &[Entry],
+    chapter: &RawChapter,
     bytes: u64,
 ) -> Result<String, AllocError> {
+    let onus = onu_counts(alloc, chapter)?;
+    let entries = chapter.entries.as_slice();
     if format == Format::Json {
-        return chapter_json(alloc, summary, entries, MAX_CAUSE, bytes);
+        return chapter_json(alloc, summary, onus, entries, bytes);
     }
     let (port, number) = (summary.port.get(), summary.number);
     let frames = frames_text(alloc, summary)?;
@@ -60,8 +64,9 @@ pub(crate) fn chapter_line(
     let causes = causes_text(alloc, entries)?;
     let (maps, reports, failures) = (summary.maps, summary.reports, summary.failures);
     let (allocs, allocs_end) = (summary.allocs, summary.allocs_end);
+    let (onus, onus_end) = (onus.opening, onus.end);
     format!(in alloc;
-        "port {port} chapter {number} bytes {bytes} frames {frames} seconds {seconds} maps {maps} reports {reports} allocs {allocs} to {allocs_end} failures {failures}{causes}\n"
+        "port {port} chapter {number} bytes {bytes} frames {frames} seconds {seconds} maps {maps} reports {reports} allocs {allocs} to {allocs_end} onus {onus} to {onus_end} failures {failures}{causes}\n"
     )
 }
 

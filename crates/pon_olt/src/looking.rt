@@ -2,11 +2,11 @@
 
 use crate::files::{open_file, replace_file};
 use pon_audit::audit_from;
-use pon_device::{DeviceFault, StdRead, StdWrite, write_text};
+use pon_device::{DevRead, DevWrite, DeviceFault, StdRead, StdWrite, write_text};
 use pon_job::{Failure, Named, Part, Show, View};
 use pon_look::{
-    Answer, CountedBytes, Format, RatesQuery, WhyQuery, picture_of, write_dump, write_info_as,
-    write_rates, write_why,
+    Answer, CountedBytes, Format, LoadsQuery, Missing, Picture, RatesQuery, WhyQuery, loads_of,
+    picture_of, write_dump, write_info_as, write_rates, write_why,
 };
 use pon_units::{AllocId, FrameNo, PortNo};
 use std::alloc::Global;
@@ -45,109 +45,6 @@ fn is_good<R: Files + Eprint + Threads + Sync>(
     }
 }
 
-// Prints what each chapter holds.
-fn show_chapters<R: Files + Print>(
-    rt: &R,
-    alloc: Global,
-    name: &str,
-    format: Format,
-) -> Result<Answer, Failure> {
-    let mut reader = CountedBytes::new(open_recording(rt, alloc, name)?);
-    let mut writer = StdWrite::new(io::writer(rt));
-    match write_info_as(alloc, &mut reader, format, &mut writer) {
-        Ok(()) => Ok(Answer::Shown),
-        Err(fault) => Err(Failure::in_reading(alloc, fault, Named::Recording(name))),
-    }
-}
-
-// Prints what the maps add up to.
-fn show_rates<R: Files + Print>(
-    rt: &R,
-    alloc: Global,
-    name: &str,
-    part: &Part,
-    format: Format,
-) -> Result<Answer, Failure> {
-    let query = RatesQuery {
-        port: port_of(part),
-        alloc: alloc_of(part),
-        from: part.from,
-        to: part.to,
-    };
-    let mut reader = open_recording(rt, alloc, name)?;
-    let mut writer = StdWrite::new(io::writer(rt));
-    match write_rates(alloc, &mut reader, query, format, &mut writer) {
-        Ok(answer) => Ok(answer),
-        Err(fault) => Err(Failure::in_reading(alloc, fault, Named::Recording(name))),
-    }
-}
-
-// Prints from which numbers a map follows.
-fn show_why<R: Files + Print>(
-    rt: &R,
-    alloc: Global,
-    name: &str,
-    part: &Part,
-    format: Format,
-) -> Result<Answer, Failure> {
-    let query = WhyQuery {
-        port: port_of(part),
-        frame: frame_of(part),
-        alloc: alloc_of(part),
-    };
-    let mut reader = open_recording(rt, alloc, name)?;
-    let mut writer = StdWrite::new(io::writer(rt));
-    match write_why(alloc, &mut reader, query, format, &mut writer) {
-        Ok(answer) => Ok(answer),
-        Err(fault) => Err(Failure::in_reading(alloc, fault, Named::Recording(name))),
-    }
-}
-
-// Prints the events as management lines.
-fn show_lines<R: Files + Print>(
-    rt: &R,
-    alloc: Global,
-    name: &str,
-    part: &Part,
-) -> Result<Answer, Failure> {
-    let mut reader = open_recording(rt, alloc, name)?;
-    let mut writer = StdWrite::new(io::writer(rt));
-    match write_dump(alloc, &mut reader, port_of(part), &mut writer) {
-        Ok(answer) => Ok(answer),
-        Err(fault) => Err(Failure::in_reading(alloc, fault, Named::Recording(name))),
-    }
-}
-
-// Prints the time line of a map, and writes its picture to the file `svg`, if there is one.
-fn show_picture<R: Files + Print>(
-    rt: &R,
-    alloc: Global,
-    name: &str,
-    part: &Part,
-    svg: Option<&str>,
-) -> Result<Answer, Failure> {
-    let mut reader = open_recording(rt, alloc, name)?;
-    let found = match picture_of(alloc, &mut reader, port_of(part), frame_of(part)) {
-        Ok(found) => found,
-        Err(fault) => return Err(Failure::in_reading(alloc, fault, Named::Recording(name))),
-    };
-    let picture = match found {
-        Ok(picture) => picture,
-        Err(missing) => return Ok(Answer::NotFound(missing)),
-    };
-    if let Some(file) = svg {
-        replace_file(
-            rt,
-            alloc,
-            Named::Picture(file),
-            file,
-            picture.svg.as_bytes(),
-        )?;
-    }
-    write_text(&mut StdWrite::new(io::writer(rt)), picture.text.as_bytes())?;
-    Ok(Answer::Shown)
-}
-
 // Returns the port of a part, if it names one.
 fn port_of(part: &Part) -> Option<PortNo> {
     PortNo::new(u8::try_from(part.port?).ok()?)
@@ -163,6 +60,107 @@ fn frame_of(part: &Part) -> Option<FrameNo> {
     part.frame.map(FrameNo::new)
 }
 
+// Returns the maps that a part names.
+fn maps_of(part: &Part) -> RatesQuery {
+    RatesQuery {
+        port: port_of(part),
+        alloc: alloc_of(part),
+        from: part.from,
+        to: part.to,
+    }
+}
+
+// Returns the map that a part names.
+fn map_of(part: &Part) -> WhyQuery {
+    WhyQuery {
+        port: port_of(part),
+        frame: frame_of(part),
+        alloc: alloc_of(part),
+    }
+}
+
+// Prints what each chapter holds.
+fn print_info<D: DevRead, W: DevWrite>(
+    alloc: Global,
+    reader: D,
+    format: Format,
+    writer: &mut W,
+) -> Result<Answer, DeviceFault> {
+    write_info_as(alloc, &mut CountedBytes::new(reader), format, writer)?;
+    Ok(Answer::Shown)
+}
+
+// Returns the Alloc-ID and the frames that a part names; `None` without an Alloc-ID.
+fn loads_query_of(part: &Part) -> Option<LoadsQuery> {
+    Some(LoadsQuery {
+        port: port_of(part),
+        alloc_id: alloc_of(part)?,
+        from: part.from,
+        to: part.to,
+    })
+}
+
+// Draws what a view shows: the loads of an Alloc-ID, or the time line of a map.
+fn draw<D: DevRead>(
+    alloc: Global,
+    reader: &mut D,
+    show: &Show<'_>,
+) -> Result<Result<Picture, Missing>, DeviceFault> {
+    match loads_query_of(&show.part) {
+        Some(query) if show.view == View::Loads => loads_of(alloc, reader, query),
+        _ => picture_of(alloc, reader, port_of(&show.part), frame_of(&show.part)),
+    }
+}
+
+// Prints a picture, and before that writes it to a file, if the command line names one.
+fn show_picture<R: Files, D: DevRead, W: DevWrite>(
+    rt: &R,
+    alloc: Global,
+    reader: &mut D,
+    show: &Show<'_>,
+    writer: &mut W,
+) -> Result<Answer, Failure> {
+    let picture = match draw(alloc, reader, show) {
+        Ok(Ok(picture)) => picture,
+        Ok(Err(missing)) => return Ok(Answer::NotFound(missing)),
+        Err(fault) => {
+            let named = Named::Recording(show.file);
+            return Err(Failure::in_reading(alloc, fault, named));
+        }
+    };
+    if let Some(file) = show.svg {
+        let named = Named::Picture(file);
+        replace_file(rt, alloc, named, file, picture.svg.as_bytes())?;
+    }
+    write_text(writer, picture.text.as_bytes())?;
+    Ok(Answer::Shown)
+}
+
+// Shows a part of a recording.
+fn show_part<R: Files + Print>(rt: &R, alloc: Global, show: &Show<'_>) -> Result<Answer, Failure> {
+    let mut reader = open_recording(rt, alloc, show.file)?;
+    let mut writer = StdWrite::new(io::writer(rt));
+    let format = if show.json {
+        Format::Json
+    } else {
+        Format::Text
+    };
+    let part = &show.part;
+    let shown = match show.view {
+        View::Info => print_info(alloc, reader, format, &mut writer),
+        View::Rates => write_rates(alloc, &mut reader, maps_of(part), format, &mut writer),
+        View::Why => write_why(alloc, &mut reader, map_of(part), format, &mut writer),
+        View::Dump => write_dump(alloc, &mut reader, port_of(part), &mut writer),
+        View::Picture | View::Loads => {
+            return show_picture(rt, alloc, &mut reader, show, &mut writer);
+        }
+    };
+    match shown {
+        Ok(answer) => Ok(answer),
+        Err(fault) => Err(Failure::in_reading(alloc, fault, Named::Recording(show.file))),
+    }
+}
+
 /// Shows a part of a recording, after the verdict of its audit on standard error if it is not good. Returns whether it is
 /// good and has that part; if it has not, standard error says what is missing.
 pub(crate) fn show_recording<R: Files + Print + Eprint + Threads + Sync>(
@@ -170,21 +168,8 @@ pub(crate) fn show_recording<R: Files + Print + Eprint + Threads + Sync>(
     alloc: Global,
     show: &Show<'_>,
 ) -> Result<bool, Failure> {
-    let (name, part) = (show.file, &show.part);
-    let good = is_good(rt, alloc, name)?;
-    let format = if show.json {
-        Format::Json
-    } else {
-        Format::Text
-    };
-    let answer = match show.view {
-        View::Info => show_chapters(rt, alloc, name, format)?,
-        View::Rates => show_rates(rt, alloc, name, part, format)?,
-        View::Why => show_why(rt, alloc, name, part, format)?,
-        View::Dump => show_lines(rt, alloc, name, part)?,
-        View::Picture => show_picture(rt, alloc, name, part, show.svg)?,
-    };
-    match answer {
+    let good = is_good(rt, alloc, show.file)?;
+    match show_part(rt, alloc, show)? {
         Answer::Shown => Ok(good),
         Answer::NotFound(missing) => {
             let _ = eprintln!(rt; "olt: {missing}");

@@ -16,7 +16,7 @@ mod looking;
 mod migrating;
 mod opening;
 
-use crate::auditing::audit_file;
+use crate::auditing::audit_files;
 use crate::files::open_file;
 use crate::looking::show_recording;
 use crate::migrating::migrate_file;
@@ -201,13 +201,13 @@ where
         Ok(job) => job,
         Err(error) => return print_outcome(rt, show(rt, &error)),
     };
-    let ended = match job {
-        Job::Plan { config } => run_plan(rt, alloc, config),
+    let ended = match &job {
+        Job::Plan { config } => run_plan(rt, alloc, *config),
         Job::Check { file } => judge_file(rt, alloc, file).map_err(NotOpened::Failed),
-        Job::Audit { file } => audit_file(rt, alloc, file).map_err(NotOpened::Failed),
-        Job::Show(show) => show_recording(rt, alloc, &show).map_err(NotOpened::Failed),
+        Job::Audit(audit) => audit_files(rt, alloc, audit).map_err(NotOpened::Failed),
+        Job::Show(show) => show_recording(rt, alloc, show).map_err(NotOpened::Failed),
         Job::Migrate { file, out } => migrate_file(rt, alloc, file, out).map_err(NotOpened::Failed),
-        Job::Run(run) => return run_settings(rt, alloc, &run),
+        Job::Run(run) => return run_settings(rt, alloc, run),
     };
     exit_status(outcome_of_end(rt, &job, ended))
 }

@@ -10,7 +10,7 @@ returns-in_err-matches-clause-refused c =
 
 pub returns-clause-refused : goal.returns-clause-refused
 returns-clause-refused c =
-    no_job_in _ _ c.in_ok-matches.matches c.in_ok-error.field-0 c.in_ok-command.ensures c.in_ok-error.ensures.kind c.in_ok-matches.ensures.kinds c.in_ok-matches.ensures.ok.2 (c.job_of.ensures.none (search rules))
+    no_job_in _ _ c.in_ok-matches.matches c.in_ok-error.field-0 c.in_ok-command.ensures c.in_ok-error.ensures.kind c.in_ok-matches.ensures.kinds c.in_ok-matches.ensures.ok.2 (c.in_ok-job.ensures.none (search rules))
 
 pub returns-in-Some-clause-job : goal.returns-in-Some-clause-job
 returns-in-Some-clause-job c =

@@ -11,5 +11,6 @@ returns c =
     let six = with_sub _ _ _ _ _ five c.in_ok-why_command.ensures c.in_ok-subcommand-6.ensures in
     let seven = with_sub _ _ _ _ _ six c.in_ok-dump_command.ensures c.in_ok-subcommand-7.ensures in
     let eight = with_sub _ _ _ _ _ seven c.in_ok-picture_command.ensures c.in_ok-subcommand-8.ensures in
-    let nine = with_sub _ _ _ _ _ eight c.in_ok-migrate_command.ensures c.in_ok-subcommand-9.ensures in
-    with_last_sub _ _ _ _ _ nine c.in_ok-run_command.ensures c.subcommand-10.ensures
+    let nine = with_sub _ _ _ _ _ eight c.in_ok-loads_command.ensures c.in_ok-subcommand-9.ensures in
+    let ten = with_sub _ _ _ _ _ nine c.in_ok-migrate_command.ensures c.in_ok-subcommand-10.ensures in
+    with_last_sub _ _ _ _ _ ten c.in_ok-run_command.ensures c.subcommand-11.ensures

@@ -1,4 +1,4 @@
-use Rattle.std.proofs.Common.{◌≡◌, ◌++◌, ◌+◌, ◌*◌, ◌≤◌, drop, length}
+use Rattle.std.proofs.Common.{◌≡◌, ◌++◌, ◌+◌, ◌*◌, ◌^◌, ◌≤◌, drop, length}
 use Rattle.pon_units.specs.declared.limits.TheConstants.{MAX_STRUCTURES}
 use Rattle.pon_look.specs.Places.{first_words}
 use Rattle.pon_look.proofs.parts.grant_places.Given as goal
@@ -7,5 +7,5 @@ use Rattle.pon_look.proofs.parts.grant_places.Given as goal
 abbrev pub invariant-loop-structure : goal.invariant-loop-structure
 invariant-loop-structure l =
     (first_words 0 l.structures ≡ l.places.items ++ first_words l.next (drop l.structure-index l.structures))
-    × (l.next ≤ 65536 * (l.structure-index + 1))
+    × (l.next ≤ 2 ^ 16 * (l.structure-index + 1))
     × (length l.structures ≤ MAX_STRUCTURES)

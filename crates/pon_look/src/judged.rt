@@ -1,0 +1,110 @@
+//! The verdict on a recording, as JSON.
+
+use crate::chapters::{next_chapter, open_chapters};
+use crate::counted::CountedBytes;
+use crate::counts::map_count;
+use crate::info::write_line;
+use crate::info_json::line_seconds;
+use crate::json::line_of;
+use pon_audit::Verdict;
+use pon_device::{DevRead, DevWrite, DeviceFault};
+use pon_units::MAX_PORTS;
+use serde_json::{Value, json};
+use std::alloc::{AllocError, Global};
+
+/// What a recording holds: whether it has a chapter of a port, and the number of maps.
+#[derive(Clone, Copy, Debug, PartialEq, Eq)]
+struct Contents {
+    ports: [bool; MAX_PORTS],
+    maps: u64,
+}
+
+// Reads what a recording holds, up to its end or the first fault of its format.
+fn read_contents<R: DevRead>(alloc: Global, reader: &mut R) -> Result<Contents, DeviceFault> {
+    let mut contents = Contents {
+        ports: [false; MAX_PORTS],
+        maps: 0,
+    };
+    let Some(mut source) = open_chapters(alloc, reader)? else {
+        return Ok(contents);
+    };
+    for _chapter in 0..u64::MAX {
+        let Some(chapter) = next_chapter(alloc, &mut source, reader)? else {
+            return Ok(contents);
+        };
+        contents.ports[usize::from(chapter.port.get())] = true;
+        contents.maps = contents.maps.saturating_add(map_count(&chapter.entries));
+    }
+    Err(DeviceFault::Memory)
+}
+
+// Makes the list of the ports.
+fn ports_json(alloc: Global, contents: &Contents) -> Result<Value, AllocError> {
+    let mut ports = Vec::new(alloc);
+    for (port, has_chapter) in contents.ports.iter().enumerate() {
+        if *has_chapter {
+            ports.push(Value::from(port as u64))?;
+        }
+    }
+    Ok(Value::Array(ports))
+}
+
+// Makes the place of a fault, or null.
+fn place_json(alloc: Global, verdict: &Verdict) -> Result<Value, AllocError> {
+    match *verdict {
+        Verdict::Good { .. } => Ok(Value::Null),
+        Verdict::Bad {
+            port,
+            chapter,
+            index,
+            why,
+        } => {
+            let (port, why) = (port.get(), format!(in alloc; "{why}")?);
+            json!(in alloc; {"port": port, "chapter": chapter, "entry": index, "why": why})
+        }
+        Verdict::BadFormat { at } | Verdict::Truncated { at } => json!(in alloc; {"at": at}),
+    }
+}
+
+// The word of a verdict.
+fn word_of(verdict: &Verdict) -> &'static str {
+    match verdict {
+        Verdict::Good { .. } => "good",
+        Verdict::Bad { .. } => "bad",
+        Verdict::BadFormat { .. } => "badformat",
+        Verdict::Truncated { .. } => "truncated",
+    }
+}
+
+// Makes the object of a recording that was judged.
+fn judged_json(
+    alloc: Global,
+    file: &str,
+    verdict: &Verdict,
+    contents: &Contents,
+    bytes: u64,
+) -> Result<String, AllocError> {
+    let (word, place) = (word_of(verdict), place_json(alloc, verdict)?);
+    let (ports, maps) = (ports_json(alloc, contents)?, contents.maps);
+    let seconds = line_seconds(maps);
+    let value = json!(in alloc; {
+        "file": file, "verdict": word, "place": &place, "maps": maps, "ports": &ports, "bytes": bytes, "seconds": &seconds
+    })?;
+    line_of(alloc, &value)
+}
+
+/// Writes the object of a recording that was judged: its file, verdict and place of the fault, and what it holds up to the
+/// first fault of its format: maps, ports, bytes, and seconds of line time.
+///
+/// `Read` if the reader fails, `Write` if the writer fails, `Memory` if memory is refused.
+pub fn write_judged<R: DevRead, W: DevWrite>(
+    alloc: Global,
+    file: &str,
+    verdict: &Verdict,
+    reader: &mut CountedBytes<R>,
+    writer: &mut W,
+) -> Result<(), DeviceFault> {
+    let contents = read_contents(alloc, reader)?;
+    let line = judged_json(alloc, file, verdict, &contents, reader.bytes());
+    write_line(line, writer)
+}
