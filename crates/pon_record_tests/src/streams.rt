@@ -26,7 +26,7 @@ fn streamed(
 }
 
 // Maximum numbers of bytes of a call.
-static PIECES: [usize; 3] = [1, 7, 4096];
+static PIECES: [usize; 3] = [1, 5, 4096];
 
 /// Returns whether the verdict on the bytes in pieces of several sizes is this one.
 pub(crate) fn is_streamed(
@@ -45,7 +45,7 @@ pub(crate) fn is_streamed(
 
 // Sizes of pieces, and the number of calls up to the end of the recording: for the magic bytes, for the head, for the body of
 // 279 bytes and for the end.
-static CALLS: [(usize, u64); 3] = [(1, 293), (7, 44), (4096, 4)];
+static CALLS: [(usize, u64); 3] = [(1, 293), (5, 60), (4096, 4)];
 
 // Returns whether each of the calls, if it fails, is a failed read, and the call after them is not made.
 fn fails_in_each(

@@ -76,11 +76,17 @@ fn chapter_of(rt: &impl Abort, alloc: Global) -> Chapter {
     port.into_chapter()
 }
 
-// Opens a recording on a device that takes 64 bytes in a call and fails in one of its calls.
-fn failing_in(rt: &impl Abort, alloc: Global, call: u64) -> RecordFile<MemWrite> {
+// Opens a recording on a device that takes at most `most` bytes in a call and fails in one of its calls.
+fn failing_at(rt: &impl Abort, alloc: Global, most: usize, call: u64) -> RecordFile<MemWrite> {
     let mut failing = Vec::new(alloc);
     failing.push(call).expect(rt, "memory");
-    RecordFile::open(alloc, MemWrite::new(alloc, 64, failing)).expect(rt, "memory")
+    let device = MemWrite::new(alloc, most.max(1), failing);
+    RecordFile::open(alloc, device).expect(rt, "memory")
+}
+
+// Opens a recording on a device that takes 64 bytes in a call and fails in one of its calls.
+fn failing_in(rt: &impl Abort, alloc: Global, call: u64) -> RecordFile<MemWrite> {
+    failing_at(rt, alloc, 64, call)
 }
 
 // Opens a recording on a device that does not fail.
@@ -136,22 +142,34 @@ fn append_after_flush(rt: &impl Abort, file: &mut RecordFile<MemWrite>, chapter:
 }
 
 // Returns whether a device that fails in this call has all bytes after two flushes.
-fn holds_all(rt: &impl Abort, alloc: Global, call: u64, chapter: &Chapter, wanted: &[u8]) -> bool {
-    let mut file = failing_in(rt, alloc, call);
+fn holds_all(
+    rt: &impl Abort,
+    alloc: Global,
+    (most, call): (usize, u64),
+    chapter: &Chapter,
+    wanted: &[u8],
+) -> bool {
+    let mut file = failing_at(rt, alloc, most, call);
     append_after_flush(rt, &mut file, chapter);
     let _ = file.flush();
     file.flush().is_ok() && file.writer().bytes() == wanted
 }
 
+// Maximum number of bytes of a call, and the number of calls that write a recording of 293 bytes and flush it: for the magic
+// bytes, for the chapter and for the flush.
+static CALLS: [(usize, u64); 4] = [(1, 294), (5, 60), (64, 7), (4096, 3)];
+
 #[test]
 fn holds_all_bytes_after_a_flush(rt: HostRuntime) {
     let wanted = in_force(&rt, bytes(&rt, rt.alloc(), RECORDING_TWO));
     let chapter = chapter_of(&rt, rt.alloc());
-    for call in 0..7u64 {
-        assert!(rt;
-            holds_all(&rt, rt.alloc(), call, &chapter, &wanted),
-            "{call}"
-        );
+    for (most, calls) in CALLS.iter() {
+        for call in 0..*calls {
+            assert!(rt;
+                holds_all(&rt, rt.alloc(), (*most, call), &chapter, &wanted),
+                "{most} {call}"
+            );
+        }
     }
 }
 
