@@ -49,7 +49,7 @@ pub no_file : (name : List ℕ) (rows : List Row) (r : Option (List ℕ × List 
 no_file name rows r word met is no_plan no_run none = subst NamesNoJob met go
   where
     go : NamesNoJob (Some (name, rows))
-    go (Plan config) j = no_plan (sym is ∙ j.0)
+    go (Plan plan) j = no_plan (sym is ∙ j.0)
     go (Check file) j = absurd (cc (none, j.1))
     go (Audit file) j = absurd (cc (none, j.1))
     go (Show shown) j = absurd (cc (none, j.1.recording))

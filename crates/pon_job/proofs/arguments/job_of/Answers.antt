@@ -10,7 +10,7 @@ pub returns-then-eq-clause-some : goal.returns-then-eq-clause-some
 returns-then-eq-clause-some c =
     let met = met_is _ _ _ c.in_ok-name.ensures.name c.in_ok-name.ensures.rows in
     let word = (bytes_eq-Decides _ (codes "plan")).0 (sym c.eq.ensures ∙ c.if-eq.true) in
-    names _ _ _ _ met word (sym (c.get_str-config.ensures ∙ first_value-rows (found_of c.in_ok-name.found.now) (codes "config")))
+    names _ _ _ _ met word c.plan_of.ensures
 
 pub returns-in_err-file-clause-none : goal.returns-in_err-file-clause-none
 returns-in_err-file-clause-none c =
