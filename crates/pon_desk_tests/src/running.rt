@@ -136,6 +136,8 @@ pub(crate) fn args(maps: u64) -> RunArgs<'static> {
         maps,
         operate: None,
         record: None,
+        no_clobber: false,
+        config: None,
         settle: false,
     }
 }

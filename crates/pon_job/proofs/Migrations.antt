@@ -8,7 +8,7 @@ use Rattle.pon_job.specs.declared.task.Job.TheVariants.{Plan, Check, Audit, Show
 
 -- if a file is missing, there is no migration
 no_migration : (rows : List Row) → ((file out : List ℕ) → first_of (codes "file") rows ≡ Some file → first_of (codes "out") rows ≡ Some out → ⊥) → NamesNoJob (Some (codes "migrate", rows))
-no_migration rows none (Plan config) j = absurd (cc (j.0))
+no_migration rows none (Plan plan) j = absurd (cc (j.0))
 no_migration rows none (Check file) j = absurd (cc (j.0))
 no_migration rows none (Audit audit) j = absurd (cc (j.0))
 no_migration rows none (Show shown) j = absurd (view_is_no_word shown.view (codes "migrate") refl (sym j.0))

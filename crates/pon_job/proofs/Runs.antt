@@ -29,7 +29,7 @@ choice_refused id low high rows text is none (Some number) has = none number (su
 
 -- if a value is missing, there is no run
 no_run : (rows : List Row) → ((run : RunOf) → ¬ IsRun rows run) → NamesNoJob (Some (codes "run", rows))
-no_run rows none (Plan config) j = absurd (cc (j.0))
+no_run rows none (Plan plan) j = absurd (cc (j.0))
 no_run rows none (Check file) j = absurd (cc (j.0))
 no_run rows none (Audit audit) j = absurd (cc (j.0))
 no_run rows none (Show shown) j = absurd (view_is_no_word shown.view (codes "run") refl (sym j.0))

@@ -52,7 +52,7 @@ words_differ a b other e = absurd (let t : true ≡ false = sym ((bytes_eq-Decid
 
 -- `check` without a file names no job
 pub no_check : (name : List ℕ) (rows : List Row) → name ≡ codes "check" → None ≡ first_of (codes "file") rows → NamesNoJob (Some (name, rows))
-no_check name rows is none (Plan config) j = words_differ (codes "check") (codes "plan") refl (sym is ∙ j.0)
+no_check name rows is none (Plan plan) j = words_differ (codes "check") (codes "plan") refl (sym is ∙ j.0)
 no_check name rows is none (Check file) j = absurd (cc (none, j.1))
 no_check name rows is none (Audit audit) j = words_differ (codes "check") (codes "audit") refl (sym is ∙ j.0)
 no_check name rows is none (Show shown) j = absurd (cc (none, j.1.recording))
@@ -61,7 +61,7 @@ no_check name rows is none (Run run) j = words_differ (codes "check") (codes "ru
 
 -- `audit` without its values names no job
 pub no_audit : (rows : List Row) → ((audit : AuditOf) → ¬ IsAudit rows audit) → NamesNoJob (Some (codes "audit", rows))
-no_audit rows none (Plan config) j = words_differ (codes "audit") (codes "plan") refl j.0
+no_audit rows none (Plan plan) j = words_differ (codes "audit") (codes "plan") refl j.0
 no_audit rows none (Check file) j = words_differ (codes "audit") (codes "check") refl j.0
 no_audit rows none (Audit audit) j = none audit j.1
 no_audit rows none (Show shown) j = view_is_no_word shown.view (codes "audit") refl (sym j.0)

@@ -28,7 +28,7 @@ view_is_no_word view word other e = absurd (let t : true ≡ false = sym (viewed
 
 -- without its values there is no view
 no_view : (view : View) (rows : List Row) → ((shown : Shown) → ¬ IsShown rows shown) → NamesNoJob (Some (word_of_view view, rows))
-no_view view rows none (Plan config) j = view_is_no_word view (codes "plan") refl j.0
+no_view view rows none (Plan plan) j = view_is_no_word view (codes "plan") refl j.0
 no_view view rows none (Check file) j = view_is_no_word view (codes "check") refl j.0
 no_view view rows none (Audit audit) j = view_is_no_word view (codes "audit") refl j.0
 no_view view rows none (Show shown) j = none shown j.1

@@ -17,6 +17,7 @@ use Rattle.pon_job.specs.declared.task.TheConstants.{MAX_ALLOC, MAX_FRAME, MAX_M
 use Rattle.pon_job.specs.declared.task.Audit.{Audit as AuditOf}
 use Rattle.pon_job.specs.declared.task.Job.{Job}
 use Rattle.pon_job.specs.declared.task.Part.{Part}
+use Rattle.pon_job.specs.declared.task.Plan.{Plan as PlanOf}
 use Rattle.pon_job.specs.declared.task.Run.{Run as RunOf}
 use Rattle.pon_job.specs.declared.task.Show.{Show as Shown}
 use Rattle.pon_job.specs.declared.task.View.{View}
@@ -79,6 +80,18 @@ operate_rule = option_rule (codes "operate")
 abbrev pub settle_rule : Rule
 settle_rule = flag_rule (codes "settle")
 
+-- the flag of `run` with which the file of a recording may not exist
+abbrev pub no_clobber_rule : Rule
+no_clobber_rule = flag_rule (codes "no-clobber")
+
+-- the flag of `plan` with which a refused line is a refusal of the input
+abbrev pub strict_rule : Rule
+strict_rule = flag_rule (codes "strict")
+
+-- the flag of `plan` that explains each refusal
+abbrev pub verbose_rule : Rule
+verbose_rule = flag_rule (codes "verbose")
+
 -- the part of a recording that a view shows
 abbrev pub port_rule : Rule
 port_rule = number_rule (codes "port") 0 MAX_PORT
@@ -112,7 +125,7 @@ abbrev pub shape_with : List ℕ → List Rule → Shape
 shape_with name rules = record (new_shape name) { rules = rules }
 
 abbrev pub plan_shape : Shape
-plan_shape = shape_with (codes "plan") (config_rule ∷ [])
+plan_shape = shape_with (codes "plan") (config_rule ∷ strict_rule ∷ verbose_rule ∷ [])
 
 abbrev pub check_shape : Shape
 check_shape = shape_with (codes "check") (file_rule ∷ [])
@@ -142,7 +155,7 @@ abbrev pub migrate_shape : Shape
 migrate_shape = shape_with (codes "migrate") (file_rule ∷ out_rule ∷ [])
 
 abbrev pub run_shape : Shape
-run_shape = shape_with (codes "run") (needed_config_rule ∷ listen_rule ∷ maps_rule ∷ record_rule ∷ operate_rule ∷ settle_rule ∷ [])
+run_shape = shape_with (codes "run") (needed_config_rule ∷ listen_rule ∷ maps_rule ∷ record_rule ∷ no_clobber_rule ∷ operate_rule ∷ settle_rule ∷ [])
 
 abbrev pub top_shape : Shape
 top_shape = record (new_shape (codes "olt")) {
@@ -183,7 +196,7 @@ word_of_view Loads = codes "loads"
 
 -- the subcommand of a job
 abbrev pub word_of : Job → List ℕ
-word_of (Plan config) = codes "plan"
+word_of (Plan plan) = codes "plan"
 word_of (Check file) = codes "check"
 word_of (Audit audit) = codes "audit"
 word_of (Show shown) = word_of_view shown.view
@@ -238,6 +251,12 @@ pub record IsShown (rows : List Row) (shown : Shown) : Type 0 where
   pub picture : first_of (codes "svg") rows ≡ option_map (λ name. name.now) shown.svg
   pub format : IsFormat (first_of (codes "format") rows) shown.json
 
+-- the matches of `plan` have these values
+pub record IsPlan (rows : List Row) (plan : PlanOf) : Type 0 where
+  pub settings : first_of (codes "config") rows ≡ option_map (λ name. name.now) plan.config
+  pub strict : HasFlag (codes "strict") rows plan.strict
+  pub verbose : HasFlag (codes "verbose") rows plan.verbose
+
 -- the matches of `run` have these values
 pub record IsRun (rows : List Row) (run : RunOf) : Type 0 where
   pub settings : first_of (codes "config") rows ≡ Some run.config.now
@@ -245,11 +264,12 @@ pub record IsRun (rows : List Row) (run : RunOf) : Type 0 where
   pub number : HasMaps rows run.maps
   pub recording_file : first_of (codes "record") rows ≡ option_map (λ name. name.now) run.record
   pub operator : first_of (codes "operate") rows ≡ option_map (λ name. name.now) run.operate
+  pub keeps : HasFlag (codes "no-clobber") rows run.no_clobber
   pub settles : HasFlag (codes "settle") rows run.settle
 
 -- the matches of a job's subcommand have the values of the job, by the names of its arguments
 abbrev pub HasValues : List Row → Job → Type 0
-HasValues rows (Plan config) = first_of (codes "config") rows ≡ option_map (λ name. name.now) config
+HasValues rows (Plan plan) = IsPlan rows plan
 HasValues rows (Check file) = first_of (codes "file") rows ≡ Some file.now
 HasValues rows (Audit audit) = IsAudit rows audit
 HasValues rows (Show shown) = IsShown rows shown

@@ -1,5 +1,5 @@
 -- The outcome of a run of the program, and its exit status.
-use Rattle.std.specs.Prelude.{ℕ, Bool, true, false, Result, Ok, Err}
+use Rattle.std.specs.Prelude.{ℕ, Bool, true, false, if◌then◌else◌, Result, Ok, Err}
 use Rattle.clap.specs.declared.error.kind.ErrorKind.{ErrorKind}
 use Rattle.clap.specs.declared.error.kind.ErrorKind.TheVariants.{DisplayHelp, DisplayVersion, OutOfMemory}
 use Rattle.pon_device.specs.declared.fault.DeviceFault.{DeviceFault}
@@ -36,9 +36,13 @@ outcome_of_ports (Ok true) = Done
 outcome_of_ports (Ok false) = Unfinished
 outcome_of_ports (Err fault) = Failed fault
 
--- lines have no verdict; a check file, a recording and a recording to show or to migrate are accepted or refused; ports are served
+-- management lines are done, or failed; strict ones are refused if one was
+abbrev pub outcome_of_lines : Bool → Result Bool DeviceFault → Outcome
+outcome_of_lines strict ended = if strict then outcome_of_check ended else outcome_of_run ended
+
+-- lines have a verdict if they are strict; a check file, a recording and a recording to show or to migrate are accepted or refused; ports are served
 abbrev pub outcome_of_job : Job → Result Bool DeviceFault → Outcome
-outcome_of_job (Plan config) ended = outcome_of_run ended
+outcome_of_job (Plan plan) ended = outcome_of_lines plan.strict ended
 outcome_of_job (Check file) ended = outcome_of_check ended
 outcome_of_job (Audit audit) ended = outcome_of_check ended
 outcome_of_job (Show shown) ended = outcome_of_check ended

@@ -5,11 +5,11 @@ ghost use Rattle.pon_job.specs.declared.task.Part.{Part};
 ghost use Rattle.pon_job.specs.declared.task.View.{View};
 ghost use Rattle.clap.specs.Words.{found_of, rows_of, subcommand_rows_of};
 ghost use Rattle.clap.specs.Simple.{subcommand_of};
-ghost use Rattle.pon_job.specs.Jobs.{HasFlag, HasNumber, IsFormat, IsJob, IsPart, MayHave, NamesNoJob, RefusesWords, Spells, olt_app, word_of_view};
+ghost use Rattle.pon_job.specs.Jobs.{HasFlag, HasNumber, IsFormat, IsJob, IsPart, IsPlan, MayHave, NamesNoJob, RefusesWords, Spells, olt_app, word_of_view};
 
 use crate::commands::olt_command;
 use crate::task::{
-    Audit, Job, MAX_ALLOC, MAX_FRAME, MAX_MAPS, MAX_PORT, MIN_ALLOC, Part, Run, Show, View,
+    Audit, Job, MAX_ALLOC, MAX_FRAME, MAX_MAPS, MAX_PORT, MIN_ALLOC, Part, Plan, Run, Show, View,
 };
 use clap::error::ErrorKind;
 use clap::{ArgMatches, Error};
@@ -77,6 +77,20 @@ fn is_json(text: Option<&str>) -> Option<bool>
     }
 }
 
+// Returns the management lines that the matches of their subcommand give.
+fn plan_of<'a>(found: &ArgMatches<'a>) -> Plan<'a>
+    ensures { IsPlan (rows_of (found_of found.now)) result }
+{
+    let settings = found.get_str("config");
+    let strict = is_given(found, "strict");
+    let verbose = is_given(found, "verbose");
+    Plan {
+        config: settings,
+        strict,
+        verbose,
+    }
+}
+
 // Returns the run that the matches of its subcommand give.
 fn run_of<'a>(found: &ArgMatches<'a>) -> Option<Job<'a>>
     ensures some { IfSome result (IsJob (Some (codes "run", rows_of (found_of found.now)))) }
@@ -86,6 +100,7 @@ fn run_of<'a>(found: &ArgMatches<'a>) -> Option<Job<'a>>
     let listen = found.get_str("listen")?;
     let maps = number_of(found, "maps", 1, MAX_MAPS)?;
     let record = found.get_str("record");
+    let no_clobber = is_given(found, "no-clobber");
     let operate = found.get_str("operate");
     let settle = is_given(found, "settle");
     Some(Job::Run(Run {
@@ -93,6 +108,7 @@ fn run_of<'a>(found: &ArgMatches<'a>) -> Option<Job<'a>>
         listen,
         maps,
         record,
+        no_clobber,
         operate,
         settle,
     }))
@@ -205,8 +221,7 @@ fn other_job_of<'a>(name: &str, found: &ArgMatches<'a>) -> Option<Job<'a>>
         → NamesNoJob (Some (name.now, rows_of (found_of found.now))) }
 {
     if name == "plan" {
-        let config = found.get_str("config");
-        return Some(Job::Plan { config });
+        return Some(Job::Plan(plan_of(found)));
     }
     if name == "check" {
         let file = found.get_str("file")?;

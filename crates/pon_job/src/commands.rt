@@ -5,7 +5,7 @@ ghost use Rattle.clap.specs.Walk.{rule_of};
 ghost use Rattle.clap.specs.Simple.{app_of};
 ghost use Rattle.std.specs.Prelude.{map};
 ghost use Rattle.pon_job.specs.Jobs.{AreLocal, IsDefined, leaf, olt_app, shape_with};
-ghost use Rattle.pon_job.specs.Jobs.{alloc_rule, config_rule, file_rule, files_rule, flag_rule, frame_rule, format_rule, from_rule, listen_rule, maps_rule, needed_alloc_rule, needed_config_rule, number_rule, operate_rule, option_rule, out_rule, place_rule, port_rule, record_rule, settle_rule, svg_rule, to_rule};
+ghost use Rattle.pon_job.specs.Jobs.{alloc_rule, config_rule, file_rule, files_rule, flag_rule, frame_rule, format_rule, from_rule, listen_rule, maps_rule, needed_alloc_rule, needed_config_rule, no_clobber_rule, number_rule, operate_rule, option_rule, out_rule, place_rule, port_rule, record_rule, settle_rule, strict_rule, svg_rule, to_rule, verbose_rule};
 ghost use Rattle.pon_job.specs.Jobs.{audit_shape, check_shape, dump_shape, info_shape, loads_shape, migrate_shape, picture_shape, plan_shape, rates_shape, run_shape, top_shape, why_shape};
 
 use crate::task::{MAX_ALLOC, MAX_FRAME, MAX_MAPS, MAX_PORT, MIN_ALLOC};
@@ -112,7 +112,7 @@ fn record_arg<'a>(alloc: Global) -> Arg<'a>
     ensures rule { rule_of result ≡ record_rule }
     ensures local { result.global ≡ false }
 {
-    let help = "The file of a recording, which is made anew";
+    let help = "The file of a recording, which is replaced by a whole one";
     option_arg(alloc, "record", "FILE", help)
 }
 
@@ -129,6 +129,30 @@ fn settle_arg<'a>(alloc: Global) -> Arg<'a>
 {
     let help = "Keep the receipts of all posts, and settle each port with them at the end";
     flag_arg(alloc, "settle", help)
+}
+
+fn no_clobber_arg<'a>(alloc: Global) -> Arg<'a>
+    ensures rule { rule_of result ≡ no_clobber_rule }
+    ensures local { result.global ≡ false }
+{
+    let help = "Refuse a recording whose file exists";
+    flag_arg(alloc, "no-clobber", help)
+}
+
+fn strict_arg<'a>(alloc: Global) -> Arg<'a>
+    ensures rule { rule_of result ≡ strict_rule }
+    ensures local { result.global ≡ false }
+{
+    let help = "End with status 1 if a line was refused";
+    flag_arg(alloc, "strict", help)
+}
+
+fn verbose_arg<'a>(alloc: Global) -> Arg<'a>
+    ensures rule { rule_of result ≡ verbose_rule }
+    ensures local { result.global ≡ false }
+{
+    let help = "Explain each refused line on standard error";
+    flag_arg(alloc, "verbose", help)
 }
 
 fn port_arg<'a>(alloc: Global) -> Arg<'a>
@@ -209,7 +233,10 @@ fn plan_command<'a>(alloc: Global) -> Result<Command<'a>, AllocError>
     ensures { IfOk result (IsDefined (leaf plan_shape)) }
 {
     let about = "Answer management lines from standard input";
-    let args = Vec::from_array(alloc, [config_arg(alloc)])?;
+    let args = Vec::from_array(
+        alloc,
+        [config_arg(alloc), strict_arg(alloc), verbose_arg(alloc)],
+    )?;
     command(alloc, "plan", about, args)
 }
 
@@ -332,6 +359,7 @@ fn run_command<'a>(alloc: Global) -> Result<Command<'a>, AllocError>
             listen_arg(alloc),
             maps_arg(alloc),
             record_arg(alloc),
+            no_clobber_arg(alloc),
             operate_arg(alloc),
             settle_arg(alloc),
         ],

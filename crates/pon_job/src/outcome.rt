@@ -2,7 +2,7 @@
 
 ghost use Rattle.std.specs.Prelude.{◌≡◌};
 ghost use Rattle.clap.specs.Values.{kind_of};
-ghost use Rattle.pon_job.specs.Outcomes.{exit_status, outcome_of_check, outcome_of_job, outcome_of_ports, outcome_of_run, outcome_of_words};
+ghost use Rattle.pon_job.specs.Outcomes.{exit_status, outcome_of_check, outcome_of_job, outcome_of_lines, outcome_of_ports, outcome_of_run, outcome_of_words};
 
 use crate::task::Job;
 use clap::Error;
@@ -14,7 +14,7 @@ use pon_device::DeviceFault;
 pub enum Outcome {
     /// The job is done; a check or an audit accepted, a recording was migrated, or one that is good was shown. Also help and the version, if they were requested.
     Done,
-    /// A check or an audit refused its input, or a recording to migrate or to show has a fault.
+    /// A check, an audit or strict management refused its input, or a recording to migrate or to show has a fault.
     Refused,
     /// The words of the command line name no job.
     CommandLine,
@@ -26,7 +26,7 @@ pub enum Outcome {
     Unfinished,
 }
 
-/// Returns the exit status of an outcome: 0 if the job is done, 1 if a check, an audit or a migration refused, 2 if the command line
+/// Returns the exit status of an outcome: 0 if the job is done, 1 if a check, an audit, a migration or strict management refused, 2 if the command line
 /// or the settings are refused, 3 if a device failed, memory was refused, or a port was not served to its last map.
 pub fn exit_status(outcome: Outcome) -> u8
     ensures { result ≡ exit_status outcome }
@@ -60,6 +60,17 @@ pub fn outcome_of_check(verdict: Result<bool, DeviceFault>) -> Outcome
     }
 }
 
+// Returns the outcome of management lines; `false` means that one was refused, which counts with `strict`.
+fn outcome_of_lines(strict: bool, ended: Result<bool, DeviceFault>) -> Outcome
+    ensures { result ≡ outcome_of_lines strict ended }
+{
+    if strict {
+        outcome_of_check(ended)
+    } else {
+        outcome_of_run(ended)
+    }
+}
+
 /// Returns the outcome of a run at ports; `true` means that each port was served to its last map.
 pub fn outcome_of_ports(ended: Result<bool, DeviceFault>) -> Outcome
     ensures { result ≡ outcome_of_ports ended }
@@ -70,13 +81,13 @@ pub fn outcome_of_ports(ended: Result<bool, DeviceFault>) -> Outcome
     }
 }
 
-/// Returns the outcome of a job, from how it ended: `true` is acceptance, or that the job without a verdict is done, or
-/// that each port was served to its last map.
+/// Returns the outcome of a job, from how it ended: `true` is acceptance, or that no management line was refused, or that
+/// each port was served to its last map.
 pub fn outcome_of_job(job: &Job<'_>, ended: Result<bool, DeviceFault>) -> Outcome
     ensures { result ≡ outcome_of_job job.now ended }
 {
-    match *job {
-        Job::Plan { .. } => outcome_of_run(ended),
+    match job {
+        Job::Plan(plan) => outcome_of_lines(plan.strict, ended),
         Job::Check { .. } | Job::Audit(_) | Job::Show(_) | Job::Migrate { .. } => {
             outcome_of_check(ended)
         }

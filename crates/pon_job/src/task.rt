@@ -61,15 +61,25 @@ pub struct Audit<'a> {
     pub json: bool,
 }
 
+/// Management lines to be answered, at the ports of the settings file `config`, or at one port if there is none. With
+/// `strict` a refused line is a refusal of the input, with `verbose` each refusal is explained on standard error.
+#[derive(Clone, Copy, Debug, PartialEq, Eq)]
+pub struct Plan<'a> {
+    pub config: Option<&'a str>,
+    pub strict: bool,
+    pub verbose: bool,
+}
+
 /// A run: `maps` maps, 1 to `MAX_MAPS`, at each port of the settings file `config`, over sockets at the address `listen`;
-/// `record` is the file for a recording of their chapters, `operate` a file of management lines for an operator, and with
-/// `settle` each port is settled at the end with the receipts of all posts.
+/// `record` is the file for a recording of their chapters, which with `no_clobber` may not exist, `operate` a file of
+/// management lines for an operator, and with `settle` each port is settled at the end with the receipts of all posts.
 #[derive(Clone, Copy, Debug, PartialEq, Eq)]
 pub struct Run<'a> {
     pub config: &'a str,
     pub listen: &'a str,
     pub maps: u64,
     pub record: Option<&'a str>,
+    pub no_clobber: bool,
     pub operate: Option<&'a str>,
     pub settle: bool,
 }
@@ -77,9 +87,8 @@ pub struct Run<'a> {
 /// A job of the program.
 #[derive(Debug, PartialEq, Eq, Drop)]
 pub enum Job<'a> {
-    /// Answer management lines from standard input, at the ports of the settings file `config`, or at one port if there
-    /// is none.
-    Plan { config: Option<&'a str> },
+    /// Answer management lines from standard input.
+    Plan(Plan<'a>),
     /// Check the certificate of the check file `file`.
     Check { file: &'a str },
     /// Audit recordings.

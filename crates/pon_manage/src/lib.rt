@@ -7,12 +7,14 @@
 mod answer;
 mod at_desk;
 pub mod laws;
+mod noting;
 mod operating;
 mod planning;
 mod show;
 mod start;
 mod texts;
 
+pub use noting::{Notes, plan_noting};
 pub use operating::operate;
 pub use planning::plan;
 pub use pon_device::DeviceFault as PlanFault;

@@ -21,8 +21,15 @@ use std::alloc::{AllocError, Global};
 
 // Answers lines at a plant, which is their state; `room` is a buffer for the bytes of a map.
 #[derive(Drop)]
-struct AtPlant {
+pub(crate) struct AtPlant {
     room: Vec<u8>,
+}
+
+impl AtPlant {
+    pub(crate) fn new(alloc: Global) -> Self {
+        let room = Vec::new(alloc);
+        AtPlant { room }
+    }
 }
 
 impl Answers<Plant> for AtPlant {
@@ -74,8 +81,7 @@ pub fn plan<H, R: DevRead, W: DevWrite>(
 {
     match start(alloc, ports, steps.as_slice()) {
         Ok(mut plant) => {
-            let room = Vec::new(alloc);
-            answer_input(alloc, &mut AtPlant { room }, &mut plant, reader, writer)
+            answer_input(alloc, &mut AtPlant::new(alloc), &mut plant, reader, writer)
         }
         Err(_) => Err(DeviceFault::Memory),
     }

@@ -1,6 +1,6 @@
 // The results of whole command lines, as clap parses them.
 use clap::error::ErrorKind;
-use pon_job::{Job, Part, Run, Show, View, job};
+use pon_job::{Job, Part, Plan, Run, Show, View, job};
 use std::alloc::Global;
 
 fn push_word(alloc: Global, words: &mut Vec<String>, word: &str) -> Option<()> {
@@ -35,6 +35,14 @@ fn refusal(alloc: Global, line: &str) -> Option<ErrorKind> {
     }
 }
 
+fn plan_of(config: Option<&'static str>, strict: bool, verbose: bool) -> Job<'static> {
+    Job::Plan(Plan {
+        config,
+        strict,
+        verbose,
+    })
+}
+
 fn run_of(
     maps: u64,
     record: Option<&'static str>,
@@ -46,6 +54,7 @@ fn run_of(
         listen: "127.0.0.1:0",
         maps,
         record,
+        no_clobber: false,
         operate,
         settle,
     })
@@ -55,8 +64,13 @@ fn run_of(
 fn reads_each_job(rt: HostRuntime) {
     let settings = Some("a.toml");
     for (line, wanted) in [
-        ("olt plan", Job::Plan { config: None }),
-        ("olt plan --config a.toml", Job::Plan { config: settings }),
+        ("olt plan", plan_of(None, false, false)),
+        ("olt plan --config a.toml", plan_of(settings, false, false)),
+        ("olt plan --strict", plan_of(None, true, false)),
+        (
+            "olt plan --verbose --config a.toml",
+            plan_of(settings, false, true),
+        ),
         ("olt check c.txt", Job::Check { file: "c.txt" }),
         ("olt audit r.bin", Job::Audit { file: "r.bin" }),
         (

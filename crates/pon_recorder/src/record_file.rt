@@ -103,4 +103,11 @@ impl<W: DevWrite + Drop> RecordFile<W> {
     {
         &self.writer
     }
+
+    /// Ends the recording: returns the device, and drops what it has not taken.
+    pub fn into_writer(self) -> W
+        ensures { result ≡ self.device }
+    {
+        self.writer
+    }
 }

@@ -1,6 +1,6 @@
 //! The recorder of a run: it takes the chapters of all ports out of their rings, and appends them to the file.
 
-ghost use Rattle.std.specs.Prelude.{◌≡◌, [], ◌∷◌, true, false};
+ghost use Rattle.std.specs.Prelude.{◌≡◌, [], ◌∷◌, OnOk, true, false};
 ghost use Rattle.pon_recorder.specs.Bodies.{chapter_body};
 ghost use Rattle.pon_recorder.specs.Recorders.{Stays};
 ghost use Rattle.pon_recorder.specs.Recordings.{HasRecorded, IsDropped, TakesChapters};
@@ -13,6 +13,15 @@ use pon_units::PortNo;
 
 /// Maximum number of attempts in a row to write a chapter to a file that fails.
 const MAX_TRIES: u32 = 3;
+
+/// How a recording ended, and its device.
+#[derive(Drop)]
+pub struct Ended<W> {
+    /// The device that the recording was written to.
+    pub device: W,
+    /// `Write` if the device failed, or a sink was lost; `Memory` if memory was refused for a chapter.
+    pub result: Result<(), DeviceFault>,
+}
 
 /// The file of a recording, and what kept chapters out of it: the file failed, or memory was refused.
 #[derive(Drop)]
@@ -39,8 +48,25 @@ fn write_rest<W: DevWrite + Drop>(file: &mut RecordFile<W>) -> bool
     false
 }
 
+// Flushes the file of a recorder that ends, if it has not failed.
+fn flush_end<W: DevWrite + Drop>(
+    file: &mut RecordFile<W>,
+    failed: bool,
+    lacked_memory: bool,
+) -> Result<(), DeviceFault>
+    ensures file { OnOk result (failed ≡ false) }
+    ensures memory { OnOk result (lacked_memory ≡ false) }
+{
+    if failed || file.flush().is_err() {
+        return Err(DeviceFault::Write);
+    }
+    if lacked_memory {
+        return Err(DeviceFault::Memory);
+    }
+    Ok(())
+}
+
 impl<W: DevWrite + Drop> Recorder<W> {
-    ghost use Rattle.std.specs.Prelude.{OnOk};
     ghost use Rattle.pon_recorder.specs.Whole.{IsSound, RecordsAll};
 
     /// Makes a recorder of a recording with nothing left to write.
@@ -96,24 +122,20 @@ impl<W: DevWrite + Drop> Recorder<W> {
         }
     }
 
-    /// Flushes the file.
-    ///
-    /// Returns `Write` if the file failed three times in a row, or fails now, and `Memory` if memory was refused for a
-    /// chapter.
-    pub(crate) fn end(self) -> Result<(), DeviceFault>
-        ensures { OnOk result (IsSound self) }
+    /// Flushes the file, and returns it with how the recording ended: `Write` if the file failed three times in a row, or
+    /// fails now, and `Memory` if memory was refused for a chapter.
+    pub(crate) fn end(self) -> Ended<W>
+        ensures { OnOk result.result (IsSound self) }
     {
         let Recorder {
             mut file,
             failed,
             lacked_memory,
         } = self;
-        if failed || file.flush().is_err() {
-            return Err(DeviceFault::Write);
+        let result = flush_end(&mut file, failed, lacked_memory);
+        Ended {
+            device: file.into_writer(),
+            result,
         }
-        if lacked_memory {
-            return Err(DeviceFault::Memory);
-        }
-        Ok(())
     }
 }

@@ -2,8 +2,8 @@
 
 use crate::record_file::RecordFile;
 use crate::recorder::Recorder;
-use crate::tape::Tape;
-use pon_device::{DeviceFault, StdWrite};
+use crate::tape::{Tape, TapeFile};
+use pon_device::DeviceFault;
 use std::alloc::Global;
 use std::io::Write;
 
@@ -27,7 +27,7 @@ pub fn open_recorder<F: Write + Drop>(
     settle: bool,
 ) -> Result<Option<Recorder<Tape<F>>>, DeviceFault> {
     match file {
-        Some(file) => Ok(Some(begin(alloc, Tape::File(StdWrite::new(file)))?)),
+        Some(file) => Ok(Some(begin(alloc, Tape::File(TapeFile::new(file)))?)),
         None if settle => Ok(Some(begin(alloc, Tape::Nothing)?)),
         None => Ok(None),
     }

@@ -1,13 +1,13 @@
 //! The recorder's thread.
 
-ghost use Rattle.std.specs.Prelude.{◌≡◌, ◌≤◌, IfOk, OnOk, map, slice_set};
+ghost use Rattle.std.specs.Prelude.{◌≡◌, ◌≤◌, IfOk, OnOk, is_ok, map, slice_set, true};
 ghost use Rattle.std.specs.Vec.{vec_len};
 ghost use Rattle.pon_recorder.specs.Whole.{IsWholeRecording, RecordsAll, StaysSound, StaysWhole, kept_at, kept_bodies};
 ghost use Rattle.pon_recorder.specs.Rings.{AreRingsOf};
 
 use crate::inlet::{Inlet, TakenChapters};
 use crate::port_sink::PortSink;
-use crate::recorder::Recorder;
+use crate::recorder::{Ended, Recorder};
 use crate::rings::{PortRing, Rings};
 use pon_device::{DevWrite, DeviceFault};
 use pon_lists::Kept;
@@ -187,10 +187,10 @@ impl<K: Rings, W: DevWrite + Drop> Recording<K, W> {
     /// Records the chapter that each port keeps, in order, writes the number of each port's dropped chapters to its place in
     /// `dropped`, at most 2^64 - 1, and flushes the file. A port without a place is recorded, and its number is not written.
     ///
-    /// Returns `Write` if the file failed three times in a row, or a sink was not that of its port, and `Memory` if memory
-    /// was refused for a chapter.
-    pub fn finish(self, ports: Vec<Port>, dropped: &mut [u64]) -> Result<(), DeviceFault>
-        ensures whole { OnOk result (IsWholeRecording self.recorder self.whole) }
+    /// Returns the device, with `Write` if it failed three times in a row, or a sink was not that of its port, and `Memory`
+    /// if memory was refused for a chapter.
+    pub fn finish(self, ports: Vec<Port>, dropped: &mut [u64]) -> Ended<W>
+        ensures whole { OnOk result.result (IsWholeRecording self.recorder self.whole) }
     {
         let Recording {
             mut recorder,
@@ -198,12 +198,24 @@ impl<K: Rings, W: DevWrite + Drop> Recording<K, W> {
             whole,
         } = self;
         take_all_kept(&mut recorder, inlets.as_slice(), ports, dropped);
-        recorder.end()?;
-        if whole {
-            Ok(())
-        } else {
-            Err(DeviceFault::Write)
+        let Ended { device, result } = recorder.end();
+        Ended {
+            device,
+            result: with_sinks(result, whole),
         }
+    }
+}
+
+// Returns how a recording ended, if each sink that came back is that of its port; otherwise `Write`.
+fn with_sinks(ended: Result<(), DeviceFault>, whole: bool) -> Result<(), DeviceFault>
+    ensures ended { OnOk result (is_ok ended ≡ true) }
+    ensures whole { OnOk result (whole ≡ true) }
+{
+    ended?;
+    if whole {
+        Ok(())
+    } else {
+        Err(DeviceFault::Write)
     }
 }
 

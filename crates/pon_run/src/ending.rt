@@ -1,14 +1,17 @@
 //! The end of a run: what the workers left is recorded, the desk is closed, its ports are settled if that is wanted, and
 //! the lines about them are written.
 
-ghost use Rattle.std.specs.Prelude.{◌≡◌, ◌↔◌, IfOk, IfSome, OnOk, is_some, map, true};
+ghost use Rattle.std.specs.Prelude.{◌≡◌, ◌↔◌, IfOk, IfSome, OnOk, is_ok, is_some, map, true};
 ghost use Rattle.std.specs.Vec.{vec_len};
 ghost use Rattle.pon_desk.specs.Counts.{IsEven};
 ghost use Rattle.pon_recorder.specs.Whole.{IsWholeRecording, StaysWhole};
 ghost use Rattle.pon_run.specs.Runs.{AllSettled, TellsPorts, TellsWorked, WritesLines};
 
+use crate::context::RunContext;
+use crate::early::print_early;
 use crate::end::write_ends;
 use crate::ports::{all_finished, ends_of, split_results, with_dropped, worker_ends};
+use crate::recording_file::RunTape;
 use crate::running::Results;
 use crate::settlement_text::write_settlements;
 use crate::settling::{
@@ -17,10 +20,14 @@ use crate::settling::{
 use crate::thread::Worked;
 use pon_desk::{CloseFault, Closed, Desk, Seat};
 use pon_device::{DevWrite, DeviceFault};
+use pon_job::Failure;
 use pon_port::Port;
-use pon_recorder::{PortSink, Recording, Rings};
-use pon_worker::WorkerEnd;
+use pon_recorder::{Ended, PortSink, Recording, Rings, Tape};
+use pon_worker::{Gate, WorkerEnd};
 use std::alloc::{AllocError, Global};
+use std::fs::OpenFile;
+use std::io::Write;
+use std::rt::Files;
 use std::sync::ledger::Ledger;
 
 /// The ports of a closed desk.
@@ -103,46 +110,68 @@ fn close<L: Ledger, M: Ledger>(
     }
 }
 
-// Records the chapter that each port keeps, and sets the numbers of their dropped chapters, if there is a recording.
-fn record_kept<K: Rings, F: DevWrite + Drop>(
-    recording: Option<Recording<K, F>>,
+// Ends the device of a recording that ended so.
+fn end_device<G: Gate, F: OpenFile + Write + Drop, R: Files>(
+    run: &RunContext<'_, G, R>,
+    device: RunTape<F>,
+    ended: Result<(), DeviceFault>,
+) -> Result<(), Failure>
+    ensures { OnOk result (is_ok ended ≡ true) }
+{
+    match (run.args.record, device) {
+        (Some(name), Tape::File(file)) => {
+            let (mut file, error) = file.into_parts();
+            file.end(run.rt, run.alloc, name, ended, error)
+        }
+        _ => Ok(ended?),
+    }
+}
+
+// Records the chapter that each port keeps, sets the numbers of their dropped chapters, and ends the file, if there is a
+// recording.
+fn record_kept<K: Rings, G: Gate, F: OpenFile + Write + Drop, R: Files>(
+    run: &RunContext<'_, G, R>,
+    recording: Option<Recording<K, RunTape<F>>>,
     ports: Vec<Port>,
     dropped: &mut [u64],
-) -> Result<(), DeviceFault>
+) -> Result<(), Failure>
     ensures whole { OnOk result (IfSome recording (λ r. IsWholeRecording r.recorder r.whole)) }
 {
     match recording {
         None => Ok(()),
-        Some(recording) => recording.finish(ports, dropped),
+        Some(recording) => {
+            let Ended { device, result } = recording.finish(ports, dropped);
+            end_device(run, device, result)
+        }
     }
 }
 
 // Records the chapter that each port keeps, and writes the lines about the ports and their settlements, also if the
 // recording fails.
-fn write_lines<K: Rings, F: DevWrite + Drop, W: DevWrite>(
-    alloc: Global,
+fn write_lines<K: Rings, G: Gate, F: OpenFile + Write + Drop, W: DevWrite, R: Files>(
+    run: &RunContext<'_, G, R>,
     ports: Vec<Port>,
     workers: &[WorkerEnd],
     settlements: &[Settlement],
-    recording: Option<Recording<K, F>>,
+    recording: Option<Recording<K, RunTape<F>>>,
     writer: &mut W,
-) -> Result<(), DeviceFault>
+) -> Result<(), Failure>
     ensures lines { OnOk result (WritesLines ports.items workers.now settlements.now
         (W.contents writer.old) (W.contents writer.new)) }
     ensures whole { OnOk result (IfSome recording (λ r. IsWholeRecording r.recorder r.whole)) }
 {
-    let Ok(ends) = ends_of(alloc, ports.as_slice(), workers) else {
-        return Err(DeviceFault::Memory);
+    let Ok(ends) = ends_of(run.alloc, ports.as_slice(), workers) else {
+        return Err(Failure::from(DeviceFault::Memory));
     };
-    let Ok(mut dropped) = vec![in alloc; 0; ports.len()] else {
-        return Err(DeviceFault::Memory);
+    let Ok(mut dropped) = vec![in run.alloc; 0; ports.len()] else {
+        return Err(Failure::from(DeviceFault::Memory));
     };
-    let recorded = record_kept(recording, ports, dropped.as_mut_slice());
-    let Ok(told) = with_dropped(alloc, ends.as_slice(), dropped.as_slice()) else {
-        return Err(DeviceFault::Memory);
+    let recorded = record_kept(run, recording, ports, dropped.as_mut_slice());
+    let Ok(told) = with_dropped(run.alloc, ends.as_slice(), dropped.as_slice()) else {
+        return Err(Failure::from(DeviceFault::Memory));
     };
-    write_ends(alloc, told.as_slice(), writer)?;
-    write_settlements(alloc, settlements, writer)?;
+    write_ends(run.alloc, told.as_slice(), writer)?;
+    write_settlements(run.alloc, settlements, writer)?;
     recorded
 }
 
@@ -156,15 +185,14 @@ fn is_settled(ports: usize, settle: bool, settlements: &[Settlement]) -> bool
 
 // Writes what each port of a closed desk and its worker did, and its settlement if it is to be settled. Returns whether the
 // run is done: each worker made all its turns, no post was lost, and each port that is to be settled is.
-fn tell_closed<K: Rings, F: DevWrite + Drop, W: DevWrite>(
-    alloc: Global,
+fn tell_closed<K: Rings, G: Gate, F: OpenFile + Write + Drop, W: DevWrite, R: Files + Eprint>(
+    run: &RunContext<'_, G, R>,
     closed: ClosedRun,
     workers: &[WorkerEnd],
-    recording: Option<Recording<K, F>>,
-    settle: bool,
+    recording: Option<Recording<K, RunTape<F>>>,
     writer: &mut W,
-) -> Result<bool, DeviceFault>
-    ensures done { IfOk result (λ done. done ≡ true → TellsPorts closed.ports.items workers.now settle
+) -> Result<bool, Failure>
+    ensures done { IfOk result (λ done. done ≡ true → TellsPorts closed.ports.items workers.now run.now.args.settle
         (W.contents writer.old) (W.contents writer.new)) }
     ensures even { IfOk result (λ done. done ≡ true → closed.even ≡ true) }
     ensures whole { OnOk result (IfSome recording (λ r. IsWholeRecording r.recorder r.whole)) }
@@ -174,10 +202,11 @@ fn tell_closed<K: Rings, F: DevWrite + Drop, W: DevWrite>(
         even,
         settlements,
     } = closed;
-    let settled = is_settled(ports.len(), settle, settlements.as_slice());
+    let settled = is_settled(ports.len(), run.args.settle, settlements.as_slice());
     let one_each = workers.len() == ports.len();
+    print_early(run.rt, workers);
     write_lines(
-        alloc,
+        run,
         ports,
         workers,
         settlements.as_slice(),
@@ -209,29 +238,42 @@ fn close_run<L: Ledger, M: Ledger, K: Rings, F: DevWrite + Drop>(
 /// Records what is left of each port, closes the desk, settles its ports if that is wanted, and writes what each port did.
 /// Returns whether the run is done: each worker made all its turns, no post was lost, and each port that is to be settled
 /// is.
-pub(crate) fn tell<L: Ledger, M: Ledger, K: Rings, F: DevWrite + Drop, W: DevWrite>(
-    alloc: Global,
+pub(crate) fn tell<L, M, K, G, F, W, R>(
+    run: &RunContext<'_, G, R>,
     desk: Desk<L, M>,
     others: Vec<Seat<L, M>>,
-    results: Results<L, M, K, F>,
-    settle: bool,
+    results: Results<L, M, K, RunTape<F>>,
     writer: &mut W,
-) -> Result<bool, DeviceFault>
+) -> Result<bool, Failure>
+where
+    L: Ledger,
+    M: Ledger,
+    K: Rings,
+    G: Gate,
+    F: OpenFile + Write + Drop,
+    W: DevWrite,
+    R: Files + Eprint,
     ensures done { IfOk result (λ done. done ≡ true
-        → TellsWorked (map (λ w. w.end) results.worked.items) desk.ports settle
+        → TellsWorked (map (λ w. w.end) results.worked.items) desk.ports run.now.args.settle
         (W.contents writer.old) (W.contents writer.new)) }
     ensures whole { IfOk result (λ done. done ≡ true
         → IfSome results.recording (λ r. IsWholeRecording r.recorder r.whole)) }
 {
     let mut recording = results.recording;
-    let Ok(workers) = worker_ends(alloc, results.worked.as_slice()) else {
-        return Err(DeviceFault::Memory);
+    let Ok(workers) = worker_ends(run.alloc, results.worked.as_slice()) else {
+        return Err(Failure::from(DeviceFault::Memory));
     };
-    match close_run(alloc, desk, others, results.worked, &mut recording, settle) {
-        Ok(Some(closed)) => {
-            tell_closed(alloc, closed, workers.as_slice(), recording, settle, writer)
-        }
+    let settle = run.args.settle;
+    match close_run(
+        run.alloc,
+        desk,
+        others,
+        results.worked,
+        &mut recording,
+        settle,
+    ) {
+        Ok(Some(closed)) => tell_closed(run, closed, workers.as_slice(), recording, writer),
         Ok(None) => Ok(false),
-        Err(_) => Err(DeviceFault::Memory),
+        Err(_) => Err(Failure::from(DeviceFault::Memory)),
     }
 }

@@ -7,6 +7,7 @@
 
 mod arguments;
 mod context;
+mod early;
 mod end;
 mod ending;
 mod files;
@@ -14,13 +15,17 @@ mod link;
 mod opening;
 mod operator;
 mod pace;
+mod part;
 mod ports;
+mod recording_file;
 mod running;
 mod serving;
 mod settlement_text;
 mod settling;
+mod target;
 mod thread;
 mod units;
 
 pub use arguments::RunArgs;
+pub use part::{PartFile, Progress};
 pub use serving::run_ports;

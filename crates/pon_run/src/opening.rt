@@ -5,13 +5,15 @@ ghost use Rattle.std.specs.Vec.{vec_len};
 ghost use Rattle.pon_recorder.specs.Rings.{AreRingsOf};
 
 use crate::context::RunContext;
-use crate::files::recorder_of;
+use crate::files::{recorder_of, recording_target};
 use crate::link::{Link, open_links};
 use crate::ports::OTHER_SEATS;
+use crate::recording_file::RunTape;
+use crate::target::discard;
 use pon_desk::{Desk, Seat};
 use pon_device::DeviceFault;
 use pon_job::Failure;
-use pon_recorder::{PortRing, Recorder, Rings, Sinks, Tape, open_rings};
+use pon_recorder::{PortRing, Recorder, Rings, Sinks, open_rings};
 use pon_settings::Settings;
 use pon_units::MAX_PORTS;
 use pon_worker::Gate;
@@ -26,25 +28,27 @@ use std::time::Clock;
 pub(crate) struct Opened<F> {
     pub(crate) links: Vec<Link>,
     pub(crate) rings: Vec<PortRing>,
-    pub(crate) recorder: Option<Recorder<Tape<F>>>,
+    pub(crate) recorder: Option<Recorder<RunTape<F>>>,
 }
 
 /// The connection and the sink of each port, in order, and the recording behind the sinks, if chapters are wanted.
 #[derive(Drop)]
 pub(crate) struct RunParts<K: Rings, F> {
     pub(crate) links: Vec<Link>,
-    pub(crate) sinks: Sinks<K, Tape<F>>,
+    pub(crate) sinks: Sinks<K, RunTape<F>>,
 }
 
-/// Creates the file of the recording, and then opens a connection and a ring for each port of the settings.
-pub(crate) fn open_parts<G, R>(run: &RunContext<'_, G, R>) -> Result<Opened<R::File>, Failure>
+// Opens a connection and a ring for each port of the settings.
+fn open_ends<G, R>(
+    run: &RunContext<'_, G, R>,
+    recorder: Option<Recorder<RunTape<R::File>>>,
+) -> Result<Opened<R::File>, Failure>
 where
     G: Gate,
     R: Net<Listener = TcpListener, Stream = TcpStream> + Files + Clock,
     ensures { IfOk result (λ opened. vec_len opened.rings ≡ length run.now.settings.now) }
 {
     let ports = run.settings.ports().len();
-    let recorder = recorder_of(run.rt, run.alloc, run.args.record, run.args.settle)?;
     let links = open_links(run.rt, run.alloc, run.args.listen, ports)?;
     let Ok(rings) = open_rings(run.alloc, ports, &recorder) else {
         return Err(Failure::from(DeviceFault::Memory));
@@ -54,6 +58,23 @@ where
         rings,
         recorder,
     })
+}
+
+/// Checks and creates the file of the recording, and then opens a connection and a ring for each port of the settings. If
+/// these cannot be opened, no part of a recording is left.
+pub(crate) fn open_parts<G, R>(run: &RunContext<'_, G, R>) -> Result<Opened<R::File>, Failure>
+where
+    G: Gate,
+    R: Net<Listener = TcpListener, Stream = TcpStream> + Files + Clock,
+    ensures { IfOk result (λ opened. vec_len opened.rings ≡ length run.now.settings.now) }
+{
+    let target = recording_target(run)?;
+    let recorder = recorder_of(run, &target)?;
+    let opened = open_ends(run, recorder);
+    if let (Err(_), Some(target)) = (&opened, &target) {
+        discard(run.rt, target);
+    }
+    opened
 }
 
 /// Splits the rings of the ports into their sinks and the recording, which keeps the chapters if the ports are to be

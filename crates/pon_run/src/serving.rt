@@ -13,15 +13,17 @@ use crate::files::open_lines;
 use crate::opening::{Opened, RunParts, open_desk, open_parts, split_rings};
 use crate::operator::answer_lines;
 use crate::ports::{OTHER_SEATS, admit_rows, served_ports};
+use crate::recording_file::RunTape;
 use crate::running::{PortsServed, Results, serve_all};
 use pon_desk::{Desk, Seat};
 use pon_device::{DevWrite, DeviceFault};
 use pon_job::{Failure, exit_status, outcome_of_ports};
-use pon_recorder::{Rings, Sinks, Tape};
+use pon_recorder::{Rings, Sinks};
 use pon_settings::Settings;
 use pon_units::MAX_PORTS;
 use pon_worker::Gate;
 use std::alloc::Global;
+use std::fs::OpenFile;
 use std::io::{Read, Write};
 use std::marker::Brand;
 use std::net::{Net, TcpListener, TcpStream};
@@ -36,17 +38,17 @@ use std::time::Clock;
 fn serve<L, M, K, G, F, W, R>(
     run: &RunContext<'_, G, R>,
     desk: &Desk<L, M>,
-    ports: PortsServed<L, M, K, Tape<F>>,
+    ports: PortsServed<L, M, K, RunTape<F>>,
     operator: &mut Seat<L, M>,
     lines: Option<F>,
     writer: &mut W,
-) -> Result<Results<L, M, K, Tape<F>>, DeviceFault>
+) -> Result<Results<L, M, K, RunTape<F>>, DeviceFault>
 where
     L: Ledger + Send + Sync,
     M: Ledger + Send + Sync,
     K: Rings + Send + Sync,
     G: Gate + Sync,
-    F: Read + Write + Drop + Send,
+    F: Read + Write + OpenFile + Drop + Send,
     W: DevWrite,
     R: Wait + Threads + Clock + Sync,
     ensures quiet { IsNone lines → W.contents writer.new ≡ W.contents writer.old }
@@ -61,44 +63,58 @@ where
 }
 
 // Writes what each port did, as `tell` does, once the seats of the rows and of the operator are free.
-fn tell_with_seats<L: Ledger, M: Ledger, K: Rings, F: Write + Drop, W: DevWrite>(
-    alloc: Global,
+fn tell_with_seats<L, M, K, G, F, W, R>(
+    run: &RunContext<'_, G, R>,
     desk: Desk<L, M>,
     others: [Seat<L, M>; OTHER_SEATS],
-    results: Results<L, M, K, Tape<F>>,
-    settle: bool,
+    results: Results<L, M, K, RunTape<F>>,
     writer: &mut W,
-) -> Result<bool, DeviceFault>
+) -> Result<bool, Failure>
+where
+    L: Ledger,
+    M: Ledger,
+    K: Rings,
+    G: Gate,
+    F: OpenFile + Write + Drop,
+    W: DevWrite,
+    R: Files + Eprint,
     ensures done { IfOk result (λ done. done ≡ true
-        → TellsWorked (map (λ w. w.end) results.worked.items) desk.ports settle
+        → TellsWorked (map (λ w. w.end) results.worked.items) desk.ports run.now.args.settle
         (W.contents writer.old) (W.contents writer.new)) }
     ensures whole { IfOk result (λ done. done ≡ true
         → IfSome results.recording (λ r. IsWholeRecording r.recorder r.whole)) }
 {
-    match Vec::from_array(alloc, others) {
-        Ok(others) => tell(alloc, desk, others, results, settle, writer),
-        Err(_) => Err(DeviceFault::Memory),
+    match Vec::from_array(run.alloc, others) {
+        Ok(others) => tell(run, desk, others, results, writer),
+        Err(_) => Err(Failure::from(DeviceFault::Memory)),
     }
 }
 
 // Writes what each port did, and returns whether the run is done. `Err` also if the operator's lines were not all executed.
-fn tell_results<L: Ledger, M: Ledger, K: Rings, F: Write + Drop, W: DevWrite>(
-    alloc: Global,
+fn tell_results<L, M, K, G, F, W, R>(
+    run: &RunContext<'_, G, R>,
     desk: Desk<L, M>,
     others: [Seat<L, M>; OTHER_SEATS],
-    results: Results<L, M, K, Tape<F>>,
-    settle: bool,
+    results: Results<L, M, K, RunTape<F>>,
     writer: &mut W,
-) -> Result<bool, DeviceFault>
+) -> Result<bool, Failure>
+where
+    L: Ledger,
+    M: Ledger,
+    K: Rings,
+    G: Gate,
+    F: OpenFile + Write + Drop,
+    W: DevWrite,
+    R: Files + Eprint,
     ensures done { IfOk result (λ done. done ≡ true
-        → TellsWorked (map (λ w. w.end) results.worked.items) desk.ports settle
+        → TellsWorked (map (λ w. w.end) results.worked.items) desk.ports run.now.args.settle
         (W.contents writer.old) (W.contents writer.new)) }
     ensures operated { OnOk result (is_ok results.operated ≡ true) }
     ensures whole { IfOk result (λ done. done ≡ true
         → IfSome results.recording (λ r. IsWholeRecording r.recorder r.whole)) }
 {
     let operated = results.operated;
-    let done = tell_with_seats(alloc, desk, others, results, settle, writer)?;
+    let done = tell_with_seats(run, desk, others, results, writer)?;
     operated?;
     Ok(done)
 }
@@ -110,7 +126,7 @@ fn prepare<L: Ledger, M: Ledger, K: Rings, G: Gate, F: Drop, R: Wait>(
     seat: &mut Seat<L, M>,
     seats: Vec<Seat<L, M>>,
     parts: RunParts<K, F>,
-) -> Result<PortsServed<L, M, K, Tape<F>>, DeviceFault> {
+) -> Result<PortsServed<L, M, K, RunTape<F>>, DeviceFault> {
     if admit_rows(run.rt, run.alloc, desk, seat, run.settings).is_err() {
         return Err(DeviceFault::Memory);
     }
@@ -141,15 +157,15 @@ fn run_desk<L, M, K, G, F, W, R>(
     parts: RunParts<K, F>,
     lines: Option<F>,
     writer: &mut W,
-) -> Result<bool, DeviceFault>
+) -> Result<bool, Failure>
 where
     L: Ledger + Send + Sync,
     M: Ledger + Send + Sync,
     K: Rings + Send + Sync,
     G: Gate + Sync,
-    F: Read + Write + Drop + Send,
+    F: Read + Write + OpenFile + Drop + Send,
     W: DevWrite,
-    R: Wait + Threads + Clock + Sync,
+    R: Files + Eprint + Wait + Threads + Clock + Sync,
     requires { OTHER_SEATS ≤ vec_len seats }
     ensures { IfOk result (λ done. done ≡ true → EndsDone desk.ports run.now.args.settle (IsNone lines)
         (W.contents writer.old) (W.contents writer.new)) }
@@ -160,7 +176,7 @@ where
     let ports = prepare(run, &desk, &mut first, seats, parts)?;
     let results = serve(run, &desk, ports, &mut operator, lines, writer)?;
     let others = [first, operator];
-    tell_results(run.alloc, desk, others, results, run.args.settle, writer)
+    tell_results(run, desk, others, results, writer)
 }
 
 // Opens a desk for the ports of the settings, and runs it.
@@ -171,15 +187,15 @@ fn run_at<L, M, K, G, F, W, R>(
     opened: Opened<F>,
     lines: Option<F>,
     writer: &mut W,
-) -> Result<bool, DeviceFault>
+) -> Result<bool, Failure>
 where
     L: Ledger + Send + Sync,
     M: Ledger + Send + Sync,
     K: Rings + Send + Sync,
     G: Gate + Sync,
-    F: Read + Write + Drop + Send,
+    F: Read + Write + OpenFile + Drop + Send,
     W: DevWrite,
-    R: Wait + Threads + Clock + Sync,
+    R: Files + Eprint + Wait + Threads + Clock + Sync,
     requires ports { (of_ports.name ≡ L.name) × (of_ports.parts ≡ L.parts)
         × (L.parts ≡ length run.now.settings.now) }
     requires seats { (of_seats.name ≡ M.name) × (of_seats.parts ≡ M.parts)
@@ -198,7 +214,13 @@ fn open_and_run<G, W, R>(run: &RunContext<'_, G, R>, writer: &mut W) -> Result<b
 where
     G: Gate + Sync,
     W: DevWrite,
-    R: Net<Listener = TcpListener, Stream = TcpStream> + Files + Threads + Wait + Clock + Sync,
+    R: Net<Listener = TcpListener, Stream = TcpStream>
+        + Files
+        + Eprint
+        + Threads
+        + Wait
+        + Clock
+        + Sync,
     R::File: Send,
     ensures { IfOk result (λ done. done ≡ true → EndsDone (length run.now.settings.now)
         run.now.args.settle (IsNone run.now.args.operate)
@@ -210,14 +232,14 @@ where
     };
     let opened = open_parts(run)?;
     let ports = run.settings.ports().len();
-    Ok(run_at::<Brand, Brand, Brand, G, R::File, W, R>(
+    run_at::<Brand, Brand, Brand, G, R::File, W, R>(
         run,
         Blank::new(ports as u64),
         Blank::new((ports + OTHER_SEATS) as u64),
         opened,
         lines,
         writer,
-    )?)
+    )
 }
 
 // Returns the exit status of a run that ended so, and prints its failure.
@@ -236,18 +258,18 @@ fn status_of(rt: &impl Eprint, ended: Result<bool, Failure>) -> u8
 
 /// Runs the ports of the settings.
 ///
-/// Opens the operator's file, creates the file of the recording, listens on the address, opens a connection for each
+/// Opens the operator's file, creates the part of the recording's file, listens on the address, opens a connection for each
 /// port, and admits the rows of the settings. Then each port makes `maps` maps for its simulated units, which answer
-/// over the connection, while the operator's lines are executed. At the end the chapter of each port is recorded, and a
-/// line about each port is written. The gate may hold workers back.
+/// over the connection, while the operator's lines are executed. At the end the chapter of each port is recorded, the part
+/// of a whole recording gets the name of its file, and a line about each port is written. The gate may hold workers back.
 ///
 /// Returns the exit status: 0 if each worker made all its turns, all the operator's lines were executed and the
 /// recording is whole; otherwise 3. Standard error has a text if a device failed or memory was refused: `olt: read
 /// failed` if the operator's file cannot be read, or the address cannot be read, bound, connected to or accepted on,
 /// also if connections of others keep the run from its own for 10 seconds;
-/// `olt: write failed`, also if the file of the recording cannot be created or written; or `olt: out of memory`, also
-/// if a thread cannot be created; then, indented, the file or the address that failed, and why. A worker that ended early has no
-/// text. All threads have ended when it returns.
+/// `olt: write failed`, also if the file of the recording is one that the run reads, exists and is not to be replaced, or cannot be
+/// created, written, synced or renamed; or `olt: out of memory`, also if a thread cannot be created; then, indented, the file or the
+/// address that failed, and why. A worker that ended early has an indented line alone. All threads have ended when it returns.
 pub fn run_ports<G, W, R>(
     rt: &R,
     alloc: Global,

@@ -6,6 +6,7 @@
 
 mod fault;
 mod fields;
+mod lacking;
 mod mending;
 mod place;
 mod port;
@@ -16,6 +17,7 @@ mod rule;
 mod terminal;
 
 pub use fault::SettingsFault;
+pub use lacking::explain_further;
 pub use mending::explain;
 pub use port::PortSettings;
 pub use reader::settings;

@@ -9,8 +9,8 @@ use pon_units::PortNo;
 use std::alloc::{AllocError, Global};
 use toml::Table;
 
-// Returns the table of a text. `None` if the text is not TOML.
-fn table_of(alloc: Global, text: &str) -> Result<Option<Table>, AllocError> {
+/// Returns the table of a text. `None` if the text is not TOML.
+pub(crate) fn table_of(alloc: Global, text: &str) -> Result<Option<Table>, AllocError> {
     match toml::table_from_str(alloc, text) {
         Ok(table) => Ok(Some(table)),
         Err(fault) => {
@@ -23,8 +23,8 @@ fn table_of(alloc: Global, text: &str) -> Result<Option<Table>, AllocError> {
     }
 }
 
-// Returns the table at this index of the list at a key.
-fn table_at<'a>(table: &'a Table, key: &str, index: usize) -> Option<&'a Table> {
+/// Returns the table at this index of the list at a key.
+pub(crate) fn table_at<'a>(table: &'a Table, key: &str, index: usize) -> Option<&'a Table> {
     let Some(list) = table.get(key) else {
         return None;
     };

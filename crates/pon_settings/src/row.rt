@@ -108,8 +108,8 @@ fn admission_fault(refusal: Refusal) -> RowFault
     }
 }
 
-// Reads a row from a table, and checks that its numbers are in range.
-fn row_of(table: &Table) -> Result<SettingsRow, RowFault>
+/// Reads a row from a table, and checks that its numbers are in range.
+pub(crate) fn row_of(table: &Table) -> Result<SettingsRow, RowFault>
     ensures ok { IfOk result
         (λ r. (row_of (table_view table.now) ≡ Some r) × (number_refusal r.row ≡ None)) }
     ensures fault { IfErr result (IsRowFault (row_of (table_view table.now))) }

@@ -6,22 +6,53 @@ use crate::port::{first_frame, gap_of, profile_of};
 use crate::row::MAX_QUEUE;
 use pon_descr::Class;
 use std::fmt;
-use toml::Table;
+use toml::{Table, Value};
+
+/// Maximum length of a text that is shown whole, in bytes.
+const MAX_SHOWN: usize = 40;
 
 /// What is wrong with a table.
 #[derive(Clone, Copy)]
 pub(crate) enum Rule<'a> {
     /// The table has a key that it may not have.
     UnknownKey(&'a str),
+    /// The table does not have this key.
+    Missing(&'static str),
     /// A value does not satisfy this rule.
-    Broken(&'static str),
+    Broken {
+        rule: &'static str,
+        found: &'a Value,
+    },
 }
 
 impl fmt::Display for Rule<'_> {
     fn fmt<W: fmt::Write>(&self, f: &mut fmt::Formatter<W>) -> fmt::Result {
         match *self {
             Rule::UnknownKey(key) => write!(f, "unknown key {key:?}"),
-            Rule::Broken(rule) => f.write_str(rule),
+            Rule::Missing(key) => write!(f, "{key} is missing"),
+            Rule::Broken { rule, found } => {
+                let shown = Shown(found);
+                write!(f, "{rule}, but is {shown}")
+            }
+        }
+    }
+}
+
+// A value in words: a number, a short text, or else its type.
+#[derive(Clone, Copy)]
+struct Shown<'a>(&'a Value);
+
+impl fmt::Display for Shown<'_> {
+    fn fmt<W: fmt::Write>(&self, f: &mut fmt::Formatter<W>) -> fmt::Result {
+        if let Some(number) = self.0.as_integer() {
+            return write!(f, "{number}");
+        }
+        if let Some(values) = self.0.as_array() {
+            return write!(f, "a list of length {}", values.len());
+        }
+        match self.0.as_str() {
+            Some(text) if text.len() <= MAX_SHOWN => write!(f, "{text:?}"),
+            _ => write!(f, "a {}", self.0.type_str()),
         }
     }
 }
@@ -36,11 +67,19 @@ fn unknown_key(place: Place, table: &Table) -> Option<Rule<'_>> {
     None
 }
 
+/// Returns what is wrong at a key whose value does not satisfy the rule.
+pub(crate) fn rule_at<'a>(table: &'a Table, key: &'static str, rule: &'static str) -> Rule<'a> {
+    match table.get(key) {
+        Some(found) => Rule::Broken { rule, found },
+        None => Rule::Missing(key),
+    }
+}
+
 /// Returns the rule that the table at the top breaks, if it does not have a list of 1 to 64 port tables.
 pub(crate) fn top_rule(table: &Table) -> Rule<'_> {
     match unknown_key(Place::Top, table) {
         Some(rule) => rule,
-        None => Rule::Broken("port must be a list of 1 to 64 tables"),
+        None => rule_at(table, "port", "port must be a list of 1 to 64 tables"),
     }
 }
 
@@ -49,18 +88,18 @@ pub(crate) fn port_rule(table: &Table) -> Option<Rule<'_>> {
     if let Some(rule) = unknown_key(Place::Port, table) {
         return Some(rule);
     }
-    let rule = if gap_of(table).is_none() {
-        "gap must be 1 to 256"
+    let (key, rule) = if gap_of(table).is_none() {
+        ("gap", "gap must be 1 to 256")
     } else if profile_of(table).is_none() {
-        "profile must be 0 to 3"
+        ("profile", "profile must be 0 to 3")
     } else if first_frame(table).is_none() {
-        "first must be 0 to 9223372036854775807"
+        ("first", "first must be 0 to 9223372036854775807")
     } else if optional_tables(table, "alloc").is_none() {
-        "alloc must be a list of tables"
+        ("alloc", "alloc must be a list of tables")
     } else {
         return None;
     };
-    Some(Rule::Broken(rule))
+    Some(rule_at(table, key, rule))
 }
 
 // Returns whether a whole number of 0 or more is at the key.
@@ -84,22 +123,22 @@ pub(crate) fn row_rule(table: &Table) -> Option<Rule<'_>> {
     if let Some(rule) = unknown_key(Place::Row, table) {
         return Some(rule);
     }
-    let rule = if !has_number(table, "onu") {
-        "onu must be a whole number, not negative"
+    let (key, rule) = if !has_number(table, "onu") {
+        ("onu", "onu must be a whole number, not negative")
     } else if !has_number(table, "alloc") {
-        "alloc must be a whole number, not negative"
+        ("alloc", "alloc must be a whole number, not negative")
     } else if !has_number(table, "fixed") {
-        "fixed must be a whole number, not negative"
+        ("fixed", "fixed must be a whole number, not negative")
     } else if !has_number(table, "assured") {
-        "assured must be a whole number, not negative"
+        ("assured", "assured must be a whole number, not negative")
     } else if !has_number(table, "max") {
-        "max must be a whole number, not negative"
+        ("max", "max must be a whole number, not negative")
     } else if !has_class(table) {
-        "class must be none, na or be"
+        ("class", "class must be none, na or be")
     } else if optional(table, "queue", MAX_QUEUE).is_none() {
-        "queue must be 0 to 4294967295"
+        ("queue", "queue must be 0 to 4294967295")
     } else {
         return None;
     };
-    Some(Rule::Broken(rule))
+    Some(rule_at(table, key, rule))
 }

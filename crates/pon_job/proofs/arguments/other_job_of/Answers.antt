@@ -9,7 +9,7 @@ use Rattle.pon_job.proofs.arguments.other_job_of.Goals as goal
 pub returns-then-eq-clause-some : goal.returns-then-eq-clause-some
 returns-then-eq-clause-some c =
     let word = (bytes_eq-Decides _ (codes "plan")).0 (sym c.eq.ensures ∙ c.if-eq.true) in
-    (word, sym (c.get_str-config.ensures ∙ first_value-rows (found_of c.args.found.now) (codes "config")))
+    (word, c.plan_of.ensures)
 
 pub returns-in_err-file-clause-none : goal.returns-in_err-file-clause-none
 returns-in_err-file-clause-none c =

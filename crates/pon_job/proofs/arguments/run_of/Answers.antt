@@ -25,6 +25,7 @@ returns-clause-some c =
         number = c.in_ok-maps.ensures.some;
         recording_file = sym (c.get_str-record.ensures ∙ first_value-rows f (codes "record"));
         operator = sym (c.get_str-operate.ensures ∙ first_value-rows f (codes "operate"));
+        keeps = c.is_given-no_clobber.ensures;
         settles = c.is_given-settle.ensures;
       },
     )

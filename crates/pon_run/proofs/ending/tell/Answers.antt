@@ -12,5 +12,5 @@ returns-in-Ok-Some-clause-done g c =
     let count : length kept ≡ c.args.desk.ports = search (rules, at_desk) in
     let ended : map (λ w. w.end) c.as_slice.result.now ≡ map Ok workers = c.in-Ok.ensures ∙ ap (map Ok) (sym same) in
     let shown : map (λ w. w.end) c.args.results.worked.items ≡ map (λ w. w.end) c.as_slice.result.now = search rules in
-    tells_worked c.tell_closed.result (map (λ w. w.end) c.args.results.worked.items) kept workers c.args.desk.ports c.args.settle (g.W.DevWrite.contents c.args.writer.now) (g.W.DevWrite.contents c.tell_closed.new.writer)
+    tells_worked c.tell_closed.result (map (λ w. w.end) c.args.results.worked.items) kept workers c.args.desk.ports c.args.run.now.args.settle (g.W.DevWrite.contents c.args.writer.now) (g.W.DevWrite.contents c.tell_closed.new.writer)
     count (shown ∙ ended) c.tell_closed.ensures.done

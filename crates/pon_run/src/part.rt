@@ -1,0 +1,122 @@
+//! A file that is written beside its name, and gets the name when it is whole.
+
+ghost use Rattle.std.specs.Prelude.{◌≡◌, IfOk, OnErr, OnOk};
+
+use std::alloc::{AllocError, Global};
+use std::fs::{self, OpenFile, OpenOptions};
+use std::io::{self, Write};
+use std::marker::Model;
+use std::rt::Files;
+
+/// The end of the name of a file that is not whole yet.
+const PART: &str = ".part";
+
+/// Returns the name of the part of the file `name`. `Err` only if memory is refused.
+pub(crate) fn part_of(alloc: Global, name: &str) -> Result<String, AllocError> {
+    format!(in alloc; "{name}{PART}")
+}
+
+/// How far a part is.
+#[derive(Clone, Copy, Debug, PartialEq, Eq)]
+pub enum Progress {
+    /// It is being written.
+    Open,
+    /// All that was written is on the disk.
+    Synced,
+    /// It has the name of its file.
+    Named,
+}
+
+/// A file that is written as its part, FILE.part for a file FILE, and gets its name when it is whole. Contracts see it as
+/// its progress.
+#[derive(Drop)]
+pub struct PartFile<F> {
+    file: F,
+    name: String,
+    part: String,
+    progress: Progress,
+}
+
+impl<F> Model for PartFile<F> {
+    ghost use Rattle.pon_run.specs.declared.part.Progress.{Progress};
+
+    ghost Value = { Progress };
+
+    ghost view = { λ p. p.progress };
+}
+
+impl<F> PartFile<F> {
+    /// The name of the part.
+    pub fn part(&self) -> &str {
+        self.part.as_str()
+    }
+}
+
+impl<F: Write> Write for PartFile<F> {
+    fn write(&mut self, buf: &[u8]) -> io::Result<usize> {
+        self.progress = Progress::Open;
+        self.file.write(buf)
+    }
+
+    fn flush(&mut self) -> io::Result<()> {
+        self.file.flush()
+    }
+}
+
+impl<F: OpenFile + Write> PartFile<F> {
+    /// Creates the part of the file `name`, in place of an earlier part. The file itself is unchanged.
+    pub fn create<R: Files<File = F>>(rt: &R, alloc: Global, name: &str) -> io::Result<Self>
+        ensures { IfOk result (λ p. p ≡ Progress.Open) }
+    {
+        let name = String::from_str(alloc, name)?;
+        let part = part_of(alloc, name.as_str())?;
+        let _ = fs::remove_file(rt, part.as_str());
+        let file = OpenOptions::new()
+            .write(true)
+            .create_new(true)
+            .open(rt, part.as_str())?;
+        Ok(PartFile {
+            file,
+            name,
+            part,
+            progress: Progress::Open,
+        })
+    }
+
+    // Waits until all that was written is on the disk.
+    fn sync(&mut self) -> io::Result<()>
+        ensures ok { OnOk result (self.new ≡ Progress.Synced) }
+        ensures err { OnErr result (self.new ≡ self.old) }
+    {
+        self.file.sync_all()?;
+        self.progress = Progress::Synced;
+        Ok(())
+    }
+
+    // Gives the part the name of its file.
+    fn rename<R: Files>(&mut self, rt: &R) -> io::Result<()>
+        requires synced { self.old ≡ Progress.Synced }
+        ensures ok { OnOk result (self.new ≡ Progress.Named) }
+        ensures err { OnErr result (self.new ≡ self.old) }
+    {
+        fs::rename(rt, self.part.as_str(), self.name.as_str())?;
+        self.progress = Progress::Named;
+        Ok(())
+    }
+
+    /// Writes the part to the disk, and then gives it the name of its file, in place of an earlier file. After an error the
+    /// earlier file is unchanged.
+    pub fn keep<R: Files>(&mut self, rt: &R) -> io::Result<()>
+        ensures { OnOk result (self.new ≡ Progress.Named) }
+    {
+        self.sync()?;
+        self.rename(rt)
+    }
+}
+
+impl<F: Drop> PartFile<F> {
+    /// Removes the part; the file itself is unchanged.
+    pub fn discard<R: Files>(self, rt: &R) {
+        let _ = fs::remove_file(rt, self.part.as_str());
+    }
+}
