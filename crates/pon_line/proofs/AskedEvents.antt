@@ -10,7 +10,7 @@ use Rattle.pon_line.specs.Reading.{read_line, read_words, request_of, by_port, s
 use Rattle.pon_line.specs.declared.fault.LineFault.{LineFault}
 use Rattle.pon_line.specs.declared.fault.LineFault.TheVariants.{LineLong, NotText}
 use Rattle.pon_line.specs.declared.reading.Reading.{Reading}
-use Rattle.pon_line.specs.declared.reading.Reading.TheVariants.{Nothing, Refused, Asks, AsksCert, AsksState}
+use Rattle.pon_line.specs.declared.reading.Reading.TheVariants.{Nothing, Refused, Asks, AsksCert, AsksState, AsksRows, AsksHelp}
 
 -- P holds for the value that was read, if there is one
 abbrev pub Reads : {A : Type 0} → (A → Type 0) → Result A LineFault → Type 0
@@ -32,6 +32,8 @@ AsksFor P (Refused fault) = Unit {0}
 AsksFor P (Asks port event) = P event
 AsksFor P (AsksCert port) = Unit {0}
 AsksFor P (AsksState port) = Unit {0}
+AsksFor P (AsksRows port) = Unit {0}
+AsksFor P (AsksHelp port) = Unit {0}
 
 asks_taken : (P : Event → Type 0) (port : ℕ) (r : Result Event LineFault) → Reads P r → AsksFor P (takes port r)
 asks_taken P port (Ok event) h = h
@@ -52,7 +54,9 @@ module _ (P : Event → Type 0) (events : (ws : List (List ℕ)) → Reads P (ev
   request_asks port (name ∷ ws) =
       either (bytes_eq name (codes "cert")) _ _ (asks_shown P (AsksCert port) ws tt) (
       either (bytes_eq name (codes "show")) _ _ (asks_shown P (AsksState port) ws tt) (
-      asks_taken P port (event_of (name ∷ ws)) (events (name ∷ ws))))
+      either (bytes_eq name (codes "list")) _ _ (asks_shown P (AsksRows port) ws tt) (
+      either (bytes_eq name (codes "help")) _ _ (asks_shown P (AsksHelp port) ws tt) (
+      asks_taken P port (event_of (name ∷ ws)) (events (name ∷ ws))))))
 
   port_asks : (r : Result ℕ LineFault) (ws : List (List ℕ)) → AsksFor P (by_port r ws)
   port_asks (Err fault) ws = tt

@@ -13,7 +13,7 @@ use Rattle.pon_line.specs.Reading.{AsksWithin, read_line, read_words, request_of
 use Rattle.pon_line.specs.declared.fault.LineFault.{LineFault}
 use Rattle.pon_line.specs.declared.fault.LineFault.TheVariants.{LineLong, NotText, NoSuchPort}
 use Rattle.pon_line.specs.declared.reading.Reading.{Reading}
-use Rattle.pon_line.specs.declared.reading.Reading.TheVariants.{Nothing, Refused, AsksCert, AsksState}
+use Rattle.pon_line.specs.declared.reading.Reading.TheVariants.{Nothing, Refused, AsksCert, AsksState, AsksRows, AsksHelp}
 
 -- a port that a word names exists
 IsThere : ℕ → Result ℕ LineFault → Type 0
@@ -49,7 +49,9 @@ request_within ports port [] h = tt
 request_within ports port (name ∷ ws) h =
     either ports (bytes_eq name (codes "cert")) _ _ (shows_within ports (AsksCert port) ws h) (
     either ports (bytes_eq name (codes "show")) _ _ (shows_within ports (AsksState port) ws h) (
-    takes_within ports port (event_of (name ∷ ws)) h))
+    either ports (bytes_eq name (codes "list")) _ _ (shows_within ports (AsksRows port) ws h) (
+    either ports (bytes_eq name (codes "help")) _ _ (shows_within ports (AsksHelp port) ws h) (
+    takes_within ports port (event_of (name ∷ ws)) h))))
 
 port_within : (ports : ℕ) (r : Result ℕ LineFault) (ws : List (List ℕ)) → IsThere ports r → AsksWithin ports (by_port r ws)
 unfolding IsThere

@@ -15,7 +15,7 @@ use Rattle.pon_line.specs.Reading.{request_of, shows, takes}
 use Rattle.pon_line.specs.declared.fault.LineFault.{LineFault}
 use Rattle.pon_line.specs.declared.fault.LineFault.TheVariants.{BadField}
 use Rattle.pon_line.specs.declared.reading.Reading.{Reading}
-use Rattle.pon_line.specs.declared.reading.Reading.TheVariants.{AsksCert, AsksState}
+use Rattle.pon_line.specs.declared.reading.Reading.TheVariants.{AsksCert, AsksState, AsksRows, AsksHelp}
 use Rattle.pon_line.proofs.AskedEvents.{Reads, alone, chosen}
 
 step : {A : Type 0} (r : Result A LineFault) (f : A → Result Event LineFault) → ((x : A) → Reads IsOtherEvent (f x)) → Reads IsOtherEvent (r >>= f)
@@ -88,4 +88,6 @@ unfolding request_of
 other_command port name ws map report =
     either (bytes_eq name (codes "cert")) _ _ (shown (AsksCert port) ws tt) (
     either (bytes_eq name (codes "show")) _ _ (shown (AsksState port) ws tt) (
-    taken port (event_of (name ∷ ws)) (other_event name ws map report)))
+    either (bytes_eq name (codes "list")) _ _ (shown (AsksRows port) ws tt) (
+    either (bytes_eq name (codes "help")) _ _ (shown (AsksHelp port) ws tt) (
+    taken port (event_of (name ∷ ws)) (other_event name ws map report)))))

@@ -257,6 +257,10 @@ pub(crate) fn request_of(port: usize, text: &[u8]) -> Reading
         shows(name.rest, Reading::AsksCert { port })
     } else if name.word == b"show".as_slice() {
         shows(name.rest, Reading::AsksState { port })
+    } else if name.word == b"list".as_slice() {
+        shows(name.rest, Reading::AsksRows { port })
+    } else if name.word == b"help".as_slice() {
+        shows(name.rest, Reading::AsksHelp { port })
     } else {
         event_request(port, &name)
     }

@@ -6,7 +6,10 @@ ghost use Rattle.pon_history.specs.Last.{last_map};
 ghost use Rattle.pon_line.specs.Parts.{asks_in};
 ghost use Rattle.pon_line.specs.Reading.{AsksWithin};
 ghost use Rattle.pon_manage.specs.Text.{AddsAnswer, cert_line, last_reply, state_line};
+ghost use Rattle.pon_manage.specs.Rows.{list_text};
 
+use crate::help::append_help;
+use crate::list::append_rows;
 use crate::show::{append_shown, shown_of};
 use crate::texts::{append_cert, append_refusal, append_reply};
 use pon_dbru::Occupancies;
@@ -14,6 +17,7 @@ use pon_descr::Refusal;
 use pon_line::{FrameCommand, LineFault, Reading};
 use pon_plant::{Plant, Step, StepFault};
 use pon_port::{Entry, Event, Port};
+use pon_rows::row_views;
 use pon_units::{MAX_PORTS, PortNo};
 use std::alloc::AllocError;
 
@@ -88,6 +92,16 @@ fn show_state(port: &Port, replies: &mut Vec<u8>) -> Result<(), AllocError>
     append_shown(replies, &shown_of(port.state()))
 }
 
+// Appends the list of the admitted Alloc-IDs.
+fn show_rows(port: &Port, replies: &mut Vec<u8>) -> Result<(), AllocError>
+    ensures ok { OnOk result (replies.new.items
+        ≡ replies.old.items ++ list_text (present_state port.now)) }
+    ensures err { OnErr result (replies.new.items ≡ replies.old.items) }
+{
+    let views = row_views(*replies.allocator(), port.state())?;
+    append_rows(replies, &views)
+}
+
 // Returns the port at an index.
 fn port_at(plant: &Plant, place: usize) -> &Port
     requires { place < length plant.now }
@@ -115,6 +129,8 @@ pub(crate) fn answer(
         Reading::Asks { port, event } => answer_event(plant, port, event, room, replies),
         Reading::AsksCert { port } => show_cert(port_at(plant, port), replies),
         Reading::AsksState { port } => show_state(port_at(plant, port), replies),
+        Reading::AsksRows { port } => show_rows(port_at(plant, port), replies),
+        Reading::AsksHelp { port: _ } => append_help(replies),
     }
 }
 

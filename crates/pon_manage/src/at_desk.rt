@@ -1,18 +1,22 @@
 //! The text that one line gives at a desk.
 
 ghost use Rattle.std.specs.Prelude.{◌≡◌, ◌<◌, ◌++◌, IfOk, OnOk, OnErr};
-ghost use Rattle.pon_history.specs.Chapters.{Chapter, IsLawfulChapter};
+ghost use Rattle.pon_history.specs.Chapters.{Chapter, IsLawfulChapter, present_state};
 ghost use Rattle.pon_line.specs.Reading.{AsksWithin};
 ghost use Rattle.pon_desk.specs.Views.{view_of};
+ghost use Rattle.pon_rows.specs.RowViews.{row_views};
 ghost use Rattle.pon_manage.specs.Desks.{AddsText, DeskAnswers, shown_in};
 ghost use Rattle.pon_manage.specs.Text.{cert_line};
 
+use crate::help::append_help;
+use crate::list::append_rows;
 use crate::show::{Shown, append_shown};
 use crate::texts::{append_cert, append_refusal, append_reply};
 use pon_descr::Refusal;
 use pon_desk::{Desk, PortView, Seat, StepFault};
 use pon_line::{LineFault, Reading};
-use pon_port::Event;
+use pon_port::{Event, Port};
+use pon_rows::{RowView, row_views};
 use pon_units::{MAX_PORTS, PortNo};
 use std::alloc::{AllocError, Global};
 use std::sync::Wait;
@@ -100,6 +104,23 @@ impl<'a, L: Ledger, M: Ledger, H: Wait> AtDesk<'a, L, M, H> {
         }
     }
 
+    // Copies what is shown of each Alloc-ID of a port at some moment, under its lock. `Err` only if memory is refused.
+    fn rows_at(&self, alloc: Global, place: usize) -> Result<Vec<RowView>, AllocError>
+        requires { place < self.now.desk.now.ports }
+        ensures { IfOk result (λ views. (at : Chapter) × IsLawfulChapter at
+            × (views.items ≡ row_views (present_state at))) }
+    {
+        let port = port_no(self.desk, place);
+        let copied = self.desk.inspect(
+            self.rt,
+            port,
+            |port: &Port| -> Result<Vec<RowView>, AllocError>
+                ensures { IfOk result (λ views. views.items ≡ row_views (present_state port.now)) }
+            { row_views(alloc, port.state()) },
+        );
+        copied.unwrap()
+    }
+
     /// Appends the text of a reading: an event is posted, and what is shown is copied, each under the lock of its port
     /// only. `Err` only if memory is refused; then the replies are unchanged.
     pub(crate) fn answer(
@@ -129,6 +150,11 @@ impl<'a, L: Ledger, M: Ledger, H: Wait> AtDesk<'a, L, M, H> {
                 let view = self.view_at(alloc, port)?;
                 append_shown(replies, &shown_in(&view))
             }
+            Reading::AsksRows { port } => {
+                let views = self.rows_at(alloc, port)?;
+                append_rows(replies, &views)
+            }
+            Reading::AsksHelp { port: _ } => append_help(replies),
         }
     }
 }

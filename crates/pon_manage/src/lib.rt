@@ -6,7 +6,9 @@
 
 mod answer;
 mod at_desk;
+mod help;
 pub mod laws;
+mod list;
 mod operating;
 mod planning;
 mod show;
