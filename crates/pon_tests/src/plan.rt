@@ -89,7 +89,7 @@ fn ends_by(run: Option<Answered>, text: &[u8]) -> bool {
     }
 }
 
-static WORKED: [(&[u8], &[u8]); 34] = [
+static WORKED: [(&[u8], &[u8]); 36] = [
     (FIRST_MAP, FIRST_TEXT),
     (b"0 map", b"map 0 00000000\n"),
     (b"", b""),
@@ -190,6 +190,15 @@ static WORKED: [(&[u8], &[u8]); 34] = [
     (
         b"0 admit 5 1024 2560 1280 7680 be\n0 admit 5 1025 0 256 256 none\n0 fail 3\n0 show\n0 restore\n0 remove 1024\n0 show\n",
         b"ok 0\nok 1\nok 2\nshow down 3 next 0 allocs 2 onus 1 guaranteed 4096 capacity 2482688\nok 3\nok 4\nshow up next 0 allocs 1 onus 1 guaranteed 256 capacity 2483200\n",
+    ),
+    // 90 of the 100 reported words are left after map 0, none of 7 after map 1; a failure drops reports and window.
+    (
+        b"0 list\n0 admit 5 1024 2560 0 2560 none\n0 admit 3 1025 0 256 2560 na\n0 list\n0 map\n0 report 0 5 100\n0 list\n0 map\n0 report 1 5 7\n0 remove 1024\n0 admit 6 1024 0 0 256 be\n0 list\n0 fail 1\n0 list\n0 list 1\n1 list\n",
+        b"list 0\nok 0\nok 1\nlist 2\nalloc 1025 onu 3 fixed 0 assured 256 max 2560 class na report - left - load 0 words -\nalloc 1024 onu 5 fixed 2560 assured 0 max 2560 class none report - left - load 0 words -\nmap 0 00400d2b10060010000105a810020023000b1ac4\nok 3\nlist 2\nalloc 1025 onu 3 fixed 0 assured 256 max 2560 class na report - left - load 0 words 0\nalloc 1024 onu 5 fixed 2560 assured 0 max 2560 class none report 0 left 90 load 23040 words 10\nmap 1 00400d2b10060010000105a810020023000b1ac4\nok 5\nok 6\nok 7\nlist 2\nalloc 1025 onu 3 fixed 0 assured 256 max 2560 class na report - left - load 0 words 0\nalloc 1024 onu 6 fixed 0 assured 0 max 256 class be report - left - load 0 words -\nok 8\nlist 2\nalloc 1025 onu 3 fixed 0 assured 256 max 2560 class na report - left - load 0 words -\nalloc 1024 onu 6 fixed 0 assured 0 max 256 class be report - left - load 0 words -\nerr L2 WordCount\nerr L4 NoSuchPort\n",
+    ),
+    (
+        b"0 help\n0 help 1\n1 help\n",
+        b"help 11\n<port> admit <onu> <alloc> <fixed> <assured> <max> <class>\n<port> change <alloc> <fixed> <assured> <max> <class>\n<port> remove <alloc>\n<port> report <frame> <onu> <occupancy> ..\n<port> map\n<port> fail <cause>\n<port> restore\n<port> cert\n<port> show\n<port> list\n<port> help\nerr L2 WordCount\nerr L4 NoSuchPort\n",
     ),
     (b"# a comment \xff\r\n \t\n0 map\r\n\r", b"map 0 00000000\n"),
     (
