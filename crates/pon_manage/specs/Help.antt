@@ -14,6 +14,7 @@ line_forms =
     ∷ codes "cert"
     ∷ codes "show"
     ∷ codes "list"
+    ∷ codes "why <alloc>"
     ∷ codes "help"
     ∷ []
 
@@ -22,4 +23,4 @@ form_line form = codes "<port> " ++ form ++ 10 ∷ []
 
 -- a line with their number, and the form of each
 abbrev pub help_text : List ℕ
-help_text = codes "help 11" ++ 10 ∷ flat_map form_line line_forms
+help_text = codes "help 12" ++ 10 ∷ flat_map form_line line_forms

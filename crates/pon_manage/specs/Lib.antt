@@ -4,3 +4,4 @@ pub mod Help
 pub mod Planning
 pub mod Rows
 pub mod Text
+pub mod Whys

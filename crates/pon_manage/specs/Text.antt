@@ -18,10 +18,12 @@ use Rattle.pon_line.specs.Reading.{read_line}
 use Rattle.pon_line.specs.declared.fault.LineFault.{LineFault}
 use Rattle.pon_line.specs.declared.fault.LineFault.TheVariants.{NoMap, Port}
 use Rattle.pon_line.specs.declared.reading.Reading.{Reading}
-use Rattle.pon_line.specs.declared.reading.Reading.TheVariants.{Nothing, Refused, Asks, AsksCert, AsksState, AsksRows, AsksHelp}
+use Rattle.pon_line.specs.declared.reading.Reading.TheVariants.{Nothing, Refused, Asks, AsksCert, AsksState, AsksRows, AsksHelp, AsksWhy}
 use Rattle.pon_text.specs.Giving.{GivesText}
 use Rattle.pon_manage.specs.Help.{help_text}
 use Rattle.pon_manage.specs.Rows.{list_text, named}
+use Rattle.pon_manage.specs.Whys.{why_line}
+use Rattle.pon_why.specs.Lasts.{why_of}
 use Rattle.pon_manage.specs.declared.show.Shown.{Shown}
 
 -- a refusal line
@@ -101,6 +103,11 @@ abbrev pub TellsRows : Option Chapter → List ℕ → Type 0
 TellsRows None text = ⊥
 TellsRows (Some c) text = text ≡ list_text (present_state c)
 
+-- the text explains the last map of an existing port for an Alloc-ID
+abbrev pub TellsWhy : Option Chapter → ℕ → List ℕ → Type 0
+TellsWhy None alloc text = ⊥
+TellsWhy (Some c) alloc text = text ≡ why_line (why_of c.opening c.entries alloc)
+
 -- the text of a reading, and the chapters of the ports after it
 abbrev pub Answers : List Chapter → Reading → List ℕ → List Chapter → Type 0
 Answers old Nothing text new = (text ≡ []) × (new ≡ old)
@@ -110,6 +117,7 @@ Answers old (AsksCert port) text new = TellsCert (slice_get old port) text × (n
 Answers old (AsksState port) text new = TellsState (slice_get old port) text × (new ≡ old)
 Answers old (AsksRows port) text new = TellsRows (slice_get old port) text × (new ≡ old)
 Answers old (AsksHelp port) text new = (text ≡ help_text) × (new ≡ old)
+Answers old (AsksWhy port alloc) text new = TellsWhy (slice_get old port) alloc text × (new ≡ old)
 
 -- the text of a reading is appended to the replies
 abbrev pub AddsAnswer : List Chapter → Reading → List Chapter → List ℕ → List ℕ → Type 0

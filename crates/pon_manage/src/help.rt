@@ -6,7 +6,7 @@ ghost use Rattle.pon_manage.specs.Help.{help_text};
 use std::alloc::AllocError;
 
 // The number of the lines, and the form of each: a port, and the words after it.
-const HELP: &[u8] = b"help 11
+const HELP: &[u8] = b"help 12
 <port> admit <onu> <alloc> <fixed> <assured> <max> <class>
 <port> change <alloc> <fixed> <assured> <max> <class>
 <port> remove <alloc>
@@ -17,6 +17,7 @@ const HELP: &[u8] = b"help 11
 <port> cert
 <port> show
 <port> list
+<port> why <alloc>
 <port> help
 ";
 

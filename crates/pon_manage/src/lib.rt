@@ -14,6 +14,7 @@ mod planning;
 mod show;
 mod start;
 mod texts;
+mod why;
 
 pub use operating::operate;
 pub use planning::plan;

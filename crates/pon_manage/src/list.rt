@@ -23,7 +23,7 @@ fn class_word(class: Class) -> &'static str
 }
 
 // Formats Alloc-ID, ONU and descriptor.
-fn descriptor_text(alloc: Global, row: &Row) -> Result<String, AllocError>
+pub(crate) fn descriptor_text(alloc: Global, row: &Row) -> Result<String, AllocError>
     ensures { IfOk result (λ text. string_bytes text ≡ descriptor_text row.now) }
 {
     let (alloc_id, onu) = (row.alloc_id.get(), row.onu.get());
@@ -36,7 +36,7 @@ fn descriptor_text(alloc: Global, row: &Row) -> Result<String, AllocError>
 }
 
 // Formats frame and words of the counted report, `-` for each if no report counts.
-fn report_text(alloc: Global, counted: &Option<Counted>) -> Result<String, AllocError>
+pub(crate) fn report_text(alloc: Global, counted: &Option<Counted>) -> Result<String, AllocError>
     ensures { IfOk result (λ text. string_bytes text ≡ report_text counted.now) }
 {
     match counted {

@@ -198,7 +198,7 @@ static WORKED: [(&[u8], &[u8]); 36] = [
     ),
     (
         b"0 help\n0 help 1\n1 help\n",
-        b"help 11\n<port> admit <onu> <alloc> <fixed> <assured> <max> <class>\n<port> change <alloc> <fixed> <assured> <max> <class>\n<port> remove <alloc>\n<port> report <frame> <onu> <occupancy> ..\n<port> map\n<port> fail <cause>\n<port> restore\n<port> cert\n<port> show\n<port> list\n<port> help\nerr L2 WordCount\nerr L4 NoSuchPort\n",
+        b"help 12\n<port> admit <onu> <alloc> <fixed> <assured> <max> <class>\n<port> change <alloc> <fixed> <assured> <max> <class>\n<port> remove <alloc>\n<port> report <frame> <onu> <occupancy> ..\n<port> map\n<port> fail <cause>\n<port> restore\n<port> cert\n<port> show\n<port> list\n<port> why <alloc>\n<port> help\nerr L2 WordCount\nerr L4 NoSuchPort\n",
     ),
     (b"# a comment \xff\r\n \t\n0 map\r\n\r", b"map 0 00000000\n"),
     (
