@@ -151,7 +151,7 @@ fn ends_with(run: Option<Answered>, wanted: Result<PlanEnd, DeviceFault>, text: 
 }
 
 // Number of admissions at the first ports, the lines that follow, and their text.
-static WORKED: [(u8, &[u8], &[u8]); 6] = [
+static WORKED: [(u8, &[u8], &[u8]); 7] = [
     (
         0,
         b"0 admit 5 1024 2560 0 25600 be\n0 map\n0 report 0 5 100\n0 map\n0 map\n0 cert\n",
@@ -171,6 +171,11 @@ static WORKED: [(u8, &[u8], &[u8]); 6] = [
         0,
         b"7 map\n2 map\n0 cert\n",
         b"err L4 NoSuchPort\nerr L4 NoSuchPort\nerr L5 NoMap\n",
+    ),
+    (
+        2,
+        b"0 list\n0 map\n0 report 0 5 100\n0 list\n1 list\n0 fail 1\n0 list\n2 list\n",
+        b"list 1\nalloc 1024 onu 5 fixed 2560 assured 0 max 2560 class none report - left - load 0 words -\nmap 0 002013ac10020010000b13cb\nok 2\nlist 1\nalloc 1024 onu 5 fixed 2560 assured 0 max 2560 class none report 0 left 90 load 23040 words 10\nlist 1\nalloc 1024 onu 5 fixed 2560 assured 0 max 2560 class none report - left - load 0 words -\nok 3\nlist 1\nalloc 1024 onu 5 fixed 2560 assured 0 max 2560 class none report - left - load 0 words -\nerr L4 NoSuchPort\n",
     ),
     (0, b"\n# a comment\n0 mop\n\r\n", b"err L1 UnknownCommand\n"),
     (0, b"0 map", b"map 0 00000000\n"),

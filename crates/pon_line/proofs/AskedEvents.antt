@@ -5,12 +5,12 @@ use Rattle.std.specs.Str.{bytes_eq}
 use Rattle.std.specs.List.{list_all}
 use Rattle.pon_admit.specs.declared.event.Event.{Event}
 use Rattle.pon_text.specs.Lines.{words_of, without_return}
-use Rattle.pon_line.specs.Commands.{no_arguments, event_of}
-use Rattle.pon_line.specs.Reading.{read_line, read_words, request_of, by_port, shows, takes, port_of, is_comment, is_text}
+use Rattle.pon_line.specs.Commands.{alloc_of, no_arguments, event_of}
+use Rattle.pon_line.specs.Reading.{asks_why, read_line, read_words, request_of, by_port, shows, takes, port_of, is_comment, is_text}
 use Rattle.pon_line.specs.declared.fault.LineFault.{LineFault}
 use Rattle.pon_line.specs.declared.fault.LineFault.TheVariants.{LineLong, NotText}
 use Rattle.pon_line.specs.declared.reading.Reading.{Reading}
-use Rattle.pon_line.specs.declared.reading.Reading.TheVariants.{Nothing, Refused, Asks, AsksCert, AsksState}
+use Rattle.pon_line.specs.declared.reading.Reading.TheVariants.{Nothing, Refused, Asks, AsksCert, AsksState, AsksRows, AsksHelp, AsksWhy}
 
 -- P holds for the value that was read, if there is one
 abbrev pub Reads : {A : Type 0} → (A → Type 0) → Result A LineFault → Type 0
@@ -32,6 +32,9 @@ AsksFor P (Refused fault) = Unit {0}
 AsksFor P (Asks port event) = P event
 AsksFor P (AsksCert port) = Unit {0}
 AsksFor P (AsksState port) = Unit {0}
+AsksFor P (AsksRows port) = Unit {0}
+AsksFor P (AsksHelp port) = Unit {0}
+AsksFor P (AsksWhy port alloc) = Unit {0}
 
 asks_taken : (P : Event → Type 0) (port : ℕ) (r : Result Event LineFault) → Reads P r → AsksFor P (takes port r)
 asks_taken P port (Ok event) h = h
@@ -40,6 +43,10 @@ asks_taken P port (Err fault) h = tt
 asks_shown : (P : Event → Type 0) (asked : Reading) (ws : List (List ℕ)) → AsksFor P asked → AsksFor P (shows asked ws)
 asks_shown P asked [] h = h
 asks_shown P asked (w ∷ ws) h = tt
+
+asks_explained : (P : Event → Type 0) (port : ℕ) (r : Result ℕ LineFault) → AsksFor P (asks_why port r)
+asks_explained P port (Ok alloc) = tt
+asks_explained P port (Err fault) = tt
 
 module _ (P : Event → Type 0) (events : (ws : List (List ℕ)) → Reads P (event_of ws)) where
   either : (b : Bool) (r s : Reading) → AsksFor P r → AsksFor P s → AsksFor P (if b then r else s)
@@ -52,7 +59,10 @@ module _ (P : Event → Type 0) (events : (ws : List (List ℕ)) → Reads P (ev
   request_asks port (name ∷ ws) =
       either (bytes_eq name (codes "cert")) _ _ (asks_shown P (AsksCert port) ws tt) (
       either (bytes_eq name (codes "show")) _ _ (asks_shown P (AsksState port) ws tt) (
-      asks_taken P port (event_of (name ∷ ws)) (events (name ∷ ws))))
+      either (bytes_eq name (codes "list")) _ _ (asks_shown P (AsksRows port) ws tt) (
+      either (bytes_eq name (codes "help")) _ _ (asks_shown P (AsksHelp port) ws tt) (
+      either (bytes_eq name (codes "why")) _ _ (asks_explained P port (alloc_of ws)) (
+      asks_taken P port (event_of (name ∷ ws)) (events (name ∷ ws)))))))
 
   port_asks : (r : Result ℕ LineFault) (ws : List (List ℕ)) → AsksFor P (by_port r ws)
   port_asks (Err fault) ws = tt

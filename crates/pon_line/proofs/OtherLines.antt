@@ -8,14 +8,14 @@ use Rattle.pon_descr.specs.declared.refusal.Refusal.{Refusal}
 use Rattle.pon_admit.specs.declared.event.Event.{Event}
 use Rattle.pon_admit.specs.declared.event.Event.TheVariants.{Admit, Change, Fail, Remove, Restore}
 use Rattle.pon_lists.specs.ResultSteps.{◌>>=◌}
-use Rattle.pon_line.specs.Commands.{admit, admit_of, alloc_refusal, change, change_of, event_of, fail_of, no_arguments, onu_refusal, remove, remove_of, unless}
+use Rattle.pon_line.specs.Commands.{alloc_of, admit, admit_of, alloc_refusal, change, change_of, event_of, fail_of, no_arguments, onu_refusal, remove, remove_of, unless}
 use Rattle.pon_line.specs.Fields.{descriptor_words, number_field, rate_fields}
 use Rattle.pon_line.specs.Parts.{IsOtherEvent, IsOtherReading}
-use Rattle.pon_line.specs.Reading.{request_of, shows, takes}
+use Rattle.pon_line.specs.Reading.{asks_why, request_of, shows, takes}
 use Rattle.pon_line.specs.declared.fault.LineFault.{LineFault}
 use Rattle.pon_line.specs.declared.fault.LineFault.TheVariants.{BadField}
 use Rattle.pon_line.specs.declared.reading.Reading.{Reading}
-use Rattle.pon_line.specs.declared.reading.Reading.TheVariants.{AsksCert, AsksState}
+use Rattle.pon_line.specs.declared.reading.Reading.TheVariants.{AsksCert, AsksState, AsksRows, AsksHelp}
 use Rattle.pon_line.proofs.AskedEvents.{Reads, alone, chosen}
 
 step : {A : Type 0} (r : Result A LineFault) (f : A → Result Event LineFault) → ((x : A) → Reads IsOtherEvent (f x)) → Reads IsOtherEvent (r >>= f)
@@ -75,6 +75,10 @@ taken : (port : ℕ) (r : Result Event LineFault) → Reads IsOtherEvent r → I
 taken port (Ok event) h = h
 taken port (Err fault) h = tt
 
+explained : (port : ℕ) (r : Result ℕ LineFault) → IsOtherReading (asks_why port r)
+explained port (Ok alloc) = tt
+explained port (Err fault) = tt
+
 shown : (asked : Reading) (ws : List (List ℕ)) → IsOtherReading asked → IsOtherReading (shows asked ws)
 shown asked [] h = h
 shown asked (w ∷ ws) h = tt
@@ -88,4 +92,7 @@ unfolding request_of
 other_command port name ws map report =
     either (bytes_eq name (codes "cert")) _ _ (shown (AsksCert port) ws tt) (
     either (bytes_eq name (codes "show")) _ _ (shown (AsksState port) ws tt) (
-    taken port (event_of (name ∷ ws)) (other_event name ws map report)))
+    either (bytes_eq name (codes "list")) _ _ (shown (AsksRows port) ws tt) (
+    either (bytes_eq name (codes "help")) _ _ (shown (AsksHelp port) ws tt) (
+    either (bytes_eq name (codes "why")) _ _ (explained port (alloc_of ws)) (
+    taken port (event_of (name ∷ ws)) (other_event name ws map report))))))

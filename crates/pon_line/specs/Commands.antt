@@ -58,6 +58,18 @@ unfoldable pub remove_of : List (List ℕ) → Result Event LineFault
 remove_of (alloc ∷ []) = number_field alloc >>= remove
 remove_of _ = Err WordCount
 
+-- a managed Alloc-ID, or the refusal of the number
+abbrev pub or_refused : ℕ → Option Refusal → Result ℕ LineFault
+or_refused alloc None = Ok alloc
+or_refused alloc (Some refusal) = Err (Port refusal)
+
+-- the one word after `why`: an Alloc-ID
+unfoldable pub alloc_of : List (List ℕ) → Result ℕ LineFault
+alloc_of (alloc ∷ []) = do
+  i ← number_field alloc
+  or_refused i (alloc_refusal i)
+alloc_of _ = Err WordCount
+
 -- an occupancy in words, 0 to 16,777,215, or none for `x`, a garbled one
 unfoldable pub occupancy_field : List ℕ → Result (Option ℕ) LineFault
 occupancy_field w = if bytes_eq w (codes "x") then Ok None else (do

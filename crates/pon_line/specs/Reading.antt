@@ -6,11 +6,11 @@ use Rattle.pon_text.specs.Lines.{words_of, without_return}
 use Rattle.pon_lists.specs.ResultSteps.{◌>>=◌}
 use Rattle.pon_line.specs.Fields.{number_field}
 use Rattle.pon_admit.specs.declared.event.Event.{Event}
-use Rattle.pon_line.specs.Commands.{event_of}
+use Rattle.pon_line.specs.Commands.{alloc_of, event_of}
 use Rattle.pon_line.specs.declared.fault.LineFault.{LineFault}
 use Rattle.pon_line.specs.declared.fault.LineFault.TheVariants.{NoSuchPort, LineLong, NotText, WordCount}
 use Rattle.pon_line.specs.declared.reading.Reading.{Reading}
-use Rattle.pon_line.specs.declared.reading.Reading.TheVariants.{Nothing, Refused, Asks, AsksCert, AsksState}
+use Rattle.pon_line.specs.declared.reading.Reading.TheVariants.{Nothing, Refused, Asks, AsksCert, AsksState, AsksRows, AsksHelp, AsksWhy}
 
 -- the port that a word names, below the number of ports
 unfoldable pub port_of : ℕ → List ℕ → Result ℕ LineFault
@@ -21,17 +21,26 @@ abbrev pub takes : ℕ → Result Event LineFault → Reading
 takes port (Ok event) = Asks port event
 takes port (Err fault) = Refused fault
 
--- no word follows `cert` and `show`
+-- no word follows `cert`, `show`, `list` and `help`
 abbrev pub shows : Reading → List (List ℕ) → Reading
 shows asked [] = asked
 shows asked (w ∷ ws) = Refused WordCount
 
--- what the words after a port request of it: its last certificate, its state, or that it takes an event
+-- the explanation of the last map for an Alloc-ID, or the refusal of the line
+abbrev pub asks_why : ℕ → Result ℕ LineFault → Reading
+asks_why port (Ok alloc) = AsksWhy port alloc
+asks_why port (Err fault) = Refused fault
+
+-- what the words after a port request of it: its last certificate, its state, its Alloc-IDs, the explanation of its last map
+-- for one of them, the list of all lines, or that it takes an event
 unfoldable pub request_of : ℕ → List (List ℕ) → Reading
 request_of port [] = Refused WordCount
 request_of port (name ∷ ws) =
     if bytes_eq name (codes "cert") then shows (AsksCert port) ws else
-    (if bytes_eq name (codes "show") then shows (AsksState port) ws else takes port (event_of (name ∷ ws)))
+    (if bytes_eq name (codes "show") then shows (AsksState port) ws else
+    (if bytes_eq name (codes "list") then shows (AsksRows port) ws else
+    (if bytes_eq name (codes "help") then shows (AsksHelp port) ws else
+    (if bytes_eq name (codes "why") then asks_why port (alloc_of ws) else takes port (event_of (name ∷ ws))))))
 
 -- the port is read before the command
 abbrev pub by_port : Result ℕ LineFault → List (List ℕ) → Reading
@@ -68,3 +77,6 @@ AsksWithin ports (Refused fault) = Unit {0}
 AsksWithin ports (Asks port event) = port < ports
 AsksWithin ports (AsksCert port) = port < ports
 AsksWithin ports (AsksState port) = port < ports
+AsksWithin ports (AsksRows port) = port < ports
+AsksWithin ports (AsksHelp port) = port < ports
+AsksWithin ports (AsksWhy port alloc) = port < ports

@@ -3,8 +3,8 @@
 ghost use Rattle.std.specs.Prelude.{◌≡◌, [], ◌∷◌, Ok, Err, MatchOption, MatchResult, codes, false};
 ghost use Rattle.std.specs.Str.{bytes_eq};
 ghost use Rattle.pon_text.specs.Lines.{words_of};
-ghost use Rattle.pon_line.specs.Commands.{admit, admit_of, no_arguments, change, change_of, event_of, fail_of, remove, remove_of, report_of};
-ghost use Rattle.pon_line.specs.Reading.{request_of, shows, takes};
+ghost use Rattle.pon_line.specs.Commands.{admit, admit_of, alloc_of, no_arguments, change, change_of, event_of, fail_of, remove, remove_of, report_of};
+ghost use Rattle.pon_line.specs.Reading.{asks_why, request_of, shows, takes};
 ghost use Rattle.pon_line.specs.Parts.{IsOtherReading, asks_in};
 ghost use Rattle.pon_line.specs.Written.{rates_in};
 
@@ -19,7 +19,7 @@ use pon_admit::Event;
 use pon_dbru::Occupancies;
 use pon_descr::Refusal;
 use pon_text::{Word, first_word};
-use pon_units::{FrameNo, OnuId};
+use pon_units::{AllocId, FrameNo, OnuId};
 
 // Returns the event of an `admit`, or the first refusal of its numbers.
 #[tactic(auto, unfolding(crate::specs::Commands::admit))]
@@ -245,6 +245,31 @@ fn shows(text: &[u8], asked: Reading) -> Reading
     }
 }
 
+// Returns the Alloc-ID that the words after `why` name.
+#[tactic(auto, unfolding(crate::specs::Commands::alloc_of))]
+fn alloc_of(text: &[u8]) -> Result<AllocId, LineFault>
+    ensures { result ≡ alloc_of (words_of text.now) }
+{
+    let alloc = next_word(text)?;
+    if first_word(alloc.rest).is_some() {
+        return Err(LineFault::WordCount);
+    }
+    match alloc_id_of(number_field(alloc.word)?) {
+        Some(alloc_id) => Ok(alloc_id),
+        None => Err(LineFault::Port(Refusal::AllocRange)),
+    }
+}
+
+// Returns the request of the words after `why`.
+fn asks_why(port: usize, text: &[u8]) -> Reading
+    ensures { result ≡ asks_why port (alloc_of (words_of text.now)) }
+{
+    match alloc_of(text) {
+        Ok(alloc_id) => Reading::AsksWhy { port, alloc_id },
+        Err(fault) => Reading::Refused(fault),
+    }
+}
+
 /// Returns the request of the words after the port, or their first fault.
 #[tactic(auto, unfolding(crate::specs::Reading::request_of))]
 pub(crate) fn request_of(port: usize, text: &[u8]) -> Reading
@@ -257,6 +282,12 @@ pub(crate) fn request_of(port: usize, text: &[u8]) -> Reading
         shows(name.rest, Reading::AsksCert { port })
     } else if name.word == b"show".as_slice() {
         shows(name.rest, Reading::AsksState { port })
+    } else if name.word == b"list".as_slice() {
+        shows(name.rest, Reading::AsksRows { port })
+    } else if name.word == b"help".as_slice() {
+        shows(name.rest, Reading::AsksHelp { port })
+    } else if name.word == b"why".as_slice() {
+        asks_why(port, name.rest)
     } else {
         event_request(port, &name)
     }

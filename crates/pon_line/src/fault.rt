@@ -12,7 +12,7 @@ pub enum LineFault {
     BadField,
     /// L4: no port has that number.
     NoSuchPort,
-    /// L5: the certificate is requested, and the kept chapter has no map yet.
+    /// L5: the certificate or the explanation of the last map is requested, and the kept chapter has no map yet.
     NoMap,
     /// L6: the line has more than 4,096 bytes.
     LineLong,

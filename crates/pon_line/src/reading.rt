@@ -11,7 +11,7 @@ use crate::fields::number_field;
 use pon_admit::Event;
 use pon_dbru::Occupancies;
 use pon_text::{first_word, without_return};
-use pon_units::{FrameNo, OnuId};
+use pon_units::{AllocId, FrameNo, OnuId};
 
 /// The greatest length of a line in bytes, including its carriage return.
 const LONGEST: usize = 4096;
@@ -44,6 +44,12 @@ pub enum Reading {
     AsksCert { port: usize },
     /// The line requests the state of the port.
     AsksState { port: usize },
+    /// The line requests the admitted Alloc-IDs of the port.
+    AsksRows { port: usize },
+    /// The line requests the list of all lines.
+    AsksHelp { port: usize },
+    /// The line requests the explanation of the port's last map for an Alloc-ID.
+    AsksWhy { port: usize, alloc_id: AllocId },
 }
 
 // Returns the port that a word names, `BadField` if the word is no number, or `NoSuchPort` if no port has it.
@@ -115,11 +121,12 @@ fn front_of(ports: usize, line: &[u8]) -> Front<'_>
 /// `<port> admit <onu> <alloc> <fixed> <assured> <max> <class>` admits an Alloc-ID, `<port> change <alloc> <fixed>
 /// <assured> <max> <class>` gives it another descriptor, `<port> remove <alloc>` removes it, `<port> report <frame>
 /// <onu> <occ> ..` reports the occupancies of an ONU's structures in a frame's map, `<port> map` makes the next map,
-/// `<port> cert` requests the certificate of the last map and `<port> show` the state of the port, `<port> fail
-/// <cause>` reports that the line has failed and `<port> restore` that it is restored. Words are separated by spaces
-/// and tabs; a number is 1 to 20 decimal digits with a value below 2^64; rates are in kbit/s; a class is `none`, `na`
-/// or `be`; there are 1 to 16 occupancies, each 0 to 16,777,215 words of 4 bytes, or `x` if it is garbled; a cause is
-/// 1 to 9.
+/// `<port> cert` requests the certificate of the last map, `<port> show` the state of the port, `<port> list` its
+/// admitted Alloc-IDs, `<port> why <alloc>` the explanation of the last map and `<port> help` the list of all lines,
+/// `<port> fail <cause>` reports that the line has failed
+/// and `<port> restore` that it is restored. Words are separated by spaces and tabs; a number is 1 to 20 decimal digits
+/// with a value below 2^64; rates are in kbit/s; a class is `none`, `na` or `be`; there are 1 to 16 occupancies, each 0
+/// to 16,777,215 words of 4 bytes, or `x` if it is garbled; a cause is 1 to 9.
 ///
 /// Refused, in this order: `LineLong` above 4,096 bytes, including the carriage return; `NotText` for a byte that is no
 /// text, unless the line is blank or a comment, which begins with `#`; `BadField` if the first word is no number and

@@ -1,4 +1,3 @@
-pub mod Explaining
 pub mod LastFrames
 pub mod Owed
 pub mod SumLaws

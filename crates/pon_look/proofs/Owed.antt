@@ -20,7 +20,7 @@ use Rattle.pon_admit.specs.declared.event.Event.TheVariants.{Admit, Change, Remo
 use Rattle.pon_history.specs.Chapters.{Chapter, IsLawfulChapter, state_before}
 use Rattle.pon_look.specs.declared.frame_range.FrameRange.{FrameRange}
 use Rattle.pon_state.specs.declared.reply.MadeMap.{MadeMap}
-use Rattle.pon_look.specs.Explanations.{explanation_of, explanations_of}
+use Rattle.pon_why.specs.Explanations.{explanation_of, explanations_of}
 use Rattle.pon_look.specs.Sums.{amounts_in, amounts_in_entry, amounts_in_reply, amounts_of, is_below, is_within, no_sums, sums_of}
 
 module _ (s : State) (cert : MapCert) (gs : List Granted) (i : ℕ) where

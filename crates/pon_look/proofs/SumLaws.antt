@@ -9,9 +9,9 @@ use Rattle.pon_state.specs.State.{State, carry_at, input_of}
 use Rattle.pon_state.specs.Legal.{IsMade}
 use Rattle.pon_state.specs.declared.reply.MadeMap.{MadeMap}
 use Rattle.pon_audit.proofs.Maps.{ids_of_map}
-use Rattle.pon_look.specs.Explanations.{explanation_of, explanations_of}
+use Rattle.pon_why.specs.Explanations.{explanation_of, explanations_of}
 use Rattle.pon_look.specs.Sums.{amounts_in, amounts_of, no_sums, plus}
-use Rattle.pon_look.specs.declared.explain.Explanation.{Explanation}
+use Rattle.pon_why.specs.declared.numbers.Explanation.{Explanation}
 use Rattle.pon_look.specs.declared.sums.Sums.{Sums}
 
 pub plus_none : (a : Sums) → plus a no_sums ≡ a

@@ -7,8 +7,8 @@ use Rattle.pon_state.specs.Entry.{Entry}
 use Rattle.pon_state.specs.declared.reply.Reply.{Reply}
 use Rattle.pon_state.specs.declared.reply.Reply.TheVariants.{Taken, Map}
 use Rattle.pon_history.specs.Chapters.{Chapter, state_before}
-use Rattle.pon_look.specs.Explanations.{explanations_of}
-use Rattle.pon_look.specs.declared.explain.Explanation.{Explanation}
+use Rattle.pon_why.specs.Explanations.{explanations_of}
+use Rattle.pon_why.specs.declared.numbers.Explanation.{Explanation}
 use Rattle.pon_look.specs.declared.frame_range.FrameRange.{FrameRange}
 use Rattle.pon_look.specs.declared.sums.Sums.{Sums}
 

@@ -1,6 +1,5 @@
 //! Answers as JSON, an object on each line.
 
-use crate::explain::Explanation;
 use crate::notes::Change;
 use crate::replay::MapExplanation;
 use crate::sums::Sums;
@@ -10,6 +9,7 @@ use pon_admit::Row;
 use pon_bwmap::Alloc;
 use pon_cert::MapCert;
 use pon_units::{PortNo, WORD_RATE};
+use pon_why::Explanation;
 use serde_json::{Value, json};
 use std::alloc::{AllocError, Global};
 

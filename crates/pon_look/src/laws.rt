@@ -5,7 +5,7 @@ ghost use Rattle.pon_state.specs.State.{State};
 ghost use Rattle.pon_state.specs.Legal.{IsMade};
 ghost use Rattle.pon_state.specs.declared.reply.MadeMap.{MadeMap};
 ghost use Rattle.pon_history.specs.Chapters.{Chapter, IsLawfulChapter};
-ghost use Rattle.pon_look.specs.Explanations.{explanations_of};
+ghost use Rattle.pon_why.specs.Explanations.{explanations_of};
 ghost use Rattle.pon_look.specs.Sums.{amounts_in, sums_of};
 ghost use Rattle.pon_look.specs.declared.frame_range.FrameRange.{FrameRange};
 

@@ -9,7 +9,6 @@ mod counted;
 mod counts;
 mod drawing;
 mod dump;
-mod explain;
 mod finding;
 mod frame_range;
 mod frames;
@@ -51,7 +50,6 @@ pub use counts::{
     admission_count, cause_count, failure_count, map_count, removal_count, report_count,
 };
 pub use dump::write_dump;
-pub use explain::Explanation;
 pub use frame_range::FrameRange;
 pub use frames::{first_frame, last_frame};
 pub use info::{write_info, write_info_as};
@@ -59,6 +57,7 @@ pub use judged::write_judged;
 pub use loads::loads_of;
 pub use parts::grant_places;
 pub use picture::{Picture, picture_of};
+pub use pon_why::Explanation;
 pub use query::{Answer, Format, LoadsQuery, Missing, RatesQuery, WhyQuery};
 pub use rates::write_rates;
 pub use replay::MapExplanation;

@@ -3,12 +3,12 @@
 ghost use Rattle.std.specs.Prelude.{◌≡◌, length};
 ghost use Rattle.pon_look.specs.declared.sums.TheConstants.{PLACES};
 
-use crate::explain::Explanation;
 use crate::series::Series;
 use crate::sums::{PLACES, words_of};
 use pon_admit::Row;
 use pon_bwmap::Alloc;
 use pon_units::{AllocId, FrameNo};
+use pon_why::Explanation;
 use std::alloc::{AllocError, Global};
 
 /// The frame of the first map from which on an Alloc-ID has this ONU and this descriptor.

@@ -11,13 +11,13 @@ ghost use Rattle.pon_audit.specs.Openings.{FitsRecording, OpensLawfully, chapter
 ghost use Rattle.pon_audit.specs.Faults.{cut_at};
 ghost use Rattle.pon_look.specs.Explanations.{Explains};
 
-use crate::explain::{Explanation, explain};
 use pon_audit::{open_state, take_entry};
 use pon_cert::left_surplus;
 use pon_check::check_map;
 use pon_demand::MapBuffers;
 use pon_record::RawChapter;
 use pon_state::{MadeMap, PortState, next_problems};
+use pon_why::{Explanation, explain};
 use std::alloc::{AllocError, Global};
 
 /// A state of a port, and memory for its next map.

@@ -3,12 +3,12 @@
 ghost use Rattle.std.specs.Prelude.{◌≡◌, length};
 ghost use Rattle.pon_look.specs.declared.sums.TheConstants.{PLACES};
 
-use crate::explain::Explanation;
 use crate::sums::{PLACES, words_of};
 use pon_admit::Event;
 use pon_dbru::Occupancies;
 use pon_state::{Entry, EntryRef, MadeMap};
 use pon_units::{AllocId, BufOcc, FrameNo, OnuId};
+use pon_why::Explanation;
 use std::alloc::{AllocError, Global};
 
 /// A counted report as it came, as far as the chapter has it.

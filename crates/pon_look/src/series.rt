@@ -1,9 +1,9 @@
 //! What the maps give an Alloc-ID along the frames, in steps of equally many frames.
 
-use crate::explain::Explanation;
 use crate::sums::{Sums, with_row, with_sums};
 use pon_bwmap::Alloc;
 use pon_units::FrameNo;
+use pon_why::Explanation;
 use std::alloc::{AllocError, Global};
 
 /// The greatest number of steps of a series.

@@ -3,9 +3,9 @@
 ghost use Rattle.std.specs.Prelude.{ℕ, ◌≡◌, ◌-◌, ◌==◌, if◌then◌else◌, length, IfSome, IsTrue};
 ghost use Rattle.pon_look.specs.Sums.{amounts_in, amounts_of, is_below, no_sums, plus, sums_at};
 
-use crate::explain::Explanation;
 use pon_bwmap::Alloc;
 use pon_units::{MAX_ALLOC_ID, WORD_RATE, whole};
+use pon_why::Explanation;
 
 /// The number of places of a table of sums: one for each Alloc-ID, at its number.
 pub(crate) const PLACES: usize = MAX_ALLOC_ID as usize + 1;

@@ -8,12 +8,11 @@ ghost use Rattle.pon_state.specs.Accounts.{AccountsFor};
 ghost use Rattle.pon_state.specs.Legal.{IsMade};
 ghost use Rattle.pon_record.specs.Chapters.{reply_to};
 ghost use Rattle.pon_audit.specs.Openings.{FitsRecording, chapter_of};
-ghost use Rattle.pon_look.specs.Explanations.{explanations_of};
+ghost use Rattle.pon_why.specs.Explanations.{explanations_of};
 ghost use Rattle.pon_look.specs.Sums.{amounts_in, no_sums, plus, sums_at, sums_of};
 ghost use Rattle.pon_look.specs.Tallies.{IsTallied};
 ghost use Rattle.pon_look.specs.declared.sums.TheConstants.{PLACES};
 
-use crate::explain::Explanation;
 use crate::frame_range::FrameRange;
 use crate::notes::{Change, Notes};
 use crate::replay::{Replay, explain_map, open_replay};
@@ -24,6 +23,7 @@ use pon_bwmap::Alloc;
 use pon_record::RawChapter;
 use pon_state::{Entry, EntryRef, MadeMap};
 use pon_units::AllocId;
+use pon_why::Explanation;
 use std::alloc::{AllocError, Global};
 
 /// What the maps of a port add up to: the sums of each Alloc-ID, at its number, and notes.

@@ -5,7 +5,6 @@ ghost use Rattle.pon_audit.specs.Openings.{FitsRecording, chapter_of};
 ghost use Rattle.pon_look.specs.Finding.{IsFound};
 ghost use Rattle.pon_look.specs.Whys.{IsExplained};
 
-use crate::explain::Explanation;
 use crate::finding::{FoundMap, find_map};
 use crate::info::write_line;
 use crate::query::{Answer, Format, Missing, WhyQuery};
@@ -18,6 +17,7 @@ use pon_device::{DevRead, DevWrite, DeviceFault};
 use pon_record::RawChapter;
 use pon_state::{EntryRef, MadeMap};
 use pon_units::AllocId;
+use pon_why::Explanation;
 use std::alloc::{AllocError, Global};
 
 /// The explanation of a map of a chapter, or why there is none.

@@ -1,6 +1,5 @@
 //! The lines of `olt why`.
 
-use crate::explain::Explanation;
 use crate::json::{map_json, row_json};
 use crate::query::Format;
 use crate::replay::MapExplanation;
@@ -10,6 +9,7 @@ use pon_bwmap::Alloc;
 use pon_cert::{Level, MapCert};
 use pon_descr::Class;
 use pon_units::{AllocId, FrameNo, PortNo, WORD_RATE, whole};
+use pon_why::Explanation;
 use std::alloc::{AllocError, Global};
 
 /// The map that is explained, for which Alloc-IDs, and the form of the answer.

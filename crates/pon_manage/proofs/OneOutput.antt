@@ -11,9 +11,9 @@ use Rattle.pon_descr.specs.declared.refusal.Refusal.{Refusal}
 use Rattle.pon_text.specs.Lines.{lines_of}
 use Rattle.pon_line.specs.Reading.{read_line}
 use Rattle.pon_text.specs.Giving.{GivesLines}
-use Rattle.pon_manage.specs.Text.{reply_line, Answers, AsksPort, Posts, TellsCert, TellsState, Gives, IsOutput}
+use Rattle.pon_manage.specs.Text.{reply_line, Answers, AsksPort, Posts, TellsCert, TellsRows, TellsState, TellsWhy, Gives, IsOutput}
 use Rattle.pon_line.specs.declared.reading.Reading.{Reading}
-use Rattle.pon_line.specs.declared.reading.Reading.TheVariants.{Nothing, Refused, Asks, AsksCert, AsksState}
+use Rattle.pon_line.specs.declared.reading.Reading.TheVariants.{Nothing, Refused, Asks, AsksCert, AsksState, AsksRows, AsksHelp, AsksWhy}
 
 -- the two texts are equal, and so are the chapters after them
 abbrev Same : List ℕ → List ℕ → List Chapter → List Chapter → Type 0
@@ -46,12 +46,23 @@ one_state : (c : Option Chapter) (text more : List ℕ) → TellsState c text �
 one_state None text more p q = absurd p
 one_state (Some c) text more p q = p ∙ sym q
 
+one_list : (c : Option Chapter) (text more : List ℕ) → TellsRows c text → TellsRows c more → text ≡ more
+one_list None text more p q = absurd p
+one_list (Some c) text more p q = p ∙ sym q
+
+one_why : (c : Option Chapter) (alloc : ℕ) (text more : List ℕ) → TellsWhy c alloc text → TellsWhy c alloc more → text ≡ more
+one_why None alloc text more p q = absurd p
+one_why (Some c) alloc text more p q = p ∙ sym q
+
 one_answer : (old : List Chapter) (r : Reading) (text more : List ℕ) (new other : List Chapter) → AreLawful old → Answers old r text new → Answers old r more other → Same text more new other
 one_answer old Nothing text more new other l p q = (p.0 ∙ sym q.0, p.1 ∙ sym q.1)
 one_answer old (Refused fault) text more new other l p q = (p.0 ∙ sym q.0, p.1 ∙ sym q.1)
 one_answer old (Asks port event) text more new other l p q = one_ask old port (slice_get old port) event text more new other l refl p q
 one_answer old (AsksCert port) text more new other l p q = (one_cert (slice_get old port) text more p.0 q.0, p.1 ∙ sym q.1)
 one_answer old (AsksState port) text more new other l p q = (one_state (slice_get old port) text more p.0 q.0, p.1 ∙ sym q.1)
+one_answer old (AsksRows port) text more new other l p q = (one_list (slice_get old port) text more p.0 q.0, p.1 ∙ sym q.1)
+one_answer old (AsksHelp port) text more new other l p q = (p.0 ∙ sym q.0, p.1 ∙ sym q.1)
+one_answer old (AsksWhy port alloc) text more new other l p q = (one_why (slice_get old port) alloc text more p.0 q.0, p.1 ∙ sym q.1)
 
 lawful_post : (old : List Chapter) (port : ℕ) (c : Chapter) (v : Event) (r : Option Refusal) (text : List ℕ) (new : List Chapter) → AreLawful old → IsLawfulChapter c → Posts old port c v r text new → AreLawful new
 lawful_post old port c v (Some refusal) text new l k p = subst AreLawful (sym p.1) l
@@ -67,6 +78,9 @@ lawful_answer old (Refused fault) text new l p = subst AreLawful (sym p.1) l
 lawful_answer old (Asks port event) text new l p = lawful_ask old port (slice_get old port) event text new l refl p
 lawful_answer old (AsksCert port) text new l p = subst AreLawful (sym p.1) l
 lawful_answer old (AsksState port) text new l p = subst AreLawful (sym p.1) l
+lawful_answer old (AsksRows port) text new l p = subst AreLawful (sym p.1) l
+lawful_answer old (AsksHelp port) text new l p = subst AreLawful (sym p.1) l
+lawful_answer old (AsksWhy port alloc) text new l p = subst AreLawful (sym p.1) l
 
 one_lines : (old : List Chapter) (ls : List (List ℕ)) (text more : List ℕ) (new other : List Chapter) → AreLawful old → GivesLines Gives old ls text new → GivesLines Gives old ls more other → Same text more new other
 one_lines old [] text more new other l p q = (p.0 ∙ sym q.0, p.1 ∙ sym q.1)

@@ -1,7 +1,8 @@
 -- The text of the shown numbers, number by number.
 use Rattle.std.proofs.Common.{◌≡◌, ℕ, ◌*◌, [], ◌∷◌}
 use Rattle.std.specs.Prelude.{codes}
-use Rattle.pon_manage.specs.Text.{named, shown_numbers}
+use Rattle.pon_manage.specs.Rows.{named}
+use Rattle.pon_manage.specs.Text.{shown_numbers}
 use Rattle.pon_manage.specs.declared.show.Shown.{Shown}
 
 pub same_numbers : (s : Shown) (next guaranteed free : ℕ) → next ≡ s.next → guaranteed ≡ s.guaranteed → free ≡ 256 * s.capacity →

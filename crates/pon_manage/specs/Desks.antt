@@ -13,8 +13,12 @@ use Rattle.pon_desk.specs.declared.view.PortView.{PortView}
 use Rattle.pon_line.specs.Reading.{read_line}
 use Rattle.pon_line.specs.declared.fault.LineFault.TheVariants.{Port}
 use Rattle.pon_line.specs.declared.reading.Reading.{Reading}
-use Rattle.pon_line.specs.declared.reading.Reading.TheVariants.{Nothing, Refused, Asks, AsksCert, AsksState}
+use Rattle.pon_line.specs.declared.reading.Reading.TheVariants.{Nothing, Refused, Asks, AsksCert, AsksState, AsksRows, AsksHelp, AsksWhy}
 use Rattle.pon_manage.specs.declared.show.Shown.{Shown}
+use Rattle.pon_manage.specs.Help.{help_text}
+use Rattle.pon_manage.specs.Rows.{list_text}
+use Rattle.pon_manage.specs.Whys.{why_line}
+use Rattle.pon_why.specs.Lasts.{why_of}
 use Rattle.pon_manage.specs.Text.{cert_line, refusal_line, reply_line, state_line}
 
 -- a seat after a post at a port, whose receipt it was given to keep
@@ -45,6 +49,14 @@ ShowsCert text = (at : Chapter) × IsLawfulChapter at × (text ≡ cert_line (la
 abbrev pub ShowsState : List ℕ → Type 0
 ShowsState text = (at : Chapter) × IsLawfulChapter at × (text ≡ state_line (present_state at))
 
+-- the text lists the Alloc-IDs of a port with a lawful chapter
+abbrev pub ShowsRows : List ℕ → Type 0
+ShowsRows text = (at : Chapter) × IsLawfulChapter at × (text ≡ list_text (present_state at))
+
+-- the text explains the last map of a port with a lawful chapter for an Alloc-ID
+abbrev pub ShowsWhy : ℕ → List ℕ → Type 0
+ShowsWhy alloc text = (at : Chapter) × IsLawfulChapter at × (text ≡ why_line (why_of at.opening at.entries alloc))
+
 -- the text of a reading at a desk, and the seat after it: one post more at the port of the reading, or as before
 abbrev pub DeskAnswers : SeatState → Reading → List ℕ → SeatState → Type 0
 DeskAnswers old Nothing text new = (text ≡ []) × (new ≡ old)
@@ -52,6 +64,9 @@ DeskAnswers old (Refused fault) text new = (text ≡ refusal_line fault) × (new
 DeskAnswers old (Asks port event) text new = TellsPosted port event old text new ⊎ (TellsRefused event text × (new ≡ old))
 DeskAnswers old (AsksCert port) text new = ShowsCert text × (new ≡ old)
 DeskAnswers old (AsksState port) text new = ShowsState text × (new ≡ old)
+DeskAnswers old (AsksRows port) text new = ShowsRows text × (new ≡ old)
+DeskAnswers old (AsksHelp port) text new = (text ≡ help_text) × (new ≡ old)
+DeskAnswers old (AsksWhy port alloc) text new = ShowsWhy alloc text × (new ≡ old)
 
 -- the text of a line at a desk, and the seat after it; a seat has a count for each port of its desk
 abbrev pub DeskGives : SeatState → List ℕ → List ℕ → SeatState → Type 0

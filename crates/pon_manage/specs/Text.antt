@@ -18,8 +18,12 @@ use Rattle.pon_line.specs.Reading.{read_line}
 use Rattle.pon_line.specs.declared.fault.LineFault.{LineFault}
 use Rattle.pon_line.specs.declared.fault.LineFault.TheVariants.{NoMap, Port}
 use Rattle.pon_line.specs.declared.reading.Reading.{Reading}
-use Rattle.pon_line.specs.declared.reading.Reading.TheVariants.{Nothing, Refused, Asks, AsksCert, AsksState}
+use Rattle.pon_line.specs.declared.reading.Reading.TheVariants.{Nothing, Refused, Asks, AsksCert, AsksState, AsksRows, AsksHelp, AsksWhy}
 use Rattle.pon_text.specs.Giving.{GivesText}
+use Rattle.pon_manage.specs.Help.{help_text}
+use Rattle.pon_manage.specs.Rows.{list_text, named}
+use Rattle.pon_manage.specs.Whys.{why_line}
+use Rattle.pon_why.specs.Lasts.{why_of}
 use Rattle.pon_manage.specs.declared.show.Shown.{Shown}
 
 -- a refusal line
@@ -55,10 +59,6 @@ cert_line (Some l) = codes "cert " ++ (decimal l.made.frame ++ (32 ∷ cert_text
 abbrev pub TellsCert : Option Chapter → List ℕ → Type 0
 TellsCert None text = ⊥
 TellsCert (Some c) text = text ≡ cert_line (last_map c)
-
--- a number after its name
-abbrev pub named : List ℕ → ℕ → List ℕ → List ℕ
-named name n rest = name ++ (decimal n ++ rest)
 
 -- what is shown of a state: its cause of failure, its next frame, and of its roster the numbers of Alloc-IDs and ONUs,
 -- the sum of the promised rates in kbit/s and the capacity in words
@@ -98,6 +98,16 @@ abbrev pub TellsState : Option Chapter → List ℕ → Type 0
 TellsState None text = ⊥
 TellsState (Some c) text = text ≡ state_line (present_state c)
 
+-- the text lists the Alloc-IDs of an existing port
+abbrev pub TellsRows : Option Chapter → List ℕ → Type 0
+TellsRows None text = ⊥
+TellsRows (Some c) text = text ≡ list_text (present_state c)
+
+-- the text explains the last map of an existing port for an Alloc-ID
+abbrev pub TellsWhy : Option Chapter → ℕ → List ℕ → Type 0
+TellsWhy None alloc text = ⊥
+TellsWhy (Some c) alloc text = text ≡ why_line (why_of c.opening c.entries alloc)
+
 -- the text of a reading, and the chapters of the ports after it
 abbrev pub Answers : List Chapter → Reading → List ℕ → List Chapter → Type 0
 Answers old Nothing text new = (text ≡ []) × (new ≡ old)
@@ -105,6 +115,9 @@ Answers old (Refused fault) text new = (text ≡ refusal_line fault) × (new ≡
 Answers old (Asks port event) text new = AsksPort old port (slice_get old port) event text new
 Answers old (AsksCert port) text new = TellsCert (slice_get old port) text × (new ≡ old)
 Answers old (AsksState port) text new = TellsState (slice_get old port) text × (new ≡ old)
+Answers old (AsksRows port) text new = TellsRows (slice_get old port) text × (new ≡ old)
+Answers old (AsksHelp port) text new = (text ≡ help_text) × (new ≡ old)
+Answers old (AsksWhy port alloc) text new = TellsWhy (slice_get old port) alloc text × (new ≡ old)
 
 -- the text of a reading is appended to the replies
 abbrev pub AddsAnswer : List Chapter → Reading → List Chapter → List ℕ → List ℕ → Type 0

@@ -6,15 +6,23 @@ ghost use Rattle.pon_history.specs.Last.{last_map};
 ghost use Rattle.pon_line.specs.Parts.{asks_in};
 ghost use Rattle.pon_line.specs.Reading.{AsksWithin};
 ghost use Rattle.pon_manage.specs.Text.{AddsAnswer, cert_line, last_reply, state_line};
+ghost use Rattle.pon_manage.specs.Rows.{list_text};
+ghost use Rattle.pon_manage.specs.Whys.{why_line};
+ghost use Rattle.pon_why.specs.Lasts.{why_of};
 
+use crate::help::append_help;
+use crate::list::append_rows;
 use crate::show::{append_shown, shown_of};
 use crate::texts::{append_cert, append_refusal, append_reply};
+use crate::why::append_why;
 use pon_dbru::Occupancies;
 use pon_descr::Refusal;
 use pon_line::{FrameCommand, LineFault, Reading};
 use pon_plant::{Plant, Step, StepFault};
 use pon_port::{Entry, Event, Port};
-use pon_units::{MAX_PORTS, PortNo};
+use pon_rows::row_views;
+use pon_units::{AllocId, MAX_PORTS, PortNo};
+use pon_why::explain_last;
 use std::alloc::AllocError;
 
 // Returns the number of entries that a port keeps.
@@ -88,6 +96,29 @@ fn show_state(port: &Port, replies: &mut Vec<u8>) -> Result<(), AllocError>
     append_shown(replies, &shown_of(port.state()))
 }
 
+// Appends the list of the admitted Alloc-IDs.
+fn show_rows(port: &Port, replies: &mut Vec<u8>) -> Result<(), AllocError>
+    ensures ok { OnOk result (replies.new.items
+        ≡ replies.old.items ++ list_text (present_state port.now)) }
+    ensures err { OnErr result (replies.new.items ≡ replies.old.items) }
+{
+    let views = row_views(*replies.allocator(), port.state())?;
+    append_rows(replies, &views)
+}
+
+// Appends the explanation of the last map for an Alloc-ID.
+fn show_why(port: &Port, alloc_id: AllocId, replies: &mut Vec<u8>) -> Result<(), AllocError>
+    ensures ok { OnOk result (replies.new.items ≡ replies.old.items
+        ++ why_line (why_of port.now.opening port.now.entries alloc_id)) }
+    ensures err { OnErr result (replies.new.items ≡ replies.old.items) }
+{
+    let alloc = *replies.allocator();
+    match explain_last(alloc, port.opening(), port.history(), alloc_id) {
+        Ok(why) => append_why(replies, &why),
+        Err(_) => Err(AllocError),
+    }
+}
+
 // Returns the port at an index.
 fn port_at(plant: &Plant, place: usize) -> &Port
     requires { place < length plant.now }
@@ -115,6 +146,9 @@ pub(crate) fn answer(
         Reading::Asks { port, event } => answer_event(plant, port, event, room, replies),
         Reading::AsksCert { port } => show_cert(port_at(plant, port), replies),
         Reading::AsksState { port } => show_state(port_at(plant, port), replies),
+        Reading::AsksRows { port } => show_rows(port_at(plant, port), replies),
+        Reading::AsksHelp { port: _ } => append_help(replies),
+        Reading::AsksWhy { port, alloc_id } => show_why(port_at(plant, port), alloc_id, replies),
     }
 }
 

@@ -1,19 +1,26 @@
 //! The text that one line gives at a desk.
 
 ghost use Rattle.std.specs.Prelude.{◌≡◌, ◌<◌, ◌++◌, IfOk, OnOk, OnErr};
-ghost use Rattle.pon_history.specs.Chapters.{Chapter, IsLawfulChapter};
+ghost use Rattle.pon_history.specs.Chapters.{Chapter, IsLawfulChapter, present_state};
 ghost use Rattle.pon_line.specs.Reading.{AsksWithin};
 ghost use Rattle.pon_desk.specs.Views.{view_of};
+ghost use Rattle.pon_rows.specs.RowViews.{row_views};
+ghost use Rattle.pon_why.specs.Lasts.{why_of};
 ghost use Rattle.pon_manage.specs.Desks.{AddsText, DeskAnswers, shown_in};
 ghost use Rattle.pon_manage.specs.Text.{cert_line};
 
+use crate::help::append_help;
+use crate::list::append_rows;
 use crate::show::{Shown, append_shown};
 use crate::texts::{append_cert, append_refusal, append_reply};
+use crate::why::append_why;
 use pon_descr::Refusal;
 use pon_desk::{Desk, PortView, Seat, StepFault};
 use pon_line::{LineFault, Reading};
-use pon_port::Event;
-use pon_units::{MAX_PORTS, PortNo};
+use pon_port::{Event, Port};
+use pon_rows::{RowView, row_views};
+use pon_units::{AllocId, MAX_PORTS, PortNo};
+use pon_why::{ChapterCopy, LastWhy, copy_chapter, explain_last};
 use std::alloc::{AllocError, Global};
 use std::sync::Wait;
 use std::sync::ledger::Ledger;
@@ -100,6 +107,52 @@ impl<'a, L: Ledger, M: Ledger, H: Wait> AtDesk<'a, L, M, H> {
         }
     }
 
+    // Copies what is shown of each Alloc-ID of a port at some moment, under its lock. `Err` only if memory is refused.
+    fn rows_at(&self, alloc: Global, place: usize) -> Result<Vec<RowView>, AllocError>
+        requires { place < self.now.desk.now.ports }
+        ensures { IfOk result (λ views. (at : Chapter) × IsLawfulChapter at
+            × (views.items ≡ row_views (present_state at))) }
+    {
+        let port = port_no(self.desk, place);
+        let copied = self.desk.inspect(
+            self.rt,
+            port,
+            |port: &Port| -> Result<Vec<RowView>, AllocError>
+                ensures { IfOk result (λ views. views.items ≡ row_views (present_state port.now)) }
+            { row_views(alloc, port.state()) },
+        );
+        copied.unwrap()
+    }
+
+    // Copies the kept chapter of a port at some moment, under its lock. `Err` only if memory is refused.
+    fn chapter_at(&self, alloc: Global, place: usize) -> Result<ChapterCopy, AllocError>
+        requires { place < self.now.desk.now.ports }
+        ensures { IfOk result (λ copy. (at : Chapter) × IsLawfulChapter at
+            × ((copy.opening ≡ at.opening) × (copy.entries.items ≡ at.entries))) }
+    {
+        let port = port_no(self.desk, place);
+        let copied = self.desk.inspect(
+            self.rt,
+            port,
+            |port: &Port| -> Result<ChapterCopy, AllocError>
+                ensures { IfOk result (λ copy. (copy.opening ≡ port.now.opening)
+                    × (copy.entries.items ≡ port.now.entries)) }
+            { copy_chapter(alloc, port.opening(), port.history()) },
+        );
+        copied.unwrap()
+    }
+
+    // Explains the last map of a port at some moment for an Alloc-ID. The chapter is copied under the lock of the port, and
+    // taken again without it. `Err` only if memory is refused.
+    fn why_at(&self, alloc: Global, place: usize, alloc_id: AllocId) -> Result<LastWhy, AllocError>
+        requires { place < self.now.desk.now.ports }
+        ensures { IfOk result (λ why. (at : Chapter) × IsLawfulChapter at
+            × (why ≡ why_of at.opening at.entries alloc_id)) }
+    {
+        let copy = self.chapter_at(alloc, place)?;
+        explain_last(alloc, &copy.opening, &copy.entries, alloc_id)
+    }
+
     /// Appends the text of a reading: an event is posted, and what is shown is copied, each under the lock of its port
     /// only. `Err` only if memory is refused; then the replies are unchanged.
     pub(crate) fn answer(
@@ -128,6 +181,15 @@ impl<'a, L: Ledger, M: Ledger, H: Wait> AtDesk<'a, L, M, H> {
             Reading::AsksState { port } => {
                 let view = self.view_at(alloc, port)?;
                 append_shown(replies, &shown_in(&view))
+            }
+            Reading::AsksRows { port } => {
+                let views = self.rows_at(alloc, port)?;
+                append_rows(replies, &views)
+            }
+            Reading::AsksHelp { port: _ } => append_help(replies),
+            Reading::AsksWhy { port, alloc_id } => {
+                let why = self.why_at(alloc, port, alloc_id)?;
+                append_why(replies, &why)
             }
         }
     }

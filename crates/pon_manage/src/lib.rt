@@ -6,13 +6,16 @@
 
 mod answer;
 mod at_desk;
+mod help;
 pub mod laws;
+mod list;
 mod noting;
 mod operating;
 mod planning;
 mod show;
 mod start;
 mod texts;
+mod why;
 
 pub use noting::{Notes, plan_noting};
 pub use operating::operate;

@@ -10,7 +10,10 @@ fn fault_of(line: &[u8]) -> Option<LineFault> {
         Reading::Nothing
         | Reading::Asks { .. }
         | Reading::AsksCert { .. }
-        | Reading::AsksState { .. } => None,
+        | Reading::AsksState { .. }
+        | Reading::AsksRows { .. }
+        | Reading::AsksHelp { .. }
+        | Reading::AsksWhy { .. } => None,
     }
 }
 
@@ -63,6 +66,16 @@ fn tells_the_first_check_that_fails(rt: HostRuntime) {
         (b"0 remove x 1".as_slice(), LineFault::WordCount),
         (b"2 cert 1".as_slice(), LineFault::NoSuchPort),
         (b"0 cert x".as_slice(), LineFault::WordCount),
+        (b"0 list 1024".as_slice(), LineFault::WordCount),
+        (b"2 list x".as_slice(), LineFault::NoSuchPort),
+        (b"0 why".as_slice(), LineFault::WordCount),
+        (b"0 why x 1024".as_slice(), LineFault::WordCount),
+        (b"2 why x".as_slice(), LineFault::NoSuchPort),
+        (b"0 why x".as_slice(), LineFault::BadField),
+        (b"0 help map".as_slice(), LineFault::WordCount),
+        (b"2 help".as_slice(), LineFault::NoSuchPort),
+        (b"help".as_slice(), LineFault::BadField),
+        (b"0 lists".as_slice(), LineFault::UnknownCommand),
         (b"0 remove x".as_slice(), LineFault::BadField),
     ] {
         assert!(rt; fault_of(line) == Some(fault), "at {line:?}");
@@ -102,6 +115,8 @@ fn tells_what_the_port_would_refuse_of_the_numbers(rt: HostRuntime) {
         ),
         (b"0 change 1024 0 9 9 be".as_slice(), Refusal::NoSurplusRoom),
         (b"0 remove 16384".as_slice(), Refusal::AllocRange),
+        (b"0 why 1023".as_slice(), Refusal::AllocRange),
+        (b"0 why 16384".as_slice(), Refusal::AllocRange),
     ] {
         assert!(rt;
             fault_of(line) == Some(LineFault::Port(refusal)),
@@ -154,6 +169,15 @@ fn reads_each_command(rt: HostRuntime) {
     assert!(rt; asks_cert);
     let asks_state = matches!(read_line(2, b"1 show"), Reading::AsksState { port: 1 });
     assert!(rt; asks_state);
+    let asks_rows = matches!(read_line(2, b"1 list"), Reading::AsksRows { port: 1 });
+    assert!(rt; asks_rows);
+    let asks_help = matches!(read_line(2, b"1 help"), Reading::AsksHelp { port: 1 });
+    assert!(rt; asks_help);
+    let asks_why = match read_line(2, b"1 why 16383") {
+        Reading::AsksWhy { port: 1, alloc_id } => alloc_id.get() == 16383,
+        _ => false,
+    };
+    assert!(rt; asks_why);
     for (line, port) in [(b"00 map".as_slice(), 0), (b"\t 1 \t map \r".as_slice(), 1)] {
         assert!(rt; port_of_map(line) == Some(port), "at {line:?}");
     }
@@ -183,6 +207,9 @@ fn reads_the_lines_of_each_frame(rt: HostRuntime) {
 fn leaves_other_lines_and_refused_ones(rt: HostRuntime) {
     for line in [
         b"1 cert".as_slice(),
+        b"1 list".as_slice(),
+        b"1 help".as_slice(),
+        b"1 why 1024".as_slice(),
         b"0 restore".as_slice(),
         b"0 map x".as_slice(),
         b"2 map".as_slice(),

@@ -89,7 +89,7 @@ fn ends_by(run: Option<Answered>, text: &[u8]) -> bool {
     }
 }
 
-static WORKED: [(&[u8], &[u8]); 34] = [
+static WORKED: [(&[u8], &[u8]); 37] = [
     (FIRST_MAP, FIRST_TEXT),
     (b"0 map", b"map 0 00000000\n"),
     (b"", b""),
@@ -190,6 +190,20 @@ static WORKED: [(&[u8], &[u8]); 34] = [
     (
         b"0 admit 5 1024 2560 1280 7680 be\n0 admit 5 1025 0 256 256 none\n0 fail 3\n0 show\n0 restore\n0 remove 1024\n0 show\n",
         b"ok 0\nok 1\nok 2\nshow down 3 next 0 allocs 2 onus 1 guaranteed 4096 capacity 2482688\nok 3\nok 4\nshow up next 0 allocs 1 onus 1 guaranteed 256 capacity 2483200\n",
+    ),
+    // The map that docs/MODEL.md computes by hand, also after its Alloc-IDs changed and the line failed.
+    (
+        b"0 why 1027\n0 admit 3 1024 25600 0 25600 none\n0 admit 3 1025 0 256000 512000 na\n0 admit 6 1026 0 0 512000 be\n0 admit 6 1027 1000 0 1025000 be\n0 admit 9 1028 0 0 1536000 be\n0 why 1027\n0 map\n0 report 0 3 140 1700\n0 report 0 6 1000 6003\n0 report 0 9 9000\n0 map\n0 why 1024\n0 why 1025\n0 why 1026\n0 why 1027\n0 why 1028\n0 remove 1027\n0 admit 9 1029 0 0 256 be\n0 fail 1\n0 why 1027\n0 why 1029\n0 why\n0 why 1027 1\n0 why x\n0 why 1023\n1 why 1027\n",
+        b"err L5 NoMap\nok 0\nok 1\nok 2\nok 3\nok 4\nerr L5 NoMap\nmap 0 00a009f91002001000650fa71006ffff00011ef3100a008800010d7a100effff000416e71012009f00011b41\nok 6\nok 7\nok 8\nmap 1 00a009f91002001000650fa71006ffff06a518e3100a072c03e90527100effff0aba0818101215e110100d7a\nwhy 1 alloc 1024 onu 3 fixed 25600 assured 0 max 25600 class none report 0 left 40 load 10240 guaranteed 25600 weight 25600 cap 0 level - surplus 0/1 carry 0 owed 25600 words 100 start 16 grant 101\nwhy 1 alloc 1025 onu 3 fixed 0 assured 256000 max 512000 class na report 0 left 1700 load 435200 guaranteed 256000 weight 256000 cap 179200 level all surplus 179200/1 carry 0 owed 435200 words 1700 start - grant 1701\nwhy 1 alloc 1026 onu 6 fixed 0 assured 0 max 512000 class be report 0 left 1000 load 256000 guaranteed 0 weight 512000 cap 256000 level 1754136/2560000 surplus 655360000000/2560000 carry 0 owed 256000 words 1000 start 1836 grant 1001\nwhy 1 alloc 1027 onu 6 fixed 1000 assured 0 max 1025000 class be report 0 left 6000 load 1536000 guaranteed 1000 weight 1024000 cap 1024000 level 1754136/2560000 surplus 1796235264000/2560000 carry 232 owed 702886 words 2745 start - grant 2746\nwhy 1 alloc 1028 onu 9 fixed 0 assured 0 max 1536000 class be report 0 left 9000 load 2304000 guaranteed 0 weight 1536000 cap 1536000 level 1754136/2560000 surplus 2694352896000/2560000 carry 0 owed 1052481 words 4111 start 5601 grant 4112\nok 10\nok 11\nok 12\nwhy 1 alloc 1027 onu 6 fixed 1000 assured 0 max 1025000 class be report 0 left 6000 load 1536000 guaranteed 1000 weight 1024000 cap 1024000 level 1754136/2560000 surplus 1796235264000/2560000 carry 232 owed 702886 words 2745 start - grant 2746\nerr E01 NoSuchAlloc\nerr L2 WordCount\nerr L2 WordCount\nerr L3 BadField\nerr E03 AllocRange\nerr L4 NoSuchPort\n",
+    ),
+    // 90 of the 100 reported words are left after map 0, none of 7 after map 1; a failure drops reports and window.
+    (
+        b"0 list\n0 admit 5 1024 2560 0 2560 none\n0 admit 3 1025 0 256 2560 na\n0 list\n0 map\n0 report 0 5 100\n0 list\n0 map\n0 report 1 5 7\n0 remove 1024\n0 admit 6 1024 0 0 256 be\n0 list\n0 fail 1\n0 list\n0 list 1\n1 list\n",
+        b"list 0\nok 0\nok 1\nlist 2\nalloc 1025 onu 3 fixed 0 assured 256 max 2560 class na report - left - load 0 words -\nalloc 1024 onu 5 fixed 2560 assured 0 max 2560 class none report - left - load 0 words -\nmap 0 00400d2b10060010000105a810020023000b1ac4\nok 3\nlist 2\nalloc 1025 onu 3 fixed 0 assured 256 max 2560 class na report - left - load 0 words 0\nalloc 1024 onu 5 fixed 2560 assured 0 max 2560 class none report 0 left 90 load 23040 words 10\nmap 1 00400d2b10060010000105a810020023000b1ac4\nok 5\nok 6\nok 7\nlist 2\nalloc 1025 onu 3 fixed 0 assured 256 max 2560 class na report - left - load 0 words 0\nalloc 1024 onu 6 fixed 0 assured 0 max 256 class be report - left - load 0 words -\nok 8\nlist 2\nalloc 1025 onu 3 fixed 0 assured 256 max 2560 class na report - left - load 0 words -\nalloc 1024 onu 6 fixed 0 assured 0 max 256 class be report - left - load 0 words -\nerr L2 WordCount\nerr L4 NoSuchPort\n",
+    ),
+    (
+        b"0 help\n0 help 1\n1 help\n",
+        b"help 12\n<port> admit <onu> <alloc> <fixed> <assured> <max> <class>\n<port> change <alloc> <fixed> <assured> <max> <class>\n<port> remove <alloc>\n<port> report <frame> <onu> <occupancy> ..\n<port> map\n<port> fail <cause>\n<port> restore\n<port> cert\n<port> show\n<port> list\n<port> why <alloc>\n<port> help\nerr L2 WordCount\nerr L4 NoSuchPort\n",
     ),
     (b"# a comment \xff\r\n \t\n0 map\r\n\r", b"map 0 00000000\n"),
     (

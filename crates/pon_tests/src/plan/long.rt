@@ -77,6 +77,39 @@ fn a_full_port_of_one_class_takes_late_reports(rt: HostRuntime) {
     assert!(rt; ends_by(run, END));
 }
 
+// Makes the lines of a full port: all admissions, and a map.
+fn full_port(rt: &impl Abort, alloc: Global) -> Vec<u8> {
+    let mut input = Vec::new(alloc);
+    admit_all(rt, alloc, &mut input);
+    repeat(rt, &mut input, b"0 map\n0 list\n", 1);
+    input
+}
+
+// Makes the text that lists a full port: no Alloc-ID has a report, and the map granted it no payload.
+fn full_list(rt: &impl Abort, alloc: Global) -> Vec<u8> {
+    let mut text = Vec::new(alloc);
+    repeat(rt, &mut text, b"list 512\n", 1);
+    for k in 0..ONUS.wrapping_mul(SERIES) {
+        let unit = k / SERIES;
+        let id = k.wrapping_add(1024);
+        push(
+            rt,
+            &mut text,
+            format!(in alloc;
+                "alloc {id} onu {unit} fixed 0 assured 0 max 2488320 class be report - left - load 0 words 0\n"
+            ),
+        );
+    }
+    text
+}
+
+#[test]
+fn a_full_port_lists_each_alloc_id(rt: HostRuntime) {
+    let input = full_port(&rt, rt.alloc());
+    let run = run(rt.alloc(), 16, &input, sound(4096));
+    assert!(rt; ends_by(run, &full_list(&rt, rt.alloc())));
+}
+
 // Makes a line of the greatest length, and one more.
 fn longest_line(rt: &impl Abort, alloc: Global) -> Vec<u8> {
     let mut input = Vec::new(alloc);

@@ -48,6 +48,26 @@ fn two_ports_answer_their_lines(rt: HostRuntime) {
     }
 }
 
+// Runs `plan` on the input at as many ports as a terminal may have.
+fn run_64(alloc: Global, input: &[u8]) -> Option<Vec<u8>> {
+    let ports = [port(16)?; 64];
+    let mut reader = reader(alloc, input, &sound(4096))?;
+    let mut writer = writer(alloc, &sound(4096))?;
+    let steps = Vec::new(alloc);
+    match plan(&(), alloc, &ports, steps, &mut reader, &mut writer) {
+        Ok(PlanEnd) => writer.bytes().to_vec(alloc).ok(),
+        Err(_) => None,
+    }
+}
+
+#[test]
+fn the_last_of_64_ports_lists_its_own(rt: HostRuntime) {
+    let lines = b"63 admit 5 1024 2560 0 2560 none\n63 list\n0 list\n64 list\n".as_slice();
+    let text =
+        b"ok 0\nlist 1\nalloc 1024 onu 5 fixed 2560 assured 0 max 2560 class none report - left - load 0 words -\nlist 0\nerr L4 NoSuchPort\n".as_slice();
+    assert!(rt; is_text(run_64(rt.alloc(), lines), text));
+}
+
 fn admission(port: u8, id: u16) -> Option<Step> {
     let descriptor = Descriptor::new(2560, 0, 2560, Class::Plain).ok()?;
     Some(Step {

@@ -6,10 +6,10 @@ use Rattle.pon_cert.specs.Certificate.{RuleHolds, left_surplus}
 use Rattle.pon_demand.specs.Sharing.{items, same_class, surplus}
 use Rattle.pon_demand.proofs.Dealing.{denominator_range, flag_is, has_flag, item_at, row_at, rule_at}
 use Rattle.pon_state.specs.State.{input_of}
-use Rattle.pon_look.proofs.Explaining.{Explained, explained_be, explained_na, explained_none, explained_plain}
-use Rattle.pon_look.specs.Explanations.{numbers_of}
-use Rattle.pon_look.proofs.explain.explain.Goals as goal
-use Rattle.pon_look.proofs.explain.explain.Goals.{in-Plain, in-NonAssured, in-BestEffort}
+use Rattle.pon_why.proofs.Explaining.{Explained, explained_be, explained_na, explained_none, explained_plain}
+use Rattle.pon_why.specs.Explanations.{numbers_of}
+use Rattle.pon_why.proofs.numbers.explain.Goals as goal
+use Rattle.pon_why.proofs.numbers.explain.Goals.{in-Plain, in-NonAssured, in-BestEffort}
 
 pub loop-demand-init : goal.loop-demand-init
 loop-demand-init c =

@@ -9,7 +9,7 @@ ghost use Rattle.pon_demand.specs.Carries.{AreCarries};
 ghost use Rattle.pon_demand.specs.Demands.{demands_of};
 ghost use Rattle.pon_demand.specs.Sharing.{IsCertified};
 ghost use Rattle.pon_state.specs.State.{input_of};
-ghost use Rattle.pon_look.specs.Explanations.{explanations_of, numbers_of};
+ghost use Rattle.pon_why.specs.Explanations.{explanations_of, numbers_of};
 
 use pon_admit::Row;
 use pon_cert::{Item, Level, MAX_ITEMS, MapCert};
@@ -113,7 +113,7 @@ fn explain_row(
 
 /// Computes the numbers of each admitted Alloc-ID under a certificate, in map order. `demands` are those of the state.
 /// `Err` only if memory is refused.
-pub(crate) fn explain(
+pub fn explain(
     alloc: Global,
     state: &PortState,
     demands: &[Demand],

@@ -1,6 +1,6 @@
 use Rattle.std.proofs.Common.{◌≡◌, ◌≤◌, length, vec_capacity, vec_len}
-use Rattle.pon_look.proofs.Explaining.{Explained}
-use Rattle.pon_look.proofs.explain.explain.Given as goal
+use Rattle.pon_why.proofs.Explaining.{Explained}
+use Rattle.pon_why.proofs.numbers.explain.Given as goal
 
 -- the rows so far are explained, the flags of those to come are left, and there is room for all
 abbrev pub invariant-loop-demand : goal.invariant-loop-demand

@@ -20,8 +20,8 @@ use Rattle.pon_demand.proofs.Carries.{carry_at_row}
 use Rattle.pon_demand.proofs.Dealing.{Dealt, RowAt, dealt_be, dealt_na, dealt_none, dealt_plain, owed_to, words_of}
 use Rattle.pon_demand.proofs.RosterMaps.{granted_to_row}
 use Rattle.pon_state.specs.State.{State, carry_at, input_of}
-use Rattle.pon_look.specs.Explanations.{explanation_of, explanations_of, numbers_of}
-use Rattle.pon_look.specs.declared.explain.Explanation.{Explanation}
+use Rattle.pon_why.specs.Explanations.{explanation_of, explanations_of, numbers_of}
+use Rattle.pon_why.specs.declared.numbers.Explanation.{Explanation}
 
 -- the rows explained so far, and the flags that are left, before row i
 pub record Explained (s : State) (cert : MapCert) (i : ℕ) (xs : List Explanation) (na_left be_left : List Bool) : Type 0 where

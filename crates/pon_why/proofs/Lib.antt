@@ -1,0 +1,3 @@
+mod Explaining
+mod LastPlaces
+mod Retaking

@@ -1,0 +1,16 @@
+//! Why a map of a port of an XG-PON optical line terminal (upstream bandwidth assignment, ITU-T G.987.3) grants what it
+//! grants: the numbers of each Alloc-ID, in the state before the map.
+//!
+//! [`explain`] has them for a state and a certificate, [`explain_last`] for the last map of a kept chapter, of which it
+//! takes the entries before that map again. The crate finds no certificate, formats nothing, and has no clock, device or
+//! thread.
+#![tactic(auto)]
+
+mod copy;
+mod last;
+mod numbers;
+mod retake;
+
+pub use copy::{ChapterCopy, copy_chapter};
+pub use last::{LastExplanation, LastWhy, explain_last};
+pub use numbers::{Explanation, explain};
