@@ -80,7 +80,7 @@ fn map_of(part: &Part) -> WhyQuery {
 }
 
 // Prints what each chapter holds.
-fn print_info<D: DevRead, W: DevWrite>(
+fn print_info<D: DevRead + Drop, W: DevWrite>(
     alloc: Global,
     reader: D,
     format: Format,
