@@ -1,6 +1,6 @@
 // The results of whole command lines, as clap parses them.
 use clap::error::ErrorKind;
-use pon_job::{Job, Part, Plan, Run, Show, View, job};
+use pon_job::{Audit, Job, Part, Plan, Run, Show, View, job};
 use std::alloc::Global;
 
 fn push_word(alloc: Global, words: &mut Vec<String>, word: &str) -> Option<()> {
@@ -72,7 +72,6 @@ fn reads_each_job(rt: HostRuntime) {
             plan_of(settings, false, true),
         ),
         ("olt check c.txt", Job::Check { file: "c.txt" }),
-        ("olt audit r.bin", Job::Audit { file: "r.bin" }),
         (
             "olt run --config a.toml --listen 127.0.0.1:0 --maps 1",
             run_of(1, None, None, false),
@@ -91,6 +90,33 @@ fn reads_each_job(rt: HostRuntime) {
         ),
     ] {
         assert!(rt; names(rt.alloc(), line, &wanted) == Some(true), "{line}");
+    }
+}
+
+// Returns whether a command line names the audit of these files.
+fn names_audit(alloc: Global, line: &str, files: &[&'static str], json: bool) -> Option<bool> {
+    let files = files.to_vec(alloc).ok()?;
+    names(alloc, line, &Job::Audit(Audit { files, json }))
+}
+
+#[test]
+fn reads_the_files_of_an_audit(rt: HostRuntime) {
+    let one = ["r.bin"];
+    let three = ["a.bin", "b.bin", "c.bin"];
+    for (line, files, json) in [
+        ("olt audit r.bin", one.as_slice(), false),
+        ("olt audit a.bin b.bin c.bin", three.as_slice(), false),
+        ("olt audit --format json r.bin", one.as_slice(), true),
+        (
+            "olt audit a.bin b.bin --format=json c.bin",
+            three.as_slice(),
+            true,
+        ),
+    ] {
+        assert!(rt;
+            names_audit(rt.alloc(), line, files, json) == Some(true),
+            "{line}"
+        );
     }
 }
 
@@ -151,6 +177,15 @@ fn reads_each_view(rt: HostRuntime) {
             shown(
                 View::Dump,
                 part(Some(2), None, None, None, None),
+                None,
+                false,
+            ),
+        ),
+        (
+            "olt loads r.bin --alloc 1024 --from 3 --to 9",
+            shown(
+                View::Loads,
+                part(None, Some(1024), None, Some(3), Some(9)),
                 None,
                 false,
             ),
@@ -227,6 +262,9 @@ fn refuses_other_words(rt: HostRuntime) {
         ("olt dump r.bin --alloc 1024", ErrorKind::UnknownArgument),
         ("olt dump r.bin --port -1", ErrorKind::UnknownArgument),
         ("olt info r.bin --format xml", ErrorKind::InvalidSubcommand),
+        ("olt audit r.bin --format xml", ErrorKind::InvalidSubcommand),
+        ("olt loads r.bin", ErrorKind::MissingRequiredArgument),
+        ("olt audit", ErrorKind::MissingRequiredArgument),
         ("olt run --help", ErrorKind::DisplayHelp),
     ] {
         let kind = refusal(rt.alloc(), line);
