@@ -11,8 +11,8 @@ _olt() {
         words='plan run check audit info rates why dump picture migrate --help --version'
     else
         case $command in
-            plan) words='--config --help' ;;
-            run) words='--config --listen --maps --record --operate --settle --help' ;;
+            plan) words='--config --strict --verbose --help' ;;
+            run) words='--config --listen --maps --record --no-clobber --operate --settle --help' ;;
             check | audit | info | rates | why | dump | picture | migrate)
                 case $current in
                     -*)

@@ -110,8 +110,11 @@ fn push_frames(alloc: Global, text: &mut String, series: &Series) -> Result<(), 
     let low = BOTTOM + LETTERS + LETTERS / 2;
     let label = format!(in alloc; "frame {first}")?;
     push_text(alloc, text, LEFT, low, label.as_str())?;
-    let label = format!(in alloc; "to frame {last}")?;
-    push_text(alloc, text, LEFT + WIDTH / 2, low, label.as_str())
+    let right = LEFT + WIDTH;
+    let label = format!(in alloc;
+        "<text x=\"{right}\" y=\"{low}\" text-anchor=\"end\">frame {last}</text>\n"
+    )?;
+    text.push_str(label.as_str())
 }
 
 /// The picture of a series as SVG: a bar for each step, with its frames and its rates as its title. `Err` only if memory is

@@ -1,27 +1,14 @@
 //! The audit of recordings in files.
 
-use crate::files::open_file;
+use crate::files::open_recording;
 use pon_audit::{Verdict, audit_from, write_verdict};
-use pon_device::{DeviceFault, StdRead, StdWrite, write_text};
+use pon_device::{DeviceFault, StdWrite, write_text};
 use pon_job::{Audit, Failure, Named};
 use pon_look::{CountedBytes, write_judged};
 use std::alloc::Global;
-use std::io::{self, BufReader};
+use std::io;
 use std::rt::Files;
 use std::thread::Threads;
-
-// Opens the recording in the file `name`.
-fn open_recording<R: Files>(
-    rt: &R,
-    alloc: Global,
-    name: &str,
-) -> Result<StdRead<BufReader<R::File>>, Failure> {
-    let file = open_file(rt, alloc, name, Named::Recording(name))?;
-    match BufReader::new(alloc, file) {
-        Ok(input) => Ok(StdRead::new(input)),
-        Err(_) => Err(Failure::from(DeviceFault::Memory)),
-    }
-}
 
 // Judges the recording in the file `name` while it reads it, and prints the verdict. Returns `true` if the recording is
 // good.

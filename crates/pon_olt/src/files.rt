@@ -1,14 +1,15 @@
-//! Opening and reading the files that the command line names.
+//! Opening, reading and writing the files that the command line names.
 
-use pon_device::DeviceFault;
+ghost use Rattle.std.specs.Prelude.{◌≡◌, OnOk};
+ghost use Rattle.pon_run.specs.declared.part.Progress.TheVariants.{Named as HasName};
+
+use pon_device::{DeviceFault, StdRead};
 use pon_job::{Failure, Named};
+use pon_run::PartFile;
 use std::alloc::Global;
 use std::fs::{self, OpenFile};
-use std::io::{self, Read, Write};
+use std::io::{self, BufReader, Read, Write};
 use std::rt::Files;
-
-/// The end of the name of a file that is not whole yet.
-const PART: &str = ".part";
 
 /// Opens the file `name`, which is named so in the text of a failure. Returns `Read` if it cannot be opened.
 pub(crate) fn open_file<R: Files>(
@@ -20,6 +21,19 @@ pub(crate) fn open_file<R: Files>(
     match fs::open(rt, name) {
         Ok(file) => Ok(file),
         Err(error) => Err(Failure::of(alloc, DeviceFault::Read, named, &error)),
+    }
+}
+
+/// Opens the recording in the file `name`. Returns `Read` if it cannot be opened, and `Memory` if memory is refused.
+pub(crate) fn open_recording<R: Files>(
+    rt: &R,
+    alloc: Global,
+    name: &str,
+) -> Result<StdRead<BufReader<R::File>>, Failure> {
+    let file = open_file(rt, alloc, name, Named::Recording(name))?;
+    match BufReader::new(alloc, file) {
+        Ok(input) => Ok(StdRead::new(input)),
+        Err(_) => Err(Failure::from(DeviceFault::Memory)),
     }
 }
 
@@ -39,16 +53,32 @@ pub(crate) fn recording_in<R: Files>(
     }
 }
 
-// Writes bytes to the file `part`, made anew, and gives it the name `out`.
-fn write_whole<R: Files>(rt: &R, part: &str, out: &str, bytes: &[u8]) -> io::Result<()> {
-    let mut file = fs::create(rt, part)?;
+// Writes bytes to a part, and gives it the name of its file.
+fn fill<F: OpenFile + Write, R: Files>(
+    rt: &R,
+    file: &mut PartFile<F>,
+    bytes: &[u8],
+) -> io::Result<()>
+    ensures { OnOk result (file.new ≡ HasName) }
+{
     file.write_all(bytes)?;
-    file.sync_all()?;
-    fs::rename(rt, part, out)
+    file.keep(rt)
 }
 
-/// Writes bytes as the file `out`, which is named so in the text of a failure, and is replaced if there is one. After a failure a file `out` is as before, and no
-/// other file is left.
+// Writes bytes as the file `out`. After an error its part is removed.
+fn write_whole<R: Files>(rt: &R, alloc: Global, out: &str, bytes: &[u8]) -> io::Result<()> {
+    let mut file = PartFile::<R::File>::create(rt, alloc, out)?;
+    let filled = fill(rt, &mut file, bytes);
+    if filled.is_err() {
+        file.discard(rt);
+    }
+    filled
+}
+
+/// Writes bytes as the file `out`, which is named so in the text of a failure, and is replaced if there is one. After a
+/// failure a file `out` is as before, and no part of it is left.
+///
+/// Returns `Write` if the file cannot be created, written, synced or renamed, and `Memory` if memory is refused.
 pub(crate) fn replace_file<R: Files>(
     rt: &R,
     alloc: Global,
@@ -56,12 +86,8 @@ pub(crate) fn replace_file<R: Files>(
     out: &str,
     bytes: &[u8],
 ) -> Result<(), Failure> {
-    let Ok(part) = format!(in alloc; "{out}{PART}") else {
-        return Err(Failure::from(DeviceFault::Memory));
-    };
-    if let Err(error) = write_whole(rt, &part, out, bytes) {
-        let _ = fs::remove_file(rt, &part);
-        return Err(Failure::of(alloc, DeviceFault::Write, named, &error));
+    match write_whole(rt, alloc, out, bytes) {
+        Ok(()) => Ok(()),
+        Err(error) => Err(Failure::of(alloc, DeviceFault::Write, named, &error)),
     }
-    Ok(())
 }

@@ -1,8 +1,8 @@
 //! Views of a recording in a file.
 
-use crate::files::{open_file, replace_file};
+use crate::files::{open_recording, replace_file};
 use pon_audit::audit_from;
-use pon_device::{DevRead, DevWrite, DeviceFault, StdRead, StdWrite, write_text};
+use pon_device::{DevRead, DevWrite, DeviceFault, StdWrite, write_text};
 use pon_job::{Failure, Named, Part, Show, View};
 use pon_look::{
     Answer, CountedBytes, Format, LoadsQuery, Missing, Picture, RatesQuery, WhyQuery, loads_of,
@@ -10,22 +10,9 @@ use pon_look::{
 };
 use pon_units::{AllocId, FrameNo, PortNo};
 use std::alloc::Global;
-use std::io::{self, BufReader};
+use std::io;
 use std::rt::Files;
 use std::thread::Threads;
-
-// Opens a recording to be read.
-fn open_recording<R: Files>(
-    rt: &R,
-    alloc: Global,
-    name: &str,
-) -> Result<StdRead<BufReader<R::File>>, Failure> {
-    let file = open_file(rt, alloc, name, Named::Recording(name))?;
-    match BufReader::new(alloc, file) {
-        Ok(input) => Ok(StdRead::new(input)),
-        Err(_) => Err(Failure::from(DeviceFault::Memory)),
-    }
-}
 
 // Judges a recording, and prints the verdict to standard error if it is not good. Returns whether it is.
 fn is_good<R: Files + Eprint + Threads + Sync>(

@@ -6,28 +6,31 @@
 //! settings and the exit status.
 #![tactic(auto)]
 
-ghost use Rattle.std.specs.Prelude.{◌≡◌, Err, IfOk, Ok, length};
-ghost use Rattle.pon_plant.specs.Plants.{IsPlantSize};
+ghost use Rattle.std.specs.Prelude.{◌≡◌, Err, IfOk, Ok};
 ghost use Rattle.pon_job.specs.Outcomes.{exit_status, outcome_of_job};
 
 mod auditing;
+mod explaining;
 mod files;
 mod looking;
 mod migrating;
+mod misfits;
 mod opening;
+mod planning;
+mod watching;
 
 use crate::auditing::audit_files;
 use crate::files::open_file;
 use crate::looking::show_recording;
 use crate::migrating::migrate_file;
-use crate::opening::{NotOpened, Opening, settings_of, with_settings, without_settings};
+use crate::opening::{NotOpened, settings_of};
+use crate::planning::run_plan;
 use clap::Error;
 pub use pon_audit::{audit, audit_from, write_verdict};
 pub use pon_check_file::check_file;
 use pon_device::{DeviceFault, StdRead, StdWrite};
 pub use pon_job::job;
 use pon_job::{Failure, Job, Named, Outcome, Run, exit_status, outcome_of_job, outcome_of_words};
-use pon_manage::PlanEnd;
 pub use pon_manage::plan;
 pub use pon_record::migrate;
 use pon_run::RunArgs;
@@ -42,45 +45,12 @@ use std::sync::Wait;
 use std::thread::Threads;
 use std::time::Clock;
 
-// Executes the management lines of standard input.
-fn plan_lines<R: Input + Print>(
-    rt: &R,
-    alloc: Global,
-    opening: Opening,
-) -> Result<PlanEnd, DeviceFault>
-    requires { IsPlantSize (length opening.ports.items) }
-{
-    let Ok(input) = BufReader::new(alloc, rt.reader()) else {
-        return Err(DeviceFault::Memory);
-    };
-    let mut reader = StdRead::new(input);
-    let mut writer = StdWrite::new(io::writer(rt));
-    let Opening { ports, steps } = opening;
-    plan(rt, alloc, ports.as_slice(), steps, &mut reader, &mut writer)
-}
-
 // Prints why settings are refused.
 fn print_refusal(rt: &impl Eprint, line: &str) -> Outcome
     ensures { result ≡ Outcome.Settings }
 {
     let _ = eprintln!(rt; "olt: settings refused\n{line}");
     Outcome::Settings
-}
-
-// Executes the lines of standard input at the ports of the settings file, or at one port without settings.
-fn run_plan<R: Input + Print + Files>(
-    rt: &R,
-    alloc: Global,
-    config: Option<&str>,
-) -> Result<bool, NotOpened> {
-    let opening = match config {
-        Some(name) => with_settings(rt, alloc, name)?,
-        None => without_settings(alloc)?,
-    };
-    match plan_lines(rt, alloc, opening) {
-        Ok(_) => Ok(true),
-        Err(fault) => Err(NotOpened::Failed(Failure::from(fault))),
-    }
 }
 
 // Runs the ports of the settings file over sockets. Returns the exit status.
@@ -100,6 +70,8 @@ where
         listen: run.listen,
         maps: run.maps,
         record: run.record,
+        no_clobber: run.no_clobber,
+        config: Some(run.config),
         operate: run.operate,
         settle: run.settle,
     };
@@ -202,7 +174,7 @@ where
         Err(error) => return print_outcome(rt, show(rt, &error)),
     };
     let ended = match &job {
-        Job::Plan { config } => run_plan(rt, alloc, *config),
+        Job::Plan(plan) => run_plan(rt, alloc, plan),
         Job::Check { file } => judge_file(rt, alloc, file).map_err(NotOpened::Failed),
         Job::Audit(audit) => audit_files(rt, alloc, audit).map_err(NotOpened::Failed),
         Job::Show(show) => show_recording(rt, alloc, show).map_err(NotOpened::Failed),

@@ -10,7 +10,7 @@ use pon_device::DeviceFault;
 use pon_job::{Failure, Named};
 use pon_manage::Step;
 use pon_port::PortCfg;
-use pon_settings::{Settings, SettingsFault, explain, settings};
+use pon_settings::{Settings, SettingsFault, explain, explain_further, settings};
 use pon_units::{FrameNo, Gap, Profile};
 use std::alloc::{AllocError, Global};
 use std::io::{self, ErrorKind, Read};
@@ -105,9 +105,18 @@ fn refusal(alloc: Global, text: &str, fault: SettingsFault) -> NotOpened {
     if let SettingsFault::Memory = fault {
         return out_of_memory();
     }
-    match explain(alloc, text, &fault) {
-        Ok(line) => NotOpened::Refused(line),
+    match lines_about(alloc, text, &fault) {
+        Ok(lines) => NotOpened::Refused(lines),
         Err(_) => out_of_memory(),
+    }
+}
+
+// Returns the lines that explain the fault of a text. `Err` only if memory is refused.
+fn lines_about(alloc: Global, text: &str, fault: &SettingsFault) -> Result<String, AllocError> {
+    let line = explain(alloc, text, fault)?;
+    match explain_further(alloc, text, fault)? {
+        Some(further) => format!(in alloc; "{line}\n{further}"),
+        None => Ok(line),
     }
 }
 
