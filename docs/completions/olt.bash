@@ -8,19 +8,20 @@ _olt() {
     esac
     local words
     if [ "$COMP_CWORD" -eq 1 ]; then
-        words='plan run check audit info rates why dump picture migrate --help --version'
+        words='plan run check audit info rates why dump picture loads migrate --help --version'
     else
         case $command in
             plan) words='--config --strict --verbose --help' ;;
             run) words='--config --listen --maps --record --no-clobber --operate --settle --help' ;;
-            check | audit | info | rates | why | dump | picture | migrate)
+            check | audit | info | rates | why | dump | picture | loads | migrate)
                 case $current in
                     -*)
                         case $command in
-                            info) words='--format --help' ;;
+                            audit | info) words='--format --help' ;;
                             rates) words='--port --alloc --from --to --format --help' ;;
                             why) words='--port --frame --alloc --format --help' ;;
                             dump) words='--port --help' ;;
+                            loads) words='--alloc --port --from --to --svg --help' ;;
                             picture) words='--port --frame --svg --help' ;;
                             *) words='--help' ;;
                         esac
