@@ -5,6 +5,7 @@ ghost use Rattle.pon_run.specs.declared.part.Progress.TheVariants.{Named as HasN
 
 use pon_device::{DeviceFault, StdRead};
 use pon_job::{Failure, Named};
+use pon_record::Version;
 use pon_run::PartFile;
 use std::alloc::Global;
 use std::fs::{self, OpenFile};
@@ -37,9 +38,21 @@ pub(crate) fn open_recording<R: Files>(
     }
 }
 
-/// Reads the recording in the file `name`. Returns `Read` if it cannot be opened or read, and `Memory` if memory is
-/// refused.
-pub(crate) fn recording_in<R: Files>(
+// Reads the bytes of a recording that may be migrated: a file that does not begin as one of version 1 is read no further.
+fn read_first_version<F: Read>(file: &mut F, bytes: &mut Vec<u8>) -> io::Result<()> {
+    let magic = Version::One.magic();
+    file.by_ref()
+        .take(magic.len() as u64)
+        .read_to_end(bytes)?;
+    if bytes.as_slice() == magic.as_slice() {
+        file.read_to_end(bytes)?;
+    }
+    Ok(())
+}
+
+/// Reads the recording in the file `name`, of version 1; of another file the first bytes, in which its fault is. Returns
+/// `Read` if it cannot be opened or read, and `Memory` if memory is refused.
+pub(crate) fn first_version_in<R: Files>(
     rt: &R,
     alloc: Global,
     name: &str,
@@ -47,8 +60,8 @@ pub(crate) fn recording_in<R: Files>(
     let named = Named::Recording(name);
     let mut file = open_file(rt, alloc, name, named)?;
     let mut bytes = Vec::new(alloc);
-    match file.read_to_end(&mut bytes) {
-        Ok(_) => Ok(bytes),
+    match read_first_version(&mut file, &mut bytes) {
+        Ok(()) => Ok(bytes),
         Err(error) => Err(Failure::of(alloc, DeviceFault::Read, named, &error)),
     }
 }

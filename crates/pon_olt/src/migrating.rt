@@ -1,6 +1,6 @@
 //! The migration of a recording in a file.
 
-use crate::files::{recording_in, replace_file};
+use crate::files::{first_version_in, replace_file};
 use pon_device::{DeviceFault, StdWrite, write_text};
 use pon_job::{Failure, Named};
 use pon_record::{ReadFault, chapter_count, migrate};
@@ -24,7 +24,7 @@ pub(crate) fn migrate_file<R: Files + Print>(
     name: &str,
     out: &str,
 ) -> Result<bool, Failure> {
-    let bytes = recording_in(rt, alloc, name)?;
+    let bytes = first_version_in(rt, alloc, name)?;
     let fault = match migrate(alloc, &bytes) {
         Ok(recording) => {
             replace_file(rt, alloc, Named::Recording(out), out, &recording)?;
