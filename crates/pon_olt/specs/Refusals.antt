@@ -1,5 +1,5 @@
 -- Refusals in the text of replies: lines that begin with the word `err`.
-use Rattle.std.specs.Prelude.{ℕ, ◌==◌, ◌&&◌, ◌||◌, Bool, false, if◌then◌else◌, List, [], ◌∷◌}
+use Rattle.std.specs.Prelude.{ℕ, ◌==◌, ◌||◌, Bool, false, if◌then◌else◌, List, [], ◌∷◌}
 use Rattle.pon_olt.specs.declared.watching.Place.{Place}
 use Rattle.pon_olt.specs.declared.watching.Place.TheVariants.{Start, First, Second, Third, Past}
 use Rattle.pon_olt.specs.declared.watching.Seen.{Seen}

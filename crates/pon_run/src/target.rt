@@ -189,6 +189,8 @@ pub(crate) fn target_of<R: Files>(
     check_not_read(rt, alloc, args, shown.as_str(), name)?;
     match fs::metadata(rt, name) {
         Ok(found) if !found.is_file() => Ok(Target::Direct),
+        // No part stands beside an empty name, which cannot be created.
+        Err(_) if name.is_empty() => Ok(Target::Direct),
         _ => part_target(rt, alloc, args, name, path_to_write(rt, alloc, name)?),
     }
 }
