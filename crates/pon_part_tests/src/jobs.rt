@@ -139,16 +139,26 @@ fn shown(view: View, part: Part, svg: Option<&'static str>, json: bool) -> Job<'
     })
 }
 
-#[test]
-fn reads_each_view(rt: HostRuntime) {
-    let part = |port, alloc, frame, from, to| Part {
+fn part(
+    port: Option<u64>,
+    alloc: Option<u64>,
+    frame: Option<u64>,
+    from: Option<u64>,
+    to: Option<u64>,
+) -> Part {
+    Part {
         port,
         alloc,
         frame,
         from,
         to,
-    };
+    }
+}
+
+#[test]
+fn reads_each_view_of_numbers(rt: HostRuntime) {
     let most = part(Some(63), Some(16_383), None, Some(0), Some(u64::MAX));
+    let map = part(Some(0), Some(1024), Some(7), None, None);
     for (line, wanted) in [
         (
             "olt info r.bin --format text",
@@ -165,39 +175,30 @@ fn reads_each_view(rt: HostRuntime) {
         ),
         (
             "olt why --port=0 --frame=7 --alloc=1024 r.bin",
-            shown(
-                View::Why,
-                part(Some(0), Some(1024), Some(7), None, None),
-                None,
-                false,
-            ),
+            shown(View::Why, map, None, false),
         ),
+    ] {
+        assert!(rt; names(rt.alloc(), line, &wanted) == Some(true), "{line}");
+    }
+}
+
+#[test]
+fn reads_each_view_of_events_and_pictures(rt: HostRuntime) {
+    let port = part(Some(2), None, None, None, None);
+    let frames = part(None, Some(1024), None, Some(3), Some(9));
+    let frame = part(None, None, Some(5), None, None);
+    for (line, wanted) in [
         (
             "olt dump r.bin --port 2",
-            shown(
-                View::Dump,
-                part(Some(2), None, None, None, None),
-                None,
-                false,
-            ),
+            shown(View::Dump, port, None, false),
         ),
         (
             "olt loads r.bin --alloc 1024 --from 3 --to 9",
-            shown(
-                View::Loads,
-                part(None, Some(1024), None, Some(3), Some(9)),
-                None,
-                false,
-            ),
+            shown(View::Loads, frames, None, false),
         ),
         (
             "olt picture r.bin --frame 5 --svg p.svg",
-            shown(
-                View::Picture,
-                part(None, None, Some(5), None, None),
-                Some("p.svg"),
-                false,
-            ),
+            shown(View::Picture, frame, Some("p.svg"), false),
         ),
     ] {
         assert!(rt; names(rt.alloc(), line, &wanted) == Some(true), "{line}");
