@@ -15,7 +15,8 @@ use pon_units::PortNo;
 use std::alloc::{AllocError, Global};
 
 /// What the signs of a bar mean.
-const SIGNS: &str = "# guaranteed, = granted beyond, . requested and not granted, > beyond the scale";
+const SIGNS: &str =
+    "# guaranteed, = granted beyond, . requested and not granted, > beyond the scale";
 
 // What the maps of a port give an Alloc-ID, and the ports of the recording.
 #[derive(Drop)]

@@ -41,9 +41,7 @@ pub(crate) fn open_recording<R: Files>(
 // Reads the bytes of a recording that may be migrated: a file that does not begin as one of version 1 is read no further.
 fn read_first_version<F: Read>(file: &mut F, bytes: &mut Vec<u8>) -> io::Result<()> {
     let magic = Version::One.magic();
-    file.by_ref()
-        .take(magic.len() as u64)
-        .read_to_end(bytes)?;
+    file.by_ref().take(magic.len() as u64).read_to_end(bytes)?;
     if bytes.as_slice() == magic.as_slice() {
         file.read_to_end(bytes)?;
     }

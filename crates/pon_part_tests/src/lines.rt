@@ -165,21 +165,33 @@ fn reads_each_command(rt: HostRuntime) {
         }
     );
     assert!(rt; removes);
-    let asks_cert = matches!(read_line(2, b"1 cert"), Reading::AsksCert { port: 1 });
-    assert!(rt; asks_cert);
-    let asks_state = matches!(read_line(2, b"1 show"), Reading::AsksState { port: 1 });
-    assert!(rt; asks_state);
-    let asks_rows = matches!(read_line(2, b"1 list"), Reading::AsksRows { port: 1 });
-    assert!(rt; asks_rows);
-    let asks_help = matches!(read_line(2, b"1 help"), Reading::AsksHelp { port: 1 });
-    assert!(rt; asks_help);
-    let asks_why = match read_line(2, b"1 why 16383") {
-        Reading::AsksWhy { port: 1, alloc_id } => alloc_id.get() == 16383,
-        _ => false,
-    };
-    assert!(rt; asks_why);
     for (line, port) in [(b"00 map".as_slice(), 0), (b"\t 1 \t map \r".as_slice(), 1)] {
         assert!(rt; port_of_map(line) == Some(port), "at {line:?}");
+    }
+}
+
+// Returns the command of a line that requests what is shown of port 1.
+fn request_of(line: &[u8]) -> Option<&'static str> {
+    match read_line(2, line) {
+        Reading::AsksCert { port: 1 } => Some("cert"),
+        Reading::AsksState { port: 1 } => Some("show"),
+        Reading::AsksRows { port: 1 } => Some("list"),
+        Reading::AsksHelp { port: 1 } => Some("help"),
+        Reading::AsksWhy { port: 1, .. } => Some("why"),
+        _ => None,
+    }
+}
+
+#[test]
+fn reads_each_request(rt: HostRuntime) {
+    for (line, command) in [
+        (b"1 cert".as_slice(), "cert"),
+        (b"1 show".as_slice(), "show"),
+        (b"1 list".as_slice(), "list"),
+        (b"1 help".as_slice(), "help"),
+        (b"1 why 16383".as_slice(), "why"),
+    ] {
+        assert!(rt; request_of(line) == Some(command), "at {line:?}");
     }
 }
 
