@@ -210,10 +210,9 @@ fn refuses_what_cannot_be_opened(rt: HostRuntime) {
     for (k, (listen, operate, record)) in ABSENT.iter().enumerate() {
         let args = RunArgs {
             listen,
-            maps: 1,
             operate: *operate,
             record: *record,
-            settle: false,
+            ..args(1)
         };
         assert!(rt;
             ended_with(ran(&rt, rt.alloc(), 1, args, &OpenGate), 3, ""),
