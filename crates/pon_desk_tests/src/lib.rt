@@ -14,6 +14,8 @@ mod desks;
 #[cfg(test)]
 mod each_port;
 #[cfg(test)]
+mod failing;
+#[cfg(test)]
 mod gates;
 #[cfg(test)]
 mod gathering;
