@@ -28,8 +28,11 @@ pub(crate) fn line_seconds(maps: u64) -> Value {
 }
 
 // Makes the object of the numbers of failures, by the cause.
-fn causes_json(alloc: Global, entries: &[Entry]) -> Result<Value, AllocError> {
+fn causes_json(alloc: Global, summary: &Summary, entries: &[Entry]) -> Result<Value, AllocError> {
     let mut causes = Map::new(alloc);
+    if summary.failures == 0 {
+        return Ok(Value::Object(causes));
+    }
     for cause in 1..=MAX_CAUSE {
         let count = cause_count(cause, entries);
         if count > 0 {
@@ -51,7 +54,7 @@ pub(crate) fn chapter_json(
     let (first, last) = (frame_json(summary.first), frame_json(summary.last));
     let (maps, reports, failures) = (summary.maps, summary.reports, summary.failures);
     let (allocs, allocs_end) = (summary.allocs, summary.allocs_end);
-    let causes = causes_json(alloc, entries)?;
+    let causes = causes_json(alloc, summary, entries)?;
     let (onus, onus_end, seconds) = (onus.opening, onus.end, line_seconds(maps));
     let value = json!(in alloc; {
         "port": port, "chapter": number, "bytes": bytes, "first": &first, "last": &last, "seconds": &seconds, "maps": maps,

@@ -62,11 +62,12 @@ fn push_step(
     series: &Series,
     step: usize,
     width: u64,
+    scale: u64,
 ) -> Result<(), AllocError> {
     let Some(means) = series.steps().get(step).and_then(Means::of) else {
         return Ok(());
     };
-    let (first, scale) = (series.first_of(step), scale_of(series));
+    let first = series.first_of(step);
     let last = first.saturating_add(series.frames().saturating_sub(1));
     let Means {
         requested,
@@ -126,11 +127,12 @@ pub(crate) fn loads_svg(
 ) -> Result<String, AllocError> {
     let (width, height) = (LEFT + WIDTH + RIGHT, BOTTOM + 4 * ROW);
     let mut text = head_text(alloc, width, height, heading)?;
-    push_scale(alloc, &mut text, scale_of(series))?;
+    let scale = scale_of(series);
+    push_scale(alloc, &mut text, scale)?;
     let steps = series.steps().len();
     let step_width = WIDTH / (steps as u64).max(1);
     for step in 0..steps {
-        push_step(alloc, &mut text, series, step, step_width)?;
+        push_step(alloc, &mut text, series, step, step_width, scale)?;
     }
     push_frames(alloc, &mut text, series)?;
     push_legend(alloc, &mut text, BOTTOM + 2 * ROW, &LEGEND)?;

@@ -34,8 +34,11 @@ fn frames_text(alloc: Global, summary: &Summary) -> Result<String, AllocError> {
 }
 
 // Writes each cause of a failure with its number of failures.
-fn causes_text(alloc: Global, entries: &[Entry]) -> Result<String, AllocError> {
+fn causes_text(alloc: Global, summary: &Summary, entries: &[Entry]) -> Result<String, AllocError> {
     let mut text = String::new(alloc);
+    if summary.failures == 0 {
+        return Ok(text);
+    }
     for cause in 1..=MAX_CAUSE {
         let count = cause_count(cause, entries);
         if count > 0 {
@@ -61,7 +64,7 @@ pub(crate) fn chapter_line(
     let (port, number) = (summary.port.get(), summary.number);
     let frames = frames_text(alloc, summary)?;
     let seconds = seconds_text(alloc, summary.maps)?;
-    let causes = causes_text(alloc, entries)?;
+    let causes = causes_text(alloc, summary, entries)?;
     let (maps, reports, failures) = (summary.maps, summary.reports, summary.failures);
     let (allocs, allocs_end) = (summary.allocs, summary.allocs_end);
     let (onus, onus_end) = (onus.opening, onus.end);

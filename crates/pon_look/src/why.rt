@@ -11,13 +11,11 @@ use crate::query::{Answer, Format, Missing, WhyQuery};
 use crate::replay::{MapExplanation, explain_map, open_replay, replay_to};
 use crate::reported::{Reports, reports_of};
 use crate::why_text::{MapPlace, Shown, map_line, row_lines};
-use pon_cert::{Level, MapCert};
-use pon_descr::Class;
 use pon_device::{DevRead, DevWrite, DeviceFault};
 use pon_record::RawChapter;
 use pon_state::{EntryRef, MadeMap};
 use pon_units::AllocId;
-use pon_why::Explanation;
+use pon_why::{Explanation, level_in};
 use std::alloc::{AllocError, Global};
 
 /// The explanation of a map of a chapter, or why there is none.
@@ -74,22 +72,13 @@ fn write_rows<W: DevWrite>(
             let shown = Shown {
                 row,
                 structure: structures.get(index),
-                level: level_of(&made.cert, row.row.descriptor.class()),
+                level: level_in(&made.cert, row.row.descriptor.class()),
                 reported: reports.of(row.row.alloc_id),
             };
             write_line(row_lines(alloc, place, &shown), writer)?;
         }
     }
     Ok(())
-}
-
-// Returns the level of a class; `None` for the class that shares no surplus.
-fn level_of(cert: &MapCert, class: Class) -> Option<Level> {
-    match class {
-        Class::Plain => None,
-        Class::NonAssured => Some(cert.na.level),
-        Class::BestEffort => Some(cert.be.level),
-    }
 }
 
 // Returns what is missing if a query asks for an Alloc-ID that no row has.

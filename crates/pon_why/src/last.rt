@@ -81,8 +81,8 @@ fn structure_of(map: &Map, alloc_id: AllocId) -> Option<Alloc>
     None
 }
 
-// Returns the level of a class; `None` for the class that shares no surplus.
-fn level_in(cert: &MapCert, class: Class) -> Option<Level>
+/// Returns the level of a class; `None` for the class that shares no surplus.
+pub fn level_in(cert: &MapCert, class: Class) -> Option<Level>
     ensures { result ≡ level_in cert.now class }
 {
     match class {

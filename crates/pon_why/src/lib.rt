@@ -12,5 +12,5 @@ mod numbers;
 mod retake;
 
 pub use copy::{ChapterCopy, copy_chapter};
-pub use last::{LastExplanation, LastWhy, explain_last};
+pub use last::{LastExplanation, LastWhy, explain_last, level_in};
 pub use numbers::{Explanation, explain};
