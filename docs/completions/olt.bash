@@ -3,16 +3,18 @@ _olt() {
     local current=${COMP_WORDS[COMP_CWORD]} before=${COMP_WORDS[COMP_CWORD - 1]} command=${COMP_WORDS[1]}
     case $before in
         --config | --record | --operate | --svg) mapfile -t COMPREPLY < <(compgen -f -- "$current"); return ;;
-        --listen | --maps | --port | --alloc | --frame | --from | --to) return ;;
+        --listen | --connect | --maps | --wait | --pace | --port | --alloc | --frame | --from | --to) return ;;
         --format) mapfile -t COMPREPLY < <(compgen -W 'text json' -- "$current"); return ;;
+        --units) mapfile -t COMPREPLY < <(compgen -W 'simulated external' -- "$current"); return ;;
     esac
     local words
     if [ "$COMP_CWORD" -eq 1 ]; then
-        words='plan run check audit info rates why dump picture loads migrate --help --version'
+        words='plan run check audit info rates why dump picture loads migrate units --help --version'
     else
         case $command in
             plan) words='--config --strict --verbose --help' ;;
-            run) words='--config --listen --maps --record --no-clobber --operate --settle --help' ;;
+            run) words='--config --listen --maps --units --wait --pace --record --no-clobber --operate --settle --progress --summary --help' ;;
+            units) words='--config --connect --port --wait --help' ;;
             check | audit | info | rates | why | dump | picture | loads | migrate)
                 case $current in
                     -*)

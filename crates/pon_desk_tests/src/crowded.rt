@@ -5,7 +5,7 @@ use pon_worker::OpenGate;
 use std::alloc::Allocator;
 use std::fmt::Display;
 use std::fs::{Metadata, OpenOptions};
-use std::io;
+use std::io::{self, Lines};
 use std::net::{Net, SocketAddr, TcpListener, TcpStream};
 use std::process::Abort;
 use std::rt::Files;
@@ -70,6 +70,22 @@ impl<R: Eprint> Eprint for Crowded<R> {
 
     fn eprintln<D: Display + Drop>(&self, value: D) -> io::Result<()> {
         self.rt.eprintln(value)
+    }
+}
+
+impl<R: Input> Input for Crowded<R> {
+    type Reader = R::Reader;
+
+    fn read_line<A: Allocator + Clone>(&self, buf: &mut String<A>) -> io::Result<usize> {
+        self.rt.read_line(buf)
+    }
+
+    fn lines<A: Allocator>(&self, alloc: A) -> Lines<R::Reader, A> {
+        self.rt.lines(alloc)
+    }
+
+    fn reader(&self) -> R::Reader {
+        self.rt.reader()
     }
 }
 

@@ -28,6 +28,8 @@ mod memory;
 #[cfg(test)]
 mod operating;
 #[cfg(test)]
+mod outside;
+#[cfg(test)]
 mod passing;
 #[cfg(test)]
 mod repeating;

@@ -1,7 +1,7 @@
 //! Ports that are served over sockets of this machine.
 
 use pon_device::MemWrite;
-use pon_run::{RunArgs, run_ports};
+use pon_run::{LinesFrom, RunArgs, UnitsPlace, run_ports};
 use pon_settings::{Settings, settings};
 use pon_units::PortNo;
 use pon_worker::{Gate, OpenGate, Point};
@@ -61,8 +61,8 @@ const THREE_PORTS: &str = "\
     [[port.alloc]]\nonu = 9\nalloc = 1028\nfixed = 2560\nassured = 0\nmax = 2560\nclass = \"none\"\nqueue = 100\n\
     [[port.alloc]]\nonu = 10\nalloc = 1029\nfixed = 2560\nassured = 0\nmax = 2560\nclass = \"none\"\nqueue = 100\n";
 
-// Returns the text of the settings of this number of such ports.
-fn text(rt: &impl Abort, alloc: Global, ports: usize) -> String {
+/// Returns the text of the settings of this number of ports that are alike.
+pub(crate) fn text(rt: &impl Abort, alloc: Global, ports: usize) -> String {
     let mut text = String::new(alloc);
     for _port in 0..ports {
         text.push_str(PORT).expect(rt, "memory");
@@ -70,7 +70,8 @@ fn text(rt: &impl Abort, alloc: Global, ports: usize) -> String {
     text
 }
 
-fn read(rt: &impl Abort, alloc: Global, text: &str) -> Settings {
+/// Returns the settings of a text.
+pub(crate) fn read(rt: &impl Abort, alloc: Global, text: &str) -> Settings {
     settings(alloc, text).ok().expect(rt, "settings")
 }
 
@@ -80,6 +81,7 @@ where
     G: Gate + Sync,
     R: Net<Listener = TcpListener, Stream = TcpStream>
         + Files
+        + Input
         + Threads
         + Wait
         + Clock
@@ -106,6 +108,7 @@ where
     G: Gate + Sync,
     R: Net<Listener = TcpListener, Stream = TcpStream>
         + Files
+        + Input
         + Threads
         + Wait
         + Clock
@@ -133,12 +136,16 @@ fn ended_with_lines(run: (u8, MemWrite), count: usize) -> bool {
 pub(crate) fn args(maps: u64) -> RunArgs<'static> {
     RunArgs {
         listen: HERE,
+        units: UnitsPlace::Here,
         maps,
+        pace: None,
         operate: None,
         record: None,
         no_clobber: false,
         config: None,
         settle: false,
+        progress: false,
+        summary: false,
     }
 }
 
@@ -210,7 +217,7 @@ fn refuses_what_cannot_be_opened(rt: HostRuntime) {
     for (k, (listen, operate, record)) in ABSENT.iter().enumerate() {
         let args = RunArgs {
             listen,
-            operate: *operate,
+            operate: operate.map(LinesFrom::File),
             record: *record,
             ..args(1)
         };

@@ -2,4 +2,5 @@ mod Builders
 mod Migrations
 mod Runs
 mod Subcommands
+mod Units
 mod Views

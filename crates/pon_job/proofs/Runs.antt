@@ -2,9 +2,10 @@
 use Rattle.std.proofs.Common.{◌≡◌, ℕ, List, Option, Some, None, refl, subst, sym}
 use Rattle.std.specs.Prelude.{IfSome, IsNone, IsSomeAnd, MatchOption, codes}
 use Rattle.clap.specs.Walk.{Row, first_of}
-use Rattle.pon_job.specs.Jobs.{HasMaps, HasNumber, IsRun, MayHave, NamesNoJob, Spells}
+use Rattle.pon_job.specs.Jobs.{HasMaps, HasNumber, IsMeeting, IsRun, MayHave, NamesNoJob, Spells}
+use Rattle.pon_job.specs.declared.task.Meeting.{Meeting}
 use Rattle.pon_job.specs.declared.task.Run.{Run as RunOf}
-use Rattle.pon_job.specs.declared.task.Job.TheVariants.{Plan, Check, Audit, Show, Migrate, Run}
+use Rattle.pon_job.specs.declared.task.Job.TheVariants.{Plan, Check, Audit, Show, Migrate, Run, Units}
 use Rattle.pon_job.proofs.Views.{view_is_no_word}
 
 -- the number that is parsed from the text of an argument
@@ -35,12 +36,16 @@ no_run rows none (Audit audit) j = absurd (cc (j.0))
 no_run rows none (Show shown) j = absurd (view_is_no_word shown.view (codes "run") refl (sym j.0))
 no_run rows none (Migrate file out) j = absurd (cc (j.0))
 no_run rows none (Run run) j = none run j.1
+no_run rows none (Units units) j = absurd (cc (j.0))
 
 pub without_settings : (rows : List Row) → None ≡ first_of (codes "config") rows → NamesNoJob (Some (codes "run", rows))
 without_settings rows none = no_run rows (λ run is. absurd (cc (none, is.settings)))
 
 pub without_address : (rows : List Row) → None ≡ first_of (codes "listen") rows → NamesNoJob (Some (codes "run", rows))
 without_address rows none = no_run rows (λ run is. absurd (cc (none, is.address)))
+
+pub without_meeting : (rows : List Row) → ((meeting : Meeting) → ¬ IsMeeting rows meeting) → NamesNoJob (Some (codes "run", rows))
+without_meeting rows none = no_run rows (λ run is. none run.meeting is.meets)
 
 pub without_number : (rows : List Row) → ((maps : ℕ) → ¬ HasMaps rows maps) → NamesNoJob (Some (codes "run", rows))
 without_number rows none = no_run rows (λ run is. none run.maps is.number)

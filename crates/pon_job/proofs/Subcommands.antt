@@ -19,7 +19,7 @@ use Rattle.pon_job.specs.Jobs.{HasValues, IsAudit, IsJob, NamesNoJob, RefusesWor
 use Rattle.pon_job.proofs.Views.{view_is_no_word}
 use Rattle.pon_job.specs.declared.task.Audit.{Audit as AuditOf}
 use Rattle.pon_job.specs.declared.task.Job.{Job}
-use Rattle.pon_job.specs.declared.task.Job.TheVariants.{Plan, Check, Audit, Show, Migrate, Run}
+use Rattle.pon_job.specs.declared.task.Job.TheVariants.{Plan, Check, Audit, Show, Migrate, Run, Units}
 
 name_of_rows : (m : ArgMatches) → option_map (λ p. p.0) (subcommand_rows_of m) ≡ subcommand_name_of m
 name_of_rows m = elim (out-ArgMatches m).subcommand as (λ o. option_map (λ p. p.0) (subcommand_rows o) ≡ option_map (λ b. (out-SubCommand (box_value b)).name.now) o) [
@@ -47,7 +47,8 @@ clap_refuses a words e is k = inl (subst (λ a. is_simple_and_free a ≡ true �
 pub names : (r : Option (List ℕ × List Row)) (name : List ℕ) (rows : List Row) (job : Job) → Some (name, rows) ≡ r → name ≡ word_of job → HasValues rows job → IsJob r job
 names r name rows job met word values = subst (λ r. IsJob r job) met (word, values)
 
-words_differ : (a b : List ℕ) → bytes_eq a b ≡ false → a ≡ b → ⊥
+-- other words are not equal
+pub words_differ : (a b : List ℕ) → bytes_eq a b ≡ false → a ≡ b → ⊥
 words_differ a b other e = absurd (let t : true ≡ false = sym ((bytes_eq-Decides a b).1 e) ∙ other in cc)
 
 -- `check` without a file names no job
@@ -58,6 +59,7 @@ no_check name rows is none (Audit audit) j = words_differ (codes "check") (codes
 no_check name rows is none (Show shown) j = absurd (cc (none, j.1.recording))
 no_check name rows is none (Migrate file out) j = absurd (cc (none, j.1.0))
 no_check name rows is none (Run run) j = words_differ (codes "check") (codes "run") refl (sym is ∙ j.0)
+no_check name rows is none (Units units) j = words_differ (codes "check") (codes "units") refl (sym is ∙ j.0)
 
 -- `audit` without its values names no job
 pub no_audit : (rows : List Row) → ((audit : AuditOf) → ¬ IsAudit rows audit) → NamesNoJob (Some (codes "audit", rows))
@@ -67,6 +69,7 @@ no_audit rows none (Audit audit) j = none audit j.1
 no_audit rows none (Show shown) j = view_is_no_word shown.view (codes "audit") refl (sym j.0)
 no_audit rows none (Migrate file out) j = words_differ (codes "audit") (codes "migrate") refl j.0
 no_audit rows none (Run run) j = words_differ (codes "audit") (codes "run") refl j.0
+no_audit rows none (Units units) j = words_differ (codes "audit") (codes "units") refl j.0
 
 -- the job of the matches is that of the words
 pub job_in : (a : App) (words : List (List ℕ)) (m : ArgMatches) (job : Job) → a ≡ olt_app → HasMatchesOf a words m → IsJob (subcommand_rows_of m) job → IsJob (subcommand_of olt_app words) job

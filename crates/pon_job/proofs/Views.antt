@@ -8,7 +8,7 @@ use Rattle.pon_job.specs.declared.task.Part.{Part}
 use Rattle.pon_job.specs.declared.task.Show.{Show as Shown}
 use Rattle.pon_job.specs.declared.task.View.{View}
 use Rattle.pon_job.specs.declared.task.View.TheVariants.{Info, Rates, Why, Dump, Picture, Loads}
-use Rattle.pon_job.specs.declared.task.Job.TheVariants.{Plan, Check, Audit, Show, Migrate, Run}
+use Rattle.pon_job.specs.declared.task.Job.TheVariants.{Plan, Check, Audit, Show, Migrate, Run, Units}
 
 -- a word is one of the views'
 abbrev pub is_view : List ℕ → Bool
@@ -34,6 +34,7 @@ no_view view rows none (Audit audit) j = view_is_no_word view (codes "audit") re
 no_view view rows none (Show shown) j = none shown j.1
 no_view view rows none (Migrate file out) j = view_is_no_word view (codes "migrate") refl j.0
 no_view view rows none (Run run) j = view_is_no_word view (codes "run") refl j.0
+no_view view rows none (Units units) j = view_is_no_word view (codes "units") refl j.0
 
 pub without_recording : (view : View) (rows : List Row) → None ≡ first_of (codes "file") rows → NamesNoJob (Some (word_of_view view, rows))
 without_recording view rows none = no_view view rows (λ shown is. absurd (cc (none, is.recording)))

@@ -13,16 +13,18 @@ use Rattle.clap.specs.declared.builder.action.ArgAction.TheVariants.{Append, Set
 use Rattle.clap.specs.declared.builder.value_parser.ValueParser.TheVariants.{Unsigned}
 use Rattle.clap.specs.declared.error.Error.{Error}
 use Rattle.clap.specs.declared.error.kind.ErrorKind.TheVariants.{InvalidSubcommand}
-use Rattle.pon_job.specs.declared.task.TheConstants.{MAX_ALLOC, MAX_FRAME, MAX_MAPS, MAX_PORT, MIN_ALLOC}
+use Rattle.pon_job.specs.declared.task.TheConstants.{MAX_ALLOC, MAX_FRAME, MAX_MAPS, MAX_PACE, MAX_PORT, MAX_WAIT, MIN_ALLOC}
 use Rattle.pon_job.specs.declared.task.Audit.{Audit as AuditOf}
 use Rattle.pon_job.specs.declared.task.Job.{Job}
+use Rattle.pon_job.specs.declared.task.Meeting.{Meeting}
 use Rattle.pon_job.specs.declared.task.Part.{Part}
 use Rattle.pon_job.specs.declared.task.Plan.{Plan as PlanOf}
 use Rattle.pon_job.specs.declared.task.Run.{Run as RunOf}
 use Rattle.pon_job.specs.declared.task.Show.{Show as Shown}
+use Rattle.pon_job.specs.declared.task.Units.{Units as UnitsOf}
 use Rattle.pon_job.specs.declared.task.View.{View}
 use Rattle.pon_job.specs.declared.task.View.TheVariants.{Info, Rates, Why, Dump, Picture, Loads}
-use Rattle.pon_job.specs.declared.task.Job.TheVariants.{Plan, Check, Audit, Show, Migrate, Run}
+use Rattle.pon_job.specs.declared.task.Job.TheVariants.{Plan, Check, Audit, Show, Migrate, Run, Units}
 
 -- an argument that is given by its place, and is required
 abbrev pub place_rule : List ℕ → Rule
@@ -75,6 +77,29 @@ record_rule = option_rule (codes "record")
 -- the file of management lines for an operator of `run`
 abbrev pub operate_rule : Rule
 operate_rule = option_rule (codes "operate")
+
+-- where the units of `run` are
+abbrev pub units_rule : Rule
+units_rule = option_rule (codes "units")
+
+-- how long a connection with external units may keep waiting
+abbrev pub wait_rule : Rule
+wait_rule = number_rule (codes "wait") 1 MAX_WAIT
+
+-- the maps of a port of `run` in a second
+abbrev pub pace_rule : Rule
+pace_rule = number_rule (codes "pace") 1 MAX_PACE
+
+-- the address of the terminal of `units`, which is required
+abbrev pub connect_rule : Rule
+connect_rule = record (option_rule (codes "connect")) { required = true }
+
+-- the flags of `run` for lines on standard error: once a second, and at the end
+abbrev pub progress_rule : Rule
+progress_rule = flag_rule (codes "progress")
+
+abbrev pub summary_rule : Rule
+summary_rule = flag_rule (codes "summary")
 
 -- the flag of `run` that settles each port at the end
 abbrev pub settle_rule : Rule
@@ -155,7 +180,10 @@ abbrev pub migrate_shape : Shape
 migrate_shape = shape_with (codes "migrate") (file_rule ∷ out_rule ∷ [])
 
 abbrev pub run_shape : Shape
-run_shape = shape_with (codes "run") (needed_config_rule ∷ listen_rule ∷ maps_rule ∷ record_rule ∷ no_clobber_rule ∷ operate_rule ∷ settle_rule ∷ [])
+run_shape = shape_with (codes "run") (needed_config_rule ∷ listen_rule ∷ maps_rule ∷ units_rule ∷ wait_rule ∷ pace_rule ∷ record_rule ∷ no_clobber_rule ∷ operate_rule ∷ settle_rule ∷ progress_rule ∷ summary_rule ∷ [])
+
+abbrev pub units_shape : Shape
+units_shape = shape_with (codes "units") (needed_config_rule ∷ connect_rule ∷ port_rule ∷ wait_rule ∷ [])
 
 abbrev pub top_shape : Shape
 top_shape = record (new_shape (codes "olt")) {
@@ -177,7 +205,7 @@ leaf shape = record { top = shape; subs = [] }
 abbrev pub olt_app : App
 olt_app = record {
   top = record top_shape { is_leaf = false };
-  subs = plan_shape ∷ check_shape ∷ audit_shape ∷ info_shape ∷ rates_shape ∷ why_shape ∷ dump_shape ∷ picture_shape ∷ loads_shape ∷ migrate_shape ∷ run_shape ∷ [];
+  subs = plan_shape ∷ check_shape ∷ audit_shape ∷ info_shape ∷ rates_shape ∷ why_shape ∷ dump_shape ∷ picture_shape ∷ loads_shape ∷ migrate_shape ∷ run_shape ∷ units_shape ∷ [];
 }
 
 -- the command has this definition, and no global argument
@@ -202,6 +230,7 @@ word_of (Audit audit) = codes "audit"
 word_of (Show shown) = word_of_view shown.view
 word_of (Migrate file out) = codes "migrate"
 word_of (Run run) = codes "run"
+word_of (Units units) = codes "units"
 
 -- the text is this number, in decimal digits after an optional plus sign, in a range
 pub record Spells (low high : ℕ) (text : List ℕ) (number : ℕ) : Type 0 where
@@ -257,6 +286,18 @@ pub record IsPlan (rows : List Row) (plan : PlanOf) : Type 0 where
   pub strict : HasFlag (codes "strict") rows plan.strict
   pub verbose : HasFlag (codes "verbose") rows plan.verbose
 
+-- the units are external, or simulated, which they also are without a value
+abbrev pub IsPlace : Option (List ℕ) → Bool → Type 0
+IsPlace None external = external ≡ false
+IsPlace (Some text) true = text ≡ codes "external"
+IsPlace (Some text) false = text ≡ codes "simulated"
+
+-- the matches of `run` have these values on how the ports meet their units
+pub record IsMeeting (rows : List Row) (meeting : Meeting) : Type 0 where
+  pub place : IsPlace (first_of (codes "units") rows) meeting.external
+  pub waiting : MayHave (codes "wait") 1 MAX_WAIT rows meeting.wait
+  pub speed : MayHave (codes "pace") 1 MAX_PACE rows meeting.pace
+
 -- the matches of `run` have these values
 pub record IsRun (rows : List Row) (run : RunOf) : Type 0 where
   pub settings : first_of (codes "config") rows ≡ Some run.config.now
@@ -266,6 +307,16 @@ pub record IsRun (rows : List Row) (run : RunOf) : Type 0 where
   pub operator : first_of (codes "operate") rows ≡ option_map (λ name. name.now) run.operate
   pub keeps : HasFlag (codes "no-clobber") rows run.no_clobber
   pub settles : HasFlag (codes "settle") rows run.settle
+  pub meets : IsMeeting rows run.meeting
+  pub follows : HasFlag (codes "progress") rows run.progress
+  pub sums : HasFlag (codes "summary") rows run.summary
+
+-- the matches of `units` have these values
+pub record IsUnits (rows : List Row) (units : UnitsOf) : Type 0 where
+  pub settings : first_of (codes "config") rows ≡ Some units.config.now
+  pub terminal : first_of (codes "connect") rows ≡ Some units.connect.now
+  pub selection : MayHave (codes "port") 0 MAX_PORT rows units.port
+  pub waiting : MayHave (codes "wait") 1 MAX_WAIT rows units.wait
 
 -- the matches of a job's subcommand have the values of the job, by the names of its arguments
 abbrev pub HasValues : List Row → Job → Type 0
@@ -275,6 +326,7 @@ HasValues rows (Audit audit) = IsAudit rows audit
 HasValues rows (Show shown) = IsShown rows shown
 HasValues rows (Migrate file out) = (first_of (codes "file") rows ≡ Some file.now) × (first_of (codes "out") rows ≡ Some out.now)
 HasValues rows (Run run) = IsRun rows run
+HasValues rows (Units units) = IsUnits rows units
 
 -- the job is that of the subcommand, with the values of its arguments
 abbrev pub IsJob : Option (List ℕ × List Row) → Job → Type 0

@@ -6,7 +6,7 @@ use Rattle.pon_device.specs.declared.fault.DeviceFault.{DeviceFault}
 use Rattle.pon_device.specs.declared.fault.DeviceFault.TheVariants.{Memory}
 use Rattle.pon_job.specs.declared.outcome.Outcome.{Outcome}
 use Rattle.pon_job.specs.declared.task.Job.{Job}
-use Rattle.pon_job.specs.declared.task.Job.TheVariants.{Plan, Check, Audit, Show, Migrate, Run}
+use Rattle.pon_job.specs.declared.task.Job.TheVariants.{Plan, Check, Audit, Show, Migrate, Run, Units}
 use Rattle.pon_job.specs.declared.outcome.Outcome.TheVariants.{Done, Refused, CommandLine, Settings, Failed, Unfinished}
 
 -- The exit status is 0 if the job is done, 1 if a check or an audit refused, 2 if the command line or the settings are
@@ -48,6 +48,7 @@ outcome_of_job (Audit audit) ended = outcome_of_check ended
 outcome_of_job (Show shown) ended = outcome_of_check ended
 outcome_of_job (Migrate file out) ended = outcome_of_check ended
 outcome_of_job (Run run) ended = outcome_of_ports ended
+outcome_of_job (Units units) ended = outcome_of_ports ended
 
 -- help and the version are shown; any other error refuses the words, unless memory was refused
 abbrev pub outcome_of_words : ErrorKind → Outcome

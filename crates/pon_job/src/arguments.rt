@@ -1,22 +1,24 @@
 //! The words of the command line.
 
 ghost use Rattle.std.specs.Prelude.{◌≡◌, ℕ, Bool, Option, Some, IfErr, IfOk, IfSome, IsNone, MatchOption, codes, map, option_map, string_bytes};
+ghost use Rattle.pon_job.specs.declared.task.Meeting.{Meeting};
 ghost use Rattle.pon_job.specs.declared.task.Part.{Part};
 ghost use Rattle.pon_job.specs.declared.task.View.{View};
 ghost use Rattle.clap.specs.Words.{found_of, rows_of, subcommand_rows_of};
 ghost use Rattle.clap.specs.Simple.{subcommand_of};
-ghost use Rattle.pon_job.specs.Jobs.{HasFlag, HasNumber, IsFormat, IsJob, IsPart, IsPlan, MayHave, NamesNoJob, RefusesWords, Spells, olt_app, word_of_view};
+ghost use Rattle.pon_job.specs.Jobs.{HasFlag, HasNumber, IsFormat, IsJob, IsMeeting, IsPart, IsPlace, IsPlan, MayHave, NamesNoJob, RefusesWords, Spells, olt_app, word_of_view};
 
 use crate::commands::olt_command;
 use crate::task::{
-    Audit, Job, MAX_ALLOC, MAX_FRAME, MAX_MAPS, MAX_PORT, MIN_ALLOC, Part, Plan, Run, Show, View,
+    Audit, Job, MAX_ALLOC, MAX_FRAME, MAX_MAPS, MAX_PACE, MAX_PORT, MAX_WAIT, MIN_ALLOC, Meeting,
+    Part, Plan, Run, Show, Units, View,
 };
 use clap::error::ErrorKind;
 use clap::{ArgMatches, Error};
 use std::alloc::{AllocError, Global};
 
 /// What is said of words that clap accepts, and that name no job.
-const NO_JOB: &str = "a format is text or json";
+const NO_JOB: &str = "a format is text or json, units are simulated or external";
 
 // Parses a number, which is in a range.
 fn number_in(text: &str, low: u64, high: u64) -> Option<u64>
@@ -91,6 +93,42 @@ fn plan_of<'a>(found: &ArgMatches<'a>) -> Plan<'a>
     }
 }
 
+// Returns whether units are external. `None` if the text is no place of units.
+fn is_external(text: Option<&str>) -> Option<bool>
+    ensures some { IfSome result (IsPlace (option_map (λ t. t.now) text.entry)) }
+    ensures none { IsNone result → (external : Bool) → ¬ IsPlace (option_map (λ t. t.now) text.entry) external }
+{
+    match text {
+        None => Some(false),
+        Some(text) => {
+            if text == "external" {
+                return Some(true);
+            }
+            if text == "simulated" {
+                Some(false)
+            } else {
+                None
+            }
+        }
+    }
+}
+
+// Returns how the ports of a run meet their units.
+fn meeting_of(found: &ArgMatches<'_>) -> Option<Meeting>
+    ensures some { IfSome result (IsMeeting (rows_of (found_of found.now))) }
+    ensures none { IsNone result → (meeting : Meeting) → ¬ IsMeeting (rows_of (found_of found.now)) meeting }
+{
+    let place = found.get_str("units");
+    let external = is_external(place)?;
+    let wait = chosen(found, "wait", 1, MAX_WAIT)?;
+    let pace = chosen(found, "pace", 1, MAX_PACE)?;
+    Some(Meeting {
+        external,
+        wait,
+        pace,
+    })
+}
+
 // Returns the run that the matches of its subcommand give.
 fn run_of<'a>(found: &ArgMatches<'a>) -> Option<Job<'a>>
     ensures some { IfSome result (IsJob (Some (codes "run", rows_of (found_of found.now)))) }
@@ -99,18 +137,41 @@ fn run_of<'a>(found: &ArgMatches<'a>) -> Option<Job<'a>>
     let config = found.get_str("config")?;
     let listen = found.get_str("listen")?;
     let maps = number_of(found, "maps", 1, MAX_MAPS)?;
+    let meeting = meeting_of(found)?;
     let record = found.get_str("record");
     let no_clobber = is_given(found, "no-clobber");
     let operate = found.get_str("operate");
     let settle = is_given(found, "settle");
+    let progress = is_given(found, "progress");
+    let summary = is_given(found, "summary");
     Some(Job::Run(Run {
         config,
         listen,
         maps,
+        meeting,
         record,
         no_clobber,
         operate,
         settle,
+        progress,
+        summary,
+    }))
+}
+
+// Returns the units that the matches of their subcommand give.
+fn units_of<'a>(found: &ArgMatches<'a>) -> Option<Job<'a>>
+    ensures some { IfSome result (IsJob (Some (codes "units", rows_of (found_of found.now)))) }
+    ensures none { IsNone result → NamesNoJob (Some (codes "units", rows_of (found_of found.now))) }
+{
+    let config = found.get_str("config")?;
+    let connect = found.get_str("connect")?;
+    let port = chosen(found, "port", 0, MAX_PORT)?;
+    let wait = chosen(found, "wait", 1, MAX_WAIT)?;
+    Some(Job::Units(Units {
+        config,
+        connect,
+        port,
+        wait,
     }))
 }
 
@@ -235,6 +296,9 @@ fn other_job_of<'a>(name: &str, found: &ArgMatches<'a>) -> Option<Job<'a>>
     }
     if name == "run" {
         return run_of(found);
+    }
+    if name == "units" {
+        return units_of(found);
     }
     None
 }

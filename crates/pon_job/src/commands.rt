@@ -5,10 +5,10 @@ ghost use Rattle.clap.specs.Walk.{rule_of};
 ghost use Rattle.clap.specs.Simple.{app_of};
 ghost use Rattle.std.specs.Prelude.{map};
 ghost use Rattle.pon_job.specs.Jobs.{AreLocal, IsDefined, leaf, olt_app, shape_with};
-ghost use Rattle.pon_job.specs.Jobs.{alloc_rule, config_rule, file_rule, files_rule, flag_rule, frame_rule, format_rule, from_rule, listen_rule, maps_rule, needed_alloc_rule, needed_config_rule, no_clobber_rule, number_rule, operate_rule, option_rule, out_rule, place_rule, port_rule, record_rule, settle_rule, strict_rule, svg_rule, to_rule, verbose_rule};
-ghost use Rattle.pon_job.specs.Jobs.{audit_shape, check_shape, dump_shape, info_shape, loads_shape, migrate_shape, picture_shape, plan_shape, rates_shape, run_shape, top_shape, why_shape};
+ghost use Rattle.pon_job.specs.Jobs.{alloc_rule, config_rule, connect_rule, file_rule, files_rule, flag_rule, frame_rule, format_rule, from_rule, listen_rule, maps_rule, needed_alloc_rule, needed_config_rule, no_clobber_rule, number_rule, operate_rule, option_rule, out_rule, pace_rule, place_rule, port_rule, progress_rule, record_rule, settle_rule, strict_rule, summary_rule, svg_rule, to_rule, units_rule, verbose_rule, wait_rule};
+ghost use Rattle.pon_job.specs.Jobs.{audit_shape, check_shape, dump_shape, info_shape, loads_shape, migrate_shape, picture_shape, plan_shape, rates_shape, run_shape, top_shape, units_shape, why_shape};
 
-use crate::task::{MAX_ALLOC, MAX_FRAME, MAX_MAPS, MAX_PORT, MIN_ALLOC};
+use crate::task::{MAX_ALLOC, MAX_FRAME, MAX_MAPS, MAX_PACE, MAX_PORT, MAX_WAIT, MIN_ALLOC};
 use clap::builder::ValueParser;
 use clap::{Arg, ArgAction, Command};
 use std::alloc::{AllocError, Global};
@@ -100,6 +100,55 @@ fn listen_arg<'a>(alloc: Global) -> Arg<'a>
     option_arg(alloc, "listen", "ADDRESS", help).required(true)
 }
 
+fn units_arg<'a>(alloc: Global) -> Arg<'a>
+    ensures rule { rule_of result ≡ units_rule }
+    ensures local { result.global ≡ false }
+{
+    let help = "simulated units in this program, or external ones, which connect to each port";
+    option_arg(alloc, "units", "PLACE", help)
+}
+
+fn wait_arg<'a>(alloc: Global) -> Arg<'a>
+    ensures rule { rule_of result ≡ wait_rule }
+    ensures local { result.global ≡ false }
+{
+    let help = "The seconds that a connection with external units may keep waiting, 1 to 3600";
+    number_arg(alloc, "wait", 1, MAX_WAIT, help)
+}
+
+fn pace_arg<'a>(alloc: Global) -> Arg<'a>
+    ensures rule { rule_of result ≡ pace_rule }
+    ensures local { result.global ≡ false }
+{
+    let help =
+        "The maps of each port in a second by the clock, 1 to 1000000; as fast as it can without";
+    number_arg(alloc, "pace", 1, MAX_PACE, help)
+}
+
+fn progress_arg<'a>(alloc: Global) -> Arg<'a>
+    ensures rule { rule_of result ≡ progress_rule }
+    ensures local { result.global ≡ false }
+{
+    let help = "Print a line for each port once a second on standard error";
+    flag_arg(alloc, "progress", help)
+}
+
+fn summary_arg<'a>(alloc: Global) -> Arg<'a>
+    ensures rule { rule_of result ≡ summary_rule }
+    ensures local { result.global ≡ false }
+{
+    let help = "Print at the end refused and garbled reports and late maps on standard error";
+    flag_arg(alloc, "summary", help)
+}
+
+fn connect_arg<'a>(alloc: Global) -> Arg<'a>
+    ensures rule { rule_of result ≡ connect_rule }
+    ensures local { result.global ≡ false }
+{
+    let help = "The socket address of port 0; each further port has the next TCP port";
+    option_arg(alloc, "connect", "ADDRESS", help).required(true)
+}
+
 fn maps_arg<'a>(alloc: Global) -> Arg<'a>
     ensures rule { rule_of result ≡ maps_rule }
     ensures local { result.global ≡ false }
@@ -120,7 +169,8 @@ fn operate_arg<'a>(alloc: Global) -> Arg<'a>
     ensures rule { rule_of result ≡ operate_rule }
     ensures local { result.global ≡ false }
 {
-    option_arg(alloc, "operate", "FILE", "Management lines for an operator")
+    let help = "Management lines for an operator, or - for standard input";
+    option_arg(alloc, "operate", "FILE", help)
 }
 
 fn settle_arg<'a>(alloc: Global) -> Arg<'a>
@@ -358,13 +408,34 @@ fn run_command<'a>(alloc: Global) -> Result<Command<'a>, AllocError>
             config_arg(alloc).required(true),
             listen_arg(alloc),
             maps_arg(alloc),
+            units_arg(alloc),
+            wait_arg(alloc),
+            pace_arg(alloc),
             record_arg(alloc),
             no_clobber_arg(alloc),
             operate_arg(alloc),
             settle_arg(alloc),
+            progress_arg(alloc),
+            summary_arg(alloc),
         ],
     )?;
     command(alloc, "run", "Make maps at each port, over sockets", args)
+}
+
+fn units_command<'a>(alloc: Global) -> Result<Command<'a>, AllocError>
+    ensures { IfOk result (IsDefined (leaf units_shape)) }
+{
+    let about = "Answer the maps of a terminal elsewhere with simulated units";
+    let args = Vec::from_array(
+        alloc,
+        [
+            config_arg(alloc).required(true),
+            connect_arg(alloc),
+            port_arg(alloc),
+            wait_arg(alloc),
+        ],
+    )?;
+    command(alloc, "units", about, args)
 }
 
 // Makes the program's command without its subcommands.
@@ -396,5 +467,6 @@ pub(crate) fn olt_command<'a>(alloc: Global) -> Result<Command<'a>, AllocError>
         .subcommand(picture_command(alloc)?)?
         .subcommand(loads_command(alloc)?)?
         .subcommand(migrate_command(alloc)?)?
-        .subcommand(run_command(alloc)?)
+        .subcommand(run_command(alloc)?)?
+        .subcommand(units_command(alloc)?)
 }

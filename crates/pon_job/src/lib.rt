@@ -16,4 +16,4 @@ pub use outcome::{
     Outcome, exit_status, outcome_of_check, outcome_of_job, outcome_of_ports, outcome_of_run,
     outcome_of_words,
 };
-pub use task::{Audit, Job, MAX_MAPS, Part, Plan, Run, Show, View};
+pub use task::{Audit, Job, MAX_MAPS, Meeting, Part, Plan, Run, Show, Units, View};

@@ -91,7 +91,7 @@ pub fn outcome_of_job(job: &Job<'_>, ended: Result<bool, DeviceFault>) -> Outcom
         Job::Check { .. } | Job::Audit(_) | Job::Show(_) | Job::Migrate { .. } => {
             outcome_of_check(ended)
         }
-        Job::Run(_) => outcome_of_ports(ended),
+        Job::Run(_) | Job::Units(_) => outcome_of_ports(ended),
     }
 }
 

@@ -1,6 +1,12 @@
 /// Maximum number of maps of a run at each port.
 pub const MAX_MAPS: u64 = 1_000_000_000;
 
+/// Maximum number of maps of a port in a second by the clock.
+pub(crate) const MAX_PACE: u64 = 1_000_000;
+
+/// Maximum number of seconds that a port waits for units elsewhere, or they for it.
+pub(crate) const MAX_WAIT: u64 = 3_600;
+
 /// The greatest number of a port.
 pub(crate) const MAX_PORT: u64 = 63;
 
@@ -70,18 +76,42 @@ pub struct Plan<'a> {
     pub verbose: bool,
 }
 
+/// How the ports of a run meet their units: with `external` these come from elsewhere, and each port waits for them for `wait`
+/// seconds, 1 to 3,600; with a `pace` each port makes that number of maps in a second by the clock, 1 to 1,000,000.
+#[derive(Clone, Copy, Debug, PartialEq, Eq)]
+pub struct Meeting {
+    pub external: bool,
+    pub wait: Option<u64>,
+    pub pace: Option<u64>,
+}
+
 /// A run: `maps` maps, 1 to `MAX_MAPS`, at each port of the settings file `config`, over sockets at the address `listen`;
 /// `record` is the file for a recording of their chapters, which with `no_clobber` may not exist, `operate` a file of
-/// management lines for an operator, and with `settle` each port is settled at the end with the receipts of all posts.
+/// management lines for an operator, or `-` for standard input, and with `settle` each port is settled at the end with the
+/// receipts of all posts. With `progress` it can be followed on standard error, and with `summary` each port has a line there at
+/// the end.
 #[derive(Clone, Copy, Debug, PartialEq, Eq)]
 pub struct Run<'a> {
     pub config: &'a str,
     pub listen: &'a str,
     pub maps: u64,
+    pub meeting: Meeting,
     pub record: Option<&'a str>,
     pub no_clobber: bool,
     pub operate: Option<&'a str>,
     pub settle: bool,
+    pub progress: bool,
+    pub summary: bool,
+}
+
+/// The simulated units of the settings file `config` for a terminal elsewhere, whose port 0 has the address `connect`; of one
+/// port, 0 to 63, or of all. They try to connect for `wait` seconds, 1 to 3,600.
+#[derive(Clone, Copy, Debug, PartialEq, Eq)]
+pub struct Units<'a> {
+    pub config: &'a str,
+    pub connect: &'a str,
+    pub port: Option<u64>,
+    pub wait: Option<u64>,
 }
 
 /// A job of the program.
@@ -99,4 +129,6 @@ pub enum Job<'a> {
     Migrate { file: &'a str, out: &'a str },
     /// Serve ports over sockets.
     Run(Run<'a>),
+    /// Answer the maps of a terminal elsewhere.
+    Units(Units<'a>),
 }

@@ -1,9 +1,9 @@
 //! `olt`: the upstream bandwidth scheduler of an XG-PON optical line terminal, as a program.
 //!
 //! The program executes management lines and prints a reply or a refusal for each ([`plan`]), judges a check file
-//! ([`check_file`]) or a recording ([`audit`]), prints what one holds, writes a recording anew in the present version of its format
-//! ([`migrate`]), or runs ports over sockets ([`run_ports`]). This crate adds the standard streams, the files, the
-//! settings and the exit status.
+//! ([`check_file`]) or a recording ([`audit`]), prints what one holds, writes a recording anew in the present version of its
+//! format ([`migrate`]), runs ports over sockets ([`run_ports`]), or simulates the units of a terminal elsewhere
+//! ([`run_units`]). This crate adds the standard streams, the files, the settings and the exit status.
 #![tactic(auto)]
 
 ghost use Rattle.std.specs.Prelude.{◌≡◌, Err, IfOk, Ok};
@@ -17,25 +17,25 @@ mod migrating;
 mod misfits;
 mod opening;
 mod planning;
+mod running;
 mod watching;
 
 use crate::auditing::audit_files;
 use crate::files::open_file;
 use crate::looking::show_recording;
 use crate::migrating::migrate_file;
-use crate::opening::{NotOpened, settings_of};
+use crate::opening::NotOpened;
 use crate::planning::run_plan;
+use crate::running::{connect_units, run_settings};
 use clap::Error;
 pub use pon_audit::{audit, audit_from, write_verdict};
 pub use pon_check_file::check_file;
 use pon_device::{DeviceFault, StdRead, StdWrite};
 pub use pon_job::job;
-use pon_job::{Failure, Job, Named, Outcome, Run, exit_status, outcome_of_job, outcome_of_words};
+use pon_job::{Failure, Job, Named, Outcome, exit_status, outcome_of_job, outcome_of_words};
 pub use pon_manage::plan;
 pub use pon_record::migrate;
-use pon_run::RunArgs;
-pub use pon_run::run_ports;
-use pon_worker::OpenGate;
+pub use pon_run::{run_ports, run_units};
 use std::alloc::Global;
 use std::io::{self, BufReader};
 use std::net::{Net, TcpListener, TcpStream};
@@ -51,38 +51,6 @@ fn print_refusal(rt: &impl Eprint, line: &str) -> Outcome
 {
     let _ = eprintln!(rt; "olt: settings refused\n{line}");
     Outcome::Settings
-}
-
-// Runs the ports of the settings file over sockets. Returns the exit status.
-fn run_settings<R>(rt: &R, alloc: Global, run: &Run<'_>) -> u8
-where
-    R: Net<Listener = TcpListener, Stream = TcpStream>
-        + Files
-        + Print
-        + Eprint
-        + Threads
-        + Wait
-        + Clock
-        + Sync,
-    R::File: Send,
-{
-    let args = RunArgs {
-        listen: run.listen,
-        maps: run.maps,
-        record: run.record,
-        no_clobber: run.no_clobber,
-        config: Some(run.config),
-        operate: run.operate,
-        settle: run.settle,
-    };
-    match settings_of(rt, alloc, run.config) {
-        Ok(settings) => {
-            let mut writer = StdWrite::new(io::writer(rt));
-            run_ports(rt, alloc, settings, args, &OpenGate, &mut writer)
-        }
-        Err(NotOpened::Failed(failure)) => exit_status(print_failure(rt, &failure)),
-        Err(NotOpened::Refused(line)) => exit_status(print_refusal(rt, &line)),
-    }
 }
 
 // Judges the certificate of a check file. Returns `Read` if the file cannot be opened.
@@ -155,6 +123,15 @@ fn outcome_of_end(rt: &impl Eprint, job: &Job<'_>, ended: Result<bool, NotOpened
     }
 }
 
+// Returns the exit status of a run that ended so. Prints why its settings were not opened.
+fn status_of(rt: &impl Eprint, ended: Result<u8, NotOpened>) -> u8 {
+    match ended {
+        Ok(status) => status,
+        Err(NotOpened::Failed(failure)) => exit_status(print_failure(rt, &failure)),
+        Err(NotOpened::Refused(line)) => exit_status(print_refusal(rt, &line)),
+    }
+}
+
 // Does the job of the command line. Returns the exit status.
 fn run<R>(rt: &R, alloc: Global, words: &[String]) -> u8
 where
@@ -179,7 +156,8 @@ where
         Job::Audit(audit) => audit_files(rt, alloc, audit).map_err(NotOpened::Failed),
         Job::Show(show) => show_recording(rt, alloc, show).map_err(NotOpened::Failed),
         Job::Migrate { file, out } => migrate_file(rt, alloc, file, out).map_err(NotOpened::Failed),
-        Job::Run(run) => return run_settings(rt, alloc, run),
+        Job::Run(run) => return status_of(rt, run_settings(rt, alloc, run)),
+        Job::Units(units) => return status_of(rt, connect_units(rt, alloc, units)),
     };
     exit_status(outcome_of_end(rt, &job, ended))
 }

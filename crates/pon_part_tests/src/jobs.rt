@@ -1,6 +1,6 @@
 // The results of whole command lines, as clap parses them.
 use clap::error::ErrorKind;
-use pon_job::{Audit, Job, Part, Plan, Run, Show, View, job};
+use pon_job::{Audit, Job, Meeting, Part, Plan, Run, Show, Units, View, job};
 use std::alloc::Global;
 
 fn push_word(alloc: Global, words: &mut Vec<String>, word: &str) -> Option<()> {
@@ -43,6 +43,13 @@ fn plan_of(config: Option<&'static str>, strict: bool, verbose: bool) -> Job<'st
     })
 }
 
+/// Simulated units, and no clock.
+const HERE: Meeting = Meeting {
+    external: false,
+    wait: None,
+    pace: None,
+};
+
 fn run_of(
     maps: u64,
     record: Option<&'static str>,
@@ -53,10 +60,13 @@ fn run_of(
         config: "a.toml",
         listen: "127.0.0.1:0",
         maps,
+        meeting: HERE,
         record,
         no_clobber: false,
         operate,
         settle,
+        progress: false,
+        summary: false,
     })
 }
 
@@ -87,6 +97,65 @@ fn reads_each_job(rt: HostRuntime) {
         (
             "olt run --settle --config a.toml --listen 127.0.0.1:0 --maps 2",
             run_of(2, None, None, true),
+        ),
+    ] {
+        assert!(rt; names(rt.alloc(), line, &wanted) == Some(true), "{line}");
+    }
+}
+
+// A run of a map whose ports meet their units so, with these lines of an operator, and lines on standard error.
+fn watched(meeting: Meeting, operate: Option<&'static str>, seen: bool) -> Job<'static> {
+    Job::Run(Run {
+        config: "a.toml",
+        listen: "h:1",
+        maps: 1,
+        meeting,
+        record: None,
+        no_clobber: false,
+        operate,
+        settle: false,
+        progress: seen,
+        summary: seen,
+    })
+}
+
+fn meeting(external: bool, wait: Option<u64>, pace: Option<u64>) -> Meeting {
+    Meeting {
+        external,
+        wait,
+        pace,
+    }
+}
+
+fn units(port: Option<u64>, wait: Option<u64>) -> Job<'static> {
+    Job::Units(Units {
+        config: "a.toml",
+        connect: "h:1",
+        port,
+        wait,
+    })
+}
+
+#[test]
+fn reads_how_a_run_meets_its_units(rt: HostRuntime) {
+    let most = meeting(true, Some(3600), Some(1_000_000));
+    for (line, wanted) in [
+        (
+            "olt run --config a.toml --listen h:1 --maps 1 --units external --wait 3600 --pace 1000000 --progress --summary",
+            watched(most, None, true),
+        ),
+        (
+            "olt run --units simulated --config a.toml --listen h:1 --maps 1 --operate -",
+            watched(HERE, Some("-"), false),
+        ),
+        (
+            "olt run --config a.toml --listen h:1 --maps 1 --pace=1 --wait=1",
+            watched(meeting(false, Some(1), Some(1)), None, false),
+        ),
+        ("olt units --config a.toml --connect h:1", units(None, None)),
+        (
+            "olt units --port 63 --wait 1 --connect h:1 --config a.toml",
+            units(Some(63), Some(1)),
         ),
     ] {
         assert!(rt; names(rt.alloc(), line, &wanted) == Some(true), "{line}");
@@ -211,6 +280,10 @@ fn refuses_numbers_out_of_range(rt: HostRuntime) {
         "olt run --config a.toml --listen 127.0.0.1:0 --maps 0",
         "olt run --config a.toml --listen 127.0.0.1:0 --maps 1000000001",
         "olt run --config a.toml --listen 127.0.0.1:0 --maps x",
+        "olt run --config a.toml --listen 127.0.0.1:0 --maps 1 --pace 0",
+        "olt run --config a.toml --listen 127.0.0.1:0 --maps 1 --pace 1000001",
+        "olt units --config a.toml --connect 127.0.0.1:1 --wait 3601",
+        "olt units --config a.toml --connect 127.0.0.1:1 --port 64",
         "olt rates r.bin --port 64",
         "olt rates r.bin --alloc 1023",
         "olt rates r.bin --alloc 16384",
@@ -232,6 +305,8 @@ fn needs_the_arguments_of_a_run(rt: HostRuntime) {
         "olt run --config a.toml --maps 3",
         "olt run --config a.toml --listen 127.0.0.1:0 --operate b.txt",
         "olt run",
+        "olt units --config a.toml",
+        "olt units --connect 127.0.0.1:1",
     ] {
         let kind = refusal(rt.alloc(), line);
         assert!(rt;
@@ -245,7 +320,7 @@ fn needs_the_arguments_of_a_run(rt: HostRuntime) {
 fn refuses_other_words(rt: HostRuntime) {
     for (line, wanted) in [
         (
-            "olt run --config a.toml --listen 127.0.0.1:0 --maps 3 --pace r",
+            "olt run --config a.toml --listen 127.0.0.1:0 --maps 3 --speed r",
             ErrorKind::UnknownArgument,
         ),
         (
@@ -263,6 +338,10 @@ fn refuses_other_words(rt: HostRuntime) {
         ("olt dump r.bin --alloc 1024", ErrorKind::UnknownArgument),
         ("olt dump r.bin --port -1", ErrorKind::UnknownArgument),
         ("olt info r.bin --format xml", ErrorKind::InvalidSubcommand),
+        (
+            "olt run --config a.toml --listen 127.0.0.1:0 --maps 3 --units far",
+            ErrorKind::InvalidSubcommand,
+        ),
         ("olt audit r.bin --format xml", ErrorKind::InvalidSubcommand),
         ("olt loads r.bin", ErrorKind::MissingRequiredArgument),
         ("olt audit", ErrorKind::MissingRequiredArgument),

@@ -9,6 +9,7 @@
 //! and counted. The crate opens no file, starts no thread and decides nothing about a port.
 #![tactic(auto)]
 
+mod chapter_watch;
 mod chapters;
 mod entries;
 mod fault;
@@ -26,6 +27,7 @@ mod recording_thread;
 mod rings;
 mod tape;
 
+pub use chapter_watch::ChapterWatch;
 pub use fault::RecordFault;
 pub use inlet::TakenChapters;
 pub use port_sink::PortSink;

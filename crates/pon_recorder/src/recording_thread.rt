@@ -5,6 +5,7 @@ ghost use Rattle.std.specs.Vec.{vec_len};
 ghost use Rattle.pon_recorder.specs.Whole.{IsWholeRecording, RecordsAll, StaysSound, StaysWhole, kept_at, kept_bodies};
 ghost use Rattle.pon_recorder.specs.Rings.{AreRingsOf};
 
+use crate::chapter_watch::ChapterWatch;
 use crate::inlet::{Inlet, TakenChapters};
 use crate::port_sink::PortSink;
 use crate::recorder::{Ended, Recorder};
@@ -98,16 +99,20 @@ impl<K: Rings, W: Drop> Sinks<K, W> {
     }
 }
 
-// Records at most one chapter of each port. Returns whether there was one.
-fn take_round<K: Rings, W: DevWrite + Drop>(
+// Records at most one chapter of each port, and tells the watch of each. Returns whether there was one.
+fn take_round<K: Rings, W: DevWrite + Drop, C: ChapterWatch>(
     recorder: &mut Recorder<W>,
     inlets: &mut [Inlet<K>],
+    watch: &C,
 ) -> bool
     ensures sound { StaysSound recorder.old recorder.new }
 {
     let mut taken = false;
     for inlet in inlets {
-        taken = inlet.take(recorder) || taken;
+        if inlet.take(recorder) {
+            watch.took(inlet.port, inlet.dropped);
+            taken = true;
+        }
     }
     taken
 }
@@ -145,13 +150,18 @@ fn take_all_left<K: Rings, W: DevWrite + Drop>(
 }
 
 impl<K: Rings, W: DevWrite + Drop> Recording<K, W> {
-    /// Records the chapters of all ports as they come, until the flag is set.
-    pub fn run<R: Wait + Clock>(mut self, rt: &R, stop: &AtomicBool) -> Self {
+    /// Records the chapters of all ports as they come, and tells the watch of each, until the flag is set.
+    pub fn run<R: Wait + Clock, C: ChapterWatch>(
+        mut self,
+        rt: &R,
+        stop: &AtomicBool,
+        watch: &C,
+    ) -> Self {
         for _ in rt.forever() {
             if stop.load(Ordering::SeqCst) {
                 return self;
             }
-            if !take_round(&mut self.recorder, self.inlets.as_mut_slice()) {
+            if !take_round(&mut self.recorder, self.inlets.as_mut_slice(), watch) {
                 thread::sleep(rt, Duration::from_millis(PAUSE_MILLISECONDS));
             }
         }

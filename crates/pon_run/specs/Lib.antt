@@ -1,3 +1,4 @@
+pub mod Addresses
 pub mod Ends
 pub mod Units
 pub mod Runs

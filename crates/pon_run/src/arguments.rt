@@ -1,18 +1,57 @@
+use std::time::Duration;
+
+/// Where the units of the ports of a run are.
+#[derive(Clone, Copy, Debug, PartialEq, Eq)]
+pub enum UnitsPlace {
+    /// In this process: simulated units answer each port.
+    Here,
+    /// Elsewhere: each port waits so long for a connection of its units, and for each read and write of it.
+    Elsewhere { wait: Duration },
+}
+
+/// Where the management lines of an operator come from.
+#[derive(Clone, Copy, Debug, PartialEq, Eq)]
+pub enum LinesFrom<'a> {
+    /// A file, whose lines are all executed.
+    File(&'a str),
+    /// Standard input, until the workers have ended.
+    StandardInput,
+}
+
 /// The arguments of a run, besides its settings.
 #[derive(Clone, Copy, Debug, PartialEq, Eq)]
 pub struct RunArgs<'a> {
     /// The address to listen on: an IP address or a host name, a colon and a port; port 0 selects a free one.
     pub listen: &'a str,
+    /// Where the units of the ports are.
+    pub units: UnitsPlace,
     /// The number of maps that each port makes.
     pub maps: u64,
+    /// The number of maps of each port in a second of the clock. `None` if each map is made as soon as the one before is
+    /// answered.
+    pub pace: Option<u64>,
     /// The file of a recording of the ports' chapters. It is written as its part, and replaced when the recording is whole.
     pub record: Option<&'a str>,
     /// Whether the run is refused if the file of the recording exists.
     pub no_clobber: bool,
     /// The file that the settings were read from, which the recording may not replace.
     pub config: Option<&'a str>,
-    /// The file of the management lines that are executed during the run.
-    pub operate: Option<&'a str>,
+    /// The management lines that are executed during the run.
+    pub operate: Option<LinesFrom<'a>>,
     /// Whether each port is settled at the end with the receipts of all posts.
     pub settle: bool,
+    /// Whether standard error has once a second a line for each port with what it did so far.
+    pub progress: bool,
+    /// Whether standard error has at the end a line for each port with its refused and garbled reports and its late maps.
+    pub summary: bool,
+}
+
+impl<'a> RunArgs<'a> {
+    /// The file of the operator's management lines, if they come from one.
+    pub(crate) fn lines_file(&self) -> Option<&'a str> {
+        match self.operate {
+            Some(LinesFrom::File(name)) => Some(name),
+            Some(LinesFrom::StandardInput) | None => None,
+        }
+    }
 }

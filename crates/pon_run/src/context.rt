@@ -1,12 +1,13 @@
 //! What all steps of a run share.
 
 use crate::arguments::RunArgs;
+use crate::watch::RunWatch;
 use pon_settings::Settings;
 use pon_worker::Gate;
 use std::alloc::Global;
 
-/// What all steps of a run share: the handle of the runtime, the allocator, the settings of the ports, the arguments, and
-/// the gate that may hold workers back.
+/// What all steps of a run share: the handle of the runtime, the allocator, the settings of the ports, the arguments, the
+/// gate that may hold workers back, and what is seen of the ports.
 #[derive(Drop)]
 pub(crate) struct RunContext<'a, G: Gate, R> {
     pub(crate) rt: &'a R,
@@ -14,6 +15,7 @@ pub(crate) struct RunContext<'a, G: Gate, R> {
     pub(crate) settings: &'a Settings,
     pub(crate) args: RunArgs<'a>,
     pub(crate) gate: &'a G,
+    pub(crate) watch: &'a RunWatch,
 }
 
 impl<'a, G: Gate, R> RunContext<'a, G, R> {
@@ -25,6 +27,7 @@ impl<'a, G: Gate, R> RunContext<'a, G, R> {
         settings: &'a Settings,
         args: RunArgs<'a>,
         gate: &'a G,
+        watch: &'a RunWatch,
     ) -> Self
         ensures settings { result.settings.now ≡ settings.now }
         ensures args { result.args ≡ args.entry }
@@ -35,6 +38,7 @@ impl<'a, G: Gate, R> RunContext<'a, G, R> {
             settings,
             args,
             gate,
+            watch,
         }
     }
 }

@@ -11,6 +11,7 @@ use crate::context::RunContext;
 use crate::early::print_early;
 use crate::end::write_ends;
 use crate::ports::{all_finished, ends_of, split_results, with_dropped, worker_ends};
+use crate::progress::print_summary;
 use crate::recording_file::RunTape;
 use crate::running::Results;
 use crate::settlement_text::write_settlements;
@@ -204,6 +205,9 @@ fn tell_closed<K: Rings, G: Gate, F: OpenFile + Write + Drop, W: DevWrite, R: Fi
     } = closed;
     let settled = is_settled(ports.len(), run.args.settle, settlements.as_slice());
     let one_each = workers.len() == ports.len();
+    if run.args.summary {
+        print_summary(run.rt, run.watch, workers);
+    }
     print_early(run.rt, workers);
     write_lines(
         run,

@@ -1,4 +1,4 @@
-//! The sockets of a run: one connection for each port, with both ends in this process.
+//! The sockets of a run: one connection for each port, by default with both ends in this process.
 
 ghost use Rattle.std.specs.Prelude.{◌≡◌, IfOk};
 ghost use Rattle.std.specs.Vec.{vec_len};
@@ -23,11 +23,11 @@ const PAUSE_MILLISECONDS: u64 = 1;
 /// Maximum number of connections that are dropped before each attempt to connect: more than the queue of a listener has.
 const MAX_DROPPED: u32 = 256;
 
-/// A connection: the end of the port, and the end of its units.
+/// A connection: the end of the port, and the end of its units, if they are in this process.
 #[derive(Drop)]
 pub(crate) struct Link {
     pub(crate) port: TcpStream,
-    pub(crate) units: TcpStream,
+    pub(crate) units: Option<TcpStream>,
 }
 
 fn too_many_others() -> io::Error {
@@ -43,8 +43,10 @@ fn check_time<R: Clock>(rt: &R, begun: Instant) -> io::Result<()> {
     }
 }
 
-// Accepts the next connection of a listener that does not wait for one. `None` if there is none.
-fn next_connection(listener: &TcpListener) -> io::Result<Option<(TcpStream, SocketAddr)>> {
+/// Accepts the next connection of a listener that does not wait for one. `None` if there is none.
+pub(crate) fn next_connection(
+    listener: &TcpListener,
+) -> io::Result<Option<(TcpStream, SocketAddr)>> {
     match listener.accept() {
         Ok(found) => Ok(Some(found)),
         Err(error) if error.kind() == ErrorKind::WouldBlock => Ok(None),
@@ -112,7 +114,10 @@ fn open_link<R: Net<Listener = TcpListener, Stream = TcpStream> + Clock>(
     let port = accept_from(rt, listener, units.local_addr()?, begun)?;
     port.set_nodelay(true)?;
     units.set_nodelay(true)?;
-    Ok(Link { port, units })
+    Ok(Link {
+        port,
+        units: Some(units),
+    })
 }
 
 fn listen_on<R: Net<Listener = TcpListener, Stream = TcpStream> + Clock>(

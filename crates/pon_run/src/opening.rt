@@ -4,9 +4,11 @@ ghost use Rattle.std.specs.Prelude.{◌≡◌, ◌+◌, ◌≤◌, IfOk, length}
 ghost use Rattle.std.specs.Vec.{vec_len};
 ghost use Rattle.pon_recorder.specs.Rings.{AreRingsOf};
 
+use crate::arguments::UnitsPlace;
 use crate::context::RunContext;
 use crate::files::{recorder_of, recording_target};
 use crate::link::{Link, open_links};
+use crate::outside::accept_links;
 use crate::ports::OTHER_SEATS;
 use crate::recording_file::RunTape;
 use crate::target::discard;
@@ -38,6 +40,20 @@ pub(crate) struct RunParts<K: Rings, F> {
     pub(crate) sinks: Sinks<K, RunTape<F>>,
 }
 
+// Opens a connection for each port, with its units in this process or elsewhere.
+fn links_of<G, R>(run: &RunContext<'_, G, R>, ports: usize) -> Result<Vec<Link>, Failure>
+where
+    G: Gate,
+    R: Net<Listener = TcpListener, Stream = TcpStream> + Clock + Eprint,
+    ensures { IfOk result (λ links. vec_len links ≡ ports) }
+{
+    let address = run.args.listen;
+    match run.args.units {
+        UnitsPlace::Here => open_links(run.rt, run.alloc, address, ports),
+        UnitsPlace::Elsewhere { wait } => accept_links(run.rt, run.alloc, address, ports, wait),
+    }
+}
+
 // Opens a connection and a ring for each port of the settings.
 fn open_ends<G, R>(
     run: &RunContext<'_, G, R>,
@@ -45,11 +61,11 @@ fn open_ends<G, R>(
 ) -> Result<Opened<R::File>, Failure>
 where
     G: Gate,
-    R: Net<Listener = TcpListener, Stream = TcpStream> + Files + Clock,
+    R: Net<Listener = TcpListener, Stream = TcpStream> + Files + Clock + Eprint,
     ensures { IfOk result (λ opened. vec_len opened.rings ≡ length run.now.settings.now) }
 {
     let ports = run.settings.ports().len();
-    let links = open_links(run.rt, run.alloc, run.args.listen, ports)?;
+    let links = links_of(run, ports)?;
     let Ok(rings) = open_rings(run.alloc, ports, &recorder) else {
         return Err(Failure::from(DeviceFault::Memory));
     };
@@ -65,7 +81,7 @@ where
 pub(crate) fn open_parts<G, R>(run: &RunContext<'_, G, R>) -> Result<Opened<R::File>, Failure>
 where
     G: Gate,
-    R: Net<Listener = TcpListener, Stream = TcpStream> + Files + Clock,
+    R: Net<Listener = TcpListener, Stream = TcpStream> + Files + Clock + Eprint,
     ensures { IfOk result (λ opened. vec_len opened.rings ≡ length run.now.settings.now) }
 {
     let target = recording_target(run)?;

@@ -1,26 +1,57 @@
-//! The turns of a worker in a run, which end early if the run is stopped.
+//! The turns of a worker in a run: at their times, if it has a pace, and until the run is stopped.
 
-use pon_worker::{Pace, Turns};
+use crate::context::RunContext;
+use crate::timer::Timer;
+use crate::watch::PortWatch;
+use pon_units::PortNo;
+use pon_worker::{Gate, Pace, SoFar, Turns};
 use std::sync::atomic::{AtomicBool, Ordering};
+use std::time::Clock;
 
-/// A number of turns, made while a flag is not set.
+/// A number of turns, made while a flag is not set, each at its time if there is a timer.
 #[derive(Drop)]
-pub(crate) struct UntilStopped<'a> {
+pub(crate) struct RunPace<'a, R> {
     turns: Turns,
     stop: &'a AtomicBool,
+    timer: Option<Timer<'a, R>>,
+    watch: Option<&'a PortWatch>,
 }
 
-impl<'a> UntilStopped<'a> {
-    pub(crate) fn new(maps: u64, stop: &'a AtomicBool) -> Self {
-        UntilStopped {
-            turns: Turns::new(maps),
+impl<'a, R: Clock> RunPace<'a, R> {
+    /// Makes the pace of the worker of a port.
+    pub(crate) fn new<G: Gate>(
+        run: &'a RunContext<'a, G, R>,
+        port: PortNo,
+        stop: &'a AtomicBool,
+    ) -> Self {
+        RunPace {
+            turns: Turns::new(run.args.maps),
             stop,
+            timer: run.args.pace.map(|rate| Timer::new(run.rt, rate)),
+            watch: run.watch.port(port),
+        }
+    }
+
+    // Waits for the time of the next turn, and notes if it is late.
+    fn wait(&mut self) {
+        let Some(timer) = &mut self.timer else {
+            return;
+        };
+        if let (Some(late), Some(watch)) = (timer.wait(), self.watch) {
+            watch.see_late(late);
         }
     }
 }
 
-impl<'a> Pace for UntilStopped<'a> {
-    fn next(&mut self) -> bool {
-        !self.stop.load(Ordering::SeqCst) && self.turns.next()
+impl<'a, R: Clock> Pace for RunPace<'a, R> {
+    fn next(&mut self, so_far: &SoFar) -> bool {
+        if let Some(watch) = self.watch {
+            watch.see(so_far);
+        }
+        if self.stop.load(Ordering::SeqCst) || !self.turns.next(so_far) {
+            return false;
+        }
+        self.wait();
+        true
     }
 }

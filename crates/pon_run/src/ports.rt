@@ -15,6 +15,7 @@ use pon_recorder::{PortSink, Rings};
 use pon_settings::{Settings, SettingsRow};
 use pon_worker::{StopReason, WorkerEnd};
 use std::alloc::{AllocError, Global};
+use std::net::TcpStream;
 use std::sync::Wait;
 use std::sync::ledger::Ledger;
 
@@ -38,6 +39,19 @@ pub(crate) fn admit_rows<L: Ledger, M: Ledger, R: Wait>(
     Ok(())
 }
 
+// Combines the simulated units of a port with their end of the connection, if it is in this process.
+fn units_part(
+    alloc: Global,
+    rows: &[SettingsRow],
+    stream: Option<TcpStream>,
+) -> Result<Option<UnitsPart>, AllocError> {
+    let Some(stream) = stream else {
+        return Ok(None);
+    };
+    let units = units_of(alloc, rows)?;
+    Ok(Some(UnitsPart { units, stream }))
+}
+
 // Combines what serves one port.
 fn served_port<L: Ledger, M: Ledger, K: Rings>(
     alloc: Global,
@@ -46,14 +60,13 @@ fn served_port<L: Ledger, M: Ledger, K: Rings>(
     sink: PortSink<K>,
     link: Link,
 ) -> Result<Served<L, M, K>, AllocError> {
-    let units = units_of(alloc, rows)?;
     let Link {
         port: stream,
         units: far,
     } = link;
     Ok(Served {
+        units: units_part(alloc, rows, far)?,
         worker: WorkerPart { seat, sink, stream },
-        units: UnitsPart { units, stream: far },
     })
 }
 

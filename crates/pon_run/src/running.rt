@@ -1,13 +1,15 @@
-//! The threads of a run, two for each port and one for the recorder: started and joined.
+//! The threads of a run: for each port its worker and its units, if they are in this process, the recorder's, and that of
+//! the progress, if it is printed; started and joined.
 
 use crate::context::RunContext;
+use crate::progress::print_progress;
 use crate::thread::{UnitsPart, Worked, WorkerPart, answer, work};
 use pon_desk::Desk;
 use pon_device::{DevWrite, DeviceFault};
 use pon_link::UnitsFault;
 use pon_recorder::{Recording, Rings};
 use pon_worker::Gate;
-use std::alloc::Global;
+use std::alloc::{AllocError, Global};
 use std::sync::Wait;
 use std::sync::atomic::{AtomicBool, Ordering};
 use std::sync::ledger::Ledger;
@@ -15,11 +17,11 @@ use std::thread;
 use std::thread::{JoinHandle, Scope, Threads};
 use std::time::Clock;
 
-/// What serves one port: its worker, and its units.
+/// What serves one port: its worker, and its units, if they are in this process.
 #[derive(Drop)]
 pub(crate) struct Served<L: Ledger, M: Ledger, K: Rings> {
     pub(crate) worker: WorkerPart<L, M, K>,
-    pub(crate) units: UnitsPart,
+    pub(crate) units: Option<UnitsPart>,
 }
 
 /// What serves each port of a run, in order, and the recording of their chapters, if there is one.
@@ -29,18 +31,20 @@ pub(crate) struct PortsServed<L: Ledger, M: Ledger, K: Rings, W> {
     pub(crate) recording: Option<Recording<K, W>>,
 }
 
-/// The two threads of a port.
+/// The threads of a port: its worker's, and that of its units, if they are in this process.
 #[derive(Drop)]
 struct Running<L: Ledger, M: Ledger, K: Rings> {
     worker: JoinHandle<Worked<L, M, K>>,
-    units: JoinHandle<Result<(), UnitsFault>>,
+    units: Option<JoinHandle<Result<(), UnitsFault>>>,
 }
 
-/// The threads of a run: those of each port, in order, and the recorder's, if there is a recording.
+/// The threads of a run: those of each port, in order, the recorder's, if there is a recording, and that of the progress, if
+/// it is printed.
 #[derive(Drop)]
 struct RunThreads<L: Ledger, M: Ledger, K: Rings, W> {
     ports: Vec<Running<L, M, K>>,
     recorder: Option<JoinHandle<Recording<K, W>>>,
+    progress: Option<JoinHandle<Result<(), AllocError>>>,
 }
 
 /// The results of a run's threads.
@@ -54,29 +58,28 @@ pub(crate) struct Results<L: Ledger, M: Ledger, K: Rings, W> {
     pub(crate) operated: Result<(), DeviceFault>,
 }
 
-/// The flags that stop the threads of a run.
+/// The flags that stop the threads of a run: the workers, and those that serve them until they have ended.
 #[derive(Drop)]
 struct Stops {
     workers: AtomicBool,
-    recorder: AtomicBool,
+    others: AtomicBool,
 }
 
 impl Stops {
     fn new() -> Self {
         Stops {
             workers: AtomicBool::new(false),
-            recorder: AtomicBool::new(false),
+            others: AtomicBool::new(false),
         }
     }
 
     fn set_both(&self) {
         self.workers.store(true, Ordering::SeqCst);
-        self.recorder.store(true, Ordering::SeqCst);
+        self.others.store(true, Ordering::SeqCst);
     }
 }
 
-// Starts the threads of a port. `None` if one of the two cannot be created; the other then finds its connection closed,
-// and ends.
+// Starts the threads of a port. `None` if one cannot be created; the other then finds its connection closed, and ends.
 fn start<'s, E, L, M, K, G, R>(
     scope: &Scope<'s, E>,
     run: &'s RunContext<'s, G, R>,
@@ -89,11 +92,14 @@ where
     M: Ledger + Send + Sync,
     K: Rings + Send + Sync + 's,
     G: Gate + Sync,
-    R: Wait + Sync,
+    R: Wait + Clock + Sync,
 {
     let Served { worker, units } = served;
     let alloc = run.alloc;
-    let units = scope.spawn(move || answer(alloc, units)).ok()?;
+    let units = match units {
+        Some(units) => Some(scope.spawn(move || answer(alloc, units)).ok()?),
+        None => None,
+    };
     let worker = scope.spawn(move || work(run, desk, worker, stop)).ok()?;
     Some(Running { worker, units })
 }
@@ -111,7 +117,7 @@ where
     M: Ledger + Send + Sync,
     K: Rings + Send + Sync + 's,
     G: Gate + Sync,
-    R: Wait + Sync,
+    R: Wait + Clock + Sync,
 {
     let Ok(mut running) = Vec::with_capacity(run.alloc, all.len()) else {
         return Err(DeviceFault::Memory);
@@ -137,7 +143,7 @@ fn join_all<L: Ledger, M: Ledger, K: Rings, R: Threads>(
         return Err(DeviceFault::Memory);
     };
     for Running { worker, units } in running {
-        let _answered = units.join(rt);
+        let _answered = units.map(|units| units.join(rt));
         if all.push(worker.join(rt)).is_err() {
             return Err(DeviceFault::Memory);
         }
@@ -145,22 +151,42 @@ fn join_all<L: Ledger, M: Ledger, K: Rings, R: Threads>(
     Ok(all)
 }
 
-// Starts the recorder's thread, if there is a recording. Returns `Memory` if it cannot be created.
-fn start_recorder<'s, E, K, W, R>(
+// Starts the thread that prints the progress, if that is wanted. Returns `Memory` if it cannot be created.
+fn start_progress<'s, E, G, R>(
     scope: &Scope<'s, E>,
-    rt: &'s R,
+    run: &'s RunContext<'s, G, R>,
+    stop: &'s AtomicBool,
+) -> Result<Option<JoinHandle<Result<(), AllocError>>>, DeviceFault>
+where
+    G: Gate + Sync,
+    R: Clock + Eprint + Sync,
+{
+    if !run.args.progress {
+        return Ok(None);
+    }
+    match scope.spawn(move || print_progress(run.rt, run.alloc, run.watch, stop)) {
+        Ok(thread) => Ok(Some(thread)),
+        Err(_) => Err(DeviceFault::Memory),
+    }
+}
+
+// Starts the recorder's thread, if there is a recording. Returns `Memory` if it cannot be created.
+fn start_recorder<'s, E, K, G, W, R>(
+    scope: &Scope<'s, E>,
+    run: &'s RunContext<'s, G, R>,
     recording: Option<Recording<K, W>>,
     stop: &'s AtomicBool,
 ) -> Result<Option<JoinHandle<Recording<K, W>>>, DeviceFault>
 where
     K: Rings + Send + Sync + 's,
+    G: Gate + Sync,
     W: DevWrite + Drop + Send + 's,
     R: Wait + Clock + Sync,
 {
     let Some(recording) = recording else {
         return Ok(None);
     };
-    match scope.spawn(move || recording.run(rt, stop)) {
+    match scope.spawn(move || recording.run(run.rt, stop, run.watch)) {
         Ok(thread) => Ok(Some(thread)),
         Err(_) => Err(DeviceFault::Memory),
     }
@@ -180,30 +206,34 @@ where
     K: Rings + Send + Sync + 's,
     G: Gate + Sync,
     W: DevWrite + Drop + Send + 's,
-    R: Wait + Clock + Sync,
+    R: Wait + Clock + Eprint + Sync,
 {
     let PortsServed { all, recording } = ports;
-    let recorder = start_recorder(scope, run.rt, recording, &stops.recorder)?;
-    match start_all(scope, run, desk, all, &stops.workers) {
-        Ok(ports) => Ok(RunThreads { ports, recorder }),
-        Err(fault) => {
-            stops.set_both();
-            Err(fault)
-        }
-    }
+    let recorder = start_recorder(scope, run, recording, &stops.others)?;
+    let progress = start_progress(scope, run, &stops.others)?;
+    let ports = start_all(scope, run, desk, all, &stops.workers)?;
+    Ok(RunThreads {
+        ports,
+        recorder,
+        progress,
+    })
 }
 
-// Waits for the threads of all ports to end, and then ends the recorder. Returns their results, with how the operator
-// ended.
+// Waits for the threads of all ports to end, and then ends the others. Returns their results, with how the operator ended.
 fn end_threads<L: Ledger, M: Ledger, K: Rings, G: Gate, W: Drop, R: Threads>(
     run: &RunContext<'_, G, R>,
     threads: RunThreads<L, M, K, W>,
     stops: &Stops,
     operated: Result<(), DeviceFault>,
 ) -> Result<Results<L, M, K, W>, DeviceFault> {
-    let RunThreads { ports, recorder } = threads;
+    let RunThreads {
+        ports,
+        recorder,
+        progress,
+    } = threads;
     let worked = join_all(run.rt, run.alloc, ports);
-    stops.recorder.store(true, Ordering::SeqCst);
+    stops.others.store(true, Ordering::SeqCst);
+    let _printed = progress.map(|thread| thread.join(run.rt));
     let recording = match recorder {
         None => None,
         Some(thread) => Some(thread.join(run.rt)),
@@ -231,7 +261,7 @@ where
     K: Rings + Send + Sync,
     G: Gate + Sync,
     W: DevWrite + Drop + Send,
-    R: Wait + Threads + Clock + Sync,
+    R: Wait + Threads + Clock + Eprint + Sync,
     O: FnOnce() -> Result<(), DeviceFault>,
     requires { O.pre meanwhile }
 {
@@ -243,7 +273,13 @@ where
         move |scope| -> Result<Results<L, M, K, W>, DeviceFault>
             requires { O.pre meanwhile }
         {
-            let threads = start_threads(scope, run, desk, ports, flags)?;
+            let threads = match start_threads(scope, run, desk, ports, flags) {
+                Ok(threads) => threads,
+                Err(fault) => {
+                    flags.set_both();
+                    return Err(fault);
+                }
+            };
             let operated = meanwhile();
             end_threads(run, threads, flags, operated)
         },

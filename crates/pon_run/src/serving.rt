@@ -9,12 +9,12 @@ ghost use Rattle.pon_run.specs.Runs.{EndsDone, TellsWorked};
 use crate::arguments::RunArgs;
 use crate::context::RunContext;
 use crate::ending::tell;
-use crate::files::open_lines;
 use crate::opening::{Opened, RunParts, open_desk, open_parts, split_rings};
-use crate::operator::answer_lines;
+use crate::operator::{OpenedLines, answer, open_operator};
 use crate::ports::{OTHER_SEATS, admit_rows, served_ports};
 use crate::recording_file::RunTape;
 use crate::running::{PortsServed, Results, serve_all};
+use crate::watch::RunWatch;
 use pon_desk::{Desk, Seat};
 use pon_device::{DevWrite, DeviceFault};
 use pon_job::{Failure, exit_status, outcome_of_ports};
@@ -40,7 +40,7 @@ fn serve<L, M, K, G, F, W, R>(
     desk: &Desk<L, M>,
     ports: PortsServed<L, M, K, RunTape<F>>,
     operator: &mut Seat<L, M>,
-    lines: Option<F>,
+    lines: Option<OpenedLines<F>>,
     writer: &mut W,
 ) -> Result<Results<L, M, K, RunTape<F>>, DeviceFault>
 where
@@ -50,14 +50,14 @@ where
     G: Gate + Sync,
     F: Read + Write + OpenFile + Drop + Send,
     W: DevWrite,
-    R: Wait + Threads + Clock + Sync,
+    R: Input + Net + Eprint + Wait + Threads + Clock + Sync,
     ensures quiet { IsNone lines → W.contents writer.new ≡ W.contents writer.old }
     ensures failures { IsNone lines → W.failures writer.new ≡ W.failures writer.old }
 {
     match lines {
         None => serve_all(run, desk, ports, || Ok(())),
-        Some(file) => serve_all(run, desk, ports, || {
-            answer_lines(run.rt, run.alloc, desk, operator, file, writer)
+        Some(lines) => serve_all(run, desk, ports, || {
+            answer(run, desk, operator, lines, writer)
         }),
     }
 }
@@ -155,7 +155,7 @@ fn run_desk<L, M, K, G, F, W, R>(
     desk: Desk<L, M>,
     mut seats: Vec<Seat<L, M>>,
     parts: RunParts<K, F>,
-    lines: Option<F>,
+    lines: Option<OpenedLines<F>>,
     writer: &mut W,
 ) -> Result<bool, Failure>
 where
@@ -165,7 +165,7 @@ where
     G: Gate + Sync,
     F: Read + Write + OpenFile + Drop + Send,
     W: DevWrite,
-    R: Files + Eprint + Wait + Threads + Clock + Sync,
+    R: Files + Input + Eprint + Net + Wait + Threads + Clock + Sync,
     requires { OTHER_SEATS ≤ vec_len seats }
     ensures { IfOk result (λ done. done ≡ true → EndsDone desk.ports run.now.args.settle (IsNone lines)
         (W.contents writer.old) (W.contents writer.new)) }
@@ -185,7 +185,7 @@ fn run_at<L, M, K, G, F, W, R>(
     of_ports: Blank,
     of_seats: Blank,
     opened: Opened<F>,
-    lines: Option<F>,
+    lines: Option<OpenedLines<F>>,
     writer: &mut W,
 ) -> Result<bool, Failure>
 where
@@ -195,7 +195,7 @@ where
     G: Gate + Sync,
     F: Read + Write + OpenFile + Drop + Send,
     W: DevWrite,
-    R: Files + Eprint + Wait + Threads + Clock + Sync,
+    R: Files + Input + Eprint + Net + Wait + Threads + Clock + Sync,
     requires ports { (of_ports.name ≡ L.name) × (of_ports.parts ≡ L.parts)
         × (L.parts ≡ length run.now.settings.now) }
     requires seats { (of_seats.name ≡ M.name) × (of_seats.parts ≡ M.parts)
@@ -216,6 +216,7 @@ where
     W: DevWrite,
     R: Net<Listener = TcpListener, Stream = TcpStream>
         + Files
+        + Input
         + Eprint
         + Threads
         + Wait
@@ -226,10 +227,7 @@ where
         run.now.args.settle (IsNone run.now.args.operate)
         (W.contents writer.old) (W.contents writer.new)) }
 {
-    let lines = match run.args.operate {
-        None => None,
-        Some(name) => Some(open_lines(run.rt, run.alloc, name)?),
-    };
+    let lines = open_operator(run)?;
     let opened = open_parts(run)?;
     let ports = run.settings.ports().len();
     run_at::<Brand, Brand, Brand, G, R::File, W, R>(
@@ -259,9 +257,11 @@ fn status_of(rt: &impl Eprint, ended: Result<bool, Failure>) -> u8
 /// Runs the ports of the settings.
 ///
 /// Opens the operator's file, creates the part of the recording's file, listens on the address, opens a connection for each
-/// port, and admits the rows of the settings. Then each port makes `maps` maps for its simulated units, which answer
-/// over the connection, while the operator's lines are executed. At the end the chapter of each port is recorded, the part
-/// of a whole recording gets the name of its file, and a line about each port is written. The gate may hold workers back.
+/// port, and admits the rows of the settings. Then each port makes `maps` maps for its units, which answer over the
+/// connection, while the operator's lines are executed; those of standard input end when the workers have ended. The units are
+/// simulated in this process, or come from elsewhere, each port's by a connection to an address of its own. At the end the
+/// chapter of each port is recorded, the part of a whole recording gets the name of its file, and a line about each port is
+/// written. The gate may hold workers back.
 ///
 /// Returns the exit status: 0 if each worker made all its turns, all the operator's lines were executed and the
 /// recording is whole; otherwise 3. Standard error has a text if a device failed or memory was refused: `olt: read
@@ -283,10 +283,11 @@ where
     W: DevWrite,
     R: Net<Listener = TcpListener, Stream = TcpStream>
         + Files
+        + Input
+        + Eprint
         + Threads
         + Wait
         + Clock
-        + Eprint
         + Sync,
     R::File: Send,
     ensures status { (result ≡ 0) ⊎ (result ≡ 3) }
@@ -294,7 +295,10 @@ where
     ensures lines { result ≡ 0 → EndsDone (length settings) args.entry.settle (IsNone args.entry.operate)
         (W.contents writer.old) (W.contents writer.new) }
 {
-    let run = RunContext::new(rt, alloc, &settings, args, gate);
+    let Ok(watch) = RunWatch::open(alloc, settings.ports().len()) else {
+        return status_of(rt, Err(Failure::from(DeviceFault::Memory)));
+    };
+    let run = RunContext::new(rt, alloc, &settings, args, gate, &watch);
     let ended = open_and_run(&run, writer);
     status_of(rt, ended)
 }

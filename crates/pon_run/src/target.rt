@@ -112,7 +112,7 @@ fn check_not_read<R: Files>(
         return Ok(());
     };
     let settings = path_of_source(rt, alloc, args.config)?;
-    let lines = path_of_source(rt, alloc, args.operate)?;
+    let lines = path_of_source(rt, alloc, args.lines_file())?;
     match source_at(path.as_str(), &settings, &lines) {
         Some(source) => Err(refused(format!(in alloc; "{shown} is {source}"))),
         None => Ok(()),

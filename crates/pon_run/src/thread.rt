@@ -1,7 +1,7 @@
 //! The two threads of a port: one runs its worker, the other its units.
 
 use crate::context::RunContext;
-use crate::pace::UntilStopped;
+use crate::pace::RunPace;
 use pon_desk::{Desk, Seat};
 use pon_device::{StdRead, StdWrite};
 use pon_link::{Unit, UnitsFault, serve_units};
@@ -13,6 +13,7 @@ use std::net::TcpStream;
 use std::sync::Wait;
 use std::sync::atomic::AtomicBool;
 use std::sync::ledger::Ledger;
+use std::time::Clock;
 
 /// What the worker of a port needs: its own seat, the sink of the port, which has its number, and its end of the
 /// connection.
@@ -40,13 +41,13 @@ pub(crate) struct Worked<L: Ledger, M: Ledger, K: Rings> {
 }
 
 // Serves a port over its end of a connection.
-fn serve<L: Ledger, M: Ledger, K: Rings, G: Gate, R: Wait>(
+fn serve<L: Ledger, M: Ledger, K: Rings, G: Gate, R: Wait + Clock>(
     run: &RunContext<'_, G, R>,
     desk: &Desk<L, M>,
     part: &mut WorkerPart<L, M, K>,
     stop: &AtomicBool,
 ) -> Result<WorkerEnd, AllocError> {
-    let mut pace = UntilStopped::new(run.args.maps, stop);
+    let mut pace = RunPace::new(run, part.sink.port, stop);
     let Ok(input) = BufReader::new(run.alloc, &part.stream) else {
         return Err(AllocError);
     };
@@ -66,13 +67,14 @@ fn serve<L: Ledger, M: Ledger, K: Rings, G: Gate, R: Wait>(
 }
 
 /// Runs the worker of a port, and closes its end of the connection.
-pub(crate) fn work<L: Ledger, M: Ledger, K: Rings, G: Gate, R: Wait>(
+pub(crate) fn work<L: Ledger, M: Ledger, K: Rings, G: Gate, R: Wait + Clock>(
     run: &RunContext<'_, G, R>,
     desk: &Desk<L, M>,
     mut part: WorkerPart<L, M, K>,
     stop: &AtomicBool,
 ) -> Worked<L, M, K> {
     let end = serve(run, desk, &mut part, stop);
+    run.watch.end_worker();
     let WorkerPart { seat, sink, .. } = part;
     Worked { seat, sink, end }
 }

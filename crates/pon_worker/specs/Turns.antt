@@ -22,6 +22,7 @@ use Rattle.pon_link.specs.Reading.{ReaderState}
 use Rattle.pon_worker.specs.Records.{CountsRecords, FailsInRow, HasRead, StopsFor, is_garbled, is_nobodys}
 use Rattle.pon_worker.specs.declared.causes.TheConstants.{WRITE_FAILED}
 use Rattle.pon_worker.specs.declared.counts.Counts.{Counts}
+use Rattle.pon_worker.specs.declared.counts.SoFar.{SoFar}
 use Rattle.pon_worker.specs.declared.counts.StopReason.{StopReason}
 use Rattle.pon_worker.specs.declared.counts.StopReason.TheVariants.{Finished, Gave, GateLimit, Refused}
 use Rattle.pon_worker.specs.declared.counts.WorkerEnd.{WorkerEnd}
@@ -228,6 +229,10 @@ pub record PostsAt (port others : ℕ) (seat_old seat_new : SeatState) (old new 
 -- all counts 0
 abbrev pub no_counts : Counts
 no_counts = record { maps = 0; reports = 0; garbled = 0; refused = 0 }
+
+-- what a worker with these counts did so far, if its sink dropped this number of chapters
+abbrev pub so_far : Counts → ℕ → SoFar
+so_far counts dropped = record { maps = counts.maps; reports = counts.reports; garbled = counts.garbled; refused = counts.refused; dropped = dropped }
 
 -- the counts of a worker that ended
 abbrev pub counts_of : WorkerEnd → Counts

@@ -32,6 +32,21 @@ pub struct WorkerEnd {
     pub why: StopReason,
 }
 
+/// What a worker did so far, for who watches it. `garbled`, `refused` and `dropped` stay at 2^64 - 1 once they reach it.
+#[derive(Clone, Copy, Debug, PartialEq, Eq)]
+pub struct SoFar {
+    /// The number of maps that its port made for it.
+    pub maps: u64,
+    /// The number of reports that its port took.
+    pub reports: u64,
+    /// The number of records without a sender, which it dropped.
+    pub garbled: u64,
+    /// The number of reports that its port refused.
+    pub refused: u64,
+    /// The number of chapters that its sink dropped.
+    pub dropped: u64,
+}
+
 /// The greatest value of a count.
 pub(crate) const MAX_COUNT: u64 = u64::MAX;
 
@@ -53,7 +68,7 @@ pub(crate) fn count(number: u64) -> u64
 
 impl Counts {
     ghost use Rattle.pon_worker.specs.Records.{after_report};
-    ghost use Rattle.pon_worker.specs.Turns.{counts_of, no_counts};
+    ghost use Rattle.pon_worker.specs.Turns.{counts_of, no_counts, so_far};
     ghost use Rattle.std.specs.Prelude.{◌≡◌, ◌≢◌, ◌+◌, ◌<◌, ◌≤◌, ◌^◌, MatchBool, OnOk};
 
     // Returns counts of 0.
@@ -96,6 +111,19 @@ impl Counts {
                 }
                 true
             }
+        }
+    }
+
+    // Returns what a worker with these counts did so far, if its sink dropped this number of chapters.
+    pub(crate) fn so_far(&self, dropped: u64) -> SoFar
+        ensures { result ≡ so_far self.now dropped }
+    {
+        SoFar {
+            maps: self.maps,
+            reports: self.reports,
+            garbled: self.garbled,
+            refused: self.refused,
+            dropped,
         }
     }
 

@@ -1,5 +1,6 @@
 ghost use Rattle.std.specs.Prelude.{◌≡◌, ◌+◌, true, MatchBool};
 
+use crate::counts::SoFar;
 use pon_units::PortNo;
 use std::marker::Model;
 
@@ -32,8 +33,8 @@ impl Gate for OpenGate {
 
 /// Gives a worker its turns.
 pub trait Pace {
-    /// Returns whether the worker makes another turn.
-    fn next(&mut self) -> bool;
+    /// Returns whether the worker makes another turn, after what it did so far.
+    fn next(&mut self, so_far: &SoFar) -> bool;
 }
 
 /// A number of turns. Contracts see the number of turns that are left.
@@ -62,7 +63,7 @@ impl Turns {
 }
 
 impl Pace for Turns {
-    fn next(&mut self) -> bool
+    fn next(&mut self, _so_far: &SoFar) -> bool
         ensures { MatchBool result (self.old ≡ self.new + 1) ((self.old ≡ 0) × (self.new ≡ 0)) }
     {
         let more = self.left > 0;

@@ -16,7 +16,7 @@ mod serving;
 mod turn;
 mod work;
 
-pub use counts::{StopReason, WorkerEnd};
+pub use counts::{SoFar, StopReason, WorkerEnd};
 pub use gate::{Gate, OpenGate, Pace, Point, Turns};
 pub use pon_ring::Sink;
 pub use serving::serve_port;

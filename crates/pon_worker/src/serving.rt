@@ -36,7 +36,8 @@ fn make_turns<L: Ledger, M: Ledger, G: Gate, P: Pace, R: DevRead, W: DevWrite, T
 {
     let mut work = Work::new();
     for _ in served.rt.forever() {
-        if !pace.next() {
+        let so_far = work.counts.so_far(sink.dropped());
+        if !pace.next(&so_far) {
             return work.counts.end(StopReason::Finished);
         }
         match turn(served, seat, sink, &mut work, reader, writer) {

@@ -1,8 +1,8 @@
-use Rattle.std.proofs.Common.{◌∙◌, refl, sym, codes}
+use Rattle.std.proofs.Common.{◌∙◌, refl, rules, sym, codes}
 use Rattle.clap.specs.Matches.{found_of}
 use Rattle.clap.specs.Walk.{rows_of}
 use Rattle.clap.proofs.WalkLemmas.{first_value-rows}
-use Rattle.pon_job.proofs.Runs.{without_address, without_settings}
+use Rattle.pon_job.proofs.Runs.{without_address, without_meeting, without_settings}
 use Rattle.pon_job.proofs.arguments.run_of.Goals as goal
 
 pub returns-in_err-config-clause-none : goal.returns-in_err-config-clause-none
@@ -13,6 +13,11 @@ returns-in_err-config-clause-none c =
 pub returns-in_err-listen-clause-none : goal.returns-in_err-listen-clause-none
 returns-in_err-listen-clause-none c =
     let none = without_address (rows_of (found_of c.args.found.now)) (c.in_err-listen.ensures ∙ first_value-rows (found_of c.args.found.now) (codes "listen")) in
+    λ _. none
+
+pub returns-in_err-meeting-clause-none : goal.returns-in_err-meeting-clause-none
+returns-in_err-meeting-clause-none c =
+    let none = without_meeting (rows_of (found_of c.args.found.now)) (c.in_err-meeting.ensures.none (search rules)) in
     λ _. none
 
 pub returns-clause-some : goal.returns-clause-some
@@ -27,5 +32,8 @@ returns-clause-some c =
         operator = sym (c.get_str-operate.ensures ∙ first_value-rows f (codes "operate"));
         keeps = c.is_given-no_clobber.ensures;
         settles = c.is_given-settle.ensures;
+        meets = c.in_ok-meeting.ensures.some;
+        follows = c.is_given-progress.ensures;
+        sums = c.is_given-summary.ensures;
       },
     )

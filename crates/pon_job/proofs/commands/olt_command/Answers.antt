@@ -13,4 +13,5 @@ returns c =
     let eight = with_sub _ _ _ _ _ seven c.in_ok-picture_command.ensures c.in_ok-subcommand-8.ensures in
     let nine = with_sub _ _ _ _ _ eight c.in_ok-loads_command.ensures c.in_ok-subcommand-9.ensures in
     let ten = with_sub _ _ _ _ _ nine c.in_ok-migrate_command.ensures c.in_ok-subcommand-10.ensures in
-    with_last_sub _ _ _ _ _ ten c.in_ok-run_command.ensures c.subcommand-11.ensures
+    let eleven = with_sub _ _ _ _ _ ten c.in_ok-run_command.ensures c.in_ok-subcommand-11.ensures in
+    with_last_sub _ _ _ _ _ eleven c.in_ok-units_command.ensures c.subcommand-12.ensures

@@ -1,0 +1,67 @@
+//! A run whose units are elsewhere: another thread, which connects to the address of the port.
+
+use crate::running::{args, ended_with, ran, read, text};
+use pon_run::{RunArgs, UnitsArgs, UnitsPlace, run_units};
+use pon_units::PortNo;
+use pon_worker::OpenGate;
+use std::alloc::Global;
+use std::net::{Net, TcpListener, TcpStream};
+use std::process::Abort;
+use std::sync::Wait;
+use std::thread::Threads;
+use std::time::{Clock, Duration};
+use std::{io, thread};
+
+/// How long each side waits for the other, in seconds.
+const WAIT_SECONDS: u64 = 10;
+
+// Returns an address with a TCP port that is free.
+fn free_address<R>(rt: &R, alloc: Global) -> io::Result<String>
+where
+    R: Net<Listener = TcpListener, Stream = TcpStream>,
+{
+    let listener = TcpListener::bind(rt, "127.0.0.1:0")?;
+    let at = listener.local_addr()?;
+    Ok(format!(in alloc; "{at}")?)
+}
+
+// Simulates the units of a port, or of all. Returns the exit status.
+fn connected<R>(rt: &R, alloc: Global, address: &str, port: Option<PortNo>) -> u8
+where
+    R: Net<Listener = TcpListener, Stream = TcpStream> + Threads + Wait + Clock + Eprint + Abort,
+{
+    let settings = read(rt, alloc, text(rt, alloc, 1).as_str());
+    let wait = Duration::from_secs(WAIT_SECONDS);
+    let args = UnitsArgs {
+        connect: address,
+        port,
+        wait,
+    };
+    run_units(rt, alloc, &settings, &args)
+}
+
+#[test]
+fn serves_units_elsewhere(rt: HostRuntime) {
+    let rt = &rt;
+    let alloc = rt.alloc();
+    let address = free_address(rt, alloc).ok().expect(rt, "a free address");
+    let address = address.as_str();
+    let wait = Duration::from_secs(WAIT_SECONDS);
+    let args = RunArgs {
+        listen: address,
+        units: UnitsPlace::Elsewhere { wait },
+        ..args(3)
+    };
+    let (run, units) = thread::join(
+        rt,
+        || ran(rt, alloc, 1, args, &OpenGate),
+        || connected(rt, alloc, address, PortNo::new(0)),
+    );
+    assert!(rt; units == 0);
+    assert!(rt; ended_with(run, 0, "port 0 maps 3 entries 7 reports 3 dropped 0\n"));
+}
+
+#[test]
+fn refuses_units_of_a_port_that_is_not_there(rt: HostRuntime) {
+    assert!(rt; connected(&rt, rt.alloc(), "127.0.0.1:1", PortNo::new(1)) == 3);
+}

@@ -1,0 +1,162 @@
+//! The connections of units outside this process: a listener for each port, which takes one connection.
+
+ghost use Rattle.std.specs.Prelude.{◌≡◌, IfOk};
+ghost use Rattle.std.specs.Vec.{vec_len};
+
+use crate::address::{address_of, begin, failed_at};
+use crate::link::{Link, next_connection};
+use pon_device::DeviceFault;
+use pon_job::{Failure, Named};
+use std::alloc::Global;
+use std::net::{Net, SocketAddr, TcpListener, TcpStream};
+use std::time::{Clock, Duration, Instant};
+use std::{io, thread};
+
+/// How long a port sleeps after it found no connection to accept, in milliseconds.
+const PAUSE_MILLISECONDS: u64 = 5;
+
+/// A port that listens for its units.
+#[derive(Drop)]
+struct Listening {
+    listener: TcpListener,
+    at: SocketAddr,
+}
+
+// Listens on an address, and says where.
+fn listen_on<R: Net<Listener = TcpListener, Stream = TcpStream> + Eprint>(
+    rt: &R,
+    at: SocketAddr,
+    port: usize,
+) -> io::Result<Listening> {
+    let listener = TcpListener::bind(rt, at)?;
+    listener.set_nonblocking(true)?;
+    let at = listener.local_addr()?;
+    let _ = eprintln!(rt; "olt: port {port} waits for its units at {at}");
+    Ok(Listening { listener, at })
+}
+
+// Listens for the units of this number of ports, from the address of port 0 on.
+fn listen_for_all<R: Net<Listener = TcpListener, Stream = TcpStream> + Eprint>(
+    rt: &R,
+    alloc: Global,
+    first: SocketAddr,
+    ports: usize,
+) -> Result<Vec<Listening>, Failure>
+    ensures { IfOk result (λ all. vec_len all ≡ ports) }
+{
+    let Ok(mut all) = Vec::with_capacity(alloc, ports) else {
+        return Err(Failure::from(DeviceFault::Memory));
+    };
+    for port in 0..ports {
+        let at = match address_of(first, port) {
+            Ok(at) => at,
+            Err(error) => return Err(failed_at(alloc, first, &error)),
+        };
+        let pushed = match listen_on(rt, at, port) {
+            Ok(listening) => all.push(listening),
+            Err(error) => return Err(failed_at(alloc, at, &error)),
+        };
+        if pushed.is_err() {
+            return Err(Failure::from(DeviceFault::Memory));
+        }
+    }
+    Ok(all)
+}
+
+// Accepts one connection, at the latest when this time has passed.
+fn accept_one<R: Clock>(
+    rt: &R,
+    listener: &TcpListener,
+    begun: Instant,
+    wait: Duration,
+) -> io::Result<TcpStream> {
+    for _look in 0..u64::MAX {
+        if let Some((stream, _peer)) = next_connection(listener)? {
+            return Ok(stream);
+        }
+        if begun.elapsed(rt)? >= wait {
+            break;
+        }
+        thread::sleep(rt, Duration::from_millis(PAUSE_MILLISECONDS));
+    }
+    Err(io::Error::other("no units connect to it"))
+}
+
+// Sets up the connection of a port: each read and write of it fails after this time.
+fn set_up(stream: TcpStream, wait: Duration) -> io::Result<Link> {
+    stream.set_nodelay(true)?;
+    stream.set_read_timeout(Some(wait))?;
+    stream.set_write_timeout(Some(wait))?;
+    Ok(Link {
+        port: stream,
+        units: None,
+    })
+}
+
+// Accepts the connection of a port, and stops listening.
+fn accept_link<R: Clock>(
+    rt: &R,
+    alloc: Global,
+    listening: Listening,
+    begun: Instant,
+    wait: Duration,
+) -> Result<Link, Failure> {
+    let Listening { listener, at } = listening;
+    let link = match accept_one(rt, &listener, begun, wait) {
+        Ok(stream) => set_up(stream, wait),
+        Err(error) => Err(error),
+    };
+    link.map_err(|error| failed_at(alloc, at, &error))
+}
+
+// Accepts the connection of each port.
+fn accept_all<R: Clock>(
+    rt: &R,
+    alloc: Global,
+    all: Vec<Listening>,
+    begun: Instant,
+    wait: Duration,
+) -> Result<Vec<Link>, Failure>
+    ensures { IfOk result (λ links. vec_len links ≡ vec_len all) }
+{
+    let Ok(mut links) = Vec::with_capacity(alloc, all.len()) else {
+        return Err(Failure::from(DeviceFault::Memory));
+    };
+    for listening in all {
+        let link = accept_link(rt, alloc, listening, begun, wait)?;
+        if links.push(link).is_err() {
+            return Err(Failure::from(DeviceFault::Memory));
+        }
+    }
+    Ok(links)
+}
+
+/// Listens for the units of each port, in order, says on standard error where, and accepts one connection for each; the
+/// listener of a port is closed once it has its connection, so that others are refused. Port 0 has the address, each further
+/// port the next TCP port, or each a free one if that of the address is 0. Each read and write of a connection fails if it
+/// lasts longer than `wait`.
+///
+/// Returns `Memory` if memory is refused, and `Read` if the address cannot be read, or that of a port not be bound or accepted
+/// on, also if a port has no connection when `wait` has passed.
+pub(crate) fn accept_links<R>(
+    rt: &R,
+    alloc: Global,
+    address: &str,
+    ports: usize,
+    wait: Duration,
+) -> Result<Vec<Link>, Failure>
+where
+    R: Net<Listener = TcpListener, Stream = TcpStream> + Clock + Eprint,
+    ensures { IfOk result (λ links. vec_len links ≡ ports) }
+{
+    match begin(rt, address) {
+        Ok((first, begun)) => {
+            let all = listen_for_all(rt, alloc, first, ports)?;
+            accept_all(rt, alloc, all, begun, wait)
+        }
+        Err(error) => {
+            let named = Named::Address(address);
+            Err(Failure::of(alloc, DeviceFault::Read, named, &error))
+        }
+    }
+}

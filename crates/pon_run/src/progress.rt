@@ -1,0 +1,67 @@
+//! The progress of a run, on standard error.
+
+use crate::watch::RunWatch;
+use pon_worker::WorkerEnd;
+use std::alloc::{AllocError, Global};
+use std::sync::atomic::{AtomicBool, Ordering};
+use std::thread;
+use std::time::{Clock, Duration};
+
+/// Number of looks at the end of the run in a second.
+const LOOKS: u64 = 20;
+
+/// Milliseconds between two looks.
+const LOOK_MILLISECONDS: u64 = 1_000 / LOOKS;
+
+// Sleeps for a second. Returns `false` if the flag is set meanwhile.
+fn next_second<R: Clock>(rt: &R, stop: &AtomicBool) -> bool {
+    for _look in 0..LOOKS {
+        if stop.load(Ordering::SeqCst) {
+            return false;
+        }
+        thread::sleep(rt, Duration::from_millis(LOOK_MILLISECONDS));
+    }
+    true
+}
+
+// Prints a line for each port, and keeps the number of its maps.
+fn print_second<R: Eprint>(rt: &R, watch: &RunWatch, second: u64, before: &mut [u64]) {
+    for (port, (seen, maps)) in watch.ports().iter().zip(before).enumerate() {
+        let now = seen.numbers();
+        let made = now.maps.saturating_sub(*maps);
+        *maps = now.maps;
+        let _ = eprintln!(rt;
+            "olt: {second} s port {port} maps {} ({made} in this second) reports {} refused {} garbled {} chapters {} dropped {}",
+            now.maps, now.reports, now.refused, now.garbled, now.recorded, now.dropped
+        );
+    }
+}
+
+/// Prints once a second a line for each port, with what it did so far, until the flag is set. `Err` only if memory is
+/// refused; then it prints nothing.
+pub(crate) fn print_progress<R: Clock + Eprint>(
+    rt: &R,
+    alloc: Global,
+    watch: &RunWatch,
+    stop: &AtomicBool,
+) -> Result<(), AllocError> {
+    let mut before = vec![in alloc; 0; watch.ports().len()]?;
+    for second in 1..u64::MAX {
+        if !next_second(rt, stop) {
+            break;
+        }
+        print_second(rt, watch, second, before.as_mut_slice());
+    }
+    Ok(())
+}
+
+/// Prints a line for each port with what the line about it does not say: refused and garbled reports, and the late maps.
+pub(crate) fn print_summary(rt: &impl Eprint, watch: &RunWatch, workers: &[WorkerEnd]) {
+    for (port, (seen, worker)) in watch.ports().iter().zip(workers).enumerate() {
+        let now = seen.numbers();
+        let _ = eprintln!(rt;
+            "olt: port {port} refused {} garbled {} late {} latest {} us",
+            worker.refused, worker.garbled, now.late, now.latest
+        );
+    }
+}

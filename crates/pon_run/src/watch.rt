@@ -1,0 +1,140 @@
+//! What is seen of the ports of a run while it lasts: numbers that its threads write and others read.
+
+use pon_recorder::ChapterWatch;
+use pon_units::PortNo;
+use pon_worker::SoFar;
+use std::alloc::{AllocError, Global};
+use std::sync::atomic::{AtomicU64, Ordering};
+use std::time::Duration;
+
+/// The numbers of one port. Each is read and written by itself, so that two of them may be of different moments.
+#[derive(Drop)]
+pub(crate) struct PortWatch {
+    maps: AtomicU64,
+    reports: AtomicU64,
+    garbled: AtomicU64,
+    refused: AtomicU64,
+    // The chapters that the sink dropped.
+    lost: AtomicU64,
+    // The chapters that the recorder took, and those of them that it dropped.
+    taken: AtomicU64,
+    dropped: AtomicU64,
+    // The maps that began late, and the microseconds of the latest.
+    late: AtomicU64,
+    latest: AtomicU64,
+}
+
+/// The numbers of one port at a moment.
+#[derive(Clone, Copy, Debug, PartialEq, Eq)]
+pub(crate) struct PortNumbers {
+    pub(crate) maps: u64,
+    pub(crate) reports: u64,
+    pub(crate) garbled: u64,
+    pub(crate) refused: u64,
+    /// The chapters that were recorded.
+    pub(crate) recorded: u64,
+    /// The chapters that were dropped.
+    pub(crate) dropped: u64,
+    /// The maps that began late.
+    pub(crate) late: u64,
+    /// How late the latest map began, in microseconds.
+    pub(crate) latest: u64,
+}
+
+impl PortWatch {
+    fn new() -> Self {
+        PortWatch {
+            maps: AtomicU64::new(0),
+            reports: AtomicU64::new(0),
+            garbled: AtomicU64::new(0),
+            refused: AtomicU64::new(0),
+            lost: AtomicU64::new(0),
+            taken: AtomicU64::new(0),
+            dropped: AtomicU64::new(0),
+            late: AtomicU64::new(0),
+            latest: AtomicU64::new(0),
+        }
+    }
+
+    /// Notes what the worker of the port did so far.
+    pub(crate) fn see(&self, so_far: &SoFar) {
+        self.maps.store(so_far.maps, Ordering::Relaxed);
+        self.reports.store(so_far.reports, Ordering::Relaxed);
+        self.garbled.store(so_far.garbled, Ordering::Relaxed);
+        self.refused.store(so_far.refused, Ordering::Relaxed);
+        self.lost.store(so_far.dropped, Ordering::Relaxed);
+    }
+
+    /// Notes that a map began so late.
+    pub(crate) fn see_late(&self, late: Duration) {
+        let microseconds = u64::try_from(late.as_micros()).unwrap_or(u64::MAX);
+        self.late.fetch_add(1, Ordering::Relaxed);
+        self.latest.fetch_max(microseconds, Ordering::Relaxed);
+    }
+
+    /// Returns the numbers as they are now.
+    pub(crate) fn numbers(&self) -> PortNumbers {
+        let taken = self.taken.load(Ordering::Relaxed);
+        let dropped = self.dropped.load(Ordering::Relaxed);
+        PortNumbers {
+            maps: self.maps.load(Ordering::Relaxed),
+            reports: self.reports.load(Ordering::Relaxed),
+            garbled: self.garbled.load(Ordering::Relaxed),
+            refused: self.refused.load(Ordering::Relaxed),
+            recorded: taken.saturating_sub(dropped),
+            dropped: dropped.saturating_add(self.lost.load(Ordering::Relaxed)),
+            late: self.late.load(Ordering::Relaxed),
+            latest: self.latest.load(Ordering::Relaxed),
+        }
+    }
+}
+
+/// What is seen of a run: the numbers of each port, in order, and the number of workers that have ended.
+#[derive(Drop)]
+pub(crate) struct RunWatch {
+    ports: Vec<PortWatch>,
+    ended: AtomicU64,
+}
+
+impl RunWatch {
+    /// Opens the watch of this number of ports. `Err` only if memory is refused.
+    pub(crate) fn open(alloc: Global, ports: usize) -> Result<Self, AllocError> {
+        let mut all = Vec::with_capacity(alloc, ports)?;
+        for _port in 0..ports {
+            all.push(PortWatch::new())?;
+        }
+        Ok(RunWatch {
+            ports: all,
+            ended: AtomicU64::new(0),
+        })
+    }
+
+    /// Returns the numbers of the ports, in order.
+    pub(crate) fn ports(&self) -> &[PortWatch] {
+        self.ports.as_slice()
+    }
+
+    /// Returns the numbers of a port.
+    pub(crate) fn port(&self, port: PortNo) -> Option<&PortWatch> {
+        self.ports.get(usize::from(port.get()))
+    }
+
+    /// Notes that a worker has ended.
+    pub(crate) fn end_worker(&self) {
+        self.ended.fetch_add(1, Ordering::SeqCst);
+    }
+
+    /// Returns whether the worker of each port has ended.
+    pub(crate) fn is_over(&self) -> bool {
+        self.ended.load(Ordering::SeqCst) >= self.ports.len() as u64
+    }
+}
+
+impl ChapterWatch for RunWatch {
+    fn took(&self, port: PortNo, dropped: u64) {
+        if let Some(seen) = self.port(port) {
+            seen.taken.fetch_add(1, Ordering::Relaxed);
+            seen.dropped.store(dropped, Ordering::Relaxed);
+        }
+    }
+}
