@@ -1,25 +1,22 @@
 //! The progress of a run, on standard error.
 
+use crate::timer::Timer;
 use crate::watch::RunWatch;
 use pon_worker::WorkerEnd;
 use std::alloc::{AllocError, Global};
 use std::sync::atomic::{AtomicBool, Ordering};
-use std::thread;
-use std::time::{Clock, Duration};
+use std::time::Clock;
 
-/// Number of looks at the end of the run in a second.
+/// Number of looks in a second whether the run has ended.
 const LOOKS: u64 = 20;
 
-/// Milliseconds between two looks.
-const LOOK_MILLISECONDS: u64 = 1_000 / LOOKS;
-
-// Sleeps for a second. Returns `false` if the flag is set meanwhile.
-fn next_second<R: Clock>(rt: &R, stop: &AtomicBool) -> bool {
+// Sleeps until the next second. Returns `false` if the flag is set meanwhile.
+fn next_second<R: Clock>(looks: &mut Timer<'_, R>, stop: &AtomicBool) -> bool {
     for _look in 0..LOOKS {
         if stop.load(Ordering::SeqCst) {
             return false;
         }
-        thread::sleep(rt, Duration::from_millis(LOOK_MILLISECONDS));
+        let _late = looks.wait();
     }
     true
 }
@@ -46,8 +43,9 @@ pub(crate) fn print_progress<R: Clock + Eprint>(
     stop: &AtomicBool,
 ) -> Result<(), AllocError> {
     let mut before = vec![in alloc; 0; watch.ports().len()]?;
+    let mut looks = Timer::new(rt, LOOKS);
     for second in 1..u64::MAX {
-        if !next_second(rt, stop) {
+        if !next_second(&mut looks, stop) {
             break;
         }
         print_second(rt, watch, second, before.as_mut_slice());

@@ -1,4 +1,4 @@
-//! The times of the maps of a port, by the clock.
+//! Times at an even rate, by the clock: of the maps of a port, and of the looks at a run.
 
 use std::time::{Clock, Duration, Instant};
 use std::{io, thread};
@@ -6,7 +6,7 @@ use std::{io, thread};
 /// Nanoseconds of a second.
 const NANOSECONDS: u64 = 1_000_000_000;
 
-/// The times at which the turns of a worker begin: the same number in each second. A turn that begins late moves no other.
+/// The times at which turns begin: the same number in each second. A turn that begins late moves no other.
 #[derive(Drop)]
 pub(crate) struct Timer<'a, R> {
     rt: &'a R,
@@ -19,7 +19,7 @@ pub(crate) struct Timer<'a, R> {
 }
 
 impl<'a, R: Clock> Timer<'a, R> {
-    /// Makes the timer of a worker that begins this number of turns in each second, at least 1.
+    /// Makes the timer of this number of turns in each second, at least 1.
     pub(crate) fn new(rt: &'a R, rate: u64) -> Self {
         Timer {
             rt,
@@ -29,7 +29,7 @@ impl<'a, R: Clock> Timer<'a, R> {
         }
     }
 
-    // Returns how much of the time up to the turn of this number is over, or is left.
+    // Returns the time from the first turn to the one of this number.
     fn time_at(&self, turn: u64) -> Duration {
         Duration::from_nanos(turn.saturating_mul(NANOSECONDS) / self.rate.max(1))
     }
