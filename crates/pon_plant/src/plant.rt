@@ -170,6 +170,7 @@ impl Plant {
     pub fn into_ports(self) -> Vec<Port>
         ensures { result.items ≡ self }
     {
-        self.ports
+        let Plant { ports } = self;
+        ports
     }
 }
