@@ -28,4 +28,6 @@ mod units;
 
 pub use arguments::RunArgs;
 pub use part::{PartFile, Progress};
+pub use recording_file::{RecordingFile, RunTape, begin_recording, end_recording};
 pub use serving::run_ports;
+pub use target::RecordArgs;
