@@ -11,7 +11,7 @@ _olt() {
         words='plan run check audit info rates why dump picture loads migrate --help --version'
     else
         case $command in
-            plan) words='--config --strict --verbose --help' ;;
+            plan) words='--config --strict --verbose --record --no-clobber --help' ;;
             run) words='--config --listen --maps --record --no-clobber --operate --settle --help' ;;
             check | audit | info | rates | why | dump | picture | loads | migrate)
                 case $current in

@@ -1,20 +1,28 @@
 //! Recordings of management lines.
 
 use crate::audit::is_told;
+use pon_admit::Event;
+use pon_descr::Cause;
 use pon_device::{DeviceFault, MemRead, MemWrite};
-use pon_manage::{Notes, PlanEnd, plan, plan_recorded};
+use pon_manage::{Notes, PlanEnd, Step, plan, plan_recorded};
 use pon_plant::Plant;
 use pon_port::PortCfg;
 use pon_recorder::Recorder;
-use pon_units::{FrameNo, Gap, Profile};
+use pon_units::{FrameNo, Gap, PortNo, Profile};
 use std::alloc::Global;
 use std::process::Abort;
 
 // Bytes that a device takes or gives in a call.
 const PIECE: usize = 4096;
 
-// Maps of a port that fill a chapter, and some more.
-const MAPS: usize = 65_540;
+// Pairs of events that leave room for two more entries in a chapter.
+const PAIRS: usize = 32_767;
+
+// Lines at a port whose chapter has room for two entries: the third map turns it, and the index counts anew.
+const LAST_LINES: &[u8] = b"0 map\n0 map\n0 map\n0 fail 1\n1 fail 1\n0 cert\n";
+
+const LAST_TEXT: &[u8] =
+    b"map 0 00000000\nmap 1 00000000\nmap 2 00000000\nok 1\nok 0\ncert 2 na all - be all -\n";
 
 const LINES: &[u8] =
     b"0 admit 5 1024 2560 0 2560 none\n1 map\n0 map\n0 report 0 5 100\n0 report 0 5 100\n0 map\n1 polls\n1 map";
@@ -72,8 +80,15 @@ fn begin(rt: &impl Abort, alloc: Global, failing: &[u64]) -> Recorder<MemWrite> 
     Recorder::begin(alloc, tape).expect(rt, "a recorder")
 }
 
-// Answers lines at two ports and records them, with devices that fail at these calls.
-fn record(rt: &impl Abort, alloc: Global, lines: &[u8], writes: &[u64], tape: &[u64]) -> Given {
+// Answers lines at two ports after these steps and records them, with devices that fail at these calls.
+fn record(
+    rt: &impl Abort,
+    alloc: Global,
+    steps: Vec<Step>,
+    lines: &[u8],
+    writes: &[u64],
+    tape: &[u64],
+) -> Given {
     let mut reader = reader(rt, alloc, lines);
     let mut writer = writer(rt, alloc, writes);
     let mut notes = Refused { lines: 0 };
@@ -81,7 +96,7 @@ fn record(rt: &impl Abort, alloc: Global, lines: &[u8], writes: &[u64], tape: &[
     let planned = plan_recorded(
         alloc,
         &ports(rt),
-        Vec::new(alloc),
+        steps,
         &mut notes,
         recorder,
         &mut reader,
@@ -104,7 +119,7 @@ fn is_given(given: &Given, text: &[u8]) -> bool {
 #[test]
 fn records_what_lines_leave(rt: HostRuntime) {
     let alloc = rt.alloc();
-    let given = record(&rt, alloc, LINES, &[], &[]);
+    let given = record(&rt, alloc, Vec::new(alloc), LINES, &[], &[]);
     assert!(rt; is_given(&given, TEXT) && given.refused == 7);
     assert!(rt; is_told(&rt, alloc, given.recording.as_slice(), "good maps 4"));
 }
@@ -132,29 +147,32 @@ fn replies_as_without_a_recording(rt: HostRuntime) {
     assert!(rt; unrecorded(&rt, rt.alloc()).as_slice() == TEXT);
 }
 
-// Returns this number of maps of the first port, after one of the second.
-fn many_maps(rt: &impl Abort, alloc: Global) -> Vec<u8> {
-    let mut lines = Vec::from_slice(alloc, b"1 map\n").expect(rt, "memory");
-    for _map in 0..MAPS {
-        lines.extend_from_slice(b"0 map\n").expect(rt, "memory");
+// Makes the steps that fail the first port and restore it again and again, until its chapter is almost full.
+fn failures(rt: &impl Abort, alloc: Global) -> Vec<Step> {
+    let port = PortNo::at(0);
+    let cause = Cause::new(9).expect(rt, "a cause");
+    let mut steps = Vec::with_capacity(alloc, 2 * PAIRS).expect(rt, "memory");
+    for _pair in 0..PAIRS {
+        for event in [Event::Fail { cause }, Event::Restore] {
+            steps.push(Step { port, event }).expect(rt, "memory");
+        }
     }
-    lines
+    steps
 }
 
 #[test]
 fn turns_a_full_port(rt: HostRuntime) {
     let alloc = rt.alloc();
-    let lines = many_maps(&rt, alloc);
-    let given = record(&rt, alloc, lines.as_slice(), &[], &[]);
-    assert!(rt; given.lines == Ok(PlanEnd) && given.recorded == Ok(()) && given.refused == 0);
-    assert!(rt; given.text.ends_with(b"map 65539 00000000\n"));
-    assert!(rt; is_told(&rt, alloc, given.recording.as_slice(), "good maps 65541"));
+    let steps = failures(&rt, alloc);
+    let given = record(&rt, alloc, steps, LAST_LINES, &[], &[]);
+    assert!(rt; is_given(&given, LAST_TEXT) && given.refused == 0);
+    assert!(rt; is_told(&rt, alloc, given.recording.as_slice(), "good maps 3"));
 }
 
 #[test]
 fn records_also_if_no_reply_can_be_written(rt: HostRuntime) {
     let alloc = rt.alloc();
-    let given = record(&rt, alloc, LINES, &[0], &[]);
+    let given = record(&rt, alloc, Vec::new(alloc), LINES, &[0], &[]);
     assert!(rt; given.lines == Err(DeviceFault::Write) && given.recorded == Ok(()));
     assert!(rt; is_told(&rt, alloc, given.recording.as_slice(), "good maps 3"));
 }
@@ -162,7 +180,7 @@ fn records_also_if_no_reply_can_be_written(rt: HostRuntime) {
 #[test]
 fn answers_also_if_nothing_can_be_recorded(rt: HostRuntime) {
     let alloc = rt.alloc();
-    let given = record(&rt, alloc, LINES, &[], &[1, 2, 3]);
+    let given = record(&rt, alloc, Vec::new(alloc), LINES, &[], &[1, 2, 3]);
     assert!(rt; given.lines == Ok(PlanEnd) && given.recorded == Err(DeviceFault::Write));
     assert!(rt; given.text.as_slice() == TEXT);
     assert!(rt; is_told(&rt, alloc, given.recording.as_slice(), "good maps 0"));
