@@ -12,7 +12,7 @@ _olt() {
         words='plan run check audit info rates why dump picture loads migrate units --help --version'
     else
         case $command in
-            plan) words='--config --strict --verbose --help' ;;
+            plan) words='--config --strict --verbose --record --no-clobber --help' ;;
             run) words='--config --listen --maps --units --wait --pace --record --no-clobber --operate --settle --progress --summary --help' ;;
             units) words='--config --connect --port --wait --help' ;;
             check | audit | info | rates | why | dump | picture | loads | migrate)

@@ -4,7 +4,7 @@ ghost use Rattle.std.specs.Prelude.{◌≡◌};
 
 use crate::bench::{number, seat};
 use crate::desks::has_numbers;
-use crate::operating::{ALL, Answered, make_devices, with_text};
+use crate::operating::{ALL, Answered, Unnoted, make_devices, with_text};
 use pon_desk::{Desk, Seat};
 use pon_manage::{PlanEnd, operate, plan};
 use pon_port::PortCfg;
@@ -37,10 +37,10 @@ fn ports(rt: &impl Abort) -> [(PortCfg, FrameNo); 3] {
 fn at_plant(rt: &impl Abort, alloc: Global, input: &[u8]) -> Option<Answered> {
     let mut devices = make_devices(alloc, input, ALL, &[], &[])?;
     let told = plan(
-        &(),
         alloc,
         &ports(rt),
         Vec::new(alloc),
+        &mut Unnoted,
         &mut devices.reader,
         &mut devices.writer,
     );

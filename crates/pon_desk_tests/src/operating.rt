@@ -5,7 +5,8 @@ ghost use Rattle.std.specs.Prelude.{◌≡◌, ◌<◌};
 use crate::bench::{admission, cfg, number};
 use pon_desk::{Desk, Seat};
 use pon_device::{DeviceFault, MemRead, MemWrite};
-use pon_manage::{PlanEnd, Step, operate, plan};
+use pon_manage::{Notes, PlanEnd, Step, operate, plan};
+use pon_plant::Plant;
 use std::alloc::Global;
 use std::marker::Brand;
 use std::process::Abort;
@@ -14,6 +15,14 @@ use std::sync::ledger::{Blank, Ledger};
 
 // Maximum number of bytes that a device reads or writes in a call.
 pub(crate) const ALL: usize = 4096;
+
+// Notes no refusal.
+#[derive(Drop)]
+pub(crate) struct Unnoted;
+
+impl Notes for Unnoted {
+    fn note(&mut self, _number: u64, _plant: &Plant, _line: &[u8], _reply: &[u8]) {}
+}
 
 // Makes the steps that admit an Alloc-ID at the first `count` ports. `None` if memory is refused.
 fn admissions(rt: &impl Abort, alloc: Global, count: u8) -> Option<Vec<Step>> {
@@ -132,10 +141,10 @@ fn at_plant(
     let ports = [cfg(rt, 16, 0), cfg(rt, 16, 0)];
     let steps = admissions(rt, alloc, admitted)?;
     let told = plan(
-        &(),
         alloc,
         &ports,
         steps,
+        &mut Unnoted,
         &mut devices.reader,
         &mut devices.writer,
     );

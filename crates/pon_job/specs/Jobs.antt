@@ -70,7 +70,7 @@ listen_rule = record (option_rule (codes "listen")) { required = true }
 abbrev pub maps_rule : Rule
 maps_rule = record (number_rule (codes "maps") 1 MAX_MAPS) { required = true }
 
--- the file of a recording of `run`
+-- the file of a recording of `run` or `plan`
 abbrev pub record_rule : Rule
 record_rule = option_rule (codes "record")
 
@@ -105,7 +105,7 @@ summary_rule = flag_rule (codes "summary")
 abbrev pub settle_rule : Rule
 settle_rule = flag_rule (codes "settle")
 
--- the flag of `run` with which the file of a recording may not exist
+-- the flag of `run` and `plan` with which the file of a recording may not exist
 abbrev pub no_clobber_rule : Rule
 no_clobber_rule = flag_rule (codes "no-clobber")
 
@@ -150,7 +150,7 @@ abbrev pub shape_with : List ℕ → List Rule → Shape
 shape_with name rules = record (new_shape name) { rules = rules }
 
 abbrev pub plan_shape : Shape
-plan_shape = shape_with (codes "plan") (config_rule ∷ strict_rule ∷ verbose_rule ∷ [])
+plan_shape = shape_with (codes "plan") (config_rule ∷ strict_rule ∷ verbose_rule ∷ record_rule ∷ no_clobber_rule ∷ [])
 
 abbrev pub check_shape : Shape
 check_shape = shape_with (codes "check") (file_rule ∷ [])
@@ -285,6 +285,8 @@ pub record IsPlan (rows : List Row) (plan : PlanOf) : Type 0 where
   pub settings : first_of (codes "config") rows ≡ option_map (λ name. name.now) plan.config
   pub strict : HasFlag (codes "strict") rows plan.strict
   pub verbose : HasFlag (codes "verbose") rows plan.verbose
+  pub recording_file : first_of (codes "record") rows ≡ option_map (λ name. name.now) plan.record
+  pub keeps : HasFlag (codes "no-clobber") rows plan.no_clobber
 
 -- the units are external, or simulated, which they also are without a value
 abbrev pub IsPlace : Option (List ℕ) → Bool → Type 0

@@ -86,10 +86,14 @@ fn plan_of<'a>(found: &ArgMatches<'a>) -> Plan<'a>
     let settings = found.get_str("config");
     let strict = is_given(found, "strict");
     let verbose = is_given(found, "verbose");
+    let recording = found.get_str("record");
+    let keeps = is_given(found, "no-clobber");
     Plan {
         config: settings,
         strict,
         verbose,
+        record: recording,
+        no_clobber: keeps,
     }
 }
 

@@ -285,7 +285,13 @@ fn plan_command<'a>(alloc: Global) -> Result<Command<'a>, AllocError>
     let about = "Answer management lines from standard input";
     let args = Vec::from_array(
         alloc,
-        [config_arg(alloc), strict_arg(alloc), verbose_arg(alloc)],
+        [
+            config_arg(alloc),
+            strict_arg(alloc),
+            verbose_arg(alloc),
+            record_arg(alloc),
+            no_clobber_arg(alloc),
+        ],
     )?;
     command(alloc, "plan", about, args)
 }

@@ -68,12 +68,15 @@ pub struct Audit<'a> {
 }
 
 /// Management lines to be answered, at the ports of the settings file `config`, or at one port if there is none. With
-/// `strict` a refused line is a refusal of the input, with `verbose` each refusal is explained on standard error.
+/// `strict` a refused line is a refusal of the input, with `verbose` each refusal is explained on standard error. `record`
+/// is the file for a recording of the ports' chapters, which with `no_clobber` may not exist.
 #[derive(Clone, Copy, Debug, PartialEq, Eq)]
 pub struct Plan<'a> {
     pub config: Option<&'a str>,
     pub strict: bool,
     pub verbose: bool,
+    pub record: Option<&'a str>,
+    pub no_clobber: bool,
 }
 
 /// How the ports of a run meet their units: with `external` these come from elsewhere, and each port waits for them for `wait`

@@ -3,5 +3,6 @@ mod DeskPosts
 mod EachOutput
 mod OneOutput
 mod ReadEvents
+mod RecordedPlans
 mod ShownViews
 mod StateNumbers

@@ -1,7 +1,9 @@
 pub mod Desks
 pub mod FirstBytes
 pub mod Help
+pub mod Paths
 pub mod Planning
+pub mod Recorded
 pub mod Rows
 pub mod Text
 pub mod Whys

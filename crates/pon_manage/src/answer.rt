@@ -5,6 +5,7 @@ ghost use Rattle.pon_history.specs.Chapters.{present_state};
 ghost use Rattle.pon_history.specs.Last.{last_map};
 ghost use Rattle.pon_line.specs.Parts.{asks_in};
 ghost use Rattle.pon_line.specs.Reading.{AsksWithin};
+ghost use Rattle.pon_plant.specs.Turning.{KeepsChapters};
 ghost use Rattle.pon_manage.specs.Text.{AddsAnswer, cert_line, last_reply, state_line};
 ghost use Rattle.pon_manage.specs.Rows.{list_text};
 ghost use Rattle.pon_manage.specs.Whys.{why_line};
@@ -41,8 +42,8 @@ fn last_entry(plant: &Plant, port: PortNo) -> &Entry
     plant.port(port).unwrap().history().last().unwrap()
 }
 
-// Returns the number of the port at an index.
-fn port_no(plant: &Plant, place: usize) -> PortNo
+/// Returns the number of the port at an index.
+pub(crate) fn port_no(plant: &Plant, place: usize) -> PortNo
     requires { place < length plant.now }
     ensures { result ≡ place }
 {
@@ -62,6 +63,7 @@ fn answer_event(
     ensures ok { OnOk result (AddsAnswer plant.old (Reading.Asks port event)
         plant.new replies.old.items replies.new.items) }
     ensures err { OnErr result (replies.new.items ≡ replies.old.items) }
+    ensures path { KeepsChapters plant.old plant.new }
 {
     let port = port_no(plant, port);
     let index = kept_entries(plant, port);
@@ -128,7 +130,7 @@ fn port_at(plant: &Plant, place: usize) -> &Port
 }
 
 /// Appends the text of a reading; `room` is a buffer for the bytes of a map. `Err` only if memory is refused; then the
-/// replies are unchanged, and of the plant it is only known that the history of each port is lawful.
+/// replies are unchanged, and of the plant it is only known that each port keeps its chapter, perhaps with one more entry.
 pub(crate) fn answer(
     plant: &mut Plant,
     reading: Reading,
@@ -139,6 +141,7 @@ pub(crate) fn answer(
     ensures ok { OnOk result (AddsAnswer plant.old reading plant.new
         replies.old.items replies.new.items) }
     ensures err { OnErr result (replies.new.items ≡ replies.old.items) }
+    ensures path { KeepsChapters plant.old plant.new }
 {
     match reading {
         Reading::Nothing => Ok(()),
@@ -165,6 +168,7 @@ pub(crate) fn answer_frame_line(
     ensures ok { OnOk result (AddsAnswer plant.old (asks_in asked occ) plant.new
         replies.old.items replies.new.items) }
     ensures err { OnErr result (replies.new.items ≡ replies.old.items) }
+    ensures path { KeepsChapters plant.old plant.new }
 {
     match asked {
         FrameCommand::Map { port } => answer_event(plant, port, Event::MakeMap, room, replies),

@@ -6,6 +6,7 @@ ghost use Rattle.pon_device.specs.Streams.{TellsRead, TellsWrite};
 ghost use Rattle.pon_text.specs.Planning.{Planned};
 ghost use Rattle.pon_manage.specs.Desks.{DeskGives};
 ghost use Rattle.pon_manage.specs.FirstBytes.{desk_gives_first};
+ghost use Rattle.pon_manage.specs.Paths.{AnyState, any_path};
 
 use crate::at_desk::AtDesk;
 use pon_desk::{Desk, Seat};
@@ -20,6 +21,8 @@ use std::sync::ledger::Ledger;
 impl<'a, L: Ledger, M: Ledger, H: Wait> Answers<Seat<L, M>> for AtDesk<'a, L, M, H> {
     ghost gives = { DeskGives };
 
+    ghost path = { AnyState };
+
     fn answer_line(
         &mut self,
         seat: &mut Seat<L, M>,
@@ -32,6 +35,8 @@ impl<'a, L: Ledger, M: Ledger, H: Wait> Answers<Seat<L, M>> for AtDesk<'a, L, M,
     }
 
     ghost reads_first = { desk_gives_first };
+
+    ghost is_path = { any_path };
 }
 
 /// Reads management lines to the end of the input, posts their events at the desk with this seat, and writes the reply

@@ -1,59 +1,28 @@
-//! Management lines at a plant.
+//! Management lines at a plant, to the end of their input.
 
-ghost use Rattle.std.specs.Prelude.{length, OnOk};
+ghost use Rattle.std.specs.Prelude.{◌≡◌, length, Err, OnOk};
 ghost use Rattle.pon_device.specs.Device.{IsAtEnd};
 ghost use Rattle.pon_device.specs.Streams.{TellsRead, TellsWrite};
+ghost use Rattle.pon_device.specs.declared.fault.DeviceFault.TheVariants.{Memory};
 ghost use Rattle.pon_plant.specs.Plants.{IsPlantSize};
+ghost use Rattle.pon_recorder.specs.Whole.{IsSound};
 ghost use Rattle.pon_manage.specs.Planning.{PlannedAfter};
-ghost use Rattle.pon_manage.specs.Text.{Gives};
-ghost use Rattle.pon_manage.specs.FirstBytes.{gives_first};
+ghost use Rattle.pon_manage.specs.Recorded.{PlannedRecorded};
 
-use crate::answer::{answer, answer_frame_line};
+use crate::at_plant::AtPlant;
+use crate::notes::Notes;
+use crate::recorded::RecordedPlant;
 use crate::start::start;
-use pon_dbru::Occupancies;
 use pon_device::{DevRead, DevWrite, DeviceFault};
-use pon_line::{read_frame_line, read_line};
-use pon_plant::{Plant, Step};
+use pon_plant::Step;
 use pon_port::PortCfg;
-use pon_text::{Answers, PlanEnd, answer_input};
-use pon_units::FrameNo;
-use std::alloc::{AllocError, Global};
-
-// Answers lines at a plant, which is their state; `room` is a buffer for the bytes of a map.
-#[derive(Drop)]
-pub(crate) struct AtPlant {
-    room: Vec<u8>,
-}
-
-impl AtPlant {
-    pub(crate) fn new(alloc: Global) -> Self {
-        let room = Vec::new(alloc);
-        AtPlant { room }
-    }
-}
-
-impl Answers<Plant> for AtPlant {
-    ghost gives = { Gives };
-
-    fn answer_line(
-        &mut self,
-        plant: &mut Plant,
-        line: &[u8],
-        replies: &mut Vec<u8>,
-    ) -> Result<(), AllocError> {
-        let ports = plant.count();
-        let mut occ = Occupancies::new();
-        match read_frame_line(ports, line, &mut occ) {
-            Some(asked) => { answer_frame_line(plant, asked, occ, &mut self.room, replies) }
-            None => answer(plant, read_line(ports, line), &mut self.room, replies),
-        }
-    }
-
-    ghost reads_first = { gives_first };
-}
+use pon_recorder::{Ended, Recorder};
+use pon_text::{PlanEnd, answer_input};
+use pon_units::{FrameNo, MAX_PORTS};
+use std::alloc::Global;
 
 /// Opens the ports, takes the steps of their settings, which have no text, reads management lines to the end of the
-/// input, and writes the reply or the refusal of each.
+/// input, writes the reply or the refusal of each, and notes each refusal.
 ///
 /// There must be 1 to 64 ports, each with its configuration and first frame, numbered from 0. What is written is the
 /// output text of what was read, at the ports as the steps leave them; a step that its port refuses changes nothing.
@@ -63,11 +32,11 @@ impl Answers<Plant> for AtPlant {
 /// `Write` if the writer failed: a prefix of the text is written. `Memory` if memory was refused: the text of some first
 /// lines is written, and nothing of the next one. A line without its line feed at a fault is not answered. `Memory`
 /// before the first read leaves reader and writer unchanged. The writer is flushed once, at the end of the input.
-pub fn plan<H, R: DevRead, W: DevWrite>(
-    _rt: &H,
+pub fn plan<N: Notes, R: DevRead, W: DevWrite>(
     alloc: Global,
     ports: &[(PortCfg, FrameNo)],
     steps: Vec<Step>,
+    notes: &mut N,
     reader: &mut R,
     writer: &mut W,
 ) -> Result<PlanEnd, DeviceFault>
@@ -81,8 +50,77 @@ pub fn plan<H, R: DevRead, W: DevWrite>(
 {
     match start(alloc, ports, steps.as_slice()) {
         Ok(mut plant) => {
-            answer_input(alloc, &mut AtPlant::new(alloc), &mut plant, reader, writer)
+            let mut answers = AtPlant::new(alloc, notes);
+            answer_input(alloc, &mut answers, &mut plant, reader, writer)
         }
         Err(_) => Err(DeviceFault::Memory),
+    }
+}
+
+/// How management lines and the recording of their ports ended.
+#[derive(Drop)]
+pub struct RecordedPlan<D> {
+    /// How the lines ended.
+    pub lines: Result<PlanEnd, DeviceFault>,
+    /// How the recording ended, and its device.
+    pub recording: Ended<D>,
+}
+
+// Ends a recording without a chapter: memory was refused before the first read.
+fn not_begun<D: DevWrite + Drop>(recorder: Recorder<D>) -> RecordedPlan<D>
+    ensures lines { result.lines ≡ Err Memory }
+    ensures recording { result.recording.result ≡ Err Memory }
+{
+    let Ended { device, result: _ } = recorder.end();
+    RecordedPlan {
+        lines: Err(DeviceFault::Memory),
+        recording: Ended {
+            device,
+            result: Err(DeviceFault::Memory),
+        },
+    }
+}
+
+/// Answers management lines as [`plan`] does, and records the ports. Where an event would be refused only because the
+/// chapter of its port is full, the port is turned: its chapter is recorded, and the next one takes the event.
+///
+/// However the lines end, the chapter that each port keeps is recorded after all others, and the recording is ended. If it
+/// ends well, it has every chapter of the ports, each port's in order. A recorder that takes no further chapter stops no
+/// line.
+///
+/// The faults of the lines are those of [`plan`]; `Memory` also if memory is refused for the next chapter of a port. The
+/// recording ends with `Write` if its device failed three times in a row, and with `Memory` if memory was refused for a
+/// chapter, or before the first read.
+pub fn plan_recorded<N: Notes, D: DevWrite + Drop, R: DevRead, W: DevWrite>(
+    alloc: Global,
+    ports: &[(PortCfg, FrameNo)],
+    steps: Vec<Step>,
+    notes: &mut N,
+    recorder: Recorder<D>,
+    reader: &mut R,
+    writer: &mut W,
+) -> RecordedPlan<D>
+    requires ports { IsPlantSize (length ports.now) }
+    ensures text { PlannedRecorded ports.now steps.items (R.remaining reader.old)
+        (R.remaining reader.new) (W.contents writer.old) (W.contents writer.new) result.lines
+        (D.contents recorder.file.device) recorder.file.left (D.contents result.recording.device)
+        result.recording.result }
+    ensures sound { OnOk result.recording.result (IsSound recorder) }
+    ensures end { OnOk result.lines (IsAtEnd (R.remaining reader.new)) }
+    ensures read { TellsRead (R.calls reader.old) (R.calls reader.new) (R.failures reader.old)
+        (R.failures reader.new) result.lines }
+    ensures write { TellsWrite (W.failures writer.old) (W.failures writer.new) result.lines }
+{
+    match start(alloc, ports, steps.as_slice()) {
+        Ok(plant) => {
+            let mut at = RecordedPlant { plant, recorder };
+            let mut answers = AtPlant::new(alloc, notes);
+            let lines = answer_input(alloc, &mut answers, &mut at, reader, writer);
+            let RecordedPlant { plant, recorder } = at;
+            prove!(plant.count() <= MAX_PORTS);
+            let recording = recorder.end_with(plant.into_ports());
+            RecordedPlan { lines, recording }
+        }
+        Err(_) => not_begun(recorder),
     }
 }

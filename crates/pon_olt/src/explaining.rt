@@ -140,14 +140,18 @@ fn reason_of<'a>(plant: &Plant, line: &'a [u8], reply: &'a str) -> Reason<'a> {
     Reason::Reply(reply)
 }
 
-/// Prints a line to standard error for each refused line, with its number and the reason.
+/// Prints a line to standard error for each refused line, with its number and the reason, if that is wanted.
 #[derive(Drop)]
 pub(crate) struct Explainer<'a, R> {
     pub(crate) rt: &'a R,
+    pub(crate) verbose: bool,
 }
 
 impl<'a, R: Eprint> Notes for Explainer<'a, R> {
     fn note(&mut self, number: u64, plant: &Plant, line: &[u8], reply: &[u8]) {
+        if !self.verbose {
+            return;
+        }
         let Some((_, reply)) = cut(reply, b' ') else {
             return;
         };

@@ -1,63 +1,118 @@
 //! Management lines of standard input.
 
-ghost use Rattle.std.specs.Prelude.{length};
+ghost use Rattle.std.specs.Prelude.{◌≡◌, IfErr, OnOk, is_ok, length, true};
 ghost use Rattle.pon_plant.specs.Plants.{IsPlantSize};
 
 use crate::explaining::Explainer;
 use crate::opening::{NotOpened, Opening, with_settings, without_settings};
 use crate::watching::Watched;
-use pon_device::{DevWrite, DeviceFault, StdRead, StdWrite};
+use pon_device::{DevRead, DevWrite, DeviceFault, StdRead, StdWrite};
 use pon_job::{Failure, Plan};
-use pon_manage::{PlanEnd, plan, plan_noting};
+use pon_manage::{PlanEnd, RecordedPlan, plan, plan_recorded};
+use pon_run::{RecordArgs, begin_recording, end_recording};
 use std::alloc::Global;
 use std::io::{self, BufReader};
 use std::rt::Files;
 
-// Executes the lines of standard input, and writes their replies; if wanted, also the reason of each refusal to standard
-// error.
-fn answer_lines<R: Input + Eprint, W: DevWrite>(
+// Returns how recorded lines ended: as the lines did, and else as the recording did. If both failed, the text is that of the
+// recording.
+fn end_of(lines: Result<PlanEnd, DeviceFault>, recorded: Result<(), Failure>) -> Result<(), Failure>
+    ensures lines { IfErr lines (λ fault. IfErr result (λ failure. failure.fault ≡ fault)) }
+    ensures done { OnOk result ((is_ok lines ≡ true) × (is_ok recorded ≡ true)) }
+{
+    match lines {
+        Ok(_) => recorded,
+        Err(fault) => Err(Failure {
+            fault,
+            text: match recorded {
+                Ok(()) => None,
+                Err(failure) => failure.text,
+            },
+        }),
+    }
+}
+
+// Executes lines, and records the ports in a file.
+fn record_lines<R: Eprint + Files, I: DevRead, W: DevWrite>(
     rt: &R,
     alloc: Global,
     opening: Opening,
     verbose: bool,
+    args: &RecordArgs<'_>,
+    reader: &mut I,
     writer: &mut W,
-) -> Result<PlanEnd, DeviceFault>
+) -> Result<(), Failure>
     requires { IsPlantSize (length opening.ports.items) }
 {
-    let Ok(input) = BufReader::new(alloc, rt.reader()) else {
-        return Err(DeviceFault::Memory);
-    };
-    let mut reader = StdRead::new(input);
     let Opening { ports, steps } = opening;
-    let ports = ports.as_slice();
-    if verbose {
-        let mut notes = Explainer { rt };
-        return plan_noting(alloc, ports, steps, &mut notes, &mut reader, writer);
-    }
-    plan(rt, alloc, ports, steps, &mut reader, writer)
+    let recorder = begin_recording(rt, alloc, args)?;
+    let RecordedPlan { lines, recording } = plan_recorded(
+        alloc,
+        ports.as_slice(),
+        steps,
+        &mut Explainer { rt, verbose },
+        recorder,
+        reader,
+        writer,
+    );
+    end_of(lines, end_recording(rt, alloc, args.file, recording))
 }
 
-// Executes the lines of standard input. Returns `false` if they are strict and one was refused.
-fn plan_lines<R: Input + Print + Eprint>(
+// Executes lines, and records the ports if that is wanted.
+fn answer_lines<R: Eprint + Files, I: DevRead, W: DevWrite>(
     rt: &R,
     alloc: Global,
     opening: Opening,
     job: &Plan<'_>,
-) -> Result<bool, DeviceFault>
+    reader: &mut I,
+    writer: &mut W,
+) -> Result<(), Failure>
     requires { IsPlantSize (length opening.ports.items) }
 {
+    if let Some(file) = job.record {
+        let args = RecordArgs {
+            file,
+            no_clobber: job.no_clobber,
+            config: job.config,
+            operate: None,
+        };
+        return record_lines(rt, alloc, opening, job.verbose, &args, reader, writer);
+    }
+    let Opening { ports, steps } = opening;
+    let mut notes = Explainer {
+        rt,
+        verbose: job.verbose,
+    };
+    plan(alloc, ports.as_slice(), steps, &mut notes, reader, writer)?;
+    Ok(())
+}
+
+// Executes the lines of standard input. Returns `false` if they are strict and one was refused.
+fn plan_lines<R: Input + Print + Eprint + Files>(
+    rt: &R,
+    alloc: Global,
+    opening: Opening,
+    job: &Plan<'_>,
+) -> Result<bool, Failure>
+    requires { IsPlantSize (length opening.ports.items) }
+{
+    let Ok(input) = BufReader::new(alloc, rt.reader()) else {
+        return Err(Failure::from(DeviceFault::Memory));
+    };
+    let mut reader = StdRead::new(input);
     let mut writer = StdWrite::new(io::writer(rt));
     if !job.strict {
-        answer_lines(rt, alloc, opening, job.verbose, &mut writer)?;
+        answer_lines(rt, alloc, opening, job, &mut reader, &mut writer)?;
         return Ok(true);
     }
     let mut watched = Watched::new(writer);
-    answer_lines(rt, alloc, opening, job.verbose, &mut watched)?;
+    answer_lines(rt, alloc, opening, job, &mut reader, &mut watched)?;
     Ok(!watched.refused())
 }
 
-/// Executes the lines of standard input at the ports of the settings file, or at one port without settings. Returns
-/// `false` if they are strict and one was refused.
+/// Executes the lines of standard input at the ports of the settings file, or at one port without settings, and writes the
+/// reply to each; if wanted, also the reason of each refusal to standard error, and a recording of the ports to a file.
+/// Returns `false` if they are strict and one was refused.
 pub(crate) fn run_plan<R: Input + Print + Eprint + Files>(
     rt: &R,
     alloc: Global,
@@ -67,8 +122,5 @@ pub(crate) fn run_plan<R: Input + Print + Eprint + Files>(
         Some(name) => with_settings(rt, alloc, name)?,
         None => without_settings(alloc)?,
     };
-    match plan_lines(rt, alloc, opening, job) {
-        Ok(accepted) => Ok(accepted),
-        Err(fault) => Err(NotOpened::Failed(Failure::from(fault))),
-    }
+    plan_lines(rt, alloc, opening, job).map_err(NotOpened::Failed)
 }

@@ -40,6 +40,18 @@ fn plan_of(config: Option<&'static str>, strict: bool, verbose: bool) -> Job<'st
         config,
         strict,
         verbose,
+        record: None,
+        no_clobber: false,
+    })
+}
+
+fn recorded_plan_of(record: Option<&'static str>, no_clobber: bool) -> Job<'static> {
+    Job::Plan(Plan {
+        config: None,
+        strict: false,
+        verbose: false,
+        record,
+        no_clobber,
     })
 }
 
@@ -80,6 +92,14 @@ fn reads_each_job(rt: HostRuntime) {
         (
             "olt plan --verbose --config a.toml",
             plan_of(settings, false, true),
+        ),
+        (
+            "olt plan --record r.bin",
+            recorded_plan_of(Some("r.bin"), false),
+        ),
+        (
+            "olt plan --no-clobber --record=r.bin",
+            recorded_plan_of(Some("r.bin"), true),
         ),
         ("olt check c.txt", Job::Check { file: "c.txt" }),
         (

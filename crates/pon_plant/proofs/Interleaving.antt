@@ -50,11 +50,11 @@ with_none c = ap (λ (es : List Entry). record { number = c.number; opening = c.
 pub with_more : (xs ys : List Entry) (c : Chapter) → with_entries (xs ++ ys) c ≡ with_entries ys (with_entries xs c)
 with_more xs ys c = ap (λ (es : List Entry). record { number = c.number; opening = c.opening; entries = es }) (sym (append_assoc c.entries xs ys))
 
-map_with_none : (o : Option Chapter) → option_map (with_entries []) o ≡ o
+pub map_with_none : (o : Option Chapter) → option_map (with_entries []) o ≡ o
 map_with_none None = refl
 map_with_none (Some c) = ap Some (with_none c)
 
-map_with_more : (xs ys : List Entry) (o : Option Chapter) → option_map (with_entries (xs ++ ys)) o ≡ option_map (with_entries ys) (option_map (with_entries xs) o)
+pub map_with_more : (xs ys : List Entry) (o : Option Chapter) → option_map (with_entries (xs ++ ys)) o ≡ option_map (with_entries ys) (option_map (with_entries xs) o)
 map_with_more xs ys None = refl
 map_with_more xs ys (Some c) = ap Some (with_more xs ys c)
 

@@ -2,3 +2,4 @@ pub mod Alone
 pub mod Interleaving
 pub mod OneHistory
 pub mod Stepping
+pub mod Turning

@@ -1,11 +1,26 @@
+ghost use Rattle.std.specs.Prelude.{◌≡◌, ◌↔◌, true};
+ghost use Rattle.pon_plant.specs.Turning.{IsFullFor};
+
 use crate::fault::{PlantFault, StepFault};
 use crate::opening::open_ports;
-use pon_admit::{PortCfg, Step};
-use pon_port::Port;
-use pon_state::Reply;
+use pon_admit::{Event, PortCfg, Step};
+use pon_descr::Refusal;
+use pon_port::{Chapter, Port};
+use pon_state::{MAX_ENTRIES, Reply, refusal_of};
 use pon_units::{FrameNo, MAX_PORTS, PortNo};
 use std::alloc::{AllocError, Global};
 use std::marker::Model;
+
+// Returns whether a port refuses an event only because its chapter is full, and the chapter is not the last one.
+fn is_full_for(port: &Port, event: &Event) -> bool
+    ensures { (result ≡ true) ↔ IsFullFor port.now event.now }
+{
+    let kept = port.history().len();
+    if kept < MAX_ENTRIES || port.chapter_number() == u64::MAX {
+        return false;
+    }
+    refusal_of(port.state(), kept, event) == Some(Refusal::ChapterFull)
+}
 
 /// The ports of a line terminal, 1 to 64, numbered from 0.
 ///
@@ -28,10 +43,11 @@ impl Model for Plant {
 }
 
 impl Plant {
-    ghost use Rattle.std.specs.Prelude.{◌≡◌, ◌≤◌, length, Err, IfOk, IfErr, MatchOption, OnErr, OnOk, Some, slice_get};
+    ghost use Rattle.std.specs.Prelude.{◌≡◌, ◌≤◌, ◌↔◌, length, true, Err, IfOk, IfErr, MatchOption, OnErr, OnOk, Some, slice_get};
     ghost use Rattle.pon_plant.specs.Plants.{IsPlant, IsPlantSize, TellsOpening, opened_ports};
     ghost use Rattle.pon_plant.specs.Answers.{IsStepAnswer, KeepsStep, after_step};
     ghost use Rattle.pon_plant.specs.Runs.{Ran};
+    ghost use Rattle.pon_plant.specs.Turning.{IsFullAt, IsTurnFault, TurnsPort};
 
     /// Opens a port for each configuration and first frame, numbered from 0 in this order.
     ///
@@ -119,5 +135,42 @@ impl Plant {
             answers.push_reserved(answer);
         }
         Ok(answers)
+    }
+
+    /// Returns whether the port of this number refuses an event only because its chapter is full, and [`Plant::turn`] would
+    /// begin another one. `false` if the plant has no such port.
+    pub fn is_full(&self, port: PortNo, event: &Event) -> bool
+        ensures { (result ≡ true) ↔ IsFullAt self.now port event.now }
+    {
+        match self.port(port) {
+            Some(port) => is_full_for(port, event),
+            None => false,
+        }
+    }
+
+    /// Turns a port: returns its chapter, and begins the next one in the same state.
+    ///
+    /// Returns `NoSuchPort` exactly if the plant has no such port; otherwise `Refused` with `ChapterFull` exactly if the
+    /// chapter has the last number (2^64 - 1), or with `OutOfMemory`, only if memory is refused. Then nothing has changed.
+    pub fn turn(&mut self, port: PortNo) -> Result<Chapter, StepFault>
+        ensures ok { IfOk result (λ chapter. TurnsPort self.old port chapter self.new) }
+        ensures refused { IfErr result (λ fault. IsTurnFault (slice_get self.old port) fault) }
+        ensures err { OnErr result (self.new ≡ self.old) }
+        ensures lawful { IsPlant self.new }
+    {
+        let Some(full) = self.ports.get_mut(usize::from(port.get())) else {
+            return Err(StepFault::NoSuchPort);
+        };
+        let turned = full.turn();
+        let _entries = full.history();
+        turned.map_err(StepFault::Refused)
+    }
+
+    /// Returns the ports, in order.
+    pub fn into_ports(self) -> Vec<Port>
+        ensures { result.items ≡ self }
+    {
+        let Plant { ports } = self;
+        ports
     }
 }

@@ -16,6 +16,8 @@ mod limits;
 #[cfg(test)]
 mod migrating;
 #[cfg(test)]
+mod planning;
+#[cfg(test)]
 mod reading;
 #[cfg(test)]
 mod recordings;

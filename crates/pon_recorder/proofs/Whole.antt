@@ -1,13 +1,16 @@
 -- The kept chapters, one after another.
-use Rattle.std.proofs.Common.{◌≡◌, ℕ, List, [], ◌∷◌, ◌++◌, length, ap, refl, sym, subst, ◌∙◌}
-use Rattle.std.specs.Prelude.{Option, map, option_map, option_to_list, slice_get}
+use Rattle.std.proofs.Common.{◌≡◌, ℕ, ◌<◌, List, [], ◌∷◌, ◌++◌, length, length-append, ap, arith, refl, sym, subst, ◌∙◌}
+use Rattle.std.specs.Prelude.{Bool, true, Option, Some, OnOk, Result, Ok, Err, map, option_map, option_to_list, slice_get}
+use Rattle.std.specs.List.{range_with_len}
 use Rattle.std.proofs.lemmas.List.{append-nil}
-use Rattle.std.proofs.lemmas.Option.{slice_get-map}
+use Rattle.std.proofs.lemmas.List.FromFn.{get_or-range_with_len, length-range_with_len}
+use Rattle.std.proofs.lemmas.Option.{slice_get-get_or, slice_get-map}
 use Rattle.pon_history.specs.Chapters.{Chapter}
 use Rattle.pon_record.specs.Chapters.{Body}
 use Rattle.pon_recorder.specs.Bodies.{chapter_body}
-use Rattle.pon_recorder.specs.Recorders.{Records}
-use Rattle.pon_recorder.specs.Whole.{RecordsAll, kept_at, kept_bodies}
+use Rattle.pon_recorder.specs.Recorders.{Records, Stays}
+use Rattle.pon_recorder.specs.Recordings.{HasRecorded}
+use Rattle.pon_recorder.specs.Whole.{IsSound, RecordsAll, kept_at, kept_bodies}
 use Rattle.pon_recorder.specs.declared.recorder.Recorder.{Recorder}
 use Rattle.pon_recorder.proofs.Recordings.{both_recorded}
 
@@ -49,3 +52,30 @@ records_next numbers place old mid new held_old held_mid held_new kept k at firs
     subst (λ (bs : List Body). RecordsAll old new held_old held_new bs) (sym (one_more_kept numbers kept k))
     (records_both old mid new held_old held_mid held_new (kept_bodies numbers kept) (kept_at numbers (length kept) k) first
     (subst (λ (n : ℕ). RecordsAll mid new held_mid held_new (kept_at numbers n k)) at second))
+
+-- the place of the next port
+pub place_within : {X : Type 0} (yielded rest all more : List X) (x : X) → yielded ++ rest ≡ all → rest ≡ x ∷ more → length yielded < length all
+place_within yielded rest all more x e s = omega (arith, ap length e, length-append yielded rest, ap length s)
+
+-- the chapter that a port keeps is that of the port of its place
+pub kept_in_range : (n place : ℕ) (k : Chapter) → place < n → kept_at (range_with_len 0 n) place k ≡ chapter_body place k ∷ []
+kept_in_range n place k l =
+    let there : slice_get (range_with_len 0 n) place ≡ Some place =
+    slice_get-get_or (range_with_len 0 n) place place (omega (arith, length-range_with_len 0 n, l)) ∙ ap Some (get_or-range_with_len 0 n place place l ∙ omega arith) in
+    ap (λ (o : Option ℕ). map (λ (m : ℕ). chapter_body m k) (option_to_list o)) there
+
+-- a chapter that is not dropped is recorded
+pub records_append : {W : Type 0} (old new : Recorder W) (held_old held_new : Option (List ℕ)) (taken : Bool) (b : Body)
+    → (IsSound new → IsSound old × (taken ≡ true)) → (taken ≡ true → HasRecorded held_old old.file.left held_new new.file.left (b ∷ []))
+    → RecordsAll old new held_old held_new (b ∷ [])
+records_append old new held_old held_new taken b sound recorded = λ s. ((sound s).0, recorded (sound s).1)
+
+-- a recording that ends after these chapters
+module _ {W T E : Type 0} (old new : Recorder W) (held_old held_new : Option (List ℕ)) (bodies : List Body) (all : RecordsAll old new held_old held_new bodies) where
+  pub ends_sound : (r : Result T E) → OnOk r (IsSound new) → OnOk r (IsSound old)
+  ends_sound (Ok end) sound = (all sound).0
+  ends_sound (Err fault) sound = tt
+
+  pub ends_written : (tape : Option (List ℕ)) (r : Result T E) → OnOk r (IsSound new) → OnOk r (Stays held_new new.file.left tape []) → OnOk r (HasRecorded held_old old.file.left tape [] bodies)
+  ends_written tape (Ok end) sound stays = λ before earlier recorded. stays before (earlier ++ bodies) ((all sound).1 before earlier recorded)
+  ends_written tape (Err fault) sound stays = tt

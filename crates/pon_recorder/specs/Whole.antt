@@ -1,5 +1,6 @@
 -- A recording from which nothing is missing.
-use Rattle.std.specs.Prelude.{ℕ, ◌≡◌, List, Bool, true, false, Option, map, option_to_list, slice_get, zip}
+use Rattle.std.specs.Prelude.{ℕ, ◌≡◌, List, Bool, true, false, Option, map, option_to_list, slice_get, zip, length}
+use Rattle.std.specs.List.{range_with_len}
 use Rattle.pon_history.specs.Chapters.{Chapter}
 use Rattle.pon_record.specs.Chapters.{Body}
 use Rattle.pon_recorder.specs.Bodies.{chapter_body}
@@ -22,6 +23,10 @@ kept_bodies numbers kept = map (λ p. chapter_body p.0 p.1) (zip numbers kept)
 -- the chapter that the port at a place keeps, if there is a number for it
 abbrev pub kept_at : List ℕ → ℕ → Chapter → List Body
 kept_at numbers place kept = map (λ n. chapter_body n kept) (option_to_list (slice_get numbers place))
+
+-- the chapters that ports keep, the first as that of port 0
+abbrev pub all_kept : List Chapter → List Body
+all_kept kept = kept_bodies (range_with_len 0 (length kept)) kept
 
 -- the recorder took these chapters: a recorder that is sound afterwards was so before, and has recorded all of them, in order
 abbrev pub RecordsAll : {W : Type 0} → Recorder W → Recorder W → Option (List ℕ) → Option (List ℕ) → List Body → Type 0

@@ -56,6 +56,8 @@ fn flush_end<W: DevWrite + Drop>(
 ) -> Result<(), DeviceFault>
     ensures file { OnOk result (failed ≡ false) }
     ensures memory { OnOk result (lacked_memory ≡ false) }
+    ensures same { OnOk result (Stays (W.contents file.old.device) file.old.left (W.contents file.new.device)
+        []) }
 {
     if failed || file.flush().is_err() {
         return Err(DeviceFault::Write);
@@ -72,7 +74,8 @@ impl<W: DevWrite + Drop> Recorder<W> {
     /// Makes a recorder of a recording with nothing left to write.
     pub(crate) fn new(file: RecordFile<W>) -> Self
         requires { file.left ≡ [] }
-        ensures { result.file ≡ file }
+        ensures file { result.file ≡ file }
+        ensures sound { IsSound result }
     {
         Recorder {
             file,
@@ -83,7 +86,7 @@ impl<W: DevWrite + Drop> Recorder<W> {
 
     /// Appends a chapter of a port. Returns `false` if it is dropped: memory is refused for it, or the file failed three
     /// times in a row, now or earlier. Both are noted for [`Recorder::end`].
-    pub(crate) fn append(&mut self, port: PortNo, chapter: &Chapter) -> bool
+    pub fn append(&mut self, port: PortNo, chapter: &Chapter) -> bool
         ensures sound { IsSound self.new → IsSound self.old × (result ≡ true) }
         ensures recorded { result ≡ true → HasRecorded (W.contents self.old.file.device)
             self.old.file.left (W.contents self.new.file.device) self.new.file.left
@@ -124,8 +127,10 @@ impl<W: DevWrite + Drop> Recorder<W> {
 
     /// Flushes the file, and returns it with how the recording ended: `Write` if the file failed three times in a row, or
     /// fails now, and `Memory` if memory was refused for a chapter.
-    pub(crate) fn end(self) -> Ended<W>
-        ensures { OnOk result.result (IsSound self) }
+    pub fn end(self) -> Ended<W>
+        ensures sound { OnOk result.result (IsSound self) }
+        ensures written { OnOk result.result (Stays (W.contents self.file.device) self.file.left
+            (W.contents result.device) []) }
     {
         let Recorder {
             mut file,

@@ -1,34 +1,56 @@
-//! The file of a run's recording.
+//! The beginning of a recording.
+
+ghost use Rattle.std.specs.Prelude.{◌≡◌, [], false, IfOk};
+ghost use Rattle.pon_recorder.specs.Recorders.{Records};
 
 use crate::record_file::RecordFile;
 use crate::recorder::Recorder;
 use crate::tape::{Tape, TapeFile};
-use pon_device::DeviceFault;
+use pon_device::{DevWrite, DeviceFault};
 use std::alloc::Global;
 use std::io::Write;
 
-// Begins a recording, and writes its magic bytes. Returns `Write` if the device does not take them, and `Memory` if memory
-// is refused.
-fn begin<F: Write + Drop>(alloc: Global, tape: Tape<F>) -> Result<Recorder<Tape<F>>, DeviceFault> {
-    match RecordFile::open(alloc, tape) {
-        Ok(file) if file.left().is_empty() => Ok(Recorder::new(file)),
-        Ok(_) => Err(DeviceFault::Write),
-        Err(_) => Err(DeviceFault::Memory),
+impl<W: DevWrite + Drop> Recorder<W> {
+    ghost use Rattle.pon_recorder.specs.Whole.{IsSound};
+
+    /// Begins a recording on a device: writes its magic bytes.
+    ///
+    /// Returns `Write` if the device does not take them, and `Memory` if memory is refused.
+    pub fn begin(alloc: Global, device: W) -> Result<Self, DeviceFault>
+        ensures begun { IfOk result (λ r. Records (W.contents device) (W.contents r.file.device) [] []) }
+        ensures left { IfOk result (λ r. r.file.left ≡ []) }
+        ensures sound { IfOk result IsSound }
+    {
+        match RecordFile::open(alloc, device) {
+            Ok(file) if file.left().is_empty() => Ok(Recorder::new(file)),
+            Ok(_) => Err(DeviceFault::Write),
+            Err(_) => Err(DeviceFault::Memory),
+        }
     }
+}
+
+/// Begins a recording in this file.
+///
+/// Errors as in [`Recorder::begin`].
+pub fn record_to<F: Write + Drop>(
+    alloc: Global,
+    file: F,
+) -> Result<Recorder<Tape<F>>, DeviceFault> {
+    Recorder::begin(alloc, Tape::File(TapeFile::new(file)))
 }
 
 /// Begins a recording in this file; without a file, in none, if the chapters are kept to settle their ports. `None` if no
 /// chapters are wanted.
 ///
-/// Returns `Write` if the file does not take the magic bytes, and `Memory` if memory is refused.
+/// Errors as in [`Recorder::begin`].
 pub fn open_recorder<F: Write + Drop>(
     alloc: Global,
     file: Option<F>,
     settle: bool,
 ) -> Result<Option<Recorder<Tape<F>>>, DeviceFault> {
     match file {
-        Some(file) => Ok(Some(begin(alloc, Tape::File(TapeFile::new(file)))?)),
-        None if settle => Ok(Some(begin(alloc, Tape::Nothing)?)),
+        Some(file) => Ok(Some(record_to(alloc, file)?)),
+        None if settle => Ok(Some(Recorder::begin(alloc, Tape::Nothing)?)),
         None => Ok(None),
     }
 }

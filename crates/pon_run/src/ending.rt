@@ -12,7 +12,7 @@ use crate::early::print_early;
 use crate::end::write_ends;
 use crate::ports::{all_finished, ends_of, split_results, with_dropped, worker_ends};
 use crate::progress::print_summary;
-use crate::recording_file::RunTape;
+use crate::recording_file::{RunTape, end_recording};
 use crate::running::Results;
 use crate::settlement_text::write_settlements;
 use crate::settling::{
@@ -23,7 +23,7 @@ use pon_desk::{CloseFault, Closed, Desk, Seat};
 use pon_device::{DevWrite, DeviceFault};
 use pon_job::Failure;
 use pon_port::Port;
-use pon_recorder::{Ended, PortSink, Recording, Rings, Tape};
+use pon_recorder::{Ended, PortSink, Recording, Rings};
 use pon_worker::{Gate, WorkerEnd};
 use std::alloc::{AllocError, Global};
 use std::fs::OpenFile;
@@ -111,20 +111,16 @@ fn close<L: Ledger, M: Ledger>(
     }
 }
 
-// Ends the device of a recording that ended so.
-fn end_device<G: Gate, F: OpenFile + Write + Drop, R: Files>(
+// Ends the file of a recording that ended so, if it has one.
+fn end_file<G: Gate, F: OpenFile + Write + Drop, R: Files>(
     run: &RunContext<'_, G, R>,
-    device: RunTape<F>,
-    ended: Result<(), DeviceFault>,
+    ended: Ended<RunTape<F>>,
 ) -> Result<(), Failure>
-    ensures { OnOk result (is_ok ended ≡ true) }
+    ensures { OnOk result (is_ok ended.result ≡ true) }
 {
-    match (run.args.record, device) {
-        (Some(name), Tape::File(file)) => {
-            let (mut file, error) = file.into_parts();
-            file.end(run.rt, run.alloc, name, ended, error)
-        }
-        _ => Ok(ended?),
+    match run.args.record {
+        Some(name) => end_recording(run.rt, run.alloc, name, ended),
+        None => Ok(ended.result?),
     }
 }
 
@@ -141,8 +137,8 @@ fn record_kept<K: Rings, G: Gate, F: OpenFile + Write + Drop, R: Files>(
     match recording {
         None => Ok(()),
         Some(recording) => {
-            let Ended { device, result } = recording.finish(ports, dropped);
-            end_device(run, device, result)
+            let ended = recording.finish(ports, dropped);
+            end_file(run, ended)
         }
     }
 }

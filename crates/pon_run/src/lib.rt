@@ -37,4 +37,6 @@ mod watch;
 pub use arguments::{LinesFrom, RunArgs, UnitsPlace};
 pub use elsewhere::{UnitsArgs, run_units};
 pub use part::{PartFile, Progress};
+pub use recording_file::{RecordingFile, RunTape, begin_recording, end_recording};
 pub use serving::run_ports;
+pub use target::RecordArgs;

@@ -3,20 +3,21 @@
 ghost use Rattle.std.specs.Prelude.{◌≡◌, OnOk, false, is_ok, true};
 
 use crate::part::PartFile;
+use crate::target::{RecordArgs, Target, discard, target_of};
 use pon_device::DeviceFault;
 use pon_job::{Failure, Named};
-use pon_recorder::Tape;
+use pon_recorder::{Ended, Recorder, Tape, record_to};
 use std::alloc::Global;
-use std::fs::OpenFile;
+use std::fs::{self, OpenFile};
 use std::io::{self, Write};
 use std::rt::Files;
 
-/// The device of a run's recording.
-pub(crate) type RunTape<F> = Tape<RecordingFile<F>>;
+/// The device of a recording.
+pub type RunTape<F> = Tape<RecordingFile<F>>;
 
 /// The file of a recording.
 #[derive(Drop)]
-pub(crate) enum RecordingFile<F> {
+pub enum RecordingFile<F> {
     /// The part of the file, which gets its name when the recording is whole.
     Part(PartFile<F>),
     /// What exists and is no regular file, such as a pipe or a device. It is written as it is.
@@ -102,5 +103,80 @@ fn with_part(alloc: Global, failure: Failure, part: &str) -> Failure {
     Failure {
         fault,
         text: text.ok(),
+    }
+}
+
+// Creates the part of a recording, or opens what is no regular file.
+fn create_file<R: Files>(
+    rt: &R,
+    alloc: Global,
+    name: &str,
+    target: &Target,
+) -> io::Result<RecordingFile<R::File>> {
+    match target {
+        Target::Part { path, .. } => {
+            let file = PartFile::create(rt, alloc, path.as_str())?;
+            Ok(RecordingFile::Part(file))
+        }
+        Target::Direct => Ok(RecordingFile::Direct(fs::create(rt, name)?)),
+    }
+}
+
+/// Begins the recording in a file. If the magic bytes cannot be written, its part is removed.
+///
+/// Returns `Write` if the file cannot be created or does not take the magic bytes, and `Memory` if memory is refused.
+pub(crate) fn record_in<R: Files>(
+    rt: &R,
+    alloc: Global,
+    name: &str,
+    target: &Target,
+) -> Result<Recorder<RunTape<R::File>>, Failure> {
+    let named = Named::Recording(name);
+    let file = match create_file(rt, alloc, name, target) {
+        Ok(file) => file,
+        Err(error) => return Err(Failure::of(alloc, DeviceFault::Write, named, &error)),
+    };
+    match record_to(alloc, file) {
+        Ok(recorder) => Ok(recorder),
+        Err(fault) => {
+            discard(rt, target);
+            Err(Failure::in_writing(alloc, fault, named))
+        }
+    }
+}
+
+/// Checks the file of a recording, and begins the recording in it.
+///
+/// Returns `Write` if the file or its part, FILE.part, is one that is read, if the part is no regular file, if the file exists
+/// and is not to be replaced, and if it cannot be created or does not take the first bytes; `Memory` if memory is refused.
+/// Then nothing is replaced.
+pub fn begin_recording<R: Files>(
+    rt: &R,
+    alloc: Global,
+    args: &RecordArgs<'_>,
+) -> Result<Recorder<RunTape<R::File>>, Failure> {
+    let target = target_of(rt, alloc, args)?;
+    record_in(rt, alloc, args.file, &target)
+}
+
+/// Ends the file of a recording: if the recording is whole, its part is synced and gets the name of the file. Otherwise an
+/// earlier file is kept, and so is the part.
+///
+/// Returns the fault of the recording, `Write` if the part cannot be synced or renamed, and `Memory` if memory is refused.
+pub fn end_recording<F: OpenFile + Write + Drop, R: Files>(
+    rt: &R,
+    alloc: Global,
+    name: &str,
+    ended: Ended<RunTape<F>>,
+) -> Result<(), Failure>
+    ensures { OnOk result (is_ok ended.result ≡ true) }
+{
+    let Ended { device, result } = ended;
+    match device {
+        Tape::File(file) => {
+            let (mut file, error) = file.into_parts();
+            file.end(rt, alloc, name, result, error)
+        }
+        Tape::Nothing => Ok(result?),
     }
 }

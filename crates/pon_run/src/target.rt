@@ -1,9 +1,8 @@
-//! Where a run records: what is checked before anything is written.
+//! Where chapters are recorded: what is checked before anything is written.
 
 ghost use Rattle.std.specs.Prelude.{◌≡◌, ◌↔◌, IsSome, IsSomeAnd, Some, string_bytes, true};
 ghost use Rattle.pon_run.specs.declared.target.Source.TheVariants.{Settings};
 
-use crate::arguments::RunArgs;
 use crate::part::part_of;
 use pon_device::DeviceFault;
 use pon_job::{Failure, Named};
@@ -13,7 +12,20 @@ use std::fs;
 use std::io::ErrorKind;
 use std::rt::Files;
 
-/// Where a run records.
+/// The file of a recording, and the files that it may not replace.
+#[derive(Clone, Copy, Debug, PartialEq, Eq)]
+pub struct RecordArgs<'a> {
+    /// The file of the recording. It is written as its part, and replaced when the recording is whole.
+    pub file: &'a str,
+    /// Whether the recording is refused if its file exists.
+    pub no_clobber: bool,
+    /// The file that the settings were read from, if there is one.
+    pub config: Option<&'a str>,
+    /// The file of the operator's management lines, if there is one.
+    pub operate: Option<&'a str>,
+}
+
+/// Where chapters are recorded.
 #[derive(Debug, PartialEq, Eq, Drop)]
 pub(crate) enum Target {
     /// In this part, which gets the name of the file at this path when the recording is whole.
@@ -22,7 +34,7 @@ pub(crate) enum Target {
     Direct,
 }
 
-/// A file that a run reads.
+/// A file that is read.
 #[derive(Clone, Copy, Debug, PartialEq, Eq)]
 enum Source {
     /// The settings.
@@ -62,7 +74,7 @@ fn path_of<R: Files>(rt: &R, alloc: Global, name: &str) -> Result<Option<String>
     }
 }
 
-// Returns the path of a file that a run may read, if it reads one.
+// Returns the path of a file that may be read, if one is.
 fn path_of_source<R: Files>(
     rt: &R,
     alloc: Global,
@@ -84,7 +96,7 @@ fn is_path(path: &str, other: &Option<String>) -> bool
     }
 }
 
-// Returns what a run reads from a path, given the paths of its settings and of its operator's file.
+// Returns what is read from a path, given the paths of the settings and of the operator's file.
 fn source_at(path: &str, settings: &Option<String>, lines: &Option<String>) -> Option<Source>
     ensures settings { IsSomeAnd settings.now (λ s. string_bytes s ≡ path.now)
         → result ≡ Some Settings }
@@ -100,11 +112,11 @@ fn source_at(path: &str, settings: &Option<String>, lines: &Option<String>) -> O
     None
 }
 
-// Refuses a file that the run reads; `shown` is what the text calls it.
+// Refuses a file that is read; `shown` is what the text calls it.
 fn check_not_read<R: Files>(
     rt: &R,
     alloc: Global,
-    args: &RunArgs<'_>,
+    args: &RecordArgs<'_>,
     shown: &str,
     name: &str,
 ) -> Result<(), Failure> {
@@ -119,15 +131,14 @@ fn check_not_read<R: Files>(
     }
 }
 
-// Refuses a file of this name if it is not to be replaced.
+// Refuses a file that exists if it is not to be replaced.
 fn check_not_there<R: Files>(
     rt: &R,
     alloc: Global,
-    args: &RunArgs<'_>,
-    name: &str,
+    args: &RecordArgs<'_>,
 ) -> Result<(), Failure> {
-    if args.no_clobber && fs::symlink_metadata(rt, name).is_ok() {
-        let named = Named::Recording(name);
+    if args.no_clobber && fs::symlink_metadata(rt, args.file).is_ok() {
+        let named = Named::Recording(args.file);
         return Err(refused(format!(in alloc; "{named}: exists")));
     }
     Ok(())
@@ -137,14 +148,13 @@ fn check_not_there<R: Files>(
 fn part_target<R: Files>(
     rt: &R,
     alloc: Global,
-    args: &RunArgs<'_>,
-    name: &str,
+    args: &RecordArgs<'_>,
     path: String,
 ) -> Result<Target, Failure> {
     let Ok(part) = part_of(alloc, path.as_str()) else {
         return Err(Failure::from(DeviceFault::Memory));
     };
-    let named = Named::Recording(name);
+    let named = Named::Recording(args.file);
     match fs::symlink_metadata(rt, part.as_str()) {
         Ok(found) if !found.is_file() => {
             let text = format!(in alloc; "{named}: {part} is no regular file");
@@ -170,18 +180,18 @@ fn path_to_write<R: Files>(rt: &R, alloc: Global, name: &str) -> Result<String, 
     }
 }
 
-/// Checks the file of a recording before anything is written. Returns where the run records.
+/// Checks the file of a recording before anything is written. Returns where the chapters are recorded.
 ///
-/// Returns `Write` if the file or its part is one that the run reads, if the part is no regular file, and if the file
-/// exists and is not to be replaced; `Memory` if memory is refused. Other names of a file that the run reads are found out
+/// Returns `Write` if the file or its part is one that is read, if the part is no regular file, and if the file
+/// exists and is not to be replaced; `Memory` if memory is refused. Other names of a file that is read are found out
 /// by their path without links, so a hard link is not.
 pub(crate) fn target_of<R: Files>(
     rt: &R,
     alloc: Global,
-    args: &RunArgs<'_>,
-    name: &str,
+    args: &RecordArgs<'_>,
 ) -> Result<Target, Failure> {
-    check_not_there(rt, alloc, args, name)?;
+    let name = args.file;
+    check_not_there(rt, alloc, args)?;
     let named = Named::Recording(name);
     let Ok(shown) = format!(in alloc; "{named}") else {
         return Err(Failure::from(DeviceFault::Memory));
@@ -191,7 +201,7 @@ pub(crate) fn target_of<R: Files>(
         Ok(found) if !found.is_file() => Ok(Target::Direct),
         // No part stands beside an empty name, which cannot be created.
         Err(_) if name.is_empty() => Ok(Target::Direct),
-        _ => part_target(rt, alloc, args, name, path_to_write(rt, alloc, name)?),
+        _ => part_target(rt, alloc, args, path_to_write(rt, alloc, name)?),
     }
 }
 

@@ -1,7 +1,8 @@
 ghost use Rattle.std.specs.Prelude.{◌<◌, ◌≤◌};
 
 use pon_device::{DeviceFault, MemRead, MemWrite};
-use pon_manage::{PlanEnd, plan};
+use pon_manage::{Notes, PlanEnd, plan};
+use pon_plant::Plant;
 use pon_port::PortCfg;
 use pon_units::{FrameNo, Gap, Profile};
 use std::alloc::{AllocError, Global};
@@ -13,6 +14,14 @@ mod ports;
 const FIRST_MAP: &[u8] = b"0 admit 5 1024 2560 0 2560 none\n0 map\n";
 
 const FIRST_TEXT: &[u8] = b"ok 0\nmap 0 002013ac10020010000b13cb\n";
+
+// Notes no refusal.
+#[derive(Drop)]
+struct Unnoted;
+
+impl Notes for Unnoted {
+    fn note(&mut self, _number: u64, _plant: &Plant, _line: &[u8], _reply: &[u8]) {}
+}
 
 // The result of a run, and the bytes of its writer.
 #[derive(Drop)]
@@ -68,7 +77,14 @@ fn run(alloc: Global, gap: u16, input: &[u8], devices: Devices<'_>) -> Option<An
     let mut reader = reader(alloc, input, &devices)?;
     let mut writer = writer(alloc, &devices)?;
     let steps = Vec::new(alloc);
-    let result = plan(&(), alloc, &ports, steps, &mut reader, &mut writer);
+    let result = plan(
+        alloc,
+        &ports,
+        steps,
+        &mut Unnoted,
+        &mut reader,
+        &mut writer,
+    );
     let text = writer.bytes().to_vec(alloc).ok()?;
     Some(Answered { result, text })
 }

@@ -11,6 +11,11 @@ abbrev pub ReadsFirst : {S : Type 0} → Giving S → Type 0
 ReadsFirst {S} gives =
     (old : S) (line text : List ℕ) (new : S) → (gives old (take 4097 line) text new → gives old line text new) × (gives old line text new → gives old (take 4097 line) text new)
 
+-- paths from state to state: one leads from each state to itself, and two that meet are one
+pub record IsPath {S : Type 0} (path : S → S → Type 0) : Type 0 where
+  pub here : (s : S) → path s s
+  pub joined : (a b c : S) → path a b → path b c → path a c
+
 -- the text of a line is appended to the replies
 abbrev pub AddsReply : {S : Type 0} → Giving S → S → S → List ℕ → List ℕ → List ℕ → Type 0
 AddsReply gives old new line replies_old replies_new = (text : List ℕ) × gives old line text new × (replies_new ≡ replies_old ++ text)

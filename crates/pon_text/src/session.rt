@@ -48,6 +48,7 @@ fn end_line<S, A: Answers<S>>(
         (part.now ++ 10 ∷ []) text
         × (replies.new.items ≡ replies.old.items ++ text)) }
     ensures err { OnErr result (replies.new.items ≡ replies.old.items) }
+    ensures path { A.path state.old state.new }
 {
     if line.is_empty() {
         return answers.answer_line(state, part, replies);
@@ -88,6 +89,7 @@ fn answer_piece<S, A: Answers<S>, W: DevWrite>(
     ensures text { AnswersPiece A.gives state.old line.old.items
         state.new line.new.items piece.now replies.new.items (W.contents writer.old)
         (W.contents writer.new) result }
+    ensures path { A.path state.old state.new }
     ensures failures { TellsWrite (W.failures writer.old) (W.failures writer.new) result }
 {
     let mut rest = piece;
@@ -122,6 +124,7 @@ fn print_piece<S, A: Answers<S>, W: DevWrite>(
     ensures text { PrintsPiece A.gives state.old line.old.items
         state.new line.new.items piece.now (W.contents writer.old)
         (W.contents writer.new) result }
+    ensures path { A.path state.old state.new }
     ensures failures { TellsWrite (W.failures writer.old) (W.failures writer.new) result }
     ensures empty { OnOk result (replies.new.items ≡ []) }
 {
@@ -146,6 +149,7 @@ fn print_line<S, A: Answers<S>, W: DevWrite>(
     requires empty { replies.old.items ≡ [] }
     ensures text { PrintsLine A.gives state.old state.new line.now (W.contents writer.old)
         (W.contents writer.new) result }
+    ensures path { A.path state.old state.new }
     ensures failures { TellsWrite (W.failures writer.old) (W.failures writer.new) result }
 {
     match answers.answer_line(state, line, replies) {
@@ -164,6 +168,7 @@ fn answer_lines<S, A: Answers<S>, R: DevRead, W: DevWrite>(
 ) -> Result<(), DeviceFault>
     ensures text { Planned A.gives state.old state.new (R.remaining reader.old) (R.remaining reader.new)
         (W.contents writer.old) (W.contents writer.new) result }
+    ensures path { A.path state.old state.new }
     ensures end { OnOk result (IsAtEnd (R.remaining reader.new)) }
     ensures read { TellsRead (R.calls reader.old) (R.calls reader.new) (R.failures reader.old)
         (R.failures reader.new) result }
@@ -203,8 +208,8 @@ fn answer_lines<S, A: Answers<S>, R: DevRead, W: DevWrite>(
 /// before the next read. `Read` if the reader failed or 2^64 - 1 reads were made: the text of all whole lines read is
 /// written. `Write` if the writer failed: a prefix of the text is written. `Memory` if memory was refused: the text of
 /// some first lines is written, and nothing of the next one. A line without its line feed at a fault is not answered.
-/// The state after is that after the last line, at the end of the input and after `Read`. The writer is flushed once, at
-/// the end of the input.
+/// The state after is that after the last line, at the end of the input and after `Read`; after each fault it is on the
+/// path. The writer is flushed once, at the end of the input.
 pub fn answer_input<S, A: Answers<S>, R: DevRead, W: DevWrite>(
     alloc: Global,
     answers: &mut A,
@@ -214,6 +219,7 @@ pub fn answer_input<S, A: Answers<S>, R: DevRead, W: DevWrite>(
 ) -> Result<PlanEnd, DeviceFault>
     ensures text { Planned A.gives state.old state.new (R.remaining reader.old) (R.remaining reader.new)
         (W.contents writer.old) (W.contents writer.new) result }
+    ensures path { A.path state.old state.new }
     ensures end { OnOk result (IsAtEnd (R.remaining reader.new)) }
     ensures read { TellsRead (R.calls reader.old) (R.calls reader.new) (R.failures reader.old)
         (R.failures reader.new) result }

@@ -10,4 +10,6 @@ returns c =
       settings = sym (c.get_str-settings.ensures ∙ first_value-rows f (codes "config"));
       strict = c.is_given-strict.ensures;
       verbose = c.is_given-verbose.ensures;
+      recording_file = sym (c.get_str-recording.ensures ∙ first_value-rows f (codes "record"));
+      keeps = c.is_given-keeps.ensures;
     }

@@ -25,6 +25,7 @@ loop-turn-preserved g c = record {
   progress = printed_piece _ _ _ _ _ _ _ _ _ c.loop-turn.invariant.progress (g.W.DevWrite.contents c.print_piece.new.writer) c.print_piece.new.state c.print_piece.new.line.items (take c.in-Ok.len c.read.new.buf)
       c.in-Ok-print_piece.ensures.text.0 c.in-Ok.ensures.bytes.0 c.in-Ok-print_piece.ensures.text.1 c.in-Ok-print_piece.ensures.text.2;
   reads = read_more c.loop-turn._turn (g.R.DevRead.calls c.args.reader.now) (g.R.DevRead.calls c.loop-turn.reader) (g.R.DevRead.calls c.read.new.self) c.loop-turn.invariant.reads c.read.ensures.calls;
+  path = g.met.A.Answers.is_path.joined _ _ _ c.loop-turn.invariant.path c.print_piece.ensures.path;
   none_gathered = c.in-Ok-print_piece.ensures.empty;
   none_failed = c.in-Ok.ensures.failures ∙ c.loop-turn.invariant.none_failed;
   all_written = c.in-Ok-print_piece.ensures.failures ∙ c.loop-turn.invariant.all_written;

@@ -8,6 +8,7 @@ abbrev pub invariant-loop-turn : goal.invariant-loop-turn
 invariant-loop-turn g l = record {
   progress : Progress g.A.Answers.gives l.initial.state (g.R.DevRead.remaining l.initial.reader) (g.R.DevRead.remaining l.reader) (g.W.DevWrite.contents l.initial.writer) (g.W.DevWrite.contents l.writer) l.state l.line.items;
   reads : AfterReads l._turn (g.R.DevRead.calls l.initial.reader) (g.R.DevRead.calls l.reader);
+  path : g.A.Answers.path l.initial.state l.state;
   none_gathered : l.replies.items ≡ [];
   none_failed : g.R.DevRead.failures l.reader ≡ g.R.DevRead.failures l.initial.reader;
   all_written : g.W.DevWrite.failures l.writer ≡ g.W.DevWrite.failures l.initial.writer;

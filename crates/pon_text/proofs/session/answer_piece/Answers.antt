@@ -9,6 +9,7 @@ use Rattle.pon_text.proofs.session.answer_piece.Goals as goal
 pub lines-init : goal.lines-init
 lines-init g c = record {
   reached = reach_nothing g.A.Answers.gives c.args.state.now c.args.line.now.items c.args.piece.now c.args.replies.now.items (g.W.DevWrite.contents c.args.writer.now) c.requires.empty;
+  path = g.met.A.Answers.is_path.here c.args.state.now;
   none_failed = refl;
 }
 
@@ -36,6 +37,7 @@ lines-preserved-in-Ok g c =
     ended.1 (parts.0 ∙ sym (append_assoc c.in-Some.part.now (10 ∷ []) c.in-Some.after.now)) ended.2 in
     record {
       reached = reach_sent _ _ _ _ _ _ _ _ _ _ reached (g.W.DevWrite.contents c.send.new.writer) c.send.new.replies.items c.in-Ok.ensures.text c.in-Ok.ensures.empty;
+      path = g.met.A.Answers.is_path.joined _ _ _ c.lines.invariant.path c.end_line.ensures.path;
       none_failed = c.in-Ok.ensures.failures ∙ c.lines.invariant.none_failed;
     }
 
@@ -47,6 +49,7 @@ lines-preserved g c =
     record {
       reached = reach_more _ _ _ _ _ _ _ _ _ _ c.lines.invariant.reached c.end_line.new.state c.end_line.new.line.items (c.in-Some.part.now ++ 10 ∷ []) c.in-Some.after.now ended.0 c.end_line.new.replies.items
           ended.1 (parts.0 ∙ sym (append_assoc c.in-Some.part.now (10 ∷ []) c.in-Some.after.now)) ended.2;
+      path = g.met.A.Answers.is_path.joined _ _ _ c.lines.invariant.path c.end_line.ensures.path;
       none_failed = c.lines.invariant.none_failed;
     }
 

@@ -1,0 +1,21 @@
+use Rattle.std.proofs.Common.{List, [], inr, subst}
+use Rattle.std.specs.Prelude.{OnOk}
+use Rattle.pon_admit.specs.declared.step.Step.{Step}
+use Rattle.pon_history.specs.Chapters.{Chapter}
+use Rattle.pon_recorder.specs.Recordings.{HasRecorded}
+use Rattle.pon_recorder.specs.Whole.{all_kept}
+use Rattle.pon_manage.specs.Planning.{IsStart}
+use Rattle.pon_manage.specs.declared.recorded.RecordedPlant.{RecordedPlant}
+use Rattle.pon_manage.proofs.RecordedPlans.{planned_recorded}
+use Rattle.pon_manage.proofs.planning.plan_recorded.Goals as goal
+
+pub returns-in-Ok-clause-text : goal.returns-in-Ok-clause-text
+returns-in-Ok-clause-text g c =
+    let first : RecordedPlant g.row.D.Denot = record { plant = c.in-Ok.plant; recorder = c.args.recorder } in
+    let last : RecordedPlant g.row.D.Denot = c.answer_input-lines.new.state in
+    let tape = g.D.DevWrite.contents c.end_with-recording.result.device in
+    let ended = c.end_with-recording.result.result in
+    let begins = subst (λ (steps : List Step). IsStart c.args.ports.now steps c.in-Ok.plant) c.as_slice.ensures.value c.in-Ok.ensures in
+    let kept = subst (λ (ports : List Chapter). OnOk ended (HasRecorded (g.D.DevWrite.contents last.recorder.file.device) last.recorder.file.left tape [] (all_kept ports))) c.into_ports.ensures c.end_with-recording.ensures.written in
+    inr (planned_recorded g.D.DevWrite.contents first last c.answer_input-lines.ensures.path tape c.args.ports.now c.args.steps.items _ _ _ _ c.answer_input-lines.result ended
+    begins c.answer_input-lines.ensures.text c.end_with-recording.ensures.sound kept)

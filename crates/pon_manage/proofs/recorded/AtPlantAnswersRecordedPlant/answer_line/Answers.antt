@@ -1,0 +1,9 @@
+use Rattle.std.proofs.Common.{ap, length, subst, sym, ◌∙◌}
+use Rattle.pon_line.specs.Reading.{AsksWithin, read_line}
+use Rattle.pon_line.proofs.Asking.{read_line-within}
+use Rattle.pon_manage.proofs.recorded.AtPlantAnswersRecordedPlant.answer_line.Goals as goal
+
+pub answer_in_room-answered-requires : goal.answer_in_room-answered-requires
+answer_in_room-answered-requires g c =
+    let ports = length c.args.at.now.plant in
+    subst (AsksWithin ports) (sym (c.read-reading.ensures ∙ ap (λ n. read_line n c.args.line.now) c.count.ensures.count)) (read_line-within ports c.args.line.now)
