@@ -8,3 +8,4 @@ pub mod OpenedStates
 pub mod RowSearch
 pub mod SameStates
 pub mod Equality
+pub mod AfterBatch

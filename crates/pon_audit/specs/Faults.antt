@@ -1,6 +1,10 @@
 -- The fault of an entry in the state before it. Of several faults the first counts, in this order: event, certificate,
 -- words, bursts.
-use Rattle.std.specs.Prelude.{ℕ, ◌≡◌, ◌≢◌, ◌+◌, map, take, slice_get, Some, None}
+use Rattle.std.specs.Prelude.{ℕ, ◌≡◌, ◌≢◌, ◌+◌, map, take, slice_get, Option, Some, None}
+use Rattle.pon_admit.specs.declared.event.Event.TheVariants.{MakeMap}
+use Rattle.pon_cert.specs.declared.cert.MapCert.{MapCert}
+use Rattle.pon_demand.specs.Problems.{AreProblems}
+use Rattle.pon_demand.specs.declared.problems.Problems.{Problems}
 use Rattle.pon_demand.specs.Rates.{planned_grants}
 use Rattle.pon_demand.specs.Sharing.{IsCertified, surplus_rate}
 use Rattle.pon_state.specs.State.{State, carry_at, input_of}
@@ -36,6 +40,15 @@ MapFails s m why = ⊥
 abbrev pub ReplyFails : State → Reply → AuditReason → Type 0
 ReplyFails s (Map m) why = MapFails s m why
 ReplyFails s Taken why = ⊥
+
+-- the entry of a map
+abbrev pub map_entry : MadeMap → Entry
+map_entry m = record { event = MakeMap; reply = Map m }
+
+-- the class problems of a state, which accept a certificate; none if they do not
+abbrev pub HasAccepted : State → MapCert → Option Problems → Type 0
+HasAccepted s cert None = IsCertified (input_of s) cert → ⊥
+HasAccepted s cert (Some p) = AreProblems (input_of s) p × IsCertified (input_of s) cert
 
 -- an entry fails after `kept` entries of its chapter: a check refuses the event, or its map is not the one that the
 -- state makes

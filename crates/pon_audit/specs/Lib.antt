@@ -6,4 +6,5 @@ pub mod Judging
 pub mod Verdicts
 pub mod Texts
 pub mod Streams
+pub mod Auditing
 pub mod Answers

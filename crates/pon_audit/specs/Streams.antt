@@ -28,6 +28,11 @@ ReadsBatch bytes whole p left b = EndsBatch bytes (whole ++ b.chapters.items) p 
 abbrev pub AreAudited : List PlacedChapter → Audit → Type 0
 AreAudited chapters a = MatchOption a.found (AreJudged chapters a.ends × (a.maps ≡ sum_by maps_in chapters)) (TellsBad chapters)
 
+-- after a batch that follows earlier chapters: the audit has its chapters too if there are more, or this is the verdict
+abbrev pub EndsAudit : List PlacedChapter → Batch → Audit → Option Verdict → Type 0
+EndsAudit earlier b a None = (b.end ≡ More) × AreAudited (earlier ++ b.chapters.items) a
+EndsAudit earlier b a (Some v) = (bytes : List ℕ) (p : Position) (left : Option (List ℕ)) → ReadsBatch bytes earlier p left b → IsVerdict bytes v
+
 -- the verdict on the bytes of a device, if it states them
 abbrev pub IsVerdictOf : Option (List ℕ) → Verdict → Type 0
 IsVerdictOf None v = Unit {0}

@@ -1,41 +1,130 @@
 //! The audit of the bytes of a recording, from a device or in memory.
 
-ghost use Rattle.std.specs.Prelude.{ℕ, [], IfOk, List};
-ghost use Rattle.pon_record.specs.Streams.{StandsAfter};
+ghost use Rattle.std.specs.Prelude.{◌≡◌, ℕ, All, IfErr, IfOk, List, Option};
+ghost use Rattle.std.specs.List.{AllZip};
+ghost use Rattle.pon_device.specs.declared.fault.DeviceFault.TheVariants.{Memory};
+ghost use Rattle.pon_audit.specs.Openings.{FitsRecording};
+ghost use Rattle.pon_audit.specs.Judging.{IsJudgment};
+ghost use Rattle.pon_audit.specs.Auditing.{BeginsAudit, GoesOn, HasRead, IsAuditing, WasRead};
 ghost use Rattle.pon_audit.specs.Streams.{IsVerdictOf, TellsFailure};
 ghost use Rattle.pon_audit.specs.Verdicts.{IsVerdict};
 
+use crate::chapters::Judged;
 use crate::progress::Audit;
-use crate::reading::read_batch;
+use crate::reading::{Batch, read_batch};
 use crate::verdict::Verdict;
 use pon_device::{DevRead, DeviceFault, StdRead};
 use pon_record::{ChapterReader, StreamFault};
 use std::alloc::{AllocError, Global};
 use std::thread::Threads;
 
-// Audits the chapters of a recording whose magic bytes are read. `Read` exactly if the device fails, else `Memory`.
-fn audit_chapters<R: DevRead>(
-    rt: &(impl Threads + Sync),
-    alloc: Global,
-    source: &mut ChapterReader,
-    reader: &mut R,
-) -> Result<Verdict, DeviceFault>
-    ensures verdict { IfOk result (λ v. (bytes : List ℕ)
-        → StandsAfter bytes [] source.old (R.remaining reader.old) → IsVerdict bytes v) }
-    ensures failures { TellsFailure (R.failures reader.old) (R.failures reader.new) result }
-{
-    let Ok(mut audit) = Audit::open(alloc) else {
-        return Err(DeviceFault::Memory);
-    };
-    for _batch in 0..u64::MAX {
-        let batch = read_batch(alloc, source, reader)?;
-        match audit.take_batch(rt, alloc, &batch) {
-            Ok(Some(verdict)) => return Ok(verdict),
-            Ok(None) => {}
-            Err(_) => return Err(DeviceFault::Memory),
+/// An audit that goes on batch by batch: what is left to read of the recording, and what was judged.
+#[derive(Drop)]
+pub struct Auditing {
+    source: ChapterReader,
+    audit: Audit,
+}
+
+/// The next chapters of a recording, which are read and judged, and the verdict on it if they are the last.
+#[derive(Drop)]
+pub struct Step {
+    pub batch: Batch,
+    pub verdict: Option<Verdict>,
+}
+
+impl Auditing {
+    /// Reads the magic bytes of a recording; returns the verdict if they are wrong or cut.
+    ///
+    /// `Read` exactly if the device fails. `Memory` if memory is refused.
+    pub fn open<R: DevRead>(
+        alloc: Global,
+        reader: &mut R,
+    ) -> Result<Result<Auditing, Verdict>, DeviceFault>
+        ensures begins { IfOk result (BeginsAudit (R.remaining reader.old) (R.remaining reader.new)) }
+        ensures failures { TellsFailure (R.failures reader.old) (R.failures reader.new) result }
+    {
+        let Ok(audit) = Audit::open(alloc) else {
+            return Err(DeviceFault::Memory);
+        };
+        match ChapterReader::open(alloc, reader) {
+            Ok(source) => Ok(Ok(Auditing { source, audit })),
+            Err(StreamFault::BadFormat { at }) => Ok(Err(Verdict::BadFormat { at })),
+            Err(StreamFault::Truncated { at }) => Ok(Err(Verdict::Truncated { at })),
+            Err(StreamFault::Read) => Err(DeviceFault::Read),
+            Err(StreamFault::Memory) => Err(DeviceFault::Memory),
         }
     }
-    Err(DeviceFault::Memory)
+
+    /// Reads the next chapters: at most 64, and no further one after as many entries as four full chapters have.
+    ///
+    /// `Read` exactly if the device fails. `Memory` if memory is refused, or if the place of a chapter is 2^64 or more.
+    pub fn read<R: DevRead>(&mut self, alloc: Global, reader: &mut R) -> Result<Batch, DeviceFault>
+        ensures fit { IfOk result (λ b. All (λ c. FitsRecording c.body) b.chapters.items) }
+        ensures batch { IfOk result (λ b. (start : Option (List ℕ))
+            → IsAuditing start self.old (R.remaining reader.old)
+            → HasRead start self.new b (R.remaining reader.new)) }
+        ensures failures { TellsFailure (R.failures reader.old) (R.failures reader.new) result }
+    {
+        read_batch(alloc, &mut self.source, reader)
+    }
+
+    /// Judges the chapters that were read; returns the verdict on the recording if they are the last. After a chapter that
+    /// fails none is judged. Two or more chapters with [`PARALLEL_MAPS`](crate::PARALLEL_MAPS) maps are judged in as many
+    /// threads as there are processors. `Memory` only if memory is refused.
+    pub fn judge(
+        &mut self,
+        rt: &(impl Threads + Sync),
+        alloc: Global,
+        batch: &Batch,
+    ) -> Result<Option<Verdict>, DeviceFault>
+        requires fit { All (λ c. FitsRecording c.body) batch.now.chapters.items }
+        requires read { WasRead self.old batch.now }
+        ensures judged { IfOk result (λ found. (start left : Option (List ℕ))
+            → HasRead start self.old batch.now left → GoesOn start self.new left found) }
+        ensures err { IfErr result (λ fault. fault ≡ Memory) }
+    {
+        match self.audit.take_batch(rt, alloc, batch) {
+            Ok(found) => Ok(found),
+            Err(_) => Err(DeviceFault::Memory),
+        }
+    }
+
+    /// As [`Auditing::judge`], with the answers on the chapters, each regardless of those before it.
+    pub fn place(
+        &mut self,
+        batch: &Batch,
+        answers: Vec<Judged>,
+    ) -> Result<Option<Verdict>, DeviceFault>
+        requires answers { AllZip IsJudgment batch.now.chapters.items answers.items }
+        requires read { WasRead self.old batch.now }
+        ensures judged { IfOk result (λ found. (start left : Option (List ℕ))
+            → HasRead start self.old batch.now left → GoesOn start self.new left found) }
+        ensures err { IfErr result (λ fault. fault ≡ Memory) }
+    {
+        match self.audit.take_answered_batch(batch, answers) {
+            Ok(found) => Ok(found),
+            Err(_) => Err(DeviceFault::Memory),
+        }
+    }
+
+    /// Reads and judges the next chapters, as [`Auditing::read`] and [`Auditing::judge`] do.
+    pub fn next<R: DevRead>(
+        &mut self,
+        rt: &(impl Threads + Sync),
+        alloc: Global,
+        reader: &mut R,
+    ) -> Result<Step, DeviceFault>
+        requires { (start : Option (List ℕ)) × IsAuditing start self.old (R.remaining reader.old) }
+        ensures fit { IfOk result (λ s. All (λ c. FitsRecording c.body) s.batch.chapters.items) }
+        ensures judged { IfOk result (λ s. (start : Option (List ℕ))
+            → IsAuditing start self.old (R.remaining reader.old)
+            → GoesOn start self.new (R.remaining reader.new) s.verdict) }
+        ensures failures { TellsFailure (R.failures reader.old) (R.failures reader.new) result }
+    {
+        let batch = self.read(alloc, reader)?;
+        let verdict = self.judge(rt, alloc, &batch)?;
+        Ok(Step { batch, verdict })
+    }
 }
 
 /// Audits the recording that a device gives, chapter by chapter, to the end of the device or to the first fault of the
@@ -59,13 +148,17 @@ pub fn audit_from<R: DevRead>(
     ensures verdict { IfOk result (λ v. IsVerdictOf (R.remaining reader.old) v) }
     ensures failures { TellsFailure (R.failures reader.old) (R.failures reader.new) result }
 {
-    match ChapterReader::open(alloc, reader) {
-        Ok(mut source) => audit_chapters(rt, alloc, &mut source, reader),
-        Err(StreamFault::BadFormat { at }) => Ok(Verdict::BadFormat { at }),
-        Err(StreamFault::Truncated { at }) => Ok(Verdict::Truncated { at }),
-        Err(StreamFault::Read) => Err(DeviceFault::Read),
-        Err(StreamFault::Memory) => Err(DeviceFault::Memory),
+    let mut auditing = match Auditing::open(alloc, reader)? {
+        Ok(auditing) => auditing,
+        Err(verdict) => return Ok(verdict),
+    };
+    for _batch in 0..u64::MAX {
+        let Step { verdict, .. } = auditing.next(rt, alloc, reader)?;
+        if let Some(verdict) = verdict {
+            return Ok(verdict);
+        }
     }
+    Err(DeviceFault::Memory)
 }
 
 /// Audits the bytes of a recording in memory, as [`audit_from`] does. `Err` only if memory is refused.

@@ -40,9 +40,9 @@ fn judge_in_parallel(
         .collect::<Result<Vec<Judged>, AllocError>>(rt, alloc)?
 }
 
-// Returns the verdict if one of the chapters after those judged fails, from the answers on them alone. `None` if all are
-// good, and then they are judged too. `Err` only if memory is refused.
-fn place_all(
+/// Returns the verdict if one of the chapters after those judged fails, from the answers on them alone. `None` if all are
+/// good, and then they are judged too. `Err` only if memory is refused.
+pub(crate) fn place_all(
     ends: &mut Ends,
     chapters: &[RawChapter],
     answers: Vec<Judged>,

@@ -17,7 +17,7 @@ use std::alloc::{AllocError, Global};
 /// The fault of a chapter: the index of the entry that fails, and why. The index is 0 for a fault of the opening, the chain
 /// or the number.
 #[derive(Clone, Copy, Debug, PartialEq, Eq)]
-pub(crate) struct Fault {
+pub struct Fault {
     pub index: usize,
     pub why: AuditReason,
 }
@@ -33,7 +33,7 @@ impl Fault {
 
 /// The answer on one chapter, regardless of the chapters before it.
 #[derive(Drop)]
-pub(crate) enum Judged {
+pub enum Judged {
     /// The opening is not lawful.
     Unlawful,
     /// The opening is lawful, and an entry fails.
@@ -66,7 +66,7 @@ fn entry_fault(
 }
 
 /// Judges a chapter regardless of those before it. `Err` only if memory is refused.
-pub(crate) fn judge(alloc: Global, chapter: &RawChapter) -> Result<Judged, AllocError>
+pub fn judge(alloc: Global, chapter: &RawChapter) -> Result<Judged, AllocError>
     requires { FitsRecording chapter.now.body }
     ensures { IfOk result (λ answer. IsJudgment chapter.now answer) }
 {

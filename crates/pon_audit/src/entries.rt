@@ -4,6 +4,7 @@ ghost use Rattle.std.specs.Prelude.{◌≡◌, ◌↔◌, ◌+◌, ◌<◌, ◌^
 ghost use Rattle.pon_admit.specs.Roster.{IsAdmitted};
 ghost use Rattle.pon_guar.specs.Window.{AreConsecutive};
 ghost use Rattle.pon_demand.specs.Maps.{map_of};
+ghost use Rattle.pon_demand.specs.Problems.{AreProblems};
 ghost use Rattle.pon_demand.specs.Sharing.{IsCertified, surplus_rate};
 ghost use Rattle.pon_state.specs.Accounts.{AccountsFor};
 ghost use Rattle.pon_state.specs.After.{after_entry, after_map};
@@ -13,13 +14,14 @@ ghost use Rattle.pon_demand.specs.Carries.{AreCarries};
 ghost use Rattle.pon_state.specs.Carries.{carries_left};
 ghost use Rattle.pon_state.specs.State.{carry_at, input_of};
 ghost use Rattle.pon_record.specs.Chapters.{reply_to};
-ghost use Rattle.pon_audit.specs.Faults.{EntryFails, HasWrongWords, MapFails};
+ghost use Rattle.pon_audit.specs.Faults.{EntryFails, HasAccepted, HasWrongWords, MapFails, map_entry};
 
 use crate::verdict::AuditReason;
 use pon_admit::Event;
 use pon_bwmap::{Alloc, Map};
+use pon_cert::MapCert;
 use pon_check::check_map;
-use pon_demand::MapBuffers;
+use pon_demand::{MapBuffers, Problems};
 use pon_state::{
     Entry, EntryRef, MadeMap, MapUnder, PortState, Reply, add_map, map_under, next_problems,
     prove_in_range, refusal_of, step,
@@ -95,30 +97,47 @@ fn map_fault(state: &PortState, wanted: &Map, made: &MadeMap) -> Option<AuditRea
     }
 }
 
-// Checks a map, and applies it to the state if it is the one that the state makes. `buffers` is memory for its demands and
-// grants. `Err` only if memory is refused.
-fn take_map(
+/// Computes the class problems of the next map of a state, in the memory of `buffers`, if they accept a certificate; `None`
+/// if they do not. `Err` only if memory is refused.
+pub fn accepted_problems(
+    alloc: Global,
+    buffers: &mut MapBuffers,
+    state: &PortState,
+    cert: &MapCert,
+) -> Result<Option<Problems>, AllocError>
+    requires { IsAdmitted state.now.rule state.now.gap state.now.roster }
+    ensures { IfOk result (HasAccepted state.now cert.now) }
+{
+    let problems = next_problems(alloc, buffers, state)?;
+    let (na, be) = (problems.na.items.as_slice(), problems.be.items.as_slice());
+    if check_map(na, be, problems.surplus, cert).is_err() {
+        return Ok(None);
+    }
+    Ok(Some(problems))
+}
+
+// Checks a map with an accepted certificate, and applies it to the state if it is the one that the state makes. `Err` only
+// if memory is refused.
+fn take_accepted(
     alloc: Global,
     buffers: &mut MapBuffers,
     state: &mut PortState,
     made: &MadeMap,
+    problems: Problems,
 ) -> Result<Option<AuditReason>, AllocError>
     requires admitted { IsAdmitted state.old.rule state.old.gap state.old.roster }
     requires carries { AreCarries state.old.rule state.old.roster state.old.carries }
     requires frames { AreConsecutive state.old.next state.old.window }
     requires next { state.old.next + 1 < 2 ^ 64 }
     requires count { state.old.taken_before + 1 < 2 ^ 64 }
+    requires problems { AreProblems (input_of state.old) problems }
+    requires certified { IsCertified (input_of state.old) made.now.cert }
     ensures { IfOk result (λ found. MatchOption found
         (IsMade state.old made.now
         × (state.new ≡ after_map state.old (grants_in_map state.old.roster made.now.map)
         (carries_left state.old (Reply.Map made.now))))
         (MapFails state.old made.now)) }
 {
-    let problems = next_problems(alloc, buffers, state)?;
-    let (na, be) = (problems.na.items.as_slice(), problems.be.items.as_slice());
-    if check_map(na, be, problems.surplus, &made.cert).is_err() {
-        return Ok(Some(AuditReason::Certificate));
-    }
     let MapUnder {
         map,
         grants,
@@ -130,6 +149,35 @@ fn take_map(
         buffers.keep_grants(add_map(state, grants, carries)?);
     }
     Ok(fault)
+}
+
+/// Checks a map that follows `kept` entries of its chapter, and applies it to the state if it may follow. `problems` are
+/// those of the state, if they accept its certificate. `buffers` is memory for its demands and grants. `Err` only if memory is
+/// refused.
+pub fn take_map(
+    alloc: Global,
+    buffers: &mut MapBuffers,
+    state: &mut PortState,
+    kept: usize,
+    made: &MadeMap,
+    problems: Option<Problems>,
+) -> Result<Option<AuditReason>, AllocError>
+    requires admitted { IsAdmitted state.old.rule state.old.gap state.old.roster }
+    requires carries { AreCarries state.old.rule state.old.roster state.old.carries }
+    requires frames { AreConsecutive state.old.next state.old.window }
+    requires problems { HasAccepted state.old made.now.cert problems }
+    ensures { IfOk result (λ found. MatchOption found
+        (MayFollow kept state.old (map_entry made.now)
+        × (state.new ≡ after_entry state.old (map_entry made.now)))
+        (EntryFails kept state.old (map_entry made.now))) }
+{
+    if refusal_of(state, kept, &Event::MakeMap).is_some() {
+        return Ok(Some(AuditReason::Event));
+    }
+    match problems {
+        Some(problems) => take_accepted(alloc, buffers, state, made, problems),
+        None => Ok(Some(AuditReason::Certificate)),
+    }
 }
 
 /// Checks an entry that follows `kept` entries of its chapter, and applies it to the state if it may follow. `buffers` is
@@ -152,10 +200,8 @@ pub fn take_entry(
 {
     match entry.as_ref() {
         EntryRef::Map(made) => {
-            if refusal_of(state, kept, &Event::MakeMap).is_some() {
-                return Ok(Some(AuditReason::Event));
-            }
-            take_map(alloc, buffers, state, made)
+            let problems = accepted_problems(alloc, buffers, state, &made.cert)?;
+            take_map(alloc, buffers, state, kept, made, problems)
         }
         EntryRef::Taken(event) => {
             if refusal_of(state, kept, event).is_some() {

@@ -21,8 +21,10 @@ mod reading;
 mod verdict;
 
 pub use answer::write_verdict;
-pub use auditing::{audit, audit_from};
+pub use auditing::{Auditing, Step, audit, audit_from};
 pub use batches::PARALLEL_MAPS;
-pub use entries::take_entry;
+pub use chapters::{Fault, Judged, judge};
+pub use entries::{accepted_problems, take_entry, take_map};
 pub use openings::open_state;
+pub use reading::{Batch, BatchEnd};
 pub use verdict::{AuditReason, Verdict};

@@ -1,15 +1,18 @@
 //! The audit of a recording, batch by batch.
 
 ghost use Rattle.std.specs.Prelude.{◌≡◌, ◌+◌, ◌++◌, ℕ, All, IfOk, IfSome, List, MatchOption, OnOk, Option, [], sum_by};
+ghost use Rattle.std.specs.List.{AllZip};
 ghost use Rattle.pon_record.specs.Chapters.{PlacedChapter};
 ghost use Rattle.pon_record.specs.Recordings.{IsRecording, IsTruncated};
 ghost use Rattle.pon_record.specs.Streams.{Position};
 ghost use Rattle.pon_audit.specs.Openings.{FitsRecording};
-ghost use Rattle.pon_audit.specs.Streams.{AreAudited, ReadsBatch};
+ghost use Rattle.pon_audit.specs.Judging.{IsJudgment};
+ghost use Rattle.pon_audit.specs.Streams.{AreAudited, EndsAudit, EndsBatch};
 ghost use Rattle.pon_audit.specs.Verdicts.{IsVerdict, maps_in};
 ghost use Rattle.pon_audit.specs.declared.reading.BatchEnd.TheVariants.{More};
 
-use crate::batches::judge_batch;
+use crate::batches::{judge_batch, place_all};
+use crate::chapters::Judged;
 use crate::ends::Ends;
 use crate::reading::{Batch, BatchEnd};
 use crate::verdict::Verdict;
@@ -81,6 +84,28 @@ impl Audit {
         Ok(())
     }
 
+    // As `take`, with the answers on the chapters, each regardless of those before it. `Err` only if memory is refused.
+    fn take_answers(
+        &mut self,
+        chapters: &[RawChapter],
+        answers: Vec<Judged>,
+    ) -> Result<(), AllocError>
+        requires answers { AllZip IsJudgment chapters.now answers.items }
+        requires audited { (earlier : List PlacedChapter) × AreAudited earlier self.old }
+        ensures { OnOk result ((earlier : List PlacedChapter) → AreAudited earlier self.old
+            → AreAudited (earlier ++ chapters.now) self.new) }
+    {
+        if let Some(_verdict) = self.found {
+            return Ok(());
+        }
+        let Some(sum) = add_maps(self.maps, chapters) else {
+            return Err(AllocError);
+        };
+        self.found = place_all(&mut self.ends, chapters, answers)?;
+        self.maps = sum;
+        Ok(())
+    }
+
     // Returns the verdict on a recording of the chapters audited.
     fn end(&self) -> Verdict
         ensures { (bytes : List ℕ) (chapters : List PlacedChapter) → AreAudited chapters self.now
@@ -103,6 +128,21 @@ impl Audit {
         }
     }
 
+    // Returns the verdict after the last batch, which ends like this; `None` if there are more.
+    fn verdict_at(&self, end: BatchEnd) -> Option<Verdict>
+        ensures { MatchOption result (end ≡ More) (λ v. (bytes : List ℕ)
+            (chapters : List PlacedChapter) (p : Position) (left : Option (List ℕ))
+            → AreAudited chapters self.now → EndsBatch bytes chapters p left end
+            → IsVerdict bytes v) }
+    {
+        match end {
+            BatchEnd::More => None,
+            BatchEnd::Whole => Some(self.end()),
+            BatchEnd::Cut { at } => Some(self.cut(at)),
+            BatchEnd::Malformed { at } => Some(Verdict::BadFormat { at }),
+        }
+    }
+
     /// Audits the next batch. Returns the verdict if it is the last one. `Err` only if memory is refused.
     pub fn take_batch(
         &mut self,
@@ -112,28 +152,29 @@ impl Audit {
     ) -> Result<Option<Verdict>, AllocError>
         requires fit { All (λ c. FitsRecording c.body) batch.now.chapters.items }
         requires audited { (earlier : List PlacedChapter) × AreAudited earlier self.old }
-        ensures goes_on { IfOk result (λ found. MatchOption found ((batch.now.end ≡ More)
-            × ((earlier : List PlacedChapter) → AreAudited earlier self.old
-            → AreAudited (earlier ++ batch.now.chapters.items) self.new)) (λ v. Unit {0})) }
-        ensures verdict { IfOk result (λ found. IfSome found (λ v. (bytes : List ℕ)
-            (whole : List PlacedChapter) (p : Position) (left : Option (List ℕ))
-            → AreAudited whole self.old → ReadsBatch bytes whole p left batch.now
-            → IsVerdict bytes v)) }
+        ensures { IfOk result (λ found. (earlier : List PlacedChapter) → AreAudited earlier self.old
+            → EndsAudit earlier batch.now self.new found) }
     {
-        match batch.end {
-            BatchEnd::More => {
-                self.take(rt, alloc, &batch.chapters)?;
-                Ok(None)
-            }
-            BatchEnd::Whole => {
-                self.take(rt, alloc, &batch.chapters)?;
-                Ok(Some(self.end()))
-            }
-            BatchEnd::Cut { at } => {
-                self.take(rt, alloc, &batch.chapters)?;
-                Ok(Some(self.cut(at)))
-            }
-            BatchEnd::Malformed { at } => Ok(Some(Verdict::BadFormat { at })),
+        if let BatchEnd::Malformed { at } = batch.end {
+            return Ok(Some(Verdict::BadFormat { at }));
         }
+        self.take(rt, alloc, &batch.chapters)?;
+        Ok(self.verdict_at(batch.end))
+    }
+
+    /// As [`Audit::take_batch`], with the answers on the chapters of the batch, each regardless of those before it. `Err` only
+    /// if memory is refused.
+    pub fn take_answered_batch(
+        &mut self,
+        batch: &Batch,
+        answers: Vec<Judged>,
+    ) -> Result<Option<Verdict>, AllocError>
+        requires answers { AllZip IsJudgment batch.now.chapters.items answers.items }
+        requires audited { (earlier : List PlacedChapter) × AreAudited earlier self.old }
+        ensures { IfOk result (λ found. (earlier : List PlacedChapter) → AreAudited earlier self.old
+            → EndsAudit earlier batch.now self.new found) }
+    {
+        self.take_answers(&batch.chapters, answers)?;
+        Ok(self.verdict_at(batch.end))
     }
 }

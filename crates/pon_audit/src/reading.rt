@@ -19,7 +19,7 @@ const BATCH_ENTRIES: usize = 4 * MAX_ENTRIES;
 
 /// Why a batch has no further chapter.
 #[derive(Clone, Copy, Debug, PartialEq, Eq)]
-pub(crate) enum BatchEnd {
+pub enum BatchEnd {
     /// The batch is full.
     More,
     /// The recording is whole.
@@ -32,7 +32,7 @@ pub(crate) enum BatchEnd {
 
 /// The next chapters of a recording, and why there are no more of them.
 #[derive(Drop)]
-pub(crate) struct Batch {
+pub struct Batch {
     pub chapters: Vec<RawChapter>,
     pub end: BatchEnd,
 }

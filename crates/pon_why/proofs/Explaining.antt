@@ -56,6 +56,15 @@ module _ (s : State) (cert : MapCert) (apart : IsDistinct s.roster) (same : leng
   spelled_in : (c : Class) → d.class ≡ c → surplus_rate (input_of s) cert at.row ≡ rate_in c (spelled_rate (input_of s) NonAssured cert.na at.row) (spelled_rate (input_of s) BestEffort cert.be at.row)
   spelled_in c e = ap (λ c. rate_in c (spelled_rate (input_of s) NonAssured cert.na at.row) (spelled_rate (input_of s) BestEffort cert.be at.row)) (ap (λ d. d.class) (sym at.demand) ∙ e)
 
+  pub rate_plain : d.class ≡ Plain → record { num = 0; den = 1 } ≡ surplus_rate (input_of s) cert at.row
+  rate_plain e = sym (spelled_in Plain e)
+
+  pub rate_na : (f : Bool) → d.class ≡ NonAssured → f ≡ is_saturated NonAssured s.roster cert.na at.row.alloc_id → record { num = amount cert.na.level d.item f; den = denominator cert.na.level } ≡ surplus_rate (input_of s) cert at.row
+  rate_na f e flag = (λ j. record { num = amount cert.na.level (at.demand j).item (flag j); den = denominator cert.na.level }) ∙ sym (spelled_in NonAssured e)
+
+  pub rate_be : (f : Bool) → d.class ≡ BestEffort → f ≡ is_saturated BestEffort s.roster cert.be at.row.alloc_id → record { num = amount cert.be.level d.item f; den = denominator cert.be.level } ≡ surplus_rate (input_of s) cert at.row
+  rate_be f e flag = (λ j. record { num = amount cert.be.level (at.demand j).item (flag j); den = denominator cert.be.level }) ∙ sym (spelled_in BestEffort e)
+
   rows_more : (xs : List Explanation) (r : Row) (o : Option Counted) (surplus : Frac) (n : ℕ) (x : Explanation) → x ≡ numbers_of r d o surplus n → r ≡ get_or s.roster i r → o ≡ known_report (account_of s.book r.alloc_id) → surplus ≡ surplus_rate (input_of s) cert at.row →
       n ≡ slice_index s.carries i → xs ≡ map (explanation_of s cert) (take i s.roster) → xs ++ x ∷ [] ≡ map (explanation_of s cert) (take (i + 1) s.roster)
   rows_more xs r o surplus n x is here report share carry so_far =
@@ -79,7 +88,7 @@ module _ (s : State) (cert : MapCert) (apart : IsDistinct s.roster) (same : leng
   explained_plain xs na be r o n x h e is here report carry =
       let owed : ℕ = slice_index s.carries i + (d.guaranteed + 0) in
       let next = dealt_plain (input_of s) cert s.carries apart same d i at grants_so_far left_so_far na be (words_of d owed) (slice_index s.carries i) (left_over s.rule owed) (dealt xs na be h) refl e (record { grant = refl; leaves = refl }) in
-      record { rows = rows_more xs r o (record { num = 0; den = 1 }) n x is here report (sym (spelled_in Plain e)) carry h.rows; na = next.na; be = next.be }
+      record { rows = rows_more xs r o (record { num = 0; den = 1 }) n x is here report (rate_plain e) carry h.rows; na = next.na; be = next.be }
 
   pub explained_na : (xs : List Explanation) (na be rest : List Bool) (f : Bool) (r : Row) (o : Option Counted) (surplus : Frac) (n : ℕ) (x : Explanation) → Explained s cert i xs na be → d.class ≡ NonAssured →
       (f ≡ is_saturated NonAssured s.roster cert.na at.row.alloc_id) × (rest ≡ map (λ r. is_saturated NonAssured s.roster cert.na r.alloc_id) (members NonAssured (drop (i + 1) s.roster))) →
@@ -89,7 +98,7 @@ module _ (s : State) (cert : MapCert) (apart : IsDistinct s.roster) (same : leng
       let part : ℕ = amount cert.na.level d.item f / denominator cert.na.level in
       let owed : ℕ = slice_index s.carries i + (d.guaranteed + part) in
       let next = dealt_na (input_of s) cert s.carries apart same d i at grants_so_far left_so_far na be rest f part (words_of d owed) (slice_index s.carries i) (left_over s.rule owed) (dealt xs na be h) refl e flag refl (record { grant = refl; leaves = refl }) in
-      let own : surplus ≡ surplus_rate (input_of s) cert at.row = share ∙ (λ j. record { num = amount cert.na.level (at.demand j).item (flag.0 j); den = denominator cert.na.level }) ∙ sym (spelled_in NonAssured e) in
+      let own : surplus ≡ surplus_rate (input_of s) cert at.row = share ∙ rate_na f e flag.0 in
       record { rows = rows_more xs r o surplus n x is here report own carry h.rows; na = next.na; be = next.be }
 
   pub explained_be : (xs : List Explanation) (na be rest : List Bool) (f : Bool) (r : Row) (o : Option Counted) (surplus : Frac) (n : ℕ) (x : Explanation) → Explained s cert i xs na be → d.class ≡ BestEffort →
@@ -100,5 +109,5 @@ module _ (s : State) (cert : MapCert) (apart : IsDistinct s.roster) (same : leng
       let part : ℕ = amount cert.be.level d.item f / denominator cert.be.level in
       let owed : ℕ = slice_index s.carries i + (d.guaranteed + part) in
       let next = dealt_be (input_of s) cert s.carries apart same d i at grants_so_far left_so_far na be rest f part (words_of d owed) (slice_index s.carries i) (left_over s.rule owed) (dealt xs na be h) refl e flag refl (record { grant = refl; leaves = refl }) in
-      let own : surplus ≡ surplus_rate (input_of s) cert at.row = share ∙ (λ j. record { num = amount cert.be.level (at.demand j).item (flag.0 j); den = denominator cert.be.level }) ∙ sym (spelled_in BestEffort e) in
+      let own : surplus ≡ surplus_rate (input_of s) cert at.row = share ∙ rate_be f e flag.0 in
       record { rows = rows_more xs r o surplus n x is here report own carry h.rows; na = next.na; be = next.be }

@@ -1,3 +1,4 @@
 mod Explaining
 mod LastPlaces
+mod Rating
 mod Retaking

@@ -9,8 +9,10 @@
 mod copy;
 mod last;
 mod numbers;
+mod rates;
 mod retake;
 
 pub use copy::{ChapterCopy, copy_chapter};
 pub use last::{LastExplanation, LastWhy, explain_last, level_in};
 pub use numbers::{Explanation, explain};
+pub use rates::{RowRates, rates_under};

@@ -76,8 +76,8 @@ fn share(level: &Level, item: &Item, saturated: bool) -> Frac
     }
 }
 
-// Returns the first flag, and the flags after it.
-fn first_flag(saturated: &[bool]) -> (bool, &[bool])
+/// Returns the first flag, and the flags after it.
+pub(crate) fn first_flag(saturated: &[bool]) -> (bool, &[bool])
     requires { 0 < length saturated.now }
     ensures { saturated.now ≡ result.0 ∷ result.1.now }
 {

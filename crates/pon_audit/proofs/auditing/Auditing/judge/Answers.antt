@@ -1,0 +1,12 @@
+use Rattle.std.proofs.Common.{refl}
+use Rattle.pon_audit.specs.Streams.{EndsAudit}
+use Rattle.pon_audit.proofs.AfterBatch.{goes_on}
+use Rattle.pon_audit.proofs.auditing.Auditing.judge.Goals as goal
+
+pub take_batch-requires-clause-audited : goal.take_batch-requires-clause-audited
+take_batch-requires-clause-audited g c = λ κs lives. let read = c.requires.read in (read.2.whole, read.2.audited)
+
+pub returns-in-Ok-clause-judged : goal.returns-in-Ok-clause-judged
+returns-in-Ok-clause-judged g c = λ start left read.
+    let told : EndsAudit read.whole c.args.batch.now c.take_batch.new.self c.in-Ok.found = rw c.in-Ok.is at c.take_batch.ensures read.whole read.audited in
+    goes_on start left c.args.self.now _ c.args.batch.now read refl c.in-Ok.found told
