@@ -121,10 +121,10 @@ impl Terminal {
 }
 
 // Returns whether a port is the one that is asked for, as each is if none is.
-fn is_asked(asked: Option<PortNo>, port: usize) -> bool
-    ensures { (result ≡ true) ↔ IfSome asked (λ one. one ≡ port) }
+fn is_asked(args: &UnitsArgs<'_>, port: usize) -> bool
+    ensures { (result ≡ true) ↔ IfSome args.now.port (λ one. one ≡ port) }
 {
-    match asked {
+    match args.port {
         Some(one) => usize::from(one.get()) == port,
         None => true,
     }
@@ -135,15 +135,15 @@ fn connect_all<R>(
     rt: &R,
     alloc: Global,
     settings: &Settings,
-    asked: Option<PortNo>,
-    terminal: Terminal,
+    args: &UnitsArgs<'_>,
+    terminal: &Terminal,
 ) -> Result<Vec<Connected>, Failure>
 where
     R: Net<Listener = TcpListener, Stream = TcpStream> + Clock,
 {
     let mut all = Vec::new(alloc);
     for (port, of_port) in settings.ports().iter().enumerate() {
-        if is_asked(asked, port) {
+        if is_asked(args, port) {
             let connected = terminal.connect_port(rt, alloc, port, of_port.rows())?;
             if all.push(connected).is_err() {
                 return Err(Failure::from(DeviceFault::Memory));
@@ -249,7 +249,7 @@ where
         begun,
         wait: args.wait,
     };
-    let all = connect_all(rt, alloc, settings, args.port, terminal)?;
+    let all = connect_all(rt, alloc, settings, args, &terminal)?;
     match answer_all(rt, alloc, all) {
         Ok(ended) => Ok(ended),
         Err(_) => Err(Failure::from(DeviceFault::Memory)),
