@@ -1,9 +1,9 @@
-//! Who is told of the chapters that a recorder takes.
+//! A watch of the chapters that a recorder takes.
 
 use pon_units::PortNo;
 
-/// Is told of the chapters that a recorder takes.
+/// Sees the chapters that a recorder takes out of the rings.
 pub trait ChapterWatch {
-    /// A chapter of this port was taken out of its ring; of all that were, so many were dropped.
+    /// Sees that a chapter of this port was taken. `dropped` of those taken so far were dropped.
     fn took(&self, port: PortNo, dropped: u64);
 }

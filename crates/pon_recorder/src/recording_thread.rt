@@ -99,7 +99,7 @@ impl<K: Rings, W: Drop> Sinks<K, W> {
     }
 }
 
-// Records at most one chapter of each port, and tells the watch of each. Returns whether there was one.
+// Records at most one chapter of each port, which the watch sees. Returns whether there was one.
 fn take_round<K: Rings, W: DevWrite + Drop, C: ChapterWatch>(
     recorder: &mut Recorder<W>,
     inlets: &mut [Inlet<K>],
@@ -150,7 +150,7 @@ fn take_all_left<K: Rings, W: DevWrite + Drop>(
 }
 
 impl<K: Rings, W: DevWrite + Drop> Recording<K, W> {
-    /// Records the chapters of all ports as they come, and tells the watch of each, until the flag is set.
+    /// Records the chapters of all ports as they come, which the watch sees, until the flag is set.
     pub fn run<R: Wait + Clock, C: ChapterWatch>(
         mut self,
         rt: &R,
