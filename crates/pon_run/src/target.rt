@@ -132,11 +132,7 @@ fn check_not_read<R: Files>(
 }
 
 // Refuses a file that exists if it is not to be replaced.
-fn check_not_there<R: Files>(
-    rt: &R,
-    alloc: Global,
-    args: &RecordArgs<'_>,
-) -> Result<(), Failure> {
+fn check_not_there<R: Files>(rt: &R, alloc: Global, args: &RecordArgs<'_>) -> Result<(), Failure> {
     if args.no_clobber && fs::symlink_metadata(rt, args.file).is_ok() {
         let named = Named::Recording(args.file);
         return Err(refused(format!(in alloc; "{named}: exists")));
