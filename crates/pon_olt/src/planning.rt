@@ -26,7 +26,7 @@ fn end_of(lines: Result<PlanEnd, DeviceFault>, recorded: Result<(), Failure>) ->
             fault,
             text: match recorded {
                 Ok(()) => None,
-                Err(failure) => failure.text,
+                Err(Failure { fault: _, text }) => text,
             },
         }),
     }

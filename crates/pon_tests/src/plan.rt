@@ -77,14 +77,7 @@ fn run(alloc: Global, gap: u16, input: &[u8], devices: Devices<'_>) -> Option<An
     let mut reader = reader(alloc, input, &devices)?;
     let mut writer = writer(alloc, &devices)?;
     let steps = Vec::new(alloc);
-    let result = plan(
-        alloc,
-        &ports,
-        steps,
-        &mut Unnoted,
-        &mut reader,
-        &mut writer,
-    );
+    let result = plan(alloc, &ports, steps, &mut Unnoted, &mut reader, &mut writer);
     let text = writer.bytes().to_vec(alloc).ok()?;
     Some(Answered { result, text })
 }
