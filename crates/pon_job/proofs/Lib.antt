@@ -2,5 +2,5 @@ mod Builders
 mod Migrations
 mod Runs
 mod Subcommands
-mod Units
+mod UnitsValues
 mod Views

@@ -124,7 +124,7 @@ fn check_not_read<R: Files>(
         return Ok(());
     };
     let settings = path_of_source(rt, alloc, args.config)?;
-    let lines = path_of_source(rt, alloc, args.lines_file())?;
+    let lines = path_of_source(rt, alloc, args.operate)?;
     match source_at(path.as_str(), &settings, &lines) {
         Some(source) => Err(refused(format!(in alloc; "{shown} is {source}"))),
         None => Ok(()),

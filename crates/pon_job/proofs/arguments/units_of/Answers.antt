@@ -2,7 +2,7 @@ use Rattle.std.proofs.Common.{◌∙◌, refl, rules, sym, codes}
 use Rattle.clap.specs.Matches.{found_of}
 use Rattle.clap.specs.Walk.{rows_of}
 use Rattle.clap.proofs.WalkLemmas.{first_value-rows}
-use Rattle.pon_job.proofs.Units.{without_port, without_rows, without_terminal, without_wait}
+use Rattle.pon_job.proofs.UnitsValues.{without_port, without_rows, without_terminal, without_wait}
 use Rattle.pon_job.proofs.arguments.units_of.Goals as goal
 
 pub returns-in_err-config-clause-none : goal.returns-in_err-config-clause-none
