@@ -20,7 +20,7 @@ use Rattle.pon_admit.specs.declared.event.Event.TheVariants.{Admit, Change, Remo
 use Rattle.pon_history.specs.Chapters.{Chapter, IsLawfulChapter, state_before}
 use Rattle.pon_look.specs.declared.frame_range.FrameRange.{FrameRange}
 use Rattle.pon_state.specs.declared.reply.MadeMap.{MadeMap}
-use Rattle.pon_why.specs.Explanations.{explanation_of, explanations_of}
+use Rattle.pon_why.specs.Rates.{rates_of, row_rates}
 use Rattle.pon_look.specs.Sums.{amounts_in, amounts_in_entry, amounts_in_reply, amounts_of, is_below, is_within, no_sums, sums_of}
 
 module _ (s : State) (cert : MapCert) (gs : List Granted) (i : ℕ) where
@@ -30,29 +30,29 @@ module _ (s : State) (cert : MapCert) (gs : List Granted) (i : ℕ) where
   abbrev structure : Granted → Alloc
   structure = structure_of s.gap s.profile gs
 
-  not_below : (r : Row) → is_below (explanation_of s cert r) (structure (to_row r)) ≡ false
+  not_below : (r : Row) → is_below (row_rates s cert r) (structure (to_row r)) ≡ false
   not_below r =
       let share : ℕ = (surplus_rate (input_of s) cert r).num / (surplus_rate (input_of s) cert r).den in
       let words : ℕ = (carry_at s r + (guaranteed_rate (input_of s) r + share)) / 256 in
       le-ltb (1 + words - 1) (guaranteed_rate (input_of s) r / 256) (omega arith)
 
-  none_of_row : (r : Row) (b : Bool) → (if b then amounts_of (explanation_of s cert r) (structure (to_row r)) else no_sums).below ≡ 0
+  none_of_row : (r : Row) (b : Bool) → (if b then amounts_of (row_rates s cert r) (structure (to_row r)) else no_sums).below ≡ 0
   none_of_row r true = ap (λ t. if t then 1 else 0) (not_below r)
   none_of_row r false = refl
 
-  none_of_rows : (rows : List Row) → (amounts_in i (map (explanation_of s cert) rows) (map structure (map to_row rows))).below ≡ 0
+  none_of_rows : (rows : List Row) → (amounts_in i (map (row_rates s cert) rows) (map structure (map to_row rows))).below ≡ 0
   none_of_rows [] = refl
   none_of_rows (r ∷ rows) = (λ j. none_of_row r (r.alloc_id == i) j + none_of_rows rows j)
 
-pub none_below : (s : State) (m : MadeMap) → IsMade s m → (i : ℕ) → (amounts_in i (explanations_of s m.cert) m.map).below ≡ 0
+pub none_below : (s : State) (m : MadeMap) → IsMade s m → (i : ℕ) → (amounts_in i (rates_of s m.cert) m.map).below ≡ 0
 none_below s m k i =
-    ap (λ (more : List Alloc). (amounts_in i (explanations_of s m.cert) more).below) k.map
+    ap (λ (more : List Alloc). (amounts_in i (rates_of s m.cert) more).below) k.map
     ∙ none_of_rows s m.cert (planned_grants (input_of s) (surplus_rate (input_of s) m.cert) (carry_at s)) i s.roster
 
 -- Over the entries of a lawful chapter.
 
 module _ (range : FrameRange) (i : ℕ) where
-  none_of_map : (s : State) (m : MadeMap) → IsMade s m → (b : Bool) → (if b then amounts_in i (explanations_of s m.cert) m.map else no_sums).below ≡ 0
+  none_of_map : (s : State) (m : MadeMap) → IsMade s m → (b : Bool) → (if b then amounts_in i (rates_of s m.cert) m.map else no_sums).below ≡ 0
   none_of_map s m k true = none_below s m k i
   none_of_map s m k false = refl
 

@@ -9,10 +9,9 @@ use Rattle.pon_history.specs.Chapters.{Chapter, state_before}
 use Rattle.pon_history.specs.Taking.{IsKept}
 use Rattle.pon_audit.specs.Faults.{cut_at}
 use Rattle.pon_look.specs.Sums.{amounts_in_entry, amounts_in_reply, plus, sums_at, sums_of}
-use Rattle.pon_look.specs.Tallies.{AddsEntry, IsTallied}
+use Rattle.pon_look.specs.Tallies.{AddsEntry, AddsIf}
 use Rattle.pon_look.specs.declared.frame_range.FrameRange.{FrameRange}
 use Rattle.pon_look.specs.declared.sums.Sums.{Sums}
-use Rattle.pon_look.specs.declared.tally.Tallied.TheVariants.{Ends}
 use Rattle.pon_look.proofs.SumLaws.{plus_assoc}
 
 -- an entry of a chapter, in the state before it
@@ -29,6 +28,6 @@ module _ (range : FrameRange) (c : Chapter) (k : ℕ) (e : Entry) (s : State) (l
       adds i ∙ ap (λ m. plus m (amounts_in_reply range i s e.reply)) (so_far i) ∙ plus_assoc (sums_at old i) (sums_of range i c k) (amounts_in_reply range i s e.reply)
       ∙ ap (plus (sums_at old i)) (sym (one_more_entry i))
 
-  pub ended_with : (t : State) (added : Bool) → IsTallied range k s e t mid new (Ends added) → (i : ℕ) → sums_at new i ≡ plus (sums_at old i) (sums_of range i c (if added then k + 1 else k))
-  ended_with t true told i = with_entry told i
-  ended_with t false told i = told i ∙ so_far i
+  pub ended_with : (added : Bool) → AddsIf range s e mid new added → (i : ℕ) → sums_at new i ≡ plus (sums_at old i) (sums_of range i c (if added then k + 1 else k))
+  ended_with true told i = with_entry told i
+  ended_with false told i = told i ∙ so_far i

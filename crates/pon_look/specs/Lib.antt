@@ -5,4 +5,5 @@ pub mod Places
 pub mod Summaries
 pub mod Sums
 pub mod Tallies
+pub mod Views
 pub mod Whys

@@ -7,8 +7,8 @@ use Rattle.pon_state.specs.Entry.{Entry}
 use Rattle.pon_state.specs.declared.reply.Reply.{Reply}
 use Rattle.pon_state.specs.declared.reply.Reply.TheVariants.{Taken, Map}
 use Rattle.pon_history.specs.Chapters.{Chapter, state_before}
-use Rattle.pon_why.specs.Explanations.{explanations_of}
-use Rattle.pon_why.specs.declared.numbers.Explanation.{Explanation}
+use Rattle.pon_why.specs.Rates.{rates_of}
+use Rattle.pon_why.specs.declared.rates.RowRates.{RowRates}
 use Rattle.pon_look.specs.declared.frame_range.FrameRange.{FrameRange}
 use Rattle.pon_look.specs.declared.sums.Sums.{Sums}
 
@@ -28,23 +28,23 @@ plus a b = record {
 -- One map.
 
 -- the structure grants fewer payload words than the whole ones of the guaranteed rate
-abbrev pub is_below : Explanation → Alloc → Bool
+abbrev pub is_below : RowRates → Alloc → Bool
 is_below x a = nat_lt (a.grant - 1) (x.guaranteed / WORD_RATE)
 
 -- what a row and its structure add: rates in kbit/s, of the surplus rate the whole ones, and payload words
-abbrev pub amounts_of : Explanation → Alloc → Sums
+abbrev pub amounts_of : RowRates → Alloc → Sums
 amounts_of x a = record {
   maps = 1;
   load = x.load;
   guaranteed = x.guaranteed;
-  surplus = x.surplus.num / x.surplus.den;
+  surplus = x.surplus;
   granted = a.grant - 1;
   below = if is_below x a then 1 else 0;
 }
 
 -- what the rows of an Alloc-ID and their structures add
-abbrev pub amounts_in : ℕ → List Explanation → List Alloc → Sums
-amounts_in i (x ∷ xs) (a ∷ more) = plus (if x.row.alloc_id == i then amounts_of x a else no_sums) (amounts_in i xs more)
+abbrev pub amounts_in : ℕ → List RowRates → List Alloc → Sums
+amounts_in i (x ∷ xs) (a ∷ more) = plus (if x.alloc_id == i then amounts_of x a else no_sums) (amounts_in i xs more)
 amounts_in i (x ∷ xs) [] = no_sums
 amounts_in i [] more = no_sums
 
@@ -57,7 +57,7 @@ is_within range frame = nat_le range.first frame && nat_le frame range.last
 -- what an entry adds for an Alloc-ID, in the state before it: the amounts of its map, if its frame is in the range
 abbrev pub amounts_in_reply : FrameRange → ℕ → State → Reply → Sums
 amounts_in_reply range i s Taken = no_sums
-amounts_in_reply range i s (Map made) = if is_within range made.frame then amounts_in i (explanations_of s made.cert) made.map else no_sums
+amounts_in_reply range i s (Map made) = if is_within range made.frame then amounts_in i (rates_of s made.cert) made.map else no_sums
 
 abbrev pub amounts_in_entry : FrameRange → ℕ → State → Option Entry → Sums
 amounts_in_entry range i s None = no_sums

@@ -1,16 +1,23 @@
 //! The events of a recording as management lines, each with its reply.
 
-use crate::chapters::{next_chapter, open_chapters};
-use crate::lines::{Line, Rates};
-use crate::query::{Answer, Missing};
-use crate::seen::{missing_port, with_port};
-use pon_admit::Rule;
-use pon_bwmap::encode_map;
+ghost use Rattle.std.specs.Prelude.{IfOk};
+ghost use Rattle.pon_device.specs.Streams.{TellsWrite};
+ghost use Rattle.pon_audit.specs.Streams.{IsVerdictOf};
+ghost use Rattle.pon_look.specs.Views.{CountsReads, OnlyWrites};
+
+use crate::append::{append_map, append_number};
+use crate::lines::{Rates, append_event};
+use crate::query::Answer;
+use crate::seen::SeenPorts;
+use crate::viewed::Viewed;
+use pon_admit::{Event, Rule};
+use pon_audit::{Auditing, Step};
 use pon_device::{DevRead, DevWrite, DeviceFault, write_text};
 use pon_record::{Opening, RawChapter};
 use pon_state::{Entry, EntryRef, MadeMap};
 use pon_units::PortNo;
 use std::alloc::{AllocError, Global};
+use std::thread::Threads;
 
 /// Text is written once it has this number of bytes.
 const PIECE_BYTES: usize = 65_536;
@@ -18,32 +25,46 @@ const PIECE_BYTES: usize = 65_536;
 /// What stands before each line of a chapter that is not to be executed.
 const COMMENT: &str = "# ";
 
-// Returns the text of a map: its frame, and its bytes in hexadecimal.
-fn map_text(alloc: Global, made: &MadeMap) -> Result<String, AllocError> {
-    let frame = made.frame.get();
-    let bytes = encode_map(alloc, &made.map)?;
-    let bytes = hex::encode(alloc, bytes.as_slice())?;
-    format!(in alloc; "{frame} {bytes}")
+// The text that is to be written, and a buffer for the bytes of a map.
+#[derive(Drop)]
+struct Page {
+    text: Vec<u8>,
+    room: Vec<u8>,
 }
 
-// Returns the line of an entry and its reply, of which `index` counts the entries of the port before it.
-fn entry_text(
-    alloc: Global,
+// Appends the event of an entry as a management line, and its reply, of which `index` counts the entries of the port before
+// it.
+fn append_taken(text: &mut Vec<u8>, event: &Event, index: u64) -> Result<(), AllocError> {
+    append_event(text, event)?;
+    text.extend_from_slice(b"\n# ok ")?;
+    append_number(text, index)?;
+    text.extend_from_slice(b"\n")
+}
+
+// Appends the line that a map is made, and the map as its reply: its frame, and its bytes in hexadecimal.
+fn append_made(page: &mut Page, made: &MadeMap) -> Result<(), AllocError> {
+    let Page { text, room } = page;
+    text.extend_from_slice(b"map\n# map ")?;
+    append_number(text, made.frame.get())?;
+    text.extend_from_slice(b" ")?;
+    append_map(text, room, &made.map)?;
+    text.extend_from_slice(b"\n")
+}
+
+// Appends the line of an entry and its reply, of which `index` counts the entries of the port before it.
+fn append_entry(
+    page: &mut Page,
     mark: &str,
     port: PortNo,
     index: u64,
     entry: &Entry,
-) -> Result<String, AllocError> {
-    let port = port.get();
+) -> Result<(), AllocError> {
+    page.text.extend_from_slice(mark.as_bytes())?;
+    append_number(&mut page.text, u64::from(port.get()))?;
+    page.text.extend_from_slice(b" ")?;
     match entry.as_ref() {
-        EntryRef::Taken(event) => {
-            let line = Line(event);
-            format!(in alloc; "{mark}{port} {line}\n# ok {index}\n")
-        }
-        EntryRef::Map(made) => {
-            let map = map_text(alloc, made)?;
-            format!(in alloc; "{mark}{port} map\n# map {map}\n")
-        }
+        EntryRef::Taken(event) => append_taken(&mut page.text, event, index),
+        EntryRef::Map(made) => append_made(page, made),
     }
 }
 
@@ -71,75 +92,126 @@ fn opening_text(
     Ok(text)
 }
 
-// Appends a text to the one that is to be written, and writes both if they are long.
-fn put<W: DevWrite>(
-    text: &mut String,
-    more: Result<String, AllocError>,
+// Writes the text if it is at least this long.
+fn write_from<W: DevWrite>(
+    text: &mut Vec<u8>,
+    length: usize,
     writer: &mut W,
-) -> Result<(), DeviceFault> {
-    let Ok(more) = more else {
-        return Err(DeviceFault::Memory);
-    };
-    if text.push_str(more.as_str()).is_err() {
-        return Err(DeviceFault::Memory);
+) -> Result<(), DeviceFault>
+    ensures write { OnlyWrites (W.failures writer.old) (W.failures writer.new) result }
+{
+    if text.len() < length {
+        return Ok(());
     }
-    if text.len() >= PIECE_BYTES {
-        write_text(writer, text.as_bytes())?;
-        text.clear();
+    match write_text(writer, text) {
+        Ok(()) => {
+            text.clear();
+            Ok(())
+        }
+        Err(fault) => Err(fault),
     }
-    Ok(())
+}
+
+// Writes the line of an entry and its reply once the page is full.
+fn write_entry<W: DevWrite>(
+    page: &mut Page,
+    mark: &str,
+    port: PortNo,
+    index: u64,
+    entry: &Entry,
+    writer: &mut W,
+) -> Result<(), DeviceFault>
+    ensures write { OnlyWrites (W.failures writer.old) (W.failures writer.new) result }
+{
+    match append_entry(page, mark, port, index, entry) {
+        Ok(()) => write_from(&mut page.text, PIECE_BYTES, writer),
+        Err(_) => Err(DeviceFault::Memory),
+    }
+}
+
+// Appends how a chapter opens.
+fn append_opening(alloc: Global, page: &mut Page, chapter: &RawChapter) -> Result<(), AllocError> {
+    let text = opening_text(alloc, chapter.port, chapter.number, &chapter.opening)?;
+    page.text.extend_from_slice(text.as_bytes())
 }
 
 // Writes a chapter. Only the first chapter of a port can be executed again; the lines of each other are comments.
 fn write_chapter<W: DevWrite>(
     alloc: Global,
+    page: &mut Page,
     chapter: &RawChapter,
     writer: &mut W,
-) -> Result<(), DeviceFault> {
+) -> Result<(), DeviceFault>
+    ensures write { OnlyWrites (W.failures writer.old) (W.failures writer.new) result }
+{
     let port = chapter.port;
     let mark = if chapter.number == 0 { "" } else { COMMENT };
+    if append_opening(alloc, page, chapter).is_err() {
+        return Err(DeviceFault::Memory);
+    }
     let mut index = chapter.opening.taken_before;
-    let mut text = String::new(alloc);
-    let opening = opening_text(alloc, port, chapter.number, &chapter.opening);
-    put(&mut text, opening, writer)?;
     for entry in &chapter.entries {
-        let lines = entry_text(alloc, mark, port, index, entry);
-        put(&mut text, lines, writer)?;
+        write_entry(page, mark, port, index, entry, writer)?;
         index = index.saturating_add(1);
     }
-    write_text(writer, text.as_bytes())
+    write_from(&mut page.text, 0, writer)
 }
 
-/// Writes the events of each chapter of a port, or of all ports, as management lines, each with its reply as a comment.
+// Writes the chapters of a port, or of all ports. Returns the ports of all chapters, and whether one was written.
+fn write_batch<W: DevWrite>(
+    alloc: Global,
+    page: &mut Page,
+    seen: &mut SeenPorts,
+    chapters: &[RawChapter],
+    writer: &mut W,
+) -> Result<(), DeviceFault>
+    ensures write { OnlyWrites (W.failures writer.old) (W.failures writer.new) result }
+{
+    for chapter in chapters {
+        if seen.sees(chapter.port) {
+            write_chapter(alloc, page, chapter, writer)?;
+        }
+    }
+    Ok(())
+}
+
+/// Writes the events of each chapter of a port, or of all ports, as management lines, each with its reply as a comment, while
+/// the recording is audited. Returns the verdict of the audit, and what is missing.
 ///
 /// A chapter begins with a comment about its opening. The lines of chapter 0 of a port give the same replies again, by
 /// `olt plan` with settings of the same first frame, gap and profile and no rows, if its remainders are carried; those of
 /// a later chapter are comments. It ends at the end of the recording, or at the first fault of its format.
 ///
-/// `Read` if the reader fails, `Write` if the writer fails, `Memory` if memory is refused.
+/// `Read` exactly if the reader fails, `Write` exactly if the writer fails, `Memory` if memory is refused.
 pub fn write_dump<R: DevRead, W: DevWrite>(
+    rt: &(impl Threads + Sync),
     alloc: Global,
     reader: &mut R,
     port: Option<PortNo>,
     writer: &mut W,
-) -> Result<Answer, DeviceFault> {
-    let Some(mut source) = open_chapters(alloc, reader)? else {
-        return Ok(Answer::NotFound(Missing::Chapters));
+) -> Result<Viewed<Answer>, DeviceFault>
+    ensures verdict { IfOk result (λ viewed. IsVerdictOf (R.remaining reader.old) viewed.verdict) }
+    ensures read { CountsReads (R.failures reader.old) (R.failures reader.new) result }
+    ensures write { TellsWrite (W.failures writer.old) (W.failures writer.new) result }
+{
+    let mut seen = SeenPorts::new(port);
+    let mut auditing = match Auditing::open(alloc, reader)? {
+        Ok(auditing) => auditing,
+        Err(verdict) => {
+            let shown = seen.answer();
+            return Ok(Viewed { verdict, shown });
+        }
     };
-    let mut ports = None;
-    let mut shown = false;
-    for _chapter in 0..u64::MAX {
-        let Some(chapter) = next_chapter(alloc, &mut source, reader)? else {
-            return Ok(if shown {
-                Answer::Shown
-            } else {
-                Answer::NotFound(missing_port(ports, port))
-            });
-        };
-        ports = Some(with_port(ports, chapter.port));
-        if port.is_none() || port == Some(chapter.port) {
-            write_chapter(alloc, &chapter, writer)?;
-            shown = true;
+    let mut page = Page {
+        text: Vec::new(alloc),
+        room: Vec::new(alloc),
+    };
+    for _batch in 0..u64::MAX {
+        let Step { batch, verdict } = auditing.next(rt, alloc, reader)?;
+        write_batch(alloc, &mut page, &mut seen, &batch.chapters, writer)?;
+        if let Some(verdict) = verdict {
+            let shown = seen.answer();
+            return Ok(Viewed { verdict, shown });
         }
     }
     Err(DeviceFault::Memory)

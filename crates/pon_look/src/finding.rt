@@ -1,18 +1,21 @@
 //! The map of a frame in a recording.
 
-ghost use Rattle.std.specs.Prelude.{◌<◌, IfOk, IfSome, length};
+ghost use Rattle.std.specs.Prelude.{◌<◌, All, IfOk, IfSome, length};
 ghost use Rattle.pon_audit.specs.Openings.{FitsRecording};
+ghost use Rattle.pon_audit.specs.Streams.{IsVerdictOf, TellsFailure};
 ghost use Rattle.pon_look.specs.Finding.{IsFound};
 
-use crate::chapters::{next_chapter, open_chapters};
 use crate::frames::{first_frame, last_frame};
 use crate::query::Missing;
 use crate::seen::{Ports, missing_port, with_port};
+use crate::viewed::Viewed;
+use pon_audit::{Auditing, Step};
 use pon_device::{DevRead, DeviceFault};
 use pon_record::RawChapter;
 use pon_state::{Entry, EntryRef};
 use pon_units::{FrameNo, PortNo};
 use std::alloc::Global;
+use std::thread::Threads;
 
 /// A map in a recording: its chapter, the index of its entry there, and its frame.
 #[derive(Drop)]
@@ -75,6 +78,13 @@ struct Search {
     frames: Frames,
 }
 
+// The place of a map among chapters: that of its chapter, and the index of its entry there.
+#[derive(Clone, Copy, Debug, PartialEq, Eq)]
+struct MapAt {
+    chapter: usize,
+    entry: usize,
+}
+
 impl Search {
     fn new(port: Option<PortNo>, frame: Option<FrameNo>) -> Search {
         Search {
@@ -105,15 +115,39 @@ impl Search {
             port => missing_port(self.ports, port),
         }
     }
+
+    // Returns the place of the map that is wanted of chapters: of the first of a frame, and the last without a frame.
+    fn place_in(&mut self, chapters: &[RawChapter]) -> Option<MapAt>
+        ensures { IfSome result (λ at. at.chapter < length chapters.now) }
+    {
+        let mut found = None;
+        for chapter in 0..chapters.len() {
+            if let Some(entry) = self.entry_in(&chapters[chapter]) {
+                found = Some(MapAt { chapter, entry });
+                if self.frame.is_some() {
+                    return found;
+                }
+            }
+        }
+        found
+    }
+
+    // Returns the index of the entry of the map that is wanted of a chapter.
+    fn entry_in(&mut self, chapter: &RawChapter) -> Option<usize> {
+        let frame = self.wanted_of(chapter)?;
+        map_at(&chapter.entries, frame)
+    }
 }
 
-// Returns the map of a frame of a chapter.
-fn found_in(chapter: RawChapter, wanted: Option<FrameNo>) -> Option<FoundMap>
+// Returns the map of an entry of a chapter.
+fn found_at(chapter: RawChapter, entry: usize) -> Option<FoundMap>
     requires { FitsRecording chapter.body }
     ensures { IfSome result IsFound }
 {
-    let frame = wanted?;
-    let entry = map_at(&chapter.entries, frame)?;
+    let EntryRef::Map(made) = chapter.entries.get(entry)?.as_ref() else {
+        return None;
+    };
+    let frame = made.frame;
     Some(FoundMap {
         chapter,
         entry,
@@ -121,33 +155,67 @@ fn found_in(chapter: RawChapter, wanted: Option<FrameNo>) -> Option<FoundMap>
     })
 }
 
-/// Finds the map of a frame of a port in a recording, up to the first fault of its format: of the first port in it without
-/// a port, and the last map of the port without a frame. It is the first one, if two maps are of the frame.
+// Returns the map at a place among chapters.
+fn taken_out(chapters: Vec<RawChapter>, at: MapAt) -> Option<FoundMap>
+    requires within { at.chapter < length chapters.items }
+    requires fit { All (λ c. FitsRecording c.body) chapters.items }
+    ensures { IfSome result IsFound }
+{
+    let mut chapters = chapters;
+    let chapter = chapters.swap_remove(at.chapter);
+    found_at(chapter, at.entry)
+}
+
+// Returns the map that is found after the next chapters, which are looked through unless the first map of a frame is found.
+fn found_after(
+    search: &mut Search,
+    found: Option<FoundMap>,
+    chapters: Vec<RawChapter>,
+) -> Option<FoundMap>
+    requires found { IfSome found IsFound }
+    requires fit { All (λ c. FitsRecording c.body) chapters.items }
+    ensures { IfSome result IsFound }
+{
+    if search.frame.is_some() && found.is_some() {
+        return found;
+    }
+    match search.place_in(&chapters) {
+        Some(at) => taken_out(chapters, at),
+        None => found,
+    }
+}
+
+/// Finds the map of a frame of a port in a recording, up to the first fault of its format, while it is audited: of the first
+/// port in it without a port, and the last map of the port without a frame. It is the first one, if two maps are of the
+/// frame. Returns the verdict of the audit, and the map or what is missing.
 ///
-/// `Read` if the reader fails, `Memory` if memory is refused.
+/// `Read` exactly if the reader fails, `Memory` if memory is refused.
 pub(crate) fn find_map<R: DevRead>(
+    rt: &(impl Threads + Sync),
     alloc: Global,
     reader: &mut R,
     port: Option<PortNo>,
     frame: Option<FrameNo>,
-) -> Result<Result<FoundMap, Missing>, DeviceFault>
-    ensures { IfOk result (λ found. IfOk found IsFound) }
+) -> Result<Viewed<Result<FoundMap, Missing>>, DeviceFault>
+    ensures found { IfOk result (λ viewed. IfOk viewed.shown IsFound) }
+    ensures verdict { IfOk result (λ viewed. IsVerdictOf (R.remaining reader.old) viewed.verdict) }
+    ensures failures { TellsFailure (R.failures reader.old) (R.failures reader.new) result }
 {
-    let mut search = Search::new(port, frame);
-    let mut last = None;
-    let Some(mut source) = open_chapters(alloc, reader)? else {
-        return Ok(Err(Missing::Chapters));
+    let mut auditing = match Auditing::open(alloc, reader)? {
+        Ok(auditing) => auditing,
+        Err(verdict) => {
+            let shown = Err(Missing::Chapters);
+            return Ok(Viewed { verdict, shown });
+        }
     };
-    for _chapter in 0..u64::MAX {
-        let Some(chapter) = next_chapter(alloc, &mut source, reader)? else {
-            return Ok(last.ok_or(search.missing()));
-        };
-        let wanted = search.wanted_of(&chapter);
-        if let Some(map) = found_in(chapter, wanted) {
-            if frame.is_some() {
-                return Ok(Ok(map));
-            }
-            last = Some(map);
+    let mut search = Search::new(port, frame);
+    let mut found = None;
+    for _batch in 0..u64::MAX {
+        let Step { batch, verdict } = auditing.next(rt, alloc, reader)?;
+        found = found_after(&mut search, found, batch.chapters);
+        if let Some(verdict) = verdict {
+            let shown = found.ok_or(search.missing());
+            return Ok(Viewed { verdict, shown });
         }
     }
     Err(DeviceFault::Memory)

@@ -1,16 +1,21 @@
 //! What `olt info` prints of a recording, chapter by chapter.
 
+ghost use Rattle.std.specs.Prelude.{IfOk};
 ghost use Rattle.pon_device.specs.Streams.{TellsWrite};
+ghost use Rattle.pon_audit.specs.Streams.{IsVerdictOf};
+ghost use Rattle.pon_look.specs.Views.{CountsReads, OnlyWrites};
 
-use crate::chapters::{next_chapter, open_chapters};
 use crate::counted::CountedBytes;
-use crate::query::Format;
+use crate::query::{Answer, Format};
 use crate::summary::{Totals, summary_of, with_chapter};
 use crate::text::{chapter_line, missing_line, total_line};
+use crate::viewed::Viewed;
+use pon_audit::{Auditing, BatchEnd, Step};
 use pon_device::{DevRead, DevWrite, DeviceFault, write_text};
 use pon_record::RawChapter;
 use pon_units::MAX_PORTS;
 use std::alloc::{AllocError, Global};
+use std::thread::Threads;
 
 // The number of the last chapter of each port, if there was one.
 type LastChapters = [Option<u64>; MAX_PORTS];
@@ -20,7 +25,7 @@ pub(crate) fn write_line<W: DevWrite>(
     line: Result<String, AllocError>,
     writer: &mut W,
 ) -> Result<(), DeviceFault>
-    ensures write { TellsWrite (W.failures writer.old) (W.failures writer.new) result }
+    ensures write { OnlyWrites (W.failures writer.old) (W.failures writer.new) result }
 {
     match line {
         Ok(line) => write_text(writer, line.as_bytes()),
@@ -36,7 +41,7 @@ fn write_missing<W: DevWrite>(
     chapter: &RawChapter,
     writer: &mut W,
 ) -> Result<(), DeviceFault>
-    ensures write { TellsWrite (W.failures writer.old) (W.failures writer.new) result }
+    ensures write { OnlyWrites (W.failures writer.old) (W.failures writer.new) result }
 {
     let first = match before {
         Some(number) => number.saturating_add(1),
@@ -59,7 +64,7 @@ fn write_chapter<W: DevWrite>(
     end: u64,
     writer: &mut W,
 ) -> Result<Totals, DeviceFault>
-    ensures write { TellsWrite (W.failures writer.old) (W.failures writer.new) result }
+    ensures write { OnlyWrites (W.failures writer.old) (W.failures writer.new) result }
 {
     let summary = summary_of(chapter);
     let bytes = end.saturating_sub(chapter.at as u64);
@@ -73,43 +78,103 @@ fn write_chapter<W: DevWrite>(
     }
 }
 
-/// Writes a line for each chapter of a recording, one for chapters that are missing between two of a port, and the totals at
-/// the end of the recording or at the first fault of its format.
-///
-/// `Read` if the reader fails, `Write` if the writer fails, `Memory` if memory is refused.
-pub fn write_info<R: DevRead, W: DevWrite>(
-    alloc: Global,
-    reader: &mut CountedBytes<R>,
-    writer: &mut W,
-) -> Result<(), DeviceFault> {
-    write_info_as(alloc, reader, Format::Text, writer)
+// What was seen of the chapters so far: the number of the last one of each port, and the totals.
+#[derive(Clone, Copy)]
+struct SoFar {
+    last: LastChapters,
+    totals: Totals,
 }
 
-/// Writes what [`write_info`] writes, in the given form.
-pub fn write_info_as<R: DevRead, W: DevWrite>(
+impl SoFar {
+    // Before the first chapter.
+    const NOTHING: SoFar = SoFar {
+        last: [None; MAX_PORTS],
+        totals: Totals {
+            chapters: 0,
+            maps: 0,
+            reports: 0,
+            failures: 0,
+        },
+    };
+
+    // Writes the lines of the next chapter, which ends before the byte `end`.
+    fn write_next<W: DevWrite>(
+        &mut self,
+        alloc: Global,
+        format: Format,
+        chapter: &RawChapter,
+        end: u64,
+        writer: &mut W,
+    ) -> Result<(), DeviceFault>
+        ensures write { OnlyWrites (W.failures writer.old) (W.failures writer.new) result }
+    {
+        let port = chapter.port.get() as usize;
+        write_missing(alloc, format, self.last[port], chapter, writer)?;
+        self.totals = write_chapter(alloc, format, self.totals, chapter, end, writer)?;
+        self.last[port] = Some(chapter.number);
+        Ok(())
+    }
+
+    // Writes the lines of the next chapters, of which the last one ends before the byte `end`.
+    fn write_batch<W: DevWrite>(
+        &mut self,
+        alloc: Global,
+        format: Format,
+        chapters: &[RawChapter],
+        end: u64,
+        writer: &mut W,
+    ) -> Result<(), DeviceFault>
+        ensures write { OnlyWrites (W.failures writer.old) (W.failures writer.new) result }
+    {
+        for place in 0..chapters.len() {
+            let chapter_end = match chapters.get(place + 1) {
+                Some(next) => next.at as u64,
+                None => end,
+            };
+            self.write_next(alloc, format, &chapters[place], chapter_end, writer)?;
+        }
+        Ok(())
+    }
+}
+
+// Returns the byte behind the last chapter of a batch, after which `read` bytes are read.
+fn end_of(end: BatchEnd, read: u64) -> u64 {
+    match end {
+        BatchEnd::More | BatchEnd::Whole => read,
+        BatchEnd::Cut { at } | BatchEnd::Malformed { at } => at as u64,
+    }
+}
+
+/// Writes a line for each chapter of a recording, one for chapters that are missing between two of a port, and the totals at
+/// the end of the recording or at the first fault of its format, while it is audited. Returns the verdict of the audit.
+///
+/// `Read` exactly if the reader fails, `Write` exactly if the writer fails, `Memory` if memory is refused.
+pub fn write_info<R: DevRead, W: DevWrite>(
+    rt: &(impl Threads + Sync),
     alloc: Global,
     reader: &mut CountedBytes<R>,
     format: Format,
     writer: &mut W,
-) -> Result<(), DeviceFault> {
-    let Some(mut source) = open_chapters(alloc, reader)? else {
-        return Ok(());
+) -> Result<Viewed<Answer>, DeviceFault>
+    ensures verdict { IfOk result (λ viewed. IsVerdictOf (⟦<CountedBytes<R> as DevRead>⟧.remaining reader.old) viewed.verdict) }
+    ensures read { CountsReads (⟦<CountedBytes<R> as DevRead>⟧.failures reader.old) (⟦<CountedBytes<R> as DevRead>⟧.failures reader.new) result }
+    ensures write { TellsWrite (W.failures writer.old) (W.failures writer.new) result }
+{
+    let shown = Answer::Shown;
+    let mut auditing = match Auditing::open(alloc, reader)? {
+        Ok(auditing) => auditing,
+        Err(verdict) => return Ok(Viewed { verdict, shown }),
     };
-    let mut last: LastChapters = [None; MAX_PORTS];
-    let mut totals = Totals {
-        chapters: 0,
-        maps: 0,
-        reports: 0,
-        failures: 0,
-    };
-    for _chapter in 0..u64::MAX {
-        let Some(chapter) = next_chapter(alloc, &mut source, reader)? else {
-            return write_line(total_line(alloc, format, &totals, reader.bytes()), writer);
-        };
-        let port = chapter.port.get() as usize;
-        write_missing(alloc, format, last[port], &chapter, writer)?;
-        totals = write_chapter(alloc, format, totals, &chapter, reader.bytes(), writer)?;
-        last[port] = Some(chapter.number);
+    let mut seen = SoFar::NOTHING;
+    for _batch in 0..u64::MAX {
+        let Step { batch, verdict } = auditing.next(rt, alloc, reader)?;
+        let end = end_of(batch.end, reader.bytes());
+        seen.write_batch(alloc, format, &batch.chapters, end, writer)?;
+        if let Some(verdict) = verdict {
+            let line = total_line(alloc, format, &seen.totals, reader.bytes());
+            write_line(line, writer)?;
+            return Ok(Viewed { verdict, shown });
+        }
     }
     Err(DeviceFault::Memory)
 }

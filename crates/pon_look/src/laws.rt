@@ -5,14 +5,14 @@ ghost use Rattle.pon_state.specs.State.{State};
 ghost use Rattle.pon_state.specs.Legal.{IsMade};
 ghost use Rattle.pon_state.specs.declared.reply.MadeMap.{MadeMap};
 ghost use Rattle.pon_history.specs.Chapters.{Chapter, IsLawfulChapter};
-ghost use Rattle.pon_why.specs.Explanations.{explanations_of};
+ghost use Rattle.pon_why.specs.Rates.{rates_of};
 ghost use Rattle.pon_look.specs.Sums.{amounts_in, sums_of};
 ghost use Rattle.pon_look.specs.declared.frame_range.FrameRange.{FrameRange};
 
 /// A map that follows from a state grants each Alloc-ID the whole words of its guaranteed rate: none is below.
 pub fn maps_that_follow_grant_what_is_owed()
     ensures { (s : State) (m : MadeMap) → IsMade s m → (i : ℕ)
-        → (amounts_in i (explanations_of s m.cert) m.map).below ≡ 0 }
+        → (amounts_in i (rates_of s m.cert) m.map).below ≡ 0 }
 {}
 
 /// In a lawful chapter no map grants an Alloc-ID fewer words than the whole ones of its guaranteed rate, in any range of

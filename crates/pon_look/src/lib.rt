@@ -4,6 +4,7 @@
 //! The crate counts what is in a chapter that is read. It does not judge a recording.
 #![tactic(auto)]
 
+mod append;
 mod chapters;
 mod counted;
 mod counts;
@@ -41,6 +42,7 @@ mod svg_parts;
 mod tally;
 mod text;
 mod timeline;
+mod viewed;
 mod why;
 mod why_text;
 mod words;
@@ -52,7 +54,7 @@ pub use counts::{
 pub use dump::write_dump;
 pub use frame_range::FrameRange;
 pub use frames::{first_frame, last_frame};
-pub use info::{write_info, write_info_as};
+pub use info::write_info;
 pub use judged::write_judged;
 pub use loads::loads_of;
 pub use parts::grant_places;
@@ -64,4 +66,5 @@ pub use replay::MapExplanation;
 pub use summary::{Summary, Totals, summary_of, with_chapter};
 pub use sums::{Sums, with_row, with_sums};
 pub use tally::{PortTally, Summed, tally_chapter};
+pub use viewed::Viewed;
 pub use why::{MapAnswer, explain_entry, write_why};

@@ -1,9 +1,12 @@
 //! Events as management lines.
 
+use crate::append::append_number;
 use crate::words::class_word;
 use pon_admit::Event;
 use pon_dbru::Occupancies;
 use pon_descr::Descriptor;
+use pon_units::{FrameNo, OnuId};
+use std::alloc::{AllocError, Global};
 use std::fmt::{self, Display, Formatter, Write};
 
 /// A descriptor as in a management line: fixed, assured and maximum rate, in kbit/s, and class.
@@ -18,57 +21,62 @@ impl Display for Rates<'_> {
     }
 }
 
-// Writes the occupancies of a report, in words, each after a space; `x` if garbled.
-fn write_occupancies<W: Write>(occ: &Occupancies, f: &mut Formatter<W>) -> fmt::Result {
+// Appends a report as a management line without its port: its frame, its ONU, and its occupancies in words, `x` if garbled.
+fn append_report(
+    text: &mut Vec<u8>,
+    frame: FrameNo,
+    onu: OnuId,
+    occ: &Occupancies,
+) -> Result<(), AllocError> {
+    text.extend_from_slice(b"report ")?;
+    append_number(text, frame.get())?;
+    text.extend_from_slice(b" ")?;
+    append_number(text, u64::from(onu.get()))?;
     for occupancy in occ.as_slice() {
+        text.extend_from_slice(b" ")?;
         match occupancy {
-            Some(words) => {
-                let words = words.get();
-                write!(f, " {words}")?;
-            }
-            None => f.write_str(" x")?,
+            Some(words) => append_number(text, u64::from(words.get()))?,
+            None => text.extend_from_slice(b"x")?,
         }
     }
     Ok(())
 }
 
-/// An event as a management line without its port.
-#[derive(Clone, Copy)]
-pub(crate) struct Line<'a>(pub(crate) &'a Event);
-
-impl Display for Line<'_> {
-    fn fmt<W: Write>(&self, f: &mut Formatter<W>) -> fmt::Result {
-        match self.0 {
-            Event::Admit {
-                onu,
-                alloc_id,
-                descriptor,
-            } => {
-                let (onu, alloc_id, rates) = (onu.get(), alloc_id.get(), Rates(descriptor));
-                write!(f, "admit {onu} {alloc_id} {rates}")
-            }
-            Event::Change {
-                alloc_id,
-                descriptor,
-            } => {
-                let (alloc_id, rates) = (alloc_id.get(), Rates(descriptor));
-                write!(f, "change {alloc_id} {rates}")
-            }
-            Event::Remove { alloc_id } => {
-                let alloc_id = alloc_id.get();
-                write!(f, "remove {alloc_id}")
-            }
-            Event::Report { frame, onu, occ } => {
-                let (frame, onu) = (frame.get(), onu.get());
-                write!(f, "report {frame} {onu}")?;
-                write_occupancies(occ, f)
-            }
-            Event::MakeMap => f.write_str("map"),
-            Event::Fail { cause } => {
-                let cause = cause.get();
-                write!(f, "fail {cause}")
-            }
-            Event::Restore => f.write_str("restore"),
+// Makes the management line of an event that is no report, without its port.
+fn event_text(alloc: Global, event: &Event) -> Result<String, AllocError> {
+    match event {
+        Event::Admit {
+            onu,
+            alloc_id,
+            descriptor,
+        } => {
+            let (onu, alloc_id, rates) = (onu.get(), alloc_id.get(), Rates(descriptor));
+            format!(in alloc; "admit {onu} {alloc_id} {rates}")
         }
+        Event::Change {
+            alloc_id,
+            descriptor,
+        } => {
+            let (alloc_id, rates) = (alloc_id.get(), Rates(descriptor));
+            format!(in alloc; "change {alloc_id} {rates}")
+        }
+        Event::Remove { alloc_id } => {
+            let alloc_id = alloc_id.get();
+            format!(in alloc; "remove {alloc_id}")
+        }
+        Event::Fail { cause } => {
+            let cause = cause.get();
+            format!(in alloc; "fail {cause}")
+        }
+        Event::Restore => format!(in alloc; "restore"),
+        _ => format!(in alloc; "map"),
+    }
+}
+
+/// Appends an event as a management line without its port. `Err` only if memory is refused.
+pub(crate) fn append_event(text: &mut Vec<u8>, event: &Event) -> Result<(), AllocError> {
+    match event {
+        Event::Report { frame, onu, occ } => append_report(text, *frame, *onu, occ),
+        _ => text.extend_from_slice(event_text(*text.allocator(), event)?.as_bytes()),
     }
 }

@@ -5,10 +5,11 @@ ghost use Rattle.pon_look.specs.declared.sums.TheConstants.{PLACES};
 
 use crate::series::Series;
 use crate::sums::{PLACES, words_of};
-use pon_admit::Row;
+use pon_admit::{Event, Row};
 use pon_bwmap::Alloc;
+use pon_demand::Demand;
 use pon_units::{AllocId, FrameNo};
-use pon_why::Explanation;
+use pon_why::RowRates;
 use std::alloc::{AllocError, Global};
 
 /// The frame of the first map from which on an Alloc-ID has this ONU and this descriptor.
@@ -61,13 +62,6 @@ impl Idle {
     }
 }
 
-// What was last seen of an Alloc-ID.
-#[derive(Clone, Copy, Debug, PartialEq, Eq)]
-struct Seen {
-    idle: Idle,
-    row: Option<Row>,
-}
-
 // An Alloc-ID, and what the maps give it along the frames.
 #[derive(Drop)]
 struct Followed {
@@ -75,25 +69,37 @@ struct Followed {
     series: Series,
 }
 
+/// A map that is noted: the admitted rows before it, and their demands, rates and structures, in map order.
+#[derive(Clone, Copy)]
+pub(crate) struct NotedMap<'a> {
+    pub rows: &'a [Row],
+    pub demands: &'a [Demand],
+    pub rates: &'a [RowRates],
+    pub structures: &'a [Alloc],
+}
+
 /// The runs of each Alloc-ID, the changes of ONU or descriptor in the order of the maps, and the series of one Alloc-ID if
 /// one is followed.
 #[derive(Drop)]
 pub struct Notes {
-    seen: Vec<Seen>,
+    idles: Vec<Idle>,
+    // The row that each Alloc-ID had last.
+    rows: Vec<Option<Row>>,
+    // Whether the rows of the next map are those of the last one.
+    are_rows_noted: bool,
     changes: Vec<Change>,
     followed: Option<Followed>,
-    ghost places: { length seen.items ≡ PLACES },
+    ghost idle_places: { length idles.items ≡ PLACES },
+    ghost row_places: { length rows.items ≡ PLACES },
 }
 
 impl Notes {
     /// Makes notes of no maps. `Err` only if memory is refused.
     pub(crate) fn new(alloc: Global) -> Result<Notes, AllocError> {
-        let nothing = Seen {
-            idle: Idle::NONE,
-            row: None,
-        };
         Ok(Notes {
-            seen: vec![in alloc; nothing; PLACES]?,
+            idles: vec![in alloc; Idle::NONE; PLACES]?,
+            rows: vec![in alloc; None; PLACES]?,
+            are_rows_noted: false,
             changes: Vec::new(alloc),
             followed: None,
         })
@@ -110,19 +116,25 @@ impl Notes {
         Some(&self.followed.as_ref()?.series)
     }
 
-    // Adds a row of the map of a frame and its structure to the series, if it is of the Alloc-ID that is followed.
+    // Adds what the map of a frame gives the Alloc-ID that is followed to its series.
     fn note_followed(
         &mut self,
         frame: FrameNo,
-        explained: &Explanation,
-        structure: &Alloc,
+        rates: &[RowRates],
+        structures: &[Alloc],
     ) -> Result<(), AllocError> {
-        match &mut self.followed {
-            Some(Followed { alloc_id, series }) if *alloc_id == explained.row.alloc_id => {
-                series.add_map(frame, explained, structure)
+        let Some(Followed { alloc_id, series }) = &mut self.followed else {
+            return Ok(());
+        };
+        for (place, row) in rates.iter().enumerate() {
+            if row.alloc_id == *alloc_id {
+                return match structures.get(place) {
+                    Some(structure) => series.add_map(frame, row, structure),
+                    None => Ok(()),
+                };
             }
-            _ => Ok(()),
         }
+        Ok(())
     }
 
     /// The changes, in the order of the maps.
@@ -133,47 +145,79 @@ impl Notes {
     /// The length of the longest run of maps of consecutive frames that granted no payload words, by the number of the
     /// Alloc-ID.
     pub fn longest_idle(&self, place: usize) -> u64 {
-        match self.seen.get(place) {
-            Some(seen) => seen.idle.longest,
+        match self.idles.get(place) {
+            Some(idle) => idle.longest,
             None => 0,
         }
     }
 
-    // Notes a row of the map of a frame and its structure.
-    fn note_row(
-        &mut self,
-        frame: FrameNo,
-        explained: &Explanation,
-        structure: &Alloc,
-    ) -> Result<(), AllocError> {
-        let place = usize::from(explained.row.alloc_id.get());
-        let before = self.seen[place];
-        let idle = before.idle.after(frame, words_of(structure));
-        let row = Some(explained.row);
-        self.note_followed(frame, explained, structure)?;
-        self.seen[place] = Seen { idle, row };
-        if before.row != row {
-            self.changes.push(Change {
-                frame,
-                row: explained.row,
-                weight: explained.item.weight,
-            })?;
+    /// Notes that a chapter begins: its rows may be others than those of the last map.
+    pub(crate) fn note_chapter(&mut self) {
+        self.are_rows_noted = false;
+    }
+
+    /// Notes an event: after an admission, a change or a removal the rows are others than those of the last map.
+    pub(crate) fn note_event(&mut self, event: &Event) {
+        match event {
+            Event::Admit { .. } | Event::Change { .. } | Event::Remove { .. } => {
+                self.are_rows_noted = false;
+            }
+            _ => {}
         }
+    }
+
+    // Notes a row and its weight at the map of a frame.
+    fn note_row(&mut self, frame: FrameNo, row: &Row, weight: u64) -> Result<(), AllocError> {
+        let place = usize::from(row.alloc_id.get());
+        if self.rows[place] == Some(*row) {
+            return Ok(());
+        }
+        self.rows[place] = Some(*row);
+        self.changes.push(Change {
+            frame,
+            row: *row,
+            weight,
+        })?;
         Ok(())
     }
 
-    /// Notes the rows of the map of a frame and their structures, in map order. `Err` only if memory is refused.
+    // Notes the rows at the map of a frame.
+    fn note_rows(
+        &mut self,
+        frame: FrameNo,
+        rows: &[Row],
+        demands: &[Demand],
+    ) -> Result<(), AllocError> {
+        for (place, row) in rows.iter().enumerate() {
+            if let Some(demand) = demands.get(place) {
+                self.note_row(frame, row, demand.item.weight)?;
+            }
+        }
+        self.are_rows_noted = true;
+        Ok(())
+    }
+
+    // Notes the payload words of each row in the map of a frame.
+    fn note_words(&mut self, frame: FrameNo, rates: &[RowRates], structures: &[Alloc]) {
+        for (place, row) in rates.iter().enumerate() {
+            if let Some(structure) = structures.get(place) {
+                let idle = &mut self.idles[usize::from(row.alloc_id.get())];
+                *idle = idle.after(frame, words_of(structure));
+            }
+        }
+    }
+
+    /// Notes the map of a frame: the rows and their demands, rates and structures, in map order. `Err` only if memory is
+    /// refused.
     pub(crate) fn note_map(
         &mut self,
         frame: FrameNo,
-        rows: &[Explanation],
-        structures: &[Alloc],
-    ) -> Result<(), AllocError>
-        requires { length structures.now ≡ length rows.now }
-    {
-        for (place, row) in rows.iter().enumerate() {
-            self.note_row(frame, row, &structures[place])?;
+        map: &NotedMap<'_>,
+    ) -> Result<(), AllocError> {
+        self.note_words(frame, map.rates, map.structures);
+        if !self.are_rows_noted {
+            self.note_rows(frame, map.rows, map.demands)?;
         }
-        Ok(())
+        self.note_followed(frame, map.rates, map.structures)
     }
 }

@@ -1,5 +1,8 @@
 //! The time line of a map of a recording.
 
+ghost use Rattle.std.specs.Prelude.{IfOk};
+ghost use Rattle.pon_audit.specs.Streams.{IsVerdictOf, TellsFailure};
+
 use crate::drawing::{Drawing, FRAME_WORDS};
 use crate::finding::{FoundMap, find_map};
 use crate::owners::Owners;
@@ -7,10 +10,12 @@ use crate::parts::{bursts_of, grant_places};
 use crate::query::Missing;
 use crate::svg::svg_text;
 use crate::timeline::{parts_text, rows_text};
+use crate::viewed::Viewed;
 use pon_device::{DevRead, DeviceFault};
 use pon_state::EntryRef;
 use pon_units::{FrameNo, PortNo};
 use std::alloc::{AllocError, Global};
+use std::thread::Threads;
 
 /// The picture of a map: as text of at most 80 columns, and as SVG.
 #[derive(Debug, Drop)]
@@ -63,22 +68,32 @@ fn draw(alloc: Global, found: &FoundMap) -> Result<Option<Picture>, AllocError> 
 }
 
 /// Draws the map of a frame of a port in a recording: of the first port in it without a port, and the last map of the port
-/// without a frame. A recording that is not good is drawn as it stands, up to the first fault of its format.
+/// without a frame. A recording that is not good is drawn as it stands, up to the first fault of its format. Returns the
+/// verdict of its audit, and the picture or what is missing.
 ///
-/// `Read` if the reader fails, `Memory` if memory is refused.
+/// `Read` exactly if the reader fails, `Memory` if memory is refused.
 pub fn picture_of<R: DevRead>(
+    rt: &(impl Threads + Sync),
     alloc: Global,
     reader: &mut R,
     port: Option<PortNo>,
     frame: Option<FrameNo>,
-) -> Result<Result<Picture, Missing>, DeviceFault> {
-    let found = match find_map(alloc, reader, port, frame)? {
+) -> Result<Viewed<Result<Picture, Missing>>, DeviceFault>
+    ensures verdict { IfOk result (λ viewed. IsVerdictOf (R.remaining reader.old) viewed.verdict) }
+    ensures failures { TellsFailure (R.failures reader.old) (R.failures reader.new) result }
+{
+    let Viewed { verdict, shown } = find_map(rt, alloc, reader, port, frame)?;
+    let found = match shown {
         Ok(found) => found,
-        Err(missing) => return Ok(Err(missing)),
+        Err(missing) => {
+            let shown = Err(missing);
+            return Ok(Viewed { verdict, shown });
+        }
     };
-    match draw(alloc, &found) {
-        Ok(Some(picture)) => Ok(Ok(picture)),
-        Ok(None) => Ok(Err(Missing::Chapters)),
-        Err(_) => Err(DeviceFault::Memory),
-    }
+    let shown = match draw(alloc, &found) {
+        Ok(Some(picture)) => Ok(picture),
+        Ok(None) => Err(Missing::Chapters),
+        Err(_) => return Err(DeviceFault::Memory),
+    };
+    Ok(Viewed { verdict, shown })
 }

@@ -1,9 +1,13 @@
 //! What `olt rates` prints: the rates of each Alloc-ID over the maps of a recording.
 
-ghost use Rattle.std.specs.Prelude.{◌<◌, IfOk, length};
+ghost use Rattle.std.specs.Prelude.{◌<◌, All, IfOk, length};
+ghost use Rattle.std.specs.List.{AllZip};
+ghost use Rattle.pon_device.specs.Streams.{TellsWrite};
 ghost use Rattle.pon_audit.specs.Openings.{FitsRecording};
+ghost use Rattle.pon_audit.specs.Judging.{IsJudgment};
+ghost use Rattle.pon_audit.specs.Streams.{IsVerdictOf};
+ghost use Rattle.pon_look.specs.Views.{CountsReads, OnlyWrites};
 
-use crate::chapters::{next_chapter, open_chapters};
 use crate::frame_range::FrameRange;
 use crate::info::write_line;
 use crate::notes::Change;
@@ -11,6 +15,8 @@ use crate::query::{Answer, Format, Missing, RatesQuery};
 use crate::rates_text::{change_line, refused_line, sums_line};
 use crate::seen::{Ports, with_port};
 use crate::tally::{PortTally, Summed, tally_chapter};
+use crate::viewed::Viewed;
+use pon_audit::{Auditing, Judged, judge};
 use pon_device::{DevRead, DevWrite, DeviceFault};
 use pon_record::RawChapter;
 use pon_units::{AllocId, PortNo};
@@ -30,6 +36,14 @@ struct Rates {
     ports: Option<Ports>,
 }
 
+// What is asked for, and in which form.
+#[derive(Clone, Copy)]
+struct Asked {
+    query: RatesQuery,
+    range: FrameRange,
+    format: Format,
+}
+
 // Returns the place of the tally of a port, which is made if there is none.
 fn place_of(alloc: Global, rates: &mut Vec<PortRates>, port: PortNo) -> Result<usize, AllocError>
     ensures { IfOk result (λ place. place < length rates.new.items) }
@@ -43,70 +57,117 @@ fn place_of(alloc: Global, rates: &mut Vec<PortRates>, port: PortNo) -> Result<u
     Ok(place)
 }
 
+// Adds a chapter to the tally of its port, and writes a line if it is refused at an entry. Returns the answer on it,
+// regardless of the chapters before it.
+fn add_chapter<W: DevWrite>(
+    alloc: Global,
+    rates: &mut Vec<PortRates>,
+    chapter: &RawChapter,
+    asked: &Asked,
+    writer: &mut W,
+) -> Result<Judged, DeviceFault>
+    requires { FitsRecording chapter.now.body }
+    ensures judged { IfOk result (IsJudgment chapter.now) }
+    ensures write { OnlyWrites (W.failures writer.old) (W.failures writer.new) result }
+{
+    let summed = match tally_in(alloc, rates, chapter, &asked.range) {
+        Ok(summed) => summed,
+        Err(_) => return Err(DeviceFault::Memory),
+    };
+    if let Some(entry) = summed.refused() {
+        let line = refused_line(alloc, asked.format, chapter.port, chapter.number, entry);
+        write_line(line, writer)?;
+    }
+    Ok(summed.judged)
+}
+
 // Adds a chapter to the tally of its port.
-fn add_chapter(
+fn tally_in(
     alloc: Global,
     rates: &mut Vec<PortRates>,
     chapter: &RawChapter,
     range: &FrameRange,
 ) -> Result<Summed, AllocError>
     requires { FitsRecording chapter.now.body }
+    ensures { IfOk result (λ summed. IsJudgment chapter.now summed.judged) }
 {
     let place = place_of(alloc, rates, chapter.port)?;
     tally_chapter(alloc, chapter, range, &mut rates[place].tally)
 }
 
+// Judges a chapter, and adds it to the tally of its port if that is asked for.
+fn judge_next<W: DevWrite>(
+    alloc: Global,
+    rates: &mut Rates,
+    chapter: &RawChapter,
+    asked: &Asked,
+    writer: &mut W,
+) -> Result<Judged, DeviceFault>
+    requires { FitsRecording chapter.now.body }
+    ensures judged { IfOk result (IsJudgment chapter.now) }
+    ensures write { OnlyWrites (W.failures writer.old) (W.failures writer.new) result }
+{
+    rates.ports = Some(with_port(rates.ports, chapter.port));
+    if asked.query.wants(chapter.port) {
+        return add_chapter(alloc, &mut rates.rates, chapter, asked, writer);
+    }
+    match judge(alloc, chapter) {
+        Ok(judged) => Ok(judged),
+        Err(_) => Err(DeviceFault::Memory),
+    }
+}
+
+// Judges the next chapters, and adds those that are asked for to the tallies of their ports.
+fn judge_all<W: DevWrite>(
+    alloc: Global,
+    rates: &mut Rates,
+    chapters: &[RawChapter],
+    asked: &Asked,
+    writer: &mut W,
+) -> Result<Vec<Judged>, DeviceFault>
+    requires { All (λ c. FitsRecording c.body) chapters.now }
+    ensures judged { IfOk result (λ answers. AllZip IsJudgment chapters.now answers.items) }
+    ensures write { OnlyWrites (W.failures writer.old) (W.failures writer.new) result }
+{
+    let mut answers = Vec::new(alloc);
+    for chapter in chapters {
+        let judged = judge_next(alloc, rates, chapter, asked, writer)?;
+        if answers.push(judged).is_err() {
+            return Err(DeviceFault::Memory);
+        }
+    }
+    Ok(answers)
+}
+
 // Adds the chapters of a recording to the tallies of their ports, up to the end of the recording or the first fault of its
-// format. Writes a line for each chapter that is refused at an entry.
+// format, and judges it by the way. Writes a line for each chapter that is refused at an entry.
 fn read_rates<R: DevRead, W: DevWrite>(
     alloc: Global,
     reader: &mut R,
-    query: &RatesQuery,
-    format: Format,
+    asked: &Asked,
     writer: &mut W,
-) -> Result<Rates, DeviceFault> {
-    let mut rates = Vec::new(alloc);
-    let mut ports = None;
-    let range = FrameRange::from(query);
-    let Some(mut source) = open_chapters(alloc, reader)? else {
-        return Ok(Rates { rates, ports });
+) -> Result<Viewed<Rates>, DeviceFault>
+    ensures verdict { IfOk result (λ viewed. IsVerdictOf (R.remaining reader.old) viewed.verdict) }
+    ensures read { CountsReads (R.failures reader.old) (R.failures reader.new) result }
+    ensures write { TellsWrite (W.failures writer.old) (W.failures writer.new) result }
+{
+    let mut shown = Rates {
+        rates: Vec::new(alloc),
+        ports: None,
     };
-    for _chapter in 0..u64::MAX {
-        let Some(chapter) = next_chapter(alloc, &mut source, reader)? else {
-            return Ok(Rates { rates, ports });
-        };
-        ports = Some(with_port(ports, chapter.port));
-        if query.wants(chapter.port) {
-            add_and_report(alloc, &mut rates, &chapter, &range, format, writer)?;
+    let mut auditing = match Auditing::open(alloc, reader)? {
+        Ok(auditing) => auditing,
+        Err(verdict) => return Ok(Viewed { verdict, shown }),
+    };
+    for _batch in 0..u64::MAX {
+        let batch = auditing.read(alloc, reader)?;
+        let answers = judge_all(alloc, &mut shown, &batch.chapters, asked, writer)?;
+        match auditing.place(&batch, answers)? {
+            Some(verdict) => return Ok(Viewed { verdict, shown }),
+            None => {}
         }
     }
     Err(DeviceFault::Memory)
-}
-
-// Adds a chapter to the tally of its port, and writes a line if it is refused at an entry.
-fn add_and_report<W: DevWrite>(
-    alloc: Global,
-    rates: &mut Vec<PortRates>,
-    chapter: &RawChapter,
-    range: &FrameRange,
-    format: Format,
-    writer: &mut W,
-) -> Result<(), DeviceFault>
-    requires { FitsRecording chapter.now.body }
-{
-    match add_chapter(alloc, rates, chapter, range) {
-        Ok(
-            Summed {
-                refused: Some(entry),
-                ..
-            },
-        ) => write_line(
-            refused_line(alloc, format, chapter.port, chapter.number, entry),
-            writer,
-        ),
-        Ok(_) => Ok(()),
-        Err(_) => Err(DeviceFault::Memory),
-    }
 }
 
 // Returns whether a port has a map with the Alloc-ID, or any map.
@@ -165,7 +226,9 @@ fn write_change<W: DevWrite>(
     is_last: bool,
     format: Format,
     writer: &mut W,
-) -> Result<(), DeviceFault> {
+) -> Result<(), DeviceFault>
+    ensures write { OnlyWrites (W.failures writer.old) (W.failures writer.new) result }
+{
     write_line(change_line(alloc, format, rates.port, change), writer)?;
     if !is_last {
         return Ok(());
@@ -182,7 +245,9 @@ fn write_port<W: DevWrite>(
     query: &RatesQuery,
     format: Format,
     writer: &mut W,
-) -> Result<(), DeviceFault> {
+) -> Result<(), DeviceFault>
+    ensures write { OnlyWrites (W.failures writer.old) (W.failures writer.new) result }
+{
     let Ok(changes) = sorted_changes(alloc, rates.tally.changes(), query) else {
         return Err(DeviceFault::Memory);
     };
@@ -203,7 +268,9 @@ fn write_ports<W: DevWrite>(
     query: &RatesQuery,
     format: Format,
     writer: &mut W,
-) -> Result<(), DeviceFault> {
+) -> Result<(), DeviceFault>
+    ensures write { OnlyWrites (W.failures writer.old) (W.failures writer.new) result }
+{
     for port in rates {
         write_port(alloc, port, query, format, writer)?;
     }
@@ -213,22 +280,34 @@ fn write_ports<W: DevWrite>(
 /// Writes what the maps of a recording add up to for each Alloc-ID: a line for each of its descriptors, with the frame of
 /// the first map that has it, and a line of mean rates, by ascending port and Alloc-ID. A chapter that is refused at an
 /// entry has a line, and only its maps up to that entry are summed up. The recording is read up to its end or to the first
-/// fault of its format.
+/// fault of its format, and judged while it is summed up. Returns the verdict of the audit, and what is missing.
 ///
-/// `Read` if the reader fails, `Write` if the writer fails, `Memory` if memory is refused or a sum is 2^64 or more.
+/// `Read` exactly if the reader fails, `Write` exactly if the writer fails, `Memory` if memory is refused or a sum is 2^64 or
+/// more.
 pub fn write_rates<R: DevRead, W: DevWrite>(
     alloc: Global,
     reader: &mut R,
     query: RatesQuery,
     format: Format,
     writer: &mut W,
-) -> Result<Answer, DeviceFault> {
-    let rates = read_rates(alloc, reader, &query, format, writer)?;
-    match missing(&rates, &query) {
-        Some(missing) => Ok(Answer::NotFound(missing)),
+) -> Result<Viewed<Answer>, DeviceFault>
+    ensures verdict { IfOk result (λ viewed. IsVerdictOf (R.remaining reader.old) viewed.verdict) }
+    ensures read { CountsReads (R.failures reader.old) (R.failures reader.new) result }
+    ensures write { TellsWrite (W.failures writer.old) (W.failures writer.new) result }
+{
+    let range = FrameRange::from(&query);
+    let asked = Asked {
+        query,
+        range,
+        format,
+    };
+    let Viewed { verdict, shown } = read_rates(alloc, reader, &asked, writer)?;
+    let shown = match missing(&shown, &query) {
+        Some(missing) => Answer::NotFound(missing),
         None => {
-            write_ports(alloc, &rates.rates, &query, format, writer)?;
-            Ok(Answer::Shown)
+            write_ports(alloc, &shown.rates, &query, format, writer)?;
+            Answer::Shown
         }
-    }
+    };
+    Ok(Viewed { verdict, shown })
 }

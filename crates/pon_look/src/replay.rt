@@ -1,6 +1,6 @@
 //! The state along a chapter, entry by entry.
 
-ghost use Rattle.std.specs.Prelude.{◌≡◌, ◌<◌, ◌≤◌, IfOk, IfSome, MatchOption, length};
+ghost use Rattle.std.specs.Prelude.{◌≡◌, ◌≤◌, IfOk, MatchOption, length};
 ghost use Rattle.pon_admit.specs.Roster.{IsAdmitted};
 ghost use Rattle.pon_demand.specs.Carries.{AreCarries};
 ghost use Rattle.pon_demand.specs.Sharing.{IsCertified};
@@ -10,13 +10,13 @@ ghost use Rattle.pon_record.specs.Openings.{KeepsLimits};
 ghost use Rattle.pon_audit.specs.Openings.{FitsRecording, OpensLawfully, chapter_of, state_of};
 ghost use Rattle.pon_audit.specs.Faults.{cut_at};
 ghost use Rattle.pon_look.specs.Explanations.{Explains};
+ghost use Rattle.pon_look.specs.Whys.{FailsBefore};
 
-use pon_audit::{open_state, take_entry};
+use pon_audit::{accepted_problems, open_state, take_entry};
 use pon_cert::left_surplus;
-use pon_check::check_map;
 use pon_demand::MapBuffers;
 use pon_record::RawChapter;
-use pon_state::{MadeMap, PortState, next_problems};
+use pon_state::{MadeMap, PortState};
 use pon_why::{Explanation, explain};
 use std::alloc::{AllocError, Global};
 
@@ -30,7 +30,8 @@ pub(crate) struct Replay {
 /// Opens the replay of a chapter; `None` if its opening is not lawful. `Err` only if memory is refused.
 pub(crate) fn open_replay(alloc: Global, chapter: &RawChapter) -> Result<Option<Replay>, AllocError>
     requires { FitsRecording chapter.now.body }
-    ensures { IfOk result (λ found. IfSome found (λ replay. OpensLawfully chapter.now.body
+    ensures { IfOk result (λ found. MatchOption found (OpensLawfully chapter.now.body → ⊥)
+        (λ replay. OpensLawfully chapter.now.body
         × (replay.state ≡ state_of chapter.now.body.opening))) }
 {
     match open_state(alloc, chapter.number, &chapter.opening)? {
@@ -56,7 +57,7 @@ pub(crate) fn replay_to(
     requires end { end ≤ length chapter.now.body.entries }
     ensures { IfOk result (λ found. MatchOption found
         (IsKept (cut_at (chapter_of chapter.now.body) end) replay.new.state)
-        (λ index. index < end)) }
+        (FailsBefore (chapter_of chapter.now.body) end)) }
 {
     for index in 0..end {
         let entry = &chapter.entries[index];
@@ -95,14 +96,12 @@ pub(crate) fn explain_map(
         (λ explained. Explains replay.old.state made.now.cert explained)) }
 {
     let Replay { state, buffers } = replay;
-    let problems = next_problems(alloc, buffers, state)?;
-    let (na, be) = (problems.na.items.as_slice(), problems.be.items.as_slice());
-    if check_map(na, be, problems.surplus, &made.cert).is_err() {
+    let Some(problems) = accepted_problems(alloc, buffers, state, &made.cert)? else {
         return Ok(None);
-    }
+    };
     let rows = explain(alloc, state, problems.demands.as_slice(), &made.cert)?;
     let non_assured = problems.surplus;
-    let best_effort = left_surplus(&made.cert.na.level, na, non_assured);
+    let best_effort = left_surplus(&made.cert.na.level, &problems.na.items, non_assured);
     buffers.keep_demands(problems.demands);
     Ok(Some(MapExplanation {
         rows,

@@ -1,6 +1,6 @@
 //! The ports that a recording has.
 
-use crate::query::Missing;
+use crate::query::{Answer, Missing};
 use pon_units::PortNo;
 
 /// The least and the greatest port of the chapters.
@@ -29,5 +29,41 @@ pub(crate) fn missing_port(ports: Option<Ports>, port: Option<PortNo>) -> Missin
     match (ports, port) {
         (Some(Ports { first, last }), Some(port)) => Missing::Port { port, first, last },
         _ => Missing::Chapters,
+    }
+}
+
+/// The ports of the chapters so far, and whether one is of the port that is shown, or of any port if it is `None`.
+#[derive(Clone, Copy, Debug, PartialEq, Eq)]
+pub(crate) struct SeenPorts {
+    port: Option<PortNo>,
+    ports: Option<Ports>,
+    is_met: bool,
+}
+
+impl SeenPorts {
+    /// Before the first chapter.
+    pub(crate) fn new(port: Option<PortNo>) -> SeenPorts {
+        SeenPorts {
+            port,
+            ports: None,
+            is_met: false,
+        }
+    }
+
+    /// Notes a chapter of a port. Returns whether it is shown.
+    pub(crate) fn sees(&mut self, port: PortNo) -> bool {
+        self.ports = Some(with_port(self.ports, port));
+        let is_shown = self.port.is_none() || self.port == Some(port);
+        self.is_met = self.is_met || is_shown;
+        is_shown
+    }
+
+    /// Returns what is missing if no chapter was shown.
+    pub(crate) fn answer(&self) -> Answer {
+        if self.is_met {
+            Answer::Shown
+        } else {
+            Answer::NotFound(missing_port(self.ports, self.port))
+        }
     }
 }

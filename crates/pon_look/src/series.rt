@@ -3,7 +3,7 @@
 use crate::sums::{Sums, with_row, with_sums};
 use pon_bwmap::Alloc;
 use pon_units::FrameNo;
-use pon_why::Explanation;
+use pon_why::RowRates;
 use std::alloc::{AllocError, Global};
 
 /// The greatest number of steps of a series.
@@ -88,7 +88,7 @@ impl Series {
     pub(crate) fn add_map(
         &mut self,
         frame: FrameNo,
-        row: &Explanation,
+        row: &RowRates,
         structure: &Alloc,
     ) -> Result<(), AllocError> {
         let step = self.step_of(frame.get())?;

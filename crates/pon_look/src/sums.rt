@@ -4,8 +4,8 @@ ghost use Rattle.std.specs.Prelude.{ℕ, ◌≡◌, ◌-◌, ◌==◌, if◌then
 ghost use Rattle.pon_look.specs.Sums.{amounts_in, amounts_of, is_below, no_sums, plus, sums_at};
 
 use pon_bwmap::Alloc;
-use pon_units::{MAX_ALLOC_ID, WORD_RATE, whole};
-use pon_why::Explanation;
+use pon_units::{MAX_ALLOC_ID, WORD_RATE};
+use pon_why::RowRates;
 
 /// The number of places of a table of sums: one for each Alloc-ID, at its number.
 pub(crate) const PLACES: usize = MAX_ALLOC_ID as usize + 1;
@@ -47,17 +47,16 @@ pub(crate) fn words_of(structure: &Alloc) -> u64
 }
 
 // Returns whether a structure grants fewer payload words than the whole ones of the guaranteed rate.
-fn is_below(row: &Explanation, structure: &Alloc) -> bool
+fn is_below(row: &RowRates, structure: &Alloc) -> bool
     ensures { result ≡ is_below row.now structure.now }
 {
     words_of(structure) < u64::from(row.guaranteed.get()) / WORD_RATE
 }
 
 /// Adds a row and its structure to sums; `None` if a sum is 2^64 or more.
-pub fn with_row(sums: Sums, row: &Explanation, structure: &Alloc) -> Option<Sums>
+pub fn with_row(sums: Sums, row: &RowRates, structure: &Alloc) -> Option<Sums>
     ensures { IfSome result (λ new. new ≡ plus sums (amounts_of row.now structure.now)) }
 {
-    let share = whole(row.surplus.num(), row.surplus.den());
     let below = if is_below(row, structure) { 1 } else { 0 };
     Some(Sums {
         maps: sums.maps.checked_add(1)?,
@@ -65,7 +64,7 @@ pub fn with_row(sums: Sums, row: &Explanation, structure: &Alloc) -> Option<Sums
         guaranteed: sums
             .guaranteed
             .checked_add(u64::from(row.guaranteed.get()))?,
-        surplus: sums.surplus.checked_add(share)?,
+        surplus: sums.surplus.checked_add(row.surplus)?,
         granted: sums.granted.checked_add(words_of(structure))?,
         below: sums.below.checked_add(below)?,
     })
@@ -86,12 +85,12 @@ pub fn with_sums(sums: Sums, others: &Sums) -> Option<Sums>
 }
 
 // Adds a row and its structure to the sums of its Alloc-ID. Returns false if a sum is 2^64 or more.
-fn add_row(table: &mut [Sums], row: &Explanation, structure: &Alloc) -> bool
+fn add_row(table: &mut [Sums], row: &RowRates, structure: &Alloc) -> bool
     requires { length table.old ≡ PLACES }
     ensures { IsTrue result → (i : ℕ) → sums_at table.new i ≡ plus (sums_at table.old i)
-        (if row.now.row.alloc_id == i then amounts_of row.now structure.now else no_sums) }
+        (if row.now.alloc_id == i then amounts_of row.now structure.now else no_sums) }
 {
-    let place = usize::from(row.row.alloc_id.get());
+    let place = usize::from(row.alloc_id.get());
     match with_row(table[place], row, structure) {
         Some(sums) => {
             table[place] = sums;
@@ -103,7 +102,7 @@ fn add_row(table: &mut [Sums], row: &Explanation, structure: &Alloc) -> bool
 
 /// Adds the rows of a map and their structures, in map order, to the sums of each Alloc-ID. Returns false if a sum is 2^64
 /// or more.
-pub(crate) fn add_map(table: &mut [Sums], rows: &[Explanation], structures: &[Alloc]) -> bool
+pub(crate) fn add_map(table: &mut [Sums], rows: &[RowRates], structures: &[Alloc]) -> bool
     requires places { length table.old ≡ PLACES }
     requires structures { length structures.now ≡ length rows.now }
     ensures { IsTrue result → (i : ℕ) → sums_at table.new i

@@ -4,33 +4,43 @@ ghost use Rattle.std.specs.Prelude.{ℕ, ◌≡◌, ◌+◌, ◌<◌, ◌^◌, �
 ghost use Rattle.pon_admit.specs.Roster.{IsAdmitted};
 ghost use Rattle.pon_guar.specs.Window.{AreConsecutive};
 ghost use Rattle.pon_demand.specs.Carries.{AreCarries};
+ghost use Rattle.pon_demand.specs.Problems.{AreProblems};
+ghost use Rattle.pon_demand.specs.Sharing.{IsCertified};
+ghost use Rattle.pon_state.specs.State.{input_of};
 ghost use Rattle.pon_state.specs.Accounts.{AccountsFor};
 ghost use Rattle.pon_state.specs.Legal.{IsMade};
 ghost use Rattle.pon_record.specs.Chapters.{reply_to};
 ghost use Rattle.pon_audit.specs.Openings.{FitsRecording, chapter_of};
-ghost use Rattle.pon_why.specs.Explanations.{explanations_of};
+ghost use Rattle.pon_audit.specs.Faults.{map_entry};
+ghost use Rattle.pon_audit.specs.Judging.{IsJudgment};
+ghost use Rattle.pon_audit.specs.declared.chapters.Judged.TheVariants.{Fails};
+ghost use Rattle.pon_why.specs.Rates.{rates_of};
 ghost use Rattle.pon_look.specs.Sums.{amounts_in, no_sums, plus, sums_at, sums_of};
-ghost use Rattle.pon_look.specs.Tallies.{IsTallied};
+ghost use Rattle.pon_look.specs.Tallies.{IsTallied, refused_at};
 ghost use Rattle.pon_look.specs.declared.sums.TheConstants.{PLACES};
 
 use crate::frame_range::FrameRange;
-use crate::notes::{Change, Notes};
-use crate::replay::{Replay, explain_map, open_replay};
+use crate::notes::{Change, NotedMap, Notes};
+use crate::replay::{Replay, open_replay};
 use crate::series::Series;
 use crate::sums::{PLACES, Sums, add_map};
-use pon_audit::take_entry;
+use pon_audit::{AuditReason, Fault, Judged, accepted_problems, take_entry, take_map};
 use pon_bwmap::Alloc;
+use pon_demand::Problems;
 use pon_record::RawChapter;
-use pon_state::{Entry, EntryRef, MadeMap};
+use pon_state::{Entry, EntryRef, MadeMap, PortState};
 use pon_units::AllocId;
-use pon_why::Explanation;
+use pon_why::{RowRates, rates_under};
 use std::alloc::{AllocError, Global};
+use std::mem;
 
 /// What the maps of a port add up to: the sums of each Alloc-ID, at its number, and notes.
 #[derive(Drop)]
 pub struct PortTally {
     sums: Vec<Sums>,
     notes: Notes,
+    // Memory for the rates of a map.
+    rates: Vec<RowRates>,
     ghost places: { length sums.items ≡ PLACES },
 }
 
@@ -40,6 +50,7 @@ impl PortTally {
         Ok(PortTally {
             sums: vec![in alloc; Sums::NONE; PLACES]?,
             notes: Notes::new(alloc)?,
+            rates: Vec::new(alloc),
         })
     }
 
@@ -72,63 +83,117 @@ impl PortTally {
 pub enum Tallied {
     /// It may follow, and it is in the sums.
     Follows,
-    /// It may not follow. The flag says whether it is in the sums.
-    Ends(bool),
+    /// It may not follow, and why. `added` says whether it is in the sums.
+    Stops { why: AuditReason, added: bool },
 }
 
-/// How far a chapter was summed up: the number of entries in the sums, and the index of the entry that may not follow, 0
-/// also if the opening is not lawful.
-#[derive(Clone, Copy, Debug, PartialEq, Eq)]
+/// How far a chapter was summed up: the number of entries in the sums; and the answer on the chapter, regardless of those
+/// before it.
+#[derive(Drop)]
 pub struct Summed {
     pub entries: usize,
-    pub refused: Option<usize>,
+    pub judged: Judged,
+}
+
+impl Summed {
+    /// The index of the entry that may not follow, 0 also if the opening is not lawful; `None` if the chapter is good.
+    pub fn refused(&self) -> Option<usize>
+        ensures { result ≡ refused_at self.now.judged }
+    {
+        match &self.judged {
+            Judged::Unlawful => Some(0),
+            Judged::Fails(fault) => Some(fault.index),
+            Judged::Ends(_) => None,
+        }
+    }
 }
 
 // Returns whether a map has the Alloc-IDs of the rows, in their order.
-fn lists_rows(rows: &[Explanation], structures: &[Alloc]) -> bool
-    ensures { IsTrue result ↔ (map (λ x. x.row.alloc_id) rows.now
+fn lists_rows(rows: &[RowRates], structures: &[Alloc]) -> bool
+    ensures { IsTrue result ↔ (map (λ x. x.alloc_id) rows.now
         ≡ map (λ a. a.id) structures.now) }
 {
     if rows.len() != structures.len() {
         return false;
     }
     for place in 0..rows.len() {
-        if rows[place].row.alloc_id.get() != structures[place].id() {
+        if rows[place].alloc_id.get() != structures[place].id() {
             return false;
         }
     }
     true
 }
 
-// Adds a map to the sums, if its certificate is that of the state and it has the Alloc-IDs of the state. Returns whether it
-// is added. `Err` if memory is refused or a sum is 2^64 or more.
+// Adds a map to the sums, if it has the Alloc-IDs of the state, whose class problems accept its certificate. Returns
+// whether it is added. `Err` if memory is refused or a sum is 2^64 or more.
 fn tally_map(
+    alloc: Global,
+    state: &PortState,
+    tally: &mut PortTally,
+    made: &MadeMap,
+    problems: &Problems,
+) -> Result<bool, AllocError>
+    requires admitted { IsAdmitted state.now.rule state.now.gap state.now.roster }
+    requires carries { AreCarries state.now.rule state.now.roster state.now.carries }
+    requires problems { AreProblems (input_of state.now) problems.now }
+    requires certified { IsCertified (input_of state.now) made.now.cert }
+    ensures sums { IfOk result (λ added. (i : ℕ) → sums_at tally.new.sums.items i
+        ≡ plus (sums_at tally.old.sums.items i)
+        (if added then amounts_in i (rates_of state.now made.now.cert) made.now.map
+        else no_sums)) }
+    ensures good { IfOk result (λ added. IsMade state.now made.now → IsTrue added) }
+{
+    let demands = problems.demands.as_slice();
+    let room = mem::replace(&mut tally.rates, Vec::new(alloc));
+    let rates = rates_under(room, state, demands, &made.cert)?;
+    let structures = made.map.rows();
+    if !lists_rows(&rates, structures) {
+        tally.rates = rates;
+        return Ok(false);
+    }
+    if !add_map(&mut tally.sums, &rates, structures) {
+        return Err(AllocError);
+    }
+    let map = NotedMap {
+        rows: state.roster().rows(),
+        demands,
+        rates: &rates,
+        structures,
+    };
+    tally.notes.note_map(made.frame, &map)?;
+    tally.rates = rates;
+    Ok(true)
+}
+
+// Adds a map that follows `kept` entries of its chapter to the sums, if its frame is in the range, and applies it to the state
+// if it may follow. `Err` if memory is refused or a sum is 2^64 or more.
+fn tally_made(
     alloc: Global,
     replay: &mut Replay,
     tally: &mut PortTally,
+    range: &FrameRange,
+    kept: usize,
     made: &MadeMap,
-) -> Result<bool, AllocError>
+) -> Result<Tallied, AllocError>
     requires admitted { IsAdmitted replay.old.state.rule replay.old.state.gap replay.old.state.roster }
     requires carries { AreCarries replay.old.state.rule replay.old.state.roster replay.old.state.carries }
-    ensures state { replay.new.state ≡ replay.old.state }
-    ensures sums { IfOk result (λ added. (i : ℕ) → sums_at tally.new.sums.items i
-        ≡ plus (sums_at tally.old.sums.items i)
-        (if added then amounts_in i (explanations_of replay.old.state made.now.cert) made.now.map
-        else no_sums)) }
-    ensures good { IfOk result (λ added. IsMade replay.old.state made.now → IsTrue added) }
+    requires frames { AreConsecutive replay.old.state.next replay.old.state.window }
+    ensures { IfOk result (λ tallied. IsTallied range.now kept replay.old.state
+        (map_entry made.now) replay.new.state tally.old.sums.items tally.new.sums.items tallied) }
 {
-    let Some(explained) = explain_map(alloc, replay, made)? else {
-        return Ok(false);
+    let Replay { state, buffers } = replay;
+    let problems = accepted_problems(alloc, buffers, state, &made.cert)?;
+    let added = match &problems {
+        Some(problems) if range.holds(made.frame) => {
+            tally_map(alloc, state, tally, made, problems)?
+        }
+        Some(_) => true,
+        None => !range.holds(made.frame),
     };
-    let (rows, structures) = (explained.rows.as_slice(), made.map.rows());
-    if !lists_rows(rows, structures) {
-        return Ok(false);
+    match take_map(alloc, buffers, state, kept, made, problems)? {
+        None => Ok(Tallied::Follows),
+        Some(why) => Ok(Tallied::Stops { why, added }),
     }
-    if !add_map(&mut tally.sums, rows, structures) {
-        return Err(AllocError);
-    }
-    tally.notes.note_map(made.frame, rows, structures)?;
-    Ok(true)
 }
 
 // Adds an entry that follows `kept` entries of its chapter to the sums, and applies it to the state if it may follow. `Err`
@@ -149,34 +214,34 @@ fn tally_entry(
     ensures { IfOk result (λ tallied. IsTallied range.now kept replay.old.state entry.now
         replay.new.state tally.old.sums.items tally.new.sums.items tallied) }
 {
-    let added = match entry.as_ref() {
-        EntryRef::Map(made) if range.holds(made.frame) => tally_map(alloc, replay, tally, made)?,
-        _ => true,
-    };
+    match entry.as_ref() {
+        EntryRef::Map(made) => return tally_made(alloc, replay, tally, range, kept, made),
+        EntryRef::Taken(event) => tally.notes.note_event(event),
+    }
     let Replay { state, buffers } = replay;
     match take_entry(alloc, buffers, state, kept, entry)? {
         None => Ok(Tallied::Follows),
-        Some(_) => Ok(Tallied::Ends(added)),
+        Some(why) => Ok(Tallied::Stops { why, added: true }),
     }
 }
 
-// How far a chapter is summed up that is refused at an entry, which is in the sums or not.
-fn ended(index: usize, added: bool) -> Summed
+// How far a chapter is summed up that fails at an entry, which is in the sums or not.
+fn ended(index: usize, why: AuditReason, added: bool) -> Summed
     requires { index + 1 < 2 ^ 64 }
     ensures { result ≡ record {
       entries = if added then index + 1 else index;
-      refused = Some index;
+      judged = Fails (record { index = index; why = why });
     } }
 {
     Summed {
         entries: if added { index + 1 } else { index },
-        refused: Some(index),
+        judged: Judged::Fails(Fault { index, why }),
     }
 }
 
 /// Adds the maps of a chapter in a range of frames to the sums of its port, up to the first entry that may not follow, and
-/// with its map if that has the Alloc-IDs of the state and its certificate is that of the state. `Err` if memory is refused
-/// or a sum is 2^64 or more.
+/// with its map if that has the Alloc-IDs of the state and its certificate is that of the state; and judges the chapter,
+/// regardless of those before it. `Err` if memory is refused or a sum is 2^64 or more.
 pub fn tally_chapter(
     alloc: Global,
     chapter: &RawChapter,
@@ -187,23 +252,24 @@ pub fn tally_chapter(
     ensures sums { IfOk result (λ summed. (i : ℕ) → sums_at tally.new.sums.items i
         ≡ plus (sums_at tally.old.sums.items i)
         (sums_of range.now i (chapter_of chapter.now.body) summed.entries)) }
-    ensures whole { IfOk result (λ summed. IfNone summed.refused
+    ensures judged { IfOk result (λ summed. IsJudgment chapter.now summed.judged) }
+    ensures whole { IfOk result (λ summed. IfNone (refused_at summed.judged)
         (summed.entries ≡ length chapter.now.body.entries)) }
 {
     let Some(mut replay) = open_replay(alloc, chapter)? else {
         return Ok(Summed {
             entries: 0,
-            refused: Some(0),
+            judged: Judged::Unlawful,
         });
     };
+    tally.notes.note_chapter();
     for (index, entry) in chapter.entries.iter().enumerate() {
-        let tallied = tally_entry(alloc, &mut replay, tally, range, index, entry)?;
-        match tallied {
+        match tally_entry(alloc, &mut replay, tally, range, index, entry)? {
             Tallied::Follows => {}
-            Tallied::Ends(added) => return Ok(ended(index, added)),
+            Tallied::Stops { why, added } => return Ok(ended(index, why, added)),
         }
     }
     let entries = chapter.entries.len();
-    let refused = None;
-    Ok(Summed { entries, refused })
+    let judged = Judged::Ends(replay.state);
+    Ok(Summed { entries, judged })
 }

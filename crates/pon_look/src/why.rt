@@ -3,6 +3,9 @@
 ghost use Rattle.std.specs.Prelude.{◌<◌, IfOk, length};
 ghost use Rattle.pon_audit.specs.Openings.{FitsRecording, chapter_of};
 ghost use Rattle.pon_look.specs.Finding.{IsFound};
+ghost use Rattle.pon_device.specs.Streams.{TellsWrite};
+ghost use Rattle.pon_audit.specs.Streams.{IsVerdictOf};
+ghost use Rattle.pon_look.specs.Views.{CountsReads, OnlyWrites};
 ghost use Rattle.pon_look.specs.Whys.{IsExplained};
 
 use crate::finding::{FoundMap, find_map};
@@ -10,6 +13,7 @@ use crate::info::write_line;
 use crate::query::{Answer, Format, Missing, WhyQuery};
 use crate::replay::{MapExplanation, explain_map, open_replay, replay_to};
 use crate::reported::{Reports, reports_of};
+use crate::viewed::Viewed;
 use crate::why_text::{MapPlace, Shown, map_line, row_lines};
 use pon_device::{DevRead, DevWrite, DeviceFault};
 use pon_record::RawChapter;
@@ -17,6 +21,7 @@ use pon_state::{EntryRef, MadeMap};
 use pon_units::AllocId;
 use pon_why::{Explanation, level_in};
 use std::alloc::{AllocError, Global};
+use std::thread::Threads;
 
 /// The explanation of a map of a chapter, or why there is none.
 #[derive(Drop)]
@@ -64,7 +69,9 @@ fn write_rows<W: DevWrite>(
     explained: &MapExplanation,
     reports: &Reports,
     writer: &mut W,
-) -> Result<(), DeviceFault> {
+) -> Result<(), DeviceFault>
+    ensures write { OnlyWrites (W.failures writer.old) (W.failures writer.new) result }
+{
     let structures = made.map.rows();
     for (index, row) in explained.rows.iter().enumerate() {
         let wanted = place.alloc.is_none() || place.alloc == Some(row.row.alloc_id);
@@ -99,6 +106,7 @@ fn write_map<W: DevWrite>(
     writer: &mut W,
 ) -> Result<(), DeviceFault>
     requires { place.now.entry < length chapter.now.body.entries }
+    ensures write { OnlyWrites (W.failures writer.old) (W.failures writer.new) result }
 {
     let EntryRef::Map(made) = chapter.entries[place.entry].as_ref() else {
         return Ok(());
@@ -119,6 +127,7 @@ fn answer_by<W: DevWrite>(
     writer: &mut W,
 ) -> Result<Answer, DeviceFault>
     requires { IsFound found.now }
+    ensures write { OnlyWrites (W.failures writer.old) (W.failures writer.new) result }
 {
     let FoundMap {
         chapter,
@@ -153,19 +162,26 @@ fn answer_by<W: DevWrite>(
 
 /// Writes the explanation of the first map of a frame at a port, or of the last map without a frame, and of the first port
 /// in the recording without a port: the surpluses and levels of the classes, and for each Alloc-ID, or for one, each number
-/// from which its words follow, and its structure. The recording is read up to that map's chapter, its end or the first
-/// fault of its format.
+/// from which its words follow, and its structure. The recording is read up to its end or the first fault of its format.
+/// Returns the verdict of its audit, and what is missing.
 ///
-/// `Read` if the reader fails, `Write` if the writer fails, `Memory` if memory is refused.
+/// `Read` exactly if the reader fails, `Write` exactly if the writer fails, `Memory` if memory is refused.
 pub fn write_why<R: DevRead, W: DevWrite>(
+    rt: &(impl Threads + Sync),
     alloc: Global,
     reader: &mut R,
     query: WhyQuery,
     format: Format,
     writer: &mut W,
-) -> Result<Answer, DeviceFault> {
-    match find_map(alloc, reader, query.port, query.frame)? {
-        Ok(found) => answer_by(alloc, &found, &query, format, writer),
-        Err(missing) => Ok(Answer::NotFound(missing)),
-    }
+) -> Result<Viewed<Answer>, DeviceFault>
+    ensures verdict { IfOk result (λ viewed. IsVerdictOf (R.remaining reader.old) viewed.verdict) }
+    ensures read { CountsReads (R.failures reader.old) (R.failures reader.new) result }
+    ensures write { TellsWrite (W.failures writer.old) (W.failures writer.new) result }
+{
+    let Viewed { verdict, shown } = find_map(rt, alloc, reader, query.port, query.frame)?;
+    let shown = match shown {
+        Ok(found) => answer_by(alloc, &found, &query, format, writer)?,
+        Err(missing) => Answer::NotFound(missing),
+    };
+    Ok(Viewed { verdict, shown })
 }

@@ -1,7 +1,13 @@
+use Rattle.std.proofs.Common.{◌≡◌}
+use Rattle.pon_audit.specs.Auditing.{IsAuditing}
 use Rattle.std.specs.Prelude.{IfSome}
 use Rattle.pon_look.specs.Finding.{IsFound}
 use Rattle.pon_look.proofs.finding.find_map.Given as goal
 
--- the map that was found last
-abbrev pub invariant-loop-chapter : goal.invariant-loop-chapter
-invariant-loop-chapter g l = IfSome l.last IsFound
+-- the audit goes on, and no read has failed
+abbrev pub invariant-loop-batch : goal.invariant-loop-batch
+invariant-loop-batch g l = record {
+  auditing : IsAuditing (g.R.DevRead.remaining l.fn.reader) l.auditing (g.R.DevRead.remaining l.reader);
+  none_failed : g.R.DevRead.failures l.reader ≡ g.R.DevRead.failures l.fn.reader;
+  found : IfSome l.found IsFound;
+}

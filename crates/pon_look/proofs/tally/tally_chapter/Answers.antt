@@ -1,7 +1,8 @@
-use Rattle.std.proofs.Common.{◌≡◌, ◌∙◌, ap, arith, length, rules, sym}
+use Rattle.std.proofs.Common.{◌≡◌, ◌∙◌, ap, arith, length, rules, subst, sym}
 use Rattle.pon_history.proofs.Kept.{kept_frames}
 use Rattle.pon_audit.specs.Openings.{chapter_of}
-use Rattle.pon_audit.proofs.Kept.{none_yet, one_further}
+use Rattle.pon_audit.specs.Judging.{FailsLater, IsJudgment}
+use Rattle.pon_audit.proofs.Kept.{all_taken, ended, fails_here, none_yet, one_further}
 use Rattle.pon_look.specs.Sums.{plus, sums_at, sums_of}
 use Rattle.pon_look.proofs.SumLaws.{plus_none}
 use Rattle.pon_look.proofs.Tallying.{ended_with, with_entry}
@@ -11,6 +12,7 @@ pub loop-index-init : goal.loop-index-init
 loop-index-init c =
     let opened = rw c.in-Some.is at c.in_ok-replay.ensures in
     record {
+      opens = opened.0;
       kept = none_yet (chapter_of c.args.chapter.now.body) c.in-Some.replay.state opened.0 opened.1;
       sums = λ i. sym (plus_none (sums_at c.args.tally.now.sums.items i));
     }
@@ -18,17 +20,32 @@ loop-index-init c =
 pub tally_entry-requires-clause-frames : goal.tally_entry-requires-clause-frames
 tally_entry-requires-clause-frames c = kept_frames _ c.loop-index.replay.state c.loop-index.invariant.kept
 
-pub returns-in-Ends-clause-sums : goal.returns-in-Ends-clause-sums
-returns-in-Ends-clause-sums c =
-    let tallied = rw c.in-Ends.is at c.in_ok-tallied.ensures in
+pub returns-in-Stops-clause-sums : goal.returns-in-Stops-clause-sums
+returns-in-Stops-clause-sums c =
+    let tallied = rw c.in-Stops.is at c.in_ok-tally_entry.ensures in
     let sums = ended_with c.args.range.now (chapter_of c.args.chapter.now.body) c.loop-index.index c.entry-item.result c.loop-index.replay.state (search rules) (search rules) c.loop-index.invariant.kept
-    c.args.tally.now.sums.items c.loop-index.tally.sums.items c.tally_entry.new.tally.sums.items c.loop-index.invariant.sums c.tally_entry.new.replay.state c.in-Ends.added tallied in
+    c.args.tally.now.sums.items c.loop-index.tally.sums.items c.tally_entry.new.tally.sums.items c.loop-index.invariant.sums c.in-Stops.added tallied.1 in
     λ i. sums i ∙ ap (λ n. plus (sums_at c.args.tally.now.sums.items i) (sums_of c.args.range.now i (chapter_of c.args.chapter.now.body) n)) (sym (ap (λ t. t.entries) c.ended.ensures))
+
+pub returns-in-Stops-clause-judged : goal.returns-in-Stops-clause-judged
+returns-in-Stops-clause-judged c =
+    let tallied = rw c.in-Stops.is at c.in_ok-tally_entry.ensures in
+    let fails : FailsLater c.args.chapter.now (record { index = c.loop-index.index; why = c.in-Stops.why }) = record {
+      opens = c.loop-index.invariant.opens;
+      entry = fails_here (chapter_of c.args.chapter.now.body) c.loop-index.index c.loop-index.replay.state c.entry-item.result c.in-Stops.why (search rules) (search rules) c.loop-index.invariant.kept tallied.0;
+    } in
+    subst (IsJudgment c.args.chapter.now) (sym (ap (λ t. t.judged) c.ended.ensures)) fails
+
+pub returns-clause-judged : goal.returns-clause-judged
+returns-clause-judged c =
+    let entries : c.deref-entry-items.result.now ≡ c.args.chapter.now.body.entries = search rules in
+    ended c.args.chapter.now c.loop-index.replay.state (all_taken (chapter_of c.args.chapter.now.body) c.loop-index.index c.loop-index.replay.state (omega (arith, ap length entries)) c.loop-index.invariant.kept)
 
 pub loop-index-preserved : goal.loop-index-preserved
 loop-index-preserved c =
-    let tallied = rw c.in-Follows.is at c.in_ok-tallied.ensures in
+    let tallied = rw c.in-Follows.is at c.in_ok-tally_entry.ensures in
     record {
+      opens = c.loop-index.invariant.opens;
       kept = one_further (chapter_of c.args.chapter.now.body) c.loop-index.index c.loop-index.replay.state c.tally_entry.new.replay.state c.entry-item.result (search rules) (search rules) c.loop-index.invariant.kept tallied.0 tallied.1;
       sums = with_entry c.args.range.now (chapter_of c.args.chapter.now.body) c.loop-index.index c.entry-item.result c.loop-index.replay.state (search rules) (search rules) c.loop-index.invariant.kept
           c.args.tally.now.sums.items c.loop-index.tally.sums.items c.tally_entry.new.tally.sums.items c.loop-index.invariant.sums tallied.2;

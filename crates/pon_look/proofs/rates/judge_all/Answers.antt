@@ -1,0 +1,13 @@
+use Rattle.std.proofs.Common.{◌≡◌, ◌++◌, ◌∷◌, [], rules}
+use Rattle.pon_look.proofs.Judgments.{one_more}
+use Rattle.pon_look.proofs.rates.judge_all.Goals as goal
+
+pub loop-chapter-preserved : goal.loop-chapter-preserved
+loop-chapter-preserved g c =
+    let answers = c.loop-chapter.answers.items in
+    let judged = c.in_ok-judged.judged in
+    let pushed : c.push.new.self.items ≡ answers ++ judged ∷ [] = search rules in
+    record {
+      judged = rw pushed (one_more c.args.chapters.now answers c.loop-chapter.chapter-index c.chapter-item.result judged c.loop-chapter-test.true c.chapter-item.is c.loop-chapter.invariant.judged c.in_ok-judged.ensures.judged);
+      none_written = search rules;
+    }
