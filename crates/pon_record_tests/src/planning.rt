@@ -52,11 +52,14 @@ struct Given {
     refused: u64,
 }
 
-fn ports(rt: &impl Abort) -> [(PortCfg, FrameNo); 2] {
+fn port(rt: &impl Abort) -> (PortCfg, FrameNo) {
     let gap = Gap::new(16).expect(rt, "a gap");
     let profile = Profile::new(0).expect(rt, "a profile");
-    let port = (PortCfg { gap, profile }, FrameNo::new(0));
-    [port, port]
+    (PortCfg { gap, profile }, FrameNo::new(0))
+}
+
+fn ports(rt: &impl Abort) -> [(PortCfg, FrameNo); 2] {
+    [port(rt), port(rt)]
 }
 
 fn reader(rt: &impl Abort, alloc: Global, lines: &[u8]) -> MemRead {

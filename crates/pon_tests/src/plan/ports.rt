@@ -12,7 +12,7 @@ fn run_two(alloc: Global, steps: Vec<Step>, input: &[u8]) -> Option<Vec<u8>> {
     let ports = [port(16)?, port(16)?];
     let mut reader = reader(alloc, input, &sound(4096))?;
     let mut writer = writer(alloc, &sound(4096))?;
-    match plan(&(), alloc, &ports, steps, &mut reader, &mut writer) {
+    match plan(alloc, &ports, steps, &mut Unnoted, &mut reader, &mut writer) {
         Ok(PlanEnd) => writer.bytes().to_vec(alloc).ok(),
         Err(_) => None,
     }
@@ -54,7 +54,7 @@ fn run_64(alloc: Global, input: &[u8]) -> Option<Vec<u8>> {
     let mut reader = reader(alloc, input, &sound(4096))?;
     let mut writer = writer(alloc, &sound(4096))?;
     let steps = Vec::new(alloc);
-    match plan(&(), alloc, &ports, steps, &mut reader, &mut writer) {
+    match plan(alloc, &ports, steps, &mut Unnoted, &mut reader, &mut writer) {
         Ok(PlanEnd) => writer.bytes().to_vec(alloc).ok(),
         Err(_) => None,
     }
