@@ -1,6 +1,8 @@
 //! Views of a recording in a file.
 
 use crate::files::{open_recording, replace_file};
+use crate::holding::HeldText;
+use pon_audit::Verdict;
 use pon_device::{DevRead, DevWrite, DeviceFault, StdWrite, write_text};
 use pon_job::{Failure, Named, Part, Show, View};
 use pon_look::{
@@ -113,13 +115,13 @@ fn show_picture<R: Files + Threads + Sync, D: DevRead, W: DevWrite>(
 }
 
 // Shows a part of a recording, and judges it by the way.
-fn show_part<R: Files + Print + Threads + Sync>(
+fn show_part<R: Files + Threads + Sync, W: DevWrite>(
     rt: &R,
     alloc: Global,
     show: &Show<'_>,
+    writer: &mut W,
 ) -> Result<Viewed<Answer>, Failure> {
     let mut reader = CountedBytes::new(open_recording(rt, alloc, show.file)?);
-    let mut writer = StdWrite::new(io::writer(rt));
     let format = if show.json {
         Format::Json
     } else {
@@ -127,12 +129,12 @@ fn show_part<R: Files + Print + Threads + Sync>(
     };
     let part = &show.part;
     let shown = match show.view {
-        View::Info => write_info(rt, alloc, &mut reader, format, &mut writer),
-        View::Rates => write_rates(alloc, &mut reader, maps_of(part), format, &mut writer),
-        View::Why => write_why(rt, alloc, &mut reader, map_of(part), format, &mut writer),
-        View::Dump => write_dump(rt, alloc, &mut reader, port_of(part), &mut writer),
+        View::Info => write_info(rt, alloc, &mut reader, format, writer),
+        View::Rates => write_rates(alloc, &mut reader, maps_of(part), format, writer),
+        View::Why => write_why(rt, alloc, &mut reader, map_of(part), format, writer),
+        View::Dump => write_dump(rt, alloc, &mut reader, port_of(part), writer),
         View::Picture | View::Loads => {
-            return show_picture(rt, alloc, &mut reader, show, &mut writer);
+            return show_picture(rt, alloc, &mut reader, show, writer);
         }
     };
     match shown {
@@ -141,17 +143,56 @@ fn show_part<R: Files + Print + Threads + Sync>(
     }
 }
 
-/// Shows a part of a recording, and then the verdict of its audit on standard error if it is not good. Returns whether it is
-/// good and has that part; if it has not, standard error says what is missing.
+// Prints the verdict to standard error if it is not good.
+fn print_verdict(rt: &impl Eprint, verdict: &Verdict) {
+    if !verdict.is_good() {
+        let _ = eprintln!(rt; "olt: {verdict}");
+    }
+}
+
+// Shows a part of a recording once its verdict is printed: the text is held until then.
+fn show_after_verdict<R: Files + Eprint + Threads + Sync, W: DevWrite>(
+    rt: &R,
+    alloc: Global,
+    show: &Show<'_>,
+    writer: &mut W,
+) -> Result<Viewed<Answer>, Failure> {
+    let mut held = HeldText::new(alloc);
+    let shown = show_part(rt, alloc, show, &mut held);
+    if held.lacked_memory() {
+        return Err(Failure::from(DeviceFault::Memory));
+    }
+    let viewed = shown?;
+    print_verdict(rt, &viewed.verdict);
+    write_text(writer, held.text())?;
+    Ok(viewed)
+}
+
+// Shows the events of a recording as they are read, and then prints its verdict: their text may be longer than the recording,
+// so it is not held.
+fn show_events<R: Files + Eprint + Threads + Sync, W: DevWrite>(
+    rt: &R,
+    alloc: Global,
+    show: &Show<'_>,
+    writer: &mut W,
+) -> Result<Viewed<Answer>, Failure> {
+    let viewed = show_part(rt, alloc, show, writer)?;
+    print_verdict(rt, &viewed.verdict);
+    Ok(viewed)
+}
+
+/// Shows a part of a recording, after the verdict of its audit on standard error if it is not good; events come before it.
+/// Returns whether it is good and has that part; if it has not, standard error says what is missing.
 pub(crate) fn show_recording<R: Files + Print + Eprint + Threads + Sync>(
     rt: &R,
     alloc: Global,
     show: &Show<'_>,
 ) -> Result<bool, Failure> {
-    let Viewed { verdict, shown } = show_part(rt, alloc, show)?;
-    if !verdict.is_good() {
-        let _ = eprintln!(rt; "olt: {verdict}");
-    }
+    let mut writer = StdWrite::new(io::writer(rt));
+    let Viewed { verdict, shown } = match show.view {
+        View::Dump => show_events(rt, alloc, show, &mut writer)?,
+        _ => show_after_verdict(rt, alloc, show, &mut writer)?,
+    };
     match shown {
         Answer::Shown => Ok(verdict.is_good()),
         Answer::NotFound(missing) => {
