@@ -1,7 +1,7 @@
 //! Answers from a recording of the ports of an XG-PON optical line terminal (upstream bandwidth assignment, ITU-T
-//! G.987.3): what each chapter holds.
+//! G.987.3): what each chapter holds, adds up to, and follows from.
 //!
-//! The crate counts what is in a chapter that is read. It does not judge a recording.
+//! A recording is read once: it is audited by `pon_audit` while it is shown.
 #![tactic(auto)]
 
 mod append;
