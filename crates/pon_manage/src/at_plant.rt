@@ -42,11 +42,13 @@ impl<'a, N: Notes> AtPlant<'a, N> {
     /// refusal.
     pub(crate) fn note(&mut self, plant: &Plant, line: &[u8], replies: &[u8], before: usize) {
         self.lines = self.lines.saturating_add(1);
-        match replies.get(before..) {
-            Some(reply) if reply.starts_with(REFUSED) => {
-                self.notes.note(self.lines, plant, line, reply);
-            }
-            _ => {}
+        // Most lines are accepted, and one byte tells.
+        if before >= replies.len() || replies[before] != REFUSED[0] {
+            return;
+        }
+        let reply = &replies[before..];
+        if reply.starts_with(REFUSED) {
+            self.notes.note(self.lines, plant, line, reply);
         }
     }
 

@@ -1,17 +1,15 @@
 //! Lines at a plant whose full chapters are recorded.
 
 ghost use Rattle.std.specs.Prelude.{◌≡◌, ◌<◌, ◌++◌, ℕ, List, OnErr, OnOk, length};
-ghost use Rattle.pon_line.specs.Parts.{asks_in};
-ghost use Rattle.pon_line.specs.Reading.{AsksWithin, read_line};
+ghost use Rattle.pon_line.specs.Reading.{AsksWithin};
 ghost use Rattle.pon_manage.specs.Paths.{records_path, recorded_gives_first};
 ghost use Rattle.pon_manage.specs.Recorded.{AnswersInRoom, GivesRecorded, MakesRoom, MakesRoomFor, RecordsTurned};
 
 use crate::answer::{answer, port_no};
 use crate::at_plant::AtPlant;
 use crate::notes::Notes;
-use pon_dbru::Occupancies;
 use pon_device::DevWrite;
-use pon_line::{FrameCommand, Reading, read_frame_line, read_line};
+use pon_line::{Reading, read_line};
 use pon_plant::Plant;
 use pon_port::Event;
 use pon_recorder::Recorder;
@@ -82,33 +80,6 @@ fn answer_in_room<D: DevWrite + Drop>(
     answer(&mut at.plant, reading, room, replies)
 }
 
-// Returns the reading of a line that each frame brings, with the occupancies of its report.
-fn reading_of(asked: FrameCommand, occ: Occupancies) -> Reading
-    ensures { result ≡ asks_in asked occ }
-{
-    match asked {
-        FrameCommand::Map { port } => Reading::Asks {
-            port,
-            event: Event::MakeMap,
-        },
-        FrameCommand::Report { port, frame, onu } => Reading::Asks {
-            port,
-            event: Event::Report { frame, onu, occ },
-        },
-    }
-}
-
-// Reads a line of a plant with this number of ports.
-fn read(ports: usize, line: &[u8]) -> Reading
-    ensures { result ≡ read_line ports line.now }
-{
-    let mut occ = Occupancies::new();
-    match read_frame_line(ports, line, &mut occ) {
-        Some(asked) => reading_of(asked, occ),
-        None => read_line(ports, line),
-    }
-}
-
 impl<'a, N: Notes, D: DevWrite + Drop> Answers<RecordedPlant<D>> for AtPlant<'a, N> {
     ghost gives = { GivesRecorded };
 
@@ -121,7 +92,7 @@ impl<'a, N: Notes, D: DevWrite + Drop> Answers<RecordedPlant<D>> for AtPlant<'a,
         replies: &mut Vec<u8>,
     ) -> Result<(), AllocError> {
         let before = replies.len();
-        let reading = read(at.plant.count(), line);
+        let reading = read_line(at.plant.count(), line);
         let answered = answer_in_room(at, reading, &mut self.room, replies);
         self.note(&at.plant, line, replies.as_slice(), before);
         answered

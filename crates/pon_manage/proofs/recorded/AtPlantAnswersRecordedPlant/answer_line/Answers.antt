@@ -6,4 +6,4 @@ use Rattle.pon_manage.proofs.recorded.AtPlantAnswersRecordedPlant.answer_line.Go
 pub answer_in_room-answered-requires : goal.answer_in_room-answered-requires
 answer_in_room-answered-requires g c =
     let ports = length c.args.at.now.plant in
-    subst (AsksWithin ports) (sym (c.read-reading.ensures ∙ ap (λ n. read_line n c.args.line.now) c.count.ensures.count)) (read_line-within ports c.args.line.now)
+    subst (AsksWithin ports) (sym (c.read_line-reading.ensures ∙ ap (λ n. read_line n c.args.line.now) c.count.ensures.count)) (read_line-within ports c.args.line.now)
