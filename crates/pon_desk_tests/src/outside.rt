@@ -1,12 +1,14 @@
 //! A run whose units are elsewhere: another thread, which connects to the address of the port.
 
 use crate::running::{args, ended_with, ran, read, text};
+use pon_device::MemWrite;
 use pon_run::{RunArgs, UnitsArgs, UnitsPlace, run_units};
 use pon_units::PortNo;
 use pon_worker::OpenGate;
 use std::alloc::Global;
 use std::net::{Net, TcpListener, TcpStream};
 use std::process::Abort;
+use std::rt::Files;
 use std::sync::Wait;
 use std::thread::Threads;
 use std::time::{Clock, Duration};
@@ -40,23 +42,56 @@ where
     run_units(rt, alloc, &settings, &args)
 }
 
-#[test]
-fn serves_units_elsewhere(rt: HostRuntime) {
-    let rt = &rt;
-    let alloc = rt.alloc();
-    let address = free_address(rt, alloc).ok().expect(rt, "a free address");
-    let address = address.as_str();
+// Runs a port for three maps of units elsewhere. Returns the exit status and the text that was written.
+fn served<R>(rt: &R, alloc: Global, address: &str) -> (u8, MemWrite)
+where
+    R: Net<Listener = TcpListener, Stream = TcpStream>
+        + Files
+        + Input
+        + Threads
+        + Wait
+        + Clock
+        + Eprint
+        + Sync
+        + Abort,
+    R::File: Send,
+{
     let wait = Duration::from_secs(WAIT_SECONDS);
     let args = RunArgs {
         listen: address,
         units: UnitsPlace::Elsewhere { wait },
         ..args(3)
     };
-    let (run, units) = thread::join(
+    ran(rt, alloc, 1, args, &OpenGate)
+}
+
+// Runs a port, and its units in another thread. Returns the exit status of the units, and what the run gave.
+fn connected_and_served<R>(rt: &R, alloc: Global, address: &str) -> (u8, (u8, MemWrite))
+where
+    R: Net<Listener = TcpListener, Stream = TcpStream>
+        + Files
+        + Input
+        + Threads
+        + Wait
+        + Clock
+        + Eprint
+        + Sync
+        + Abort,
+    R::File: Send,
+{
+    thread::join(
         rt,
-        || ran(rt, alloc, 1, args, &OpenGate),
-        || connected(rt, alloc, address, PortNo::new(0)),
-    );
+        move || connected(rt, alloc, address, PortNo::new(0)),
+        move || served(rt, alloc, address),
+    )
+}
+
+#[test]
+fn serves_units_elsewhere(rt: HostRuntime) {
+    let address = free_address(&rt, rt.alloc())
+        .ok()
+        .expect(&rt, "a free address");
+    let (units, run) = connected_and_served(&rt, rt.alloc(), address.as_str());
     assert!(rt; units == 0);
     assert!(rt; ended_with(run, 0, "port 0 maps 3 entries 7 reports 3 dropped 0\n"));
 }
