@@ -1,6 +1,6 @@
 //! The addresses of the ports: the TCP port of each, from the address of port 0.
 
-ghost use Rattle.std.specs.Prelude.{◌≡◌, ◌+◌, IfOk, length};
+ghost use Rattle.std.specs.Prelude.{◌≡◌, IfOk};
 ghost use Rattle.std.specs.Net.Socket.{socket_ip, socket_port};
 ghost use Rattle.pon_run.specs.Addresses.{port_at};
 

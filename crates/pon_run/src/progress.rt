@@ -44,6 +44,7 @@ pub(crate) fn print_progress<R: Clock + Eprint>(
 ) -> Result<(), AllocError> {
     let mut before = vec![in alloc; 0; watch.ports().len()]?;
     let mut looks = Timer::new(rt, LOOKS);
+    let _now = looks.wait();
     for second in 1..u64::MAX {
         if !next_second(&mut looks, stop) {
             break;
