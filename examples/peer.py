@@ -13,6 +13,7 @@ UP, DOWN = b"\x55", b"\x44"
 HEC_POLYNOMIAL, HEC_BITS = 0b1010100111001, 12
 DBRU_POLYNOMIAL, DBRU_BITS = 0x107, 8
 NO_START = 0xFFFF
+NOBODY = 1023
 # The same number of words waits at each Alloc-ID.
 WAITING = 500
 # A slow unit sends so many bytes of each answer one at a time.
@@ -74,6 +75,12 @@ def of_another_frame(stream, line):
         line.sendall(answers(frame + 1000, bursts))
 
 
+def of_nobody(stream, line):
+    """Answers with the ONU-ID that no unit has."""
+    for frame, bursts in iter(lambda: read_map(stream), None):
+        line.sendall(b"".join(record_of(frame, NOBODY, reports) for reports in bursts))
+
+
 def without_a_record(stream, line):
     read_map(stream)
     line.sendall(b"no record")
@@ -104,7 +111,7 @@ def flooding(stream, line):
         line.sendall(answers(frame, bursts))
 
 
-WAYS = [honest, of_another_frame, without_a_record, closed_inside_a_record, silent, slow, flooding]
+WAYS = [honest, of_another_frame, of_nobody, without_a_record, closed_inside_a_record, silent, slow, flooding]
 
 
 def connect(address, port):
