@@ -4,8 +4,6 @@ A function is proved against the contracts of what it calls. So the body of one 
 says of a function in a check of several wrong programs is what it says of the only one that changes it. An edit counts as refused here only by
 a line about one of its own functions; each edit without such a line is left to be tried alone.
 """
-import importlib.machinery
-import importlib.util
 import os
 import re
 import shutil
@@ -15,6 +13,9 @@ import tempfile
 from concurrent.futures import ThreadPoolExecutor
 from dataclasses import dataclass, field
 from threading import Lock, Semaphore
+
+sys.path.insert(0, os.path.dirname(os.path.dirname(os.path.realpath(__file__))) + "/bench")
+from kit import load, remember_stamps
 
 PARTS = ("src", "specs", "proofs")
 FUNCTION = re.compile(r"^( *)(?:pub(?:\([a-z]+\))? )?(?:(?:final|const|unsafe) )*fn (\w+)")
@@ -81,6 +82,9 @@ def functions_of(file, text):
         if not begun:
             continue
         indent = begun[1]
+        # The prover names the first line of a function's attributes.
+        while first and lines[first - 1].startswith(f"{indent}#["):
+            first -= 1
         last = next((at for at in range(first, len(lines)) if lines[at] == indent + "}"), None)
         body = next((at for at in range(first, len(lines)) if lines[at] == indent + "{" or re.match(rf"{indent}\S.*\{{$", lines[at])), None)
         if last is not None and body is not None and body < last:
@@ -150,17 +154,6 @@ def says_of(said, functions):
     return None
 
 
-def load_rtlib():
-    """Returns the kit's library, which stands beside the command rt."""
-    sys.dont_write_bytecode = True
-    folder = os.path.dirname(os.path.realpath(shutil.which("rt")))
-    loader = importlib.machinery.SourceFileLoader("rtlib", f"{folder}/rtlib.py")
-    made = importlib.util.module_from_spec(importlib.util.spec_from_loader("rtlib", loader))
-    sys.modules["rtlib"] = made
-    loader.exec_module(made)
-    return made
-
-
 def link_or_copy(one, other):
     """Copies what was proved by a link: a check replaces such a file, and changes none."""
     try:
@@ -175,10 +168,18 @@ class Batches:
     """Tries the edits of crates of a repository."""
 
     def __init__(self, root, lanes):
-        self.rtlib = load_rtlib()
+        self.rtlib = load("rtlib", "rtlib.py")
+        remember_stamps(self.rtlib.Crate)
         self.guard = self.rtlib.guarded()
         self.crates = {it.name: it for it in self.rtlib.crates_below(root)}
         self.free, self.building = Semaphore(lanes), Lock()
+
+    def stamp_libraries(self):
+        """Marks each library that is there as proved from the sources as they stand."""
+        for crate in self.crates.values():
+            if os.path.isdir(crate.rlib):
+                with open(f"{os.path.dirname(crate.rlib)}/stamp", "w", encoding="utf-8") as file:
+                    file.write(crate.stamp())
 
     def build_below(self, crate):
         """Builds the libraries below a crate that are not built. Returns whether all are proved."""
@@ -216,7 +217,8 @@ class Batches:
         crate, started = self.crates[name], f"{self.crates[name].folder}/out/incremental"
         groups = groups_of([read_edit(it, crate.folder) for it in edits], crate.folder)
         with tempfile.TemporaryDirectory(prefix="batch-seed-") as room, ThreadPoolExecutor(len(groups) or 1) as pool:
-            seed = shutil.copytree(started, f"{room}/seed", copy_function=link_or_copy) if os.path.isdir(started) else f"{room}/seed"
+            # Where no check kept anything, the edits that are tried alone begin with what this one keeps.
+            seed = shutil.copytree(started, f"{room}/seed", copy_function=link_or_copy) if os.path.isdir(started) else started
             os.makedirs(seed, exist_ok=True)
             if not self.build_below(crate) or not PROVED.search(self.check(crate, {}, seed)):
                 print(f"edits: {name} is not proved as it stands", flush=True)

@@ -1,10 +1,11 @@
 -- The answers on chapters, one after another.
-use Rattle.std.proofs.Common.{◌≡◌, ◌∙◌, ℕ, ◌+◌, ◌<◌, List, [], ◌∷◌, ◌++◌, ap, get_or, length, subst, sym, take}
+use Rattle.std.proofs.Common.{◌≡◌, ◌∙◌, ℕ, ◌+◌, ◌<◌, List, [], ◌∷◌, ◌++◌, ap, get_or, length, map, subst, sym, take}
 use Rattle.std.specs.List.{AllZip}
 use Rattle.std.proofs.lemmas.List.{take_more}
 use Rattle.pon_record.specs.Chapters.{PlacedChapter}
 use Rattle.pon_audit.specs.Judging.{IsJudgment}
 use Rattle.pon_audit.specs.declared.chapters.Judged.{Judged}
+use Rattle.pon_look.specs.declared.summing.Part.{Part}
 
 zip_push : (cs : List PlacedChapter) (answers : List Judged) (c : PlacedChapter) (a : Judged) → AllZip IsJudgment cs answers → IsJudgment c a → AllZip IsJudgment (cs ++ c ∷ []) (answers ++ a ∷ [])
 zip_push [] [] c a h told = (told, tt)
@@ -18,3 +19,10 @@ pub one_more : (cs : List PlacedChapter) (answers : List Judged) (i : ℕ) (c : 
 one_more cs answers i c a lt here so_far told =
     let more : take (i + 1) cs ≡ take i cs ++ c ∷ [] = take_more cs i c lt ∙ ap (λ x. take i cs ++ x ∷ []) (sym here) in
     subst (λ l. AllZip IsJudgment l (answers ++ a ∷ [])) (sym more) (zip_push (take i cs) answers c a so_far told)
+
+-- the answers of parts
+pub answers_in : (cs : List PlacedChapter) (ps : List Part) → AllZip (λ c p. IsJudgment c p.judged) cs ps → AllZip IsJudgment cs (map (λ p. p.judged) ps)
+answers_in [] [] h = tt
+answers_in [] (p ∷ ps) h = absurd h
+answers_in (c ∷ cs) [] h = absurd h
+answers_in (c ∷ cs) (p ∷ ps) h = (h.0, answers_in cs ps h.1)

@@ -8,26 +8,26 @@ use Rattle.pon_state.specs.Entry.{Entry}
 use Rattle.pon_history.specs.Chapters.{Chapter, state_before}
 use Rattle.pon_history.specs.Taking.{IsKept}
 use Rattle.pon_audit.specs.Faults.{cut_at}
-use Rattle.pon_look.specs.Sums.{amounts_in_entry, amounts_in_reply, plus, sums_at, sums_of}
+use Rattle.pon_look.specs.Sums.{amounts_in_entry, amounts_in_reply, plus, sums_in, sums_of}
 use Rattle.pon_look.specs.Tallies.{AddsEntry, AddsIf}
 use Rattle.pon_look.specs.declared.frame_range.FrameRange.{FrameRange}
-use Rattle.pon_look.specs.declared.sums.Sums.{Sums}
+use Rattle.pon_look.specs.declared.alloc_tallies.AllocTally.{AllocTally}
 use Rattle.pon_look.proofs.SumLaws.{plus_assoc}
 
 -- an entry of a chapter, in the state before it
-module _ (range : FrameRange) (c : Chapter) (k : ℕ) (e : Entry) (s : State) (lt : k < length c.entries) (here : e ≡ get_or c.entries k e) (kept : IsKept (cut_at c k) s) (old mid new : List Sums)
-    (so_far : (i : ℕ) → sums_at mid i ≡ plus (sums_at old i) (sums_of range i c k)) where
+module _ (range : FrameRange) (c : Chapter) (k : ℕ) (e : Entry) (s : State) (lt : k < length c.entries) (here : e ≡ get_or c.entries k e) (kept : IsKept (cut_at c k) s) (old mid new : List AllocTally)
+    (so_far : (i : ℕ) → sums_in i mid ≡ plus (sums_in i old) (sums_of range i c k)) where
   one_more_entry : (i : ℕ) → sums_of range i c (k + 1) ≡ plus (sums_of range i c k) (amounts_in_reply range i s e.reply)
   one_more_entry i =
       let found : slice_get c.entries k ≡ Some e = slice_get-get_or c.entries k e lt ∙ ap Option.Some (sym here) in
       let before : state_before c k ≡ s = sym kept.replayed in
       rw add-one (λ j. plus (sums_of range i c k) (amounts_in_entry range i (before j) (found j)))
 
-  pub with_entry : AddsEntry range s e mid new → (i : ℕ) → sums_at new i ≡ plus (sums_at old i) (sums_of range i c (k + 1))
+  pub with_entry : AddsEntry range s e mid new → (i : ℕ) → sums_in i new ≡ plus (sums_in i old) (sums_of range i c (k + 1))
   with_entry adds i =
-      adds i ∙ ap (λ m. plus m (amounts_in_reply range i s e.reply)) (so_far i) ∙ plus_assoc (sums_at old i) (sums_of range i c k) (amounts_in_reply range i s e.reply)
-      ∙ ap (plus (sums_at old i)) (sym (one_more_entry i))
+      adds i ∙ ap (λ m. plus m (amounts_in_reply range i s e.reply)) (so_far i) ∙ plus_assoc (sums_in i old) (sums_of range i c k) (amounts_in_reply range i s e.reply)
+      ∙ ap (plus (sums_in i old)) (sym (one_more_entry i))
 
-  pub ended_with : (added : Bool) → AddsIf range s e mid new added → (i : ℕ) → sums_at new i ≡ plus (sums_at old i) (sums_of range i c (if added then k + 1 else k))
+  pub ended_with : (added : Bool) → AddsIf range s e mid new added → (i : ℕ) → sums_in i new ≡ plus (sums_in i old) (sums_of range i c (if added then k + 1 else k))
   ended_with true told i = with_entry told i
   ended_with false told i = told i ∙ so_far i

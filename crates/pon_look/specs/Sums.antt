@@ -1,5 +1,5 @@
 -- What the maps of a chapter add up to for an Alloc-ID.
-use Rattle.std.specs.Prelude.{ℕ, zero, suc, ◌+◌, ◌-◌, ◌/◌, ◌==◌, ◌&&◌, nat_le, nat_lt, Bool, if◌then◌else◌, List, [], ◌∷◌, slice_get, slice_index_or, Option, Some, None}
+use Rattle.std.specs.Prelude.{ℕ, zero, suc, ◌+◌, ◌-◌, ◌/◌, ◌==◌, ◌&&◌, nat_le, nat_lt, Bool, if◌then◌else◌, List, [], ◌∷◌, slice_get, Option, Some, None}
 use Rattle.pon_units.specs.declared.limits.TheConstants.{WORD_RATE}
 use Rattle.pon_bwmap.specs.Alloc.{Alloc}
 use Rattle.pon_state.specs.State.{State}
@@ -10,6 +10,7 @@ use Rattle.pon_history.specs.Chapters.{Chapter, state_before}
 use Rattle.pon_why.specs.Rates.{rates_of}
 use Rattle.pon_why.specs.declared.rates.RowRates.{RowRates}
 use Rattle.pon_look.specs.declared.frame_range.FrameRange.{FrameRange}
+use Rattle.pon_look.specs.declared.alloc_tallies.AllocTally.{AllocTally}
 use Rattle.pon_look.specs.declared.sums.Sums.{Sums}
 
 abbrev pub no_sums : Sums
@@ -68,7 +69,13 @@ abbrev pub sums_of : FrameRange → ℕ → Chapter → ℕ → Sums
 sums_of range i c zero = no_sums
 sums_of range i c (suc n) = plus (sums_of range i c n) (amounts_in_entry range i (state_before c n) (slice_get c.entries n))
 
--- Tables of sums, by Alloc-ID.
+-- Tallies of Alloc-IDs.
 
-abbrev pub sums_at : List Sums → ℕ → Sums
-sums_at table i = slice_index_or table i no_sums
+-- the sums of a tally, if it is of the Alloc-ID
+abbrev pub sums_if : ℕ → AllocTally → Sums
+sums_if i t = if t.alloc_id == i then t.sums else no_sums
+
+-- the sums of an Alloc-ID in tallies
+abbrev pub sums_in : ℕ → List AllocTally → Sums
+sums_in i [] = no_sums
+sums_in i (t ∷ ts) = plus (sums_if i t) (sums_in i ts)

@@ -1,7 +1,7 @@
 //! What `olt info` says, as JSON.
 
 use crate::counts::cause_count;
-use crate::json::line_of;
+use crate::members::Members;
 use crate::onus::OnuCounts;
 use crate::summary::{Summary, Totals};
 use crate::text::MAX_CAUSE;
@@ -50,18 +50,26 @@ pub(crate) fn chapter_json(
     entries: &[Entry],
     bytes: u64,
 ) -> Result<String, AllocError> {
-    let (port, number) = (summary.port.get(), summary.number);
-    let (first, last) = (frame_json(summary.first), frame_json(summary.last));
-    let (maps, reports, failures) = (summary.maps, summary.reports, summary.failures);
-    let (allocs, allocs_end) = (summary.allocs, summary.allocs_end);
+    let members = Members::of(
+        alloc,
+        &[
+            ("port", u64::from(summary.port.get())),
+            ("chapter", summary.number),
+            ("bytes", bytes),
+            ("maps", summary.maps),
+            ("reports", summary.reports),
+            ("allocs", summary.allocs),
+            ("allocs_end", summary.allocs_end),
+            ("onus", onus.opening as u64),
+            ("onus_end", onus.end as u64),
+            ("failures", summary.failures),
+        ],
+    )?;
+    let members = members.with("first", frame_json(summary.first))?;
+    let members = members.with("last", frame_json(summary.last))?;
+    let members = members.with("seconds", line_seconds(summary.maps))?;
     let causes = causes_json(alloc, summary, entries)?;
-    let (onus, onus_end, seconds) = (onus.opening, onus.end, line_seconds(maps));
-    let value = json!(in alloc; {
-        "port": port, "chapter": number, "bytes": bytes, "first": &first, "last": &last, "seconds": &seconds, "maps": maps,
-        "reports": reports, "allocs": allocs, "allocs_end": allocs_end, "onus": onus, "onus_end": onus_end,
-        "failures": failures, "causes": &causes
-    })?;
-    line_of(alloc, &value)
+    members.with("causes", causes)?.into_line()
 }
 
 /// Makes the object of the chapters `first` to `last` that are missing. `Err` only if memory is refused.
@@ -71,17 +79,23 @@ pub(crate) fn missing_json(
     first: u64,
     last: u64,
 ) -> Result<String, AllocError> {
-    let value = json!(in alloc; {"port": port, "missing": [first, last]})?;
-    line_of(alloc, &value)
+    let missing = json!(in alloc; [first, last])?;
+    let members = Members::of(alloc, &[("port", u64::from(port))])?;
+    members.with("missing", missing)?.into_line()
 }
 
 /// Makes the object of the totals. `Err` only if memory is refused.
 pub(crate) fn total_json(alloc: Global, totals: &Totals, bytes: u64) -> Result<String, AllocError> {
-    let (chapters, maps) = (totals.chapters, totals.maps);
-    let (reports, failures) = (totals.reports, totals.failures);
-    let seconds = line_seconds(maps);
-    let value = json!(in alloc; {
-        "chapters": chapters, "bytes": bytes, "seconds": &seconds, "maps": maps, "reports": reports, "failures": failures
-    })?;
-    line_of(alloc, &value)
+    let members = Members::of(
+        alloc,
+        &[
+            ("chapters", totals.chapters),
+            ("bytes", bytes),
+            ("maps", totals.maps),
+            ("reports", totals.reports),
+            ("failures", totals.failures),
+        ],
+    )?;
+    let seconds = line_seconds(totals.maps);
+    members.with("seconds", seconds)?.into_line()
 }

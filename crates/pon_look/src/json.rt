@@ -1,35 +1,31 @@
 //! Answers as JSON, an object on each line.
 
-use crate::notes::Change;
+use crate::changes::Change;
+use crate::members::Members;
+use crate::port_tallies::Refused;
 use crate::replay::MapExplanation;
 use crate::sums::Sums;
 use crate::why_text::{MapPlace, Shown};
 use crate::words::{class_word, level_text};
 use pon_admit::Row;
 use pon_bwmap::Alloc;
-use pon_cert::MapCert;
+use pon_cert::{Level, MapCert};
 use pon_units::{PortNo, WORD_RATE};
 use pon_why::Explanation;
-use serde_json::{Value, json};
+use serde_json::Value;
 use std::alloc::{AllocError, Global};
 
-/// Writes a value on a line. `Err` only if memory is refused.
-pub(crate) fn line_of(alloc: Global, value: &Value) -> Result<String, AllocError> {
-    let mut line = value.to_string(alloc)?;
-    line.push('\n')?;
-    Ok(line)
-}
-
 /// Makes the object of a chapter that is refused at an entry. `Err` only if memory is refused.
-pub(crate) fn refused_json(
-    alloc: Global,
-    port: PortNo,
-    chapter: u64,
-    entry: usize,
-) -> Result<String, AllocError> {
-    let port = port.get();
-    let value = json!(in alloc; {"port": port, "chapter": chapter, "refused": entry})?;
-    line_of(alloc, &value)
+pub(crate) fn refused_json(alloc: Global, refused: &Refused) -> Result<String, AllocError> {
+    let members = Members::of(
+        alloc,
+        &[
+            ("port", u64::from(refused.port.get())),
+            ("chapter", refused.chapter),
+            ("refused", refused.entry as u64),
+        ],
+    )?;
+    members.into_line()
 }
 
 /// Makes the object of the descriptor that an Alloc-ID has from a frame on. `Err` only if memory is refused.
@@ -38,22 +34,33 @@ pub(crate) fn change_json(
     port: PortNo,
     change: &Change,
 ) -> Result<String, AllocError> {
-    let (port, alloc_id) = (port.get(), change.row.alloc_id.get());
-    let (onu, from, weight) = (change.row.onu.get(), change.frame.get(), change.weight);
+    let members = Members::of(
+        alloc,
+        &[
+            ("port", u64::from(port.get())),
+            ("alloc", u64::from(change.row.alloc_id.get())),
+            ("onu", u64::from(change.row.onu.get())),
+            ("from", change.frame.get()),
+            ("weight", change.weight),
+        ],
+    )?;
     let descriptor = descriptor_json(alloc, &change.row)?;
-    let value = json!(in alloc; {
-        "port": port, "alloc": alloc_id, "onu": onu, "from": from, "weight": weight, "descriptor": &descriptor
-    })?;
-    line_of(alloc, &value)
+    members.with("descriptor", descriptor)?.into_line()
 }
 
 // Makes the object of a descriptor.
 fn descriptor_json(alloc: Global, row: &Row) -> Result<Value, AllocError> {
     let descriptor = &row.descriptor;
-    let (fixed, assured) = (descriptor.fixed().get(), descriptor.assured().get());
-    let max = descriptor.max().get();
+    let members = Members::of(
+        alloc,
+        &[
+            ("fixed", u64::from(descriptor.fixed().get())),
+            ("assured", u64::from(descriptor.assured().get())),
+            ("max", u64::from(descriptor.max().get())),
+        ],
+    )?;
     let class = class_word(descriptor.class());
-    json!(in alloc; {"fixed": fixed, "assured": assured, "max": max, "class": class})
+    Ok(members.with_text("class", class)?.into_value())
 }
 
 /// Makes the object of the sums of an Alloc-ID, which are exact. `Err` only if memory is refused.
@@ -64,14 +71,29 @@ pub(crate) fn sums_json(
     sums: &Sums,
     idle: u64,
 ) -> Result<String, AllocError> {
-    let (port, alloc_id, onu) = (port.get(), row.alloc_id.get(), row.onu.get());
-    let (frames, load, owed) = (sums.maps, sums.load, sums.guaranteed);
-    let (words, surplus, below) = (sums.granted, sums.surplus, sums.below);
-    let value = json!(in alloc; {
-        "port": port, "alloc": alloc_id, "onu": onu, "frames": frames, "load_sum": load, "owed_sum": owed,
-        "granted_words": words, "surplus_sum": surplus, "below": below, "idle": idle
-    })?;
-    line_of(alloc, &value)
+    let members = Members::of(
+        alloc,
+        &[
+            ("port", u64::from(port.get())),
+            ("alloc", u64::from(row.alloc_id.get())),
+            ("onu", u64::from(row.onu.get())),
+            ("frames", sums.maps),
+            ("load_sum", sums.load),
+            ("owed_sum", sums.guaranteed),
+            ("granted_words", sums.granted),
+            ("surplus_sum", sums.surplus),
+            ("below", sums.below),
+            ("idle", idle),
+        ],
+    )?;
+    members.into_line()
+}
+
+// Makes the object of a class in a map: its surplus and its level.
+fn class_json(alloc: Global, surplus: u64, level: &Level) -> Result<Value, AllocError> {
+    let members = Members::of(alloc, &[("surplus", surplus)])?;
+    let level = Value::from(level_text(alloc, level)?);
+    Ok(members.with("level", level)?.into_value())
 }
 
 /// Makes the object of a map: the surplus and the level of each class. `Err` only if memory is refused.
@@ -81,19 +103,18 @@ pub(crate) fn map_json(
     explained: &MapExplanation,
     cert: &MapCert,
 ) -> Result<String, AllocError> {
-    let (port, chapter, entry) = (place.port.get(), place.chapter, place.entry);
-    let (frame, na, be) = (
-        place.frame.get(),
-        explained.non_assured,
-        explained.best_effort,
-    );
-    let na_level = level_text(alloc, &cert.na.level)?;
-    let be_level = level_text(alloc, &cert.be.level)?;
-    let value = json!(in alloc; {
-        "port": port, "frame": frame, "chapter": chapter, "entry": entry,
-        "na": {"surplus": na, "level": na_level}, "be": {"surplus": be, "level": be_level}
-    })?;
-    line_of(alloc, &value)
+    let members = Members::of(
+        alloc,
+        &[
+            ("port", u64::from(place.port.get())),
+            ("frame", place.frame.get()),
+            ("chapter", place.chapter),
+            ("entry", place.entry as u64),
+        ],
+    )?;
+    let na = class_json(alloc, explained.non_assured, &cert.na.level)?;
+    let be = class_json(alloc, explained.best_effort, &cert.be.level)?;
+    members.with("na", na)?.with("be", be)?.into_line()
 }
 
 // Makes the object of the counted report, or null.
@@ -101,12 +122,19 @@ fn report_json(alloc: Global, shown: &Shown) -> Result<Value, AllocError> {
     let (Some(counted), Some(reported)) = (shown.row.counted, shown.reported) else {
         return Ok(Value::Null);
     };
-    let (frame, left, granted) = (counted.frame.get(), counted.words.get(), reported.granted);
+    let members = Members::of(
+        alloc,
+        &[
+            ("frame", counted.frame.get()),
+            ("granted", reported.granted),
+            ("left", u64::from(counted.words.get())),
+        ],
+    )?;
     let occupancy = match reported.occupancy {
         Some(words) => Value::from(words),
         None => Value::Null,
     };
-    json!(in alloc; {"frame": frame, "occupancy": &occupancy, "granted": granted, "left": left})
+    Ok(members.with("occupancy", occupancy)?.into_value())
 }
 
 // Makes the object of what shares the surplus, or null for a class that shares none.
@@ -114,10 +142,17 @@ fn share_json(alloc: Global, shown: &Shown) -> Result<Value, AllocError> {
     let Some(level) = shown.level else {
         return Ok(Value::Null);
     };
-    let level = level_text(alloc, &level)?;
-    let (weight, cap) = (shown.row.item.weight, shown.row.item.cap);
-    let (num, den) = (shown.row.surplus.num(), shown.row.surplus.den());
-    json!(in alloc; {"weight": weight, "cap": cap, "level": level, "num": num, "den": den})
+    let members = Members::of(
+        alloc,
+        &[
+            ("weight", shown.row.item.weight),
+            ("cap", shown.row.item.cap),
+            ("num", shown.row.surplus.num()),
+            ("den", shown.row.surplus.den()),
+        ],
+    )?;
+    let level = Value::from(level_text(alloc, &level)?);
+    Ok(members.with("level", level)?.into_value())
 }
 
 // Makes the object of a structure, or null.
@@ -129,20 +164,33 @@ fn structure_json(alloc: Global, structure: Option<&Alloc>) -> Result<Value, All
         Some(start) => Value::from(start),
         None => Value::Null,
     };
-    let (alloc_id, dbru, ploam) = (structure.id(), structure.dbru(), structure.ploam());
-    let (grant, fwi, profile) = (structure.grant(), structure.fwi(), structure.profile());
-    json!(in alloc; {
-        "alloc": alloc_id, "dbru": dbru, "ploam": ploam, "start": &start, "grant": grant, "fwi": fwi, "profile": profile
-    })
+    let members = Members::of(
+        alloc,
+        &[
+            ("alloc", u64::from(structure.id())),
+            ("grant", u64::from(structure.grant())),
+            ("profile", u64::from(structure.profile())),
+        ],
+    )?;
+    let members = members.with("dbru", Value::from(structure.dbru()))?;
+    let members = members.with("ploam", Value::from(structure.ploam()))?;
+    let members = members.with("fwi", Value::from(structure.fwi()))?;
+    Ok(members.with("start", start)?.into_value())
 }
 
 // Makes the object of the rates and the words of an Alloc-ID.
 fn rates_json(alloc: Global, row: &Explanation) -> Result<Value, AllocError> {
-    let (load, guaranteed) = (row.load.get(), row.guaranteed.get());
-    let (carry, owed, words) = (row.carry, row.owed, row.owed / WORD_RATE);
-    json!(in alloc; {
-        "load": load, "guaranteed": guaranteed, "carry": carry, "owed": owed, "words": words
-    })
+    let members = Members::of(
+        alloc,
+        &[
+            ("load", u64::from(row.load.get())),
+            ("guaranteed", u64::from(row.guaranteed.get())),
+            ("carry", u64::from(row.carry)),
+            ("owed", row.owed),
+            ("words", row.owed / WORD_RATE),
+        ],
+    )?;
+    Ok(members.into_value())
 }
 
 /// Makes the object of an Alloc-ID in a map. `Err` only if memory is refused.
@@ -151,16 +199,19 @@ pub(crate) fn row_json(
     place: &MapPlace,
     shown: &Shown,
 ) -> Result<String, AllocError> {
-    let (port, frame) = (place.port.get(), place.frame.get());
-    let (alloc_id, onu) = (shown.row.row.alloc_id.get(), shown.row.row.onu.get());
-    let descriptor = descriptor_json(alloc, &shown.row.row)?;
-    let report = report_json(alloc, shown)?;
-    let rates = rates_json(alloc, shown.row)?;
-    let share = share_json(alloc, shown)?;
+    let members = Members::of(
+        alloc,
+        &[
+            ("port", u64::from(place.port.get())),
+            ("frame", place.frame.get()),
+            ("alloc", u64::from(shown.row.row.alloc_id.get())),
+            ("onu", u64::from(shown.row.row.onu.get())),
+        ],
+    )?;
+    let members = members.with("descriptor", descriptor_json(alloc, &shown.row.row)?)?;
+    let members = members.with("report", report_json(alloc, shown)?)?;
+    let members = members.with("rates", rates_json(alloc, shown.row)?)?;
+    let members = members.with("share", share_json(alloc, shown)?)?;
     let structure = structure_json(alloc, shown.structure)?;
-    let value = json!(in alloc; {
-        "port": port, "frame": frame, "alloc": alloc_id, "onu": onu, "descriptor": &descriptor,
-        "report": &report, "rates": &rates, "share": &share, "structure": &structure
-    })?;
-    line_of(alloc, &value)
+    members.with("structure", structure)?.into_line()
 }

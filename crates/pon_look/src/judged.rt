@@ -5,11 +5,11 @@ use crate::counted::CountedBytes;
 use crate::counts::map_count;
 use crate::info::write_line;
 use crate::info_json::line_seconds;
-use crate::json::line_of;
+use crate::members::Members;
 use pon_audit::Verdict;
 use pon_device::{DevRead, DevWrite, DeviceFault};
 use pon_units::MAX_PORTS;
-use serde_json::{Value, json};
+use serde_json::Value;
 use std::alloc::{AllocError, Global};
 
 /// What a recording holds: whether it has a chapter of a port, and the number of maps.
@@ -59,10 +59,14 @@ fn place_json(alloc: Global, verdict: &Verdict) -> Result<Value, AllocError> {
             index,
             why,
         } => {
-            let (port, why) = (port.get(), format!(in alloc; "{why}")?);
-            json!(in alloc; {"port": port, "chapter": chapter, "entry": index, "why": why})
+            let (port, entry) = (u64::from(port.get()), index as u64);
+            let numbers = [("port", port), ("chapter", chapter), ("entry", entry)];
+            let why = Value::from(format!(in alloc; "{why}")?);
+            Ok(Members::of(alloc, &numbers)?.with("why", why)?.into_value())
         }
-        Verdict::BadFormat { at } | Verdict::Truncated { at } => json!(in alloc; {"at": at}),
+        Verdict::BadFormat { at } | Verdict::Truncated { at } => {
+            Ok(Members::of(alloc, &[("at", at as u64)])?.into_value())
+        }
     }
 }
 
@@ -84,13 +88,13 @@ fn judged_json(
     contents: &Contents,
     bytes: u64,
 ) -> Result<String, AllocError> {
-    let (word, place) = (word_of(verdict), place_json(alloc, verdict)?);
-    let (ports, maps) = (ports_json(alloc, contents)?, contents.maps);
-    let seconds = line_seconds(maps);
-    let value = json!(in alloc; {
-        "file": file, "verdict": word, "place": &place, "maps": maps, "ports": &ports, "bytes": bytes, "seconds": &seconds
-    })?;
-    line_of(alloc, &value)
+    let members = Members::of(alloc, &[("maps", contents.maps), ("bytes", bytes)])?;
+    let members = members.with_text("file", file)?;
+    let members = members.with_text("verdict", word_of(verdict))?;
+    let members = members.with("place", place_json(alloc, verdict)?)?;
+    let members = members.with("ports", ports_json(alloc, contents)?)?;
+    let seconds = line_seconds(contents.maps);
+    members.with("seconds", seconds)?.into_line()
 }
 
 /// Writes the object of a recording that was judged: its file, verdict and place of the fault, and what it holds up to the

@@ -16,13 +16,6 @@ pub struct RatesQuery {
     pub to: Option<u64>,
 }
 
-impl RatesQuery {
-    /// Returns whether the maps of a port are summed up.
-    pub(crate) fn wants(&self, port: PortNo) -> bool {
-        self.port.is_none() || self.port == Some(port)
-    }
-}
-
 /// Which Alloc-ID `olt loads` follows, and along which frames.
 #[derive(Clone, Copy, Debug, PartialEq, Eq)]
 pub struct LoadsQuery {

@@ -1,8 +1,9 @@
 //! The lines of `olt rates`.
 
+use crate::changes::Change;
 use crate::json::{change_json, refused_json, sums_json};
 use crate::mean::mean_text;
-use crate::notes::Change;
+use crate::port_tallies::Refused;
 use crate::query::Format;
 use crate::sums::Sums;
 use crate::words::class_word;
@@ -17,14 +18,12 @@ const RATE_OF_WORD: u16 = WORD_RATE as u16;
 pub(crate) fn refused_line(
     alloc: Global,
     format: Format,
-    port: PortNo,
-    chapter: u64,
-    entry: usize,
+    refused: &Refused,
 ) -> Result<String, AllocError> {
     if format == Format::Json {
-        return refused_json(alloc, port, chapter, entry);
+        return refused_json(alloc, refused);
     }
-    let port = port.get();
+    let (port, chapter, entry) = (refused.port.get(), refused.chapter, refused.entry);
     format!(in alloc; "port {port} chapter {chapter} refused at entry {entry}\n")
 }
 

@@ -1,9 +1,10 @@
 //! The counted reports as they came, found in the entries before a map.
 
 ghost use Rattle.std.specs.Prelude.{◌≡◌, length};
-ghost use Rattle.pon_look.specs.declared.sums.TheConstants.{PLACES};
+ghost use Rattle.pon_look.specs.declared.alloc_tallies.TheConstants.{PLACES};
 
-use crate::sums::{PLACES, words_of};
+use crate::alloc_tallies::PLACES;
+use crate::sums::words_of;
 use pon_admit::Event;
 use pon_dbru::Occupancies;
 use pon_state::{Entry, EntryRef, MadeMap};

@@ -1,9 +1,7 @@
 //! What the maps give an Alloc-ID along the frames, in steps of equally many frames.
 
-use crate::sums::{Sums, with_row, with_sums};
-use pon_bwmap::Alloc;
-use pon_units::FrameNo;
-use pon_why::RowRates;
+use crate::followed::FollowedMap;
+use crate::sums::Sums;
 use std::alloc::{AllocError, Global};
 
 /// The greatest number of steps of a series.
@@ -24,7 +22,9 @@ fn joined(alloc: Global, steps: &[Sums]) -> Result<Vec<Sums>, AllocError> {
     for pair in steps.chunks(2) {
         let mut sums = Sums::NONE;
         for step in pair {
-            sums = with_sums(sums, step).ok_or(AllocError)?;
+            if !sums.add(step) {
+                return Err(AllocError);
+            }
         }
         joined.push(sums)?;
     }
@@ -84,21 +84,27 @@ impl Series {
         Err(AllocError)
     }
 
-    /// Adds a row of the map of a frame and its structure. `Err` if memory is refused or a sum is 2^64 or more.
-    pub(crate) fn add_map(
-        &mut self,
-        frame: FrameNo,
-        row: &RowRates,
-        structure: &Alloc,
-    ) -> Result<(), AllocError> {
-        let step = self.step_of(frame.get())?;
+    // Adds a map. `Err` if memory is refused or a sum is 2^64 or more.
+    fn add_map(&mut self, map: &FollowedMap) -> Result<(), AllocError> {
+        let frame = map.frame.get();
+        let step = self.step_of(frame)?;
         for _missing in self.steps.len()..=step {
             self.steps.push(Sums::NONE)?;
         }
         if let Some(sums) = self.steps.get_mut(step) {
-            *sums = with_row(*sums, row, structure).ok_or(AllocError)?;
+            if !sums.add(&map.sums) {
+                return Err(AllocError);
+            }
         }
-        self.last = self.last.max(frame.get());
+        self.last = self.last.max(frame);
+        Ok(())
+    }
+
+    /// Adds maps, in their order. `Err` if memory is refused or a sum is 2^64 or more.
+    pub(crate) fn add_maps(&mut self, maps: &[FollowedMap]) -> Result<(), AllocError> {
+        for map in maps {
+            self.add_map(map)?;
+        }
         Ok(())
     }
 }

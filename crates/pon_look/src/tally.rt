@@ -1,6 +1,6 @@
-//! The sums of each Alloc-ID over the maps of a chapter.
+//! What the maps of a chapter add up to.
 
-ghost use Rattle.std.specs.Prelude.{ℕ, ◌≡◌, ◌+◌, ◌<◌, ◌^◌, ◌↔◌, Some, IfOk, IfNone, IsTrue, if◌then◌else◌, length, map};
+ghost use Rattle.std.specs.Prelude.{ℕ, ◌≡◌, ◌+◌, ◌<◌, ◌^◌, ◌↔◌, [], Some, IfOk, IfNone, IsTrue, OnOk, if◌then◌else◌, length, map};
 ghost use Rattle.pon_admit.specs.Roster.{IsAdmitted};
 ghost use Rattle.pon_guar.specs.Window.{AreConsecutive};
 ghost use Rattle.pon_demand.specs.Carries.{AreCarries};
@@ -15,66 +15,115 @@ ghost use Rattle.pon_audit.specs.Faults.{map_entry};
 ghost use Rattle.pon_audit.specs.Judging.{IsJudgment};
 ghost use Rattle.pon_audit.specs.declared.chapters.Judged.TheVariants.{Fails};
 ghost use Rattle.pon_why.specs.Rates.{rates_of};
-ghost use Rattle.pon_look.specs.Sums.{amounts_in, no_sums, plus, sums_at, sums_of};
+ghost use Rattle.pon_look.specs.Sums.{amounts_in, no_sums, plus, sums_in, sums_of};
 ghost use Rattle.pon_look.specs.Tallies.{IsTallied, refused_at};
-ghost use Rattle.pon_look.specs.declared.sums.TheConstants.{PLACES};
 
+use crate::alloc_tallies::AllocTallies;
+use crate::changes::{Change, Changes};
+use crate::followed::Followed;
 use crate::frame_range::FrameRange;
-use crate::notes::{Change, NotedMap, Notes};
 use crate::replay::{Replay, open_replay};
-use crate::series::Series;
-use crate::sums::{PLACES, Sums, add_map};
+use crate::sums::Sums;
+use pon_admit::{Event, Row};
 use pon_audit::{AuditReason, Fault, Judged, accepted_problems, take_entry, take_map};
 use pon_bwmap::Alloc;
-use pon_demand::Problems;
+use pon_demand::{Demand, Problems};
 use pon_record::RawChapter;
 use pon_state::{Entry, EntryRef, MadeMap, PortState};
-use pon_units::AllocId;
+use pon_units::{AllocId, FrameNo};
 use pon_why::{RowRates, rates_under};
 use std::alloc::{AllocError, Global};
 use std::mem;
 
-/// What the maps of a port add up to: the sums of each Alloc-ID, at its number, and notes.
+/// What maps of a port add up to for each Alloc-ID, the changes of ONU or descriptor, and the maps of the Alloc-ID that is
+/// followed, if one is.
 #[derive(Drop)]
-pub struct PortTally {
-    sums: Vec<Sums>,
-    notes: Notes,
+pub struct Tally {
+    allocs: AllocTallies,
+    changes: Changes,
+    followed: Option<Followed>,
+    // Whether the rows of the next map are those of the last one.
+    are_rows_noted: bool,
     // Memory for the rates of a map.
     rates: Vec<RowRates>,
-    ghost places: { length sums.items ≡ PLACES },
 }
 
-impl PortTally {
+impl Tally {
     /// Makes the tally of no maps. `Err` only if memory is refused.
-    pub(crate) fn new(alloc: Global) -> Result<PortTally, AllocError> {
-        Ok(PortTally {
-            sums: vec![in alloc; Sums::NONE; PLACES]?,
-            notes: Notes::new(alloc)?,
+    pub(crate) fn new(alloc: Global, followed: Option<AllocId>) -> Result<Tally, AllocError>
+        ensures { IfOk result (λ tally. tally.allocs.tallies.items ≡ []) }
+    {
+        Ok(Tally {
+            allocs: AllocTallies::new(alloc)?,
+            changes: Changes::new(alloc)?,
+            followed: followed.map(|alloc_id| Followed::new(alloc, alloc_id)),
+            are_rows_noted: false,
             rates: Vec::new(alloc),
         })
     }
 
-    /// Makes the tally of no maps that follows an Alloc-ID along the frames. `Err` only if memory is refused.
-    pub(crate) fn following(alloc: Global, alloc_id: AllocId) -> Result<PortTally, AllocError> {
-        let mut tally = PortTally::new(alloc)?;
-        tally.notes.follow(alloc, alloc_id);
-        Ok(tally)
-    }
-
-    /// The series of the Alloc-ID that is followed.
-    pub(crate) fn series(&self) -> Option<&Series> {
-        self.notes.series()
-    }
-
-    /// The ONU and the descriptors of each Alloc-ID, in the order of the maps.
+    /// The changes of ONU or descriptor, in the order of the maps.
     pub(crate) fn changes(&self) -> &[Change] {
-        self.notes.changes()
+        self.changes.as_slice()
     }
 
     /// The sums of an Alloc-ID, and the length of the longest run of maps of consecutive frames that granted it nothing.
     pub(crate) fn of(&self, alloc_id: AllocId) -> (Sums, u64) {
-        let place = usize::from(alloc_id.get());
-        (self.sums[place], self.notes.longest_idle(place))
+        match self.allocs.of(alloc_id) {
+            Some(tally) => (tally.sums, tally.idle.longest()),
+            None => (Sums::NONE, 0),
+        }
+    }
+
+    /// The maps of the Alloc-ID that is followed.
+    pub(crate) fn followed_mut(&mut self) -> Option<&mut Followed> {
+        self.followed.as_mut()
+    }
+
+    /// Adds the tally of later chapters of the port. `Err` if memory is refused or a sum is 2^64 or more.
+    pub(crate) fn add_all(&mut self, others: &Tally) -> Result<(), AllocError>
+        ensures { OnOk result ((i : ℕ) → sums_in i self.new.allocs.tallies.items
+            ≡ plus (sums_in i self.old.allocs.tallies.items)
+            (sums_in i others.now.allocs.tallies.items)) }
+    {
+        self.allocs.add_all(&others.allocs)?;
+        self.changes.note_all(&others.changes)?;
+        match (&mut self.followed, &others.followed) {
+            (Some(followed), Some(others)) => followed.add_all(others),
+            _ => Ok(()),
+        }
+    }
+
+    // After an admission, a change or a removal the rows of the next map are others than those of the last one.
+    fn note_event(&mut self, event: &Event)
+        ensures { self.new.allocs ≡ self.old.allocs }
+    {
+        match event {
+            Event::Admit { .. } | Event::Change { .. } | Event::Remove { .. } => {
+                self.are_rows_noted = false;
+            }
+            _ => {}
+        }
+    }
+
+    // Notes the rows and their weights at the map of a frame.
+    fn note_rows(
+        &mut self,
+        frame: FrameNo,
+        rows: &[Row],
+        demands: &[Demand],
+    ) -> Result<(), AllocError>
+        ensures { self.new.allocs ≡ self.old.allocs }
+    {
+        for (row, demand) in rows.iter().zip(demands) {
+            self.changes.note(&Change {
+                frame,
+                row: *row,
+                weight: demand.item.weight,
+            })?;
+        }
+        self.are_rows_noted = true;
+        Ok(())
     }
 }
 
@@ -95,16 +144,14 @@ pub struct Summed {
     pub judged: Judged,
 }
 
-impl Summed {
-    /// The index of the entry that may not follow, 0 also if the opening is not lawful; `None` if the chapter is good.
-    pub fn refused(&self) -> Option<usize>
-        ensures { result ≡ refused_at self.now.judged }
-    {
-        match &self.judged {
-            Judged::Unlawful => Some(0),
-            Judged::Fails(fault) => Some(fault.index),
-            Judged::Ends(_) => None,
-        }
+/// Returns the index of the entry that may not follow, 0 also if the opening is not lawful; `None` if the chapter is good.
+pub fn refused_entry(judged: &Judged) -> Option<usize>
+    ensures { result ≡ refused_at judged.now }
+{
+    match judged {
+        Judged::Unlawful => Some(0),
+        Judged::Fails(fault) => Some(fault.index),
+        Judged::Ends(_) => None,
     }
 }
 
@@ -129,7 +176,7 @@ fn lists_rows(rows: &[RowRates], structures: &[Alloc]) -> bool
 fn tally_map(
     alloc: Global,
     state: &PortState,
-    tally: &mut PortTally,
+    tally: &mut Tally,
     made: &MadeMap,
     problems: &Problems,
 ) -> Result<bool, AllocError>
@@ -137,8 +184,8 @@ fn tally_map(
     requires carries { AreCarries state.now.rule state.now.roster state.now.carries }
     requires problems { AreProblems (input_of state.now) problems.now }
     requires certified { IsCertified (input_of state.now) made.now.cert }
-    ensures sums { IfOk result (λ added. (i : ℕ) → sums_at tally.new.sums.items i
-        ≡ plus (sums_at tally.old.sums.items i)
+    ensures sums { IfOk result (λ added. (i : ℕ) → sums_in i tally.new.allocs.tallies.items
+        ≡ plus (sums_in i tally.old.allocs.tallies.items)
         (if added then amounts_in i (rates_of state.now made.now.cert) made.now.map
         else no_sums)) }
     ensures good { IfOk result (λ added. IsMade state.now made.now → IsTrue added) }
@@ -151,16 +198,13 @@ fn tally_map(
         tally.rates = rates;
         return Ok(false);
     }
-    if !add_map(&mut tally.sums, &rates, structures) {
-        return Err(AllocError);
+    tally.allocs.add_map(made.frame, &rates, structures)?;
+    if let Some(followed) = &mut tally.followed {
+        followed.add_map(made.frame, &rates, structures)?;
     }
-    let map = NotedMap {
-        rows: state.roster().rows(),
-        demands,
-        rates: &rates,
-        structures,
-    };
-    tally.notes.note_map(made.frame, &map)?;
+    if !tally.are_rows_noted {
+        tally.note_rows(made.frame, state.roster().rows(), demands)?;
+    }
     tally.rates = rates;
     Ok(true)
 }
@@ -170,7 +214,7 @@ fn tally_map(
 fn tally_made(
     alloc: Global,
     replay: &mut Replay,
-    tally: &mut PortTally,
+    tally: &mut Tally,
     range: &FrameRange,
     kept: usize,
     made: &MadeMap,
@@ -179,7 +223,7 @@ fn tally_made(
     requires carries { AreCarries replay.old.state.rule replay.old.state.roster replay.old.state.carries }
     requires frames { AreConsecutive replay.old.state.next replay.old.state.window }
     ensures { IfOk result (λ tallied. IsTallied range.now kept replay.old.state
-        (map_entry made.now) replay.new.state tally.old.sums.items tally.new.sums.items tallied) }
+        (map_entry made.now) replay.new.state tally.old.allocs.tallies.items tally.new.allocs.tallies.items tallied) }
 {
     let Replay { state, buffers } = replay;
     let problems = accepted_problems(alloc, buffers, state, &made.cert)?;
@@ -201,7 +245,7 @@ fn tally_made(
 fn tally_entry(
     alloc: Global,
     replay: &mut Replay,
-    tally: &mut PortTally,
+    tally: &mut Tally,
     range: &FrameRange,
     kept: usize,
     entry: &Entry,
@@ -212,11 +256,11 @@ fn tally_entry(
     requires book { AccountsFor replay.old.state.roster replay.old.state.book }
     requires frames { AreConsecutive replay.old.state.next replay.old.state.window }
     ensures { IfOk result (λ tallied. IsTallied range.now kept replay.old.state entry.now
-        replay.new.state tally.old.sums.items tally.new.sums.items tallied) }
+        replay.new.state tally.old.allocs.tallies.items tally.new.allocs.tallies.items tallied) }
 {
     match entry.as_ref() {
         EntryRef::Map(made) => return tally_made(alloc, replay, tally, range, kept, made),
-        EntryRef::Taken(event) => tally.notes.note_event(event),
+        EntryRef::Taken(event) => tally.note_event(event),
     }
     let Replay { state, buffers } = replay;
     match take_entry(alloc, buffers, state, kept, entry)? {
@@ -239,18 +283,18 @@ fn ended(index: usize, why: AuditReason, added: bool) -> Summed
     }
 }
 
-/// Adds the maps of a chapter in a range of frames to the sums of its port, up to the first entry that may not follow, and
+/// Adds the maps of a chapter in a range of frames to a tally of its port, up to the first entry that may not follow, and
 /// with its map if that has the Alloc-IDs of the state and its certificate is that of the state; and judges the chapter,
 /// regardless of those before it. `Err` if memory is refused or a sum is 2^64 or more.
 pub fn tally_chapter(
     alloc: Global,
     chapter: &RawChapter,
     range: &FrameRange,
-    tally: &mut PortTally,
+    tally: &mut Tally,
 ) -> Result<Summed, AllocError>
     requires { FitsRecording chapter.now.body }
-    ensures sums { IfOk result (λ summed. (i : ℕ) → sums_at tally.new.sums.items i
-        ≡ plus (sums_at tally.old.sums.items i)
+    ensures sums { IfOk result (λ summed. (i : ℕ) → sums_in i tally.new.allocs.tallies.items
+        ≡ plus (sums_in i tally.old.allocs.tallies.items)
         (sums_of range.now i (chapter_of chapter.now.body) summed.entries)) }
     ensures judged { IfOk result (λ summed. IsJudgment chapter.now summed.judged) }
     ensures whole { IfOk result (λ summed. IfNone (refused_at summed.judged)
@@ -262,7 +306,7 @@ pub fn tally_chapter(
             judged: Judged::Unlawful,
         });
     };
-    tally.notes.note_chapter();
+    tally.are_rows_noted = false;
     for (index, entry) in chapter.entries.iter().enumerate() {
         match tally_entry(alloc, &mut replay, tally, range, index, entry)? {
             Tallied::Follows => {}

@@ -1,9 +1,11 @@
 //! Views of a recording in a file.
 
+ghost use Rattle.std.specs.Prelude.{◌≡◌, None};
+ghost use Rattle.pon_device.specs.declared.fault.DeviceFault.TheVariants.{Memory, Write};
+
 use crate::files::{open_recording, replace_file};
-use crate::holding::HeldText;
 use pon_audit::Verdict;
-use pon_device::{DevRead, DevWrite, DeviceFault, StdWrite, write_text};
+use pon_device::{DevRead, DevWrite, DeviceFault, MemWrite, StdWrite, write_text};
 use pon_job::{Failure, Named, Part, Show, View};
 use pon_look::{
     Answer, CountedBytes, Format, LoadsQuery, Missing, Picture, RatesQuery, Viewed, WhyQuery,
@@ -68,7 +70,7 @@ fn draw<D: DevRead>(
 ) -> Result<Viewed<Result<Picture, Missing>>, DeviceFault> {
     let part = &show.part;
     match loads_query_of(part) {
-        Some(query) if show.view == View::Loads => loads_of(alloc, reader, query),
+        Some(query) if show.view == View::Loads => loads_of(rt, alloc, reader, query),
         _ => picture_of(rt, alloc, reader, port_of(part), frame_of(part)),
     }
 }
@@ -130,7 +132,7 @@ fn show_part<R: Files + Threads + Sync, W: DevWrite>(
     let part = &show.part;
     let shown = match show.view {
         View::Info => write_info(rt, alloc, &mut reader, format, writer),
-        View::Rates => write_rates(alloc, &mut reader, maps_of(part), format, writer),
+        View::Rates => write_rates(rt, alloc, &mut reader, maps_of(part), format, writer),
         View::Why => write_why(rt, alloc, &mut reader, map_of(part), format, writer),
         View::Dump => write_dump(rt, alloc, &mut reader, port_of(part), writer),
         View::Picture | View::Loads => {
@@ -150,6 +152,20 @@ fn print_verdict(rt: &impl Eprint, verdict: &Verdict) {
     }
 }
 
+// Returns the failure of a view whose text is held in memory: such a text can only fail if memory is refused.
+fn held_failure(failure: Failure) -> Failure
+    ensures held { failure ≡ record { fault = Write; text = None } → result.fault ≡ Memory }
+    ensures other { ¬ (failure.fault ≡ Write) → result ≡ failure }
+{
+    match failure {
+        Failure {
+            fault: DeviceFault::Write,
+            text: None,
+        } => Failure::from(DeviceFault::Memory),
+        failure => failure,
+    }
+}
+
 // Shows a part of a recording once its verdict is printed: the text is held until then.
 fn show_after_verdict<R: Files + Eprint + Threads + Sync, W: DevWrite>(
     rt: &R,
@@ -157,14 +173,13 @@ fn show_after_verdict<R: Files + Eprint + Threads + Sync, W: DevWrite>(
     show: &Show<'_>,
     writer: &mut W,
 ) -> Result<Viewed<Answer>, Failure> {
-    let mut held = HeldText::new(alloc);
-    let shown = show_part(rt, alloc, show, &mut held);
-    if held.lacked_memory() {
-        return Err(Failure::from(DeviceFault::Memory));
-    }
-    let viewed = shown?;
+    let mut held = MemWrite::new(alloc, usize::MAX, Vec::new(alloc));
+    let viewed = match show_part(rt, alloc, show, &mut held) {
+        Ok(viewed) => viewed,
+        Err(failure) => return Err(held_failure(failure)),
+    };
     print_verdict(rt, &viewed.verdict);
-    write_text(writer, held.text())?;
+    write_text(writer, held.bytes())?;
     Ok(viewed)
 }
 

@@ -12,7 +12,6 @@ ghost use Rattle.pon_job.specs.Outcomes.{exit_status, outcome_of_job};
 mod auditing;
 mod explaining;
 mod files;
-mod holding;
 mod looking;
 mod migrating;
 mod misfits;

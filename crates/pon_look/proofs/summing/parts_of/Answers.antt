@@ -1,0 +1,11 @@
+use Rattle.std.proofs.Common.{◌∙◌, ap}
+use Rattle.pon_audit.specs.Judging.{IsJudgment}
+use Rattle.pon_audit.proofs.EachOk.{all_answered}
+use Rattle.pon_look.proofs.summing.parts_of.Goals as goal
+
+pub returns : goal.returns
+returns g c =
+    let made = c.in_ok-collect.ensures in
+    let chain = made.1 in
+    let slice = ap (λ it. it.base.slice.now) c.map.ensures.base ∙ ap (λ it. it.slice.now) c.with_min_len.ensures.base ∙ c.par_iter.ensures in
+    all_answered _ (λ c p. IsJudgment c p.judged) (λ v. v.items) c.args.chapters.now chain.0 made.0 c.in_ok-collect.field-0 _ (chain.1 ∙ slice) chain.2 made.2

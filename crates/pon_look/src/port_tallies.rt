@@ -1,0 +1,94 @@
+//! What the chapters of a recording add up to, port by port.
+
+ghost use Rattle.std.specs.Prelude.{◌<◌, IfOk, length};
+
+use crate::seen::{Ports, with_port};
+use crate::series::Series;
+use crate::tally::Tally;
+use pon_units::{AllocId, PortNo};
+use std::alloc::{AllocError, Global};
+
+/// The tally of a port.
+#[derive(Drop)]
+pub(crate) struct PortTally {
+    pub port: PortNo,
+    pub tally: Tally,
+}
+
+/// A chapter that is refused at an entry.
+#[derive(Clone, Copy, Debug, PartialEq, Eq)]
+pub(crate) struct Refused {
+    pub port: PortNo,
+    pub chapter: u64,
+    pub entry: usize,
+}
+
+/// What the chapters so far add up to: the tallies of the wanted ports, by ascending port, and the wanted chapters that are
+/// refused, in their order; the ports of all chapters, and the port of the first one.
+#[derive(Drop)]
+pub(crate) struct PortTallies {
+    tallies: Vec<PortTally>,
+    pub refused: Vec<Refused>,
+    pub ports: Option<Ports>,
+    pub first: Option<PortNo>,
+    /// The series of the Alloc-ID that is followed.
+    pub series: Series,
+    followed: Option<AllocId>,
+}
+
+impl PortTallies {
+    /// Makes the tallies of no chapters.
+    pub(crate) fn new(alloc: Global, followed: Option<AllocId>) -> PortTallies {
+        PortTallies {
+            tallies: Vec::new(alloc),
+            refused: Vec::new(alloc),
+            ports: None,
+            first: None,
+            series: Series::new(alloc),
+            followed,
+        }
+    }
+
+    /// The tallies of the wanted ports that have a chapter, by ascending port.
+    pub(crate) fn as_slice(&self) -> &[PortTally] {
+        self.tallies.as_slice()
+    }
+
+    /// Notes that a chapter is of a port.
+    pub(crate) fn see(&mut self, port: PortNo) {
+        self.ports = Some(with_port(self.ports, port));
+        self.first = self.first.or(Some(port));
+    }
+
+    // Returns the place of the tally of a port, which is made if there is none.
+    fn place_of(&mut self, alloc: Global, port: PortNo) -> Result<usize, AllocError>
+        ensures { IfOk result (λ place. place < length self.new.tallies.items) }
+    {
+        let place = self.tallies.partition_point(|tally| tally.port < port);
+        if place < self.tallies.len() && self.tallies[place].port == port {
+            return Ok(place);
+        }
+        let tally = Tally::new(alloc, self.followed)?;
+        self.tallies.insert(place, PortTally { port, tally })?;
+        Ok(place)
+    }
+
+    /// The tally of a port, which is made if there is none. `Err` only if memory is refused.
+    pub(crate) fn of_mut(&mut self, alloc: Global, port: PortNo) -> Result<&mut Tally, AllocError> {
+        let place = self.place_of(alloc, port)?;
+        Ok(&mut self.tallies[place].tally)
+    }
+
+    /// Moves the followed maps of the tallies into the series. `Err` if memory is refused or a sum is 2^64 or more.
+    pub(crate) fn add_followed(&mut self) -> Result<(), AllocError> {
+        for place in 0..self.tallies.len() {
+            if let Some(port) = self.tallies.get_mut(place) {
+                if let Some(followed) = port.tally.followed_mut() {
+                    self.series.add_maps(followed.maps())?;
+                    followed.clear();
+                }
+            }
+        }
+        Ok(())
+    }
+}
