@@ -36,11 +36,7 @@ fn missing(tallies: &PortTallies, query: &LoadsQuery) -> Missing {
 }
 
 // Makes the lines of the descriptors that the Alloc-ID had.
-fn changes_text(
-    alloc: Global,
-    port: &PortTally,
-    query: &LoadsQuery,
-) -> Result<String, AllocError> {
+fn changes_text(alloc: Global, port: &PortTally, query: &LoadsQuery) -> Result<String, AllocError> {
     let mut text = String::new(alloc);
     for change in port.tally.changes() {
         if change.row.alloc_id == query.alloc_id {

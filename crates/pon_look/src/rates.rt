@@ -58,10 +58,9 @@ fn missing(tallies: &PortTallies, query: &RatesQuery) -> Option<Missing> {
         return Some(Missing::Maps { port: query.port });
     }
     match query.alloc {
-        Some(alloc_id)
-            if !rates.iter().any(|rates| has_alloc(rates, query.alloc)) => {
-                Some(Missing::Alloc { alloc_id })
-            }
+        Some(alloc_id) if !rates.iter().any(|rates| has_alloc(rates, query.alloc)) => {
+            Some(Missing::Alloc { alloc_id })
+        }
         _ => None,
     }
 }
