@@ -2,8 +2,8 @@
 use Rattle.std.proofs.Common.{◌≡◌, ℕ, List, ap, subst, ◌∙◌}
 use Rattle.std.specs.Prelude.{Result, Ok, Err, IfOk, OnOk, ◌++◌}
 use Rattle.pon_history.specs.Chapters.{Chapter, IsLawfulChapter, present_state}
-use Rattle.pon_rows.specs.RowViews.{row_views}
-use Rattle.pon_rows.specs.declared.view.RowView.{RowView}
+use Rattle.pon_why.specs.RowViews.{row_views}
+use Rattle.pon_why.specs.declared.view.RowView.{RowView}
 use Rattle.pon_desk.specs.Counts.{SeatState}
 use Rattle.pon_desk.specs.Views.{view_of}
 use Rattle.pon_desk.specs.declared.view.PortView.{PortView}

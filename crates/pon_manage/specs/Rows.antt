@@ -6,8 +6,8 @@ use Rattle.pon_admit.specs.declared.row.Row.{Row}
 use Rattle.pon_guar.specs.declared.account.Counted.{Counted}
 use Rattle.pon_guar.specs.Book.{load_of_counted}
 use Rattle.pon_state.specs.State.{State}
-use Rattle.pon_rows.specs.RowViews.{row_views}
-use Rattle.pon_rows.specs.declared.view.RowView.{RowView}
+use Rattle.pon_why.specs.RowViews.{row_views}
+use Rattle.pon_why.specs.declared.view.RowView.{RowView}
 
 -- a number after its name
 abbrev pub named : List ℕ → ℕ → List ℕ → List ℕ

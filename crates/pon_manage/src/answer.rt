@@ -21,9 +21,8 @@ use pon_descr::Refusal;
 use pon_line::{FrameCommand, LineFault, Reading};
 use pon_plant::{Plant, Step, StepFault};
 use pon_port::{Entry, Event, Port};
-use pon_rows::row_views;
 use pon_units::{AllocId, MAX_PORTS, PortNo};
-use pon_why::explain_last;
+use pon_why::{explain_last, row_views};
 use std::alloc::AllocError;
 
 // Returns the number of entries that a port keeps.

@@ -1,7 +1,12 @@
-//! Tests of recordings: the reader, the writer and the audit.
+//! Laws and tests that join the writer, the reader and the audit of recordings of the ports of an XG-PON optical line
+//! terminal (upstream bandwidth assignment, ITU-T G.987.3).
 //!
-//! They are in a crate above those that they test, so that each of these is proved once.
+//! Each law is the contract of a function that computes nothing: what is written is read back and judged good, and any
+//! bytes have a verdict. The crates of which the laws speak do not depend on each other, and each is proved once, so laws
+//! and tests are in a crate above them.
 #![tactic(auto)]
+
+pub mod laws;
 
 #[cfg(test)]
 mod audit;

@@ -1,3 +1,4 @@
 pub mod Explanations
 pub mod Lasts
 pub mod Rates
+pub mod RowViews

@@ -1,6 +1,6 @@
 use Rattle.std.proofs.Common.{of_calls, ◌≡◌}
 use Rattle.pon_history.specs.Chapters.{present_state}
-use Rattle.pon_rows.specs.RowViews.{row_views}
+use Rattle.pon_why.specs.RowViews.{row_views}
 use Rattle.pon_manage.proofs.ShownViews.{of_some_port}
 use Rattle.pon_manage.proofs.at_desk.AtDesk.rows_at.Goals as goal
 

@@ -1,7 +1,7 @@
 ghost use Rattle.std.specs.Prelude.{◌≡◌, IfOk, IfSome};
 ghost use Rattle.std.specs.Option.{option_copied};
 ghost use Rattle.pon_units.specs.Granted.{AreInMapOrder};
-ghost use Rattle.pon_rows.specs.RowViews.{granted_by, granted_in, last_of, row_view, row_views};
+ghost use Rattle.pon_why.specs.RowViews.{granted_by, granted_in, last_of, row_view, row_views};
 
 use pon_admit::Row;
 use pon_guar::{Counted, Loads, WindowMap};

@@ -21,8 +21,8 @@ use Rattle.pon_audit.specs.Verdicts.{AreGood, Continues, IsGoodChapter, IsVerdic
 use Rattle.pon_audit.specs.declared.verdict.Verdict.{Verdict}
 use Rattle.pon_audit.specs.declared.verdict.Verdict.TheVariants.{Good}
 use Rattle.pon_audit.proofs.OneVerdict.{one_verdict}
-use Rattle.pon_record_laws.specs.Histories.{AreHistories, InOrder, IsRecordable, PortChapter, body_of, map_count}
-use Rattle.pon_record_laws.proofs.SameChapters.{same_chapter}
+use Rattle.pon_record_tests.specs.Histories.{AreHistories, InOrder, IsRecordable, PortChapter, body_of, map_count}
+use Rattle.pon_record_tests.proofs.SameChapters.{same_chapter}
 
 -- Pairs of a list.
 

@@ -1,5 +1,5 @@
-use Rattle.pon_record_laws.proofs.GoodHistories.{are_good, good_alone, sent_is_good}
-use Rattle.pon_record_laws.proofs.laws.recordings_of_histories_are_good.Goals as goal
+use Rattle.pon_record_tests.proofs.GoodHistories.{are_good, good_alone, sent_is_good}
+use Rattle.pon_record_tests.proofs.laws.recordings_of_histories_are_good.Goals as goal
 
 pub returns-clause-good : goal.returns-clause-good
 returns-clause-good c = are_good

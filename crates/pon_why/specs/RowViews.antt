@@ -4,7 +4,7 @@ use Rattle.pon_admit.specs.declared.row.Row.{Row}
 use Rattle.pon_guar.specs.Book.{account_of, known_report}
 use Rattle.pon_guar.specs.Window.{WindowMap}
 use Rattle.pon_state.specs.State.{State}
-use Rattle.pon_rows.specs.declared.view.RowView.{RowView}
+use Rattle.pon_why.specs.declared.view.RowView.{RowView}
 
 -- the payload words that a map grants an Alloc-ID at its ONU
 abbrev pub granted_in : WindowMap → Row → Option ℕ

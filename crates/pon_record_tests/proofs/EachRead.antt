@@ -16,7 +16,7 @@ use Rattle.pon_record.proofs.Exact.{passed, rest_fits}
 use Rattle.pon_record.proofs.ExactChapters.{exact_chapter}
 use Rattle.pon_record.proofs.OneReading.{chapter_length, fault_of_version}
 use Rattle.pon_record.proofs.Reading.{bodies, holds_more, holds_none, no_chapter, no_chapter_at, place}
-use Rattle.pon_record_laws.specs.Readings.{IsRead}
+use Rattle.pon_record_tests.specs.Readings.{IsRead}
 
 -- the bytes are a recording of the version, or have a fault after its magic bytes
 abbrev Ends : Version → List ℕ → Type 0

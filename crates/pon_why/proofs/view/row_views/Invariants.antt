@@ -1,7 +1,7 @@
 use Rattle.std.proofs.Common.{◌≡◌, ◌≤◌, length, map, take}
 use Rattle.std.specs.Prelude.{vec_capacity, vec_len}
-use Rattle.pon_rows.specs.RowViews.{row_view}
-use Rattle.pon_rows.proofs.view.row_views.Given as goal
+use Rattle.pon_why.specs.RowViews.{row_view}
+use Rattle.pon_why.proofs.view.row_views.Given as goal
 
 -- the views so far are those of the first rows, and there is room for all
 abbrev pub invariant-loop-row : goal.invariant-loop-row

@@ -10,8 +10,8 @@ ghost use Rattle.pon_recorder.specs.Recorders.{Records};
 ghost use Rattle.pon_audit.specs.Openings.{chapter_of};
 ghost use Rattle.pon_audit.specs.Verdicts.{IsVerdict};
 ghost use Rattle.pon_audit.specs.declared.verdict.Verdict.{Verdict};
-ghost use Rattle.pon_record_laws.specs.Histories.{AreHistories, PortChapter, body_of, map_count};
-ghost use Rattle.pon_record_laws.specs.Readings.{IsRead};
+ghost use Rattle.pon_record_tests.specs.Histories.{AreHistories, PortChapter, body_of, map_count};
+ghost use Rattle.pon_record_tests.specs.Readings.{IsRead};
 
 /// The audit replays a recorded chapter as the chapter that was written: with its number, its opening and its entries.
 pub fn chapters_are_audited_as_written()

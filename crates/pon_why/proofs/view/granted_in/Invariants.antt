@@ -1,6 +1,6 @@
 use Rattle.std.proofs.Common.{◌≡◌, drop}
 use Rattle.std.specs.Prelude.{◌==◌, find}
-use Rattle.pon_rows.proofs.view.granted_in.Given as goal
+use Rattle.pon_why.proofs.view.granted_in.Given as goal
 
 -- the grant of the Alloc-ID is among those to come, if there is one
 abbrev pub invariant-loop-granted : goal.invariant-loop-granted

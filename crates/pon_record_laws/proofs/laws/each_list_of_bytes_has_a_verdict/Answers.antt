@@ -1,5 +1,0 @@
-use Rattle.pon_record_laws.proofs.EachVerdict.{each_verdict}
-use Rattle.pon_record_laws.proofs.laws.each_list_of_bytes_has_a_verdict.Goals as goal
-
-pub returns : goal.returns
-returns c = each_verdict
