@@ -60,10 +60,17 @@ impl Drawing<'_> {
 #[derive(Clone, Copy, Debug, PartialEq, Eq)]
 pub(crate) struct Micros(pub(crate) u64);
 
+impl Micros {
+    /// The nanoseconds of the words.
+    pub(crate) fn nanoseconds(self) -> u64 {
+        let words = self.0.saturating_mul(FRAME_NANOSECONDS);
+        words.saturating_add(FRAME_WORDS / 2) / FRAME_WORDS
+    }
+}
+
 impl Display for Micros {
     fn fmt<W: Write>(&self, f: &mut Formatter<W>) -> fmt::Result {
-        let words = self.0.saturating_mul(FRAME_NANOSECONDS);
-        let nanoseconds = words.saturating_add(FRAME_WORDS / 2) / FRAME_WORDS;
+        let nanoseconds = self.nanoseconds();
         let (micros, rest) = (nanoseconds / 1_000, nanoseconds % 1_000);
         write!(f, "{micros:>3}.{rest:03}")
     }

@@ -86,8 +86,7 @@ fn opening_text(
     )?;
     for row in &opening.rows {
         let (onu, alloc_id, rates) = (row.onu.get(), row.alloc_id.get(), Rates(&row.descriptor));
-        let line = format!(in alloc; "# onu {onu} alloc {alloc_id} {rates}\n")?;
-        text.push_str(line.as_str())?;
+        writeln!(text, "# onu {onu} alloc {alloc_id} {rates}")?;
     }
     Ok(text)
 }

@@ -6,7 +6,7 @@ use crate::port_tallies::Refused;
 use crate::replay::MapExplanation;
 use crate::sums::Sums;
 use crate::why_text::{MapPlace, Shown};
-use crate::words::{class_word, level_text};
+use crate::words::{LevelText, class_word};
 use pon_admit::Row;
 use pon_bwmap::Alloc;
 use pon_cert::{Level, MapCert};
@@ -92,7 +92,7 @@ pub(crate) fn sums_json(
 // Makes the object of a class in a map: its surplus and its level.
 fn class_json(alloc: Global, surplus: u64, level: &Level) -> Result<Value, AllocError> {
     let members = Members::of(alloc, &[("surplus", surplus)])?;
-    let level = Value::from(level_text(alloc, level)?);
+    let level = Value::from(LevelText(level).to_string(alloc)?);
     Ok(members.with("level", level)?.into_value())
 }
 
@@ -151,7 +151,7 @@ fn share_json(alloc: Global, shown: &Shown) -> Result<Value, AllocError> {
             ("den", shown.row.surplus.den()),
         ],
     )?;
-    let level = Value::from(level_text(alloc, &level)?);
+    let level = Value::from(LevelText(&level).to_string(alloc)?);
     Ok(members.with("level", level)?.into_value())
 }
 

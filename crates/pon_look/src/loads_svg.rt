@@ -4,6 +4,7 @@ use crate::loads_text::{Means, scale_of};
 use crate::series::Series;
 use crate::svg_parts::{BLUE, GREY, LETTERS, ORANGE, ROW, head_text, push_legend, push_text};
 use std::alloc::{AllocError, Global};
+use std::fmt::{self, Display, Formatter, Write};
 
 /// Units left of the steps, for the rates, of all steps together, and right of them.
 const LEFT: u64 = 1_600;
@@ -29,35 +30,54 @@ const LEGEND: [(u64, &str, &str); 3] = [
     (7_600, GREY, "requested and not granted"),
 ];
 
-/// Where the bar of a step is drawn: its left edge, its width, and its title.
+/// The bar of a step: its left edge and its width, and the frames and the mean rates that are its title.
 #[derive(Clone, Copy)]
-struct Bar<'a> {
+struct Bar {
     left: u64,
     width: u64,
-    title: &'a str,
+    first: u64,
+    last: u64,
+    means: Means,
+}
+
+// The title of a bar.
+#[derive(Clone, Copy)]
+struct Title<'a>(&'a Bar);
+
+impl Display for Title<'_> {
+    fn fmt<W: Write>(&self, f: &mut Formatter<W>) -> fmt::Result {
+        let (first, last) = (self.0.first, self.0.last);
+        let Means {
+            requested,
+            guaranteed,
+            granted,
+        } = self.0.means;
+        write!(
+            f,
+            "frames {first} to {last}: requested {requested}, guaranteed {guaranteed}, granted {granted} kbit/s"
+        )
+    }
 }
 
 // Appends the part of a bar up to a rate.
 fn push_bar(
-    alloc: Global,
     text: &mut String,
-    bar: &Bar<'_>,
+    bar: &Bar,
     rate: u64,
     scale: u64,
     colour: &str,
 ) -> Result<(), AllocError> {
     let height = rate.min(scale).saturating_mul(HEIGHT) / scale.max(1);
     let (x, y) = (bar.left, BOTTOM.saturating_sub(height));
-    let (width, title) = (bar.width, bar.title);
-    let line = format!(in alloc;
-        "<rect x=\"{x}\" y=\"{y}\" width=\"{width}\" height=\"{height}\" fill=\"{colour}\"><title>{title}</title></rect>\n"
-    )?;
-    text.push_str(line.as_str())
+    let (width, title) = (bar.width, Title(bar));
+    writeln!(
+        text,
+        "<rect x=\"{x}\" y=\"{y}\" width=\"{width}\" height=\"{height}\" fill=\"{colour}\"><title>{title}</title></rect>"
+    )
 }
 
 // Appends the bar of a step; a pointer on it shows its frames and its rates.
 fn push_step(
-    alloc: Global,
     text: &mut String,
     series: &Series,
     step: usize,
@@ -68,54 +88,55 @@ fn push_step(
         return Ok(());
     };
     let first = series.first_of(step);
-    let last = first.saturating_add(series.frames().saturating_sub(1));
-    let Means {
-        requested,
-        guaranteed,
-        granted,
-    } = means;
-    let title = format!(in alloc;
-        "frames {first} to {last}: requested {requested}, guaranteed {guaranteed}, granted {granted} kbit/s"
-    )?;
     let bar = Bar {
         left: width.saturating_mul(step as u64).saturating_add(LEFT),
         width,
-        title: title.as_str(),
+        first,
+        last: first.saturating_add(series.frames().saturating_sub(1)),
+        means,
     };
-    push_bar(alloc, text, &bar, requested, scale, GREY)?;
-    push_bar(alloc, text, &bar, granted, scale, ORANGE)?;
-    push_bar(alloc, text, &bar, granted.min(guaranteed), scale, BLUE)
+    let within = means.granted.min(means.guaranteed);
+    push_bar(text, &bar, means.requested, scale, GREY)?;
+    push_bar(text, &bar, means.granted, scale, ORANGE)?;
+    push_bar(text, &bar, within, scale, BLUE)
+}
+
+// A rate of the scale.
+#[derive(Clone, Copy)]
+struct RateLabel(u64);
+
+impl Display for RateLabel {
+    fn fmt<W: Write>(&self, f: &mut Formatter<W>) -> fmt::Result {
+        write!(f, "{} kbit/s", self.0)
+    }
 }
 
 // Appends the lines of the scale, each with its rate.
-fn push_scale(alloc: Global, text: &mut String, scale: u64) -> Result<(), AllocError> {
+fn push_scale(text: &mut String, scale: u64) -> Result<(), AllocError> {
+    let end = LEFT + WIDTH;
     for line in 0..=LINES {
         let rate = scale.saturating_mul(line) / LINES;
         let y = BOTTOM - HEIGHT * line / LINES;
-        let label = format!(in alloc; "{rate} kbit/s")?;
-        push_text(alloc, text, 0, y, label.as_str())?;
-        let end = LEFT + WIDTH;
-        let line = format!(in alloc;
-            "<line x1=\"{LEFT}\" y1=\"{y}\" x2=\"{end}\" y2=\"{y}\" stroke=\"#cccccc\" stroke-width=\"6\"/>\n"
+        push_text(text, 0, y, RateLabel(rate))?;
+        writeln!(
+            text,
+            "<line x1=\"{LEFT}\" y1=\"{y}\" x2=\"{end}\" y2=\"{y}\" stroke=\"#cccccc\" stroke-width=\"6\"/>"
         )?;
-        text.push_str(line.as_str())?;
     }
     Ok(())
 }
 
 // Appends the first and the last frame.
-fn push_frames(alloc: Global, text: &mut String, series: &Series) -> Result<(), AllocError> {
+fn push_frames(text: &mut String, series: &Series) -> Result<(), AllocError> {
     let Some((first, last)) = series.range() else {
         return Ok(());
     };
-    let low = BOTTOM + LETTERS + LETTERS / 2;
-    let label = format!(in alloc; "frame {first}")?;
-    push_text(alloc, text, LEFT, low, label.as_str())?;
-    let right = LEFT + WIDTH;
-    let label = format!(in alloc;
-        "<text x=\"{right}\" y=\"{low}\" text-anchor=\"end\">frame {last}</text>\n"
-    )?;
-    text.push_str(label.as_str())
+    let (low, right) = (BOTTOM + LETTERS + LETTERS / 2, LEFT + WIDTH);
+    writeln!(text, "<text x=\"{LEFT}\" y=\"{low}\">frame {first}</text>")?;
+    writeln!(
+        text,
+        "<text x=\"{right}\" y=\"{low}\" text-anchor=\"end\">frame {last}</text>"
+    )
 }
 
 /// The picture of a series as SVG: a bar for each step, with its frames and its rates as its title. `Err` only if memory is
@@ -128,14 +149,14 @@ pub(crate) fn loads_svg(
     let (width, height) = (LEFT + WIDTH + RIGHT, BOTTOM + 4 * ROW);
     let mut text = head_text(alloc, width, height, heading)?;
     let scale = scale_of(series);
-    push_scale(alloc, &mut text, scale)?;
+    push_scale(&mut text, scale)?;
     let steps = series.steps().len();
     let step_width = WIDTH / (steps as u64).max(1);
     for step in 0..steps {
-        push_step(alloc, &mut text, series, step, step_width, scale)?;
+        push_step(&mut text, series, step, step_width, scale)?;
     }
-    push_frames(alloc, &mut text, series)?;
-    push_legend(alloc, &mut text, BOTTOM + 2 * ROW, &LEGEND)?;
+    push_frames(&mut text, series)?;
+    push_legend(&mut text, BOTTOM + 2 * ROW, &LEGEND)?;
     text.push_str("</svg>\n")?;
     Ok(text)
 }

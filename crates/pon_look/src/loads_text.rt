@@ -1,6 +1,6 @@
 //! The loads of an Alloc-ID along the frames as text.
 
-use crate::mean::mean_text;
+use crate::mean::Mean;
 use crate::series::Series;
 use crate::sums::Sums;
 use pon_units::{LINE_RATE, WORD_RATE};
@@ -18,9 +18,6 @@ const SURPLUS_SIGN: char = '=';
 const REQUESTED_SIGN: char = '.';
 
 const BEYOND_SIGN: char = '>';
-
-// The rate of a word in each frame, in kbit/s.
-const RATE_OF_WORD: u16 = WORD_RATE as u16;
 
 /// The mean rates of a step, in whole kbit/s.
 #[derive(Clone, Copy, Debug, PartialEq, Eq)]
@@ -55,48 +52,62 @@ pub(crate) fn scale_of(series: &Series) -> u64 {
     scale.min(LINE_RATE)
 }
 
-// Returns the sign of a rate.
-fn sign_of(means: &Means, rate: u64) -> char {
+// Returns the sign of a rate; `None` above all of a step's.
+fn sign_of(means: &Means, rate: u64) -> Option<char> {
     if rate < means.granted.min(means.guaranteed) {
-        return GUARANTEED_SIGN;
+        return Some(GUARANTEED_SIGN);
     }
     if rate < means.granted {
-        return SURPLUS_SIGN;
+        return Some(SURPLUS_SIGN);
     }
     if rate < means.requested {
-        REQUESTED_SIGN
+        Some(REQUESTED_SIGN)
     } else {
-        ' '
+        None
     }
 }
 
-// Makes the bar of a step: each column has the sign of its middle rate.
-fn bar_text(alloc: Global, means: &Means, scale: u64) -> Result<String, AllocError> {
-    let mut bar = String::new(alloc);
+// Appends the bar of a step, which ends before the first column without a sign: each has that of its middle rate.
+fn push_bar(text: &mut String, means: &Means, scale: u64) -> Result<(), AllocError> {
     for column in 0..BAR_COLUMNS {
         let rate = (2 * column + 1).saturating_mul(scale) / (2 * BAR_COLUMNS);
-        bar.push(sign_of(means, rate))?;
+        let Some(sign) = sign_of(means, rate) else {
+            return Ok(());
+        };
+        text.push_str(if column == 0 { "  " } else { "" })?;
+        text.push(sign)?;
     }
     if scale < means.requested {
-        bar.push(BEYOND_SIGN)?;
+        text.push(BEYOND_SIGN)?;
     }
-    Ok(bar)
+    Ok(())
 }
 
-// Makes the row of a step: its first frame, its means and its bar.
-fn row_text(alloc: Global, first: u64, sums: &Sums, scale: u64) -> Result<String, AllocError> {
-    let Some(means) = Means::of(sums) else {
-        return format!(in alloc; "{first:>10}  no map\n");
-    };
-    let requested = mean_text(alloc, sums.load, 1, sums.maps)?;
-    let guaranteed = mean_text(alloc, sums.guaranteed, 1, sums.maps)?;
-    let granted = mean_text(alloc, sums.granted, RATE_OF_WORD, sums.maps)?;
-    let bar = bar_text(alloc, &means, scale)?;
-    let bar = bar.as_str().trim_end();
-    let row = format!(in alloc;
-        "{first:>10} {requested:>12} {guaranteed:>10} {granted:>10}  {bar}"
-    )?;
-    format!(in alloc; "{}\n", row.as_str().trim_end())
+// Appends the mean rates of a step.
+fn push_means(alloc: Global, text: &mut String, sums: &Sums) -> Result<(), AllocError> {
+    let requested = Mean::of_rates(sums.load, sums.maps).to_string(alloc)?;
+    let guaranteed = Mean::of_rates(sums.guaranteed, sums.maps).to_string(alloc)?;
+    let granted = Mean::of_words(sums.granted, sums.maps).to_string(alloc)?;
+    write!(text, " {requested:>12} {guaranteed:>10} {granted:>10}")
+}
+
+// Appends the row of a step: its first frame, its means and its bar.
+fn push_row(
+    alloc: Global,
+    text: &mut String,
+    first: u64,
+    sums: &Sums,
+    scale: u64,
+) -> Result<(), AllocError> {
+    write!(text, "{first:>10}")?;
+    match Means::of(sums) {
+        None => text.push_str("  no map")?,
+        Some(means) => {
+            push_means(alloc, text, sums)?;
+            push_bar(text, &means, scale)?;
+        }
+    }
+    text.push('\n')
 }
 
 /// A row for each step under a scale in kbit/s: its first frame, the mean rates that were requested, guaranteed and granted,
@@ -107,8 +118,7 @@ pub(crate) fn steps_text(alloc: Global, series: &Series) -> Result<String, Alloc
         "     frame    requested guaranteed    granted  0{scale:>29}\n"
     )?;
     for (step, sums) in series.steps().iter().enumerate() {
-        let row = row_text(alloc, series.first_of(step), sums, scale)?;
-        text.push_str(row.as_str())?;
+        push_row(alloc, &mut text, series.first_of(step), sums, scale)?;
     }
     Ok(text)
 }

@@ -2,7 +2,11 @@
 
 ghost use Rattle.std.specs.Prelude.{◌≡◌, ◌+◌, ◌*◌, ◌/◌, ◌<◌, ◌^◌};
 
-use std::alloc::{AllocError, Global};
+use pon_units::WORD_RATE;
+use std::fmt::{self, Display, Formatter, Write};
+
+// The rate of a word in each frame, in kbit/s.
+const RATE_OF_WORD: u16 = WORD_RATE as u16;
 
 // Computes a mean in tenths, rounded half up.
 fn mean_tenths(sum: u128, count: u64) -> u128
@@ -13,18 +17,36 @@ fn mean_tenths(sum: u128, count: u64) -> u128
     (20 * sum + u128::from(count)) / (2 * u128::from(count))
 }
 
-/// Writes the mean of `count` numbers with the sum `sum * unit`, with one decimal place, rounded half up; `-` without numbers.
-/// `Err` only if memory is refused.
-pub(crate) fn mean_text(
-    alloc: Global,
+/// The mean of `count` numbers with the sum `sum * unit`, with one decimal place, rounded half up; `-` without numbers.
+#[derive(Clone, Copy, Debug, PartialEq, Eq)]
+pub(crate) struct Mean {
     sum: u64,
     unit: u16,
     count: u64,
-) -> Result<String, AllocError> {
-    if count == 0 {
-        return format!(in alloc; "-");
+}
+
+impl Mean {
+    /// The mean of the rates of maps.
+    pub(crate) fn of_rates(sum: u64, maps: u64) -> Mean {
+        let (unit, count) = (1, maps);
+        Mean { sum, unit, count }
     }
-    let tenths = mean_tenths(u128::from(sum) * u128::from(unit), count);
-    let (whole, tenth) = (tenths / 10, tenths % 10);
-    format!(in alloc; "{whole}.{tenth}")
+
+    /// The mean rate of the words of maps.
+    pub(crate) fn of_words(sum: u64, maps: u64) -> Mean {
+        let (unit, count) = (RATE_OF_WORD, maps);
+        Mean { sum, unit, count }
+    }
+}
+
+impl Display for Mean {
+    fn fmt<W: Write>(&self, f: &mut Formatter<W>) -> fmt::Result {
+        if self.count == 0 {
+            return f.write_str("-");
+        }
+        let sum = u128::from(self.sum) * u128::from(self.unit);
+        let tenths = mean_tenths(sum, self.count);
+        let (whole, tenth) = (tenths / 10, tenths % 10);
+        write!(f, "{whole}.{tenth}")
+    }
 }

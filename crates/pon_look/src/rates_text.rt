@@ -2,17 +2,14 @@
 
 use crate::changes::Change;
 use crate::json::{change_json, refused_json, sums_json};
-use crate::mean::mean_text;
+use crate::mean::Mean;
 use crate::port_tallies::Refused;
 use crate::query::Format;
 use crate::sums::Sums;
 use crate::words::class_word;
 use pon_admit::Row;
-use pon_units::{PortNo, WORD_RATE};
+use pon_units::PortNo;
 use std::alloc::{AllocError, Global};
-
-// The rate of a word in each frame, in kbit/s.
-const RATE_OF_WORD: u16 = WORD_RATE as u16;
 
 /// Makes the line of a chapter that is refused at an entry. `Err` only if memory is refused.
 pub(crate) fn refused_line(
@@ -62,10 +59,10 @@ pub(crate) fn sums_line(
     }
     let (port, alloc_id, onu) = (port.get(), row.alloc_id.get(), row.onu.get());
     let (frames, below) = (sums.maps, sums.below);
-    let load = mean_text(alloc, sums.load, 1, frames)?;
-    let owed = mean_text(alloc, sums.guaranteed, 1, frames)?;
-    let granted = mean_text(alloc, sums.granted, RATE_OF_WORD, frames)?;
-    let surplus = mean_text(alloc, sums.surplus, 1, frames)?;
+    let load = Mean::of_rates(sums.load, frames);
+    let owed = Mean::of_rates(sums.guaranteed, frames);
+    let granted = Mean::of_words(sums.granted, frames);
+    let surplus = Mean::of_rates(sums.surplus, frames);
     format!(in alloc;
         "port {port} alloc {alloc_id} onu {onu} frames {frames} load {load} owed {owed} granted {granted} surplus {surplus} below {below} idle {idle}\n"
     )

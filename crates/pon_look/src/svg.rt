@@ -8,6 +8,7 @@ use crate::svg_parts::{
 use pon_admit::Row;
 use pon_descr::Class;
 use std::alloc::{AllocError, Global};
+use std::fmt::{self, Display, Formatter, Write};
 
 /// Units left of the frame, for the names of the ONUs, and right of it.
 const LEFT: u64 = 1_000;
@@ -56,40 +57,53 @@ fn colour_of(row: Option<Row>) -> &'static str {
     }
 }
 
+// The time at a mark of the scale.
+#[derive(Clone, Copy)]
+struct MarkTime(u64);
+
+impl Display for MarkTime {
+    fn fmt<W: Write>(&self, f: &mut Formatter<W>) -> fmt::Result {
+        let nanoseconds = Micros(self.0).nanoseconds();
+        let (micros, rest) = (nanoseconds / 1_000, nanoseconds % 1_000);
+        write!(f, "{micros}.{rest:03} us")
+    }
+}
+
+// The title of a grant.
+#[derive(Clone, Copy)]
+struct GrantTitle {
+    id: u16,
+    class: &'static str,
+}
+
+impl Display for GrantTitle {
+    fn fmt<W: Write>(&self, f: &mut Formatter<W>) -> fmt::Result {
+        write!(f, "Alloc-ID {}, {}", self.id, self.class)
+    }
+}
+
 // Appends a part. A pointer on it shows its title and its numbers.
-fn push_bar(
-    alloc: Global,
+fn push_bar<D: Display + Copy>(
     text: &mut String,
     place: Place,
     colour: &str,
-    title: &str,
+    title: D,
 ) -> Result<(), AllocError> {
     let Place { first, words, row } = place;
     let (x, y) = (first.saturating_add(LEFT), top_of(row));
     let (end, at, time) = (first.saturating_add(words), Micros(first), Micros(words));
-    let line = format!(in alloc;
-        "<rect x=\"{x}\" y=\"{y}\" width=\"{words}\" height=\"{BAR}\" fill=\"{colour}\"><title>{title}: {words} words from {first} to before {end}, {time} us from {at} us</title></rect>\n"
+    write!(
+        text,
+        "<rect x=\"{x}\" y=\"{y}\" width=\"{words}\" height=\"{BAR}\" fill=\"{colour}\">"
     )?;
-    text.push_str(line.as_str())
-}
-
-// Appends a line between a grant and the one before it.
-fn push_border(alloc: Global, text: &mut String, first: u64, row: u64) -> Result<(), AllocError> {
-    let (x, top) = (first.saturating_add(LEFT), top_of(row));
-    let low = top.saturating_add(BAR);
-    let line = format!(in alloc;
-        "<line x1=\"{x}\" y1=\"{top}\" x2=\"{x}\" y2=\"{low}\" stroke=\"#ffffff\" stroke-width=\"8\"/>\n"
-    )?;
-    text.push_str(line.as_str())
-}
-
-fn title_of(alloc: Global, id: u16, class: &str) -> Result<String, AllocError> {
-    format!(in alloc; "Alloc-ID {id}, {class}")
+    writeln!(
+        text,
+        "<title>{title}: {words} words from {first} to before {end}, {time} us from {at} us</title></rect>"
+    )
 }
 
 // Appends the grants of a burst.
 fn push_grants(
-    alloc: Global,
     text: &mut String,
     drawing: &Drawing<'_>,
     burst: &Burst,
@@ -99,74 +113,48 @@ fn push_grants(
         let Some(Grant { id, first, words }) = drawing.grant(place) else {
             continue;
         };
-        let title = title_of(alloc, id, class_name(drawing.row_of(place)))?;
-        let colour = colour_of(drawing.row_of(place));
-        push_bar(
-            alloc,
-            text,
-            Place { first, words, row },
-            colour,
-            title.as_str(),
-        )?;
+        let owner = drawing.row_of(place);
+        let class = class_name(owner);
+        let title = GrantTitle { id, class };
+        push_bar(text, Place { first, words, row }, colour_of(owner), title)?;
     }
     Ok(())
 }
 
 // Appends the header or the trailer of a burst.
-fn push_edge(
-    alloc: Global,
-    text: &mut String,
-    first: u64,
-    row: u64,
-    title: &str,
-) -> Result<(), AllocError> {
+fn push_edge(text: &mut String, first: u64, row: u64, title: &str) -> Result<(), AllocError> {
     let words = HEADER_WORDS;
-    push_bar(alloc, text, Place { first, words, row }, EDGE_COLOUR, title)
+    push_bar(text, Place { first, words, row }, EDGE_COLOUR, title)
 }
 
 // Appends a burst: its ONU, the gap before it, its header, its grants and its trailer.
 fn push_burst(
-    alloc: Global,
     text: &mut String,
     drawing: &Drawing<'_>,
     burst: &Burst,
     row: u64,
 ) -> Result<(), AllocError> {
-    let name = format!(in alloc; "{}", OnuName(drawing.row_of(burst.first)))?;
-    push_text(
-        alloc,
-        text,
-        0,
-        top_of(row).saturating_add(LETTERS),
-        name.as_str(),
-    )?;
+    let low = top_of(row).saturating_add(LETTERS);
+    push_text(text, 0, low, OnuName(drawing.row_of(burst.first)))?;
     let words = drawing.gap.min(burst.header);
     let first = burst.header - words;
-    push_bar(alloc, text, Place { first, words, row }, GREY, "gap")?;
-    push_edge(alloc, text, burst.header, row, "header")?;
-    push_grants(alloc, text, drawing, burst, row)?;
-    push_edge(alloc, text, burst.trailer, row, "trailer")
+    push_bar(text, Place { first, words, row }, GREY, "gap")?;
+    push_edge(text, burst.header, row, "header")?;
+    push_grants(text, drawing, burst, row)?;
+    push_edge(text, burst.trailer, row, "trailer")
 }
 
 // Appends the scale in words and microseconds.
-fn push_scale(alloc: Global, text: &mut String, bottom: u64) -> Result<(), AllocError> {
+fn push_scale(text: &mut String, bottom: u64) -> Result<(), AllocError> {
     for mark in 0..=FRAME_WORDS / MARK_WORDS {
         let word = mark * MARK_WORDS;
         let x = LEFT + word;
-        let label = format!(in alloc; "{word}")?;
-        push_text(alloc, text, x, TOP - 2 * LETTERS, label.as_str())?;
-        let label = format!(in alloc; "{} us", Micros(word))?;
-        push_text(
-            alloc,
+        push_text(text, x, TOP - 2 * LETTERS, word)?;
+        push_text(text, x, TOP - LETTERS / 2, MarkTime(word))?;
+        writeln!(
             text,
-            x,
-            TOP - LETTERS / 2,
-            label.as_str().trim_start(),
+            "<line x1=\"{x}\" y1=\"{TOP}\" x2=\"{x}\" y2=\"{bottom}\" stroke=\"#cccccc\" stroke-width=\"6\"/>"
         )?;
-        let line = format!(in alloc;
-            "<line x1=\"{x}\" y1=\"{TOP}\" x2=\"{x}\" y2=\"{bottom}\" stroke=\"#cccccc\" stroke-width=\"6\"/>\n"
-        )?;
-        text.push_str(line.as_str())?;
     }
     Ok(())
 }
@@ -180,11 +168,11 @@ pub(crate) fn svg_text(
     let bottom = top_of(drawing.bursts.len() as u64);
     let (width, height) = (LEFT + FRAME_WORDS + RIGHT, bottom.saturating_add(2 * ROW));
     let mut text = head_text(alloc, width, height, heading)?;
-    push_scale(alloc, &mut text, bottom)?;
+    push_scale(&mut text, bottom)?;
     for (row, burst) in drawing.bursts.iter().enumerate() {
-        push_burst(alloc, &mut text, drawing, burst, row as u64)?;
+        push_burst(&mut text, drawing, burst, row as u64)?;
     }
-    push_legend(alloc, &mut text, bottom.saturating_add(ROW / 2), &LEGEND)?;
+    push_legend(&mut text, bottom.saturating_add(ROW / 2), &LEGEND)?;
     text.push_str("</svg>\n")?;
     Ok(text)
 }

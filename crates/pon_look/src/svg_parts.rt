@@ -1,6 +1,7 @@
 //! Parts of pictures in SVG.
 
 use std::alloc::{AllocError, Global};
+use std::fmt::Display;
 
 /// Units from a row to the next one, and of its bar.
 pub(crate) const ROW: u64 = 220;
@@ -32,31 +33,28 @@ pub(crate) fn head_text(
 }
 
 /// Appends words, from a place to the right. `Err` only if memory is refused.
-pub(crate) fn push_text(
-    alloc: Global,
+pub(crate) fn push_text<D: Display + Copy>(
     text: &mut String,
     x: u64,
     y: u64,
-    words: &str,
+    words: D,
 ) -> Result<(), AllocError> {
-    let line = format!(in alloc; "<text x=\"{x}\" y=\"{y}\">{words}</text>\n")?;
-    text.push_str(line.as_str())
+    writeln!(text, "<text x=\"{x}\" y=\"{y}\">{words}</text>")
 }
 
 /// Appends what colours mean: for each its place to the right, the colour and the meaning. `Err` only if memory is refused.
 pub(crate) fn push_legend(
-    alloc: Global,
     text: &mut String,
     top: u64,
     legend: &[(u64, &str, &str)],
 ) -> Result<(), AllocError> {
     let low = top.saturating_add(LETTERS);
     for (x, colour, name) in legend {
-        let line = format!(in alloc;
-            "<rect x=\"{x}\" y=\"{top}\" width=\"{BAR}\" height=\"{BAR}\" fill=\"{colour}\"/>\n"
+        writeln!(
+            text,
+            "<rect x=\"{x}\" y=\"{top}\" width=\"{BAR}\" height=\"{BAR}\" fill=\"{colour}\"/>"
         )?;
-        text.push_str(line.as_str())?;
-        push_text(alloc, text, x.saturating_add(ROW), low, name)?;
+        push_text(text, x.saturating_add(ROW), low, name)?;
     }
     Ok(())
 }

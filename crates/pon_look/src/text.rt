@@ -7,7 +7,9 @@ use crate::query::Format;
 use crate::summary::{Summary, Totals};
 use pon_record::RawChapter;
 use pon_state::Entry;
+use pon_units::FrameNo;
 use std::alloc::{AllocError, Global};
+use std::fmt::{self, Display, Formatter, Write};
 
 // The length of a frame, in microseconds.
 const FRAME_MICROSECONDS: u64 = 125;
@@ -15,21 +17,31 @@ const FRAME_MICROSECONDS: u64 = 125;
 /// The greatest number of a cause.
 pub(crate) const MAX_CAUSE: u8 = 9;
 
-// Writes the line time of maps, in seconds with six decimal places.
-fn seconds_text(alloc: Global, maps: u64) -> Result<String, AllocError> {
-    let time = maps.saturating_mul(FRAME_MICROSECONDS);
-    let (seconds, rest) = (time / 1_000_000, time % 1_000_000);
-    format!(in alloc; "{seconds}.{rest:06}")
+// The line time of a number of maps, in seconds with six decimal places.
+#[derive(Clone, Copy)]
+struct Seconds(u64);
+
+impl Display for Seconds {
+    fn fmt<W: Write>(&self, f: &mut Formatter<W>) -> fmt::Result {
+        let time = self.0.saturating_mul(FRAME_MICROSECONDS);
+        let (seconds, rest) = (time / 1_000_000, time % 1_000_000);
+        write!(f, "{seconds}.{rest:06}")
+    }
 }
 
-// Writes the frames of the first and the last map, or `-` without a map.
-fn frames_text(alloc: Global, summary: &Summary) -> Result<String, AllocError> {
-    match (summary.first, summary.last) {
-        (Some(first), Some(last)) => {
-            let (first, last) = (first.get(), last.get());
-            format!(in alloc; "{first} to {last}")
+// The frames of the first and the last map, `-` without a map.
+#[derive(Clone, Copy)]
+struct Frames(Option<FrameNo>, Option<FrameNo>);
+
+impl Display for Frames {
+    fn fmt<W: Write>(&self, f: &mut Formatter<W>) -> fmt::Result {
+        match (self.0, self.1) {
+            (Some(first), Some(last)) => {
+                let (first, last) = (first.get(), last.get());
+                write!(f, "{first} to {last}")
+            }
+            _ => f.write_str("-"),
         }
-        _ => format!(in alloc; "-"),
     }
 }
 
@@ -42,7 +54,7 @@ fn causes_text(alloc: Global, summary: &Summary, entries: &[Entry]) -> Result<St
     for cause in 1..=MAX_CAUSE {
         let count = cause_count(cause, entries);
         if count > 0 {
-            text = format!(in alloc; "{text} cause {cause} {count}")?;
+            write!(text, " cause {cause} {count}")?;
         }
     }
     Ok(text)
@@ -62,8 +74,8 @@ pub(crate) fn chapter_line(
         return chapter_json(alloc, summary, onus, entries, bytes);
     }
     let (port, number) = (summary.port.get(), summary.number);
-    let frames = frames_text(alloc, summary)?;
-    let seconds = seconds_text(alloc, summary.maps)?;
+    let frames = Frames(summary.first, summary.last);
+    let seconds = Seconds(summary.maps);
     let causes = causes_text(alloc, summary, entries)?;
     let (maps, reports, failures) = (summary.maps, summary.reports, summary.failures);
     let (allocs, allocs_end) = (summary.allocs, summary.allocs_end);
@@ -97,7 +109,7 @@ pub(crate) fn total_line(
     if format == Format::Json {
         return total_json(alloc, totals, bytes);
     }
-    let seconds = seconds_text(alloc, totals.maps)?;
+    let seconds = Seconds(totals.maps);
     let (chapters, maps) = (totals.chapters, totals.maps);
     let (reports, failures) = (totals.reports, totals.failures);
     format!(in alloc;

@@ -12,8 +12,12 @@ const COLUMN_WORDS: u64 = FRAME_WORDS / COLUMNS;
 /// Tenths of a microsecond of a frame.
 const FRAME_TENTHS: u64 = 1_250;
 
-/// Columns between two marks of the scale.
+/// Columns and words between two marks of the scale, and its marks but for the last.
 const MARK_COLUMNS: u64 = 10;
+
+const MARK_WORDS: u64 = MARK_COLUMNS * COLUMN_WORDS;
+
+const MARKS: u64 = COLUMNS / MARK_COLUMNS;
 
 // The signs of a gap, of words of no burst, and of a burst that is narrower than a column.
 const GAP_SIGN: char = '.';
@@ -68,9 +72,8 @@ fn push_row(
     drawing: &Drawing<'_>,
     burst: &Burst,
 ) -> Result<(), AllocError> {
-    let name = OnuName(drawing.row_of(burst.first));
-    let label = format!(in alloc; "{name}")?;
-    let mut row = format!(in alloc; "{label:<10}")?;
+    let name = OnuName(drawing.row_of(burst.first)).to_string(alloc)?;
+    let mut row = format!(in alloc; "{name:<10}")?;
     let end = (burst.trailer / COLUMN_WORDS).min(COLUMNS - 1);
     for column in 0..=end {
         row.push(sign_of(drawing, burst, column))?;
@@ -79,30 +82,44 @@ fn push_row(
     text.push('\n')
 }
 
+// Appends the words at the marks of the scale.
+fn push_words(text: &mut String) -> Result<(), AllocError> {
+    text.push_str("words     ")?;
+    for mark in 0..MARKS {
+        let word = mark * MARK_WORDS;
+        write!(text, "{word:<10}")?;
+    }
+    writeln!(text, "{FRAME_WORDS}")
+}
+
+// Makes the time at a mark of the scale, in microseconds with one decimal place, rounded half up.
+fn time_text(alloc: Global, mark: u64) -> Result<String, AllocError> {
+    let time = mark.saturating_mul(MARK_COLUMNS * FRAME_TENTHS);
+    let tenths = time.saturating_add(COLUMNS / 2) / COLUMNS;
+    let (micros, tenth) = (tenths / 10, tenths % 10);
+    format!(in alloc; "{micros}.{tenth}")
+}
+
+// Appends the times at the marks of the scale.
+fn push_times(alloc: Global, text: &mut String) -> Result<(), AllocError> {
+    text.push_str("us        ")?;
+    for mark in 0..MARKS {
+        let time = time_text(alloc, mark)?;
+        write!(text, "{time:<10}")?;
+    }
+    let end = time_text(alloc, MARKS)?;
+    writeln!(text, "{end}")
+}
+
 // Appends the scale: words, microseconds, and a mark for each.
 fn push_scale(alloc: Global, text: &mut String) -> Result<(), AllocError> {
-    let (mut words, mut times) = (
-        format!(in alloc; "words     ")?,
-        format!(in alloc; "us        ")?,
-    );
-    let mut marks = format!(in alloc; "          ")?;
-    for mark in 0..=COLUMNS / MARK_COLUMNS {
-        let word = mark * MARK_COLUMNS * COLUMN_WORDS;
-        let tenths = (mark * MARK_COLUMNS * FRAME_TENTHS + COLUMNS / 2) / COLUMNS;
-        let time = format!(in alloc; "{}.{}", tenths / 10, tenths % 10)?;
-        words.push_str(format!(in alloc; "{word:<10}")?.as_str())?;
-        times.push_str(format!(in alloc; "{time:<10}")?.as_str())?;
-        marks.push_str(if mark < COLUMNS / MARK_COLUMNS {
-            "|---------"
-        } else {
-            "|"
-        })?;
+    push_words(text)?;
+    push_times(alloc, text)?;
+    text.push_str("          ")?;
+    for _ in 0..MARKS {
+        text.push_str("|---------")?;
     }
-    for line in [&words, &times, &marks] {
-        text.push_str(line.as_str().trim_end())?;
-        text.push('\n')?;
-    }
-    Ok(())
+    text.push_str("|\n")
 }
 
 /// The time line of a map: a row for each burst under a scale in words and microseconds.
@@ -115,48 +132,44 @@ pub(crate) fn rows_text(alloc: Global, drawing: &Drawing<'_>) -> Result<String, 
     Ok(text)
 }
 
-// Appends the line of a part: its first word, its words, both also as times, and its name.
-fn push_part(
-    alloc: Global,
-    text: &mut String,
-    first: u64,
-    words: u64,
-    name: &str,
-) -> Result<(), AllocError> {
+// Appends the beginning of the line of a part: its first word and its words, both also as times.
+fn push_place(text: &mut String, first: u64, words: u64) -> Result<(), AllocError> {
     let (at, time) = (Micros(first), Micros(words));
-    let line = format!(in alloc; "{first:>6}  {at}  {words:>6}  {time}  {name}\n")?;
-    text.push_str(line.as_str())
+    write!(text, "{first:>6}  {at}  {words:>6}  {time}  ")
 }
 
-// Appends the lines of the parts of a burst.
-fn push_parts(
-    alloc: Global,
-    text: &mut String,
-    drawing: &Drawing<'_>,
-    burst: &Burst,
-) -> Result<(), AllocError> {
-    let gap = drawing.gap.min(burst.header);
-    push_part(alloc, text, burst.header - gap, gap, "gap")?;
-    let name = OnuName(drawing.row_of(burst.first));
-    let header = format!(in alloc; "header of {name}")?;
-    push_part(alloc, text, burst.header, HEADER_WORDS, header.as_str())?;
+// Appends the lines of the grants of a burst.
+fn push_grants(text: &mut String, drawing: &Drawing<'_>, burst: &Burst) -> Result<(), AllocError> {
     for (number, place) in (burst.first..burst.end).enumerate() {
         let Some(Grant { id, first, words }) = drawing.grant(place) else {
             continue;
         };
         let class = class_name(drawing.row_of(place));
         let letter = letter_of(number);
-        let name = format!(in alloc; "{letter}  grant of Alloc-ID {id}, {class}")?;
-        push_part(alloc, text, first, words, name.as_str())?;
+        push_place(text, first, words)?;
+        writeln!(text, "{letter}  grant of Alloc-ID {id}, {class}")?;
     }
-    push_part(alloc, text, burst.trailer, HEADER_WORDS, "trailer")
+    Ok(())
+}
+
+// Appends the lines of the parts of a burst.
+fn push_parts(text: &mut String, drawing: &Drawing<'_>, burst: &Burst) -> Result<(), AllocError> {
+    let gap = drawing.gap.min(burst.header);
+    push_place(text, burst.header - gap, gap)?;
+    text.push_str("gap\n")?;
+    push_place(text, burst.header, HEADER_WORDS)?;
+    writeln!(text, "header of {}", OnuName(drawing.row_of(burst.first)))?;
+    push_grants(text, drawing, burst)?;
+    push_place(text, burst.trailer, HEADER_WORDS)?;
+    text.push_str("trailer\n")
 }
 
 /// The parts of a map, a line each: first word, words, and the times of both.
 pub(crate) fn parts_text(alloc: Global, drawing: &Drawing<'_>) -> Result<String, AllocError> {
-    let mut text = format!(in alloc; "  word       us   words       us  part\n")?;
+    let mut text = String::new(alloc);
+    text.push_str("  word       us   words       us  part\n")?;
     for burst in drawing.bursts {
-        push_parts(alloc, &mut text, drawing, burst)?;
+        push_parts(&mut text, drawing, burst)?;
     }
     Ok(text)
 }

@@ -4,7 +4,7 @@ use crate::json::{map_json, row_json};
 use crate::query::Format;
 use crate::replay::MapExplanation;
 use crate::reported::Reported;
-use crate::words::{class_word, level_text, number_or_dash};
+use crate::words::{LevelText, OrDash, class_word};
 use pon_bwmap::Alloc;
 use pon_cert::{Level, MapCert};
 use pon_descr::Class;
@@ -46,112 +46,129 @@ pub(crate) fn map_line(
     }
     let (port, chapter, entry) = (place.port.get(), place.chapter, place.entry);
     let frame = place.frame.get();
-    let (na, be) = (explained.non_assured, explained.best_effort);
-    let na_level = level_text(alloc, &cert.na.level)?;
-    let be_level = level_text(alloc, &cert.be.level)?;
+    let (na, na_level) = (explained.non_assured, LevelText(&cert.na.level));
+    let (be, be_level) = (explained.best_effort, LevelText(&cert.be.level));
     format!(in alloc;
         "port {port} frame {frame} chapter {chapter} entry {entry} na surplus {na} level {na_level} be surplus {be} level {be_level}\n"
     )
 }
 
-// Makes the line of the ONU and the descriptor.
-fn descriptor_line(alloc: Global, row: &Explanation) -> Result<String, AllocError> {
+// Appends the line of the ONU and the descriptor.
+fn push_descriptor(text: &mut String, row: &Explanation) -> Result<(), AllocError> {
     let (alloc_id, onu) = (row.row.alloc_id.get(), row.row.onu.get());
     let descriptor = &row.row.descriptor;
     let (fixed, assured) = (descriptor.fixed().get(), descriptor.assured().get());
     let max = descriptor.max().get();
     let class = class_word(descriptor.class());
-    format!(in alloc;
-        "alloc {alloc_id} onu {onu} fixed {fixed} assured {assured} max {max} class {class}\n"
+    writeln!(
+        text,
+        "alloc {alloc_id} onu {onu} fixed {fixed} assured {assured} max {max} class {class}"
     )
 }
 
-// Makes the lines of the counted report and the load.
-fn load_lines(alloc: Global, shown: &Shown) -> Result<String, AllocError> {
+// Appends the lines of the counted report and the load.
+fn push_load(text: &mut String, shown: &Shown) -> Result<(), AllocError> {
     let load = shown.row.load.get();
     let (Some(counted), Some(reported)) = (shown.row.counted, shown.reported) else {
-        return format!(in alloc; "  report -\n  load {load}: no report counts\n");
+        return writeln!(text, "  report -\n  load {load}: no report counts");
     };
     let (frame, left) = (counted.frame.get(), counted.words.get());
-    let occupancy = match reported.occupancy {
-        Some(words) => Some(u64::from(words)),
-        None => None,
-    };
-    let occupancy = number_or_dash(alloc, occupancy)?;
+    let occupancy = OrDash(reported.occupancy.map(u64::from));
     let (granted, unit) = (reported.granted, WORD_RATE);
-    format!(in alloc;
-        "  report frame {frame} occupancy {occupancy} granted since {granted} left {left}\n  load {load} = {unit} * left {left}\n"
-    )
+    writeln!(
+        text,
+        "  report frame {frame} occupancy {occupancy} granted since {granted} left {left}"
+    )?;
+    writeln!(text, "  load {load} = {unit} * left {left}")
 }
 
-// Makes the line of the guaranteed rate.
-fn guaranteed_line(alloc: Global, row: &Explanation) -> Result<String, AllocError> {
+// Appends the line of the guaranteed rate.
+fn push_guaranteed(text: &mut String, row: &Explanation) -> Result<(), AllocError> {
     let descriptor = &row.row.descriptor;
     let (fixed, assured) = (descriptor.fixed().get(), descriptor.assured().get());
     let (load, guaranteed) = (row.load.get(), row.guaranteed.get());
-    format!(in alloc;
-        "  guaranteed {guaranteed} = min(fixed {fixed} + assured {assured}, max(fixed {fixed}, load {load}))\n"
+    writeln!(
+        text,
+        "  guaranteed {guaranteed} = min(fixed {fixed} + assured {assured}, max(fixed {fixed}, load {load}))"
     )
 }
 
-// Makes the lines of weight and cap.
-fn item_lines(alloc: Global, row: &Explanation) -> Result<String, AllocError> {
+// Appends the line of the weight.
+fn push_weight(text: &mut String, row: &Explanation) -> Result<(), AllocError> {
     let descriptor = &row.row.descriptor;
     let (fixed, assured) = (descriptor.fixed().get(), descriptor.assured().get());
-    let (max, load, guaranteed) = (descriptor.max().get(), row.load.get(), row.guaranteed.get());
-    let (weight, cap) = (row.item.weight, row.item.cap);
-    let rule = match descriptor.class() {
-        Class::BestEffort => format!(in alloc; "max {max} - fixed {fixed} - assured {assured}")?,
-        Class::Plain | Class::NonAssured => format!(in alloc; "fixed {fixed} + assured {assured}")?,
-    };
-    format!(in alloc;
-        "  weight {weight} = {rule}\n  cap {cap} = min(max {max}, max(load {load}, fixed {fixed})) - guaranteed {guaranteed}\n"
+    let (max, weight) = (descriptor.max().get(), row.item.weight);
+    match descriptor.class() {
+        Class::BestEffort => writeln!(
+            text,
+            "  weight {weight} = max {max} - fixed {fixed} - assured {assured}"
+        ),
+        Class::Plain | Class::NonAssured => {
+            writeln!(
+                text,
+                "  weight {weight} = fixed {fixed} + assured {assured}"
+            )
+        }
+    }
+}
+
+// Appends the line of the cap.
+fn push_cap(text: &mut String, row: &Explanation) -> Result<(), AllocError> {
+    let descriptor = &row.row.descriptor;
+    let (fixed, max) = (descriptor.fixed().get(), descriptor.max().get());
+    let (cap, load, guaranteed) = (row.item.cap, row.load.get(), row.guaranteed.get());
+    writeln!(
+        text,
+        "  cap {cap} = min(max {max}, max(load {load}, fixed {fixed})) - guaranteed {guaranteed}"
     )
 }
 
-// Makes the lines of the level and the surplus rate.
-fn surplus_lines(alloc: Global, shown: &Shown) -> Result<String, AllocError> {
-    let Some(level) = shown.level else {
-        return format!(in alloc; "  surplus 0: the class shares none\n");
-    };
-    let items = item_lines(alloc, shown.row)?;
-    let level = level_text(alloc, &level)?;
-    let (num, den) = (shown.row.surplus.num(), shown.row.surplus.den());
-    let (weight, cap) = (shown.row.item.weight, shown.row.item.cap);
-    let is_capped = u128::from(num) == u128::from(cap) * u128::from(den);
-    let rule = if is_capped {
-        format!(in alloc; "cap {cap}")?
-    } else {
-        format!(in alloc; "level * weight {weight}")?
-    };
-    format!(in alloc; "{items}  level {level}\n  surplus {num}/{den} = {rule}\n")
+// Appends the line of the surplus rate: the cap, or the level times the weight.
+fn push_rate(text: &mut String, row: &Explanation) -> Result<(), AllocError> {
+    let (num, den) = (row.surplus.num(), row.surplus.den());
+    let (weight, cap) = (row.item.weight, row.item.cap);
+    if u128::from(num) == u128::from(cap) * u128::from(den) {
+        return writeln!(text, "  surplus {num}/{den} = cap {cap}");
+    }
+    writeln!(text, "  surplus {num}/{den} = level * weight {weight}")
 }
 
-// Makes the lines of what is owed, and of the words.
-fn words_lines(alloc: Global, row: &Explanation) -> Result<String, AllocError> {
+// Appends the lines of the share in the surplus of the class.
+fn push_share(text: &mut String, shown: &Shown) -> Result<(), AllocError> {
+    let Some(level) = shown.level else {
+        return text.push_str("  surplus 0: the class shares none\n");
+    };
+    push_weight(text, shown.row)?;
+    push_cap(text, shown.row)?;
+    writeln!(text, "  level {}", LevelText(&level))?;
+    push_rate(text, shown.row)
+}
+
+// Appends the lines of what is owed, and of the words.
+fn push_words(text: &mut String, row: &Explanation) -> Result<(), AllocError> {
     let (carry, guaranteed, owed) = (row.carry, row.guaranteed.get(), row.owed);
     let share = whole(row.surplus.num(), row.surplus.den());
     let (words, unit) = (owed / WORD_RATE, WORD_RATE);
-    format!(in alloc;
-        "  carry {carry}\n  owed {owed} = carry {carry} + guaranteed {guaranteed} + whole surplus {share}\n  words {words} = owed {owed} / {unit}\n"
-    )
+    writeln!(text, "  carry {carry}")?;
+    writeln!(
+        text,
+        "  owed {owed} = carry {carry} + guaranteed {guaranteed} + whole surplus {share}"
+    )?;
+    writeln!(text, "  words {words} = owed {owed} / {unit}")
 }
 
-// Makes the line of the structure.
-fn structure_line(alloc: Global, structure: Option<&Alloc>) -> Result<String, AllocError> {
+// Appends the line of the structure.
+fn push_structure(text: &mut String, structure: Option<&Alloc>) -> Result<(), AllocError> {
     let Some(structure) = structure else {
-        return format!(in alloc; "  structure -\n");
+        return text.push_str("  structure -\n");
     };
-    let start = match structure.start() {
-        Some(start) => Some(u64::from(start)),
-        None => None,
-    };
-    let start = number_or_dash(alloc, start)?;
+    let start = OrDash(structure.start().map(u64::from));
     let (alloc_id, grant) = (structure.id(), structure.grant());
     let (dbru, ploam) = (u8::from(structure.dbru()), u8::from(structure.ploam()));
     let (fwi, profile) = (u8::from(structure.fwi()), structure.profile());
-    format!(in alloc;
-        "  structure alloc {alloc_id} dbru {dbru} ploam {ploam} start {start} grant {grant} fwi {fwi} profile {profile}\n"
+    writeln!(
+        text,
+        "  structure alloc {alloc_id} dbru {dbru} ploam {ploam} start {start} grant {grant} fwi {fwi} profile {profile}"
     )
 }
 
@@ -164,11 +181,12 @@ pub(crate) fn row_lines(
     if place.format == Format::Json {
         return row_json(alloc, place, shown);
     }
-    let mut text = descriptor_line(alloc, shown.row)?;
-    text.push_str(&load_lines(alloc, shown)?)?;
-    text.push_str(&guaranteed_line(alloc, shown.row)?)?;
-    text.push_str(&surplus_lines(alloc, shown)?)?;
-    text.push_str(&words_lines(alloc, shown.row)?)?;
-    text.push_str(&structure_line(alloc, shown.structure)?)?;
+    let mut text = String::new(alloc);
+    push_descriptor(&mut text, shown.row)?;
+    push_load(&mut text, shown)?;
+    push_guaranteed(&mut text, shown.row)?;
+    push_share(&mut text, shown)?;
+    push_words(&mut text, shown.row)?;
+    push_structure(&mut text, shown.structure)?;
     Ok(text)
 }

@@ -2,7 +2,7 @@
 
 use pon_cert::Level;
 use pon_descr::Class;
-use std::alloc::{AllocError, Global};
+use std::fmt::{self, Display, Formatter, Write};
 
 /// The word of a class: `none`, `na` or `be`.
 pub(crate) fn class_word(class: Class) -> &'static str {
@@ -13,21 +13,31 @@ pub(crate) fn class_word(class: Class) -> &'static str {
     }
 }
 
-/// Writes a level: `all`, or a fraction as it is kept. `Err` only if memory is refused.
-pub(crate) fn level_text(alloc: Global, level: &Level) -> Result<String, AllocError> {
-    match level {
-        Level::All => format!(in alloc; "all"),
-        Level::At(rate) => {
-            let (num, den) = (rate.num(), rate.den());
-            format!(in alloc; "{num}/{den}")
+/// A level: `all`, or a fraction as it is kept.
+#[derive(Clone, Copy)]
+pub(crate) struct LevelText<'a>(pub(crate) &'a Level);
+
+impl Display for LevelText<'_> {
+    fn fmt<W: Write>(&self, f: &mut Formatter<W>) -> fmt::Result {
+        match self.0 {
+            Level::All => f.write_str("all"),
+            Level::At(rate) => {
+                let (num, den) = (rate.num(), rate.den());
+                write!(f, "{num}/{den}")
+            }
         }
     }
 }
 
-/// Writes a number that may be missing, as `-`. `Err` only if memory is refused.
-pub(crate) fn number_or_dash(alloc: Global, number: Option<u64>) -> Result<String, AllocError> {
-    match number {
-        Some(number) => format!(in alloc; "{number}"),
-        None => format!(in alloc; "-"),
+/// A number that may be missing, as `-`.
+#[derive(Clone, Copy)]
+pub(crate) struct OrDash(pub(crate) Option<u64>);
+
+impl Display for OrDash {
+    fn fmt<W: Write>(&self, f: &mut Formatter<W>) -> fmt::Result {
+        match self.0 {
+            Some(number) => write!(f, "{number}"),
+            None => f.write_str("-"),
+        }
     }
 }

@@ -7,8 +7,8 @@ ghost use Rattle.pon_manage.specs.Rows.{class_word, descriptor_text, number_or_d
 use pon_admit::Row;
 use pon_descr::Class;
 use pon_guar::Counted;
-use pon_why::RowView;
 use pon_units::{WORD_RATE, Words};
+use pon_why::RowView;
 use std::alloc::{AllocError, Global};
 
 // Returns the word of a class.

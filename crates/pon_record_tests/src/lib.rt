@@ -6,8 +6,6 @@
 //! and tests are in a crate above them.
 #![tactic(auto)]
 
-pub mod laws;
-
 #[cfg(test)]
 mod audit;
 #[cfg(test)]
@@ -16,6 +14,7 @@ mod batches;
 mod carries;
 #[cfg(test)]
 mod chains;
+pub mod laws;
 #[cfg(test)]
 mod limits;
 #[cfg(test)]
