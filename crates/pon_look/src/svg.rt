@@ -113,10 +113,10 @@ fn push_grants(
         let Some(Grant { id, first, words }) = drawing.grant(place) else {
             continue;
         };
-        let owner = drawing.row_of(place);
-        let class = class_name(owner);
+        let class = class_name(drawing.row_of(place));
+        let colour = colour_of(drawing.row_of(place));
         let title = GrantTitle { id, class };
-        push_bar(text, Place { first, words, row }, colour_of(owner), title)?;
+        push_bar(text, Place { first, words, row }, colour, title)?;
     }
     Ok(())
 }

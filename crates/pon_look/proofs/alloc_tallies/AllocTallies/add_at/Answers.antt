@@ -1,7 +1,6 @@
-use Rattle.std.proofs.Common.{◌≡◌, ◌<◌, arith, length, nat_eq, rules, sym, true}
+use Rattle.std.proofs.Common.{◌≡◌, ◌<◌, length, nat_eq, rules, sym, true}
 use Rattle.std.specs.Prelude.{slice_index_or}
 use Rattle.std.proofs.lemmas.Bool.{eqb-true, not-false}
-use Rattle.pon_look.specs.Sums.{plus}
 use Rattle.pon_look.proofs.SumLaws.{sums_grown}
 use Rattle.pon_look.proofs.alloc_tallies.AllocTallies.add_at.Goals as goal
 

@@ -1,4 +1,4 @@
-use Rattle.std.proofs.Common.{◌≡◌, ◌∙◌, ◌++◌, ◌∷◌, [], ap, rules}
+use Rattle.std.proofs.Common.{◌≡◌, ◌∙◌, ◌++◌, ◌∷◌, [], ap}
 use Rattle.std.specs.Prelude.{if◌then◌else◌}
 use Rattle.pon_look.specs.Sums.{no_sums, plus, sums_if, sums_in}
 use Rattle.pon_look.proofs.SumLaws.{plus_none, sums_pushed}

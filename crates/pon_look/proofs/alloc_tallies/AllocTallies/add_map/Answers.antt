@@ -1,4 +1,4 @@
-use Rattle.std.proofs.Common.{◌≡◌, ◌∙◌, ◌<◌, arith, length, sym}
+use Rattle.std.proofs.Common.{◌∙◌, ◌<◌, arith, length, sym}
 use Rattle.pon_look.specs.Sums.{sums_in}
 use Rattle.pon_look.proofs.SumLaws.{no_more_rows, one_more_row}
 use Rattle.pon_look.proofs.alloc_tallies.AllocTallies.add_map.Goals as goal
