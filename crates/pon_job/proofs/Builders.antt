@@ -1,7 +1,7 @@
 -- A command after each step of its building.
 use Rattle.std.proofs.Common.{◌≡◌, ap, ◌∙◌, subst, sym, true, false, Result, Ok, Err, IfOk, List, [], ◌∷◌, ◌++◌}
 use Rattle.std.proofs.lemmas.List.{append_assoc, append-nil}
-use Rattle.std.specs.Prelude.{Bool, ◌||◌, map}
+use Rattle.std.specs.Prelude.{Bool, ◌||◌, map, IsOkAnd}
 use Rattle.clap.specs.Built.{AddsArg, AddsInTurn, AddsSubcommand}
 use Rattle.clap.specs.Walk.{Rule, rule_of}
 use Rattle.clap.specs.Simple.{App, Shape, app_of, on_top, shape_of, with_rule, with_subcommand}
@@ -40,10 +40,16 @@ with_args app args old (Ok new) h local adds = with_all app args old new h local
 with_args app args old (Err e) h local adds = tt
 
 -- a command with one more subcommand
-pub with_sub : (app : App) (shape : Shape) (old sub new : Command) → app_of old ≡ app → IsDefined (leaf shape) sub → AddsSubcommand old sub new → app_of new ≡ with_subcommand app shape
+with_sub : (app : App) (shape : Shape) (old sub new : Command) → app_of old ≡ app → IsDefined (leaf shape) sub → AddsSubcommand old sub new → app_of new ≡ with_subcommand app shape
 with_sub app shape old sub new is defined adds = adds.shape defined.local ∙ ap (λ k. with_subcommand k (shape_of sub)) is ∙ ap (with_subcommand app) (ap (λ (a : App). a.top) defined.definition)
 
-pub with_last_sub : {E : Type 0} (app : App) (shape : Shape) (old sub : Command) (r : Result Command E) → app_of old ≡ app → IsDefined (leaf shape) sub
-    → IfOk r (λ new. AddsSubcommand old sub new) → IfOk r (λ new. app_of new ≡ with_subcommand app shape)
-with_last_sub app shape old sub (Ok new) is defined adds = with_sub app shape old sub new is defined adds
-with_last_sub app shape old sub (Err e) is defined adds = tt
+-- a command with one more subcommand, if that was made
+pub with_made : {E : Type 0} (app : App) (shape : Shape) (old : Command) (made : Result Command E) (new : Command) → app_of old ≡ app → IfOk made (IsDefined (leaf shape))
+    → IsOkAnd made (λ sub. AddsSubcommand old sub new) → app_of new ≡ with_subcommand app shape
+with_made app shape old (Ok sub) new is defined adds = with_sub app shape old sub new is defined adds
+with_made app shape old (Err e) new is defined adds = absurd adds
+
+pub with_last_made : {E : Type 0} (app : App) (shape : Shape) (old : Command) (made r : Result Command E) → app_of old ≡ app → IfOk made (IsDefined (leaf shape))
+    → IfOk r (λ new. IsOkAnd made (λ sub. AddsSubcommand old sub new)) → IfOk r (λ new. app_of new ≡ with_subcommand app shape)
+with_last_made app shape old made (Ok new) is defined adds = with_made app shape old made new is defined adds
+with_last_made app shape old made (Err e) is defined adds = tt

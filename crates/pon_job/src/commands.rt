@@ -1,6 +1,7 @@
 //! The command line of the program.
 
-ghost use Rattle.std.specs.Prelude.{◌≡◌, IfOk, false};
+ghost use Rattle.std.specs.Prelude.{◌≡◌, IfOk, IsOkAnd, false};
+ghost use Rattle.clap.specs.Built.{AddsSubcommand};
 ghost use Rattle.clap.specs.Walk.{rule_of};
 ghost use Rattle.clap.specs.Simple.{app_of};
 ghost use Rattle.std.specs.Prelude.{map};
@@ -458,21 +459,31 @@ fn top_command<'a>(alloc: Global) -> Result<Command<'a>, AllocError>
     )
 }
 
+// Adds a subcommand that was made. `Err` only if memory is refused.
+fn with_subcommand<'a>(
+    command: Command<'a>,
+    made: Result<Command<'a>, AllocError>,
+) -> Result<Command<'a>, AllocError>
+    ensures { IfOk result (λ new. IsOkAnd made.entry (λ sub. AddsSubcommand command.entry sub new)) }
+{
+    command.subcommand(made?)
+}
+
 /// Makes the program's command, with its subcommands.
 pub(crate) fn olt_command<'a>(alloc: Global) -> Result<Command<'a>, AllocError>
     ensures { IfOk result (λ c. app_of c ≡ olt_app) }
 {
-    top_command(alloc)?
-        .subcommand(plan_command(alloc)?)?
-        .subcommand(check_command(alloc)?)?
-        .subcommand(audit_command(alloc)?)?
-        .subcommand(info_command(alloc)?)?
-        .subcommand(rates_command(alloc)?)?
-        .subcommand(why_command(alloc)?)?
-        .subcommand(dump_command(alloc)?)?
-        .subcommand(picture_command(alloc)?)?
-        .subcommand(loads_command(alloc)?)?
-        .subcommand(migrate_command(alloc)?)?
-        .subcommand(run_command(alloc)?)?
-        .subcommand(units_command(alloc)?)
+    let command = top_command(alloc)?;
+    let command = with_subcommand(command, plan_command(alloc))?;
+    let command = with_subcommand(command, check_command(alloc))?;
+    let command = with_subcommand(command, audit_command(alloc))?;
+    let command = with_subcommand(command, info_command(alloc))?;
+    let command = with_subcommand(command, rates_command(alloc))?;
+    let command = with_subcommand(command, why_command(alloc))?;
+    let command = with_subcommand(command, dump_command(alloc))?;
+    let command = with_subcommand(command, picture_command(alloc))?;
+    let command = with_subcommand(command, loads_command(alloc))?;
+    let command = with_subcommand(command, migrate_command(alloc))?;
+    let command = with_subcommand(command, run_command(alloc))?;
+    with_subcommand(command, units_command(alloc))
 }

@@ -1,17 +1,17 @@
-use Rattle.pon_job.proofs.Builders.{with_last_sub, with_sub}
+use Rattle.pon_job.proofs.Builders.{with_last_made, with_made}
 use Rattle.pon_job.proofs.commands.olt_command.Goals as goal
 
 pub returns : goal.returns
 returns c =
-    let one = with_sub _ _ _ _ _ c.in_ok-top_command.ensures c.in_ok-plan_command.ensures c.in_ok-subcommand.ensures in
-    let two = with_sub _ _ _ _ _ one c.in_ok-check_command.ensures c.in_ok-subcommand-2.ensures in
-    let three = with_sub _ _ _ _ _ two c.in_ok-audit_command.ensures c.in_ok-subcommand-3.ensures in
-    let four = with_sub _ _ _ _ _ three c.in_ok-info_command.ensures c.in_ok-subcommand-4.ensures in
-    let five = with_sub _ _ _ _ _ four c.in_ok-rates_command.ensures c.in_ok-subcommand-5.ensures in
-    let six = with_sub _ _ _ _ _ five c.in_ok-why_command.ensures c.in_ok-subcommand-6.ensures in
-    let seven = with_sub _ _ _ _ _ six c.in_ok-dump_command.ensures c.in_ok-subcommand-7.ensures in
-    let eight = with_sub _ _ _ _ _ seven c.in_ok-picture_command.ensures c.in_ok-subcommand-8.ensures in
-    let nine = with_sub _ _ _ _ _ eight c.in_ok-loads_command.ensures c.in_ok-subcommand-9.ensures in
-    let ten = with_sub _ _ _ _ _ nine c.in_ok-migrate_command.ensures c.in_ok-subcommand-10.ensures in
-    let eleven = with_sub _ _ _ _ _ ten c.in_ok-run_command.ensures c.in_ok-subcommand-11.ensures in
-    with_last_sub _ _ _ _ _ eleven c.in_ok-units_command.ensures c.subcommand-12.ensures
+    let one = with_made _ _ _ _ _ c.in_ok-command.ensures c.plan_command.ensures c.in_ok-command-2.ensures in
+    let two = with_made _ _ _ _ _ one c.check_command.ensures c.in_ok-command-3.ensures in
+    let three = with_made _ _ _ _ _ two c.audit_command.ensures c.in_ok-command-4.ensures in
+    let four = with_made _ _ _ _ _ three c.info_command.ensures c.in_ok-command-5.ensures in
+    let five = with_made _ _ _ _ _ four c.rates_command.ensures c.in_ok-command-6.ensures in
+    let six = with_made _ _ _ _ _ five c.why_command.ensures c.in_ok-command-7.ensures in
+    let seven = with_made _ _ _ _ _ six c.dump_command.ensures c.in_ok-command-8.ensures in
+    let eight = with_made _ _ _ _ _ seven c.picture_command.ensures c.in_ok-command-9.ensures in
+    let nine = with_made _ _ _ _ _ eight c.loads_command.ensures c.in_ok-command-10.ensures in
+    let ten = with_made _ _ _ _ _ nine c.migrate_command.ensures c.in_ok-command-11.ensures in
+    let eleven = with_made _ _ _ _ _ ten c.run_command.ensures c.in_ok-command-12.ensures in
+    with_last_made _ _ _ _ _ eleven c.units_command.ensures c.with_subcommand-12.ensures
