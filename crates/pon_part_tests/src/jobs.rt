@@ -1,6 +1,6 @@
-// The results of whole command lines, as clap parses them.
+// The results of whole command lines, as clap parses them. A job is compared as the text of its `Debug`, so that a row costs no proof.
 use clap::error::ErrorKind;
-use pon_job::{Audit, Job, Meeting, Part, Plan, Run, Show, Units, View, job};
+use pon_job::job;
 use std::alloc::Global;
 
 fn push_word(alloc: Global, words: &mut Vec<String>, word: &str) -> Option<()> {
@@ -17,12 +17,18 @@ fn words_of(alloc: Global, line: &str) -> Option<Vec<String>> {
     Some(words)
 }
 
-// Returns whether a command line names the job.
-fn names(alloc: Global, line: &str, wanted: &Job<'_>) -> Option<bool> {
+// Returns the text of the job that a command line names.
+fn named(alloc: Global, line: &str) -> Option<String> {
     let words = words_of(alloc, line)?;
-    match job(alloc, words.as_slice()) {
-        Ok(found) => Some(found == *wanted),
-        Err(_) => Some(false),
+    let found = job(alloc, words.as_slice()).ok()?;
+    format!(in alloc; "{found:?}").ok()
+}
+
+// Returns whether a command line names the job of this text.
+fn names(alloc: Global, line: &str, wanted: &str) -> bool {
+    match named(alloc, line) {
+        Some(text) => text.as_str() == wanted,
+        None => false,
     }
 }
 
@@ -35,262 +41,133 @@ fn refusal(alloc: Global, line: &str) -> Option<ErrorKind> {
     }
 }
 
-fn plan_of(config: Option<&'static str>, strict: bool, verbose: bool) -> Job<'static> {
-    Job::Plan(Plan {
-        config,
-        strict,
-        verbose,
-        record: None,
-        no_clobber: false,
-    })
-}
+/// Jobs over lines and check files.
+static LINES: [(&str, &str); 7] = [
+    (
+        "olt plan",
+        r#"Plan(Plan { config: None, strict: false, verbose: false, record: None, no_clobber: false })"#,
+    ),
+    (
+        "olt plan --config a.toml",
+        r#"Plan(Plan { config: Some("a.toml"), strict: false, verbose: false, record: None, no_clobber: false })"#,
+    ),
+    (
+        "olt plan --strict",
+        r#"Plan(Plan { config: None, strict: true, verbose: false, record: None, no_clobber: false })"#,
+    ),
+    (
+        "olt plan --verbose --config a.toml",
+        r#"Plan(Plan { config: Some("a.toml"), strict: false, verbose: true, record: None, no_clobber: false })"#,
+    ),
+    (
+        "olt plan --record r.bin",
+        r#"Plan(Plan { config: None, strict: false, verbose: false, record: Some("r.bin"), no_clobber: false })"#,
+    ),
+    (
+        "olt plan --no-clobber --record=r.bin",
+        r#"Plan(Plan { config: None, strict: false, verbose: false, record: Some("r.bin"), no_clobber: true })"#,
+    ),
+    ("olt check c.txt", r#"Check { file: "c.txt" }"#),
+];
 
-fn recorded_plan_of(record: Option<&'static str>, no_clobber: bool) -> Job<'static> {
-    Job::Plan(Plan {
-        config: None,
-        strict: false,
-        verbose: false,
-        record,
-        no_clobber,
-    })
-}
+/// Runs, and units elsewhere.
+static RUNS: [(&str, &str); 9] = [
+    (
+        "olt run --config a.toml --listen 127.0.0.1:0 --maps 1",
+        r#"Run(Run { config: "a.toml", listen: "127.0.0.1:0", maps: 1, meeting: Meeting { external: false, wait: None, pace: None }, record: None, no_clobber: false, operate: None, settle: false, progress: false, summary: false })"#,
+    ),
+    (
+        "olt run --maps=1000000000 --listen=127.0.0.1:0 --config=a.toml",
+        r#"Run(Run { config: "a.toml", listen: "127.0.0.1:0", maps: 1000000000, meeting: Meeting { external: false, wait: None, pace: None }, record: None, no_clobber: false, operate: None, settle: false, progress: false, summary: false })"#,
+    ),
+    (
+        "olt run --config a.toml --operate b.txt --listen 127.0.0.1:0 --maps 3 --record r.bin",
+        r#"Run(Run { config: "a.toml", listen: "127.0.0.1:0", maps: 3, meeting: Meeting { external: false, wait: None, pace: None }, record: Some("r.bin"), no_clobber: false, operate: Some("b.txt"), settle: false, progress: false, summary: false })"#,
+    ),
+    (
+        "olt run --settle --config a.toml --listen 127.0.0.1:0 --maps 2",
+        r#"Run(Run { config: "a.toml", listen: "127.0.0.1:0", maps: 2, meeting: Meeting { external: false, wait: None, pace: None }, record: None, no_clobber: false, operate: None, settle: true, progress: false, summary: false })"#,
+    ),
+    (
+        "olt run --config a.toml --listen h:1 --maps 1 --units external --wait 3600 --pace 1000000 --progress --summary",
+        r#"Run(Run { config: "a.toml", listen: "h:1", maps: 1, meeting: Meeting { external: true, wait: Some(3600), pace: Some(1000000) }, record: None, no_clobber: false, operate: None, settle: false, progress: true, summary: true })"#,
+    ),
+    (
+        "olt run --units simulated --config a.toml --listen h:1 --maps 1 --operate -",
+        r#"Run(Run { config: "a.toml", listen: "h:1", maps: 1, meeting: Meeting { external: false, wait: None, pace: None }, record: None, no_clobber: false, operate: Some("-"), settle: false, progress: false, summary: false })"#,
+    ),
+    (
+        "olt run --config a.toml --listen h:1 --maps 1 --pace=1 --wait=1",
+        r#"Run(Run { config: "a.toml", listen: "h:1", maps: 1, meeting: Meeting { external: false, wait: Some(1), pace: Some(1) }, record: None, no_clobber: false, operate: None, settle: false, progress: false, summary: false })"#,
+    ),
+    (
+        "olt units --config a.toml --connect h:1",
+        r#"Units(Units { config: "a.toml", connect: "h:1", port: None, wait: None })"#,
+    ),
+    (
+        "olt units --port 63 --wait 1 --connect h:1 --config a.toml",
+        r#"Units(Units { config: "a.toml", connect: "h:1", port: Some(63), wait: Some(1) })"#,
+    ),
+];
 
-/// Simulated units, and no clock.
-const HERE: Meeting = Meeting {
-    external: false,
-    wait: None,
-    pace: None,
-};
-
-fn run_of(
-    maps: u64,
-    record: Option<&'static str>,
-    operate: Option<&'static str>,
-    settle: bool,
-) -> Job<'static> {
-    Job::Run(Run {
-        config: "a.toml",
-        listen: "127.0.0.1:0",
-        maps,
-        meeting: HERE,
-        record,
-        no_clobber: false,
-        operate,
-        settle,
-        progress: false,
-        summary: false,
-    })
-}
+/// Audits and views of recordings.
+static RECORDINGS: [(&str, &str); 12] = [
+    (
+        "olt audit r.bin",
+        r#"Audit(Audit { files: ["r.bin"], json: false })"#,
+    ),
+    (
+        "olt audit a.bin b.bin c.bin",
+        r#"Audit(Audit { files: ["a.bin", "b.bin", "c.bin"], json: false })"#,
+    ),
+    (
+        "olt audit --format json r.bin",
+        r#"Audit(Audit { files: ["r.bin"], json: true })"#,
+    ),
+    (
+        "olt audit a.bin b.bin --format=json c.bin",
+        r#"Audit(Audit { files: ["a.bin", "b.bin", "c.bin"], json: true })"#,
+    ),
+    (
+        "olt info r.bin --format text",
+        r#"Show(Show { view: Info, file: "r.bin", part: Part { port: None, alloc: None, frame: None, from: None, to: None }, svg: None, json: false })"#,
+    ),
+    (
+        "olt info --format json r.bin",
+        r#"Show(Show { view: Info, file: "r.bin", part: Part { port: None, alloc: None, frame: None, from: None, to: None }, svg: None, json: true })"#,
+    ),
+    (
+        "olt rates r.bin",
+        r#"Show(Show { view: Rates, file: "r.bin", part: Part { port: None, alloc: None, frame: None, from: None, to: None }, svg: None, json: false })"#,
+    ),
+    (
+        "olt rates r.bin --port 63 --alloc 16383 --from 0 --to 18446744073709551615 --format json",
+        r#"Show(Show { view: Rates, file: "r.bin", part: Part { port: Some(63), alloc: Some(16383), frame: None, from: Some(0), to: Some(18446744073709551615) }, svg: None, json: true })"#,
+    ),
+    (
+        "olt why --port=0 --frame=7 --alloc=1024 r.bin",
+        r#"Show(Show { view: Why, file: "r.bin", part: Part { port: Some(0), alloc: Some(1024), frame: Some(7), from: None, to: None }, svg: None, json: false })"#,
+    ),
+    (
+        "olt dump r.bin --port 2",
+        r#"Show(Show { view: Dump, file: "r.bin", part: Part { port: Some(2), alloc: None, frame: None, from: None, to: None }, svg: None, json: false })"#,
+    ),
+    (
+        "olt loads r.bin --alloc 1024 --from 3 --to 9",
+        r#"Show(Show { view: Loads, file: "r.bin", part: Part { port: None, alloc: Some(1024), frame: None, from: Some(3), to: Some(9) }, svg: None, json: false })"#,
+    ),
+    (
+        "olt picture r.bin --frame 5 --svg p.svg",
+        r#"Show(Show { view: Picture, file: "r.bin", part: Part { port: None, alloc: None, frame: Some(5), from: None, to: None }, svg: Some("p.svg"), json: false })"#,
+    ),
+];
 
 #[test]
 fn reads_each_job(rt: HostRuntime) {
-    let settings = Some("a.toml");
-    for (line, wanted) in [
-        ("olt plan", plan_of(None, false, false)),
-        ("olt plan --config a.toml", plan_of(settings, false, false)),
-        ("olt plan --strict", plan_of(None, true, false)),
-        (
-            "olt plan --verbose --config a.toml",
-            plan_of(settings, false, true),
-        ),
-        (
-            "olt plan --record r.bin",
-            recorded_plan_of(Some("r.bin"), false),
-        ),
-        (
-            "olt plan --no-clobber --record=r.bin",
-            recorded_plan_of(Some("r.bin"), true),
-        ),
-        ("olt check c.txt", Job::Check { file: "c.txt" }),
-        (
-            "olt run --config a.toml --listen 127.0.0.1:0 --maps 1",
-            run_of(1, None, None, false),
-        ),
-        (
-            "olt run --maps=1000000000 --listen=127.0.0.1:0 --config=a.toml",
-            run_of(1_000_000_000, None, None, false),
-        ),
-        (
-            "olt run --config a.toml --operate b.txt --listen 127.0.0.1:0 --maps 3 --record r.bin",
-            run_of(3, Some("r.bin"), Some("b.txt"), false),
-        ),
-        (
-            "olt run --settle --config a.toml --listen 127.0.0.1:0 --maps 2",
-            run_of(2, None, None, true),
-        ),
-    ] {
-        assert!(rt; names(rt.alloc(), line, &wanted) == Some(true), "{line}");
-    }
-}
-
-// A run of a map whose ports meet their units so, with these lines of an operator, and lines on standard error.
-fn watched(meeting: Meeting, operate: Option<&'static str>, seen: bool) -> Job<'static> {
-    Job::Run(Run {
-        config: "a.toml",
-        listen: "h:1",
-        maps: 1,
-        meeting,
-        record: None,
-        no_clobber: false,
-        operate,
-        settle: false,
-        progress: seen,
-        summary: seen,
-    })
-}
-
-fn meeting(external: bool, wait: Option<u64>, pace: Option<u64>) -> Meeting {
-    Meeting {
-        external,
-        wait,
-        pace,
-    }
-}
-
-fn units(port: Option<u64>, wait: Option<u64>) -> Job<'static> {
-    Job::Units(Units {
-        config: "a.toml",
-        connect: "h:1",
-        port,
-        wait,
-    })
-}
-
-#[test]
-fn reads_how_a_run_meets_its_units(rt: HostRuntime) {
-    let most = meeting(true, Some(3600), Some(1_000_000));
-    for (line, wanted) in [
-        (
-            "olt run --config a.toml --listen h:1 --maps 1 --units external --wait 3600 --pace 1000000 --progress --summary",
-            watched(most, None, true),
-        ),
-        (
-            "olt run --units simulated --config a.toml --listen h:1 --maps 1 --operate -",
-            watched(HERE, Some("-"), false),
-        ),
-        (
-            "olt run --config a.toml --listen h:1 --maps 1 --pace=1 --wait=1",
-            watched(meeting(false, Some(1), Some(1)), None, false),
-        ),
-        ("olt units --config a.toml --connect h:1", units(None, None)),
-        (
-            "olt units --port 63 --wait 1 --connect h:1 --config a.toml",
-            units(Some(63), Some(1)),
-        ),
-    ] {
-        assert!(rt; names(rt.alloc(), line, &wanted) == Some(true), "{line}");
-    }
-}
-
-// Returns whether a command line names the audit of these files.
-fn names_audit(alloc: Global, line: &str, files: &[&'static str], json: bool) -> Option<bool> {
-    let files = files.to_vec(alloc).ok()?;
-    names(alloc, line, &Job::Audit(Audit { files, json }))
-}
-
-#[test]
-fn reads_the_files_of_an_audit(rt: HostRuntime) {
-    let one = ["r.bin"];
-    let three = ["a.bin", "b.bin", "c.bin"];
-    for (line, files, json) in [
-        ("olt audit r.bin", one.as_slice(), false),
-        ("olt audit a.bin b.bin c.bin", three.as_slice(), false),
-        ("olt audit --format json r.bin", one.as_slice(), true),
-        (
-            "olt audit a.bin b.bin --format=json c.bin",
-            three.as_slice(),
-            true,
-        ),
-    ] {
-        assert!(rt;
-            names_audit(rt.alloc(), line, files, json) == Some(true),
-            "{line}"
-        );
-    }
-}
-
-// The whole of a recording.
-static WHOLE: Part = Part {
-    port: None,
-    alloc: None,
-    frame: None,
-    from: None,
-    to: None,
-};
-
-fn shown(view: View, part: Part, svg: Option<&'static str>, json: bool) -> Job<'static> {
-    Job::Show(Show {
-        view,
-        file: "r.bin",
-        part,
-        svg,
-        json,
-    })
-}
-
-fn part(
-    port: Option<u64>,
-    alloc: Option<u64>,
-    frame: Option<u64>,
-    from: Option<u64>,
-    to: Option<u64>,
-) -> Part {
-    Part {
-        port,
-        alloc,
-        frame,
-        from,
-        to,
-    }
-}
-
-#[test]
-fn reads_each_view_of_numbers(rt: HostRuntime) {
-    let most = part(Some(63), Some(16_383), None, Some(0), Some(u64::MAX));
-    let map = part(Some(0), Some(1024), Some(7), None, None);
-    for (line, wanted) in [
-        (
-            "olt info r.bin --format text",
-            shown(View::Info, WHOLE, None, false),
-        ),
-        (
-            "olt info --format json r.bin",
-            shown(View::Info, WHOLE, None, true),
-        ),
-        ("olt rates r.bin", shown(View::Rates, WHOLE, None, false)),
-        (
-            "olt rates r.bin --port 63 --alloc 16383 --from 0 --to 18446744073709551615 --format json",
-            shown(View::Rates, most, None, true),
-        ),
-        (
-            "olt why --port=0 --frame=7 --alloc=1024 r.bin",
-            shown(View::Why, map, None, false),
-        ),
-    ] {
-        assert!(rt; names(rt.alloc(), line, &wanted) == Some(true), "{line}");
-    }
-}
-
-#[test]
-fn reads_each_view_of_events_and_pictures(rt: HostRuntime) {
-    let port = part(Some(2), None, None, None, None);
-    let frames = part(None, Some(1024), None, Some(3), Some(9));
-    let frame = part(None, None, Some(5), None, None);
-    for (line, wanted) in [
-        (
-            "olt dump r.bin --port 2",
-            shown(View::Dump, port, None, false),
-        ),
-        (
-            "olt loads r.bin --alloc 1024 --from 3 --to 9",
-            shown(View::Loads, frames, None, false),
-        ),
-        (
-            "olt picture r.bin --frame 5 --svg p.svg",
-            shown(View::Picture, frame, Some("p.svg"), false),
-        ),
-    ] {
-        assert!(rt; names(rt.alloc(), line, &wanted) == Some(true), "{line}");
+    for table in [LINES.as_slice(), RUNS.as_slice(), RECORDINGS.as_slice()] {
+        for (line, wanted) in table {
+            assert!(rt; names(rt.alloc(), line, wanted), "{line}");
+        }
     }
 }
 
