@@ -1,21 +1,46 @@
--- Pieces of an input, answered one after another.
-use Rattle.std.proofs.Common.{◌≡◌, ℕ, ◌+◌, ◌-◌, false, ◌||◌, List, [], ◌∷◌, ◌++◌, length, take, refl, ap, sym, ◌∙◌, subst, arith, append_assoc, inl, inr}
+-- Text that is answered line by line, in any pieces.
+use Rattle.std.proofs.Common.{◌≡◌, ℕ, ◌+◌, ◌-◌, Bool, true, false, ◌||◌, List, [], ◌∷◌, ◌++◌, length, take, refl, ap, sym, ◌∙◌, subst, arith, append_assoc, inl, inr}
 use Rattle.std.proofs.lemmas.List.{append-nil, length-take, take-append-le, take_all}
 use Rattle.std.proofs.lemmas.List.Folds.{list_any-append}
-use Rattle.std.proofs.lemmas.Bool.{cases_lt}
+use Rattle.std.proofs.lemmas.Bool.{cases_lt, or_parts, or_right}
 use Rattle.std.proofs.Math.Seq.{take-append-add}
-use Rattle.std.specs.Prelude.{◌==◌, ◌⊎◌, Option, OnOk, Result, Ok, Err, is_err}
+use Rattle.std.specs.Prelude.{◌==◌, ◌≢◌, ◌⊎◌, Option, Some, None, OnOk, Result, Ok, Err, is_err}
+use Rattle.std.specs.List.{list_any}
 use Rattle.pon_device.specs.Device.{Appends}
 use Rattle.pon_device.specs.Streams.{IsBeginning, TellsLine}
 use Rattle.pon_device.specs.declared.fault.DeviceFault.{DeviceFault}
 use Rattle.pon_device.specs.declared.fault.DeviceFault.TheVariants.{Read, Write, Memory}
 use Rattle.pon_device.proofs.DeviceBytes.{appends_none}
 use Rattle.pon_device.proofs.Pieces.{appends_more}
-use Rattle.pon_text.specs.Lines.{lines_of, whole_lines}
+use Rattle.pon_text.specs.Cuts.{cut_at}
+use Rattle.pon_text.specs.Lines.{lines_of, whole_lines, onto}
 use Rattle.pon_text.specs.Giving.{Giving, GivesLines, ReadsFirst}
-use Rattle.pon_text.specs.Planning.{BeginsNext, BeginsText, EndsBetween}
-use Rattle.pon_text.specs.Progress.{Answered, AnswersPiece, Continues, Gathers, MayBegin, MayStop, PrintsPiece, Reached, StopsWithin, WritesBeginning, WritesLines}
-use Rattle.pon_text.proofs.Streaming.{gives_kept, gives_more, has_feed, lines_of-feed, whole_lines-feed}
+use Rattle.pon_text.specs.Planning.{BeginsNext, BeginsText}
+use Rattle.pon_text.specs.Progress.{Answered, AnswersPiece, Continues, Gathers, PrintsPiece, Reached, StopsWithin, WritesBeginning, WritesLines}
+use Rattle.pon_text.proofs.Feeds.{cut_nowhere, cut_parts}
+
+abbrev pub has_feed : List ℕ → Bool
+has_feed bs = list_any (λ b. b == 10) bs
+
+-- Lines of bytes.
+
+lines_of-feed : (cur rest : List ℕ) → has_feed cur ≡ false → lines_of (cur ++ 10 ∷ rest) ≡ cur ∷ lines_of rest
+lines_of-feed [] rest h = refl
+lines_of-feed (b ∷ cur) rest h =
+    let two : ((b == 10) ≡ false) × (has_feed cur ≡ false) = or_parts (b == 10) (has_feed cur) h in
+    rw two.0 (ap (onto b) (lines_of-feed cur rest two.1))
+
+pub lone_line : (cur : List ℕ) → has_feed cur ≡ false → cur ≢ [] → lines_of cur ≡ cur ∷ []
+lone_line [] h n = absurd (n refl)
+lone_line (b ∷ []) h n = rw (or_parts (b == 10) false h).0 refl
+lone_line (b ∷ c ∷ cur) h n =
+    let two : ((b == 10) ≡ false) × (has_feed (c ∷ cur) ≡ false) = or_parts (b == 10) (has_feed (c ∷ cur)) h in
+    rw two.0 (ap (onto b) (lone_line (c ∷ cur) two.1 (λ e. cc)))
+
+whole_lines-feed : (cur rest : List ℕ) → whole_lines (cur ++ 10 ∷ rest) ≡ cur ++ 10 ∷ whole_lines rest
+whole_lines-feed [] rest = refl
+whole_lines-feed (b ∷ cur) rest =
+    rw (list_any-append (λ c. c == 10) (b ∷ cur) (10 ∷ rest) ∙ or_right (has_feed (b ∷ cur)) true refl) (ap (λ t. b ∷ t) (whole_lines-feed cur rest))
 
 -- Parts of lines.
 
@@ -30,18 +55,6 @@ longer_kept line cur part k = elim (cases_lt 4096 (length cur)) [
       let sum : length cur + (4097 - length cur) ≡ 4097 = omega (arith, l) in
       ap (λ c. c ++ take (4097 - length c) part) all ∙ sym (take-append-add cur part (4097 - length cur)) ∙ ap (λ n. take n (cur ++ part)) sum
 ]
-
-pub on_ok : {T E P Q : Type 0} (r : Result T E) → (P → Q) → OnOk r P → OnOk r Q
-on_ok (Ok x) f p = f p
-on_ok (Err e) f p = tt
-
-pub of_ok : {T E P : Type 0} (r : Result T E) → is_err r ≡ false → OnOk r P → P
-of_ok (Ok x) e p = p
-of_ok (Err x) e p = absurd (cc)
-
-pub no_items : (xs : List ℕ) → length xs ≡ 0 → xs ≡ []
-no_items [] e = refl
-no_items (x ∷ xs) e = absurd (omega (arith, e))
 
 -- Prefixes of a text.
 
@@ -71,6 +84,17 @@ empty_part [] left e = refl
 empty_part (p ∷ part) left e = absurd (cc)
 
 module _ {S : Type 0} (gives : Giving S) where
+  -- a line has the same text as its first 4,097 bytes
+  pub gives_kept : ReadsFirst gives → (old new : S) (line cur text : List ℕ) → line ≡ take 4097 cur → gives old line text new → gives old cur text new
+  gives_kept law old new line cur text kept g = (law old cur text new).0 (subst (λ l. gives old l text new) kept g)
+
+  -- one line more
+  pub gives_more : (old mid new : S) (ls : List (List ℕ)) (l text more : List ℕ) → GivesLines gives old ls text mid → gives mid l more new → GivesLines gives old (ls ++ l ∷ []) (text ++ more) new
+  gives_more old mid new [] l text more a g =
+      (more, [], new, subst (λ m. gives m l more new) a.1 g, (refl, refl), ap (λ t. t ++ more) a.0 ∙ sym (append-nil more))
+  gives_more old mid new (x ∷ ls) l text more a g =
+      (a.0, a.1 ++ more, a.2, a.3, gives_more a.2 mid new ls l a.1 more a.4 g, ap (λ t. t ++ more) a.5 ∙ append_assoc a.0 a.1 more)
+
   -- One piece after another.
 
   continues_nothing : (state : S) (line : List ℕ) → Continues gives state line state line [] []
@@ -106,7 +130,7 @@ module _ {S : Type 0} (gives : Giving S) where
     open_line = refl;
     split = λ tail. ap lines_of (pieces tail) ∙ a.split (a.cur ++ 10 ∷ tail) ∙ ap (λ ls. a.lines ++ ls) (lines_of-feed a.cur tail a.open_line) ∙ sym (append_assoc a.lines (a.cur ∷ []) (lines_of tail));
     whole = λ tail. ap whole_lines (pieces tail) ∙ a.whole (a.cur ++ 10 ∷ tail) ∙ ap (λ t. a.done ++ t) (whole_lines-feed a.cur tail) ∙ sym (pieces (whole_lines tail));
-    gave = gives_more gives first old new a.lines a.cur written text a.gave (gives_kept gives law old new line a.cur text a.kept g);
+    gave = gives_more first old new a.lines a.cur written text a.gave (gives_kept law old new line a.cur text a.kept g);
     kept = refl;
   }
     where
@@ -126,191 +150,134 @@ module _ {S : Type 0} (gives : Giving S) where
       subst (λ k. Continues gives old k new k (part ++ 10 ∷ []) text) (sym e)
       (ends_line law old new [] (take 4097 part) [] part text no_feed refl ((law old part text new).1 g) refl)
 
-  -- a prefix of the text of lines: the text of the first lines, and a prefix of the text of the next one
-  record BeginsLines (state : S) (ls : List (List ℕ)) (written : List ℕ) : Type 0 where
-    pub answered : List (List ℕ)
-    pub more : List (List ℕ)
-    pub text : List ℕ
-    pub part : List ℕ
-    pub after : S
-    pub lines : ls ≡ answered ++ more
-    pub gave : GivesLines gives state answered text after
-    pub begins : BeginsNext gives after more part
-    pub is : written ≡ text ++ part
-
-  begins_nothing : (state : S) (ls : List (List ℕ)) → BeginsNext gives state ls []
-  begins_nothing state [] = refl
-  begins_nothing state (x ∷ ls) = inl refl
-
-  begins_none : (state : S) (ls : List (List ℕ)) (written : List ℕ) → written ≡ [] → BeginsLines state ls written
-  begins_none state ls written e = record {
-    answered = [];
-    more = ls;
-    text = [];
-    part = [];
-    after = state;
-    lines = refl;
-    gave = (refl, refl);
-    begins = begins_nothing state ls;
-    is = e;
-  }
-
-  begins_lines : (state after : S) (ls rest : List (List ℕ)) (text part : List ℕ) → GivesLines gives state ls text after → IsBeginning part text → BeginsLines state (ls ++ rest) part
-  begins_lines state after [] rest text part g b = begins_none state rest part (empty_part part b.0 (b.1 ∙ g.0))
-  begins_lines state after (x ∷ ls) rest text part g b = elim (one_first part b.0 g.0 g.1 (b.1 ∙ g.5)) [
+  -- a prefix of the text of the next lines is written after that of the lines before
+  pub begins_lines : (first state after : S) (input : List ℕ) (before ls more : List (List ℕ)) (written text part : List ℕ) →
+      lines_of input ≡ before ++ (ls ++ more) → GivesLines gives first before written state → GivesLines gives state ls text after → IsBeginning part text → BeginsText gives first input (written ++ part)
+  begins_lines first state after input before [] more written text part e a g b =
+      let none : part ≡ [] = empty_part part b.0 (b.1 ∙ g.0) in record {
+        answered = before;
+        more = more;
+        text = written;
+        part = part;
+        after = state;
+        lines = e;
+        gave = a;
+        begins = elim more as (λ m. BeginsNext gives state m part) [ [] ↦ none | l ∷ ls ↦ inl none ];
+        is = refl;
+      }
+  begins_lines first state after input before (l ∷ ls) more written text part e a g b = elim (one_first part b.0 g.0 g.1 (b.1 ∙ g.5)) [
     | inl short ↦ record {
-      answered = [];
-      more = x ∷ ls ++ rest;
-      text = [];
+      answered = before;
+      more = l ∷ ls ++ more;
+      text = written;
       part = part;
       after = state;
-      lines = refl;
-      gave = (refl, refl);
+      lines = e;
+      gave = a;
       begins = inr (g.0, g.2, g.3, short);
       is = refl;
     }
-    | inr long ↦ one_more long (begins_lines g.2 after ls rest g.1 long.0 g.4 long.2)
+    | inr long ↦ subst (BeginsText gives first input) (append_assoc written g.0 long.0 ∙ ap (λ t. written ++ t) (sym long.1))
+        (begins_lines first g.2 after input (before ++ l ∷ []) ls more (written ++ g.0) g.1 long.0
+        (e ∙ sym (append_assoc before (l ∷ []) (ls ++ more))) (gives_more first state g.2 before l written g.0 a g.3) g.4 long.2)
   ]
-    where
-      one_more : (m : (more : List ℕ) × (part ≡ g.0 ++ more) × IsBeginning more g.1) → BeginsLines g.2 (ls ++ rest) m.0 → BeginsLines state ((x ∷ ls) ++ rest) part
-      one_more m b = record {
-        answered = x ∷ b.answered;
-        more = b.more;
-        text = g.0 ++ b.text;
-        part = b.part;
-        after = b.after;
-        lines = ap (λ l. x ∷ l) b.lines;
-        gave = (g.0, b.text, g.2, g.3, b.gave, refl);
-        begins = b.begins;
-        is = m.1 ∙ ap (λ t. g.0 ++ t) b.is ∙ sym (append_assoc g.0 b.text b.part);
-      }
 
-  answered_begins : (first state : S) (input text line tail part : List ℕ) → Answered gives first state input text line → IsBeginning part text → BeginsText gives first (input ++ tail) part
-  answered_begins first state input text line tail part a b =
-      let l = begins_lines first state a.lines (lines_of (a.cur ++ tail)) text part a.gave b in record {
-        answered = l.answered;
-        more = l.more;
-        text = l.text;
-        part = l.part;
-        after = l.after;
-        lines = ap (λ t. lines_of (t ++ tail)) a.parts ∙ ap lines_of (append_assoc a.done a.cur tail) ∙ a.split (a.cur ++ tail) ∙ l.lines;
-        gave = l.gave;
-        begins = l.begins;
-        is = l.is;
-      }
+-- the lines of what was answered, whatever bytes follow
+pub answered_lines : {S : Type 0} {gives : Giving S} {first state : S} {input text line : List ℕ} (a : Answered gives first state input text line) (tail : List ℕ) → lines_of (input ++ tail) ≡ a.lines ++ lines_of (a.cur ++ tail)
+answered_lines a tail = ap (λ t. lines_of (t ++ tail)) a.parts ∙ ap lines_of (append_assoc a.done a.cur tail) ∙ a.split (a.cur ++ tail)
 
-  -- a prefix of the text answered so far may be written, whatever bytes follow
-  continues_begins : (old new : S) (kept line seen tail text : List ℕ) → Continues gives old kept new line seen text → MayBegin gives old kept (seen ++ tail) text
-  continues_begins old new kept line seen tail text c first input written part a b =
-      subst (λ i. BeginsText gives first i (written ++ part)) (append_assoc input seen tail)
-      (answered_begins first new (input ++ seen) (written ++ text) line tail (written ++ part) (c first input written a) (longer_beginning written part text b))
+-- A piece, line by line.
 
-  -- the text answered so far is that of whole lines, whatever bytes follow
-  answered_stops : (first state : S) (input text line tail : List ℕ) → Answered gives first state input text line → EndsBetween gives first (input ++ tail) text
-  answered_stops first state input text line tail a = record {
-    answered = a.lines;
-    more = lines_of (a.cur ++ tail);
-    after = state;
-    lines = ap (λ t. lines_of (t ++ tail)) a.parts ∙ ap lines_of (append_assoc a.done a.cur tail) ∙ a.split (a.cur ++ tail);
-    gave = a.gave;
+pub reach_nothing : {S : Type 0} (gives : Giving S) (state : S) (line piece gathered : List ℕ) (held : Option (List ℕ)) → gathered ≡ [] → Reached gives state line state line piece piece gathered held held
+reach_nothing gives state line piece gathered held e = record {
+  seen = [];
+  parts = refl;
+  gathers = record { text = []; sent = []; goes = continues_nothing gives state line; wrote = appends_none held; all = sym e };
+}
+
+pub reached_all : {S : Type 0} {gives : Giving S} {old new : S} {kept line piece gathered : List ℕ} {h0 h : Option (List ℕ)} → Gathers gives old kept new line piece gathered h0 h → Reached gives old kept new line piece [] gathered h0 h
+reached_all {piece} g = record { seen = piece; parts = sym (append-nil piece); gathers = g }
+
+module _ {S : Type 0} {gives : Giving S} {old mid : S} {kept line piece rest gathered : List ℕ} {h0 h : Option (List ℕ)} (r : Reached gives old kept mid line piece rest gathered h0 h) where
+  -- one more line is answered
+  pub reach_line : {T E : Type 0} (new : S) (left part after more : List ℕ) (ended : Result T E) → is_err ended ≡ false → OnOk ended ((text : List ℕ) × Continues gives mid line new left (part ++ 10 ∷ []) text × (more ≡ gathered ++ text)) →
+      cut_at 10 rest ≡ Some (part, after) → Reached gives old kept new left piece after more h0 h
+  reach_line new left part after more (Err e) fine c cut = absurd (cc)
+  reach_line new left part after more (Ok x) fine c cut = record {
+    seen = r.seen ++ (part ++ 10 ∷ []);
+    parts = r.parts ∙ ap (λ t. r.seen ++ t) ((cut_parts 10 rest part after cut).0 ∙ sym (append_assoc part (10 ∷ []) after)) ∙ sym (append_assoc r.seen (part ++ 10 ∷ []) after);
+    gathers = record {
+      text = r.gathers.text ++ c.0;
+      sent = r.gathers.sent;
+      goes = continues_then gives old mid new kept line left r.seen (part ++ 10 ∷ []) r.gathers.text c.0 r.gathers.goes c.1;
+      wrote = r.gathers.wrote;
+      all = ap (λ t. t ++ c.0) r.gathers.all ∙ append_assoc r.gathers.sent gathered c.0 ∙ ap (λ t. r.gathers.sent ++ t) (sym c.2);
+    };
   }
 
-  continues_stops : (old new : S) (kept line seen tail text : List ℕ) → Continues gives old kept new line seen text → MayStop gives old kept (seen ++ tail) text
-  continues_stops old new kept line seen tail text c first input written a =
-      subst (λ i. EndsBetween gives first i (written ++ text)) (append_assoc input seen tail)
-      (answered_stops first new (input ++ seen) (written ++ text) line tail (c first input written a))
-
-  -- A piece, line by line.
-
-  pub reach_nothing : (state : S) (line piece gathered : List ℕ) (held : Option (List ℕ)) → gathered ≡ [] → Reached gives state line state line piece piece gathered held held
-  reach_nothing state line piece gathered held e = record {
-    seen = [];
-    parts = refl;
-    gathers = record { text = []; sent = []; goes = continues_nothing state line; wrote = appends_none held; all = sym e };
+  -- what was gathered is written
+  pub reach_sent : (k : Option (List ℕ)) (empty : List ℕ) → Appends h k gathered → empty ≡ [] → Reached gives old kept mid line piece rest empty h0 k
+  reach_sent k empty w e = record {
+    seen = r.seen;
+    parts = r.parts;
+    gathers = record {
+      text = r.gathers.text;
+      sent = r.gathers.sent ++ gathered;
+      goes = r.gathers.goes;
+      wrote = appends_more h0 h k r.gathers.sent gathered r.gathers.wrote w;
+      all = r.gathers.all ∙ sym (append-nil (r.gathers.sent ++ gathered)) ∙ ap (λ t. (r.gathers.sent ++ gathered) ++ t) (sym e);
+    };
   }
 
-  module _ (old : S) (kept : List ℕ) (mid : S) (line piece rest gathered : List ℕ) (h0 h : Option (List ℕ)) (r : Reached gives old kept mid line piece rest gathered h0 h) where
-    -- more of the piece is answered
-    pub reach_more : (new : S) (left part after text more : List ℕ) → Continues gives mid line new left part text → rest ≡ part ++ after → more ≡ gathered ++ text → Reached gives old kept new left piece after more h0 h
-    reach_more new left part after text more c e m = record {
-      seen = r.seen ++ part;
-      parts = r.parts ∙ ap (λ t. r.seen ++ t) e ∙ sym (append_assoc r.seen part after);
-      gathers = record {
-        text = r.gathers.text ++ text;
-        sent = r.gathers.sent;
-        goes = continues_then old mid new kept line left r.seen part r.gathers.text text r.gathers.goes c;
-        wrote = r.gathers.wrote;
-        all = ap (λ t. t ++ text) r.gathers.all ∙ append_assoc r.gathers.sent gathered text ∙ ap (λ t. r.gathers.sent ++ t) (sym m);
-      };
-    }
+  -- the rest is the beginning of a line, and is kept
+  pub reach_end : (left : List ℕ) → cut_at 10 rest ≡ None → left ≡ line ++ take (4097 - length line) rest → Gathers gives old kept mid left piece gathered h0 h
+  reach_end left cut e = record {
+    text = r.gathers.text ++ [];
+    sent = r.gathers.sent;
+    goes = subst (λ p. Continues gives old kept mid left p (r.gathers.text ++ [])) (sym r.parts)
+        (continues_then gives old mid mid kept line left r.seen rest r.gathers.text [] r.gathers.goes (keeps_part gives mid line left rest (cut_nowhere 10 rest cut) e));
+    wrote = r.gathers.wrote;
+    all = append-nil r.gathers.text ∙ r.gathers.all;
+  }
 
-    -- what was gathered is written
-    pub reach_sent : (k : Option (List ℕ)) (empty : List ℕ) → Appends h k gathered → empty ≡ [] → Reached gives old kept mid line piece rest empty h0 k
-    reach_sent k empty w e = record {
-      seen = r.seen;
-      parts = r.parts;
-      gathers = record {
-        text = r.gathers.text;
-        sent = r.gathers.sent ++ gathered;
-        goes = r.gathers.goes;
-        wrote = appends_more h0 h k r.gathers.sent gathered r.gathers.wrote w;
-        all = r.gathers.all ∙ sym (append-nil (r.gathers.sent ++ gathered)) ∙ ap (λ t. (r.gathers.sent ++ gathered) ++ t) (sym e);
-      };
-    }
+  answered_seen : (first : S) (input written : List ℕ) → Answered gives first old input written kept → Answered gives first mid (input ++ r.seen) (written ++ (r.gathers.sent ++ gathered)) line
+  answered_seen first input written a = subst (λ t. Answered gives first mid (input ++ r.seen) (written ++ t) line) r.gathers.all (r.gathers.goes first input written a)
 
-    may_begin : MayBegin gives old kept piece (r.gathers.sent ++ gathered)
-    may_begin = subst (λ t. MayBegin gives old kept t (r.gathers.sent ++ gathered)) (sym r.parts)
-        (subst (MayBegin gives old kept (r.seen ++ rest)) r.gathers.all (continues_begins old mid kept line r.seen rest r.gathers.text r.gathers.goes))
+  lines_seen : (first : S) (input written : List ℕ) (a : Answered gives first old input written kept) → lines_of (input ++ piece) ≡ (answered_seen first input written a).lines ++ lines_of ((answered_seen first input written a).cur ++ rest)
+  lines_seen first input written a =
+      ap (λ t. lines_of (input ++ t)) r.parts ∙ ap lines_of (sym (append_assoc input r.seen rest)) ∙ answered_lines (answered_seen first input written a) rest
 
-    may_stop : MayStop gives old kept piece (r.gathers.sent ++ gathered)
-    may_stop = subst (λ t. MayStop gives old kept t (r.gathers.sent ++ gathered)) (sym r.parts)
-        (subst (MayStop gives old kept (r.seen ++ rest)) r.gathers.all (continues_stops old mid kept line r.seen rest r.gathers.text r.gathers.goes))
+  -- memory was refused
+  pub reach_refused : (held : List ℕ) → held ≡ gathered → StopsWithin gives old kept piece held h0 h
+  reach_refused held e = record { mid = mid; line = line; rest = rest; reached = subst (λ t. Reached gives old kept mid line piece rest t h0 h) (sym e) r }
 
-    -- memory was refused
-    pub reach_refused : (held : List ℕ) → held ≡ gathered → StopsWithin gives old kept piece held h0 h
-    reach_refused held e = record { mid = mid; line = line; rest = rest; reached = subst (λ t. Reached gives old kept mid line piece rest t h0 h) (sym e) r }
+  -- after that what was gathered is written
+  pub reach_written : (k : Option (List ℕ)) → Appends h k gathered → WritesLines gives old kept piece h0 k
+  reach_written k w = (
+    r.gathers.sent ++ gathered,
+    appends_more h0 h k r.gathers.sent gathered r.gathers.wrote w,
+    λ first input written a. let b = answered_seen first input written a in
+        record { answered = b.lines; more = lines_of (b.cur ++ rest); after = mid; lines = lines_seen first input written a; gave = b.gave },
+  )
 
-    -- after that what was gathered is written
-    reach_written : (k : Option (List ℕ)) → Appends h k gathered → WritesLines gives old kept piece h0 k
-    reach_written k w = (r.gathers.sent ++ gathered, appends_more h0 h k r.gathers.sent gathered r.gathers.wrote w, may_stop)
+  -- the writer failed
+  reach_failed : (k : Option (List ℕ)) (sent : List ℕ) → Appends h k sent → IsBeginning sent gathered → WritesBeginning gives old kept piece h0 k
+  reach_failed k sent w b = (
+    r.gathers.sent ++ sent,
+    appends_more h0 h k r.gathers.sent sent r.gathers.wrote w,
+    λ first input written part a p. let s = answered_seen first input written a in
+        begins_lines gives first first mid (input ++ piece) [] s.lines (lines_of (s.cur ++ rest)) [] (written ++ (r.gathers.sent ++ gathered)) (written ++ part) (lines_seen first input written a) (refl, refl) s.gave
+        (longer_beginning written part (r.gathers.sent ++ gathered) (beginning_of part (r.gathers.sent ++ sent) (r.gathers.sent ++ gathered) p (longer_beginning r.gathers.sent sent gathered b))),
+  )
 
-    -- the writer failed
-    pub reach_failed : (k : Option (List ℕ)) (sent : List ℕ) → Appends h k sent → IsBeginning sent gathered → WritesBeginning gives old kept piece h0 k
-    reach_failed k sent w b = (
-      r.gathers.sent ++ sent,
-      appends_more h0 h k r.gathers.sent sent r.gathers.wrote w,
-      λ first input written part a p. may_begin first input written part a
-          (beginning_of part (r.gathers.sent ++ sent) (r.gathers.sent ++ gathered) p (longer_beginning r.gathers.sent sent gathered b)),
-    )
+  pub reach_unsent : (new : S) (left held : List ℕ) (k : Option (List ℕ)) (f : DeviceFault) → TellsLine gathered h k (Err f) → AnswersPiece gives old kept new left piece held h0 k (Err f)
+  reach_unsent new left held k Read w = absurd w
+  reach_unsent new left held k Write w = reach_failed k w.0 w.1 w.2
+  reach_unsent new left held k Memory w = absurd w
 
-    pub reach_unsent : (new : S) (left held : List ℕ) (k : Option (List ℕ)) (f : DeviceFault) → TellsLine gathered h k (Err f) → AnswersPiece gives old kept new left piece held h0 k (Err f)
-    reach_unsent new left held k Read w = absurd w
-    reach_unsent new left held k Write w = reach_failed k w.0 w.1 w.2
-    reach_unsent new left held k Memory w = absurd w
-
-    -- the whole piece is answered
-    pub reach_end : rest ≡ [] → Gathers gives old kept mid line piece gathered h0 h
-    reach_end e = subst (λ p. Gathers gives old kept mid line p gathered h0 h) (sym (append-nil r.seen) ∙ ap (λ t. r.seen ++ t) (sym e) ∙ sym r.parts) r.gathers
-
-  -- What is gathered of a piece is written.
-  module _ (old : S) (kept piece gathered : List ℕ) (h0 h k : Option (List ℕ)) where
-    pub rest_sent : (new : S) (line : List ℕ) → Gathers gives old kept new line piece gathered h0 h → Appends h k gathered → (text : List ℕ) × Continues gives old kept new line piece text × Appends h0 k text
-    rest_sent new line g w = (g.text, g.goes, subst (Appends h0 k) (sym g.all) (appends_more h0 h k g.sent gathered g.wrote w))
-
-    pub rest_failed : (new : S) (line sent : List ℕ) → Gathers gives old kept new line piece gathered h0 h → Appends h k sent → IsBeginning sent gathered → WritesBeginning gives old kept piece h0 k
-    rest_failed new line sent g w b = reach_failed old kept new line piece [] gathered h0 h (record { seen = piece; parts = sym (append-nil piece); gathers = g }) k sent w b
-
-    pub sends_rest : (new : S) (line : List ℕ) (r : Result (Unit {0}) DeviceFault) → Gathers gives old kept new line piece gathered h0 h → TellsLine gathered h k r → PrintsPiece gives old kept new line piece h0 k r
-    sends_rest new line (Ok done) g w = rest_sent new line g w
-    sends_rest new line (Err Read) g w = absurd w
-    sends_rest new line (Err Write) g w = rest_failed new line w.0 g w.1 w.2
-    sends_rest new line (Err Memory) g w = absurd w
-
-    -- after a refusal of memory
-    pub rest_written : StopsWithin gives old kept piece gathered h0 h → Appends h k gathered → WritesLines gives old kept piece h0 k
-    rest_written g w = reach_written old kept g.mid g.line piece g.rest gathered h0 h g.reached k w
-
-    pub sends_begun : (new : S) (line : List ℕ) (f : DeviceFault) → StopsWithin gives old kept piece gathered h0 h → TellsLine gathered h k (Err f) → PrintsPiece gives old kept new line piece h0 k (Err f)
-    sends_begun new line Read g w = absurd w
-    sends_begun new line Write g w = reach_failed old kept g.mid g.line piece g.rest gathered h0 h g.reached k w.0 w.1 w.2
-    sends_begun new line Memory g w = absurd w
+  -- what is gathered of a piece is written, all of it if the whole piece is answered
+  pub sends : (new : S) (left : List ℕ) (k : Option (List ℕ)) (sent : Result (Unit {0}) DeviceFault) → (sent ≡ Ok tt → Gathers gives old kept new left piece gathered h0 h) → TellsLine gathered h k sent → PrintsPiece gives old kept new left piece h0 k sent
+  sends new left k (Ok done) g w = let a = g refl in (a.text, a.goes, subst (Appends h0 k) (sym a.all) (appends_more h0 h k a.sent gathered a.wrote w))
+  sends new left k (Err Read) g w = absurd w
+  sends new left k (Err Write) g w = reach_failed k w.0 w.1 w.2
+  sends new left k (Err Memory) g w = absurd w
