@@ -1,30 +1,16 @@
 -- Flags read from bytes, all at once.
-use Rattle.std.proofs.Common.{◌≡◌, ℕ, zero, suc, ◌<◌, ◌≤◌, ◌==◌, Bool, true, false, List, [], ◌∷◌, length, take, drop, refl, sym, ap, ◌∙◌, inl, inr, arith}
+use Rattle.std.proofs.Common.{◌≡◌, ℕ, zero, suc, ◌<◌, ◌≤◌, ◌==◌, Bool, true, false, List, [], ◌∷◌, length, take, drop, refl, sym, ap, ◌∙◌, arith}
 use Rattle.std.specs.Prelude.{nat_lt, map, Ok, Err, ◌&&◌, min}
-use Rattle.std.proofs.lemmas.Bool.{and_parts, cases_lt}
-use Rattle.std.proofs.lemmas.List.{take_all, length-take}
-use Rattle.std.proofs.Math.Seq.{take-length}
+use Rattle.std.proofs.lemmas.Bool.{and_parts}
+use Rattle.std.proofs.lemmas.List.{drop_min, length-take, take_all, take_min}
 use Rattle.std.specs.List.{list_all}
 use Rattle.std.specs.Int.{w8}
 use Rattle.std.proofs.lemmas.Grind.{common_steps}
-use Rattle.pon_cert.specs.declared.cert.CertReadFault.{CertReadFault}
 use Rattle.pon_cert.specs.declared.cert.CertReadFault.TheVariants.{Short, Form}
 use Rattle.pon_cert.specs.Reading.{number_at, flags_at}
 
 pub byte_at : (b : ℕ) (bs : List ℕ) → number_at w8 (b ∷ bs) ≡ Ok (b, bs)
 byte_at b bs = grind (arith, common_steps)
-
-more_ok : (n b : ℕ) (bs rest : List ℕ) (fs : List Bool) → nat_lt b 2 ≡ true → flags_at n bs ≡ Ok (fs, rest) → flags_at (suc n) (b ∷ bs) ≡ Ok ((b == 1) ∷ fs, rest)
-unfolding flags_at
-more_ok n b bs rest fs h e = rw (byte_at b bs, h, e) refl
-
-more_err : (n b : ℕ) (bs : List ℕ) (f : CertReadFault) → nat_lt b 2 ≡ true → flags_at n bs ≡ Err f → flags_at (suc n) (b ∷ bs) ≡ Err f
-unfolding flags_at
-more_err n b bs f h e = rw (byte_at b bs, h, e) refl
-
-no_flag : (n b : ℕ) (bs : List ℕ) → nat_lt b 2 ≡ false → flags_at (suc n) (b ∷ bs) ≡ Err Form
-unfolding flags_at
-no_flag n b bs h = rw (byte_at b bs, h) refl
 
 flags_whole : (n : ℕ) (bs : List ℕ) → n ≤ length bs → list_all (λ b. nat_lt b 2) (take n bs) ≡ true → flags_at n bs ≡ Ok (map (λ b. b == 1) (take n bs), drop n bs)
 unfolding flags_at
@@ -32,11 +18,12 @@ flags_whole zero bs l h = refl
 flags_whole (suc n) [] l h = absurd (omega arith)
 flags_whole (suc n) (b ∷ bs) l h =
     let both = and_parts (nat_lt b 2) (list_all (λ x. nat_lt x 2) (take n bs)) h in
-    more_ok n b bs (drop n bs) (map (λ x. x == 1) (take n bs)) both.0 (flags_whole n bs (omega arith) both.1)
+    rw (byte_at b bs, both.0, flags_whole n bs (omega arith) both.1) refl
 
 form_step : (n b : ℕ) (bs : List ℕ) (v w : Bool) → nat_lt b 2 ≡ v → (w ≡ false → flags_at n bs ≡ Err Form) → (v && w) ≡ false → flags_at (suc n) (b ∷ bs) ≡ Err Form
-form_step n b bs true w e more h = more_err n b bs Form e (more h)
-form_step n b bs false w e more h = no_flag n b bs e
+unfolding flags_at
+form_step n b bs true w e more h = rw (byte_at b bs, e, more h) refl
+form_step n b bs false w e more h = rw (byte_at b bs, e) refl
 
 flags_form : (n : ℕ) (bs : List ℕ) → list_all (λ b. nat_lt b 2) (take n bs) ≡ false → flags_at n bs ≡ Err Form
 flags_form zero bs h = cc
@@ -49,29 +36,24 @@ flags_short zero bs l h = absurd (omega arith)
 flags_short (suc n) [] l h = refl
 flags_short (suc n) (b ∷ bs) l h =
     let both = and_parts (nat_lt b 2) (list_all (λ x. nat_lt x 2) bs) h in
-    more_err n b bs Short both.0 (flags_short n bs (omega arith) both.1)
+    rw (byte_at b bs, both.0, flags_short n bs (omega arith) both.1) refl
 
 -- only the bytes that are present, at most n, matter
-least_is : (k n : ℕ) (bs : List ℕ) → k ≡ min n (length bs) → take k bs ≡ take n bs
-least_is k n bs e = elim (cases_lt (length bs) n) [
-  | inl short ↦ let whole : k ≡ length bs = omega arith in rw whole (take-length bs ∙ sym (take_all n bs (omega arith)))
-  | inr enough ↦ let all : k ≡ n = omega arith in ap (λ (m : ℕ). take m bs) all
-]
+front_is : (k n : ℕ) (bs front : List ℕ) → k ≡ min n (length bs) → front ≡ take k bs → front ≡ take n bs
+front_is k n bs front e f = f ∙ ap (λ (m : ℕ). take m bs) e ∙ take_min n bs
 
 pub reads_no_flag : (k n : ℕ) (bs front : List ℕ) → k ≡ min n (length bs) → front ≡ take k bs → list_all (λ b. nat_lt b 2) front ≡ false → flags_at n bs ≡ Err Form
-reads_no_flag k n bs front e f h = flags_form n bs (ap (list_all (λ (b : ℕ). nat_lt b 2)) (sym (f ∙ least_is k n bs e)) ∙ h)
+reads_no_flag k n bs front e f h = flags_form n bs (ap (list_all (λ (b : ℕ). nat_lt b 2)) (sym (front_is k n bs front e f)) ∙ h)
 
 pub reads_short : (k n : ℕ) (bs front : List ℕ) → k ≡ min n (length bs) → front ≡ take k bs → length front < n → list_all (λ b. nat_lt b 2) front ≡ true → flags_at n bs ≡ Err Short
 reads_short k n bs front e f l h =
-    let size : length front ≡ min k (length bs) = ap length f ∙ length-take k bs in
-    let short : length bs < n = omega arith in
-    flags_short n bs short (ap (list_all (λ (b : ℕ). nat_lt b 2)) (sym (f ∙ least_is k n bs e ∙ take_all n bs (omega arith))) ∙ h)
+    let same : front ≡ take n bs = front_is k n bs front e f in
+    let short : length bs < n = omega (arith, ap length same, length-take n bs) in
+    flags_short n bs short (ap (list_all (λ (b : ℕ). nat_lt b 2)) (sym (same ∙ take_all n bs (omega arith))) ∙ h)
 
 pub reads_whole : (k n : ℕ) (bs front back : List ℕ) → k ≡ min n (length bs) → front ≡ take k bs → back ≡ drop k bs → n ≤ length front → list_all (λ b. nat_lt b 2) front ≡ true →
     flags_at n bs ≡ Ok (map (λ b. b == 1) front, back)
 reads_whole k n bs front back e f g l h =
-    let size : length front ≡ min k (length bs) = ap length f ∙ length-take k bs in
-    let all : k ≡ n = omega arith in
-    let same : front ≡ take n bs = f ∙ ap (λ (m : ℕ). take m bs) all in
-    let rest : back ≡ drop n bs = g ∙ ap (λ (m : ℕ). drop m bs) all in
-    rw (same, rest) (flags_whole n bs (omega arith) (rw same at h))
+    let same : front ≡ take n bs = front_is k n bs front e f in
+    let rest : back ≡ drop n bs = g ∙ ap (λ (m : ℕ). drop m bs) e ∙ drop_min n bs in
+    rw (same, rest) (flags_whole n bs (omega (arith, ap length same, length-take n bs)) (rw same at h))

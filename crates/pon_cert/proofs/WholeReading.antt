@@ -35,7 +35,7 @@ wanted_none : {A : Type 0} (b : Bool) (x : A) → WantsNone (wanted b x)
 wanted_none b x = either_none b (Ok x) (Err Form) (λ e. cc) (λ e. cc)
 
 level_of_none : (kind num den : ℕ) → WantsNone (level_in_bytes kind num den)
-level_of_none kind num den = either_none (kind == 0) (wanted ((num == 0) && (den == 0)) level.All) (wanted (nat_lt 0 den) (level.At (record { num = num; den = den }))) (wanted_none ((num == 0) && (den == 0)) level.All) (wanted_none (nat_lt 0 den) (level.At (record { num = num; den = den })))
+level_of_none kind num den = either_none (kind == 0) _ _ (wanted_none ((num == 0) && (den == 0)) level.All) (wanted_none (nat_lt 0 den) (level.At (record { num = num; den = den })))
 
 level_none : (bytes : List ℕ) → WantsNone (level_at bytes)
 unfolding level_at
