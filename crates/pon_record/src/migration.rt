@@ -1,4 +1,4 @@
-ghost use Rattle.std.specs.Prelude.{◌≡◌, ◌≤◌, ℕ, List, IfErr, IfOk, length, take};
+ghost use Rattle.std.specs.Prelude.{◌≡◌, ◌≤◌, List, IfErr, IfOk, length, take};
 ghost use Rattle.pon_record.specs.declared.limits.TheConstants.{MAGIC_BYTES, MAGIC_ONE};
 ghost use Rattle.pon_record.specs.declared.version.Version.{Version};
 ghost use Rattle.pon_record.specs.Chapters.{PlacedChapter};
@@ -25,16 +25,15 @@ fn begin(alloc: Global, len: usize) -> Result<Vec<u8>, AllocError>
     Ok(out)
 }
 
-// Returns the fault of a version one recording that ends inside a chapter, with the chapters before it.
-fn cut_short(alloc: Global, bytes: &[u8]) -> ReadFault
-    requires long { MAGIC_BYTES ≤ length bytes.now }
-    requires magic { take MAGIC_BYTES bytes.now ≡ MAGIC_ONE }
-    requires cut { (at : ℕ) × (whole : List PlacedChapter) × EndsInside Version.One bytes.now at whole }
+// Returns the fault of a version one recording that ends inside the chapter at a place: the bytes before it are a recording
+// of the chapters before it.
+fn cut_short(alloc: Global, bytes: &[u8], at: usize) -> ReadFault
+    requires { (whole : List PlacedChapter) × EndsInside Version.One bytes.now at whole }
     ensures { IsFaultIn Version.One bytes.now result }
 {
-    match read_chapters(alloc, Version::One, bytes) {
+    match read_chapters(alloc, Version::One, &bytes[..at]) {
+        Ok(whole) => ReadFault::Truncated { at, whole },
         Err(fault) => fault,
-        Ok(_) => unreachable!(),
     }
 }
 
@@ -55,7 +54,7 @@ fn migrate_chapters(alloc: Global, bytes: &[u8]) -> Result<Vec<u8>, ReadFault>
                 put_chapter(&mut out, &chapter, piece)?;
                 rest = after;
             }
-            Err(ChapterFault::CutShort) => return Err(cut_short(alloc, bytes)),
+            Err(ChapterFault::CutShort) => return Err(cut_short(alloc, bytes, at)),
             Err(ChapterFault::Malformed) => return Err(ReadFault::BadFormat { at }),
             Err(ChapterFault::Memory) => return Err(ReadFault::Memory),
         }

@@ -25,8 +25,8 @@ loop-rest-preserved c =
     let are : AreBytes c.args.bytes.now = λ k. omega (arith, c.type_inv.bytes k) in
     rw c.split_at.ensures.back (one_more_moved c.args.bytes.now c.loop-rest.rest.now c.loop-rest.out.items c.put_chapter.new.out.items c.in-Ok.chapter (length c.args.bytes.now - length c.loop-rest.rest.now) c.in-Ok.size are c.loop-rest.invariant refl c.in-Ok.ensures c.in_ok-put_chapter-in-Ok.ensures)
 
-pub cut_short-requires-clause-cut : goal.cut_short-requires-clause-cut
-cut_short-requires-clause-cut c =
+pub cut_short-requires : goal.cut_short-requires
+cut_short-requires c =
     let cut = subst (HasNoChapter One c.loop-rest.rest.now) c.in-Err-CutShort.field-0-is c.in-Err-CutShort.ensures in
     cut_inside c.args.bytes.now c.loop-rest.rest.now c.loop-rest.out.items c.loop-rest.invariant cut
 
