@@ -1,13 +1,11 @@
 -- Chapters that a recording gets one after another.
 use Rattle.std.proofs.Common.{◌≡◌, ℕ, ◌+◌, List, [], ◌∷◌, ◌++◌, ◌<◌, ap, arith, inl, inr, refl, subst, sym, ◌∙◌, append_assoc}
-use Rattle.std.specs.Prelude.{Bool, true, false, not, map, min, Option, Err}
+use Rattle.std.specs.Prelude.{Bool, true, false, not, map, min, Option}
 use Rattle.std.proofs.lemmas.List.{map-append}
 use Rattle.pon_history.specs.Chapters.{Chapter}
 use Rattle.pon_record.specs.Chapters.{Body}
 use Rattle.pon_recorder.specs.Bodies.{chapter_body}
-use Rattle.pon_recorder.specs.Recorders.{Grows, IsTaken, Records, Stays}
-use Rattle.pon_recorder.specs.declared.fault.RecordFault.{RecordFault}
-use Rattle.pon_recorder.specs.declared.fault.RecordFault.TheVariants.{Device}
+use Rattle.pon_recorder.specs.Recorders.{Grows, Records, Stays}
 use Rattle.pon_recorder.specs.Recordings.{AreSome, HasRecorded, IsDropped, TakesChapters, most_dropped}
 
 -- what is left of a chapter is written
@@ -69,10 +67,6 @@ takes_both old left mid rest new more before between after first second f s = re
       ∙ ap (λ (bs : List Body). first ++ bs) (s.all later (subst (λ (n : ℕ). n < most_dropped) (sym same) l));
   counts = omega (arith, f.counts, s.counts);
 }
-
--- a chapter is taken also if the device fails
-pub is_taken : (why : RecordFault) → why ≡ Device → IsTaken {T = Unit {0}} (Err why)
-is_taken why e = subst (λ (w : RecordFault). IsTaken {T = Unit {0}} (Err w)) (sym e) tt
 
 -- what is not whole failed
 pub is_failed : (whole : Bool) → not (not whole) ≡ false → not whole ≡ true

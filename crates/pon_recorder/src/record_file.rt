@@ -1,5 +1,7 @@
-ghost use Rattle.std.specs.Prelude.{◌≡◌, ◌≢◌, ◌↔◌, [], Err, IfOk, OnOk};
+ghost use Rattle.std.specs.Prelude.{◌≡◌, ◌≢◌, ◌↔◌, [], Err, IfOk, OnErr, OnOk};
 ghost use Rattle.pon_device.specs.Device.{CountsFailure};
+ghost use Rattle.pon_record.specs.Chapters.{chapter_bytes};
+ghost use Rattle.pon_record.specs.declared.version.Version.{Version};
 ghost use Rattle.pon_recorder.specs.Bodies.{chapter_body};
 ghost use Rattle.pon_recorder.specs.declared.fault.RecordFault.TheVariants.{Busy};
 
@@ -30,7 +32,7 @@ impl<W> Model for RecordFile<W> {
 }
 
 impl<W: DevWrite + Drop> RecordFile<W> {
-    ghost use Rattle.pon_recorder.specs.Recorders.{CountsDevice, CountsOpening, Grows, IsTaken, Records, Stays};
+    ghost use Rattle.pon_recorder.specs.Recorders.{CountsDevice, CountsOpening, GoesOut, Grows, IsTaken, Records, Stays};
 
     /// Begins a recording of version two: tries once to write the magic bytes to the device. If the device fails, the bytes
     /// that it did not take are left. `Err` only if memory is refused.
@@ -67,14 +69,40 @@ impl<W: DevWrite + Drop> RecordFile<W> {
         if !self.left().is_empty() {
             return Err(RecordFault::Busy);
         }
-        let Ok(bytes) = chapter_bytes(self.alloc, port, chapter) else {
+        let Ok(bytes) = self.chapter_bytes(port, chapter) else {
             return Err(RecordFault::Memory);
         };
-        self.pending = Pending::new(bytes);
-        match self.pending.push(&mut self.writer) {
+        match self.write_next(bytes) {
             Ok(()) => Ok(()),
             Err(_) => Err(RecordFault::Device),
         }
+    }
+
+    /// Returns the bytes of a chapter of a port in the recording. `Err` only if memory is refused.
+    pub(crate) fn chapter_bytes(
+        &self,
+        port: PortNo,
+        chapter: &Chapter,
+    ) -> Result<Vec<u8>, AllocError>
+        ensures { IfOk result (λ bytes. bytes.items
+            ≡ chapter_bytes Version.Two (chapter_body port chapter.now)) }
+    {
+        chapter_bytes(self.alloc, port, chapter)
+    }
+
+    /// Writes the next bytes of a recording of which nothing is left. `Failed` exactly if the device failed in this call;
+    /// the bytes that it had not taken by then are left.
+    pub(crate) fn write_next(&mut self, bytes: Vec<u8>) -> Result<(), Failed>
+        requires { self.old.left ≡ [] }
+        ensures sent { GoesOut (W.contents self.old.device) (W.contents self.new.device)
+            self.new.left bytes.items }
+        ensures ok { OnOk result (self.new.left ≡ []) }
+        ensures err { OnErr result (self.new.left ≢ []) }
+        ensures failures { CountsFailure (W.failures self.old.device)
+            (W.failures self.new.device) result }
+    {
+        self.pending = Pending::new(bytes);
+        self.pending.push(&mut self.writer)
     }
 
     /// Writes what is left, and then flushes the device. `Failed` exactly if the device failed in this call; the bytes

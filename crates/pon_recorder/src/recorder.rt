@@ -5,7 +5,6 @@ ghost use Rattle.pon_recorder.specs.Bodies.{chapter_body};
 ghost use Rattle.pon_recorder.specs.Recorders.{Stays};
 ghost use Rattle.pon_recorder.specs.Recordings.{HasRecorded, IsDropped, TakesChapters};
 
-use crate::fault::RecordFault;
 use crate::record_file::RecordFile;
 use pon_device::{DevWrite, DeviceFault};
 use pon_port::Chapter;
@@ -98,18 +97,15 @@ impl<W: DevWrite + Drop> Recorder<W> {
         if self.failed {
             return false;
         }
-        match self.file.append(port, chapter) {
-            Ok(()) => true,
-            Err(RecordFault::Device) => {
-                self.failed = !write_rest(&mut self.file);
-                !self.failed
-            }
-            Err(RecordFault::Memory) => {
-                self.lacked_memory = true;
-                false
-            }
-            Err(RecordFault::Busy) => unreachable!(),
+        let Ok(bytes) = self.file.chapter_bytes(port, chapter) else {
+            self.lacked_memory = true;
+            return false;
+        };
+        if self.file.write_next(bytes).is_ok() {
+            return true;
         }
+        self.failed = !write_rest(&mut self.file);
+        !self.failed
     }
 
     /// Records a chapter of a port, or counts it as dropped.

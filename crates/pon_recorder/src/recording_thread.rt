@@ -159,13 +159,13 @@ impl<K: Rings, W: DevWrite + Drop> Recording<K, W> {
     ) -> Self {
         for _ in rt.forever() {
             if stop.load(Ordering::SeqCst) {
-                return self;
+                break;
             }
             if !take_round(&mut self.recorder, self.inlets.as_mut_slice(), watch) {
                 thread::sleep(rt, Duration::from_millis(PAUSE_MILLISECONDS));
             }
         }
-        unreachable!()
+        self
     }
 
     /// Records what the workers left in their sinks, which stand in the order of the ports, port by port.

@@ -1,12 +1,35 @@
-use Rattle.std.proofs.Common.{inr}
+use Rattle.std.proofs.Common.{◌≡◌, List, [], ℕ, inr, rules, subst}
 use Rattle.pon_recorder.specs.Bodies.{chapter_body}
-use Rattle.pon_recorder.proofs.Recordings.{is_failed, is_taken, rest_written}
+use Rattle.pon_recorder.specs.Recorders.{GoesOut, Grows}
+use Rattle.pon_recorder.proofs.RecordedBytes.{grows}
+use Rattle.pon_recorder.proofs.Recordings.{is_failed, rest_written}
 use Rattle.pon_recorder.proofs.recorder.Recorder.append.Goals as goal
 
-pub returns-in-Err-Device-clause-dropped : goal.returns-in-Err-Device-clause-dropped
-returns-in-Err-Device-clause-dropped g c e =
+pub returns-then-is_ok-clause-recorded : goal.returns-then-is_ok-clause-recorded
+returns-then-is_ok-clause-recorded g c e =
     let old = g.W.DevWrite.contents c.args.self.now.file.device in
-    let mid = g.W.DevWrite.contents c.append.new.self.device in
+    let new = g.W.DevWrite.contents c.write_next.new.self.device in
+    let none : c.args.self.now.file.left ≡ [] = search rules in
+    grows old new c.args.self.now.file.left c.write_next.new.self.left (chapter_body c.args.port c.args.chapter.now) none (subst (λ (t : List ℕ). GoesOut old new c.write_next.new.self.left t) c.in-Ok.ensures c.write_next.ensures.sent)
+
+pub returns-clause-recorded : goal.returns-clause-recorded
+returns-clause-recorded g c e =
+    let old = g.W.DevWrite.contents c.args.self.now.file.device in
+    let mid = g.W.DevWrite.contents c.write_next.new.self.device in
     let new = g.W.DevWrite.contents c.write_rest.new.file.device in
     let b = chapter_body c.args.port c.args.chapter.now in
-    inr (is_failed c.write_rest.result e, rest_written old c.args.self.now.file.left mid c.append.new.self.left new c.write_rest.new.file.left b (c.in-Err-Device.ensures.taken (is_taken c.in-Err-Device.field-0 c.in-Err-Device.field-0-is)) c.write_rest.ensures.same)
+    let none : c.args.self.now.file.left ≡ [] = search rules in
+    let more : Grows old c.args.self.now.file.left mid c.write_next.new.self.left b
+    = grows old mid c.args.self.now.file.left c.write_next.new.self.left b none (subst (λ (t : List ℕ). GoesOut old mid c.write_next.new.self.left t) c.in-Ok.ensures c.write_next.ensures.sent) in
+    rest_written old c.args.self.now.file.left mid c.write_next.new.self.left new c.write_rest.new.file.left b more c.write_rest.ensures.same
+
+pub returns-clause-dropped : goal.returns-clause-dropped
+returns-clause-dropped g c e =
+    let old = g.W.DevWrite.contents c.args.self.now.file.device in
+    let mid = g.W.DevWrite.contents c.write_next.new.self.device in
+    let new = g.W.DevWrite.contents c.write_rest.new.file.device in
+    let b = chapter_body c.args.port c.args.chapter.now in
+    let none : c.args.self.now.file.left ≡ [] = search rules in
+    let more : Grows old c.args.self.now.file.left mid c.write_next.new.self.left b
+    = grows old mid c.args.self.now.file.left c.write_next.new.self.left b none (subst (λ (t : List ℕ). GoesOut old mid c.write_next.new.self.left t) c.in-Ok.ensures c.write_next.ensures.sent) in
+    inr (is_failed c.write_rest.result e, rest_written old c.args.self.now.file.left mid c.write_next.new.self.left new c.write_rest.new.file.left b more c.write_rest.ensures.same)
