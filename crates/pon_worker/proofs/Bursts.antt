@@ -1,14 +1,15 @@
 -- Records that are read and counted, one after another.
-use Rattle.std.proofs.Common.{◌≡◌, ℕ, All, Bool, true, false, ◌+◌, ◌≤◌, min, List, [], ◌∷◌, ◌++◌, ◌⊎◌, inl, inr, Option, Some, None, cond, count_by, length, refl, sym, subst, ap, ◌∙◌, arith, append_assoc, append-nil, length-append}
+use Rattle.std.proofs.Common.{◌≡◌, ℕ, All, Bool, true, false, ◌+◌, ◌<◌, ◌≤◌, min, List, [], ◌∷◌, ◌++◌, ◌⊎◌, inl, inr, Option, Some, None, cond, count_by, length, refl, sym, subst, ap, ◌∙◌, arith, append_assoc, append-nil, length-append}
 use Rattle.std.proofs.KnownBytes.{Consumes-nil, Consumes-trans}
 use Rattle.std.proofs.lemmas.List.Elements.{All-append, All-nil}
 use Rattle.std.proofs.lemmas.List.Sums.{sum_by-append}
 use Rattle.pon_device.specs.Device.{Consumes, IsAtEnd, Keeps}
-use Rattle.pon_link.specs.Reading.{ReaderState, HasFault, IsOpen, MayBecomeRecord}
+use Rattle.pon_link.specs.Reading.{ReaderState, HasFault, IsOpen, IsReady, MayBecomeRecord, longest}
 use Rattle.pon_link.specs.declared.direction.Direction.{Direction}
 use Rattle.pon_link.specs.declared.direction.Direction.TheVariants.{Up, Down}
 use Rattle.pon_link.specs.declared.fault.LinkFault.{LinkFault}
 use Rattle.pon_link.proofs.Outcomes.{faultless}
+use Rattle.pon_link.proofs.Sizes.{begun_limit}
 use Rattle.pon_link.specs.Runs.{AreRecords}
 use Rattle.pon_link.specs.UpRecords.{IsRecord}
 use Rattle.pon_link.specs.declared.record.UpRecord.{UpRecord}
@@ -156,6 +157,19 @@ none_so_far port a ka ra garbled refused = record {
 pub ends_here : (old new : ReaderState) (rest : Option (List ℕ)) (fault : LinkFault) → old.direction ≡ Up → IsOpen old → (HasFault old fault × (new ≡ old)) ⊎ (IsOpen old × IsAtEnd rest) → IsAtEnd rest
 ends_here old new rest fault up is_open (inl faulty) = absurd (faultless old fault (λ down. let both : Up ≡ Down = sym up ∙ down in cc) is_open faulty.0)
 ends_here old new rest fault up is_open (inr ended) = ended.1
+
+-- an open reader holds no whole record, so a pull that succeeds adds a byte
+pub more_held : (s : ReaderState) (n : ℕ) (bytes : List ℕ) → s.direction ≡ Up → IsOpen s → length bytes ≡ n → (IsReady s.direction s.held × (n ≡ 0)) ⊎ (IsOpen s × (0 < n)) → 0 < length bytes
+more_held s n bytes up is_open count (inr more) = omega (arith, count, more.1)
+more_held s n bytes up is_open count (inl ready) =
+    let begins : MayBecomeRecord Up s.held = subst (λ (d : Direction). MayBecomeRecord d s.held) up is_open.beginning in
+    let whole : IsReady Up s.held = subst (λ (d : Direction). IsReady d s.held) up ready.0 in
+    let size = begins.more whole.told in
+    absurd (omega (arith, size.1.2, size.2, whole.size.2))
+
+-- it holds fewer bytes than the longest record
+pub held_within : (s : ReaderState) → s.direction ≡ Up → IsOpen s → length s.held < longest Up
+held_within s up is_open = begun_limit Up s.held (subst (λ (d : Direction). MayBecomeRecord d s.held) up is_open.beginning)
 
 -- an open reader holds the beginning of a record, and so does one with the same bytes
 pub begins_still : (old new : ReaderState) → old.direction ≡ Up → IsOpen old → new.held ≡ old.held → MayBecomeRecord Up new.held

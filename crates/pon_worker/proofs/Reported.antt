@@ -6,7 +6,10 @@ use Rattle.pon_admit.specs.declared.event.Event.{Event}
 use Rattle.pon_admit.specs.declared.event.Event.TheVariants.{Report}
 use Rattle.pon_descr.specs.declared.refusal.Refusal.{Refusal}
 use Rattle.pon_descr.specs.declared.refusal.Refusal.TheVariants.{OutOfMemory}
+use Rattle.pon_plant.specs.declared.fault.StepFault.{StepFault}
+use Rattle.pon_plant.specs.declared.fault.StepFault.TheVariants.{NoSuchPort, Refused}
 use Rattle.pon_desk.specs.Counts.{SeatState}
+use Rattle.pon_desk.specs.Faults.{IsNoSuchPort, TellsRefusal}
 use Rattle.pon_desk.specs.Posts.{IsSomeRefusal}
 use Rattle.pon_link.specs.declared.record.UpRecord.{UpRecord}
 use Rattle.pon_worker.specs.Records.{after_report, is_nobodys}
@@ -18,9 +21,9 @@ use Rattle.pon_worker.proofs.Posted.{posts_refused, posts_taken}
 use Rattle.pon_worker.proofs.Receipts.{keeps_one, keeps_same, takes_one, takes_refused}
 
 -- one more report can be counted
-pub fits_one : (port : ℕ) (event : Event) (r : Result (Unit {0}) Refusal) (a b : SeatState) (old : Counts) → CoversCounts port a old → OnOk r (KeepsPost port event a b) → OnOk r (slice_index b.counts port < 2 ^ 64) → OnOk r (old.reports + 1 < 2 ^ 64)
+pub fits_one : (port : ℕ) (event : Event) (r : Result (Unit {0}) StepFault) (a b : SeatState) (old : Counts) → CoversCounts port a old → OnOk r (KeepsPost port event a b) → OnOk r (slice_index b.counts port < 2 ^ 64) → OnOk r (old.reports + 1 < 2 ^ 64)
 fits_one port event (Ok v) a b old covers kept fits = omega (arith, covers, kept.raised.here, fits)
-fits_one port event (Err told) a b old covers kept fits = tt
+fits_one port event (Err fault) a b old covers kept fits = tt
 
 reported_taken : (port : ℕ) (burst : UpRecord) (onu : ℕ) (old new : Counts) (a b : SeatState) → is_nobodys burst.head ≡ false → IfSome burst.head (λ h. h.onu_raw ≡ onu)
     → KeepsPost port (Report burst.frame onu burst.occ) a b → new ≡ after_report (Ok tt) old → old.garbled ≤ MAX_COUNT → old.refused ≤ MAX_COUNT → PostsRecord port burst old new a b
@@ -38,33 +41,34 @@ refuses : (burst : UpRecord) (onu : ℕ) (told : Refusal) → is_nobodys burst.h
 refuses burst onu told sender sent_by refused = record { onu = onu; sent_by = sent_by; sender = sender; refused = refused }
 
 -- the record is counted, as its report was taken or refused
-pub reported : (port : ℕ) (burst : UpRecord) (onu : ℕ) (event : Event) (r : Result (Unit {0}) Refusal) (more : Bool) (old new : Counts) (a b : SeatState) → event ≡ Report burst.frame onu burst.occ → is_nobodys burst.head ≡ false → IfSome burst.head (λ h. h.onu_raw ≡ onu)
-    → OnOk r (KeepsPost port event a b) → IfErr r (λ told. IsSomeRefusal event told) → OnErr r (b ≡ a) → new ≡ after_report r old → MatchBool more (r ≢ Err OutOfMemory) (r ≡ Err OutOfMemory) → old.garbled ≤ MAX_COUNT → old.refused ≤ MAX_COUNT
+pub reported : (port : ℕ) (burst : UpRecord) (onu : ℕ) (event : Event) (r : Result (Unit {0}) StepFault) (more : Bool) (old new : Counts) (a b : SeatState) → event ≡ Report burst.frame onu burst.occ → is_nobodys burst.head ≡ false → IfSome burst.head (λ h. h.onu_raw ≡ onu)
+    → OnOk r (KeepsPost port event a b) → (IsNoSuchPort r → ⊥) → IfErr r (λ fault. TellsRefusal event fault) → OnErr r (b ≡ a) → new ≡ after_report r old → MatchBool more (r ≢ Err (Refused OutOfMemory)) (r ≡ Err (Refused OutOfMemory)) → old.garbled ≤ MAX_COUNT → old.refused ≤ MAX_COUNT
     → MatchBool more (PostsRecord port burst old new a b) (LacksReport burst old new a b)
-reported port burst onu event (Ok v) true old new a b is sender sent_by kept refused same counts memory small_garbled small_refused =
+reported port burst onu event (Ok v) true old new a b is sender sent_by kept there refused same counts memory small_garbled small_refused =
     reported_taken port burst onu old new a b sender sent_by (subst (λ (e : Event). KeepsPost port e a b) is kept) counts small_garbled small_refused
-reported port burst onu event (Ok v) false old new a b is sender sent_by kept refused same counts memory small_garbled small_refused = absurd (cc memory)
-reported port burst onu event (Err told) true old new a b is sender sent_by kept refused same counts memory small_garbled small_refused = record {
+reported port burst onu event (Ok v) false old new a b is sender sent_by kept there refused same counts memory small_garbled small_refused = absurd (cc memory)
+reported port burst onu event (Err (Refused told)) true old new a b is sender sent_by kept there refused same counts memory small_garbled small_refused = record {
   reports = [];
   refusals = told ∷ [];
   takes = takes_refused port burst told (refuses burst onu told sender sent_by (subst (λ (e : Event). IsSomeRefusal e told) is refused));
-  memory = All-cons IsNotMemory told [] (λ e. memory (ap Err e)) (All-nil IsNotMemory);
+  memory = All-cons IsNotMemory told [] (λ e. memory (ap (λ (t : Refusal). Err (Refused t)) e)) (All-nil IsNotMemory);
   counted = counted_refused burst old new sender (ap (λ (k : Counts). k.reports) counts) (ap (λ (k : Counts). k.garbled) counts) (ap (λ (k : Counts). k.refused) counts) small_garbled;
   kept = keeps_same a b same;
 }
-reported port burst onu event (Err told) false old new a b is sender sent_by kept refused same counts memory small_garbled small_refused =
+reported port burst onu event (Err (Refused told)) false old new a b is sender sent_by kept there refused same counts memory small_garbled small_refused =
     let out : told ≡ OutOfMemory = cc memory in record {
       refused = subst (RefusesReport burst) out (refuses burst onu told sender sent_by (subst (λ (e : Event). IsSomeRefusal e told) is refused));
       counted = counted_refused burst old new sender (ap (λ (k : Counts). k.reports) counts) (ap (λ (k : Counts). k.garbled) counts) (ap (λ (k : Counts). k.refused) counts) small_garbled;
       same = same;
     }
+reported port burst onu event (Err NoSuchPort) more old new a b is sender sent_by kept there refused same counts memory small_garbled small_refused = absurd (there tt)
 
 -- no map is counted
-pub reported_maps : (r : Result (Unit {0}) Refusal) (old new : Counts) → new ≡ after_report r old → new.maps ≡ old.maps
+pub reported_maps : (r : Result (Unit {0}) StepFault) (old new : Counts) → new ≡ after_report r old → new.maps ≡ old.maps
 reported_maps (Ok v) old new counts = ap (λ (k : Counts). k.maps) counts
-reported_maps (Err told) old new counts = ap (λ (k : Counts). k.maps) counts
+reported_maps (Err fault) old new counts = ap (λ (k : Counts). k.maps) counts
 
 -- the post, if it was accepted, is counted as a report
-pub reported_posts : (port : ℕ) (event : Event) (r : Result (Unit {0}) Refusal) (old new : Counts) (a b : SeatState) → OnOk r (KeepsPost port event a b) → OnErr r (b ≡ a) → new ≡ after_report r old → PostsAt port 0 a b old new
+pub reported_posts : (port : ℕ) (event : Event) (r : Result (Unit {0}) StepFault) (old new : Counts) (a b : SeatState) → OnOk r (KeepsPost port event a b) → OnErr r (b ≡ a) → new ≡ after_report r old → PostsAt port 0 a b old new
 reported_posts port event (Ok v) old new a b kept same counts = posts_taken port a b old new kept.raised (ap (λ (k : Counts). k.maps) counts) (ap (λ (k : Counts). k.reports) counts)
-reported_posts port event (Err told) old new a b kept same counts = posts_refused port a b old new same (ap (λ (k : Counts). k.maps) counts) (ap (λ (k : Counts). k.reports) counts)
+reported_posts port event (Err fault) old new a b kept same counts = posts_refused port a b old new same (ap (λ (k : Counts). k.maps) counts) (ap (λ (k : Counts). k.reports) counts)

@@ -1,6 +1,6 @@
 -- The records that a worker reads from its link, and how they are counted.
 use Rattle.std.specs.Prelude.{ℕ, ◌≡◌, ◌≤◌, ◌+◌, ◌*◌, ◌%◌, ◌^◌, ◌==◌, ◌⊎◌, Bool, false, true, min, List, count_by, length, Option, Some, None, Result, Ok, Err}
-use Rattle.pon_descr.specs.declared.refusal.Refusal.{Refusal}
+use Rattle.pon_plant.specs.declared.fault.StepFault.{StepFault}
 use Rattle.pon_device.specs.Device.{Consumes, IsAtEnd}
 use Rattle.pon_xgtc.specs.BurstHead.{BurstHead}
 use Rattle.pon_link.specs.Reading.{ReaderState, HasFault, IsOpen, MayBecomeRecord}
@@ -48,10 +48,10 @@ pub record CountsRecords (records : List UpRecord) (reports : ℕ) (old new : Co
   pub garbled : new.garbled ≡ min (old.garbled + count_by is_garbled records) MAX_COUNT
   pub refused : new.refused ≡ min (old.refused + refusals) MAX_COUNT
 
--- the counts after a report was posted: the port took it, or refused it
-abbrev pub after_report : Result (Unit {0}) Refusal → Counts → Counts
+-- the counts after a report was posted: the port took it, or it was refused
+abbrev pub after_report : Result (Unit {0}) StepFault → Counts → Counts
 after_report (Ok taken) old = record { maps = old.maps; reports = old.reports + 1; garbled = old.garbled; refused = old.refused }
-after_report (Err told) old = record { maps = old.maps; reports = old.reports; garbled = old.garbled; refused = min (old.refused + 1) MAX_COUNT }
+after_report (Err fault) old = record { maps = old.maps; reports = old.reports; garbled = old.garbled; refused = min (old.refused + 1) MAX_COUNT }
 
 -- records that were read, and bytes of the next one
 pub record HasRead (records : List UpRecord) (held : List ℕ) (left_old left_new : Option (List ℕ)) : Type 0 where

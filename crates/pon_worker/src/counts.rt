@@ -93,20 +93,20 @@ impl Counts {
     }
 
     // Counts a report that was posted. Returns `false` if memory was refused for it.
-    pub(crate) fn count_report(&mut self, posted: Result<(), Refusal>) -> bool
+    pub(crate) fn count_report(&mut self, posted: Result<(), StepFault>) -> bool
         requires { OnOk posted (self.old.reports + 1 < 2 ^ 64) }
         ensures counts { self.new ≡ after_report posted self.old }
-        ensures memory { MatchBool result (posted ≢ Err Refusal.OutOfMemory)
-            (posted ≡ Err Refusal.OutOfMemory) }
+        ensures memory { MatchBool result (posted ≢ Err (StepFault.Refused Refusal.OutOfMemory))
+            (posted ≡ Err (StepFault.Refused Refusal.OutOfMemory)) }
     {
         match posted {
             Ok(()) => {
                 self.reports += 1;
                 true
             }
-            Err(refusal) => {
+            Err(fault) => {
                 self.refused = count(self.refused);
-                if refusal == Refusal::OutOfMemory {
+                if fault == StepFault::Refused(Refusal::OutOfMemory) {
                     return false;
                 }
                 true

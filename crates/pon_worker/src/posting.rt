@@ -2,7 +2,7 @@
 ghost use Rattle.std.specs.Prelude.{◌≡◌, ◌+◌, ◌<◌, ◌≤◌, ◌^◌, ◌⊎◌, ◌↔◌, length, slice_index, IfOk, IfErr, OnOk, OnErr};
 ghost use Rattle.pon_desk.specs.Counts.{one_more_at};
 ghost use Rattle.pon_desk.specs.Faults.{IsNoSuchPort, TellsRefusal};
-ghost use Rattle.pon_desk.specs.Posts.{IsSomePost, IsSomeRefusal, NamesPost};
+ghost use Rattle.pon_desk.specs.Posts.{IsSomePost, NamesPost};
 ghost use Rattle.pon_ring.specs.Discarded.{Frees};
 ghost use Rattle.pon_worker.specs.Passing.{PassesChapters, TriesTurn, TurnsAtPost};
 ghost use Rattle.pon_worker.specs.Turns.{IsPostAt, KeepsPost, RaisedAt};
@@ -145,27 +145,6 @@ impl<'a, L: Ledger, M: Ledger, G: Gate, T: Wait> ServedPort<'a, L, M, G, T> {
         let receipt = self.post(seat, sink, event)?;
         seat.keep(receipt);
         Ok(())
-    }
-
-    // Posts a report, and has the seat keep its receipt.
-    pub(crate) fn post_report(
-        &self,
-        seat: &mut Seat<L, M>,
-        sink: &mut Sink,
-        event: Event,
-    ) -> Result<(), Refusal>
-        requires { self.now.port < self.now.desk.now.ports }
-        ensures kept { OnOk result (KeepsPost self.now.port event seat.old seat.new) }
-        ensures fits { OnOk result (slice_index seat.new.counts self.now.port < 2 ^ 64) }
-        ensures refused { IfErr result (λ told. IsSomeRefusal event told) }
-        ensures err { OnErr result (seat.new ≡ seat.old) }
-        ensures sink { PassesChapters sink.old sink.new }
-    {
-        match self.post_kept(seat, sink, event) {
-            Ok(()) => Ok(()),
-            Err(StepFault::Refused(refusal)) => Err(refusal),
-            Err(StepFault::NoSuchPort) => unreachable!(),
-        }
     }
 
     // Posts `MakeMap`, and returns the receipt of the map of the next frame.

@@ -65,7 +65,7 @@ fn post_record<L: Ledger, M: Ledger, G: Gate, T: Wait>(
         counts.garbled = count(counts.garbled);
         return true;
     };
-    let posted = served.post_report(seat, sink, report_of(burst, onu));
+    let posted = served.post_kept(seat, sink, report_of(burst, onu));
     counts.count_report(posted)
 }
 
@@ -90,7 +90,7 @@ pub(crate) fn read_bursts<L: Ledger, M: Ledger, G: Gate, R: DevRead, T: Wait>(
 {
     work.counts.prove_in_range();
     for _burst in 0..bursts {
-        let burst = match receive(served.rt, &mut work.up, reader) {
+        let burst = match receive(&mut work.up, reader) {
             Ok(burst) => burst,
             Err(cause) => return Err(StopReason::Gave { cause }),
         };

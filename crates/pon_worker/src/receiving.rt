@@ -1,5 +1,5 @@
 // How a worker reads the record of a burst.
-ghost use Rattle.std.specs.Prelude.{◌≡◌, ◌+◌, ◌%◌, ◌^◌, ℕ, List, IfOk, IfErr, OnOk};
+ghost use Rattle.std.specs.Prelude.{◌≡◌, ◌+◌, ◌%◌, ◌^◌, ◌<◌, ℕ, List, IfOk, IfErr, OnOk, length};
 ghost use Rattle.pon_device.specs.Device.{Consumes, Keeps};
 ghost use Rattle.pon_link.specs.Reading.{empty, holds_more, IsOpen};
 ghost use Rattle.pon_link.specs.UpRecords.{IsRecord};
@@ -10,15 +10,14 @@ use crate::sending::MAX_TRIES;
 use pon_descr::Cause;
 use pon_device::DevRead;
 use pon_link::{Direction, PullFault, Pulled, UpReader, UpRecord};
-use std::sync::Wait;
 
-// Reads once, or up to three times if the device fails. Otherwise returns the cause: the device failed each time, or
-// the input ended.
+// Reads at least one byte, in one call, or in up to three if the device fails. Otherwise returns the cause: the device failed
+// each time, or the input ended.
 fn pull<R: DevRead>(up: &mut UpReader, reader: &mut R) -> Result<(), Cause>
     requires up { up.old.direction ≡ Direction.Up }
     requires open { IsOpen up.old }
     ensures ok { OnOk result ((bytes : List ℕ) × (up.new ≡ holds_more up.old bytes)
-        × Consumes (R.remaining reader.old) (R.remaining reader.new) bytes) }
+        × Consumes (R.remaining reader.old) (R.remaining reader.new) bytes × (0 < length bytes)) }
     ensures err { IfErr result (λ cause. StopsFor cause up.new (R.remaining reader.new)
         × (up.new.held ≡ up.old.held)
         × Keeps (R.remaining reader.old) (R.remaining reader.new)) }
@@ -37,11 +36,7 @@ fn pull<R: DevRead>(up: &mut UpReader, reader: &mut R) -> Result<(), Cause>
 }
 
 // Reads the next record. Otherwise returns the cause; the bytes read of a record are held.
-pub(crate) fn receive<R: DevRead, T: Wait>(
-    rt: &T,
-    up: &mut UpReader,
-    reader: &mut R,
-) -> Result<UpRecord, Cause>
+pub(crate) fn receive<R: DevRead>(up: &mut UpReader, reader: &mut R) -> Result<UpRecord, Cause>
     requires { up.old ≡ empty Direction.Up }
     ensures empty { OnOk result (up.new ≡ empty Direction.Up) }
     ensures ok { IfOk result (λ burst. (bytes : List ℕ) × IsRecord bytes burst
@@ -49,7 +44,7 @@ pub(crate) fn receive<R: DevRead, T: Wait>(
     ensures err { IfErr result (λ cause. StopsFor cause up.new (R.remaining reader.new)
         × Consumes (R.remaining reader.old) (R.remaining reader.new) up.new.held) }
 {
-    for _ in rt.forever() {
+    loop {
         match up.next() {
             Ok(Some(record)) => return Ok(record),
             Ok(None) => match pull(up, reader) {
@@ -59,5 +54,4 @@ pub(crate) fn receive<R: DevRead, T: Wait>(
             Err(_) => return Err(cause_of(BAD_RECORD)),
         }
     }
-    unreachable!()
 }

@@ -35,17 +35,21 @@ fn make_turns<L: Ledger, M: Ledger, G: Gate, P: Pace, R: DevRead, W: DevWrite, T
     ensures sink { PassesChapters sink.old sink.new }
 {
     let mut work = Work::new();
+    let mut why = StopReason::Finished;
     for _ in served.rt.forever() {
         let so_far = work.counts.so_far(sink.dropped());
         if !pace.next(&so_far) {
-            return work.counts.end(StopReason::Finished);
+            break;
         }
         match turn(served, seat, sink, &mut work, reader, writer) {
             Ok(()) => {}
-            Err(why) => return work.counts.end(why),
+            Err(ended) => {
+                why = ended;
+                break;
+            }
         }
     }
-    unreachable!()
+    work.counts.end(why)
 }
 
 // Posts that the port is failed, if its link was given up.
@@ -73,9 +77,9 @@ fn give_up<L: Ledger, M: Ledger, G: Gate, T: Wait>(
 /// once more; only the second result counts. If the port refuses the turn, the worker goes on.
 ///
 /// A record whose burst header is refused, or has the ONU-ID 1023, is counted as garbled and dropped; a report that the
-/// port refuses is counted, and ends the worker only if memory was refused for it. It ends as [`StopReason`] says. A write or read that fails is tried three times in a row; then it
-/// posts that the port is failed, and so it does if what it read is not a record, or the input ended. It flushes
-/// nothing, so the writer must send what it takes by itself.
+/// port refuses is counted, and ends the worker only if memory was refused for it. It ends as [`StopReason`] says. A write
+/// or read that fails is tried three times in a row; then it posts that the port is failed, and so it does if what it read
+/// is not a record, or the input ended. It flushes nothing, so the writer must send what it takes by itself.
 pub fn serve_port<L: Ledger, M: Ledger, G: Gate, P: Pace, R: DevRead, W: DevWrite, T: Wait>(
     rt: &T,
     desk: &Desk<L, M>,

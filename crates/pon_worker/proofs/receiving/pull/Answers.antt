@@ -4,7 +4,7 @@ use Rattle.std.proofs.KnownBytes.{Keeps-refl, Keeps-trans}
 use Rattle.pon_link.specs.Reading.{CountsDevice, ReaderState, IsOpen, Pulls, holds_more}
 use Rattle.pon_link.specs.declared.pull.Pulled.{Pulled}
 use Rattle.pon_link.specs.declared.pull.PullFault.{PullFault}
-use Rattle.pon_worker.proofs.Bursts.{begins_still, ends_here, kept_read}
+use Rattle.pon_worker.proofs.Bursts.{begins_still, ends_here, kept_read, more_held}
 use Rattle.pon_worker.proofs.receiving.pull.Goals as goal
 
 pub loop-try-init : goal.loop-try-init
@@ -17,6 +17,7 @@ returns-in-Ok-Bytes-clause-ok g c =
       v.0,
       v.2 ∙ ap (λ (s : ReaderState). holds_more s v.0) held.same,
       kept_read (g.R.DevRead.remaining c.args.reader.now) (g.R.DevRead.remaining c.loop-try.reader) (g.R.DevRead.remaining c.pull.new.reader) v.0 held.kept v.3,
+      more_held c.loop-try.up c.in-Ok-Bytes.field-0-0 v.0 (ap (λ (s : ReaderState). s.direction) held.same ∙ c.requires.up) (subst IsOpen (sym held.same) c.requires.«open») v.1 v.4,
     )
 
 pub returns-in-Ok-End-clause-err : goal.returns-in-Ok-End-clause-err

@@ -1,16 +1,17 @@
 use Rattle.std.proofs.Common.{refl, sym, ap, subst, arith}
-use Rattle.pon_worker.specs.Turns.{PostsAt, Turned, counts_of, no_counts}
+use Rattle.pon_worker.specs.Turns.{EndsAs, PostsAt, Turned, counts_of, no_counts}
 use Rattle.pon_worker.specs.declared.counts.Counts.{Counts}
-use Rattle.pon_worker.specs.declared.counts.StopReason.TheVariants.{Finished}
 use Rattle.pon_worker.proofs.Passed.{passes_none, passes_then}
 use Rattle.pon_worker.proofs.Posted.{posts_fit, posts_more, posts_none}
 use Rattle.pon_worker.proofs.Works.{ends_more, ends_with, turned_more, turned_none}
+use Rattle.pon_worker.proofs.serving.make_turns.Goals.{in-None, in-Some+then-not-next, in-Some+else-not-next+in-Err}
 use Rattle.pon_worker.proofs.serving.make_turns.Goals as goal
 
 pub loop-init : goal.loop-init
 loop-init g c =
     let none = sym c.new-work.ensures.counts in
     let start = turned_none c.args.served.now.port no_counts c.args.seat.now (g.W.DevWrite.contents c.args.writer.now) (g.R.DevRead.remaining c.args.reader.now) (omega arith) (omega arith) in record {
+      why = refl;
       empty_again = c.new-work.ensures.up;
       turned = subst (λ (k : Counts). Turned c.args.served.now.port no_counts k c.args.seat.now c.args.seat.now (g.W.DevWrite.contents c.args.writer.now) (g.W.DevWrite.contents c.args.writer.now) (g.R.DevRead.remaining c.args.reader.now) (g.R.DevRead.remaining c.args.reader.now)) none start;
       posts = subst (λ (k : Counts). PostsAt c.args.served.now.port 0 c.args.seat.now c.args.seat.now no_counts k) none (posts_none c.args.served.now.port c.args.seat.now no_counts no_counts refl refl);
@@ -27,6 +28,7 @@ turn-requires-clause-posts g c = c.loop.invariant.fits
 pub loop-preserved : goal.loop-preserved
 loop-preserved g c =
     let far = c.loop.invariant in record {
+      why = far.why;
       empty_again = c.in-Ok.ensures.empty;
       turned = turned_more c.args.served.now.port no_counts c.loop.work.counts c.turn.new.work.counts c.args.seat.now c.loop.seat c.turn.new.seat (g.W.DevWrite.contents c.args.writer.now) (g.W.DevWrite.contents c.loop.writer) (g.W.DevWrite.contents c.turn.new.writer) (g.R.DevRead.remaining c.args.reader.now) (g.R.DevRead.remaining c.loop.reader) (g.R.DevRead.remaining c.turn.new.reader) far.turned c.in-Ok.ensures.turned;
       posts = posts_more c.args.served.now.port 0 0 c.args.seat.now c.loop.seat c.turn.new.seat no_counts c.loop.work.counts c.turn.new.work.counts far.posts c.turn.ensures.posts;
@@ -34,26 +36,42 @@ loop-preserved g c =
       fits = posts_fit c.args.served.now.port c.loop.seat c.turn.new.seat c.loop.work.counts c.turn.new.work.counts c.turn.ensures.posts far.fits;
     }
 
-pub returns-then-not-next-clause-ended : goal.returns-then-not-next-clause-ended
-returns-then-not-next-clause-ended g c =
-    ends_with c.args.served.now.port c.args.served.now.desk.now.ports Finished c.end.result.why no_counts c.loop.work.counts (counts_of c.end.result) c.args.seat.now c.loop.seat (g.W.DevWrite.contents c.args.writer.now) (g.W.DevWrite.contents c.loop.writer) (g.R.DevRead.remaining c.args.reader.now) (g.R.DevRead.remaining c.loop.reader) c.end.ensures.why c.end.ensures.counts c.loop.invariant.turned
-
-pub returns-then-not-next-clause-posts : goal.returns-then-not-next-clause-posts
-returns-then-not-next-clause-posts g c = subst (λ (k : Counts). PostsAt c.args.served.now.port 0 c.args.seat.now c.loop.seat no_counts k) (sym c.end.ensures.counts) c.loop.invariant.posts
-
-pub returns-then-not-next-clause-sink : goal.returns-then-not-next-clause-sink
-returns-then-not-next-clause-sink g c = c.loop.invariant.sink
-
-pub returns-in-Err-clause-sink : goal.returns-in-Err-clause-sink
-returns-in-Err-clause-sink g c = passes_then c.args.sink.now c.loop.sink c.turn.new.sink c.loop.invariant.sink c.turn.ensures.sink
-
-pub returns-in-Err-clause-ended : goal.returns-in-Err-clause-ended
-returns-in-Err-clause-ended g c =
+pub returns-clause-ended : goal.returns-clause-ended
+returns-clause-ended g c =
     let far = c.loop.invariant in
-    let ends = ends_more c.args.served.now.port c.args.served.now.desk.now.ports c.in-Err.why no_counts c.loop.work.counts c.turn.new.work.counts c.args.seat.now c.loop.seat c.turn.new.seat (g.W.DevWrite.contents c.args.writer.now) (g.W.DevWrite.contents c.loop.writer) (g.W.DevWrite.contents c.turn.new.writer) (g.R.DevRead.remaining c.args.reader.now) (g.R.DevRead.remaining c.loop.reader) (g.R.DevRead.remaining c.turn.new.reader) far.turned c.in-Err.ensures.ended in
-    ends_with c.args.served.now.port c.args.served.now.desk.now.ports c.in-Err.why c.end-in-Err.result.why no_counts c.turn.new.work.counts (counts_of c.end-in-Err.result) c.args.seat.now c.turn.new.seat (g.W.DevWrite.contents c.args.writer.now) (g.W.DevWrite.contents c.turn.new.writer) (g.R.DevRead.remaining c.args.reader.now) (g.R.DevRead.remaining c.turn.new.reader) c.end-in-Err.ensures.why c.end-in-Err.ensures.counts ends
+    let port = c.args.served.now.port in
+    let ports = c.args.served.now.desk.now.ports in
+    let old = c.args.seat.now in
+    let wrote = g.W.DevWrite.contents c.args.writer.now in
+    let writes = g.W.DevWrite.contents c.match-next.writer in
+    let reads = g.R.DevRead.remaining c.args.reader.now in
+    let left = g.R.DevRead.remaining c.match-next.reader in
+    let ended : EndsAs port ports c.match-next.why no_counts c.match-next.work.counts old c.match-next.seat wrote writes reads left = elim c.match-next.branch [
+      | in-None w ↦ rw (w.why-is, far.why, w.work-is, w.seat-is, w.writer-is, w.reader-is) far.turned
+      | in-Some+then-not-next w ↦ rw (w.why-is, far.why, w.work-is, w.seat-is, w.writer-is, w.reader-is) far.turned
+      | in-Some+else-not-next+in-Err w ↦
+          rw (w.why-is, w.work-is, w.seat-is, w.writer-is, w.reader-is)
+          (ends_more port ports w.in-Err.ended no_counts c.loop.work.counts w.turn.new.work.counts old c.loop.seat w.turn.new.seat wrote (g.W.DevWrite.contents c.loop.writer) (g.W.DevWrite.contents w.turn.new.writer) reads (g.R.DevRead.remaining c.loop.reader) (g.R.DevRead.remaining w.turn.new.reader) far.turned w.in-Err.ensures.ended)
+    ] in
+    ends_with port ports c.match-next.why c.end.result.why no_counts c.match-next.work.counts (counts_of c.end.result) old c.match-next.seat wrote writes reads left c.end.ensures.why c.end.ensures.counts ended
 
-pub returns-in-Err-clause-posts : goal.returns-in-Err-clause-posts
-returns-in-Err-clause-posts g c =
-    let more = posts_more c.args.served.now.port 0 0 c.args.seat.now c.loop.seat c.turn.new.seat no_counts c.loop.work.counts c.turn.new.work.counts c.loop.invariant.posts c.turn.ensures.posts in
-    subst (λ (k : Counts). PostsAt c.args.served.now.port 0 c.args.seat.now c.turn.new.seat no_counts k) (sym c.end-in-Err.ensures.counts) more
+pub returns-clause-posts : goal.returns-clause-posts
+returns-clause-posts g c =
+    let far = c.loop.invariant in
+    let port = c.args.served.now.port in
+    let old = c.args.seat.now in
+    let posts : PostsAt port 0 old c.match-next.seat no_counts c.match-next.work.counts = elim c.match-next.branch [
+      | in-None w ↦ rw (w.seat-is, w.work-is) far.posts
+      | in-Some+then-not-next w ↦ rw (w.seat-is, w.work-is) far.posts
+      | in-Some+else-not-next+in-Err w ↦ rw (w.seat-is, w.work-is) (posts_more port 0 0 old c.loop.seat w.turn.new.seat no_counts c.loop.work.counts w.turn.new.work.counts far.posts w.turn.ensures.posts)
+    ] in
+    subst (λ (k : Counts). PostsAt port 0 old c.match-next.seat no_counts k) (sym c.end.ensures.counts) posts
+
+pub returns-clause-sink : goal.returns-clause-sink
+returns-clause-sink g c =
+    let far = c.loop.invariant in
+    elim c.match-next.branch [
+      | in-None w ↦ rw w.sink-is far.sink
+      | in-Some+then-not-next w ↦ rw w.sink-is far.sink
+      | in-Some+else-not-next+in-Err w ↦ rw w.sink-is (passes_then c.args.sink.now c.loop.sink w.turn.new.sink far.sink w.turn.ensures.sink)
+    ]
