@@ -1,11 +1,11 @@
 -- The history of a port depends on its own steps alone.
-use Rattle.std.proofs.Common.{◌≡◌, ◌≢◌, ℕ, suc, zero, ◌==◌, true, false, List, [], ◌∷◌, ◌++◌, length, map, take, refl, ap, sym, ◌∙◌, subst, arith}
+use Rattle.std.proofs.Common.{◌≡◌, ◌≢◌, ℕ, ◌==◌, true, false, List, [], ◌∷◌, length, map, take, refl, ap, sym, ◌∙◌, subst, arith, inl, inr}
 use Rattle.std.specs.Prelude.{◌↔◌, ◌≤◌, cond, if◌then◌else◌, Option, Some, None, Result, Ok, Err, slice_get}
 use Rattle.std.specs.List.{filter}
 use Rattle.std.specs.Option.{option_map}
 use Rattle.std.proofs.lemmas.Bool.{eqb-true}
 use Rattle.std.proofs.lemmas.List.Elements.{All-head, All-tail}
-use Rattle.std.proofs.lemmas.Option.{none-some, slice_get_within}
+use Rattle.std.proofs.lemmas.Option.{slice_get_cases}
 use Rattle.pon_descr.specs.Checks.{IsTold}
 use Rattle.pon_descr.specs.declared.refusal.Refusal.{Refusal}
 use Rattle.pon_descr.specs.declared.refusal.Refusal.TheVariants.{OutOfMemory}
@@ -18,10 +18,10 @@ use Rattle.pon_history.specs.Taking.{Takes, refusal_of, with_entry}
 use Rattle.pon_history.proofs.OneReply.{one_taken, taken_lawful}
 use Rattle.pon_plant.specs.declared.fault.StepFault.{StepFault}
 use Rattle.pon_plant.specs.declared.fault.StepFault.TheVariants.{NoSuchPort, Refused}
-use Rattle.pon_plant.specs.Answers.{IsAccepted, IsStepAnswer, NoneIsOutOfMemory}
+use Rattle.pon_plant.specs.Answers.{IsAccepted, IsStepAnswer, NoneIsOutOfMemory, after_step}
 use Rattle.pon_plant.specs.Projections.{accepted, answers_at, entries_of, events_at}
-use Rattle.pon_plant.specs.Runs.{Ran, RanFrom, chapter_after, with_entries}
-use Rattle.pon_plant.proofs.Interleaving.{accepted-cons, accepted_elsewhere, accepted_here, with_more, with_none}
+use Rattle.pon_plant.specs.Runs.{Ran, RanFrom, with_entries}
+use Rattle.pon_plant.proofs.Interleaving.{added, after_step_at, first_answer, run_rest, with_none}
 
 -- One port alone.
 
@@ -77,43 +77,25 @@ one_history c (v ∷ vs) (a ∷ rs) (b ∷ bs) l h k na nb =
 
 -- A port of a plant.
 
-module _ (p : ℕ) where
-  -- the answers to the steps of the port in a run
-  abbrev AnswersHere : Chapter → List Step → List (Result Reply StepFault) → Type 0
-  AnswersHere c ss rs = (k : ℕ) (s : Step) (a : Result Reply StepFault) → slice_get ss k ≡ Some s → slice_get rs k ≡ Some a → s.port ≡ p →
-      IsStepAnswer (Some (with_entries (accepted p (take k ss) (take k rs)) c)) s.event a
+pub seen_alone : (p : ℕ) (c : Chapter) (old new : List Chapter) (ss : List Step) (rs : List (Result Reply StepFault)) →
+    slice_get old p ≡ Some c → Ran old ss rs new → Answered c (events_at p ss) (answers_at p ss rs)
+seen_alone p c old new [] [] found ran = tt
+seen_alone p c old new [] (a ∷ rs) found ran = absurd (omega (arith, ran.one_each))
+seen_alone p c old new (s ∷ ss) [] found ran = absurd (omega (arith, ran.one_each))
+seen_alone p c old new (s ∷ ss) (a ∷ rs) found ran =
+    let rest : Ran (after_step old s a) ss rs new = run_rest old s a (first_answer ran) ss rs new ran in
+    (elim (s.port == p) as (λ b. (s.port == p) ≡ b → slice_get (after_step old s a) p ≡ Some (with_entries (if b then entries_of (s.event ∷ []) (a ∷ []) else []) c) →
+    Answered c (map (λ s. s.event) (cond b (s ∷ filter (λ s. s.port == p) ss) (filter (λ s. s.port == p) ss))) (if b then a ∷ answers_at p ss rs else answers_at p ss rs)) [
+      | true ↦ λ e left. (
+        subst (λ o. IsStepAnswer o s.event a) (ap (slice_get old) (eqb-true s.port p e) ∙ found) (first_answer ran),
+        seen_alone p (after_answer c s.event a) (after_step old s a) new ss rs left rest,
+      )
+      | false ↦ λ e left. seen_alone p c (after_step old s a) new ss rs (left ∙ ap Some (with_none c)) rest
+    ]) refl (after_step_at p old s a (first_answer ran) ∙ ap (option_map (with_entries (added p s a))) found)
 
-  later : (c : Chapter) (s : Step) (ss : List Step) (a : Result Reply StepFault) (rs : List (Result Reply StepFault)) (es : List Entry) →
-      accepted p (s ∷ []) (a ∷ []) ≡ es → AnswersHere c (s ∷ ss) (a ∷ rs) → AnswersHere (with_entries es c) ss rs
-  later c s ss a rs es e h = λ k t b at told here.
-      let xs : List Entry = accepted p (take k ss) (take k rs) in
-      let more : accepted p (s ∷ take k ss) (a ∷ take k rs) ≡ es ++ xs = accepted-cons p s (take k ss) a (take k rs) ∙ ap (λ (ys : List Entry). ys ++ xs) e in
-      subst (λ d. IsStepAnswer (Some d) t.event b) (ap (λ (ys : List Entry). with_entries ys c) more ∙ with_more es xs c) (h (suc k) t b at told here)
-
-  projected : (c : Chapter) (ss : List Step) (rs : List (Result Reply StepFault)) → length rs ≡ length ss → AnswersHere c ss rs → Answered c (events_at p ss) (answers_at p ss rs)
-  projected c [] [] n h = tt
-  projected c [] (a ∷ rs) n h = absurd (omega (arith, n))
-  projected c (s ∷ ss) [] n h = absurd (omega (arith, n))
-  projected c (s ∷ ss) (a ∷ rs) n h = (elim (s.port == p) as (λ b. (s.port == p) ≡ b →
-      Answered c (map (λ s. s.event) (cond b (s ∷ filter (λ s. s.port == p) ss) (filter (λ s. s.port == p) ss))) (if b then a ∷ answers_at p ss rs else answers_at p ss rs)) [
-        | true ↦ λ e. (
-          subst (λ d. IsStepAnswer (Some d) s.event a) (with_none c) (h zero s a refl refl (eqb-true s.port p e)),
-          projected (after_answer c s.event a) ss rs (omega (arith, n)) (later c s ss a rs (entries_of (s.event ∷ []) (a ∷ [])) (accepted_here p s a e) h),
-        )
-        | false ↦ λ e. projected c ss rs (omega (arith, n)) (subst (λ d. AnswersHere d ss rs) (with_none c) (later c s ss a rs [] (accepted_elsewhere p s a e) h))
-      ]) refl
-
-  module _ (c : Chapter) (old new : List Chapter) (ss : List Step) (rs : List (Result Reply StepFault)) (found : slice_get old p ≡ Some c) (ran : Ran old ss rs new) where
-    answers_here : AnswersHere c ss rs
-    answers_here = λ k s a at told here.
-        subst (λ o. IsStepAnswer o s.event a) (ap (λ q. chapter_after old q (take k ss) (take k rs)) here ∙ ap (option_map (with_entries (accepted p (take k ss) (take k rs)))) found)
-        (ran.answered k s a at told)
-
-    pub seen_alone : Answered c (events_at p ss) (answers_at p ss rs)
-    seen_alone = projected c ss rs ran.one_each answers_here
-
-    pub ends_as : slice_get new p ≡ Some (with_entries (accepted p ss rs) c)
-    ends_as = ran.chapters p ∙ ap (option_map (with_entries (accepted p ss rs))) found
+pub ends_as : (p : ℕ) (c : Chapter) (old new : List Chapter) (ss : List Step) (rs : List (Result Reply StepFault)) →
+    slice_get old p ≡ Some c → Ran old ss rs new → slice_get new p ≡ Some (with_entries (accepted p ss rs) c)
+ends_as p c old new ss rs found ran = ran.chapters p ∙ ap (option_map (with_entries (accepted p ss rs))) found
 
 -- Two runs in which a port has the same steps.
 module _ (p : ℕ) (c : Chapter) (old old2 new new2 : List Chapter) (ss ss2 : List Step) (rs rs2 : List (Result Reply StepFault)) (lawful : IsLawfulChapter c)
@@ -131,17 +113,14 @@ module _ (p : ℕ) (c : Chapter) (old old2 new new2 : List Chapter) (ss ss2 : Li
 
 -- The steps at ports that a plant does not have.
 
-beyond : {X : Type 0} (xs : List X) (i : ℕ) → slice_get xs i ≡ None → length xs ≤ i
-beyond [] i h = omega arith
-beyond (x ∷ xs) zero h = absurd (none-some x (sym h))
-beyond (x ∷ xs) (suc i) h = omega (arith, beyond xs i h)
-
-past : (plant : List Chapter) (p : ℕ) (v : Event) (a : Result Reply StepFault) (o : Option Chapter) → slice_get plant p ≡ o → (es : List Entry) →
-    IsStepAnswer (option_map (with_entries es) o) v a → (a ≡ Err NoSuchPort) ↔ (length plant ≤ p)
-past plant p v a None found es h = (λ _. beyond plant p found, λ _. h)
-past plant p v a (Some c) found es h = (λ e. absurd (subst (λ b. IsStepAnswer (Some (with_entries es c)) v b) e h), λ le. absurd (omega (arith, le, slice_get_within plant p c found)))
-
 pub no_such_port : (old new : List Chapter) (ss : List Step) (rs : List (Result Reply StepFault)) (k : ℕ) (s : Step) (a : Result Reply StepFault) → Ran old ss rs new →
     slice_get ss k ≡ Some s → slice_get rs k ≡ Some a → (a ≡ Err NoSuchPort) ↔ (length old ≤ s.port)
 no_such_port old new ss rs k s a ran at told =
-    past old s.port s.event a (slice_get old s.port) refl (accepted s.port (take k ss) (take k rs)) (ran.answered k s a at told)
+    let es : List Entry = accepted s.port (take k ss) (take k rs) in
+    elim (slice_get_cases old s.port).1 [
+      | inl one ↦ (
+        λ e. absurd (subst (λ b. IsStepAnswer (Some (with_entries es one.0)) s.event b) e (subst (λ o. IsStepAnswer (option_map (with_entries es) o) s.event a) one.2 (ran.answered k s a at told))),
+        λ le. absurd (omega (arith, le, one.1)),
+      )
+      | inr none ↦ (λ _. none.0, λ _. subst (λ o. IsStepAnswer (option_map (with_entries es) o) s.event a) none.1 (ran.answered k s a at told))
+    ]

@@ -1,6 +1,6 @@
 -- What a step leaves, from the port's contract.
 use Rattle.std.proofs.Common.{◌≡◌, ℕ, ◌<◌, List, [], ◌∷◌, ◌++◌, length, get_or, set, refl, ap, sym, ◌∙◌, subst, arith, length-set, take, ◌+◌}
-use Rattle.std.specs.Prelude.{IfErr, IfOk, IsErrAnd, MatchResult, OnErr, OnOk, Some, Result, Ok, Err, slice_get}
+use Rattle.std.specs.Prelude.{IfErr, IfOk, IsErrAnd, MatchResult, OnErr, OnOk, Option, Some, Result, Ok, Err, slice_get}
 use Rattle.std.proofs.lemmas.List.{map-append, set-get_or, take_more}
 use Rattle.std.proofs.lemmas.List.Elements.{All-get_or, All-set}
 use Rattle.std.proofs.lemmas.Option.{slice_get_read}
@@ -14,7 +14,6 @@ use Rattle.pon_admit.specs.declared.port_cfg.PortCfg.{PortCfg}
 use Rattle.pon_history.specs.Chapters.{Chapter, IsLawfulChapter, present_state}
 use Rattle.pon_history.specs.FairMaps.{TellsFairMap}
 use Rattle.pon_history.specs.Taking.{Keeps, Takes, refusal_of}
-use Rattle.pon_history.proofs.OneReply.{taken_lawful}
 use Rattle.pon_plant.specs.Plants.{IsPlant, opened_port, opened_ports}
 use Rattle.pon_plant.specs.Answers.{IsStepAnswer, KeepsStep, after_accepted, after_step}
 use Rattle.pon_plant.specs.Runs.{Ran}
@@ -22,25 +21,11 @@ use Rattle.pon_plant.specs.declared.fault.StepFault.{StepFault}
 use Rattle.pon_plant.specs.declared.fault.StepFault.TheVariants.{Refused}
 use Rattle.pon_plant.proofs.Interleaving.{one_more}
 
--- the port of a step
-pub at_port : (plant : List Chapter) (p i : ℕ) (c : Chapter) → i ≡ p → i < length plant → c ≡ get_or plant i c → slice_get plant p ≡ Some c
-at_port plant p i c e lt is = subst (λ q. slice_get plant q ≡ Some c) e (slice_get_read plant (length plant) i c refl lt is)
-
--- each port of a plant has a lawful chapter
-pub chapter_at : (plant : List Chapter) (i : ℕ) (c : Chapter) → IsPlant plant → i < length plant → c ≡ get_or plant i c → IsLawfulChapter c
-chapter_at plant i c k lt is = subst IsLawfulChapter (sym is) (All-get_or IsLawfulChapter plant i c lt k.lawful)
-
--- an event keeps the chapter of a port lawful
-pub stays_lawful : (c d : Chapter) (v : Event) (r : Result Reply Refusal) → IsLawfulChapter c → IfOk r (λ reply. Takes c v reply d) → OnErr r (d ≡ c) → IsLawfulChapter d
-stays_lawful c d v (Ok reply) l taken kept = taken_lawful c d v reply l taken
-stays_lawful c d v (Err told) l taken kept = subst IsLawfulChapter (sym kept) l
-
--- replacing a chapter by a lawful one keeps a plant a plant
-pub stays_plant : (plant : List Chapter) (i : ℕ) (d : Chapter) → IsPlant plant → IsLawfulChapter d → IsPlant (set plant i d)
-stays_plant plant i d k l = record {
-  size = (omega (arith, length-set plant i d, k.size), omega (arith, length-set plant i d, k.size));
-  lawful = All-set IsLawfulChapter plant i d l k.lawful;
-}
+-- the port of this number stands at this index of the plant, with this chapter
+pub record IsPort (plant : List Chapter) (port i : ℕ) (c : Chapter) : Type 0 where
+  pub number : i ≡ port
+  pub within : i < length plant
+  pub is : c ≡ get_or plant i c
 
 -- the result of a port as the answer to a step
 abbrev pub answer_of : {T : Type 0} → Result T Refusal → Result T StepFault
@@ -51,36 +36,49 @@ pub told_by : {T : Type 0} (r : Result T Refusal) (a : Result T StepFault) → M
 told_by (Ok reply) a h = h
 told_by (Err refusal) a h = let p = err_from_is_err_and a h in p.1 ∙ ap Err p.2
 
--- the result of the port is the answer to the step
-pub asked : (plant : List Chapter) (s : Step) (c d : Chapter) (r : Result Reply Refusal) → slice_get plant s.port ≡ Some c → IfOk r (λ reply. Takes c s.event reply d) →
-    IfOk r (λ reply. TellsFairMap (present_state c) reply) → IfErr r (λ told. IsTold (refusal_of c s.event) told) → IsStepAnswer (slice_get plant s.port) s.event (answer_of r)
-asked plant s c d (Ok reply) found taken fair told = subst (λ o. IsStepAnswer o s.event (Ok reply)) (sym found) (record { follows = taken.follows; fair = fair })
-asked plant s c d (Err refusal) found taken fair told = subst (λ o. IsStepAnswer o s.event (Err (Refused refusal))) (sym found) told
+-- a chapter stays lawful if what is taken leaves it so
+pub stays_lawful : {T : Type 0} (P : T → Type 0) (c d : Chapter) (r : Result T Refusal) → ((x : T) → P x → IsLawfulChapter d) → IsLawfulChapter c → IfOk r P → OnErr r (d ≡ c) → IsLawfulChapter d
+stays_lawful P c d (Ok x) takes l taken kept = takes x taken
+stays_lawful P c d (Err told) takes l taken kept = subst IsLawfulChapter (sym kept) l
 
--- the new chapter at its port gives the plant after the step
-pub left : (plant : List Chapter) (s : Step) (i : ℕ) (c d : Chapter) (r : Result Reply Refusal) → slice_get plant s.port ≡ Some c → i ≡ s.port → c ≡ get_or plant i c →
-    IfOk r (λ reply. Takes c s.event reply d) → OnErr r (d ≡ c) → set plant i d ≡ after_step plant s (answer_of r)
-left plant s i c d (Ok reply) found e is taken kept =
-    ap (λ n. set plant n d) e ∙ ap (set plant s.port) taken.kept ∙ sym (ap (after_accepted plant s reply) found)
-left plant s i c d (Err refusal) found e is taken kept = ap (set plant i) (kept ∙ is) ∙ set-get_or plant i c
+-- What a port leaves in its plant, from its own contract.
+module _ {plant : List Chapter} {port i : ℕ} {c : Chapter} (at : IsPort plant port i c) where
+  pub chapter_at : slice_get plant port ≡ Some c
+  chapter_at = subst (λ q. slice_get plant q ≡ Some c) at.number (slice_get_read plant (length plant) i c refl at.within at.is)
 
--- an event whose entry the port keeps, or that it refuses
-module _ (plant : List Chapter) (s : Step) (c d : Chapter) (found : slice_get plant s.port ≡ Some c) where
-  pub kept_lawful : (r : Result (Unit {0}) Refusal) → IsLawfulChapter c → OnOk r (Keeps c s.event d) → OnErr r (d ≡ c) → IsLawfulChapter d
-  kept_lawful (Ok _) l ok err = taken_lawful c d s.event ok.reply l ok.takes
-  kept_lawful (Err told) l ok err = subst IsLawfulChapter (sym err) l
+  pub was_lawful : IsPlant plant → IsLawfulChapter c
+  was_lawful k = subst IsLawfulChapter (sym at.is) (All-get_or IsLawfulChapter plant i c at.within k.lawful)
 
-  pub kept_ok : (r : Result (Unit {0}) Refusal) (i : ℕ) → i ≡ s.port → OnOk r (Keeps c s.event d) → OnOk (answer_of r) (KeepsStep plant s (set plant i d))
-  kept_ok (Ok _) i e ok = record { before = c; after = d; at = found; keeps = ok; plant = ap (λ n. set plant n d) e }
-  kept_ok (Err told) i e ok = tt
+  pub stays_plant : (d : Chapter) → IsPlant plant → IsLawfulChapter d → IsPlant (set plant i d)
+  stays_plant d k l = record {
+    size = (omega (arith, length-set plant i d, k.size), omega (arith, length-set plant i d, k.size));
+    lawful = All-set IsLawfulChapter plant i d l k.lawful;
+  }
 
-  pub kept_refused : (r : Result (Unit {0}) Refusal) → IfErr r (λ told. IsTold (refusal_of c s.event) told) → IfErr (answer_of r) (λ fault. IsStepAnswer (slice_get plant s.port) s.event (Err fault))
-  kept_refused (Ok _) told = tt
-  kept_refused (Err refusal) told = subst (λ o. IsStepAnswer o s.event (Err (Refused refusal))) (sym found) told
+  pub refused : {T : Type 0} (F : Option Chapter → StepFault → Type 0) (r : Result T Refusal) → IfErr r (λ told. F (Some c) (Refused told)) →
+      IfErr (answer_of r) (λ fault. F (slice_get plant port) fault)
+  refused F (Ok x) told = tt
+  refused F (Err refusal) told = subst (λ o. F o (Refused refusal)) (sym chapter_at) told
 
-  pub kept_unchanged : (r : Result (Unit {0}) Refusal) (i : ℕ) → c ≡ get_or plant i c → OnErr r (d ≡ c) → OnErr (answer_of r) (set plant i d ≡ plant)
-  kept_unchanged (Ok _) i is err = tt
-  kept_unchanged (Err refusal) i is err = ap (set plant i) (err ∙ is) ∙ set-get_or plant i c
+  pub unchanged : {T : Type 0} (d : Chapter) (r : Result T Refusal) → OnErr r (d ≡ c) → OnErr (answer_of r) (set plant i d ≡ plant)
+  unchanged d (Ok x) kept = tt
+  unchanged d (Err refusal) kept = ap (set plant i) (kept ∙ at.is) ∙ set-get_or plant i c
+
+module _ (s : Step) {plant : List Chapter} {i : ℕ} {c : Chapter} (at : IsPort plant s.port i c) (d : Chapter) where
+  -- the result of the port is the answer to the step
+  pub asked : (r : Result Reply Refusal) → IfOk r (λ reply. Takes c s.event reply d) → IfOk r (λ reply. TellsFairMap (present_state c) reply) → IfErr r (λ told. IsTold (refusal_of c s.event) told) →
+      IsStepAnswer (slice_get plant s.port) s.event (answer_of r)
+  asked (Ok reply) taken fair told = subst (λ o. IsStepAnswer o s.event (Ok reply)) (sym (chapter_at at)) (record { follows = taken.follows; fair = fair })
+  asked (Err refusal) taken fair told = subst (λ o. IsStepAnswer o s.event (Err (Refused refusal))) (sym (chapter_at at)) told
+
+  -- the new chapter at its port gives the plant after the step
+  pub left : (r : Result Reply Refusal) → IfOk r (λ reply. Takes c s.event reply d) → OnErr r (d ≡ c) → set plant i d ≡ after_step plant s (answer_of r)
+  left (Ok reply) taken kept = ap (λ n. set plant n d) at.number ∙ ap (set plant s.port) taken.kept ∙ sym (ap (after_accepted plant s reply) (chapter_at at))
+  left (Err refusal) taken kept = unchanged at {T = Reply} d (Err refusal) kept
+
+  pub kept_ok : (r : Result (Unit {0}) Refusal) → OnOk r (Keeps c s.event d) → OnOk (answer_of r) (KeepsStep plant s (set plant i d))
+  kept_ok (Ok _) ok = record { before = c; after = d; at = chapter_at at; keeps = ok; plant = ap (λ n. set plant n d) at.number }
+  kept_ok (Err told) ok = tt
 
 -- one more port is opened
 pub one_more_port : (ports : List (PortCfg × ℕ)) (k : ℕ) (opened : List Chapter) (c : Chapter) (d : PortCfg × ℕ) → opened ≡ opened_ports (take k ports) → k < length ports →
