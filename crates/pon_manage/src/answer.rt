@@ -72,7 +72,7 @@ fn answer_event(
             Refusal::OutOfMemory => Err(AllocError),
             told => append_refusal(replies, LineFault::Port(told)),
         },
-        Err(StepFault::NoSuchPort) => unreachable!(),
+        Err(StepFault::NoSuchPort) => append_refusal(replies, LineFault::NoSuchPort),
     }
 }
 

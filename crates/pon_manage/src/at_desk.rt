@@ -91,7 +91,7 @@ impl<'a, L: Ledger, M: Ledger, H: Wait> AtDesk<'a, L, M, H> {
                 Refusal::OutOfMemory => Err(AllocError),
                 told => append_refusal(replies, LineFault::Port(told)),
             },
-            Err(StepFault::NoSuchPort) => unreachable!(),
+            Err(StepFault::NoSuchPort) => append_refusal(replies, LineFault::NoSuchPort),
         }
     }
 

@@ -7,7 +7,7 @@ ghost use Rattle.pon_descr.specs.declared.refusal.Refusal.TheVariants as refusal
 ghost use Rattle.pon_manage.specs.Planning.{IsStart};
 
 use pon_descr::Refusal;
-use pon_plant::{Plant, PlantFault, Step, StepFault};
+use pon_plant::{Plant, Step, StepFault};
 use pon_port::{PortCfg, Reply};
 use pon_units::FrameNo;
 use std::alloc::{AllocError, Global};
@@ -31,10 +31,8 @@ pub(crate) fn start(
     requires { IsPlantSize (length ports.now) }
     ensures { IfOk result (λ plant. IsStart ports.now steps.now plant) }
 {
-    let mut plant = match Plant::open(alloc, ports) {
-        Ok(plant) => plant,
-        Err(PlantFault::Memory) => return Err(AllocError),
-        Err(PlantFault::Ports) => unreachable!(),
+    let Ok(mut plant) = Plant::open(alloc, ports) else {
+        return Err(AllocError);
     };
     let answers = plant.run(alloc, steps)?;
     if answers.iter().any(is_out_of_memory) {
