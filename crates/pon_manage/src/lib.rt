@@ -12,6 +12,7 @@ mod help;
 pub mod laws;
 mod list;
 mod notes;
+mod opening;
 mod operating;
 mod planning;
 mod recorded;
@@ -21,6 +22,7 @@ mod texts;
 mod why;
 
 pub use notes::Notes;
+pub use opening::Opening;
 pub use operating::operate;
 pub use planning::{RecordedPlan, plan, plan_recorded};
 pub use pon_device::DeviceFault as PlanFault;

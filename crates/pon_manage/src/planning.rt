@@ -11,6 +11,7 @@ ghost use Rattle.pon_manage.specs.Recorded.{PlannedRecorded};
 
 use crate::at_plant::AtPlant;
 use crate::notes::Notes;
+use crate::opening::Opening;
 use crate::recorded::RecordedPlant;
 use crate::start::start;
 use pon_device::{DevRead, DevWrite, DeviceFault};
@@ -93,15 +94,14 @@ fn not_begun<D: DevWrite + Drop>(recorder: Recorder<D>) -> RecordedPlan<D>
 /// chapter, or before the first read.
 pub fn plan_recorded<N: Notes, D: DevWrite + Drop, R: DevRead, W: DevWrite>(
     alloc: Global,
-    ports: &[(PortCfg, FrameNo)],
-    steps: Vec<Step>,
+    opening: Opening,
     notes: &mut N,
     recorder: Recorder<D>,
     reader: &mut R,
     writer: &mut W,
 ) -> RecordedPlan<D>
-    requires ports { IsPlantSize (length ports.now) }
-    ensures text { PlannedRecorded ports.now steps.items (R.remaining reader.old)
+    requires ports { IsPlantSize (length opening.ports.items) }
+    ensures text { PlannedRecorded opening.ports.items opening.steps.items (R.remaining reader.old)
         (R.remaining reader.new) (W.contents writer.old) (W.contents writer.new) result.lines
         (D.contents recorder.file.device) recorder.file.left (D.contents result.recording.device)
         result.recording.result }
@@ -111,7 +111,8 @@ pub fn plan_recorded<N: Notes, D: DevWrite + Drop, R: DevRead, W: DevWrite>(
         (R.failures reader.new) result.lines }
     ensures write { TellsWrite (W.failures writer.old) (W.failures writer.new) result.lines }
 {
-    match start(alloc, ports, steps.as_slice()) {
+    let Opening { ports, steps } = opening;
+    match start(alloc, ports.as_slice(), steps.as_slice()) {
         Ok(plant) => {
             let mut at = RecordedPlant { plant, recorder };
             let mut answers = AtPlant::new(alloc, notes);

@@ -8,7 +8,7 @@ ghost use Rattle.pon_settings.specs.Ports.{IsOpening, Spells, openings, steps_fr
 use crate::files::open_file;
 use pon_device::DeviceFault;
 use pon_job::{Failure, Named};
-use pon_manage::Step;
+use pon_manage::Opening;
 use pon_port::PortCfg;
 use pon_settings::{Settings, SettingsFault, explain, explain_further, settings};
 use pon_units::{FrameNo, Gap, Profile};
@@ -27,13 +27,6 @@ const FRAME_WITHOUT_SETTINGS: u64 = 0;
 
 /// Maximum size of a settings file, in bytes. 64 ports with 512 Alloc-IDs each take about four million bytes.
 const MAX_BYTES: u64 = 16_777_216;
-
-/// The 1 to 64 ports to open, and the steps to take before the first line.
-#[derive(Drop)]
-pub(crate) struct Opening {
-    pub(crate) ports: Vec<(PortCfg, FrameNo)>,
-    pub(crate) steps: Vec<Step>,
-}
 
 /// Why nothing was opened, or a job was not done to its end.
 #[derive(Drop)]

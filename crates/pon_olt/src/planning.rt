@@ -4,11 +4,11 @@ ghost use Rattle.std.specs.Prelude.{◌≡◌, IfErr, OnOk, is_ok, length, true}
 ghost use Rattle.pon_plant.specs.Plants.{IsPlantSize};
 
 use crate::explaining::Explainer;
-use crate::opening::{NotOpened, Opening, with_settings, without_settings};
+use crate::opening::{NotOpened, with_settings, without_settings};
 use crate::watching::Watched;
 use pon_device::{DevRead, DevWrite, DeviceFault, StdRead, StdWrite};
 use pon_job::{Failure, Plan};
-use pon_manage::{PlanEnd, RecordedPlan, plan, plan_recorded};
+use pon_manage::{Opening, PlanEnd, RecordedPlan, plan, plan_recorded};
 use pon_run::{RecordArgs, begin_recording, end_recording};
 use std::alloc::Global;
 use std::io::{self, BufReader};
@@ -32,30 +32,14 @@ fn end_of(lines: Result<PlanEnd, DeviceFault>, recorded: Result<(), Failure>) ->
     }
 }
 
-// Executes lines, and records the ports in a file.
-fn record_lines<R: Eprint + Files, I: DevRead, W: DevWrite>(
-    rt: &R,
-    alloc: Global,
-    opening: Opening,
-    verbose: bool,
-    args: &RecordArgs<'_>,
-    reader: &mut I,
-    writer: &mut W,
-) -> Result<(), Failure>
-    requires { IsPlantSize (length opening.ports.items) }
-{
-    let Opening { ports, steps } = opening;
-    let recorder = begin_recording(rt, alloc, args)?;
-    let RecordedPlan { lines, recording } = plan_recorded(
-        alloc,
-        ports.as_slice(),
-        steps,
-        &mut Explainer { rt, verbose },
-        recorder,
-        reader,
-        writer,
-    );
-    end_of(lines, end_recording(rt, alloc, args.file, recording))
+// Returns the recording of the ports that is wanted, if one is.
+fn recording_of<'a>(job: &Plan<'a>) -> Option<RecordArgs<'a>> {
+    Some(RecordArgs {
+        file: job.record?,
+        no_clobber: job.no_clobber,
+        config: job.config,
+        operate: None,
+    })
 }
 
 // Executes lines, and records the ports if that is wanted.
@@ -69,22 +53,20 @@ fn answer_lines<R: Eprint + Files, I: DevRead, W: DevWrite>(
 ) -> Result<(), Failure>
     requires { IsPlantSize (length opening.ports.items) }
 {
-    if let Some(file) = job.record {
-        let args = RecordArgs {
-            file,
-            no_clobber: job.no_clobber,
-            config: job.config,
-            operate: None,
-        };
-        return record_lines(rt, alloc, opening, job.verbose, &args, reader, writer);
-    }
-    let Opening { ports, steps } = opening;
     let mut notes = Explainer {
         rt,
         verbose: job.verbose,
     };
-    plan(alloc, ports.as_slice(), steps, &mut notes, reader, writer)?;
-    Ok(())
+    let Some(args) = recording_of(job) else {
+        let Opening { ports, steps } = opening;
+        plan(alloc, ports.as_slice(), steps, &mut notes, reader, writer)?;
+        return Ok(());
+    };
+    let recorder = begin_recording(rt, alloc, &args)?;
+    let RecordedPlan { lines, recording } = plan_recorded(
+        alloc, opening, &mut notes, recorder, reader, writer,
+    );
+    end_of(lines, end_recording(rt, alloc, args.file, recording))
 }
 
 // Executes the lines of standard input. Returns `false` if they are strict and one was refused.

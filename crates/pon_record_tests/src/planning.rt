@@ -4,7 +4,7 @@ use crate::audit::is_told;
 use pon_admit::Event;
 use pon_descr::Cause;
 use pon_device::{DeviceFault, MemRead, MemWrite};
-use pon_manage::{Notes, PlanEnd, Step, plan, plan_recorded};
+use pon_manage::{Notes, Opening, PlanEnd, Step, plan, plan_recorded};
 use pon_plant::Plant;
 use pon_port::PortCfg;
 use pon_recorder::Recorder;
@@ -96,10 +96,10 @@ fn record(
     let mut writer = writer(rt, alloc, writes);
     let mut notes = Refused { lines: 0 };
     let recorder = begin(rt, alloc, tape);
+    let ports = Vec::from_slice(alloc, &ports(rt)).expect(rt, "memory");
     let planned = plan_recorded(
         alloc,
-        &ports(rt),
-        steps,
+        Opening { ports, steps },
         &mut notes,
         recorder,
         &mut reader,

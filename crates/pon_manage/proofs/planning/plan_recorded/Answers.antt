@@ -1,5 +1,6 @@
-use Rattle.std.proofs.Common.{List, [], inr, subst}
+use Rattle.std.proofs.Common.{List, [], ℕ, inr, subst}
 use Rattle.std.specs.Prelude.{OnOk}
+use Rattle.pon_admit.specs.declared.port_cfg.PortCfg.{PortCfg}
 use Rattle.pon_admit.specs.declared.step.Step.{Step}
 use Rattle.pon_history.specs.Chapters.{Chapter}
 use Rattle.pon_recorder.specs.Recordings.{HasRecorded}
@@ -15,7 +16,10 @@ returns-in-Ok-clause-text g c =
     let last : RecordedPlant g.row.D.Denot = c.answer_input-lines.new.state in
     let tape = g.D.DevWrite.contents c.end_with-recording.result.device in
     let ended = c.end_with-recording.result.result in
-    let begins = subst (λ (steps : List Step). IsStart c.args.ports.now steps c.in-Ok.plant) c.as_slice.ensures.value c.in-Ok.ensures in
+    let ports = c.args.opening.ports.items in
+    let steps = c.args.opening.steps.items in
+    let begins = subst (λ (steps : List Step). IsStart ports steps c.in-Ok.plant) c.as_slice-2.ensures.value
+    (subst (λ (ports : List (PortCfg × ℕ)). IsStart ports c.as_slice-2.result.now c.in-Ok.plant) c.as_slice.ensures.value c.in-Ok.ensures) in
     let kept = subst (λ (ports : List Chapter). OnOk ended (HasRecorded (g.D.DevWrite.contents last.recorder.file.device) last.recorder.file.left tape [] (all_kept ports))) c.into_ports.ensures c.end_with-recording.ensures.written in
-    inr (planned_recorded g.D.DevWrite.contents first last c.answer_input-lines.ensures.path tape c.args.ports.now c.args.steps.items _ _ _ _ c.answer_input-lines.result ended
+    inr (planned_recorded g.D.DevWrite.contents first last c.answer_input-lines.ensures.path tape ports steps _ _ _ _ c.answer_input-lines.result ended
     begins c.answer_input-lines.ensures.text c.end_with-recording.ensures.sound kept)
