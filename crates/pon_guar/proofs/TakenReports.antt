@@ -21,11 +21,11 @@ counting_rising i c book h = subst AreRising (sym (counting_ids i c book)) h
 
 -- One more occupancy, and the end.
 module _ (granted : ℕ → ℕ) (frame : ℕ) where
-  pub took_one : (gs more : List Granted) (g : Granted) (ns others : List (Option ℕ)) (n at left words : ℕ) (book new all : List Account) → gs ≡ g ∷ more → ns ≡ Some n ∷ others →
-      new ≡ counting g.alloc_id (record { frame = at; words = left }) book → at ≡ frame → left ≡ n - words → words ≡ granted g.alloc_id →
+  pub took_one : (gs more : List Granted) (g : Granted) (ns others : List (Option ℕ)) (n left words : ℕ) (book new all : List Account) → gs ≡ g ∷ more → ns ≡ Some n ∷ others →
+      new ≡ counting g.alloc_id (record { frame = frame; words = left }) book → left ≡ n - words → words ≡ granted g.alloc_id →
       after_occupancies granted frame gs ns book ≡ all → after_occupancies granted frame more others new ≡ all
-  took_one gs more g ns others n at left words book new all e q counted same rest so_many h =
-      ap (after_occupancies granted frame more others) (counted ∙ (λ j. counting g.alloc_id (record { frame = same j; words = (rest ∙ ap (λ w. n - w) so_many) j }) book))
+  took_one gs more g ns others n left words book new all e q counted rest so_many h =
+      ap (after_occupancies granted frame more others) (counted ∙ (λ j. counting g.alloc_id (record { frame = frame; words = (rest ∙ ap (λ w. n - w) so_many) j }) book))
       ∙ (λ j. after_occupancies granted frame (sym e j) (sym q j) book)
       ∙ h
 

@@ -49,42 +49,9 @@ fn count(accounts: &mut [Account], hint: usize, alloc_id: AllocId, report: Count
     }
 }
 
-// Counts an ONU's report for the map at an index of the window: each occupancy reduced by what the maps from that one
-// on granted. `places` has a hint for the index of the account of each grant of a map. Returns the index after the
-// grants of the ONU in the map.
-fn count_occupancies(
-    accounts: &mut [Account],
-    places: &[usize],
-    asked: &WindowMap,
-    window: &Window,
-    place: usize,
-    onu: OnuId,
-    occupancies: &[Option<BufOcc>],
-) -> usize
-    requires rising { AreRising (alloc_ids accounts.old) }
-    requires asked { IsLawfulMap asked.now }
-    requires place { place ≤ length window.now }
-    ensures { accounts.new ≡ after_occupancies
-        (λ i. sum_by (words_to onu i) (drop place window.now)) asked.now.frame
-        (filter (λ g. g.onu == onu) asked.now.grants) occupancies.now accounts.old }
-{
-    let frame = asked.frame();
-    let series = asked.series(window.next_hint(), onu);
-    let mut index = series.first;
-    for (granted, occupancy) in series.grants.iter().zip(occupancies) {
-        if let Some(reported) = *occupancy {
-            let granted_since = window.words_since(place, index, onu, granted.alloc_id);
-            let words = words_left(reported, granted_since);
-            let hint = hint_at(places, index);
-            count(accounts, hint, granted.alloc_id, Counted { frame, words });
-        }
-        index = index.wrapping_add(1);
-    }
-    index
-}
-
-/// Counts an ONU's report for the map of a frame that is in the window. `places` has a hint for the index of the account
-/// of each grant of a map. Returns the index after the grants of the ONU in the map, where the next reporter's may begin.
+/// Counts an ONU's report for the map of a frame that is in the window: each occupancy reduced by what the maps from that
+/// one on granted. `places` has a hint for the index of the account of each grant of a map. Returns the index after the
+/// grants of the ONU in the map, where the next reporter's may begin.
 pub(crate) fn count_report(
     accounts: &mut [Account],
     places: &[usize],
@@ -100,15 +67,18 @@ pub(crate) fn count_report(
 {
     let place = window.place_of(frame).unwrap();
     let maps = window.maps();
-    count_occupancies(
-        accounts,
-        places,
-        &maps[place],
-        window,
-        place,
-        onu,
-        occupancies,
-    )
+    let series = maps[place].series(window.next_hint(), onu);
+    let mut index = series.first;
+    for (granted, occupancy) in series.grants.iter().zip(occupancies) {
+        if let Some(reported) = *occupancy {
+            let granted_since = window.words_since(place, index, onu, granted.alloc_id);
+            let words = words_left(reported, granted_since);
+            let hint = hint_at(places, index);
+            count(accounts, hint, granted.alloc_id, Counted { frame, words });
+        }
+        index = index.wrapping_add(1);
+    }
+    index
 }
 
 /// Drops the reports that count; later reports count from a frame on.
