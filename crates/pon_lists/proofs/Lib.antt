@@ -4,4 +4,3 @@ pub mod Inserted
 pub mod Lists
 pub mod Order
 pub mod Parts
-pub mod Splits
