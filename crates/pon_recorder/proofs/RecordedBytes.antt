@@ -38,11 +38,11 @@ one_more bodies b =
     ∙ ap (λ (t : List ℕ). magic Two ++ t) (sym (flat_map-append (chapter_bytes Two) bodies (b ∷ [])))
 
 -- a chapter is written when nothing was left
-pub grows : (mid new : Option (List ℕ)) (left rest : List ℕ) (b : Body) → left ≡ [] → GoesOut mid new rest (chapter_bytes Two b) → Grows mid left new rest b
-grows mid new left rest b none h before bodies r =
+pub grows : (mid new : Option (List ℕ)) (left rest bytes : List ℕ) (b : Body) → left ≡ [] → bytes ≡ chapter_bytes Two b → GoesOut mid new rest bytes → Grows mid left new rest b
+grows mid new left rest bytes b none is h before bodies r =
     let all : r.sent ≡ recording_bytes Two bodies = sym (append-nil r.sent) ∙ ap (λ (t : List ℕ). r.sent ++ t) (sym none) ∙ r.together in
     record {
       sent = r.sent ++ h.sent;
       appends = appends_more before mid new r.sent h.sent r.appends h.appends;
-      together = append_assoc r.sent h.sent rest ∙ ap (λ (t : List ℕ). r.sent ++ t) h.together ∙ ap (λ (t : List ℕ). t ++ chapter_bytes Two b) all ∙ one_more bodies b;
+      together = append_assoc r.sent h.sent rest ∙ ap (λ (t : List ℕ). r.sent ++ t) (h.together ∙ is) ∙ ap (λ (t : List ℕ). t ++ chapter_bytes Two b) all ∙ one_more bodies b;
     }

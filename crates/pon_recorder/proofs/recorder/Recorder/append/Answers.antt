@@ -1,35 +1,31 @@
-use Rattle.std.proofs.Common.{◌≡◌, List, [], ℕ, inr, rules, subst}
+use Rattle.std.proofs.Common.{◌≡◌, List, [], ℕ, inr, rules}
 use Rattle.pon_recorder.specs.Bodies.{chapter_body}
-use Rattle.pon_recorder.specs.Recorders.{GoesOut, Grows}
+use Rattle.pon_recorder.specs.Recorders.{Grows}
 use Rattle.pon_recorder.proofs.RecordedBytes.{grows}
 use Rattle.pon_recorder.proofs.Recordings.{is_failed, rest_written}
 use Rattle.pon_recorder.proofs.recorder.Recorder.append.Goals as goal
 
 pub returns-then-is_ok-clause-recorded : goal.returns-then-is_ok-clause-recorded
 returns-then-is_ok-clause-recorded g c e =
-    let old = g.W.DevWrite.contents c.args.self.now.file.device in
-    let new = g.W.DevWrite.contents c.write_next.new.self.device in
     let none : c.args.self.now.file.left ≡ [] = search rules in
-    grows old new c.args.self.now.file.left c.write_next.new.self.left (chapter_body c.args.port c.args.chapter.now) none (subst (λ (t : List ℕ). GoesOut old new c.write_next.new.self.left t) c.in-Ok.ensures c.write_next.ensures.sent)
+    grows (g.W.DevWrite.contents c.args.self.now.file.device) (g.W.DevWrite.contents c.write_next.new.self.device) c.args.self.now.file.left c.write_next.new.self.left
+    _ (chapter_body c.args.port c.args.chapter.now) none c.in-Ok.ensures c.write_next.ensures.sent
 
 pub returns-clause-recorded : goal.returns-clause-recorded
 returns-clause-recorded g c e =
     let old = g.W.DevWrite.contents c.args.self.now.file.device in
     let mid = g.W.DevWrite.contents c.write_next.new.self.device in
-    let new = g.W.DevWrite.contents c.write_rest.new.file.device in
     let b = chapter_body c.args.port c.args.chapter.now in
     let none : c.args.self.now.file.left ≡ [] = search rules in
-    let more : Grows old c.args.self.now.file.left mid c.write_next.new.self.left b
-    = grows old mid c.args.self.now.file.left c.write_next.new.self.left b none (subst (λ (t : List ℕ). GoesOut old mid c.write_next.new.self.left t) c.in-Ok.ensures c.write_next.ensures.sent) in
-    rest_written old c.args.self.now.file.left mid c.write_next.new.self.left new c.write_rest.new.file.left b more c.write_rest.ensures.same
+    let more : Grows old c.args.self.now.file.left mid c.write_next.new.self.left b = grows old mid c.args.self.now.file.left c.write_next.new.self.left _ b none c.in-Ok.ensures c.write_next.ensures.sent in
+    rest_written old c.args.self.now.file.left mid c.write_next.new.self.left (g.W.DevWrite.contents c.write_rest.new.file.device) c.write_rest.new.file.left b more c.write_rest.ensures.same
 
 pub returns-clause-dropped : goal.returns-clause-dropped
 returns-clause-dropped g c e =
     let old = g.W.DevWrite.contents c.args.self.now.file.device in
     let mid = g.W.DevWrite.contents c.write_next.new.self.device in
-    let new = g.W.DevWrite.contents c.write_rest.new.file.device in
     let b = chapter_body c.args.port c.args.chapter.now in
     let none : c.args.self.now.file.left ≡ [] = search rules in
-    let more : Grows old c.args.self.now.file.left mid c.write_next.new.self.left b
-    = grows old mid c.args.self.now.file.left c.write_next.new.self.left b none (subst (λ (t : List ℕ). GoesOut old mid c.write_next.new.self.left t) c.in-Ok.ensures c.write_next.ensures.sent) in
-    inr (is_failed c.write_rest.result e, rest_written old c.args.self.now.file.left mid c.write_next.new.self.left new c.write_rest.new.file.left b more c.write_rest.ensures.same)
+    let more : Grows old c.args.self.now.file.left mid c.write_next.new.self.left b = grows old mid c.args.self.now.file.left c.write_next.new.self.left _ b none c.in-Ok.ensures c.write_next.ensures.sent in (
+    inr (is_failed c.write_rest.result e, rest_written old c.args.self.now.file.left mid c.write_next.new.self.left (g.W.DevWrite.contents c.write_rest.new.file.device) c.write_rest.new.file.left b more c.write_rest.ensures.same)
+    )
