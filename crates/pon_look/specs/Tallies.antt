@@ -10,8 +10,14 @@ use Rattle.pon_audit.specs.declared.chapters.Judged.TheVariants.{Unlawful, Fails
 use Rattle.pon_look.specs.Sums.{amounts_in_reply, plus, sums_in}
 use Rattle.pon_look.specs.declared.alloc_tallies.AllocTally.{AllocTally}
 use Rattle.pon_look.specs.declared.frame_range.FrameRange.{FrameRange}
+use Rattle.pon_look.specs.declared.sums.Sums.{Sums}
+use Rattle.pon_look.specs.declared.tally.Tally.{Tally}
 use Rattle.pon_look.specs.declared.tally.Tallied.{Tallied}
 use Rattle.pon_look.specs.declared.tally.Tallied.TheVariants.{Follows, Stops}
+
+-- the sums of an Alloc-ID in a tally
+abbrev pub sums_told : Tally → ℕ → Sums
+sums_told t i = sums_in i t.allocs.tallies.items
 
 -- the sums of each Alloc-ID have what the entry adds in a state
 abbrev pub AddsEntry : FrameRange → State → Entry → List AllocTally → List AllocTally → Type 0

@@ -15,8 +15,8 @@ ghost use Rattle.pon_audit.specs.Faults.{map_entry};
 ghost use Rattle.pon_audit.specs.Judging.{IsJudgment};
 ghost use Rattle.pon_audit.specs.declared.chapters.Judged.TheVariants.{Fails};
 ghost use Rattle.pon_why.specs.Rates.{rates_of};
-ghost use Rattle.pon_look.specs.Sums.{amounts_in, no_sums, plus, sums_in, sums_of};
-ghost use Rattle.pon_look.specs.Tallies.{IsTallied, refused_at};
+ghost use Rattle.pon_look.specs.Sums.{amounts_in, no_sums, plus, sums_of};
+ghost use Rattle.pon_look.specs.Tallies.{IsTallied, refused_at, sums_told};
 
 use crate::alloc_tallies::AllocTallies;
 use crate::changes::{Change, Changes};
@@ -82,9 +82,8 @@ impl Tally {
 
     /// Adds the tally of later chapters of the port. `Err` if memory is refused or a sum is 2^64 or more.
     pub(crate) fn add_all(&mut self, others: &Tally) -> Result<(), AllocError>
-        ensures { OnOk result ((i : ℕ) → sums_in i self.new.allocs.tallies.items
-            ≡ plus (sums_in i self.old.allocs.tallies.items)
-            (sums_in i others.now.allocs.tallies.items)) }
+        ensures { OnOk result ((i : ℕ) → sums_told self.new i
+            ≡ plus (sums_told self.old i) (sums_told others.now i)) }
     {
         self.allocs.add_all(&others.allocs)?;
         self.changes.note_all(&others.changes)?;
@@ -184,8 +183,8 @@ fn tally_map(
     requires carries { AreCarries state.now.rule state.now.roster state.now.carries }
     requires problems { AreProblems (input_of state.now) problems.now }
     requires certified { IsCertified (input_of state.now) made.now.cert }
-    ensures sums { IfOk result (λ added. (i : ℕ) → sums_in i tally.new.allocs.tallies.items
-        ≡ plus (sums_in i tally.old.allocs.tallies.items)
+    ensures sums { IfOk result (λ added. (i : ℕ) → sums_told tally.new i
+        ≡ plus (sums_told tally.old i)
         (if added then amounts_in i (rates_of state.now made.now.cert) made.now.map
         else no_sums)) }
     ensures good { IfOk result (λ added. IsMade state.now made.now → IsTrue added) }
@@ -293,8 +292,8 @@ pub fn tally_chapter(
     tally: &mut Tally,
 ) -> Result<Summed, AllocError>
     requires { FitsRecording chapter.now.body }
-    ensures sums { IfOk result (λ summed. (i : ℕ) → sums_in i tally.new.allocs.tallies.items
-        ≡ plus (sums_in i tally.old.allocs.tallies.items)
+    ensures sums { IfOk result (λ summed. (i : ℕ) → sums_told tally.new i
+        ≡ plus (sums_told tally.old i)
         (sums_of range.now i (chapter_of chapter.now.body) summed.entries)) }
     ensures judged { IfOk result (λ summed. IsJudgment chapter.now summed.judged) }
     ensures whole { IfOk result (λ summed. IfNone (refused_at summed.judged)
