@@ -324,36 +324,38 @@ lawful_if_passes number o numbers range p =
     let fits : All (AccountFits o) s.book = book_all (AccountFits o) (accounts_of o) (book_fits o apart p.fits.reports) in
     record {
       first = p.first;
-      numbers = numbers;
-      admitted = p.admitted;
-      book = book;
-      carries = record {
-        count = length-map o.rows (λ r. r.carry) ∙ sym (length-map o.rows admitted_row);
-        range = All-map (λ c. c ≤ max_carry o.rule) (λ r. r.carry) o.rows range;
+      state = record {
+        numbers = numbers;
+        admitted = p.admitted;
+        book = book;
+        carries = record {
+          count = length-map o.rows (λ r. r.carry) ∙ sym (length-map o.rows admitted_row);
+          range = All-map (λ c. c ≤ max_carry o.rule) (λ r. r.carry) o.rows range;
+        };
+        accounts = λ k d l.
+            let a : Account = get_or s.book k d in
+            record { since = (fits k d l).0; counted = (fits k d l).1; owner = owner_from o apart a (found_each s.book book.0 k d l) p.fits.owned };
+        few_maps = p.parts.maps.few_maps;
+        frames = p.fits.frames;
+        maps = p.parts.maps.maps;
+        failed = p.silent;
       };
-      accounts = λ k d l.
-          let a : Account = get_or s.book k d in
-          record { since = (fits k d l).0; counted = (fits k d l).1; owner = owner_from o apart a (found_each s.book book.0 k d l) p.fits.owned };
-      few_maps = p.parts.maps.few_maps;
-      frames = p.fits.frames;
-      maps = p.parts.maps.maps;
-      failed = p.silent;
     }
 
 -- a lawful opening passes the tests
 pub passes_if_lawful : (number : ℕ) (o : Opening) → IsLawfulOpening number (state_of o) → PassesTests number o
 passes_if_lawful number o l =
-    let apart : IsDistinct (roster_of o) = l.admitted.apart in
+    let apart : IsDistinct (roster_of o) = l.state.admitted.apart in
     let accounts : AreApart (accounts_of o) = accounts_apart o.rows apart in
     record {
       first = l.first;
-      silent = l.failed;
-      admitted = l.admitted;
-      parts = record { apart = accounts; maps = record { few_maps = l.few_maps; frames = leads_after o.next o.window l.frames; maps = l.maps } };
+      silent = l.state.failed;
+      admitted = l.state.admitted;
+      parts = record { apart = accounts; maps = record { few_maps = l.state.few_maps; frames = leads_after o.next o.window l.state.frames; maps = l.state.maps } };
       fits = record {
-        frames = l.frames;
-        reports = rows_lawful o apart (accounts_all (AccountIsLawful (state_of o)) (accounts_of o) l.accounts);
-        owned = owned_from o apart l.book l.accounts;
+        frames = l.state.frames;
+        reports = rows_lawful o apart (accounts_all (AccountIsLawful (state_of o)) (accounts_of o) l.state.accounts);
+        owned = owned_from o apart l.state.book l.state.accounts;
       };
     }
 

@@ -83,7 +83,7 @@ has_its_accounts o book a e =
 module _ (number : ℕ) (o : Opening) (b : Body) (s : State) (l : IsLawfulOpening number (state_of o)) (kept : IsKept (chapter_of b) s) where
   pub is_state : HasParts o s → state_of o ≡ s
   is_state p =
-      let book : book_from (accounts_of o) ≡ s.book = same_book o s.book l.book (subst (λ r. AccountsFor r s.book) (sym p.rows) kept.book) p.accounts in
+      let book : book_from (accounts_of o) ≡ s.book = same_book o s.book l.state.book (subst (λ r. AccountsFor r s.book) (sym p.rows) kept.book) p.accounts in
       (λ i. record {
         rule = p.numbers.rule i;
         gap = p.numbers.gap i;
@@ -109,7 +109,7 @@ module _ (number : ℕ) (o : Opening) (b : Body) (s : State) (l : IsLawfulOpenin
     };
     rows = ap (λ t. t.roster) e;
     carries = ap (λ t. t.carries) e;
-    accounts = has_its_accounts o s.book l.book (ap (λ t. t.book) e);
+    accounts = has_its_accounts o s.book l.state.book (ap (λ t. t.book) e);
     window = ap (λ t. t.window) e;
   }
 

@@ -1,6 +1,6 @@
 -- The fault of an entry in the state before it. Of several faults the first counts, in this order: event, certificate,
 -- words, bursts.
-use Rattle.std.specs.Prelude.{ℕ, ◌≡◌, ◌≢◌, ◌+◌, map, take, slice_get, Option, Some, None}
+use Rattle.std.specs.Prelude.{ℕ, ◌≡◌, ◌≢◌, ◌+◌, map, slice_get, Option, Some, None}
 use Rattle.pon_admit.specs.declared.event.Event.TheVariants.{MakeMap}
 use Rattle.pon_cert.specs.declared.cert.MapCert.{MapCert}
 use Rattle.pon_demand.specs.Problems.{AreProblems}
@@ -14,7 +14,7 @@ use Rattle.pon_state.specs.declared.reply.MadeMap.{MadeMap}
 use Rattle.pon_state.specs.declared.reply.Reply.{Reply}
 use Rattle.pon_state.specs.declared.reply.Reply.TheVariants.{Taken, Map}
 use Rattle.pon_state.specs.Entry.{Entry}
-use Rattle.pon_history.specs.Chapters.{Chapter, IsLawfulChapter, state_before}
+use Rattle.pon_history.specs.Chapters.{Chapter, IsLawfulChapter, cut_at, state_before}
 use Rattle.pon_audit.specs.declared.verdict.AuditReason.{AuditReason}
 use Rattle.pon_audit.specs.declared.verdict.AuditReason.TheVariants.{Event, Certificate, Words, Bursts}
 
@@ -55,10 +55,6 @@ HasAccepted s cert (Some p) = AreProblems (input_of s) p × IsCertified (input_o
 abbrev pub EntryFails : ℕ → State → Entry → AuditReason → Type 0
 EntryFails kept s e Event = first_refusal kept s e.event ≢ None
 EntryFails kept s e why = (first_refusal kept s e.event ≡ None) × ReplyFails s e.reply why
-
--- the chapter with only its entries before an index
-abbrev pub cut_at : Chapter → ℕ → Chapter
-cut_at c index = record { number = c.number; opening = c.opening; entries = take index c.entries }
 
 -- the entry at an index is the first that fails, for this reason
 pub record FailsAt (c : Chapter) (index : ℕ) (why : AuditReason) : Type 0 where

@@ -1,7 +1,7 @@
 -- The verdict of a recording.
 use Rattle.std.specs.Prelude.{ℕ, ◌≡◌, ◌<◌, ◌⊎◌, All, List, take, slice_get, Some, count_by, sum_by}
 use Rattle.std.specs.List.{AllPairs}
-use Rattle.pon_state.specs.Replay.{makes_map}
+use Rattle.pon_state.specs.Maps.{makes_map}
 use Rattle.pon_state.specs.Entry.{Entry}
 use Rattle.pon_history.specs.Chapters.{Chapter, Follows, IsLawfulChapter, state_before}
 use Rattle.pon_history.specs.FairMaps.{TellsFairMap}

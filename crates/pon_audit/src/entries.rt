@@ -9,7 +9,7 @@ ghost use Rattle.pon_demand.specs.Sharing.{IsCertified, surplus_rate};
 ghost use Rattle.pon_state.specs.Accounts.{AccountsFor};
 ghost use Rattle.pon_state.specs.After.{after_entry, after_map};
 ghost use Rattle.pon_state.specs.Legal.{IsMade, MayFollow};
-ghost use Rattle.pon_state.specs.Replay.{grants_in_map};
+ghost use Rattle.pon_state.specs.Maps.{grants_in_map};
 ghost use Rattle.pon_demand.specs.Carries.{AreCarries};
 ghost use Rattle.pon_state.specs.Carries.{carries_left};
 ghost use Rattle.pon_state.specs.State.{carry_at, input_of};

@@ -8,4 +8,5 @@ pub mod RightChapters
 pub mod SeatOrder
 pub mod Settled
 pub mod Sums
+pub mod Turned
 pub mod Walks

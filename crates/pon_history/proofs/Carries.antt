@@ -1,33 +1,37 @@
--- Carries over a list that is split, and over one entry.
-use Rattle.std.proofs.Common.{◌≡◌, ℕ, zero, suc, ◌+◌, ◌<◌, ◌≤◌, true, false, not, ◌||◌, ◌&&◌, List, [], ◌∷◌, ◌++◌, map, length, get_or, refl, ap, sym, ◌∙◌, append_assoc, arith}
+-- The carries of the closed form, with one more entry.
+use Rattle.std.proofs.Common.{◌≡◌, ℕ, zero, suc, ◌+◌, ◌<◌, true, false, not, ◌||◌, List, [], ◌∷◌, ◌++◌, map, length, get_or, refl, ap, sym, ◌∙◌, append_assoc, arith, inl, inr}
 use Rattle.std.specs.Prelude.{◌==◌, if◌then◌else◌, All}
 use Rattle.std.specs.List.{list_any}
-use Rattle.std.proofs.lemmas.Bool.{and_parts, eq-eqb, or_left, or_parts, or_right}
+use Rattle.std.proofs.lemmas.Bool.{and_parts, cases_Bool, eq-eqb, or_left, or_right}
 use Rattle.std.proofs.lemmas.List.{append-nil, get_or-map, length-map}
-use Rattle.std.proofs.lemmas.List.Elements.{All-map}
 use Rattle.std.proofs.lemmas.List.Folds.{list_any-append}
 use Rattle.pon_descr.specs.Descriptor.{Descriptor}
 use Rattle.pon_admit.specs.declared.row.Row.{Row}
-use Rattle.pon_admit.specs.Roster.{IsDistinct, comes_before, has_alloc, left_over, max_carry, without}
+use Rattle.pon_admit.specs.Roster.{comes_before, has_alloc, left_over, max_carry}
 use Rattle.pon_admit.proofs.AdmittedSets.{changed, changed_alloc, has_alloc-changed}
 use Rattle.pon_admit.proofs.Rules.{left_over_range, left_over_same, left_over_sum}
-use Rattle.pon_demand.specs.Carries.{AreCarries, carries_of, number_of}
-use Rattle.pon_demand.specs.Input.{Input}
+use Rattle.pon_demand.specs.Carries.{carries_of, number_of}
 use Rattle.pon_demand.specs.Rates.{whole_rate}
 use Rattle.pon_demand.specs.Sharing.{surplus_rate}
 use Rattle.pon_demand.proofs.Carries.{carries_each, carry_at_row, carry_known, carry_within}
 use Rattle.pon_state.specs.State.{State, carry_at, input_of}
-use Rattle.pon_state.specs.Replay.{admits, roster_after, roster_of}
-use Rattle.pon_state.specs.Loads.{book_of}
-use Rattle.pon_state.specs.Carries.{admits_now, carries_left, carry_after, input_after, owed_of, rate_of_reply, rates_since, sum_since}
+use Rattle.pon_state.specs.After.{after_reply}
+use Rattle.pon_state.specs.Carries.{carries_left}
 use Rattle.pon_state.specs.History.{replay}
-use Rattle.pon_admit.specs.declared.event.Event.{Event}
-use Rattle.pon_admit.specs.declared.event.Event.TheVariants.{Admit, Change, Remove, Report, MakeMap, Fail, Restore}
+use Rattle.pon_state.specs.Legal.{IsReply}
+use Rattle.pon_state.specs.Entry.{Entry}
+use Rattle.pon_state.specs.declared.reply.Reply.{Reply}
 use Rattle.pon_state.specs.declared.reply.Reply.TheVariants.{Taken, Map}
 use Rattle.pon_state.specs.declared.reply.MadeMap.{MadeMap}
-use Rattle.pon_state.specs.Entry.{Entry}
+use Rattle.pon_admit.specs.declared.event.Event.{Event}
+use Rattle.pon_admit.specs.declared.event.Event.TheVariants.{Admit, Change, Remove, Report, MakeMap, Fail, Restore}
+use Rattle.pon_history.specs.Carries.{admits_now, carry_after, owed_of, rate_of_reply, rates_since, sum_since}
+use Rattle.pon_history.specs.Chapters.{IsLawfulState}
+use Rattle.pon_history.specs.ClosedForm.{closed_form}
+use Rattle.pon_history.specs.Parts.{admits, roster_after, roster_of}
 use Rattle.pon_lists.proofs.Inserted.{list_any-inserted}
-use Rattle.pon_lists.proofs.Lists.{any_eq-filter, list_any-map, map_filter, map_same, or-false}
+use Rattle.pon_lists.proofs.Lists.{map_same, or-false}
+use Rattle.pon_history.proofs.LawfulStates.{any_without}
 use Rattle.pon_history.proofs.Parts.{roster_of-append}
 
 -- two functions that agree on the elements of a list have the same images
@@ -37,146 +41,150 @@ map_agree f g (x ∷ xs) h = (λ j. h 0 x (omega arith) j ∷ map_agree f g xs (
 
 -- The Alloc-IDs of a roster.
 
-pub has_alloc-without : (i j : ℕ) (rows : List Row) → has_alloc j (without i rows) ≡ (not (j == i) && has_alloc j rows)
-has_alloc-without i j rows =
-    sym (list_any-map (λ k. k == j) (λ r. r.alloc_id) (without i rows))
-    ∙ ap (list_any (λ k. k == j)) (sym (map_filter (λ r. r.alloc_id) (λ k. not (k == i)) rows))
-    ∙ any_eq-filter (λ k. not (k == i)) j (map (λ r. r.alloc_id) rows)
-    ∙ ap (λ b. not (j == i) && b) (list_any-map (λ k. k == j) (λ r. r.alloc_id) rows)
-
 -- an Alloc-ID that an event does not admit was admitted before
 had_row : (i : ℕ) (v : Event) (rows : List Row) → admits i v ≡ false → has_alloc i (roster_after rows v) ≡ true → has_alloc i rows ≡ true
 had_row i (Admit onu alloc_id descriptor) rows a h =
     let r : Row = record { onu = onu; alloc_id = alloc_id; descriptor = descriptor } in
     sym (ap (λ b. b || has_alloc i rows) a) ∙ sym (list_any-inserted (λ q. q.alloc_id == i) (λ q. comes_before q r) r rows) ∙ h
 had_row i (Change alloc_id descriptor) rows a h = sym (has_alloc-changed alloc_id descriptor i rows) ∙ h
-had_row i (Remove alloc_id) rows a h = (and_parts (not (i == alloc_id)) (has_alloc i rows) (sym (has_alloc-without alloc_id i rows) ∙ h)).1
+had_row i (Remove alloc_id) rows a h = (and_parts (not (i == alloc_id)) (has_alloc i rows) (sym (any_without (λ r. r.alloc_id) alloc_id i rows) ∙ h)).1
 had_row i (Report frame onu occ) rows a h = h
 had_row i MakeMap rows a h = h
 had_row i (Fail cause) rows a h = h
 had_row i Restore rows a h = h
-
-had_row_all : (i : ℕ) (rows : List Row) (es : List Entry) → list_any (admits_now i) es ≡ false → has_alloc i (roster_of rows es) ≡ true → has_alloc i rows ≡ true
-had_row_all i rows [] a h = h
-had_row_all i rows (e ∷ es) a h =
-    let parts : (admits_now i e ≡ false) × (list_any (admits_now i) es ≡ false) = or_parts (admits_now i e) (list_any (admits_now i) es) a in
-    had_row i e.event rows parts.0 (had_row_all i (roster_after rows e.event) es parts.1 h)
 
 row_has : (rows : List Row) (n : ℕ) (d : Row) → n < length rows → has_alloc (get_or rows n d).alloc_id rows ≡ true
 row_has [] n d l = absurd (omega (arith, l))
 row_has (r ∷ rows) zero d l = or_left (r.alloc_id == r.alloc_id) (has_alloc r.alloc_id rows) (eq-eqb r.alloc_id r.alloc_id refl)
 row_has (r ∷ rows) (suc n) d l = or_right (r.alloc_id == (get_or rows n d).alloc_id) (has_alloc (get_or rows n d).alloc_id rows) (row_has rows n d (omega (arith, l)))
 
--- The carries of a replay.
+-- Sums since the last admission.
 
--- a carry for each row, in the range of the rule
-pub carries_kept : (o : State) (es : List Entry) → AreCarries o.rule (replay o es).roster (replay o es).carries
-carries_kept o es = record {
-  count = length-map (roster_of o.roster es) (λ r. carry_after o es r.alloc_id);
-  range = All-map (λ c. c ≤ max_carry o.rule) (λ r. carry_after o es r.alloc_id) (roster_of o.roster es) (λ n d l. left_over_range o.rule (owed_of o es (get_or (roster_of o.roster es) n d).alloc_id));
-}
-
--- A list that is split.
-
-pub sum_since-append : (f : List Entry → Entry → ℕ) (i : ℕ) (done xs ys : List Entry) →
-    sum_since f i done (xs ++ ys) ≡ (if list_any (admits_now i) ys then 0 else sum_since f i done xs) + sum_since f i (done ++ xs) ys
-sum_since-append f i done [] ys =
-    ap (λ t. sum_since f i t ys) (sym (append-nil done))
-    ∙ elim (list_any (admits_now i) ys) as (λ b. sum_since f i (done ++ []) ys ≡ (if b then 0 else 0) + sum_since f i (done ++ []) ys) [ true ↦ (let z : sum_since f i (done ++ []) ys ≡ 0 + sum_since f i (done ++ []) ys = omega arith in z) | false ↦ (let z : sum_since f i (done ++ []) ys ≡ 0 + sum_since f i (done ++ []) ys = omega arith in z) ]
-sum_since-append f i done (e ∷ xs) ys =
-    let here : ℕ = f done e in
-    let rest : ℕ = sum_since f i (done ++ e ∷ []) xs in
-    let last : ℕ = sum_since f i ((done ++ e ∷ []) ++ xs) ys in
-    let ih : sum_since f i (done ++ e ∷ []) (xs ++ ys) ≡ (if list_any (admits_now i) ys then 0 else rest) + last = sum_since-append f i (done ++ e ∷ []) xs ys in
-    (λ j. (if list_any-append (admits_now i) xs ys j then 0 else here) + ih j)
-    ∙ (elim (list_any (admits_now i) ys) as (λ b. (if list_any (admits_now i) xs || b then 0 else here) + ((if b then 0 else rest) + last) ≡ (if b then 0 else (if list_any (admits_now i) xs then 0 else here) + rest) + last) [
-      | true ↦ ap (λ b. (if b then 0 else here) + (0 + last)) (or_right (list_any (admits_now i) xs) true refl) ∙ (let z : 0 + (0 + last) ≡ 0 + last = omega arith in z)
-      | false ↦ ap (λ b. (if b then 0 else here) + (rest + last)) (or-false (list_any (admits_now i) xs))
-          ∙ (let z : (if list_any (admits_now i) xs then 0 else here) + (rest + last) ≡ (if list_any (admits_now i) xs then 0 else here) + rest + last = omega arith in z)
+pub sum_since_push : (f : List Entry → Entry → ℕ) (i : ℕ) (done es : List Entry) (e : Entry) →
+    sum_since f i done (es ++ e ∷ []) ≡ (if admits_now i e then 0 else sum_since f i done es) + f (done ++ es) e
+sum_since_push f i done [] e = ap (λ t. f t e + 0) (sym (append-nil done)) ∙ (elim (admits_now i e) as (λ b. f (done ++ []) e + 0 ≡ (if b then 0 else 0) + f (done ++ []) e) [
+  | true ↦ (let z : f (done ++ []) e + 0 ≡ 0 + f (done ++ []) e = omega arith in z)
+  | false ↦ (let z : f (done ++ []) e + 0 ≡ 0 + f (done ++ []) e = omega arith in z)
+])
+sum_since_push f i done (x ∷ es) e =
+    let here : ℕ = f done x in
+    let rest : ℕ = sum_since f i (done ++ x ∷ []) es in
+    let last : ℕ = f ((done ++ x ∷ []) ++ es) e in
+    (λ j. (if (list_any-append (admits_now i) es (e ∷ []) ∙ ap (λ b. list_any (admits_now i) es || b) (or-false (admits_now i e))) j then 0 else here) + sum_since_push f i (done ++ x ∷ []) es e j)
+    ∙ (elim (admits_now i e) as (λ b. (if list_any (admits_now i) es || b then 0 else here) + ((if b then 0 else rest) + last) ≡ (if b then 0 else (if list_any (admits_now i) es then 0 else here) + rest) + last) [
+      | true ↦ ap (λ b. (if b then 0 else here) + (0 + last)) (or_right (list_any (admits_now i) es) true refl) ∙ (let z : 0 + (0 + last) ≡ 0 + last = omega arith in z)
+      | false ↦ ap (λ b. (if b then 0 else here) + (rest + last)) (or-false (list_any (admits_now i) es))
+          ∙ (let z : (if list_any (admits_now i) es then 0 else here) + (rest + last) ≡ ((if list_any (admits_now i) es then 0 else here) + rest) + last = omega arith in z)
     ])
-    ∙ ap (λ t. (if list_any (admits_now i) ys then 0 else (if list_any (admits_now i) xs then 0 else here) + rest) + sum_since f i t ys) (append_assoc done (e ∷ []) xs)
+    ∙ ap (λ t. (if admits_now i e then 0 else (if list_any (admits_now i) es then 0 else here) + rest) + f t e) (append_assoc done (x ∷ []) es)
 
--- The carry of an Alloc-ID, over a split list: given that the rates after the split agree.
-pub carry-append : (o : State) (xs ys : List Entry) (i : ℕ) → rates_since o i xs ys ≡ rates_since (replay o xs) i [] ys → has_alloc i (roster_of (roster_of o.roster xs) ys) ≡ true →
-    carry_after o (xs ++ ys) i ≡ carry_after (replay o xs) ys i
-carry-append o xs ys i same there =
+-- what is owed after one more entry
+pub owed_push : (o : State) (es : List Entry) (e : Entry) (i : ℕ) →
+    owed_of o (es ++ e ∷ []) i ≡ (if admits_now i e then 0 else owed_of o es i) + rate_of_reply (input_of (replay o es)) e.reply i
+owed_push o es e i =
     let start : ℕ = number_of o.roster o.carries i in
-    let first : ℕ = rates_since o i [] xs in
-    let last : ℕ = rates_since (replay o xs) i [] ys in
-    let whole : owed_of o (xs ++ ys) i ≡ (if list_any (admits_now i) xs || list_any (admits_now i) ys then 0 else start) + ((if list_any (admits_now i) ys then 0 else first) + last)
-    = (λ j. (if list_any-append (admits_now i) xs ys j then 0 else start) + (sum_since-append (λ before e. rate_of_reply (input_after o before) e.reply i) i [] xs ys ∙ ap (λ n. (if list_any (admits_now i) ys then 0 else first) + n) same) j) in
-    ap (left_over o.rule) whole
-    ∙ (elim (list_any (admits_now i) ys) as (λ b. list_any (admits_now i) ys ≡ b →
-    left_over o.rule ((if list_any (admits_now i) xs || b then 0 else start) + ((if b then 0 else first) + last)) ≡ left_over o.rule ((if b then 0 else number_of (roster_of o.roster xs) (carries_of (carry_after o xs) (roster_of o.roster xs)) i) + last)) [
-      | true ↦ λ e. ap (λ b. left_over o.rule ((if b then 0 else start) + (0 + last))) (or_right (list_any (admits_now i) xs) true refl) ∙ ap (left_over o.rule) (let z : 0 + (0 + last) ≡ 0 + last = omega arith in z)
-      | false ↦ λ e.
-          let known : number_of (roster_of o.roster xs) (carries_of (carry_after o xs) (roster_of o.roster xs)) i ≡ carry_after o xs i = carry_known (carry_after o xs) i (roster_of o.roster xs) (had_row_all i (roster_of o.roster xs) ys e there) in
-          ap (λ b. left_over o.rule ((if b then 0 else start) + (first + last))) (or-false (list_any (admits_now i) xs))
-          ∙ ap (left_over o.rule) (let z : (if list_any (admits_now i) xs then 0 else start) + (first + last) ≡ owed_of o xs i + last = omega arith in z)
-          ∙ sym (left_over_sum o.rule (owed_of o xs i) last)
-          ∙ sym (ap (λ n. left_over o.rule (n + last)) known)
-    ]) refl
-
--- all carries, over a split list
-pub carries-append : (o : State) (xs ys : List Entry) → ((i : ℕ) → rates_since o i xs ys ≡ rates_since (replay o xs) i [] ys) →
-    carries_of (carry_after o (xs ++ ys)) (roster_of o.roster (xs ++ ys)) ≡ carries_of (carry_after (replay o xs) ys) (roster_of (roster_of o.roster xs) ys)
-carries-append o xs ys same =
-    let rows : List Row = roster_of (roster_of o.roster xs) ys in
-    ap (carries_of (carry_after o (xs ++ ys))) (roster_of-append o.roster xs ys)
-    ∙ map_agree (λ r. carry_after o (xs ++ ys) r.alloc_id) (λ r. carry_after (replay o xs) ys r.alloc_id) rows
-    (λ n d l. carry-append o xs ys (get_or rows n d).alloc_id (same (get_or rows n d).alloc_id) (row_has rows n d l))
-
--- One entry.
-
--- an entry that makes no map leaves the carry, or makes it 0 where it admits the Alloc-ID
-pub carry_quiet : (s : State) (e : Entry) (i : ℕ) → All (λ c. c ≤ max_carry s.rule) s.carries → e.reply ≡ Taken →
-    carry_after s (e ∷ []) i ≡ (if admits_now i e then 0 else number_of s.roster s.carries i)
-carry_quiet s e i range taken =
-    (λ j. left_over s.rule ((if or-false (admits_now i e) j then 0 else number_of s.roster s.carries i) + (rate_of_reply (input_after s []) (taken j) i + 0)))
-    ∙ (elim (admits_now i e) as (λ b. left_over s.rule ((if b then 0 else number_of s.roster s.carries i) + (0 + 0)) ≡ (if b then 0 else number_of s.roster s.carries i)) [
-      | true ↦ left_over_same s.rule 0 (omega arith)
-      | false ↦ ap (left_over s.rule) (let z : number_of s.roster s.carries i + (0 + 0) ≡ number_of s.roster s.carries i = omega arith in z)
-          ∙ left_over_same s.rule (number_of s.roster s.carries i) (carry_within (max_carry s.rule) s.roster s.carries i range)
+    let first : ℕ = rates_since o i [] es in
+    let last : ℕ = rate_of_reply (input_of (replay o es)) e.reply i in
+    (λ j. (if (list_any-append (admits_now i) es (e ∷ []) ∙ ap (λ b. list_any (admits_now i) es || b) (or-false (admits_now i e))) j then 0 else start)
+    + sum_since_push (λ before e. rate_of_reply (input_of (replay o before)) e.reply i) i [] es e j)
+    ∙ (elim (admits_now i e) as (λ b. (if list_any (admits_now i) es || b then 0 else start) + ((if b then 0 else first) + last) ≡ (if b then 0 else (if list_any (admits_now i) es then 0 else start) + first) + last) [
+      | true ↦ ap (λ b. (if b then 0 else start) + (0 + last)) (or_right (list_any (admits_now i) es) true refl) ∙ (let z : 0 + (0 + last) ≡ 0 + last = omega arith in z)
+      | false ↦ ap (λ b. (if b then 0 else start) + (first + last)) (or-false (list_any (admits_now i) es))
+          ∙ (let z : (if list_any (admits_now i) es then 0 else start) + (first + last) ≡ ((if list_any (admits_now i) es then 0 else start) + first) + last = omega arith in z)
     ])
-
--- an entry that makes no map and admits nothing leaves the carries of the same Alloc-IDs
-pub carries_quiet : (s : State) (e : Entry) → AreCarries s.rule s.roster s.carries → IsDistinct s.roster → ((i : ℕ) → admits_now i e ≡ false) → e.reply ≡ Taken →
-    carries_of (carry_after s (e ∷ [])) s.roster ≡ s.carries
-carries_quiet s e k apart none taken =
-    map_same (λ r. carry_after s (e ∷ []) r.alloc_id) (λ r. number_of s.roster s.carries r.alloc_id)
-    (λ r. carry_quiet s e r.alloc_id k.range taken ∙ ap (λ b. if b then 0 else number_of s.roster s.carries r.alloc_id) (none r.alloc_id)) s.roster
-    ∙ carries_each s.roster s.carries apart k.count
 
 -- with other descriptors
-pub carries_changed : (f : ℕ → ℕ) (i : ℕ) (d : Descriptor) (rows : List Row) → carries_of f (map (changed i d) rows) ≡ carries_of f rows
+carries_changed : (f : ℕ → ℕ) (i : ℕ) (d : Descriptor) (rows : List Row) → carries_of f (map (changed i d) rows) ≡ carries_of f rows
 carries_changed f i d [] = refl
 carries_changed f i d (r ∷ rows) = (λ j. f (changed_alloc i d r j) ∷ carries_changed f i d rows j)
 
--- no entry leaves the carries
-pub carries_none : (s : State) → AreCarries s.rule s.roster s.carries → IsDistinct s.roster → carries_of (carry_after s []) s.roster ≡ s.carries
-carries_none s k apart =
+-- One more entry.
+
+module _ (o : State) (es : List Entry) (l : IsLawfulState (closed_form o es)) where
+  abbrev rows : List Row
+  rows = roster_of o.roster es
+
+  abbrev carry : ℕ → ℕ
+  carry = carry_after o es
+
+  -- a rate is added to what was left before; an admission begins with nothing
+  carry_push : (e : Entry) (i : ℕ) → carry_after o (es ++ e ∷ []) i ≡ left_over o.rule ((if admits_now i e then 0 else carry i) + rate_of_reply (input_of (replay o es)) e.reply i)
+  carry_push e i =
+      let rate : ℕ = rate_of_reply (input_of (replay o es)) e.reply i in
+      ap (left_over o.rule) (owed_push o es e i)
+      ∙ (elim (admits_now i e) as (λ b. left_over o.rule ((if b then 0 else owed_of o es i) + rate) ≡ left_over o.rule ((if b then 0 else carry i) + rate)) [
+        | true ↦ refl
+        | false ↦ sym (left_over_sum o.rule (owed_of o es i) rate)
+      ])
+
+  -- the carry of an admitted Alloc-ID is in the state before
+  known : (i : ℕ) → has_alloc i rows ≡ true → carry i ≡ number_of rows (carries_of carry rows) i
+  known i h = sym (carry_known carry i rows h)
+
+  -- an event without a map leaves the carries of the Alloc-IDs that it does not admit
+  carries_taken : (v : Event) → carries_of (carry_after o (es ++ record { event = v; reply = Taken } ∷ [])) (roster_after rows v)
+      ≡ carries_of (λ i. if admits i v then 0 else number_of rows (carries_of carry rows) i) (roster_after rows v)
+  carries_taken v = map_agree (λ r. carry_after o (es ++ record { event = v; reply = Taken } ∷ []) r.alloc_id) (λ r. if admits r.alloc_id v then 0 else number_of rows (carries_of carry rows) r.alloc_id) (roster_after rows v)
+      (λ n d lt. one (get_or (roster_after rows v) n d).alloc_id (row_has (roster_after rows v) n d lt))
+    where
+      zero_more : (n : ℕ) → n + 0 ≡ n
+      zero_more n = omega arith
+
+      one : (i : ℕ) → has_alloc i (roster_after rows v) ≡ true → carry_after o (es ++ record { event = v; reply = Taken } ∷ []) i ≡ (if admits i v then 0 else number_of rows (carries_of carry rows) i)
+      one i h = carry_push (record { event = v; reply = Taken }) i ∙ ap (left_over o.rule) (zero_more (if admits i v then 0 else carry i)) ∙ (elim (cases_Bool (admits i v)) [
+        | inl a ↦ ap (λ b. left_over o.rule (if b then 0 else carry i)) a ∙ left_over_same o.rule 0 (omega arith) ∙ ap (λ b. if b then 0 else number_of rows (carries_of carry rows) i) (sym a)
+        | inr a ↦ ap (λ b. left_over o.rule (if b then 0 else carry i)) a ∙ left_over_same o.rule (carry i) (left_over_range o.rule (owed_of o es i))
+            ∙ known i (had_row i v rows a h) ∙ ap (λ b. if b then 0 else number_of rows (carries_of carry rows) i) (sym a)
+      ])
+
+  still : carries_of (λ i. number_of rows (carries_of carry rows) i) rows ≡ carries_of carry rows
+  still = carries_each rows (carries_of carry rows) l.admitted.apart l.carries.count
+
+  -- a map leaves what its words leave
+  carries_mapped : (made : MadeMap) → replay o es ≡ closed_form o es →
+      carries_of (carry_after o (es ++ record { event = MakeMap; reply = Map made } ∷ [])) rows ≡ carries_left (closed_form o es) (Map made)
+  carries_mapped made same =
+      let s : State = closed_form o es in
+      let rate : Row → ℕ = whole_rate (input_of s) (surplus_rate (input_of s) made.cert) in
+      map_agree (λ r. carry_after o (es ++ record { event = MakeMap; reply = Map made } ∷ []) r.alloc_id) (λ r. left_over o.rule (carry_at s r + rate r)) rows (λ n d lt.
+      let r : Row = get_or rows n d in
+      let there : has_alloc r.alloc_id rows ≡ true = row_has rows n d lt in
+      let rate_known : number_of rows (map rate rows) r.alloc_id ≡ rate r
+      = sym (carry_at_row rows (map rate rows) r n 0 l.admitted.apart (length-map rows rate) lt (get_or_any rows n r d lt)) ∙ get_or-map rate rows n r 0 lt ∙ ap rate (get_or_any rows n r d lt) in
+      carry_push (record { event = MakeMap; reply = Map made }) r.alloc_id
+      ∙ (λ j. left_over o.rule (known r.alloc_id there j + rate_of_reply (input_of (same j)) (Map made) r.alloc_id))
+      ∙ ap (λ n. left_over o.rule (carry_at s r + n)) rate_known)
+    where
+      get_or_any : (rows : List Row) (n : ℕ) (d e : Row) → n < length rows → get_or rows n d ≡ get_or rows n e
+      get_or_any [] n d e l = absurd (omega (arith, l))
+      get_or_any (r ∷ rows) zero d e l = refl
+      get_or_any (r ∷ rows) (suc n) d e l = get_or_any rows n d e (omega (arith, l))
+
+  -- the carries of the closed form are those of the state after the entry
+  pub carries_push : replay o es ≡ closed_form o es → (v : Event) (reply : Reply) → IsReply (closed_form o es) v reply →
+      carries_of (carry_after o (es ++ record { event = v; reply = reply } ∷ [])) (roster_of o.roster (es ++ record { event = v; reply = reply } ∷ [])) ≡ (after_reply (closed_form o es) v reply).carries
+  carries_push same v reply m = ap (carries_of (carry_after o (es ++ record { event = v; reply = reply } ∷ []))) (roster_of-append o.roster es (record { event = v; reply = reply } ∷ [])) ∙ one v reply m
+    where
+      one : (v : Event) (reply : Reply) → IsReply (closed_form o es) v reply → carries_of (carry_after o (es ++ record { event = v; reply = reply } ∷ [])) (roster_after rows v) ≡ (after_reply (closed_form o es) v reply).carries
+      one (Admit onu alloc_id descriptor) Taken m = carries_taken (Admit onu alloc_id descriptor)
+      one (Change alloc_id descriptor) Taken m = carries_taken (Change alloc_id descriptor) ∙ carries_changed (number_of rows (carries_of carry rows)) alloc_id descriptor rows ∙ still
+      one (Remove alloc_id) Taken m = carries_taken (Remove alloc_id)
+      one (Report frame onu occ) Taken m = carries_taken (Report frame onu occ) ∙ still
+      one MakeMap (Map made) m = carries_mapped made same
+      one MakeMap Taken m = absurd m
+      one (Fail cause) Taken m = carries_taken (Fail cause) ∙ still
+      one Restore Taken m = carries_taken Restore ∙ still
+      one (Admit onu alloc_id descriptor) (Map made) m = absurd (let t : Map made ≡ Taken = m in cc)
+      one (Change alloc_id descriptor) (Map made) m = absurd (let t : Map made ≡ Taken = m in cc)
+      one (Remove alloc_id) (Map made) m = absurd (let t : Map made ≡ Taken = m in cc)
+      one (Report frame onu occ) (Map made) m = absurd (let t : Map made ≡ Taken = m in cc)
+      one (Fail cause) (Map made) m = absurd (let t : Map made ≡ Taken = m in cc)
+      one Restore (Map made) m = absurd (let t : Map made ≡ Taken = m in cc)
+
+-- no entries leave the carries
+pub carries_none : (s : State) → IsLawfulState s → carries_of (carry_after s []) s.roster ≡ s.carries
+carries_none s l =
     map_same (λ r. carry_after s [] r.alloc_id) (λ r. number_of s.roster s.carries r.alloc_id)
     (λ r. ap (left_over s.rule) (let z : number_of s.roster s.carries r.alloc_id + 0 ≡ number_of s.roster s.carries r.alloc_id = omega arith in z)
-    ∙ left_over_same s.rule (number_of s.roster s.carries r.alloc_id) (carry_within (max_carry s.rule) s.roster s.carries r.alloc_id k.range)) s.roster
-    ∙ carries_each s.roster s.carries apart k.count
-
--- a map leaves what its words leave
-pub carries_map : (s : State) (made : MadeMap) → book_of s [] ≡ s.book → IsDistinct s.roster →
-    carries_left s (Map made) ≡ carries_of (carry_after s (record { event = MakeMap; reply = Map made } ∷ [])) s.roster
-carries_map s made same apart =
-    let input : Input = input_of s in
-    let rate : Row → ℕ = whole_rate input (surplus_rate input made.cert) in
-    let read : input_after s [] ≡ input = (λ j. record { rule = s.rule; gap = s.gap; roster = s.roster; book = same j }) in
-    let known : (r : Row) (n : ℕ) → n < length s.roster → get_or s.roster n r ≡ r → number_of s.roster (map rate s.roster) r.alloc_id ≡ rate r
-    = λ r n l is. sym (carry_at_row s.roster (map rate s.roster) r n 0 apart (length-map s.roster rate) l is) ∙ get_or-map rate s.roster n r 0 l ∙ ap rate is in
-    map_agree (λ r. left_over s.rule (carry_at s r + rate r)) (λ r. carry_after s (record { event = MakeMap; reply = Map made } ∷ []) r.alloc_id) s.roster
-    (λ n d l.
-    let r : Row = get_or s.roster n d in
-    ap (λ n. left_over s.rule (carry_at s r + n)) (sym (known r n l (get_or_any s.roster n r d l)))
-    ∙ (λ j. left_over s.rule (carry_at s r + (rate_of_reply (sym read j) (Map made) r.alloc_id)))
-    ∙ ap (λ n. left_over s.rule (carry_at s r + n)) (let z : rate_of_reply (input_after s []) (Map made) r.alloc_id ≡ rate_of_reply (input_after s []) (Map made) r.alloc_id + 0 = omega arith in z))
-  where
-    get_or_any : (rows : List Row) (n : ℕ) (d e : Row) → n < length rows → get_or rows n d ≡ get_or rows n e
-    get_or_any [] n d e l = absurd (omega (arith, l))
-    get_or_any (r ∷ rows) zero d e l = refl
-    get_or_any (r ∷ rows) (suc n) d e l = get_or_any rows n d e (omega (arith, l))
+    ∙ left_over_same s.rule (number_of s.roster s.carries r.alloc_id) (carry_within (max_carry s.rule) s.roster s.carries r.alloc_id l.carries.range)) s.roster
+    ∙ carries_each s.roster s.carries l.admitted.apart l.carries.count

@@ -1,173 +1,111 @@
 -- The counted report is an accepted one, and no accepted one is later.
-use Rattle.std.proofs.Common.{◌≡◌, ℕ, ◌-◌, ◌≤◌, Bool, true, false, List, [], ◌∷◌, map, refl, ap, sym, subst, arith, inl, inr}
-use Rattle.std.specs.Prelude.{◌⊎◌, nat_le, if◌then◌else◌, All, Contains, IfSome, Option, Some, None, flat_map, option_to_list}
+use Rattle.std.proofs.Common.{◌≡◌, ℕ, ◌-◌, ◌≤◌, Bool, false, List, [], ◌∷◌, ◌++◌, map, length, refl, ap, sym, subst, ◌∙◌, arith, inl, inr}
+use Rattle.std.specs.Prelude.{if◌then◌else◌, All, Contains, Option, Some, None, flat_map, option_to_list}
 use Rattle.std.specs.List.{list_any}
-use Rattle.std.proofs.lemmas.Bool.{cases_lt, le-leb, le-ltb, leb-true, lt-ltb}
-use Rattle.std.proofs.lemmas.List.Elements.{All-cons, All-contains, All-contains_itself, All-nil, All-weaker, Contains-append_cases, Contains-append_left, Contains-append_right, Contains-push, Contains-push_cases}
+use Rattle.std.proofs.lemmas.Bool.{cases_lt, le-leb, le-ltb, lt-ltb}
+use Rattle.std.proofs.lemmas.Bool.Decides.{leb_tells}
+use Rattle.std.proofs.lemmas.List.{drop_at}
+use Rattle.std.proofs.lemmas.List.Elements.{All-append, All-cons, All-contains, All-contains_itself, All-drop, All-head, All-map, All-nil, All-tail, All-weaker}
+use Rattle.pon_lists.proofs.Lists.{All-front, All-unmap}
 use Rattle.pon_guar.specs.declared.account.Account.{Account}
 use Rattle.pon_guar.specs.declared.account.Counted.{Counted}
 use Rattle.pon_guar.specs.Book.{account_of, counted_of_account, known_report}
+use Rattle.pon_guar.specs.Loads.{less}
 use Rattle.pon_guar.specs.Reports.{later, latest, occupancies}
-use Rattle.pon_guar.specs.Window.{WindowMap, grants_at, words_from}
+use Rattle.pon_guar.specs.Window.{grants_at, words_from}
 use Rattle.pon_state.specs.State.{State}
-use Rattle.pon_state.specs.Replay.{all_maps, begins, maps_of}
-use Rattle.pon_state.specs.Loads.{candidates, candidates_in, counted_of, opening_candidates, since_of}
+use Rattle.pon_history.specs.Windows.{all_maps, maps_of}
+use Rattle.pon_history.specs.Parts.{begins}
+use Rattle.pon_history.specs.Reports.{candidates, candidates_in, counted_of, opening_candidates, since_of}
 use Rattle.pon_admit.specs.declared.event.Event.{Event}
-use Rattle.pon_admit.specs.declared.event.Event.TheVariants.{Admit, Change, Remove, Report, MakeMap, Fail, Restore}
+use Rattle.pon_admit.specs.declared.event.Event.TheVariants.{Report}
 use Rattle.pon_state.specs.Entry.{Entry}
-use Rattle.pon_history.specs.CountedReports.{Counts, IsEntryReport, IsOpeningReport, IsReport}
-use Rattle.pon_history.proofs.LawfulStates.{latest_all}
+use Rattle.pon_history.proofs.Reports.{flat_all}
+use Rattle.pon_history.specs.CountedReports.{Counts, IsReport}
 
--- Elements of lists.
+-- Properties of all elements of the lists that a list is made into.
 
-none_in : {X : Type 0} (y : X) → Contains [] y → ⊥
-none_in y h = omega (arith, h.1)
+behind : {Y : Type 0} (P : Y → Type 0) (xs ys : List Y) → All P (xs ++ ys) → All P ys
+behind P xs ys h = subst (All P) (drop_at xs ys (length xs) refl) (All-drop P (length xs) (xs ++ ys) h)
 
-first_in : {X : Type 0} (x : X) (xs : List X) → Contains (x ∷ xs) x
-first_in x xs = Contains-append_left (x ∷ []) xs x (Contains-push [] x)
+all_flat : {X Y : Type 0} (P : Y → Type 0) (f : X → List Y) (xs : List X) → All P (flat_map f xs) → All (λ x. All P (f x)) xs
+all_flat P f [] h = All-nil (λ x. All P (f x))
+all_flat P f (x ∷ xs) h = All-cons (λ x. All P (f x)) x xs (All-front P (f x) (flat_map f xs) h) (all_flat P f xs (behind P (f x) (flat_map f xs) h))
 
-later_in : {X : Type 0} (x : X) (xs : List X) (y : X) → Contains xs y → Contains (x ∷ xs) y
-later_in x xs y h = Contains-append_right (x ∷ []) xs y h
+-- The latest report of a list has a property that all have, and none is of a later frame; if there is none, the list is empty.
+abbrev IsLatest : (Counted → Type 0) → Option Counted → List Counted → Type 0
+IsLatest P None cs = All (λ d. ⊥) cs
+IsLatest P (Some c) cs = P c × All (λ d. d.frame ≤ c.frame) cs
 
-cases_in : {X : Type 0} (x : X) (xs : List X) (y : X) → Contains (x ∷ xs) y → (x ≡ y) ⊎ Contains xs y
-cases_in x xs y h = elim (Contains-append_cases (x ∷ []) xs y h) [
-  | inl k ↦ (elim (Contains-push_cases [] x y k) [ inl none ↦ absurd (none_in y none) | inr e ↦ inl e ])
-  | inr k ↦ inr k
-]
-
-from_map : {X Y : Type 0} (f : X → Y) (xs : List X) (y : Y) → Contains (map f xs) y → (x : X) × Contains xs x × (f x ≡ y)
-from_map f [] y h = absurd (none_in y h)
-from_map f (x ∷ xs) y h = elim (cases_in (f x) (map f xs) y h) [
-  | inl e ↦ (x, first_in x xs, e)
-  | inr k ↦ (let r = from_map f xs y k in (r.0, later_in x xs r.0 r.1, r.2))
-]
-
-in_map : {X Y : Type 0} (f : X → Y) (xs : List X) (x : X) → Contains xs x → Contains (map f xs) (f x)
-in_map f [] x h = absurd (none_in x h)
-in_map f (z ∷ xs) x h = elim (cases_in z xs x h) [
-  | inl e ↦ subst (λ w. Contains (f z ∷ map f xs) (f w)) e (first_in (f z) (map f xs))
-  | inr k ↦ later_in (f z) (map f xs) (f x) (in_map f xs x k)
-]
-
-from_flat : {X Y : Type 0} (f : X → List Y) (xs : List X) (y : Y) → Contains (flat_map f xs) y → (x : X) × Contains xs x × Contains (f x) y
-from_flat f [] y h = absurd (none_in y h)
-from_flat f (x ∷ xs) y h = elim (Contains-append_cases (f x) (flat_map f xs) y h) [
-  | inl k ↦ (x, first_in x xs, k)
-  | inr k ↦ (let r = from_flat f xs y k in (r.0, later_in x xs r.0 r.1, r.2))
-]
-
-in_flat : {X Y : Type 0} (f : X → List Y) (xs : List X) (x : X) (y : Y) → Contains xs x → Contains (f x) y → Contains (flat_map f xs) y
-in_flat f [] x y h k = absurd (none_in x h)
-in_flat f (z ∷ xs) x y h k = elim (cases_in z xs x h) [
-  | inl e ↦ Contains-append_left (f z) (flat_map f xs) y (subst (λ w. Contains (f w) y) (sym e) k)
-  | inr there ↦ Contains-append_right (f z) (flat_map f xs) y (in_flat f xs x y there k)
-]
-
--- The latest of a list of reports.
-
--- no report of the list is of a later frame than the latest; if there is no latest, the list is empty
-abbrev Bounds : Option Counted → List Counted → Type 0
-Bounds None cs = All (λ d. ⊥) cs
-Bounds (Some c) cs = All (λ d. d.frame ≤ c.frame) cs
-
-latest_bounds : (cs : List Counted) → Bounds (latest cs) cs
-latest_bounds [] = All-nil (λ d. ⊥)
-latest_bounds (c ∷ cs) = one (latest cs) (latest_bounds cs)
+latest_is : (P : Counted → Type 0) (cs : List Counted) → All P cs → IsLatest P (latest cs) cs
+latest_is P [] h = All-nil (λ d. ⊥)
+latest_is P (c ∷ cs) h = one (latest cs) (latest_is P cs (All-tail P c cs h))
   where
-    one : (q : Option Counted) → Bounds q cs → Bounds (later c q) (c ∷ cs)
-    one None h = All-cons (λ d. d.frame ≤ c.frame) c cs (omega arith) (All-weaker (λ d. ⊥) (λ d. d.frame ≤ c.frame) (λ d b. absurd b) cs h)
-    one (Some d) h = elim (cases_lt d.frame c.frame) [
-      | inl lt ↦ subst (λ b. Bounds (if b then Some c else Some d) (c ∷ cs)) (sym (lt-ltb d.frame c.frame lt))
-          (All-cons (λ e. e.frame ≤ c.frame) c cs (omega arith) (All-weaker (λ e. e.frame ≤ d.frame) (λ e. e.frame ≤ c.frame) (λ e k. omega (arith, k, lt)) cs h))
-      | inr le ↦ subst (λ b. Bounds (if b then Some c else Some d) (c ∷ cs)) (sym (le-ltb d.frame c.frame le)) (All-cons (λ e. e.frame ≤ d.frame) c cs le h)
+    one : (q : Option Counted) → IsLatest P q cs → IsLatest P (later c q) (c ∷ cs)
+    one None k = (All-head P c cs h, All-cons (λ d. d.frame ≤ c.frame) c cs (omega arith) (All-weaker (λ d. ⊥) (λ d. d.frame ≤ c.frame) (λ d b. absurd b) cs k))
+    one (Some d) k = elim (cases_lt d.frame c.frame) [
+      | inl lt ↦ rw (lt-ltb d.frame c.frame lt) (All-head P c cs h, All-cons (λ e. e.frame ≤ c.frame) c cs (omega arith) (All-weaker (λ e. e.frame ≤ d.frame) (λ e. e.frame ≤ c.frame) (λ e b. omega (arith, b, lt)) cs k.1))
+      | inr le ↦ rw (le-ltb d.frame c.frame le) (k.0, All-cons (λ e. e.frame ≤ d.frame) c cs le k.1)
     ]
 
--- The opening's report.
-
-listed : (q : Option Counted) (c : Counted) → Contains (option_to_list q) c → q ≡ Some c
-listed None c h = absurd (none_in c h)
-listed (Some d) c h = elim (cases_in d [] c h) [ inl e ↦ ap Some e | inr k ↦ absurd (none_in c k) ]
-
-known_from : (a : Option Account) (c : Counted) → Contains (counted_of_account a) c → known_report a ≡ Some c
-known_from None c h = absurd (none_in c h)
-known_from (Some a) c h = listed a.counted c h
-
-in_known : (a : Option Account) (c : Counted) → known_report a ≡ Some c → Contains (counted_of_account a) c
-in_known None c e = absurd cc
-in_known (Some a) c e = subst (λ q. Contains (option_to_list q) c) (sym e) (first_in c [])
+listed : (a : Option Account) → option_to_list (known_report a) ≡ counted_of_account a
+listed None = refl
+listed (Some a) = refl
 
 -- Candidates are the accepted reports.
 module _ (o : State) (es : List Entry) (i : ℕ) where
-  abbrev ms : List WindowMap
-  ms = all_maps o es
-
-  abbrev since : ℕ
-  since = since_of o es i
-
   -- the opening's report, less what the entries granted
   abbrev left_of : Counted → Counted
-  left_of c = record { frame = c.frame; words = c.words - words_from i 0 (maps_of o.roster o.next es) }
+  left_of c = less (words_from i 0 (maps_of o.roster o.next es)) c
 
   -- an occupancy, less what was granted from its frame on
   abbrev less_granted : ℕ → ℕ → Counted
-  less_granted frame n = record { frame = frame; words = n - words_from i frame ms }
+  less_granted frame n = record { frame = frame; words = n - words_from i frame (all_maps o es) }
 
-  opening_from : (c : Counted) (b : Bool) → list_any (begins i) es ≡ b → Contains (if b then [] else map left_of (counted_of_account (account_of o.book i))) c → IsOpeningReport o es i c
-  opening_from c true e h = absurd (none_in c h)
-  opening_from c false e h =
-      let r = from_map left_of (counted_of_account (account_of o.book i)) c h in
-      subst (IsOpeningReport o es i) r.2 (record { counted = r.0; known = known_from (account_of o.book i) r.0 r.1; kept = e; frame = refl; left = refl })
+  abbrev later_candidates : List Counted
+  later_candidates = flat_map (λ e. candidates_in (all_maps o es) (since_of o es i) i e.event) es
 
-  in_opening : (c : Counted) → IsOpeningReport o es i c → Contains (opening_candidates o es i) c
-  in_opening c r =
-      subst (λ b. Contains (if b then [] else map left_of (counted_of_account (account_of o.book i))) c) (sym r.kept)
-      (subst (Contains (map left_of (counted_of_account (account_of o.book i)))) (λ j. record { frame = sym r.frame j; words = sym r.left j })
-      (in_map left_of (counted_of_account (account_of o.book i)) r.counted (in_known (account_of o.book i) r.counted r.known)))
+  -- the candidates of the opening, of an entry, and all
+  opening_accepted : (b : Bool) (q : Option Counted) → list_any (begins i) es ≡ b → known_report (account_of o.book i) ≡ q → All (IsReport o es i) (if b then [] else map left_of (option_to_list q))
+  opening_accepted false (Some c) e k = All-cons (IsReport o es i) (left_of c) [] (inr (record { counted = c; known = k; kept = e; frame = refl; left = refl })) (All-nil (IsReport o es i))
+  opening_accepted b q e k = All-nil (IsReport o es i)
 
-  report_from : (e : Entry) → Contains es e → (c : Counted) (frame onu : ℕ) (occ : List (Option ℕ)) → e.event ≡ Report frame onu occ → (b : Bool) → nat_le since frame ≡ b →
-      Contains (if b then map (less_granted frame) (occupancies i (grants_at frame onu ms) occ) else []) c → IsEntryReport o es i c
-  report_from e there c frame onu occ is false t h = absurd (none_in c h)
-  report_from e there c frame onu occ is true t h =
-      let r = from_map (less_granted frame) (occupancies i (grants_at frame onu ms) occ) c h in
-      subst (IsEntryReport o es i) r.2
-      (record { entry = e; onu = onu; occ = occ; reported = r.0; accepted = there; report = is; own = r.1; not_early = leb-true since frame t; left = refl })
+  entry_accepted : (e : Entry) → Contains es e → (v : Event) → e.event ≡ v → All (IsReport o es i) (candidates_in (all_maps o es) (since_of o es i) i v)
+  entry_accepted e there (Report frame onu occ) is =
+      let occs : List ℕ = occupancies i (grants_at frame onu (all_maps o es)) occ in
+      elim (leb_tells (since_of o es i) frame) [
+        | inl t ↦ rw t.0 (All-map (IsReport o es i) (less_granted frame) occs (All-weaker (Contains occs) (λ n. IsReport o es i (less_granted frame n))
+            (λ n own. inl (record { entry = e; onu = onu; occ = occ; reported = n; accepted = there; report = is; own = own; not_early = t.1; left = refl })) occs (All-contains_itself occs)))
+        | inr t ↦ rw t.0 (All-nil (IsReport o es i))
+      ]
+  entry_accepted e there v is = All-nil (IsReport o es i)
 
-  entry_from : (e : Entry) → Contains es e → (c : Counted) (v : Event) → e.event ≡ v → Contains (candidates_in ms since i v) c → IsEntryReport o es i c
-  entry_from e there c (Report frame onu occ) is h = report_from e there c frame onu occ is (nat_le since frame) refl h
-  entry_from e there c (Admit onu alloc_id descriptor) is h = absurd (none_in c h)
-  entry_from e there c (Change alloc_id descriptor) is h = absurd (none_in c h)
-  entry_from e there c (Remove alloc_id) is h = absurd (none_in c h)
-  entry_from e there c MakeMap is h = absurd (none_in c h)
-  entry_from e there c (Fail cause) is h = absurd (none_in c h)
-  entry_from e there c Restore is h = absurd (none_in c h)
+  all_accepted : All (IsReport o es i) (candidates o es i)
+  all_accepted = All-append (IsReport o es i) (opening_candidates o es i) later_candidates
+      (subst (λ t. All (IsReport o es i) (if list_any (begins i) es then [] else map left_of t)) (listed (account_of o.book i)) (opening_accepted (list_any (begins i) es) (known_report (account_of o.book i)) refl refl))
+      (flat_all (IsReport o es i) (λ e. candidates_in (all_maps o es) (since_of o es i) i e.event) es
+      (All-weaker (Contains es) (λ e. All (IsReport o es i) (candidates_in (all_maps o es) (since_of o es i) i e.event)) (λ e there. entry_accepted e there e.event refl) es (All-contains_itself es)))
 
-  in_entries : (c : Counted) → IsEntryReport o es i c → Contains (flat_map (λ e. candidates_in ms since i e.event) es) c
-  in_entries c r =
-      let here : Contains (map (less_granted c.frame) (occupancies i (grants_at c.frame r.onu ms) r.occ)) c
-      = subst (Contains (map (less_granted c.frame) (occupancies i (grants_at c.frame r.onu ms) r.occ))) (λ j. record { frame = c.frame; words = sym r.left j })
-      (in_map (less_granted c.frame) (occupancies i (grants_at c.frame r.onu ms) r.occ) r.reported r.own) in
-      in_flat (λ e. candidates_in ms since i e.event) es r.entry c r.accepted
-      (subst (λ v. Contains (candidates_in ms since i v) c) (sym r.report)
-      (subst (λ b. Contains (if b then map (less_granted c.frame) (occupancies i (grants_at c.frame r.onu ms) r.occ) else []) c) (sym (le-leb since c.frame r.not_early)) here))
-
-  report_of : (c : Counted) → Contains (candidates o es i) c → IsReport o es i c
-  report_of c h = elim (Contains-append_cases (opening_candidates o es i) (flat_map (λ e. candidates_in ms since i e.event) es) c h) [
-    | inl k ↦ inr (opening_from c (list_any (begins i) es) refl k)
-    | inr k ↦ inl (let r = from_flat (λ e. candidates_in ms since i e.event) es c k in entry_from r.0 r.1 c r.0.event refl r.2)
-  ]
-
-  candidate_of : (c : Counted) → IsReport o es i c → Contains (candidates o es i) c
-  candidate_of c (inl r) = Contains-append_right (opening_candidates o es i) (flat_map (λ e. candidates_in ms since i e.event) es) c (in_entries c r)
-  candidate_of c (inr r) = Contains-append_left (opening_candidates o es i) (flat_map (λ e. candidates_in ms since i e.event) es) c (in_opening c r)
+  -- what holds of all candidates holds of each accepted report
+  accepted_all : (P : Counted → Type 0) → All P (candidates o es i) → (c : Counted) → IsReport o es i c → P c
+  accepted_all P h c (inl r) =
+      let entry : All P (candidates_in (all_maps o es) (since_of o es i) i (Report c.frame r.onu r.occ))
+      = subst (λ v. All P (candidates_in (all_maps o es) (since_of o es i) i v)) r.report
+      (All-contains (λ e. All P (candidates_in (all_maps o es) (since_of o es i) i e.event)) es r.entry (all_flat P (λ e. candidates_in (all_maps o es) (since_of o es i) i e.event) es (behind P (opening_candidates o es i) later_candidates h)) r.accepted) in
+      let told : All P (map (less_granted c.frame) (occupancies i (grants_at c.frame r.onu (all_maps o es)) r.occ))
+      = subst (λ b. All P (if b then map (less_granted c.frame) (occupancies i (grants_at c.frame r.onu (all_maps o es)) r.occ) else [])) (le-leb (since_of o es i) c.frame r.not_early) entry in
+      subst P (λ j. record { frame = c.frame; words = sym r.left j })
+      (All-contains (λ n. P (less_granted c.frame n)) (occupancies i (grants_at c.frame r.onu (all_maps o es)) r.occ) r.reported (All-unmap P (less_granted c.frame) (occupancies i (grants_at c.frame r.onu (all_maps o es)) r.occ) told) r.own)
+  accepted_all P h c (inr r) =
+      subst P (λ j. record { frame = sym r.frame j; words = sym r.left j })
+      (All-head P (left_of r.counted) []
+      (subst (λ t. All P (map left_of t)) (sym (listed (account_of o.book i)) ∙ ap option_to_list r.known)
+      (subst (λ b. All P (if b then [] else map left_of (counted_of_account (account_of o.book i)))) r.kept (All-front P (opening_candidates o es i) later_candidates h))))
 
   pub counts : (c : Counted) → counted_of o es i ≡ Some c → Counts o es i c
   counts c e =
-      let among : IfSome (counted_of o es i) (Contains (candidates o es i)) = latest_all (Contains (candidates o es i)) (candidates o es i) (All-contains_itself (candidates o es i)) in
-      let bound : All (λ d. d.frame ≤ c.frame) (candidates o es i) = subst (λ q. Bounds q (candidates o es i)) e (latest_bounds (candidates o es i)) in
-      record {
-        accepted = report_of c (subst (λ q. IfSome q (Contains (candidates o es i))) e among);
-        last = λ d r. All-contains (λ d. d.frame ≤ c.frame) (candidates o es i) d bound (candidate_of d r);
-      }
+      let is : IsReport o es i c × All (λ d. d.frame ≤ c.frame) (candidates o es i) = subst (λ q. IsLatest (IsReport o es i) q (candidates o es i)) e (latest_is (IsReport o es i) (candidates o es i) all_accepted) in
+      record { accepted = is.0; last = accepted_all (λ d. d.frame ≤ c.frame) is.1 }
 
   pub none_counts : counted_of o es i ≡ None → (c : Counted) → IsReport o es i c → ⊥
-  none_counts e c r = All-contains (λ d. ⊥) (candidates o es i) c (subst (λ q. Bounds q (candidates o es i)) e (latest_bounds (candidates o es i))) (candidate_of c r)
+  none_counts e = accepted_all (λ d. ⊥) (subst (λ q. IsLatest (IsReport o es i) q (candidates o es i)) e (latest_is (IsReport o es i) (candidates o es i) all_accepted))

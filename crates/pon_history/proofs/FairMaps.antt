@@ -15,9 +15,8 @@ use Rattle.pon_demand.specs.Sharing.{items, spelled_rate, surplus, surplus_rate}
 use Rattle.pon_state.specs.Legal.{IsMade, IsReply}
 use Rattle.pon_history.specs.Chapters.{Chapter, IsLawfulChapter, state_before}
 use Rattle.pon_history.specs.FairMaps.{IsFairMap, TellsFairMap}
-use Rattle.pon_state.specs.Replay.{grants_in_map}
+use Rattle.pon_state.specs.Maps.{grants_in_map}
 use Rattle.pon_admit.specs.declared.event.Event.{Event}
-use Rattle.pon_admit.specs.declared.event.Event.TheVariants.{Admit, Change, Remove, Report, MakeMap, Fail, Restore}
 use Rattle.pon_state.specs.declared.reply.Reply.{Reply}
 use Rattle.pon_state.specs.declared.reply.Reply.TheVariants.{Taken, Map}
 use Rattle.pon_state.specs.declared.reply.MadeMap.{MadeMap}
@@ -25,9 +24,10 @@ use Rattle.pon_state.specs.Entry.{Entry}
 use Rattle.pon_demand.specs.ClassShares.{best_effort_surplus}
 use Rattle.pon_demand.proofs.ClassShares.{best_effort_alone, left_within, members_agree, non_assured_alone, spelled_rates, weighted}
 use Rattle.pon_demand.proofs.Dealing.{problem_of, surplus_range}
-use Rattle.pon_history.proofs.LawfulChapters.{admitted_before, carries_before}
+use Rattle.pon_history.proofs.LawfulStates.{lawful_before}
 use Rattle.pon_demand.proofs.RosterMaps.{admitted_map_is_sound, guaranteed_fits}
 use Rattle.pon_state.proofs.KeptMaps.{window_grants}
+use Rattle.pon_state.proofs.Replies.{gets_reply}
 
 module _ (s : State) (k : IsAdmitted s.rule s.gap s.roster) (carries : AreCarries s.rule s.roster s.carries) where
   pub fair_map : (made : MadeMap) → IsMade s made → IsFairMap s made
@@ -62,15 +62,7 @@ module _ (s : State) (k : IsAdmitted s.rule s.gap s.roster) (carries : AreCarrie
 pub maps_are_fair : (c : Chapter) → IsLawfulChapter c → (n : ℕ) (e : Entry) → slice_get c.entries n ≡ Some e → TellsFairMap (state_before c n) e.reply
 maps_are_fair c l n e at = told e.event e.reply (l.legal n e at).reply
   where
-    k : IsAdmitted (state_before c n).rule (state_before c n).gap (state_before c n).roster
-    k = admitted_before c l n
-
     told : (v : Event) (reply : Reply) → IsReply (state_before c n) v reply → TellsFairMap (state_before c n) reply
     told v Taken h = tt
-    told MakeMap (Map made) h = fair_map (state_before c n) k (carries_before c n) made h
-    told (Admit onu alloc_id descriptor) (Map made) h = absurd (let t : Map made ≡ Taken = h in cc)
-    told (Change alloc_id descriptor) (Map made) h = absurd (let t : Map made ≡ Taken = h in cc)
-    told (Remove alloc_id) (Map made) h = absurd (let t : Map made ≡ Taken = h in cc)
-    told (Report frame onu occ) (Map made) h = absurd (let t : Map made ≡ Taken = h in cc)
-    told (Fail cause) (Map made) h = absurd (let t : Map made ≡ Taken = h in cc)
-    told Restore (Map made) h = absurd (let t : Map made ≡ Taken = h in cc)
+    told v (Map made) h =
+        fair_map (state_before c n) (lawful_before c l n).admitted (lawful_before c l n).carries made (subst (λ v. IsReply (state_before c n) v (Map made)) (gets_reply (state_before c n) v (Map made) h) h)

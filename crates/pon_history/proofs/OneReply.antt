@@ -1,5 +1,5 @@
 -- A state has at most one reply to an event: no two certificates of its map are accepted.
-use Rattle.std.proofs.Common.{◌≡◌, [], ◌∷◌, ◌++◌, ap, sym, ◌∙◌, subst}
+use Rattle.std.proofs.Common.{◌≡◌, refl, ap, sym, ◌∙◌, subst}
 use Rattle.pon_admit.specs.Roster.{IsAdmitted}
 use Rattle.pon_state.specs.State.{State, carry_at, input_of}
 use Rattle.pon_demand.specs.Sharing.{surplus_rate}
@@ -8,14 +8,13 @@ use Rattle.pon_state.specs.Legal.{IsMade, IsReply}
 use Rattle.pon_history.specs.Chapters.{Chapter, IsLawfulChapter, present_state}
 use Rattle.pon_history.specs.Taking.{Takes, with_entry}
 use Rattle.pon_admit.specs.declared.event.Event.{Event}
-use Rattle.pon_admit.specs.declared.event.Event.TheVariants.{Admit, Change, Remove, Report, MakeMap, Fail, Restore}
 use Rattle.pon_state.specs.declared.reply.Reply.{Reply}
 use Rattle.pon_state.specs.declared.reply.Reply.TheVariants.{Taken, Map}
 use Rattle.pon_state.specs.declared.reply.MadeMap.{MadeMap}
-use Rattle.pon_state.specs.Entry.{Entry}
 use Rattle.pon_demand.proofs.ClassShares.{one_map_certificate}
-use Rattle.pon_history.proofs.Legality.{IsLegalAfter, after_from_legal, legal_from_after, legal_push}
-use Rattle.pon_history.proofs.LawfulChapters.{admitted_at_present}
+use Rattle.pon_state.proofs.Replies.{gets_reply}
+use Rattle.pon_history.proofs.EntryByEntry.{legal_one_more}
+use Rattle.pon_history.proofs.LawfulStates.{present_lawful}
 
 module _ (s : State) (k : IsAdmitted s.rule s.gap s.roster) where
   one_made : (a b : MadeMap) → IsMade s a → IsMade s b → a ≡ b
@@ -25,24 +24,17 @@ module _ (s : State) (k : IsAdmitted s.rule s.gap s.roster) where
       (λ i. record { frame = (p.frame ∙ sym q.frame) i; map = told i; cert = cert i })
 
   pub one_reply : (v : Event) (a b : Reply) → IsReply s v a → IsReply s v b → a ≡ b
-  one_reply MakeMap (Map a) (Map b) p q = ap Map (one_made a b p q)
-  one_reply MakeMap (Map a) Taken p q = absurd q
-  one_reply MakeMap Taken b p q = absurd p
-  one_reply (Admit onu alloc_id descriptor) a b p q = p ∙ sym q
-  one_reply (Change alloc_id descriptor) a b p q = p ∙ sym q
-  one_reply (Remove alloc_id) a b p q = p ∙ sym q
-  one_reply (Report frame onu occ) a b p q = p ∙ sym q
-  one_reply (Fail cause) a b p q = p ∙ sym q
-  one_reply Restore a b p q = p ∙ sym q
+  one_reply v Taken Taken p q = refl
+  one_reply v (Map a) (Map b) p q = ap Map (one_made a b (subst (λ v. IsReply s v (Map a)) (gets_reply s v (Map a) p) p) (subst (λ v. IsReply s v (Map b)) (gets_reply s v (Map b) q) q))
+  one_reply v (Map a) Taken p q = absurd (subst (λ v. IsReply s v Taken) (gets_reply s v (Map a) p) q)
+  one_reply v Taken (Map b) p q = absurd (subst (λ v. IsReply s v Taken) (gets_reply s v (Map b) q) p)
 
 -- a lawful chapter has at most one reply, and is lawful with that entry
 pub one_taken : (c d e : Chapter) (v : Event) (a b : Reply) → IsLawfulChapter c → Takes c v a d → Takes c v b e → (a ≡ b) × (d ≡ e)
 one_taken c d e v a b l p q =
-    let same : a ≡ b = one_reply (present_state c) (admitted_at_present c l) v a b p.follows.reply q.follows.reply in
+    let same : a ≡ b = one_reply (present_state c) (present_lawful c l).admitted v a b p.follows.reply q.follows.reply in
     (same, p.kept ∙ ap (with_entry c v) same ∙ sym q.kept)
 
 pub taken_lawful : (c d : Chapter) (v : Event) (a : Reply) → IsLawfulChapter c → Takes c v a d → IsLawfulChapter d
 taken_lawful c d v a l p =
-    let e : Entry = record { event = v; reply = a } in
-    let legal : IsLegalAfter c.opening [] (c.entries ++ e ∷ []) = legal_push c.opening [] c.entries e (after_from_legal c.opening c.entries c.number l.legal) p.follows in
-    subst IsLawfulChapter (sym p.kept) (record { opening = l.opening; legal = legal_from_after c.opening (c.entries ++ e ∷ []) c.number legal })
+    subst IsLawfulChapter (sym p.kept) (record { opening = l.opening; legal = legal_one_more c (record { event = v; reply = a }) l.legal p.follows })

@@ -1,9 +1,9 @@
--- The parts of a replay over a list that is split.
-use Rattle.std.proofs.Common.{◌≡◌, ℕ, ◌+◌, ◌≤◌, Bool, true, false, ◌||◌, List, [], ◌∷◌, ◌++◌, refl, ap, sym, ◌∙◌, subst, arith, add_assoc}
+-- The parts of the closed form over a list that is split.
+use Rattle.std.proofs.Common.{◌≡◌, ℕ, ◌+◌, ◌≤◌, Bool, true, false, List, [], ◌∷◌, ◌++◌, refl, ap, sym, ◌∙◌, subst, arith, add_assoc}
 use Rattle.std.specs.Prelude.{if◌then◌else◌, Option}
-use Rattle.std.specs.List.{list_any}
 use Rattle.pon_admit.specs.declared.row.Row.{Row}
-use Rattle.pon_state.specs.Replay.{allocs_after, allocs_of, cause_after, cause_of, frame_at_last, makes_map, next_of, roster_after, roster_of}
+use Rattle.pon_state.specs.Maps.{makes_map}
+use Rattle.pon_history.specs.Parts.{allocs_after, allocs_of, cause_after, cause_of, frame_at_last, next_of, roster_after, roster_of}
 use Rattle.pon_state.specs.Entry.{Entry}
 use Rattle.pon_lists.proofs.Lists.{count_by-append}
 
@@ -31,38 +31,9 @@ frame_at_last-append t s n (x ∷ xs) ys =
     frame_at_last-append t (if t x then n else s) (next_of n (x ∷ [])) xs ys
     ∙ ap (λ k. frame_at_last t (frame_at_last t s n (x ∷ xs)) k ys) (next_of-cons n x xs)
 
--- if an entry passes, the start is irrelevant
-pub frame_at_last_any : (t : Entry → Bool) (s r n : ℕ) (xs : List Entry) → list_any t xs ≡ true → frame_at_last t s n xs ≡ frame_at_last t r n xs
-frame_at_last_any t s r n [] h = absurd cc
-frame_at_last_any t s r n (x ∷ xs) h = (elim (t x) as (λ b. (b || list_any t xs) ≡ true → frame_at_last t (if b then n else s) (next_of n (x ∷ [])) xs ≡ frame_at_last t (if b then n else r) (next_of n (x ∷ [])) xs) [
-  | true ↦ λ _. refl
-  | false ↦ λ k. frame_at_last_any t s r (next_of n (x ∷ [])) xs k
-]) h
-
--- if none passes, it is the start
-pub frame_at_last_none : (t : Entry → Bool) (s n : ℕ) (xs : List Entry) → list_any t xs ≡ false → frame_at_last t s n xs ≡ s
-frame_at_last_none t s n [] h = refl
-frame_at_last_none t s n (x ∷ xs) h = (elim (t x) as (λ b. (b || list_any t xs) ≡ false → frame_at_last t (if b then n else s) (next_of n (x ∷ [])) xs ≡ s) [
-  | true ↦ λ k. absurd cc
-  | false ↦ λ k. frame_at_last_none t s (next_of n (x ∷ [])) xs k
-]) h
-
 -- the next frame never decreases
 pub next_of_grows : (n : ℕ) (xs : List Entry) → n ≤ next_of n xs
 next_of_grows n xs = omega arith
-
--- if an entry passes, the frame is not below the first next frame
-pub frame_at_last_late : (t : Entry → Bool) (s n : ℕ) (xs : List Entry) → list_any t xs ≡ true → n ≤ frame_at_last t s n xs
-frame_at_last_late t s n [] h = absurd cc
-frame_at_last_late t s n (x ∷ xs) h = (elim (t x) as (λ b. (b || list_any t xs) ≡ true → n ≤ frame_at_last t (if b then n else s) (next_of n (x ∷ [])) xs) [
-  | true ↦ λ _. frame_at_last_keeps t n n (next_of n (x ∷ [])) xs (omega arith) (next_of_grows n (x ∷ []))
-  | false ↦ λ k. omega (arith, frame_at_last_late t s (next_of n (x ∷ [])) xs k, next_of_grows n (x ∷ []))
-]) h
-  where
-    frame_at_last_keeps : (t : Entry → Bool) (low s n : ℕ) (xs : List Entry) → low ≤ s → low ≤ n → low ≤ frame_at_last t s n xs
-    frame_at_last_keeps t low s n [] a b = a
-    frame_at_last_keeps t low s n (x ∷ xs) a b = frame_at_last_keeps t low (if t x then n else s) (next_of n (x ∷ [])) xs
-        (elim (t x) as (λ c. low ≤ (if c then n else s)) [ true ↦ b | false ↦ a ]) (omega (arith, next_of_grows n (x ∷ [])))
 
 -- it is never above the last next frame
 pub frame_at_last_below : (t : Entry → Bool) (s n : ℕ) (xs : List Entry) → s ≤ n → frame_at_last t s n xs ≤ next_of n xs

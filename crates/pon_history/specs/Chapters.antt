@@ -21,6 +21,10 @@ pub record Chapter : Type 0 where
   pub opening : State
   pub entries : List Entry
 
+-- the chapter with only its entries before an index
+abbrev pub cut_at : Chapter → ℕ → Chapter
+cut_at c index = record { number = c.number; opening = c.opening; entries = take index c.entries }
+
 -- the state before the k-th entry, and the present one
 abbrev pub state_before : Chapter → ℕ → State
 state_before c k = replay c.opening (take k c.entries)
@@ -70,8 +74,8 @@ pub record HasNumbersInRange (s : State) : Type 0 where
   pub next : s.next < 2 ^ 64
   pub taken_before : s.taken_before < 2 ^ 64
 
-pub record IsLawfulOpening (number : ℕ) (s : State) : Type 0 where
-  pub first : OpensFirst number s
+-- a state that a port may have
+pub record IsLawfulState (s : State) : Type 0 where
   pub numbers : HasNumbersInRange s
   pub admitted : IsAdmitted s.rule s.gap s.roster
   pub book : AccountsFor s.roster s.book
@@ -81,6 +85,10 @@ pub record IsLawfulOpening (number : ℕ) (s : State) : Type 0 where
   pub frames : AreConsecutive s.next s.window
   pub maps : All IsLawfulMap s.window
   pub failed : IfSome s.cause (λ cause. IsSilent s)
+
+pub record IsLawfulOpening (number : ℕ) (s : State) : Type 0 where
+  pub first : OpensFirst number s
+  pub state : IsLawfulState s
 
 -- a lawful opening and a legal list of entries
 pub record IsLawfulChapter (c : Chapter) : Type 0 where

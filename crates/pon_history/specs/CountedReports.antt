@@ -7,8 +7,9 @@ use Rattle.pon_guar.specs.Book.{account_of, known_report}
 use Rattle.pon_guar.specs.Reports.{occupancies}
 use Rattle.pon_guar.specs.Window.{grants_at, words_from}
 use Rattle.pon_state.specs.State.{State}
-use Rattle.pon_state.specs.Replay.{all_maps, begins, maps_of}
-use Rattle.pon_state.specs.Loads.{since_of}
+use Rattle.pon_history.specs.Windows.{all_maps, maps_of}
+use Rattle.pon_history.specs.Parts.{begins}
+use Rattle.pon_history.specs.Reports.{since_of}
 use Rattle.pon_admit.specs.declared.event.Event.TheVariants.{Report}
 use Rattle.pon_state.specs.Entry.{Entry}
 

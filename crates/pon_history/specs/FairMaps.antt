@@ -15,7 +15,7 @@ use Rattle.pon_demand.specs.Maps.{map_of}
 use Rattle.pon_demand.specs.Rates.{planned_grants, guaranteed_rate}
 use Rattle.pon_demand.specs.Sharing.{IsCertified, items, members, surplus_rate}
 use Rattle.pon_state.specs.State.{State, carry_at, input_of}
-use Rattle.pon_state.specs.Replay.{grants_in_map}
+use Rattle.pon_state.specs.Maps.{grants_in_map}
 use Rattle.pon_state.specs.declared.reply.Reply.{Reply}
 use Rattle.pon_state.specs.declared.reply.Reply.TheVariants.{Taken, Map}
 use Rattle.pon_state.specs.declared.reply.MadeMap.{MadeMap}

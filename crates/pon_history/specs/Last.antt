@@ -5,7 +5,8 @@ use Rattle.pon_descr.specs.declared.class.Class.TheVariants.{NonAssured, BestEff
 use Rattle.pon_admit.specs.declared.row.Row.{Row}
 use Rattle.pon_cert.specs.declared.cert.MapCert.{MapCert}
 use Rattle.pon_demand.specs.Sharing.{member_ids}
-use Rattle.pon_state.specs.Replay.{roster_after}
+use Rattle.pon_state.specs.After.{after_entry}
+use Rattle.pon_state.specs.State.{State}
 use Rattle.pon_history.specs.Chapters.{Chapter}
 use Rattle.pon_state.specs.declared.reply.Reply.{Reply}
 use Rattle.pon_state.specs.declared.reply.Reply.TheVariants.{Taken, Map}
@@ -30,10 +31,10 @@ abbrev pub told_last : Option LastMap → List Row → Reply → Option LastMap
 told_last before rows Taken = before
 told_last before rows (Map made) = Some (record { made = made; na = member_ids NonAssured rows; be = member_ids BestEffort rows })
 
-abbrev pub last_told : Option LastMap → List Row → List Entry → Option LastMap
-last_told before rows [] = before
-last_told before rows (e ∷ es) = last_told (told_last before rows e.reply) (roster_after rows e.event) es
+abbrev pub last_told : Option LastMap → State → List Entry → Option LastMap
+last_told before s [] = before
+last_told before s (e ∷ es) = last_told (told_last before s.roster e.reply) (after_entry s e) es
 
 -- the last map of a chapter
 abbrev pub last_map : Chapter → Option LastMap
-last_map c = last_told None c.opening.roster c.entries
+last_map c = last_told None c.opening c.entries

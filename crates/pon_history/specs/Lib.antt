@@ -1,8 +1,13 @@
+pub mod Carries
+pub mod Chapters
+pub mod ClosedForm
 pub mod CountedReports
 pub mod FairMaps
 pub mod Last
 pub mod OtherForms
+pub mod Parts
 pub mod Ranges
-pub mod Chapters
+pub mod Reports
 pub mod Taking
+pub mod Windows
 pub mod WordRuns

@@ -5,7 +5,7 @@ use Rattle.pon_admit.specs.declared.row.Row.{Row}
 use Rattle.pon_admit.specs.declared.rule.Rule.TheVariants.{CarryRemainders}
 use Rattle.pon_demand.specs.Carries.{number_of}
 use Rattle.pon_state.specs.State.{State}
-use Rattle.pon_state.specs.Carries.{owed_of, sum_since}
+use Rattle.pon_history.specs.Carries.{owed_of, sum_since}
 use Rattle.pon_state.specs.History.{replay}
 use Rattle.pon_history.specs.Chapters.{Chapter}
 use Rattle.pon_state.specs.declared.reply.Reply.{Reply}

@@ -1,6 +1,6 @@
 //! Laws of histories, over the definitions alone.
 
-ghost use Rattle.std.specs.Prelude.{Bool, List, Option, [], false, length, map, true, if◌then◌else◌, None, Some, drop, slice_get, take, ℕ, ◌++◌, ◌+◌, ◌*◌, ◌/◌, ◌<◌, ◌≡◌, ◌≢◌, ◌≤◌};
+ghost use Rattle.std.specs.Prelude.{Bool, List, Option, [], false, length, map, true, if◌then◌else◌, None, Some, drop, slice_get, ℕ, ◌++◌, ◌+◌, ◌*◌, ◌/◌, ◌<◌, ◌≡◌, ◌≢◌, ◌≤◌};
 ghost use Rattle.pon_descr.specs.declared.refusal.Refusal.{Refusal};
 ghost use Rattle.pon_admit.specs.Roster.{IsAdmitted, has_alloc, max_carry};
 ghost use Rattle.pon_admit.specs.declared.row.Row.{Row};
@@ -13,19 +13,19 @@ ghost use Rattle.pon_guar.specs.Book.{AreRising, alloc_ids, load_of, load_of_cou
 ghost use Rattle.pon_guar.specs.Reports.{after_occupancies};
 ghost use Rattle.pon_guar.specs.declared.account.Account.{Account};
 ghost use Rattle.pon_guar.specs.declared.account.Counted.{Counted};
-ghost use Rattle.pon_state.specs.Replay.{frame_at_last, next_of};
-ghost use Rattle.pon_state.specs.Loads.{counted_of};
+ghost use Rattle.pon_history.specs.Parts.{frame_at_last, next_of};
+ghost use Rattle.pon_history.specs.Reports.{counted_of};
 ghost use Rattle.pon_state.specs.History.{replay};
 ghost use Rattle.pon_state.specs.After.{after_entry};
 ghost use Rattle.pon_state.specs.Legal.{MayFollow};
-ghost use Rattle.pon_guar.specs.Window.{AreConsecutive};
 ghost use Rattle.pon_cert.specs.declared.cert.MapCert.{MapCert};
 ghost use Rattle.pon_demand.specs.Input.{Input};
 ghost use Rattle.pon_demand.specs.Sharing.{IsCertified, surplus_rate};
 ghost use Rattle.pon_demand.specs.Maps.{map_of};
 ghost use Rattle.pon_demand.specs.Rates.{guaranteed_rate, payload, whole_rate};
 ghost use Rattle.pon_burst.specs.Bursts.{AreSound};
-ghost use Rattle.pon_history.specs.Chapters.{Chapter, IsLawfulChapter, IsLawfulOpening, IsLegal, present_state, state_before};
+ghost use Rattle.pon_history.specs.ClosedForm.{closed_form};
+ghost use Rattle.pon_history.specs.Chapters.{Chapter, IsLawfulChapter, IsLawfulOpening, IsLegal, cut_at, present_state, state_before};
 ghost use Rattle.pon_history.specs.CountedReports.{Counts, IsReport};
 ghost use Rattle.pon_history.specs.FairMaps.{TellsFairMap};
 ghost use Rattle.pon_history.specs.OtherForms.{account_reported, before_last};
@@ -35,13 +35,12 @@ ghost use Rattle.pon_admit.specs.declared.event.Event.{Event};
 ghost use Rattle.pon_state.specs.Entry.{Entry};
 ghost use Rattle.pon_state.specs.declared.reply.Reply.{Reply};
 
-/// A legal history may be split anywhere: the second part, opened with the replay of the first, has the same replay as
-/// the whole, and is legal as the next chapter.
+/// A history may be split anywhere: the second part, opened with the replay of the first, has the same replay as the
+/// whole, and is legal as the next chapter if the whole is legal.
 pub fn cutting()
-    ensures state { (n : ℕ) (o : State) (xs ys : List Entry) → AreConsecutive o.next o.window →
-        IsLegal (record { number = n; opening = o; entries = xs ++ ys })
+    ensures state { (o : State) (xs ys : List Entry)
         → replay o (xs ++ ys) ≡ replay (replay o xs) ys }
-    ensures rest { (n : ℕ) (o : State) (xs ys : List Entry) → AreConsecutive o.next o.window →
+    ensures rest { (n : ℕ) (o : State) (xs ys : List Entry) →
         IsLegal (record { number = n; opening = o; entries = xs ++ ys }) →
         IsLegal (record { number = n + 1; opening = replay o xs; entries = ys }) }
 {}
@@ -88,12 +87,7 @@ pub fn lawful_chapters_open_later_ones()
 /// opening, and the remaining entries under a later number, opened with the state after the first ones. The second has
 /// the same end as the whole.
 pub fn cuts_of_lawful_chapters_are_lawful()
-    ensures front { (c : Chapter) → IsLawfulChapter c → (k : ℕ) →
-        IsLawfulChapter (record {
-          number = c.number;
-          opening = c.opening;
-          entries = take k c.entries;
-        }) }
+    ensures front { (c : Chapter) → IsLawfulChapter c → (k : ℕ) → IsLawfulChapter (cut_at c k) }
     ensures rest { (c : Chapter) → IsLawfulChapter c → (k n : ℕ) → 0 < n →
         IsLawfulChapter (record {
           number = n;
@@ -116,13 +110,16 @@ pub fn lawful_chapters_give_one_reply()
         → IsLawfulChapter d }
 {}
 
-/// The replay goes entry by entry: no entries leave a lawful opening unchanged, and with one more entry that may follow
-/// it is the state after that entry.
+/// The state after a history of one more entry is the state after that entry.
 pub fn replay_goes_entry_by_entry()
-    ensures none { (n : ℕ) (s : State) → IsLawfulOpening n s → replay s [] ≡ s }
-    ensures one_more { (c : Chapter) (e : Entry) → IsLawfulChapter c
-        → MayFollow (length c.entries) (present_state c) e →
-        present_state (with_entry c e.event e.reply) ≡ after_entry (present_state c) e }
+    ensures { (c : Chapter) (e : Entry)
+        → present_state (with_entry c e.event e.reply) ≡ after_entry (present_state c) e }
+{}
+
+/// The replay of a lawful chapter, which goes entry by entry, is its closed form: each part of the state is the function of
+/// the opening and of all entries that defines it.
+pub fn replays_have_a_closed_form()
+    ensures { (c : Chapter) → IsLawfulChapter c → present_state c ≡ closed_form c.opening c.entries }
 {}
 
 /// Legality goes entry by entry: no entries are legal, and a chapter with one more entry is legal exactly when the

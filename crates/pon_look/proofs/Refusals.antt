@@ -8,9 +8,8 @@ use Rattle.pon_state.specs.Entry.{Entry}
 use Rattle.pon_state.specs.declared.reply.MadeMap.{MadeMap}
 use Rattle.pon_state.specs.declared.reply.Reply.{Reply}
 use Rattle.pon_state.specs.declared.reply.Reply.TheVariants.{Taken, Map}
-use Rattle.pon_history.specs.Chapters.{Chapter}
+use Rattle.pon_history.specs.Chapters.{Chapter, cut_at}
 use Rattle.pon_history.specs.Taking.{IsKept}
-use Rattle.pon_audit.specs.Faults.{cut_at}
 use Rattle.pon_look.specs.Whys.{HasNoMap}
 
 module _ (c : Chapter) (k : ℕ) (e : Entry) (s : State) (lt : k < length c.entries) (here : e ≡ get_or c.entries k e) (kept : IsKept (cut_at c k) s) where

@@ -5,9 +5,8 @@ use Rattle.std.proofs.Math.Numerals.{add-one}
 use Rattle.std.proofs.lemmas.Option.{slice_get-get_or}
 use Rattle.pon_state.specs.State.{State}
 use Rattle.pon_state.specs.Entry.{Entry}
-use Rattle.pon_history.specs.Chapters.{Chapter, state_before}
+use Rattle.pon_history.specs.Chapters.{Chapter, cut_at, state_before}
 use Rattle.pon_history.specs.Taking.{IsKept}
-use Rattle.pon_audit.specs.Faults.{cut_at}
 use Rattle.pon_look.specs.Sums.{amounts_in_entry, amounts_in_reply, plus, sums_in, sums_of}
 use Rattle.pon_look.specs.Tallies.{AddsEntry, AddsIf}
 use Rattle.pon_look.specs.declared.frame_range.FrameRange.{FrameRange}

@@ -2,7 +2,7 @@
 use Rattle.std.specs.Prelude.{ℕ, ◌+◌, ◌-◌, ◌==◌, Bool, true, false, List, [], ◌∷◌, length, count_by, Option, Some, None}
 use Rattle.pon_admit.specs.declared.event.Event.{Event}
 use Rattle.pon_admit.specs.declared.event.Event.TheVariants.{Admit, Remove, Report, Fail}
-use Rattle.pon_state.specs.Replay.{makes_map}
+use Rattle.pon_state.specs.Maps.{makes_map}
 use Rattle.pon_state.specs.declared.reply.Reply.{Reply}
 use Rattle.pon_state.specs.declared.reply.Reply.TheVariants.{Taken, Map}
 use Rattle.pon_state.specs.Entry.{Entry}

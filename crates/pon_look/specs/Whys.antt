@@ -5,8 +5,8 @@ use Rattle.pon_state.specs.State.{input_of}
 use Rattle.pon_state.specs.Entry.{Entry}
 use Rattle.pon_state.specs.declared.reply.MadeMap.{MadeMap}
 use Rattle.pon_state.specs.declared.reply.Reply.TheVariants.{Map}
-use Rattle.pon_history.specs.Chapters.{Chapter, IsLawfulChapter, IsLawfulOpening, state_before}
-use Rattle.pon_audit.specs.Faults.{FailsAt, cut_at}
+use Rattle.pon_history.specs.Chapters.{Chapter, IsLawfulChapter, IsLawfulOpening, cut_at, state_before}
+use Rattle.pon_audit.specs.Faults.{FailsAt}
 use Rattle.pon_audit.specs.declared.verdict.AuditReason.{AuditReason}
 use Rattle.pon_look.specs.Explanations.{Explains}
 use Rattle.pon_look.specs.declared.replay.MapExplanation.{MapExplanation}

@@ -8,7 +8,7 @@ ghost use Rattle.pon_state.specs.State.{input_of};
 ghost use Rattle.pon_history.specs.Taking.{IsKept};
 ghost use Rattle.pon_record.specs.Openings.{KeepsLimits};
 ghost use Rattle.pon_audit.specs.Openings.{FitsRecording, OpensLawfully, chapter_of, state_of};
-ghost use Rattle.pon_audit.specs.Faults.{cut_at};
+ghost use Rattle.pon_history.specs.Chapters.{cut_at};
 ghost use Rattle.pon_look.specs.Explanations.{Explains};
 ghost use Rattle.pon_look.specs.Whys.{FailsBefore};
 

@@ -16,7 +16,7 @@ use Rattle.pon_state.specs.declared.reply.Reply.{Reply}
 use Rattle.pon_state.specs.declared.reply.Reply.TheVariants.{Taken, Map}
 use Rattle.pon_state.specs.declared.reply.MadeMap.{MadeMap}
 use Rattle.pon_port.proofs.EachCertificate.{each_map_certificate}
-use Rattle.pon_history.proofs.LawfulChapters.{admitted_at_present}
+use Rattle.pon_history.proofs.LawfulStates.{present_lawful}
 
 module _ (s : State) (k : IsAdmitted s.rule s.gap s.roster) where
   each_made : (made : MadeMap) × IsMade s made
@@ -36,7 +36,7 @@ module _ (s : State) (k : IsAdmitted s.rule s.gap s.roster) where
 -- a lawful chapter has a reply to an event that no check refuses
 pub each_follows : (c : Chapter) (v : Event) → IsLawfulChapter c → IsEvent v → refusal_of c v ≡ None → (reply : Reply) × MayFollow (length c.entries) (present_state c) (record { event = v; reply = reply })
 each_follows c v l range accepted =
-    let reply : (a : Reply) × IsReply (present_state c) v a = each_reply (present_state c) (admitted_at_present c l) v in
+    let reply : (a : Reply) × IsReply (present_state c) v a = each_reply (present_state c) (present_lawful c l).admitted v in
     (reply.0, record { event = range; accepted = accepted; reply = reply.1 })
 
 pub each_taken : (c : Chapter) (v : Event) → IsLawfulChapter c → IsEvent v → refusal_of c v ≡ None → (reply : Reply) × (next : Chapter) × Takes c v reply next

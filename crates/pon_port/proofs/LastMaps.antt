@@ -14,8 +14,9 @@ use Rattle.pon_admit.proofs.Rules.{few_allowed}
 use Rattle.pon_cert.specs.declared.cert.ClassCert.{ClassCert}
 use Rattle.pon_cert.specs.Certificate.{IsCertificate, RuleHolds, left_surplus}
 use Rattle.pon_demand.specs.Sharing.{item_of, items, member_ids, members, surplus}
+use Rattle.pon_state.specs.After.{after_entry}
+use Rattle.pon_state.specs.History.{replay}
 use Rattle.pon_state.specs.Legal.{IsMade}
-use Rattle.pon_state.specs.Replay.{roster_after, roster_of}
 use Rattle.pon_history.specs.Chapters.{Chapter}
 use Rattle.pon_history.specs.Last.{LastMap, MatchesMembers, last_map, last_told, told_last}
 use Rattle.pon_port.specs.Ports.{KeepsLast}
@@ -27,9 +28,9 @@ use Rattle.pon_state.specs.declared.reply.Reply.TheVariants.{Taken, Map}
 use Rattle.pon_state.specs.declared.reply.MadeMap.{MadeMap}
 use Rattle.pon_state.specs.Entry.{Entry}
 
-last_push : (before : Option LastMap) (rows : List Row) (es : List Entry) (e : Entry) → last_told before rows (es ++ e ∷ []) ≡ told_last (last_told before rows es) (roster_of rows es) e.reply
-last_push before rows [] e = refl
-last_push before rows (x ∷ es) e = last_push (told_last before rows x.reply) (roster_after rows x.event) es e
+last_push : (before : Option LastMap) (s : State) (es : List Entry) (e : Entry) → last_told before s (es ++ e ∷ []) ≡ told_last (last_told before s es) (replay s es).roster e.reply
+last_push before s [] e = refl
+last_push before s (x ∷ es) e = last_push (told_last before s.roster x.reply) (after_entry s x) es e
 
 get_old : {X : Type 0} (xs : List X) (y : X) (k : ℕ) (x : X) → slice_get xs k ≡ Some x → slice_get (xs ++ y ∷ []) k ≡ Some x
 get_old xs y k x at =
@@ -48,7 +49,7 @@ last_kept c d v place na be more h = subst (λ d. KeepsLast d place na be) (sym 
     e = record { event = v; reply = Taken }
 
     same : last_map (with_entry c v Taken) ≡ last_map c
-    same = last_push None c.opening.roster c.entries e
+    same = last_push None c.opening c.entries e
 
     step : (place : Option ℕ) → KeepsLast c place na be → KeepsLast (with_entry c v Taken) place na be
     step None h = same ∙ h
@@ -82,9 +83,9 @@ pub last_made : (c d : Chapter) (s : State) (made : MadeMap) (place : ℕ) (na b
     place ≡ length c.entries → na ≡ member_ids NonAssured s.roster → be ≡ member_ids BestEffort s.roster → KeepsLast d (Some place) na be
 last_made c d s made place na be k m more here na_is be_is =
     let e : Entry = record { event = MakeMap; reply = Map made } in
-    let rows : s.roster ≡ roster_of c.opening.roster c.entries = ap (λ s. s.roster) k.replayed in
+    let rows : s.roster ≡ (replay c.opening c.entries).roster = ap (λ s. s.roster) k.replayed in
     let told : last_map (with_entry c MakeMap (Map made)) ≡ Some (record { made = made; na = na; be = be })
-    = last_push None c.opening.roster c.entries e
+    = last_push None c.opening c.entries e
     ∙ (λ i. Some (record { made = made; na = (ap (member_ids NonAssured) (sym rows) ∙ sym na_is) i; be = (ap (member_ids BestEffort) (sym rows) ∙ sym be_is) i })) in
     let members : MatchesMembers made.cert na be = rw (na_is, be_is) (suits_made s made k.admitted m) in
     let at : slice_get (c.entries ++ e ∷ []) place ≡ Some e = ap (slice_get (c.entries ++ e ∷ [])) here ∙ get_new c.entries e in

@@ -6,7 +6,7 @@ use Rattle.pon_state.specs.Entry.{Entry}
 use Rattle.pon_history.specs.Chapters.{Chapter, IsLawfulOpening, chapter_after, present_state}
 use Rattle.pon_history.specs.Taking.{IsKept, Turns}
 use Rattle.pon_port.specs.Ports.{IsPort}
-use Rattle.pon_history.proofs.EntryByEntry.{legal_none, replay_of_none}
+use Rattle.pon_history.proofs.Kept.{kept_none}
 use Rattle.pon_history.proofs.LawfulStates.{opens_at_present}
 use Rattle.pon_history.proofs.Ranges.{in_range_at_present}
 
@@ -14,18 +14,8 @@ module _ (c : Chapter) (s : State) (k : IsKept c s) where
   opens : IsLawfulOpening (c.number + 1) (present_state c)
   opens = opens_at_present c k.lawful (c.number + 1) (omega arith)
 
-  -- the state after no entries of the next chapter is the end of this one
-  pub same_state : present_state (chapter_after c) ≡ present_state c
-  same_state = replay_of_none (c.number + 1) (present_state c) opens
-
-  pub next_kept : IsKept (chapter_after c) s
-  next_kept = record {
-    lawful = record { opening = opens; legal = legal_none (c.number + 1) (present_state c) };
-    replayed = k.replayed ∙ sym same_state;
-    admitted = k.admitted;
-    book = k.book;
-    carries = k.carries;
-  }
+  next_kept : IsKept (chapter_after c) s
+  next_kept = subst (IsKept (chapter_after c)) (sym k.replayed) (kept_none (c.number + 1) (present_state c) opens)
 
 -- the chapter that is begun with the state and no entries
 module _ (c : Chapter) (s o : State) (es : List Entry) where
@@ -45,5 +35,5 @@ pub turned : (c d : Chapter) (s o : State) (es : List Entry) → IsKept c s → 
 turned c d s o es k opening none same = record {
   returned = same;
   begun = is_next c s o es k opening none;
-  same_state = ap present_state (is_next c s o es k opening none) ∙ same_state c s k;
+  same_state = ap present_state (is_next c s o es k opening none);
 }

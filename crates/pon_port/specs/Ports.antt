@@ -5,7 +5,7 @@ use Rattle.pon_descr.specs.declared.class.Class.TheVariants.{NonAssured, BestEff
 use Rattle.pon_demand.specs.Sharing.{member_ids}
 use Rattle.pon_state.specs.State.{State}
 use Rattle.pon_state.specs.Legal.{IsMade}
-use Rattle.pon_state.specs.Replay.{grants_in_map}
+use Rattle.pon_state.specs.Maps.{grants_in_map}
 use Rattle.pon_state.specs.Carries.{carries_left}
 use Rattle.pon_state.specs.declared.reply.Reply.TheVariants.{Map}
 use Rattle.pon_state.specs.declared.reply.MadeMap.{MadeMap}

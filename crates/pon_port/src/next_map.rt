@@ -7,7 +7,7 @@ ghost use Rattle.pon_descr.specs.declared.class.Class.TheVariants.{NonAssured, B
 ghost use Rattle.pon_demand.specs.Carries.{AreCarries};
 ghost use Rattle.pon_demand.specs.Sharing.{member_ids};
 ghost use Rattle.pon_state.specs.Carries.{carries_left};
-ghost use Rattle.pon_state.specs.Replay.{grants_in_map};
+ghost use Rattle.pon_state.specs.Maps.{grants_in_map};
 ghost use Rattle.pon_state.specs.Legal.{IsMade};
 
 use crate::certificates::map_cert;

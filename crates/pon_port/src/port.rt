@@ -1,7 +1,7 @@
 ghost use Rattle.std.specs.Prelude.{◌≡◌, IfOk};
 ghost use Rattle.pon_state.specs.State.{just_opened};
 ghost use Rattle.pon_state.specs.Events.{IsEvent};
-ghost use Rattle.pon_state.specs.Replay.{makes_map};
+ghost use Rattle.pon_state.specs.Maps.{makes_map};
 
 use crate::next_map::{ReadyMap, next_map};
 use pon_admit::{Event, PortCfg};

@@ -18,7 +18,7 @@ use Rattle.pon_state.specs.declared.reply.Reply.{Reply}
 use Rattle.pon_state.specs.declared.reply.Reply.TheVariants.{Taken, Map}
 use Rattle.pon_state.specs.Entry.{Entry}
 use Rattle.pon_state.specs.After.{after_entry}
-use Rattle.pon_history.specs.Chapters.{Chapter, state_before}
+use Rattle.pon_history.specs.Chapters.{Chapter, cut_at, state_before}
 use Rattle.pon_history.specs.Taking.{IsKept}
 use Rattle.pon_record.specs.declared.fault.ReadFault.{ReadFault}
 use Rattle.pon_record.specs.declared.fault.ReadFault.TheVariants as read
@@ -26,13 +26,14 @@ use Rattle.pon_record.specs.declared.version.Version.{Version}
 use Rattle.pon_record.specs.Chapters.{FitsChapter, PlacedChapter, reply_to}
 use Rattle.pon_record.specs.Recordings.{IsReadFaultOf, IsRecording, IsTruncated, either_version}
 use Rattle.pon_audit.specs.Openings.{OpensLawfully, chapter_of}
-use Rattle.pon_audit.specs.Faults.{EntryFails, FailsAt, ReplyFails, cut_at}
+use Rattle.pon_audit.specs.Faults.{EntryFails, FailsAt, ReplyFails}
 use Rattle.pon_audit.specs.Verdicts.{AreGood, ChapterFails, Continues, IsFirstFault, IsGoodChapter, IsVerdict, MayStandAfter, Rises, maps_in}
 use Rattle.pon_audit.specs.declared.verdict.Verdict.{Verdict}
 use Rattle.pon_audit.specs.declared.verdict.Verdict.TheVariants.{Good, Bad, BadFormat, Truncated}
 use Rattle.pon_audit.specs.declared.verdict.AuditReason.{AuditReason}
 use Rattle.pon_audit.specs.declared.verdict.AuditReason.TheVariants as why
-use Rattle.pon_audit.proofs.Kept.{all_taken, ended, fails_here, none_yet, one_further}
+use Rattle.pon_history.proofs.Kept.{none_yet, one_further}
+use Rattle.pon_audit.proofs.Kept.{all_taken, ended, fails_here}
 use Rattle.pon_record_tests.proofs.EachRead.{each_read}
 use Rattle.pon_record_tests.proofs.LawfulEvents.{IsFitting, entries_fit}
 

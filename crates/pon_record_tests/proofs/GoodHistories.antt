@@ -5,7 +5,7 @@ use Rattle.std.specs.List.{AllByRecursion}
 use Rattle.std.proofs.lemmas.List.{append-nil}
 use Rattle.std.proofs.lemmas.List.Elements.{All-nil, All-cons, All-head, All-tail}
 use Rattle.std.proofs.lemmas.List.Sums.{sum_by-cons}
-use Rattle.pon_state.specs.Replay.{makes_map}
+use Rattle.pon_state.specs.Maps.{makes_map}
 use Rattle.pon_history.specs.Chapters.{IsLawfulChapter, present_state}
 use Rattle.pon_history.proofs.FairMaps.{maps_are_fair}
 use Rattle.pon_history.proofs.WordRuns.{whole_runs}

@@ -53,10 +53,10 @@ have_accounts book (r ∷ rows) (c ∷ carries) h =
 same_state : (n : ℕ) (s : State) → IsLawfulOpening n s → state_of (recorded_opening s) ≡ s
 same_state n s l =
     let o : Opening = recorded_opening s in
-    let roster : roster_of o ≡ s.roster = rows_back s.book s.roster s.carries l.carries.count in
-    let carries : row_carries o ≡ s.carries = carries_back s.book s.roster s.carries l.carries.count in
-    let made : AccountsFor (roster_of o) (book_from (accounts_of o)) = book_of_rows o.rows (accounts_apart o.rows (rw roster l.admitted.apart)) in
-    let book : book_from (accounts_of o) ≡ s.book = same_book o s.book made (subst (λ r. AccountsFor r s.book) (sym roster) l.book) (have_accounts s.book s.roster s.carries (all_in s.roster s.book l.book)) in
+    let roster : roster_of o ≡ s.roster = rows_back s.book s.roster s.carries l.state.carries.count in
+    let carries : row_carries o ≡ s.carries = carries_back s.book s.roster s.carries l.state.carries.count in
+    let made : AccountsFor (roster_of o) (book_from (accounts_of o)) = book_of_rows o.rows (accounts_apart o.rows (rw roster l.state.admitted.apart)) in
+    let book : book_from (accounts_of o) ≡ s.book = same_book o s.book made (subst (λ r. AccountsFor r s.book) (sym roster) l.state.book) (have_accounts s.book s.roster s.carries (all_in s.roster s.book l.state.book)) in
     (λ i. record {
       rule = s.rule;
       gap = s.gap;

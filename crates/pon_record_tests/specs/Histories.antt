@@ -1,7 +1,7 @@
 -- Chapters of ports in the order in which a recording has them.
 use Rattle.std.specs.Prelude.{ℕ, ◌≡◌, ◌<◌, ◌^◌, All, AllPairs, List, count_by, sum_by}
 use Rattle.pon_units.specs.declared.limits.TheConstants.{MAX_PORTS}
-use Rattle.pon_state.specs.Replay.{makes_map}
+use Rattle.pon_state.specs.Maps.{makes_map}
 use Rattle.pon_history.specs.Chapters.{Chapter, Follows, IsLawfulChapter}
 use Rattle.pon_history.specs.Ranges.{IsStateInRange}
 use Rattle.pon_record.specs.Chapters.{Body}

@@ -17,11 +17,11 @@ use Rattle.pon_state.specs.Legal.{IsReply, MayFollow}
 use Rattle.pon_state.specs.Entry.{Entry}
 use Rattle.pon_state.specs.declared.reply.Reply.{Reply}
 use Rattle.pon_state.specs.declared.reply.Reply.TheVariants.{Taken, Map}
-use Rattle.pon_history.specs.Chapters.{Chapter, IsLawfulChapter, state_before}
+use Rattle.pon_history.specs.Chapters.{Chapter, IsLawfulChapter, IsLawfulState, state_before}
 use Rattle.pon_history.specs.Ranges.{IsStateInRange}
 use Rattle.pon_history.specs.FairMaps.{TellsFairMap}
 use Rattle.pon_history.proofs.FairMaps.{maps_are_fair}
-use Rattle.pon_history.proofs.LawfulChapters.{admitted_before, carries_before}
+use Rattle.pon_history.proofs.LawfulStates.{lawful_before}
 use Rattle.pon_record.specs.declared.version.Version.TheVariants as version
 use Rattle.pon_record.specs.Chapters.{FitsChapter, body_in, entry, reply_to}
 use Rattle.pon_record.proofs.Sizes.{body_fits_length}
@@ -71,8 +71,9 @@ reply_fits k s Restore a adm q p h r f = r
 entry_fits : (c : Chapter) → IsLawfulChapter c → (k : ℕ) (e : Entry) → slice_get c.entries k ≡ Some e → entry.Fits e
 entry_fits c l k e at =
     let s : State = state_before c k in
+    let before : IsLawfulState s = lawful_before c l k in
     let m : MayFollow k s e = l.legal k e at in (
-      (event_fits k s e.event m.event m.accepted, reply_fits k s e.event e.reply (admitted_before c l k) (carries_before c k) l.opening.numbers.profile m.accepted m.reply (maps_are_fair c l k e at)),
+      (event_fits k s e.event m.event m.accepted, reply_fits k s e.event e.reply before.admitted before.carries before.numbers.profile m.accepted m.reply (maps_are_fair c l k e at)),
       refl,
     )
 

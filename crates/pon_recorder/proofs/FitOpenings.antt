@@ -136,41 +136,41 @@ module _ (m : WindowMap) (g : AreGrantsInRange m.grants) (l : IsLawfulMap m) whe
 module _ (n : ℕ) (s : State) (l : IsLawfulOpening n s) (h : IsStateInRange s) where
   pub opening_counts : FitsCounts s
   opening_counts = record {
-    rows = omega (arith, l.admitted.few_allocs, few_allocs s.rule);
-    carries = l.carries.count;
-    maps = λ i d lt. counts_fit (get_or s.window i d) (h.maps i d lt) (l.maps i d lt);
+    rows = omega (arith, l.state.admitted.few_allocs, few_allocs s.rule);
+    carries = l.state.carries.count;
+    maps = λ i d lt. counts_fit (get_or s.window i d) (h.maps i d lt) (l.state.maps i d lt);
   }
 
   maps_fit : All (window_map_under s.rule).Fits s.window
   maps_fit i d lt =
       let m : WindowMap = get_or s.window i d in
-      let below : m.frame < s.next = leads_below s.next s.window l.frames i d lt in
+      let below : m.frame < s.next = leads_below s.next s.window l.state.frames i d lt in
       let few : length m.grants ≤ max_allocs s.rule = subst (λ r. length m.grants ≤ max_allocs r) (sym h.rule) (h.maps i d lt).few in
-      map_fits m (h.maps i d lt) (l.maps i d lt) s.rule few (omega (arith, below, l.numbers.next))
+      map_fits m (h.maps i d lt) (l.state.maps i d lt) s.rule few (omega (arith, below, l.state.numbers.next))
 
   pub opening_fits : (opening_in version.Two s.rule).Fits (recorded_opening s)
   opening_fits =
       let pairs = zip s.roster s.carries in
       let many : length (map (recorded_row s.book) pairs) ≡ length s.roster
-      = omega (arith, length-map pairs (recorded_row s.book), length-zip s.roster s.carries, l.carries.count) in
-      let few : length s.roster ≤ max_allocs s.rule = l.admitted.few_allocs in (
+      = omega (arith, length-map pairs (recorded_row s.book), length-zip s.roster s.carries, l.state.carries.count) in
+      let few : length s.roster ≤ max_allocs s.rule = l.state.admitted.few_allocs in (
         (
-          (omega (arith, l.numbers.longest_gap), passes (λ (n : ℕ). leb 1 n && leb n 256) s.gap (between 1 s.gap 256 l.numbers.shortest_gap l.numbers.longest_gap)),
+          (omega (arith, l.state.numbers.longest_gap), passes (λ (n : ℕ). leb 1 n && leb n 256) s.gap (between 1 s.gap 256 l.state.numbers.shortest_gap l.state.numbers.longest_gap)),
           (
-            (omega (arith, l.numbers.profile), passes (λ (n : ℕ). leb n 3) s.profile (le-leb s.profile 3 l.numbers.profile)),
+            (omega (arith, l.state.numbers.profile), passes (λ (n : ℕ). leb n 3) s.profile (le-leb s.profile 3 l.state.numbers.profile)),
             (
               failure_fits s.cause h.cause,
               (
-                l.numbers.next,
+                l.state.numbers.next,
                 (
-                  l.numbers.taken_before,
+                  l.state.numbers.taken_before,
                   (
                     (
                       omega (arith, many, few, few_allocs s.rule),
                       omega (arith, many, few),
-                      rows_fit s.rule s.book s.roster s.carries (accounts_fit s l.numbers.next l.accounts h.reports) l.admitted.in_range l.carries.range,
+                      rows_fit s.rule s.book s.roster s.carries (accounts_fit s l.state.numbers.next l.state.accounts h.reports) l.state.admitted.in_range l.state.carries.range,
                     ),
-                    (omega (arith, l.few_maps), l.few_maps, recursion_from_All (window_map_under s.rule).Fits s.window maps_fit),
+                    (omega (arith, l.state.few_maps), l.state.few_maps, recursion_from_All (window_map_under s.rule).Fits s.window maps_fit),
                   ),
                 ),
               ),

@@ -112,11 +112,11 @@ same_states n m s t l k e =
     let cause : s.cause ≡ t.cause = ap (λ o. o.cause) e in
     let taken_before : s.taken_before ≡ t.taken_before = ap (λ o. o.taken_before) e in
     let rows : map (recorded_row s.book) (zip s.roster s.carries) ≡ map (recorded_row t.book) (zip t.roster t.carries) = ap (λ o. o.rows) e in
-    let roster : s.roster ≡ t.roster = sym (rows_back s.book s.roster s.carries l.carries.count) ∙ ap (map row_again) rows ∙ rows_back t.book t.roster t.carries k.carries.count in
-    let carries : s.carries ≡ t.carries = sym (carries_back s.book s.roster s.carries l.carries.count) ∙ ap (map (λ (r : RawRow). r.carry)) rows ∙ carries_back t.book t.roster t.carries k.carries.count in
+    let roster : s.roster ≡ t.roster = sym (rows_back s.book s.roster s.carries l.state.carries.count) ∙ ap (map row_again) rows ∙ rows_back t.book t.roster t.carries k.state.carries.count in
+    let carries : s.carries ≡ t.carries = sym (carries_back s.book s.roster s.carries l.state.carries.count) ∙ ap (map (λ (r : RawRow). r.carry)) rows ∙ carries_back t.book t.roster t.carries k.state.carries.count in
     let window : s.window ≡ t.window = ap (λ o. o.window) e in
-    let book : s.book ≡ t.book = same_book s.roster s.carries t.carries s.book t.book l.carries.count (k.carries.count ∙ ap length (sym roster))
-    l.book (subst (λ r. AccountsFor r t.book) (sym roster) k.book) (rows ∙ ap (λ r. map (recorded_row t.book) (zip r t.carries)) (sym roster)) in
+    let book : s.book ≡ t.book = same_book s.roster s.carries t.carries s.book t.book l.state.carries.count (k.state.carries.count ∙ ap length (sym roster))
+    l.state.book (subst (λ r. AccountsFor r t.book) (sym roster) k.state.book) (rows ∙ ap (λ r. map (recorded_row t.book) (zip r t.carries)) (sym roster)) in
     (λ i. record {
       rule = rule i;
       gap = gap i;

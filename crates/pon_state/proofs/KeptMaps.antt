@@ -9,7 +9,7 @@ use Rattle.pon_demand.specs.Input.{Input}
 use Rattle.pon_demand.specs.Maps.{map_of}
 use Rattle.pon_demand.specs.Rates.{planned_grants, payload}
 use Rattle.pon_demand.proofs.RosterMaps.{granted_to_row}
-use Rattle.pon_state.specs.Replay.{grants_in_map}
+use Rattle.pon_state.specs.Maps.{grants_in_map}
 
 module _ (profile : ℕ) (s : Input) (surplus : Row → Frac) (carry : Row → ℕ) where
   -- the grants of the structures of rows are those of the rows

@@ -10,7 +10,7 @@ use Rattle.pon_state.specs.State.{State}
 use Rattle.pon_state.specs.Carries.{carries_left}
 use Rattle.pon_admit.specs.declared.event.Event.{Event}
 use Rattle.pon_admit.specs.declared.event.Event.TheVariants.{Admit, Change, Remove, Report, MakeMap, Fail, Restore}
-use Rattle.pon_state.specs.Replay.{grants_in_map, structures}
+use Rattle.pon_state.specs.Maps.{grants_in_map, structures}
 use Rattle.pon_state.specs.declared.reply.Reply.{Reply}
 use Rattle.pon_state.specs.Entry.{Entry}
 

@@ -8,7 +8,6 @@ pub mod Events
 pub mod History
 pub mod KeptEntries
 pub mod Legal
-pub mod Loads
+pub mod Maps
 pub mod Parts
-pub mod Replay
 pub mod State

@@ -10,7 +10,7 @@ ghost use Rattle.pon_guar.specs.ReportChecks.{refuses_report};
 ghost use Rattle.pon_demand.specs.Carries.{AreCarries};
 ghost use Rattle.pon_state.specs.Accounts.{AccountsFor};
 ghost use Rattle.pon_state.specs.Checks.{refuses};
-ghost use Rattle.pon_state.specs.Replay.{makes_map};
+ghost use Rattle.pon_state.specs.Maps.{makes_map};
 ghost use Rattle.pon_state.specs.After.{after_admit, after_change, after_cut, after_event, after_map, after_remove, after_report};
 
 use crate::state::PortState;

@@ -1,6 +1,6 @@
 ghost use Rattle.std.specs.Prelude.{◌≡◌, ◌↔◌, IsTrue};
 ghost use Rattle.pon_state.specs.Entries.{GetsReply, entry_in};
-ghost use Rattle.pon_state.specs.Replay.{makes_map};
+ghost use Rattle.pon_state.specs.Maps.{makes_map};
 
 use crate::reply::{MadeMap, Reply};
 use pon_admit::Event;

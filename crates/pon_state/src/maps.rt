@@ -9,7 +9,7 @@ ghost use Rattle.pon_demand.specs.Sharing.{IsCertified, surplus_rate};
 ghost use Rattle.pon_demand.specs.Carries.{AreCarries};
 ghost use Rattle.pon_demand.specs.Rates.{carried};
 ghost use Rattle.pon_state.specs.State.{carry_at, input_of};
-ghost use Rattle.pon_state.specs.Replay.{grants_in_map};
+ghost use Rattle.pon_state.specs.Maps.{grants_in_map};
 
 use crate::state::PortState;
 use pon_bwmap::Map;

@@ -3,7 +3,7 @@ use Rattle.std.proofs.Common.{◌≡◌, ℕ, ◌+◌, ◌<◌, Bool, true, fals
 use Rattle.std.specs.Prelude.{if◌then◌else◌, Some, None}
 use Rattle.std.proofs.lemmas.List.{length-take-le, take_more}
 use Rattle.pon_state.specs.Entry.{Entry}
-use Rattle.pon_state.specs.Replay.{makes_map}
+use Rattle.pon_state.specs.Maps.{makes_map}
 use Rattle.pon_why.specs.Lasts.{last_place, or_first}
 
 push : (es : List Entry) (e : Entry) (b : Bool) → makes_map e.event ≡ b → last_place (es ++ e ∷ []) ≡ (if b then Some (length es) else last_place es)

@@ -5,7 +5,7 @@ use Rattle.pon_descr.specs.declared.class.Class.TheVariants.{Plain, NonAssured, 
 use Rattle.pon_cert.specs.declared.cert.Level.{Level}
 use Rattle.pon_cert.specs.declared.cert.MapCert.{MapCert}
 use Rattle.pon_state.specs.Entry.{Entry}
-use Rattle.pon_state.specs.Replay.{makes_map}
+use Rattle.pon_state.specs.Maps.{makes_map}
 use Rattle.pon_state.specs.State.{State}
 use Rattle.pon_state.specs.declared.reply.MadeMap.{MadeMap}
 use Rattle.pon_state.specs.declared.reply.Reply.{Reply}
@@ -19,10 +19,6 @@ use Rattle.pon_why.specs.declared.last.LastWhy.TheVariants.{NoMap, NoSuchAlloc, 
 
 abbrev pub chapter_with : ℕ → State → List Entry → Chapter
 chapter_with number opening entries = record { number = number; opening = opening; entries = entries }
-
--- the chapter with only its first entries
-abbrev pub first_entries : ℕ → Chapter → Chapter
-first_entries count c = record { number = c.number; opening = c.opening; entries = take count c.entries }
 
 -- the index of the last entry that makes a map: that among the later entries, or that of the first
 abbrev pub or_first : Option ℕ → Bool → Option ℕ

@@ -8,10 +8,10 @@ ghost use Rattle.pon_state.specs.Accounts.{AccountsFor};
 ghost use Rattle.pon_state.specs.After.{after_entry, after_map};
 ghost use Rattle.pon_state.specs.Carries.{carries_left};
 ghost use Rattle.pon_state.specs.Legal.{IsMade, MayFollow};
-ghost use Rattle.pon_state.specs.Replay.{grants_in_map};
-ghost use Rattle.pon_history.specs.Chapters.{IsLawfulChapter};
+ghost use Rattle.pon_state.specs.Maps.{grants_in_map};
+ghost use Rattle.pon_history.specs.Chapters.{IsLawfulChapter, cut_at};
 ghost use Rattle.pon_history.specs.Taking.{IsKept};
-ghost use Rattle.pon_why.specs.Lasts.{chapter_with, first_entries};
+ghost use Rattle.pon_why.specs.Lasts.{chapter_with};
 
 use pon_demand::MapBuffers;
 use pon_state::{
@@ -80,7 +80,7 @@ pub(crate) fn state_before(
     requires end { end ≤ length entries.now }
     ensures { IfOk result (λ state. (number : ℕ)
         × IsLawfulChapter (chapter_with number opening.now entries.now)
-        × IsKept (first_entries end (chapter_with number opening.now entries.now)) state) }
+        × IsKept (cut_at (chapter_with number opening.now entries.now) end) state) }
 {
     let mut buffers = MapBuffers::open(alloc);
     let mut state = opening.try_copy(alloc)?;

@@ -12,3 +12,6 @@ returns-in-Some c = λ earlier judged.
     let found : MatchOption c.in_ok-verdict.field-0 (AreJudged (before ++ chapter ∷ []) c.judge_next.new.ends) (TellsBad (before ++ chapter ∷ [])) = c.in_ok-verdict.ensures before (c.loop-place.invariant earlier judged) in
     let told : TellsBad (before ++ chapter ∷ []) c.in-Some.verdict = rw c.in-Some.is at found in
     told_in earlier cs c.loop-place.place chapter (omega arith) c.index-chapters-place-in-loop-place.is c.in-Some.verdict told
+
+pub judge_next-requires-clause-judged : goal.judge_next-requires-clause-judged
+judge_next-requires-clause-judged c = (c.requires.judged.0 ++ take c.loop-place.place c.args.chapters.now, c.loop-place.invariant c.requires.judged.0 c.requires.judged.1)

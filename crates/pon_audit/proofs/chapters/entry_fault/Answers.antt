@@ -1,10 +1,10 @@
 use Rattle.std.proofs.Common.{◌≡◌, ap, arith, length, rules}
 use Rattle.pon_state.specs.After.{after_entry}
 use Rattle.pon_state.specs.Legal.{MayFollow}
-use Rattle.pon_history.proofs.Kept.{kept_frames}
+use Rattle.pon_history.proofs.Kept.{kept_frames, none_yet, one_further}
 use Rattle.pon_audit.specs.Openings.{chapter_of}
 use Rattle.pon_audit.specs.Faults.{EntryFails}
-use Rattle.pon_audit.proofs.Kept.{all_taken, fails_here, none_yet, one_further}
+use Rattle.pon_audit.proofs.Kept.{all_taken, fails_here}
 use Rattle.pon_audit.proofs.chapters.entry_fault.Goals as goal
 
 pub loop-index-init : goal.loop-index-init

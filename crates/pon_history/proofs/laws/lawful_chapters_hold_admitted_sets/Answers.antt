@@ -1,5 +1,5 @@
-use Rattle.pon_history.proofs.LawfulChapters.{admitted_at_present, admitted_before}
+use Rattle.pon_history.proofs.LawfulStates.{lawful_before, present_lawful}
 use Rattle.pon_history.proofs.laws.lawful_chapters_hold_admitted_sets.Goals as goal
 
 pub returns : goal.returns
-returns c = record { before = admitted_before; present = admitted_at_present }
+returns c = record { before = λ c l k. (lawful_before c l k).admitted; present = λ c l. (present_lawful c l).admitted }

@@ -1,9 +1,10 @@
 use Rattle.std.proofs.Common.{◌≡◌, arith, rules, subst}
 use Rattle.pon_history.specs.Taking.{IsKept}
-use Rattle.pon_history.proofs.Kept.{kept_frames}
+use Rattle.pon_history.proofs.Kept.{kept_frames, none_yet, one_further}
 use Rattle.pon_audit.specs.Openings.{chapter_of}
-use Rattle.pon_audit.specs.Faults.{EntryFails, cut_at}
-use Rattle.pon_audit.proofs.Kept.{fails_here, none_yet, one_further}
+use Rattle.pon_audit.specs.Faults.{EntryFails}
+use Rattle.pon_history.specs.Chapters.{cut_at}
+use Rattle.pon_audit.proofs.Kept.{fails_here}
 use Rattle.pon_look.proofs.replay.replay_to.Goals as goal
 
 pub loop-index-init : goal.loop-index-init

@@ -1,6 +1,6 @@
 use Rattle.pon_history.specs.Taking.{IsKept}
 use Rattle.pon_audit.specs.Openings.{chapter_of}
-use Rattle.pon_audit.specs.Faults.{cut_at}
+use Rattle.pon_history.specs.Chapters.{cut_at}
 use Rattle.pon_look.proofs.replay.replay_to.Given as goal
 
 -- the entries so far are a lawful chapter, and the state is its replay

@@ -1,8 +1,8 @@
 use Rattle.std.proofs.Common.{◌≡◌, ◌∙◌, ap, arith, length, rules, subst, sym}
-use Rattle.pon_history.proofs.Kept.{kept_frames}
+use Rattle.pon_history.proofs.Kept.{kept_frames, none_yet, one_further}
 use Rattle.pon_audit.specs.Openings.{chapter_of}
 use Rattle.pon_audit.specs.Judging.{FailsLater, IsJudgment}
-use Rattle.pon_audit.proofs.Kept.{all_taken, ended, fails_here, none_yet, one_further}
+use Rattle.pon_audit.proofs.Kept.{all_taken, ended, fails_here}
 use Rattle.pon_look.specs.Sums.{plus, sums_in, sums_of}
 use Rattle.pon_look.proofs.SumLaws.{plus_none}
 use Rattle.pon_look.proofs.Tallying.{ended_with, with_entry}

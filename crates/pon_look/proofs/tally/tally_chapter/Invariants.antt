@@ -1,7 +1,7 @@
 use Rattle.std.proofs.Common.{◌≡◌, ℕ}
 use Rattle.pon_history.specs.Taking.{IsKept}
 use Rattle.pon_audit.specs.Openings.{OpensLawfully, chapter_of}
-use Rattle.pon_audit.specs.Faults.{cut_at}
+use Rattle.pon_history.specs.Chapters.{cut_at}
 use Rattle.pon_look.specs.Sums.{plus, sums_in, sums_of}
 use Rattle.pon_look.proofs.tally.tally_chapter.Given as goal
 

@@ -4,7 +4,7 @@ use Rattle.pon_demand.specs.Sharing.{IsCertified}
 use Rattle.pon_state.specs.State.{input_of}
 use Rattle.pon_history.specs.Taking.{IsKept}
 use Rattle.pon_audit.specs.Openings.{chapter_of}
-use Rattle.pon_audit.specs.Faults.{cut_at}
+use Rattle.pon_history.specs.Chapters.{cut_at}
 use Rattle.pon_look.specs.Explanations.{Explains}
 use Rattle.pon_look.proofs.Refusals.{no_map_here, other_certificate_here}
 use Rattle.pon_look.proofs.why.explain_entry.Goals as goal

@@ -7,10 +7,11 @@ use Rattle.pon_guar.specs.Book.{account_of, alloc_ids, counted_of_account, since
 use Rattle.pon_guar.specs.Window.{WindowMap, grants_at, words_from}
 use Rattle.pon_guar.specs.Reports.{latest, occupancies}
 use Rattle.pon_state.specs.State.{State}
-use Rattle.pon_state.specs.Replay.{begins, allocs_of, frame_at_last, maps_of, all_maps}
 use Rattle.pon_admit.specs.declared.event.Event.{Event}
 use Rattle.pon_admit.specs.declared.event.Event.TheVariants.{Report}
 use Rattle.pon_state.specs.Entry.{Entry}
+use Rattle.pon_history.specs.Parts.{allocs_of, begins, frame_at_last}
+use Rattle.pon_history.specs.Windows.{all_maps, maps_of}
 
 -- the frame from which an Alloc-ID's reports count
 abbrev pub since_of : State → List Entry → ℕ → ℕ

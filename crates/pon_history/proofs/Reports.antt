@@ -1,0 +1,409 @@
+-- The report book with one more entry.
+use Rattle.std.proofs.Common.{◌≡◌, ℕ, zero, suc, ◌+◌, ◌-◌, ◌<◌, ◌≤◌, not, ◌||◌, Bool, true, false, List, [], ◌∷◌, ◌++◌, map, length, drop, get_or, refl, ap, sym, ◌∙◌, subst, append_assoc, arith, inl, inr}
+use Rattle.std.specs.Prelude.{◌==◌, nat_le, nat_lt, if◌then◌else◌, filter, find, flat_map, All, Option, Some, None, option_to_list, option_map}
+use Rattle.std.specs.List.{list_any}
+use Rattle.std.proofs.lemmas.Bool.{both_ways, cases_Bool, eq-eqb, eqb-true, le-leb, lt-leb, ne_eqb, or_left, or_right}
+use Rattle.std.proofs.lemmas.Bool.Decides.{eqb_tells, leb_tells}
+use Rattle.std.proofs.lemmas.List.{drop_all, map-id}
+use Rattle.std.proofs.lemmas.List.Elements.{All-append, All-filter, All-head, All-nil, All-tail, All-weaker, filter_passes}
+use Rattle.std.proofs.lemmas.List.Folds.{list_any-append, list_any_at}
+use Rattle.std.proofs.lemmas.List.Sums.{sum_by-append, sum_by-cons}
+use Rattle.pon_lists.proofs.Lists.{All-unmap, append-nil, drop-drop, filter-append, flat_map-append, flat_map-map, length-drop, map-append, map-map, map_filter, map_same, sum_by-map, sum_by_agree}
+use Rattle.pon_units.specs.Granted.{AreInMapOrder}
+use Rattle.pon_units.specs.declared.granted.Granted.{Granted}
+use Rattle.pon_descr.proofs.Checks.{or_else_none}
+use Rattle.pon_admit.specs.Roster.{has_alloc}
+use Rattle.pon_admit.specs.declared.event.Event.{Event}
+use Rattle.pon_admit.specs.declared.event.Event.TheVariants.{Admit, Change, Remove, Report, MakeMap, Fail, Restore}
+use Rattle.pon_admit.specs.declared.row.Row.{Row}
+use Rattle.pon_admit.proofs.AdmittedSets.{passes}
+use Rattle.pon_guar.specs.declared.account.Account.{Account}
+use Rattle.pon_guar.specs.declared.account.Counted.{Counted}
+use Rattle.pon_guar.specs.Book.{account_of, alloc_ids, counted_of_account, since_of_account}
+use Rattle.pon_guar.specs.Loads.{afresh, fresh_account, less, lessened}
+use Rattle.pon_guar.specs.Reports.{later, latest, occupancies}
+use Rattle.pon_guar.specs.Window.{AreConsecutive, IsLawfulMap, WindowMap, grants_at, is_of, words_among, words_from, words_granted, words_in, words_to, words_to_from}
+use Rattle.pon_guar.proofs.Accounts.{accounts_all, found_each}
+use Rattle.pon_guar.proofs.Frames.{frame_there, leads_drop}
+use Rattle.pon_guar.proofs.LessByGrants.{less_none}
+use Rattle.pon_state.specs.After.{after_entry, after_reply}
+use Rattle.pon_state.specs.Checks.{first_refusal, when_full}
+use Rattle.pon_state.specs.Entry.{Entry}
+use Rattle.pon_state.specs.Legal.{MayFollow}
+use Rattle.pon_state.specs.Maps.{grants_in_map, makes_map, structures}
+use Rattle.pon_state.specs.State.{State}
+use Rattle.pon_state.specs.declared.reply.Reply.{Reply}
+use Rattle.pon_history.specs.Chapters.{AccountIsLawful, IsLawfulState, Owns}
+use Rattle.pon_history.specs.ClosedForm.{closed_form}
+use Rattle.pon_history.specs.OtherForms.{account_reported, reports_of}
+use Rattle.pon_history.specs.Parts.{allocs_after, allocs_of, begins, next_of, roster_of}
+use Rattle.pon_history.specs.Reports.{account_after, book_of, candidates, candidates_in, counted_of, opening_candidates, since_of}
+use Rattle.pon_history.specs.Windows.{all_maps, is_kept, kept_from, map_made, maps_of, new_map, window_of, with_reports}
+use Rattle.pon_history.proofs.OtherForms.{account_by_account, latest-append, latest_lone}
+use Rattle.pon_history.proofs.Parts.{allocs_of-append, frame_at_last-append, next_of-append, next_of_grows}
+use Rattle.pon_history.proofs.Windows.{all_maps_lead, all_maps_push}
+
+-- One more entry grants the words of its map.
+
+-- the words that an entry's map grants to an Alloc-ID
+abbrev granted_now : State → List Entry → Entry → ℕ → ℕ
+granted_now o es e i = words_from i 0 (map_made (roster_of o.roster es) (next_of o.next es) e)
+
+module _ (o : State) (es : List Entry) (e : Entry) (f : ℕ) where
+  abbrev new : WindowMap
+  new = new_map (roster_of o.roster es) (next_of o.next es) e.reply
+
+  -- the words granted from a frame on, and the grants of an earlier frame
+  words_push : (i : ℕ) → f ≤ next_of o.next es → words_from i f (all_maps o (es ++ e ∷ [])) ≡ words_from i f (all_maps o es) + granted_now o es e i
+  words_push i l =
+      let here : words_from i f (map_made (roster_of o.roster es) (next_of o.next es) e) ≡ granted_now o es e i
+      = elim (cases_Bool (makes_map e.event)) [ inl t ↦ rw (t, le-leb f new.frame l, le-leb 0 new.frame (omega arith)) refl | inr t ↦ rw t refl ] in
+      ap (words_from i f) (all_maps_push o es e)
+      ∙ sum_by-append (λ m. if nat_le f m.frame then words_in i m else 0) (map (with_reports (e ∷ [])) (all_maps o es)) (map_made (roster_of o.roster es) (next_of o.next es) e)
+      ∙ (λ j. sum_by-map (λ m. if nat_le f m.frame then words_in i m else 0) (with_reports (e ∷ [])) (all_maps o es) j + here j)
+
+  grants_push : (u : ℕ) → f < next_of o.next es → grants_at f u (all_maps o (es ++ e ∷ [])) ≡ grants_at f u (all_maps o es)
+  grants_push u l =
+      let none : filter (λ m. m.frame == f) (map_made (roster_of o.roster es) (next_of o.next es) e) ≡ []
+      = elim (cases_Bool (makes_map e.event)) [ inl t ↦ rw (t, ne_eqb new.frame f (λ q. omega (arith, q, l))) refl | inr t ↦ rw t refl ] in
+      ap (λ t. filter (λ g. g.onu == u) (flat_map (λ m. m.grants) t))
+      (ap (filter (λ m. m.frame == f)) (all_maps_push o es e) ∙ filter-append (λ m. m.frame == f) (map (with_reports (e ∷ [])) (all_maps o es)) (map_made (roster_of o.roster es) (next_of o.next es) e)
+      ∙ (λ j. map_filter (with_reports (e ∷ [])) (λ m. m.frame == f) (all_maps o es) j ++ none j) ∙ append-nil _)
+      ∙ ap (filter (λ g. g.onu == u)) (flat_map-map (λ m. m.grants) (with_reports (e ∷ [])) (filter (λ m. m.frame == f) (all_maps o es)))
+
+-- Reports of frames.
+
+-- each report is of a frame below n
+abbrev pub EventBelow : ℕ → Event → Type 0
+EventBelow n (Report frame onu occ) = frame < n
+EventBelow n _ = Unit {0}
+
+abbrev pub AreBelow : ℕ → List Entry → Type 0
+AreBelow n [] = Unit {0}
+AreBelow n (e ∷ es) = EventBelow n e.event × AreBelow n es
+
+below_more : (n k : ℕ) (es : List Entry) (e : Entry) → n ≤ k → AreBelow n es → EventBelow k e.event → AreBelow k (es ++ e ∷ [])
+below_more n k [] e l b h = (h, tt)
+below_more n k (x ∷ es) e l b h = (one x.event b.0, below_more n k es e l b.1 h)
+  where
+    one : (v : Event) → EventBelow n v → EventBelow k v
+    one (Report frame onu occ) b = omega (arith, b, l)
+    one v b = tt
+
+-- if reports count only from later frames on, there is no candidate
+candidates_late : (n : ℕ) (ms : List WindowMap) (since i : ℕ) (es : List Entry) → n ≤ since → AreBelow n es → flat_map (λ e. candidates_in ms since i e.event) es ≡ []
+candidates_late n ms since i [] l b = refl
+candidates_late n ms since i (e ∷ es) l b = (λ j. one e.event b.0 j ++ candidates_late n ms since i es l b.1 j)
+  where
+    one : (v : Event) → EventBelow n v → candidates_in ms since i v ≡ []
+    one (Report frame onu occ) b = rw (lt-leb since frame (omega (arith, b, l))) refl
+    one v b = refl
+
+-- candidates are lessened by more words
+less_more : {X : Type 0} (f : X → Counted) (v w : ℕ) (xs : List X) → map (λ x. less (v + w) (f x)) xs ≡ map (less w) (map (λ x. less v (f x)) xs)
+less_more f v w [] = refl
+less_more f v w (x ∷ xs) = (let both : (f x).words - (v + w) ≡ ((f x).words - v) - w = omega arith in (λ j. record { frame = (f x).frame; words = both j } ∷ less_more f v w xs j))
+
+-- The maps of the window.
+
+-- the maps of consecutive frames from a frame on are the last of them
+from_is_end : (n c : ℕ) (ms : List WindowMap) → AreConsecutive n ms → filter (λ m. nat_le c m.frame) ms ≡ drop (c + length ms - n) ms
+from_is_end n c [] h = sym (drop_all (c + 0 - n) [] (omega arith))
+from_is_end n c (m ∷ ms) h = elim (leb_tells c m.frame) [
+  | inl e ↦
+      let none : (c + length ms - n ≡ 0) × (c + suc (length ms) - n ≡ 0) = (omega (arith, h.0, e.1), omega (arith, h.0, e.1)) in
+      rw (e.0, from_is_end n c ms h.1, none.0, none.1) refl
+  | inr e ↦ (let more : c + suc (length ms) - n ≡ suc (c + length ms - n) = omega (arith, h.0, e.1) in rw (e.0, from_is_end n c ms h.1, more) refl)
+]
+
+-- a frame of maps of consecutive frames is not after the last, and not before the first
+frame_within : (n f : ℕ) (ms : List WindowMap) → AreConsecutive n ms → list_any (is_of f) ms ≡ true → (f < n) × (n ≤ f + length ms)
+frame_within n f [] h k = absurd cc
+frame_within n f (m ∷ ms) h k = elim (eqb_tells m.frame f) [
+  | inl e ↦ (omega (arith, h.0, e.1), omega (arith, h.0, e.1))
+  | inr e ↦ (let r : (f < n) × (n ≤ f + length ms) = frame_within n f ms h.1 (subst (λ b. (b || list_any (is_of f) ms) ≡ true) e.0 k) in (r.0, omega (arith, r.1)))
+]
+
+-- two lists of maps grant the same from a frame on, and have the same grants of it
+abbrev GrantSame : ℕ → List WindowMap → List WindowMap → Type 0
+GrantSame f ms ns = ((i : ℕ) → words_from i f ms ≡ words_from i f ns) × ((u : ℕ) → grants_at f u ms ≡ grants_at f u ns)
+
+-- maps before a frame make no difference
+last_grant_same : (n f k : ℕ) (ms : List WindowMap) → AreConsecutive n ms → n ≤ f + length (drop k ms) → GrantSame f (drop k ms) ms
+last_grant_same n f zero ms h l = (λ i. refl, λ u. refl)
+last_grant_same n f (suc k) [] h l = (λ i. refl, λ u. refl)
+last_grant_same n f (suc k) (m ∷ ms) h l =
+    let early : m.frame < f = omega (arith, h.0, l, length-drop k ms) in
+    let rest : GrantSame f (drop k ms) ms = last_grant_same n f k ms h.1 l in (
+      λ i. rest.0 i ∙ sym (sum_by-cons (λ m. if nat_le f m.frame then words_in i m else 0) m ms ∙ rw (lt-leb f m.frame early) (omega arith)),
+      λ u. rest.1 u ∙ sym (rw (ne_eqb m.frame f (λ q. omega (arith, q, early))) refl),
+    )
+
+-- An accepted report is of a frame of the window, and from it on all maps grant what the window grants.
+module _ (o : State) (es : List Entry) (leads : AreConsecutive o.next o.window) (kept f u : ℕ) (occ : List (Option ℕ)) (accepted : first_refusal kept (closed_form o es) (Report f u occ) ≡ None) where
+  abbrev first : ℕ
+  first = kept_from o es + length (all_maps o es) - next_of o.next es + (length (filter (is_kept o es) (all_maps o es)) - 64)
+
+  window_is_end : window_of o es ≡ drop first (all_maps o es)
+  window_is_end = ap (drop (length (filter (is_kept o es) (all_maps o es)) - 64)) (from_is_end (next_of o.next es) (kept_from o es) (all_maps o es) (all_maps_lead o es leads)) ∙ drop-drop _ _ (all_maps o es)
+
+  within : (f < next_of o.next es) × (next_of o.next es ≤ f + length (drop first (all_maps o es)))
+  within = frame_within (next_of o.next es) f (drop first (all_maps o es)) (leads_drop (next_of o.next es) first (all_maps o es) (all_maps_lead o es leads))
+      (ap (list_any (is_of f)) (sym window_is_end) ∙ frame_there f u (length occ) (window_of o es) (or_else_none _ _ (or_else_none _ (when_full kept (closed_form o es).taken_before) accepted).0).1)
+
+  window_same : (reply : Reply) → GrantSame f (all_maps o (es ++ record { event = Report f u occ; reply = reply } ∷ [])) (window_of o es)
+  window_same reply =
+      let e : Entry = record { event = Report f u occ; reply = reply } in
+      let last : GrantSame f (window_of o es) (all_maps o es)
+      = subst (λ ms. GrantSame f ms (all_maps o es)) (sym window_is_end) (last_grant_same (next_of o.next es) f first (all_maps o es) (all_maps_lead o es leads) within.1) in (
+        λ i. omega (arith, last.0 i, words_push o es e f i (omega (arith, within.0))),
+        λ u. grants_push o es e f u within.0 ∙ sym (last.1 u),
+      )
+
+-- The account of an Alloc-ID after one more entry.
+
+-- the latest report is lessened with all
+latest_less : (w : ℕ) (cs : List Counted) → latest (map (less w) cs) ≡ option_map (less w) (latest cs)
+latest_less w [] = refl
+latest_less w (c ∷ cs) = ap (later (less w c)) (latest_less w cs) ∙ one (latest cs)
+  where
+    one : (d : Option Counted) → later (less w c) (option_map (less w) d) ≡ option_map (less w) (later c d)
+    one None = refl
+    one (Some d) = elim (nat_lt d.frame c.frame) as (λ b. (if b then Some (less w c) else Some (less w d)) ≡ option_map (less w) (if b then Some c else Some d)) [ true ↦ refl | false ↦ refl ]
+
+module _ (o : State) (es : List Entry) (e : Entry) (below : AreBelow (next_of o.next es) es) (i : ℕ) where
+  abbrev all : List Entry
+  all = es ++ e ∷ []
+
+  abbrev found : List WindowMap → ℕ → List Entry → List Counted
+  found ms since xs = flat_map (λ x. candidates_in ms since i x.event) xs
+
+  -- an entry that begins an account moves its since-frame
+  since_now : (b : Bool) → begins i e ≡ b → since_of o all i ≡ (if b then next_of o.next es else since_of o es i)
+  since_now b h = frame_at_last-append (begins i) (since_of_account (account_of o.book i)) o.next es (e ∷ []) ∙ ap (λ b. if b then next_of o.next es else since_of o es i) h
+
+  -- an admission, a line failure and a restoration drop the report
+  begun : begins i e ≡ true → EventBelow (next_of o.next es) e.event → account_after o all i ≡ fresh_account i (next_of o.next es)
+  begun b quiet =
+      let opening : opening_candidates o all i ≡ [] = rw (list_any-append (begins i) es (e ∷ []) ∙ or_right (list_any (begins i) es) (begins i e || false) (or_left (begins i e) false b)) refl in
+      let later : found (all_maps o all) (since_of o all i) all ≡ []
+      = candidates_late (next_of o.next es) (all_maps o all) (since_of o all i) i all (omega (arith, since_now true b)) (below_more (next_of o.next es) (next_of o.next es) es e (omega arith) below quiet) in
+      (λ j. record { alloc_id = i; since = since_now true b j; counted = latest (opening j ++ later j) })
+
+  -- the words of its map, and its candidates
+  abbrev w : ℕ
+  w = granted_now o es e i
+
+  abbrev heard : List Counted
+  heard = candidates_in (all_maps o all) (since_of o es i) i e.event
+
+  -- the candidates of the entries before it are lessened by these words
+  lessened_before : (xs : List Entry) → AreBelow (next_of o.next es) xs → found (all_maps o all) (since_of o es i) xs ≡ map (less w) (found (all_maps o es) (since_of o es i) xs)
+  lessened_before [] b = refl
+  lessened_before (x ∷ xs) b = (λ j. one x.event b.0 j ++ lessened_before xs b.1 j) ∙ sym (map-append (less w) (candidates_in (all_maps o es) (since_of o es i) i x.event) _)
+    where
+      one : (v : Event) → EventBelow (next_of o.next es) v → candidates_in (all_maps o all) (since_of o es i) i v ≡ map (less w) (candidates_in (all_maps o es) (since_of o es i) i v)
+      one (Report f u occ) l = elim (leb_tells (since_of o es i) f) [
+        | inl t ↦ rw (t.0, words_push o es e f i (omega (arith, l)), grants_push o es e f u l) (less_more (λ n. record { frame = f; words = n }) (words_from i f (all_maps o es)) w (occupancies i (grants_at f u (all_maps o es)) occ))
+        | inr t ↦ rw t.0 refl
+      ]
+      one v l = refl
+
+  -- otherwise the report is lessened by what a map grants, and counts unless a later one does
+  continued : begins i e ≡ false → account_after o all i ≡ record { alloc_id = i; since = since_of o es i; counted = latest (option_to_list (option_map (less w) (counted_of o es i)) ++ heard) }
+  continued b =
+      let before : List Counted = found (all_maps o es) (since_of o es i) es in
+      let opening : opening_candidates o all i ≡ map (less w) (opening_candidates o es i)
+      = elim (cases_Bool (list_any (begins i) es)) [
+        | inl t ↦ rw (list_any-append (begins i) es (e ∷ []), t) refl
+        | inr t ↦ rw (list_any-append (begins i) es (e ∷ []), b, t, words_push (record o { window = [] }) es e 0 i (omega arith)) (less_more (λ c. c) (words_from i 0 (maps_of o.roster o.next es)) w (counted_of_account (account_of o.book i)))
+      ] in
+      let later : found (all_maps o all) (since_of o all i) all ≡ map (less w) before ++ heard
+      = flat_map-append (λ x. candidates_in (all_maps o all) (since_of o all i) i x.event) es (e ∷ [])
+      ∙ (λ j. found (all_maps o all) (since_now false b j) es ++ append-nil (candidates_in (all_maps o all) (since_now false b j) i e.event) j)
+      ∙ ap (λ t. t ++ heard) (lessened_before es below) in
+      let counted : counted_of o all i ≡ latest (option_to_list (option_map (less w) (counted_of o es i)) ++ heard)
+      = (λ j. latest (opening j ++ later j))
+      ∙ ap latest (sym (append_assoc (map (less w) (opening_candidates o es i)) (map (less w) before) heard) ∙ ap (λ t. t ++ heard) (sym (map-append (less w) (opening_candidates o es i) before)))
+      ∙ latest-append (map (less w) (candidates o es i)) heard
+      ∙ ap (λ c. latest (option_to_list c ++ heard)) (latest_less w (candidates o es i)) in
+      (λ j. record { alloc_id = i; since = since_now false b j; counted = counted j })
+
+-- The words of an Alloc-ID that has one ONU.
+
+no_words : (i : ℕ) (gs : List Granted) → All (λ g. (g.alloc_id == i) ≡ false) gs → words_among i gs ≡ 0
+no_words i [] h = refl
+no_words i (g ∷ gs) h = sum_by-cons (λ g. if g.alloc_id == i then g.words else 0) g gs
+    ∙ (λ j. (if All-head (λ g. (g.alloc_id == i) ≡ false) g gs h j then g.words else 0) + no_words i gs (All-tail (λ g. (g.alloc_id == i) ≡ false) g gs h) j)
+
+-- all words that a map grants to an Alloc-ID are granted under its ONU
+own_words : (i u : ℕ) (gs : List Granted) → AreInMapOrder gs → All (λ g. g.alloc_id ≡ i → g.onu ≡ u) gs → words_among i gs ≡ words_granted (find (λ g. g.alloc_id == i) (filter (λ g. g.onu == u) gs))
+own_words i u [] h o = refl
+own_words i u (g ∷ gs) h o =
+    let others : All (λ g. g.alloc_id ≡ i → g.onu ≡ u) gs = All-tail (λ g. g.alloc_id ≡ i → g.onu ≡ u) g gs o in
+    sum_by-cons (λ g. if g.alloc_id == i then g.words else 0) g gs ∙ elim (eqb_tells g.alloc_id i) [
+      | inl e ↦
+          let mine : g.onu ≡ u = All-head (λ g. g.alloc_id ≡ i → g.onu ≡ u) g gs o e.1 in
+          let none : words_among i gs ≡ 0
+          = no_words i gs (λ n d l. ne_eqb (get_or gs n d).alloc_id i (λ z. let k : g.alloc_id < (get_or gs n d).alloc_id = (h.0 n d l).1 (mine ∙ sym (others n d l z)) in omega (arith, z, e.1, k))) in
+          rw (eq-eqb g.onu u mine, e.0) (omega (arith, none))
+      | inr e ↦ elim (cases_Bool (g.onu == u)) [
+        | inl t ↦ rw (t, e.0) (omega (arith, own_words i u gs h.1 others))
+        | inr t ↦ rw (t, e.0) (omega (arith, own_words i u gs h.1 others))
+      ]
+    ]
+
+-- so are those of all maps from a frame on
+words_agree : (i u f : ℕ) (ms : List WindowMap) → All IsLawfulMap ms → All (λ m. f ≤ m.frame → All (λ g. g.alloc_id ≡ i → g.onu ≡ u) m.grants) ms → words_from i f ms ≡ words_to_from u i f ms
+words_agree i u f ms l h = sum_by_agree (λ m. if nat_le f m.frame then words_in i m else 0) (λ m. if nat_le f m.frame then words_to u i m else 0) ms (λ k d n. elim (leb_tells f (get_or ms k d).frame) [
+  | inl e ↦ rw e.0 (own_words i u (get_or ms k d).grants (l k d n).rising (h k d n e.1))
+  | inr e ↦ rw e.0 refl
+])
+
+-- the ONU of an admitted Alloc-ID
+onu_there : (rows : List Row) (i : ℕ) → has_alloc i rows ≡ true → (v : ℕ) × ((w : ℕ) → Owns rows i w → w ≡ v)
+onu_there [] i h = absurd cc
+onu_there (r ∷ rows) i h = elim (eqb_tells r.alloc_id i) [
+  | inl e ↦ (r.onu, λ w o. sym (All-head (λ r. r.alloc_id ≡ i → r.onu ≡ w) r rows o e.1))
+  | inr e ↦ (let q : (v : ℕ) × ((w : ℕ) → Owns rows i w → w ≡ v) = onu_there rows i (subst (λ b. (b || has_alloc i rows) ≡ true) e.0 h) in
+      (q.0, λ w o. q.1 w (All-tail (λ r. r.alloc_id ≡ i → r.onu ≡ w) r rows o)))
+]
+
+-- reports are lessened by either of two numbers of words if these are equal wherever a grant is the Alloc-ID's
+lessened_alike : (f v w i : ℕ) (gs : List Granted) (ns : List (Option ℕ)) → All (λ g. g.alloc_id ≡ i → v ≡ w) gs → reports_of (λ _. v) f gs ns i ≡ reports_of (λ _. w) f gs ns i
+lessened_alike f v w i [] ns h = refl
+lessened_alike f v w i (g ∷ gs) [] h = refl
+lessened_alike f v w i (g ∷ gs) (None ∷ ns) h = lessened_alike f v w i gs ns (All-tail (λ g. g.alloc_id ≡ i → v ≡ w) g gs h)
+lessened_alike f v w i (g ∷ gs) (Some n ∷ ns) h = elim (eqb_tells g.alloc_id i) [
+  | inl e ↦ ap (λ w. reports_of (λ _. w) f (g ∷ gs) (Some n ∷ ns) i) (All-head (λ g. g.alloc_id ≡ i → v ≡ w) g gs h e.1)
+  | inr e ↦ rw e.0 (lessened_alike f v w i gs ns (All-tail (λ g. g.alloc_id ≡ i → v ≡ w) g gs h))
+]
+
+pub flat_all : {X Y : Type 0} (P : Y → Type 0) (f : X → List Y) (xs : List X) → All (λ x. All P (f x)) xs → All P (flat_map f xs)
+flat_all P f [] h = All-nil P
+flat_all P f (x ∷ xs) h = All-append P (f x) (flat_map f xs) (All-head (λ x. All P (f x)) x xs h) (flat_all P f xs (All-tail (λ x. All P (f x)) x xs h))
+
+-- the words that reports are lessened by are all granted under the reporting ONU
+told_under : (s : State) → IsLawfulState s → (a : Account) → AccountIsLawful s a → has_alloc a.alloc_id s.roster ≡ true → (f u : ℕ) (ns : List (Option ℕ)) → a.since ≤ f →
+    reports_of (λ i. words_from i f s.window) f (grants_at f u s.window) ns a.alloc_id ≡ reports_of (λ i. words_to_from u i f s.window) f (grants_at f u s.window) ns a.alloc_id
+told_under s l a lawful admitted f u ns early =
+    let row : (v : ℕ) × ((w : ℕ) → Owns s.roster a.alloc_id w → w ≡ v) = onu_there s.roster a.alloc_id admitted in
+    let own : All (λ m. f ≤ m.frame → All (λ g. g.alloc_id ≡ a.alloc_id → g.onu ≡ row.0) m.grants) s.window
+    = (λ n d k late n' d' k' is. row.1 (get_or (get_or s.window n d).grants n' d').onu (subst (λ i. Owns s.roster i (get_or (get_or s.window n d).grants n' d').onu) is (lawful.owner n d k (omega (arith, early, late)) n' d' k' is))) in
+    let of_frame : List WindowMap = filter (λ m. m.frame == f) s.window in
+    let all : List Granted = flat_map (λ m. m.grants) of_frame in
+    let own_all : All (λ g. g.alloc_id ≡ a.alloc_id → g.onu ≡ row.0) all
+    = flat_all (λ g. g.alloc_id ≡ a.alloc_id → g.onu ≡ row.0) (λ m. m.grants) of_frame
+    (λ n d k. All-filter (λ m. m.frame == f) (λ m. f ≤ m.frame → All (λ g. g.alloc_id ≡ a.alloc_id → g.onu ≡ row.0) m.grants) s.window own n d k
+    (let at : (get_or of_frame n d).frame ≡ f = eqb-true (get_or of_frame n d).frame f (filter_passes (λ m. m.frame == f) s.window n d k) in omega (arith, at))) in
+    lessened_alike f (words_from a.alloc_id f s.window) (words_to_from u a.alloc_id f s.window) a.alloc_id (grants_at f u s.window) ns (λ n d k is.
+    words_agree a.alloc_id u f s.window l.maps (subst (λ v. All (λ m. f ≤ m.frame → All (λ g. g.alloc_id ≡ a.alloc_id → g.onu ≡ v) m.grants) s.window)
+    (sym (All-filter (λ g. g.onu == u) (λ g. g.alloc_id ≡ a.alloc_id → g.onu ≡ row.0) all own_all n d k is) ∙ eqb-true (get_or (grants_at f u s.window) n d).onu u (filter_passes (λ g. g.onu == u) all n d k)) own))
+
+-- The report book.
+
+map_agree : {X Y : Type 0} (f g : X → Y) (xs : List X) → All (λ x. f x ≡ g x) xs → map f xs ≡ map g xs
+map_agree f g [] h = refl
+map_agree f g (x ∷ xs) h = (λ j. All-head (λ x. f x ≡ g x) x xs h j ∷ map_agree f g xs (All-tail (λ x. f x ≡ g x) x xs h) j)
+
+-- the closed form without entries
+pub book_none : (s : State) → IsLawfulState s → book_of s [] ≡ s.book
+book_none s l = accounts_all (account_after s []) s.book (All-weaker (λ a. account_of s.book a.alloc_id ≡ Some a) (λ a. account_after s [] a.alloc_id ≡ a)
+    (λ a e. rw e (λ j. record { alloc_id = a.alloc_id; since = a.since; counted = lone a.counted j })) s.book (found_each s.book l.book.0))
+  where
+    lone : (c : Option Counted) → latest (map (less 0) (option_to_list c) ++ []) ≡ c
+    lone None = refl
+    lone (Some c) = less_none (Some c)
+
+-- an accepted report is of a frame of the window, so below the next one
+pub below_push : (o : State) (es : List Entry) (kept : ℕ) (e : Entry) → AreConsecutive o.next o.window → AreBelow (next_of o.next es) es → MayFollow kept (closed_form o es) e → AreBelow (next_of o.next (es ++ e ∷ [])) (es ++ e ∷ [])
+below_push o es kept e leads below m = below_more (next_of o.next es) (next_of o.next (es ++ e ∷ [])) es e later below (one e.event m.accepted)
+  where
+    later : next_of o.next es ≤ next_of o.next (es ++ e ∷ [])
+    later = omega (arith, next_of-append o.next es (e ∷ []), next_of_grows (next_of o.next es) (e ∷ []))
+
+    one : (v : Event) → first_refusal kept (closed_form o es) v ≡ None → EventBelow (next_of o.next (es ++ e ∷ [])) v
+    one (Report f u occ) h = omega (arith, later, (within o es leads kept f u occ h).0)
+    one v h = tt
+
+module _ (o : State) (es : List Entry) (kept : ℕ) (leads : AreConsecutive o.next o.window) (below : AreBelow (next_of o.next es) es) (lawful : IsLawfulState (closed_form o es)) (reply : Reply) where
+  abbrev ids : List ℕ
+  ids = allocs_of (alloc_ids o.book) es
+
+  abbrev entry : Event → Entry
+  entry v = record { event = v; reply = reply }
+
+  -- the account of an Alloc-ID before and after the event
+  abbrev was : ℕ → Account
+  was i = account_after o es i
+
+  abbrev now : Event → ℕ → Account
+  now v i = account_after o (es ++ entry v ∷ []) i
+
+  -- what an account of the book is known to be
+  abbrev IsKnown : ℕ → Type 0
+  IsKnown i = (has_alloc i (roster_of o.roster es) ≡ true) × AccountIsLawful (closed_form o es) (was i)
+
+  known : All IsKnown ids
+  known n d l = (
+    sym (lawful.book.1 (get_or ids n d)) ∙ ap (list_any (λ j. j == get_or ids n d)) (map-map (λ a. a.alloc_id) was ids ∙ map-id ids)
+        ∙ list_any_at (λ j. j == get_or ids n d) ids n d l (eq-eqb (get_or ids n d) (get_or ids n d) refl),
+    All-unmap (AccountIsLawful (closed_form o es)) was ids lawful.accounts n d l,
+  )
+
+  -- accounts that pass a test of their Alloc-IDs, and all accounts
+  chosen : (v : Event) (p : ℕ → Bool) → ((i : ℕ) → IsKnown i → now v i ≡ was i) → map (now v) (filter p ids) ≡ filter (λ a. p a.alloc_id) (map was ids)
+  chosen v p h = map_agree (now v) was (filter p ids) (All-filter p (λ i. now v i ≡ was i) ids (All-weaker IsKnown (λ i. now v i ≡ was i) h ids known)) ∙ sym (map_filter was (λ a. p a.alloc_id) ids)
+
+  changed : (v : Event) (f : Account → Account) → ((i : ℕ) → IsKnown i → now v i ≡ f (was i)) → map (now v) ids ≡ map f (map was ids)
+  changed v f h = map_agree (now v) (λ i. f (was i)) ids (All-weaker IsKnown (λ i. now v i ≡ f (was i)) h ids known) ∙ sym (map-map f was ids)
+
+  -- an account whose report neither is lessened nor meets a later one
+  unmoved : (v : Event) (i : ℕ) → now v i ≡ record { alloc_id = i; since = since_of o es i; counted = latest (option_to_list (option_map (less 0) (counted_of o es i)) ++ []) } → now v i ≡ was i
+  unmoved v i h = h ∙ (λ j. record { alloc_id = i; since = since_of o es i; counted = (latest_lone (option_map (less 0) (counted_of o es i)) ∙ less_none (counted_of o es i)) j })
+
+  -- a report counts, if it is of a frame not below the since-frame
+  reported : (f u : ℕ) (occ : List (Option ℕ)) → MayFollow kept (closed_form o es) (entry (Report f u occ)) → (i : ℕ) → IsKnown i →
+      now (Report f u occ) i ≡ account_reported (λ i. words_to_from u i f (window_of o es)) f (grants_at f u (window_of o es)) occ (was i)
+  reported f u occ m i k =
+      let same : GrantSame f (all_maps o (es ++ entry (Report f u occ) ∷ [])) (window_of o es) = window_same o es leads kept f u occ m.accepted reply in
+      continued o es (entry (Report f u occ)) below i refl
+      ∙ (λ j. record {
+        alloc_id = i;
+        since = since_of o es i;
+        counted = latest (option_to_list (less_none (counted_of o es i) j)
+            ++ (if nat_le (since_of o es i) f then reports_of (λ _. same.0 i j) f (same.1 u j) occ i else []));
+      })
+      ∙ elim (leb_tells (since_of o es i) f) [
+        | inl e ↦ rw e.0 (λ j. record { alloc_id = i; since = since_of o es i; counted = latest (option_to_list (counted_of o es i) ++ told_under (closed_form o es) lawful (was i) k.1 k.0 f u occ e.1 j) })
+        | inr e ↦ rw e.0 (λ j. record { alloc_id = i; since = since_of o es i; counted = latest_lone (counted_of o es i) j })
+      ]
+
+  -- the accounts of the Alloc-IDs after an event are those of the state after it
+  pushed : (v : Event) → MayFollow kept (closed_form o es) (entry v) → map (now v) (allocs_after ids v) ≡ (after_reply (closed_form o es) v reply).book
+  pushed (Admit onu alloc_id descriptor) m =
+      let v : Event = Admit onu alloc_id descriptor in
+      let free : has_alloc alloc_id (roster_of o.roster es) ≡ false
+      = (passes o.rule o.gap (roster_of o.roster es) (record { onu = onu; alloc_id = alloc_id; descriptor = descriptor }) (or_else_none _ (when_full kept (closed_form o es).taken_before) m.accepted).0).free in
+      let others : (i : ℕ) → IsKnown i → now v i ≡ was i
+      = (λ i k. unmoved v i (continued o es (entry v) below i (ap (λ b. b || false)
+      (ne_eqb alloc_id i (λ e. both_ways (has_alloc i (roster_of o.roster es)) (ap (λ i. has_alloc i (roster_of o.roster es)) (sym e) ∙ free) k.0))))) in
+      map-append (now v) (filter (λ j. nat_lt j alloc_id) ids) (alloc_id ∷ filter (λ j. not (nat_lt j alloc_id)) ids)
+      ∙ (λ j. chosen v (λ j. nat_lt j alloc_id) others j ++ begun o es (entry v) below alloc_id (ap (λ b. b || false) (eq-eqb alloc_id alloc_id refl)) tt j ∷ chosen v (λ j. not (nat_lt j alloc_id)) others j)
+  pushed (Change alloc_id descriptor) m = map_same (now (Change alloc_id descriptor)) was (λ i. unmoved (Change alloc_id descriptor) i (continued o es (entry (Change alloc_id descriptor)) below i refl)) ids
+  pushed (Remove alloc_id) m = chosen (Remove alloc_id) (λ j. not (j == alloc_id)) (λ i k. unmoved (Remove alloc_id) i (continued o es (entry (Remove alloc_id)) below i refl))
+  pushed (Report f u occ) m =
+      changed (Report f u occ) (account_reported (λ i. words_to_from u i f (window_of o es)) f (grants_at f u (window_of o es)) occ) (reported f u occ m)
+      ∙ sym (account_by_account (λ i. words_to_from u i f (window_of o es)) f (grants_at f u (window_of o es)) occ (map was ids))
+  pushed MakeMap m = changed MakeMap (lessened (grants_in_map (roster_of o.roster es) (structures reply))) (λ i k. continued o es (entry MakeMap) below i refl
+      ∙ rw (le-leb 0 (next_of o.next es) (omega arith), (let z : 0 + words_among i (grants_in_map (roster_of o.roster es) (structures reply)) ≡ words_among i (grants_in_map (roster_of o.roster es) (structures reply)) = omega arith in z))
+      (λ j. record { alloc_id = i; since = since_of o es i; counted = latest_lone (option_map (less (words_among i (grants_in_map (roster_of o.roster es) (structures reply)))) (counted_of o es i)) j }))
+  pushed (Fail cause) m = changed (Fail cause) (afresh (next_of o.next es)) (λ i k. begun o es (entry (Fail cause)) below i refl tt)
+  pushed Restore m = changed Restore (afresh (next_of o.next es)) (λ i k. begun o es (entry Restore) below i refl tt)
+
+-- the report book after one more entry is that of the state after it
+pub book_push : (o : State) (es : List Entry) (kept : ℕ) (e : Entry) → AreConsecutive o.next o.window → AreBelow (next_of o.next es) es → IsLawfulState (closed_form o es) → MayFollow kept (closed_form o es) e →
+    book_of o (es ++ e ∷ []) ≡ (after_entry (closed_form o es) e).book
+book_push o es kept e leads below lawful m =
+    ap (map (account_after o (es ++ e ∷ []))) (allocs_of-append (alloc_ids o.book) es (e ∷ []))
+    ∙ pushed o es kept leads below lawful e.reply e.event m
