@@ -1,17 +1,17 @@
--- Items sorted by rounded parts are in the order of cap over weight, each once.
-use Rattle.std.proofs.Common.{◌≡◌, ℕ, ◌+◌, ◌*◌, ◌/◌, ◌<◌, ◌≤◌, List, length, get_or, eqb, ap, sym, ◌∙◌, inl, inr, arith}
+-- Items sorted by rounded parts are in the order of cap over weight.
+use Rattle.std.proofs.Common.{◌≡◌, ℕ, ◌+◌, ◌*◌, ◌/◌, ◌<◌, ◌≤◌, Bool, true, false, List, length, get_or, set, ap, sym, ◌∙◌, inl, inr, arith, get_or-set_other, get_or-set_same}
 use Rattle.std.specs.Prelude.{All, bit_and}
-use Rattle.std.specs.List.{IsDistinct}
 use Rattle.std.specs.List.Sorted.{IsPermutation, IsNonDecreasingBy}
-use Rattle.std.proofs.lemmas.Bool.{cases_lt, eqb-false, ne_eqb}
+use Rattle.std.proofs.lemmas.Bool.{cases_lt}
 use Rattle.std.proofs.lemmas.Bool.Decides.{eqb_tells}
 use Rattle.std.proofs.lemmas.List.{get_or_default}
 use Rattle.std.proofs.lemmas.List.Sorted.{All-permutation, Contains-permutation}
-use Rattle.std.proofs.lemmas.Map.Keys.{IsDistinct-IsPermutation, IsDistinct-from_apart, apart_from_distinct}
 use Rattle.std.proofs.lemmas.Nat.{and_mask}
 use Rattle.std.proofs.Math.Nat.{mul-le-mul_left, mul-lt-mul_of_pos_left}
 use Rattle.pon_cert.specs.declared.problem.Item.{Item}
 use Rattle.pon_cert.specs.Problem.{IsItem}
+use Rattle.pon_fill.specs.declared.rest.Rest.{Rest}
+use Rattle.pon_fill.specs.Filling.{IsFilled}
 use Rattle.pon_fill.specs.Order.{IsOrder}
 
 -- the level that meets a cap, in parts, rounded down
@@ -30,17 +30,11 @@ no_lower ca wa cb wb qa qb pa pb la lb ha hb le = elim (cases_lt (cb * wa) (ca *
       absurd (omega (arith, small, below, above, more, lt))
 ]
 
-pub rises : (a b : Item) → IsItem a → IsItem b → parts a ≤ parts b → a.cap * b.weight ≤ b.cap * a.weight
+rises : (a b : Item) → IsItem a → IsItem b → parts a ≤ parts b → a.cap * b.weight ≤ b.cap * a.weight
 rises a b ia ib le =
     let pa : 0 < a.weight = ia.has_weight in
     let pb : 0 < b.weight = ib.has_weight in
     no_lower a.cap a.weight b.cap b.weight (parts a) (parts b) pa pb ia.weight_range ib.weight_range (omega arith) (omega arith) le
-
-eqb_flips : (x y : ℕ) → eqb x y ≡ eqb y x
-eqb_flips x y = elim (eqb_tells x y) [
-  | inl same ↦ (let e : x ≡ y = same.1 in ap (λ (n : ℕ). eqb n y) e ∙ ap (eqb y) (sym e))
-  | inr other ↦ other.0 ∙ sym (ne_eqb y x (λ e. other.1 (sym e)))
-]
 
 pub in_order : (items : List Item) (keys xs ys : List ℕ) → All IsItem items → length items ≤ 512 → length xs ≡ length items → length ys ≡ length xs
     → ((k : ℕ) → k < length items → get_or xs k 0 ≡ k)
@@ -50,12 +44,8 @@ in_order items keys xs ys each count long same numbers parts_of perm up =
     let numbered : (k d : ℕ) → k < length xs → get_or xs k d ≡ k = λ k d lt. get_or_default xs k d 0 lt ∙ numbers k (omega (arith, lt, long)) in
     let within : (k d : ℕ) → k < length ys → get_or ys k d < length items =
     All-permutation (λ i. i < length items) xs ys perm (λ k d lt. omega (arith, numbered k d lt, lt, long)) in
-    let apart : IsDistinct eqb ys = IsDistinct-IsPermutation eqb eqb_flips xs ys perm
-    (IsDistinct-from_apart eqb xs (λ i j d lt ltj. ne_eqb (get_or xs i d) (get_or xs j d) (λ e. omega (arith, numbered i d (omega (arith, lt, ltj)), numbered j d ltj, e, lt)))) in
     record {
-      long = same ∙ long;
       below = λ k lt. within k 0 lt;
-      distinct = λ j k lt ltk e. eqb-false (get_or ys j 0) (get_or ys k 0) (apart_from_distinct eqb ys j k 0 apart lt ltk) e;
       each = λ i lt.
           let inside : i < length xs = omega (arith, lt, long) in
           let at = Contains-permutation xs ys i perm (i, inside, numbered i i inside) in
@@ -70,3 +60,34 @@ in_order items keys xs ys each count long same numbers parts_of perm up =
   where
     key : (i : ℕ) (d : Item) → i < length items → get_or keys (bit_and i 511) 0 ≡ parts (get_or items i d)
     key i d lt = let e : bit_and i 511 ≡ i = omega (arith, and_mask i 9, lt, count) in ap (λ (n : ℕ). get_or keys n 0) e ∙ parts_of i d lt
+
+-- the first j items of the order are saturated
+abbrev pub IsWalked : List ℕ → ℕ → List Bool → Type 0
+IsWalked numbers j flags = (k : ℕ) → k < j → k < length numbers → get_or flags (get_or numbers k 0) false ≡ true
+
+-- one more is saturated
+pub walked_more : (numbers : List ℕ) (j i : ℕ) (flags : List Bool) → i < length flags → i ≡ get_or numbers j 0 → IsWalked numbers j flags → IsWalked numbers (j + 1) (set flags i true)
+walked_more numbers j i flags lt is w k ltk ltn = elim (eqb_tells (get_or numbers k 0) i) [
+  | inl same ↦ ap (λ n. get_or (set flags i true) n false) same.1 ∙ get_or-set_same flags i true false lt
+  | inr other ↦ get_or-set_other flags i (get_or numbers k 0) true false other.1 ∙ w k (elim (cases_lt k j) [
+    | inl less ↦ less
+    | inr ge ↦ absurd (other.1 (ap (λ n. get_or numbers n 0) (let same : k ≡ j = omega (arith, ge, ltk) in same) ∙ sym is))
+  ]) ltn
+]
+
+-- a cap that is above the level is above it for each later item of the order
+later : (r : Rest) (a b : Item) → 0 < a.weight → 0 < b.weight → a.weight * r.surplus < a.cap * r.weight → a.cap * b.weight ≤ b.cap * a.weight → b.weight * r.surplus < b.cap * r.weight
+later r a b ha hb out le = elim (cases_lt (b.weight * r.surplus) (b.cap * r.weight)) [
+  | inl lt ↦ lt
+  | inr ge ↦ absurd (omega (arith, mul-lt-mul_of_pos_left out hb, mul-le-mul_left a.weight ge, mul-le-mul_left r.weight le))
+]
+
+pub filled_in_order : (items : List Item) (numbers : List ℕ) (j : ℕ) (r : Rest) (flags : List Bool) → All IsItem items → IsOrder items numbers → IsWalked numbers j flags
+    → (j < length numbers → (d : Item) → (get_or items (get_or numbers j 0) d).weight * r.surplus < (get_or items (get_or numbers j 0) d).cap * r.weight) → IsFilled items r flags
+filled_in_order items numbers j r flags each o w above i d lt out =
+    let at = o.each i lt in
+    elim (cases_lt at.0 j) [
+      | inl less ↦ (let flag : true ≡ false = sym (w at.0 less at.1) ∙ ap (λ n. get_or flags n false) at.2 ∙ out in cc)
+      | inr ge ↦ (let first : j < length numbers = omega (arith, ge, at.1) in
+          later r (get_or items (get_or numbers j 0) d) (get_or items i d) (each (get_or numbers j 0) d (o.below j first)).has_weight (each i d lt).has_weight (above first d) (rw at.2 at (o.rising j at.0 d ge at.1)))
+    ]

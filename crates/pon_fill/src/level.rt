@@ -1,47 +1,60 @@
-ghost use Rattle.std.specs.Prelude.{◌≡◌, ◌*◌, ◌≤◌, All, length, sum_by};
+ghost use Rattle.std.specs.Prelude.{◌≡◌, ◌+◌, ◌≤◌, All, length};
 ghost use Rattle.pon_cert.specs.Problem.{IsItem, IsProblem};
 ghost use Rattle.pon_cert.specs.Certificate.{IsCertificate};
+ghost use Rattle.pon_fill.specs.Filling.{IsFilled, IsFilling, IsInRange, saturated_caps};
+ghost use Rattle.pon_fill.specs.Order.{IsOrder};
 
 use crate::order::order;
-use crate::rounds::fill_in_rounds;
-use pon_cert::{Item, Level, MAX_ITEMS};
-use pon_units::{Frac, LINE_RATE};
+use crate::rest::Rest;
+use pon_cert::{Item, Level};
 
-pub(crate) fn total_weight(items: &[Item]) -> u64
-    requires count { length items.now ≤ MAX_ITEMS }
+// Makes one round: saturates every item whose cap is met at the level of `rest`. Returns what they leave: the same
+// weight exactly when there is none.
+fn saturate_met(items: &[Item], rest: Rest, saturated: &mut [bool]) -> Rest
     requires each { All IsItem items.now }
-    ensures value { result ≡ sum_by (λ item. item.weight) items.now }
-    ensures small { result ≤ MAX_ITEMS * LINE_RATE }
+    requires range { IsInRange rest }
+    requires filling { IsFilling items.now rest saturated.old }
+    ensures range { IsInRange result }
+    ensures filling { IsFilling items.now result saturated.new }
+    ensures spent { result.surplus + saturated_caps items.now saturated.new
+        ≡ rest.surplus + saturated_caps items.now saturated.old }
+    ensures filled { result.weight ≡ rest.weight → IsFilled items.now result saturated.new }
 {
-    let mut total = 0;
-    for item in items {
-        total += item.weight;
+    let mut left = rest;
+    for (i, item) in items.iter().enumerate() {
+        if !saturated[i] && rest.meets(*item) {
+            saturated[i] = true;
+            left = left.without(*item);
+        }
     }
-    total
+    left
 }
 
-// Saturates the items in the order in which their caps are met, up to the first whose cap is not met.
-fn fill_sorted(items: &[Item], surplus: u64, scratch: &mut [u16], saturated: &mut [bool]) -> Level
-    requires problem { IsProblem items.now surplus }
-    requires flags { length saturated.old ≡ length items.now }
-    requires scratch { length scratch.old ≡ length items.now }
-    ensures { IsCertificate items.now surplus record { level = result; saturated = saturated.new } }
+// Saturates the items in the order in which their caps are met, up to the first whose cap is not met. Returns what they
+// leave.
+fn saturate_sorted(items: &[Item], numbers: &[u16], rest: Rest, saturated: &mut [bool]) -> Rest
+    requires each { All IsItem items.now }
+    requires order { IsOrder items.now numbers.now }
+    requires range { IsInRange rest }
+    requires filling { IsFilling items.now rest saturated.old }
+    ensures filling { IsFilling items.now result saturated.new }
+    ensures spent { result.surplus + saturated_caps items.now saturated.new
+        ≡ rest.surplus + saturated_caps items.now saturated.old }
+    ensures filled { IsFilled items.now result saturated.new }
 {
-    saturated.fill(false);
-    order(items, scratch);
-    let mut left = surplus;
-    let mut weight = total_weight(items);
-    for number in scratch.iter() {
+    let mut left = rest;
+    for number in numbers {
         let i = usize::from(*number);
-        let item = items[i];
-        if item.weight * left < item.cap * weight {
-            return Level::At(Frac::new(left, weight));
+        if !saturated[i] {
+            let item = items[i];
+            if !left.meets(item) {
+                return left;
+            }
+            saturated[i] = true;
+            left = left.without(item);
         }
-        saturated[i] = true;
-        left -= item.cap;
-        weight -= item.weight;
     }
-    Level::All
+    left
 }
 
 // Maximum number of rounds before the items are sorted.
@@ -64,8 +77,15 @@ pub fn fill(items: &[Item], surplus: u64, scratch: &mut [u16], saturated: &mut [
     requires scratch { length scratch.old ≡ length items.now }
     ensures { IsCertificate items.now surplus record { level = result; saturated = saturated.new } }
 {
-    match fill_in_rounds(items, surplus, MAX_ROUNDS, saturated) {
-        Some(level) => level,
-        None => fill_sorted(items, surplus, scratch, saturated),
+    saturated.fill(false);
+    let mut rest = Rest::of(items, surplus);
+    for _round in 0..MAX_ROUNDS {
+        let left = saturate_met(items, rest, saturated);
+        if left.weight == 0 || left.weight == rest.weight {
+            return left.level();
+        }
+        rest = left;
     }
+    order(items, scratch);
+    saturate_sorted(items, scratch, rest, saturated).level()
 }
