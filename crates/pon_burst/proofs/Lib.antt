@@ -1,8 +1,4 @@
-mod Laid
-mod LastOnu
 pub mod MapRows
 pub mod MapRules
-mod SeriesMaps
-mod SeriesOrder
+mod Packed
 pub mod SoundMaps
-mod Writing

@@ -1,3 +1,4 @@
 pub mod Bursts
+pub mod Layout
 pub mod Maps
 pub mod Series

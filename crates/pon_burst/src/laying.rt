@@ -2,6 +2,7 @@ ghost use Rattle.std.specs.Prelude.{◌≡◌, ◌+◌, ◌≤◌, ◌++◌, len
 ghost use Rattle.pon_units.specs.Granted.{AreInMapOrder};
 ghost use Rattle.pon_burst.specs.Maps.{frame_words, map_granting};
 
+use crate::layout::Layout;
 use pon_bwmap::Alloc;
 use pon_units::{FRAME_WORDS, Gap, Granted, Profile};
 
@@ -17,19 +18,8 @@ pub fn lay_bursts(gap: Gap, profile: Profile, grants: &[Granted], out: &mut Vec<
         ≡ out.old.items ++ map_granting gap profile grants.now }
     ensures capacity { vec_capacity out.old ≤ vec_capacity out.new }
 {
-    let gap_words = gap.get();
-    let mut end = gap_words;
-    let mut last = None;
+    let mut layout = Layout::new(gap);
     for granted in grants {
-        let grant = 1 + granted.words.get();
-        let mut start = None;
-        if last != Some(granted.onu) {
-            start = Some(end);
-            end += gap_words + 2;
-        }
-        end += grant;
-        last = Some(granted.onu);
-        let id = granted.alloc_id.get();
-        out.push_reserved(Alloc::polled(id, start, grant, profile.get()));
+        out.push_reserved(layout.structure(gap, profile, granted));
     }
 }

@@ -7,6 +7,7 @@
 
 pub mod laws;
 mod laying;
+mod layout;
 mod packing;
 
 pub use laying::lay_bursts;
