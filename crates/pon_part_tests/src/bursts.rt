@@ -109,7 +109,7 @@ fn packs_worked_maps(rt: HostRuntime) {
     assert!(rt; packed_onus() == (2, [long, last]), "two ONUs");
 }
 
-// Packs two Alloc-IDs of ONU 1 and one of ONU 5.
+// Packs two Alloc-IDs of ONU 1, none of ONU 3 and one of ONU 5.
 fn packed_three() -> [Alloc; 3] {
     let mut first = ArrayVec::new();
     first.push((id(1024), words(6400)));
@@ -117,7 +117,7 @@ fn packed_three() -> [Alloc; 3] {
     let mut second = ArrayVec::new();
     second.push((id(1025), words(3225)));
     let mut out = [blank(); 3];
-    let series = [(onu(1), first), (onu(5), second)];
+    let series = [(onu(1), first), (onu(3), ArrayVec::new()), (onu(5), second)];
     pack(gap(), profile(), &series, &mut out);
     out
 }
