@@ -1,11 +1,11 @@
 -- The structures of grants in map order, one after another: which of them start a burst, and at which word.
-use Rattle.std.proofs.Common.{◌≡◌, ℕ, ◌+◌, ◌*◌, ◌<◌, ◌≤◌, Bool, true, false, not, ◌||◌, ◌&&◌, List, [], ◌∷◌, ◌++◌, map, get_or, length, drop, Option, ap, sym, ◌∙◌, subst, append_assoc, arith, inl, inr}
+use Rattle.std.proofs.Common.{◌≡◌, ℕ, ◌+◌, ◌*◌, ◌<◌, ◌≤◌, Bool, true, false, not, ◌||◌, ◌&&◌, List, [], ◌∷◌, ◌++◌, map, get_or, length, Option, ap, sym, ◌∙◌, subst, append_assoc, arith, inl, inr}
 use Rattle.std.specs.Prelude.{◌==◌, nat_lt, if◌then◌else◌, filter, sum_by, All, Some, None}
 use Rattle.std.specs.List.{list_any}
 use Rattle.std.specs.Option.{option_eq}
 use Rattle.std.proofs.lemmas.Bool.{and_from, and_right, lt-ltb, le-ltb, eq-eqb, ne_eqb, or_left, or_right}
-use Rattle.std.proofs.lemmas.Bool.Decides.{eqb_tells}
-use Rattle.std.proofs.lemmas.List.{drop_more, map-append}
+use Rattle.std.proofs.lemmas.Bool.Decides.{eqb_tells, nat_tests}
+use Rattle.std.proofs.lemmas.List.{map-append}
 use Rattle.std.proofs.lemmas.List.Elements.{All-nil, All-cons, All-append, All-map, All-push, All-same}
 use Rattle.std.proofs.lemmas.List.Folds.{list_any-append, list_any_none}
 use Rattle.std.proofs.lemmas.List.Sums.{sum_by-append, sum_by-le, sum_by_push}
@@ -17,10 +17,6 @@ use Rattle.pon_lists.proofs.Order.{in_order-sides}
 use Rattle.pon_lists.proofs.Distinct.{bit, count_once, count_once-append, count_once_agree, count_once_none, count_once_push, length-distinct, length-filter_distinct, occurs}
 use Rattle.pon_burst.specs.Layout.{IsLast}
 use Rattle.pon_burst.specs.Maps.{follows_in_series, frame_words, grant, start_of, structure_of}
-
--- an element of a list, and those behind it
-pub drop_cut : {X : Type 0} (xs : List X) (k : ℕ) (x : X) → k < length xs → x ≡ get_or xs k x → drop k xs ≡ x ∷ drop (k + 1) xs
-drop_cut xs k x lt is = drop_more xs k x lt ∙ ap (λ y. y ∷ drop (k + 1) xs) (sym is)
 
 abbrev pub onus : List Granted → List ℕ
 onus gs = map (λ g. g.onu) gs
@@ -67,10 +63,7 @@ module _ (gap profile : ℕ) (gs : List Granted) (order : AreInMapOrder gs) (xs 
   begins less =
       let leads : Granted → Bool = λ h. h.onu == r.onu && nat_lt h.alloc_id r.alloc_id in
       let not_led : (q : Granted) → (q.onu ≡ r.onu → r.alloc_id ≤ q.alloc_id) → leads q ≡ false
-      = λ q h. elim (eqb_tells q.onu r.onu) [
-        | inl t ↦ and_right (q.onu == r.onu) (nat_lt q.alloc_id r.alloc_id) (le-ltb q.alloc_id r.alloc_id (h t.1))
-        | inr n ↦ ap (λ b. b && nat_lt q.alloc_id r.alloc_id) n.0
-      ] in
+      = λ q h. grind (arith, nat_tests) in
       let alone : follows_in_series gap profile gs r ≡ false
       = ap (list_any leads) e ∙ list_any_none leads (xs ++ r ∷ ys) (All-append (λ q. leads q ≡ false) xs (r ∷ ys)
       (λ k d lt. not_led (get_or xs k d) (λ same. absurd {0} (omega (arith, less k d lt, same))))
@@ -103,12 +96,9 @@ module _ (gap profile : ℕ) (gs : List Granted) (order : AreInMapOrder gs) (xs 
   next (Some u) (front, g, cut, is) = elim (eqb_tells u r.onu) [
     | inl t ↦ subst IsNext (sym t.0) (continues front g cut (is ∙ t.1))
     | inr n ↦
-        let order_there : AreInMapOrder (front ++ g ∷ r ∷ ys) = subst AreInMapOrder (e ∙ ap (λ zs. zs ++ r ∷ ys) cut ∙ append_assoc front (g ∷ []) (r ∷ ys)) order in
-        let around : All (λ q. ComesBefore q g) front × All (λ q. ComesBefore g q) (r ∷ ys) = in_order-sides ComesBefore g front (r ∷ ys) order_there in
-        let less : g.onu < r.onu = strictly g.onu r.onu (around.1 0 r (omega arith)).0 (λ same. n.1 (sym is ∙ same)) in
+        let around : All (λ q. ComesBefore q g) front × All (λ q. ComesBefore g q) (r ∷ ys)
+        = in_order-sides ComesBefore g front (r ∷ ys) (subst AreInMapOrder (e ∙ ap (λ zs. zs ++ r ∷ ys) cut ∙ append_assoc front (g ∷ []) (r ∷ ys)) order) in
+        let less : g.onu < r.onu = omega (arith, (around.1 0 r (omega arith)).0, is, n.1) in
         subst IsNext (sym n.0) (begins (All-same (λ q. q.onu < r.onu) xs (front ++ g ∷ []) cut
         (All-push (λ q. q.onu < r.onu) front g (λ k d lt. omega (arith, (around.0 k d lt).0, less)) less)))
   ]
-    where
-      strictly : (m n : ℕ) → m ≤ n → (m ≡ n → ⊥) → m < n
-      strictly m n le ne = omega (arith, le, ne)

@@ -1,5 +1,5 @@
 -- Grants in map order make a map: few enough of each ONU, and all in a frame.
-use Rattle.std.proofs.Common.{◌≡◌, ℕ, zero, suc, ◌+◌, ◌-◌, ◌<◌, ◌≤◌, Bool, true, false, cond, List, [], ◌∷◌, ◌++◌, map, length, Option, refl, ap, sym, ◌∙◌, subst, append_assoc, arith}
+use Rattle.std.proofs.Common.{◌≡◌, ℕ, zero, suc, ◌+◌, ◌-◌, ◌<◌, ◌≤◌, Bool, true, false, cond, List, [], ◌∷◌, ◌++◌, map, get_or, length, Option, refl, ap, sym, ◌∙◌, subst, append_assoc, arith}
 use Rattle.std.specs.Prelude.{◌==◌, if◌then◌else◌, is_none, slice_get, count_by, Some, None}
 use Rattle.std.specs.Option.{option_eq}
 use Rattle.std.proofs.lemmas.Bool.{eq-eqb, eqb-true}
@@ -26,11 +26,8 @@ module _ (gap profile : ℕ) (gs : List Granted) (order : AreInMapOrder gs) wher
 
   row_continues : (o : Option ℕ) (xs ys : List Granted) (g : Granted) → gs ≡ xs ++ g ∷ ys → IsLast o xs → is_none (row g).start ≡ option_eq (λ a b. a == b) o (Some g.onu)
   row_continues o xs ys g e last =
-      ap is_none (next gap profile gs order xs ys g e o last).0 ∙ flag_is (option_eq (λ a b. a == b) o (Some g.onu))
-    where
-      flag_is : (b : Bool) → is_none (if b then None else Some (gap + frame_words gap xs)) ≡ b
-      flag_is true = refl
-      flag_is false = refl
+      ap is_none (next gap profile gs order xs ys g e o last).0
+      ∙ elim (option_eq (λ a b. a == b) o (Some g.onu)) as (λ b. is_none (if b then None else Some (gap + frame_words gap xs)) ≡ b) [ true ↦ refl | false ↦ refl ]
 
   first_starts : (ys : List Granted) → gs ≡ ys → goes_on ys 0 ≡ false
   first_starts [] e = refl
@@ -38,6 +35,9 @@ module _ (gap profile : ℕ) (gs : List Granted) (order : AreInMapOrder gs) wher
 
   abbrev of_onu : Granted → List Granted → ℕ
   of_onu g xs = count_by (λ q. q.onu == g.onu) xs
+
+  one_more : (g : Granted) (xs : List Granted) → of_onu g (xs ++ g ∷ []) ≡ of_onu g xs + 1
+  one_more g xs = omega (arith, count_by-append (λ q. q.onu == g.onu) xs (g ∷ []), ap {B = ℕ} (λ b. cond b 1 0) (eq-eqb g.onu g.onu refl))
 
   module _ (short : (u : ℕ) → count_by (λ g. g.onu == u) gs ≤ 16) where
     -- structures that continue a series are of the ONU of the grant before them
@@ -52,14 +52,13 @@ module _ (gap profile : ℕ) (gs : List Granted) (order : AreInMapOrder gs) wher
           arith,
           all_of_onu m (xs ++ g ∷ []) ys h there (λ j lt. all (suc j) (omega (arith, lt))),
           ap (λ u. count_by (λ (q : Granted). q.onu == u) (xs ++ g ∷ [])) same,
-          count_by-append (λ q. q.onu == h.onu) (xs ++ g ∷ []) (h ∷ []),
-          ap {B = ℕ} (λ b. cond b 1 0) (eq-eqb h.onu h.onu refl),
+          one_more h (xs ++ g ∷ []),
         )
 
     -- 16 structures that continue a series and the one before them are too many of one ONU
     seventeen : (k : ℕ) (xs ys : List Granted) (g : Granted) → gs ≡ xs ++ g ∷ ys → ((i : ℕ) → k ≤ i → i < k + 16 → goes_on ys i ≡ true) → ⊥
     seventeen zero xs ys g e all =
-        absurd (omega (arith, all_of_onu 16 xs ys g e (λ j lt. all j (omega arith) (omega (arith, lt))), count_by-append (λ q. q.onu == g.onu) xs (g ∷ []), ap {B = ℕ} (λ b. cond b 1 0) (eq-eqb g.onu g.onu refl)))
+        absurd (omega (arith, all_of_onu 16 xs ys g e (λ j lt. all j (omega arith) (omega (arith, lt))), one_more g xs))
     seventeen (suc k) xs [] g e all = absurd (let off : false ≡ true = all (suc k) (omega arith) (omega arith) in cc)
     seventeen (suc k) xs (h ∷ ys) g e all = seventeen k (xs ++ g ∷ []) ys h (e ∙ sym (append_assoc xs (g ∷ []) (h ∷ ys))) (λ i le lt. all (suc i) (omega (arith, le)) (omega (arith, lt)))
 
@@ -74,7 +73,9 @@ is_map_of_rising gap profile gs order short few fits =
     (map_rules rows).1 (record {
       count = rw (length-map gs (structure_of gap profile gs)) few;
       first = first_starts gap profile gs order gs refl;
-      starts = λ k start a here is. omega (arith, (all_laid gap profile gs order).starts k a (slice_get_within rows k a here) start (ap (λ (a : Alloc). a.start) (get_or_from_slice_get rows k a a here) ∙ is), fits);
+      starts = λ k start a here is.
+          let there : (get_or rows k a).start ≡ Some start = ap (λ (a : Alloc). a.start) (get_or_from_slice_get rows k a a here) ∙ is in
+          omega (arith, (all_laid gap profile gs order).starts k a (slice_get_within rows k a here) start there, fits);
       series = λ k all. no_long_series gap profile gs order short k gs refl
           (λ i le lt. let place : k + (i - k) ≡ i = omega (arith, le) in subst (λ n. lacks_start (slice_get rows n) ≡ true) place (all (i - k) (omega (arith, lt))));
     })

@@ -21,7 +21,8 @@ pub record AreLaid (gap low end : ℕ) (rows : List Alloc) : Type 0 where
   pub disjoint : AllPairs (AreDisjoint gap) (bursts_of rows)
   pub starts : All (λ a. (start : ℕ) → a.start ≡ Some start → start + 2 + gap ≤ end) rows
 
-one_laid : (gap low after end : ℕ) (a : Alloc) (more : List Alloc) (b : Bool) → a.start ≡ (if b then None else Some low) → after ≡ low + ((if b then 0 else gap + 2) + a.grant) → AreLaid gap after end more → AreLaid gap low end (a ∷ more)
+one_laid : (gap low after end : ℕ) (a : Alloc) (more : List Alloc) (b : Bool) → a.start ≡ (if b then None else Some low) → after ≡ low + ((if b then 0 else gap + 2) + a.grant) →
+    AreLaid gap after end more → AreLaid gap low end (a ∷ more)
 one_laid gap low after end a more true is past laid = record {
   words = rw is (omega (arith, past, laid.words));
   bursts = rw is (λ k d lt. (omega (arith, past, (laid.bursts k d lt).0), (laid.bursts k d lt).1));
@@ -44,17 +45,17 @@ one_laid gap low after end a more false is past laid =
 module _ (gap profile : ℕ) (gs : List Granted) (order : AreInMapOrder gs) where
   -- the structures of later grants are laid after those of earlier ones
   pub rest_laid : (o : Option ℕ) (xs ys : List Granted) → gs ≡ xs ++ ys → IsLast o xs → AreLaid gap (gap + frame_words gap xs) (gap + frame_words gap gs) (map (structure_of gap profile gs) ys)
-  rest_laid o xs [] e last =
-      record {
-        words = omega (arith, ap (frame_words gap) (e ∙ append-nil xs));
-        bursts = λ k d lt. absurd (omega arith);
-        disjoint = λ i j d l lt. absurd (omega arith);
-        starts = λ k d lt. absurd (omega arith);
-      }
+  rest_laid o xs [] e last = record {
+    words = omega (arith, ap (frame_words gap) (e ∙ append-nil xs));
+    bursts = λ k d lt. absurd (omega arith);
+    disjoint = λ i j d l lt. absurd (omega arith);
+    starts = λ k d lt. absurd (omega arith);
+  }
   rest_laid o xs (r ∷ ys) e last =
       let here = next gap profile gs order xs ys r e o last in
-      one_laid gap (gap + frame_words gap xs) (gap + frame_words gap (xs ++ r ∷ [])) (gap + frame_words gap gs) (structure_of gap profile gs r) (map (structure_of gap profile gs) ys) (option_eq (λ a b. a == b) o (Some r.onu))
-      here.0 (omega (arith, here.1)) (rest_laid (Some r.onu) (xs ++ r ∷ []) ys (e ∙ sym (append_assoc xs (r ∷ []) ys)) (xs, r, refl, refl))
+      let row : Granted → Alloc = structure_of gap profile gs in
+      one_laid gap (gap + frame_words gap xs) (gap + frame_words gap (xs ++ r ∷ [])) (gap + frame_words gap gs) (row r) (map row ys) (option_eq (λ a b. a == b) o (Some r.onu)) here.0 (omega (arith, here.1))
+      (rest_laid (Some r.onu) (xs ++ r ∷ []) ys (e ∙ sym (append_assoc xs (r ∷ []) ys)) (xs, r, refl, refl))
 
   pub all_laid : AreLaid gap (gap + frame_words gap []) (gap + frame_words gap gs) (map_granting gap profile gs)
   all_laid = rest_laid None [] gs refl refl
