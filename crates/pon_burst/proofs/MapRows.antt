@@ -11,10 +11,9 @@ use Rattle.std.proofs.lemmas.List.Folds.{list_any-append, list_any_none}
 use Rattle.std.proofs.lemmas.List.Sums.{sum_by-append, sum_by-le, sum_by_push}
 use Rattle.pon_units.specs.declared.Granted.{Granted}
 use Rattle.pon_units.specs.Granted.{AreInMapOrder, ComesBefore, onus_granted}
-use Rattle.pon_lists.specs.Distinct.{distinct}
 use Rattle.pon_lists.proofs.Lists.{All-middle, list_any-map, sum_by_agree}
 use Rattle.pon_lists.proofs.Order.{in_order-sides}
-use Rattle.pon_lists.proofs.Distinct.{bit, count_once, count_once-append, count_once_agree, count_once_none, count_once_push, length-distinct, length-filter_distinct, occurs}
+use Rattle.pon_lists.proofs.Distinct.{bit, count_once-append, count_once_agree, count_once_none, count_once_push, length-distinct, length-filter_distinct, occurs}
 use Rattle.pon_burst.specs.Layout.{IsLast}
 use Rattle.pon_burst.specs.Maps.{follows_in_series, frame_words, grant, start_of, structure_of}
 
@@ -28,12 +27,7 @@ any_middle p xs ys x h = list_any-append p xs (x ∷ ys) ∙ or_right (list_any 
 words_push : (gap : ℕ) (xs : List Granted) (r : Granted) (b : Bool) → occurs r.onu (onus xs) ≡ b →
     frame_words gap (xs ++ r ∷ []) ≡ (gap + 2) * (length (onus_granted xs) + bit (not b && true)) + (sum_by grant xs + grant r)
 words_push gap xs r b known =
-    let count : length (onus_granted (xs ++ r ∷ [])) ≡ length (onus_granted xs) + bit (not b && true)
-    = ap (λ us. length (distinct us)) (map-append (λ g. g.onu) xs (r ∷ []))
-    ∙ length-distinct (onus xs ++ r.onu ∷ [])
-    ∙ count_once_push (onus xs) (λ _. true) r.onu
-    ∙ (λ i. sym (length-distinct (onus xs)) i + bit (not (known i) && true)) in
-    (λ i. (gap + 2) * count i + sum_by_push grant xs r i)
+    rw (map-append (λ g. g.onu) xs (r ∷ []), length-distinct (onus xs ++ r.onu ∷ []), count_once_push (onus xs) (λ _. true) r.onu, ← length-distinct (onus xs), known, sum_by_push grant xs r)
 
 module _ (gap profile : ℕ) (gs : List Granted) (order : AreInMapOrder gs) (xs ys : List Granted) (r : Granted) (e : gs ≡ xs ++ r ∷ ys) where
   -- the start of its structure, and the words that it takes, if it continues a burst or begins one
@@ -73,18 +67,21 @@ module _ (gap profile : ℕ) (gs : List Granted) (order : AreInMapOrder gs) (xs 
       let no : All (λ q. below q.onu ≡ false) (r ∷ ys)
       = All-cons (λ q. below q.onu ≡ false) r ys (le-ltb r.onu r.onu (omega arith)) (λ k d lt. le-ltb (get_or ys k d).onu r.onu (sides.1 k d lt).0) in
       let new : ℕ → Bool = λ v. not (occurs v (onus xs)) && below v in
+      let not_new : All (λ q. new q.onu ≡ false) (r ∷ ys) = λ k d lt. and_right (not (occurs (get_or (r ∷ ys) k d).onu (onus xs))) (below (get_or (r ∷ ys) k d).onu) (no k d lt) in
       let counted : length (filter below (onus_granted gs)) ≡ length (onus_granted xs) + 0
-      = length-filter_distinct (onus gs) below
-      ∙ ap (λ us. count_once us below) (ap onus e ∙ map-append (λ g. g.onu) xs (r ∷ ys))
-      ∙ count_once-append (onus xs) (onus (r ∷ ys)) below
-      ∙ (λ i. count_once_agree (onus xs) below (λ _. true) (All-map (λ v. below v ≡ true) (λ g. g.onu) xs yes) i
-      + count_once_none (onus (r ∷ ys)) new (All-map (λ v. new v ≡ false) (λ g. g.onu) (r ∷ ys) (λ k d lt. let v : ℕ = (get_or (r ∷ ys) k d).onu in and_right (not (occurs v (onus xs))) (below v) (no k d lt))) i)
-      ∙ (λ i. sym (length-distinct (onus xs)) i + 0) in
+      = rw (
+        length-filter_distinct (onus gs) below,
+        e,
+        map-append (λ g. g.onu) xs (r ∷ ys),
+        count_once-append (onus xs) (onus (r ∷ ys)) below,
+        count_once_agree (onus xs) below (λ _. true) (All-map (λ v. below v ≡ true) (λ g. g.onu) xs yes),
+        count_once_none (onus (r ∷ ys)) new (All-map (λ v. new v ≡ false) (λ g. g.onu) (r ∷ ys) not_new),
+        length-distinct (onus xs),
+      ) in
       let f : Granted → ℕ = λ g. if below g.onu then grant g else 0 in
       let summed : sum_by f gs ≡ sum_by grant xs
-      = ap (sum_by f) e
-      ∙ sum_by-append f xs (r ∷ ys)
-      ∙ omega (arith, sum_by_agree f grant xs (λ k d lt. ap (λ b. if b then grant (get_or xs k d) else 0) (yes k d lt)), sum_by-le f 0 (r ∷ ys) (λ k d lt. rw (no k d lt) (omega arith))) in
+      = rw (e, sum_by-append f xs (r ∷ ys), sum_by_agree f grant xs (λ k d lt. ap (λ b. if b then grant (get_or xs k d) else 0) (yes k d lt)))
+      (omega (arith, sum_by-le f 0 (r ∷ ys) (λ k d lt. rw (no k d lt) (omega arith)))) in
       let start : start_of gap profile gs r.onu ≡ gap + frame_words gap xs = (λ i. gap + (gap + 2) * counted i + summed i) ∙ omega arith in
       let unknown : occurs r.onu (onus xs) ≡ false
       = list_any_none (λ v. v == r.onu) (onus xs) (All-map (λ v. (v == r.onu) ≡ false) (λ g. g.onu) xs (λ k d lt. ne_eqb (get_or xs k d).onu r.onu (λ same. omega (arith, less k d lt, same)))) in

@@ -27,16 +27,15 @@ pub record Packed (gap profile : ℕ) (gs rest : List Granted) (l : Layout) (fil
   pub structures : take filled out ≡ map (structure_of gap profile gs) before
   pub kept : drop filled out ≡ drop filled old
 
-pub one_packed : {gap profile filled : ℕ} {gs rest : List Granted} {r : Granted} {l next : Layout} {out old : List Alloc} {a : Alloc}
-    (p : Packed gap profile gs (r ∷ rest) l filled out old) → length gs ≤ length out → (a ≡ structure_of gap profile gs r) × IsAfter gap (p.before ++ r ∷ []) next → Packed gap profile gs rest next (filled + 1) (set out filled a) old
+pub one_packed : {gap profile filled : ℕ} {gs rest : List Granted} {r : Granted} {l next : Layout} {out old : List Alloc} {a : Alloc} (p : Packed gap profile gs (r ∷ rest) l filled out old) →
+    length gs ≤ length out → (a ≡ structure_of gap profile gs r) × IsAfter gap (p.before ++ r ∷ []) next → Packed gap profile gs rest next (filled + 1) (set out filled a) old
 one_packed {gap} {profile} {filled} {gs} {rest} {r} {l} {next} {out} {old} {a} p room step = record {
   before = p.before ++ r ∷ [];
   whole = p.whole ∙ sym (append_assoc p.before (r ∷ []) rest);
   count = omega (arith, p.count, length-append p.before (r ∷ []));
   after = step.1;
-  structures = take_more_set out filled a (omega (arith, p.count, room, ap length p.whole, length-append p.before (r ∷ rest)))
-      ∙ (λ i. p.structures i ++ step.0 i ∷ [])
-      ∙ sym (map-append (structure_of gap profile gs) p.before (r ∷ []));
+  structures = rw (map-append (structure_of gap profile gs) p.before (r ∷ []), ← step.0, ← p.structures)
+      (take_more_set out filled a (omega (arith, p.count, room, ap length p.whole, length-append p.before (r ∷ rest))));
   kept = drop-set-lt (filled + 1) out filled a (omega arith) ∙ drop_more_same out old filled p.kept;
 }
 

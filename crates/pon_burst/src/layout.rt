@@ -25,7 +25,8 @@ impl Layout {
         }
     }
 
-    // Returns the structure of one more grant of a map, and goes past it.
+    // Returns the structure of one more grant of a map; the layout is then the one after this grant.
+    #[inline]
     pub fn structure(&mut self, gap: Gap, profile: Profile, granted: &Granted) -> Alloc
         requires { self.old.end ≤ gap + FRAME_WORDS }
         ensures { (grants before after : List Granted) → AreInMapOrder grants

@@ -17,8 +17,8 @@ use pon_units::{
 /// each after its gap of 1 to 256 words. It always succeeds and allocates no memory.
 ///
 /// Requires ascending ONU-IDs, and ascending Alloc-IDs of each ONU; gaps, headers, trailers and grants of all ONUs with
-/// Alloc-IDs of at most 9,720 words together; and room in `out` for a structure for each Alloc-ID. No Alloc-IDs have no
-/// structures.
+/// Alloc-IDs of at most 9,720 words together; and room in `out` for a structure for each Alloc-ID. An ONU without
+/// Alloc-IDs has no structure.
 pub fn pack(
     gap: Gap,
     profile: Profile,

@@ -1,4 +1,4 @@
-use Rattle.std.proofs.Common.{◌≡◌, ℕ, ◌+◌, ◌++◌, ◌∷◌, [], map, take, drop, ap, sym, ◌∙◌, subst, rules, append_assoc}
+use Rattle.std.proofs.Common.{◌≡◌, ℕ, ◌+◌, ◌++◌, ◌∷◌, [], map, take, drop, sym, subst, rules, append_assoc}
 use Rattle.std.proofs.lemmas.List.{drop_more, map-append, take-append-drop, take_more}
 use Rattle.pon_units.specs.declared.Granted.{Granted}
 use Rattle.pon_bwmap.specs.Alloc.{Alloc}
@@ -23,10 +23,8 @@ loop-granted-preserved c =
     let step = c.structure.ensures gs (take k gs) (drop (k + 1) gs) c.requires.order whole c.loop-granted.invariant.after in
     record {
       after = subst (λ xs. IsAfter c.args.gap xs c.structure.new.self) (sym more) step.1;
-      structures = c.push_reserved.ensures.items
-          ∙ (λ i. c.loop-granted.invariant.structures i ++ step.0 i ∷ [])
-          ∙ append_assoc c.args.out.now.items (map row (take k gs)) (row r ∷ [])
-          ∙ ap (λ rows. c.args.out.now.items ++ rows) (sym (map-append row (take k gs) (r ∷ [])) ∙ ap (map row) (sym more));
+      structures = rw (c.push_reserved.ensures.items, c.loop-granted.invariant.structures, step.0, more, map-append row (take k gs) (r ∷ []))
+          (append_assoc c.args.out.now.items (map row (take k gs)) (row r ∷ []));
       count = search rules;
       room = search rules;
     }
