@@ -26,8 +26,7 @@ any_middle p xs ys x h = list_any-append p xs (x ∷ ys) ∙ or_right (list_any 
 -- the words that one more grant takes
 words_push : (gap : ℕ) (xs : List Granted) (r : Granted) (b : Bool) → occurs r.onu (onus xs) ≡ b →
     frame_words gap (xs ++ r ∷ []) ≡ (gap + 2) * (length (onus_granted xs) + bit (not b && true)) + (sum_by grant xs + grant r)
-words_push gap xs r b known =
-    rw (map-append (λ g. g.onu) xs (r ∷ []), length-distinct (onus xs ++ r.onu ∷ []), count_once_push (onus xs) (λ _. true) r.onu, ← length-distinct (onus xs), known, sum_by_push grant xs r)
+words_push gap xs r b known = rw (map-append, length-distinct (onus xs ++ r.onu ∷ []), count_once_push, ← length-distinct (onus xs), known, sum_by_push)
 
 module _ (gap profile : ℕ) (gs : List Granted) (order : AreInMapOrder gs) (xs ys : List Granted) (r : Granted) (e : gs ≡ xs ++ r ∷ ys) where
   -- the start of its structure, and the words that it takes, if it continues a burst or begins one
@@ -70,13 +69,13 @@ module _ (gap profile : ℕ) (gs : List Granted) (order : AreInMapOrder gs) (xs 
       let not_new : All (λ q. new q.onu ≡ false) (r ∷ ys) = λ k d lt. and_right (not (occurs (get_or (r ∷ ys) k d).onu (onus xs))) (below (get_or (r ∷ ys) k d).onu) (no k d lt) in
       let counted : length (filter below (onus_granted gs)) ≡ length (onus_granted xs) + 0
       = rw (
-        length-filter_distinct (onus gs) below,
+        length-filter_distinct,
         e,
-        map-append (λ g. g.onu) xs (r ∷ ys),
-        count_once-append (onus xs) (onus (r ∷ ys)) below,
+        map-append,
+        count_once-append,
         count_once_agree (onus xs) below (λ _. true) (All-map (λ v. below v ≡ true) (λ g. g.onu) xs yes),
         count_once_none (onus (r ∷ ys)) new (All-map (λ v. new v ≡ false) (λ g. g.onu) (r ∷ ys) not_new),
-        length-distinct (onus xs),
+        length-distinct,
       ) in
       let f : Granted → ℕ = λ g. if below g.onu then grant g else 0 in
       let summed : sum_by f gs ≡ sum_by grant xs

@@ -21,15 +21,15 @@ pub record AreLaid (gap low end : ℕ) (rows : List Alloc) : Type 0 where
   pub disjoint : AllPairs (AreDisjoint gap) (bursts_of rows)
   pub starts : All (λ a. (start : ℕ) → a.start ≡ Some start → start + 2 + gap ≤ end) rows
 
-one_laid : (gap low after end : ℕ) (a : Alloc) (more : List Alloc) (b : Bool) → a.start ≡ (if b then None else Some low) → after ≡ low + ((if b then 0 else gap + 2) + a.grant) →
+one_laid : {gap low after end : ℕ} (a : Alloc) (more : List Alloc) (b : Bool) → a.start ≡ (if b then None else Some low) → after ≡ low + ((if b then 0 else gap + 2) + a.grant) →
     AreLaid gap after end more → AreLaid gap low end (a ∷ more)
-one_laid gap low after end a more true is past laid = record {
+one_laid {gap} {low} {after} {end} a more true is past laid = record {
   words = rw is (omega (arith, past, laid.words));
   bursts = rw is (λ k d lt. (omega (arith, past, (laid.bursts k d lt).0), (laid.bursts k d lt).1));
   disjoint = rw is laid.disjoint;
   starts = All-cons (λ a. (start : ℕ) → a.start ≡ Some start → start + 2 + gap ≤ end) a more (λ start here. absurd (let none : None ≡ Some start = sym is ∙ here in cc)) laid.starts;
 }
-one_laid gap low after end a more false is past laid =
+one_laid {gap} {low} {after} {end} a more false is past laid =
     let first : Burst = record { start = low; words = a.grant + continued more } in
     let behind : All (λ b. first.start + 1 + first.words + 1 + gap ≤ b.start) (bursts_of more) = λ k d lt. omega (arith, past, (laid.bursts k d lt).0) in
     record {
@@ -53,8 +53,7 @@ module _ (gap profile : ℕ) (gs : List Granted) (order : AreInMapOrder gs) wher
   }
   rest_laid o xs (r ∷ ys) e last =
       let here = next gap profile gs order xs ys r e o last in
-      let row : Granted → Alloc = structure_of gap profile gs in
-      one_laid gap (gap + frame_words gap xs) (gap + frame_words gap (xs ++ r ∷ [])) (gap + frame_words gap gs) (row r) (map row ys) (option_eq (λ a b. a == b) o (Some r.onu)) here.0 (omega (arith, here.1))
+      one_laid (structure_of gap profile gs r) (map (structure_of gap profile gs) ys) (option_eq (λ a b. a == b) o (Some r.onu)) here.0 (omega (arith, here.1))
       (rest_laid (Some r.onu) (xs ++ r ∷ []) ys (e ∙ sym (append_assoc xs (r ∷ []) ys)) (xs, r, refl, refl))
 
   pub all_laid : AreLaid gap (gap + frame_words gap []) (gap + frame_words gap gs) (map_granting gap profile gs)
