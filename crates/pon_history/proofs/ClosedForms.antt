@@ -1,9 +1,9 @@
 -- The replay of a legal history is its closed form.
-use Rattle.std.proofs.Common.{◌≡◌, ℕ, ◌+◌, List, [], ◌∷◌, ◌++◌, length, ap, sym, ◌∙◌, subst, append_assoc, arith, true}
-use Rattle.std.proofs.lemmas.List.{append-nil, length-append}
+use Rattle.std.proofs.Common.{◌≡◌, ℕ, ◌+◌, List, [], ◌∷◌, ◌++◌, length, ap, sym, ◌∙◌, subst, arith, true}
+use Rattle.std.proofs.lemmas.List.{length-append}
 use Rattle.pon_admit.specs.Roster.{has_alloc}
 use Rattle.pon_admit.specs.declared.event.Event.{Event}
-use Rattle.pon_admit.specs.declared.event.Event.TheVariants.{Admit, Change, Remove, Report, MakeMap, Fail, Restore}
+use Rattle.pon_admit.specs.declared.event.Event.TheVariants.{MakeMap}
 use Rattle.pon_guar.specs.Window.{AreConsecutive}
 use Rattle.pon_demand.specs.Carries.{number_of}
 use Rattle.pon_demand.proofs.Carries.{carry_known}
@@ -19,7 +19,7 @@ use Rattle.pon_history.specs.ClosedForm.{closed_form}
 use Rattle.pon_history.specs.Parts.{cause_after, next_of, roster_after, roster_of}
 use Rattle.pon_history.proofs.Carries.{carries_none, carries_push}
 use Rattle.pon_history.proofs.LawfulStates.{lawful_step}
-use Rattle.pon_history.proofs.Legality.{IsLegalFrom, from_legal, replay_push}
+use Rattle.pon_history.proofs.Legality.{along, replay_push}
 use Rattle.pon_history.proofs.Parts.{cause_of-append, next_of-append, roster_of-append}
 use Rattle.pon_history.proofs.Reports.{AreBelow, below_push, book_none, book_push}
 use Rattle.pon_history.proofs.Windows.{window_none, window_push}
@@ -74,13 +74,8 @@ module _ (o : State) (es : List Entry) (kept : ℕ) (leads : AreConsecutive o.ne
 
   one : (v : Event) (reply : Reply) → MayFollow kept (closed_form o es) (record { event = v; reply = reply }) →
       closed_form o (es ++ record { event = v; reply = reply } ∷ []) ≡ after_reply (closed_form o es) v reply
-  one (Admit onu alloc_id descriptor) reply m = joined (record { event = Admit onu alloc_id descriptor; reply = reply }) m (next_of o.next es) (omega arith)
-  one (Change alloc_id descriptor) reply m = joined (record { event = Change alloc_id descriptor; reply = reply }) m (next_of o.next es) (omega arith)
-  one (Remove alloc_id) reply m = joined (record { event = Remove alloc_id; reply = reply }) m (next_of o.next es) (omega arith)
-  one (Report frame onu occ) reply m = joined (record { event = Report frame onu occ; reply = reply }) m (next_of o.next es) (omega arith)
   one MakeMap reply m = joined (record { event = MakeMap; reply = reply }) m (next_of o.next es + 1) (omega arith)
-  one (Fail cause) reply m = joined (record { event = Fail cause; reply = reply }) m (next_of o.next es) (omega arith)
-  one Restore reply m = joined (record { event = Restore; reply = reply }) m (next_of o.next es) (omega arith)
+  one v reply m = joined (record { event = v; reply = reply }) m (next_of o.next es) (omega arith)
 
   closed_push : (e : Entry) → MayFollow kept (closed_form o es) e → closed_form o (es ++ e ∷ []) ≡ after_entry (closed_form o es) e
   closed_push e m = one e.event e.reply m
@@ -91,41 +86,28 @@ pub record Holds (o : State) (es : List Entry) : Type 0 where
   pub lawful : IsLawfulState (replay o es)
   pub below : AreBelow (next_of o.next es) es
 
-module _ (o : State) (l : IsLawfulState o) where
-  holds_none : Holds o []
-  holds_none = record { closed = sym (closed_none o l); lawful = l; below = tt }
+holds_none : (o : State) → IsLawfulState o → Holds o []
+holds_none o l = record { closed = sym (closed_none o l); lawful = l; below = tt }
 
-  holds_push : (es : List Entry) (e : Entry) → Holds o es → MayFollow (length es) (replay o es) e → Holds o (es ++ e ∷ [])
-  holds_push es e h m =
-      let pushed : replay o (es ++ e ∷ []) ≡ after_entry (replay o es) e = replay_push o es e in
-      let state : IsLawfulState (closed_form o es) = subst IsLawfulState h.closed h.lawful in
-      let follows : MayFollow (length es) (closed_form o es) e = subst (λ s. MayFollow (length es) s e) h.closed m in
-      record {
-        closed = pushed ∙ ap (λ s. after_entry s e) h.closed ∙ sym (closed_push o es (length es) l.frames h.below state h.closed e follows);
-        lawful = subst IsLawfulState (sym pushed) (lawful_step (length es) (replay o es) e m h.lawful);
-        below = below_push o es (length es) e l.frames h.below follows;
-      }
+holds_push : (o : State) → IsLawfulState o → (es : List Entry) (e : Entry) → Holds o es → MayFollow (length es) (replay o es) e → Holds o (es ++ e ∷ [])
+holds_push o l es e h m =
+    let pushed : replay o (es ++ e ∷ []) ≡ after_entry (replay o es) e = replay_push o es e in
+    let state : IsLawfulState (closed_form o es) = subst IsLawfulState h.closed h.lawful in
+    let follows : MayFollow (length es) (closed_form o es) e = subst (λ s. MayFollow (length es) s e) h.closed m in
+    record {
+      closed = pushed ∙ ap (λ s. after_entry s e) h.closed ∙ sym (closed_push o es (length es) l.frames h.below state h.closed e follows);
+      lawful = subst IsLawfulState (sym pushed) (lawful_step (length es) (replay o es) e m h.lawful);
+      below = below_push o es (length es) e l.frames h.below follows;
+    }
 
-  -- a property that each entry of a legal history keeps holds after all of it
-  along : (P : List Entry → Type 0) → ((es : List Entry) (e : Entry) → Holds o es → MayFollow (length es) (replay o es) e → P es → P (es ++ e ∷ [])) →
-      (done es : List Entry) → Holds o done → IsLegalFrom (length done) (replay o done) es → P done → Holds o (done ++ es) × P (done ++ es)
-  along P step done [] h legal p = (subst (Holds o) (sym (append-nil done)) h, subst P (sym (append-nil done)) p)
-  along P step done (e ∷ es) h legal p =
-      let count : length done + 1 ≡ length (done ++ e ∷ []) = omega (arith, length-append done (e ∷ [])) in
-      let rest : IsLegalFrom (length (done ++ e ∷ [])) (replay o (done ++ e ∷ [])) es
-      = subst (λ s. IsLegalFrom (length (done ++ e ∷ [])) s es) (sym (replay_push o done e)) (subst (λ n. IsLegalFrom n (after_entry (replay o done) e) es) count legal.1) in
-      subst (λ t. Holds o t × P t) (append_assoc done (e ∷ []) es)
-      (along P step (done ++ e ∷ []) es (holds_push done e h legal.0) rest (step done e h legal.0 p))
-
--- the property holds after all entries of a lawful chapter
+-- a property that each entry of a lawful chapter keeps holds after all of them
 pub of_chapter : (c : Chapter) → IsLawfulChapter c → (P : List Entry → Type 0) → P [] →
-    ((es : List Entry) (e : Entry) → Holds c.opening es → MayFollow (length es) (replay c.opening es) e → P es → P (es ++ e ∷ [])) → P c.entries
-of_chapter c l P none step =
-    (along c.opening l.opening.state P step [] c.entries (holds_none c.opening l.opening.state) (from_legal c.opening c.entries c.number l.legal) none).1
+    ((es : List Entry) (e : Entry) → Holds c.opening es → MayFollow (length es) (replay c.opening es) e → P es → P (es ++ e ∷ [])) → Holds c.opening c.entries × P c.entries
+of_chapter c l P none step = along c.number c.opening (λ es. Holds c.opening es × P es) (λ es e m p. (holds_push c.opening l.opening.state es e p.0 m, step es e p.0 m p.1))
+    [] c.entries l.legal (holds_none c.opening l.opening.state, none)
 
 pub closed_at_present : (c : Chapter) → IsLawfulChapter c → present_state c ≡ closed_form c.opening c.entries
-closed_at_present c l =
-    (along c.opening l.opening.state (λ es. Unit {0}) (λ es e h m p. tt) [] c.entries (holds_none c.opening l.opening.state) (from_legal c.opening c.entries c.number l.legal) tt).0.closed
+closed_at_present c l = (of_chapter c l (λ es. Unit {0}) tt (λ es e h m p. tt)).0.closed
 
 -- the carry of an admitted Alloc-ID in the state after a history
 pub carry_now : (o : State) (es : List Entry) → replay o es ≡ closed_form o es → (i : ℕ) → has_alloc i (replay o es).roster ≡ true →

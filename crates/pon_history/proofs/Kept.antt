@@ -18,7 +18,7 @@ use Rattle.pon_state.specs.Maps.{grants_in_map, makes_map}
 use Rattle.pon_state.specs.State.{State}
 use Rattle.pon_history.specs.Chapters.{Chapter, IsLawfulOpening, IsLawfulState, cut_at}
 use Rattle.pon_history.specs.Taking.{IsKept, Takes, with_entry}
-use Rattle.pon_history.proofs.EntryByEntry.{legal_none, legal_one_more}
+use Rattle.pon_history.proofs.Legality.{legal_none, legal_one_more}
 use Rattle.pon_history.proofs.LawfulStates.{lawful_step, present_lawful}
 use Rattle.pon_history.proofs.Legality.{replay_push}
 

@@ -1,34 +1,34 @@
 -- The states of a lawful chapter are lawful.
-use Rattle.std.proofs.Common.{◌≡◌, ℕ, ◌+◌, ◌-◌, ◌^◌, ◌<◌, ◌≤◌, true, false, not, ◌||◌, ◌&&◌, List, [], ◌∷◌, map, length, take, refl, ◌++◌, ap, sym, ◌∙◌, subst, arith, get_or}
-use Rattle.std.specs.Prelude.{◌==◌, if◌then◌else◌, nat_lt, All, Any, Option, Some, None, IfSome}
+use Rattle.std.proofs.Common.{◌≡◌, ℕ, ◌+◌, ◌-◌, ◌^◌, ◌<◌, ◌≤◌, true, false, not, ◌||◌, ◌&&◌, List, [], ◌∷◌, map, length, take, refl, ◌++◌, ap, sym, ◌∙◌, subst, arith, get_or, Bool, inl, inr, drop, rules}
+use Rattle.std.specs.Prelude.{◌==◌, if◌then◌else◌, nat_lt, All, Any, Option, Some, None, IfSome, ◌≢◌, nat_le, filter, Contains, option_map, option_to_list}
 use Rattle.std.specs.List.{list_any}
-use Rattle.std.proofs.lemmas.Bool.{eqb-true, leb-false}
-use Rattle.std.proofs.lemmas.List.{length-map}
-use Rattle.std.proofs.lemmas.List.Elements.{All-filter, All-map, All-nil}
-use Rattle.std.proofs.lemmas.List.Folds.{Any-from_list_any}
+use Rattle.std.proofs.lemmas.Bool.{eqb-true, leb-false, and_from, and_parts, eq-eqb, leb-true, ne_eqb, or_left, or_right}
+use Rattle.std.proofs.lemmas.List.{length-map, take-append-drop}
+use Rattle.std.proofs.lemmas.List.Elements.{All-filter, All-map, All-nil, All-append, All-contains, All-cons, All-drop, All-head, All-push, All-tail, All-weaker, Contains-get_or, filter_passes}
+use Rattle.std.proofs.lemmas.List.Folds.{Any-from_list_any, list_any_at}
 use Rattle.std.proofs.lemmas.Option.{IfSome_then}
 use Rattle.pon_units.specs.Granted.{AreInMapOrder}
 use Rattle.pon_units.specs.declared.granted.Granted.{Granted}
 use Rattle.pon_descr.specs.Descriptor.{Descriptor}
 use Rattle.pon_descr.specs.declared.refusal.Refusal.TheVariants.{FrameLimit}
 use Rattle.pon_descr.proofs.Checks.{or_else_none, when_none}
-use Rattle.pon_lists.specs.Order.{without_key}
+use Rattle.pon_lists.specs.Order.{without_key, with_inserted}
 use Rattle.pon_lists.proofs.Inserted.{list_any-inserted}
-use Rattle.pon_lists.proofs.Lists.{any_eq-filter, list_any-map, map-map, map_filter, none_any}
+use Rattle.pon_lists.proofs.Lists.{any_eq-filter, list_any-map, map-map, map_filter, none_any, All-unmap}
 use Rattle.pon_admit.specs.declared.row.Row.{Row}
 use Rattle.pon_admit.specs.declared.event.Event.{Event}
 use Rattle.pon_admit.specs.declared.event.Event.TheVariants.{Admit, Change, Remove, Report, MakeMap, Fail, Restore}
 use Rattle.pon_admit.specs.declared.rule.Rule.{Rule}
-use Rattle.pon_admit.specs.Roster.{IsAdmitted, comes_before, has_alloc, left_over, max_carry, with_descriptor, with_row, without}
-use Rattle.pon_admit.proofs.AdmittedSets.{admit_keeps, change_keeps, has_alloc-changed, passes, remove_keeps}
+use Rattle.pon_admit.specs.Roster.{IsAdmitted, comes_before, has_alloc, left_over, max_carry, with_descriptor, with_row, without, IsDistinct}
+use Rattle.pon_admit.proofs.AdmittedSets.{admit_keeps, change_keeps, has_alloc-changed, passes, remove_keeps, changed, changed_alloc, changed_onu}
 use Rattle.pon_admit.proofs.Rules.{left_over_range}
 use Rattle.pon_guar.specs.declared.account.Account.{Account}
 use Rattle.pon_guar.specs.Book.{AreRising, alloc_ids}
-use Rattle.pon_guar.specs.Loads.{Loads, after_cleared, after_mapped, after_reported, afresh, fresh_account, lessened, with_account, without_account}
+use Rattle.pon_guar.specs.Loads.{Loads, after_cleared, after_mapped, after_reported, afresh, fresh_account, lessened, with_account, without_account, less}
 use Rattle.pon_guar.specs.ReportChecks.{refuses_report, with_report}
-use Rattle.pon_guar.specs.Window.{AreConsecutive, IsLawfulMap, IsWindow, WindowMap, grants_at, is_of, with_map}
+use Rattle.pon_guar.specs.Window.{AreConsecutive, IsLawfulMap, IsWindow, WindowMap, grants_at, is_of, with_map, onus_polled, words_among}
 use Rattle.pon_guar.proofs.Books.{admitted_rise, occupancies_ids, removed_rise, with_ids}
-use Rattle.pon_guar.proofs.Frames.{frame_there, leads_after, leads_below, leads_drop, leads_mapped, leads_push}
+use Rattle.pon_guar.proofs.Frames.{frame_there, leads_after, leads_below, leads_drop, leads_mapped, leads_push, grants_of_one, one_of_frame, leads_above}
 use Rattle.pon_guar.proofs.LessByGrants.{lessened_ids}
 use Rattle.pon_guar.proofs.Windows.{one_more, one_reported}
 use Rattle.pon_demand.specs.Carries.{AreCarries, carries_of, number_of}
@@ -50,9 +50,225 @@ use Rattle.pon_state.specs.Legal.{IsMade, IsReply, MayFollow}
 use Rattle.pon_state.specs.Maps.{grants_in_map}
 use Rattle.pon_state.specs.State.{State, carry_at, input_of}
 use Rattle.pon_state.proofs.KeptMaps.{window_grants}
-use Rattle.pon_history.specs.Chapters.{AccountIsLawful, Chapter, HasNumbersInRange, IsLawfulChapter, IsLawfulOpening, IsLawfulState, IsSilent, Owns, present_state, state_before}
-use Rattle.pon_history.proofs.LawfulAccounts.{All-inserted, IsOccupancy, account_mapped, account_with_rows, accounts_reported, admission_keeps_owner, change_keeps_owner, distinct_own, fresh_lawful, removal_keeps_owner, with_rows}
-use Rattle.pon_history.proofs.Legality.{IsLegalFrom, checks_passed, from_legal, legal_front}
+use Rattle.pon_history.specs.Chapters.{AccountIsLawful, Chapter, HasNumbersInRange, IsLawfulChapter, IsLawfulOpening, IsLawfulState, IsSilent, Owns, present_state, state_before, CountedIsLawful, IsLegal, cut_at}
+use Rattle.std.proofs.lemmas.Bool.Decides.{eqb_tells}
+use Rattle.std.proofs.lemmas.Map.Views.{Contains-from_any}
+use Rattle.pon_lists.proofs.Distinct.{occurs}
+use Rattle.pon_guar.specs.declared.account.Counted.{Counted}
+use Rattle.pon_guar.specs.Reports.{after_occupancies, counting, latest, taking, with_latest}
+use Rattle.pon_guar.proofs.Polls.{granted_polled}
+use Rattle.pon_history.proofs.Legality.{along, checks_passed, legal_front, legal_rest, replay_append, replay_push}
+
+-- Members of lists.
+
+-- a test finds a number that is in a list
+contains_any : (u : ℕ) (xs : List ℕ) → Contains xs u → occurs u xs ≡ true
+contains_any u xs c = list_any_at (λ v. v == u) xs c.0 u c.1 (eq-eqb (get_or xs c.0 u) u c.2)
+
+-- a number of a list that passes a test is in the filtered list
+contains_filtered : (p : ℕ → Bool) (u : ℕ) (xs : List ℕ) → p u ≡ true → occurs u xs ≡ true → Contains (filter p xs) u
+contains_filtered p u xs passes there =
+    Contains-from_any {eq = λ q k. k == q} (λ x y e. sym (eqb-true y x e)) u (filter p xs) (any_eq-filter p u xs ∙ and_from (p u) (occurs u xs) passes there)
+
+-- what holds of all elements and of one that is inserted
+pub All-inserted : {X : Type 0} (P : X → Type 0) (p : X → Bool) (x : X) (xs : List X) → P x → All P xs → All P (with_inserted p x xs)
+All-inserted P p x xs here h =
+    All-append P (filter p xs) (x ∷ filter (λ y. not (p y)) xs) (All-filter p P xs h) (All-cons P x (filter (λ y. not (p y)) xs) here (All-filter (λ y. not (p y)) P xs h))
+
+-- Accounts.
+
+-- an account with no report, whose reports count from the next frame on
+pub fresh_lawful : (s : State) (i : ℕ) → AreConsecutive s.next s.window → AccountIsLawful s (fresh_account i s.next)
+fresh_lawful s i h = record {
+  since = omega arith;
+  counted = tt;
+  owner = λ n d lt early. absurd (omega (arith, early, leads_below s.next s.window h n d lt));
+}
+
+-- if a map is of a frame, the owner of an Alloc-ID reported for it
+abbrev HasReported : List Row → ℕ → ℕ → WindowMap → Type 0
+HasReported rows i frame m = m.frame ≡ frame → All (λ r. r.alloc_id ≡ i → Contains m.reported r.onu) rows
+
+-- if a map is of a frame from `since` on, it grants to an Alloc-ID under its own ONU
+abbrev IsOwned : List Row → ℕ → ℕ → WindowMap → Type 0
+IsOwned rows i since m = since ≤ m.frame → All (λ g. g.alloc_id ≡ i → Owns rows g.alloc_id g.onu) m.grants
+
+-- an account stays lawful where its reports and its grants in the window do
+account_stays : (s t : State) (a : Account) → s.next ≤ t.next → ((frame : ℕ) → frame < s.next → All (HasReported s.roster a.alloc_id frame) s.window → All (HasReported t.roster a.alloc_id frame) t.window) →
+    (All (IsOwned s.roster a.alloc_id a.since) s.window → All (IsOwned t.roster a.alloc_id a.since) t.window) → AccountIsLawful s a → AccountIsLawful t a
+account_stays s t a later reported owned l = record {
+  since = omega (arith, l.since, later);
+  counted = IfSome_then a.counted l.counted (λ c k. record { not_early = k.not_early; not_late = omega (arith, k.not_late, later); reported = reported c.frame k.not_late k.reported });
+  owner = owned l.owner;
+}
+
+-- Other rows.
+
+-- the owner of an Alloc-ID in some rows is its owner in others
+abbrev pub KeepsOwner : List Row → List Row → ℕ → Type 1
+KeepsOwner rows more i = (Q : ℕ → Type 0) → All (λ r. r.alloc_id ≡ i → Q r.onu) rows → All (λ r. r.alloc_id ≡ i → Q r.onu) more
+
+pub admission_keeps_owner : (r : Row) (rows : List Row) (i : ℕ) → (i == r.alloc_id) ≡ false → KeepsOwner rows (with_row r rows) i
+admission_keeps_owner r rows i other Q h =
+    All-inserted (λ r. r.alloc_id ≡ i → Q r.onu) (λ q. comes_before q r) r rows (λ is. absurd (let t : true ≡ false = sym (eq-eqb i r.alloc_id (sym is)) ∙ other in cc)) h
+
+pub change_keeps_owner : (j : ℕ) (d : Descriptor) (rows : List Row) (i : ℕ) → KeepsOwner rows (with_descriptor j d rows) i
+change_keeps_owner j d rows i Q h = All-map (λ r. r.alloc_id ≡ i → Q r.onu) (changed j d) rows
+    (All-weaker (λ r. r.alloc_id ≡ i → Q r.onu) (λ r. (changed j d r).alloc_id ≡ i → Q (changed j d r).onu) (λ r k is. subst Q (sym (changed_onu j d r)) (k (sym (changed_alloc j d r) ∙ is))) rows h)
+
+pub removal_keeps_owner : (j : ℕ) (rows : List Row) (i : ℕ) → KeepsOwner rows (without j rows) i
+removal_keeps_owner j rows i Q h = All-filter (λ r. not (r.alloc_id == j)) (λ r. r.alloc_id ≡ i → Q r.onu) rows h
+
+-- with other rows, carries and accounts
+abbrev pub with_rows : State → List Row → List ℕ → List Account → State
+with_rows s rows carries book = with_parts s s.next s.cause rows carries (record { accounts = book; window = s.window })
+
+-- an account is lawful with other rows in which its Alloc-ID has the same owner
+pub account_with_rows : (s : State) (rows : List Row) (carries : List ℕ) (book : List Account) (a : Account) → KeepsOwner s.roster rows a.alloc_id → AccountIsLawful s a → AccountIsLawful (with_rows s rows carries book) a
+account_with_rows s rows carries book a keeps =
+    account_stays s (with_rows s rows carries book) a (omega arith) (λ frame early h n d lt is. keeps (Contains (get_or s.window n d).reported) (h n d lt is))
+    (λ h n d lt early m e at of_it.
+    let g : Granted = get_or (get_or s.window n d).grants m e in
+    subst (λ i. Owns rows i g.onu) (sym of_it) (keeps (λ u. u ≡ g.onu) (subst (λ i. Owns s.roster i g.onu) of_it (h n d lt early m e at of_it))))
+
+-- Reports.
+
+-- what holds of the report that counts and of a new one holds of the one that counts then
+pub latest_two : (P : Counted → Type 0) (c : Option Counted) (new : Counted) → IfSome c P → P new → IfSome (latest (option_to_list c ++ new ∷ [])) P
+latest_two P None new h k = k
+latest_two P (Some c) new h k = elim (nat_lt new.frame c.frame) as (λ b. IfSome (if b then Some c else Some new) P) [ true ↦ h | false ↦ k ]
+
+-- an occupancy of 24 bits, or a garbled one
+abbrev pub IsOccupancy : Option ℕ → Type 0
+IsOccupancy n = IfSome n (λ words. words < 2 ^ 24)
+
+-- what holds of an account of a grant's Alloc-ID holds of it with a report of a frame, if that frame may count
+abbrev pub StaysWithReport : (Account → Type 0) → ℕ → Granted → Type 0
+StaysWithReport P f g = (a : Account) (words : ℕ) → words < 2 ^ 24 → a.alloc_id ≡ g.alloc_id → a.since ≤ f → P a → P (with_latest (record { frame = f; words = words }) a)
+
+-- so it holds of all accounts after the occupancies of the grants
+pub occupancies_all : (P : Account → Type 0) (granted : ℕ → ℕ) (f : ℕ) (gs : List Granted) (ns : List (Option ℕ)) (book : List Account) →
+    All (StaysWithReport P f) gs → All IsOccupancy ns → All P book → All P (after_occupancies granted f gs ns book)
+occupancies_all P granted f [] ns book new range h = h
+occupancies_all P granted f (g ∷ gs) [] book new range h = h
+occupancies_all P granted f (g ∷ gs) (None ∷ ns) book new range h = occupancies_all P granted f gs ns book (All-tail (StaysWithReport P f) g gs new) (All-tail IsOccupancy None ns range) h
+occupancies_all P granted f (g ∷ gs) (Some n ∷ ns) book new range h =
+    occupancies_all P granted f gs ns (counting g.alloc_id c book) (All-tail (StaysWithReport P f) g gs new) (All-tail IsOccupancy (Some n) ns range)
+    (All-map P (λ a. if a.alloc_id == g.alloc_id then taking c a else a) book (All-weaker P (λ a. P (if a.alloc_id == g.alloc_id then taking c a else a)) one book h))
+  where
+    c : Counted
+    c = record { frame = f; words = n - granted g.alloc_id }
+
+    small : n < 2 ^ 24
+    small = All-head IsOccupancy (Some n) ns range
+
+    stays : StaysWithReport P f g
+    stays = All-head (StaysWithReport P f) g gs new
+
+    one : (a : Account) → P a → P (if a.alloc_id == g.alloc_id then taking c a else a)
+    one a p = elim (eqb_tells a.alloc_id g.alloc_id) [
+      | inl e ↦ rw e.0 ((elim (nat_le a.since f) as (λ b. nat_le a.since f ≡ b → P (if b then with_latest c a else a)) [
+        | true ↦ λ t. stays a (n - granted g.alloc_id) (omega (arith, small)) e.1 (leb-true a.since f t) p
+        | false ↦ λ _. p
+      ]) refl)
+      | inr e ↦ rw e.0 p
+    ]
+
+-- A map after a report of an ONU for a frame.
+module _ (f u : ℕ) (m : WindowMap) where
+  -- an ONU that reported stays one that did
+  reported_stays : (v : ℕ) → IsLawfulMap m → Contains m.reported v → Contains (with_report f u m).reported v
+  reported_stays v l c =
+      let was : occurs v m.reported ≡ true = contains_any v m.reported c in
+      let polled : occurs v (onus_polled m) ≡ true = (and_parts (occurs v m.reported) (occurs v (onus_polled m)) (sym (any_eq-filter (λ w. occurs w m.reported) v (onus_polled m)) ∙ ap (occurs v) (sym l.reported) ∙ was)).1 in
+      contains_filtered (λ w. occurs w m.reported || (f == m.frame && u == w)) v (onus_polled m) (or_left (occurs v m.reported) (f == m.frame && u == v) was) polled
+
+  -- in the map of that frame the ONU has reported, if it has a grant
+  reported_now : (g : Granted) → m.frame ≡ f → Contains (filter (λ g. g.onu == u) m.grants) g → Contains (with_report f u m).reported u
+  reported_now g at there =
+      contains_filtered (λ w. occurs w m.reported || (f == m.frame && u == w)) u (onus_polled m)
+      (or_right (occurs u m.reported) (f == m.frame && u == u) (and_from (f == m.frame) (u == u) (eq-eqb f m.frame (sym at)) (eq-eqb u u refl)))
+      (granted_polled u m (ne_eqb (length (filter (λ g. g.onu == u) m.grants)) 0 (λ none. omega (arith, none, there.1))))
+
+-- The accounts after a report of an ONU for the map of a frame.
+module _ (s : State) (l : IsLawfulState s) (f u : ℕ) (ns : List (Option ℕ)) where
+  -- each account as it was is lawful
+  account_reported : (a : Account) → AccountIsLawful s a → AccountIsLawful (after_report s f u ns) a
+  account_reported a =
+      account_stays s (after_report s f u ns) a (omega arith)
+      (λ frame early h. All-map (HasReported s.roster a.alloc_id frame) (with_report f u) s.window (λ n d lt is m e at of_it. reported_stays f u (get_or s.window n d) (get_or s.roster m e).onu (l.maps n d lt) (h n d lt is m e at of_it)))
+      (All-map (IsOwned s.roster a.alloc_id a.since) (with_report f u) s.window)
+
+  -- an occupancy of one of the ONU's grants
+  module _ (below : f < s.next) (g : Granted) (granted : Contains (grants_at f u s.window) g) where
+    stays_lawful : StaysWithReport (AccountIsLawful (after_report s f u ns)) f g
+    stays_lawful a words small of_it early h = record {
+      since = h.since;
+      counted = latest_two (CountedIsLawful (after_report s f u ns) (with_latest new a)) a.counted new
+          (IfSome_then a.counted h.counted (λ c k. record { not_early = k.not_early; not_late = k.not_late; reported = k.reported }))
+          (record {
+            not_early = early;
+            not_late = below;
+            reported = All-map (HasReported s.roster a.alloc_id f) (with_report f u) s.window (λ n d lt. one (get_or s.window n d) (one_of_frame s.next f s.window l.frames n d lt) (All-unmap (IsOwned s.roster a.alloc_id a.since) (with_report f u) s.window h.owner n d lt));
+          });
+      owner = h.owner;
+    }
+      where
+        new : Counted
+        new = record { frame = f; words = words }
+
+        one : (m : WindowMap) → (m.frame ≡ f → filter (λ m. m.frame == f) s.window ≡ m ∷ []) → IsOwned s.roster a.alloc_id a.since m → HasReported s.roster a.alloc_id f (with_report f u m)
+        one m alone own at n d lt is =
+            let there : Contains (filter (λ g. g.onu == u) m.grants) g = subst (λ gs. Contains gs g) (grants_of_one f u s.window m (alone at)) granted in
+            let by_it : g.onu ≡ u = eqb-true g.onu u (All-contains (λ g. (g.onu == u) ≡ true) (filter (λ g. g.onu == u) m.grants) g (filter_passes (λ g. g.onu == u) m.grants) there) in
+            let owns : g.alloc_id ≡ a.alloc_id → Owns s.roster g.alloc_id g.onu
+            = All-contains (λ g. g.alloc_id ≡ a.alloc_id → Owns s.roster g.alloc_id g.onu) (filter (λ g. g.onu == u) m.grants) g
+            (All-filter (λ g. g.onu == u) (λ g. g.alloc_id ≡ a.alloc_id → Owns s.roster g.alloc_id g.onu) m.grants (own (omega (arith, early, at)))) there in
+            subst (Contains (with_report f u m).reported) (sym (owns (sym of_it) n d lt (is ∙ of_it) ∙ by_it)) (reported_now f u m g at there)
+
+  -- each account with its occupancies
+  pub accounts_reported : f < s.next → All IsOccupancy ns → All (AccountIsLawful (after_report s f u ns)) (after_report s f u ns).book
+  accounts_reported below range =
+      occupancies_all (AccountIsLawful (after_report s f u ns)) _ f (grants_at f u s.window) ns s.book
+      (λ n d lt. stays_lawful below (get_or (grants_at f u s.window) n d) (Contains-get_or (grants_at f u s.window) n d lt)) range
+      (All-weaker (AccountIsLawful s) (AccountIsLawful (after_report s f u ns)) account_reported s.book l.accounts)
+
+-- Maps.
+
+-- what holds of all maps of a window and of a new one
+pub All-with_map : (P : WindowMap → Type 0) (frame : ℕ) (gs : List Granted) (window : List WindowMap) → All P window → P (record { frame = frame; grants = gs; reported = [] }) → All P (with_map frame gs window)
+All-with_map P frame gs window h here =
+    let new : WindowMap = record { frame = frame; grants = gs; reported = [] } in
+    All-drop P (length (window ++ new ∷ []) - 64) (window ++ new ∷ []) (All-push P window new h here)
+
+-- what holds of a report with fewer words, if there is one
+pub if_less : (P Q : Counted → Type 0) (w : ℕ) (c : Option Counted) → ((c : Counted) → P c → Q (less w c)) → IfSome c P → IfSome (option_map (less w) c) Q
+if_less P Q w None stays h = tt
+if_less P Q w (Some c) stays h = stays c h
+
+-- each row's ONU owns its Alloc-ID
+pub distinct_own : (rows : List Row) → IsDistinct rows → All (λ r. Owns rows r.alloc_id r.onu) rows
+distinct_own [] h = All-nil (λ r. Owns [] r.alloc_id r.onu)
+distinct_own (x ∷ rows) h = All-cons (λ r. Owns (x ∷ rows) r.alloc_id r.onu) x rows
+    (All-cons (λ q. q.alloc_id ≡ x.alloc_id → q.onu ≡ x.onu) x rows (λ is. refl) (λ n d lt is. absurd (other n d lt is)))
+    (λ n d lt. All-cons (λ q. q.alloc_id ≡ (get_or rows n d).alloc_id → q.onu ≡ (get_or rows n d).onu) x rows (λ is. absurd (other n d lt (sym is))) (distinct_own rows h.1 n d lt))
+  where
+    other : All (λ q. q.alloc_id ≢ x.alloc_id) rows
+    other = All-weaker (λ q. (q.alloc_id == x.alloc_id) ≡ false) (λ q. q.alloc_id ≢ x.alloc_id) (λ q k is. let t : true ≡ false = sym (eq-eqb q.alloc_id x.alloc_id is) ∙ k in absurd cc) rows
+        (none_any (λ q. q.alloc_id == x.alloc_id) rows h.0)
+
+-- an account is lawful after a map that grants to each Alloc-ID under its own ONU
+pub account_mapped : (s : State) (gs : List Granted) (carries : List ℕ) (a : Account) → All (λ g. Owns s.roster g.alloc_id g.onu) gs → AccountIsLawful s a → AccountIsLawful (after_map s gs carries) (lessened gs a)
+account_mapped s gs carries a own h =
+    let t : State = after_map s gs carries in
+    let k : AccountIsLawful t a
+    = account_stays s t a (omega arith) (λ frame early h. All-with_map (HasReported s.roster a.alloc_id frame) s.next gs s.window h (λ is. absurd (omega (arith, is, early))))
+    (λ h. All-with_map (IsOwned s.roster a.alloc_id a.since) s.next gs s.window h (λ late n d lt of_it. own n d lt)) h in
+    record {
+      since = k.since;
+      counted = if_less (CountedIsLawful t a) (CountedIsLawful t (lessened gs a)) (words_among a.alloc_id gs) a.counted (λ c q. record { not_early = q.not_early; not_late = q.not_late; reported = q.reported }) k.counted;
+      owner = k.owner;
+    }
 
 -- The Alloc-IDs of the report book are those of the roster.
 
@@ -87,12 +303,9 @@ ids_removed i rows book k = (
 
 -- The carries.
 
--- one for each row, if that of each Alloc-ID is in range
-carries_from : (rule : Rule) (rows : List Row) (carry : ℕ → ℕ) → ((i : ℕ) → carry i ≤ max_carry rule) → AreCarries rule rows (carries_of carry rows)
-carries_from rule rows carry small = record {
-  count = length-map rows (λ r. carry r.alloc_id);
-  range = All-map (λ c. c ≤ max_carry rule) (λ r. carry r.alloc_id) rows (λ n d lt. small (get_or rows n d).alloc_id);
-}
+-- one for each row, if that of each is in range
+carries_at : (rule : Rule) (rows : List Row) (carry : Row → ℕ) → ((r : Row) → carry r ≤ max_carry rule) → AreCarries rule rows (map carry rows)
+carries_at rule rows carry small = record { count = length-map rows carry; range = All-map (λ c. c ≤ max_carry rule) carry rows (λ n d lt. small (get_or rows n d)) }
 
 -- The checks.
 
@@ -102,43 +315,30 @@ if_failed P None up = tt
 if_failed P (Some cause) up = absurd cc
 
 -- a report that is accepted is of a frame of the window
-below_next : (n f : ℕ) (ms : List WindowMap) → AreConsecutive n ms → list_any (is_of f) ms ≡ true → f < n
-below_next n f ms h there =
+pub frame_within : (n f : ℕ) (ms : List WindowMap) → AreConsecutive n ms → list_any (is_of f) ms ≡ true → (f < n) × (n ≤ f + length ms)
+frame_within n f ms h there =
     let found : Any (λ m. is_of f m ≡ true) ms = Any-from_list_any (is_of f) ms there in
-    subst (λ k. k < n) (ap (λ m. m.frame) found.3 ∙ eqb-true found.1.frame f found.4) (leads_below n ms h found.0 found.1 found.2)
+    let is : (get_or ms found.0 found.1).frame ≡ f = ap (λ m. m.frame) found.3 ∙ eqb-true found.1.frame f found.4 in
+    (omega (arith, is, leads_below n ms h found.0 found.1 found.2), omega (arith, is, leads_above n ms h found.0 found.1 found.2))
 
 -- One more entry.
 module _ (s : State) (l : IsLawfulState s) (room : s.taken_before < 2 ^ 64 - 1) where
   numbers_after : (next : ℕ) (cause : Option ℕ) (rows : List Row) (carries : List ℕ) (loads : Loads) → next < 2 ^ 64 → HasNumbersInRange (with_parts s next cause rows carries loads)
-  numbers_after next cause rows carries loads small = record {
-    shortest_gap = l.numbers.shortest_gap;
-    longest_gap = l.numbers.longest_gap;
-    profile = l.numbers.profile;
-    next = small;
-    taken_before = omega (arith, room);
-  }
+  numbers_after next cause rows carries loads small = search rules
 
   -- an event that changes the roster leaves the window
   rows_lawful : (rows : List Row) (carries : List ℕ) (book : List Account) → IsAdmitted s.rule s.gap rows → AccountsFor rows book → AreCarries s.rule rows carries →
       All (AccountIsLawful (with_rows s rows carries book)) book → (All (λ a. a.counted ≡ None) s.book → All (λ a. a.counted ≡ None) book) → IsLawfulState (with_rows s rows carries book)
-  rows_lawful rows carries book admitted ids range accounts silent = record {
-    numbers = numbers_after s.next s.cause rows carries (record { accounts = book; window = s.window }) l.numbers.next;
-    admitted = admitted;
-    book = ids;
-    carries = range;
-    accounts = accounts;
-    few_maps = l.few_maps;
-    frames = l.frames;
-    maps = l.maps;
-    failed = IfSome_then s.cause l.failed (λ cause k. (k.0, silent k.1));
-  }
+  rows_lawful rows carries book admitted ids range accounts silent =
+      let failed : IfSome s.cause (λ cause. IsSilent (with_rows s rows carries book)) = IfSome_then s.cause l.failed (λ cause k. (k.0, silent k.1)) in
+      search (rules, numbers_after s.next s.cause rows carries (record { accounts = book; window = s.window }) l.numbers.next)
 
   admit_lawful : (r : Row) → IsAdmitted s.rule s.gap (with_row r s.roster) → has_alloc r.alloc_id s.roster ≡ false → IsLawfulState (after_admit s r)
   admit_lawful r admitted free =
       let carries : List ℕ = carries_of (admitted_carry s r.alloc_id) (with_row r s.roster) in
       let book : List Account = with_account (fresh_account r.alloc_id s.next) s.book in
       rows_lawful (with_row r s.roster) carries book admitted (ids_admitted r s.roster s.next s.book free l.book)
-      (carries_from s.rule (with_row r s.roster) (admitted_carry s r.alloc_id) small)
+      (carries_at s.rule (with_row r s.roster) (λ q. admitted_carry s r.alloc_id q.alloc_id) (λ q. small q.alloc_id))
       (All-inserted (AccountIsLawful (after_admit s r)) (λ b. nat_lt b.alloc_id r.alloc_id) (fresh_account r.alloc_id s.next) s.book (fresh_lawful (after_admit s r) r.alloc_id l.frames)
       (λ n d lt. account_with_rows s (with_row r s.roster) carries book (get_or s.book n d) (admission_keeps_owner r s.roster (get_or s.book n d).alloc_id (other n d lt)) (l.accounts n d lt)))
       (All-inserted (λ a. a.counted ≡ None) (λ b. nat_lt b.alloc_id r.alloc_id) (fresh_account r.alloc_id s.next) s.book refl)
@@ -160,7 +360,7 @@ module _ (s : State) (l : IsLawfulState s) (room : s.taken_before < 2 ^ 64 - 1) 
   remove_lawful i =
       let carries : List ℕ = carries_of (number_of s.roster s.carries) (without i s.roster) in
       rows_lawful (without i s.roster) carries (without_account i s.book) (remove_keeps s.rule s.gap s.roster i l.admitted) (ids_removed i s.roster s.book l.book)
-      (carries_from s.rule (without i s.roster) (number_of s.roster s.carries) (λ j. carry_within (max_carry s.rule) s.roster s.carries j l.carries.range))
+      (carries_at s.rule (without i s.roster) (carry_at s) (λ r. carry_within (max_carry s.rule) s.roster s.carries r.alloc_id l.carries.range))
       (All-filter (λ a. not (a.alloc_id == i)) (AccountIsLawful (after_remove s i)) s.book
       (λ n d lt. account_with_rows s (without i s.roster) carries (without_account i s.book) (get_or s.book n d) (removal_keeps_owner i s.roster (get_or s.book n d).alloc_id) (l.accounts n d lt)))
       (All-filter (λ a. not (a.alloc_id == i)) (λ a. a.counted ≡ None) s.book)
@@ -169,17 +369,16 @@ module _ (s : State) (l : IsLawfulState s) (room : s.taken_before < 2 ^ 64 - 1) 
   window_lawful = record { few_maps = l.few_maps; frames = leads_after s.next s.window l.frames; maps = l.maps }
 
   report_lawful : (f u : ℕ) (ns : List (Option ℕ)) → All IsOccupancy ns → when_down s.cause ≡ None → refuses_report s.window f u (length ns) ≡ None → IsLawfulState (after_report s f u ns)
-  report_lawful f u ns range up accepted = record {
-    numbers = numbers_after s.next s.cause s.roster s.carries (after_reported (loads_of s) f u ns) l.numbers.next;
-    admitted = l.admitted;
-    book = ids_same s.roster s.book _ (occupancies_ids _ f (grants_at f u s.window) ns s.book) l.book;
-    carries = l.carries;
-    accounts = accounts_reported s l f u ns (below_next s.next f s.window l.frames (frame_there f u (length ns) s.window accepted)) range;
-    few_maps = (one_reported s.window window_lawful f u).few_maps;
-    frames = leads_mapped (with_report f u) (λ m. refl) s.next s.window l.frames;
-    maps = (one_reported s.window window_lawful f u).maps;
-    failed = if_failed (IsSilent (after_report s f u ns)) s.cause up;
-  }
+  report_lawful f u ns range up accepted =
+      let ids : AccountsFor s.roster (after_report s f u ns).book = ids_same s.roster s.book _ (occupancies_ids _ f (grants_at f u s.window) ns s.book) l.book in
+      search (
+        rules,
+        numbers_after s.next s.cause s.roster s.carries (after_reported (loads_of s) f u ns) l.numbers.next,
+        accounts_reported s l f u ns (frame_within s.next f s.window l.frames (frame_there f u (length ns) s.window accepted)).0 range,
+        leads_mapped (with_report f u) (λ m. refl) s.next s.window l.frames,
+        one_reported s.window window_lawful f u,
+        if_failed (IsSilent (after_report s f u ns)) s.cause up,
+      )
 
   map_lawful : (made : MadeMap) → IsMade s made → when_down s.cause ≡ None → s.next < 2 ^ 64 - 1 → IsLawfulState (after_map s (grants_in_map s.roster made.map) (carries_left s (Map made)))
   map_lawful made m up last =
@@ -192,34 +391,29 @@ module _ (s : State) (l : IsLawfulState s) (room : s.taken_before < 2 ^ 64 - 1) 
       = subst (All (λ g. Owns s.roster g.alloc_id g.onu)) planned (All-map (λ g. Owns s.roster g.alloc_id g.onu) (granted_to_row i surplus (carry_at s)) s.roster (distinct_own s.roster l.admitted.apart)) in
       let kept : IsWindow (with_map s.next gs s.window) = one_more s.window window_lawful s.next gs l.frames (subst AreInMapOrder planned (in_order i surplus (carry_at s) s.roster l.admitted.in_map_order)) in
       let t : State = after_map s gs (carries_left s (Map made)) in
-      record {
-        numbers = numbers_after (s.next + 1) s.cause s.roster t.carries (after_mapped (loads_of s) s.next gs) (omega (arith, last));
-        admitted = l.admitted;
-        book = ids_same s.roster s.book _ (lessened_ids gs s.book) l.book;
-        carries = record {
-          count = length-map s.roster _;
-          range = All-map (λ c. c ≤ max_carry s.rule) (λ r. left_over s.rule (owed i surplus (carry_at s) r)) s.roster (λ n d lt. left_over_range s.rule (owed i surplus (carry_at s) (get_or s.roster n d)));
-        };
-        accounts = All-map (AccountIsLawful t) (lessened gs) s.book (λ n d lt. account_mapped s gs t.carries (get_or s.book n d) own (l.accounts n d lt));
-        few_maps = kept.few_maps;
-        frames = leads_drop (s.next + 1) (length (s.window ++ new ∷ []) - 64) (s.window ++ new ∷ []) (leads_push s.next s.window new l.frames refl);
-        maps = kept.maps;
-        failed = if_failed (IsSilent t) s.cause up;
-      }
+      search (
+        rules,
+        kept,
+        numbers_after (s.next + 1) s.cause s.roster t.carries (after_mapped (loads_of s) s.next gs) (omega (arith, last)),
+        ids_same s.roster s.book t.book (lessened_ids gs s.book) l.book,
+        carries_at s.rule s.roster (λ r. left_over s.rule (owed i surplus (carry_at s) r)) (λ r. left_over_range s.rule (owed i surplus (carry_at s) r)),
+        All-map (AccountIsLawful t) (lessened gs) s.book (λ n d lt. account_mapped s gs t.carries (get_or s.book n d) own (l.accounts n d lt)),
+        leads_drop (s.next + 1) (length (s.window ++ new ∷ []) - 64) (s.window ++ new ∷ []) (leads_push s.next s.window new l.frames refl),
+        if_failed (IsSilent t) s.cause up,
+      )
 
   -- a line failure and a restoration leave no window and no reports
   cut_lawful : (cause : Option ℕ) → IsLawfulState (after_cut s cause)
-  cut_lawful cause = record {
-    numbers = numbers_after s.next cause s.roster s.carries (after_cleared (loads_of s) s.next) l.numbers.next;
-    admitted = l.admitted;
-    book = ids_same s.roster s.book _ (map-map (λ a. a.alloc_id) (afresh s.next) s.book) l.book;
-    carries = l.carries;
-    accounts = All-map (AccountIsLawful (after_cut s cause)) (afresh s.next) s.book (λ n d lt. fresh_lawful (after_cut s cause) (get_or s.book n d).alloc_id tt);
-    few_maps = omega arith;
-    frames = tt;
-    maps = All-nil IsLawfulMap;
-    failed = elim cause as (λ c. IfSome c (λ _. IsSilent (after_cut s cause))) [ None ↦ tt | Some _ ↦ (refl, All-map (λ a. a.counted ≡ None) (afresh s.next) s.book (λ n d lt. refl)) ];
-  }
+  cut_lawful cause =
+      let silent : IsSilent (after_cut s cause) = (refl, All-map (λ a. a.counted ≡ None) (afresh s.next) s.book (λ n d lt. refl)) in
+      let failed : IfSome cause (λ _. IsSilent (after_cut s cause)) = elim cause as (λ c. IfSome c (λ _. IsSilent (after_cut s cause))) [ None ↦ tt | Some _ ↦ silent ] in
+      search (
+        rules,
+        numbers_after s.next cause s.roster s.carries (after_cleared (loads_of s) s.next) l.numbers.next,
+        ids_same s.roster s.book (map (afresh s.next) s.book) (map-map (λ a. a.alloc_id) (afresh s.next) s.book) l.book,
+        All-map (AccountIsLawful (after_cut s cause)) (afresh s.next) s.book (λ n d lt. fresh_lawful (after_cut s cause) (get_or s.book n d).alloc_id tt),
+        All-nil IsLawfulMap,
+      )
 
 pub lawful_step : (kept : ℕ) (s : State) (e : Entry) → MayFollow kept s e → IsLawfulState s → IsLawfulState (after_entry s e)
 lawful_step kept s e f l = one e.event e.reply f.event f.reply (checks_passed kept s e.event f.accepted).0
@@ -243,23 +437,36 @@ lawful_step kept s e f l = one e.event e.reply f.event f.reply (checks_passed ke
     one (Fail cause) r range reply h = cut_lawful s l room (Some cause)
     one Restore r range reply h = cut_lawful s l room None
 
--- so all states of a legal list of entries are lawful
-pub lawful_after : (kept : ℕ) (s : State) (es : List Entry) → IsLegalFrom kept s es → IsLawfulState s → IsLawfulState (replay s es)
-lawful_after kept s [] legal l = l
-lawful_after kept s (e ∷ es) legal l = lawful_after (kept + 1) (after_entry s e) es legal.1 (lawful_step kept s e legal.0 l)
-
--- The states of a lawful chapter.
+-- The states of a lawful chapter, and the two parts that it splits into.
 module _ (c : Chapter) (l : IsLawfulChapter c) where
-  pub lawful_before : (k : ℕ) → IsLawfulState (state_before c k)
-  lawful_before k = lawful_after 0 c.opening (take k c.entries) (legal_front c.opening c.entries c.number k l.legal) l.opening.state
+  lawful_after : (es : List Entry) → IsLegal (record { number = c.number; opening = c.opening; entries = es }) → IsLawfulState (replay c.opening es)
+  lawful_after es legal = along c.number c.opening (λ es. IsLawfulState (replay c.opening es))
+      (λ es e m l. rw (replay_push c.opening es e) (lawful_step (length es) (replay c.opening es) e m l)) [] es legal l.opening.state
 
   pub present_lawful : IsLawfulState (present_state c)
-  present_lawful = lawful_after 0 c.opening c.entries (from_legal c.opening c.entries c.number l.legal) l.opening.state
+  present_lawful = lawful_after c.entries l.legal
 
-  -- a later chapter may open with the state before any entry
+  -- a later chapter may open with the end
+  pub opens_at_present : (n : ℕ) → 0 < n → IsLawfulOpening n (present_state c)
+  opens_at_present n later = record { first = λ is. absurd (omega (arith, later, is)); state = present_lawful }
+
+  module _ (k : ℕ) where
+    parted : IsLegal (record { number = c.number; opening = c.opening; entries = take k c.entries ++ drop k c.entries })
+    parted = rw take-append-drop l.legal
+
+    pub front_lawful : IsLawfulChapter (cut_at c k)
+    front_lawful = record { opening = l.opening; legal = legal_front c.number c.opening (take k c.entries) (drop k c.entries) parted }
+
+    -- the second part has the same end as the whole
+    pub same_end : (n : ℕ) → present_state (record { number = n; opening = state_before c k; entries = drop k c.entries }) ≡ present_state c
+    same_end n = sym (replay_append c.opening (take k c.entries) (drop k c.entries)) ∙ ap (replay c.opening) (take-append-drop k c.entries)
+
+  pub lawful_before : (k : ℕ) → IsLawfulState (state_before c k)
+  lawful_before k = lawful_after (take k c.entries) (front_lawful k).legal
+
+  -- and with the state before any entry
   pub opens_before : (n k : ℕ) → 0 < n → IsLawfulOpening n (state_before c k)
   opens_before n k later = record { first = λ is. absurd (omega (arith, later, is)); state = lawful_before k }
 
-  -- and with the end
-  pub opens_at_present : (n : ℕ) → 0 < n → IsLawfulOpening n (present_state c)
-  opens_at_present n later = record { first = λ is. absurd (omega (arith, later, is)); state = present_lawful }
+  pub rest_lawful : (k n : ℕ) → 0 < n → IsLawfulChapter (record { number = n; opening = state_before c k; entries = drop k c.entries })
+  rest_lawful k n later = record { opening = opens_before n k later; legal = legal_rest c.number n c.opening (take k c.entries) (drop k c.entries) (parted k) }

@@ -1,54 +1,43 @@
--- A legal list of entries, entry by entry, and the replay of a list that is split.
-use Rattle.std.proofs.Common.{◌≡◌, ℕ, zero, suc, ◌+◌, ◌<◌, ◌≤◌, ◌^◌, false, ◌||◌, List, [], ◌∷◌, ◌++◌, length, take, drop, refl, sym, ◌∙◌, subst, arith}
-use Rattle.std.specs.Prelude.{◌-◌, nat_le, Option, Some, None, slice_get}
+-- Replay and legality, entry by entry.
+use Rattle.std.proofs.Common.{◌≡◌, ℕ, zero, suc, ◌+◌, ◌<◌, ◌≤◌, ◌^◌, List, [], ◌∷◌, ◌++◌, length, take, refl, ap, sym, ◌∙◌, subst, append_assoc, arith, inl, inr}
+use Rattle.std.specs.Prelude.{◌-◌, ◌⊎◌, nat_le, Option, Some, None, slice_get}
 use Rattle.std.proofs.lemmas.Bool.{leb-false, lt-leb, or_parts}
-use Rattle.std.proofs.lemmas.List.{take-append-drop}
+use Rattle.std.proofs.lemmas.List.{append-nil, take_at}
+use Rattle.std.proofs.lemmas.Option.{same_Some}
 use Rattle.pon_descr.specs.Checks.{or_else, when}
 use Rattle.pon_descr.specs.declared.refusal.Refusal.TheVariants.{ChapterFull}
 use Rattle.pon_descr.proofs.Checks.{or_else_none, when_none}
-use Rattle.pon_guar.specs.Loads.{Loads}
-use Rattle.pon_admit.specs.declared.row.Row.{Row}
 use Rattle.pon_admit.specs.declared.event.Event.{Event}
 use Rattle.pon_admit.specs.declared.event.Event.TheVariants.{Admit, Change, Remove, Report, MakeMap, Fail, Restore}
 use Rattle.pon_state.specs.declared.checks.TheConstants.{MAX_ENTRIES}
 use Rattle.pon_state.specs.declared.reply.Reply.{Reply}
 use Rattle.pon_state.specs.Entry.{Entry}
 use Rattle.pon_state.specs.State.{State}
-use Rattle.pon_state.specs.After.{after_entry, after_reply, with_parts}
+use Rattle.pon_state.specs.After.{after_entry, after_reply}
 use Rattle.pon_state.specs.Checks.{first_refusal, refuses, when_full}
 use Rattle.pon_state.specs.History.{replay}
 use Rattle.pon_state.specs.Legal.{MayFollow}
-use Rattle.pon_history.specs.Chapters.{IsLegal}
+use Rattle.pon_history.specs.Chapters.{Chapter, IsLegal, present_state}
+use Rattle.pon_history.specs.Taking.{with_entry}
 
--- each entry may follow in the state before it, the first of them after `kept` entries of its chapter
-abbrev pub IsLegalFrom : ℕ → State → List Entry → Type 0
-IsLegalFrom kept s [] = Unit {0}
-IsLegalFrom kept s (e ∷ es) = MayFollow kept s e × IsLegalFrom (kept + 1) (after_entry s e) es
+-- Elements of a list that is split.
 
--- each k-th of the entries may follow in the state before it
-abbrev EachFollows : ℕ → State → List Entry → Type 0
-EachFollows kept s es = (k n : ℕ) (e : Entry) → n ≡ kept + k → slice_get es k ≡ Some e → MayFollow n (replay s (take k es)) e
+at_front : {X : Type 0} (xs ys : List X) (x : X) (k : ℕ) → slice_get xs k ≡ Some x → (slice_get (xs ++ ys) k ≡ Some x) × (take k (xs ++ ys) ≡ take k xs)
+at_front [] ys x k h = absurd cc
+at_front (z ∷ xs) ys x zero h = (h, refl)
+at_front (z ∷ xs) ys x (suc k) h = (let rest = at_front xs ys x k h in (rest.0, ap (λ t. z ∷ t) rest.1))
 
-from_each : (kept : ℕ) (s : State) (es : List Entry) → EachFollows kept s es → IsLegalFrom kept s es
-from_each kept s [] h = tt
-from_each kept s (e ∷ es) h = (h 0 kept e (omega arith) refl, from_each (kept + 1) (after_entry s e) es (λ k n f is there. h (suc k) n f (omega (arith, is)) there))
+pub at_middle : {X : Type 0} (xs : List X) (x : X) (ys : List X) → slice_get (xs ++ x ∷ ys) (length xs) ≡ Some x
+at_middle [] x ys = refl
+at_middle (z ∷ xs) x ys = at_middle xs x ys
 
-to_each : (kept : ℕ) (s : State) (es : List Entry) → IsLegalFrom kept s es → EachFollows kept s es
-to_each kept s [] l k n e is there = absurd cc
-to_each kept s (x ∷ es) l zero n e is there =
-    let same : x ≡ e = cc in
-    let count : kept ≡ n = omega (arith, is) in
-    subst (λ n. MayFollow n s e) count (subst (MayFollow kept s) same l.0)
-to_each kept s (x ∷ es) l (suc k) n e is there = to_each (kept + 1) (after_entry s x) es l.1 k n e (omega (arith, is)) there
+at_push : {X : Type 0} (xs : List X) (x y : X) (k : ℕ) → slice_get (xs ++ x ∷ []) k ≡ Some y → (slice_get xs k ≡ Some y) ⊎ ((k ≡ length xs) × (x ≡ y))
+at_push [] x y zero h = inr (refl, same_Some x y h)
+at_push [] x y (suc k) h = absurd cc
+at_push (z ∷ xs) x y zero h = inl h
+at_push (z ∷ xs) x y (suc k) h = elim (at_push xs x y k h) [ inl old ↦ inl old | inr new ↦ inr (ap suc new.0, new.1) ]
 
--- the entries of a legal chapter are legal one after the other
-pub from_legal : (s : State) (es : List Entry) (n : ℕ) → IsLegal (record { number = n; opening = s; entries = es }) → IsLegalFrom 0 s es
-from_legal s es n h = from_each 0 s es (λ k m e is there. let count : k ≡ m = omega (arith, is) in subst (λ m. MayFollow m (replay s (take k es)) e) count (h k e there))
-
-pub to_legal : (s : State) (es : List Entry) (n : ℕ) → IsLegalFrom 0 s es → IsLegal (record { number = n; opening = s; entries = es })
-to_legal s es n l k e there = to_each 0 s es l k k e (omega arith) there
-
--- The replay of a list that is split.
+-- Replay.
 
 pub replay_append : (o : State) (xs ys : List Entry) → replay o (xs ++ ys) ≡ replay (replay o xs) ys
 replay_append o [] ys = refl
@@ -58,19 +47,25 @@ replay_append o (e ∷ xs) ys = replay_append (after_entry o e) xs ys
 pub replay_push : (o : State) (es : List Entry) (e : Entry) → replay o (es ++ e ∷ []) ≡ after_entry (replay o es) e
 replay_push o es e = replay_append o es (e ∷ [])
 
--- Legal lists that are split.
+-- the parts of a state that no entry changes, and the count of entries
+pub record IsLater (o : State) (count : ℕ) (s : State) : Type 0 where
+  pub rule : s.rule ≡ o.rule
+  pub gap : s.gap ≡ o.gap
+  pub profile : s.profile ≡ o.profile
+  pub taken_before : s.taken_before ≡ o.taken_before + count
 
--- both parts of a legal list are legal
-pub legal_split : (kept n : ℕ) (s : State) (xs ys : List Entry) → n ≡ kept + length xs → IsLegalFrom kept s (xs ++ ys) → IsLegalFrom kept s xs × IsLegalFrom n (replay s xs) ys
-legal_split kept n s [] ys is l = (tt, let count : kept ≡ n = omega (arith, is) in subst (λ n. IsLegalFrom n s ys) count l)
-legal_split kept n s (e ∷ xs) ys is l =
-    let rest : IsLegalFrom (kept + 1) (after_entry s e) xs × IsLegalFrom n (replay (after_entry s e) xs) ys = legal_split (kept + 1) n (after_entry s e) xs ys (omega (arith, is)) l.1 in
-    ((l.0, rest.0), rest.1)
+later_one : (o : State) (v : Event) (reply : Reply) → IsLater o 1 (after_reply o v reply)
+later_one o MakeMap reply = record { rule = refl; gap = refl; profile = refl; taken_before = refl }
+later_one o v reply = record { rule = refl; gap = refl; profile = refl; taken_before = refl }
 
--- one more entry keeps a list legal
-pub legal_push : (kept n : ℕ) (s : State) (es : List Entry) (e : Entry) → n ≡ kept + length es → IsLegalFrom kept s es → MayFollow n (replay s es) e → IsLegalFrom kept s (es ++ e ∷ [])
-legal_push kept n s [] e is l m = (let count : n ≡ kept = omega (arith, is) in subst (λ n. MayFollow n s e) count m, tt)
-legal_push kept n s (x ∷ es) e is l m = (l.0, legal_push (kept + 1) n (after_entry s x) es e (omega (arith, is)) l.1 m)
+pub replay_later : (o : State) (es : List Entry) → IsLater o (length es) (replay o es)
+replay_later o [] = record { rule = refl; gap = refl; profile = refl; taken_before = omega arith }
+replay_later o (e ∷ es) =
+    let one = later_one o e.event e.reply in
+    let rest = replay_later (after_entry o e) es in
+    record { rule = rest.rule ∙ one.rule; gap = rest.gap ∙ one.gap; profile = rest.profile ∙ one.profile; taken_before = omega (arith, rest.taken_before, one.taken_before) }
+
+-- Legality.
 
 -- an event that is taken passes its own checks, and leaves room in its chapter and in the count of entries
 pub checks_passed : (kept : ℕ) (s : State) (v : Event) → first_refusal kept s v ≡ None → (refuses s v ≡ None) × (kept < MAX_ENTRIES) × (s.taken_before < 2 ^ 64 - 1)
@@ -79,49 +74,40 @@ checks_passed kept s v h =
     let room = or_parts (nat_le MAX_ENTRIES kept) (nat_le (2 ^ 64 - 1) s.taken_before) (when_none _ ChapterFull both.1) in
     (both.0, leb-false MAX_ENTRIES kept room.0, leb-false (2 ^ 64 - 1) s.taken_before room.1)
 
--- entries that are legal after more kept entries are legal after fewer
-pub fewer_kept : (more fewer : ℕ) (s : State) (es : List Entry) → fewer ≤ more → IsLegalFrom more s es → IsLegalFrom fewer s es
-fewer_kept more fewer s [] less l = tt
-fewer_kept more fewer s (e ∷ es) less l =
-    let passed = checks_passed more s e.event l.0.accepted in
-    let here : nat_le MAX_ENTRIES fewer ≡ false = lt-leb MAX_ENTRIES fewer (omega (arith, less, passed.1)) in (
-      record { event = l.0.event; accepted = (λ i. or_else (passed.0 i) (when (here i || lt-leb (2 ^ 64 - 1) s.taken_before passed.2 i) ChapterFull)); reply = l.0.reply },
-      fewer_kept (more + 1) (fewer + 1) (after_entry s e) es (omega (arith, less)) l.1,
-    )
+-- an entry that may follow after more kept entries may follow after fewer
+follows_fewer : (kept : ℕ) (s : State) (e : Entry) → MayFollow (suc kept) s e → MayFollow kept s e
+follows_fewer kept s e m =
+    let passed = checks_passed (suc kept) s e.event m.accepted in
+    record { event = m.event; accepted = rw (passed.0, lt-leb MAX_ENTRIES kept (omega (arith, passed.1)), lt-leb (2 ^ 64 - 1) s.taken_before passed.2) refl; reply = m.reply }
 
--- the first entries of a legal chapter
-pub legal_front : (s : State) (es : List Entry) (n k : ℕ) → IsLegal (record { number = n; opening = s; entries = es }) → IsLegalFrom 0 s (take k es)
-legal_front s es n k h =
-    (legal_split 0 (length (take k es)) s (take k es) (drop k es) (omega arith) (subst (IsLegalFrom 0 s) (sym (take-append-drop k es)) (from_legal s es n h))).0
+pub legal_none : (n : ℕ) (s : State) → IsLegal (record { number = n; opening = s; entries = [] })
+legal_none n s k e there = absurd cc
 
--- the second part of a legal chapter is legal as a chapter of its own
+pub legal_front : (n : ℕ) (s : State) (xs ys : List Entry) → IsLegal (record { number = n; opening = s; entries = xs ++ ys }) → IsLegal (record { number = n; opening = s; entries = xs })
+legal_front n s xs ys h k e there = (let two = at_front xs ys e k there in rw two.1 at (h k e two.0))
+
+-- the second part is legal as a chapter of its own
 pub legal_rest : (n m : ℕ) (s : State) (xs ys : List Entry) → IsLegal (record { number = n; opening = s; entries = xs ++ ys }) → IsLegal (record { number = m; opening = replay s xs; entries = ys })
-legal_rest n m s xs ys h =
-    to_legal (replay s xs) ys m (fewer_kept (length xs) 0 (replay s xs) ys (omega arith) (legal_split 0 (length xs) s xs ys (omega arith) (from_legal s (xs ++ ys) n h)).1)
+legal_rest n m s [] ys h = h
+legal_rest n m s (x ∷ xs) ys h = legal_rest n m (after_entry s x) xs ys (λ k e there. follows_fewer k _ e (h (suc k) e there))
 
--- What no entry changes.
+-- the entry after the first part of a legal list may follow
+follows_in : (n : ℕ) (s : State) (xs : List Entry) (e : Entry) (ys : List Entry) → IsLegal (record { number = n; opening = s; entries = xs ++ e ∷ ys }) → MayFollow (length xs) (replay s xs) e
+follows_in n s xs e ys h = rw (take_at xs (e ∷ ys) (length xs) refl) at (h (length xs) e (at_middle xs e ys))
 
--- the state after an entry is the state before it with other parts
-pub after_any : (P : State → Type 0) (s : State) → ((next : ℕ) (cause : Option ℕ) (rows : List Row) (carries : List ℕ) (loads : Loads) → P (with_parts s next cause rows carries loads)) →
-    (event : Event) (reply : Reply) → P (after_reply s event reply)
-after_any P s h (Admit onu alloc_id descriptor) reply = h _ _ _ _ _
-after_any P s h (Change alloc_id descriptor) reply = h _ _ _ _ _
-after_any P s h (Remove alloc_id) reply = h _ _ _ _ _
-after_any P s h (Report frame onu occ) reply = h _ _ _ _ _
-after_any P s h MakeMap reply = h _ _ _ _ _
-after_any P s h (Fail cause) reply = h _ _ _ _ _
-after_any P s h Restore reply = h _ _ _ _ _
+pub legal_one_more : (c : Chapter) (e : Entry) → IsLegal c → MayFollow (length c.entries) (present_state c) e → IsLegal (with_entry c e.event e.reply)
+legal_one_more c e l m k x there = elim (at_push c.entries e x k there) [
+  | inl old ↦ rw (at_front c.entries (e ∷ []) x k old).1 (l k x old)
+  | inr new ↦ rw (new.0, ← new.1, take_at c.entries (e ∷ []) (length c.entries) refl) m
+]
 
--- the parts of a state that no entry changes, and the count of entries
-pub record IsLater (o : State) (count : ℕ) (s : State) : Type 0 where
-  pub rule : s.rule ≡ o.rule
-  pub gap : s.gap ≡ o.gap
-  pub profile : s.profile ≡ o.profile
-  pub taken_before : s.taken_before ≡ o.taken_before + count
+pub legal_one_less : (c : Chapter) (e : Entry) → IsLegal (with_entry c e.event e.reply) → IsLegal c × MayFollow (length c.entries) (present_state c) e
+legal_one_less c e l = (legal_front c.number c.opening c.entries (e ∷ []) l, follows_in c.number c.opening c.entries e [] l)
 
-pub replay_later : (o : State) (es : List Entry) → IsLater o (length es) (replay o es)
-replay_later o [] = record { rule = refl; gap = refl; profile = refl; taken_before = omega arith }
-replay_later o (e ∷ es) =
-    let one : IsLater o 1 (after_entry o e) = after_any (IsLater o 1) o (λ next cause rows carries loads. record { rule = refl; gap = refl; profile = refl; taken_before = refl }) e.event e.reply in
-    let rest = replay_later (after_entry o e) es in
-    record { rule = rest.rule ∙ one.rule; gap = rest.gap ∙ one.gap; profile = rest.profile ∙ one.profile; taken_before = omega (arith, rest.taken_before, one.taken_before) }
+-- a property that each entry of a legal list keeps holds after all of it
+pub along : (n : ℕ) (s : State) (P : List Entry → Type 0) → ((es : List Entry) (e : Entry) → MayFollow (length es) (replay s es) e → P es → P (es ++ e ∷ [])) →
+    (done es : List Entry) → IsLegal (record { number = n; opening = s; entries = done ++ es }) → P done → P (done ++ es)
+along n s P step done [] l p = subst P (sym (append-nil done)) p
+along n s P step done (e ∷ es) l p =
+    subst P (append_assoc done (e ∷ []) es)
+    (along n s P step (done ++ e ∷ []) es (subst (λ es. IsLegal (record { number = n; opening = s; entries = es })) (sym (append_assoc done (e ∷ []) es)) l) (step done e (follows_in n s done e es l) p))

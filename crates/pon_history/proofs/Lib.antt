@@ -1,11 +1,8 @@
 pub mod Carries
 pub mod ClosedForms
 pub mod CountedReports
-pub mod CutChapters
-pub mod EntryByEntry
 pub mod FairMaps
 pub mod Kept
-pub mod LawfulAccounts
 pub mod LawfulStates
 pub mod Legality
 pub mod OneFloor

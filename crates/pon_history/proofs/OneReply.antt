@@ -13,7 +13,7 @@ use Rattle.pon_state.specs.declared.reply.Reply.TheVariants.{Taken, Map}
 use Rattle.pon_state.specs.declared.reply.MadeMap.{MadeMap}
 use Rattle.pon_demand.proofs.ClassShares.{one_map_certificate}
 use Rattle.pon_state.proofs.Replies.{gets_reply}
-use Rattle.pon_history.proofs.EntryByEntry.{legal_one_more}
+use Rattle.pon_history.proofs.Legality.{legal_one_more}
 use Rattle.pon_history.proofs.LawfulStates.{present_lawful}
 
 module _ (s : State) (k : IsAdmitted s.rule s.gap s.roster) where

@@ -1,5 +1,5 @@
 -- The states of a lawful chapter are in range.
-use Rattle.std.proofs.Common.{ℕ, ◌+◌, ◌≤◌, not, List, [], ◌∷◌, length, ap, sym, subst, arith}
+use Rattle.std.proofs.Common.{ℕ, ◌≤◌, not, List, [], length, ap, sym, subst, arith}
 use Rattle.std.specs.Prelude.{◌==◌, nat_lt, IfSome}
 use Rattle.std.proofs.lemmas.List.{length-map}
 use Rattle.std.proofs.lemmas.List.Elements.{All-filter, All-map, All-nil, All-weaker}
@@ -20,8 +20,7 @@ use Rattle.pon_guar.specs.Window.{WindowMap, grants_at, words_among}
 use Rattle.pon_demand.specs.Sharing.{surplus_rate}
 use Rattle.pon_demand.proofs.RosterMaps.{granted_to_row, one_map}
 use Rattle.pon_demand.proofs.Carries.{carry_within}
-use Rattle.pon_state.specs.After.{after_entry, after_reply}
-use Rattle.pon_state.specs.Entry.{Entry}
+use Rattle.pon_state.specs.After.{after_reply}
 use Rattle.pon_state.specs.declared.reply.Reply.{Reply}
 use Rattle.pon_state.specs.declared.reply.Reply.TheVariants.{Taken, Map}
 use Rattle.pon_state.specs.declared.reply.MadeMap.{MadeMap}
@@ -32,9 +31,8 @@ use Rattle.pon_state.specs.Maps.{grants_in_map}
 use Rattle.pon_history.specs.Chapters.{Chapter, IsLawfulChapter, IsLawfulState, present_state}
 use Rattle.pon_history.specs.Ranges.{AreGrantsInRange, IsGrantInRange, IsStateInRange}
 use Rattle.pon_history.proofs.FairMaps.{fair_map}
-use Rattle.pon_history.proofs.LawfulAccounts.{All-inserted, All-with_map, if_less, latest_two, occupancies_all}
-use Rattle.pon_history.proofs.LawfulStates.{lawful_step}
-use Rattle.pon_history.proofs.Legality.{IsLegalFrom, from_legal}
+use Rattle.pon_history.proofs.LawfulStates.{All-inserted, All-with_map, if_less, latest_two, occupancies_all, lawful_step}
+use Rattle.pon_history.proofs.Legality.{along, replay_push}
 
 abbrev IsSmall : Counted → Type 0
 IsSmall c = c.words ≤ MAX_OCCUPANCY
@@ -93,10 +91,9 @@ module _ (s : State) (k : IsLawfulState s) (h : IsStateInRange s) where
   range_step kept (Fail cause) r f = record { rule = h.rule; cause = f.event; reports = All-map IsSmallAccount (afresh s.next) s.book (λ n d lt. tt); maps = All-nil HasRange }
   range_step kept Restore r f = record { rule = h.rule; cause = tt; reports = All-map IsSmallAccount (afresh s.next) s.book (λ n d lt. tt); maps = All-nil HasRange }
 
-range_after : (kept : ℕ) (s : State) (es : List Entry) → IsLegalFrom kept s es → IsLawfulState s → IsStateInRange s → IsStateInRange (replay s es)
-range_after kept s [] legal l h = h
-range_after kept s (e ∷ es) legal l h = range_after (kept + 1) (after_entry s e) es legal.1 (lawful_step kept s e legal.0 l) (range_step s l h kept e.event e.reply legal.0)
-
 -- the end of a lawful chapter is in range if its opening is
 pub in_range_at_present : (c : Chapter) → IsLawfulChapter c → IsStateInRange c.opening → IsStateInRange (present_state c)
-in_range_at_present c l h = range_after 0 c.opening c.entries (from_legal c.opening c.entries c.number l.legal) l.opening.state h
+in_range_at_present c l h =
+    (along c.number c.opening (λ es. IsLawfulState (replay c.opening es) × IsStateInRange (replay c.opening es))
+    (λ es e m p. rw (replay_push c.opening es e) (lawful_step (length es) (replay c.opening es) e m p.0, range_step (replay c.opening es) p.0 p.1 (length es) e.event e.reply m))
+    [] c.entries l.legal (l.opening.state, h)).1

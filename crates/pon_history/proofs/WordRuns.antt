@@ -30,7 +30,7 @@ use Rattle.pon_history.specs.ClosedForm.{closed_form}
 use Rattle.pon_history.specs.WordRuns.{GrantsWholeParts, RunsAreWhole, words_of_reply, words_since}
 use Rattle.pon_history.proofs.Carries.{owed_push, sum_since_push}
 use Rattle.pon_history.proofs.ClosedForms.{carry_now, of_chapter}
-use Rattle.pon_history.proofs.CutChapters.{front_lawful}
+use Rattle.pon_history.proofs.LawfulStates.{front_lawful}
 
 number_absent : (i : ℕ) (rows : List Row) (ns : List ℕ) → has_alloc i rows ≡ false → number_of rows ns i ≡ 0
 number_absent i [] ns h = refl
@@ -119,8 +119,8 @@ whole_parts : (c : Chapter) → IsLawfulChapter c → c.opening.rule ≡ CarryRe
 whole_parts c l two i =
     let start : number_of c.opening.roster c.opening.carries i ≤ 255
     = subst (λ rule. number_of c.opening.roster c.opening.carries i ≤ max_carry rule) two (carry_within (max_carry c.opening.rule) c.opening.roster c.opening.carries i l.opening.state.carries.range) in
-    of_chapter c l (λ es. words_since c.opening i es ≡ owed_of c.opening es i / 256) (omega (arith, start))
-    (λ es e h m so_far. one_more c.opening two i es h.closed e m.reply so_far)
+    (of_chapter c l (λ es. words_since c.opening i es ≡ owed_of c.opening es i / 256) (omega (arith, start))
+    (λ es e h m so_far. one_more c.opening two i es h.closed e m.reply so_far)).1
 
 -- and over each run
 pub whole_runs : (c : Chapter) → IsLawfulChapter c → RunsAreWhole c
