@@ -32,7 +32,7 @@ use Rattle.pon_history.specs.Parts.{admits, roster_after, roster_of}
 use Rattle.pon_lists.proofs.Inserted.{list_any-inserted}
 use Rattle.pon_lists.proofs.Lists.{map_same, or-false}
 use Rattle.pon_history.proofs.LawfulStates.{any_without}
-use Rattle.pon_history.proofs.Parts.{roster_of-append}
+use Rattle.pon_history.proofs.Windows.{roster_of-append}
 
 -- two functions that agree on the elements of a list have the same images
 map_agree : {X Y : Type 0} (f g : X → Y) (xs : List X) → All (λ x. f x ≡ g x) xs → map f xs ≡ map g xs

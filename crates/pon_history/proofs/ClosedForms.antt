@@ -4,7 +4,6 @@ use Rattle.std.proofs.lemmas.List.{length-append}
 use Rattle.pon_admit.specs.Roster.{has_alloc}
 use Rattle.pon_admit.specs.declared.event.Event.{Event}
 use Rattle.pon_admit.specs.declared.event.Event.TheVariants.{MakeMap}
-use Rattle.pon_guar.specs.Window.{AreConsecutive}
 use Rattle.pon_demand.specs.Carries.{number_of}
 use Rattle.pon_demand.proofs.Carries.{carry_known}
 use Rattle.pon_state.specs.After.{after_entry, after_reply}
@@ -20,9 +19,8 @@ use Rattle.pon_history.specs.Parts.{cause_after, next_of, roster_after, roster_o
 use Rattle.pon_history.proofs.Carries.{carries_none, carries_push}
 use Rattle.pon_history.proofs.LawfulStates.{lawful_step}
 use Rattle.pon_history.proofs.Legality.{along, replay_push}
-use Rattle.pon_history.proofs.Parts.{cause_of-append, next_of-append, roster_of-append}
+use Rattle.pon_history.proofs.Windows.{cause_of-append, next_of-append, roster_of-append, AllLead, leads_next, leads_none, window_none, window_push}
 use Rattle.pon_history.proofs.Reports.{AreBelow, below_push, book_none, book_push}
-use Rattle.pon_history.proofs.Windows.{window_none, window_push}
 
 -- the closed form of no entries
 closed_none : (s : State) → IsLawfulState s → closed_form s [] ≡ s
@@ -43,7 +41,7 @@ closed_none s l = (λ i. record {
     plus n = omega arith
 
 -- the closed form of one more entry
-module _ (o : State) (es : List Entry) (kept : ℕ) (leads : AreConsecutive o.next o.window) (below : AreBelow (next_of o.next es) es)
+module _ (o : State) (es : List Entry) (kept : ℕ) (leads : AllLead o es) (below : AreBelow (next_of o.next es) es)
     (l : IsLawfulState (closed_form o es)) (same : replay o es ≡ closed_form o es) where
   joined : (e : Entry) → MayFollow kept (closed_form o es) e → (next : ℕ) → next_of (next_of o.next es) (e ∷ []) ≡ next → closed_form o (es ++ e ∷ []) ≡ record {
     rule = o.rule;
@@ -69,7 +67,7 @@ module _ (o : State) (es : List Entry) (kept : ℕ) (leads : AreConsecutive o.ne
         roster = roster_of-append o.roster es (e ∷ []) j;
         book = book_push o es kept e leads below l m j;
         carries = carries_push o es l same e.event e.reply m.reply j;
-        window = window_push o es leads l e.event e.reply j;
+        window = window_push o es leads l e.reply e.event j;
       })
 
   one : (v : Event) (reply : Reply) → MayFollow kept (closed_form o es) (record { event = v; reply = reply }) →
@@ -84,26 +82,28 @@ module _ (o : State) (es : List Entry) (kept : ℕ) (leads : AreConsecutive o.ne
 pub record Holds (o : State) (es : List Entry) : Type 0 where
   pub closed : replay o es ≡ closed_form o es
   pub lawful : IsLawfulState (replay o es)
+  pub leads : AllLead o es
   pub below : AreBelow (next_of o.next es) es
 
 holds_none : (o : State) → IsLawfulState o → Holds o []
-holds_none o l = record { closed = sym (closed_none o l); lawful = l; below = tt }
+holds_none o l = record { closed = sym (closed_none o l); lawful = l; leads = leads_none o l.frames; below = tt }
 
-holds_push : (o : State) → IsLawfulState o → (es : List Entry) (e : Entry) → Holds o es → MayFollow (length es) (replay o es) e → Holds o (es ++ e ∷ [])
-holds_push o l es e h m =
+holds_push : (o : State) (es : List Entry) (e : Entry) → Holds o es → MayFollow (length es) (replay o es) e → Holds o (es ++ e ∷ [])
+holds_push o es e h m =
     let pushed : replay o (es ++ e ∷ []) ≡ after_entry (replay o es) e = replay_push o es e in
     let state : IsLawfulState (closed_form o es) = subst IsLawfulState h.closed h.lawful in
     let follows : MayFollow (length es) (closed_form o es) e = subst (λ s. MayFollow (length es) s e) h.closed m in
     record {
-      closed = pushed ∙ ap (λ s. after_entry s e) h.closed ∙ sym (closed_push o es (length es) l.frames h.below state h.closed e follows);
+      closed = pushed ∙ ap (λ s. after_entry s e) h.closed ∙ sym (closed_push o es (length es) h.leads h.below state h.closed e follows);
       lawful = subst IsLawfulState (sym pushed) (lawful_step (length es) (replay o es) e m h.lawful);
-      below = below_push o es (length es) e l.frames h.below follows;
+      leads = leads_next o es e h.leads;
+      below = below_push o es (length es) e h.leads h.below follows;
     }
 
 -- a property that each entry of a lawful chapter keeps holds after all of them
 pub of_chapter : (c : Chapter) → IsLawfulChapter c → (P : List Entry → Type 0) → P [] →
     ((es : List Entry) (e : Entry) → Holds c.opening es → MayFollow (length es) (replay c.opening es) e → P es → P (es ++ e ∷ [])) → Holds c.opening c.entries × P c.entries
-of_chapter c l P none step = along c.number c.opening (λ es. Holds c.opening es × P es) (λ es e m p. (holds_push c.opening l.opening.state es e p.0 m, step es e p.0 m p.1))
+of_chapter c l P none step = along c.number c.opening (λ es. Holds c.opening es × P es) (λ es e m p. (holds_push c.opening es e p.0 m, step es e p.0 m p.1))
     [] c.entries l.legal (holds_none c.opening l.opening.state, none)
 
 pub closed_at_present : (c : Chapter) → IsLawfulChapter c → present_state c ≡ closed_form c.opening c.entries

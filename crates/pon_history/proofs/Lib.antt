@@ -8,7 +8,6 @@ pub mod Legality
 pub mod OneFloor
 pub mod OneReply
 pub mod OtherForms
-pub mod Parts
 pub mod PresentLoads
 pub mod Ranges
 pub mod Reports

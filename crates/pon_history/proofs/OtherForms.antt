@@ -13,7 +13,7 @@ use Rattle.pon_guar.specs.Reports.{after_occupancies, counting, later, latest, t
 use Rattle.pon_state.specs.Entry.{Entry}
 use Rattle.pon_history.specs.OtherForms.{account_reported, before_last, reports_of}
 use Rattle.pon_history.specs.Parts.{frame_at_last, next_of}
-use Rattle.pon_history.proofs.Parts.{next_of-cons}
+use Rattle.pon_history.proofs.Windows.{next_of-cons}
 
 -- The latest report of a list.
 

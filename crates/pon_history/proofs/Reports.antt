@@ -4,11 +4,11 @@ use Rattle.std.specs.Prelude.{◌==◌, nat_le, nat_lt, if◌then◌else◌, fil
 use Rattle.std.specs.List.{list_any}
 use Rattle.std.proofs.lemmas.Bool.{both_ways, cases_Bool, eq-eqb, eqb-true, le-leb, lt-leb, ne_eqb, or_left, or_right}
 use Rattle.std.proofs.lemmas.Bool.Decides.{eqb_tells, leb_tells}
-use Rattle.std.proofs.lemmas.List.{drop_all, map-id}
+use Rattle.std.proofs.lemmas.List.{map-id}
 use Rattle.std.proofs.lemmas.List.Elements.{All-append, All-filter, All-head, All-nil, All-tail, All-weaker, filter_passes}
 use Rattle.std.proofs.lemmas.List.Folds.{list_any-append, list_any_at}
 use Rattle.std.proofs.lemmas.List.Sums.{sum_by-append, sum_by-cons}
-use Rattle.pon_lists.proofs.Lists.{All-unmap, append-nil, drop-drop, filter-append, flat_map-append, flat_map-map, length-drop, map-append, map-map, map_filter, map_same, sum_by-map, sum_by_agree}
+use Rattle.pon_lists.proofs.Lists.{All-unmap, append-nil, filter-append, flat_map-append, flat_map-map, length-drop, map-append, map-map, map_filter, map_same, sum_by-map, sum_by_agree}
 use Rattle.pon_units.specs.Granted.{AreInMapOrder}
 use Rattle.pon_units.specs.declared.granted.Granted.{Granted}
 use Rattle.pon_descr.proofs.Checks.{or_else_none}
@@ -38,10 +38,10 @@ use Rattle.pon_history.specs.ClosedForm.{closed_form}
 use Rattle.pon_history.specs.OtherForms.{account_reported, reports_of}
 use Rattle.pon_history.specs.Parts.{allocs_after, allocs_of, begins, next_of, roster_of}
 use Rattle.pon_history.specs.Reports.{account_after, book_of, candidates, candidates_in, counted_of, opening_candidates, since_of}
-use Rattle.pon_history.specs.Windows.{all_maps, is_kept, kept_from, map_made, maps_of, new_map, window_of, with_reports}
+use Rattle.pon_history.specs.Windows.{all_maps, map_made, maps_of, new_map, window_of, with_reports}
 use Rattle.pon_history.proofs.OtherForms.{account_by_account, latest-append, latest_lone}
-use Rattle.pon_history.proofs.Parts.{allocs_of-append, frame_at_last-append, next_of-append, next_of_grows}
-use Rattle.pon_history.proofs.Windows.{all_maps_lead, all_maps_push}
+use Rattle.pon_history.proofs.Windows.{allocs_of-append, frame_at_last-append, next_of-append, next_of_grows, AllLead, all_maps_push, before_window, window_is_end}
+use Rattle.pon_history.proofs.LawfulStates.{frame_within}
 
 -- One more entry grants the words of its map.
 
@@ -106,24 +106,6 @@ less_more f v w (x ∷ xs) = (let both : (f x).words - (v + w) ≡ ((f x).words 
 
 -- The maps of the window.
 
--- the maps of consecutive frames from a frame on are the last of them
-from_is_end : (n c : ℕ) (ms : List WindowMap) → AreConsecutive n ms → filter (λ m. nat_le c m.frame) ms ≡ drop (c + length ms - n) ms
-from_is_end n c [] h = sym (drop_all (c + 0 - n) [] (omega arith))
-from_is_end n c (m ∷ ms) h = elim (leb_tells c m.frame) [
-  | inl e ↦
-      let none : (c + length ms - n ≡ 0) × (c + suc (length ms) - n ≡ 0) = (omega (arith, h.0, e.1), omega (arith, h.0, e.1)) in
-      rw (e.0, from_is_end n c ms h.1, none.0, none.1) refl
-  | inr e ↦ (let more : c + suc (length ms) - n ≡ suc (c + length ms - n) = omega (arith, h.0, e.1) in rw (e.0, from_is_end n c ms h.1, more) refl)
-]
-
--- a frame of maps of consecutive frames is not after the last, and not before the first
-frame_within : (n f : ℕ) (ms : List WindowMap) → AreConsecutive n ms → list_any (is_of f) ms ≡ true → (f < n) × (n ≤ f + length ms)
-frame_within n f [] h k = absurd cc
-frame_within n f (m ∷ ms) h k = elim (eqb_tells m.frame f) [
-  | inl e ↦ (omega (arith, h.0, e.1), omega (arith, h.0, e.1))
-  | inr e ↦ (let r : (f < n) × (n ≤ f + length ms) = frame_within n f ms h.1 (subst (λ b. (b || list_any (is_of f) ms) ≡ true) e.0 k) in (r.0, omega (arith, r.1)))
-]
-
 -- two lists of maps grant the same from a frame on, and have the same grants of it
 abbrev GrantSame : ℕ → List WindowMap → List WindowMap → Type 0
 GrantSame f ms ns = ((i : ℕ) → words_from i f ms ≡ words_from i f ns) × ((u : ℕ) → grants_at f u ms ≡ grants_at f u ns)
@@ -140,22 +122,16 @@ last_grant_same n f (suc k) (m ∷ ms) h l =
     )
 
 -- An accepted report is of a frame of the window, and from it on all maps grant what the window grants.
-module _ (o : State) (es : List Entry) (leads : AreConsecutive o.next o.window) (kept f u : ℕ) (occ : List (Option ℕ)) (accepted : first_refusal kept (closed_form o es) (Report f u occ) ≡ None) where
-  abbrev first : ℕ
-  first = kept_from o es + length (all_maps o es) - next_of o.next es + (length (filter (is_kept o es) (all_maps o es)) - 64)
-
-  window_is_end : window_of o es ≡ drop first (all_maps o es)
-  window_is_end = ap (drop (length (filter (is_kept o es) (all_maps o es)) - 64)) (from_is_end (next_of o.next es) (kept_from o es) (all_maps o es) (all_maps_lead o es leads)) ∙ drop-drop _ _ (all_maps o es)
-
-  within : (f < next_of o.next es) × (next_of o.next es ≤ f + length (drop first (all_maps o es)))
-  within = frame_within (next_of o.next es) f (drop first (all_maps o es)) (leads_drop (next_of o.next es) first (all_maps o es) (all_maps_lead o es leads))
-      (ap (list_any (is_of f)) (sym window_is_end) ∙ frame_there f u (length occ) (window_of o es) (or_else_none _ _ (or_else_none _ (when_full kept (closed_form o es).taken_before) accepted).0).1)
+module _ (o : State) (es : List Entry) (leads : AllLead o es) (kept f u : ℕ) (occ : List (Option ℕ)) (accepted : first_refusal kept (closed_form o es) (Report f u occ) ≡ None) where
+  within : (f < next_of o.next es) × (next_of o.next es ≤ f + length (drop (before_window o es) (all_maps o es)))
+  within = frame_within (next_of o.next es) f (drop (before_window o es) (all_maps o es)) (leads_drop (next_of o.next es) (before_window o es) (all_maps o es) leads)
+      (ap (list_any (is_of f)) (sym (window_is_end o es leads)) ∙ frame_there f u (length occ) (window_of o es) (or_else_none _ _ (or_else_none _ (when_full kept (closed_form o es).taken_before) accepted).0).1)
 
   window_same : (reply : Reply) → GrantSame f (all_maps o (es ++ record { event = Report f u occ; reply = reply } ∷ [])) (window_of o es)
   window_same reply =
       let e : Entry = record { event = Report f u occ; reply = reply } in
       let last : GrantSame f (window_of o es) (all_maps o es)
-      = subst (λ ms. GrantSame f ms (all_maps o es)) (sym window_is_end) (last_grant_same (next_of o.next es) f first (all_maps o es) (all_maps_lead o es leads) within.1) in (
+      = subst (λ ms. GrantSame f ms (all_maps o es)) (sym (window_is_end o es leads)) (last_grant_same (next_of o.next es) f (before_window o es) (all_maps o es) leads within.1) in (
         λ i. omega (arith, last.0 i, words_push o es e f i (omega (arith, within.0))),
         λ u. grants_push o es e f u within.0 ∙ sym (last.1 u),
       )
@@ -316,7 +292,7 @@ book_none s l = accounts_all (account_after s []) s.book (All-weaker (λ a. acco
     lone (Some c) = less_none (Some c)
 
 -- an accepted report is of a frame of the window, so below the next one
-pub below_push : (o : State) (es : List Entry) (kept : ℕ) (e : Entry) → AreConsecutive o.next o.window → AreBelow (next_of o.next es) es → MayFollow kept (closed_form o es) e → AreBelow (next_of o.next (es ++ e ∷ [])) (es ++ e ∷ [])
+pub below_push : (o : State) (es : List Entry) (kept : ℕ) (e : Entry) → AllLead o es → AreBelow (next_of o.next es) es → MayFollow kept (closed_form o es) e → AreBelow (next_of o.next (es ++ e ∷ [])) (es ++ e ∷ [])
 below_push o es kept e leads below m = below_more (next_of o.next es) (next_of o.next (es ++ e ∷ [])) es e later below (one e.event m.accepted)
   where
     later : next_of o.next es ≤ next_of o.next (es ++ e ∷ [])
@@ -326,7 +302,7 @@ below_push o es kept e leads below m = below_more (next_of o.next es) (next_of o
     one (Report f u occ) h = omega (arith, later, (within o es leads kept f u occ h).0)
     one v h = tt
 
-module _ (o : State) (es : List Entry) (kept : ℕ) (leads : AreConsecutive o.next o.window) (below : AreBelow (next_of o.next es) es) (lawful : IsLawfulState (closed_form o es)) (reply : Reply) where
+module _ (o : State) (es : List Entry) (kept : ℕ) (leads : AllLead o es) (below : AreBelow (next_of o.next es) es) (lawful : IsLawfulState (closed_form o es)) (reply : Reply) where
   abbrev ids : List ℕ
   ids = allocs_of (alloc_ids o.book) es
 
@@ -402,7 +378,7 @@ module _ (o : State) (es : List Entry) (kept : ℕ) (leads : AreConsecutive o.ne
   pushed Restore m = changed Restore (afresh (next_of o.next es)) (λ i k. begun o es (entry Restore) below i refl tt)
 
 -- the report book after one more entry is that of the state after it
-pub book_push : (o : State) (es : List Entry) (kept : ℕ) (e : Entry) → AreConsecutive o.next o.window → AreBelow (next_of o.next es) es → IsLawfulState (closed_form o es) → MayFollow kept (closed_form o es) e →
+pub book_push : (o : State) (es : List Entry) (kept : ℕ) (e : Entry) → AllLead o es → AreBelow (next_of o.next es) es → IsLawfulState (closed_form o es) → MayFollow kept (closed_form o es) e →
     book_of o (es ++ e ∷ []) ≡ (after_entry (closed_form o es) e).book
 book_push o es kept e leads below lawful m =
     ap (map (account_after o (es ++ e ∷ []))) (allocs_of-append (alloc_ids o.book) es (e ∷ []))
