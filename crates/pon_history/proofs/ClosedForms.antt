@@ -1,26 +1,164 @@
 -- The replay of a legal history is its closed form.
-use Rattle.std.proofs.Common.{◌≡◌, ℕ, ◌+◌, List, [], ◌∷◌, ◌++◌, length, ap, sym, ◌∙◌, subst, arith, true}
-use Rattle.std.proofs.lemmas.List.{length-append}
-use Rattle.pon_admit.specs.Roster.{has_alloc}
-use Rattle.pon_admit.specs.declared.event.Event.{Event}
-use Rattle.pon_admit.specs.declared.event.Event.TheVariants.{MakeMap}
-use Rattle.pon_demand.specs.Carries.{number_of}
-use Rattle.pon_demand.proofs.Carries.{carry_known}
-use Rattle.pon_state.specs.After.{after_entry, after_reply}
-use Rattle.pon_state.specs.Entry.{Entry}
+use Rattle.std.proofs.Common.{◌≡◌, ℕ, ◌+◌, ◌<◌, true, false, not, ◌||◌, List, [], ◌∷◌, ◌++◌, map, length, get_or, refl, ap, sym, ◌∙◌, append_assoc, arith, inl, inr, subst, add-zero, Bool}
+use Rattle.std.proofs.lemmas.List.{get_or_default, append-nil, get_or-map, length-map, length-append}
+use Rattle.std.specs.Prelude.{◌==◌, if◌then◌else◌}
+use Rattle.std.specs.List.{list_any}
+use Rattle.std.proofs.lemmas.Bool.{and_parts, cases_Bool, eq-eqb}
+use Rattle.std.proofs.lemmas.List.Folds.{list_any-append, list_any_at}
+use Rattle.pon_descr.specs.Descriptor.{Descriptor}
+use Rattle.pon_admit.specs.declared.row.Row.{Row}
+use Rattle.pon_admit.specs.Roster.{comes_before, has_alloc, left_over, max_carry}
+use Rattle.pon_admit.proofs.AdmittedSets.{changed, changed_alloc, has_alloc-changed}
+use Rattle.pon_admit.proofs.Rules.{left_over_range, left_over_same, left_over_sum}
+use Rattle.pon_demand.specs.Carries.{carries_of, number_of}
+use Rattle.pon_demand.specs.Rates.{whole_rate}
+use Rattle.pon_demand.specs.Sharing.{surplus_rate}
+use Rattle.pon_demand.proofs.Carries.{carries_each, carry_at_row, carry_known, carry_within}
+use Rattle.pon_state.specs.State.{State, carry_at, input_of}
+use Rattle.pon_state.specs.After.{after_reply, after_entry}
+use Rattle.pon_state.specs.Carries.{carries_left}
 use Rattle.pon_state.specs.History.{replay}
-use Rattle.pon_state.specs.Legal.{MayFollow}
-use Rattle.pon_state.specs.State.{State}
+use Rattle.pon_state.specs.Legal.{IsReply, MayFollow}
+use Rattle.pon_state.specs.Entry.{Entry}
 use Rattle.pon_state.specs.declared.reply.Reply.{Reply}
-use Rattle.pon_history.specs.Carries.{carry_after}
-use Rattle.pon_history.specs.Chapters.{Chapter, IsLawfulChapter, IsLawfulState, present_state}
+use Rattle.pon_state.specs.declared.reply.Reply.TheVariants.{Taken, Map}
+use Rattle.pon_state.specs.declared.reply.MadeMap.{MadeMap}
+use Rattle.pon_admit.specs.declared.event.Event.{Event}
+use Rattle.pon_admit.specs.declared.event.Event.TheVariants.{Admit, Change, Remove, MakeMap}
+use Rattle.pon_history.specs.Carries.{admits_now, carry_after, owed_of, rate_of_reply, sum_since}
+use Rattle.pon_history.specs.Chapters.{IsLawfulState, Chapter, IsLawfulChapter, present_state}
 use Rattle.pon_history.specs.ClosedForm.{closed_form}
-use Rattle.pon_history.specs.Parts.{cause_after, next_of, roster_after, roster_of}
-use Rattle.pon_history.proofs.Carries.{carries_none, carries_push}
-use Rattle.pon_history.proofs.LawfulStates.{lawful_step}
+use Rattle.pon_history.specs.Parts.{admits, roster_after, roster_of, cause_after, next_of}
+use Rattle.pon_lists.proofs.Inserted.{list_any-inserted}
+use Rattle.pon_lists.proofs.Lists.{map_same}
+use Rattle.pon_history.proofs.LawfulStates.{any_without, lawful_step}
+use Rattle.pon_history.proofs.Windows.{roster_of-append, cause_of-append, next_of-append, AllLead, leads_next, leads_none, window_none, window_push}
 use Rattle.pon_history.proofs.Legality.{along, replay_push}
-use Rattle.pon_history.proofs.Windows.{cause_of-append, next_of-append, roster_of-append, AllLead, leads_next, leads_none, window_none, window_push}
-use Rattle.pon_history.proofs.Reports.{AreBelow, below_push, book_none, book_push}
+use Rattle.pon_history.proofs.Reports.{AreBelow, below_push, book_none, book_push, map_agree}
+
+-- The Alloc-IDs of a roster.
+
+-- an Alloc-ID that an event does not admit was admitted before
+had_row : (i : ℕ) (v : Event) (rows : List Row) → admits i v ≡ false → has_alloc i (roster_after rows v) ≡ true → has_alloc i rows ≡ true
+had_row i (Admit onu alloc_id descriptor) rows a h =
+    let r : Row = record { onu = onu; alloc_id = alloc_id; descriptor = descriptor } in
+    sym (ap (λ b. b || has_alloc i rows) a) ∙ sym (list_any-inserted (λ q. q.alloc_id == i) (λ q. comes_before q r) r rows) ∙ h
+had_row i (Change alloc_id descriptor) rows a h = sym (has_alloc-changed alloc_id descriptor i rows) ∙ h
+had_row i (Remove alloc_id) rows a h = (and_parts (not (i == alloc_id)) (has_alloc i rows) (sym (any_without (λ r. r.alloc_id) alloc_id i rows) ∙ h)).1
+had_row i v rows a h = h
+
+row_has : (rows : List Row) (n : ℕ) (d : Row) → n < length rows → has_alloc (get_or rows n d).alloc_id rows ≡ true
+row_has rows n d l = list_any_at (λ r. r.alloc_id == (get_or rows n d).alloc_id) rows n d l (eq-eqb (get_or rows n d).alloc_id (get_or rows n d).alloc_id refl)
+
+-- Sums since the last admission.
+
+-- a sum that begins with a number, which any admission drops, with one more entry
+since_push : (f : List Entry → Entry → ℕ) (i start : ℕ) (done es : List Entry) (e : Entry) →
+    (if list_any (admits_now i) (es ++ e ∷ []) then 0 else start) + sum_since f i done (es ++ e ∷ [])
+    ≡ (if admits_now i e then 0 else (if list_any (admits_now i) es then 0 else start) + sum_since f i done es) + f (done ++ es) e
+since_push f i start done [] e = rw append-nil (one (admits_now i e) start (f done e))
+  where
+    one : (c : Bool) (start last : ℕ) → (if c || false then 0 else start) + (last + 0) ≡ (if c then 0 else start + 0) + last
+    one c start last = grind arith
+since_push f i start done (x ∷ es) e =
+    rw (since_push f i (f done x) (done ++ x ∷ []) es e, list_any-append, append_assoc done (x ∷ []) es)
+    (more (list_any (admits_now i) (x ∷ es)) (admits_now i e) start ((if list_any (admits_now i) es then 0 else f done x) + sum_since f i (done ++ x ∷ []) es) (f (done ++ x ∷ es) e))
+  where
+    more : (b c : Bool) (start rest last : ℕ) → (if b || (c || false) then 0 else start) + ((if c then 0 else rest) + last) ≡ (if c then 0 else (if b then 0 else start) + rest) + last
+    more b c start rest last = grind arith
+
+-- what is owed after one more entry, and what words are granted
+pub owed_push : (o : State) (es : List Entry) (e : Entry) (i : ℕ) →
+    owed_of o (es ++ e ∷ []) i ≡ (if admits_now i e then 0 else owed_of o es i) + rate_of_reply (input_of (replay o es)) e.reply i
+owed_push o es e i = since_push (λ before e. rate_of_reply (input_of (replay o before)) e.reply i) i (number_of o.roster o.carries i) [] es e
+
+pub sum_since_push : (f : List Entry → Entry → ℕ) (i : ℕ) (es : List Entry) (e : Entry) → sum_since f i [] (es ++ e ∷ []) ≡ (if admits_now i e then 0 else sum_since f i [] es) + f es e
+sum_since_push f i es e = rw (nothing, nothing) at (since_push f i 0 [] es e)
+  where
+    nothing : (b : Bool) (n : ℕ) → (if b then 0 else 0) + n ≡ n
+    nothing b n = grind arith
+
+-- with other descriptors
+carries_changed : (f : ℕ → ℕ) (i : ℕ) (d : Descriptor) (rows : List Row) → carries_of f (map (changed i d) rows) ≡ carries_of f rows
+carries_changed f i d [] = refl
+carries_changed f i d (r ∷ rows) = (λ j. f (changed_alloc i d r j) ∷ carries_changed f i d rows j)
+
+-- One more entry.
+
+module _ (o : State) (es : List Entry) (l : IsLawfulState (closed_form o es)) where
+  abbrev rows : List Row
+  rows = roster_of o.roster es
+
+  abbrev carry : ℕ → ℕ
+  carry = carry_after o es
+
+  -- a rate is added to what was left before; an admission begins with nothing
+  carry_push : (e : Entry) (i : ℕ) → carry_after o (es ++ e ∷ []) i ≡ left_over o.rule ((if admits_now i e then 0 else carry i) + rate_of_reply (input_of (replay o es)) e.reply i)
+  carry_push e i =
+      let rate : ℕ = rate_of_reply (input_of (replay o es)) e.reply i in
+      ap (left_over o.rule) (owed_push o es e i)
+      ∙ (elim (admits_now i e) as (λ b. left_over o.rule ((if b then 0 else owed_of o es i) + rate) ≡ left_over o.rule ((if b then 0 else carry i) + rate)) [
+        | true ↦ refl
+        | false ↦ sym (left_over_sum o.rule (owed_of o es i) rate)
+      ])
+
+  -- the carry of an admitted Alloc-ID is in the state before
+  known : (i : ℕ) → has_alloc i rows ≡ true → carry i ≡ number_of rows (carries_of carry rows) i
+  known i h = sym (carry_known carry i rows h)
+
+  -- an event without a map leaves the carries of the Alloc-IDs that it does not admit
+  carries_taken : (v : Event) → carries_of (carry_after o (es ++ record { event = v; reply = Taken } ∷ [])) (roster_after rows v)
+      ≡ carries_of (λ i. if admits i v then 0 else number_of rows (carries_of carry rows) i) (roster_after rows v)
+  carries_taken v = map_agree (λ r. carry_after o (es ++ record { event = v; reply = Taken } ∷ []) r.alloc_id) (λ r. if admits r.alloc_id v then 0 else number_of rows (carries_of carry rows) r.alloc_id) (roster_after rows v)
+      (λ n d lt. one (get_or (roster_after rows v) n d).alloc_id (row_has (roster_after rows v) n d lt))
+    where
+      one : (i : ℕ) → has_alloc i (roster_after rows v) ≡ true → carry_after o (es ++ record { event = v; reply = Taken } ∷ []) i ≡ (if admits i v then 0 else number_of rows (carries_of carry rows) i)
+      one i h = carry_push (record { event = v; reply = Taken }) i ∙ rw add-zero (elim (cases_Bool (admits i v)) [
+        | inl a ↦ rw a (left_over_same o.rule 0 (omega arith))
+        | inr a ↦ rw a (left_over_same o.rule (carry i) (left_over_range o.rule (owed_of o es i)) ∙ known i (had_row i v rows a h))
+      ])
+
+  still : carries_of (λ i. number_of rows (carries_of carry rows) i) rows ≡ carries_of carry rows
+  still = carries_each rows (carries_of carry rows) l.admitted.apart l.carries.count
+
+  -- a map leaves what its words leave
+  carries_mapped : (made : MadeMap) → replay o es ≡ closed_form o es →
+      carries_of (carry_after o (es ++ record { event = MakeMap; reply = Map made } ∷ [])) rows ≡ carries_left (closed_form o es) (Map made)
+  carries_mapped made same =
+      let s : State = closed_form o es in
+      let rate : Row → ℕ = whole_rate (input_of s) (surplus_rate (input_of s) made.cert) in
+      map_agree (λ r. carry_after o (es ++ record { event = MakeMap; reply = Map made } ∷ []) r.alloc_id) (λ r. left_over o.rule (carry_at s r + rate r)) rows (λ n d lt.
+      let r : Row = get_or rows n d in
+      let there : has_alloc r.alloc_id rows ≡ true = row_has rows n d lt in
+      let rate_known : number_of rows (map rate rows) r.alloc_id ≡ rate r
+      = sym (carry_at_row rows (map rate rows) r n 0 l.admitted.apart (length-map rows rate) lt (get_or_default rows n r d lt)) ∙ get_or-map rate rows n r 0 lt ∙ ap rate (get_or_default rows n r d lt) in
+      carry_push (record { event = MakeMap; reply = Map made }) r.alloc_id
+      ∙ (λ j. left_over o.rule (known r.alloc_id there j + rate_of_reply (input_of (same j)) (Map made) r.alloc_id))
+      ∙ ap (λ n. left_over o.rule (carry_at s r + n)) rate_known)
+
+  -- the carries of the closed form are those of the state after the entry
+  carries_push : replay o es ≡ closed_form o es → (v : Event) (reply : Reply) → IsReply (closed_form o es) v reply →
+      carries_of (carry_after o (es ++ record { event = v; reply = reply } ∷ [])) (roster_of o.roster (es ++ record { event = v; reply = reply } ∷ [])) ≡ (after_reply (closed_form o es) v reply).carries
+  carries_push same v reply m = ap (carries_of (carry_after o (es ++ record { event = v; reply = reply } ∷ []))) (roster_of-append o.roster es (record { event = v; reply = reply } ∷ [])) ∙ one v reply m
+    where
+      one : (v : Event) (reply : Reply) → IsReply (closed_form o es) v reply → carries_of (carry_after o (es ++ record { event = v; reply = reply } ∷ [])) (roster_after rows v) ≡ (after_reply (closed_form o es) v reply).carries
+      one MakeMap (Map made) m = carries_mapped made same
+      one MakeMap Taken m = absurd m
+      one v (Map made) m = absurd (let t : Map made ≡ Taken = m in cc)
+      one (Admit onu alloc_id descriptor) Taken m = carries_taken (Admit onu alloc_id descriptor)
+      one (Remove alloc_id) Taken m = carries_taken (Remove alloc_id)
+      one (Change alloc_id descriptor) Taken m = carries_taken (Change alloc_id descriptor) ∙ carries_changed (number_of rows (carries_of carry rows)) alloc_id descriptor rows ∙ still
+      one v Taken m = carries_taken v ∙ still
+
+-- no entries leave the carries
+carries_none : (s : State) → IsLawfulState s → carries_of (carry_after s []) s.roster ≡ s.carries
+carries_none s l =
+    map_same (λ r. carry_after s [] r.alloc_id) (λ r. number_of s.roster s.carries r.alloc_id)
+    (λ r. rw add-zero (left_over_same s.rule (number_of s.roster s.carries r.alloc_id) (carry_within (max_carry s.rule) s.roster s.carries r.alloc_id l.carries.range))) s.roster
+    ∙ carries_each s.roster s.carries l.admitted.apart l.carries.count
+
+
+-- The closed form.
 
 -- the closed form of no entries
 closed_none : (s : State) → IsLawfulState s → closed_form s [] ≡ s

@@ -1,4 +1,3 @@
-pub mod Carries
 pub mod ClosedForms
 pub mod CountedReports
 pub mod FairMaps

@@ -278,7 +278,7 @@ told_under s l a lawful admitted f u ns early =
 
 -- The report book.
 
-map_agree : {X Y : Type 0} (f g : X → Y) (xs : List X) → All (λ x. f x ≡ g x) xs → map f xs ≡ map g xs
+pub map_agree : {X Y : Type 0} (f g : X → Y) (xs : List X) → All (λ x. f x ≡ g x) xs → map f xs ≡ map g xs
 map_agree f g [] h = refl
 map_agree f g (x ∷ xs) h = (λ j. All-head (λ x. f x ≡ g x) x xs h j ∷ map_agree f g xs (All-tail (λ x. f x ≡ g x) x xs h) j)
 

@@ -28,8 +28,7 @@ use Rattle.pon_history.specs.Carries.{admits_now, owed_of, rate_of_reply}
 use Rattle.pon_history.specs.Chapters.{Chapter, IsLawfulChapter, cut_at}
 use Rattle.pon_history.specs.ClosedForm.{closed_form}
 use Rattle.pon_history.specs.WordRuns.{GrantsWholeParts, RunsAreWhole, words_of_reply, words_since}
-use Rattle.pon_history.proofs.Carries.{owed_push, sum_since_push}
-use Rattle.pon_history.proofs.ClosedForms.{carry_now, of_chapter}
+use Rattle.pon_history.proofs.ClosedForms.{owed_push, sum_since_push, carry_now, of_chapter}
 use Rattle.pon_history.proofs.LawfulStates.{front_lawful}
 
 number_absent : (i : ℕ) (rows : List Row) (ns : List ℕ) → has_alloc i rows ≡ false → number_of rows ns i ≡ 0
@@ -102,7 +101,7 @@ module _ (o : State) (two : o.rule ≡ CarryRemainders) (i : ℕ) (done : List E
 
   one_more : (e : Entry) → IsReply s e.event e.reply → words_since o i done ≡ before / 256 → words_since o i (done ++ e ∷ []) ≡ owed_of o (done ++ e ∷ []) i / 256
   one_more e h so_far =
-      sum_since_push (λ before e. words_of_reply (replay o before).roster e.reply i) i [] done e
+      sum_since_push (λ before e. words_of_reply (replay o before).roster e.reply i) i done e
       ∙ (elim (cases_Bool (admits_now i e)) [
         | inl a ↦
             let none = no_map e.event e.reply h a in
