@@ -1,7 +1,8 @@
 -- The replay of a legal history is its closed form.
 use Rattle.std.proofs.Common.{◌≡◌, ℕ, ◌+◌, ◌<◌, true, false, not, ◌||◌, List, [], ◌∷◌, ◌++◌, map, length, get_or, refl, ap, sym, ◌∙◌, append_assoc, arith, inl, inr, subst, add-zero, Bool}
 use Rattle.std.proofs.lemmas.List.{get_or_default, append-nil, get_or-map, length-map, length-append}
-use Rattle.std.specs.Prelude.{◌==◌, if◌then◌else◌}
+use Rattle.std.proofs.lemmas.List.Elements.{All-nil}
+use Rattle.std.specs.Prelude.{All, ◌==◌, if◌then◌else◌}
 use Rattle.std.specs.List.{list_any}
 use Rattle.std.proofs.lemmas.Bool.{and_parts, cases_Bool, eq-eqb}
 use Rattle.std.proofs.lemmas.List.Folds.{list_any-append, list_any_at}
@@ -32,9 +33,8 @@ use Rattle.pon_history.specs.Parts.{admits, roster_after, roster_of, cause_after
 use Rattle.pon_lists.proofs.Inserted.{list_any-inserted}
 use Rattle.pon_lists.proofs.Lists.{map_same}
 use Rattle.pon_history.proofs.LawfulStates.{any_without, lawful_step}
-use Rattle.pon_history.proofs.Windows.{roster_of-append, cause_of-append, next_of-append, AllLead, leads_next, leads_none, window_none, window_push}
+use Rattle.pon_history.proofs.Reports.{roster_of-append, cause_of-append, next_of-append, AllLead, leads_next, leads_none, window_none, window_push, IsBelow, below_push, book_none, book_push, map_agree}
 use Rattle.pon_history.proofs.Legality.{along, replay_push}
-use Rattle.pon_history.proofs.Reports.{AreBelow, below_push, book_none, book_push, map_agree}
 
 -- The Alloc-IDs of a roster.
 
@@ -179,7 +179,7 @@ closed_none s l = (λ i. record {
     plus n = omega arith
 
 -- the closed form of one more entry
-module _ (o : State) (es : List Entry) (kept : ℕ) (leads : AllLead o es) (below : AreBelow (next_of o.next es) es)
+module _ (o : State) (es : List Entry) (kept : ℕ) (leads : AllLead o es) (below : All (IsBelow (next_of o.next es)) es)
     (l : IsLawfulState (closed_form o es)) (same : replay o es ≡ closed_form o es) where
   joined : (e : Entry) → MayFollow kept (closed_form o es) e → (next : ℕ) → next_of (next_of o.next es) (e ∷ []) ≡ next → closed_form o (es ++ e ∷ []) ≡ record {
     rule = o.rule;
@@ -221,10 +221,10 @@ pub record Holds (o : State) (es : List Entry) : Type 0 where
   pub closed : replay o es ≡ closed_form o es
   pub lawful : IsLawfulState (replay o es)
   pub leads : AllLead o es
-  pub below : AreBelow (next_of o.next es) es
+  pub below : All (IsBelow (next_of o.next es)) es
 
 holds_none : (o : State) → IsLawfulState o → Holds o []
-holds_none o l = record { closed = sym (closed_none o l); lawful = l; leads = leads_none o l.frames; below = tt }
+holds_none o l = record { closed = sym (closed_none o l); lawful = l; leads = leads_none o l.frames; below = All-nil (IsBelow (next_of o.next [])) }
 
 holds_push : (o : State) (es : List Entry) (e : Entry) → Holds o es → MayFollow (length es) (replay o es) e → Holds o (es ++ e ∷ [])
 holds_push o es e h m =

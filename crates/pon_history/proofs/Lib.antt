@@ -6,9 +6,7 @@ pub mod LawfulStates
 pub mod Legality
 pub mod OneFloor
 pub mod OneReply
-pub mod OtherForms
 pub mod PresentLoads
 pub mod Ranges
 pub mod Reports
-pub mod Windows
 pub mod WordRuns

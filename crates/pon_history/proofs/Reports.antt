@@ -1,47 +1,299 @@
--- The report book with one more entry.
-use Rattle.std.proofs.Common.{◌≡◌, ℕ, zero, suc, ◌+◌, ◌-◌, ◌<◌, ◌≤◌, not, ◌||◌, Bool, true, false, List, [], ◌∷◌, ◌++◌, map, length, drop, get_or, refl, ap, sym, ◌∙◌, subst, append_assoc, arith, inl, inr}
-use Rattle.std.specs.Prelude.{◌==◌, nat_le, nat_lt, if◌then◌else◌, filter, find, flat_map, All, Option, Some, None, option_to_list, option_map}
+-- The window and the report book of the closed form, with one more entry.
+use Rattle.std.proofs.Common.{◌≡◌, ℕ, ◌+◌, ◌-◌, ◌≤◌, Bool, true, false, cond, ◌||◌, ◌&&◌, List, [], ◌∷◌, ◌++◌, map, length, drop, refl, ap, sym, ◌∙◌, subst, arith, append_assoc, inl, inr, add_assoc, suc, add-zero, zero, ◌<◌, not, get_or, ◌*◌}
+use Rattle.std.specs.Prelude.{◌==◌, nat_le, if◌then◌else◌, filter, All, Option, min, nat_lt, Some, None, option_to_list, find, flat_map, option_map, Any}
 use Rattle.std.specs.List.{list_any}
-use Rattle.std.proofs.lemmas.Bool.{both_ways, cases_Bool, eq-eqb, eqb-true, le-leb, lt-leb, ne_eqb, or_left, or_right}
-use Rattle.std.proofs.lemmas.Bool.Decides.{eqb_tells, leb_tells}
-use Rattle.std.proofs.lemmas.List.{map-id}
-use Rattle.std.proofs.lemmas.List.Elements.{All-append, All-filter, All-head, All-nil, All-tail, All-weaker, filter_passes}
-use Rattle.std.proofs.lemmas.List.Folds.{list_any-append, list_any_at}
-use Rattle.std.proofs.lemmas.List.Sums.{sum_by-append, sum_by-cons}
-use Rattle.pon_lists.proofs.Lists.{All-unmap, append-nil, filter-append, flat_map-append, flat_map-map, length-drop, map-append, map-map, map_filter, map_same, sum_by-map, sum_by_agree}
-use Rattle.pon_units.specs.Granted.{AreInMapOrder}
-use Rattle.pon_units.specs.declared.granted.Granted.{Granted}
-use Rattle.pon_descr.proofs.Checks.{or_else_none}
-use Rattle.pon_admit.specs.Roster.{has_alloc}
-use Rattle.pon_admit.specs.declared.event.Event.{Event}
-use Rattle.pon_admit.specs.declared.event.Event.TheVariants.{Admit, Change, Remove, Report, MakeMap, Fail, Restore}
+use Rattle.std.proofs.lemmas.List.Elements.{All-weaker, All-append, All-filter, All-head, All-nil, All-tail, filter_passes, All-push}
+use Rattle.std.proofs.lemmas.List.Folds.{list_any-append, map_fixed, list_any_at, Any-from_list_any}
+use Rattle.std.proofs.lemmas.Bool.Decides.{leb_tells, eqb_tells, nat_tests}
+use Rattle.std.proofs.Math.Bool.{and-true}
+use Rattle.pon_lists.proofs.Lists.{any_eq-filter, append-nil, drop-append-le, drop-drop, drop-map, filter_agree, filter_same_in, length-append, length-drop, length-map, map-append, map-map, map_same, or-false, or_assoc, count_by-append, All-unmap, filter-append, flat_map-append, flat_map-map, map_filter, sum_by-map, sum_by_agree}
 use Rattle.pon_admit.specs.declared.row.Row.{Row}
-use Rattle.pon_admit.proofs.AdmittedSets.{passes}
-use Rattle.pon_guar.specs.declared.account.Account.{Account}
-use Rattle.pon_guar.specs.declared.account.Counted.{Counted}
-use Rattle.pon_guar.specs.Book.{account_of, alloc_ids, counted_of_account, since_of_account}
-use Rattle.pon_guar.specs.Loads.{afresh, fresh_account, less, lessened}
-use Rattle.pon_guar.specs.Reports.{later, latest, occupancies}
-use Rattle.pon_guar.specs.Window.{AreConsecutive, IsLawfulMap, WindowMap, grants_at, is_of, words_among, words_from, words_granted, words_in, words_to, words_to_from}
-use Rattle.pon_guar.proofs.Accounts.{accounts_all, found_each}
-use Rattle.pon_guar.proofs.Frames.{frame_there, leads_drop}
-use Rattle.pon_guar.proofs.LessByGrants.{less_none}
-use Rattle.pon_state.specs.After.{after_entry, after_reply}
-use Rattle.pon_state.specs.Checks.{first_refusal, when_full}
+use Rattle.pon_admit.specs.declared.event.Event.{Event}
+use Rattle.pon_admit.specs.declared.event.Event.TheVariants.{Report, MakeMap, Fail, Restore, Admit, Change, Remove}
+use Rattle.pon_guar.specs.ReportChecks.{with_report}
+use Rattle.pon_guar.specs.Window.{AreConsecutive, IsLawfulMap, WindowMap, last_64, onus_polled, grants_at, is_of, words_among, words_from, words_granted, words_in, words_to, words_to_from}
+use Rattle.pon_state.specs.After.{after_reply, after_entry}
 use Rattle.pon_state.specs.Entry.{Entry}
-use Rattle.pon_state.specs.Legal.{MayFollow}
-use Rattle.pon_state.specs.Maps.{grants_in_map, makes_map, structures}
+use Rattle.pon_state.specs.Maps.{makes_map, grants_in_map, structures}
 use Rattle.pon_state.specs.State.{State}
 use Rattle.pon_state.specs.declared.reply.Reply.{Reply}
-use Rattle.pon_history.specs.Chapters.{AccountIsLawful, IsLawfulState, Owns}
+use Rattle.pon_history.specs.Chapters.{IsLawfulState, AccountIsLawful, Owns}
 use Rattle.pon_history.specs.ClosedForm.{closed_form}
-use Rattle.pon_history.specs.OtherForms.{account_reported, reports_of}
-use Rattle.pon_history.specs.Parts.{allocs_after, allocs_of, begins, next_of, roster_of}
-use Rattle.pon_history.specs.Reports.{account_after, book_of, candidates, candidates_in, counted_of, opening_candidates, since_of}
-use Rattle.pon_history.specs.Windows.{all_maps, map_made, maps_of, new_map, window_of, with_reports}
-use Rattle.pon_history.proofs.OtherForms.{account_by_account, latest-append, latest_lone}
-use Rattle.pon_history.proofs.Windows.{allocs_of-append, frame_at_last-append, next_of-append, next_of_grows, AllLead, all_maps_push, before_window, window_is_end}
+use Rattle.pon_history.specs.Parts.{forgets, is_report_for, next_of, roster_after, roster_of, allocs_after, allocs_of, cause_after, cause_of, frame_at_last, begins}
+use Rattle.pon_history.specs.Windows.{all_maps, kept_from, map_made, maps_of, new_map, window_of, with_reports, has_reported}
+use Rattle.std.proofs.lemmas.List.{drop_all, map-id}
+use Rattle.pon_guar.proofs.Frames.{leads_mapped, leads_push, frame_there, leads_drop}
+use Rattle.std.proofs.lemmas.Bool.{eq-eqb, ne_eqb, both_ways, cases_Bool, eqb-true, le-leb, lt-leb, or_left, or_right}
+use Rattle.pon_units.specs.declared.granted.Granted.{Granted}
+use Rattle.pon_guar.specs.declared.account.Account.{Account}
+use Rattle.pon_guar.specs.declared.account.Counted.{Counted}
+use Rattle.pon_guar.specs.Reports.{after_occupancies, counting, later, latest, taking, occupancies}
+use Rattle.pon_history.specs.OtherForms.{account_reported, before_last, reports_of}
+use Rattle.std.proofs.lemmas.List.Sums.{sum_by-append, sum_by-cons, sum_by-le}
+use Rattle.pon_units.specs.Granted.{AreInMapOrder}
+use Rattle.pon_descr.proofs.Checks.{or_else_none}
+use Rattle.pon_admit.specs.Roster.{has_alloc}
+use Rattle.pon_admit.proofs.AdmittedSets.{passes}
+use Rattle.pon_guar.specs.Book.{account_of, alloc_ids, counted_of_account, since_of_account}
+use Rattle.pon_guar.specs.Loads.{afresh, fresh_account, less, lessened}
+use Rattle.pon_guar.proofs.Accounts.{accounts_all, found_each}
+use Rattle.pon_guar.proofs.LessByGrants.{less_none}
+use Rattle.pon_state.specs.Checks.{first_refusal, when_full}
+use Rattle.pon_state.specs.Legal.{MayFollow}
+use Rattle.pon_history.specs.Reports.{account_after, book_of, candidates_in, counted_of, opening_candidates, since_of}
 use Rattle.pon_history.proofs.LawfulStates.{frame_within}
+
+-- The parts of the closed form over a list that is split.
+
+pub next_of-append : (first : ℕ) (xs ys : List Entry) → next_of first (xs ++ ys) ≡ next_of (next_of first xs) ys
+next_of-append first xs ys = ap (λ n. first + n) (count_by-append (λ e. makes_map e.event) xs ys) ∙ sym (add_assoc first _ _)
+
+pub next_of-cons : (first : ℕ) (x : Entry) (ys : List Entry) → next_of (next_of first (x ∷ [])) ys ≡ next_of first (x ∷ ys)
+next_of-cons first x ys = sym (next_of-append first (x ∷ []) ys)
+
+-- the cause
+pub cause_of-append : (c : Option ℕ) (xs ys : List Entry) → cause_of c (xs ++ ys) ≡ cause_of (cause_of c xs) ys
+cause_of-append c [] ys = refl
+cause_of-append c (x ∷ xs) ys = cause_of-append (cause_after c x.event) xs ys
+
+-- the rows
+pub roster_of-append : (rs : List Row) (xs ys : List Entry) → roster_of rs (xs ++ ys) ≡ roster_of (roster_of rs xs) ys
+roster_of-append rs [] ys = refl
+roster_of-append rs (x ∷ xs) ys = roster_of-append (roster_after rs x.event) xs ys
+
+-- the next frame at the last entry that passes the test
+pub frame_at_last-append : (t : Entry → Bool) (s n : ℕ) (xs ys : List Entry) → frame_at_last t s n (xs ++ ys) ≡ frame_at_last t (frame_at_last t s n xs) (next_of n xs) ys
+frame_at_last-append t s n [] ys = ap (λ k. frame_at_last t s k ys) (let e : n ≡ n + 0 = omega arith in e)
+frame_at_last-append t s n (x ∷ xs) ys =
+    frame_at_last-append t (if t x then n else s) (next_of n (x ∷ [])) xs ys
+    ∙ ap (λ k. frame_at_last t (frame_at_last t s n (x ∷ xs)) k ys) (next_of-cons n x xs)
+
+-- the next frame never decreases
+pub next_of_grows : (n : ℕ) (xs : List Entry) → n ≤ next_of n xs
+next_of_grows n xs = omega arith
+
+-- it is never above the last next frame
+pub frame_at_last_below : (t : Entry → Bool) (s n : ℕ) (xs : List Entry) → s ≤ n → frame_at_last t s n xs ≤ next_of n xs
+frame_at_last_below t s n [] h = omega arith
+frame_at_last_below t s n (x ∷ xs) h = subst (λ k. frame_at_last t (if t x then n else s) (next_of n (x ∷ [])) xs ≤ k) (next_of-cons n x xs)
+    (frame_at_last_below t (if t x then n else s) (next_of n (x ∷ [])) xs
+    (elim (t x) as (λ c. (if c then n else s) ≤ next_of n (x ∷ [])) [ true ↦ next_of_grows n (x ∷ []) | false ↦ omega (arith, next_of_grows n (x ∷ [])) ]))
+
+-- the Alloc-IDs of the book
+pub allocs_of-append : (ids : List ℕ) (xs ys : List Entry) → allocs_of ids (xs ++ ys) ≡ allocs_of (allocs_of ids xs) ys
+allocs_of-append ids [] ys = refl
+allocs_of-append ids (x ∷ xs) ys = allocs_of-append (allocs_after ids x.event) xs ys
+
+-- Maps.
+
+-- reports of two lists, one after the other
+with_reports-append : (xs ys : List Entry) (m : WindowMap) → with_reports ys (with_reports xs m) ≡ with_reports (xs ++ ys) m
+with_reports-append xs ys m =
+    let same : filter (has_reported ys (with_reports xs m)) (onus_polled m) ≡ filter (has_reported (xs ++ ys) m) (onus_polled m)
+    = filter_same_in _ _ (onus_polled m) (λ u k. rw (any_eq-filter (has_reported xs m) u (onus_polled m), k, and-true (has_reported xs m u), list_any-append (λ e. is_report_for m.frame u e.event) xs ys, or_assoc)) in
+    (λ i. record m { reported = same i })
+
+-- a map that was just made has no reports
+made_fresh : (rs : List Row) (n : ℕ) (e : Entry) → map (with_reports []) (map_made rs n e) ++ [] ≡ map_made rs n e
+made_fresh rs n e = elim (makes_map e.event) as (λ b. map (with_reports []) (if b then new_map rs n e.reply ∷ [] else []) ++ [] ≡ (if b then new_map rs n e.reply ∷ [] else [])) [
+  | true ↦ (λ i. record (new_map rs n e.reply) { reported = none (onus_polled (new_map rs n e.reply)) i } ∷ [])
+  | false ↦ refl
+]
+  where
+    none : (xs : List ℕ) → filter (λ u. false) xs ≡ []
+    none [] = refl
+    none (x ∷ xs) = none xs
+
+-- maps with one more entry, before later ones that have it
+joined : (ms : List WindowMap) (es : List Entry) (e : Entry) (later made last : List WindowMap) → later ≡ map (with_reports (e ∷ [])) made ++ last →
+    map (with_reports (es ++ e ∷ [])) ms ++ later ≡ map (with_reports (e ∷ [])) (map (with_reports es) ms ++ made) ++ last
+joined ms es e later made last is = rw (map-append (with_reports (e ∷ [])) (map (with_reports es) ms) made, append_assoc, map-map (with_reports (e ∷ [])) (with_reports es) ms)
+    (λ i. map_same _ _ (λ m. sym (with_reports-append es (e ∷ []) m)) ms i ++ is i)
+
+maps_push : (ms : List WindowMap) (rs : List Row) (n : ℕ) (es : List Entry) (e : Entry) → map (with_reports (es ++ e ∷ [])) ms ++ maps_of rs n (es ++ e ∷ [])
+    ≡ map (with_reports (e ∷ [])) (map (with_reports es) ms ++ maps_of rs n es) ++ map_made (roster_of rs es) (next_of n es) e
+maps_push ms rs n [] e = joined ms [] e _ [] _ (made_fresh rs n e ∙ ap (λ k. map_made rs k e) (let z : n ≡ n + 0 = omega arith in z))
+maps_push ms rs n (x ∷ es) e = joined ms (x ∷ es) e _ (maps_of rs n (x ∷ es)) _ (maps_push (map_made rs n x) (roster_after rs x.event) (next_of n (x ∷ [])) es e
+    ∙ ap (λ k. map (with_reports (e ∷ [])) (maps_of rs n (x ∷ es)) ++ map_made (roster_of rs (x ∷ es)) k e) (next_of-cons n x es))
+
+pub all_maps_push : (o : State) (es : List Entry) (e : Entry) →
+    all_maps o (es ++ e ∷ []) ≡ map (with_reports (e ∷ [])) (all_maps o es) ++ map_made (roster_of o.roster es) (next_of o.next es) e
+all_maps_push o es e = maps_push o.window o.roster o.next es e
+
+-- all maps are of consecutive frames
+abbrev pub AllLead : State → List Entry → Type 0
+AllLead o es = AreConsecutive (next_of o.next es) (all_maps o es)
+
+pub leads_none : (o : State) → AreConsecutive o.next o.window → AllLead o []
+leads_none o h = rw (append-nil, add-zero) (leads_mapped (with_reports []) (λ m. refl) o.next o.window h)
+
+pub leads_next : (o : State) (es : List Entry) (e : Entry) → AllLead o es → AllLead o (es ++ e ∷ [])
+leads_next o es e h =
+    let next : ℕ = next_of o.next es in
+    let new : WindowMap = new_map (roster_of o.roster es) next e.reply in
+    let were : AreConsecutive next (map (with_reports (e ∷ [])) (all_maps o es)) = leads_mapped (with_reports (e ∷ [])) (λ m. refl) next (all_maps o es) h in
+    rw (all_maps_push o es e, next_of-append o.next es (e ∷ []))
+    (elim (makes_map e.event) as (λ b. AreConsecutive (next + (0 + cond b 1 0)) (map (with_reports (e ∷ [])) (all_maps o es) ++ (if b then new ∷ [] else []))) [
+      | true ↦ leads_push next (map (with_reports (e ∷ [])) (all_maps o es)) new were refl
+      | false ↦ rw (append-nil, add-zero) were
+    ])
+
+-- The window.
+
+-- the maps of consecutive frames from a frame on are the last of them
+from_is_end : (n c : ℕ) (ms : List WindowMap) → AreConsecutive n ms → filter (λ m. nat_le c m.frame) ms ≡ drop (c + length ms - n) ms
+from_is_end n c [] h = sym (drop_all (c + 0 - n) [] (omega arith))
+from_is_end n c (m ∷ ms) h = elim (leb_tells c m.frame) [
+  | inl e ↦
+      let none : (c + length ms - n ≡ 0) × (c + suc (length ms) - n ≡ 0) = (omega (arith, h.0, e.1), omega (arith, h.0, e.1)) in
+      rw (e.0, from_is_end n c ms h.1, none.0, none.1) refl
+  | inr e ↦ (let more : c + suc (length ms) - n ≡ suc (c + length ms - n) = omega (arith, h.0, e.1) in rw (e.0, from_is_end n c ms h.1, more) refl)
+]
+
+-- the window is the end of all maps: 64 of them, or those that no Fail or Restore has dropped
+abbrev pub before_window : State → List Entry → ℕ
+before_window o es = length (all_maps o es) - min 64 (next_of o.next es - kept_from o es)
+
+pub window_is_end : (o : State) (es : List Entry) → AllLead o es → window_of o es ≡ drop (before_window o es) (all_maps o es)
+window_is_end o es leads =
+    let all : List WindowMap = all_maps o es in
+    let early : ℕ = kept_from o es + length all - next_of o.next es in
+    ap last_64 (from_is_end (next_of o.next es) (kept_from o es) all leads)
+    ∙ drop-drop (length (drop early all) - 64) early all
+    ∙ ap (λ k. drop k all) (omega (arith, length-drop early all, frame_at_last_below (λ e. forgets e.event) 0 o.next es (omega arith)))
+
+-- entries without a report leave lawful maps unchanged
+unreported : (es : List Entry) → ((frame u : ℕ) → list_any (λ e. is_report_for frame u e.event) es ≡ false) → (ms : List WindowMap) → All IsLawfulMap ms → map (with_reports es) ms ≡ ms
+unreported es none ms l = map_fixed (with_reports es) ms (All-weaker IsLawfulMap (λ m. with_reports es m ≡ m) one ms l)
+  where
+    one : (m : WindowMap) → IsLawfulMap m → with_reports es m ≡ m
+    one m l = (λ i. record m { reported = (filter_agree (has_reported es m) (λ u. list_any (λ v. v == u) m.reported) (λ u. rw (none m.frame u) (or-false _)) (onus_polled m) ∙ sym l.reported) i })
+
+-- the window of no entries
+pub window_none : (s : State) → IsLawfulState s → window_of s [] ≡ s.window
+window_none s l =
+    let same : all_maps s [] ≡ s.window = append-nil (map (with_reports []) s.window) ∙ unreported [] (λ frame u. refl) s.window l.maps in
+    let none : before_window s [] ≡ 0 = omega (arith, ap length same, l.few_maps, fits s.next s.window l.frames) in
+    window_is_end s [] (leads_none s l.frames) ∙ (λ i. drop (none i) (same i))
+  where
+    fits : (n : ℕ) (ms : List WindowMap) → AreConsecutive n ms → length ms ≤ n
+    fits n [] h = omega arith
+    fits n (m ∷ ms) h = omega (arith, h.0)
+
+-- One more entry.
+module _ (o : State) (es : List Entry) (leads : AllLead o es) (l : IsLawfulState (closed_form o es)) (reply : Reply) where
+  abbrev added : Event → Entry
+  added v = record { event = v; reply = reply }
+
+  abbrev next : ℕ
+  next = next_of o.next es
+
+  abbrev made : Event → List WindowMap
+  made v = map_made (roster_of o.roster es) next (added v)
+
+  -- all maps before it, with its report
+  abbrev told : Event → List WindowMap
+  told v = map (with_reports (added v ∷ [])) (all_maps o es)
+
+  window_next : (v : Event) → window_of o (es ++ added v ∷ []) ≡
+      drop (length (told v ++ made v) - min 64 (next_of next (added v ∷ []) - (if forgets v then next else kept_from o es))) (told v ++ made v)
+  window_next v =
+      window_is_end o (es ++ added v ∷ []) (leads_next o es (added v) leads)
+      ∙ (λ i. drop (length (all_maps_push o es (added v) i) - min 64 (next_of-append o.next es (added v ∷ []) i - frame_at_last-append (λ e. forgets e.event) 0 o.next es (added v ∷ []) i)) (all_maps_push o es (added v) i))
+
+  -- without a map, one that drops nothing adds its report
+  kept_maps : (v : Event) → forgets v ≡ false → makes_map v ≡ false → window_of o (es ++ added v ∷ []) ≡ map (with_reports (added v ∷ [])) (window_of o es)
+  kept_maps v f m = window_next v
+      ∙ rw (m, f, append-nil (told v), add-zero, length-map (all_maps o es) (with_reports (added v ∷ [])), drop-map) (ap (map (with_reports (added v ∷ []))) (sym (window_is_end o es leads)))
+
+  -- a line failure and a restoration empty it
+  cut : (v : Event) → forgets v ≡ true → makes_map v ≡ false → window_of o (es ++ added v ∷ []) ≡ []
+  cut v f m = window_next v ∙ rw (m, f, add-zero) (drop_all (length (told v ++ []) - min 64 (next - next)) (told v ++ []) (omega arith))
+
+  mapped : window_of o (es ++ added MakeMap ∷ []) ≡ last_64 (window_of o es ++ made MakeMap)
+  mapped =
+      let k : ℕ = before_window o es in
+      let all : List WindowMap = told MakeMap ++ made MakeMap in
+      let is : window_of o es ≡ drop k (told MakeMap)
+      = sym (unreported (added MakeMap ∷ []) (λ frame u. refl) (window_of o es) l.maps) ∙ ap (map (with_reports (added MakeMap ∷ []))) (window_is_end o es leads) ∙ sym (drop-map (with_reports (added MakeMap ∷ [])) k (all_maps o es)) in
+      let count : length (told MakeMap) ≡ length (all_maps o es) = length-map (all_maps o es) (with_reports (added MakeMap ∷ [])) in
+      let front : window_of o es ++ made MakeMap ≡ drop k all = ap (λ t. t ++ made MakeMap) is ∙ sym (drop-append-le k (told MakeMap) (made MakeMap) (omega (arith, count))) in
+      let place : k + (length (drop k all) - 64) ≡ length all - min 64 (next + 1 - kept_from o es)
+      = omega (arith, length-drop k all, length-append (told MakeMap) (made MakeMap), count, frame_at_last_below (λ e. forgets e.event) 0 o.next es (omega arith)) in
+      window_next MakeMap ∙ sym (ap last_64 front ∙ drop-drop (length (drop k all) - 64) k all ∙ ap (λ j. drop j all) place)
+
+  -- the window of the closed form is that of the state after the entry
+  pub window_push : (v : Event) → window_of o (es ++ added v ∷ []) ≡ (after_reply (closed_form o es) v reply).window
+  window_push (Report frame onu occ) = kept_maps (Report frame onu occ) refl refl ∙ map_same _ (with_report frame onu) (λ m. (λ j. record m {
+    reported = filter_agree (has_reported (added (Report frame onu occ) ∷ []) m) (λ v. list_any (λ w. w == v) m.reported || (frame == m.frame && onu == v)) (λ v. rw (or-false (frame == m.frame && onu == v))) (onus_polled m) j;
+  })) (window_of o es)
+  window_push MakeMap = mapped
+  window_push (Fail cause) = cut (Fail cause) refl refl
+  window_push Restore = cut Restore refl refl
+  window_push v = kept_maps v refl refl ∙ unreported (added v ∷ []) (λ frame u. refl) (window_of o es) l.maps
+
+-- The latest report of a list.
+
+pub latest_lone : (c : Option Counted) → latest (option_to_list c ++ []) ≡ c
+latest_lone None = refl
+latest_lone (Some c) = refl
+
+later_later : (c d : Counted) (r : Option Counted) → later c (later d r) ≡ (if nat_lt d.frame c.frame then later c r else later d r)
+later_later c d None = refl
+later_later c d (Some e) = grind (arith, nat_tests)
+
+-- the first part of a list may be replaced by its latest
+pub latest-append : (cs ds : List Counted) → latest (cs ++ ds) ≡ latest (option_to_list (latest cs) ++ ds)
+latest-append [] ds = refl
+latest-append (c ∷ cs) ds = ap (later c) (latest-append cs ds) ∙ one (latest cs)
+  where
+    one : (o : Option Counted) → later c (latest (option_to_list o ++ ds)) ≡ latest (option_to_list (later c o) ++ ds)
+    one None = refl
+    one (Some d) = later_later c d (latest ds)
+        ∙ elim (nat_lt d.frame c.frame) as (λ b. (if b then later c (latest ds) else later d (latest ds)) ≡ latest (option_to_list (if b then Some c else Some d) ++ ds)) [ true ↦ refl | false ↦ refl ]
+
+-- Reports, account by account.
+
+module _ (granted : ℕ → ℕ) (frame : ℕ) where
+  none_told : (a : Account) → (if nat_le a.since frame then record { alloc_id = a.alloc_id; since = a.since; counted = latest (option_to_list a.counted ++ []) } else a) ≡ a
+  none_told a = elim (leb_tells a.since frame) [ inl e ↦ rw e.0 (λ j. record { alloc_id = a.alloc_id; since = a.since; counted = latest_lone a.counted j }) | inr e ↦ rw e.0 refl ]
+
+  -- one occupancy, then the others
+  one_told : (g : Granted) (gs : List Granted) (n : ℕ) (ns : List (Option ℕ)) (a : Account) →
+      account_reported granted frame gs ns (if a.alloc_id == g.alloc_id then taking (record { frame = frame; words = n - granted g.alloc_id }) a else a) ≡ account_reported granted frame (g ∷ gs) (Some n ∷ ns) a
+  one_told g gs n ns a =
+      let c : Counted = record { frame = frame; words = n - granted a.alloc_id } in
+      let rest : List Counted = reports_of granted frame gs ns a.alloc_id in
+      let both : latest (option_to_list (latest (option_to_list a.counted ++ c ∷ [])) ++ rest) ≡ latest (option_to_list a.counted ++ c ∷ rest)
+      = sym (latest-append (option_to_list a.counted ++ c ∷ []) rest) ∙ ap latest (append_assoc (option_to_list a.counted) (c ∷ []) rest) in
+      elim (eqb_tells g.alloc_id a.alloc_id) [
+        | inl e ↦ rw (eq-eqb a.alloc_id g.alloc_id (sym e.1), e.0, e.1) (elim (leb_tells a.since frame) [
+          | inl t ↦ rw (t.0, t.0) (λ j. record { alloc_id = a.alloc_id; since = a.since; counted = both j })
+          | inr t ↦ rw (t.0, t.0) refl
+        ])
+        | inr e ↦ rw (ne_eqb a.alloc_id g.alloc_id (λ q. e.1 (sym q)), e.0) refl
+      ]
+
+  pub account_by_account : (gs : List Granted) (ns : List (Option ℕ)) (book : List Account) → after_occupancies granted frame gs ns book ≡ map (account_reported granted frame gs ns) book
+  account_by_account [] ns book = sym (map_same _ (λ a. a) none_told book ∙ map-id book)
+  account_by_account (g ∷ gs) [] book = sym (map_same _ (λ a. a) none_told book ∙ map-id book)
+  account_by_account (g ∷ gs) (None ∷ ns) book = account_by_account gs ns book
+  account_by_account (g ∷ gs) (Some n ∷ ns) book =
+      account_by_account gs ns (counting g.alloc_id (record { frame = frame; words = n - granted g.alloc_id }) book)
+      ∙ map-map (account_reported granted frame gs ns) (λ a. if a.alloc_id == g.alloc_id then taking (record { frame = frame; words = n - granted g.alloc_id }) a else a) book
+      ∙ map_same _ _ (one_told g gs n ns) book
+
+-- The frame at the last entry of a kind.
+pub at_the_last : (test : Entry → Bool) (start first : ℕ) (es : List Entry) →
+    frame_at_last test start first es ≡ (if list_any test es then next_of first (before_last test es) else start)
+at_the_last test start first [] = refl
+at_the_last test start first (e ∷ es) = at_the_last test (if test e then first else start) (next_of first (e ∷ [])) es ∙ rest (test e) (list_any test es)
+  where
+    rest : (a b : Bool) → (if b then next_of (next_of first (e ∷ [])) (before_last test es) else (if a then first else start)) ≡ (if (a || b) then next_of first (if b then e ∷ before_last test es else []) else start)
+    rest true true = next_of-cons first e (before_last test es)
+    rest false true = next_of-cons first e (before_last test es)
+    rest true false = let z : first ≡ next_of first [] = omega arith in z
+    rest false false = refl
 
 -- One more entry grants the words of its map.
 
@@ -50,26 +302,18 @@ abbrev granted_now : State → List Entry → Entry → ℕ → ℕ
 granted_now o es e i = words_from i 0 (map_made (roster_of o.roster es) (next_of o.next es) e)
 
 module _ (o : State) (es : List Entry) (e : Entry) (f : ℕ) where
-  abbrev new : WindowMap
-  new = new_map (roster_of o.roster es) (next_of o.next es) e.reply
-
   -- the words granted from a frame on, and the grants of an earlier frame
   words_push : (i : ℕ) → f ≤ next_of o.next es → words_from i f (all_maps o (es ++ e ∷ [])) ≡ words_from i f (all_maps o es) + granted_now o es e i
   words_push i l =
-      let here : words_from i f (map_made (roster_of o.roster es) (next_of o.next es) e) ≡ granted_now o es e i
-      = elim (cases_Bool (makes_map e.event)) [ inl t ↦ rw (t, le-leb f new.frame l, le-leb 0 new.frame (omega arith)) refl | inr t ↦ rw t refl ] in
-      ap (words_from i f) (all_maps_push o es e)
-      ∙ sum_by-append (λ m. if nat_le f m.frame then words_in i m else 0) (map (with_reports (e ∷ [])) (all_maps o es)) (map_made (roster_of o.roster es) (next_of o.next es) e)
-      ∙ (λ j. sum_by-map (λ m. if nat_le f m.frame then words_in i m else 0) (with_reports (e ∷ [])) (all_maps o es) j + here j)
+      let from : WindowMap → ℕ = λ m. if nat_le f m.frame then words_in i m else 0 in
+      rw (all_maps_push o es e, sum_by-append from, sum_by-map from (with_reports (e ∷ []))) (ap (λ n. words_from i f (all_maps o es) + n)
+      (elim (cases_Bool (makes_map e.event)) [ inl t ↦ rw (t, le-leb f (next_of o.next es) l, le-leb 0 (next_of o.next es) (omega arith)) refl | inr t ↦ rw t refl ]))
 
   grants_push : (u : ℕ) → f < next_of o.next es → grants_at f u (all_maps o (es ++ e ∷ [])) ≡ grants_at f u (all_maps o es)
   grants_push u l =
       let none : filter (λ m. m.frame == f) (map_made (roster_of o.roster es) (next_of o.next es) e) ≡ []
-      = elim (cases_Bool (makes_map e.event)) [ inl t ↦ rw (t, ne_eqb new.frame f (λ q. omega (arith, q, l))) refl | inr t ↦ rw t refl ] in
-      ap (λ t. filter (λ g. g.onu == u) (flat_map (λ m. m.grants) t))
-      (ap (filter (λ m. m.frame == f)) (all_maps_push o es e) ∙ filter-append (λ m. m.frame == f) (map (with_reports (e ∷ [])) (all_maps o es)) (map_made (roster_of o.roster es) (next_of o.next es) e)
-      ∙ (λ j. map_filter (with_reports (e ∷ [])) (λ m. m.frame == f) (all_maps o es) j ++ none j) ∙ append-nil _)
-      ∙ ap (filter (λ g. g.onu == u)) (flat_map-map (λ m. m.grants) (with_reports (e ∷ [])) (filter (λ m. m.frame == f) (all_maps o es)))
+      = elim (cases_Bool (makes_map e.event)) [ inl t ↦ rw (t, ne_eqb (next_of o.next es) f (λ q. omega (arith, q, l))) refl | inr t ↦ rw t refl ] in
+      rw (all_maps_push o es e, filter-append, none, append-nil, map_filter, flat_map-map) refl
 
 -- Reports of frames.
 
@@ -78,22 +322,20 @@ abbrev pub EventBelow : ℕ → Event → Type 0
 EventBelow n (Report frame onu occ) = frame < n
 EventBelow n _ = Unit {0}
 
-abbrev pub AreBelow : ℕ → List Entry → Type 0
-AreBelow n [] = Unit {0}
-AreBelow n (e ∷ es) = EventBelow n e.event × AreBelow n es
+abbrev pub IsBelow : ℕ → Entry → Type 0
+IsBelow n e = EventBelow n e.event
 
-below_more : (n k : ℕ) (es : List Entry) (e : Entry) → n ≤ k → AreBelow n es → EventBelow k e.event → AreBelow k (es ++ e ∷ [])
-below_more n k [] e l b h = (h, tt)
-below_more n k (x ∷ es) e l b h = (one x.event b.0, below_more n k es e l b.1 h)
+below_more : (n k : ℕ) (es : List Entry) (e : Entry) → n ≤ k → All (IsBelow n) es → IsBelow k e → All (IsBelow k) (es ++ e ∷ [])
+below_more n k es e l b h = All-push (IsBelow k) es e (All-weaker (IsBelow n) (IsBelow k) (λ x. one x.event) es b) h
   where
     one : (v : Event) → EventBelow n v → EventBelow k v
     one (Report frame onu occ) b = omega (arith, b, l)
     one v b = tt
 
 -- if reports count only from later frames on, there is no candidate
-candidates_late : (n : ℕ) (ms : List WindowMap) (since i : ℕ) (es : List Entry) → n ≤ since → AreBelow n es → flat_map (λ e. candidates_in ms since i e.event) es ≡ []
+candidates_late : (n : ℕ) (ms : List WindowMap) (since i : ℕ) (es : List Entry) → n ≤ since → All (IsBelow n) es → flat_map (λ e. candidates_in ms since i e.event) es ≡ []
 candidates_late n ms since i [] l b = refl
-candidates_late n ms since i (e ∷ es) l b = (λ j. one e.event b.0 j ++ candidates_late n ms since i es l b.1 j)
+candidates_late n ms since i (e ∷ es) l b = (λ j. one e.event (All-head (IsBelow n) e es b) j ++ candidates_late n ms since i es l (All-tail (IsBelow n) e es b) j)
   where
     one : (v : Event) → EventBelow n v → candidates_in ms since i v ≡ []
     one (Report frame onu occ) b = rw (lt-leb since frame (omega (arith, b, l))) refl
@@ -147,7 +389,7 @@ latest_less w (c ∷ cs) = ap (later (less w c)) (latest_less w cs) ∙ one (lat
     one None = refl
     one (Some d) = elim (nat_lt d.frame c.frame) as (λ b. (if b then Some (less w c) else Some (less w d)) ≡ option_map (less w) (if b then Some c else Some d)) [ true ↦ refl | false ↦ refl ]
 
-module _ (o : State) (es : List Entry) (e : Entry) (below : AreBelow (next_of o.next es) es) (i : ℕ) where
+module _ (o : State) (es : List Entry) (e : Entry) (below : All (IsBelow (next_of o.next es)) es) (i : ℕ) where
   abbrev all : List Entry
   all = es ++ e ∷ []
 
@@ -174,9 +416,9 @@ module _ (o : State) (es : List Entry) (e : Entry) (below : AreBelow (next_of o.
   heard = candidates_in (all_maps o all) (since_of o es i) i e.event
 
   -- the candidates of the entries before it are lessened by these words
-  lessened_before : (xs : List Entry) → AreBelow (next_of o.next es) xs → found (all_maps o all) (since_of o es i) xs ≡ map (less w) (found (all_maps o es) (since_of o es i) xs)
+  lessened_before : (xs : List Entry) → All (IsBelow (next_of o.next es)) xs → found (all_maps o all) (since_of o es i) xs ≡ map (less w) (found (all_maps o es) (since_of o es i) xs)
   lessened_before [] b = refl
-  lessened_before (x ∷ xs) b = (λ j. one x.event b.0 j ++ lessened_before xs b.1 j) ∙ sym (map-append (less w) (candidates_in (all_maps o es) (since_of o es i) i x.event) _)
+  lessened_before (x ∷ xs) b = (λ j. one x.event (All-head (IsBelow (next_of o.next es)) x xs b) j ++ lessened_before xs (All-tail (IsBelow (next_of o.next es)) x xs b) j) ∙ sym (map-append (less w) (candidates_in (all_maps o es) (since_of o es i) i x.event) _)
     where
       one : (v : Event) → EventBelow (next_of o.next es) v → candidates_in (all_maps o all) (since_of o es i) i v ≡ map (less w) (candidates_in (all_maps o es) (since_of o es i) i v)
       one (Report f u occ) l = elim (leb_tells (since_of o es i) f) [
@@ -194,23 +436,12 @@ module _ (o : State) (es : List Entry) (e : Entry) (below : AreBelow (next_of o.
         | inl t ↦ rw (list_any-append (begins i) es (e ∷ []), t) refl
         | inr t ↦ rw (list_any-append (begins i) es (e ∷ []), b, t, words_push (record o { window = [] }) es e 0 i (omega arith)) (less_more (λ c. c) (words_from i 0 (maps_of o.roster o.next es)) w (counted_of_account (account_of o.book i)))
       ] in
-      let later : found (all_maps o all) (since_of o all i) all ≡ map (less w) before ++ heard
-      = flat_map-append (λ x. candidates_in (all_maps o all) (since_of o all i) i x.event) es (e ∷ [])
-      ∙ (λ j. found (all_maps o all) (since_now false b j) es ++ append-nil (candidates_in (all_maps o all) (since_now false b j) i e.event) j)
-      ∙ ap (λ t. t ++ heard) (lessened_before es below) in
+      let later : found (all_maps o all) (since_of o all i) all ≡ map (less w) before ++ heard = rw (since_now false b, flat_map-append, lessened_before es below, append-nil) refl in
       let counted : counted_of o all i ≡ latest (option_to_list (option_map (less w) (counted_of o es i)) ++ heard)
-      = (λ j. latest (opening j ++ later j))
-      ∙ ap latest (sym (append_assoc (map (less w) (opening_candidates o es i)) (map (less w) before) heard) ∙ ap (λ t. t ++ heard) (sym (map-append (less w) (opening_candidates o es i) before)))
-      ∙ latest-append (map (less w) (candidates o es i)) heard
-      ∙ ap (λ c. latest (option_to_list c ++ heard)) (latest_less w (candidates o es i)) in
+      = rw (opening, later, ← append_assoc, ← map-append, latest-append, latest_less) refl in
       (λ j. record { alloc_id = i; since = since_now false b j; counted = counted j })
 
 -- The words of an Alloc-ID that has one ONU.
-
-no_words : (i : ℕ) (gs : List Granted) → All (λ g. (g.alloc_id == i) ≡ false) gs → words_among i gs ≡ 0
-no_words i [] h = refl
-no_words i (g ∷ gs) h = sum_by-cons (λ g. if g.alloc_id == i then g.words else 0) g gs
-    ∙ (λ j. (if All-head (λ g. (g.alloc_id == i) ≡ false) g gs h j then g.words else 0) + no_words i gs (All-tail (λ g. (g.alloc_id == i) ≡ false) g gs h) j)
 
 -- all words that a map grants to an Alloc-ID are granted under its ONU
 own_words : (i u : ℕ) (gs : List Granted) → AreInMapOrder gs → All (λ g. g.alloc_id ≡ i → g.onu ≡ u) gs → words_among i gs ≡ words_granted (find (λ g. g.alloc_id == i) (filter (λ g. g.onu == u) gs))
@@ -220,8 +451,8 @@ own_words i u (g ∷ gs) h o =
     sum_by-cons (λ g. if g.alloc_id == i then g.words else 0) g gs ∙ elim (eqb_tells g.alloc_id i) [
       | inl e ↦
           let mine : g.onu ≡ u = All-head (λ g. g.alloc_id ≡ i → g.onu ≡ u) g gs o e.1 in
-          let none : words_among i gs ≡ 0
-          = no_words i gs (λ n d l. ne_eqb (get_or gs n d).alloc_id i (λ z. let k : g.alloc_id < (get_or gs n d).alloc_id = (h.0 n d l).1 (mine ∙ sym (others n d l z)) in omega (arith, z, e.1, k))) in
+          let none : words_among i gs ≤ length gs * 0
+          = sum_by-le (λ g. if g.alloc_id == i then g.words else 0) 0 gs (λ n d l. rw (ne_eqb (get_or gs n d).alloc_id i (λ z. let k : g.alloc_id < (get_or gs n d).alloc_id = (h.0 n d l).1 (mine ∙ sym (others n d l z)) in omega (arith, z, e.1, k))) (omega arith)) in
           rw (eq-eqb g.onu u mine, e.0) (omega (arith, none))
       | inr e ↦ elim (cases_Bool (g.onu == u)) [
         | inl t ↦ rw (t, e.0) (omega (arith, own_words i u gs h.1 others))
@@ -238,12 +469,9 @@ words_agree i u f ms l h = sum_by_agree (λ m. if nat_le f m.frame then words_in
 
 -- the ONU of an admitted Alloc-ID
 onu_there : (rows : List Row) (i : ℕ) → has_alloc i rows ≡ true → (v : ℕ) × ((w : ℕ) → Owns rows i w → w ≡ v)
-onu_there [] i h = absurd cc
-onu_there (r ∷ rows) i h = elim (eqb_tells r.alloc_id i) [
-  | inl e ↦ (r.onu, λ w o. sym (All-head (λ r. r.alloc_id ≡ i → r.onu ≡ w) r rows o e.1))
-  | inr e ↦ (let q : (v : ℕ) × ((w : ℕ) → Owns rows i w → w ≡ v) = onu_there rows i (subst (λ b. (b || has_alloc i rows) ≡ true) e.0 h) in
-      (q.0, λ w o. q.1 w (All-tail (λ r. r.alloc_id ≡ i → r.onu ≡ w) r rows o)))
-]
+onu_there rows i h =
+    let found : Any (λ r. (r.alloc_id == i) ≡ true) rows = Any-from_list_any (λ r. r.alloc_id == i) rows h in
+    (found.1.onu, λ w o. sym ((rw found.3 at (o found.0 found.1 found.2)) (eqb-true found.1.alloc_id i found.4)))
 
 -- reports are lessened by either of two numbers of words if these are equal wherever a grant is the Alloc-ID's
 lessened_alike : (f v w i : ℕ) (gs : List Granted) (ns : List (Option ℕ)) → All (λ g. g.alloc_id ≡ i → v ≡ w) gs → reports_of (λ _. v) f gs ns i ≡ reports_of (λ _. w) f gs ns i
@@ -292,7 +520,7 @@ book_none s l = accounts_all (account_after s []) s.book (All-weaker (λ a. acco
     lone (Some c) = less_none (Some c)
 
 -- an accepted report is of a frame of the window, so below the next one
-pub below_push : (o : State) (es : List Entry) (kept : ℕ) (e : Entry) → AllLead o es → AreBelow (next_of o.next es) es → MayFollow kept (closed_form o es) e → AreBelow (next_of o.next (es ++ e ∷ [])) (es ++ e ∷ [])
+pub below_push : (o : State) (es : List Entry) (kept : ℕ) (e : Entry) → AllLead o es → All (IsBelow (next_of o.next es)) es → MayFollow kept (closed_form o es) e → All (IsBelow (next_of o.next (es ++ e ∷ []))) (es ++ e ∷ [])
 below_push o es kept e leads below m = below_more (next_of o.next es) (next_of o.next (es ++ e ∷ [])) es e later below (one e.event m.accepted)
   where
     later : next_of o.next es ≤ next_of o.next (es ++ e ∷ [])
@@ -302,7 +530,7 @@ below_push o es kept e leads below m = below_more (next_of o.next es) (next_of o
     one (Report f u occ) h = omega (arith, later, (within o es leads kept f u occ h).0)
     one v h = tt
 
-module _ (o : State) (es : List Entry) (kept : ℕ) (leads : AllLead o es) (below : AreBelow (next_of o.next es) es) (lawful : IsLawfulState (closed_form o es)) (reply : Reply) where
+module _ (o : State) (es : List Entry) (kept : ℕ) (leads : AllLead o es) (below : All (IsBelow (next_of o.next es)) es) (lawful : IsLawfulState (closed_form o es)) (reply : Reply) where
   abbrev ids : List ℕ
   ids = allocs_of (alloc_ids o.book) es
 
@@ -378,7 +606,7 @@ module _ (o : State) (es : List Entry) (kept : ℕ) (leads : AllLead o es) (belo
   pushed Restore m = changed Restore (afresh (next_of o.next es)) (λ i k. begun o es (entry Restore) below i refl tt)
 
 -- the report book after one more entry is that of the state after it
-pub book_push : (o : State) (es : List Entry) (kept : ℕ) (e : Entry) → AllLead o es → AreBelow (next_of o.next es) es → IsLawfulState (closed_form o es) → MayFollow kept (closed_form o es) e →
+pub book_push : (o : State) (es : List Entry) (kept : ℕ) (e : Entry) → AllLead o es → All (IsBelow (next_of o.next es)) es → IsLawfulState (closed_form o es) → MayFollow kept (closed_form o es) e →
     book_of o (es ++ e ∷ []) ≡ (after_entry (closed_form o es) e).book
 book_push o es kept e leads below lawful m =
     ap (map (account_after o (es ++ e ∷ []))) (allocs_of-append (alloc_ids o.book) es (e ∷ []))

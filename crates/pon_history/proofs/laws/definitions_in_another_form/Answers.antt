@@ -1,4 +1,4 @@
-use Rattle.pon_history.proofs.OtherForms.{account_by_account, at_the_last}
+use Rattle.pon_history.proofs.Reports.{account_by_account, at_the_last}
 use Rattle.pon_history.proofs.laws.definitions_in_another_form.Goals as goal
 
 pub returns : goal.returns
