@@ -1,38 +1,42 @@
 -- The replay of a legal history is its closed form.
-use Rattle.std.proofs.Common.{◌≡◌, ℕ, ◌+◌, ◌<◌, true, false, not, ◌||◌, List, [], ◌∷◌, ◌++◌, map, length, get_or, refl, ap, sym, ◌∙◌, append_assoc, arith, inl, inr, subst, add-zero, Bool}
-use Rattle.std.proofs.lemmas.List.{get_or_default, append-nil, get_or-map, length-map, length-append}
-use Rattle.std.proofs.lemmas.List.Elements.{All-nil}
-use Rattle.std.specs.Prelude.{All, ◌==◌, if◌then◌else◌}
+use Rattle.std.proofs.Common.{◌≡◌, ℕ, true, false, ◌||◌, List, [], ◌∷◌, map, refl, ap, sym, subst, ◌∙◌, inl, inr, ◌+◌, ◌<◌, not, ◌++◌, length, get_or, append_assoc, arith, add-zero, Bool}
+use Rattle.std.specs.Prelude.{◌==◌, Some, None, All, if◌then◌else◌}
 use Rattle.std.specs.List.{list_any}
-use Rattle.std.proofs.lemmas.Bool.{and_parts, cases_Bool, eq-eqb}
+use Rattle.std.proofs.lemmas.Bool.{or_parts, and_parts, cases_Bool, eq-eqb}
+use Rattle.std.proofs.lemmas.Bool.Decides.{eqb_tells}
+use Rattle.std.proofs.lemmas.List.{map-id, get_or_default, append-nil, get_or-map, length-map, length-append}
+use Rattle.pon_lists.proofs.Lists.{map-map, map_same}
+use Rattle.pon_admit.specs.Roster.{has_alloc, comes_before, left_over, max_carry}
+use Rattle.pon_guar.specs.declared.account.Account.{Account}
+use Rattle.pon_guar.specs.Book.{AreRising, account_of, alloc_ids, known_report, load_of, load_of_counted}
+use Rattle.pon_state.specs.Entry.{Entry}
+use Rattle.pon_state.specs.State.{State, carry_at, input_of}
+use Rattle.pon_history.specs.Chapters.{Chapter, IsLawfulChapter, present_state, IsLawfulState}
+use Rattle.pon_history.specs.Parts.{allocs_of, admits, roster_after, roster_of, cause_after, next_of}
+use Rattle.pon_history.specs.Reports.{account_after, counted_of}
+use Rattle.pon_history.proofs.LawfulStates.{present_lawful, any_without, lawful_step}
+use Rattle.std.proofs.lemmas.List.Elements.{All-nil}
 use Rattle.std.proofs.lemmas.List.Folds.{list_any-append, list_any_at}
 use Rattle.pon_descr.specs.Descriptor.{Descriptor}
 use Rattle.pon_admit.specs.declared.row.Row.{Row}
-use Rattle.pon_admit.specs.Roster.{comes_before, has_alloc, left_over, max_carry}
 use Rattle.pon_admit.proofs.AdmittedSets.{changed, changed_alloc, has_alloc-changed}
 use Rattle.pon_admit.proofs.Rules.{left_over_range, left_over_same, left_over_sum}
 use Rattle.pon_demand.specs.Carries.{carries_of, number_of}
 use Rattle.pon_demand.specs.Rates.{whole_rate}
 use Rattle.pon_demand.specs.Sharing.{surplus_rate}
 use Rattle.pon_demand.proofs.Carries.{carries_each, carry_at_row, carry_known, carry_within}
-use Rattle.pon_state.specs.State.{State, carry_at, input_of}
 use Rattle.pon_state.specs.After.{after_reply, after_entry}
 use Rattle.pon_state.specs.Carries.{carries_left}
 use Rattle.pon_state.specs.History.{replay}
 use Rattle.pon_state.specs.Legal.{IsReply, MayFollow}
-use Rattle.pon_state.specs.Entry.{Entry}
 use Rattle.pon_state.specs.declared.reply.Reply.{Reply}
 use Rattle.pon_state.specs.declared.reply.Reply.TheVariants.{Taken, Map}
 use Rattle.pon_state.specs.declared.reply.MadeMap.{MadeMap}
 use Rattle.pon_admit.specs.declared.event.Event.{Event}
 use Rattle.pon_admit.specs.declared.event.Event.TheVariants.{Admit, Change, Remove, MakeMap}
 use Rattle.pon_history.specs.Carries.{admits_now, carry_after, owed_of, rate_of_reply, sum_since}
-use Rattle.pon_history.specs.Chapters.{IsLawfulState, Chapter, IsLawfulChapter, present_state}
 use Rattle.pon_history.specs.ClosedForm.{closed_form}
-use Rattle.pon_history.specs.Parts.{admits, roster_after, roster_of, cause_after, next_of}
 use Rattle.pon_lists.proofs.Inserted.{list_any-inserted}
-use Rattle.pon_lists.proofs.Lists.{map_same}
-use Rattle.pon_history.proofs.LawfulStates.{any_without, lawful_step}
 use Rattle.pon_history.proofs.Reports.{roster_of-append, cause_of-append, next_of-append, AllLead, leads_next, leads_none, window_none, window_push, IsBelow, below_push, book_none, book_push, map_agree}
 use Rattle.pon_history.proofs.Legality.{along, replay_push}
 
@@ -162,26 +166,15 @@ carries_none s l =
 
 -- the closed form of no entries
 closed_none : (s : State) → IsLawfulState s → closed_form s [] ≡ s
-closed_none s l = (λ i. record {
-  rule = s.rule;
-  gap = s.gap;
-  profile = s.profile;
-  next = plus s.next i;
-  cause = s.cause;
-  taken_before = plus s.taken_before i;
-  roster = s.roster;
-  book = book_none s l i;
-  carries = carries_none s l i;
-  window = window_none s l i;
-})
-  where
-    plus : (n : ℕ) → n + 0 ≡ n
-    plus n = omega arith
+closed_none s l =
+    let next : s.next + 0 ≡ s.next = omega arith in
+    let count : s.taken_before + 0 ≡ s.taken_before = omega arith in
+    (λ i. record s { next = next i; taken_before = count i; book = book_none s l i; carries = carries_none s l i; window = window_none s l i })
 
 -- the closed form of one more entry
 module _ (o : State) (es : List Entry) (kept : ℕ) (leads : AllLead o es) (below : All (IsBelow (next_of o.next es)) es)
     (l : IsLawfulState (closed_form o es)) (same : replay o es ≡ closed_form o es) where
-  joined : (e : Entry) → MayFollow kept (closed_form o es) e → (next : ℕ) → next_of (next_of o.next es) (e ∷ []) ≡ next → closed_form o (es ++ e ∷ []) ≡ record {
+  joined : (e : Entry) → MayFollow kept (closed_form o es) e → (next : ℕ) → next_of (next_of o.next es) (e ∷ []) ≡ next → closed_form o (es ++ e ∷ []) ≡ record (after_entry (closed_form o es) e) {
     rule = o.rule;
     gap = o.gap;
     profile = o.profile;
@@ -189,9 +182,6 @@ module _ (o : State) (es : List Entry) (kept : ℕ) (leads : AllLead o es) (belo
     cause = cause_after (closed_form o es).cause e.event;
     taken_before = (closed_form o es).taken_before + 1;
     roster = roster_after (closed_form o es).roster e.event;
-    book = (after_entry (closed_form o es) e).book;
-    carries = (after_entry (closed_form o es) e).carries;
-    window = (after_entry (closed_form o es) e).window;
   }
   joined e m next is =
       let count : o.taken_before + length (es ++ e ∷ []) ≡ (o.taken_before + length es) + 1 = omega (arith, length-append es (e ∷ [])) in
@@ -252,3 +242,37 @@ pub carry_now : (o : State) (es : List Entry) → replay o es ≡ closed_form o 
     number_of (replay o es).roster (replay o es).carries i ≡ carry_after o es i
 carry_now o es same i h =
     ap (λ s. number_of s.roster s.carries i) same ∙ carry_known (carry_after o es) i (roster_of o.roster es) (subst (λ s. has_alloc i s.roster ≡ true) same h)
+
+-- The loads of the present book are those of the reports that count in the history.
+
+account_there : (o : State) (es : List Entry) (i : ℕ) (ids : List ℕ) → list_any (λ j. j == i) ids ≡ true → account_of (map (account_after o es) ids) i ≡ Some (account_after o es i)
+account_there o es i [] h = absurd cc
+account_there o es i (j ∷ ids) h = elim (eqb_tells j i) [
+  | inl e ↦ rw e.0 (ap (λ n. Some (account_after o es n)) e.1)
+  | inr e ↦ rw e.0 (account_there o es i ids (subst (λ b. (b || list_any (λ j. j == i) ids) ≡ true) e.0 h))
+]
+
+no_account : (book : List Account) (i : ℕ) → list_any (λ j. j == i) (alloc_ids book) ≡ false → account_of book i ≡ None
+no_account [] i h = refl
+no_account (a ∷ book) i h =
+    let two : ((a.alloc_id == i) ≡ false) × (list_any (λ j. j == i) (alloc_ids book) ≡ false) = or_parts (a.alloc_id == i) (list_any (λ j. j == i) (alloc_ids book)) h in
+    rw two.0 (no_account book i two.1)
+
+module _ (c : Chapter) (l : IsLawfulChapter c) where
+  abbrev ids : List ℕ
+  ids = allocs_of (alloc_ids c.opening.book) c.entries
+
+  same : (present_state c).book ≡ map (account_after c.opening c.entries) ids
+  same = ap (λ s. s.book) (closed_at_present c l)
+
+  pub admitted_load : (i : ℕ) → has_alloc i (present_state c).roster ≡ true → load_of (present_state c).book i ≡ load_of_counted (counted_of c.opening c.entries i)
+  admitted_load i h =
+      let there : list_any (λ j. j == i) ids ≡ true
+      = ap (list_any (λ j. j == i)) (sym (ap alloc_ids same ∙ map-map (λ a. a.alloc_id) (account_after c.opening c.entries) ids ∙ map-id ids)) ∙ (present_lawful c l).book.1 i ∙ h in
+      ap (λ b. load_of b i) same ∙ ap (λ a. load_of_counted (known_report a)) (account_there c.opening c.entries i ids there)
+
+  pub other_load : (i : ℕ) → has_alloc i (present_state c).roster ≡ false → load_of (present_state c).book i ≡ 0
+  other_load i h = ap (λ a. load_of_counted (known_report a)) (no_account (present_state c).book i ((present_lawful c l).book.1 i ∙ h))
+
+  pub rising_accounts : AreRising (alloc_ids (present_state c).book)
+  rising_accounts = (present_lawful c l).book.0

@@ -1,5 +1,5 @@
 -- The map of an admitted set is fair.
-use Rattle.std.proofs.Common.{◌≡◌, ℕ, refl, ap, sym, ◌∙◌, subst, arith}
+use Rattle.std.proofs.Common.{◌≡◌, ℕ, refl, sym, ◌∙◌, subst, arith}
 use Rattle.std.specs.Prelude.{Some, slice_get}
 use Rattle.pon_burst.specs.Bursts.{AreSound}
 use Rattle.pon_descr.specs.declared.class.Class.TheVariants.{NonAssured, BestEffort}
@@ -15,7 +15,6 @@ use Rattle.pon_demand.specs.Sharing.{items, spelled_rate, surplus, surplus_rate}
 use Rattle.pon_state.specs.Legal.{IsMade, IsReply}
 use Rattle.pon_history.specs.Chapters.{Chapter, IsLawfulChapter, state_before}
 use Rattle.pon_history.specs.FairMaps.{IsFairMap, TellsFairMap}
-use Rattle.pon_state.specs.Maps.{grants_in_map}
 use Rattle.pon_admit.specs.declared.event.Event.{Event}
 use Rattle.pon_state.specs.declared.reply.Reply.{Reply}
 use Rattle.pon_state.specs.declared.reply.Reply.TheVariants.{Taken, Map}
@@ -24,9 +23,8 @@ use Rattle.pon_state.specs.Entry.{Entry}
 use Rattle.pon_demand.specs.ClassShares.{best_effort_surplus}
 use Rattle.pon_demand.proofs.ClassShares.{best_effort_alone, left_within, members_agree, non_assured_alone, spelled_rates, weighted}
 use Rattle.pon_demand.proofs.Dealing.{problem_of, surplus_range}
-use Rattle.pon_history.proofs.LawfulStates.{lawful_before}
+use Rattle.pon_history.proofs.LawfulStates.{lawful_before, planned}
 use Rattle.pon_demand.proofs.RosterMaps.{admitted_map_is_sound, guaranteed_fits}
-use Rattle.pon_state.proofs.KeptMaps.{window_grants}
 use Rattle.pon_state.proofs.Replies.{gets_reply}
 
 module _ (s : State) (k : IsAdmitted s.rule s.gap s.roster) (carries : AreCarries s.rule s.roster s.carries) where
@@ -51,7 +49,7 @@ module _ (s : State) (k : IsAdmitted s.rule s.gap s.roster) (carries : AreCarrie
             members_agree BestEffort (surplus_rate i made.cert) (spelled_rate i BestEffort made.cert.be)
             (λ r e. best_effort_alone r.descriptor.class (spelled_rate i NonAssured made.cert.na r) (spelled_rate i BestEffort made.cert.be r) e) s.roster
             ∙ spelled_rates i BestEffort made.cert.be (best_effort_surplus i made.cert) k m.certified.best_effort;
-        words = ap (grants_in_map s.roster) m.map ∙ window_grants s.profile i (surplus_rate i made.cert) (carry_at s);
+        words = sym (planned s made m);
         bursts = subst (AreSound s.gap) (sym m.map) (admitted_map_is_sound i made.cert (carry_at s) k m.certified (λ r. carry_within (max_carry s.rule) s.roster s.carries r.alloc_id carries.range) s.profile);
         non_assured_problem = problem_of i NonAssured (surplus i) refl k.few_allocs k.in_range (surplus_range i);
         best_effort_problem = problem_of i BestEffort (best_effort_surplus i made.cert) refl k.few_allocs k.in_range (left_within made.cert.na.level (items NonAssured i) (surplus i) (surplus_range i));

@@ -3,7 +3,7 @@ use Rattle.std.proofs.Common.{◌≡◌, ℕ, ◌+◌, ◌<◌, false, [], ◌�
 use Rattle.std.specs.Prelude.{None}
 use Rattle.std.proofs.lemmas.List.{length-take-le, take_more}
 use Rattle.pon_admit.specs.declared.event.Event.{Event}
-use Rattle.pon_admit.specs.declared.event.Event.TheVariants.{Admit, Change, Fail, MakeMap, Remove, Report, Restore}
+use Rattle.pon_admit.specs.declared.event.Event.TheVariants.{MakeMap}
 use Rattle.pon_guar.specs.Window.{AreConsecutive}
 use Rattle.pon_state.specs.declared.reply.Reply.{Reply}
 use Rattle.pon_state.specs.declared.reply.Reply.TheVariants.{Taken, Map}
@@ -18,9 +18,8 @@ use Rattle.pon_state.specs.Maps.{grants_in_map, makes_map}
 use Rattle.pon_state.specs.State.{State}
 use Rattle.pon_history.specs.Chapters.{Chapter, IsLawfulOpening, IsLawfulState, cut_at}
 use Rattle.pon_history.specs.Taking.{IsKept, Takes, with_entry}
-use Rattle.pon_history.proofs.Legality.{legal_none, legal_one_more}
+use Rattle.pon_history.proofs.Legality.{legal_none, legal_one_more, replay_push}
 use Rattle.pon_history.proofs.LawfulStates.{lawful_step, present_lawful}
-use Rattle.pon_history.proofs.Legality.{replay_push}
 
 -- a chapter without entries, and the state that it opens with
 pub kept_none : (n : ℕ) (s : State) → IsLawfulOpening n s → IsKept (record { number = n; opening = s; entries = [] }) s
@@ -67,13 +66,8 @@ map_taken c d s made k accepted is_made more = record {
 
 -- the state after an event that makes no map is kept
 pub taken : (c d : Chapter) (s t : State) (v : Event) → IsKept c s → IsEvent v → makes_map v ≡ false → first_refusal (length c.entries) s v ≡ None → d ≡ with_entry c v Taken → t ≡ after_event s v → IsKept d t
-taken c d s t (Admit u i ds) k range m accepted = kept_next c d s t (Admit u i ds) Taken k (record { event = range; accepted = accepted; reply = refl })
-taken c d s t (Change i ds) k range m accepted = kept_next c d s t (Change i ds) Taken k (record { event = range; accepted = accepted; reply = refl })
-taken c d s t (Remove i) k range m accepted = kept_next c d s t (Remove i) Taken k (record { event = range; accepted = accepted; reply = refl })
-taken c d s t (Report f u ns) k range m accepted = kept_next c d s t (Report f u ns) Taken k (record { event = range; accepted = accepted; reply = refl })
 taken c d s t MakeMap k range m accepted = absurd cc
-taken c d s t (Fail cause) k range m accepted = kept_next c d s t (Fail cause) Taken k (record { event = range; accepted = accepted; reply = refl })
-taken c d s t Restore k range m accepted = kept_next c d s t Restore Taken k (record { event = range; accepted = accepted; reply = refl })
+taken c d s t v k range m accepted = kept_next c d s t v Taken k (record { event = range; accepted = accepted; reply = refl })
 
 -- A chapter, entry by entry.
 

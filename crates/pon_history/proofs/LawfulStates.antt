@@ -1,60 +1,65 @@
--- The states of a lawful chapter are lawful.
-use Rattle.std.proofs.Common.{◌≡◌, ℕ, ◌+◌, ◌-◌, ◌^◌, ◌<◌, ◌≤◌, true, false, not, ◌||◌, ◌&&◌, List, [], ◌∷◌, map, length, take, refl, ◌++◌, ap, sym, ◌∙◌, subst, arith, get_or, Bool, inl, inr, drop, rules}
-use Rattle.std.specs.Prelude.{◌==◌, if◌then◌else◌, nat_lt, All, Any, Option, Some, None, IfSome, ◌≢◌, nat_le, filter, Contains, option_map, option_to_list}
+-- The states of a lawful chapter are lawful, and in range if its opening is.
+use Rattle.std.proofs.Common.{ℕ, ◌≤◌, not, List, [], length, ap, sym, subst, arith, ◌≡◌, ◌+◌, ◌-◌, ◌^◌, ◌<◌, true, false, ◌||◌, ◌&&◌, ◌∷◌, map, take, refl, ◌++◌, ◌∙◌, get_or, Bool, inl, inr, drop, rules}
+use Rattle.std.specs.Prelude.{◌==◌, nat_lt, IfSome, if◌then◌else◌, All, Any, Option, Some, None, ◌≢◌, nat_le, filter, Contains, option_map, option_to_list}
+use Rattle.std.proofs.lemmas.List.{length-map, take-append-drop}
+use Rattle.std.proofs.lemmas.List.Elements.{All-filter, All-map, All-nil, All-weaker, All-append, All-contains, All-cons, All-drop, All-head, All-push, All-tail, Contains-get_or, filter_passes}
+use Rattle.std.proofs.lemmas.List.Sums.{get_or-le-sum_by}
+use Rattle.pon_units.specs.declared.granted.Granted.{Granted}
+use Rattle.pon_units.specs.declared.limits.TheConstants.{MAX_OCCUPANCY, FRAME_WORDS}
+use Rattle.pon_lists.specs.Distinct.{distinct}
+use Rattle.pon_lists.proofs.Lists.{map-map, sum_by-map, any_eq-filter, list_any-map, map_filter, none_any, All-unmap}
+use Rattle.pon_admit.specs.declared.event.Event.{Event}
+use Rattle.pon_admit.specs.declared.event.Event.TheVariants.{Admit, Change, Remove, Report, MakeMap, Fail, Restore}
+use Rattle.pon_admit.specs.Roster.{max_allocs, max_carry, IsAdmitted, comes_before, has_alloc, left_over, with_descriptor, with_row, without, IsDistinct}
+use Rattle.pon_burst.specs.Maps.{grant}
+use Rattle.pon_guar.specs.declared.account.Account.{Account}
+use Rattle.pon_guar.specs.declared.account.Counted.{Counted}
+use Rattle.pon_guar.specs.Loads.{afresh, fresh_account, lessened, Loads, after_cleared, after_mapped, after_reported, with_account, without_account, less}
+use Rattle.pon_guar.specs.ReportChecks.{with_report, refuses_report}
+use Rattle.pon_guar.specs.Window.{WindowMap, grants_at, words_among, AreConsecutive, IsLawfulMap, IsWindow, is_of, with_map, onus_polled}
+use Rattle.pon_demand.specs.Sharing.{surplus_rate}
+use Rattle.pon_demand.proofs.RosterMaps.{granted_to_row, one_map, in_order}
+use Rattle.pon_demand.proofs.Carries.{carry_within}
+use Rattle.pon_state.specs.After.{after_reply, admitted_carry, after_admit, after_change, after_cut, after_entry, after_map, after_remove, after_report, loads_of, with_parts}
+use Rattle.pon_state.specs.declared.reply.Reply.{Reply}
+use Rattle.pon_state.specs.declared.reply.Reply.TheVariants.{Taken, Map}
+use Rattle.pon_state.specs.declared.reply.MadeMap.{MadeMap}
+use Rattle.pon_state.specs.State.{State, carry_at, input_of}
+use Rattle.pon_state.specs.History.{replay}
+use Rattle.pon_state.specs.Legal.{IsMade, MayFollow, IsReply}
+use Rattle.pon_state.specs.Maps.{grants_in_map}
+use Rattle.pon_history.specs.Chapters.{Chapter, IsLawfulChapter, IsLawfulState, present_state, AccountIsLawful, HasNumbersInRange, IsLawfulOpening, IsSilent, Owns, state_before, CountedIsLawful, IsLegal, cut_at}
+use Rattle.pon_history.specs.Ranges.{AreGrantsInRange, IsGrantInRange, IsStateInRange}
 use Rattle.std.specs.List.{list_any}
 use Rattle.std.proofs.lemmas.Bool.{eqb-true, leb-false, and_from, and_parts, eq-eqb, leb-true, ne_eqb, or_left, or_right}
-use Rattle.std.proofs.lemmas.List.{length-map, take-append-drop}
-use Rattle.std.proofs.lemmas.List.Elements.{All-filter, All-map, All-nil, All-append, All-contains, All-cons, All-drop, All-head, All-push, All-tail, All-weaker, Contains-get_or, filter_passes}
 use Rattle.std.proofs.lemmas.List.Folds.{Any-from_list_any, list_any_at}
 use Rattle.std.proofs.lemmas.Option.{IfSome_then}
 use Rattle.pon_units.specs.Granted.{AreInMapOrder}
-use Rattle.pon_units.specs.declared.granted.Granted.{Granted}
 use Rattle.pon_descr.specs.Descriptor.{Descriptor}
 use Rattle.pon_descr.specs.declared.refusal.Refusal.TheVariants.{FrameLimit}
 use Rattle.pon_descr.proofs.Checks.{or_else_none, when_none}
 use Rattle.pon_lists.specs.Order.{without_key, with_inserted}
 use Rattle.pon_lists.proofs.Inserted.{list_any-inserted}
-use Rattle.pon_lists.proofs.Lists.{any_eq-filter, list_any-map, map-map, map_filter, none_any, All-unmap}
 use Rattle.pon_admit.specs.declared.row.Row.{Row}
-use Rattle.pon_admit.specs.declared.event.Event.{Event}
-use Rattle.pon_admit.specs.declared.event.Event.TheVariants.{Admit, Change, Remove, Report, MakeMap, Fail, Restore}
 use Rattle.pon_admit.specs.declared.rule.Rule.{Rule}
-use Rattle.pon_admit.specs.Roster.{IsAdmitted, comes_before, has_alloc, left_over, max_carry, with_descriptor, with_row, without, IsDistinct}
 use Rattle.pon_admit.proofs.AdmittedSets.{admit_keeps, change_keeps, has_alloc-changed, passes, remove_keeps, changed, changed_alloc, changed_onu}
 use Rattle.pon_admit.proofs.Rules.{left_over_range}
-use Rattle.pon_guar.specs.declared.account.Account.{Account}
 use Rattle.pon_guar.specs.Book.{AreRising, alloc_ids}
-use Rattle.pon_guar.specs.Loads.{Loads, after_cleared, after_mapped, after_reported, afresh, fresh_account, lessened, with_account, without_account, less}
-use Rattle.pon_guar.specs.ReportChecks.{refuses_report, with_report}
-use Rattle.pon_guar.specs.Window.{AreConsecutive, IsLawfulMap, IsWindow, WindowMap, grants_at, is_of, with_map, onus_polled, words_among}
 use Rattle.pon_guar.proofs.Books.{admitted_rise, occupancies_ids, removed_rise, with_ids}
 use Rattle.pon_guar.proofs.Frames.{frame_there, leads_after, leads_below, leads_drop, leads_mapped, leads_push, grants_of_one, one_of_frame, leads_above}
 use Rattle.pon_guar.proofs.LessByGrants.{lessened_ids}
 use Rattle.pon_guar.proofs.Windows.{one_more, one_reported}
 use Rattle.pon_demand.specs.Carries.{AreCarries, carries_of, number_of}
 use Rattle.pon_demand.specs.Rates.{owed, planned_grants}
-use Rattle.pon_demand.specs.Sharing.{surplus_rate}
-use Rattle.pon_demand.proofs.Carries.{carry_within}
-use Rattle.pon_demand.proofs.RosterMaps.{granted_to_row, in_order}
-use Rattle.pon_state.specs.declared.reply.Reply.{Reply}
-use Rattle.pon_state.specs.declared.reply.Reply.TheVariants.{Taken, Map}
-use Rattle.pon_state.specs.declared.reply.MadeMap.{MadeMap}
 use Rattle.pon_state.specs.Accounts.{AccountsFor}
-use Rattle.pon_state.specs.After.{admitted_carry, after_admit, after_change, after_cut, after_entry, after_map, after_remove, after_reply, after_report, loads_of, with_parts}
 use Rattle.pon_state.specs.Carries.{carries_left}
 use Rattle.pon_state.specs.Checks.{at_limit, refuses, when_down}
 use Rattle.pon_state.specs.Entry.{Entry}
 use Rattle.pon_state.specs.Events.{IsEvent}
-use Rattle.pon_state.specs.History.{replay}
-use Rattle.pon_state.specs.Legal.{IsMade, IsReply, MayFollow}
-use Rattle.pon_state.specs.Maps.{grants_in_map}
-use Rattle.pon_state.specs.State.{State, carry_at, input_of}
 use Rattle.pon_state.proofs.KeptMaps.{window_grants}
-use Rattle.pon_history.specs.Chapters.{AccountIsLawful, Chapter, HasNumbersInRange, IsLawfulChapter, IsLawfulOpening, IsLawfulState, IsSilent, Owns, present_state, state_before, CountedIsLawful, IsLegal, cut_at}
 use Rattle.std.proofs.lemmas.Bool.Decides.{eqb_tells}
 use Rattle.std.proofs.lemmas.Map.Views.{Contains-from_any}
 use Rattle.pon_lists.proofs.Distinct.{occurs}
-use Rattle.pon_guar.specs.declared.account.Counted.{Counted}
 use Rattle.pon_guar.specs.Reports.{after_occupancies, counting, latest, taking, with_latest}
 use Rattle.pon_guar.proofs.Polls.{granted_polled}
 use Rattle.pon_history.proofs.Legality.{along, checks_passed, legal_front, legal_rest, replay_append, replay_push}
@@ -321,6 +326,10 @@ frame_within n f ms h there =
     let is : (get_or ms found.0 found.1).frame ≡ f = ap (λ m. m.frame) found.3 ∙ eqb-true found.1.frame f found.4 in
     (omega (arith, is, leads_below n ms h found.0 found.1 found.2), omega (arith, is, leads_above n ms h found.0 found.1 found.2))
 
+-- the grants of the map of a state are those that it plans
+pub planned : (s : State) (made : MadeMap) → IsMade s made → planned_grants (input_of s) (surplus_rate (input_of s) made.cert) (carry_at s) ≡ grants_in_map s.roster made.map
+planned s made m = sym (ap (grants_in_map s.roster) m.map ∙ window_grants s.profile (input_of s) (surplus_rate (input_of s) made.cert) (carry_at s))
+
 -- One more entry.
 module _ (s : State) (l : IsLawfulState s) (room : s.taken_before < 2 ^ 64 - 1) where
   numbers_after : (next : ℕ) (cause : Option ℕ) (rows : List Row) (carries : List ℕ) (loads : Loads) → next < 2 ^ 64 → HasNumbersInRange (with_parts s next cause rows carries loads)
@@ -386,10 +395,9 @@ module _ (s : State) (l : IsLawfulState s) (room : s.taken_before < 2 ^ 64 - 1) 
       let surplus = surplus_rate i made.cert in
       let gs : List Granted = grants_in_map s.roster made.map in
       let new : WindowMap = record { frame = s.next; grants = gs; reported = [] } in
-      let planned : planned_grants i surplus (carry_at s) ≡ gs = sym (ap (grants_in_map s.roster) m.map ∙ window_grants s.profile i surplus (carry_at s)) in
       let own : All (λ g. Owns s.roster g.alloc_id g.onu) gs
-      = subst (All (λ g. Owns s.roster g.alloc_id g.onu)) planned (All-map (λ g. Owns s.roster g.alloc_id g.onu) (granted_to_row i surplus (carry_at s)) s.roster (distinct_own s.roster l.admitted.apart)) in
-      let kept : IsWindow (with_map s.next gs s.window) = one_more s.window window_lawful s.next gs l.frames (subst AreInMapOrder planned (in_order i surplus (carry_at s) s.roster l.admitted.in_map_order)) in
+      = subst (All (λ g. Owns s.roster g.alloc_id g.onu)) (planned s made m) (All-map (λ g. Owns s.roster g.alloc_id g.onu) (granted_to_row i surplus (carry_at s)) s.roster (distinct_own s.roster l.admitted.apart)) in
+      let kept : IsWindow (with_map s.next gs s.window) = one_more s.window window_lawful s.next gs l.frames (subst AreInMapOrder (planned s made m) (in_order i surplus (carry_at s) s.roster l.admitted.in_map_order)) in
       let t : State = after_map s gs (carries_left s (Map made)) in
       search (
         rules,
@@ -437,6 +445,48 @@ lawful_step kept s e f l = one e.event e.reply f.event f.reply (checks_passed ke
     one (Fail cause) r range reply h = cut_lawful s l room (Some cause)
     one Restore r range reply h = cut_lawful s l room None
 
+-- One more entry keeps the ranges.
+abbrev IsSmall : Counted → Type 0
+IsSmall c = c.words ≤ MAX_OCCUPANCY
+
+-- an account's report is small
+abbrev IsSmallAccount : Account → Type 0
+IsSmallAccount a = IfSome a.counted IsSmall
+
+abbrev HasRange : WindowMap → Type 0
+HasRange m = AreGrantsInRange m.grants
+
+module _ (s : State) (k : IsLawfulState s) (h : IsStateInRange s) where
+  made_in_range : (made : MadeMap) → IsMade s made → AreGrantsInRange (grants_in_map s.roster made.map)
+  made_in_range made m =
+      let i = input_of s in
+      let grant_to = granted_to_row i (surplus_rate i made.cert) (carry_at s) in
+      let one = one_map i made.cert (carry_at s) k.admitted m.certified (λ r. carry_within (max_carry s.rule) s.roster s.carries r.alloc_id k.carries.range) in
+      subst AreGrantsInRange (planned s made m) (record {
+        few = omega (arith, length-map s.roster grant_to, k.admitted.few_allocs, ap max_allocs h.rule);
+        few_onus = omega (arith, ap (λ us. length (distinct us)) (map-map (λ g. g.onu) grant_to s.roster), k.admitted.few_onus);
+        each = All-map IsGrantInRange grant_to s.roster (λ n d lt.
+            let words : grant (grant_to (get_or s.roster n d)) ≤ FRAME_WORDS = omega (arith, get_or-le-sum_by (λ r. grant (grant_to r)) s.roster n d lt, sum_by-map grant grant_to s.roster, one.fitting) in
+            search (rules, words, k.admitted.in_range n d lt));
+      })
+
+  range_step : (kept : ℕ) (v : Event) (r : Reply) → MayFollow kept s (record { event = v; reply = r }) → IsStateInRange (after_reply s v r)
+  range_step kept (Admit u i d) r f = search (rules, All-inserted IsSmallAccount (λ b. nat_lt b.alloc_id i) (fresh_account i s.next) s.book tt h.reports)
+  range_step kept (Change i d) r f = search rules
+  range_step kept (Remove i) r f = search (rules, All-filter (λ a. not (a.alloc_id == i)) IsSmallAccount s.book h.reports)
+  range_step kept (Report frame u ns) r f =
+      let reports : All IsSmallAccount (after_report s frame u ns).book = occupancies_all IsSmallAccount _ frame (grants_at frame u s.window) ns s.book
+      (λ n d lt a words small of_it early known. latest_two IsSmall a.counted (record { frame = frame; words = words }) known (omega (arith, small))) f.event.occupancies.range h.reports in
+      search (rules, All-map HasRange (with_report frame u) s.window h.maps)
+  range_step kept MakeMap Taken f = absurd f.reply
+  range_step kept MakeMap (Map made) f =
+      let gs : List Granted = grants_in_map s.roster made.map in
+      let fewer : All (λ a. IsSmallAccount (lessened gs a)) s.book
+      = All-weaker IsSmallAccount (λ a. IsSmallAccount (lessened gs a)) (λ a. if_less IsSmall IsSmall (words_among a.alloc_id gs) a.counted (λ c small. omega (arith, small))) s.book h.reports in
+      search (rules, All-map IsSmallAccount (lessened gs) s.book fewer, All-with_map HasRange s.next gs s.window h.maps (made_in_range made f.reply))
+  range_step kept (Fail cause) r f = record { rule = h.rule; cause = f.event; reports = All-map IsSmallAccount (afresh s.next) s.book (λ n d lt. tt); maps = All-nil HasRange }
+  range_step kept Restore r f = record { rule = h.rule; cause = tt; reports = All-map IsSmallAccount (afresh s.next) s.book (λ n d lt. tt); maps = All-nil HasRange }
+
 -- The states of a lawful chapter, and the two parts that it splits into.
 module _ (c : Chapter) (l : IsLawfulChapter c) where
   lawful_after : (es : List Entry) → IsLegal (record { number = c.number; opening = c.opening; entries = es }) → IsLawfulState (replay c.opening es)
@@ -470,3 +520,10 @@ module _ (c : Chapter) (l : IsLawfulChapter c) where
 
   pub rest_lawful : (k n : ℕ) → 0 < n → IsLawfulChapter (record { number = n; opening = state_before c k; entries = drop k c.entries })
   rest_lawful k n later = record { opening = opens_before n k later; legal = legal_rest c.number n c.opening (take k c.entries) (drop k c.entries) (parted k) }
+
+-- the end of a lawful chapter is in range if its opening is
+pub in_range_at_present : (c : Chapter) → IsLawfulChapter c → IsStateInRange c.opening → IsStateInRange (present_state c)
+in_range_at_present c l h =
+    (along c.number c.opening (λ es. IsLawfulState (replay c.opening es) × IsStateInRange (replay c.opening es))
+    (λ es e m p. rw (replay_push c.opening es e) (lawful_step (length es) (replay c.opening es) e m p.0, range_step (replay c.opening es) p.0 p.1 (length es) e.event e.reply m))
+    [] c.entries l.legal (l.opening.state, h)).1

@@ -1,12 +1,8 @@
 pub mod ClosedForms
-pub mod CountedReports
 pub mod FairMaps
 pub mod Kept
 pub mod LawfulStates
 pub mod Legality
-pub mod OneFloor
 pub mod OneReply
-pub mod PresentLoads
-pub mod Ranges
 pub mod Reports
 pub mod WordRuns

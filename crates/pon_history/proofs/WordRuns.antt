@@ -1,17 +1,20 @@
 -- Over a run of maps the words are the whole part of what is owed, under the rule that carries.
-use Rattle.std.proofs.Common.{◌≡◌, ℕ, ◌+◌, ◌-◌, ◌/◌, ◌%◌, ◌≤◌, true, false, List, [], ◌∷◌, ◌++◌, map, refl, ap, sym, ◌∙◌, subst, arith, inl, inr}
+use Rattle.std.proofs.Common.{◌≡◌, ℕ, ◌+◌, ◌*◌, ◌/◌, ◌<◌, ap, sym, ◌∙◌, add_assoc, ◌-◌, ◌%◌, ◌≤◌, true, false, List, [], ◌∷◌, ◌++◌, map, refl, subst, arith, inl, inr}
+use Rattle.std.proofs.Math.Nat.{div-div-eq-div-mul, mul-add-div_right}
+use Rattle.pon_units.specs.declared.limits.TheConstants.{WORD_RATE}
+use Rattle.pon_units.specs.Frac.{Frac}
+use Rattle.pon_admit.specs.declared.row.Row.{Row}
+use Rattle.pon_demand.specs.Input.{Input}
+use Rattle.pon_demand.specs.Rates.{guaranteed_rate, payload, whole_rate, planned_grants}
 use Rattle.std.specs.Prelude.{◌==◌, if◌then◌else◌}
 use Rattle.std.proofs.lemmas.Bool.{cases_Bool, or_parts}
 use Rattle.pon_lists.proofs.Lists.{map-map, map_same}
 use Rattle.pon_bwmap.specs.Alloc.{Alloc}
 use Rattle.pon_units.specs.declared.granted.Granted.{Granted}
 use Rattle.pon_burst.specs.Maps.{structure_of}
-use Rattle.pon_admit.specs.declared.row.Row.{Row}
 use Rattle.pon_admit.specs.declared.rule.Rule.TheVariants.{CarryRemainders}
 use Rattle.pon_admit.specs.Roster.{has_alloc, left_over, max_carry}
 use Rattle.pon_demand.specs.Carries.{carries_of, number_of}
-use Rattle.pon_demand.specs.Input.{Input}
-use Rattle.pon_demand.specs.Rates.{planned_grants, payload, whole_rate}
 use Rattle.pon_demand.specs.Sharing.{surplus_rate}
 use Rattle.pon_demand.proofs.Carries.{carry_known, carry_within}
 use Rattle.pon_demand.proofs.RosterMaps.{granted_to_row}
@@ -124,3 +127,16 @@ whole_parts c l two i =
 -- and over each run
 pub whole_runs : (c : Chapter) → IsLawfulChapter c → RunsAreWhole c
 whole_runs c l two k = whole_parts (cut_at c k) (front_lawful c l k) two
+
+-- The whole words of the whole kbit/s of a rate are the whole words of the rate itself.
+
+pub whole_kbits : (s : Input) (surplus : Row → Frac) (r : Row) → 0 < (surplus r).den →
+    whole_rate s surplus r ≡ (guaranteed_rate s r * (surplus r).den + (surplus r).num) / (surplus r).den
+whole_kbits s surplus r h = sym (mul-add-div_right h (guaranteed_rate s r) (surplus r).num)
+
+pub whole_words : (s : Input) (surplus : Row → Frac) (carry : Row → ℕ) (r : Row) → 0 < (surplus r).den →
+    payload s surplus carry r ≡ ((carry r + guaranteed_rate s r) * (surplus r).den + (surplus r).num) / ((surplus r).den * WORD_RATE)
+whole_words s surplus carry r h =
+    ap (λ n. n / WORD_RATE) (sym (add_assoc (carry r) (guaranteed_rate s r) ((surplus r).num / (surplus r).den))
+    ∙ sym (mul-add-div_right h (carry r + guaranteed_rate s r) (surplus r).num))
+    ∙ div-div-eq-div-mul ((carry r + guaranteed_rate s r) * (surplus r).den + (surplus r).num) (surplus r).den WORD_RATE

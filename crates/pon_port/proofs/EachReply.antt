@@ -26,12 +26,7 @@ module _ (s : State) (k : IsAdmitted s.rule s.gap s.roster) where
 
   pub each_reply : (v : Event) → (a : Reply) × IsReply s v a
   each_reply MakeMap = (Map each_made.0, each_made.1)
-  each_reply (Admit onu alloc_id descriptor) = (Taken, refl)
-  each_reply (Change alloc_id descriptor) = (Taken, refl)
-  each_reply (Remove alloc_id) = (Taken, refl)
-  each_reply (Report frame onu occ) = (Taken, refl)
-  each_reply (Fail cause) = (Taken, refl)
-  each_reply Restore = (Taken, refl)
+  each_reply v = (Taken, refl)
 
 -- a lawful chapter has a reply to an event that no check refuses
 pub each_follows : (c : Chapter) (v : Event) → IsLawfulChapter c → IsEvent v → refusal_of c v ≡ None → (reply : Reply) × MayFollow (length c.entries) (present_state c) (record { event = v; reply = reply })

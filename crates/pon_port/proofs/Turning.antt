@@ -7,8 +7,7 @@ use Rattle.pon_history.specs.Chapters.{Chapter, IsLawfulOpening, chapter_after, 
 use Rattle.pon_history.specs.Taking.{IsKept, Turns}
 use Rattle.pon_port.specs.Ports.{IsPort}
 use Rattle.pon_history.proofs.Kept.{kept_none}
-use Rattle.pon_history.proofs.LawfulStates.{opens_at_present}
-use Rattle.pon_history.proofs.Ranges.{in_range_at_present}
+use Rattle.pon_history.proofs.LawfulStates.{in_range_at_present, opens_at_present}
 
 module _ (c : Chapter) (s : State) (k : IsKept c s) where
   opens : IsLawfulOpening (c.number + 1) (present_state c)

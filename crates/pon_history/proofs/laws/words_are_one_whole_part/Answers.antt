@@ -1,4 +1,4 @@
-use Rattle.pon_history.proofs.OneFloor.{whole_kbits, whole_words}
+use Rattle.pon_history.proofs.WordRuns.{whole_kbits, whole_words}
 use Rattle.pon_history.proofs.laws.words_are_one_whole_part.Goals as goal
 
 pub returns : goal.returns
