@@ -1,6 +1,6 @@
 -- The states of a lawful chapter are lawful, and in range if its opening is.
 use Rattle.std.proofs.Common.{ℕ, ◌≤◌, not, List, [], length, ap, sym, subst, arith, ◌≡◌, ◌+◌, ◌-◌, ◌^◌, ◌<◌, true, false, ◌||◌, ◌&&◌, ◌∷◌, map, take, refl, ◌++◌, ◌∙◌, get_or, Bool, inl, inr, drop, rules}
-use Rattle.std.specs.Prelude.{◌==◌, nat_lt, IfSome, if◌then◌else◌, All, Any, Option, Some, None, ◌≢◌, nat_le, filter, Contains, option_map, option_to_list}
+use Rattle.std.specs.Prelude.{◌==◌, nat_lt, IfSome, if◌then◌else◌, All, Any, Option, Some, None, ◌≢◌, filter, Contains, option_map, option_to_list}
 use Rattle.std.proofs.lemmas.List.{length-map, take-append-drop}
 use Rattle.std.proofs.lemmas.List.Elements.{All-filter, All-map, All-nil, All-weaker, All-append, All-contains, All-cons, All-drop, All-head, All-push, All-tail, Contains-get_or, filter_passes}
 use Rattle.std.proofs.lemmas.List.Sums.{get_or-le-sum_by}
@@ -31,7 +31,7 @@ use Rattle.pon_state.specs.Maps.{grants_in_map}
 use Rattle.pon_history.specs.Chapters.{Chapter, IsLawfulChapter, IsLawfulState, present_state, AccountIsLawful, HasNumbersInRange, IsLawfulOpening, IsSilent, Owns, state_before, CountedIsLawful, IsLegal, cut_at}
 use Rattle.pon_history.specs.Ranges.{AreGrantsInRange, IsGrantInRange, IsStateInRange}
 use Rattle.std.specs.List.{list_any}
-use Rattle.std.proofs.lemmas.Bool.{eqb-true, leb-false, and_from, and_parts, eq-eqb, leb-true, ne_eqb, or_left, or_right}
+use Rattle.std.proofs.lemmas.Bool.{eqb-true, leb-false, and_from, and_parts, eq-eqb, ne_eqb, or_left, or_right}
 use Rattle.std.proofs.lemmas.List.Folds.{Any-from_list_any, list_any_at}
 use Rattle.std.proofs.lemmas.Option.{IfSome_then}
 use Rattle.pon_units.specs.Granted.{AreInMapOrder}
@@ -57,7 +57,7 @@ use Rattle.pon_state.specs.Checks.{at_limit, refuses, when_down}
 use Rattle.pon_state.specs.Entry.{Entry}
 use Rattle.pon_state.specs.Events.{IsEvent}
 use Rattle.pon_state.proofs.KeptMaps.{window_grants}
-use Rattle.std.proofs.lemmas.Bool.Decides.{eqb_tells}
+use Rattle.std.proofs.lemmas.Bool.Decides.{eqb_tells, leb_tells}
 use Rattle.std.proofs.lemmas.Map.Views.{Contains-from_any}
 use Rattle.pon_lists.proofs.Distinct.{occurs}
 use Rattle.pon_guar.specs.Reports.{after_occupancies, counting, latest, taking, with_latest}
@@ -101,11 +101,9 @@ IsOwned rows i since m = since ≤ m.frame → All (λ g. g.alloc_id ≡ i → O
 -- an account stays lawful where its reports and its grants in the window do
 account_stays : (s t : State) (a : Account) → s.next ≤ t.next → ((frame : ℕ) → frame < s.next → All (HasReported s.roster a.alloc_id frame) s.window → All (HasReported t.roster a.alloc_id frame) t.window) →
     (All (IsOwned s.roster a.alloc_id a.since) s.window → All (IsOwned t.roster a.alloc_id a.since) t.window) → AccountIsLawful s a → AccountIsLawful t a
-account_stays s t a later reported owned l = record {
-  since = omega (arith, l.since, later);
-  counted = IfSome_then a.counted l.counted (λ c k. record { not_early = k.not_early; not_late = omega (arith, k.not_late, later); reported = reported c.frame k.not_late k.reported });
-  owner = owned l.owner;
-}
+account_stays s t a later reported owned l =
+    let counted : IfSome a.counted (CountedIsLawful t a) = IfSome_then a.counted l.counted (λ c k. search (rules, reported c.frame k.not_late k.reported)) in
+    search (rules, owned l.owner)
 
 -- Other rows.
 
@@ -164,18 +162,12 @@ occupancies_all P granted f (g ∷ gs) (Some n ∷ ns) book new range h =
     c : Counted
     c = record { frame = f; words = n - granted g.alloc_id }
 
-    small : n < 2 ^ 24
-    small = All-head IsOccupancy (Some n) ns range
-
-    stays : StaysWithReport P f g
-    stays = All-head (StaysWithReport P f) g gs new
-
     one : (a : Account) → P a → P (if a.alloc_id == g.alloc_id then taking c a else a)
     one a p = elim (eqb_tells a.alloc_id g.alloc_id) [
-      | inl e ↦ rw e.0 ((elim (nat_le a.since f) as (λ b. nat_le a.since f ≡ b → P (if b then with_latest c a else a)) [
-        | true ↦ λ t. stays a (n - granted g.alloc_id) (omega (arith, small)) e.1 (leb-true a.since f t) p
-        | false ↦ λ _. p
-      ]) refl)
+      | inl e ↦ elim (leb_tells a.since f) [
+        | inl t ↦ rw (e.0, t.0) (All-head (StaysWithReport P f) g gs new a (n - granted g.alloc_id) (omega (arith, All-head IsOccupancy (Some n) ns range)) e.1 t.1 p)
+        | inr t ↦ rw (e.0, t.0) p
+      ]
       | inr e ↦ rw e.0 p
     ]
 
@@ -207,21 +199,16 @@ module _ (s : State) (l : IsLawfulState s) (f u : ℕ) (ns : List (Option ℕ)) 
   -- an occupancy of one of the ONU's grants
   module _ (below : f < s.next) (g : Granted) (granted : Contains (grants_at f u s.window) g) where
     stays_lawful : StaysWithReport (AccountIsLawful (after_report s f u ns)) f g
-    stays_lawful a words small of_it early h = record {
-      since = h.since;
-      counted = latest_two (CountedIsLawful (after_report s f u ns) (with_latest new a)) a.counted new
-          (IfSome_then a.counted h.counted (λ c k. record { not_early = k.not_early; not_late = k.not_late; reported = k.reported }))
-          (record {
-            not_early = early;
-            not_late = below;
-            reported = All-map (HasReported s.roster a.alloc_id f) (with_report f u) s.window (λ n d lt. one (get_or s.window n d) (one_of_frame s.next f s.window l.frames n d lt) (All-unmap (IsOwned s.roster a.alloc_id a.since) (with_report f u) s.window h.owner n d lt));
-          });
-      owner = h.owner;
-    }
+    stays_lawful a words small of_it early h =
+        let new : Counted = record { frame = f; words = words } in
+        let is : CountedIsLawful (after_report s f u ns) (with_latest new a) new = record {
+          not_early = early;
+          not_late = below;
+          reported = All-map (HasReported s.roster a.alloc_id f) (with_report f u) s.window (λ n d lt. one (get_or s.window n d) (one_of_frame s.next f s.window l.frames n d lt) (All-unmap (IsOwned s.roster a.alloc_id a.since) (with_report f u) s.window h.owner n d lt));
+        } in
+        let was : IfSome a.counted (CountedIsLawful (after_report s f u ns) (with_latest new a)) = IfSome_then a.counted h.counted (λ c k. search rules) in
+        search (rules, latest_two (CountedIsLawful (after_report s f u ns) (with_latest new a)) a.counted new was is)
       where
-        new : Counted
-        new = record { frame = f; words = words }
-
         one : (m : WindowMap) → (m.frame ≡ f → filter (λ m. m.frame == f) s.window ≡ m ∷ []) → IsOwned s.roster a.alloc_id a.since m → HasReported s.roster a.alloc_id f (with_report f u m)
         one m alone own at n d lt is =
             let there : Contains (filter (λ g. g.onu == u) m.grants) g = subst (λ gs. Contains gs g) (grants_of_one f u s.window m (alone at)) granted in

@@ -1,4 +1,6 @@
 -- Over a run of maps the words are the whole part of what is owed, under the rule that carries.
+use Rattle.pon_admit.specs.declared.event.Event.TheVariants.{MakeMap}
+use Rattle.pon_history.specs.Parts.{admits}
 use Rattle.std.proofs.Common.{◌≡◌, ℕ, ◌+◌, ◌*◌, ◌/◌, ◌<◌, ap, sym, ◌∙◌, add_assoc, ◌-◌, ◌%◌, ◌≤◌, true, false, List, [], ◌∷◌, ◌++◌, map, refl, subst, arith, inl, inr}
 use Rattle.std.proofs.Math.Nat.{div-div-eq-div-mul, mul-add-div_right}
 use Rattle.pon_units.specs.declared.limits.TheConstants.{WORD_RATE}
@@ -14,20 +16,19 @@ use Rattle.pon_units.specs.declared.granted.Granted.{Granted}
 use Rattle.pon_burst.specs.Maps.{structure_of}
 use Rattle.pon_admit.specs.declared.rule.Rule.TheVariants.{CarryRemainders}
 use Rattle.pon_admit.specs.Roster.{has_alloc, left_over, max_carry}
-use Rattle.pon_demand.specs.Carries.{carries_of, number_of}
+use Rattle.pon_demand.specs.Carries.{number_of}
 use Rattle.pon_demand.specs.Sharing.{surplus_rate}
 use Rattle.pon_demand.proofs.Carries.{carry_known, carry_within}
 use Rattle.pon_demand.proofs.RosterMaps.{granted_to_row}
 use Rattle.pon_state.specs.State.{State, carry_at, input_of}
 use Rattle.pon_state.specs.History.{replay}
 use Rattle.pon_state.specs.Legal.{IsMade, IsReply}
-use Rattle.pon_state.proofs.Replies.{gets_reply}
 use Rattle.pon_admit.specs.declared.event.Event.{Event}
 use Rattle.pon_state.specs.declared.reply.Reply.{Reply}
 use Rattle.pon_state.specs.declared.reply.Reply.TheVariants.{Taken, Map}
 use Rattle.pon_state.specs.declared.reply.MadeMap.{MadeMap}
 use Rattle.pon_state.specs.Entry.{Entry}
-use Rattle.pon_history.specs.Carries.{admits_now, owed_of, rate_of_reply}
+use Rattle.pon_history.specs.Carries.{owed_of, rate_of_reply}
 use Rattle.pon_history.specs.Chapters.{Chapter, IsLawfulChapter, cut_at}
 use Rattle.pon_history.specs.ClosedForm.{closed_form}
 use Rattle.pon_history.specs.WordRuns.{GrantsWholeParts, RunsAreWhole, words_of_reply, words_since}
@@ -49,9 +50,6 @@ words_of_sum c w (r ∷ rows) i = elim (r.alloc_id == i) as (λ b. (if b then (c
   | false ↦ words_of_sum c w rows i
 ]
 
-carried_number : (rows : List Row) (carries : List ℕ) (i : ℕ) → has_alloc i rows ≡ true → number_of rows (carries_of (number_of rows carries) rows) i ≡ number_of rows carries i
-carried_number rows carries i h = carry_known (number_of rows carries) i rows h
-
 -- the words of an Alloc-ID in the map of a state
 made_words : (s : State) (made : MadeMap) (i : ℕ) → IsMade s made → has_alloc i s.roster ≡ true →
     words_of_reply s.roster (Map made) i ≡ (number_of s.roster s.carries i + rate_of_reply (input_of s) (Map made) i) / 256
@@ -65,7 +63,7 @@ made_words s made i m there =
     ∙ map_same (λ r. (f (to_row r)).grant - 1) p (λ r. let z : (1 + p r) - 1 ≡ p r = omega arith in z) s.roster in
     ap (λ ns. number_of s.roster ns i) words
     ∙ words_of_sum (carry_at s) (whole_rate input (surplus_rate input made.cert)) s.roster i
-    ∙ ap (λ n. (n + rate_of_reply input (Map made) i) / 256) (carried_number s.roster s.carries i there)
+    ∙ ap (λ n. (n + rate_of_reply input (Map made) i) / 256) (carry_known (number_of s.roster s.carries) i s.roster there)
 
 -- the words of one more reply, from what was owed before
 module _ (o : State) (two : o.rule ≡ CarryRemainders) (i : ℕ) (done : List Entry) (same : replay o done ≡ closed_form o done) where
@@ -93,28 +91,15 @@ module _ (o : State) (two : o.rule ≡ CarryRemainders) (i : ℕ) (done : List E
         omega (arith, words, none)
   ]
 
-  given : (v : Event) (reply : Reply) → IsReply s v reply → before / 256 + word reply ≡ (before + rate reply) / 256
-  given v Taken h = let z : before / 256 + 0 ≡ (before + 0) / 256 = omega arith in z
-  given v (Map made) h = of_map made (subst (λ v. IsReply s v (Map made)) (gets_reply s v (Map made) h) h)
-
   -- an entry that admits an Alloc-ID makes no map
-  no_map : (v : Event) (reply : Reply) → IsReply s v reply → admits_now i (record { event = v; reply = reply }) ≡ true → (rate reply ≡ 0) × (word reply ≡ 0)
-  no_map v Taken h a = (refl, refl)
-  no_map v (Map made) h a = absurd (let t : false ≡ true = subst (λ v. admits_now i (record { event = v; reply = Map made }) ≡ true) (gets_reply s v (Map made) h) a in cc)
+  given : (v : Event) (reply : Reply) → IsReply s v reply → words_since o i done ≡ before / 256 → (if admits i v then 0 else words_since o i done) + word reply ≡ ((if admits i v then 0 else before) + rate reply) / 256
+  given MakeMap (Map made) h so_far = omega (arith, so_far, of_map made h)
+  given MakeMap Taken h so_far = absurd h
+  given v Taken h so_far = elim (admits i v) as (λ b. (if b then 0 else words_since o i done) + 0 ≡ ((if b then 0 else before) + 0) / 256) [ true ↦ omega arith | false ↦ omega (arith, so_far) ]
+  given v (Map made) h so_far = absurd (let t : Map made ≡ Taken = h in cc)
 
   one_more : (e : Entry) → IsReply s e.event e.reply → words_since o i done ≡ before / 256 → words_since o i (done ++ e ∷ []) ≡ owed_of o (done ++ e ∷ []) i / 256
-  one_more e h so_far =
-      sum_since_push (λ before e. words_of_reply (replay o before).roster e.reply i) i done e
-      ∙ (elim (cases_Bool (admits_now i e)) [
-        | inl a ↦
-            let none = no_map e.event e.reply h a in
-            (λ j. (if a j then 0 else words_since o i done) + none.1 j) ∙ sym (λ j. ((if a j then 0 else before) + none.0 j) / 256)
-        | inr a ↦
-            (λ j. (if a j then 0 else words_since o i done) + word e.reply)
-            ∙ ap (λ n. n + word e.reply) so_far ∙ given e.event e.reply h
-            ∙ sym (λ j. ((if a j then 0 else before) + rate e.reply) / 256)
-      ])
-      ∙ sym (ap (λ n. n / 256) (owed_push o done e i))
+  one_more e h so_far = rw (sum_since_push (λ before e. words_of_reply (replay o before).roster e.reply i) i done e, owed_push o done e i) (given e.event e.reply h so_far)
 
 -- the words of a lawful chapter under the rule that carries, over the whole of it
 whole_parts : (c : Chapter) → IsLawfulChapter c → c.opening.rule ≡ CarryRemainders → GrantsWholeParts c.opening c.entries
