@@ -1,4 +1,5 @@
 -- The states of a lawful chapter are lawful, and in range if its opening is.
+use Rattle.std.proofs.lemmas.Bool.{eqb-false, eqb-true, leb-false, and_from, and_parts, eq-eqb, ne_eqb, or_left, or_right}
 use Rattle.std.proofs.Common.{ℕ, ◌≤◌, not, List, [], length, ap, sym, subst, arith, ◌≡◌, ◌+◌, ◌-◌, ◌^◌, ◌<◌, true, false, ◌||◌, ◌&&◌, ◌∷◌, map, take, refl, ◌++◌, ◌∙◌, get_or, Bool, inl, inr, drop, rules}
 use Rattle.std.specs.Prelude.{◌==◌, nat_lt, IfSome, if◌then◌else◌, All, Any, Option, Some, None, ◌≢◌, filter, Contains, option_map, option_to_list}
 use Rattle.std.proofs.lemmas.List.{length-map, take-append-drop}
@@ -14,13 +15,13 @@ use Rattle.pon_admit.specs.Roster.{max_allocs, max_carry, IsAdmitted, comes_befo
 use Rattle.pon_burst.specs.Maps.{grant}
 use Rattle.pon_guar.specs.declared.account.Account.{Account}
 use Rattle.pon_guar.specs.declared.account.Counted.{Counted}
-use Rattle.pon_guar.specs.Loads.{afresh, fresh_account, lessened, Loads, after_cleared, after_mapped, after_reported, with_account, without_account, less}
+use Rattle.pon_guar.specs.Loads.{afresh, fresh_account, lessened, with_account, without_account, less}
 use Rattle.pon_guar.specs.ReportChecks.{with_report, refuses_report}
 use Rattle.pon_guar.specs.Window.{WindowMap, grants_at, words_among, AreConsecutive, IsLawfulMap, IsWindow, is_of, with_map, onus_polled}
 use Rattle.pon_demand.specs.Sharing.{surplus_rate}
 use Rattle.pon_demand.proofs.RosterMaps.{granted_to_row, one_map, in_order}
 use Rattle.pon_demand.proofs.Carries.{carry_within}
-use Rattle.pon_state.specs.After.{after_reply, admitted_carry, after_admit, after_change, after_cut, after_entry, after_map, after_remove, after_report, loads_of, with_parts}
+use Rattle.pon_state.specs.After.{after_reply, admitted_carry, after_admit, after_change, after_cut, after_entry, after_map, after_remove, after_report, with_parts}
 use Rattle.pon_state.specs.declared.reply.Reply.{Reply}
 use Rattle.pon_state.specs.declared.reply.Reply.TheVariants.{Taken, Map}
 use Rattle.pon_state.specs.declared.reply.MadeMap.{MadeMap}
@@ -28,10 +29,9 @@ use Rattle.pon_state.specs.State.{State, carry_at, input_of}
 use Rattle.pon_state.specs.History.{replay}
 use Rattle.pon_state.specs.Legal.{IsMade, MayFollow, IsReply}
 use Rattle.pon_state.specs.Maps.{grants_in_map}
-use Rattle.pon_history.specs.Chapters.{Chapter, IsLawfulChapter, IsLawfulState, present_state, AccountIsLawful, HasNumbersInRange, IsLawfulOpening, IsSilent, Owns, state_before, CountedIsLawful, IsLegal, cut_at}
+use Rattle.pon_history.specs.Chapters.{Chapter, IsLawfulChapter, IsLawfulState, present_state, AccountIsLawful, IsLawfulOpening, IsSilent, Owns, state_before, CountedIsLawful, IsLegal, cut_at}
 use Rattle.pon_history.specs.Ranges.{AreGrantsInRange, IsGrantInRange, IsStateInRange}
 use Rattle.std.specs.List.{list_any}
-use Rattle.std.proofs.lemmas.Bool.{eqb-true, leb-false, and_from, and_parts, eq-eqb, ne_eqb, or_left, or_right}
 use Rattle.std.proofs.lemmas.List.Folds.{Any-from_list_any, list_any_at}
 use Rattle.std.proofs.lemmas.Option.{IfSome_then}
 use Rattle.pon_units.specs.Granted.{AreInMapOrder}
@@ -118,9 +118,6 @@ admission_keeps_owner r rows i other Q h =
 pub change_keeps_owner : (j : ℕ) (d : Descriptor) (rows : List Row) (i : ℕ) → KeepsOwner rows (with_descriptor j d rows) i
 change_keeps_owner j d rows i Q h = All-map (λ r. r.alloc_id ≡ i → Q r.onu) (changed j d) rows
     (All-weaker (λ r. r.alloc_id ≡ i → Q r.onu) (λ r. (changed j d r).alloc_id ≡ i → Q (changed j d r).onu) (λ r k is. subst Q (sym (changed_onu j d r)) (k (sym (changed_alloc j d r) ∙ is))) rows h)
-
-pub removal_keeps_owner : (j : ℕ) (rows : List Row) (i : ℕ) → KeepsOwner rows (without j rows) i
-removal_keeps_owner j rows i Q h = All-filter (λ r. not (r.alloc_id == j)) (λ r. r.alloc_id ≡ i → Q r.onu) rows h
 
 -- with other rows, carries and accounts
 abbrev pub with_rows : State → List Row → List ℕ → List Account → State
@@ -246,8 +243,7 @@ distinct_own (x ∷ rows) h = All-cons (λ r. Owns (x ∷ rows) r.alloc_id r.onu
     (λ n d lt. All-cons (λ q. q.alloc_id ≡ (get_or rows n d).alloc_id → q.onu ≡ (get_or rows n d).onu) x rows (λ is. absurd (other n d lt (sym is))) (distinct_own rows h.1 n d lt))
   where
     other : All (λ q. q.alloc_id ≢ x.alloc_id) rows
-    other = All-weaker (λ q. (q.alloc_id == x.alloc_id) ≡ false) (λ q. q.alloc_id ≢ x.alloc_id) (λ q k is. let t : true ≡ false = sym (eq-eqb q.alloc_id x.alloc_id is) ∙ k in absurd cc) rows
-        (none_any (λ q. q.alloc_id == x.alloc_id) rows h.0)
+    other = All-weaker (λ q. (q.alloc_id == x.alloc_id) ≡ false) (λ q. q.alloc_id ≢ x.alloc_id) (λ q. eqb-false q.alloc_id x.alloc_id) rows (none_any (λ q. q.alloc_id == x.alloc_id) rows h.0)
 
 -- an account is lawful after a map that grants to each Alloc-ID under its own ONU
 pub account_mapped : (s : State) (gs : List Granted) (carries : List ℕ) (a : Account) → All (λ g. Owns s.roster g.alloc_id g.onu) gs → AccountIsLawful s a → AccountIsLawful (after_map s gs carries) (lessened gs a)
@@ -256,11 +252,8 @@ account_mapped s gs carries a own h =
     let k : AccountIsLawful t a
     = account_stays s t a (omega arith) (λ frame early h. All-with_map (HasReported s.roster a.alloc_id frame) s.next gs s.window h (λ is. absurd (omega (arith, is, early))))
     (λ h. All-with_map (IsOwned s.roster a.alloc_id a.since) s.next gs s.window h (λ late n d lt of_it. own n d lt)) h in
-    record {
-      since = k.since;
-      counted = if_less (CountedIsLawful t a) (CountedIsLawful t (lessened gs a)) (words_among a.alloc_id gs) a.counted (λ c q. record { not_early = q.not_early; not_late = q.not_late; reported = q.reported }) k.counted;
-      owner = k.owner;
-    }
+    let fewer : IfSome (lessened gs a).counted (CountedIsLawful t (lessened gs a)) = if_less (CountedIsLawful t a) (CountedIsLawful t (lessened gs a)) (words_among a.alloc_id gs) a.counted (λ c q. search rules) k.counted in
+    search (rules, k)
 
 -- The Alloc-IDs of the report book are those of the roster.
 
@@ -270,10 +263,7 @@ ids_same rows book new same k = subst (λ ids. AreRising ids × ((i : ℕ) → l
 ids_admitted : (r : Row) (rows : List Row) (since : ℕ) (book : List Account) → has_alloc r.alloc_id rows ≡ false → AccountsFor rows book → AccountsFor (with_row r rows) (with_account (fresh_account r.alloc_id since) book)
 ids_admitted r rows since book free k = (
   admitted_rise (fresh_account r.alloc_id since) book k.0 (k.1 r.alloc_id ∙ free),
-  λ i. ap (list_any (λ j. j == i)) (with_ids (fresh_account r.alloc_id since) book)
-      ∙ list_any-inserted (λ j. j == i) (λ j. nat_lt j r.alloc_id) r.alloc_id (alloc_ids book)
-      ∙ ap (λ b. (r.alloc_id == i) || b) (k.1 i)
-      ∙ sym (list_any-inserted (λ q. q.alloc_id == i) (λ q. comes_before q r) r rows),
+  λ i. rw (with_ids (fresh_account r.alloc_id since) book, list_any-inserted, list_any-inserted, k.1 i),
 )
 
 -- whether a key is in a list without the elements of another key
@@ -287,10 +277,7 @@ any_without key i j xs =
 ids_removed : (i : ℕ) (rows : List Row) (book : List Account) → AccountsFor rows book → AccountsFor (without i rows) (without_account i book)
 ids_removed i rows book k = (
   removed_rise i book k.0,
-  λ j. list_any-map (λ k. k == j) (λ a. a.alloc_id) (without_account i book)
-      ∙ any_without (λ a. a.alloc_id) i j book
-      ∙ ap (λ b. not (j == i) && b) (sym (list_any-map (λ k. k == j) (λ a. a.alloc_id) book) ∙ k.1 j)
-      ∙ sym (any_without (λ r. r.alloc_id) i j rows),
+  λ j. rw (list_any-map, any_without (λ a. a.alloc_id) i j book, any_without (λ r. r.alloc_id) i j rows, ← k.1 j, list_any-map),
 )
 
 -- The carries.
@@ -319,15 +306,12 @@ planned s made m = sym (ap (grants_in_map s.roster) m.map ∙ window_grants s.pr
 
 -- One more entry.
 module _ (s : State) (l : IsLawfulState s) (room : s.taken_before < 2 ^ 64 - 1) where
-  numbers_after : (next : ℕ) (cause : Option ℕ) (rows : List Row) (carries : List ℕ) (loads : Loads) → next < 2 ^ 64 → HasNumbersInRange (with_parts s next cause rows carries loads)
-  numbers_after next cause rows carries loads small = search rules
-
   -- an event that changes the roster leaves the window
   rows_lawful : (rows : List Row) (carries : List ℕ) (book : List Account) → IsAdmitted s.rule s.gap rows → AccountsFor rows book → AreCarries s.rule rows carries →
       All (AccountIsLawful (with_rows s rows carries book)) book → (All (λ a. a.counted ≡ None) s.book → All (λ a. a.counted ≡ None) book) → IsLawfulState (with_rows s rows carries book)
   rows_lawful rows carries book admitted ids range accounts silent =
       let failed : IfSome s.cause (λ cause. IsSilent (with_rows s rows carries book)) = IfSome_then s.cause l.failed (λ cause k. (k.0, silent k.1)) in
-      search (rules, numbers_after s.next s.cause rows carries (record { accounts = book; window = s.window }) l.numbers.next)
+      search rules
 
   admit_lawful : (r : Row) → IsAdmitted s.rule s.gap (with_row r s.roster) → has_alloc r.alloc_id s.roster ≡ false → IsLawfulState (after_admit s r)
   admit_lawful r admitted free =
@@ -358,7 +342,7 @@ module _ (s : State) (l : IsLawfulState s) (room : s.taken_before < 2 ^ 64 - 1) 
       rows_lawful (without i s.roster) carries (without_account i s.book) (remove_keeps s.rule s.gap s.roster i l.admitted) (ids_removed i s.roster s.book l.book)
       (carries_at s.rule (without i s.roster) (carry_at s) (λ r. carry_within (max_carry s.rule) s.roster s.carries r.alloc_id l.carries.range))
       (All-filter (λ a. not (a.alloc_id == i)) (AccountIsLawful (after_remove s i)) s.book
-      (λ n d lt. account_with_rows s (without i s.roster) carries (without_account i s.book) (get_or s.book n d) (removal_keeps_owner i s.roster (get_or s.book n d).alloc_id) (l.accounts n d lt)))
+      (λ n d lt. account_with_rows s (without i s.roster) carries (without_account i s.book) (get_or s.book n d) (λ Q. All-filter (λ r. not (r.alloc_id == i)) (λ r. r.alloc_id ≡ (get_or s.book n d).alloc_id → Q r.onu) s.roster) (l.accounts n d lt)))
       (All-filter (λ a. not (a.alloc_id == i)) (λ a. a.counted ≡ None) s.book)
 
   window_lawful : IsWindow s.window
@@ -369,7 +353,6 @@ module _ (s : State) (l : IsLawfulState s) (room : s.taken_before < 2 ^ 64 - 1) 
       let ids : AccountsFor s.roster (after_report s f u ns).book = ids_same s.roster s.book _ (occupancies_ids _ f (grants_at f u s.window) ns s.book) l.book in
       search (
         rules,
-        numbers_after s.next s.cause s.roster s.carries (after_reported (loads_of s) f u ns) l.numbers.next,
         accounts_reported s l f u ns (frame_within s.next f s.window l.frames (frame_there f u (length ns) s.window accepted)).0 range,
         leads_mapped (with_report f u) (λ m. refl) s.next s.window l.frames,
         one_reported s.window window_lawful f u,
@@ -389,7 +372,6 @@ module _ (s : State) (l : IsLawfulState s) (room : s.taken_before < 2 ^ 64 - 1) 
       search (
         rules,
         kept,
-        numbers_after (s.next + 1) s.cause s.roster t.carries (after_mapped (loads_of s) s.next gs) (omega (arith, last)),
         ids_same s.roster s.book t.book (lessened_ids gs s.book) l.book,
         carries_at s.rule s.roster (λ r. left_over s.rule (owed i surplus (carry_at s) r)) (λ r. left_over_range s.rule (owed i surplus (carry_at s) r)),
         All-map (AccountIsLawful t) (lessened gs) s.book (λ n d lt. account_mapped s gs t.carries (get_or s.book n d) own (l.accounts n d lt)),
@@ -404,7 +386,6 @@ module _ (s : State) (l : IsLawfulState s) (room : s.taken_before < 2 ^ 64 - 1) 
       let failed : IfSome cause (λ _. IsSilent (after_cut s cause)) = elim cause as (λ c. IfSome c (λ _. IsSilent (after_cut s cause))) [ None ↦ tt | Some _ ↦ silent ] in
       search (
         rules,
-        numbers_after s.next cause s.roster s.carries (after_cleared (loads_of s) s.next) l.numbers.next,
         ids_same s.roster s.book (map (afresh s.next) s.book) (map-map (λ a. a.alloc_id) (afresh s.next) s.book) l.book,
         All-map (AccountIsLawful (after_cut s cause)) (afresh s.next) s.book (λ n d lt. fresh_lawful (after_cut s cause) (get_or s.book n d).alloc_id tt),
         All-nil IsLawfulMap,
