@@ -1,5 +1,6 @@
 -- What a port keeps, with one more entry.
-use Rattle.std.proofs.Common.{◌≡◌, ℕ, ◌+◌, ◌<◌, false, [], ◌∷◌, ◌++◌, length, take, get_or, refl, ap, sym, ◌∙◌, subst, arith}
+use Rattle.std.proofs.Common.{rules, ◌≡◌, ℕ, ◌+◌, ◌<◌, false, [], ◌∷◌, ◌++◌, length, take, get_or, refl, ap, sym, ◌∙◌, subst, arith}
+use Rattle.pon_history.specs.Chapters.{IsLegal, Chapter, IsLawfulOpening, IsLawfulState, cut_at}
 use Rattle.std.specs.Prelude.{None}
 use Rattle.std.proofs.lemmas.List.{length-take-le, take_more}
 use Rattle.pon_admit.specs.declared.event.Event.{Event}
@@ -16,20 +17,13 @@ use Rattle.pon_state.specs.Events.{IsEvent}
 use Rattle.pon_state.specs.Legal.{IsMade, MayFollow}
 use Rattle.pon_state.specs.Maps.{grants_in_map, makes_map}
 use Rattle.pon_state.specs.State.{State}
-use Rattle.pon_history.specs.Chapters.{Chapter, IsLawfulOpening, IsLawfulState, cut_at}
 use Rattle.pon_history.specs.Taking.{IsKept, Takes, with_entry}
 use Rattle.pon_history.proofs.Legality.{legal_none, legal_one_more, replay_push}
 use Rattle.pon_history.proofs.LawfulStates.{lawful_step, present_lawful}
 
 -- a chapter without entries, and the state that it opens with
 pub kept_none : (n : ℕ) (s : State) → IsLawfulOpening n s → IsKept (record { number = n; opening = s; entries = [] }) s
-kept_none n s l = record {
-  lawful = record { opening = l; legal = legal_none n s };
-  replayed = refl;
-  admitted = l.state.admitted;
-  book = l.state.book;
-  carries = l.state.carries;
-}
+kept_none n s l = search (rules, l, legal_none n s)
 
 -- a kept state is lawful
 pub kept_lawful : (c : Chapter) (s : State) → IsKept c s → IsLawfulState s
@@ -44,13 +38,8 @@ pub kept_next : (c d : Chapter) (s t : State) (v : Event) (r : Reply) → IsKept
 kept_next c d s t v r k follows more after =
     let e : Entry = record { event = v; reply = r } in
     let l : IsLawfulState (after_reply s v r) = lawful_step (length c.entries) s e follows (kept_lawful c s k) in
-    rw (more, after) (record {
-      lawful = record { opening = k.lawful.opening; legal = legal_one_more c e k.lawful.legal (subst (λ s. MayFollow (length c.entries) s e) k.replayed follows) };
-      replayed = ap (λ s. after_reply s v r) k.replayed ∙ sym (replay_push c.opening c.entries e);
-      admitted = l.admitted;
-      book = l.book;
-      carries = l.carries;
-    })
+    let legal : IsLegal (with_entry c v r) = legal_one_more c e k.lawful.legal (rw k.replayed at follows) in
+    rw (more, after) (search (rules, ap (λ s. after_reply s v r) k.replayed ∙ sym (replay_push c.opening c.entries e)))
 
 -- the state after a map is kept
 pub mapped : (c d : Chapter) (s t : State) (made : MadeMap) → IsKept c s → first_refusal (length c.entries) s MakeMap ≡ None → IsMade s made →
@@ -59,10 +48,9 @@ mapped c d s t made k accepted is_made more after = kept_next c d s t MakeMap (M
 
 -- a map that is made may follow
 pub map_taken : (c d : Chapter) (s : State) (made : MadeMap) → IsKept c s → first_refusal (length c.entries) s MakeMap ≡ None → IsMade s made → d ≡ with_entry c MakeMap (Map made) → Takes c MakeMap (Map made) d
-map_taken c d s made k accepted is_made more = record {
-  follows = subst (λ s. MayFollow (length c.entries) s (record { event = MakeMap; reply = Map made })) k.replayed (record { event = tt; accepted = accepted; reply = is_made });
-  kept = more;
-}
+map_taken c d s made k accepted is_made more =
+    let follows : MayFollow (length c.entries) s (record { event = MakeMap; reply = Map made }) = record { event = tt; accepted = accepted; reply = is_made } in
+    record { follows = rw k.replayed at follows; kept = more }
 
 -- the state after an event that makes no map is kept
 pub taken : (c d : Chapter) (s t : State) (v : Event) → IsKept c s → IsEvent v → makes_map v ≡ false → first_refusal (length c.entries) s v ≡ None → d ≡ with_entry c v Taken → t ≡ after_event s v → IsKept d t

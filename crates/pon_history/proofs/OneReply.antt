@@ -1,5 +1,6 @@
 -- A state has at most one reply to an event: no two certificates of its map are accepted.
-use Rattle.std.proofs.Common.{◌≡◌, refl, ap, sym, ◌∙◌, subst}
+use Rattle.pon_admit.specs.declared.event.Event.TheVariants.{MakeMap}
+use Rattle.std.proofs.Common.{◌≡◌, ap, sym, ◌∙◌, subst}
 use Rattle.pon_admit.specs.Roster.{IsAdmitted}
 use Rattle.pon_state.specs.State.{State, carry_at, input_of}
 use Rattle.pon_demand.specs.Sharing.{surplus_rate}
@@ -12,7 +13,6 @@ use Rattle.pon_state.specs.declared.reply.Reply.{Reply}
 use Rattle.pon_state.specs.declared.reply.Reply.TheVariants.{Taken, Map}
 use Rattle.pon_state.specs.declared.reply.MadeMap.{MadeMap}
 use Rattle.pon_demand.proofs.ClassShares.{one_map_certificate}
-use Rattle.pon_state.proofs.Replies.{gets_reply}
 use Rattle.pon_history.proofs.Legality.{legal_one_more}
 use Rattle.pon_history.proofs.LawfulStates.{present_lawful}
 
@@ -24,10 +24,10 @@ module _ (s : State) (k : IsAdmitted s.rule s.gap s.roster) where
       (λ i. record { frame = (p.frame ∙ sym q.frame) i; map = told i; cert = cert i })
 
   pub one_reply : (v : Event) (a b : Reply) → IsReply s v a → IsReply s v b → a ≡ b
-  one_reply v Taken Taken p q = refl
-  one_reply v (Map a) (Map b) p q = ap Map (one_made a b (subst (λ v. IsReply s v (Map a)) (gets_reply s v (Map a) p) p) (subst (λ v. IsReply s v (Map b)) (gets_reply s v (Map b) q) q))
-  one_reply v (Map a) Taken p q = absurd (subst (λ v. IsReply s v Taken) (gets_reply s v (Map a) p) q)
-  one_reply v Taken (Map b) p q = absurd (subst (λ v. IsReply s v Taken) (gets_reply s v (Map b) q) p)
+  one_reply MakeMap (Map a) (Map b) p q = ap Map (one_made a b p q)
+  one_reply MakeMap (Map a) Taken p q = absurd q
+  one_reply MakeMap Taken b p q = absurd p
+  one_reply v a b p q = p ∙ sym q
 
 -- a lawful chapter has at most one reply, and is lawful with that entry
 pub one_taken : (c d e : Chapter) (v : Event) (a b : Reply) → IsLawfulChapter c → Takes c v a d → Takes c v b e → (a ≡ b) × (d ≡ e)

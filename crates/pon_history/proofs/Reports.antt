@@ -1,5 +1,5 @@
 -- The window and the report book of the closed form, with one more entry.
-use Rattle.std.proofs.Common.{◌≡◌, ℕ, ◌-◌, ◌≤◌, Bool, false, List, [], ◌∷◌, ◌++◌, map, length, refl, ap, sym, subst, ◌∙◌, arith, inl, inr, ◌+◌, true, cond, ◌||◌, ◌&&◌, drop, append_assoc, add_assoc, suc, add-zero, zero, ◌<◌, not, get_or, ◌*◌}
+use Rattle.std.proofs.Common.{zero-add, ◌≡◌, ℕ, ◌-◌, ◌≤◌, Bool, false, List, [], ◌∷◌, ◌++◌, map, length, refl, ap, sym, subst, ◌∙◌, arith, inl, inr, ◌+◌, true, cond, ◌||◌, ◌&&◌, drop, append_assoc, add_assoc, suc, add-zero, zero, ◌<◌, not, get_or, ◌*◌}
 use Rattle.std.specs.Prelude.{if◌then◌else◌, All, Contains, Option, Some, None, flat_map, option_to_list, ◌==◌, nat_le, filter, min, nat_lt, find, option_map, Any}
 use Rattle.std.specs.List.{list_any}
 use Rattle.std.proofs.lemmas.Bool.{cases_lt, le-leb, le-ltb, lt-ltb, eq-eqb, ne_eqb, both_ways, cases_Bool, eqb-true, lt-leb, or_left, or_right}
@@ -565,24 +565,21 @@ module _ (o : State) (es : List Entry) (kept : ℕ) (leads : AllLead o es) (belo
 
   -- an account whose report neither is lessened nor meets a later one
   unmoved : (v : Event) (i : ℕ) → now v i ≡ record { alloc_id = i; since = since_of o es i; counted = latest (option_to_list (option_map (less 0) (counted_of o es i)) ++ []) } → now v i ≡ was i
-  unmoved v i h = h ∙ (λ j. record { alloc_id = i; since = since_of o es i; counted = (latest_lone (option_map (less 0) (counted_of o es i)) ∙ less_none (counted_of o es i)) j })
+  unmoved v i h = h ∙ (λ j. record (was i) { counted = (latest_lone (option_map (less 0) (counted_of o es i)) ∙ less_none (counted_of o es i)) j })
 
   -- a report counts, if it is of a frame not below the since-frame
   reported : (f u : ℕ) (occ : List (Option ℕ)) → MayFollow kept (closed_form o es) (entry (Report f u occ)) → (i : ℕ) → IsKnown i →
       now (Report f u occ) i ≡ account_reported (λ i. words_to_from u i f (window_of o es)) f (grants_at f u (window_of o es)) occ (was i)
   reported f u occ m i k =
       let same : GrantSame f (all_maps o (es ++ entry (Report f u occ) ∷ [])) (window_of o es) = window_same o es leads kept f u occ m.accepted reply in
-      continued o es (entry (Report f u occ)) below i refl
-      ∙ (λ j. record {
-        alloc_id = i;
-        since = since_of o es i;
-        counted = latest (option_to_list (less_none (counted_of o es i) j)
-            ++ (if nat_le (since_of o es i) f then reports_of (λ _. same.0 i j) f (same.1 u j) occ i else []));
-      })
-      ∙ elim (leb_tells (since_of o es i) f) [
-        | inl e ↦ rw e.0 (λ j. record { alloc_id = i; since = since_of o es i; counted = latest (option_to_list (counted_of o es i) ++ told_under (closed_form o es) lawful (was i) k.1 k.0 f u occ e.1 j) })
-        | inr e ↦ rw e.0 (λ j. record { alloc_id = i; since = since_of o es i; counted = latest_lone (counted_of o es i) j })
-      ]
+      rw (continued o es (entry (Report f u occ)) below i refl, less_none (counted_of o es i)) (elim (leb_tells (since_of o es i) f) [
+        | inl e ↦
+            let told : reports_of (λ i. words_from i f (all_maps o (es ++ entry (Report f u occ) ∷ []))) f (grants_at f u (all_maps o (es ++ entry (Report f u occ) ∷ []))) occ i
+                ≡ reports_of (λ i. words_to_from u i f (window_of o es)) f (grants_at f u (window_of o es)) occ i
+            = (λ j. reports_of (λ _. same.0 i j) f (same.1 u j) occ i) ∙ told_under (closed_form o es) lawful (was i) k.1 k.0 f u occ e.1 in
+            rw e.0 (λ j. record (was i) { counted = latest (option_to_list (counted_of o es i) ++ told j) })
+        | inr e ↦ rw e.0 (λ j. record (was i) { counted = latest_lone (counted_of o es i) j })
+      ])
 
   -- the accounts of the Alloc-IDs after an event are those of the state after it
   pushed : (v : Event) → MayFollow kept (closed_form o es) (entry v) → map (now v) (allocs_after ids v) ≡ (after_reply (closed_form o es) v reply).book
@@ -601,8 +598,7 @@ module _ (o : State) (es : List Entry) (kept : ℕ) (leads : AllLead o es) (belo
       changed (Report f u occ) (account_reported (λ i. words_to_from u i f (window_of o es)) f (grants_at f u (window_of o es)) occ) (reported f u occ m)
       ∙ sym (account_by_account (λ i. words_to_from u i f (window_of o es)) f (grants_at f u (window_of o es)) occ (map was ids))
   pushed MakeMap m = changed MakeMap (lessened (grants_in_map (roster_of o.roster es) (structures reply))) (λ i k. continued o es (entry MakeMap) below i refl
-      ∙ rw (le-leb 0 (next_of o.next es) (omega arith), (let z : 0 + words_among i (grants_in_map (roster_of o.roster es) (structures reply)) ≡ words_among i (grants_in_map (roster_of o.roster es) (structures reply)) = omega arith in z))
-      (λ j. record { alloc_id = i; since = since_of o es i; counted = latest_lone (option_map (less (words_among i (grants_in_map (roster_of o.roster es) (structures reply)))) (counted_of o es i)) j }))
+      ∙ rw (le-leb 0 (next_of o.next es) (omega arith), zero-add) (λ j. record (was i) { counted = latest_lone (option_map (less (words_among i (grants_in_map (roster_of o.roster es) (structures reply)))) (counted_of o es i)) j }))
   pushed (Fail cause) m = changed (Fail cause) (afresh (next_of o.next es)) (λ i k. begun o es (entry (Fail cause)) below i refl tt)
   pushed Restore m = changed Restore (afresh (next_of o.next es)) (λ i k. begun o es (entry Restore) below i refl tt)
 
