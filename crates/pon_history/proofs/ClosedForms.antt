@@ -161,7 +161,6 @@ carries_none s l =
     (λ r. rw add-zero (left_over_same s.rule (number_of s.roster s.carries r.alloc_id) (carry_within (max_carry s.rule) s.roster s.carries r.alloc_id l.carries.range))) s.roster
     ∙ carries_each s.roster s.carries l.admitted.apart l.carries.count
 
-
 -- The closed form.
 
 -- the closed form of no entries

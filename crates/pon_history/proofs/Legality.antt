@@ -1,14 +1,13 @@
 -- Replay and legality, entry by entry.
-use Rattle.std.proofs.Common.{◌≡◌, ℕ, zero, suc, ◌+◌, ◌<◌, ◌≤◌, ◌^◌, List, [], ◌∷◌, ◌++◌, length, take, refl, ap, sym, ◌∙◌, subst, append_assoc, arith, inl, inr}
-use Rattle.std.specs.Prelude.{◌-◌, ◌⊎◌, nat_le, Option, Some, None, slice_get}
+use Rattle.std.proofs.Common.{◌≡◌, ℕ, zero, suc, ◌+◌, ◌<◌, ◌^◌, List, [], ◌∷◌, ◌++◌, length, take, refl, ap, sym, ◌∙◌, subst, append_assoc, arith, inl, inr}
+use Rattle.std.specs.Prelude.{◌-◌, ◌⊎◌, nat_le, Some, None, slice_get}
 use Rattle.std.proofs.lemmas.Bool.{leb-false, lt-leb, or_parts}
 use Rattle.std.proofs.lemmas.List.{append-nil, take_at}
 use Rattle.std.proofs.lemmas.Option.{same_Some}
-use Rattle.pon_descr.specs.Checks.{or_else, when}
 use Rattle.pon_descr.specs.declared.refusal.Refusal.TheVariants.{ChapterFull}
 use Rattle.pon_descr.proofs.Checks.{or_else_none, when_none}
 use Rattle.pon_admit.specs.declared.event.Event.{Event}
-use Rattle.pon_admit.specs.declared.event.Event.TheVariants.{Admit, Change, Remove, Report, MakeMap, Fail, Restore}
+use Rattle.pon_admit.specs.declared.event.Event.TheVariants.{MakeMap}
 use Rattle.pon_state.specs.declared.checks.TheConstants.{MAX_ENTRIES}
 use Rattle.pon_state.specs.declared.reply.Reply.{Reply}
 use Rattle.pon_state.specs.Entry.{Entry}

@@ -575,7 +575,7 @@ module _ (o : State) (es : List Entry) (kept : ℕ) (leads : AllLead o es) (belo
       rw (continued o es (entry (Report f u occ)) below i refl, less_none (counted_of o es i)) (elim (leb_tells (since_of o es i) f) [
         | inl e ↦
             let told : reports_of (λ i. words_from i f (all_maps o (es ++ entry (Report f u occ) ∷ []))) f (grants_at f u (all_maps o (es ++ entry (Report f u occ) ∷ []))) occ i
-                ≡ reports_of (λ i. words_to_from u i f (window_of o es)) f (grants_at f u (window_of o es)) occ i
+            ≡ reports_of (λ i. words_to_from u i f (window_of o es)) f (grants_at f u (window_of o es)) occ i
             = (λ j. reports_of (λ _. same.0 i j) f (same.1 u j) occ i) ∙ told_under (closed_form o es) lawful (was i) k.1 k.0 f u occ e.1 in
             rw e.0 (λ j. record (was i) { counted = latest (option_to_list (counted_of o es i) ++ told j) })
         | inr e ↦ rw e.0 (λ j. record (was i) { counted = latest_lone (counted_of o es i) j })
