@@ -60,10 +60,7 @@ row_has rows n d l = list_any_at (λ r. r.alloc_id == (get_or rows n d).alloc_id
 since_push : (f : List Entry → Entry → ℕ) (i start : ℕ) (done es : List Entry) (e : Entry) →
     (if list_any (admits_now i) (es ++ e ∷ []) then 0 else start) + sum_since f i done (es ++ e ∷ [])
     ≡ (if admits_now i e then 0 else (if list_any (admits_now i) es then 0 else start) + sum_since f i done es) + f (done ++ es) e
-since_push f i start done [] e = rw append-nil (one (admits_now i e) start (f done e))
-  where
-    one : (c : Bool) (start last : ℕ) → (if c || false then 0 else start) + (last + 0) ≡ (if c then 0 else start + 0) + last
-    one c start last = grind arith
+since_push f i start done [] e = rw append-nil (elim (admits_now i e) as (λ c. (if c || false then 0 else start) + (f done e + 0) ≡ (if c then 0 else start + 0) + f done e) [ true ↦ omega arith | false ↦ omega arith ])
 since_push f i start done (x ∷ es) e =
     rw (since_push f i (f done x) (done ++ x ∷ []) es e, list_any-append, append_assoc done (x ∷ []) es)
     (more (list_any (admits_now i) (x ∷ es)) (admits_now i e) start ((if list_any (admits_now i) es then 0 else f done x) + sum_since f i (done ++ x ∷ []) es) (f (done ++ x ∷ es) e))

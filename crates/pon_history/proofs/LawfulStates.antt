@@ -1,14 +1,14 @@
 -- The states of a lawful chapter are lawful, and in range if its opening is.
 use Rattle.std.proofs.lemmas.Bool.{eqb-false, eqb-true, leb-false, and_from, and_parts, eq-eqb, ne_eqb, or_left, or_right}
 use Rattle.std.proofs.Common.{ℕ, ◌≤◌, not, List, [], length, ap, sym, subst, arith, ◌≡◌, ◌+◌, ◌-◌, ◌^◌, ◌<◌, true, false, ◌||◌, ◌&&◌, ◌∷◌, map, take, refl, ◌++◌, ◌∙◌, get_or, Bool, inl, inr, drop, rules}
-use Rattle.std.specs.Prelude.{◌==◌, nat_lt, IfSome, if◌then◌else◌, All, Any, Option, Some, None, ◌≢◌, filter, Contains, option_map, option_to_list}
+use Rattle.std.specs.Prelude.{flat_map, ◌==◌, nat_lt, IfSome, if◌then◌else◌, All, Any, Option, Some, None, ◌≢◌, filter, Contains, option_map, option_to_list}
 use Rattle.std.proofs.lemmas.List.{length-map, take-append-drop}
-use Rattle.std.proofs.lemmas.List.Elements.{All-filter, All-map, All-nil, All-weaker, All-append, All-contains, All-cons, All-drop, All-head, All-push, All-tail, Contains-get_or, filter_passes}
+use Rattle.std.proofs.lemmas.List.Elements.{All-filter, All-map, All-nil, All-weaker, All-append, All-cons, All-drop, All-head, All-push, All-tail, Contains-get_or, filter_passes}
 use Rattle.std.proofs.lemmas.List.Sums.{get_or-le-sum_by}
 use Rattle.pon_units.specs.declared.granted.Granted.{Granted}
 use Rattle.pon_units.specs.declared.limits.TheConstants.{MAX_OCCUPANCY, FRAME_WORDS}
 use Rattle.pon_lists.specs.Distinct.{distinct}
-use Rattle.pon_lists.proofs.Lists.{map-map, sum_by-map, any_eq-filter, list_any-map, map_filter, none_any, All-unmap}
+use Rattle.pon_lists.proofs.Lists.{All-unmap, map-map, sum_by-map, any_eq-filter, list_any-map, map_filter, none_any}
 use Rattle.pon_admit.specs.declared.event.Event.{Event}
 use Rattle.pon_admit.specs.declared.event.Event.TheVariants.{Admit, Change, Remove, Report, MakeMap, Fail, Restore}
 use Rattle.pon_admit.specs.Roster.{max_allocs, max_carry, IsAdmitted, comes_before, has_alloc, left_over, with_descriptor, with_row, without, IsDistinct}
@@ -79,6 +79,20 @@ contains_filtered p u xs passes there =
 pub All-inserted : {X : Type 0} (P : X → Type 0) (p : X → Bool) (x : X) (xs : List X) → P x → All P xs → All P (with_inserted p x xs)
 All-inserted P p x xs here h =
     All-append P (filter p xs) (x ∷ filter (λ y. not (p y)) xs) (All-filter p P xs h) (All-cons P x (filter (λ y. not (p y)) xs) here (All-filter (λ y. not (p y)) P xs h))
+
+-- what holds of all elements of the lists that a list is made into
+pub flat_all : {X Y : Type 0} (P : Y → Type 0) (f : X → List Y) (xs : List X) → All (λ x. All P (f x)) xs → All P (flat_map f xs)
+flat_all P f [] h = All-nil P
+flat_all P f (x ∷ xs) h = All-append P (f x) (flat_map f xs) (All-head (λ x. All P (f x)) x xs h) (flat_all P f xs (All-tail (λ x. All P (f x)) x xs h))
+
+-- what holds of all grants of the maps of a frame holds of those to an ONU
+pub grants_at_all : (P : Granted → Type 0) (f u : ℕ) (ms : List WindowMap) → All (λ m. m.frame ≡ f → All P m.grants) ms → All (λ g. P g × (g.onu ≡ u)) (grants_at f u ms)
+grants_at_all P f u ms h =
+    let of_frame : List WindowMap = filter (λ m. m.frame == f) ms in
+    let all : List Granted = flat_map (λ m. m.grants) of_frame in
+    let each : All P all
+    = flat_all P (λ m. m.grants) of_frame (λ n d k. All-filter (λ m. m.frame == f) (λ m. m.frame ≡ f → All P m.grants) ms h n d k (eqb-true (get_or of_frame n d).frame f (filter_passes (λ m. m.frame == f) ms n d k))) in
+    (λ n d k. (All-filter (λ g. g.onu == u) P all each n d k, eqb-true (get_or (grants_at f u ms) n d).onu u (filter_passes (λ g. g.onu == u) all n d k)))
 
 -- Accounts.
 
@@ -198,22 +212,18 @@ module _ (s : State) (l : IsLawfulState s) (f u : ℕ) (ns : List (Option ℕ)) 
     stays_lawful : StaysWithReport (AccountIsLawful (after_report s f u ns)) f g
     stays_lawful a words small of_it early h =
         let new : Counted = record { frame = f; words = words } in
+        let owner : All (IsOwned s.roster a.alloc_id a.since) s.window = All-unmap (IsOwned s.roster a.alloc_id a.since) (with_report f u) s.window h.owner in
+        let told : (g.alloc_id ≡ a.alloc_id → Owns s.roster g.alloc_id g.onu) × (g.onu ≡ u)
+        = rw granted.2 at (grants_at_all (λ g. g.alloc_id ≡ a.alloc_id → Owns s.roster g.alloc_id g.onu) f u s.window (λ n d lt is. owner n d lt (omega (arith, early, is))) granted.0 g granted.1) in
         let is : CountedIsLawful (after_report s f u ns) (with_latest new a) new = record {
           not_early = early;
           not_late = below;
-          reported = All-map (HasReported s.roster a.alloc_id f) (with_report f u) s.window (λ n d lt. one (get_or s.window n d) (one_of_frame s.next f s.window l.frames n d lt) (All-unmap (IsOwned s.roster a.alloc_id a.since) (with_report f u) s.window h.owner n d lt));
+          reported = All-map (HasReported s.roster a.alloc_id f) (with_report f u) s.window (λ k e within at n d lt is.
+              subst (Contains (with_report f u (get_or s.window k e)).reported) (sym (told.0 (sym of_it) n d lt (is ∙ of_it) ∙ told.1))
+              (reported_now f u (get_or s.window k e) g at (subst (λ gs. Contains gs g) (grants_of_one f u s.window (get_or s.window k e) (one_of_frame s.next f s.window l.frames k e within at)) granted)));
         } in
         let was : IfSome a.counted (CountedIsLawful (after_report s f u ns) (with_latest new a)) = IfSome_then a.counted h.counted (λ c k. search rules) in
         search (rules, latest_two (CountedIsLawful (after_report s f u ns) (with_latest new a)) a.counted new was is)
-      where
-        one : (m : WindowMap) → (m.frame ≡ f → filter (λ m. m.frame == f) s.window ≡ m ∷ []) → IsOwned s.roster a.alloc_id a.since m → HasReported s.roster a.alloc_id f (with_report f u m)
-        one m alone own at n d lt is =
-            let there : Contains (filter (λ g. g.onu == u) m.grants) g = subst (λ gs. Contains gs g) (grants_of_one f u s.window m (alone at)) granted in
-            let by_it : g.onu ≡ u = eqb-true g.onu u (All-contains (λ g. (g.onu == u) ≡ true) (filter (λ g. g.onu == u) m.grants) g (filter_passes (λ g. g.onu == u) m.grants) there) in
-            let owns : g.alloc_id ≡ a.alloc_id → Owns s.roster g.alloc_id g.onu
-            = All-contains (λ g. g.alloc_id ≡ a.alloc_id → Owns s.roster g.alloc_id g.onu) (filter (λ g. g.onu == u) m.grants) g
-            (All-filter (λ g. g.onu == u) (λ g. g.alloc_id ≡ a.alloc_id → Owns s.roster g.alloc_id g.onu) m.grants (own (omega (arith, early, at)))) there in
-            subst (Contains (with_report f u m).reported) (sym (owns (sym of_it) n d lt (is ∙ of_it) ∙ by_it)) (reported_now f u m g at there)
 
   -- each account with its occupancies
   pub accounts_reported : f < s.next → All IsOccupancy ns → All (AccountIsLawful (after_report s f u ns)) (after_report s f u ns).book

@@ -21,7 +21,7 @@ use Rattle.pon_history.specs.Taking.{with_entry}
 
 -- Elements of a list that is split.
 
-at_front : {X : Type 0} (xs ys : List X) (x : X) (k : ℕ) → slice_get xs k ≡ Some x → (slice_get (xs ++ ys) k ≡ Some x) × (take k (xs ++ ys) ≡ take k xs)
+pub at_front : {X : Type 0} (xs ys : List X) (x : X) (k : ℕ) → slice_get xs k ≡ Some x → (slice_get (xs ++ ys) k ≡ Some x) × (take k (xs ++ ys) ≡ take k xs)
 at_front [] ys x k h = absurd cc
 at_front (z ∷ xs) ys x zero h = (h, refl)
 at_front (z ∷ xs) ys x (suc k) h = (let rest = at_front xs ys x k h in (rest.0, ap (λ t. z ∷ t) rest.1))

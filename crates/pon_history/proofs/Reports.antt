@@ -5,7 +5,7 @@ use Rattle.std.specs.List.{list_any}
 use Rattle.std.proofs.lemmas.Bool.{cases_lt, le-leb, le-ltb, lt-ltb, eq-eqb, ne_eqb, both_ways, cases_Bool, eqb-true, lt-leb, or_left, or_right}
 use Rattle.std.proofs.lemmas.Bool.Decides.{leb_tells, eqb_tells, nat_tests}
 use Rattle.std.proofs.lemmas.List.{drop_at, drop_all, map-id}
-use Rattle.std.proofs.lemmas.List.Elements.{All-append, All-cons, All-contains, All-contains_itself, All-drop, All-head, All-map, All-nil, All-tail, All-weaker, All-filter, filter_passes, All-push}
+use Rattle.std.proofs.lemmas.List.Elements.{All-append, All-cons, All-contains, All-contains_itself, All-drop, All-head, All-map, All-nil, All-tail, All-weaker, All-filter, All-push}
 use Rattle.pon_lists.proofs.Lists.{All-front, All-unmap, any_eq-filter, append-nil, drop-append-le, drop-drop, drop-map, filter_agree, filter_same_in, length-append, length-drop, length-map, map-append, map-map, map_same, or-false, or_assoc, count_by-append, filter-append, flat_map-append, flat_map-map, map_filter, sum_by-map, sum_by_agree}
 use Rattle.pon_guar.specs.declared.account.Account.{Account}
 use Rattle.pon_guar.specs.declared.account.Counted.{Counted}
@@ -42,7 +42,7 @@ use Rattle.pon_guar.proofs.Accounts.{accounts_all, found_each}
 use Rattle.pon_guar.proofs.LessByGrants.{less_none}
 use Rattle.pon_state.specs.Checks.{first_refusal, when_full}
 use Rattle.pon_state.specs.Legal.{MayFollow}
-use Rattle.pon_history.proofs.LawfulStates.{frame_within}
+use Rattle.pon_history.proofs.LawfulStates.{flat_all, frame_within, grants_at_all}
 
 -- The parts of the closed form over a list that is split.
 
@@ -69,16 +69,12 @@ frame_at_last-append t s n (x ∷ xs) ys =
     frame_at_last-append t (if t x then n else s) (next_of n (x ∷ [])) xs ys
     ∙ ap (λ k. frame_at_last t (frame_at_last t s n (x ∷ xs)) k ys) (next_of-cons n x xs)
 
--- the next frame never decreases
-pub next_of_grows : (n : ℕ) (xs : List Entry) → n ≤ next_of n xs
-next_of_grows n xs = omega arith
-
 -- it is never above the last next frame
 pub frame_at_last_below : (t : Entry → Bool) (s n : ℕ) (xs : List Entry) → s ≤ n → frame_at_last t s n xs ≤ next_of n xs
 frame_at_last_below t s n [] h = omega arith
 frame_at_last_below t s n (x ∷ xs) h = subst (λ k. frame_at_last t (if t x then n else s) (next_of n (x ∷ [])) xs ≤ k) (next_of-cons n x xs)
     (frame_at_last_below t (if t x then n else s) (next_of n (x ∷ [])) xs
-    (elim (t x) as (λ c. (if c then n else s) ≤ next_of n (x ∷ [])) [ true ↦ next_of_grows n (x ∷ []) | false ↦ omega (arith, next_of_grows n (x ∷ [])) ]))
+    (elim (t x) as (λ c. (if c then n else s) ≤ next_of n (x ∷ [])) [ true ↦ omega arith | false ↦ omega arith ]))
 
 -- the Alloc-IDs of the book
 pub allocs_of-append : (ids : List ℕ) (xs ys : List Entry) → allocs_of ids (xs ++ ys) ≡ allocs_of (allocs_of ids xs) ys
@@ -484,10 +480,6 @@ lessened_alike f v w i (g ∷ gs) (Some n ∷ ns) h = elim (eqb_tells g.alloc_id
   | inr e ↦ rw e.0 (lessened_alike f v w i gs ns (All-tail (λ g. g.alloc_id ≡ i → v ≡ w) g gs h))
 ]
 
-pub flat_all : {X Y : Type 0} (P : Y → Type 0) (f : X → List Y) (xs : List X) → All (λ x. All P (f x)) xs → All P (flat_map f xs)
-flat_all P f [] h = All-nil P
-flat_all P f (x ∷ xs) h = All-append P (f x) (flat_map f xs) (All-head (λ x. All P (f x)) x xs h) (flat_all P f xs (All-tail (λ x. All P (f x)) x xs h))
-
 -- the words that reports are lessened by are all granted under the reporting ONU
 told_under : (s : State) → IsLawfulState s → (a : Account) → AccountIsLawful s a → has_alloc a.alloc_id s.roster ≡ true → (f u : ℕ) (ns : List (Option ℕ)) → a.since ≤ f →
     reports_of (λ i. words_from i f s.window) f (grants_at f u s.window) ns a.alloc_id ≡ reports_of (λ i. words_to_from u i f s.window) f (grants_at f u s.window) ns a.alloc_id
@@ -495,15 +487,10 @@ told_under s l a lawful admitted f u ns early =
     let row : (v : ℕ) × ((w : ℕ) → Owns s.roster a.alloc_id w → w ≡ v) = onu_there s.roster a.alloc_id admitted in
     let own : All (λ m. f ≤ m.frame → All (λ g. g.alloc_id ≡ a.alloc_id → g.onu ≡ row.0) m.grants) s.window
     = (λ n d k late n' d' k' is. row.1 (get_or (get_or s.window n d).grants n' d').onu (subst (λ i. Owns s.roster i (get_or (get_or s.window n d).grants n' d').onu) is (lawful.owner n d k (omega (arith, early, late)) n' d' k' is))) in
-    let of_frame : List WindowMap = filter (λ m. m.frame == f) s.window in
-    let all : List Granted = flat_map (λ m. m.grants) of_frame in
-    let own_all : All (λ g. g.alloc_id ≡ a.alloc_id → g.onu ≡ row.0) all
-    = flat_all (λ g. g.alloc_id ≡ a.alloc_id → g.onu ≡ row.0) (λ m. m.grants) of_frame
-    (λ n d k. All-filter (λ m. m.frame == f) (λ m. f ≤ m.frame → All (λ g. g.alloc_id ≡ a.alloc_id → g.onu ≡ row.0) m.grants) s.window own n d k
-    (let at : (get_or of_frame n d).frame ≡ f = eqb-true (get_or of_frame n d).frame f (filter_passes (λ m. m.frame == f) s.window n d k) in omega (arith, at))) in
+    let at : All (λ g. (g.alloc_id ≡ a.alloc_id → g.onu ≡ row.0) × (g.onu ≡ u)) (grants_at f u s.window)
+    = grants_at_all (λ g. g.alloc_id ≡ a.alloc_id → g.onu ≡ row.0) f u s.window (λ n d k is. own n d k (omega (arith, is))) in
     lessened_alike f (words_from a.alloc_id f s.window) (words_to_from u a.alloc_id f s.window) a.alloc_id (grants_at f u s.window) ns (λ n d k is.
-    words_agree a.alloc_id u f s.window l.maps (subst (λ v. All (λ m. f ≤ m.frame → All (λ g. g.alloc_id ≡ a.alloc_id → g.onu ≡ v) m.grants) s.window)
-    (sym (All-filter (λ g. g.onu == u) (λ g. g.alloc_id ≡ a.alloc_id → g.onu ≡ row.0) all own_all n d k is) ∙ eqb-true (get_or (grants_at f u s.window) n d).onu u (filter_passes (λ g. g.onu == u) all n d k)) own))
+    words_agree a.alloc_id u f s.window l.maps (subst (λ v. All (λ m. f ≤ m.frame → All (λ g. g.alloc_id ≡ a.alloc_id → g.onu ≡ v) m.grants) s.window) (sym ((at n d k).0 is) ∙ (at n d k).1) own))
 
 -- The report book.
 
@@ -525,7 +512,7 @@ pub below_push : (o : State) (es : List Entry) (kept : ℕ) (e : Entry) → AllL
 below_push o es kept e leads below m = below_more (next_of o.next es) (next_of o.next (es ++ e ∷ [])) es e later below (one e.event m.accepted)
   where
     later : next_of o.next es ≤ next_of o.next (es ++ e ∷ [])
-    later = omega (arith, next_of-append o.next es (e ∷ []), next_of_grows (next_of o.next es) (e ∷ []))
+    later = omega (arith, next_of-append o.next es (e ∷ []))
 
     one : (v : Event) → first_refusal kept (closed_form o es) v ≡ None → EventBelow (next_of o.next (es ++ e ∷ [])) v
     one (Report f u occ) h = omega (arith, later, (within o es leads kept f u occ h).0)

@@ -1,22 +1,35 @@
 -- A state has a reply to each event that no check refuses: there is a certificate of its map.
-use Rattle.std.proofs.Common.{◌≡◌, length, refl}
-use Rattle.std.specs.Prelude.{None}
+use Rattle.std.proofs.Common.{refl, ◌≡◌, length}
+use Rattle.pon_descr.specs.declared.class.Class.TheVariants.{NonAssured, BestEffort}
 use Rattle.pon_admit.specs.Roster.{IsAdmitted}
-use Rattle.pon_state.specs.State.{State, carry_at, input_of}
+use Rattle.pon_cert.specs.declared.cert.ClassCert.{ClassCert}
 use Rattle.pon_cert.specs.declared.cert.MapCert.{MapCert}
-use Rattle.pon_demand.specs.Sharing.{IsCertified, surplus_rate}
+use Rattle.pon_cert.specs.Certificate.{IsCertificate, left_surplus}
+use Rattle.pon_fill.proofs.EachProblem.{each_problem}
+use Rattle.pon_demand.specs.Input.{Input}
+use Rattle.pon_demand.specs.Sharing.{IsCertified, items, surplus, surplus_rate}
+use Rattle.pon_demand.proofs.ClassShares.{weighted}
+use Rattle.std.specs.Prelude.{None}
+use Rattle.pon_state.specs.State.{State, carry_at, input_of}
 use Rattle.pon_demand.specs.Maps.{map_of}
 use Rattle.pon_state.specs.Events.{IsEvent}
 use Rattle.pon_state.specs.Legal.{IsMade, IsReply, MayFollow}
 use Rattle.pon_history.specs.Chapters.{Chapter, IsLawfulChapter, present_state}
 use Rattle.pon_history.specs.Taking.{Takes, refusal_of, with_entry}
 use Rattle.pon_admit.specs.declared.event.Event.{Event}
-use Rattle.pon_admit.specs.declared.event.Event.TheVariants.{Admit, Change, Remove, Report, MakeMap, Fail, Restore}
+use Rattle.pon_admit.specs.declared.event.Event.TheVariants.{MakeMap}
 use Rattle.pon_state.specs.declared.reply.Reply.{Reply}
 use Rattle.pon_state.specs.declared.reply.Reply.TheVariants.{Taken, Map}
 use Rattle.pon_state.specs.declared.reply.MadeMap.{MadeMap}
-use Rattle.pon_port.proofs.EachCertificate.{each_map_certificate}
 use Rattle.pon_history.proofs.LawfulStates.{present_lawful}
+
+-- each admitted set has a certificate of its map
+each_map_certificate : (s : Input) → IsAdmitted s.rule s.gap s.roster → (cert : MapCert) × IsCertified s cert
+each_map_certificate s k =
+    let na : (cert : ClassCert) × IsCertificate (items NonAssured s) (surplus s) cert = each_problem (items NonAssured s) (surplus s) (weighted s k NonAssured refl) in
+    let be : (cert : ClassCert) × IsCertificate (items BestEffort s) (left_surplus na.0.level (items NonAssured s) (surplus s)) cert
+    = each_problem (items BestEffort s) (left_surplus na.0.level (items NonAssured s) (surplus s)) (weighted s k BestEffort refl) in
+    (record { na = na.0; be = be.0 }, record { non_assured = na.1; best_effort = be.1 })
 
 module _ (s : State) (k : IsAdmitted s.rule s.gap s.roster) where
   each_made : (made : MadeMap) × IsMade s made

@@ -1,8 +1,8 @@
 -- The last map of a chapter with one more entry.
-use Rattle.std.proofs.Common.{◌≡◌, ℕ, ◌<◌, List, [], ◌∷◌, ◌++◌, length, refl, ap, sym, ◌∙◌, subst, ◌≤◌, arith}
+use Rattle.pon_history.proofs.Legality.{at_front, at_middle}
+use Rattle.std.proofs.Common.{◌≡◌, ℕ, List, [], ◌∷◌, ◌++◌, length, refl, ap, sym, ◌∙◌, subst, ◌≤◌, arith}
 use Rattle.std.specs.Prelude.{Option, Some, None, slice_get}
-use Rattle.std.proofs.lemmas.Option.{slice_get-get_or, slice_get_within, get_or_from_slice_get}
-use Rattle.std.proofs.lemmas.List.{get_or_append_left, length-append, length-map}
+use Rattle.std.proofs.lemmas.List.{length-map}
 use Rattle.std.proofs.lemmas.Slice.Zip.{AllZip-long}
 use Rattle.pon_descr.specs.declared.class.Class.{Class}
 use Rattle.pon_descr.specs.declared.class.Class.TheVariants.{NonAssured, BestEffort}
@@ -32,15 +32,6 @@ last_push : (before : Option LastMap) (s : State) (es : List Entry) (e : Entry) 
 last_push before s [] e = refl
 last_push before s (x ∷ es) e = last_push (told_last before s.roster x.reply) (after_entry s x) es e
 
-get_old : {X : Type 0} (xs : List X) (y : X) (k : ℕ) (x : X) → slice_get xs k ≡ Some x → slice_get (xs ++ y ∷ []) k ≡ Some x
-get_old xs y k x at =
-    let within : k < length xs = slice_get_within xs k x at in
-    slice_get-get_or (xs ++ y ∷ []) k x (omega (arith, within, length-append xs (y ∷ []))) ∙ ap Some (get_or_append_left xs (y ∷ []) x k within ∙ get_or_from_slice_get xs k x x at)
-
-get_new : {X : Type 0} (xs : List X) (y : X) → slice_get (xs ++ y ∷ []) (length xs) ≡ Some y
-get_new [] y = refl
-get_new (x ∷ xs) y = get_new xs y
-
 -- an event with the reply `Taken` leaves the last map unchanged
 pub last_kept : (c d : Chapter) (v : Event) (place : Option ℕ) (na be : List ℕ) → d ≡ with_entry c v Taken → KeepsLast c place na be → KeepsLast d place na be
 last_kept c d v place na be more h = subst (λ d. KeepsLast d place na be) (sym more) (step place h)
@@ -56,7 +47,7 @@ last_kept c d v place na be more h = subst (λ d. KeepsLast d place na be) (sym 
     step (Some k) h = record {
       made = h.made;
       entry = h.entry;
-      at = get_old c.entries e k h.entry h.at;
+      at = (at_front c.entries (e ∷ []) h.entry k h.at).0;
       is_map = h.is_map;
       is_last = same ∙ h.is_last;
       members = h.members;
@@ -88,5 +79,5 @@ last_made c d s made place na be k m more here na_is be_is =
     = last_push None c.opening c.entries e
     ∙ (λ i. Some (record { made = made; na = (ap (member_ids NonAssured) (sym rows) ∙ sym na_is) i; be = (ap (member_ids BestEffort) (sym rows) ∙ sym be_is) i })) in
     let members : MatchesMembers made.cert na be = rw (na_is, be_is) (suits_made s made k.admitted m) in
-    let at : slice_get (c.entries ++ e ∷ []) place ≡ Some e = ap (slice_get (c.entries ++ e ∷ [])) here ∙ get_new c.entries e in
+    let at : slice_get (c.entries ++ e ∷ []) place ≡ Some e = ap (slice_get (c.entries ++ e ∷ [])) here ∙ at_middle c.entries e [] in
     subst (λ d. KeepsLast d (Some place) na be) (sym more) (record { made = made; entry = e; at = at; is_map = refl; is_last = told; members = members })

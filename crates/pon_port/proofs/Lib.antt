@@ -1,4 +1,3 @@
-pub mod EachCertificate
 pub mod EachReply
 pub mod LastMaps
 pub mod Turning

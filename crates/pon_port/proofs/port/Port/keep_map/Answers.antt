@@ -23,36 +23,37 @@ accepted c =
     subst (λ s. first_refusal (length c.self.inside.entries.items) s MakeMap ≡ None) (sym c.self.invariant.kept.replayed)
     (subst (λ port. refusal_of port MakeMap ≡ None) (sym c.self.view_is) c.requires.accepted)
 
+-- the port before and after it
+abbrev old : goal.After-push_reserved → Chapter
+old c = record { number = c.self.inside.number; opening = c.self.inside.opening; entries = c.self.inside.entries.items }
+
+abbrev new : goal.After-push_reserved → Chapter
+new c = record { number = c.self.inside.number; opening = c.self.inside.opening; entries = c.push_reserved.new.self.items }
+
+more : (c : goal.After-push_reserved) → new c ≡ with_entry (old c) MakeMap (Map c.args.next.made)
+more c = search rules
+
+takes : (c : goal.After-push_reserved) → Takes (old c) MakeMap (Map c.args.next.made) (new c)
+takes c = map_taken (old c) (new c) c.self.inside.state c.args.next.made c.self.invariant.kept (accepted c) (ready c).made (more c)
+
 pub invariant_of-self-2 : goal.invariant_of-self-2
-invariant_of-self-2 c =
-    let old : Chapter = record { number = c.self.inside.number; opening = c.self.inside.opening; entries = c.self.inside.entries.items } in
-    let new : Chapter = record { number = c.self.inside.number; opening = c.self.inside.opening; entries = c.push_reserved.new.self.items } in
-    let more : new ≡ with_entry old MakeMap (Map c.args.next.made) = search rules in
-    record {
-      kept = mapped old new c.self.inside.state _ c.args.next.made c.self.invariant.kept (accepted c) (ready c).made more (rw (← (ready c).grants, ← (ready c).carries) (search rules));
-      in_range = c.self.invariant.in_range;
-      last = last_made old new c.self.inside.state c.args.next.made c.len.result c.args.next.na.items c.args.next.be.items c.self.invariant.kept (ready c).made more (search rules) (ready c).na (ready c).be;
-    }
+invariant_of-self-2 c = record {
+  kept = mapped (old c) (new c) c.self.inside.state _ c.args.next.made c.self.invariant.kept (accepted c) (ready c).made (more c) (rw (← (ready c).grants, ← (ready c).carries) (search rules));
+  in_range = c.self.invariant.in_range;
+  last = last_made (old c) (new c) c.self.inside.state c.args.next.made c.len.result c.args.next.na.items c.args.next.be.items c.self.invariant.kept (ready c).made (more c) (search rules) (ready c).na (ready c).be;
+}
 
 pub returns-clause-ok : goal.returns-clause-ok
-returns-clause-ok c =
-    let old : Chapter = record { number = c.self.inside.number; opening = c.self.inside.opening; entries = c.self.inside.entries.items } in
-    let new : Chapter = record { number = c.self.inside.number; opening = c.self.inside.opening; entries = c.push_reserved.new.self.items } in
-    subst (λ old. Takes old MakeMap (Map c.args.next.made) new) c.self.view_is
-    (map_taken old new c.self.inside.state c.args.next.made c.self.invariant.kept (accepted c) (ready c).made (search rules))
+returns-clause-ok c = subst (λ old. Takes old MakeMap (Map c.args.next.made) (new c)) c.self.view_is (takes c)
 
 pub returns-clause-runs : goal.returns-clause-runs
-returns-clause-runs c =
-    let old : Chapter = record { number = c.self.inside.number; opening = c.self.inside.opening; entries = c.self.inside.entries.items } in
-    let new : Chapter = record { number = c.self.inside.number; opening = c.self.inside.opening; entries = c.push_reserved.new.self.items } in
-    let takes : Takes old MakeMap (Map c.args.next.made) new = map_taken old new c.self.inside.state c.args.next.made c.self.invariant.kept (accepted c) (ready c).made (search rules) in
-    whole_runs new (taken_lawful old new MakeMap (Map c.args.next.made) c.self.invariant.kept.lawful takes)
+returns-clause-runs c = whole_runs (new c) (taken_lawful (old c) (new c) MakeMap (Map c.args.next.made) c.self.invariant.kept.lawful (takes c))
 
 pub add_map-requires-clause-frames : goal.add_map-requires-clause-frames
 add_map-requires-clause-frames c = kept_frames _ c.self.inside.state c.self.invariant.kept
 
 pub returns-clause-fair : goal.returns-clause-fair
 returns-clause-fair c =
-    let old : Chapter = record { number = c.self.inside.number; opening = c.self.inside.opening; entries = c.self.inside.entries.items } in
-    let fair : IsFairMap (present_state old) c.args.next.made = subst (λ s. IsFairMap s c.args.next.made) c.self.invariant.kept.replayed (fair_map c.self.inside.state c.self.invariant.kept.admitted c.self.invariant.kept.carries c.args.next.made (ready c).made) in
+    let fair : IsFairMap (present_state (old c)) c.args.next.made
+    = rw c.self.invariant.kept.replayed at (fair_map c.self.inside.state c.self.invariant.kept.admitted c.self.invariant.kept.carries c.args.next.made (ready c).made) in
     subst (λ old. IsFairMap (present_state old) c.args.next.made) c.self.view_is fair
