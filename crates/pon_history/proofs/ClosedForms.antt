@@ -38,7 +38,7 @@ use Rattle.pon_history.specs.Carries.{admits_now, carry_after, owed_of, rate_of_
 use Rattle.pon_history.specs.ClosedForm.{closed_form}
 use Rattle.pon_lists.proofs.Inserted.{list_any-inserted}
 use Rattle.pon_history.proofs.Reports.{roster_of-append, cause_of-append, next_of-append, AllLead, leads_next, leads_none, window_none, window_push, IsBelow, below_push, book_none, book_push, map_agree}
-use Rattle.pon_history.proofs.Legality.{along, replay_push}
+use Rattle.pon_history.proofs.Legality.{along, later_one, replay_push}
 
 -- The Alloc-IDs of a roster.
 
@@ -167,40 +167,32 @@ closed_none s l =
     let count : s.taken_before + 0 ≡ s.taken_before = omega arith in
     (λ i. record s { next = next i; taken_before = count i; book = book_none s l i; carries = carries_none s l i; window = window_none s l i })
 
+-- what an entry does to the next frame, the cause and the roster
+parts_after : (s : State) (v : Event) (reply : Reply) → ((after_reply s v reply).next ≡ next_of s.next (record { event = v; reply = reply } ∷ [])) × ((after_reply s v reply).cause ≡ cause_after s.cause v)
+    × ((after_reply s v reply).roster ≡ roster_after s.roster v)
+parts_after s MakeMap reply = (omega arith, refl, refl)
+parts_after s v reply = (omega arith, refl, refl)
+
 -- the closed form of one more entry
 module _ (o : State) (es : List Entry) (kept : ℕ) (leads : AllLead o es) (below : All (IsBelow (next_of o.next es)) es)
     (l : IsLawfulState (closed_form o es)) (same : replay o es ≡ closed_form o es) where
-  joined : (e : Entry) → MayFollow kept (closed_form o es) e → (next : ℕ) → next_of (next_of o.next es) (e ∷ []) ≡ next → closed_form o (es ++ e ∷ []) ≡ record (after_entry (closed_form o es) e) {
-    rule = o.rule;
-    gap = o.gap;
-    profile = o.profile;
-    next = next;
-    cause = cause_after (closed_form o es).cause e.event;
-    taken_before = (closed_form o es).taken_before + 1;
-    roster = roster_after (closed_form o es).roster e.event;
-  }
-  joined e m next is =
+  closed_push : (e : Entry) → MayFollow kept (closed_form o es) e → closed_form o (es ++ e ∷ []) ≡ after_entry (closed_form o es) e
+  closed_push e m =
       let count : o.taken_before + length (es ++ e ∷ []) ≡ (o.taken_before + length es) + 1 = omega (arith, length-append es (e ∷ [])) in
+      let later = later_one (closed_form o es) e.event e.reply in
+      let parts = parts_after (closed_form o es) e.event e.reply in
       (λ j. record {
-        rule = o.rule;
-        gap = o.gap;
-        profile = o.profile;
-        next = (next_of-append o.next es (e ∷ []) ∙ is) j;
-        cause = cause_of-append o.cause es (e ∷ []) j;
-        taken_before = count j;
-        roster = roster_of-append o.roster es (e ∷ []) j;
+        rule = sym later.rule j;
+        gap = sym later.gap j;
+        profile = sym later.profile j;
+        next = (next_of-append o.next es (e ∷ []) ∙ sym parts.0) j;
+        cause = (cause_of-append o.cause es (e ∷ []) ∙ sym parts.1) j;
+        taken_before = (count ∙ sym later.taken_before) j;
+        roster = (roster_of-append o.roster es (e ∷ []) ∙ sym parts.2) j;
         book = book_push o es kept e leads below l m j;
         carries = carries_push o es l same e.event e.reply m.reply j;
         window = window_push o es leads l e.reply e.event j;
       })
-
-  one : (v : Event) (reply : Reply) → MayFollow kept (closed_form o es) (record { event = v; reply = reply }) →
-      closed_form o (es ++ record { event = v; reply = reply } ∷ []) ≡ after_reply (closed_form o es) v reply
-  one MakeMap reply m = joined (record { event = MakeMap; reply = reply }) m (next_of o.next es + 1) (omega arith)
-  one v reply m = joined (record { event = v; reply = reply }) m (next_of o.next es) (omega arith)
-
-  closed_push : (e : Entry) → MayFollow kept (closed_form o es) e → closed_form o (es ++ e ∷ []) ≡ after_entry (closed_form o es) e
-  closed_push e m = one e.event e.reply m
 
 -- what holds after each entry of a legal history
 pub record Holds (o : State) (es : List Entry) : Type 0 where

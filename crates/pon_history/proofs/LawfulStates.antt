@@ -1,66 +1,67 @@
 -- The states of a lawful chapter are lawful, and in range if its opening is.
-use Rattle.std.proofs.lemmas.Bool.{eqb-false, eqb-true, leb-false, and_from, and_parts, eq-eqb, ne_eqb, or_left, or_right}
-use Rattle.std.proofs.Common.{ℕ, ◌≤◌, not, List, [], length, ap, sym, subst, arith, ◌≡◌, ◌+◌, ◌-◌, ◌^◌, ◌<◌, true, false, ◌||◌, ◌&&◌, ◌∷◌, map, take, refl, ◌++◌, ◌∙◌, get_or, Bool, inl, inr, drop, rules}
-use Rattle.std.specs.Prelude.{flat_map, ◌==◌, nat_lt, IfSome, if◌then◌else◌, All, Any, Option, Some, None, ◌≢◌, filter, Contains, option_map, option_to_list}
-use Rattle.std.proofs.lemmas.List.{length-map, take-append-drop}
-use Rattle.std.proofs.lemmas.List.Elements.{All-filter, All-map, All-nil, All-weaker, All-append, All-cons, All-drop, All-head, All-push, All-tail, Contains-get_or, filter_passes}
-use Rattle.std.proofs.lemmas.List.Sums.{get_or-le-sum_by}
-use Rattle.pon_units.specs.declared.granted.Granted.{Granted}
-use Rattle.pon_units.specs.declared.limits.TheConstants.{MAX_OCCUPANCY, FRAME_WORDS}
-use Rattle.pon_lists.specs.Distinct.{distinct}
-use Rattle.pon_lists.proofs.Lists.{All-unmap, map-map, sum_by-map, any_eq-filter, list_any-map, map_filter, none_any}
-use Rattle.pon_admit.specs.declared.event.Event.{Event}
-use Rattle.pon_admit.specs.declared.event.Event.TheVariants.{Admit, Change, Remove, Report, MakeMap, Fail, Restore}
-use Rattle.pon_admit.specs.Roster.{max_allocs, max_carry, IsAdmitted, comes_before, has_alloc, left_over, with_descriptor, with_row, without, IsDistinct}
-use Rattle.pon_burst.specs.Maps.{grant}
+use Rattle.std.proofs.Common.{◌≡◌, ℕ, ◌-◌, ◌≤◌, Bool, false, List, [], ◌∷◌, ◌++◌, map, length, refl, ap, sym, subst, ◌∙◌, arith, inl, inr, ◌+◌, true, ◌||◌, ◌&&◌, drop, append_assoc, suc, ◌<◌, not, get_or, ◌^◌, take, rules}
+use Rattle.std.specs.Prelude.{if◌then◌else◌, All, Contains, Option, Some, None, flat_map, option_to_list, ◌==◌, nat_le, filter, nat_lt, option_map, Any, IfSome, ◌≢◌}
+use Rattle.std.specs.List.{list_any}
+use Rattle.std.proofs.lemmas.Bool.{cases_lt, le-ltb, lt-ltb, eq-eqb, ne_eqb, eqb-true, or_left, or_right, eqb-false, leb-false, and_from, and_parts}
+use Rattle.std.proofs.lemmas.Bool.Decides.{leb_tells, eqb_tells, nat_tests}
+use Rattle.std.proofs.lemmas.List.{map-id, length-map, take-append-drop}
+use Rattle.std.proofs.lemmas.List.Elements.{All-append, All-cons, All-drop, All-head, All-map, All-nil, All-tail, All-weaker, All-filter, All-push, Contains-get_or, filter_passes}
+use Rattle.pon_lists.proofs.Lists.{All-unmap, any_eq-filter, length-map, map-map, map_same, map_filter, sum_by-map, list_any-map, none_any}
 use Rattle.pon_guar.specs.declared.account.Account.{Account}
 use Rattle.pon_guar.specs.declared.account.Counted.{Counted}
-use Rattle.pon_guar.specs.Loads.{afresh, fresh_account, lessened, with_account, without_account, less}
+use Rattle.pon_guar.specs.Book.{alloc_ids, AreRising}
+use Rattle.pon_guar.specs.Loads.{less, afresh, fresh_account, lessened, with_account, without_account}
+use Rattle.pon_guar.specs.Reports.{later, latest, occupancies, after_occupancies, counting, taking}
+use Rattle.pon_guar.specs.Window.{grants_at, AreConsecutive, IsLawfulMap, WindowMap, onus_polled, is_of, words_among, words_to_from, IsWindow, with_map}
+use Rattle.pon_state.specs.State.{State, carry_at, input_of}
+use Rattle.pon_admit.specs.declared.event.Event.{Event}
+use Rattle.pon_admit.specs.declared.event.Event.TheVariants.{Report, MakeMap, Fail, Restore, Admit, Change, Remove}
+use Rattle.pon_state.specs.Entry.{Entry}
+use Rattle.std.proofs.lemmas.List.Folds.{list_any_at, Any-from_list_any}
+use Rattle.pon_admit.specs.declared.row.Row.{Row}
 use Rattle.pon_guar.specs.ReportChecks.{with_report, refuses_report}
-use Rattle.pon_guar.specs.Window.{WindowMap, grants_at, words_among, AreConsecutive, IsLawfulMap, IsWindow, is_of, with_map, onus_polled}
+use Rattle.pon_state.specs.After.{after_reply, after_entry, admitted_carry, after_admit, after_change, after_cut, after_map, after_remove, after_report, with_parts}
+use Rattle.pon_state.specs.Maps.{grants_in_map}
+use Rattle.pon_state.specs.declared.reply.Reply.{Reply}
+use Rattle.pon_history.specs.Chapters.{IsLawfulState, AccountIsLawful, Owns, Chapter, IsLawfulChapter, present_state, IsLawfulOpening, IsSilent, state_before, CountedIsLawful, IsLegal, cut_at}
+use Rattle.pon_guar.proofs.Frames.{leads_mapped, leads_push, frame_there, leads_drop, leads_after, leads_below, grants_of_one, one_of_frame, leads_above}
+use Rattle.pon_units.specs.declared.granted.Granted.{Granted}
+use Rattle.pon_history.specs.OtherForms.{account_reported, reports_of}
+use Rattle.std.proofs.lemmas.List.Sums.{get_or-le-sum_by}
+use Rattle.pon_units.specs.Granted.{AreInMapOrder}
+use Rattle.pon_descr.proofs.Checks.{or_else_none, when_none}
+use Rattle.pon_admit.specs.Roster.{has_alloc, max_allocs, max_carry, IsAdmitted, comes_before, left_over, with_descriptor, with_row, without, IsDistinct}
+use Rattle.pon_admit.proofs.AdmittedSets.{passes, admit_keeps, change_keeps, has_alloc-changed, remove_keeps, changed, changed_alloc, changed_onu}
+use Rattle.pon_guar.proofs.LessByGrants.{lessened_ids}
+use Rattle.pon_state.specs.Checks.{at_limit, refuses, when_down}
+use Rattle.pon_state.specs.Legal.{MayFollow, IsMade, IsReply}
+use Rattle.pon_units.specs.declared.limits.TheConstants.{MAX_OCCUPANCY, FRAME_WORDS}
+use Rattle.pon_lists.specs.Distinct.{distinct}
+use Rattle.pon_burst.specs.Maps.{grant}
 use Rattle.pon_demand.specs.Sharing.{surplus_rate}
 use Rattle.pon_demand.proofs.RosterMaps.{granted_to_row, one_map, in_order}
 use Rattle.pon_demand.proofs.Carries.{carry_within}
-use Rattle.pon_state.specs.After.{after_reply, admitted_carry, after_admit, after_change, after_cut, after_entry, after_map, after_remove, after_report, with_parts}
-use Rattle.pon_state.specs.declared.reply.Reply.{Reply}
 use Rattle.pon_state.specs.declared.reply.Reply.TheVariants.{Taken, Map}
 use Rattle.pon_state.specs.declared.reply.MadeMap.{MadeMap}
-use Rattle.pon_state.specs.State.{State, carry_at, input_of}
 use Rattle.pon_state.specs.History.{replay}
-use Rattle.pon_state.specs.Legal.{IsMade, MayFollow, IsReply}
-use Rattle.pon_state.specs.Maps.{grants_in_map}
-use Rattle.pon_history.specs.Chapters.{Chapter, IsLawfulChapter, IsLawfulState, present_state, AccountIsLawful, IsLawfulOpening, IsSilent, Owns, state_before, CountedIsLawful, IsLegal, cut_at}
 use Rattle.pon_history.specs.Ranges.{AreGrantsInRange, IsGrantInRange, IsStateInRange}
-use Rattle.std.specs.List.{list_any}
-use Rattle.std.proofs.lemmas.List.Folds.{Any-from_list_any, list_any_at}
 use Rattle.std.proofs.lemmas.Option.{IfSome_then}
-use Rattle.pon_units.specs.Granted.{AreInMapOrder}
 use Rattle.pon_descr.specs.Descriptor.{Descriptor}
 use Rattle.pon_descr.specs.declared.refusal.Refusal.TheVariants.{FrameLimit}
-use Rattle.pon_descr.proofs.Checks.{or_else_none, when_none}
 use Rattle.pon_lists.specs.Order.{without_key, with_inserted}
 use Rattle.pon_lists.proofs.Inserted.{list_any-inserted}
-use Rattle.pon_admit.specs.declared.row.Row.{Row}
 use Rattle.pon_admit.specs.declared.rule.Rule.{Rule}
-use Rattle.pon_admit.proofs.AdmittedSets.{admit_keeps, change_keeps, has_alloc-changed, passes, remove_keeps, changed, changed_alloc, changed_onu}
 use Rattle.pon_admit.proofs.Rules.{left_over_range}
-use Rattle.pon_guar.specs.Book.{AreRising, alloc_ids}
 use Rattle.pon_guar.proofs.Books.{admitted_rise, occupancies_ids, removed_rise, with_ids}
-use Rattle.pon_guar.proofs.Frames.{frame_there, leads_after, leads_below, leads_drop, leads_mapped, leads_push, grants_of_one, one_of_frame, leads_above}
-use Rattle.pon_guar.proofs.LessByGrants.{lessened_ids}
 use Rattle.pon_guar.proofs.Windows.{one_more, one_reported}
 use Rattle.pon_demand.specs.Carries.{AreCarries, carries_of, number_of}
 use Rattle.pon_demand.specs.Rates.{owed, planned_grants}
 use Rattle.pon_state.specs.Accounts.{AccountsFor}
 use Rattle.pon_state.specs.Carries.{carries_left}
-use Rattle.pon_state.specs.Checks.{at_limit, refuses, when_down}
-use Rattle.pon_state.specs.Entry.{Entry}
 use Rattle.pon_state.specs.Events.{IsEvent}
 use Rattle.pon_state.proofs.KeptMaps.{window_grants}
-use Rattle.std.proofs.lemmas.Bool.Decides.{eqb_tells, leb_tells}
 use Rattle.std.proofs.lemmas.Map.Views.{Contains-from_any}
 use Rattle.pon_lists.proofs.Distinct.{occurs}
-use Rattle.pon_guar.specs.Reports.{after_occupancies, counting, latest, taking, with_latest}
 use Rattle.pon_guar.proofs.Polls.{granted_polled}
 use Rattle.pon_history.proofs.Legality.{along, checks_passed, legal_front, legal_rest, replay_append, replay_push}
 
@@ -93,6 +94,107 @@ grants_at_all P f u ms h =
     let each : All P all
     = flat_all P (λ m. m.grants) of_frame (λ n d k. All-filter (λ m. m.frame == f) (λ m. m.frame ≡ f → All P m.grants) ms h n d k (eqb-true (get_or of_frame n d).frame f (filter_passes (λ m. m.frame == f) ms n d k))) in
     (λ n d k. (All-filter (λ g. g.onu == u) P all each n d k, eqb-true (get_or (grants_at f u ms) n d).onu u (filter_passes (λ g. g.onu == u) all n d k)))
+
+-- The latest report of a list.
+
+pub latest_lone : (c : Option Counted) → latest (option_to_list c ++ []) ≡ c
+latest_lone None = refl
+latest_lone (Some c) = refl
+
+later_later : (c d : Counted) (r : Option Counted) → later c (later d r) ≡ (if nat_lt d.frame c.frame then later c r else later d r)
+later_later c d None = refl
+later_later c d (Some e) = grind (arith, nat_tests)
+
+-- the first part of a list may be replaced by its latest
+pub latest-append : (cs ds : List Counted) → latest (cs ++ ds) ≡ latest (option_to_list (latest cs) ++ ds)
+latest-append [] ds = refl
+latest-append (c ∷ cs) ds = ap (later c) (latest-append cs ds) ∙ one (latest cs)
+  where
+    one : (o : Option Counted) → later c (latest (option_to_list o ++ ds)) ≡ latest (option_to_list (later c o) ++ ds)
+    one None = refl
+    one (Some d) = later_later c d (latest ds)
+        ∙ elim (nat_lt d.frame c.frame) as (λ b. (if b then later c (latest ds) else later d (latest ds)) ≡ latest (option_to_list (if b then Some c else Some d) ++ ds)) [ true ↦ refl | false ↦ refl ]
+
+-- Reports, account by account.
+
+module _ (granted : ℕ → ℕ) (frame : ℕ) where
+  none_told : (a : Account) → (if nat_le a.since frame then record { alloc_id = a.alloc_id; since = a.since; counted = latest (option_to_list a.counted ++ []) } else a) ≡ a
+  none_told a = elim (leb_tells a.since frame) [ inl e ↦ rw e.0 (λ j. record { alloc_id = a.alloc_id; since = a.since; counted = latest_lone a.counted j }) | inr e ↦ rw e.0 refl ]
+
+  -- one occupancy, then the others
+  one_told : (g : Granted) (gs : List Granted) (n : ℕ) (ns : List (Option ℕ)) (a : Account) →
+      account_reported granted frame gs ns (if a.alloc_id == g.alloc_id then taking (record { frame = frame; words = n - granted g.alloc_id }) a else a) ≡ account_reported granted frame (g ∷ gs) (Some n ∷ ns) a
+  one_told g gs n ns a =
+      let c : Counted = record { frame = frame; words = n - granted a.alloc_id } in
+      let rest : List Counted = reports_of granted frame gs ns a.alloc_id in
+      let both : latest (option_to_list (latest (option_to_list a.counted ++ c ∷ [])) ++ rest) ≡ latest (option_to_list a.counted ++ c ∷ rest)
+      = sym (latest-append (option_to_list a.counted ++ c ∷ []) rest) ∙ ap latest (append_assoc (option_to_list a.counted) (c ∷ []) rest) in
+      elim (eqb_tells g.alloc_id a.alloc_id) [
+        | inl e ↦ rw (eq-eqb a.alloc_id g.alloc_id (sym e.1), e.0, e.1) (elim (leb_tells a.since frame) [
+          | inl t ↦ rw (t.0, t.0) (λ j. record { alloc_id = a.alloc_id; since = a.since; counted = both j })
+          | inr t ↦ rw (t.0, t.0) refl
+        ])
+        | inr e ↦ rw (ne_eqb a.alloc_id g.alloc_id (λ q. e.1 (sym q)), e.0) refl
+      ]
+
+  pub account_by_account : (gs : List Granted) (ns : List (Option ℕ)) (book : List Account) → after_occupancies granted frame gs ns book ≡ map (account_reported granted frame gs ns) book
+  account_by_account [] ns book = sym (map_same _ (λ a. a) none_told book ∙ map-id book)
+  account_by_account (g ∷ gs) [] book = sym (map_same _ (λ a. a) none_told book ∙ map-id book)
+  account_by_account (g ∷ gs) (None ∷ ns) book = account_by_account gs ns book
+  account_by_account (g ∷ gs) (Some n ∷ ns) book =
+      account_by_account gs ns (counting g.alloc_id (record { frame = frame; words = n - granted g.alloc_id }) book)
+      ∙ map-map (account_reported granted frame gs ns) (λ a. if a.alloc_id == g.alloc_id then taking (record { frame = frame; words = n - granted g.alloc_id }) a else a) book
+      ∙ map_same _ _ (one_told g gs n ns) book
+
+-- The latest report of a list has a property that all have, and none is of a later frame; if there is none, the list is empty.
+abbrev pub IsLatest : (Counted → Type 0) → Option Counted → List Counted → Type 0
+IsLatest P None cs = All (λ d. ⊥) cs
+IsLatest P (Some c) cs = P c × All (λ d. d.frame ≤ c.frame) cs
+
+pub latest_is : (P : Counted → Type 0) (cs : List Counted) → All P cs → IsLatest P (latest cs) cs
+latest_is P [] h = All-nil (λ d. ⊥)
+latest_is P (c ∷ cs) h = one (latest cs) (latest_is P cs (All-tail P c cs h))
+  where
+    one : (q : Option Counted) → IsLatest P q cs → IsLatest P (later c q) (c ∷ cs)
+    one None k = (All-head P c cs h, All-cons (λ d. d.frame ≤ c.frame) c cs (omega arith) (All-weaker (λ d. ⊥) (λ d. d.frame ≤ c.frame) (λ d b. absurd b) cs k))
+    one (Some d) k = elim (cases_lt d.frame c.frame) [
+      | inl lt ↦ rw (lt-ltb d.frame c.frame lt) (All-head P c cs h, All-cons (λ e. e.frame ≤ c.frame) c cs (omega arith) (All-weaker (λ e. e.frame ≤ d.frame) (λ e. e.frame ≤ c.frame) (λ e b. omega (arith, b, lt)) cs k.1))
+      | inr le ↦ rw (le-ltb d.frame c.frame le) (k.0, All-cons (λ e. e.frame ≤ d.frame) c cs le k.1)
+    ]
+
+latest_all : (P : Counted → Type 0) (cs : List Counted) → All P cs → IfSome (latest cs) P
+latest_all P cs h = (elim (latest cs) as (λ c. IsLatest P c cs → IfSome c P) [ None ↦ λ _. tt | Some c ↦ λ k. k.0 ]) (latest_is P cs h)
+
+-- an occupancy of 24 bits, or a garbled one
+abbrev pub IsOccupancy : Option ℕ → Type 0
+IsOccupancy n = IfSome n (λ words. words < 2 ^ 24)
+
+-- what holds of the occupancies that each grant of an Alloc-ID may have
+pub occupancies_all : (P : ℕ → Type 0) (i : ℕ) (gs : List Granted) (ns : List (Option ℕ)) → All (λ g. g.alloc_id ≡ i → (n : ℕ) → n < 2 ^ 24 → P n) gs → All IsOccupancy ns → All P (occupancies i gs ns)
+occupancies_all P i [] ns k h = All-nil P
+occupancies_all P i (g ∷ gs) [] k h = All-nil P
+occupancies_all P i (g ∷ gs) (None ∷ ns) k h = occupancies_all P i gs ns (λ n d l. k (suc n) d (omega (arith, l))) (All-tail IsOccupancy None ns h)
+occupancies_all P i (g ∷ gs) (Some n ∷ ns) k h =
+    let rest : All P (occupancies i gs ns) = occupancies_all P i gs ns (λ n d l. k (suc n) d (omega (arith, l))) (All-tail IsOccupancy (Some n) ns h) in
+    elim (eqb_tells g.alloc_id i) [
+      | inl e ↦ rw e.0 (All-cons P n (occupancies i gs ns) (k 0 g (omega arith) e.1 n (All-head IsOccupancy (Some n) ns h)) rest)
+      | inr e ↦ rw e.0 rest
+    ]
+
+-- what holds of the report that counts and of new ones of a frame holds of the one that counts then
+counted_all : (P : Counted → Type 0) (granted : ℕ → ℕ) (f : ℕ) (gs : List Granted) (ns : List (Option ℕ)) (a : Account) → IfSome a.counted P →
+    All (λ g. g.alloc_id ≡ a.alloc_id → (n : ℕ) → n < 2 ^ 24 → P (record { frame = f; words = n })) gs → All IsOccupancy ns → IfSome (latest (option_to_list a.counted ++ reports_of granted f gs ns a.alloc_id)) P
+counted_all P granted f gs ns a known new range =
+    let told : ℕ → Counted = λ n. record { frame = f; words = n - granted a.alloc_id } in
+    latest_all P (option_to_list a.counted ++ reports_of granted f gs ns a.alloc_id) (All-append P (option_to_list a.counted) (reports_of granted f gs ns a.alloc_id)
+    ((elim a.counted as (λ c. IfSome c P → All P (option_to_list c)) [ None ↦ λ _. All-nil P | Some c ↦ λ k. All-cons P c [] k (All-nil P) ]) known)
+    (All-map P told (occupancies a.alloc_id gs ns) (occupancies_all (λ n. P (told n)) a.alloc_id gs ns (λ k d l is n small. new k d l is (n - granted a.alloc_id) (omega (arith, small))) range)))
+
+-- what holds of each account, also with its reports of a frame that may count, holds after these reports
+book_all : (Q : Account → Type 0) (granted : ℕ → ℕ) (f : ℕ) (gs : List Granted) (ns : List (Option ℕ)) (book : List Account) →
+    ((a : Account) → a.since ≤ f → Q a → Q (record a { counted = latest (option_to_list a.counted ++ reports_of granted f gs ns a.alloc_id) })) → All Q book → All Q (after_occupancies granted f gs ns book)
+book_all Q granted f gs ns book stays h = rw (account_by_account granted f gs ns book) (All-map Q (account_reported granted f gs ns) book
+    (All-weaker Q (λ a. Q (account_reported granted f gs ns a)) (λ a q. elim (leb_tells a.since f) [ inl e ↦ rw e.0 (stays a e.1 q) | inr e ↦ rw e.0 q ]) book h))
 
 -- Accounts.
 
@@ -147,41 +249,6 @@ account_with_rows s rows carries book a keeps =
 
 -- Reports.
 
--- what holds of the report that counts and of a new one holds of the one that counts then
-pub latest_two : (P : Counted → Type 0) (c : Option Counted) (new : Counted) → IfSome c P → P new → IfSome (latest (option_to_list c ++ new ∷ [])) P
-latest_two P None new h k = k
-latest_two P (Some c) new h k = elim (nat_lt new.frame c.frame) as (λ b. IfSome (if b then Some c else Some new) P) [ true ↦ h | false ↦ k ]
-
--- an occupancy of 24 bits, or a garbled one
-abbrev pub IsOccupancy : Option ℕ → Type 0
-IsOccupancy n = IfSome n (λ words. words < 2 ^ 24)
-
--- what holds of an account of a grant's Alloc-ID holds of it with a report of a frame, if that frame may count
-abbrev pub StaysWithReport : (Account → Type 0) → ℕ → Granted → Type 0
-StaysWithReport P f g = (a : Account) (words : ℕ) → words < 2 ^ 24 → a.alloc_id ≡ g.alloc_id → a.since ≤ f → P a → P (with_latest (record { frame = f; words = words }) a)
-
--- so it holds of all accounts after the occupancies of the grants
-pub occupancies_all : (P : Account → Type 0) (granted : ℕ → ℕ) (f : ℕ) (gs : List Granted) (ns : List (Option ℕ)) (book : List Account) →
-    All (StaysWithReport P f) gs → All IsOccupancy ns → All P book → All P (after_occupancies granted f gs ns book)
-occupancies_all P granted f [] ns book new range h = h
-occupancies_all P granted f (g ∷ gs) [] book new range h = h
-occupancies_all P granted f (g ∷ gs) (None ∷ ns) book new range h = occupancies_all P granted f gs ns book (All-tail (StaysWithReport P f) g gs new) (All-tail IsOccupancy None ns range) h
-occupancies_all P granted f (g ∷ gs) (Some n ∷ ns) book new range h =
-    occupancies_all P granted f gs ns (counting g.alloc_id c book) (All-tail (StaysWithReport P f) g gs new) (All-tail IsOccupancy (Some n) ns range)
-    (All-map P (λ a. if a.alloc_id == g.alloc_id then taking c a else a) book (All-weaker P (λ a. P (if a.alloc_id == g.alloc_id then taking c a else a)) one book h))
-  where
-    c : Counted
-    c = record { frame = f; words = n - granted g.alloc_id }
-
-    one : (a : Account) → P a → P (if a.alloc_id == g.alloc_id then taking c a else a)
-    one a p = elim (eqb_tells a.alloc_id g.alloc_id) [
-      | inl e ↦ elim (leb_tells a.since f) [
-        | inl t ↦ rw (e.0, t.0) (All-head (StaysWithReport P f) g gs new a (n - granted g.alloc_id) (omega (arith, All-head IsOccupancy (Some n) ns range)) e.1 t.1 p)
-        | inr t ↦ rw (e.0, t.0) p
-      ]
-      | inr e ↦ rw e.0 p
-    ]
-
 -- A map after a report of an ONU for a frame.
 module _ (f u : ℕ) (m : WindowMap) where
   -- an ONU that reported stays one that did
@@ -201,36 +268,41 @@ module _ (f u : ℕ) (m : WindowMap) where
 -- The accounts after a report of an ONU for the map of a frame.
 module _ (s : State) (l : IsLawfulState s) (f u : ℕ) (ns : List (Option ℕ)) where
   -- each account as it was is lawful
-  account_reported : (a : Account) → AccountIsLawful s a → AccountIsLawful (after_report s f u ns) a
-  account_reported a =
+  account_noted : (a : Account) → AccountIsLawful s a → AccountIsLawful (after_report s f u ns) a
+  account_noted a =
       account_stays s (after_report s f u ns) a (omega arith)
       (λ frame early h. All-map (HasReported s.roster a.alloc_id frame) (with_report f u) s.window (λ n d lt is m e at of_it. reported_stays f u (get_or s.window n d) (get_or s.roster m e).onu (l.maps n d lt) (h n d lt is m e at of_it)))
       (All-map (IsOwned s.roster a.alloc_id a.since) (with_report f u) s.window)
 
-  -- an occupancy of one of the ONU's grants
-  module _ (below : f < s.next) (g : Granted) (granted : Contains (grants_at f u s.window) g) where
-    stays_lawful : StaysWithReport (AccountIsLawful (after_report s f u ns)) f g
-    stays_lawful a words small of_it early h =
-        let new : Counted = record { frame = f; words = words } in
-        let owner : All (IsOwned s.roster a.alloc_id a.since) s.window = All-unmap (IsOwned s.roster a.alloc_id a.since) (with_report f u) s.window h.owner in
-        let told : (g.alloc_id ≡ a.alloc_id → Owns s.roster g.alloc_id g.onu) × (g.onu ≡ u)
-        = rw granted.2 at (grants_at_all (λ g. g.alloc_id ≡ a.alloc_id → Owns s.roster g.alloc_id g.onu) f u s.window (λ n d lt is. owner n d lt (omega (arith, early, is))) granted.0 g granted.1) in
-        let is : CountedIsLawful (after_report s f u ns) (with_latest new a) new = record {
-          not_early = early;
-          not_late = below;
-          reported = All-map (HasReported s.roster a.alloc_id f) (with_report f u) s.window (λ k e within at n d lt is.
-              subst (Contains (with_report f u (get_or s.window k e)).reported) (sym (told.0 (sym of_it) n d lt (is ∙ of_it) ∙ told.1))
-              (reported_now f u (get_or s.window k e) g at (subst (λ gs. Contains gs g) (grants_of_one f u s.window (get_or s.window k e) (one_of_frame s.next f s.window l.frames k e within at)) granted)));
-        } in
-        let was : IfSome a.counted (CountedIsLawful (after_report s f u ns) (with_latest new a)) = IfSome_then a.counted h.counted (λ c k. search rules) in
-        search (rules, latest_two (CountedIsLawful (after_report s f u ns) (with_latest new a)) a.counted new was is)
-
-  -- each account with its occupancies
+  -- and with its occupancies
   pub accounts_reported : f < s.next → All IsOccupancy ns → All (AccountIsLawful (after_report s f u ns)) (after_report s f u ns).book
   accounts_reported below range =
-      occupancies_all (AccountIsLawful (after_report s f u ns)) _ f (grants_at f u s.window) ns s.book
-      (λ n d lt. stays_lawful below (get_or (grants_at f u s.window) n d) (Contains-get_or (grants_at f u s.window) n d lt)) range
-      (All-weaker (AccountIsLawful s) (AccountIsLawful (after_report s f u ns)) account_reported s.book l.accounts)
+      book_all (AccountIsLawful t) (λ i. words_to_from u i f s.window) f gs ns s.book one (All-weaker (AccountIsLawful s) (AccountIsLawful t) account_noted s.book l.accounts)
+    where
+      t : State
+      t = after_report s f u ns
+
+      gs : List Granted
+      gs = grants_at f u s.window
+
+      after : Account → Account
+      after a = record a { counted = latest (option_to_list a.counted ++ reports_of (λ i. words_to_from u i f s.window) f gs ns a.alloc_id) }
+
+      one : (a : Account) → a.since ≤ f → AccountIsLawful t a → AccountIsLawful t (after a)
+      one a early h =
+          let owner : All (IsOwned s.roster a.alloc_id a.since) s.window = All-unmap (IsOwned s.roster a.alloc_id a.since) (with_report f u) s.window h.owner in
+          let told : All (λ g. (g.alloc_id ≡ a.alloc_id → Owns s.roster g.alloc_id g.onu) × (g.onu ≡ u)) gs
+          = grants_at_all (λ g. g.alloc_id ≡ a.alloc_id → Owns s.roster g.alloc_id g.onu) f u s.window (λ n d lt is. owner n d lt (omega (arith, early, is))) in
+          let was : IfSome a.counted (CountedIsLawful t (after a)) = IfSome_then a.counted h.counted (λ c k. search rules) in
+          let counted : IfSome (after a).counted (CountedIsLawful t (after a))
+          = counted_all (CountedIsLawful t (after a)) (λ i. words_to_from u i f s.window) f gs ns a was (λ k d lt of_it n small. record {
+            not_early = early;
+            not_late = below;
+            reported = All-map (HasReported s.roster a.alloc_id f) (with_report f u) s.window (λ m e within at r q there is.
+                subst (Contains (with_report f u (get_or s.window m e)).reported) (sym ((told k d lt).0 of_it r q there (is ∙ sym of_it) ∙ (told k d lt).1))
+                (reported_now f u (get_or s.window m e) (get_or gs k d) at (subst (λ own. Contains own (get_or gs k d)) (grants_of_one f u s.window (get_or s.window m e) (one_of_frame s.next f s.window l.frames m e within at)) (Contains-get_or gs k d lt))));
+          }) range in
+          search (rules, h)
 
 -- Maps.
 
@@ -453,8 +525,10 @@ module _ (s : State) (k : IsLawfulState s) (h : IsStateInRange s) where
   range_step kept (Change i d) r f = search rules
   range_step kept (Remove i) r f = search (rules, All-filter (λ a. not (a.alloc_id == i)) IsSmallAccount s.book h.reports)
   range_step kept (Report frame u ns) r f =
-      let reports : All IsSmallAccount (after_report s frame u ns).book = occupancies_all IsSmallAccount _ frame (grants_at frame u s.window) ns s.book
-      (λ n d lt a words small of_it early known. latest_two IsSmall a.counted (record { frame = frame; words = words }) known (omega (arith, small))) f.event.occupancies.range h.reports in
+      let gs : List Granted = grants_at frame u s.window in
+      let granted : ℕ → ℕ = λ i. words_to_from u i frame s.window in
+      let reports : All IsSmallAccount (after_report s frame u ns).book
+      = book_all IsSmallAccount granted frame gs ns s.book (λ a early known. counted_all IsSmall granted frame gs ns a known (λ k d l is n small. omega (arith, small)) f.event.occupancies.range) h.reports in
       search (rules, All-map HasRange (with_report frame u) s.window h.maps)
   range_step kept MakeMap Taken f = absurd f.reply
   range_step kept MakeMap (Map made) f =

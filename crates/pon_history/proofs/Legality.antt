@@ -53,7 +53,7 @@ pub record IsLater (o : State) (count : ℕ) (s : State) : Type 0 where
   pub profile : s.profile ≡ o.profile
   pub taken_before : s.taken_before ≡ o.taken_before + count
 
-later_one : (o : State) (v : Event) (reply : Reply) → IsLater o 1 (after_reply o v reply)
+pub later_one : (o : State) (v : Event) (reply : Reply) → IsLater o 1 (after_reply o v reply)
 later_one o MakeMap reply = record { rule = refl; gap = refl; profile = refl; taken_before = refl }
 later_one o v reply = record { rule = refl; gap = refl; profile = refl; taken_before = refl }
 

@@ -2,8 +2,8 @@
 use Rattle.std.proofs.Common.{zero-add, ◌≡◌, ℕ, ◌-◌, ◌≤◌, Bool, false, List, [], ◌∷◌, ◌++◌, map, length, refl, ap, sym, subst, ◌∙◌, arith, inl, inr, ◌+◌, true, cond, ◌||◌, ◌&&◌, drop, append_assoc, add_assoc, suc, add-zero, zero, ◌<◌, not, get_or, ◌*◌}
 use Rattle.std.specs.Prelude.{if◌then◌else◌, All, Contains, Option, Some, None, flat_map, option_to_list, ◌==◌, nat_le, filter, min, nat_lt, find, option_map, Any}
 use Rattle.std.specs.List.{list_any}
-use Rattle.std.proofs.lemmas.Bool.{cases_lt, le-leb, le-ltb, lt-ltb, eq-eqb, ne_eqb, both_ways, cases_Bool, eqb-true, lt-leb, or_left, or_right}
-use Rattle.std.proofs.lemmas.Bool.Decides.{leb_tells, eqb_tells, nat_tests}
+use Rattle.std.proofs.lemmas.Bool.{le-leb, eq-eqb, ne_eqb, both_ways, cases_Bool, eqb-true, lt-leb, or_left, or_right}
+use Rattle.std.proofs.lemmas.Bool.Decides.{leb_tells, eqb_tells}
 use Rattle.std.proofs.lemmas.List.{drop_at, drop_all, map-id}
 use Rattle.std.proofs.lemmas.List.Elements.{All-append, All-cons, All-contains, All-contains_itself, All-drop, All-head, All-map, All-nil, All-tail, All-weaker, All-filter, All-push}
 use Rattle.pon_lists.proofs.Lists.{All-front, All-unmap, any_eq-filter, append-nil, drop-append-le, drop-drop, drop-map, filter_agree, filter_same_in, length-append, length-drop, length-map, map-append, map-map, map_same, or-false, or_assoc, count_by-append, filter-append, flat_map-append, flat_map-map, map_filter, sum_by-map, sum_by_agree}
@@ -11,7 +11,7 @@ use Rattle.pon_guar.specs.declared.account.Account.{Account}
 use Rattle.pon_guar.specs.declared.account.Counted.{Counted}
 use Rattle.pon_guar.specs.Book.{account_of, counted_of_account, known_report, alloc_ids, since_of_account}
 use Rattle.pon_guar.specs.Loads.{less, afresh, fresh_account, lessened}
-use Rattle.pon_guar.specs.Reports.{later, latest, occupancies, after_occupancies, counting, taking}
+use Rattle.pon_guar.specs.Reports.{later, latest, occupancies}
 use Rattle.pon_guar.specs.Window.{grants_at, words_from, AreConsecutive, IsLawfulMap, WindowMap, last_64, onus_polled, is_of, words_among, words_granted, words_in, words_to, words_to_from}
 use Rattle.pon_state.specs.State.{State}
 use Rattle.pon_history.specs.Windows.{all_maps, maps_of, kept_from, map_made, new_map, window_of, with_reports, has_reported}
@@ -42,7 +42,7 @@ use Rattle.pon_guar.proofs.Accounts.{accounts_all, found_each}
 use Rattle.pon_guar.proofs.LessByGrants.{less_none}
 use Rattle.pon_state.specs.Checks.{first_refusal, when_full}
 use Rattle.pon_state.specs.Legal.{MayFollow}
-use Rattle.pon_history.proofs.LawfulStates.{flat_all, frame_within, grants_at_all}
+use Rattle.pon_history.proofs.LawfulStates.{IsLatest, IsOccupancy, account_by_account, flat_all, frame_within, grants_at_all, latest-append, latest_is, latest_lone, occupancies_all}
 
 -- The parts of the closed form over a list that is split.
 
@@ -229,57 +229,6 @@ module _ (o : State) (es : List Entry) (leads : AllLead o es) (l : IsLawfulState
   window_push Restore = cut Restore refl refl
   window_push v = kept_maps v refl refl ∙ unreported (added v ∷ []) (λ frame u. refl) (window_of o es) l.maps
 
--- The latest report of a list.
-
-pub latest_lone : (c : Option Counted) → latest (option_to_list c ++ []) ≡ c
-latest_lone None = refl
-latest_lone (Some c) = refl
-
-later_later : (c d : Counted) (r : Option Counted) → later c (later d r) ≡ (if nat_lt d.frame c.frame then later c r else later d r)
-later_later c d None = refl
-later_later c d (Some e) = grind (arith, nat_tests)
-
--- the first part of a list may be replaced by its latest
-pub latest-append : (cs ds : List Counted) → latest (cs ++ ds) ≡ latest (option_to_list (latest cs) ++ ds)
-latest-append [] ds = refl
-latest-append (c ∷ cs) ds = ap (later c) (latest-append cs ds) ∙ one (latest cs)
-  where
-    one : (o : Option Counted) → later c (latest (option_to_list o ++ ds)) ≡ latest (option_to_list (later c o) ++ ds)
-    one None = refl
-    one (Some d) = later_later c d (latest ds)
-        ∙ elim (nat_lt d.frame c.frame) as (λ b. (if b then later c (latest ds) else later d (latest ds)) ≡ latest (option_to_list (if b then Some c else Some d) ++ ds)) [ true ↦ refl | false ↦ refl ]
-
--- Reports, account by account.
-
-module _ (granted : ℕ → ℕ) (frame : ℕ) where
-  none_told : (a : Account) → (if nat_le a.since frame then record { alloc_id = a.alloc_id; since = a.since; counted = latest (option_to_list a.counted ++ []) } else a) ≡ a
-  none_told a = elim (leb_tells a.since frame) [ inl e ↦ rw e.0 (λ j. record { alloc_id = a.alloc_id; since = a.since; counted = latest_lone a.counted j }) | inr e ↦ rw e.0 refl ]
-
-  -- one occupancy, then the others
-  one_told : (g : Granted) (gs : List Granted) (n : ℕ) (ns : List (Option ℕ)) (a : Account) →
-      account_reported granted frame gs ns (if a.alloc_id == g.alloc_id then taking (record { frame = frame; words = n - granted g.alloc_id }) a else a) ≡ account_reported granted frame (g ∷ gs) (Some n ∷ ns) a
-  one_told g gs n ns a =
-      let c : Counted = record { frame = frame; words = n - granted a.alloc_id } in
-      let rest : List Counted = reports_of granted frame gs ns a.alloc_id in
-      let both : latest (option_to_list (latest (option_to_list a.counted ++ c ∷ [])) ++ rest) ≡ latest (option_to_list a.counted ++ c ∷ rest)
-      = sym (latest-append (option_to_list a.counted ++ c ∷ []) rest) ∙ ap latest (append_assoc (option_to_list a.counted) (c ∷ []) rest) in
-      elim (eqb_tells g.alloc_id a.alloc_id) [
-        | inl e ↦ rw (eq-eqb a.alloc_id g.alloc_id (sym e.1), e.0, e.1) (elim (leb_tells a.since frame) [
-          | inl t ↦ rw (t.0, t.0) (λ j. record { alloc_id = a.alloc_id; since = a.since; counted = both j })
-          | inr t ↦ rw (t.0, t.0) refl
-        ])
-        | inr e ↦ rw (ne_eqb a.alloc_id g.alloc_id (λ q. e.1 (sym q)), e.0) refl
-      ]
-
-  pub account_by_account : (gs : List Granted) (ns : List (Option ℕ)) (book : List Account) → after_occupancies granted frame gs ns book ≡ map (account_reported granted frame gs ns) book
-  account_by_account [] ns book = sym (map_same _ (λ a. a) none_told book ∙ map-id book)
-  account_by_account (g ∷ gs) [] book = sym (map_same _ (λ a. a) none_told book ∙ map-id book)
-  account_by_account (g ∷ gs) (None ∷ ns) book = account_by_account gs ns book
-  account_by_account (g ∷ gs) (Some n ∷ ns) book =
-      account_by_account gs ns (counting g.alloc_id (record { frame = frame; words = n - granted g.alloc_id }) book)
-      ∙ map-map (account_reported granted frame gs ns) (λ a. if a.alloc_id == g.alloc_id then taking (record { frame = frame; words = n - granted g.alloc_id }) a else a) book
-      ∙ map_same _ _ (one_told g gs n ns) book
-
 -- The frame at the last entry of a kind.
 pub at_the_last : (test : Entry → Bool) (start first : ℕ) (es : List Entry) →
     frame_at_last test start first es ≡ (if list_any test es then next_of first (before_last test es) else start)
@@ -440,6 +389,10 @@ module _ (o : State) (es : List Entry) (e : Entry) (below : All (IsBelow (next_o
 
 -- The words of an Alloc-ID that has one ONU.
 
+pub map_agree : {X Y : Type 0} (f g : X → Y) (xs : List X) → All (λ x. f x ≡ g x) xs → map f xs ≡ map g xs
+map_agree f g [] h = refl
+map_agree f g (x ∷ xs) h = (λ j. All-head (λ x. f x ≡ g x) x xs h j ∷ map_agree f g xs (All-tail (λ x. f x ≡ g x) x xs h) j)
+
 -- all words that a map grants to an Alloc-ID are granted under its ONU
 own_words : (i u : ℕ) (gs : List Granted) → AreInMapOrder gs → All (λ g. g.alloc_id ≡ i → g.onu ≡ u) gs → words_among i gs ≡ words_granted (find (λ g. g.alloc_id == i) (filter (λ g. g.onu == u) gs))
 own_words i u [] h o = refl
@@ -470,33 +423,23 @@ onu_there rows i h =
     let found : Any (λ r. (r.alloc_id == i) ≡ true) rows = Any-from_list_any (λ r. r.alloc_id == i) rows h in
     (found.1.onu, λ w o. sym ((rw found.3 at (o found.0 found.1 found.2)) (eqb-true found.1.alloc_id i found.4)))
 
--- reports are lessened by either of two numbers of words if these are equal wherever a grant is the Alloc-ID's
-lessened_alike : (f v w i : ℕ) (gs : List Granted) (ns : List (Option ℕ)) → All (λ g. g.alloc_id ≡ i → v ≡ w) gs → reports_of (λ _. v) f gs ns i ≡ reports_of (λ _. w) f gs ns i
-lessened_alike f v w i [] ns h = refl
-lessened_alike f v w i (g ∷ gs) [] h = refl
-lessened_alike f v w i (g ∷ gs) (None ∷ ns) h = lessened_alike f v w i gs ns (All-tail (λ g. g.alloc_id ≡ i → v ≡ w) g gs h)
-lessened_alike f v w i (g ∷ gs) (Some n ∷ ns) h = elim (eqb_tells g.alloc_id i) [
-  | inl e ↦ ap (λ w. reports_of (λ _. w) f (g ∷ gs) (Some n ∷ ns) i) (All-head (λ g. g.alloc_id ≡ i → v ≡ w) g gs h e.1)
-  | inr e ↦ rw e.0 (lessened_alike f v w i gs ns (All-tail (λ g. g.alloc_id ≡ i → v ≡ w) g gs h))
-]
-
 -- the words that reports are lessened by are all granted under the reporting ONU
-told_under : (s : State) → IsLawfulState s → (a : Account) → AccountIsLawful s a → has_alloc a.alloc_id s.roster ≡ true → (f u : ℕ) (ns : List (Option ℕ)) → a.since ≤ f →
+told_under : (s : State) → IsLawfulState s → (a : Account) → AccountIsLawful s a → has_alloc a.alloc_id s.roster ≡ true → (f u : ℕ) (ns : List (Option ℕ)) → All IsOccupancy ns → a.since ≤ f →
     reports_of (λ i. words_from i f s.window) f (grants_at f u s.window) ns a.alloc_id ≡ reports_of (λ i. words_to_from u i f s.window) f (grants_at f u s.window) ns a.alloc_id
-told_under s l a lawful admitted f u ns early =
+told_under s l a lawful admitted f u ns range early =
     let row : (v : ℕ) × ((w : ℕ) → Owns s.roster a.alloc_id w → w ≡ v) = onu_there s.roster a.alloc_id admitted in
     let own : All (λ m. f ≤ m.frame → All (λ g. g.alloc_id ≡ a.alloc_id → g.onu ≡ row.0) m.grants) s.window
     = (λ n d k late n' d' k' is. row.1 (get_or (get_or s.window n d).grants n' d').onu (subst (λ i. Owns s.roster i (get_or (get_or s.window n d).grants n' d').onu) is (lawful.owner n d k (omega (arith, early, late)) n' d' k' is))) in
     let at : All (λ g. (g.alloc_id ≡ a.alloc_id → g.onu ≡ row.0) × (g.onu ≡ u)) (grants_at f u s.window)
     = grants_at_all (λ g. g.alloc_id ≡ a.alloc_id → g.onu ≡ row.0) f u s.window (λ n d k is. own n d k (omega (arith, is))) in
-    lessened_alike f (words_from a.alloc_id f s.window) (words_to_from u a.alloc_id f s.window) a.alloc_id (grants_at f u s.window) ns (λ n d k is.
-    words_agree a.alloc_id u f s.window l.maps (subst (λ v. All (λ m. f ≤ m.frame → All (λ g. g.alloc_id ≡ a.alloc_id → g.onu ≡ v) m.grants) s.window) (sym ((at n d k).0 is) ∙ (at n d k).1) own))
+    let left : ℕ → ℕ → Counted = λ w n. record { frame = f; words = n - w } in
+    let v : ℕ = words_from a.alloc_id f s.window in
+    let w : ℕ = words_to_from u a.alloc_id f s.window in
+    map_agree (left v) (left w) (occupancies a.alloc_id (grants_at f u s.window) ns) (occupancies_all (λ n. left v n ≡ left w n) a.alloc_id (grants_at f u s.window) ns (λ n d k is m small.
+    let same : All (λ m. f ≤ m.frame → All (λ g. g.alloc_id ≡ a.alloc_id → g.onu ≡ u) m.grants) s.window = rw (sym ((at n d k).0 is) ∙ (at n d k).1) at own in
+    ap (λ w. left w m) (words_agree a.alloc_id u f s.window l.maps same)) range)
 
 -- The report book.
-
-pub map_agree : {X Y : Type 0} (f g : X → Y) (xs : List X) → All (λ x. f x ≡ g x) xs → map f xs ≡ map g xs
-map_agree f g [] h = refl
-map_agree f g (x ∷ xs) h = (λ j. All-head (λ x. f x ≡ g x) x xs h j ∷ map_agree f g xs (All-tail (λ x. f x ≡ g x) x xs h) j)
 
 -- the closed form without entries
 pub book_none : (s : State) → IsLawfulState s → book_of s [] ≡ s.book
@@ -563,7 +506,7 @@ module _ (o : State) (es : List Entry) (kept : ℕ) (leads : AllLead o es) (belo
         | inl e ↦
             let told : reports_of (λ i. words_from i f (all_maps o (es ++ entry (Report f u occ) ∷ []))) f (grants_at f u (all_maps o (es ++ entry (Report f u occ) ∷ []))) occ i
             ≡ reports_of (λ i. words_to_from u i f (window_of o es)) f (grants_at f u (window_of o es)) occ i
-            = (λ j. reports_of (λ _. same.0 i j) f (same.1 u j) occ i) ∙ told_under (closed_form o es) lawful (was i) k.1 k.0 f u occ e.1 in
+            = (λ j. reports_of (λ _. same.0 i j) f (same.1 u j) occ i) ∙ told_under (closed_form o es) lawful (was i) k.1 k.0 f u occ m.event.occupancies.range e.1 in
             rw e.0 (λ j. record (was i) { counted = latest (option_to_list (counted_of o es i) ++ told j) })
         | inr e ↦ rw e.0 (λ j. record (was i) { counted = latest_lone (counted_of o es i) j })
       ])
@@ -606,22 +549,6 @@ behind P xs ys h = subst (All P) (drop_at xs ys (length xs) refl) (All-drop P (l
 all_flat : {X Y : Type 0} (P : Y → Type 0) (f : X → List Y) (xs : List X) → All P (flat_map f xs) → All (λ x. All P (f x)) xs
 all_flat P f [] h = All-nil (λ x. All P (f x))
 all_flat P f (x ∷ xs) h = All-cons (λ x. All P (f x)) x xs (All-front P (f x) (flat_map f xs) h) (all_flat P f xs (behind P (f x) (flat_map f xs) h))
-
--- The latest report of a list has a property that all have, and none is of a later frame; if there is none, the list is empty.
-abbrev IsLatest : (Counted → Type 0) → Option Counted → List Counted → Type 0
-IsLatest P None cs = All (λ d. ⊥) cs
-IsLatest P (Some c) cs = P c × All (λ d. d.frame ≤ c.frame) cs
-
-latest_is : (P : Counted → Type 0) (cs : List Counted) → All P cs → IsLatest P (latest cs) cs
-latest_is P [] h = All-nil (λ d. ⊥)
-latest_is P (c ∷ cs) h = one (latest cs) (latest_is P cs (All-tail P c cs h))
-  where
-    one : (q : Option Counted) → IsLatest P q cs → IsLatest P (later c q) (c ∷ cs)
-    one None k = (All-head P c cs h, All-cons (λ d. d.frame ≤ c.frame) c cs (omega arith) (All-weaker (λ d. ⊥) (λ d. d.frame ≤ c.frame) (λ d b. absurd b) cs k))
-    one (Some d) k = elim (cases_lt d.frame c.frame) [
-      | inl lt ↦ rw (lt-ltb d.frame c.frame lt) (All-head P c cs h, All-cons (λ e. e.frame ≤ c.frame) c cs (omega arith) (All-weaker (λ e. e.frame ≤ d.frame) (λ e. e.frame ≤ c.frame) (λ e b. omega (arith, b, lt)) cs k.1))
-      | inr le ↦ rw (le-ltb d.frame c.frame le) (k.0, All-cons (λ e. e.frame ≤ d.frame) c cs le k.1)
-    ]
 
 listed : (a : Option Account) → option_to_list (known_report a) ≡ counted_of_account a
 listed None = refl

@@ -7,19 +7,15 @@ use Rattle.pon_units.specs.declared.limits.TheConstants.{WORD_RATE}
 use Rattle.pon_units.specs.Frac.{Frac}
 use Rattle.pon_admit.specs.declared.row.Row.{Row}
 use Rattle.pon_demand.specs.Input.{Input}
-use Rattle.pon_demand.specs.Rates.{guaranteed_rate, payload, whole_rate, planned_grants}
+use Rattle.pon_demand.specs.Rates.{guaranteed_rate, payload, whole_rate}
 use Rattle.std.specs.Prelude.{◌==◌, if◌then◌else◌}
 use Rattle.std.proofs.lemmas.Bool.{cases_Bool, or_parts}
 use Rattle.pon_lists.proofs.Lists.{map-map, map_same}
-use Rattle.pon_bwmap.specs.Alloc.{Alloc}
-use Rattle.pon_units.specs.declared.granted.Granted.{Granted}
-use Rattle.pon_burst.specs.Maps.{structure_of}
 use Rattle.pon_admit.specs.declared.rule.Rule.TheVariants.{CarryRemainders}
 use Rattle.pon_admit.specs.Roster.{has_alloc, left_over, max_carry}
 use Rattle.pon_demand.specs.Carries.{number_of}
 use Rattle.pon_demand.specs.Sharing.{surplus_rate}
 use Rattle.pon_demand.proofs.Carries.{carry_known, carry_within}
-use Rattle.pon_demand.proofs.RosterMaps.{granted_to_row}
 use Rattle.pon_state.specs.State.{State, carry_at, input_of}
 use Rattle.pon_state.specs.History.{replay}
 use Rattle.pon_state.specs.Legal.{IsMade, IsReply}
@@ -56,11 +52,7 @@ made_words : (s : State) (made : MadeMap) (i : ℕ) → IsMade s made → has_al
 made_words s made i m there =
     let input : Input = input_of s in
     let p : Row → ℕ = payload input (surplus_rate input made.cert) (carry_at s) in
-    let to_row : Row → Granted = granted_to_row input (surplus_rate input made.cert) (carry_at s) in
-    let f : Granted → Alloc = structure_of s.gap s.profile (planned_grants input (surplus_rate input made.cert) (carry_at s)) in
-    let words : map (λ a. a.grant - 1) made.map ≡ map p s.roster
-    = ap (map (λ a. a.grant - 1)) m.map ∙ map-map (λ a. a.grant - 1) f (map to_row s.roster) ∙ map-map (λ g. (f g).grant - 1) to_row s.roster
-    ∙ map_same (λ r. (f (to_row r)).grant - 1) p (λ r. let z : (1 + p r) - 1 ≡ p r = omega arith in z) s.roster in
+    let words : map (λ a. a.grant - 1) made.map ≡ map p s.roster = rw (m.map, map-map, map-map) (map_same _ p (λ r. let z : (1 + p r) - 1 ≡ p r = omega arith in z) s.roster) in
     ap (λ ns. number_of s.roster ns i) words
     ∙ words_of_sum (carry_at s) (whole_rate input (surplus_rate input made.cert)) s.roster i
     ∙ ap (λ n. (n + rate_of_reply input (Map made) i) / 256) (carry_known (number_of s.roster s.carries) i s.roster there)
