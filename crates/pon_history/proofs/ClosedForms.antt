@@ -1,11 +1,13 @@
 -- The replay of a legal history is its closed form.
+use Rattle.std.specs.Prelude.{Any, ◌==◌, Some, None, All, if◌then◌else◌}
+use Rattle.std.proofs.lemmas.Bool.{eqb-true, or_parts, and_parts, cases_Bool, eq-eqb}
+use Rattle.std.proofs.lemmas.List.Elements.{All-map, All-nil}
+use Rattle.std.proofs.lemmas.List.Folds.{Any-from_list_any, list_any-append, list_any_at}
+use Rattle.pon_lists.proofs.Lists.{list_any-map, map_same}
+use Rattle.pon_guar.proofs.Accounts.{found_each}
 use Rattle.std.proofs.Common.{◌≡◌, ℕ, true, false, ◌||◌, List, [], ◌∷◌, map, refl, ap, sym, subst, ◌∙◌, inl, inr, ◌+◌, ◌<◌, not, ◌++◌, length, get_or, append_assoc, arith, add-zero, Bool}
-use Rattle.std.specs.Prelude.{◌==◌, Some, None, All, if◌then◌else◌}
 use Rattle.std.specs.List.{list_any}
-use Rattle.std.proofs.lemmas.Bool.{or_parts, and_parts, cases_Bool, eq-eqb}
-use Rattle.std.proofs.lemmas.Bool.Decides.{eqb_tells}
-use Rattle.std.proofs.lemmas.List.{map-id, get_or_default, append-nil, get_or-map, length-map, length-append}
-use Rattle.pon_lists.proofs.Lists.{map-map, map_same}
+use Rattle.std.proofs.lemmas.List.{append-nil, length-append}
 use Rattle.pon_admit.specs.Roster.{has_alloc, comes_before, left_over, max_carry}
 use Rattle.pon_guar.specs.declared.account.Account.{Account}
 use Rattle.pon_guar.specs.Book.{AreRising, account_of, alloc_ids, known_report, load_of, load_of_counted}
@@ -14,9 +16,7 @@ use Rattle.pon_state.specs.State.{State, carry_at, input_of}
 use Rattle.pon_history.specs.Chapters.{Chapter, IsLawfulChapter, present_state, IsLawfulState}
 use Rattle.pon_history.specs.Parts.{allocs_of, admits, roster_after, roster_of, cause_after, next_of}
 use Rattle.pon_history.specs.Reports.{account_after, counted_of}
-use Rattle.pon_history.proofs.LawfulStates.{present_lawful, any_without, lawful_step}
-use Rattle.std.proofs.lemmas.List.Elements.{All-nil}
-use Rattle.std.proofs.lemmas.List.Folds.{list_any-append, list_any_at}
+use Rattle.pon_history.proofs.LawfulStates.{number_at, present_lawful, any_without, lawful_step}
 use Rattle.pon_descr.specs.Descriptor.{Descriptor}
 use Rattle.pon_admit.specs.declared.row.Row.{Row}
 use Rattle.pon_admit.proofs.AdmittedSets.{changed, changed_alloc, has_alloc-changed}
@@ -24,7 +24,7 @@ use Rattle.pon_admit.proofs.Rules.{left_over_range, left_over_same, left_over_su
 use Rattle.pon_demand.specs.Carries.{carries_of, number_of}
 use Rattle.pon_demand.specs.Rates.{whole_rate}
 use Rattle.pon_demand.specs.Sharing.{surplus_rate}
-use Rattle.pon_demand.proofs.Carries.{carries_each, carry_at_row, carry_known, carry_within}
+use Rattle.pon_demand.proofs.Carries.{carries_each, carry_known, carry_within}
 use Rattle.pon_state.specs.After.{after_reply, after_entry}
 use Rattle.pon_state.specs.Carries.{carries_left}
 use Rattle.pon_state.specs.History.{replay}
@@ -130,12 +130,9 @@ module _ (o : State) (es : List Entry) (l : IsLawfulState (closed_form o es)) wh
       let rate : Row → ℕ = whole_rate (input_of s) (surplus_rate (input_of s) made.cert) in
       map_agree (λ r. carry_after o (es ++ record { event = MakeMap; reply = Map made } ∷ []) r.alloc_id) (λ r. left_over o.rule (carry_at s r + rate r)) rows (λ n d lt.
       let r : Row = get_or rows n d in
-      let there : has_alloc r.alloc_id rows ≡ true = row_has rows n d lt in
-      let rate_known : number_of rows (map rate rows) r.alloc_id ≡ rate r
-      = sym (carry_at_row rows (map rate rows) r n 0 l.admitted.apart (length-map rows rate) lt (get_or_default rows n r d lt)) ∙ get_or-map rate rows n r 0 lt ∙ ap rate (get_or_default rows n r d lt) in
       carry_push (record { event = MakeMap; reply = Map made }) r.alloc_id
-      ∙ (λ j. left_over o.rule (known r.alloc_id there j + rate_of_reply (input_of (same j)) (Map made) r.alloc_id))
-      ∙ ap (λ n. left_over o.rule (carry_at s r + n)) rate_known)
+      ∙ (λ j. left_over o.rule (known r.alloc_id (row_has rows n d lt) j + rate_of_reply (input_of (same j)) (Map made) r.alloc_id))
+      ∙ ap (λ n. left_over o.rule (carry_at s r + n)) (number_at rate rows l.admitted.apart n d lt))
 
   -- the carries of the closed form are those of the state after the entry
   carries_push : replay o es ≡ closed_form o es → (v : Event) (reply : Reply) → IsReply (closed_form o es) v reply →
@@ -225,20 +222,7 @@ of_chapter c l P none step = along c.number c.opening (λ es. Holds c.opening es
 pub closed_at_present : (c : Chapter) → IsLawfulChapter c → present_state c ≡ closed_form c.opening c.entries
 closed_at_present c l = (of_chapter c l (λ es. Unit {0}) tt (λ es e h m p. tt)).0.closed
 
--- the carry of an admitted Alloc-ID in the state after a history
-pub carry_now : (o : State) (es : List Entry) → replay o es ≡ closed_form o es → (i : ℕ) → has_alloc i (replay o es).roster ≡ true →
-    number_of (replay o es).roster (replay o es).carries i ≡ carry_after o es i
-carry_now o es same i h =
-    ap (λ s. number_of s.roster s.carries i) same ∙ carry_known (carry_after o es) i (roster_of o.roster es) (subst (λ s. has_alloc i s.roster ≡ true) same h)
-
 -- The loads of the present book are those of the reports that count in the history.
-
-account_there : (o : State) (es : List Entry) (i : ℕ) (ids : List ℕ) → list_any (λ j. j == i) ids ≡ true → account_of (map (account_after o es) ids) i ≡ Some (account_after o es i)
-account_there o es i [] h = absurd cc
-account_there o es i (j ∷ ids) h = elim (eqb_tells j i) [
-  | inl e ↦ rw e.0 (ap (λ n. Some (account_after o es n)) e.1)
-  | inr e ↦ rw e.0 (account_there o es i ids (subst (λ b. (b || list_any (λ j. j == i) ids) ≡ true) e.0 h))
-]
 
 no_account : (book : List Account) (i : ℕ) → list_any (λ j. j == i) (alloc_ids book) ≡ false → account_of book i ≡ None
 no_account [] i h = refl
@@ -255,9 +239,12 @@ module _ (c : Chapter) (l : IsLawfulChapter c) where
 
   pub admitted_load : (i : ℕ) → has_alloc i (present_state c).roster ≡ true → load_of (present_state c).book i ≡ load_of_counted (counted_of c.opening c.entries i)
   admitted_load i h =
-      let there : list_any (λ j. j == i) ids ≡ true
-      = ap (list_any (λ j. j == i)) (sym (ap alloc_ids same ∙ map-map (λ a. a.alloc_id) (account_after c.opening c.entries) ids ∙ map-id ids)) ∙ (present_lawful c l).book.1 i ∙ h in
-      ap (λ b. load_of b i) same ∙ ap (λ a. load_of_counted (known_report a)) (account_there c.opening c.entries i ids there)
+      let book : List Account = (present_state c).book in
+      let found : Any (λ a. (a.alloc_id == i) ≡ true) book = Any-from_list_any (λ a. a.alloc_id == i) book (sym (list_any-map (λ j. j == i) (λ a. a.alloc_id) book) ∙ (present_lawful c l).book.1 i ∙ h) in
+      let is : found.1.alloc_id ≡ i = eqb-true found.1.alloc_id i found.4 in
+      let after : All (λ a. a ≡ account_after c.opening c.entries a.alloc_id) book = rw same (All-map (λ a. a ≡ account_after c.opening c.entries a.alloc_id) (account_after c.opening c.entries) ids (λ n d l. refl)) in
+      let there : account_of book i ≡ Some found.1 = rw (found.3, is) at (found_each book (present_lawful c l).book.0 found.0 found.1 found.2) in
+      ap (λ a. load_of_counted (known_report a)) there ∙ ap (λ a. load_of_counted a.counted) (rw (found.3, is) at (after found.0 found.1 found.2))
 
   pub other_load : (i : ℕ) → has_alloc i (present_state c).roster ≡ false → load_of (present_state c).book i ≡ 0
   other_load i h = ap (λ a. load_of_counted (known_report a)) (no_account (present_state c).book i ((present_lawful c l).book.1 i ∙ h))

@@ -1,10 +1,12 @@
 -- The states of a lawful chapter are lawful, and in range if its opening is.
-use Rattle.std.proofs.Common.{◌≡◌, ℕ, ◌-◌, ◌≤◌, Bool, false, List, [], ◌∷◌, ◌++◌, map, length, refl, ap, sym, subst, ◌∙◌, arith, inl, inr, ◌+◌, true, ◌||◌, ◌&&◌, drop, append_assoc, suc, ◌<◌, not, get_or, ◌^◌, take, rules}
-use Rattle.std.specs.Prelude.{if◌then◌else◌, All, Contains, Option, Some, None, flat_map, option_to_list, ◌==◌, nat_le, filter, nat_lt, option_map, Any, IfSome, ◌≢◌}
+use Rattle.std.proofs.Common.{map, ◌≡◌, ℕ, ◌-◌, ◌≤◌, Bool, false, List, [], ◌∷◌, ◌++◌, length, refl, ap, sym, subst, ◌∙◌, arith, inl, inr, ◌+◌, true, ◌||◌, ◌&&◌, drop, append_assoc, suc, ◌<◌, not, get_or, ◌^◌, take, rules}
+use Rattle.std.proofs.lemmas.List.{get_or_default, get_or-map, length-map, map-id, take-append-drop}
+use Rattle.pon_demand.proofs.Carries.{carry_at_row, carry_within}
+use Rattle.pon_demand.specs.Carries.{number_of, AreCarries, carries_of}
+use Rattle.std.specs.Prelude.{if◌then◌else◌, All, Contains, Option, Some, None, flat_map, option_to_list, ◌==◌, nat_le, filter, nat_lt, option_map, Any, IfSome}
 use Rattle.std.specs.List.{list_any}
-use Rattle.std.proofs.lemmas.Bool.{cases_lt, le-ltb, lt-ltb, eq-eqb, ne_eqb, eqb-true, or_left, or_right, eqb-false, leb-false, and_from, and_parts}
+use Rattle.std.proofs.lemmas.Bool.{cases_lt, le-ltb, lt-ltb, eq-eqb, ne_eqb, eqb-true, or_left, or_right, leb-false, and_from, and_parts}
 use Rattle.std.proofs.lemmas.Bool.Decides.{leb_tells, eqb_tells, nat_tests}
-use Rattle.std.proofs.lemmas.List.{map-id, length-map, take-append-drop}
 use Rattle.std.proofs.lemmas.List.Elements.{All-append, All-cons, All-drop, All-head, All-map, All-nil, All-tail, All-weaker, All-filter, All-push, Contains-get_or, filter_passes}
 use Rattle.pon_lists.proofs.Lists.{All-unmap, any_eq-filter, length-map, map-map, map_same, map_filter, sum_by-map, list_any-map, none_any}
 use Rattle.pon_guar.specs.declared.account.Account.{Account}
@@ -40,7 +42,6 @@ use Rattle.pon_lists.specs.Distinct.{distinct}
 use Rattle.pon_burst.specs.Maps.{grant}
 use Rattle.pon_demand.specs.Sharing.{surplus_rate}
 use Rattle.pon_demand.proofs.RosterMaps.{granted_to_row, one_map, in_order}
-use Rattle.pon_demand.proofs.Carries.{carry_within}
 use Rattle.pon_state.specs.declared.reply.Reply.TheVariants.{Taken, Map}
 use Rattle.pon_state.specs.declared.reply.MadeMap.{MadeMap}
 use Rattle.pon_state.specs.History.{replay}
@@ -54,7 +55,6 @@ use Rattle.pon_admit.specs.declared.rule.Rule.{Rule}
 use Rattle.pon_admit.proofs.Rules.{left_over_range}
 use Rattle.pon_guar.proofs.Books.{admitted_rise, occupancies_ids, removed_rise, with_ids}
 use Rattle.pon_guar.proofs.Windows.{one_more, one_reported}
-use Rattle.pon_demand.specs.Carries.{AreCarries, carries_of, number_of}
 use Rattle.pon_demand.specs.Rates.{owed, planned_grants}
 use Rattle.pon_state.specs.Accounts.{AccountsFor}
 use Rattle.pon_state.specs.Carries.{carries_left}
@@ -317,15 +317,16 @@ pub if_less : (P Q : Counted → Type 0) (w : ℕ) (c : Option Counted) → ((c 
 if_less P Q w None stays h = tt
 if_less P Q w (Some c) stays h = stays c h
 
+-- of numbers for each row, that of a row's Alloc-ID is its own
+pub number_at : (f : Row → ℕ) (rows : List Row) → IsDistinct rows → All (λ r. number_of rows (map f rows) r.alloc_id ≡ f r) rows
+number_at f rows apart n d lt =
+    let r : Row = get_or rows n d in
+    sym (carry_at_row rows (map f rows) r n 0 apart (length-map rows f) lt (get_or_default rows n r d lt)) ∙ get_or-map f rows n r 0 lt ∙ ap f (get_or_default rows n r d lt)
+
 -- each row's ONU owns its Alloc-ID
-pub distinct_own : (rows : List Row) → IsDistinct rows → All (λ r. Owns rows r.alloc_id r.onu) rows
-distinct_own [] h = All-nil (λ r. Owns [] r.alloc_id r.onu)
-distinct_own (x ∷ rows) h = All-cons (λ r. Owns (x ∷ rows) r.alloc_id r.onu) x rows
-    (All-cons (λ q. q.alloc_id ≡ x.alloc_id → q.onu ≡ x.onu) x rows (λ is. refl) (λ n d lt is. absurd (other n d lt is)))
-    (λ n d lt. All-cons (λ q. q.alloc_id ≡ (get_or rows n d).alloc_id → q.onu ≡ (get_or rows n d).onu) x rows (λ is. absurd (other n d lt (sym is))) (distinct_own rows h.1 n d lt))
-  where
-    other : All (λ q. q.alloc_id ≢ x.alloc_id) rows
-    other = All-weaker (λ q. (q.alloc_id == x.alloc_id) ≡ false) (λ q. q.alloc_id ≢ x.alloc_id) (λ q. eqb-false q.alloc_id x.alloc_id) rows (none_any (λ q. q.alloc_id == x.alloc_id) rows h.0)
+distinct_own : (rows : List Row) → IsDistinct rows → All (λ r. Owns rows r.alloc_id r.onu) rows
+distinct_own rows apart n d lt m e within is =
+    sym (number_at (λ r. r.onu) rows apart m e within) ∙ ap (number_of rows (map (λ r. r.onu) rows)) is ∙ number_at (λ r. r.onu) rows apart n d lt
 
 -- an account is lawful after a map that grants to each Alloc-ID under its own ONU
 pub account_mapped : (s : State) (gs : List Granted) (carries : List ℕ) (a : Account) → All (λ g. Owns s.roster g.alloc_id g.onu) gs → AccountIsLawful s a → AccountIsLawful (after_map s gs carries) (lessened gs a)

@@ -1,6 +1,7 @@
 -- Over a run of maps the words are the whole part of what is owed, under the rule that carries.
+use Rattle.pon_history.specs.Carries.{carry_after, owed_of, rate_of_reply}
+use Rattle.pon_history.specs.Parts.{roster_of, admits}
 use Rattle.pon_admit.specs.declared.event.Event.TheVariants.{MakeMap}
-use Rattle.pon_history.specs.Parts.{admits}
 use Rattle.std.proofs.Common.{◌≡◌, ℕ, ◌+◌, ◌*◌, ◌/◌, ◌<◌, ap, sym, ◌∙◌, add_assoc, ◌-◌, ◌%◌, ◌≤◌, true, false, List, [], ◌∷◌, ◌++◌, map, refl, subst, arith, inl, inr}
 use Rattle.std.proofs.Math.Nat.{div-div-eq-div-mul, mul-add-div_right}
 use Rattle.pon_units.specs.declared.limits.TheConstants.{WORD_RATE}
@@ -24,11 +25,10 @@ use Rattle.pon_state.specs.declared.reply.Reply.{Reply}
 use Rattle.pon_state.specs.declared.reply.Reply.TheVariants.{Taken, Map}
 use Rattle.pon_state.specs.declared.reply.MadeMap.{MadeMap}
 use Rattle.pon_state.specs.Entry.{Entry}
-use Rattle.pon_history.specs.Carries.{owed_of, rate_of_reply}
 use Rattle.pon_history.specs.Chapters.{Chapter, IsLawfulChapter, cut_at}
 use Rattle.pon_history.specs.ClosedForm.{closed_form}
 use Rattle.pon_history.specs.WordRuns.{GrantsWholeParts, RunsAreWhole, words_of_reply, words_since}
-use Rattle.pon_history.proofs.ClosedForms.{owed_push, sum_since_push, carry_now, of_chapter}
+use Rattle.pon_history.proofs.ClosedForms.{owed_push, sum_since_push, of_chapter}
 use Rattle.pon_history.proofs.LawfulStates.{front_lawful}
 
 number_absent : (i : ℕ) (rows : List Row) (ns : List ℕ) → has_alloc i rows ≡ false → number_of rows ns i ≡ 0
@@ -74,7 +74,8 @@ module _ (o : State) (two : o.rule ≡ CarryRemainders) (i : ℕ) (done : List E
   of_map : (made : MadeMap) → IsMade s made → before / 256 + word (Map made) ≡ (before + rate (Map made)) / 256
   of_map made m = elim (cases_Bool (has_alloc i s.roster)) [
     | inl e ↦
-        let carry : number_of s.roster s.carries i ≡ before % 256 = carry_now o done same i e ∙ ap (λ rule. left_over rule before) two in
+        let carry : number_of s.roster s.carries i ≡ before % 256 = ap (λ s. number_of s.roster s.carries i) same
+        ∙ carry_known (carry_after o done) i (roster_of o.roster done) (rw same at e) ∙ ap (λ rule. left_over rule before) two in
         let words : word (Map made) ≡ (before % 256 + rate (Map made)) / 256 = made_words s made i m e ∙ ap (λ n. (n + rate (Map made)) / 256) carry in
         omega (arith, words)
     | inr e ↦
