@@ -299,8 +299,9 @@ module _ (s : State) (l : IsLawfulState s) (f u : ℕ) (ns : List (Option ℕ)) 
             not_early = early;
             not_late = below;
             reported = All-map (HasReported s.roster a.alloc_id f) (with_report f u) s.window (λ m e within at r q there is.
-                subst (Contains (with_report f u (get_or s.window m e)).reported) (sym ((told k d lt).0 of_it r q there (is ∙ sym of_it) ∙ (told k d lt).1))
-                (reported_now f u (get_or s.window m e) (get_or gs k d) at (subst (λ own. Contains own (get_or gs k d)) (grants_of_one f u s.window (get_or s.window m e) (one_of_frame s.next f s.window l.frames m e within at)) (Contains-get_or gs k d lt))));
+                let own : Contains (filter (λ g. g.onu == u) (get_or s.window m e).grants) (get_or gs k d)
+                = subst (λ own. Contains own (get_or gs k d)) (grants_of_one f u s.window (get_or s.window m e) (one_of_frame s.next f s.window l.frames m e within at)) (Contains-get_or gs k d lt) in
+                subst (Contains (with_report f u (get_or s.window m e)).reported) (sym ((told k d lt).0 of_it r q there (is ∙ sym of_it) ∙ (told k d lt).1)) (reported_now f u (get_or s.window m e) (get_or gs k d) at own));
           }) range in
           search (rules, h)
 
@@ -422,10 +423,11 @@ module _ (s : State) (l : IsLawfulState s) (room : s.taken_before < 2 ^ 64 - 1) 
   remove_lawful : (i : ℕ) → IsLawfulState (after_remove s i)
   remove_lawful i =
       let carries : List ℕ = carries_of (number_of s.roster s.carries) (without i s.roster) in
+      let keeps = λ (j : ℕ) (Q : ℕ → Type 0). All-filter (λ r. not (r.alloc_id == i)) (λ r. r.alloc_id ≡ j → Q r.onu) s.roster in
       rows_lawful (without i s.roster) carries (without_account i s.book) (remove_keeps s.rule s.gap s.roster i l.admitted) (ids_removed i s.roster s.book l.book)
       (carries_at s.rule (without i s.roster) (carry_at s) (λ r. carry_within (max_carry s.rule) s.roster s.carries r.alloc_id l.carries.range))
       (All-filter (λ a. not (a.alloc_id == i)) (AccountIsLawful (after_remove s i)) s.book
-      (λ n d lt. account_with_rows s (without i s.roster) carries (without_account i s.book) (get_or s.book n d) (λ Q. All-filter (λ r. not (r.alloc_id == i)) (λ r. r.alloc_id ≡ (get_or s.book n d).alloc_id → Q r.onu) s.roster) (l.accounts n d lt)))
+      (λ n d lt. account_with_rows s (without i s.roster) carries (without_account i s.book) (get_or s.book n d) (keeps (get_or s.book n d).alloc_id) (l.accounts n d lt)))
       (All-filter (λ a. not (a.alloc_id == i)) (λ a. a.counted ≡ None) s.book)
 
   window_lawful : IsWindow s.window

@@ -364,7 +364,8 @@ module _ (o : State) (es : List Entry) (e : Entry) (below : All (IsBelow (next_o
   -- the candidates of the entries before it are lessened by these words
   lessened_before : (xs : List Entry) → All (IsBelow (next_of o.next es)) xs → found (all_maps o all) (since_of o es i) xs ≡ map (less w) (found (all_maps o es) (since_of o es i) xs)
   lessened_before [] b = refl
-  lessened_before (x ∷ xs) b = (λ j. one x.event (All-head (IsBelow (next_of o.next es)) x xs b) j ++ lessened_before xs (All-tail (IsBelow (next_of o.next es)) x xs b) j) ∙ sym (map-append (less w) (candidates_in (all_maps o es) (since_of o es i) i x.event) _)
+  lessened_before (x ∷ xs) b = (λ j. one x.event (All-head (IsBelow (next_of o.next es)) x xs b) j ++ lessened_before xs (All-tail (IsBelow (next_of o.next es)) x xs b) j)
+      ∙ sym (map-append (less w) (candidates_in (all_maps o es) (since_of o es i) i x.event) _)
     where
       one : (v : Event) → EventBelow (next_of o.next es) v → candidates_in (all_maps o all) (since_of o es i) i v ≡ map (less w) (candidates_in (all_maps o es) (since_of o es i) i v)
       one (Report f u occ) l = elim (leb_tells (since_of o es i) f) [
@@ -402,7 +403,9 @@ own_words i u (g ∷ gs) h o =
       | inl e ↦
           let mine : g.onu ≡ u = All-head (λ g. g.alloc_id ≡ i → g.onu ≡ u) g gs o e.1 in
           let none : words_among i gs ≤ length gs * 0
-          = sum_by-le (λ g. if g.alloc_id == i then g.words else 0) 0 gs (λ n d l. rw (ne_eqb (get_or gs n d).alloc_id i (λ z. let k : g.alloc_id < (get_or gs n d).alloc_id = (h.0 n d l).1 (mine ∙ sym (others n d l z)) in omega (arith, z, e.1, k))) (omega arith)) in
+          = sum_by-le (λ g. if g.alloc_id == i then g.words else 0) 0 gs (λ n d l.
+          let other : (get_or gs n d).alloc_id ≡ i → ⊥ = λ z. let k : g.alloc_id < (get_or gs n d).alloc_id = (h.0 n d l).1 (mine ∙ sym (others n d l z)) in omega (arith, z, e.1, k) in
+          rw (ne_eqb (get_or gs n d).alloc_id i other) (omega arith)) in
           rw (eq-eqb g.onu u mine, e.0) (omega (arith, none))
       | inr e ↦ elim (cases_Bool (g.onu == u)) [
         | inl t ↦ rw (t, e.0) (omega (arith, own_words i u gs h.1 others))
