@@ -1,9 +1,9 @@
 -- The replay of a legal history is its closed form.
+use Rattle.pon_lists.proofs.Lists.{map-map, list_any-map, map_same}
 use Rattle.std.specs.Prelude.{Any, ◌==◌, Some, None, All, if◌then◌else◌}
 use Rattle.std.proofs.lemmas.Bool.{eqb-true, or_parts, and_parts, cases_Bool, eq-eqb}
 use Rattle.std.proofs.lemmas.List.Elements.{All-map, All-nil}
 use Rattle.std.proofs.lemmas.List.Folds.{Any-from_list_any, list_any-append, list_any_at}
-use Rattle.pon_lists.proofs.Lists.{list_any-map, map_same}
 use Rattle.pon_guar.proofs.Accounts.{found_each}
 use Rattle.std.proofs.Common.{◌≡◌, ℕ, true, false, ◌||◌, List, [], ◌∷◌, map, refl, ap, sym, subst, ◌∙◌, inl, inr, ◌+◌, ◌<◌, not, ◌++◌, length, get_or, append_assoc, arith, add-zero, Bool}
 use Rattle.std.specs.List.{list_any}
@@ -17,7 +17,6 @@ use Rattle.pon_history.specs.Chapters.{Chapter, IsLawfulChapter, present_state, 
 use Rattle.pon_history.specs.Parts.{allocs_of, admits, roster_after, roster_of, cause_after, next_of}
 use Rattle.pon_history.specs.Reports.{account_after, counted_of}
 use Rattle.pon_history.proofs.LawfulStates.{number_at, present_lawful, any_without, lawful_step}
-use Rattle.pon_descr.specs.Descriptor.{Descriptor}
 use Rattle.pon_admit.specs.declared.row.Row.{Row}
 use Rattle.pon_admit.proofs.AdmittedSets.{changed, changed_alloc, has_alloc-changed}
 use Rattle.pon_admit.proofs.Rules.{left_over_range, left_over_same, left_over_sum}
@@ -79,13 +78,7 @@ sum_since_push f i es e = rw (nothing, nothing) at (since_push f i 0 [] es e)
     nothing : (b : Bool) (n : ℕ) → (if b then 0 else 0) + n ≡ n
     nothing b n = grind arith
 
--- with other descriptors
-carries_changed : (f : ℕ → ℕ) (i : ℕ) (d : Descriptor) (rows : List Row) → carries_of f (map (changed i d) rows) ≡ carries_of f rows
-carries_changed f i d [] = refl
-carries_changed f i d (r ∷ rows) = (λ j. f (changed_alloc i d r j) ∷ carries_changed f i d rows j)
-
 -- One more entry.
-
 module _ (o : State) (es : List Entry) (l : IsLawfulState (closed_form o es)) where
   abbrev rows : List Row
   rows = roster_of o.roster es
@@ -97,15 +90,10 @@ module _ (o : State) (es : List Entry) (l : IsLawfulState (closed_form o es)) wh
   carry_push : (e : Entry) (i : ℕ) → carry_after o (es ++ e ∷ []) i ≡ left_over o.rule ((if admits_now i e then 0 else carry i) + rate_of_reply (input_of (replay o es)) e.reply i)
   carry_push e i =
       let rate : ℕ = rate_of_reply (input_of (replay o es)) e.reply i in
-      ap (left_over o.rule) (owed_push o es e i)
-      ∙ (elim (admits_now i e) as (λ b. left_over o.rule ((if b then 0 else owed_of o es i) + rate) ≡ left_over o.rule ((if b then 0 else carry i) + rate)) [
+      rw (owed_push o es e i) (elim (admits_now i e) as (λ b. left_over o.rule ((if b then 0 else owed_of o es i) + rate) ≡ left_over o.rule ((if b then 0 else carry i) + rate)) [
         | true ↦ refl
         | false ↦ sym (left_over_sum o.rule (owed_of o es i) rate)
       ])
-
-  -- the carry of an admitted Alloc-ID is in the state before
-  known : (i : ℕ) → has_alloc i rows ≡ true → carry i ≡ number_of rows (carries_of carry rows) i
-  known i h = sym (carry_known carry i rows h)
 
   -- an event without a map leaves the carries of the Alloc-IDs that it does not admit
   carries_taken : (v : Event) → carries_of (carry_after o (es ++ record { event = v; reply = Taken } ∷ [])) (roster_after rows v)
@@ -116,7 +104,7 @@ module _ (o : State) (es : List Entry) (l : IsLawfulState (closed_form o es)) wh
       one : (i : ℕ) → has_alloc i (roster_after rows v) ≡ true → carry_after o (es ++ record { event = v; reply = Taken } ∷ []) i ≡ (if admits i v then 0 else number_of rows (carries_of carry rows) i)
       one i h = carry_push (record { event = v; reply = Taken }) i ∙ rw add-zero (elim (cases_Bool (admits i v)) [
         | inl a ↦ rw a (left_over_same o.rule 0 (omega arith))
-        | inr a ↦ rw a (left_over_same o.rule (carry i) (left_over_range o.rule (owed_of o es i)) ∙ known i (had_row i v rows a h))
+        | inr a ↦ rw a (left_over_same o.rule (carry i) (left_over_range o.rule (owed_of o es i)) ∙ sym (carry_known carry i rows (had_row i v rows a h)))
       ])
 
   still : carries_of (λ i. number_of rows (carries_of carry rows) i) rows ≡ carries_of carry rows
@@ -131,7 +119,7 @@ module _ (o : State) (es : List Entry) (l : IsLawfulState (closed_form o es)) wh
       map_agree (λ r. carry_after o (es ++ record { event = MakeMap; reply = Map made } ∷ []) r.alloc_id) (λ r. left_over o.rule (carry_at s r + rate r)) rows (λ n d lt.
       let r : Row = get_or rows n d in
       carry_push (record { event = MakeMap; reply = Map made }) r.alloc_id
-      ∙ (λ j. left_over o.rule (known r.alloc_id (row_has rows n d lt) j + rate_of_reply (input_of (same j)) (Map made) r.alloc_id))
+      ∙ (λ j. left_over o.rule (sym (carry_known carry r.alloc_id rows (row_has rows n d lt)) j + rate_of_reply (input_of (same j)) (Map made) r.alloc_id))
       ∙ ap (λ n. left_over o.rule (carry_at s r + n)) (number_at rate rows l.admitted.apart n d lt))
 
   -- the carries of the closed form are those of the state after the entry
@@ -145,7 +133,8 @@ module _ (o : State) (es : List Entry) (l : IsLawfulState (closed_form o es)) wh
       one v (Map made) m = absurd (let t : Map made ≡ Taken = m in cc)
       one (Admit onu alloc_id descriptor) Taken m = carries_taken (Admit onu alloc_id descriptor)
       one (Remove alloc_id) Taken m = carries_taken (Remove alloc_id)
-      one (Change alloc_id descriptor) Taken m = carries_taken (Change alloc_id descriptor) ∙ carries_changed (number_of rows (carries_of carry rows)) alloc_id descriptor rows ∙ still
+      one (Change alloc_id descriptor) Taken m = carries_taken (Change alloc_id descriptor)
+          ∙ map-map (λ r. number_of rows (carries_of carry rows) r.alloc_id) (changed alloc_id descriptor) rows ∙ map_same _ _ (λ r. ap (number_of rows (carries_of carry rows)) (changed_alloc alloc_id descriptor r)) rows ∙ still
       one v Taken m = carries_taken v ∙ still
 
 -- no entries leave the carries
@@ -155,9 +144,7 @@ carries_none s l =
     (λ r. rw add-zero (left_over_same s.rule (number_of s.roster s.carries r.alloc_id) (carry_within (max_carry s.rule) s.roster s.carries r.alloc_id l.carries.range))) s.roster
     ∙ carries_each s.roster s.carries l.admitted.apart l.carries.count
 
--- The closed form.
-
--- the closed form of no entries
+-- The closed form of no entries.
 closed_none : (s : State) → IsLawfulState s → closed_form s [] ≡ s
 closed_none s l =
     let next : s.next + 0 ≡ s.next = omega arith in

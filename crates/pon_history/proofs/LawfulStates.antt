@@ -67,10 +67,6 @@ use Rattle.pon_history.proofs.Legality.{along, checks_passed, legal_front, legal
 
 -- Members of lists.
 
--- a test finds a number that is in a list
-contains_any : (u : ℕ) (xs : List ℕ) → Contains xs u → occurs u xs ≡ true
-contains_any u xs c = list_any_at (λ v. v == u) xs c.0 u c.1 (eq-eqb (get_or xs c.0 u) u c.2)
-
 -- a number of a list that passes a test is in the filtered list
 contains_filtered : (p : ℕ → Bool) (u : ℕ) (xs : List ℕ) → p u ≡ true → occurs u xs ≡ true → Contains (filter p xs) u
 contains_filtered p u xs passes there =
@@ -254,7 +250,7 @@ module _ (f u : ℕ) (m : WindowMap) where
   -- an ONU that reported stays one that did
   reported_stays : (v : ℕ) → IsLawfulMap m → Contains m.reported v → Contains (with_report f u m).reported v
   reported_stays v l c =
-      let was : occurs v m.reported ≡ true = contains_any v m.reported c in
+      let was : occurs v m.reported ≡ true = list_any_at (λ w. w == v) m.reported c.0 v c.1 (eq-eqb (get_or m.reported c.0 v) v c.2) in
       let polled : occurs v (onus_polled m) ≡ true = (and_parts (occurs v m.reported) (occurs v (onus_polled m)) (sym (any_eq-filter (λ w. occurs w m.reported) v (onus_polled m)) ∙ ap (occurs v) (sym l.reported) ∙ was)).1 in
       contains_filtered (λ w. occurs w m.reported || (f == m.frame && u == w)) v (onus_polled m) (or_left (occurs v m.reported) (f == m.frame && u == v) was) polled
 
@@ -506,9 +502,6 @@ IsSmall c = c.words ≤ MAX_OCCUPANCY
 abbrev IsSmallAccount : Account → Type 0
 IsSmallAccount a = IfSome a.counted IsSmall
 
-abbrev HasRange : WindowMap → Type 0
-HasRange m = AreGrantsInRange m.grants
-
 module _ (s : State) (k : IsLawfulState s) (h : IsStateInRange s) where
   made_in_range : (made : MadeMap) → IsMade s made → AreGrantsInRange (grants_in_map s.roster made.map)
   made_in_range made m =
@@ -532,15 +525,15 @@ module _ (s : State) (k : IsLawfulState s) (h : IsStateInRange s) where
       let granted : ℕ → ℕ = λ i. words_to_from u i frame s.window in
       let reports : All IsSmallAccount (after_report s frame u ns).book
       = book_all IsSmallAccount granted frame gs ns s.book (λ a early known. counted_all IsSmall granted frame gs ns a known (λ k d l is n small. omega (arith, small)) f.event.occupancies.range) h.reports in
-      search (rules, All-map HasRange (with_report frame u) s.window h.maps)
+      search (rules, All-map (λ m. AreGrantsInRange m.grants) (with_report frame u) s.window h.maps)
   range_step kept MakeMap Taken f = absurd f.reply
   range_step kept MakeMap (Map made) f =
       let gs : List Granted = grants_in_map s.roster made.map in
       let fewer : All (λ a. IsSmallAccount (lessened gs a)) s.book
       = All-weaker IsSmallAccount (λ a. IsSmallAccount (lessened gs a)) (λ a. if_less IsSmall IsSmall (words_among a.alloc_id gs) a.counted (λ c small. omega (arith, small))) s.book h.reports in
-      search (rules, All-map IsSmallAccount (lessened gs) s.book fewer, All-with_map HasRange s.next gs s.window h.maps (made_in_range made f.reply))
-  range_step kept (Fail cause) r f = record { rule = h.rule; cause = f.event; reports = All-map IsSmallAccount (afresh s.next) s.book (λ n d lt. tt); maps = All-nil HasRange }
-  range_step kept Restore r f = record { rule = h.rule; cause = tt; reports = All-map IsSmallAccount (afresh s.next) s.book (λ n d lt. tt); maps = All-nil HasRange }
+      search (rules, All-map IsSmallAccount (lessened gs) s.book fewer, All-with_map (λ m. AreGrantsInRange m.grants) s.next gs s.window h.maps (made_in_range made f.reply))
+  range_step kept (Fail cause) r f = record { rule = h.rule; cause = f.event; reports = All-map IsSmallAccount (afresh s.next) s.book (λ n d lt. tt); maps = All-nil _ }
+  range_step kept Restore r f = record { rule = h.rule; cause = tt; reports = All-map IsSmallAccount (afresh s.next) s.book (λ n d lt. tt); maps = All-nil _ }
 
 -- The states of a lawful chapter, and the two parts that it splits into.
 module _ (c : Chapter) (l : IsLawfulChapter c) where

@@ -236,10 +236,7 @@ at_the_last test start first [] = refl
 at_the_last test start first (e ∷ es) = at_the_last test (if test e then first else start) (next_of first (e ∷ [])) es ∙ rest (test e) (list_any test es)
   where
     rest : (a b : Bool) → (if b then next_of (next_of first (e ∷ [])) (before_last test es) else (if a then first else start)) ≡ (if (a || b) then next_of first (if b then e ∷ before_last test es else []) else start)
-    rest true true = next_of-cons first e (before_last test es)
-    rest false true = next_of-cons first e (before_last test es)
-    rest true false = let z : first ≡ next_of first [] = omega arith in z
-    rest false false = refl
+    rest a b = grind (arith, next_of-cons first e (before_last test es))
 
 -- One more entry grants the words of its map.
 
@@ -543,8 +540,6 @@ book_push o es kept e leads below lawful m =
     ∙ pushed o es kept leads below lawful e.reply e.event m
 
 -- The counted report is an accepted one, and no accepted one is later.
-
--- Properties of all elements of the lists that a list is made into.
 
 behind : {Y : Type 0} (P : Y → Type 0) (xs ys : List Y) → All P (xs ++ ys) → All P ys
 behind P xs ys h = subst (All P) (drop_at xs ys (length xs) refl) (All-drop P (length xs) (xs ++ ys) h)
