@@ -97,10 +97,6 @@ pub latest_lone : (c : Option Counted) → latest (option_to_list c ++ []) ≡ c
 latest_lone None = refl
 latest_lone (Some c) = refl
 
-later_later : (c d : Counted) (r : Option Counted) → later c (later d r) ≡ (if nat_lt d.frame c.frame then later c r else later d r)
-later_later c d None = refl
-later_later c d (Some e) = grind (arith, nat_tests)
-
 -- the first part of a list may be replaced by its latest
 pub latest-append : (cs ds : List Counted) → latest (cs ++ ds) ≡ latest (option_to_list (latest cs) ++ ds)
 latest-append [] ds = refl
@@ -108,8 +104,7 @@ latest-append (c ∷ cs) ds = ap (later c) (latest-append cs ds) ∙ one (latest
   where
     one : (o : Option Counted) → later c (latest (option_to_list o ++ ds)) ≡ latest (option_to_list (later c o) ++ ds)
     one None = refl
-    one (Some d) = later_later c d (latest ds)
-        ∙ elim (nat_lt d.frame c.frame) as (λ b. (if b then later c (latest ds) else later d (latest ds)) ≡ latest (option_to_list (if b then Some c else Some d) ++ ds)) [ true ↦ refl | false ↦ refl ]
+    one (Some d) = grind (arith, nat_tests)
 
 -- Reports, account by account.
 
@@ -360,13 +355,9 @@ ids_removed i rows book k = (
   λ j. rw (list_any-map, any_without (λ a. a.alloc_id) i j book, any_without (λ r. r.alloc_id) i j rows, ← k.1 j, list_any-map),
 )
 
--- The carries.
-
--- one for each row, if that of each is in range
+-- a carry for each row, if that of each is in range
 carries_at : (rule : Rule) (rows : List Row) (carry : Row → ℕ) → ((r : Row) → carry r ≤ max_carry rule) → AreCarries rule rows (map carry rows)
 carries_at rule rows carry small = record { count = length-map rows carry; range = All-map (λ c. c ≤ max_carry rule) carry rows (λ n d lt. small (get_or rows n d)) }
-
--- The checks.
 
 -- nothing is asked of a port that is not failed
 if_failed : (P : Type 0) (cause : Option ℕ) → when_down cause ≡ None → IfSome cause (λ _. P)

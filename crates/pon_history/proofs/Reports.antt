@@ -52,12 +52,10 @@ next_of-append first xs ys = ap (λ n. first + n) (count_by-append (λ e. makes_
 pub next_of-cons : (first : ℕ) (x : Entry) (ys : List Entry) → next_of (next_of first (x ∷ [])) ys ≡ next_of first (x ∷ ys)
 next_of-cons first x ys = sym (next_of-append first (x ∷ []) ys)
 
--- the cause
 pub cause_of-append : (c : Option ℕ) (xs ys : List Entry) → cause_of c (xs ++ ys) ≡ cause_of (cause_of c xs) ys
 cause_of-append c [] ys = refl
 cause_of-append c (x ∷ xs) ys = cause_of-append (cause_after c x.event) xs ys
 
--- the rows
 pub roster_of-append : (rs : List Row) (xs ys : List Entry) → roster_of rs (xs ++ ys) ≡ roster_of (roster_of rs xs) ys
 roster_of-append rs [] ys = refl
 roster_of-append rs (x ∷ xs) ys = roster_of-append (roster_after rs x.event) xs ys
@@ -76,7 +74,6 @@ frame_at_last_below t s n (x ∷ xs) h = subst (λ k. frame_at_last t (if t x th
     (frame_at_last_below t (if t x then n else s) (next_of n (x ∷ [])) xs
     (elim (t x) as (λ c. (if c then n else s) ≤ next_of n (x ∷ [])) [ true ↦ omega arith | false ↦ omega arith ]))
 
--- the Alloc-IDs of the book
 pub allocs_of-append : (ids : List ℕ) (xs ys : List Entry) → allocs_of ids (xs ++ ys) ≡ allocs_of (allocs_of ids xs) ys
 allocs_of-append ids [] ys = refl
 allocs_of-append ids (x ∷ xs) ys = allocs_of-append (allocs_after ids x.event) xs ys
@@ -238,9 +235,7 @@ at_the_last test start first (e ∷ es) = at_the_last test (if test e then first
     rest : (a b : Bool) → (if b then next_of (next_of first (e ∷ [])) (before_last test es) else (if a then first else start)) ≡ (if (a || b) then next_of first (if b then e ∷ before_last test es else []) else start)
     rest a b = grind (arith, next_of-cons first e (before_last test es))
 
--- One more entry grants the words of its map.
-
--- the words that an entry's map grants to an Alloc-ID
+-- The words that an entry's map grants to an Alloc-ID
 abbrev granted_now : State → List Entry → Entry → ℕ → ℕ
 granted_now o es e i = words_from i 0 (map_made (roster_of o.roster es) (next_of o.next es) e)
 
@@ -258,9 +253,7 @@ module _ (o : State) (es : List Entry) (e : Entry) (f : ℕ) where
       = elim (cases_Bool (makes_map e.event)) [ inl t ↦ rw (t, ne_eqb (next_of o.next es) f (λ q. omega (arith, q, l))) refl | inr t ↦ rw t refl ] in
       rw (all_maps_push o es e, filter-append, none, append-nil, map_filter, flat_map-map) refl
 
--- Reports of frames.
-
--- each report is of a frame below n
+-- Each report is of a frame below n.
 abbrev pub EventBelow : ℕ → Event → Type 0
 EventBelow n (Report frame onu occ) = frame < n
 EventBelow n _ = Unit {0}
@@ -289,9 +282,7 @@ less_more : {X : Type 0} (f : X → Counted) (v w : ℕ) (xs : List X) → map (
 less_more f v w [] = refl
 less_more f v w (x ∷ xs) = (let both : (f x).words - (v + w) ≡ ((f x).words - v) - w = omega arith in (λ j. record { frame = (f x).frame; words = both j } ∷ less_more f v w xs j))
 
--- The maps of the window.
-
--- two lists of maps grant the same from a frame on, and have the same grants of it
+-- Two lists of maps grant the same from a frame on, and have the same grants of it.
 abbrev GrantSame : ℕ → List WindowMap → List WindowMap → Type 0
 GrantSame f ms ns = ((i : ℕ) → words_from i f ms ≡ words_from i f ns) × ((u : ℕ) → grants_at f u ms ≡ grants_at f u ns)
 

@@ -2,7 +2,7 @@
 use Rattle.pon_history.specs.Carries.{carry_after, owed_of, rate_of_reply}
 use Rattle.pon_history.specs.Parts.{roster_of, admits}
 use Rattle.pon_admit.specs.declared.event.Event.TheVariants.{MakeMap}
-use Rattle.std.proofs.Common.{◌≡◌, ℕ, ◌+◌, ◌*◌, ◌/◌, ◌<◌, ap, sym, ◌∙◌, add_assoc, ◌-◌, ◌%◌, ◌≤◌, true, false, List, [], ◌∷◌, ◌++◌, map, refl, subst, arith, inl, inr}
+use Rattle.std.proofs.Common.{◌≡◌, ℕ, ◌+◌, ◌*◌, ◌/◌, ◌<◌, ap, sym, ◌∙◌, add_assoc, ◌-◌, ◌%◌, ◌≤◌, true, false, List, [], ◌∷◌, map, refl, subst, arith, inl, inr}
 use Rattle.std.proofs.Math.Nat.{div-div-eq-div-mul, mul-add-div_right}
 use Rattle.pon_units.specs.declared.limits.TheConstants.{WORD_RATE}
 use Rattle.pon_units.specs.Frac.{Frac}
@@ -91,16 +91,14 @@ module _ (o : State) (two : o.rule ≡ CarryRemainders) (i : ℕ) (done : List E
   given v Taken h so_far = elim (admits i v) as (λ b. (if b then 0 else words_since o i done) + 0 ≡ ((if b then 0 else before) + 0) / 256) [ true ↦ omega arith | false ↦ omega (arith, so_far) ]
   given v (Map made) h so_far = absurd (let t : Map made ≡ Taken = h in cc)
 
-  one_more : (e : Entry) → IsReply s e.event e.reply → words_since o i done ≡ before / 256 → words_since o i (done ++ e ∷ []) ≡ owed_of o (done ++ e ∷ []) i / 256
-  one_more e h so_far = rw (sum_since_push (λ before e. words_of_reply (replay o before).roster e.reply i) i done e, owed_push o done e i) (given e.event e.reply h so_far)
-
 -- the words of a lawful chapter under the rule that carries, over the whole of it
 whole_parts : (c : Chapter) → IsLawfulChapter c → c.opening.rule ≡ CarryRemainders → GrantsWholeParts c.opening c.entries
 whole_parts c l two i =
     let start : number_of c.opening.roster c.opening.carries i ≤ 255
     = subst (λ rule. number_of c.opening.roster c.opening.carries i ≤ max_carry rule) two (carry_within (max_carry c.opening.rule) c.opening.roster c.opening.carries i l.opening.state.carries.range) in
     (of_chapter c l (λ es. words_since c.opening i es ≡ owed_of c.opening es i / 256) (omega (arith, start))
-    (λ es e h m so_far. one_more c.opening two i es h.closed e m.reply so_far)).1
+    (λ es e h m so_far. rw (sum_since_push (λ before e. words_of_reply (replay c.opening before).roster e.reply i) i es e, owed_push c.opening es e i)
+    (given c.opening two i es h.closed e.event e.reply m.reply so_far))).1
 
 -- and over each run
 pub whole_runs : (c : Chapter) → IsLawfulChapter c → RunsAreWhole c
