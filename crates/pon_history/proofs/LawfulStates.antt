@@ -296,8 +296,6 @@ module _ (s : State) (l : IsLawfulState s) (f u : ℕ) (ns : List (Option ℕ)) 
           }) range in
           search (rules, h)
 
--- Maps.
-
 -- what holds of all maps of a window and of a new one
 pub All-with_map : (P : WindowMap → Type 0) (frame : ℕ) (gs : List Granted) (window : List WindowMap) → All P window → P (record { frame = frame; grants = gs; reported = [] }) → All P (with_map frame gs window)
 All-with_map P frame gs window h here =
@@ -336,24 +334,17 @@ ids_same : (rows : List Row) (book new : List Account) → alloc_ids new ≡ all
 ids_same rows book new same k = subst (λ ids. AreRising ids × ((i : ℕ) → list_any (λ j. j == i) ids ≡ has_alloc i rows)) (sym same) k
 
 ids_admitted : (r : Row) (rows : List Row) (since : ℕ) (book : List Account) → has_alloc r.alloc_id rows ≡ false → AccountsFor rows book → AccountsFor (with_row r rows) (with_account (fresh_account r.alloc_id since) book)
-ids_admitted r rows since book free k = (
-  admitted_rise (fresh_account r.alloc_id since) book k.0 (k.1 r.alloc_id ∙ free),
-  λ i. rw (with_ids (fresh_account r.alloc_id since) book, list_any-inserted, list_any-inserted, k.1 i),
-)
+ids_admitted r rows since book free k =
+    (admitted_rise (fresh_account r.alloc_id since) book k.0 (k.1 r.alloc_id ∙ free), λ i. rw (with_ids (fresh_account r.alloc_id since) book, list_any-inserted, list_any-inserted, k.1 i))
 
 -- whether a key is in a list without the elements of another key
 pub any_without : {X : Type 0} (key : X → ℕ) (i j : ℕ) (xs : List X) → list_any (λ x. key x == j) (without_key key i xs) ≡ (not (j == i) && list_any (λ x. key x == j) xs)
 any_without key i j xs =
-    sym (list_any-map (λ k. k == j) key (without_key key i xs))
-    ∙ ap (list_any (λ k. k == j)) (sym (map_filter key (λ k. not (k == i)) xs))
-    ∙ any_eq-filter (λ k. not (k == i)) j (map key xs)
-    ∙ ap (λ b. not (j == i) && b) (list_any-map (λ k. k == j) key xs)
+    sym (list_any-map (λ k. k == j) key (without_key key i xs)) ∙ rw (← map_filter key (λ k. not (k == i)) xs, any_eq-filter (λ k. not (k == i)) j (map key xs), list_any-map)
 
 ids_removed : (i : ℕ) (rows : List Row) (book : List Account) → AccountsFor rows book → AccountsFor (without i rows) (without_account i book)
-ids_removed i rows book k = (
-  removed_rise i book k.0,
-  λ j. rw (list_any-map, any_without (λ a. a.alloc_id) i j book, any_without (λ r. r.alloc_id) i j rows, ← k.1 j, list_any-map),
-)
+ids_removed i rows book k =
+    (removed_rise i book k.0, λ j. rw (list_any-map, any_without (λ a. a.alloc_id) i j book, any_without (λ r. r.alloc_id) i j rows, ← k.1 j, list_any-map))
 
 -- a carry for each row, if that of each is in range
 carries_at : (rule : Rule) (rows : List Row) (carry : Row → ℕ) → ((r : Row) → carry r ≤ max_carry rule) → AreCarries rule rows (map carry rows)
@@ -489,7 +480,6 @@ lawful_step kept s e f l = one e.event e.reply f.event f.reply (checks_passed ke
 abbrev IsSmall : Counted → Type 0
 IsSmall c = c.words ≤ MAX_OCCUPANCY
 
--- an account's report is small
 abbrev IsSmallAccount : Account → Type 0
 IsSmallAccount a = IfSome a.counted IsSmall
 
