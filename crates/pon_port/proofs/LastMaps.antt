@@ -1,7 +1,7 @@
 -- The last map of a chapter with one more entry.
 use Rattle.pon_history.proofs.Legality.{at_front, at_middle}
 use Rattle.std.proofs.Common.{◌≡◌, ℕ, List, [], ◌∷◌, ◌++◌, length, refl, ap, sym, ◌∙◌, subst, ◌≤◌, arith}
-use Rattle.std.specs.Prelude.{Option, Some, None, slice_get}
+use Rattle.std.specs.Prelude.{Option, Some, None}
 use Rattle.std.proofs.lemmas.List.{length-map}
 use Rattle.std.proofs.lemmas.Slice.Zip.{AllZip-long}
 use Rattle.pon_descr.specs.declared.class.Class.{Class}
@@ -74,10 +74,6 @@ pub last_made : (c d : Chapter) (s : State) (made : MadeMap) (place : ℕ) (na b
     place ≡ length c.entries → na ≡ member_ids NonAssured s.roster → be ≡ member_ids BestEffort s.roster → KeepsLast d (Some place) na be
 last_made c d s made place na be k m more here na_is be_is =
     let e : Entry = record { event = MakeMap; reply = Map made } in
-    let rows : s.roster ≡ (replay c.opening c.entries).roster = ap (λ s. s.roster) k.replayed in
-    let told : last_map (with_entry c MakeMap (Map made)) ≡ Some (record { made = made; na = na; be = be })
-    = last_push None c.opening c.entries e
-    ∙ (λ i. Some (record { made = made; na = (ap (member_ids NonAssured) (sym rows) ∙ sym na_is) i; be = (ap (member_ids BestEffort) (sym rows) ∙ sym be_is) i })) in
-    let members : MatchesMembers made.cert na be = rw (na_is, be_is) (suits_made s made k.admitted m) in
-    let at : slice_get (c.entries ++ e ∷ []) place ≡ Some e = ap (slice_get (c.entries ++ e ∷ [])) here ∙ at_middle c.entries e [] in
-    subst (λ d. KeepsLast d (Some place) na be) (sym more) (record { made = made; entry = e; at = at; is_map = refl; is_last = told; members = members })
+    let told : last_map (with_entry c MakeMap (Map made)) ≡ Some (record { made = made; na = member_ids NonAssured s.roster; be = member_ids BestEffort s.roster })
+    = last_push None c.opening c.entries e ∙ ap (λ s. Some (record { made = made; na = member_ids NonAssured s.roster; be = member_ids BestEffort s.roster })) (sym k.replayed) in
+    rw (more, here, na_is, be_is) (record { made = made; entry = e; at = at_middle c.entries e []; is_map = refl; is_last = told; members = suits_made s made k.admitted m })

@@ -3,18 +3,14 @@ use Rattle.std.proofs.Common.{◌≡◌, ℕ, ◌+◌, List, [], ap, sym, ◌∙
 use Rattle.std.specs.Prelude.{Option, None}
 use Rattle.pon_state.specs.State.{State}
 use Rattle.pon_state.specs.Entry.{Entry}
-use Rattle.pon_history.specs.Chapters.{Chapter, IsLawfulOpening, chapter_after, present_state}
+use Rattle.pon_history.specs.Chapters.{Chapter, chapter_after, present_state}
 use Rattle.pon_history.specs.Taking.{IsKept, Turns}
 use Rattle.pon_port.specs.Ports.{IsPort}
 use Rattle.pon_history.proofs.Kept.{kept_none}
 use Rattle.pon_history.proofs.LawfulStates.{in_range_at_present, opens_at_present}
 
-module _ (c : Chapter) (s : State) (k : IsKept c s) where
-  opens : IsLawfulOpening (c.number + 1) (present_state c)
-  opens = opens_at_present c k.lawful (c.number + 1) (omega arith)
-
-  next_kept : IsKept (chapter_after c) s
-  next_kept = subst (IsKept (chapter_after c)) (sym k.replayed) (kept_none (c.number + 1) (present_state c) opens)
+next_kept : (c : Chapter) (s : State) → IsKept c s → IsKept (chapter_after c) s
+next_kept c s k = rw k.replayed (kept_none (c.number + 1) (present_state c) (opens_at_present c k.lawful (c.number + 1) (omega arith)))
 
 -- the chapter that is begun with the state and no entries
 module _ (c : Chapter) (s o : State) (es : List Entry) where
@@ -31,8 +27,6 @@ module _ (c : Chapter) (s o : State) (es : List Entry) where
       (record { kept = next_kept c s p.kept; in_range = in_range_at_present c p.kept.lawful p.in_range; last = refl })
 
 pub turned : (c d : Chapter) (s o : State) (es : List Entry) → IsKept c s → o ≡ s → es ≡ [] → d ≡ c → Turns c d (record { number = c.number + 1; opening = o; entries = es })
-turned c d s o es k opening none same = record {
-  returned = same;
-  begun = is_next c s o es k opening none;
-  same_state = ap present_state (is_next c s o es k opening none);
-}
+turned c d s o es k opening none same =
+    let next : begun c s o es ≡ chapter_after c = is_next c s o es k opening none in
+    record { returned = same; begun = next; same_state = ap present_state next }
