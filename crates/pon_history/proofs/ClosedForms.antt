@@ -16,7 +16,8 @@ use Rattle.pon_state.specs.State.{State, carry_at, input_of}
 use Rattle.pon_history.specs.Chapters.{Chapter, IsLawfulChapter, present_state, IsLawfulState}
 use Rattle.pon_history.specs.Parts.{allocs_of, admits, roster_after, roster_of, cause_after, next_of}
 use Rattle.pon_history.specs.Reports.{account_after, counted_of}
-use Rattle.pon_history.proofs.LawfulStates.{number_at, present_lawful, any_without, lawful_step}
+use Rattle.pon_history.proofs.LawfulStates.{present_lawful, lawful_step}
+use Rattle.pon_history.proofs.LawfulAccounts.{number_at, any_without}
 use Rattle.pon_admit.specs.declared.row.Row.{Row}
 use Rattle.pon_admit.proofs.AdmittedSets.{changed, changed_alloc, has_alloc-changed}
 use Rattle.pon_admit.proofs.Rules.{left_over_range, left_over_same, left_over_sum}
@@ -36,7 +37,8 @@ use Rattle.pon_admit.specs.declared.event.Event.TheVariants.{Admit, Change, Remo
 use Rattle.pon_history.specs.Carries.{admits_now, carry_after, owed_of, rate_of_reply, sum_since}
 use Rattle.pon_history.specs.ClosedForm.{closed_form}
 use Rattle.pon_lists.proofs.Inserted.{list_any-inserted}
-use Rattle.pon_history.proofs.Reports.{roster_of-append, cause_of-append, next_of-append, AllLead, leads_next, leads_none, window_none, window_push, IsBelow, below_push, book_none, book_push, map_agree}
+use Rattle.pon_history.proofs.Reports.{IsBelow, below_push, book_none, book_push, map_agree}
+use Rattle.pon_history.proofs.Windows.{roster_of-append, cause_of-append, next_of-append, AllLead, leads_next, leads_none, window_none, window_push}
 use Rattle.pon_history.proofs.Legality.{along, later_one, replay_push}
 
 -- The Alloc-IDs of a roster.

@@ -1,8 +1,10 @@
 pub mod ClosedForms
 pub mod FairMaps
 pub mod Kept
+pub mod LawfulAccounts
 pub mod LawfulStates
 pub mod Legality
 pub mod OneReply
 pub mod Reports
+pub mod Windows
 pub mod WordRuns

@@ -1,4 +1,4 @@
-use Rattle.pon_history.proofs.LawfulStates.{account_by_account}
+use Rattle.pon_history.proofs.LawfulAccounts.{account_by_account}
 use Rattle.pon_history.proofs.Reports.{at_the_last}
 use Rattle.pon_history.proofs.laws.definitions_in_another_form.Goals as goal
 
