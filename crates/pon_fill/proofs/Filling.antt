@@ -33,9 +33,9 @@ sum-set f (i ∷ is) (b ∷ bs) (suc k) d lt long out =
     rw (sum_by-cons f (i, b) (zip is (set bs k true)), sum_by-cons f (i, b) (zip is bs)) (omega (arith, sum-set f is bs k d (omega (arith, lt)) (omega (arith, long)) out))
 
 -- a cap that is met at a level is met at a higher one
-pub higher : (p q r s c w : ℕ) → s ≤ q → p * s ≤ r * q → c * q ≤ w * p → c * s ≤ w * r
-higher p zero r s c w less le h = omega (arith, ap (λ n. c * n) (let none : s ≡ 0 = omega (arith, less) in none))
-higher p (suc q) r s c w less le h = elim (cases_lt (w * r) (c * s)) [
+pub higher : (p q r s c w : ℕ) → (q ≡ 0 → s ≡ 0) → p * s ≤ r * q → c * q ≤ w * p → c * s ≤ w * r
+higher p zero r s c w none le h = omega (arith, ap (λ n. c * n) (none refl))
+higher p (suc q) r s c w none le h = elim (cases_lt (w * r) (c * s)) [
   | inl lt ↦ absurd (omega (arith, mul-lt-mul_of_pos_left lt (let some : 0 < suc q = omega arith in some), mul-le-mul_left w le, mul-le-mul_left s h))
   | inr ge ↦ ge
 ]
@@ -81,7 +81,7 @@ step is r bs k d f lt out heavy met =
         weight = omega (arith, rest, split, f.weight);
         met = λ j e ltj flag. elim (eqb_tells j k) [
           | inl same ↦ rw (ap (λ n. get_or is n e) same.1, get_or_default is k e d lt) (omega (arith, met, ap (λ n. i.weight * n) left, ap (λ n. i.cap * n) rest))
-          | inr other ↦ higher r.surplus r.weight (r.surplus - i.cap) (r.weight - i.weight) (get_or is j e).cap (get_or is j e).weight (omega (arith, weight)) rises (f.met j e ltj (sym (get_or-set_other bs k j true false other.1) ∙ flag))
+          | inr other ↦ higher r.surplus r.weight (r.surplus - i.cap) (r.weight - i.weight) (get_or is j e).cap (get_or is j e).weight (λ none. omega (arith, none)) rises (f.met j e ltj (sym (get_or-set_other bs k j true false other.1) ∙ flag))
         ];
       };
     }

@@ -13,6 +13,7 @@ use Rattle.pon_cert.specs.Problem.{IsItem}
 use Rattle.pon_fill.specs.declared.rest.Rest.{Rest}
 use Rattle.pon_fill.specs.Filling.{IsFilled}
 use Rattle.pon_fill.specs.Order.{IsOrder}
+use Rattle.pon_fill.proofs.Filling.{higher}
 
 -- the level that meets a cap, in parts, rounded down
 abbrev pub parts : Item → ℕ
@@ -76,10 +77,10 @@ walked_more numbers j i flags lt is w k ltk ltn = elim (eqb_tells (get_or number
 ]
 
 -- a cap that is above the level is above it for each later item of the order
-later : (r : Rest) (a b : Item) → 0 < a.weight → 0 < b.weight → a.weight * r.surplus < a.cap * r.weight → a.cap * b.weight ≤ b.cap * a.weight → b.weight * r.surplus < b.cap * r.weight
-later r a b ha hb out le = elim (cases_lt (b.weight * r.surplus) (b.cap * r.weight)) [
+later : (r : Rest) (a b : Item) → 0 < b.weight → a.weight * r.surplus < a.cap * r.weight → a.cap * b.weight ≤ b.cap * a.weight → b.weight * r.surplus < b.cap * r.weight
+later r a b hb out le = elim (cases_lt (b.weight * r.surplus) (b.cap * r.weight)) [
   | inl lt ↦ lt
-  | inr ge ↦ absurd (omega (arith, mul-lt-mul_of_pos_left out hb, mul-le-mul_left a.weight ge, mul-le-mul_left r.weight le))
+  | inr ge ↦ absurd (omega (arith, out, higher b.cap b.weight r.surplus r.weight a.cap a.weight (λ none. absurd (omega (arith, none, hb))) (omega (arith, ge)) (omega (arith, le))))
 ]
 
 pub filled_in_order : (items : List Item) (numbers : List ℕ) (j : ℕ) (r : Rest) (flags : List Bool) → All IsItem items → IsOrder items numbers → IsWalked numbers j flags
@@ -89,5 +90,5 @@ filled_in_order items numbers j r flags each o w above i d lt out =
     elim (cases_lt at.0 j) [
       | inl less ↦ (let flag : true ≡ false = sym (w at.0 less at.1) ∙ ap (λ n. get_or flags n false) at.2 ∙ out in cc)
       | inr ge ↦ (let first : j < length numbers = omega (arith, ge, at.1) in
-          later r (get_or items (get_or numbers j 0) d) (get_or items i d) (each (get_or numbers j 0) d (o.below j first)).has_weight (each i d lt).has_weight (above first d) (rw at.2 at (o.rising j at.0 d ge at.1)))
+          later r (get_or items (get_or numbers j 0) d) (get_or items i d) (each i d lt).has_weight (above first d) (rw at.2 at (o.rising j at.0 d ge at.1)))
     ]

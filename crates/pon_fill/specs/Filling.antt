@@ -13,7 +13,7 @@ use Rattle.pon_fill.specs.declared.rest.Rest.{Rest}
 abbrev pub saturated_caps : List Item → List Bool → ℕ
 saturated_caps items saturated = sum_by (λ p. if p.1 then p.0.cap else 0) (zip items saturated)
 
--- the level of what is left; of all, if no item is left
+-- the level of what is left: `All` exactly when no weight is left
 abbrev pub IsLevel : Rest → Level → Type 0
 IsLevel rest level.All = rest.weight ≡ 0
 IsLevel rest (level.At f) = (0 < rest.weight) × (f ≡ record { num = rest.surplus; den = rest.weight })
@@ -22,7 +22,7 @@ IsLevel rest (level.At f) = (0 < rest.weight) × (f ≡ record { num = rest.surp
 abbrev pub IsInRange : Rest → Type 0
 IsInRange rest = (rest.surplus ≤ LINE_RATE) × (rest.weight ≤ MAX_ITEMS * LINE_RATE)
 
--- the weight that is left is that of the items that are not saturated, and the caps of the others are met at the level
+-- the weight that is left is the weight of the items that are not saturated; the caps of the saturated items are met at the level
 pub record IsFilling (items : List Item) (rest : Rest) (saturated : List Bool) : Type 0 where
   pub long : length saturated ≡ length items
   pub weight : rest.weight ≡ unsaturated_weight items saturated

@@ -8,8 +8,8 @@ use crate::order::order;
 use crate::rest::Rest;
 use pon_cert::{Item, Level};
 
-// Makes one round: saturates every item whose cap is met at the level of `rest`. Returns what they leave: the same
-// weight exactly when there is none.
+// Makes one round: saturates every item whose cap is met at the level of `rest`. Returns what they leave; if that is
+// the same weight, no other cap is met.
 fn saturate_met(items: &[Item], rest: Rest, saturated: &mut [bool]) -> Rest
     requires each { All IsItem items.now }
     requires range { IsInRange rest }

@@ -16,7 +16,7 @@ blank = record { weight = 0; cap = 0 }
 taken : (is : List Item) (rest left : Rest) (bs : List Bool) (k : ℕ) → IsFilling is left bs → left.weight ≤ rest.weight → rest.surplus * left.weight ≤ left.surplus * rest.weight → k < length is → get_or bs k false ≡ false
     → 0 < (get_or is k blank).weight → nat_le ((get_or is k blank).cap * rest.weight) ((get_or is k blank).weight * rest.surplus) ≡ true → IsStep is left bs k (get_or is k blank)
 taken is rest left bs k f less rises lt out heavy met =
-    step is left bs k blank f lt out heavy (higher rest.surplus rest.weight left.surplus left.weight (get_or is k blank).cap (get_or is k blank).weight less rises (leb-true _ _ met))
+    step is left bs k blank f lt out heavy (higher rest.surplus rest.weight left.surplus left.weight (get_or is k blank).cap (get_or is k blank).weight (λ none. omega (arith, none, less)) rises (leb-true _ _ met))
 
 pub without-left-requires : goal.without-left-requires
 without-left-requires c =
@@ -42,7 +42,7 @@ loop-i-preserved c =
             range = (omega (arith, held.range.0), omega (arith, held.range.1));
             filling = t.filling;
             spent = t.spent ∙ held.spent;
-            rises = omega (arith, higher left.surplus left.weight (left.surplus - one.cap) (left.weight - one.weight) rest.surplus rest.weight (omega arith) t.rises (omega (arith, held.rises)));
+            rises = omega (arith, higher left.surplus left.weight (left.surplus - one.cap) (left.weight - one.weight) rest.surplus rest.weight (λ none. omega (arith, none)) t.rises (omega (arith, held.rises)));
             less = omega (arith, held.less);
             same = λ e. absurd (omega (arith, e, t.weight, heavy, held.less));
             filled = λ e. absurd (omega (arith, e, t.weight, heavy, held.less));
