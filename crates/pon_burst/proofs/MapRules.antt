@@ -5,6 +5,7 @@ use Rattle.std.specs.Option.{option_eq}
 use Rattle.std.proofs.lemmas.Bool.{eq-eqb, eqb-true}
 use Rattle.std.proofs.lemmas.List.{length-map}
 use Rattle.std.proofs.lemmas.Option.{get_or_from_slice_get, slice_get_within}
+use Rattle.pon_units.specs.declared.limits.TheConstants.{FRAME_WORDS, MAX_SERIES, MAX_STRUCTURES}
 use Rattle.pon_units.specs.declared.Granted.{Granted}
 use Rattle.pon_units.specs.Granted.{AreInMapOrder}
 use Rattle.pon_lists.proofs.Lists.{count_by-append}
@@ -39,7 +40,7 @@ module _ (gap profile : ℕ) (gs : List Granted) (order : AreInMapOrder gs) wher
   one_more : (g : Granted) (xs : List Granted) → of_onu g (xs ++ g ∷ []) ≡ of_onu g xs + 1
   one_more g xs = omega (arith, count_by-append (λ q. q.onu == g.onu) xs (g ∷ []), ap {B = ℕ} (λ b. cond b 1 0) (eq-eqb g.onu g.onu refl))
 
-  module _ (short : (u : ℕ) → count_by (λ g. g.onu == u) gs ≤ 16) where
+  module _ (short : (u : ℕ) → count_by (λ g. g.onu == u) gs ≤ MAX_SERIES) where
     -- structures that continue a series are of the ONU of the grant before them
     all_of_onu : (m : ℕ) (xs ys : List Granted) (g : Granted) → gs ≡ xs ++ g ∷ ys → ((j : ℕ) → j < m → goes_on ys j ≡ true) → m + of_onu g (xs ++ g ∷ []) ≤ 16
     all_of_onu zero xs ys g e all =
@@ -67,7 +68,7 @@ module _ (gap profile : ℕ) (gs : List Granted) (order : AreInMapOrder gs) wher
     no_long_series (suc k) [] e all = absurd (let off : false ≡ true = all (suc k) (omega arith) (omega arith) in cc)
     no_long_series (suc k) (g ∷ ys) e all = seventeen k [] ys g e (λ i le lt. all (suc i) (omega (arith, le)) (omega (arith, lt)))
 
-pub is_map_of_rising : (gap profile : ℕ) (gs : List Granted) → AreInMapOrder gs → ((u : ℕ) → count_by (λ g. g.onu == u) gs ≤ 16) → length gs ≤ 512 → frame_words gap gs ≤ 9720 → IsMap (map_granting gap profile gs)
+pub is_map_of_rising : (gap profile : ℕ) (gs : List Granted) → AreInMapOrder gs → ((u : ℕ) → count_by (λ g. g.onu == u) gs ≤ MAX_SERIES) → length gs ≤ MAX_STRUCTURES → frame_words gap gs ≤ FRAME_WORDS → IsMap (map_granting gap profile gs)
 is_map_of_rising gap profile gs order short few fits =
     let rows : List Alloc = map_granting gap profile gs in
     (map_rules rows).1 (record {

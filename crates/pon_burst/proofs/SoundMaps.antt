@@ -5,6 +5,7 @@ use Rattle.std.specs.Option.{option_eq}
 use Rattle.std.proofs.lemmas.List.{append-nil}
 use Rattle.std.proofs.lemmas.List.Elements.{All-cons}
 use Rattle.std.proofs.lemmas.List.Kept.{AllPairs-cons}
+use Rattle.pon_units.specs.declared.limits.TheConstants.{FRAME_WORDS}
 use Rattle.pon_units.specs.declared.Granted.{Granted}
 use Rattle.pon_units.specs.Granted.{AreInMapOrder}
 use Rattle.pon_bwmap.specs.Alloc.{Alloc}
@@ -59,12 +60,12 @@ module _ (gap profile : ℕ) (gs : List Granted) (order : AreInMapOrder gs) wher
   pub all_laid : AreLaid gap (gap + frame_words gap []) (gap + frame_words gap gs) (map_granting gap profile gs)
   all_laid = rest_laid None [] gs refl refl
 
-  pub sound_of_rising : frame_words gap gs ≤ 9720 → AreSound gap (map_granting gap profile gs)
+  pub sound_of_rising : frame_words gap gs ≤ FRAME_WORDS → AreSound gap (map_granting gap profile gs)
   sound_of_rising fits = record {
     in_frame = λ k d lt. (omega (arith, (all_laid.bursts k d lt).0), omega (arith, (all_laid.bursts k d lt).1, fits));
     disjoint = all_laid.disjoint;
   }
 
   -- the next burst may start in the frame, or a gap behind it
-  pub within_frame : {xs : List Granted} {l : Layout} (ys : List Granted) → gs ≡ xs ++ ys → frame_words gap gs ≤ 9720 → IsAfter gap xs l → l.end ≤ gap + 9720
+  pub within_frame : {xs : List Granted} {l : Layout} (ys : List Granted) → gs ≡ xs ++ ys → frame_words gap gs ≤ FRAME_WORDS → IsAfter gap xs l → l.end ≤ gap + FRAME_WORDS
   within_frame {xs} {l} ys e fits after = omega (arith, (rest_laid l.last xs ys e after.last).words, after.end, fits)

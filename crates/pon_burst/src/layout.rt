@@ -9,14 +9,14 @@ use pon_units::{FRAME_WORDS, Gap, Granted, OnuId, Profile};
 
 // Where the next burst may start, and the ONU of the grant before.
 #[derive(Drop)]
-pub struct Layout {
+pub(crate) struct Layout {
     end: u16,
     last: Option<OnuId>,
 }
 
 impl Layout {
     // The layout before any grant.
-    pub fn new(gap: Gap) -> Self
+    pub(crate) fn new(gap: Gap) -> Self
         ensures { IsAfter gap [] result }
     {
         Layout {
@@ -27,7 +27,7 @@ impl Layout {
 
     // Returns the structure of one more grant of a map; the layout is then the one after this grant.
     #[inline]
-    pub fn structure(&mut self, gap: Gap, profile: Profile, granted: &Granted) -> Alloc
+    pub(crate) fn structure(&mut self, gap: Gap, profile: Profile, granted: &Granted) -> Alloc
         requires { self.old.end ≤ gap + FRAME_WORDS }
         ensures { (grants before after : List Granted) → AreInMapOrder grants
             → grants ≡ before ++ granted.now ∷ after → IsAfter gap before self.old
