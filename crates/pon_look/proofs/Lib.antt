@@ -1,6 +1,6 @@
 pub mod Judgments
 pub mod LastFrames
+pub mod ListedRows
 pub mod Owed
 pub mod Refusals
-pub mod SumLaws
 pub mod Tallying

@@ -21,7 +21,8 @@ use Rattle.pon_history.specs.Chapters.{Chapter, IsLawfulChapter, state_before}
 use Rattle.pon_look.specs.declared.frame_range.FrameRange.{FrameRange}
 use Rattle.pon_state.specs.declared.reply.MadeMap.{MadeMap}
 use Rattle.pon_why.specs.Rates.{rates_of, row_rates}
-use Rattle.pon_look.specs.Sums.{amounts_in, amounts_in_entry, amounts_in_reply, amounts_of, is_below, is_within, no_sums, sums_of}
+use Rattle.pon_why.specs.Sums.{amounts_in, amounts_of, is_below, no_sums}
+use Rattle.pon_look.specs.Sums.{amounts_in_entry, amounts_in_reply, is_within, sums_of}
 
 module _ (s : State) (cert : MapCert) (gs : List Granted) (i : ℕ) where
   abbrev to_row : Row → Granted

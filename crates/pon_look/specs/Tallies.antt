@@ -1,5 +1,5 @@
 -- What an entry does to the sums of a port.
-use Rattle.std.specs.Prelude.{ℕ, ◌≡◌, Bool, true, false, List, Option, Some, None}
+use Rattle.std.specs.Prelude.{ℕ, ◌≡◌, Bool, true, false, Option, Some, None}
 use Rattle.pon_state.specs.State.{State}
 use Rattle.pon_state.specs.After.{after_entry}
 use Rattle.pon_state.specs.Entry.{Entry}
@@ -7,24 +7,25 @@ use Rattle.pon_state.specs.Legal.{MayFollow}
 use Rattle.pon_audit.specs.Faults.{EntryFails}
 use Rattle.pon_audit.specs.declared.chapters.Judged.{Judged}
 use Rattle.pon_audit.specs.declared.chapters.Judged.TheVariants.{Unlawful, Fails, Ends}
-use Rattle.pon_look.specs.Sums.{amounts_in_reply, plus, sums_in}
-use Rattle.pon_look.specs.declared.alloc_tallies.AllocTally.{AllocTally}
+use Rattle.pon_why.specs.Sums.{plus}
+use Rattle.pon_why.specs.Tallies.{sums_at}
+use Rattle.pon_why.specs.declared.sums.Sums.{Sums}
+use Rattle.pon_look.specs.Sums.{amounts_in_reply}
 use Rattle.pon_look.specs.declared.frame_range.FrameRange.{FrameRange}
-use Rattle.pon_look.specs.declared.sums.Sums.{Sums}
 use Rattle.pon_look.specs.declared.tally.Tally.{Tally}
 use Rattle.pon_look.specs.declared.tally.Tallied.{Tallied}
 use Rattle.pon_look.specs.declared.tally.Tallied.TheVariants.{Follows, Stops}
 
 -- the sums of an Alloc-ID in a tally
-abbrev pub sums_told : Tally → ℕ → Sums
-sums_told t i = sums_in i t.allocs.tallies.items
+abbrev pub tally_sums : Tally → ℕ → Sums
+tally_sums t = sums_at t.allocs
 
 -- the sums of each Alloc-ID have what the entry adds in a state
-abbrev pub AddsEntry : FrameRange → State → Entry → List AllocTally → List AllocTally → Type 0
-AddsEntry range s e old new = (i : ℕ) → sums_in i new ≡ plus (sums_in i old) (amounts_in_reply range i s e.reply)
+abbrev pub AddsEntry : FrameRange → State → Entry → (ℕ → Sums) → (ℕ → Sums) → Type 0
+AddsEntry range s e old new = (i : ℕ) → new i ≡ plus (old i) (amounts_in_reply range i s e.reply)
 
-abbrev pub StaySame : List AllocTally → List AllocTally → Type 0
-StaySame old new = (i : ℕ) → sums_in i new ≡ sums_in i old
+abbrev pub StaySame : (ℕ → Sums) → (ℕ → Sums) → Type 0
+StaySame old new = (i : ℕ) → new i ≡ old i
 
 -- the index of the entry at which a chapter is refused, 0 also for its opening
 abbrev pub refused_at : Judged → Option ℕ
@@ -33,11 +34,11 @@ refused_at (Fails f) = Some f.index
 refused_at (Ends end) = None
 
 -- what the entry that may not follow does to the sums
-abbrev pub AddsIf : FrameRange → State → Entry → List AllocTally → List AllocTally → Bool → Type 0
+abbrev pub AddsIf : FrameRange → State → Entry → (ℕ → Sums) → (ℕ → Sums) → Bool → Type 0
 AddsIf range s e old new true = AddsEntry range s e old new
 AddsIf range s e old new false = StaySame old new
 
 -- the entry may follow, the state is the one after it, and it is in the sums; or it may not follow, for this reason
-abbrev pub IsTallied : FrameRange → ℕ → State → Entry → State → List AllocTally → List AllocTally → Tallied → Type 0
+abbrev pub IsTallied : FrameRange → ℕ → State → Entry → State → (ℕ → Sums) → (ℕ → Sums) → Tallied → Type 0
 IsTallied range kept s e t old new Follows = MayFollow kept s e × (t ≡ after_entry s e) × AddsEntry range s e old new
 IsTallied range kept s e t old new (Stops why added) = EntryFails kept s e why × AddsIf range s e old new added

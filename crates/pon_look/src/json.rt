@@ -1,17 +1,15 @@
 //! Answers as JSON, an object on each line.
 
-use crate::changes::Change;
 use crate::members::Members;
 use crate::port_tallies::Refused;
 use crate::replay::MapExplanation;
-use crate::sums::Sums;
 use crate::why_text::{MapPlace, Shown};
 use crate::words::{LevelText, class_word};
 use pon_admit::Row;
 use pon_bwmap::Alloc;
 use pon_cert::{Level, MapCert};
 use pon_units::{PortNo, WORD_RATE};
-use pon_why::Explanation;
+use pon_why::{Change, Explanation, Sums};
 use serde_json::Value;
 use std::alloc::{AllocError, Global};
 

@@ -6,7 +6,8 @@ ghost use Rattle.pon_state.specs.Legal.{IsMade};
 ghost use Rattle.pon_state.specs.declared.reply.MadeMap.{MadeMap};
 ghost use Rattle.pon_history.specs.Chapters.{Chapter, IsLawfulChapter};
 ghost use Rattle.pon_why.specs.Rates.{rates_of};
-ghost use Rattle.pon_look.specs.Sums.{amounts_in, sums_of};
+ghost use Rattle.pon_why.specs.Sums.{amounts_in};
+ghost use Rattle.pon_look.specs.Sums.{sums_of};
 ghost use Rattle.pon_look.specs.declared.frame_range.FrameRange.{FrameRange};
 
 /// A map that follows from a state grants each Alloc-ID the whole words of its guaranteed rate: none is below.

@@ -4,19 +4,15 @@
 //! A recording is read once: it is audited by `pon_audit` while it is shown.
 #![tactic(auto)]
 
-mod alloc_tallies;
 mod append;
-mod changes;
 mod chapters;
 mod counted;
 mod counts;
 mod drawing;
 mod dump;
 mod finding;
-mod followed;
 mod frame_range;
 mod frames;
-mod idle;
 mod info;
 mod info_json;
 mod json;
@@ -37,12 +33,9 @@ mod query;
 mod rates;
 mod rates_text;
 mod replay;
-mod reported;
 mod seen;
-mod series;
 mod summary;
 mod summing;
-mod sums;
 mod svg;
 mod svg_parts;
 mod tally;
@@ -66,12 +59,11 @@ pub use judged::write_judged;
 pub use loads::loads_of;
 pub use parts::grant_places;
 pub use picture::{Picture, picture_of};
-pub use pon_why::Explanation;
+pub use pon_why::{Explanation, Sums, amounts_of};
 pub use query::{Answer, Format, LoadsQuery, Missing, RatesQuery, WhyQuery};
 pub use rates::write_rates;
 pub use replay::MapExplanation;
 pub use summary::{Summary, Totals, summary_of, with_chapter};
-pub use sums::{Sums, amounts_of};
 pub use tally::{Summed, Tally, refused_entry, tally_chapter};
 pub use viewed::Viewed;
 pub use why::{MapAnswer, explain_entry, write_why};

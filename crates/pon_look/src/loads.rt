@@ -10,11 +10,11 @@ use crate::port_tallies::{PortTallies, PortTally};
 use crate::query::{Format, LoadsQuery, Missing};
 use crate::rates_text::change_line;
 use crate::seen::missing_port;
-use crate::series::Series;
 use crate::summing::sum_up;
 use crate::viewed::Viewed;
 use crate::wanted::Wanted;
 use pon_device::{DevRead, DeviceFault};
+use pon_why::Series;
 use std::alloc::{AllocError, Global};
 use std::thread::Threads;
 

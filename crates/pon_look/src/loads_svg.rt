@@ -1,8 +1,8 @@
 //! The loads of an Alloc-ID along the frames as SVG.
 
 use crate::loads_text::{Means, scale_of};
-use crate::series::Series;
 use crate::svg_parts::{BLUE, GREY, LETTERS, ORANGE, ROW, head_text, push_legend, push_text};
+use pon_why::Series;
 use std::alloc::{AllocError, Global};
 use std::fmt::{self, Display, Formatter, Write};
 

@@ -1,9 +1,8 @@
 //! The loads of an Alloc-ID along the frames as text.
 
 use crate::mean::Mean;
-use crate::series::Series;
-use crate::sums::Sums;
 use pon_units::{LINE_RATE, WORD_RATE};
+use pon_why::{Series, Sums};
 use std::alloc::{AllocError, Global};
 
 /// Columns of a bar.

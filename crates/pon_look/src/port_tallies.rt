@@ -3,9 +3,9 @@
 ghost use Rattle.std.specs.Prelude.{◌<◌, IfOk, length};
 
 use crate::seen::{Ports, with_port};
-use crate::series::Series;
 use crate::tally::Tally;
 use pon_units::{AllocId, PortNo};
+use pon_why::Series;
 use std::alloc::{AllocError, Global};
 
 /// The tally of a port.

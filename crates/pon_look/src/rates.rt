@@ -5,7 +5,6 @@ ghost use Rattle.pon_device.specs.Streams.{TellsWrite};
 ghost use Rattle.pon_audit.specs.Streams.{IsVerdictOf};
 ghost use Rattle.pon_look.specs.Views.{CountsReads, OnlyWrites};
 
-use crate::changes::Change;
 use crate::info::write_line;
 use crate::port_tallies::{PortTallies, PortTally, Refused};
 use crate::query::{Answer, Format, Missing, RatesQuery};
@@ -16,6 +15,7 @@ use crate::viewed::Viewed;
 use crate::wanted::Wanted;
 use pon_device::{DevRead, DevWrite, DeviceFault};
 use pon_units::AllocId;
+use pon_why::Change;
 use std::alloc::{AllocError, Global};
 use std::thread::Threads;
 

@@ -1,14 +1,13 @@
 //! The lines of `olt rates`.
 
-use crate::changes::Change;
 use crate::json::{change_json, refused_json, sums_json};
 use crate::mean::Mean;
 use crate::port_tallies::Refused;
 use crate::query::Format;
-use crate::sums::Sums;
 use crate::words::class_word;
 use pon_admit::Row;
 use pon_units::PortNo;
+use pon_why::{Change, Sums};
 use std::alloc::{AllocError, Global};
 
 /// Makes the line of a chapter that is refused at an entry. `Err` only if memory is refused.

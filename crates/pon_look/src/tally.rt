@@ -15,15 +15,12 @@ ghost use Rattle.pon_audit.specs.Faults.{map_entry};
 ghost use Rattle.pon_audit.specs.Judging.{IsJudgment};
 ghost use Rattle.pon_audit.specs.declared.chapters.Judged.TheVariants.{Fails};
 ghost use Rattle.pon_why.specs.Rates.{rates_of};
-ghost use Rattle.pon_look.specs.Sums.{amounts_in, no_sums, plus, sums_of};
-ghost use Rattle.pon_look.specs.Tallies.{IsTallied, refused_at, sums_told};
+ghost use Rattle.pon_why.specs.Sums.{amounts_in, no_sums, plus};
+ghost use Rattle.pon_look.specs.Sums.{sums_of};
+ghost use Rattle.pon_look.specs.Tallies.{IsTallied, refused_at, tally_sums};
 
-use crate::alloc_tallies::AllocTallies;
-use crate::changes::{Change, Changes};
-use crate::followed::Followed;
 use crate::frame_range::FrameRange;
 use crate::replay::{Replay, open_replay};
-use crate::sums::Sums;
 use pon_admit::{Event, Row};
 use pon_audit::{AuditReason, Fault, Judged, accepted_problems, take_entry, take_map};
 use pon_bwmap::Alloc;
@@ -31,7 +28,7 @@ use pon_demand::{Demand, Problems};
 use pon_record::RawChapter;
 use pon_state::{Entry, EntryRef, MadeMap, PortState};
 use pon_units::{AllocId, FrameNo};
-use pon_why::{RowRates, rates_under};
+use pon_why::{AllocTallies, Change, Changes, Followed, RowRates, Sums, rates_under};
 use std::alloc::{AllocError, Global};
 use std::mem;
 
@@ -51,7 +48,7 @@ pub struct Tally {
 impl Tally {
     /// Makes the tally of no maps. `Err` only if memory is refused.
     pub(crate) fn new(alloc: Global, followed: Option<AllocId>) -> Result<Tally, AllocError>
-        ensures { IfOk result (λ tally. tally.allocs.tallies.items ≡ []) }
+        ensures { IfOk result (λ tally. (i : ℕ) → tally_sums tally i ≡ no_sums) }
     {
         Ok(Tally {
             allocs: AllocTallies::new(alloc)?,
@@ -68,11 +65,10 @@ impl Tally {
     }
 
     /// The sums of an Alloc-ID, and the length of the longest run of maps of consecutive frames that granted it nothing.
-    pub(crate) fn of(&self, alloc_id: AllocId) -> (Sums, u64) {
-        match self.allocs.of(alloc_id) {
-            Some(tally) => (tally.sums, tally.idle.longest()),
-            None => (Sums::NONE, 0),
-        }
+    pub(crate) fn of(&self, alloc_id: AllocId) -> (Sums, u64)
+        ensures { result.0 ≡ tally_sums self.now alloc_id }
+    {
+        self.allocs.of(alloc_id)
     }
 
     /// The maps of the Alloc-ID that is followed.
@@ -82,8 +78,8 @@ impl Tally {
 
     /// Adds the tally of later chapters of the port. `Err` if memory is refused or a sum is 2^64 or more.
     pub(crate) fn add_all(&mut self, others: &Tally) -> Result<(), AllocError>
-        ensures { OnOk result ((i : ℕ) → sums_told self.new i
-            ≡ plus (sums_told self.old i) (sums_told others.now i)) }
+        ensures { OnOk result ((i : ℕ) → tally_sums self.new i
+            ≡ plus (tally_sums self.old i) (tally_sums others.now i)) }
     {
         self.allocs.add_all(&others.allocs)?;
         self.changes.note_all(&others.changes)?;
@@ -183,8 +179,8 @@ fn tally_map(
     requires carries { AreCarries state.now.rule state.now.roster state.now.carries }
     requires problems { AreProblems (input_of state.now) problems.now }
     requires certified { IsCertified (input_of state.now) made.now.cert }
-    ensures sums { IfOk result (λ added. (i : ℕ) → sums_told tally.new i
-        ≡ plus (sums_told tally.old i)
+    ensures sums { IfOk result (λ added. (i : ℕ) → tally_sums tally.new i
+        ≡ plus (tally_sums tally.old i)
         (if added then amounts_in i (rates_of state.now made.now.cert) made.now.map
         else no_sums)) }
     ensures good { IfOk result (λ added. IsMade state.now made.now → IsTrue added) }
@@ -222,7 +218,7 @@ fn tally_made(
     requires carries { AreCarries replay.old.state.rule replay.old.state.roster replay.old.state.carries }
     requires frames { AreConsecutive replay.old.state.next replay.old.state.window }
     ensures { IfOk result (λ tallied. IsTallied range.now kept replay.old.state
-        (map_entry made.now) replay.new.state tally.old.allocs.tallies.items tally.new.allocs.tallies.items tallied) }
+        (map_entry made.now) replay.new.state (tally_sums tally.old) (tally_sums tally.new) tallied) }
 {
     let Replay { state, buffers } = replay;
     let problems = accepted_problems(alloc, buffers, state, &made.cert)?;
@@ -255,7 +251,7 @@ fn tally_entry(
     requires book { AccountsFor replay.old.state.roster replay.old.state.book }
     requires frames { AreConsecutive replay.old.state.next replay.old.state.window }
     ensures { IfOk result (λ tallied. IsTallied range.now kept replay.old.state entry.now
-        replay.new.state tally.old.allocs.tallies.items tally.new.allocs.tallies.items tallied) }
+        replay.new.state (tally_sums tally.old) (tally_sums tally.new) tallied) }
 {
     match entry.as_ref() {
         EntryRef::Map(made) => return tally_made(alloc, replay, tally, range, kept, made),
@@ -292,8 +288,8 @@ pub fn tally_chapter(
     tally: &mut Tally,
 ) -> Result<Summed, AllocError>
     requires { FitsRecording chapter.now.body }
-    ensures sums { IfOk result (λ summed. (i : ℕ) → sums_told tally.new i
-        ≡ plus (sums_told tally.old i)
+    ensures sums { IfOk result (λ summed. (i : ℕ) → tally_sums tally.new i
+        ≡ plus (tally_sums tally.old i)
         (sums_of range.now i (chapter_of chapter.now.body) summed.entries)) }
     ensures judged { IfOk result (λ summed. IsJudgment chapter.now summed.judged) }
     ensures whole { IfOk result (λ summed. IfNone (refused_at summed.judged)

@@ -12,14 +12,13 @@ use crate::finding::{FoundMap, find_map};
 use crate::info::write_line;
 use crate::query::{Answer, Format, Missing, WhyQuery};
 use crate::replay::{MapExplanation, explain_map, open_replay, replay_to};
-use crate::reported::{Reports, reports_of};
 use crate::viewed::Viewed;
 use crate::why_text::{MapPlace, Shown, map_line, row_lines};
 use pon_device::{DevRead, DevWrite, DeviceFault};
 use pon_record::RawChapter;
 use pon_state::{EntryRef, MadeMap};
 use pon_units::AllocId;
-use pon_why::{Explanation, level_in};
+use pon_why::{Explanation, Reports, level_in, reports_of};
 use std::alloc::{AllocError, Global};
 use std::thread::Threads;
 

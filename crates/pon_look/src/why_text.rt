@@ -3,13 +3,12 @@
 use crate::json::{map_json, row_json};
 use crate::query::Format;
 use crate::replay::MapExplanation;
-use crate::reported::Reported;
 use crate::words::{LevelText, OrDash, class_word};
 use pon_bwmap::Alloc;
 use pon_cert::{Level, MapCert};
 use pon_descr::Class;
 use pon_units::{AllocId, FrameNo, PortNo, WORD_RATE, whole};
-use pon_why::Explanation;
+use pon_why::{Explanation, Reported};
 use std::alloc::{AllocError, Global};
 
 /// The map that is explained, for which Alloc-IDs, and the form of the answer.

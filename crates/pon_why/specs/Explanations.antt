@@ -1,15 +1,15 @@
 -- What a map gives to an admitted Alloc-ID, with each number that it follows from.
 use Rattle.std.specs.Prelude.{ℕ, ◌+◌, ◌/◌, List, map, Option}
-use Rattle.pon_units.specs.Frac.{Frac}
 use Rattle.pon_admit.specs.declared.row.Row.{Row}
 use Rattle.pon_guar.specs.declared.account.Counted.{Counted}
-use Rattle.pon_guar.specs.Book.{account_of, known_report, load_of, load_of_counted}
+use Rattle.pon_guar.specs.Book.{account_of, known_report, load_of}
 use Rattle.pon_cert.specs.declared.cert.MapCert.{MapCert}
+use Rattle.pon_cert.specs.declared.problem.Item.{Item}
 use Rattle.pon_demand.specs.Rates.{guaranteed_rate, owed}
-use Rattle.pon_demand.specs.declared.demand.Demand.{Demand}
 use Rattle.pon_demand.specs.Sharing.{item_of, surplus_rate}
 use Rattle.pon_state.specs.State.{State, carry_at, input_of}
 use Rattle.pon_why.specs.declared.numbers.Explanation.{Explanation}
+use Rattle.pon_why.specs.declared.rates.RowRates.{RowRates}
 
 -- the numbers of a row under a certificate
 abbrev pub explanation_of : State → MapCert → Row → Explanation
@@ -24,17 +24,17 @@ explanation_of s cert r = record {
   owed = owed (input_of s) (surplus_rate (input_of s) cert) (carry_at s) r;
 }
 
--- the numbers of a row with this demand, counted report, surplus rate and carry
-abbrev pub numbers_of : Row → Demand → Option Counted → Frac → ℕ → Explanation
-numbers_of r d counted surplus carry = record {
+-- the numbers of a row with this item, counted report, rates and carry
+abbrev pub numbers_of : Row → Item → Option Counted → RowRates → ℕ → Explanation
+numbers_of r item counted x carry = record {
   row = r;
   counted = counted;
-  load = load_of_counted counted;
-  guaranteed = d.guaranteed;
-  item = d.item;
-  surplus = surplus;
+  load = x.load;
+  guaranteed = x.guaranteed;
+  item = item;
+  surplus = x.surplus;
   carry = carry;
-  owed = carry + (d.guaranteed + surplus.num / surplus.den);
+  owed = carry + (x.guaranteed + x.surplus.num / x.surplus.den);
 }
 
 -- those of each admitted Alloc-ID, in map order

@@ -1,4 +1,7 @@
 pub mod Explanations
 pub mod Lasts
+pub mod Places
 pub mod Rates
 pub mod RowViews
+pub mod Sums
+pub mod Tallies

@@ -1,23 +1,21 @@
 //! What a map gives to each admitted Alloc-ID, with each number that it follows from.
 
-ghost use Rattle.std.specs.Prelude.{◌≡◌, ◌∷◌, ◌+◌, ◌*◌, ◌/◌, ◌<◌, ◌≤◌, IfOk, length};
+ghost use Rattle.std.specs.Prelude.{◌≡◌, IfOk};
 ghost use Rattle.pon_admit.specs.Roster.{IsAdmitted};
-ghost use Rattle.pon_cert.specs.Problem.{IsItem};
-ghost use Rattle.pon_cert.specs.Certificate.{RuleHolds, amount, denominator};
-ghost use Rattle.pon_guar.specs.Book.{load_of_counted};
 ghost use Rattle.pon_demand.specs.Carries.{AreCarries};
 ghost use Rattle.pon_demand.specs.Demands.{demands_of};
 ghost use Rattle.pon_demand.specs.Sharing.{IsCertified};
 ghost use Rattle.pon_state.specs.State.{input_of};
 ghost use Rattle.pon_why.specs.Explanations.{explanations_of, numbers_of};
+ghost use Rattle.pon_why.specs.Rates.{IsWithinLine};
 
+use crate::rates::{RowRates, rates_under};
 use pon_admit::Row;
-use pon_cert::{Item, Level, MAX_ITEMS, MapCert};
+use pon_cert::{Item, MapCert};
 use pon_demand::Demand;
-use pon_descr::Class;
 use pon_guar::Counted;
 use pon_state::PortState;
-use pon_units::{Frac, Kbps, LINE_RATE, WORD_RATE, whole};
+use pon_units::{Frac, Kbps};
 use std::alloc::{AllocError, Global};
 
 /// What a map gives to an admitted Alloc-ID, with each number that it follows from. Rates are in kbit/s.
@@ -41,73 +39,27 @@ pub struct Explanation {
     pub owed: u64,
 }
 
-// Computes the load of a counted report, in kbit/s.
-fn load_of(counted: &Option<Counted>) -> Kbps
-    ensures { result ≡ load_of_counted counted.now }
-{
-    let words = match counted {
-        None => 0,
-        Some(report) => report.words.get(),
-    };
-    Kbps::new(WORD_RATE as u32 * words).unwrap()
-}
-
-// Computes the surplus rate that a level gives to an item.
-fn share(level: &Level, item: &Item, saturated: bool) -> Frac
-    requires item { IsItem item.now }
-    requires rule { RuleHolds level.now item.now saturated }
-    requires denominator { denominator level.now ≤ MAX_ITEMS * LINE_RATE }
-    ensures rate { result ≡ record {
-      num = amount level.now item.now saturated;
-      den = denominator level.now;
-    } }
-    ensures within { result.num / result.den ≤ item.now.cap }
-{
-    match level {
-        Level::All => Frac::new(item.cap, 1),
-        Level::At(rate) => {
-            let over = rate.den();
-            if saturated {
-                Frac::new(item.cap * over, over)
-            } else {
-                Frac::new(item.weight * rate.num(), over)
-            }
-        }
-    }
-}
-
-/// Returns the first flag, and the flags after it.
-pub(crate) fn first_flag(saturated: &[bool]) -> (bool, &[bool])
-    requires { 0 < length saturated.now }
-    ensures { saturated.now ≡ result.0 ∷ result.1.now }
-{
-    let (first, rest) = saturated.split_first().unwrap();
-    (*first, rest)
-}
-
 // Puts the numbers of a row together.
 fn explain_row(
     row: &Row,
-    demand: &Demand,
+    item: &Item,
     counted: &Option<Counted>,
-    surplus: Frac,
+    rates: &RowRates,
     carry: u8,
 ) -> Explanation
-    requires { demand.now.guaranteed + surplus.num / surplus.den ≤ LINE_RATE }
-    ensures { result ≡ numbers_of row.now demand.now counted.now surplus carry }
+    requires { IsWithinLine rates.now }
+    ensures { result ≡ numbers_of row.now item.now counted.now rates.now carry }
 {
-    let load = load_of(counted);
-    let share = whole(surplus.num(), surplus.den());
-    let owed = u64::from(carry) + (u64::from(demand.guaranteed.get()) + share);
+    let whole_rates = u64::from(rates.guaranteed.get()) + rates.whole_surplus();
     Explanation {
         row: *row,
         counted: *counted,
-        load,
-        guaranteed: demand.guaranteed,
-        item: demand.item,
-        surplus,
+        load: rates.load,
+        guaranteed: rates.guaranteed,
+        item: *item,
+        surplus: rates.surplus,
         carry,
-        owed,
+        owed: u64::from(carry) + whole_rates,
     }
 }
 
@@ -125,30 +77,18 @@ pub fn explain(
     requires certified { IsCertified (input_of state.now) cert.now }
     ensures { IfOk result (λ found. found.items ≡ explanations_of state.now cert.now) }
 {
-    let rows = state.roster().rows();
+    let rates = rates_under(Vec::new(alloc), state, demands, cert)?;
     let carries = state.carries();
-    let mut na = cert.na.saturated.as_slice();
-    let mut be = cert.be.saturated.as_slice();
-    let mut found = Vec::with_capacity(alloc, demands.len())?;
-    for demand in demands {
-        let surplus = match demand.class {
-            Class::Plain => Frac::new(0, 1),
-            Class::NonAssured => {
-                let (saturated, rest) = first_flag(na);
-                na = rest;
-                share(&cert.na.level, &demand.item, saturated)
-            }
-            Class::BestEffort => {
-                let (saturated, rest) = first_flag(be);
-                be = rest;
-                share(&cert.be.level, &demand.item, saturated)
-            }
-        };
-        let place = found.len();
-        let row = &rows[place];
+    let mut found = Vec::with_capacity(alloc, rates.len())?;
+    for (place, row) in state.roster().rows().iter().enumerate() {
         let counted = state.loads().counted(row.alloc_id);
-        let explained = explain_row(row, demand, &counted, surplus, carries[place]);
-        found.push_reserved(explained);
+        found.push_reserved(explain_row(
+            row,
+            &demands[place].item,
+            &counted,
+            &rates[place],
+            carries[place],
+        ));
     }
     Ok(found)
 }

@@ -1,5 +1,5 @@
 use Rattle.std.proofs.Common.{◌≡◌, true, false, rules, arith}
-use Rattle.pon_look.proofs.SumLaws.{differ_at}
+use Rattle.pon_look.proofs.ListedRows.{differ_at}
 use Rattle.pon_look.proofs.tally.lists_rows.Goals as goal
 
 pub returns-then-get-id : goal.returns-then-get-id

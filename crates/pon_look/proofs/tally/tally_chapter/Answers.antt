@@ -3,8 +3,10 @@ use Rattle.pon_history.proofs.Kept.{kept_frames, none_yet, one_further}
 use Rattle.pon_audit.specs.Openings.{chapter_of}
 use Rattle.pon_audit.specs.Judging.{FailsLater, IsJudgment}
 use Rattle.pon_audit.proofs.Kept.{all_taken, ended, fails_here}
-use Rattle.pon_look.specs.Sums.{plus, sums_in, sums_of}
-use Rattle.pon_look.proofs.SumLaws.{plus_none}
+use Rattle.pon_why.specs.Sums.{plus}
+use Rattle.pon_why.proofs.SumLaws.{plus_none}
+use Rattle.pon_look.specs.Sums.{sums_of}
+use Rattle.pon_look.specs.Tallies.{tally_sums}
 use Rattle.pon_look.proofs.Tallying.{ended_with, with_entry}
 use Rattle.pon_look.proofs.tally.tally_chapter.Goals as goal
 
@@ -14,7 +16,7 @@ loop-index-init c =
     record {
       opens = opened.0;
       kept = none_yet (chapter_of c.args.chapter.now.body) c.in-Some.replay.state opened.0 opened.1;
-      sums = λ i. sym (plus_none (sums_in i c.args.tally.now.allocs.tallies.items));
+      sums = λ i. sym (plus_none (tally_sums c.args.tally.now i));
     }
 
 pub tally_entry-requires-clause-frames : goal.tally_entry-requires-clause-frames
@@ -24,8 +26,8 @@ pub returns-in-Stops-clause-sums : goal.returns-in-Stops-clause-sums
 returns-in-Stops-clause-sums c =
     let tallied = rw c.in-Stops.is at c.in_ok-tally_entry.ensures in
     let sums = ended_with c.args.range.now (chapter_of c.args.chapter.now.body) c.loop-index.index c.entry-item.result c.loop-index.replay.state (search rules) (search rules) c.loop-index.invariant.kept
-    c.args.tally.now.allocs.tallies.items c.loop-index.tally.allocs.tallies.items c.tally_entry.new.tally.allocs.tallies.items c.loop-index.invariant.sums c.in-Stops.added tallied.1 in
-    λ i. sums i ∙ ap (λ n. plus (sums_in i c.args.tally.now.allocs.tallies.items) (sums_of c.args.range.now i (chapter_of c.args.chapter.now.body) n)) (sym (ap (λ t. t.entries) c.ended.ensures))
+    (tally_sums c.args.tally.now) (tally_sums c.loop-index.tally) (tally_sums c.tally_entry.new.tally) c.loop-index.invariant.sums c.in-Stops.added tallied.1 in
+    λ i. sums i ∙ ap (λ n. plus (tally_sums c.args.tally.now i) (sums_of c.args.range.now i (chapter_of c.args.chapter.now.body) n)) (sym (ap (λ t. t.entries) c.ended.ensures))
 
 pub returns-in-Stops-clause-judged : goal.returns-in-Stops-clause-judged
 returns-in-Stops-clause-judged c =
@@ -48,7 +50,7 @@ loop-index-preserved c =
       opens = c.loop-index.invariant.opens;
       kept = one_further (chapter_of c.args.chapter.now.body) c.loop-index.index c.loop-index.replay.state c.tally_entry.new.replay.state c.entry-item.result (search rules) (search rules) c.loop-index.invariant.kept tallied.0 tallied.1;
       sums = with_entry c.args.range.now (chapter_of c.args.chapter.now.body) c.loop-index.index c.entry-item.result c.loop-index.replay.state (search rules) (search rules) c.loop-index.invariant.kept
-          c.args.tally.now.allocs.tallies.items c.loop-index.tally.allocs.tallies.items c.tally_entry.new.tally.allocs.tallies.items c.loop-index.invariant.sums tallied.2;
+          (tally_sums c.args.tally.now) (tally_sums c.loop-index.tally) (tally_sums c.tally_entry.new.tally) c.loop-index.invariant.sums tallied.2;
     }
 
 pub returns-clause-sums : goal.returns-clause-sums
@@ -56,4 +58,4 @@ returns-clause-sums c =
     let entries : c.deref-entry-items.result.now ≡ c.args.chapter.now.body.entries = search rules in
     let count : c.len-entries.result ≡ length c.args.chapter.now.body.entries = search rules in
     let same : c.loop-index.index ≡ c.len-entries.result = omega (arith, ap length entries, count) in
-    λ i. c.loop-index.invariant.sums i ∙ ap (λ n. plus (sums_in i c.args.tally.now.allocs.tallies.items) (sums_of c.args.range.now i (chapter_of c.args.chapter.now.body) n)) same
+    λ i. c.loop-index.invariant.sums i ∙ ap (λ n. plus (tally_sums c.args.tally.now i) (sums_of c.args.range.now i (chapter_of c.args.chapter.now.body) n)) same

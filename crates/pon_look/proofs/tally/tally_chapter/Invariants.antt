@@ -2,7 +2,9 @@ use Rattle.std.proofs.Common.{◌≡◌, ℕ}
 use Rattle.pon_history.specs.Taking.{IsKept}
 use Rattle.pon_audit.specs.Openings.{OpensLawfully, chapter_of}
 use Rattle.pon_history.specs.Chapters.{cut_at}
-use Rattle.pon_look.specs.Sums.{plus, sums_in, sums_of}
+use Rattle.pon_why.specs.Sums.{plus}
+use Rattle.pon_look.specs.Sums.{sums_of}
+use Rattle.pon_look.specs.Tallies.{tally_sums}
 use Rattle.pon_look.proofs.tally.tally_chapter.Given as goal
 
 -- the entries so far are a lawful chapter, the state is its replay, and the sums have what they add
@@ -10,5 +12,5 @@ abbrev pub invariant-loop-index : goal.invariant-loop-index
 invariant-loop-index l = record {
   opens : OpensLawfully l.chapter.body;
   kept : IsKept (cut_at (chapter_of l.chapter.body) l.index) l.replay.state;
-  sums : (i : ℕ) → sums_in i l.tally.allocs.tallies.items ≡ plus (sums_in i l.fn.tally.allocs.tallies.items) (sums_of l.range i (chapter_of l.chapter.body) l.index);
+  sums : (i : ℕ) → tally_sums l.tally i ≡ plus (tally_sums l.fn.tally i) (sums_of l.range i (chapter_of l.chapter.body) l.index);
 }

@@ -1,3 +1,5 @@
+//! The maps of consecutive frames that grant an Alloc-ID nothing.
+
 use pon_units::FrameNo;
 
 /// The runs of maps of consecutive frames that granted an Alloc-ID no payload words, over one map or more.

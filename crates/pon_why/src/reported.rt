@@ -1,20 +1,20 @@
 //! The counted reports as they came, found in the entries before a map.
 
 ghost use Rattle.std.specs.Prelude.{◌≡◌, length};
-ghost use Rattle.pon_look.specs.declared.alloc_tallies.TheConstants.{PLACES};
+ghost use Rattle.pon_why.specs.declared.alloc_tallies.TheConstants.{PLACES};
 
 use crate::alloc_tallies::PLACES;
+use crate::numbers::Explanation;
 use crate::sums::words_of;
 use pon_admit::Event;
 use pon_dbru::Occupancies;
 use pon_state::{Entry, EntryRef, MadeMap};
 use pon_units::{AllocId, BufOcc, FrameNo, OnuId};
-use pon_why::Explanation;
 use std::alloc::{AllocError, Global};
 
 /// A counted report as it came, as far as the chapter has it.
 #[derive(Clone, Copy, Debug, PartialEq, Eq)]
-pub(crate) struct Reported {
+pub struct Reported {
     /// The frame that it is of.
     frame: u64,
     /// The occupancy that was reported, in words; `None` if the report, or the map of its frame, is in an earlier chapter.
@@ -67,7 +67,7 @@ fn occupancy_at(occupancies: &[Option<BufOcc>], place: usize) -> Option<u32> {
 
 /// The counted reports of Alloc-IDs, by number.
 #[derive(Drop)]
-pub(crate) struct Reports {
+pub struct Reports {
     table: Vec<Option<Reported>>,
     ghost places: { length table.items ≡ PLACES },
 }
@@ -129,7 +129,7 @@ impl Reports {
 }
 
 /// Finds the counted reports of the rows of a map in the entries before it. `Err` only if memory is refused.
-pub(crate) fn reports_of(
+pub fn reports_of(
     alloc: Global,
     entries: &[Entry],
     rows: &[Explanation],

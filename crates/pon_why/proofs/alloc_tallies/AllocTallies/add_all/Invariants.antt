@@ -1,6 +1,6 @@
 use Rattle.std.proofs.Common.{◌≡◌, ℕ, drop}
-use Rattle.pon_look.specs.Sums.{plus, sums_in}
-use Rattle.pon_look.proofs.alloc_tallies.AllocTallies.add_all.Given as goal
+use Rattle.pon_why.specs.Sums.{plus, sums_in}
+use Rattle.pon_why.proofs.alloc_tallies.AllocTallies.add_all.Given as goal
 
 -- the sums so far and the tallies to come make the whole sums
 abbrev pub invariant-loop-tally : goal.invariant-loop-tally

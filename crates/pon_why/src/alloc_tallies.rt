@@ -1,14 +1,15 @@
 //! What maps add up to for each Alloc-ID.
 
-ghost use Rattle.std.specs.Prelude.{ℕ, ◌≡◌, ◌==◌, [], if◌then◌else◌, length, IfOk, IsTrue, OnOk};
-ghost use Rattle.pon_look.specs.Sums.{amounts_in, amounts_of, no_sums, plus, sums_if, sums_in};
-ghost use Rattle.pon_look.specs.declared.alloc_tallies.TheConstants.{PLACES};
+ghost use Rattle.std.specs.Prelude.{ℕ, ◌≡◌, ◌==◌, [], if◌then◌else◌, length, IfOk, IsFalse, IsTrue, OnOk};
+ghost use Rattle.pon_why.specs.Places.{ArePlaced, LacksAt, ids_of};
+ghost use Rattle.pon_why.specs.Sums.{amounts_in, amounts_of, no_sums, plus, sums_if, sums_in};
+ghost use Rattle.pon_why.specs.declared.alloc_tallies.TheConstants.{PLACES};
 
 use crate::idle::Idle;
+use crate::rates::RowRates;
 use crate::sums::{Sums, amounts_of, words_of};
 use pon_bwmap::Alloc;
 use pon_units::{AllocId, FrameNo, MAX_ALLOC_ID};
-use pon_why::RowRates;
 use std::alloc::{AllocError, Global};
 
 /// The number of places of a table by Alloc-ID: one for each, at its number.
@@ -47,16 +48,17 @@ impl AllocTally {
 
 /// The tallies of the Alloc-IDs that maps have, in the order of their first maps.
 #[derive(Drop)]
-pub(crate) struct AllocTallies {
+pub struct AllocTallies {
     tallies: Vec<AllocTally>,
     // The place of each Alloc-ID, at its number; any place if it has no tally.
     places: Vec<u16>,
     ghost each_place: { length places.items ≡ PLACES },
+    ghost placed: { ArePlaced (ids_of tallies.items) places.items },
 }
 
 impl AllocTallies {
     /// Makes the tallies of no maps. `Err` only if memory is refused.
-    pub(crate) fn new(alloc: Global) -> Result<AllocTallies, AllocError>
+    pub fn new(alloc: Global) -> Result<AllocTallies, AllocError>
         ensures { IfOk result (λ made. made.tallies.items ≡ []) }
     {
         Ok(AllocTallies {
@@ -65,23 +67,29 @@ impl AllocTallies {
         })
     }
 
-    /// The tally of an Alloc-ID; `None` if no map has it.
-    pub(crate) fn of(&self, alloc_id: AllocId) -> Option<AllocTally> {
-        let place = self.places[usize::from(alloc_id.get())];
-        let tally = self.tallies.get(usize::from(place))?;
-        if tally.alloc_id == alloc_id {
-            Some(*tally)
-        } else {
-            None
+    /// The sums of an Alloc-ID, 0 if no map has it; and the length of the longest run of maps of consecutive frames that
+    /// granted it nothing.
+    pub fn of(&self, alloc_id: AllocId) -> (Sums, u64)
+        ensures { result.0 ≡ sums_in alloc_id self.now.tallies.items }
+    {
+        let place = usize::from(self.places[usize::from(alloc_id.get())]);
+        if place < self.tallies.len() {
+            let tally = &self.tallies[place];
+            if tally.alloc_id == alloc_id {
+                return (tally.sums, tally.idle.longest());
+            }
         }
+        (Sums::NONE, 0)
     }
 
     // Adds the tally of later maps at a place, if that has a tally of the same Alloc-ID. Returns whether it has. `Err` if a
     // sum is 2^64 or more.
     fn add_at(&mut self, place: usize, others: &AllocTally) -> Result<bool, AllocError>
-        ensures { IfOk result (λ added. (i : ℕ) → sums_in i self.new.tallies.items
+        ensures sums { IfOk result (λ added. (i : ℕ) → sums_in i self.new.tallies.items
             ≡ plus (sums_in i self.old.tallies.items)
             (if added then sums_if i others.now else no_sums)) }
+        ensures lacks { IfOk result (λ added. IsFalse added
+            → (self.new ≡ self.old) × LacksAt place others.now.alloc_id (ids_of self.old.tallies.items)) }
     {
         if place >= self.tallies.len() {
             return Ok(false);
@@ -108,8 +116,11 @@ impl AllocTallies {
         if self.add_at(place, others)? {
             return Ok(place.saturating_add(1));
         }
-        self.places[number] = u16::try_from(self.tallies.len()).unwrap_or(u16::MAX);
+        let Ok(next) = u16::try_from(self.tallies.len()) else {
+            return Err(AllocError);
+        };
         self.tallies.push(*others)?;
+        self.places[number] = next;
         Ok(self.tallies.len())
     }
 
@@ -180,7 +191,7 @@ impl AllocTallies {
 
     /// Adds the map of a frame: the rows and their structures, in map order. `Err` if memory is refused or a sum is 2^64 or
     /// more.
-    pub(crate) fn add_map(
+    pub fn add_map(
         &mut self,
         frame: FrameNo,
         rows: &[RowRates],
@@ -198,7 +209,7 @@ impl AllocTallies {
     }
 
     /// Adds the tallies of later maps. `Err` if memory is refused or a sum is 2^64 or more.
-    pub(crate) fn add_all(&mut self, others: &AllocTallies) -> Result<(), AllocError>
+    pub fn add_all(&mut self, others: &AllocTallies) -> Result<(), AllocError>
         ensures { OnOk result ((i : ℕ) → sums_in i self.new.tallies.items
             ≡ plus (sums_in i self.old.tallies.items) (sums_in i others.now.tallies.items)) }
     {

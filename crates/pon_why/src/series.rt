@@ -4,12 +4,12 @@ use crate::followed::FollowedMap;
 use crate::sums::Sums;
 use std::alloc::{AllocError, Global};
 
-/// The greatest number of steps of a series.
-pub(crate) const MAX_STEPS: usize = 60;
+// The greatest number of steps of a series.
+const MAX_STEPS: usize = 60;
 
-/// The sums of an Alloc-ID in at most `MAX_STEPS` steps of equally many frames, from the first frame that is added.
+/// The sums of an Alloc-ID in at most 60 steps of equally many frames, from the first frame that is added.
 #[derive(Debug, Drop)]
-pub(crate) struct Series {
+pub struct Series {
     steps: Vec<Sums>,
     first: Option<u64>,
     last: u64,
@@ -33,7 +33,7 @@ fn joined(alloc: Global, steps: &[Sums]) -> Result<Vec<Sums>, AllocError> {
 
 impl Series {
     /// Makes the series of no maps.
-    pub(crate) fn new(alloc: Global) -> Series {
+    pub fn new(alloc: Global) -> Series {
         Series {
             steps: Vec::new(alloc),
             first: None,
@@ -43,22 +43,22 @@ impl Series {
     }
 
     /// The steps. One without a map has the sums of none.
-    pub(crate) fn steps(&self) -> &[Sums] {
+    pub fn steps(&self) -> &[Sums] {
         self.steps.as_slice()
     }
 
     /// The first and the last frame of a map; `None` without a map.
-    pub(crate) fn range(&self) -> Option<(u64, u64)> {
+    pub fn range(&self) -> Option<(u64, u64)> {
         Some((self.first?, self.last))
     }
 
     /// The number of frames of a step.
-    pub(crate) fn frames(&self) -> u64 {
+    pub fn frames(&self) -> u64 {
         self.frames
     }
 
     /// The first frame of a step, counted from 0.
-    pub(crate) fn first_of(&self, step: usize) -> u64 {
+    pub fn first_of(&self, step: usize) -> u64 {
         let first = self.first.unwrap_or(0);
         first.saturating_add(self.frames.saturating_mul(step as u64))
     }
@@ -101,7 +101,7 @@ impl Series {
     }
 
     /// Adds maps, in their order. `Err` if memory is refused or a sum is 2^64 or more.
-    pub(crate) fn add_maps(&mut self, maps: &[FollowedMap]) -> Result<(), AllocError> {
+    pub fn add_maps(&mut self, maps: &[FollowedMap]) -> Result<(), AllocError> {
         for map in maps {
             self.add_map(map)?;
         }

@@ -1,7 +1,7 @@
 use Rattle.std.proofs.Common.{◌∙◌, ◌<◌, arith, length, sym}
-use Rattle.pon_look.specs.Sums.{sums_in}
-use Rattle.pon_look.proofs.SumLaws.{no_more_rows, one_more_row}
-use Rattle.pon_look.proofs.alloc_tallies.AllocTallies.add_map.Goals as goal
+use Rattle.pon_why.specs.Sums.{sums_in}
+use Rattle.pon_why.proofs.SumLaws.{no_more_rows, one_more_row}
+use Rattle.pon_why.proofs.alloc_tallies.AllocTallies.add_map.Goals as goal
 
 pub loop-index-preserved : goal.loop-index-preserved
 loop-index-preserved c = λ i.

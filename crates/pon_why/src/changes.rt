@@ -1,7 +1,7 @@
 //! The ONU and the descriptor of each Alloc-ID, along maps.
 
 ghost use Rattle.std.specs.Prelude.{◌≡◌, length};
-ghost use Rattle.pon_look.specs.declared.alloc_tallies.TheConstants.{PLACES};
+ghost use Rattle.pon_why.specs.declared.alloc_tallies.TheConstants.{PLACES};
 
 use crate::alloc_tallies::PLACES;
 use pon_admit::Row;
@@ -19,7 +19,7 @@ pub struct Change {
 
 /// The changes of ONU or descriptor, in the order of the maps.
 #[derive(Drop)]
-pub(crate) struct Changes {
+pub struct Changes {
     changes: Vec<Change>,
     // The place of the last change of each Alloc-ID, at its number; any place if it has none.
     last: Vec<u32>,
@@ -28,7 +28,7 @@ pub(crate) struct Changes {
 
 impl Changes {
     /// Makes the list of no changes. `Err` only if memory is refused.
-    pub(crate) fn new(alloc: Global) -> Result<Changes, AllocError> {
+    pub fn new(alloc: Global) -> Result<Changes, AllocError> {
         Ok(Changes {
             changes: Vec::new(alloc),
             last: vec![in alloc; 0; PLACES]?,
@@ -36,12 +36,12 @@ impl Changes {
     }
 
     /// The changes, in the order of the maps.
-    pub(crate) fn as_slice(&self) -> &[Change] {
+    pub fn as_slice(&self) -> &[Change] {
         self.changes.as_slice()
     }
 
     /// Notes the row that an Alloc-ID has from a frame on, if it is another than before. `Err` only if memory is refused.
-    pub(crate) fn note(&mut self, change: &Change) -> Result<(), AllocError> {
+    pub fn note(&mut self, change: &Change) -> Result<(), AllocError> {
         let number = usize::from(change.row.alloc_id.get());
         let place = self.last[number] as usize;
         if place < self.changes.len() && self.changes[place].row == change.row {
@@ -53,7 +53,7 @@ impl Changes {
     }
 
     /// Notes those of later maps. `Err` only if memory is refused.
-    pub(crate) fn note_all(&mut self, others: &Changes) -> Result<(), AllocError> {
+    pub fn note_all(&mut self, others: &Changes) -> Result<(), AllocError> {
         for change in &others.changes {
             self.note(change)?;
         }

@@ -1,6 +1,6 @@
 use Rattle.std.proofs.Common.{◌≡◌, ℕ, drop}
-use Rattle.pon_look.specs.Sums.{amounts_in, plus, sums_in}
-use Rattle.pon_look.proofs.alloc_tallies.AllocTallies.add_map.Given as goal
+use Rattle.pon_why.specs.Sums.{amounts_in, plus, sums_in}
+use Rattle.pon_why.proofs.alloc_tallies.AllocTallies.add_map.Given as goal
 
 -- the sums so far and the rows to come make the whole sums
 abbrev pub invariant-loop-index : goal.invariant-loop-index

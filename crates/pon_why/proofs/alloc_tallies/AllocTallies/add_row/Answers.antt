@@ -1,8 +1,8 @@
 use Rattle.std.proofs.Common.{◌≡◌, ◌∙◌, ap}
 use Rattle.std.specs.Prelude.{◌==◌, if◌then◌else◌}
-use Rattle.pon_look.specs.Sums.{no_sums, plus, sums_in}
-use Rattle.pon_look.proofs.SumLaws.{plus_none, row_amounts}
-use Rattle.pon_look.proofs.alloc_tallies.AllocTallies.add_row.Goals as goal
+use Rattle.pon_why.specs.Sums.{no_sums, plus, sums_in}
+use Rattle.pon_why.proofs.SumLaws.{plus_none, row_amounts}
+use Rattle.pon_why.proofs.alloc_tallies.AllocTallies.add_row.Goals as goal
 
 pub returns : goal.returns
 returns c = λ i.

@@ -1,11 +1,11 @@
 //! The exact sums of an Alloc-ID over maps.
 
 ghost use Rattle.std.specs.Prelude.{◌≡◌, ◌+◌, ◌-◌, IsTrue};
-ghost use Rattle.pon_look.specs.Sums.{amounts_of, is_below, plus};
+ghost use Rattle.pon_why.specs.Sums.{amounts_of, is_below, plus};
 
+use crate::rates::RowRates;
 use pon_bwmap::Alloc;
 use pon_units::WORD_RATE;
-use pon_why::RowRates;
 
 /// The exact sums of an Alloc-ID over the maps in which it is admitted.
 #[derive(Clone, Copy, Debug, PartialEq, Eq)]
@@ -87,7 +87,7 @@ pub fn amounts_of(row: &RowRates, structure: &Alloc) -> Sums
         maps: 1,
         load: u64::from(row.load.get()),
         guaranteed: u64::from(row.guaranteed.get()),
-        surplus: row.surplus,
+        surplus: row.whole_surplus(),
         granted: words_of(structure),
         below: if is_below(row, structure) { 1 } else { 0 },
     }

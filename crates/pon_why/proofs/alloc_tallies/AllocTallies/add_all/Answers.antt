@@ -1,7 +1,7 @@
 use Rattle.std.proofs.Common.{◌≡◌, ◌∙◌, ◌<◌, ◌≤◌, get_or, length, subst, sym}
-use Rattle.pon_look.specs.Sums.{sums_in}
-use Rattle.pon_look.proofs.SumLaws.{no_more_tallies, one_more_tally}
-use Rattle.pon_look.proofs.alloc_tallies.AllocTallies.add_all.Goals as goal
+use Rattle.pon_why.specs.Sums.{sums_in}
+use Rattle.pon_why.proofs.SumLaws.{no_more_tallies, one_more_tally}
+use Rattle.pon_why.proofs.alloc_tallies.AllocTallies.add_all.Goals as goal
 
 pub loop-tally-preserved : goal.loop-tally-preserved
 loop-tally-preserved c = λ i.

@@ -1,19 +1,12 @@
 -- Sums of Alloc-IDs, added up.
-use Rattle.std.proofs.Common.{◌≡◌, ℕ, zero, suc, ◌+◌, ◌<◌, ◌≤◌, Bool, true, false, List, [], ◌∷◌, ◌++◌, map, length, drop, get_or, refl, ap, sym, ◌∙◌, add_assoc, add-zero, zero-add, arith}
+use Rattle.std.proofs.Common.{◌≡◌, ℕ, zero, suc, ◌+◌, ◌<◌, ◌≤◌, Bool, true, false, List, [], ◌∷◌, ◌++◌, length, drop, get_or, refl, ap, sym, ◌∙◌, add_assoc, add-zero, zero-add, arith}
 use Rattle.std.specs.Prelude.{◌==◌, if◌then◌else◌, slice_set}
-use Rattle.std.proofs.lemmas.List.{drop_all, drop_more, get_or-map, length-map}
+use Rattle.std.proofs.lemmas.List.{drop_all, drop_more}
 use Rattle.pon_bwmap.specs.Alloc.{Alloc}
-use Rattle.pon_lists.proofs.Lists.{map-map}
-use Rattle.pon_demand.specs.Sharing.{surplus_rate}
-use Rattle.pon_state.specs.State.{State, carry_at, input_of}
-use Rattle.pon_state.specs.Legal.{IsMade}
-use Rattle.pon_state.specs.declared.reply.MadeMap.{MadeMap}
-use Rattle.pon_audit.proofs.Maps.{ids_of_map}
-use Rattle.pon_why.specs.Rates.{rates_of, row_rates}
-use Rattle.pon_look.specs.Sums.{amounts_in, amounts_of, no_sums, plus, sums_if, sums_in}
+use Rattle.pon_why.specs.Sums.{amounts_in, amounts_of, no_sums, plus, sums_if, sums_in}
+use Rattle.pon_why.specs.declared.alloc_tallies.AllocTally.{AllocTally}
 use Rattle.pon_why.specs.declared.rates.RowRates.{RowRates}
-use Rattle.pon_look.specs.declared.alloc_tallies.AllocTally.{AllocTally}
-use Rattle.pon_look.specs.declared.sums.Sums.{Sums}
+use Rattle.pon_why.specs.declared.sums.Sums.{Sums}
 
 pub plus_none : (a : Sums) → plus a no_sums ≡ a
 plus_none a = (λ j. record {
@@ -48,7 +41,7 @@ plus_swap a b c = (λ j. record {
   below = swapped a.below b.below c.below j;
 })
 
-none_plus : (a : Sums) → plus no_sums a ≡ a
+pub none_plus : (a : Sums) → plus no_sums a ≡ a
 none_plus a = (λ j. record {
   maps = zero-add a.maps j;
   load = zero-add a.load j;
@@ -135,20 +128,3 @@ one_more_row i k xs more x a t u lx la hx ha e =
 -- no row is left
 pub no_more_rows : (i k : ℕ) (xs : List RowRates) (more : List Alloc) (t : Sums) → length xs ≤ k → plus t (amounts_in i (drop k xs) (drop k more)) ≡ t
 no_more_rows i k xs more t end = ap (λ ys. plus t (amounts_in i ys (drop k more))) (drop_all k xs end) ∙ plus_none t
-
--- Alloc-IDs that differ at an index
-pub differ_at : (xs : List RowRates) (more : List Alloc) (k : ℕ) (x : RowRates) (a : Alloc) → k < length xs → k < length more → x ≡ get_or xs k x → a ≡ get_or more k a → (x.alloc_id ≡ a.id → ⊥) →
-    map (λ x. x.alloc_id) xs ≡ map (λ a. a.id) more → ⊥
-differ_at xs more k x a lx la hx ha other e =
-    other (ap (λ (x : RowRates). x.alloc_id) hx ∙ sym (get_or-map (λ (x : RowRates). x.alloc_id) xs k x 0 lx) ∙ ap (λ (l : List ℕ). get_or l k 0) e ∙ get_or-map (λ (a : Alloc). a.id) more k a 0 la ∙ ap (λ (a : Alloc). a.id) (sym ha))
-
-pub differ_in_length : (xs : List RowRates) (more : List Alloc) → (length xs ≡ length more → ⊥) → map (λ x. x.alloc_id) xs ≡ map (λ a. a.id) more → ⊥
-differ_in_length xs more other e =
-    other (sym (length-map xs (λ (x : RowRates). x.alloc_id)) ∙ ap (λ (l : List ℕ). length l) e ∙ length-map more (λ (a : Alloc). a.id))
-
--- the map that a state makes has the Alloc-IDs of its rows
-pub made_lists : (s : State) (m : MadeMap) (rows : List RowRates) → rows ≡ rates_of s m.cert → IsMade s m → map (λ x. x.alloc_id) rows ≡ map (λ a. a.id) m.map
-made_lists s m rows e k =
-    ap (map (λ (x : RowRates). x.alloc_id)) e
-    ∙ map-map (λ (x : RowRates). x.alloc_id) (row_rates s m.cert) s.roster
-    ∙ sym (ap (map (λ (a : Alloc). a.id)) k.map ∙ ids_of_map s.profile (input_of s) (surplus_rate (input_of s) m.cert) (carry_at s))
