@@ -1,14 +1,12 @@
-//! Tests of the parts below the state of a port: numbers in range, header codes and reports, devices, bursts, maps and
-//! their bytes, the records of a link and simulated units; descriptors, the roster, the report book, rates, the filling of
-//! a class and certificates; and texts that are read and judged: management lines, check files, settings, command lines.
+//! Tests of the parts below the state of a port: numbers in range, header codes and reports, devices, bursts, the records
+//! of a link and simulated units; descriptors and the filling of a class; and texts that are read and judged: management
+//! lines, check files, settings, command lines.
 //!
 //! They are in a crate above those that they test, so that each of these is proved once.
 #![tactic(auto)]
 
 #[cfg(test)]
 mod bursts;
-#[cfg(test)]
-mod certificates;
 #[cfg(test)]
 mod check_files;
 #[cfg(test)]
@@ -28,23 +26,13 @@ mod headers;
 #[cfg(test)]
 mod jobs;
 #[cfg(test)]
-mod left;
-#[cfg(test)]
 mod lines;
 #[cfg(test)]
-mod loads;
-#[cfg(test)]
-mod maps;
-#[cfg(test)]
 mod numbers;
-#[cfg(test)]
-mod rates;
 #[cfg(test)]
 mod records;
 #[cfg(test)]
 mod reports;
-#[cfg(test)]
-mod roster;
 #[cfg(test)]
 mod settings;
 #[cfg(test)]

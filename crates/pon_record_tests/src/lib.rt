@@ -1,5 +1,6 @@
 //! Laws and tests that join the writer, the reader and the audit of recordings of the ports of an XG-PON optical line
-//! terminal (upstream bandwidth assignment, ITU-T G.987.3).
+//! terminal (upstream bandwidth assignment, ITU-T G.987.3); and tests of what a recording holds of a map: its structures
+//! and its certificate.
 //!
 //! Each law is the contract of a function that computes nothing: what is written is read back and judged good, and any
 //! bytes have a verdict. The crates of which the laws speak do not depend on each other, and each is proved once, so laws
@@ -13,10 +14,14 @@ mod batches;
 #[cfg(test)]
 mod carries;
 #[cfg(test)]
+mod certificates;
+#[cfg(test)]
 mod chains;
 pub mod laws;
 #[cfg(test)]
 mod limits;
+#[cfg(test)]
+mod maps;
 #[cfg(test)]
 mod migrating;
 #[cfg(test)]

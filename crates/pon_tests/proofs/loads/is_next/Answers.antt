@@ -2,7 +2,7 @@ use Rattle.std.proofs.Common.{◌≡◌, ◌+◌, ◌∙◌, ℕ, List, [], ◌�
 use Rattle.std.specs.Prelude.{Some, None, slice_get}
 use Rattle.std.proofs.lemmas.Option.{same_Some}
 use Rattle.pon_guar.specs.Window.{IsWindow, AreConsecutive, WindowMap}
-use Rattle.pon_part_tests.proofs.loads.is_next.Goals as goal
+use Rattle.pon_tests.proofs.loads.is_next.Goals as goal
 
 none_leads : (next : ℕ) (ms : List WindowMap) → slice_get ms 0 ≡ None → AreConsecutive next ms
 none_leads next [] h = tt

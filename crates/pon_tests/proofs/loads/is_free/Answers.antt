@@ -3,7 +3,7 @@ use Rattle.std.specs.Prelude.{◌==◌, Some, None}
 use Rattle.std.specs.List.{list_any}
 use Rattle.pon_guar.specs.declared.account.Account.{Account}
 use Rattle.pon_guar.specs.Book.{account_of, alloc_ids, known_since}
-use Rattle.pon_part_tests.proofs.loads.is_free.Goals as goal
+use Rattle.pon_tests.proofs.loads.is_free.Goals as goal
 
 -- an Alloc-ID without a since-frame has no account
 none_there : (i : ℕ) (book : List Account) → known_since (account_of book i) ≡ None → list_any (λ j. j == i) (alloc_ids book) ≡ false

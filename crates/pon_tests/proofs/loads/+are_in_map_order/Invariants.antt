@@ -1,5 +1,5 @@
 use Rattle.std.proofs.Common.{length}
-use Rattle.pon_part_tests.proofs.loads.+are_in_map_order.Given as goal
+use Rattle.pon_tests.proofs.loads.+are_in_map_order.Given as goal
 
 -- the list of grants gets shorter
 abbrev pub decreases-are_in_map_order : goal.decreases-are_in_map_order

@@ -1,7 +1,7 @@
 use Rattle.std.proofs.Common.{◌≡◌, ◌+◌, ◌*◌, ◌++◌, [], List, ℕ, length, sym, ◌∙◌, subst}
 use Rattle.std.proofs.lemmas.List.{append-nil}
 use Rattle.pon_bwmap.specs.MapReading.{ReadsMap}
-use Rattle.pon_part_tests.proofs.maps.written.read_again.Goals as goal
+use Rattle.pon_record_tests.proofs.maps.written.read_again.Goals as goal
 
 reads : (c : goal.After-drop-bytes) → ReadsMap c.as_slice.result.now c.args.map.now 0 (4 + 8 * length c.args.map.now)
 reads c =

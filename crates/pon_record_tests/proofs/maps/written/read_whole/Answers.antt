@@ -1,7 +1,7 @@
 use Rattle.std.proofs.Common.{◌<◌, All, arith}
 use Rattle.std.proofs.lemmas.List.Elements.{All-from_get_or}
 use Rattle.pon_bwmap.proofs.OneMap.{one_map, no_fault}
-use Rattle.pon_part_tests.proofs.maps.written.read_whole.Goals as goal
+use Rattle.pon_record_tests.proofs.maps.written.read_whole.Goals as goal
 
 pub returns-in-Ok-clause-ok : goal.returns-in-Ok-clause-ok
 returns-in-Ok-clause-ok c rows corrected used r =
