@@ -86,23 +86,26 @@ loop-demand-preserved c =
     let i : ℕ = c.loop-demand.demand-index in
     let at = row_at (input_of s) c.args.demands.now d i c.requires.demands c.loop-demand-test.true c.demand-item.is in
     let fits = rates_at (input_of s) c.requires.admitted d i at in
-    let next = rated_plain s cert c.requires.admitted.apart c.requires.carries.count d i at c.loop-demand.found.items c.loop-demand.na.now c.loop-demand.be.now c.loop-demand.invariant.rated in
-    let next_na = rated_na s cert c.requires.admitted.apart c.requires.carries.count d i at c.loop-demand.found.items c.loop-demand.na.now c.loop-demand.be.now c.loop-demand.invariant.rated in
-    let next_be = rated_be s cert c.requires.admitted.apart c.requires.carries.count d i at c.loop-demand.found.items c.loop-demand.na.now c.loop-demand.be.now c.loop-demand.invariant.rated in
+    let apart = c.requires.admitted.apart in
+    let same = c.requires.carries.count in
+    let xs = c.loop-demand.found.items in
+    let na = c.loop-demand.na.now in
+    let be = c.loop-demand.be.now in
+    let so_far = c.loop-demand.invariant.rated in
     let load : c.load_at.result ≡ load_of s.book d.alloc_id = c.load_at.ensures ∙ ap (λ b. load_of b d.alloc_id) c.loads-loads.ensures.accounts in
-    let is : (rate : Frac) → c.match-demand.surplus ≡ rate → c.push_reserved.new.self.items ≡ c.loop-demand.found.items ++ demand_rates s d rate ∷ [] =
-    λ rate e. c.push_reserved.ensures.items ∙ (λ j. c.loop-demand.found.items ++ record { alloc_id = d.alloc_id; load = load j; guaranteed = d.guaranteed; surplus = e j } ∷ []) in
+    let is : (rate : Frac) → c.match-demand.surplus ≡ rate → c.push_reserved.new.self.items ≡ xs ++ demand_rates s d rate ∷ [] =
+    λ rate e. c.push_reserved.ensures.items ∙ (λ j. xs ++ record { alloc_id = d.alloc_id; load = load j; guaranteed = d.guaranteed; surplus = e j } ∷ []) in
     let rated : Rated s cert (i + 1) c.push_reserved.new.self.items c.match-demand.na.now c.match-demand.be.now = elim c.match-demand.branch [
-      | in-Plain w ↦ rw (w.na-is, w.be-is, is _ (w.surplus-is ∙ w.new-surplus.ensures)) (next w.in-Plain.is (omega (arith, fits)))
+      | in-Plain w ↦ rw (w.na-is, w.be-is, is _ (w.surplus-is ∙ w.new-surplus.ensures)) (rated_plain s cert apart same d i at xs na be so_far w.in-Plain.is (omega (arith, fits)))
       | in-NonAssured w ↦
           let flag = flag_is (input_of s) NonAssured cert.na (surplus (input_of s)) c.requires.admitted c.requires.certified.non_assured refl
-          d i at (ap (λ k. same_class k NonAssured) w.in-NonAssured.is) c.loop-demand.na.now w.first_flag-saturated.result.1.now w.first_flag-saturated.result.0 c.loop-demand.invariant.rated.na w.first_flag-saturated.ensures in
-          rw (w.na-is, w.be-is, is _ (w.surplus-is ∙ w.share-surplus.ensures.rate)) (next_na _ _ w.in-NonAssured.is flag (omega (arith, fits, rw w.share-surplus.ensures.rate at w.share-surplus.ensures.within)))
+          d i at (ap (λ k. same_class k NonAssured) w.in-NonAssured.is) na w.first_flag-saturated.result.1.now w.first_flag-saturated.result.0 so_far.na w.first_flag-saturated.ensures in
+          rw (w.na-is, w.be-is, is _ (w.surplus-is ∙ w.share-surplus.ensures.rate)) (rated_na s cert apart same d i at xs na be so_far _ _ w.in-NonAssured.is flag (omega (arith, fits, rw w.share-surplus.ensures.rate at w.share-surplus.ensures.within)))
       | in-BestEffort w ↦
           let left : ℕ = left_surplus cert.na.level (items NonAssured (input_of s)) (surplus (input_of s)) in
           let flag = flag_is (input_of s) BestEffort cert.be left c.requires.admitted c.requires.certified.best_effort refl
-          d i at (ap (λ k. same_class k BestEffort) w.in-BestEffort.is) c.loop-demand.be.now w.first_flag-saturated-in-BestEffort.result.1.now w.first_flag-saturated-in-BestEffort.result.0 c.loop-demand.invariant.rated.be w.first_flag-saturated-in-BestEffort.ensures in
-          rw (w.na-is, w.be-is, is _ (w.surplus-is ∙ w.share-surplus-in-BestEffort.ensures.rate)) (next_be _ _ w.in-BestEffort.is flag (omega (arith, fits, rw w.share-surplus-in-BestEffort.ensures.rate at w.share-surplus-in-BestEffort.ensures.within)))
+          d i at (ap (λ k. same_class k BestEffort) w.in-BestEffort.is) be w.first_flag-saturated-in-BestEffort.result.1.now w.first_flag-saturated-in-BestEffort.result.0 so_far.be w.first_flag-saturated-in-BestEffort.ensures in
+          rw (w.na-is, w.be-is, is _ (w.surplus-is ∙ w.share-surplus-in-BestEffort.ensures.rate)) (rated_be s cert apart same d i at xs na be so_far _ _ w.in-BestEffort.is flag (omega (arith, fits, rw w.share-surplus-in-BestEffort.ensures.rate at w.share-surplus-in-BestEffort.ensures.within)))
     ] in
     record { rated = rated; count = search rules; room = search rules }
 
