@@ -4,6 +4,7 @@ use Rattle.std.specs.Prelude.{All, slice_index}
 use Rattle.std.proofs.lemmas.List.{length-map, map_more, take_all}
 use Rattle.std.proofs.lemmas.List.Elements.{All-nil, All-push}
 use Rattle.pon_units.specs.Frac.{Frac}
+use Rattle.pon_units.specs.declared.limits.TheConstants.{LINE_RATE}
 use Rattle.pon_units.specs.declared.granted.Granted.{Granted}
 use Rattle.pon_descr.specs.declared.class.Class.{Class}
 use Rattle.pon_descr.specs.declared.class.Class.TheVariants.{Plain, NonAssured, BestEffort}
@@ -66,7 +67,7 @@ module _ (s : State) (cert : MapCert) (apart : IsDistinct s.roster) (same : leng
   rows_more rate share =
       (λ j. h.rows j ++ ((λ k. demand_rates s (at.demand k) (share k)) ∙ ap (row_rates s cert) (sym at.here)) j ∷ []) ∙ sym (map_more (row_rates s cert) s.roster i at.row at.within)
 
-  pub rated_plain : d.class ≡ Plain → d.guaranteed ≤ 2488320 → Rated s cert (i + 1) (xs ++ demand_rates s d (record { num = 0; den = 1 }) ∷ []) na be
+  pub rated_plain : d.class ≡ Plain → d.guaranteed ≤ LINE_RATE → Rated s cert (i + 1) (xs ++ demand_rates s d (record { num = 0; den = 1 }) ∷ []) na be
   rated_plain e fits =
       let owed : ℕ = carry + (d.guaranteed + 0) in
       let next = dealt_plain (input_of s) cert s.carries apart same d i at grants_so_far left_so_far na be (words_of d owed) carry (left_over s.rule owed) dealt refl e (record { grant = refl; leaves = refl }) in
@@ -74,7 +75,7 @@ module _ (s : State) (cert : MapCert) (apart : IsDistinct s.roster) (same : leng
 
   pub rated_na : (rest : List Bool) (f : Bool) → d.class ≡ NonAssured →
       (f ≡ is_saturated NonAssured s.roster cert.na at.row.alloc_id) × (rest ≡ map (λ r. is_saturated NonAssured s.roster cert.na r.alloc_id) (members NonAssured (drop (i + 1) s.roster))) →
-      d.guaranteed + amount cert.na.level d.item f / denominator cert.na.level ≤ 2488320 → Rated s cert (i + 1) (xs ++ demand_rates s d (record { num = amount cert.na.level d.item f; den = denominator cert.na.level }) ∷ []) rest be
+      d.guaranteed + amount cert.na.level d.item f / denominator cert.na.level ≤ LINE_RATE → Rated s cert (i + 1) (xs ++ demand_rates s d (record { num = amount cert.na.level d.item f; den = denominator cert.na.level }) ∷ []) rest be
   rated_na rest f e flag fits =
       let rate : Frac = record { num = amount cert.na.level d.item f; den = denominator cert.na.level } in
       let owed : ℕ = carry + (d.guaranteed + rate.num / rate.den) in
@@ -84,7 +85,7 @@ module _ (s : State) (cert : MapCert) (apart : IsDistinct s.roster) (same : leng
 
   pub rated_be : (rest : List Bool) (f : Bool) → d.class ≡ BestEffort →
       (f ≡ is_saturated BestEffort s.roster cert.be at.row.alloc_id) × (rest ≡ map (λ r. is_saturated BestEffort s.roster cert.be r.alloc_id) (members BestEffort (drop (i + 1) s.roster))) →
-      d.guaranteed + amount cert.be.level d.item f / denominator cert.be.level ≤ 2488320 → Rated s cert (i + 1) (xs ++ demand_rates s d (record { num = amount cert.be.level d.item f; den = denominator cert.be.level }) ∷ []) na rest
+      d.guaranteed + amount cert.be.level d.item f / denominator cert.be.level ≤ LINE_RATE → Rated s cert (i + 1) (xs ++ demand_rates s d (record { num = amount cert.be.level d.item f; den = denominator cert.be.level }) ∷ []) na rest
   rated_be rest f e flag fits =
       let rate : Frac = record { num = amount cert.be.level d.item f; den = denominator cert.be.level } in
       let owed : ℕ = carry + (d.guaranteed + rate.num / rate.den) in
