@@ -1,5 +1,5 @@
 -- Sums of Alloc-IDs, added up.
-use Rattle.std.proofs.Common.{◌≡◌, ℕ, zero, suc, ◌+◌, ◌<◌, ◌≤◌, Bool, true, false, List, [], ◌∷◌, ◌++◌, length, drop, get_or, refl, ap, sym, ◌∙◌, add_assoc, add-zero, zero-add, arith}
+use Rattle.std.proofs.Common.{◌≡◌, ℕ, zero, suc, ◌+◌, ◌<◌, ◌≤◌, Bool, true, false, List, [], ◌∷◌, ◌++◌, length, drop, get_or, refl, ap, sym, ◌∙◌, add_assoc, add-zero, arith}
 use Rattle.std.specs.Prelude.{◌==◌, if◌then◌else◌, slice_set}
 use Rattle.std.proofs.lemmas.List.{drop_all, drop_more}
 use Rattle.pon_bwmap.specs.Alloc.{Alloc}
@@ -28,28 +28,24 @@ plus_assoc a b c = (λ j. record {
   below = add_assoc a.below b.below c.below j;
 })
 
-swapped : (a b c : ℕ) → a + b + c ≡ a + c + b
-swapped a b c = omega arith
+turned : (a b : ℕ) → a + b ≡ b + a
+turned a b = omega arith
+
+plus_comm : (a b : Sums) → plus a b ≡ plus b a
+plus_comm a b = (λ j. record {
+  maps = turned a.maps b.maps j;
+  load = turned a.load b.load j;
+  guaranteed = turned a.guaranteed b.guaranteed j;
+  surplus = turned a.surplus b.surplus j;
+  granted = turned a.granted b.granted j;
+  below = turned a.below b.below j;
+})
 
 pub plus_swap : (a b c : Sums) → plus (plus a b) c ≡ plus (plus a c) b
-plus_swap a b c = (λ j. record {
-  maps = swapped a.maps b.maps c.maps j;
-  load = swapped a.load b.load c.load j;
-  guaranteed = swapped a.guaranteed b.guaranteed c.guaranteed j;
-  surplus = swapped a.surplus b.surplus c.surplus j;
-  granted = swapped a.granted b.granted c.granted j;
-  below = swapped a.below b.below c.below j;
-})
+plus_swap a b c = plus_assoc a b c ∙ ap (plus a) (plus_comm b c) ∙ sym (plus_assoc a c b)
 
 pub none_plus : (a : Sums) → plus no_sums a ≡ a
-none_plus a = (λ j. record {
-  maps = zero-add a.maps j;
-  load = zero-add a.load j;
-  guaranteed = zero-add a.guaranteed j;
-  surplus = zero-add a.surplus j;
-  granted = zero-add a.granted j;
-  below = zero-add a.below j;
-})
+none_plus a = plus_comm no_sums a ∙ plus_none a
 
 -- what a row and its structure add for an Alloc-ID
 abbrev pub row_amounts : ℕ → RowRates → Alloc → Sums
