@@ -3,12 +3,13 @@ use Rattle.std.proofs.Common.{◌≡◌, ℕ, suc, ◌<◌, ◌≤◌, true, fal
 use Rattle.std.specs.Prelude.{◌==◌, ◌||◌, if◌then◌else◌, All, count_by}
 use Rattle.std.specs.List.{insert, remove}
 use Rattle.std.proofs.lemmas.Bool.{cases_Bool, eq-eqb, eqb-true, ne_eqb, or_parts}
-use Rattle.std.proofs.lemmas.List.{drop-map, get_or-map, map-append, take-map}
-use Rattle.std.proofs.lemmas.List.Elements.{All-head, All-tail}
+use Rattle.std.proofs.lemmas.List.{drop-map, get_or-map, map-append, take-map, get_or_default, length-map}
+use Rattle.std.proofs.lemmas.List.Elements.{All-head, All-tail, All-map}
 use Rattle.pon_admit.specs.declared.row.Row.{Row}
-use Rattle.pon_admit.specs.Roster.{IsDistinct, IsInMapOrder, comes_before, has_alloc, with_row, without}
+use Rattle.pon_admit.specs.Roster.{IsDistinct, IsInMapOrder, comes_before, has_alloc, with_row, without, max_carry}
 use Rattle.pon_admit.proofs.OneRow.{Stands, insert_in_order, remove_found}
-use Rattle.pon_demand.specs.Carries.{carries_of, number_of}
+use Rattle.pon_demand.specs.Carries.{carries_of, number_of, AreCarries}
+use Rattle.pon_admit.specs.declared.rule.Rule.{Rule}
 
 -- a carry is in the range of all of them
 pub carry_within : (most : ℕ) (rows : List Row) (carries : List ℕ) (i : ℕ) → All (λ c. c ≤ most) carries → number_of rows carries i ≤ most
@@ -80,3 +81,21 @@ pub carries_removed : (i k : ℕ) (x : Row) (rows : List Row) (carries : List �
     remove carries k ≡ carries_of (number_of rows carries) (without i rows)
 carries_removed i k x rows carries s same =
     ap (λ l. remove l k) (sym (carries_each rows carries s.apart same)) ∙ sym (map-remove (λ q. number_of rows carries q.alloc_id) rows k) ∙ ap (carries_of (number_of rows carries)) (remove_found i k x rows s)
+
+-- a number that an Alloc-ID without a row has
+pub number_absent : (i : ℕ) (rows : List Row) (ns : List ℕ) → has_alloc i rows ≡ false → number_of rows ns i ≡ 0
+number_absent i [] ns h = refl
+number_absent i (r ∷ rows) [] h = refl
+number_absent i (r ∷ rows) (n ∷ ns) h =
+    let two : ((r.alloc_id == i) ≡ false) × (has_alloc i rows ≡ false) = or_parts (r.alloc_id == i) (has_alloc i rows) h in
+    ap (λ b. if b then n else number_of rows ns i) two.0 ∙ number_absent i rows ns two.1
+
+-- of numbers for each row, that of a row's Alloc-ID is its own
+pub number_at : (f : Row → ℕ) (rows : List Row) → IsDistinct rows → All (λ r. number_of rows (map f rows) r.alloc_id ≡ f r) rows
+number_at f rows apart n d lt =
+    let r : Row = get_or rows n d in
+    sym (carry_at_row rows (map f rows) r n 0 apart (length-map rows f) lt (get_or_default rows n r d lt)) ∙ get_or-map f rows n r 0 lt ∙ ap f (get_or_default rows n r d lt)
+
+-- a carry for each row, if that of each is in range
+pub carries_at : (rule : Rule) (rows : List Row) (carry : Row → ℕ) → ((r : Row) → carry r ≤ max_carry rule) → AreCarries rule rows (map carry rows)
+carries_at rule rows carry small = record { count = length-map rows carry; range = All-map (λ c. c ≤ max_carry rule) carry rows (λ n d lt. small (get_or rows n d)) }

@@ -17,7 +17,7 @@ use Rattle.pon_cert.proofs.OneCertificate.{one_certificate}
 use Rattle.pon_demand.specs.Input.{Input}
 use Rattle.pon_demand.specs.ClassShares.{rates_of}
 use Rattle.pon_demand.specs.Sharing.{IsCertified, is_saturated, item_of, items, members, rate_in, same_class, spelled_rate, surplus}
-use Rattle.pon_demand.proofs.Dealing.{problem_of, surplus_range}
+use Rattle.pon_demand.proofs.ClassItems.{problem_of, surplus_range}
 use Rattle.pon_demand.proofs.Surplus.{flags_each}
 
 -- The rates of a class.

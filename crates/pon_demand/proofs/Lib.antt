@@ -1,5 +1,7 @@
 pub mod Carries
+pub mod ClassItems
 pub mod ClassShares
-pub mod Dealing
+pub mod Planning
 pub mod RosterMaps
+pub mod RowShares
 pub mod Surplus

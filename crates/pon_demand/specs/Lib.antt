@@ -6,4 +6,5 @@ pub mod Maps
 pub mod Packing
 pub mod Problems
 pub mod Rates
+pub mod Shares
 pub mod Sharing

@@ -1,9 +1,7 @@
 //! The payload words of each Alloc-ID: the whole words of its guaranteed and surplus rate and its carry together.
 
-ghost use Rattle.std.specs.Prelude.{◌≡◌, ◌+◌, ◌*◌, ◌/◌, ◌<◌, ◌≤◌, ◌∷◌, [], length, vec_capacity, IfOk};
+ghost use Rattle.std.specs.Prelude.{◌≡◌, ◌+◌, ◌/◌, ◌≤◌, [], vec_capacity, IfOk};
 ghost use Rattle.pon_admit.specs.Roster.{IsAdmitted};
-ghost use Rattle.pon_cert.specs.Problem.{IsItem};
-ghost use Rattle.pon_cert.specs.Certificate.{RuleHolds, amount, denominator};
 ghost use Rattle.pon_demand.specs.Carries.{AreCarries, number_of};
 ghost use Rattle.pon_demand.specs.Rates.{carried, planned_grants};
 ghost use Rattle.pon_demand.specs.Sharing.{IsCertified, surplus_rate};
@@ -11,31 +9,10 @@ ghost use Rattle.pon_demand.specs.Demands.{demands_of};
 
 use crate::demand::Demand;
 use crate::input::ShareInput;
-use pon_cert::{Item, Level, MAX_ITEMS, MapCert};
-use pon_descr::Class;
-use pon_units::{Granted, LINE_RATE, WORD_RATE, Words, whole};
+use crate::shares::Shares;
+use pon_cert::MapCert;
+use pon_units::{Granted, LINE_RATE, WORD_RATE, Words};
 use std::alloc::{AllocError, Global};
-
-// Computes the whole kbit/s of the surplus rate that a level gives to an item.
-fn share(level: &Level, item: &Item, saturated: bool) -> u64
-    requires item { IsItem item.now }
-    requires rule { RuleHolds level.now item.now saturated }
-    requires denominator { denominator level.now ≤ MAX_ITEMS * LINE_RATE }
-    ensures value { result ≡ amount level.now item.now saturated / denominator level.now }
-    ensures within { result ≤ item.now.cap }
-{
-    match level {
-        Level::All => item.cap,
-        Level::At(rate) => {
-            let over = rate.den();
-            if saturated {
-                item.cap
-            } else {
-                whole(item.weight * rate.num(), over)
-            }
-        }
-    }
-}
 
 // Computes what a map owes a demand, in kbit/s: its guaranteed rate, its surplus rate and its carry.
 fn owed(demand: &Demand, surplus: u64, carry: u8) -> u64
@@ -60,15 +37,6 @@ fn grant(demand: &Demand, owed: u64) -> Granted
         alloc_id: demand.alloc_id,
         words: Words::new((owed / WORD_RATE) as u16).unwrap(),
     }
-}
-
-// Returns the first flag, and the flags after it.
-fn first_flag(saturated: &[bool]) -> (bool, &[bool])
-    requires { 0 < length saturated.now }
-    ensures { saturated.now ≡ result.0 ∷ result.1.now }
-{
-    let (first, rest) = saturated.split_first().unwrap();
-    (*first, rest)
 }
 
 /// The grants of a map, and what their whole words leave to each Alloc-ID for its next map, both in map order.
@@ -128,22 +96,9 @@ pub(crate) fn planned_grants(
         mut grants,
         mut carries,
     } = room.emptied(demands.len())?;
-    let mut na = cert.na.saturated.as_slice();
-    let mut be = cert.be.saturated.as_slice();
+    let mut shares = Shares::under(cert);
     for demand in demands {
-        let surplus = match demand.class {
-            Class::Plain => 0,
-            Class::NonAssured => {
-                let (saturated, rest) = first_flag(na);
-                na = rest;
-                share(&cert.na.level, &demand.item, saturated)
-            }
-            Class::BestEffort => {
-                let (saturated, rest) = first_flag(be);
-                be = rest;
-                share(&cert.be.level, &demand.item, saturated)
-            }
-        };
+        let surplus = shares.next(demand).whole;
         let owed = owed(demand, surplus, former[grants.len()]);
         grants.push_reserved(grant(demand, owed));
         carries.push_reserved(input.roster.rule().left_over(owed));

@@ -12,6 +12,7 @@ mod grants;
 mod input;
 mod packing;
 mod problems;
+mod shares;
 mod sharing;
 
 pub use buffers::MapBuffers;
@@ -20,4 +21,5 @@ pub use grants::Grants;
 pub use input::ShareInput;
 pub use packing::pack_grants;
 pub use problems::{Problems, class_problems, grants_under};
+pub use shares::{Share, Shares};
 pub use sharing::Members;

@@ -1,15 +1,16 @@
 -- Accounts of a report book, found by their Alloc-IDs.
 use Rattle.std.proofs.Common.{◌≡◌, ℕ, zero, suc, ◌<◌, ◌≤◌, inl, inr, Bool, true, false, cond, not, List, [], ◌∷◌, map, refl, ap, sym, ◌∙◌, subst, arith, get_or, length, drop, set}
 use Rattle.std.specs.List.Sorted.{IsPartitionedBy}
-use Rattle.std.specs.Prelude.{◌==◌, ◌≢◌, nat_lt, if◌then◌else◌, filter, All, Option, Some, None}
-use Rattle.std.proofs.lemmas.Bool.{cases_lt, eq-eqb, le-ltb, lt-ltb, ltb-true, ne_eqb}
+use Rattle.std.specs.Prelude.{◌==◌, ◌≢◌, nat_lt, if◌then◌else◌, filter, All, Option, Some, None, option_to_list}
+use Rattle.std.proofs.lemmas.Bool.{cases_lt, eq-eqb, le-ltb, lt-ltb, ltb-true, ne_eqb, or_parts}
 use Rattle.std.proofs.lemmas.Bool.Decides.{eqb_tells}
 use Rattle.std.proofs.lemmas.List.Elements.{All-nil, All-cons, All-head, All-tail, All-weaker}
 use Rattle.std.proofs.lemmas.Option.{same_Some, slice_get-get_or}
 use Rattle.std.proofs.lemmas.List.{drop_all}
 use Rattle.pon_lists.proofs.Lists.{All-unmap}
 use Rattle.pon_lists.proofs.Order.{in_order_at, in_order-unmap}
-use Rattle.pon_guar.specs.Book.{Account, AreRising, StandsAt, account_of, alloc_ids}
+use Rattle.pon_guar.specs.Book.{Account, AreRising, StandsAt, account_of, alloc_ids, counted_of_account, known_report}
+use Rattle.std.specs.List.{list_any}
 
 pub found_each : (book : List Account) → AreRising (alloc_ids book) → All (λ a. account_of book a.alloc_id ≡ Some a) book
 found_each [] h = All-nil (λ a. account_of [] a.alloc_id ≡ Some a)
@@ -165,3 +166,13 @@ pub change_at : (f : Account → Account) → ((a : Account) → (f a).alloc_id 
 change_at f keeps i book k d h s =
     let found = account_at i book k d s in
     put_at (f (get_or book k d)) book h k d s.within (sym (keeps (get_or book k d))) ∙ change_found f keeps i book (get_or book k d) h found
+
+pub no_account : (book : List Account) (i : ℕ) → list_any (λ j. j == i) (alloc_ids book) ≡ false → account_of book i ≡ None
+no_account [] i h = refl
+no_account (a ∷ book) i h =
+    let two : ((a.alloc_id == i) ≡ false) × (list_any (λ j. j == i) (alloc_ids book) ≡ false) = or_parts (a.alloc_id == i) (list_any (λ j. j == i) (alloc_ids book)) h in
+    rw two.0 (no_account book i two.1)
+
+pub listed : (a : Option Account) → option_to_list (known_report a) ≡ counted_of_account a
+listed None = refl
+listed (Some a) = refl

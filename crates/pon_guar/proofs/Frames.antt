@@ -1,19 +1,21 @@
 -- The frames of a window, which are consecutive.
-use Rattle.std.proofs.Common.{◌≡◌, ℕ, zero, suc, ◌+◌, ◌<◌, ◌≤◌, ◌||◌, ◌&&◌, Bool, true, false, cond, not, List, [], ◌∷◌, ◌++◌, map, length, drop, get_or, refl, ap, sym, subst, ◌∙◌, arith}
-use Rattle.std.specs.Prelude.{◌==◌, ◌≢◌, slice_get, filter, flat_map, All, Option, Some, None}
+use Rattle.std.proofs.Common.{◌≡◌, ℕ, zero, suc, ◌+◌, ◌<◌, ◌≤◌, ◌||◌, ◌&&◌, Bool, true, false, cond, not, List, [], ◌∷◌, ◌++◌, map, length, drop, get_or, refl, ap, sym, subst, ◌∙◌, arith, ◌-◌, inl, inr}
+use Rattle.std.specs.Prelude.{◌==◌, ◌≢◌, slice_get, filter, flat_map, All, Option, Some, None, Any, nat_le, if◌then◌else◌}
 use Rattle.std.specs.List.{list_any}
-use Rattle.std.proofs.lemmas.Bool.{eq-eqb, ne_eqb, not-false}
-use Rattle.std.proofs.lemmas.List.{append-nil, length-map, length_push}
-use Rattle.std.proofs.lemmas.List.Elements.{All-nil, All-cons, All-head, All-tail, All-weaker}
+use Rattle.std.proofs.lemmas.Bool.{eq-eqb, ne_eqb, not-false, eqb-true, lt-leb}
+use Rattle.std.proofs.lemmas.List.{append-nil, length-map, length_push, drop_all, length-drop}
+use Rattle.std.proofs.lemmas.List.Elements.{All-nil, All-cons, All-head, All-tail, All-weaker, All-filter, filter_passes}
 use Rattle.std.proofs.lemmas.Option.{same_Some}
-use Rattle.std.proofs.lemmas.List.Folds.{list_any_none, list_any_at}
+use Rattle.std.proofs.lemmas.List.Folds.{list_any_none, list_any_at, Any-from_list_any}
 use Rattle.pon_descr.specs.Checks.{first_refusal_of, when}
 use Rattle.pon_descr.proofs.Checks.{AreNone, none_refuses, when_none}
 use Rattle.pon_descr.specs.declared.refusal.Refusal.{Refusal}
 use Rattle.pon_descr.specs.declared.refusal.Refusal.TheVariants.{StaleFrame, NotPolled, ReportCount, AlreadyReported}
-use Rattle.pon_lists.proofs.Lists.{or-false}
+use Rattle.pon_lists.proofs.Lists.{or-false, All-flat_map}
 use Rattle.pon_guar.specs.ReportChecks.{refuses_report}
-use Rattle.pon_guar.specs.Window.{Granted, IsPlaceOf, AreConsecutive, WindowMap, frame_after, grants_at, is_of}
+use Rattle.pon_guar.specs.Window.{Granted, IsPlaceOf, AreConsecutive, WindowMap, frame_after, grants_at, is_of, words_from, words_in}
+use Rattle.std.proofs.lemmas.Bool.Decides.{leb_tells}
+use Rattle.std.proofs.lemmas.List.Sums.{sum_by-cons}
 
 pub leads_below : (n : ℕ) (ms : List WindowMap) → AreConsecutive n ms → All (λ m. m.frame < n) ms
 leads_below n [] h = All-nil (λ m. m.frame < n)
@@ -177,3 +179,44 @@ module _ (f u count : ℕ) (ms : List WindowMap) (accepted : refuses_report ms f
         sym (any_filtered (is_of f) (λ m. list_any (λ v. v == u) m.reported) ms ∙ ap (list_any (λ m. list_any (λ v. v == u) m.reported)) (map_alone n f u ms h k place d)
         ∙ or-false (list_any (λ v. v == u) (get_or ms k d).reported))
         ∙ when_none (list_any (λ m. is_of f m && list_any (λ v. v == u) m.reported) ms) AlreadyReported passed.1.1.1.0
+
+-- what holds of all grants of the maps of a frame holds of those to an ONU
+pub grants_at_all : (P : Granted → Type 0) (f u : ℕ) (ms : List WindowMap) → All (λ m. m.frame ≡ f → All P m.grants) ms → All (λ g. P g × (g.onu ≡ u)) (grants_at f u ms)
+grants_at_all P f u ms h =
+    let of_frame : List WindowMap = filter (λ m. m.frame == f) ms in
+    let all : List Granted = flat_map (λ m. m.grants) of_frame in
+    let each : All P all
+    = All-flat_map P (λ m. m.grants) of_frame (λ n d k. All-filter (λ m. m.frame == f) (λ m. m.frame ≡ f → All P m.grants) ms h n d k (eqb-true (get_or of_frame n d).frame f (filter_passes (λ m. m.frame == f) ms n d k))) in
+    (λ n d k. (All-filter (λ g. g.onu == u) P all each n d k, eqb-true (get_or (grants_at f u ms) n d).onu u (filter_passes (λ g. g.onu == u) all n d k)))
+
+-- a report that is accepted is of a frame of the window
+pub frame_within : (n f : ℕ) (ms : List WindowMap) → AreConsecutive n ms → list_any (is_of f) ms ≡ true → (f < n) × (n ≤ f + length ms)
+frame_within n f ms h there =
+    let found : Any (λ m. is_of f m ≡ true) ms = Any-from_list_any (is_of f) ms there in
+    let is : (get_or ms found.0 found.1).frame ≡ f = ap (λ m. m.frame) found.3 ∙ eqb-true found.1.frame f found.4 in
+    (omega (arith, is, leads_below n ms h found.0 found.1 found.2), omega (arith, is, leads_above n ms h found.0 found.1 found.2))
+
+-- the maps of consecutive frames from a frame on are the last of them
+pub from_is_end : (n c : ℕ) (ms : List WindowMap) → AreConsecutive n ms → filter (λ m. nat_le c m.frame) ms ≡ drop (c + length ms - n) ms
+from_is_end n c [] h = sym (drop_all (c + 0 - n) [] (omega arith))
+from_is_end n c (m ∷ ms) h = elim (leb_tells c m.frame) [
+  | inl e ↦
+      let none : (c + length ms - n ≡ 0) × (c + suc (length ms) - n ≡ 0) = (omega (arith, h.0, e.1), omega (arith, h.0, e.1)) in
+      rw (e.0, from_is_end n c ms h.1, none.0, none.1) refl
+  | inr e ↦ (let more : c + suc (length ms) - n ≡ suc (c + length ms - n) = omega (arith, h.0, e.1) in rw (e.0, from_is_end n c ms h.1, more) refl)
+]
+
+-- Two lists of maps grant the same from a frame on, and have the same grants of it.
+abbrev pub GrantSame : ℕ → List WindowMap → List WindowMap → Type 0
+GrantSame f ms ns = ((i : ℕ) → words_from i f ms ≡ words_from i f ns) × ((u : ℕ) → grants_at f u ms ≡ grants_at f u ns)
+
+-- maps before a frame make no difference
+pub last_grant_same : (n f k : ℕ) (ms : List WindowMap) → AreConsecutive n ms → n ≤ f + length (drop k ms) → GrantSame f (drop k ms) ms
+last_grant_same n f zero ms h l = (λ i. refl, λ u. refl)
+last_grant_same n f (suc k) [] h l = (λ i. refl, λ u. refl)
+last_grant_same n f (suc k) (m ∷ ms) h l =
+    let early : m.frame < f = omega (arith, h.0, l, length-drop k ms) in
+    let rest : GrantSame f (drop k ms) ms = last_grant_same n f k ms h.1 l in (
+      λ i. rest.0 i ∙ sym (sum_by-cons (λ m. if nat_le f m.frame then words_in i m else 0) m ms ∙ rw (lt-leb f m.frame early) (omega arith)),
+      λ u. rest.1 u ∙ sym (rw (ne_eqb m.frame f (λ q. omega (arith, q, early))) refl),
+    )

@@ -1,6 +1,6 @@
 -- Accounts reduced grant by grant.
 use Rattle.std.proofs.Common.{◌≡◌, ℕ, ◌+◌, ◌-◌, List, [], ◌∷◌, ◌++◌, map, refl, ap, sym, ◌∙◌, subst, arith, inl, inr}
-use Rattle.std.specs.Prelude.{◌==◌, if◌then◌else◌, Option, Some, None, option_map}
+use Rattle.std.specs.Prelude.{◌==◌, if◌then◌else◌, Option, Some, None, option_map, IfSome}
 use Rattle.std.proofs.lemmas.Bool.{eq-eqb, ne_eqb}
 use Rattle.std.proofs.lemmas.Bool.Decides.{eqb_tells}
 use Rattle.std.proofs.lemmas.List.Sums.{sum_by-append, sum_by-cons}
@@ -62,3 +62,13 @@ module _ (gs : List Granted) (g : Granted) where
 
 pub lessened_rising : (gs : List Granted) (book : List Account) → AreRising (alloc_ids book) → AreRising (alloc_ids (map (lessened gs) book))
 lessened_rising gs book h = subst AreRising (sym (lessened_ids gs book)) h
+
+-- reports are lessened by more words
+pub less_twice : {X : Type 0} (f : X → Counted) (v w : ℕ) (xs : List X) → map (λ x. less (v + w) (f x)) xs ≡ map (less w) (map (λ x. less v (f x)) xs)
+less_twice f v w [] = refl
+less_twice f v w (x ∷ xs) = (let both : (f x).words - (v + w) ≡ ((f x).words - v) - w = omega arith in (λ j. record { frame = (f x).frame; words = both j } ∷ less_twice f v w xs j))
+
+-- what holds of a report with fewer words, if there is one
+pub if_less : (P Q : Counted → Type 0) (w : ℕ) (c : Option Counted) → ((c : Counted) → P c → Q (less w c)) → IfSome c P → IfSome (option_map (less w) c) Q
+if_less P Q w None stays h = tt
+if_less P Q w (Some c) stays h = stays c h

@@ -1,8 +1,11 @@
+pub mod AccountReports
 pub mod Accounts
 pub mod Books
 pub mod Frames
 pub mod KeptSums
+pub mod LatestReports
 pub mod LessByGrants
+pub mod OwnWords
 pub mod Polls
 pub mod RestoredParts
 pub mod RunningSums

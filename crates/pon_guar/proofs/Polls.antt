@@ -1,17 +1,17 @@
 -- The ONUs that a map polls, and those that reported.
 use Rattle.std.proofs.Common.{◌≡◌, ℕ, zero, suc, length, set, ◌+◌, ◌<◌, ◌≤◌, ◌||◌, ◌&&◌, Bool, true, false, cond, not, List, [], ◌∷◌, ◌++◌, map, refl, ap, sym, ◌∙◌, subst, arith, inl, inr, get_or}
-use Rattle.std.specs.Prelude.{◌==◌, nat_lt, filter, All}
+use Rattle.std.specs.Prelude.{◌==◌, nat_lt, filter, All, Contains}
 use Rattle.std.specs.List.Sorted.{IsPartitionedBy}
 use Rattle.std.proofs.lemmas.List.Sorted.{IsPartitionedBy-ltb}
 use Rattle.std.proofs.Math.Bool.{and-true}
-use Rattle.std.proofs.lemmas.Bool.{and_from, cases_lt, cases_order, eq-eqb, le-ltb, lt-ltb, ne_eqb, or_left, or_right}
+use Rattle.std.proofs.lemmas.Bool.{and_from, cases_lt, cases_order, eq-eqb, le-ltb, lt-ltb, ne_eqb, or_left, or_right, and_parts}
 use Rattle.std.proofs.lemmas.Bool.Decides.{eqb_tells}
-use Rattle.std.proofs.lemmas.List.Folds.{list_any_none}
+use Rattle.std.proofs.lemmas.List.Folds.{list_any_none, list_any_at}
 use Rattle.std.proofs.lemmas.List.Elements.{All-nil, All-cons, All-filter, All-head, All-map, All-tail, All-weaker}
 use Rattle.pon_units.specs.declared.granted.Granted.{Granted}
 use Rattle.pon_units.specs.Granted.{AreInMapOrder, ComesBefore, onus_granted}
 use Rattle.pon_lists.specs.Distinct.{distinct}
-use Rattle.pon_lists.proofs.Distinct.{occurs}
+use Rattle.pon_lists.proofs.Distinct.{occurs, contains_filtered}
 use Rattle.pon_lists.proofs.Lists.{any_eq-filter, filter_agree, filter_same_in, or-false}
 use Rattle.pon_lists.specs.Order.{AreRising, with_number}
 use Rattle.pon_guar.specs.Window.{IsLawfulMap, AreConsecutive, WindowMap, onus_polled}
@@ -225,3 +225,19 @@ granted_onu u (g ∷ gs) h = (elim (g.onu == u) as (λ b. (length (cond b (g ∷
 
 pub granted_polled : (u : ℕ) (m : WindowMap) → (length (filter (λ g. g.onu == u) m.grants) == 0) ≡ false → occurs u (onus_polled m) ≡ true
 granted_polled u m h = occurs-distinct u (map (λ g. g.onu) m.grants) (granted_onu u m.grants h)
+
+-- A map after a report of an ONU for a frame.
+module _ (f u : ℕ) (m : WindowMap) where
+  -- an ONU that reported stays one that did
+  pub reported_stays : (v : ℕ) → IsLawfulMap m → Contains m.reported v → Contains (with_report f u m).reported v
+  reported_stays v l c =
+      let was : occurs v m.reported ≡ true = list_any_at (λ w. w == v) m.reported c.0 v c.1 (eq-eqb (get_or m.reported c.0 v) v c.2) in
+      let polled : occurs v (onus_polled m) ≡ true = (and_parts (occurs v m.reported) (occurs v (onus_polled m)) (sym (any_eq-filter (λ w. occurs w m.reported) v (onus_polled m)) ∙ ap (occurs v) (sym l.reported) ∙ was)).1 in
+      contains_filtered (λ w. occurs w m.reported || (f == m.frame && u == w)) v (onus_polled m) (or_left (occurs v m.reported) (f == m.frame && u == v) was) polled
+
+  -- in the map of that frame the ONU has reported, if it has a grant
+  pub reported_now : (g : Granted) → m.frame ≡ f → Contains (filter (λ g. g.onu == u) m.grants) g → Contains (with_report f u m).reported u
+  reported_now g at there =
+      contains_filtered (λ w. occurs w m.reported || (f == m.frame && u == w)) u (onus_polled m)
+      (or_right (occurs u m.reported) (f == m.frame && u == u) (and_from (f == m.frame) (u == u) (eq-eqb f m.frame (sym at)) (eq-eqb u u refl)))
+      (granted_polled u m (ne_eqb (length (filter (λ g. g.onu == u) m.grants)) 0 (λ none. omega (arith, none, there.1))))

@@ -1,9 +1,9 @@
 -- The invariant of a window after each call.
 use Rattle.std.proofs.Common.{◌≡◌, ◌∙◌, ℕ, ◌+◌, ◌-◌, ◌<◌, ◌≤◌, ◌||◌, ◌&&◌, List, [], ◌∷◌, ◌++◌, ap, drop, map, length, refl, sym, arith}
-use Rattle.std.specs.Prelude.{◌==◌, filter}
+use Rattle.std.specs.Prelude.{◌==◌, filter, All}
 use Rattle.std.specs.List.{list_any}
 use Rattle.std.proofs.lemmas.List.{drop-append-le, drop-drop, length-map, length-drop, length_push}
-use Rattle.std.proofs.lemmas.List.Elements.{All-nil, All-cons, All-append, All-drop, All-map, All-weaker}
+use Rattle.std.proofs.lemmas.List.Elements.{All-nil, All-cons, All-append, All-drop, All-map, All-weaker, All-push}
 use Rattle.pon_units.specs.Granted.{AreInMapOrder}
 use Rattle.pon_units.specs.declared.granted.Granted.{Granted}
 use Rattle.pon_guar.specs.Window.{IsLawfulMap, IsWindow, AreConsecutive, WindowMap, frame_after, last_64, latest_grants, onus_polled, with_map}
@@ -62,3 +62,9 @@ latest_added frame gs window few =
     let new : WindowMap = record { frame = frame; grants = gs; reported = [] } in
     let past : ℕ = length (window ++ new ∷ []) - 64 in
     ap latest_grants (drop-append-le past window (new ∷ []) (omega (arith, length_push window new))) ∙ latest_of (drop past window) new
+
+-- what holds of all maps of a window and of a new one
+pub All-with_map : (P : WindowMap → Type 0) (frame : ℕ) (gs : List Granted) (window : List WindowMap) → All P window → P (record { frame = frame; grants = gs; reported = [] }) → All P (with_map frame gs window)
+All-with_map P frame gs window h here =
+    let new : WindowMap = record { frame = frame; grants = gs; reported = [] } in
+    All-drop P (length (window ++ new ∷ []) - 64) (window ++ new ∷ []) (All-push P window new h here)

@@ -11,6 +11,7 @@
 mod account;
 mod counting;
 mod deduction;
+pub mod laws;
 mod loads;
 mod map;
 mod parts;

@@ -1,10 +1,10 @@
 -- The replay of a legal history is its closed form.
-use Rattle.pon_lists.proofs.Lists.{map-map, list_any-map, map_same}
-use Rattle.std.specs.Prelude.{Any, ◌==◌, Some, None, All, if◌then◌else◌}
-use Rattle.std.proofs.lemmas.Bool.{eqb-true, or_parts, and_parts, cases_Bool, eq-eqb}
+use Rattle.pon_lists.proofs.Lists.{map-map, list_any-map, map_same, map_agree}
+use Rattle.std.specs.Prelude.{Any, ◌==◌, Some, All, if◌then◌else◌}
+use Rattle.std.proofs.lemmas.Bool.{eqb-true, and_parts, cases_Bool, eq-eqb}
 use Rattle.std.proofs.lemmas.List.Elements.{All-map, All-nil}
 use Rattle.std.proofs.lemmas.List.Folds.{Any-from_list_any, list_any-append, list_any_at}
-use Rattle.pon_guar.proofs.Accounts.{found_each}
+use Rattle.pon_guar.proofs.Accounts.{found_each, no_account}
 use Rattle.std.proofs.Common.{◌≡◌, ℕ, true, false, ◌||◌, List, [], ◌∷◌, map, refl, ap, sym, subst, ◌∙◌, inl, inr, ◌+◌, ◌<◌, not, ◌++◌, length, get_or, append_assoc, arith, add-zero, Bool}
 use Rattle.std.specs.List.{list_any}
 use Rattle.std.proofs.lemmas.List.{append-nil, length-append}
@@ -17,14 +17,13 @@ use Rattle.pon_history.specs.Chapters.{Chapter, IsLawfulChapter, present_state, 
 use Rattle.pon_history.specs.Parts.{allocs_of, admits, roster_after, roster_of, cause_after, next_of}
 use Rattle.pon_history.specs.Reports.{account_after, counted_of}
 use Rattle.pon_history.proofs.LawfulStates.{present_lawful, lawful_step}
-use Rattle.pon_history.proofs.LawfulAccounts.{number_at, any_without}
 use Rattle.pon_admit.specs.declared.row.Row.{Row}
 use Rattle.pon_admit.proofs.AdmittedSets.{changed, changed_alloc, has_alloc-changed}
 use Rattle.pon_admit.proofs.Rules.{left_over_range, left_over_same, left_over_sum}
 use Rattle.pon_demand.specs.Carries.{carries_of, number_of}
 use Rattle.pon_demand.specs.Rates.{whole_rate}
 use Rattle.pon_demand.specs.Sharing.{surplus_rate}
-use Rattle.pon_demand.proofs.Carries.{carries_each, carry_known, carry_within}
+use Rattle.pon_demand.proofs.Carries.{carries_each, carry_known, carry_within, number_at}
 use Rattle.pon_state.specs.After.{after_reply, after_entry}
 use Rattle.pon_state.specs.Carries.{carries_left}
 use Rattle.pon_state.specs.History.{replay}
@@ -36,10 +35,11 @@ use Rattle.pon_admit.specs.declared.event.Event.{Event}
 use Rattle.pon_admit.specs.declared.event.Event.TheVariants.{Admit, Change, Remove, MakeMap}
 use Rattle.pon_history.specs.Carries.{admits_now, carry_after, owed_of, rate_of_reply, sum_since}
 use Rattle.pon_history.specs.ClosedForm.{closed_form}
-use Rattle.pon_lists.proofs.Inserted.{list_any-inserted}
-use Rattle.pon_history.proofs.Reports.{IsBelow, below_push, book_none, book_push, map_agree}
+use Rattle.pon_lists.proofs.Inserted.{list_any-inserted, any_without}
+use Rattle.pon_history.proofs.Reports.{IsBelow, below_push, book_none, book_push}
 use Rattle.pon_history.proofs.Windows.{roster_of-append, cause_of-append, next_of-append, AllLead, leads_next, leads_none, window_none, window_push}
-use Rattle.pon_history.proofs.Legality.{along, later_one, replay_push}
+use Rattle.pon_history.proofs.Legality.{along, later_one}
+use Rattle.pon_state.proofs.Replays.{replay_push}
 
 -- The Alloc-IDs of a roster.
 
@@ -212,12 +212,6 @@ pub closed_at_present : (c : Chapter) → IsLawfulChapter c → present_state c 
 closed_at_present c l = (of_chapter c l (λ es. Unit {0}) tt (λ es e h m p. tt)).0.closed
 
 -- The loads of the present book are those of the reports that count in the history.
-
-no_account : (book : List Account) (i : ℕ) → list_any (λ j. j == i) (alloc_ids book) ≡ false → account_of book i ≡ None
-no_account [] i h = refl
-no_account (a ∷ book) i h =
-    let two : ((a.alloc_id == i) ≡ false) × (list_any (λ j. j == i) (alloc_ids book) ≡ false) = or_parts (a.alloc_id == i) (list_any (λ j. j == i) (alloc_ids book)) h in
-    rw two.0 (no_account book i two.1)
 
 module _ (c : Chapter) (l : IsLawfulChapter c) where
   abbrev ids : List ℕ

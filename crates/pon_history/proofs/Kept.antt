@@ -18,7 +18,8 @@ use Rattle.pon_state.specs.Legal.{IsMade, MayFollow}
 use Rattle.pon_state.specs.Maps.{grants_in_map, makes_map}
 use Rattle.pon_state.specs.State.{State}
 use Rattle.pon_history.specs.Taking.{IsKept, Takes, with_entry}
-use Rattle.pon_history.proofs.Legality.{legal_none, legal_one_more, replay_push}
+use Rattle.pon_state.proofs.Replays.{replay_push}
+use Rattle.pon_history.proofs.Legality.{legal_none, legal_one_more}
 use Rattle.pon_history.proofs.LawfulStates.{lawful_step, present_lawful}
 
 -- a chapter without entries, and the state that it opens with

@@ -1,7 +1,7 @@
 -- The states of a lawful chapter are lawful, and in range if its opening is.
 use Rattle.std.proofs.Common.{map, ◌≡◌, ℕ, ◌-◌, ◌≤◌, false, List, [], ◌∷◌, ◌++◌, length, refl, ap, sym, subst, ◌∙◌, arith, ◌+◌, true, drop, ◌<◌, not, get_or, ◌^◌, take, rules}
 use Rattle.std.proofs.lemmas.List.{length-map, take-append-drop}
-use Rattle.pon_demand.proofs.Carries.{carry_within}
+use Rattle.pon_demand.proofs.Carries.{carry_within, carries_at}
 use Rattle.pon_demand.specs.Carries.{number_of, AreCarries, carries_of}
 use Rattle.std.specs.Prelude.{if◌then◌else◌, All, Option, Some, None, ◌==◌, nat_lt, IfSome}
 use Rattle.std.proofs.lemmas.Bool.{leb-false}
@@ -22,14 +22,14 @@ use Rattle.pon_state.specs.After.{after_reply, after_entry, admitted_carry, afte
 use Rattle.pon_state.specs.Maps.{grants_in_map}
 use Rattle.pon_state.specs.declared.reply.Reply.{Reply}
 use Rattle.pon_history.specs.Chapters.{IsLawfulState, AccountIsLawful, Owns, Chapter, IsLawfulChapter, present_state, IsLawfulOpening, IsSilent, state_before, IsLegal, cut_at}
-use Rattle.pon_guar.proofs.Frames.{leads_mapped, leads_push, frame_there, leads_drop, leads_after}
+use Rattle.pon_guar.proofs.Frames.{leads_mapped, leads_push, frame_there, leads_drop, leads_after, frame_within}
 use Rattle.pon_units.specs.declared.granted.Granted.{Granted}
 use Rattle.std.proofs.lemmas.List.Sums.{get_or-le-sum_by}
 use Rattle.pon_units.specs.Granted.{AreInMapOrder}
 use Rattle.pon_descr.proofs.Checks.{or_else_none, when_none}
 use Rattle.pon_admit.specs.Roster.{has_alloc, max_allocs, max_carry, IsAdmitted, left_over, with_descriptor, with_row, without}
 use Rattle.pon_admit.proofs.AdmittedSets.{passes, admit_keeps, change_keeps, has_alloc-changed, remove_keeps}
-use Rattle.pon_guar.proofs.LessByGrants.{lessened_ids}
+use Rattle.pon_guar.proofs.LessByGrants.{lessened_ids, if_less}
 use Rattle.pon_state.specs.Checks.{at_limit, refuses, when_down}
 use Rattle.pon_state.specs.Legal.{MayFollow, IsMade, IsReply}
 use Rattle.pon_units.specs.declared.limits.TheConstants.{MAX_OCCUPANCY, FRAME_WORDS}
@@ -46,13 +46,18 @@ use Rattle.pon_descr.specs.Descriptor.{Descriptor}
 use Rattle.pon_descr.specs.declared.refusal.Refusal.TheVariants.{FrameLimit}
 use Rattle.pon_admit.proofs.Rules.{left_over_range}
 use Rattle.pon_guar.proofs.Books.{occupancies_ids}
-use Rattle.pon_guar.proofs.Windows.{one_more, one_reported}
+use Rattle.pon_guar.proofs.Windows.{one_more, one_reported, All-with_map}
 use Rattle.pon_demand.specs.Rates.{owed}
 use Rattle.pon_state.specs.Accounts.{AccountsFor}
 use Rattle.pon_state.specs.Carries.{carries_left}
 use Rattle.pon_state.specs.Events.{IsEvent}
-use Rattle.pon_history.proofs.Legality.{along, checks_passed, legal_front, legal_rest, replay_append, replay_push}
-use Rattle.pon_history.proofs.LawfulAccounts.{accounts_reported, All-inserted, IsOccupancy, counted_all, book_all, fresh_lawful, admission_keeps_owner, change_keeps_owner, with_rows, account_with_rows, All-with_map, if_less, distinct_own, account_mapped, ids_same, ids_admitted, ids_removed, carries_at, if_failed, frame_within, planned}
+use Rattle.pon_history.proofs.Legality.{along, legal_front, legal_rest}
+use Rattle.pon_history.proofs.LawfulAccounts.{accounts_reported, fresh_lawful, admission_keeps_owner, change_keeps_owner, with_rows, account_with_rows, distinct_own, account_mapped}
+use Rattle.pon_lists.proofs.Inserted.{All-inserted}
+use Rattle.pon_guar.proofs.AccountReports.{IsOccupancy, book_all, counted_all}
+use Rattle.pon_state.proofs.BookIds.{ids_admitted, ids_removed, ids_same}
+use Rattle.pon_state.proofs.KeptMaps.{planned}
+use Rattle.pon_state.proofs.Replays.{checks_passed, if_failed, replay_append, replay_push}
 
 -- One more entry.
 module _ (s : State) (l : IsLawfulState s) (room : s.taken_before < 2 ^ 64 - 1) where

@@ -1,18 +1,18 @@
 -- The report book of the closed form, with one more entry.
-use Rattle.std.proofs.Common.{zero-add, ◌≡◌, ℕ, ◌-◌, ◌≤◌, Bool, false, List, [], ◌∷◌, ◌++◌, map, length, refl, ap, sym, subst, ◌∙◌, arith, inl, inr, ◌+◌, true, ◌||◌, drop, append_assoc, suc, zero, ◌<◌, not, get_or, ◌*◌}
-use Rattle.std.specs.Prelude.{if◌then◌else◌, All, Contains, Option, Some, None, flat_map, option_to_list, ◌==◌, nat_le, filter, nat_lt, find, option_map, Any}
+use Rattle.std.proofs.Common.{zero-add, ◌≡◌, ℕ, ◌-◌, ◌≤◌, Bool, false, List, [], ◌∷◌, ◌++◌, map, length, refl, ap, sym, subst, ◌∙◌, arith, inl, inr, ◌+◌, true, ◌||◌, drop, append_assoc, ◌<◌, not, get_or}
+use Rattle.std.specs.Prelude.{if◌then◌else◌, All, Contains, Option, Some, None, flat_map, option_to_list, ◌==◌, nat_le, filter, nat_lt, option_map, Any}
 use Rattle.std.specs.List.{list_any}
 use Rattle.std.proofs.lemmas.Bool.{le-leb, eq-eqb, ne_eqb, both_ways, cases_Bool, eqb-true, lt-leb, or_left, or_right}
-use Rattle.std.proofs.lemmas.Bool.Decides.{leb_tells, eqb_tells}
-use Rattle.std.proofs.lemmas.List.{drop_at, map-id}
-use Rattle.std.proofs.lemmas.List.Elements.{All-append, All-cons, All-contains, All-contains_itself, All-drop, All-head, All-map, All-nil, All-tail, All-weaker, All-filter, All-push}
-use Rattle.pon_lists.proofs.Lists.{All-front, All-unmap, append-nil, length-drop, map-append, map-map, map_same, filter-append, flat_map-append, flat_map-map, map_filter, sum_by-map, sum_by_agree}
+use Rattle.std.proofs.lemmas.Bool.Decides.{leb_tells}
+use Rattle.std.proofs.lemmas.List.{map-id}
+use Rattle.std.proofs.lemmas.List.Elements.{All-append, All-cons, All-contains, All-contains_itself, All-head, All-map, All-nil, All-tail, All-weaker, All-filter, All-push}
+use Rattle.pon_lists.proofs.Lists.{All-front, All-unmap, append-nil, map-append, map-map, map_same, filter-append, flat_map-append, flat_map-map, map_filter, sum_by-map, All-back, All-flat_map, All-from_flat_map, map_agree}
 use Rattle.pon_guar.specs.declared.account.Account.{Account}
 use Rattle.pon_guar.specs.declared.account.Counted.{Counted}
 use Rattle.pon_guar.specs.Book.{account_of, counted_of_account, known_report, alloc_ids, since_of_account}
 use Rattle.pon_guar.specs.Loads.{less, afresh, fresh_account, lessened}
-use Rattle.pon_guar.specs.Reports.{later, latest, occupancies}
-use Rattle.pon_guar.specs.Window.{grants_at, words_from, AreConsecutive, IsLawfulMap, WindowMap, is_of, words_among, words_granted, words_in, words_to, words_to_from}
+use Rattle.pon_guar.specs.Reports.{latest, occupancies}
+use Rattle.pon_guar.specs.Window.{grants_at, words_from, WindowMap, is_of, words_among, words_in, words_to_from}
 use Rattle.pon_state.specs.State.{State}
 use Rattle.pon_history.specs.Windows.{all_maps, maps_of, map_made, window_of, with_reports}
 use Rattle.pon_history.specs.Parts.{begins, next_of, roster_of, allocs_after, allocs_of, frame_at_last}
@@ -28,20 +28,21 @@ use Rattle.pon_state.specs.Maps.{makes_map, grants_in_map, structures}
 use Rattle.pon_state.specs.declared.reply.Reply.{Reply}
 use Rattle.pon_history.specs.Chapters.{IsLawfulState, AccountIsLawful, Owns}
 use Rattle.pon_history.specs.ClosedForm.{closed_form}
-use Rattle.pon_guar.proofs.Frames.{frame_there, leads_drop}
-use Rattle.pon_units.specs.declared.granted.Granted.{Granted}
-use Rattle.pon_history.specs.OtherForms.{account_reported, before_last, reports_of}
-use Rattle.std.proofs.lemmas.List.Sums.{sum_by-append, sum_by-cons, sum_by-le}
-use Rattle.pon_units.specs.Granted.{AreInMapOrder}
+use Rattle.pon_guar.proofs.Frames.{frame_there, leads_drop, GrantSame, frame_within, grants_at_all, last_grant_same}
+use Rattle.pon_history.specs.LastEntries.{before_last}
+use Rattle.pon_guar.specs.AccountReports.{account_reported, reports_of}
+use Rattle.std.proofs.lemmas.List.Sums.{sum_by-append}
 use Rattle.pon_descr.proofs.Checks.{or_else_none}
 use Rattle.pon_admit.specs.Roster.{has_alloc}
 use Rattle.pon_admit.proofs.AdmittedSets.{passes}
-use Rattle.pon_guar.proofs.Accounts.{accounts_all, found_each}
-use Rattle.pon_guar.proofs.LessByGrants.{less_none}
+use Rattle.pon_guar.proofs.Accounts.{accounts_all, found_each, listed}
+use Rattle.pon_guar.proofs.LessByGrants.{less_none, less_twice}
 use Rattle.pon_state.specs.Checks.{first_refusal, when_full}
 use Rattle.pon_state.specs.Legal.{MayFollow}
-use Rattle.pon_history.proofs.LawfulAccounts.{IsLatest, IsOccupancy, flat_all, frame_within, grants_at_all, latest-append, latest_is, latest_lone, occupancies_all, account_by_account}
 use Rattle.pon_history.proofs.Windows.{next_of-append, next_of-cons, frame_at_last-append, allocs_of-append, all_maps_push, AllLead, before_window, window_is_end}
+use Rattle.pon_guar.proofs.LatestReports.{IsLatest, latest-append, latest_is, latest_less, latest_lone}
+use Rattle.pon_guar.proofs.AccountReports.{IsOccupancy, account_by_account, occupancies_all}
+use Rattle.pon_guar.proofs.OwnWords.{words_agree}
 
 -- The frame at the last entry of a kind.
 pub at_the_last : (test : Entry → Bool) (start first : ℕ) (es : List Entry) →
@@ -94,26 +95,6 @@ candidates_late n ms since i (e ∷ es) l b = (λ j. one e.event (All-head (IsBe
     one (Report frame onu occ) b = rw (lt-leb since frame (omega (arith, b, l))) refl
     one v b = refl
 
--- candidates are lessened by more words
-less_more : {X : Type 0} (f : X → Counted) (v w : ℕ) (xs : List X) → map (λ x. less (v + w) (f x)) xs ≡ map (less w) (map (λ x. less v (f x)) xs)
-less_more f v w [] = refl
-less_more f v w (x ∷ xs) = (let both : (f x).words - (v + w) ≡ ((f x).words - v) - w = omega arith in (λ j. record { frame = (f x).frame; words = both j } ∷ less_more f v w xs j))
-
--- Two lists of maps grant the same from a frame on, and have the same grants of it.
-abbrev GrantSame : ℕ → List WindowMap → List WindowMap → Type 0
-GrantSame f ms ns = ((i : ℕ) → words_from i f ms ≡ words_from i f ns) × ((u : ℕ) → grants_at f u ms ≡ grants_at f u ns)
-
--- maps before a frame make no difference
-last_grant_same : (n f k : ℕ) (ms : List WindowMap) → AreConsecutive n ms → n ≤ f + length (drop k ms) → GrantSame f (drop k ms) ms
-last_grant_same n f zero ms h l = (λ i. refl, λ u. refl)
-last_grant_same n f (suc k) [] h l = (λ i. refl, λ u. refl)
-last_grant_same n f (suc k) (m ∷ ms) h l =
-    let early : m.frame < f = omega (arith, h.0, l, length-drop k ms) in
-    let rest : GrantSame f (drop k ms) ms = last_grant_same n f k ms h.1 l in (
-      λ i. rest.0 i ∙ sym (sum_by-cons (λ m. if nat_le f m.frame then words_in i m else 0) m ms ∙ rw (lt-leb f m.frame early) (omega arith)),
-      λ u. rest.1 u ∙ sym (rw (ne_eqb m.frame f (λ q. omega (arith, q, early))) refl),
-    )
-
 -- An accepted report is of a frame of the window, and from it on all maps grant what the window grants.
 module _ (o : State) (es : List Entry) (leads : AllLead o es) (kept f u : ℕ) (occ : List (Option ℕ)) (accepted : first_refusal kept (closed_form o es) (Report f u occ) ≡ None) where
   within : (f < next_of o.next es) × (next_of o.next es ≤ f + length (drop (before_window o es) (all_maps o es)))
@@ -130,15 +111,6 @@ module _ (o : State) (es : List Entry) (leads : AllLead o es) (kept f u : ℕ) (
       )
 
 -- The account of an Alloc-ID after one more entry.
-
--- the latest report is lessened with all
-latest_less : (w : ℕ) (cs : List Counted) → latest (map (less w) cs) ≡ option_map (less w) (latest cs)
-latest_less w [] = refl
-latest_less w (c ∷ cs) = ap (later (less w c)) (latest_less w cs) ∙ one (latest cs)
-  where
-    one : (d : Option Counted) → later (less w c) (option_map (less w) d) ≡ option_map (less w) (later c d)
-    one None = refl
-    one (Some d) = elim (nat_lt d.frame c.frame) as (λ b. (if b then Some (less w c) else Some (less w d)) ≡ option_map (less w) (if b then Some c else Some d)) [ true ↦ refl | false ↦ refl ]
 
 module _ (o : State) (es : List Entry) (e : Entry) (below : All (IsBelow (next_of o.next es)) es) (i : ℕ) where
   abbrev all : List Entry
@@ -174,7 +146,7 @@ module _ (o : State) (es : List Entry) (e : Entry) (below : All (IsBelow (next_o
     where
       one : (v : Event) → EventBelow (next_of o.next es) v → candidates_in (all_maps o all) (since_of o es i) i v ≡ map (less w) (candidates_in (all_maps o es) (since_of o es i) i v)
       one (Report f u occ) l = elim (leb_tells (since_of o es i) f) [
-        | inl t ↦ rw (t.0, words_push o es e f i (omega (arith, l)), grants_push o es e f u l) (less_more (λ n. record { frame = f; words = n }) (words_from i f (all_maps o es)) w (occupancies i (grants_at f u (all_maps o es)) occ))
+        | inl t ↦ rw (t.0, words_push o es e f i (omega (arith, l)), grants_push o es e f u l) (less_twice (λ n. record { frame = f; words = n }) (words_from i f (all_maps o es)) w (occupancies i (grants_at f u (all_maps o es)) occ))
         | inr t ↦ rw t.0 refl
       ]
       one v l = refl
@@ -186,7 +158,7 @@ module _ (o : State) (es : List Entry) (e : Entry) (below : All (IsBelow (next_o
       let opening : opening_candidates o all i ≡ map (less w) (opening_candidates o es i)
       = elim (cases_Bool (list_any (begins i) es)) [
         | inl t ↦ rw (list_any-append (begins i) es (e ∷ []), t) refl
-        | inr t ↦ rw (list_any-append (begins i) es (e ∷ []), b, t, words_push (record o { window = [] }) es e 0 i (omega arith)) (less_more (λ c. c) (words_from i 0 (maps_of o.roster o.next es)) w (counted_of_account (account_of o.book i)))
+        | inr t ↦ rw (list_any-append (begins i) es (e ∷ []), b, t, words_push (record o { window = [] }) es e 0 i (omega arith)) (less_twice (λ c. c) (words_from i 0 (maps_of o.roster o.next es)) w (counted_of_account (account_of o.book i)))
       ] in
       let later : found (all_maps o all) (since_of o all i) all ≡ map (less w) before ++ heard = rw (since_now false b, flat_map-append, lessened_before es below, append-nil) refl in
       let counted : counted_of o all i ≡ latest (option_to_list (option_map (less w) (counted_of o es i)) ++ heard)
@@ -194,36 +166,6 @@ module _ (o : State) (es : List Entry) (e : Entry) (below : All (IsBelow (next_o
       (λ j. record { alloc_id = i; since = since_now false b j; counted = counted j })
 
 -- The words of an Alloc-ID that has one ONU.
-
-pub map_agree : {X Y : Type 0} (f g : X → Y) (xs : List X) → All (λ x. f x ≡ g x) xs → map f xs ≡ map g xs
-map_agree f g [] h = refl
-map_agree f g (x ∷ xs) h = (λ j. All-head (λ x. f x ≡ g x) x xs h j ∷ map_agree f g xs (All-tail (λ x. f x ≡ g x) x xs h) j)
-
--- all words that a map grants to an Alloc-ID are granted under its ONU
-own_words : (i u : ℕ) (gs : List Granted) → AreInMapOrder gs → All (λ g. g.alloc_id ≡ i → g.onu ≡ u) gs → words_among i gs ≡ words_granted (find (λ g. g.alloc_id == i) (filter (λ g. g.onu == u) gs))
-own_words i u [] h o = refl
-own_words i u (g ∷ gs) h o =
-    let others : All (λ g. g.alloc_id ≡ i → g.onu ≡ u) gs = All-tail (λ g. g.alloc_id ≡ i → g.onu ≡ u) g gs o in
-    sum_by-cons (λ g. if g.alloc_id == i then g.words else 0) g gs ∙ elim (eqb_tells g.alloc_id i) [
-      | inl e ↦
-          let mine : g.onu ≡ u = All-head (λ g. g.alloc_id ≡ i → g.onu ≡ u) g gs o e.1 in
-          let none : words_among i gs ≤ length gs * 0
-          = sum_by-le (λ g. if g.alloc_id == i then g.words else 0) 0 gs (λ n d l.
-          let other : (get_or gs n d).alloc_id ≡ i → ⊥ = λ z. let k : g.alloc_id < (get_or gs n d).alloc_id = (h.0 n d l).1 (mine ∙ sym (others n d l z)) in omega (arith, z, e.1, k) in
-          rw (ne_eqb (get_or gs n d).alloc_id i other) (omega arith)) in
-          rw (eq-eqb g.onu u mine, e.0) (omega (arith, none))
-      | inr e ↦ elim (cases_Bool (g.onu == u)) [
-        | inl t ↦ rw (t, e.0) (omega (arith, own_words i u gs h.1 others))
-        | inr t ↦ rw (t, e.0) (omega (arith, own_words i u gs h.1 others))
-      ]
-    ]
-
--- so are those of all maps from a frame on
-words_agree : (i u f : ℕ) (ms : List WindowMap) → All IsLawfulMap ms → All (λ m. f ≤ m.frame → All (λ g. g.alloc_id ≡ i → g.onu ≡ u) m.grants) ms → words_from i f ms ≡ words_to_from u i f ms
-words_agree i u f ms l h = sum_by_agree (λ m. if nat_le f m.frame then words_in i m else 0) (λ m. if nat_le f m.frame then words_to u i m else 0) ms (λ k d n. elim (leb_tells f (get_or ms k d).frame) [
-  | inl e ↦ rw e.0 (own_words i u (get_or ms k d).grants (l k d n).rising (h k d n e.1))
-  | inr e ↦ rw e.0 refl
-])
 
 -- the ONU of an admitted Alloc-ID
 onu_there : (rows : List Row) (i : ℕ) → has_alloc i rows ≡ true → (v : ℕ) × ((w : ℕ) → Owns rows i w → w ≡ v)
@@ -349,17 +291,6 @@ book_push o es kept e leads below lawful m =
 
 -- The counted report is an accepted one, and no accepted one is later.
 
-behind : {Y : Type 0} (P : Y → Type 0) (xs ys : List Y) → All P (xs ++ ys) → All P ys
-behind P xs ys h = subst (All P) (drop_at xs ys (length xs) refl) (All-drop P (length xs) (xs ++ ys) h)
-
-all_flat : {X Y : Type 0} (P : Y → Type 0) (f : X → List Y) (xs : List X) → All P (flat_map f xs) → All (λ x. All P (f x)) xs
-all_flat P f [] h = All-nil (λ x. All P (f x))
-all_flat P f (x ∷ xs) h = All-cons (λ x. All P (f x)) x xs (All-front P (f x) (flat_map f xs) h) (all_flat P f xs (behind P (f x) (flat_map f xs) h))
-
-listed : (a : Option Account) → option_to_list (known_report a) ≡ counted_of_account a
-listed None = refl
-listed (Some a) = refl
-
 -- Candidates are the accepted reports.
 module _ (o : State) (es : List Entry) (i : ℕ) where
   -- the opening's report, less what the entries granted
@@ -391,7 +322,7 @@ module _ (o : State) (es : List Entry) (i : ℕ) where
   all_accepted : All (IsReport o es i) (candidates o es i)
   all_accepted = All-append (IsReport o es i) (opening_candidates o es i) later_candidates
       (subst (λ t. All (IsReport o es i) (if list_any (begins i) es then [] else map left_of t)) (listed (account_of o.book i)) (opening_accepted (list_any (begins i) es) (known_report (account_of o.book i)) refl refl))
-      (flat_all (IsReport o es i) (λ e. candidates_in (all_maps o es) (since_of o es i) i e.event) es
+      (All-flat_map (IsReport o es i) (λ e. candidates_in (all_maps o es) (since_of o es i) i e.event) es
       (All-weaker (Contains es) (λ e. All (IsReport o es i) (candidates_in (all_maps o es) (since_of o es i) i e.event)) (λ e there. entry_accepted e there e.event refl) es (All-contains_itself es)))
 
   -- what holds of all candidates holds of each accepted report
@@ -399,7 +330,7 @@ module _ (o : State) (es : List Entry) (i : ℕ) where
   accepted_all P h c (inl r) =
       let entry : All P (candidates_in (all_maps o es) (since_of o es i) i (Report c.frame r.onu r.occ))
       = subst (λ v. All P (candidates_in (all_maps o es) (since_of o es i) i v)) r.report
-      (All-contains (λ e. All P (candidates_in (all_maps o es) (since_of o es i) i e.event)) es r.entry (all_flat P (λ e. candidates_in (all_maps o es) (since_of o es i) i e.event) es (behind P (opening_candidates o es i) later_candidates h)) r.accepted) in
+      (All-contains (λ e. All P (candidates_in (all_maps o es) (since_of o es i) i e.event)) es r.entry (All-from_flat_map P (λ e. candidates_in (all_maps o es) (since_of o es i) i e.event) es (All-back P (opening_candidates o es i) later_candidates h)) r.accepted) in
       let told : All P (map (less_granted c.frame) (occupancies i (grants_at c.frame r.onu (all_maps o es)) r.occ))
       = subst (λ b. All P (if b then map (less_granted c.frame) (occupancies i (grants_at c.frame r.onu (all_maps o es)) r.occ) else [])) (le-leb (since_of o es i) c.frame r.not_early) entry in
       subst P (λ j. record { frame = c.frame; words = sym r.left j })

@@ -1,8 +1,7 @@
 -- The window of the closed form, with one more entry.
-use Rattle.std.proofs.Common.{◌≡◌, ℕ, ◌-◌, ◌≤◌, Bool, false, List, [], ◌∷◌, ◌++◌, map, length, refl, ap, sym, subst, ◌∙◌, arith, inl, inr, ◌+◌, true, cond, ◌||◌, ◌&&◌, drop, append_assoc, add_assoc, suc, add-zero}
-use Rattle.std.specs.Prelude.{if◌then◌else◌, All, Option, ◌==◌, nat_le, filter, min}
+use Rattle.std.proofs.Common.{◌≡◌, ℕ, ◌-◌, ◌≤◌, Bool, false, List, [], ◌∷◌, ◌++◌, map, length, refl, ap, sym, subst, ◌∙◌, arith, ◌+◌, true, cond, ◌||◌, ◌&&◌, drop, append_assoc, add_assoc, add-zero}
+use Rattle.std.specs.Prelude.{if◌then◌else◌, All, Option, ◌==◌, filter, min}
 use Rattle.std.specs.List.{list_any}
-use Rattle.std.proofs.lemmas.Bool.Decides.{leb_tells}
 use Rattle.std.proofs.lemmas.List.{drop_all}
 use Rattle.std.proofs.lemmas.List.Elements.{All-weaker}
 use Rattle.pon_lists.proofs.Lists.{any_eq-filter, append-nil, drop-append-le, drop-drop, drop-map, filter_agree, filter_same_in, length-append, length-drop, length-map, map-append, map-map, map_same, or-false, or_assoc, count_by-append}
@@ -23,7 +22,7 @@ use Rattle.pon_state.specs.Maps.{makes_map}
 use Rattle.pon_state.specs.declared.reply.Reply.{Reply}
 use Rattle.pon_history.specs.Chapters.{IsLawfulState}
 use Rattle.pon_history.specs.ClosedForm.{closed_form}
-use Rattle.pon_guar.proofs.Frames.{leads_mapped, leads_push}
+use Rattle.pon_guar.proofs.Frames.{leads_mapped, leads_push, from_is_end}
 
 -- The parts of the closed form over a list that is split.
 
@@ -114,16 +113,6 @@ leads_next o es e h =
     ])
 
 -- The window.
-
--- the maps of consecutive frames from a frame on are the last of them
-from_is_end : (n c : ℕ) (ms : List WindowMap) → AreConsecutive n ms → filter (λ m. nat_le c m.frame) ms ≡ drop (c + length ms - n) ms
-from_is_end n c [] h = sym (drop_all (c + 0 - n) [] (omega arith))
-from_is_end n c (m ∷ ms) h = elim (leb_tells c m.frame) [
-  | inl e ↦
-      let none : (c + length ms - n ≡ 0) × (c + suc (length ms) - n ≡ 0) = (omega (arith, h.0, e.1), omega (arith, h.0, e.1)) in
-      rw (e.0, from_is_end n c ms h.1, none.0, none.1) refl
-  | inr e ↦ (let more : c + suc (length ms) - n ≡ suc (c + length ms - n) = omega (arith, h.0, e.1) in rw (e.0, from_is_end n c ms h.1, more) refl)
-]
 
 -- the window is the end of all maps: 64 of them, or those that no Fail or Restore has dropped
 abbrev pub before_window : State → List Entry → ℕ

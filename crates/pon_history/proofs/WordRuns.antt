@@ -10,13 +10,13 @@ use Rattle.pon_admit.specs.declared.row.Row.{Row}
 use Rattle.pon_demand.specs.Input.{Input}
 use Rattle.pon_demand.specs.Rates.{guaranteed_rate, payload, whole_rate}
 use Rattle.std.specs.Prelude.{◌==◌, if◌then◌else◌}
-use Rattle.std.proofs.lemmas.Bool.{cases_Bool, or_parts}
+use Rattle.std.proofs.lemmas.Bool.{cases_Bool}
 use Rattle.pon_lists.proofs.Lists.{map-map, map_same}
 use Rattle.pon_admit.specs.declared.rule.Rule.TheVariants.{CarryRemainders}
 use Rattle.pon_admit.specs.Roster.{has_alloc, left_over, max_carry}
 use Rattle.pon_demand.specs.Carries.{number_of}
 use Rattle.pon_demand.specs.Sharing.{surplus_rate}
-use Rattle.pon_demand.proofs.Carries.{carry_known, carry_within}
+use Rattle.pon_demand.proofs.Carries.{carry_known, carry_within, number_absent}
 use Rattle.pon_state.specs.State.{State, carry_at, input_of}
 use Rattle.pon_state.specs.History.{replay}
 use Rattle.pon_state.specs.Legal.{IsMade, IsReply}
@@ -30,13 +30,6 @@ use Rattle.pon_history.specs.ClosedForm.{closed_form}
 use Rattle.pon_history.specs.WordRuns.{GrantsWholeParts, RunsAreWhole, words_of_reply, words_since}
 use Rattle.pon_history.proofs.ClosedForms.{owed_push, sum_since_push, of_chapter}
 use Rattle.pon_history.proofs.LawfulStates.{front_lawful}
-
-number_absent : (i : ℕ) (rows : List Row) (ns : List ℕ) → has_alloc i rows ≡ false → number_of rows ns i ≡ 0
-number_absent i [] ns h = refl
-number_absent i (r ∷ rows) [] h = refl
-number_absent i (r ∷ rows) (n ∷ ns) h =
-    let two : ((r.alloc_id == i) ≡ false) × (has_alloc i rows ≡ false) = or_parts (r.alloc_id == i) (has_alloc i rows) h in
-    ap (λ b. if b then n else number_of rows ns i) two.0 ∙ number_absent i rows ns two.1
 
 -- the words of an Alloc-ID are those of its carry and its rate
 words_of_sum : (c w : Row → ℕ) (rows : List Row) (i : ℕ) → number_of rows (map (λ r. (c r + w r) / 256) rows) i ≡ (number_of rows (map c rows) i + number_of rows (map w rows) i) / 256

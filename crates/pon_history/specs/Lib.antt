@@ -4,7 +4,7 @@ pub mod ClosedForm
 pub mod CountedReports
 pub mod FairMaps
 pub mod Last
-pub mod OtherForms
+pub mod LastEntries
 pub mod Parts
 pub mod Ranges
 pub mod Reports

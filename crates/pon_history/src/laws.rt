@@ -1,17 +1,14 @@
 //! Laws of histories, over the definitions alone.
 
-ghost use Rattle.std.specs.Prelude.{Bool, List, Option, [], false, length, map, true, if◌then◌else◌, None, Some, drop, slice_get, ℕ, ◌++◌, ◌+◌, ◌*◌, ◌/◌, ◌<◌, ◌≡◌, ◌≢◌, ◌≤◌};
+ghost use Rattle.std.specs.Prelude.{Bool, List, [], false, length, true, if◌then◌else◌, None, Some, drop, slice_get, ℕ, ◌++◌, ◌+◌, ◌*◌, ◌/◌, ◌<◌, ◌≡◌, ◌≢◌, ◌≤◌};
 ghost use Rattle.pon_descr.specs.declared.refusal.Refusal.{Refusal};
 ghost use Rattle.pon_admit.specs.Roster.{IsAdmitted, has_alloc, max_carry};
 ghost use Rattle.pon_admit.specs.declared.row.Row.{Row};
 ghost use Rattle.pon_state.specs.State.{State};
 ghost use Rattle.std.specs.List.{list_any};
-ghost use Rattle.pon_units.specs.declared.granted.Granted.{Granted};
 ghost use Rattle.pon_units.specs.Frac.{Frac};
 ghost use Rattle.pon_units.specs.declared.limits.TheConstants.{WORD_RATE};
 ghost use Rattle.pon_guar.specs.Book.{AreRising, alloc_ids, load_of, load_of_counted};
-ghost use Rattle.pon_guar.specs.Reports.{after_occupancies};
-ghost use Rattle.pon_guar.specs.declared.account.Account.{Account};
 ghost use Rattle.pon_guar.specs.declared.account.Counted.{Counted};
 ghost use Rattle.pon_history.specs.Parts.{frame_at_last, next_of};
 ghost use Rattle.pon_history.specs.Reports.{counted_of};
@@ -28,7 +25,7 @@ ghost use Rattle.pon_history.specs.ClosedForm.{closed_form};
 ghost use Rattle.pon_history.specs.Chapters.{Chapter, IsLawfulChapter, IsLawfulOpening, IsLegal, cut_at, present_state, state_before};
 ghost use Rattle.pon_history.specs.CountedReports.{Counts, IsReport};
 ghost use Rattle.pon_history.specs.FairMaps.{TellsFairMap};
-ghost use Rattle.pon_history.specs.OtherForms.{account_reported, before_last};
+ghost use Rattle.pon_history.specs.LastEntries.{before_last};
 ghost use Rattle.pon_history.specs.WordRuns.{RunsAreWhole};
 ghost use Rattle.pon_history.specs.Taking.{Takes, refusal_of, with_entry};
 ghost use Rattle.pon_admit.specs.declared.event.Event.{Event};
@@ -167,14 +164,9 @@ pub fn words_are_one_whole_part()
         / ((surplus r).den * WORD_RATE) }
 {}
 
-/// Two definitions in another form. An ONU's report is taken account by account: from the since-frame on, the latest of
-/// an account's reports counts. The frame at the last entry of a kind is the next frame after the entries before it.
-pub fn definitions_in_another_form()
-    ensures accounts { (granted : ℕ → ℕ) (frame : ℕ) (gs : List Granted)
-        (occ : List (Option ℕ)) (book : List Account)
-        → after_occupancies granted frame gs occ book
-        ≡ map (account_reported granted frame gs occ) book }
-    ensures last { (test : Entry → Bool) (start first : ℕ) (es : List Entry)
+/// The frame at the last entry of a kind is the next frame after the entries before it.
+pub fn frames_of_last_entries()
+    ensures { (test : Entry → Bool) (start first : ℕ) (es : List Entry)
         → frame_at_last test start first es
         ≡ (if list_any test es then next_of first (before_last test es) else start) }
 {}

@@ -1,12 +1,13 @@
 -- The number of distinct numbers of a list that pass a test.
 use Rattle.std.proofs.Common.{◌≡◌, ℕ, ◌+◌, ◌≤◌, Bool, true, false, cond, not, ◌||◌, ◌&&◌, List, [], ◌∷◌, ◌++◌, length, refl, ap, sym, ◌∙◌, subst, arith, inl, inr}
-use Rattle.std.specs.Prelude.{◌==◌, filter, All}
+use Rattle.std.specs.Prelude.{◌==◌, filter, All, Contains}
 use Rattle.std.specs.List.{list_any}
-use Rattle.std.proofs.lemmas.Bool.{and_parts, and_from, and_right, ne_eqb}
+use Rattle.std.proofs.lemmas.Bool.{and_parts, and_from, and_right, ne_eqb, eqb-true}
 use Rattle.std.proofs.lemmas.List.Elements.{All-head, All-tail, All-weaker}
 use Rattle.std.proofs.lemmas.Bool.Decides.{eqb_tells}
 use Rattle.pon_lists.specs.Distinct.{distinct}
-use Rattle.pon_lists.proofs.Lists.{filter-filter}
+use Rattle.pon_lists.proofs.Lists.{filter-filter, any_eq-filter}
+use Rattle.std.proofs.lemmas.Map.Views.{Contains-from_any}
 
 -- whether a list contains a number
 abbrev pub occurs : ℕ → List ℕ → Bool
@@ -164,3 +165,8 @@ count_once_agree (x ∷ xs) p q h =
 -- one more number at the end counts if it passes and is new
 pub count_once_push : (xs : List ℕ) (p : ℕ → Bool) (u : ℕ) → count_once (xs ++ u ∷ []) p ≡ count_once xs p + bit (not (occurs u xs) && p u)
 count_once_push xs p u = omega (arith, count_once-append xs (u ∷ []) p)
+
+-- a number of a list that passes a test is in the filtered list
+pub contains_filtered : (p : ℕ → Bool) (u : ℕ) (xs : List ℕ) → p u ≡ true → occurs u xs ≡ true → Contains (filter p xs) u
+contains_filtered p u xs passes there =
+    Contains-from_any {eq = λ q k. k == q} (λ x y e. sym (eqb-true y x e)) u (filter p xs) (any_eq-filter p u xs ∙ and_from (p u) (occurs u xs) passes there)

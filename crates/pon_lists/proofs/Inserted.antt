@@ -1,15 +1,15 @@
 -- An element inserted in its place in a list in an order, and one removed.
-use Rattle.std.proofs.Common.{◌≡◌, ℕ, ◌+◌, ◌<◌, Bool, true, false, cond, not, ◌||◌, List, [], ◌∷◌, ◌++◌, length, take, drop, refl, ap, sym, ◌∙◌, subst, arith}
+use Rattle.std.proofs.Common.{◌≡◌, ℕ, ◌+◌, ◌<◌, Bool, true, false, cond, not, ◌||◌, List, [], ◌∷◌, ◌++◌, length, take, drop, refl, ap, sym, ◌∙◌, subst, arith, map, ◌&&◌}
 use Rattle.std.specs.Prelude.{◌==◌, nat_lt, filter, sum_by, count_by, All}
 use Rattle.std.specs.List.{insert, list_any}
 use Rattle.std.proofs.Math.Seq.{drop-append_seam, take-append_seam}
 use Rattle.std.proofs.lemmas.Bool.{eq-eqb, le-ltb, ltb-false, or_parts}
 use Rattle.std.proofs.lemmas.List.{length-append}
-use Rattle.std.proofs.lemmas.List.Elements.{All-head, All-tail, All-weaker, filter-append}
+use Rattle.std.proofs.lemmas.List.Elements.{All-head, All-tail, All-weaker, filter-append, All-append, All-cons, All-filter}
 use Rattle.std.proofs.lemmas.List.Folds.{list_any-append}
 use Rattle.std.proofs.lemmas.List.Sums.{length-filter}
 use Rattle.pon_lists.specs.Order.{IsInOrder, with_inserted, without_key}
-use Rattle.pon_lists.proofs.Lists.{or_assoc, sum_by-between}
+use Rattle.pon_lists.proofs.Lists.{or_assoc, sum_by-between, any_eq-filter, list_any-map, map_filter}
 use Rattle.pon_lists.proofs.Order.{in_order-between}
 
 -- A list in an order, split where an element belongs.
@@ -98,3 +98,13 @@ module _ {X : Type 0} (key : X → ℕ) (i : ℕ) where
 pub without_inserted : {X : Type 0} (key : X → ℕ) (p : X → Bool) (x : X) (xs : List X) → filter p xs ++ filter (λ y. not (p y)) xs ≡ xs → list_any (λ y. key y == key x) xs ≡ false → without_key key (key x) (with_inserted p x xs) ≡ xs
 without_inserted key p x xs whole free =
     without_between key (key x) (filter p xs) (filter (λ y. not (p y)) xs) x (ap (list_any (λ y. key y == key x)) whole ∙ free) refl ∙ whole
+
+-- what holds of all elements and of one that is inserted
+pub All-inserted : {X : Type 0} (P : X → Type 0) (p : X → Bool) (x : X) (xs : List X) → P x → All P xs → All P (with_inserted p x xs)
+All-inserted P p x xs here h =
+    All-append P (filter p xs) (x ∷ filter (λ y. not (p y)) xs) (All-filter p P xs h) (All-cons P x (filter (λ y. not (p y)) xs) here (All-filter (λ y. not (p y)) P xs h))
+
+-- whether a key is in a list without the elements of another key
+pub any_without : {X : Type 0} (key : X → ℕ) (i j : ℕ) (xs : List X) → list_any (λ x. key x == j) (without_key key i xs) ≡ (not (j == i) && list_any (λ x. key x == j) xs)
+any_without key i j xs =
+    sym (list_any-map (λ k. k == j) key (without_key key i xs)) ∙ rw (← map_filter key (λ k. not (k == i)) xs, any_eq-filter (λ k. not (k == i)) j (map key xs), list_any-map)

@@ -1,18 +1,17 @@
 -- Lists: counts, sums, filters and tests over them, and properties of all elements.
-use Rattle.std.proofs.Common.{◌≡◌, ℕ, ◌+◌, ◌≤◌, Bool, true, false, cond, not, ltb, ◌||◌, ◌&&◌, List, [], ◌∷◌, ◌++◌, map, length, refl, ap, sym, ◌∙◌, arith, inl, inr, Option, Some, None}
-use Rattle.std.specs.Prelude.{◌==◌, filter, sum_by, count_by, All}
+use Rattle.std.proofs.Common.{◌≡◌, ℕ, ◌+◌, ◌≤◌, Bool, true, false, cond, not, ltb, ◌||◌, ◌&&◌, List, [], ◌∷◌, ◌++◌, map, length, refl, ap, sym, ◌∙◌, arith, inl, inr, Option, Some, None, take, zero, suc}
+use Rattle.std.specs.Prelude.{◌==◌, filter, sum_by, count_by, All, ◌⊎◌, flat_map, slice_get}
 use Rattle.std.specs.List.{list_any, position, position_or_len}
-use Rattle.std.proofs.lemmas.Bool.{ltb-false}
-use Rattle.std.proofs.lemmas.List.Sums.{prefix_len-le-length}
+use Rattle.std.proofs.lemmas.Bool.{ltb-false, eq-eqb, or_left, or_parts, or_right}
+use Rattle.std.proofs.lemmas.List.Sums.{prefix_len-le-length, sum_by-append, sum_by-cons}
 pub use Rattle.std.proofs.lemmas.List.{drop-drop, drop-map, drop-append-le, length-drop, length-append, append-nil, map-append, length-map}
 pub use Rattle.std.proofs.lemmas.List.Elements.{filter-append, filter_agree}
 pub use Rattle.std.proofs.lemmas.List.Folds.{flat_map-map}
 pub use Rattle.std.proofs.lemmas.Grind.{flat_map-append}
 pub use Rattle.std.proofs.lemmas.Simd.{map-map}
-use Rattle.std.proofs.lemmas.List.Sums.{sum_by-append, sum_by-cons}
-use Rattle.std.proofs.lemmas.List.Elements.{All-nil, All-cons, All-head, All-tail}
-use Rattle.std.proofs.lemmas.Bool.{eq-eqb, or_left, or_parts, or_right}
+use Rattle.std.proofs.lemmas.List.Elements.{All-nil, All-cons, All-head, All-tail, All-append}
 use Rattle.std.proofs.lemmas.Bool.Decides.{eqb_tells}
+use Rattle.std.proofs.lemmas.Option.{same_Some}
 
 -- the count over two concatenated lists
 pub count_by-append : {X : Type 0} (p : X → Bool) (xs ys : List X) → count_by p (xs ++ ys) ≡ count_by p xs + count_by p ys
@@ -106,6 +105,10 @@ position-Some_within p t r n e s =
 
 -- Functions and tests that agree on the elements of a list.
 
+pub map_agree : {X Y : Type 0} (f g : X → Y) (xs : List X) → All (λ x. f x ≡ g x) xs → map f xs ≡ map g xs
+map_agree f g [] h = refl
+map_agree f g (x ∷ xs) h = (λ j. All-head (λ x. f x ≡ g x) x xs h j ∷ map_agree f g xs (All-tail (λ x. f x ≡ g x) x xs h) j)
+
 pub sum_by_agree : {X : Type 0} (f g : X → ℕ) (xs : List X) → All (λ x. f x ≡ g x) xs → sum_by f xs ≡ sum_by g xs
 sum_by_agree f g [] h = refl
 sum_by_agree f g (x ∷ xs) h = sum_by-cons f x xs ∙ (λ i. All-head (λ x. f x ≡ g x) x xs h i + sum_by_agree f g xs (All-tail (λ x. f x ≡ g x) x xs h) i) ∙ sym (sum_by-cons g x xs)
@@ -124,6 +127,10 @@ pub All-front : {X : Type 0} (P : X → Type 0) (xs ys : List X) → All P (xs +
 All-front P [] ys h = All-nil P
 All-front P (x ∷ xs) ys h = All-cons P x xs (All-head P x (xs ++ ys) h) (All-front P xs ys (All-tail P x (xs ++ ys) h))
 
+pub All-back : {X : Type 0} (P : X → Type 0) (xs ys : List X) → All P (xs ++ ys) → All P ys
+All-back P [] ys h = h
+All-back P (x ∷ xs) ys h = All-back P xs ys (All-tail P x (xs ++ ys) h)
+
 pub All-middle : {X : Type 0} (P : X → Type 0) (xs ys : List X) (x : X) → All P (xs ++ x ∷ ys) → P x
 All-middle P [] ys x h = All-head P x ys h
 All-middle P (z ∷ xs) ys x h = All-middle P xs ys x (All-tail P z (xs ++ x ∷ ys) h)
@@ -137,9 +144,35 @@ pub All-unmap : {X Y : Type 0} (P : Y → Type 0) (f : X → Y) (xs : List X) �
 All-unmap P f [] h = All-nil (λ x. P (f x))
 All-unmap P f (x ∷ xs) h = All-cons (λ x. P (f x)) x xs (All-head P (f x) (map f xs) h) (All-unmap P f xs (All-tail P (f x) (map f xs) h))
 
+-- what holds of all elements of the lists that a list is made into
+pub All-flat_map : {X Y : Type 0} (P : Y → Type 0) (f : X → List Y) (xs : List X) → All (λ x. All P (f x)) xs → All P (flat_map f xs)
+All-flat_map P f [] h = All-nil P
+All-flat_map P f (x ∷ xs) h = All-append P (f x) (flat_map f xs) (All-head (λ x. All P (f x)) x xs h) (All-flat_map P f xs (All-tail (λ x. All P (f x)) x xs h))
+
+pub All-from_flat_map : {X Y : Type 0} (P : Y → Type 0) (f : X → List Y) (xs : List X) → All P (flat_map f xs) → All (λ x. All P (f x)) xs
+All-from_flat_map P f [] h = All-nil (λ x. All P (f x))
+All-from_flat_map P f (x ∷ xs) h = All-cons (λ x. All P (f x)) x xs (All-front P (f x) (flat_map f xs) h) (All-from_flat_map P f xs (All-back P (f x) (flat_map f xs) h))
+
 -- the converse of `list_any_none`
 pub none_any : {X : Type 0} (p : X → Bool) (xs : List X) → list_any p xs ≡ false → All (λ x. p x ≡ false) xs
 none_any p [] h = All-nil (λ x. p x ≡ false)
 none_any p (x ∷ xs) h =
     let two : (p x ≡ false) × (list_any p xs ≡ false) = or_parts (p x) (list_any p xs) h in
     All-cons (λ x. p x ≡ false) x xs two.0 (none_any p xs two.1)
+
+-- Elements of a list that is split.
+
+pub at_front : {X : Type 0} (xs ys : List X) (x : X) (k : ℕ) → slice_get xs k ≡ Some x → (slice_get (xs ++ ys) k ≡ Some x) × (take k (xs ++ ys) ≡ take k xs)
+at_front [] ys x k h = absurd cc
+at_front (z ∷ xs) ys x zero h = (h, refl)
+at_front (z ∷ xs) ys x (suc k) h = (let rest = at_front xs ys x k h in (rest.0, ap (λ t. z ∷ t) rest.1))
+
+pub at_middle : {X : Type 0} (xs : List X) (x : X) (ys : List X) → slice_get (xs ++ x ∷ ys) (length xs) ≡ Some x
+at_middle [] x ys = refl
+at_middle (z ∷ xs) x ys = at_middle xs x ys
+
+pub at_push : {X : Type 0} (xs : List X) (x y : X) (k : ℕ) → slice_get (xs ++ x ∷ []) k ≡ Some y → (slice_get xs k ≡ Some y) ⊎ ((k ≡ length xs) × (x ≡ y))
+at_push [] x y zero h = inr (refl, same_Some x y h)
+at_push [] x y (suc k) h = absurd cc
+at_push (z ∷ xs) x y zero h = inl h
+at_push (z ∷ xs) x y (suc k) h = elim (at_push xs x y k h) [ inl old ↦ inl old | inr new ↦ inr (ap suc new.0, new.1) ]

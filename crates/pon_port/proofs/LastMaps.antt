@@ -1,5 +1,5 @@
 -- The last map of a chapter with one more entry.
-use Rattle.pon_history.proofs.Legality.{at_front, at_middle}
+use Rattle.pon_lists.proofs.Lists.{at_front, at_middle}
 use Rattle.std.proofs.Common.{◌≡◌, ℕ, List, [], ◌∷◌, ◌++◌, length, refl, ap, sym, ◌∙◌, subst, ◌≤◌, arith}
 use Rattle.std.specs.Prelude.{Option, Some, None}
 use Rattle.std.proofs.lemmas.List.{length-map}
@@ -21,7 +21,7 @@ use Rattle.pon_history.specs.Chapters.{Chapter}
 use Rattle.pon_history.specs.Last.{LastMap, MatchesMembers, last_map, last_told, told_last}
 use Rattle.pon_port.specs.Ports.{KeepsLast}
 use Rattle.pon_history.specs.Taking.{IsKept, with_entry}
-use Rattle.pon_demand.proofs.Dealing.{few_members}
+use Rattle.pon_demand.proofs.ClassItems.{few_members}
 use Rattle.pon_admit.specs.declared.event.Event.{Event}
 use Rattle.pon_admit.specs.declared.event.Event.TheVariants.{MakeMap}
 use Rattle.pon_state.specs.declared.reply.Reply.TheVariants.{Taken, Map}

@@ -10,6 +10,10 @@ use Rattle.pon_demand.specs.Maps.{map_of}
 use Rattle.pon_demand.specs.Rates.{planned_grants, payload}
 use Rattle.pon_demand.proofs.RosterMaps.{granted_to_row}
 use Rattle.pon_state.specs.Maps.{grants_in_map}
+use Rattle.pon_state.specs.State.{State, carry_at, input_of}
+use Rattle.pon_state.specs.Legal.{IsMade}
+use Rattle.pon_demand.specs.Sharing.{surplus_rate}
+use Rattle.pon_state.specs.declared.reply.MadeMap.{MadeMap}
 
 module _ (profile : ℕ) (s : Input) (surplus : Row → Frac) (carry : Row → ℕ) where
   -- the grants of the structures of rows are those of the rows
@@ -25,3 +29,7 @@ module _ (profile : ℕ) (s : Input) (surplus : Row → Frac) (carry : Row → �
 
   pub kept_of_map : (told : List Alloc) (gs : List Granted) → told ≡ map_of profile s surplus carry → gs ≡ planned_grants s surplus carry → gs ≡ grants_in_map s.roster told
   kept_of_map told gs same grants = grants ∙ sym window_grants ∙ ap (grants_in_map s.roster) (sym same)
+
+-- the grants of the map of a state are those that it plans
+pub planned : (s : State) (made : MadeMap) → IsMade s made → planned_grants (input_of s) (surplus_rate (input_of s) made.cert) (carry_at s) ≡ grants_in_map s.roster made.map
+planned s made m = sym (ap (grants_in_map s.roster) m.map ∙ window_grants s.profile (input_of s) (surplus_rate (input_of s) made.cert) (carry_at s))

@@ -1,6 +1,6 @@
 mod Explaining
+mod Following
 mod LastPlaces
 mod Placing
-mod Rating
 mod Retaking
 pub mod SumLaws

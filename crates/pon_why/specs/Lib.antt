@@ -1,4 +1,5 @@
 pub mod Explanations
+pub mod Followings
 pub mod Lasts
 pub mod Places
 pub mod Rates

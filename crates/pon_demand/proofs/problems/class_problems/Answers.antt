@@ -2,7 +2,7 @@ use Rattle.std.proofs.Common.{◌≡◌, ◌∙◌, refl}
 use Rattle.pon_descr.specs.declared.class.Class.TheVariants.{NonAssured, BestEffort}
 use Rattle.pon_demand.specs.Demands.{demands_of}
 use Rattle.pon_demand.specs.Sharing.{items, surplus}
-use Rattle.pon_demand.proofs.Dealing.{ids_demanded, items_demanded, problem_of, surplus_range}
+use Rattle.pon_demand.proofs.ClassItems.{ids_demanded, items_demanded, problem_of, surplus_range}
 use Rattle.pon_demand.proofs.problems.class_problems.Goals as goal
 
 pub returns : goal.returns

@@ -3,7 +3,7 @@ use Rattle.std.proofs.lemmas.List.{length-map}
 use Rattle.pon_admit.specs.Roster.{capacity}
 use Rattle.pon_admit.proofs.Rules.{few_allowed}
 use Rattle.pon_demand.specs.Demands.{demand_of}
-use Rattle.pon_demand.proofs.Dealing.{guaranteed_demanded}
+use Rattle.pon_demand.proofs.ClassItems.{guaranteed_demanded}
 use Rattle.pon_demand.proofs.RosterMaps.{guaranteed_fits}
 use Rattle.pon_demand.proofs.sharing.surplus_of.Goals as goal
 

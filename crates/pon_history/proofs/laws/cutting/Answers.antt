@@ -1,5 +1,6 @@
 use Rattle.std.proofs.Common.{◌+◌}
-use Rattle.pon_history.proofs.Legality.{legal_rest, replay_append}
+use Rattle.pon_history.proofs.Legality.{legal_rest}
+use Rattle.pon_state.proofs.Replays.{replay_append}
 use Rattle.pon_history.proofs.laws.cutting.Goals as goal
 
 pub returns : goal.returns

@@ -1,4 +1,4 @@
-use Rattle.pon_history.proofs.Legality.{replay_push}
+use Rattle.pon_state.proofs.Replays.{replay_push}
 use Rattle.pon_history.proofs.laws.replay_goes_entry_by_entry.Goals as goal
 
 pub returns : goal.returns

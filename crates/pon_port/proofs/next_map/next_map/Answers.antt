@@ -1,4 +1,4 @@
-use Rattle.pon_demand.proofs.Dealing.{certified_under}
+use Rattle.pon_demand.proofs.ClassItems.{certified_under}
 use Rattle.pon_state.specs.State.{input_of}
 use Rattle.pon_port.proofs.next_map.next_map.Goals as goal
 

@@ -1,13 +1,8 @@
--- Two definitions in a simpler form. The laws state that the two forms are equal.
-use Rattle.std.specs.Prelude.{ℕ, ◌-◌, nat_le, if◌then◌else◌, Bool, List, [], ◌∷◌, ◌++◌, map, Option, option_to_list}
-use Rattle.std.specs.List.{list_any}
-use Rattle.pon_units.specs.declared.granted.Granted.{Granted}
-use Rattle.pon_guar.specs.declared.account.Account.{Account}
-use Rattle.pon_guar.specs.declared.account.Counted.{Counted}
-use Rattle.pon_guar.specs.Reports.{latest, occupancies}
-use Rattle.pon_state.specs.Entry.{Entry}
-
 -- Reports, account by account. The words granted to each Alloc-ID from the report's frame on are given.
+use Rattle.std.specs.Prelude.{ℕ, ◌-◌, nat_le, if◌then◌else◌, List, ◌++◌, map, Option, option_to_list}
+use Rattle.pon_units.specs.declared.granted.Granted.{Granted}
+use Rattle.pon_guar.specs.Book.{Account, Counted}
+use Rattle.pon_guar.specs.Reports.{latest, occupancies}
 
 -- the reports of an Alloc-ID by its ONU for a frame's map: each occupancy, less what was granted from the frame on
 abbrev pub reports_of : (ℕ → ℕ) → ℕ → List Granted → List (Option ℕ) → ℕ → List Counted
@@ -19,10 +14,3 @@ account_reported granted frame gs occ a =
     if nat_le a.since frame
     then record { alloc_id = a.alloc_id; since = a.since; counted = latest (option_to_list a.counted ++ reports_of granted frame gs occ a.alloc_id) }
     else a
-
--- The last entry of a kind.
-
--- the entries before the last one that passes a test
-abbrev pub before_last : (Entry → Bool) → List Entry → List Entry
-before_last test [] = []
-before_last test (e ∷ es) = if list_any test es then e ∷ before_last test es else []
