@@ -26,7 +26,8 @@ use Rattle.pon_guar.specs.Window.{WindowMap}
 use Rattle.pon_guar.proofs.Frames.{leads_after}
 use Rattle.pon_state.specs.State.{State}
 use Rattle.pon_state.specs.Accounts.{AccountsFor}
-use Rattle.pon_history.specs.Chapters.{AccountIsLawful, CountedIsLawful, HasNumbersInRange, IsJustOpened, IsLawfulOpening, IsSilent, OpensFirst, Owns}
+use Rattle.pon_history.specs.Chapters.{IsJustOpened, IsLawfulOpening, OpensFirst}
+use Rattle.pon_state.specs.LawfulStates.{AccountIsLawful, CountedIsLawful, HasNumbersInRange, IsSilent, Owns}
 use Rattle.pon_record.specs.declared.row.RawRow.{RawRow}
 use Rattle.pon_record.specs.Openings.{Opening}
 use Rattle.pon_audit.specs.Openings.{AreQuiet, Fits, GrantIsOwned, IsBare, MapIsOwned, ReportIsLawful, RowIsLawful, accounts_of, admitted_row, has_row, roster_of, row_account, state_of}

@@ -4,7 +4,8 @@ ghost use Rattle.std.specs.Prelude.{◌≡◌, ◌==◌, ◌↔◌, ◌<◌, All
 ghost use Rattle.pon_admit.specs.Roster.{IsAdmitted, IsInMapOrder, comes_before};
 ghost use Rattle.pon_guar.specs.Parts.{AreParts, loads_from};
 ghost use Rattle.pon_guar.specs.Window.{AreConsecutive, frame_after};
-ghost use Rattle.pon_history.specs.Chapters.{HasNumbersInRange, IsLawfulOpening, IsSilent, OpensFirst};
+ghost use Rattle.pon_history.specs.Chapters.{IsLawfulOpening, OpensFirst};
+ghost use Rattle.pon_state.specs.LawfulStates.{HasNumbersInRange, IsSilent};
 ghost use Rattle.pon_record.specs.Openings.{KeepsLimits};
 ghost use Rattle.pon_audit.specs.Openings.{AreQuiet, Fits, GrantIsOwned, IsBare, MapIsOwned, ReportIsLawful, RowIsLawful, accounts_of, admitted_row, has_row, roster_of, row_account, row_carries, state_of};
 

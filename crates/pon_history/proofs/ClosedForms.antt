@@ -13,10 +13,12 @@ use Rattle.pon_guar.specs.declared.account.Account.{Account}
 use Rattle.pon_guar.specs.Book.{AreRising, account_of, alloc_ids, known_report, load_of, load_of_counted}
 use Rattle.pon_state.specs.Entry.{Entry}
 use Rattle.pon_state.specs.State.{State, carry_at, input_of}
-use Rattle.pon_history.specs.Chapters.{Chapter, IsLawfulChapter, present_state, IsLawfulState}
+use Rattle.pon_history.specs.Chapters.{Chapter, IsLawfulChapter, present_state}
+use Rattle.pon_state.specs.LawfulStates.{IsLawfulState}
 use Rattle.pon_history.specs.Parts.{allocs_of, admits, roster_after, roster_of, cause_after, next_of}
 use Rattle.pon_history.specs.Reports.{account_after, counted_of}
-use Rattle.pon_history.proofs.LawfulStates.{present_lawful, lawful_step}
+use Rattle.pon_history.proofs.LawfulChapters.{present_lawful}
+use Rattle.pon_state.proofs.LawfulStates.{lawful_step}
 use Rattle.pon_admit.specs.declared.row.Row.{Row}
 use Rattle.pon_admit.proofs.AdmittedSets.{changed, changed_alloc, has_alloc-changed}
 use Rattle.pon_admit.proofs.Rules.{left_over_range, left_over_same, left_over_sum}

@@ -23,7 +23,7 @@ use Rattle.pon_state.specs.Entry.{Entry}
 use Rattle.pon_demand.specs.ClassShares.{best_effort_surplus}
 use Rattle.pon_demand.proofs.ClassShares.{best_effort_alone, left_within, members_agree, non_assured_alone, spelled_rates, weighted}
 use Rattle.pon_demand.proofs.ClassItems.{problem_of, surplus_range}
-use Rattle.pon_history.proofs.LawfulStates.{lawful_before}
+use Rattle.pon_history.proofs.LawfulChapters.{lawful_before}
 use Rattle.pon_demand.proofs.RosterMaps.{admitted_map_is_sound, guaranteed_fits}
 use Rattle.pon_state.proofs.Replies.{gets_reply}
 use Rattle.pon_state.proofs.KeptMaps.{planned}

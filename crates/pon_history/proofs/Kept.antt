@@ -1,6 +1,7 @@
 -- What a port keeps, with one more entry.
 use Rattle.std.proofs.Common.{rules, ◌≡◌, ℕ, ◌+◌, ◌<◌, false, [], ◌∷◌, ◌++◌, length, take, get_or, refl, ap, sym, ◌∙◌, subst, arith}
-use Rattle.pon_history.specs.Chapters.{IsLegal, Chapter, IsLawfulOpening, IsLawfulState, cut_at}
+use Rattle.pon_history.specs.Chapters.{IsLegal, Chapter, IsLawfulOpening, cut_at}
+use Rattle.pon_state.specs.LawfulStates.{IsLawfulState}
 use Rattle.std.specs.Prelude.{None}
 use Rattle.std.proofs.lemmas.List.{length-take-le, take_more}
 use Rattle.pon_admit.specs.declared.event.Event.{Event}
@@ -20,7 +21,8 @@ use Rattle.pon_state.specs.State.{State}
 use Rattle.pon_history.specs.Taking.{IsKept, Takes, with_entry}
 use Rattle.pon_state.proofs.Replays.{replay_push}
 use Rattle.pon_history.proofs.Legality.{legal_none, legal_one_more}
-use Rattle.pon_history.proofs.LawfulStates.{lawful_step, present_lawful}
+use Rattle.pon_history.proofs.LawfulChapters.{present_lawful}
+use Rattle.pon_state.proofs.LawfulStates.{lawful_step}
 
 -- a chapter without entries, and the state that it opens with
 pub kept_none : (n : ℕ) (s : State) → IsLawfulOpening n s → IsKept (record { number = n; opening = s; entries = [] }) s

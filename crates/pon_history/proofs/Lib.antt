@@ -1,8 +1,7 @@
 pub mod ClosedForms
 pub mod FairMaps
 pub mod Kept
-pub mod LawfulAccounts
-pub mod LawfulStates
+pub mod LawfulChapters
 pub mod Legality
 pub mod OneReply
 pub mod Reports

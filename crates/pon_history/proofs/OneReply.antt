@@ -5,7 +5,7 @@ use Rattle.pon_history.specs.Taking.{Takes, with_entry}
 use Rattle.pon_admit.specs.declared.event.Event.{Event}
 use Rattle.pon_state.specs.declared.reply.Reply.{Reply}
 use Rattle.pon_history.proofs.Legality.{legal_one_more}
-use Rattle.pon_history.proofs.LawfulStates.{present_lawful}
+use Rattle.pon_history.proofs.LawfulChapters.{present_lawful}
 use Rattle.pon_state.proofs.Replies.{one_reply}
 
 -- a lawful chapter has at most one reply, and is lawful with that entry

@@ -26,7 +26,7 @@ use Rattle.pon_admit.specs.declared.row.Row.{Row}
 use Rattle.pon_state.specs.After.{after_reply, after_entry}
 use Rattle.pon_state.specs.Maps.{makes_map, grants_in_map, structures}
 use Rattle.pon_state.specs.declared.reply.Reply.{Reply}
-use Rattle.pon_history.specs.Chapters.{IsLawfulState, AccountIsLawful, Owns}
+use Rattle.pon_state.specs.LawfulStates.{IsLawfulState, AccountIsLawful, Owns}
 use Rattle.pon_history.specs.ClosedForm.{closed_form}
 use Rattle.pon_guar.proofs.Frames.{frame_there, leads_drop, GrantSame, frame_within, grants_at_all, last_grant_same}
 use Rattle.pon_history.specs.LastEntries.{before_last}

@@ -20,7 +20,7 @@ use Rattle.pon_guar.specs.ReportChecks.{with_report}
 use Rattle.pon_state.specs.After.{after_reply}
 use Rattle.pon_state.specs.Maps.{makes_map}
 use Rattle.pon_state.specs.declared.reply.Reply.{Reply}
-use Rattle.pon_history.specs.Chapters.{IsLawfulState}
+use Rattle.pon_state.specs.LawfulStates.{IsLawfulState}
 use Rattle.pon_history.specs.ClosedForm.{closed_form}
 use Rattle.pon_guar.proofs.Frames.{leads_mapped, leads_push, from_is_end}
 

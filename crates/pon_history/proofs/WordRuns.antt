@@ -29,7 +29,7 @@ use Rattle.pon_history.specs.Chapters.{Chapter, IsLawfulChapter, cut_at}
 use Rattle.pon_history.specs.ClosedForm.{closed_form}
 use Rattle.pon_history.specs.WordRuns.{GrantsWholeParts, RunsAreWhole, words_of_reply, words_since}
 use Rattle.pon_history.proofs.ClosedForms.{owed_push, sum_since_push, of_chapter}
-use Rattle.pon_history.proofs.LawfulStates.{front_lawful}
+use Rattle.pon_history.proofs.LawfulChapters.{front_lawful}
 
 -- the words of an Alloc-ID are those of its carry and its rate
 words_of_sum : (c w : Row → ℕ) (rows : List Row) (i : ℕ) → number_of rows (map (λ r. (c r + w r) / 256) rows) i ≡ (number_of rows (map c rows) i + number_of rows (map w rows) i) / 256

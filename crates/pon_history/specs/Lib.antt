@@ -6,7 +6,6 @@ pub mod FairMaps
 pub mod Last
 pub mod LastEntries
 pub mod Parts
-pub mod Ranges
 pub mod Reports
 pub mod Taking
 pub mod Windows

@@ -12,7 +12,7 @@ pub struct Chapter {
 
 impl Model for Chapter {
     ghost use Rattle.pon_history.specs.Chapters.{Chapter, IsLawfulChapter};
-    ghost use Rattle.pon_history.specs.Ranges.{IsStateInRange};
+    ghost use Rattle.pon_state.specs.Ranges.{IsStateInRange};
 
     ghost Value = { Chapter };
 
@@ -30,7 +30,7 @@ impl Model for Chapter {
 impl Chapter {
     ghost use Rattle.std.specs.Prelude.{◌≡◌};
     ghost use Rattle.pon_history.specs.Chapters.{IsLawfulChapter, IsLawfulOpening};
-    ghost use Rattle.pon_history.specs.Ranges.{IsStateInRange};
+    ghost use Rattle.pon_state.specs.Ranges.{IsStateInRange};
     ghost use Rattle.pon_history.specs.WordRuns.{RunsAreWhole};
 
     /// Makes a chapter of its number, counted from 0 in its port, the state that it opens with, and its entries, oldest

@@ -21,7 +21,7 @@ use Rattle.pon_admit.specs.declared.event.Event.TheVariants.{MakeMap}
 use Rattle.pon_state.specs.declared.reply.Reply.{Reply}
 use Rattle.pon_state.specs.declared.reply.Reply.TheVariants.{Taken, Map}
 use Rattle.pon_state.specs.declared.reply.MadeMap.{MadeMap}
-use Rattle.pon_history.proofs.LawfulStates.{present_lawful}
+use Rattle.pon_history.proofs.LawfulChapters.{present_lawful}
 
 -- each admitted set has a certificate of its map
 each_map_certificate : (s : Input) → IsAdmitted s.rule s.gap s.roster → (cert : MapCert) × IsCertified s cert

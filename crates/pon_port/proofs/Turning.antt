@@ -7,7 +7,7 @@ use Rattle.pon_history.specs.Chapters.{Chapter, chapter_after, present_state}
 use Rattle.pon_history.specs.Taking.{IsKept, Turns}
 use Rattle.pon_port.specs.Ports.{IsPort}
 use Rattle.pon_history.proofs.Kept.{kept_none}
-use Rattle.pon_history.proofs.LawfulStates.{in_range_at_present, opens_at_present}
+use Rattle.pon_history.proofs.LawfulChapters.{in_range_at_present, opens_at_present}
 
 next_kept : (c : Chapter) (s : State) → IsKept c s → IsKept (chapter_after c) s
 next_kept c s k = rw k.replayed (kept_none (c.number + 1) (present_state c) (opens_at_present c k.lawful (c.number + 1) (omega arith)))

@@ -12,7 +12,7 @@ use Rattle.pon_state.specs.declared.reply.MadeMap.{MadeMap}
 use Rattle.pon_state.specs.Entry.{Entry}
 use Rattle.pon_port.specs.declared.next_map.ReadyMap.{ReadyMap}
 use Rattle.pon_history.specs.Chapters.{Chapter}
-use Rattle.pon_history.specs.Ranges.{IsStateInRange}
+use Rattle.pon_state.specs.Ranges.{IsStateInRange}
 use Rattle.pon_history.specs.Last.{MatchesMembers, last_map}
 use Rattle.pon_history.specs.Taking.{IsKept}
 

@@ -55,7 +55,7 @@ impl Port {
     ghost use Rattle.pon_admit.specs.Roster.{IsAdmitted};
     ghost use Rattle.pon_history.specs.Chapters.{IsLawfulChapter, IsLawfulOpening, present_state};
     ghost use Rattle.pon_history.specs.Last.{MatchesMembers, last_map};
-    ghost use Rattle.pon_history.specs.Ranges.{IsStateInRange};
+    ghost use Rattle.pon_state.specs.Ranges.{IsStateInRange};
     ghost use Rattle.pon_history.specs.Taking.{Keeps, Takes, Turns, refusal_of, turn_refusal};
     ghost use Rattle.pon_port.specs.Ports.{IsReady};
     ghost use Rattle.pon_history.specs.FairMaps.{IsFairMap, TellsFairMap};

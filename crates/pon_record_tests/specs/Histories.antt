@@ -3,7 +3,7 @@ use Rattle.std.specs.Prelude.{ℕ, ◌≡◌, ◌<◌, ◌^◌, All, AllPairs, L
 use Rattle.pon_units.specs.declared.limits.TheConstants.{MAX_PORTS}
 use Rattle.pon_state.specs.Maps.{makes_map}
 use Rattle.pon_history.specs.Chapters.{Chapter, Follows, IsLawfulChapter}
-use Rattle.pon_history.specs.Ranges.{IsStateInRange}
+use Rattle.pon_state.specs.Ranges.{IsStateInRange}
 use Rattle.pon_record.specs.Chapters.{Body}
 use Rattle.pon_recorder.specs.Bodies.{chapter_body}
 

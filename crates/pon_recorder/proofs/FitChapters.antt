@@ -17,11 +17,12 @@ use Rattle.pon_state.specs.Legal.{IsReply, MayFollow}
 use Rattle.pon_state.specs.Entry.{Entry}
 use Rattle.pon_state.specs.declared.reply.Reply.{Reply}
 use Rattle.pon_state.specs.declared.reply.Reply.TheVariants.{Taken, Map}
-use Rattle.pon_history.specs.Chapters.{Chapter, IsLawfulChapter, IsLawfulState, state_before}
-use Rattle.pon_history.specs.Ranges.{IsStateInRange}
+use Rattle.pon_history.specs.Chapters.{Chapter, IsLawfulChapter, state_before}
+use Rattle.pon_state.specs.LawfulStates.{IsLawfulState}
+use Rattle.pon_state.specs.Ranges.{IsStateInRange}
 use Rattle.pon_history.specs.FairMaps.{TellsFairMap}
 use Rattle.pon_history.proofs.FairMaps.{maps_are_fair}
-use Rattle.pon_history.proofs.LawfulStates.{lawful_before}
+use Rattle.pon_history.proofs.LawfulChapters.{lawful_before}
 use Rattle.pon_record.specs.declared.version.Version.TheVariants as version
 use Rattle.pon_record.specs.Chapters.{FitsChapter, body_in, entry, reply_to}
 use Rattle.pon_record.proofs.Sizes.{body_fits_length}

@@ -19,8 +19,9 @@ use Rattle.pon_guar.specs.Book.{account_of, known_report, since_of_account}
 use Rattle.pon_guar.specs.Window.{IsLawfulMap, WindowMap, onus_polled}
 use Rattle.pon_guar.proofs.Frames.{leads_below}
 use Rattle.pon_state.specs.State.{State}
-use Rattle.pon_history.specs.Chapters.{AccountIsLawful, CountedIsLawful, IsLawfulOpening}
-use Rattle.pon_history.specs.Ranges.{AreGrantsInRange, IsGrantInRange, IsStateInRange}
+use Rattle.pon_history.specs.Chapters.{IsLawfulOpening}
+use Rattle.pon_state.specs.LawfulStates.{AccountIsLawful, CountedIsLawful}
+use Rattle.pon_state.specs.Ranges.{AreGrantsInRange, IsGrantInRange, IsStateInRange}
 use Rattle.pon_record.specs.declared.version.Version.TheVariants as version
 use Rattle.pon_record.specs.Fields.{carry_in, failure, onu_id, report, rule_in}
 use Rattle.pon_record.specs.Openings.{grant, opening_in, row_in, window_map_under}

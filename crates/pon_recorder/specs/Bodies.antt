@@ -13,7 +13,7 @@ use Rattle.pon_state.specs.State.{State}
 use Rattle.pon_state.specs.declared.reply.Reply.{Reply}
 use Rattle.pon_state.specs.declared.reply.Reply.TheVariants.{Taken, Map}
 use Rattle.pon_history.specs.Chapters.{Chapter, IsLawfulChapter}
-use Rattle.pon_history.specs.Ranges.{IsStateInRange}
+use Rattle.pon_state.specs.Ranges.{IsStateInRange}
 use Rattle.pon_record.specs.declared.limits.TheConstants.{MAX_REPORTED}
 use Rattle.pon_record.specs.declared.row.RawRow.{RawRow}
 use Rattle.pon_record.specs.declared.version.Version.TheVariants as version

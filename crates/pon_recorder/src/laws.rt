@@ -4,7 +4,7 @@ ghost use Rattle.std.specs.Prelude.{◌≡◌, ◌<◌, ◌^◌, ℕ, List};
 ghost use Rattle.std.specs.List.{AllByRecursion};
 ghost use Rattle.pon_units.specs.declared.limits.TheConstants.{MAX_PORTS};
 ghost use Rattle.pon_history.specs.Chapters.{Chapter, IsLawfulChapter};
-ghost use Rattle.pon_history.specs.Ranges.{IsStateInRange};
+ghost use Rattle.pon_state.specs.Ranges.{IsStateInRange};
 ghost use Rattle.pon_record.specs.declared.limits.TheConstants.{MAGIC_BYTES};
 ghost use Rattle.pon_record.specs.declared.fault.ReadFault.{ReadFault};
 ghost use Rattle.pon_record.specs.declared.version.Version.{Version};

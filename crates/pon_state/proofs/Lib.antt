@@ -2,6 +2,8 @@ pub mod BookIds
 pub mod CarryPlaces
 pub mod Equality
 pub mod KeptMaps
+pub mod LawfulAccounts
+pub mod LawfulStates
 pub mod Replays
 pub mod Replies
 pub mod Undone

@@ -7,7 +7,9 @@ pub mod Entry
 pub mod Events
 pub mod History
 pub mod KeptEntries
+pub mod LawfulStates
 pub mod Legal
 pub mod Maps
 pub mod Parts
+pub mod Ranges
 pub mod State

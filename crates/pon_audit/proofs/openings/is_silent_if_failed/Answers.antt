@@ -1,6 +1,6 @@
 use Rattle.std.proofs.Common.{◌≡◌, Some, rules, subst, sym}
 use Rattle.std.specs.Prelude.{IfSome}
-use Rattle.pon_history.specs.Chapters.{IsSilent}
+use Rattle.pon_state.specs.LawfulStates.{IsSilent}
 use Rattle.pon_audit.specs.Openings.{AreQuiet, state_of}
 use Rattle.pon_audit.proofs.OpenedStates.{quiet_if_silent, silent_if_quiet}
 use Rattle.pon_audit.proofs.openings.is_silent_if_failed.Goals as goal

@@ -1,7 +1,8 @@
 use Rattle.std.proofs.Common.{◌≡◌, false, rules}
 use Rattle.std.proofs.lemmas.Bool.{iff_false}
 use Rattle.pon_guar.specs.Parts.{AreParts, book_from}
-use Rattle.pon_history.specs.Chapters.{IsSilent, OpensFirst}
+use Rattle.pon_history.specs.Chapters.{OpensFirst}
+use Rattle.pon_state.specs.LawfulStates.{IsSilent}
 use Rattle.std.specs.Prelude.{IfSome}
 use Rattle.pon_admit.specs.Roster.{IsAdmitted}
 use Rattle.pon_audit.specs.Openings.{Fits, accounts_of, roster_of, state_of}

@@ -1,4 +1,4 @@
-use Rattle.pon_history.proofs.LawfulStates.{front_lawful, rest_lawful, same_end}
+use Rattle.pon_history.proofs.LawfulChapters.{front_lawful, rest_lawful, same_end}
 use Rattle.pon_history.proofs.laws.cuts_of_lawful_chapters_are_lawful.Goals as goal
 
 pub returns : goal.returns

@@ -1,4 +1,4 @@
-use Rattle.pon_history.proofs.LawfulStates.{lawful_before, present_lawful}
+use Rattle.pon_history.proofs.LawfulChapters.{lawful_before, present_lawful}
 use Rattle.pon_history.proofs.laws.lawful_chapters_hold_admitted_sets.Goals as goal
 
 pub returns : goal.returns

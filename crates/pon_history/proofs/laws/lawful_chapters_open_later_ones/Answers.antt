@@ -1,4 +1,4 @@
-use Rattle.pon_history.proofs.LawfulStates.{opens_at_present, opens_before}
+use Rattle.pon_history.proofs.LawfulChapters.{opens_at_present, opens_before}
 use Rattle.pon_history.proofs.laws.lawful_chapters_open_later_ones.Goals as goal
 
 pub returns : goal.returns

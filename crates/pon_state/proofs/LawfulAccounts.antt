@@ -14,7 +14,7 @@ use Rattle.pon_state.specs.State.{State}
 use Rattle.pon_admit.specs.declared.row.Row.{Row}
 use Rattle.pon_guar.specs.ReportChecks.{with_report}
 use Rattle.pon_state.specs.After.{after_map, after_report, with_parts}
-use Rattle.pon_history.specs.Chapters.{IsLawfulState, AccountIsLawful, Owns, CountedIsLawful}
+use Rattle.pon_state.specs.LawfulStates.{IsLawfulState, AccountIsLawful, Owns, CountedIsLawful}
 use Rattle.pon_guar.proofs.Frames.{leads_below, grants_of_one, one_of_frame, grants_at_all}
 use Rattle.pon_units.specs.declared.granted.Granted.{Granted}
 use Rattle.pon_guar.specs.AccountReports.{reports_of}

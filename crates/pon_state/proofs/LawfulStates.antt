@@ -1,6 +1,6 @@
--- The states of a lawful chapter are lawful, and in range if its opening is.
-use Rattle.std.proofs.Common.{map, ◌≡◌, ℕ, ◌-◌, ◌≤◌, false, List, [], ◌∷◌, ◌++◌, length, refl, ap, sym, subst, ◌∙◌, arith, ◌+◌, true, drop, ◌<◌, not, get_or, ◌^◌, take, rules}
-use Rattle.std.proofs.lemmas.List.{length-map, take-append-drop}
+-- Each entry that may follow leaves a lawful state, and one that is in range.
+use Rattle.std.proofs.Common.{map, ◌≡◌, ℕ, ◌-◌, ◌≤◌, false, List, [], ◌∷◌, ◌++◌, length, refl, ap, sym, subst, ◌∙◌, arith, ◌+◌, true, ◌<◌, not, get_or, ◌^◌, rules}
+use Rattle.std.proofs.lemmas.List.{length-map}
 use Rattle.pon_demand.proofs.Carries.{carry_within, carries_at}
 use Rattle.pon_demand.specs.Carries.{number_of, AreCarries, carries_of}
 use Rattle.std.specs.Prelude.{if◌then◌else◌, All, Option, Some, None, ◌==◌, nat_lt, IfSome}
@@ -10,7 +10,6 @@ use Rattle.pon_lists.proofs.Lists.{length-map, map-map, sum_by-map, list_any-map
 use Rattle.pon_guar.specs.declared.account.Account.{Account}
 use Rattle.pon_guar.specs.declared.account.Counted.{Counted}
 use Rattle.pon_guar.specs.Loads.{afresh, fresh_account, lessened, with_account, without_account}
-use Rattle.pon_guar.specs.Reports.{later}
 use Rattle.pon_guar.specs.Window.{grants_at, IsLawfulMap, WindowMap, words_among, words_to_from, IsWindow, with_map}
 use Rattle.pon_state.specs.State.{State, carry_at, input_of}
 use Rattle.pon_admit.specs.declared.event.Event.{Event}
@@ -21,7 +20,6 @@ use Rattle.pon_guar.specs.ReportChecks.{with_report, refuses_report}
 use Rattle.pon_state.specs.After.{after_reply, after_entry, admitted_carry, after_admit, after_change, after_cut, after_map, after_remove, after_report}
 use Rattle.pon_state.specs.Maps.{grants_in_map}
 use Rattle.pon_state.specs.declared.reply.Reply.{Reply}
-use Rattle.pon_history.specs.Chapters.{IsLawfulState, AccountIsLawful, Owns, Chapter, IsLawfulChapter, present_state, IsLawfulOpening, IsSilent, state_before, IsLegal, cut_at}
 use Rattle.pon_guar.proofs.Frames.{leads_mapped, leads_push, frame_there, leads_drop, leads_after, frame_within}
 use Rattle.pon_units.specs.declared.granted.Granted.{Granted}
 use Rattle.std.proofs.lemmas.List.Sums.{get_or-le-sum_by}
@@ -39,8 +37,7 @@ use Rattle.pon_demand.specs.Sharing.{surplus_rate}
 use Rattle.pon_demand.proofs.RosterMaps.{granted_to_row, one_map, in_order}
 use Rattle.pon_state.specs.declared.reply.Reply.TheVariants.{Taken, Map}
 use Rattle.pon_state.specs.declared.reply.MadeMap.{MadeMap}
-use Rattle.pon_state.specs.History.{replay}
-use Rattle.pon_history.specs.Ranges.{AreGrantsInRange, IsGrantInRange, IsStateInRange}
+use Rattle.pon_state.specs.Ranges.{AreGrantsInRange, IsGrantInRange, IsStateInRange}
 use Rattle.std.proofs.lemmas.Option.{IfSome_then}
 use Rattle.pon_descr.specs.Descriptor.{Descriptor}
 use Rattle.pon_descr.specs.declared.refusal.Refusal.TheVariants.{FrameLimit}
@@ -51,13 +48,13 @@ use Rattle.pon_demand.specs.Rates.{owed}
 use Rattle.pon_state.specs.Accounts.{AccountsFor}
 use Rattle.pon_state.specs.Carries.{carries_left}
 use Rattle.pon_state.specs.Events.{IsEvent}
-use Rattle.pon_history.proofs.Legality.{along, legal_front, legal_rest}
-use Rattle.pon_history.proofs.LawfulAccounts.{accounts_reported, fresh_lawful, admission_keeps_owner, change_keeps_owner, with_rows, account_with_rows, distinct_own, account_mapped}
+use Rattle.pon_state.proofs.LawfulAccounts.{accounts_reported, fresh_lawful, admission_keeps_owner, change_keeps_owner, with_rows, account_with_rows, distinct_own, account_mapped}
 use Rattle.pon_lists.proofs.Inserted.{All-inserted}
 use Rattle.pon_guar.proofs.AccountReports.{IsOccupancy, book_all, counted_all}
 use Rattle.pon_state.proofs.BookIds.{ids_admitted, ids_removed, ids_same}
 use Rattle.pon_state.proofs.KeptMaps.{planned}
-use Rattle.pon_state.proofs.Replays.{checks_passed, if_failed, replay_append, replay_push}
+use Rattle.pon_state.proofs.Replays.{checks_passed, if_failed}
+use Rattle.pon_state.specs.LawfulStates.{AccountIsLawful, IsLawfulState, IsSilent, Owns}
 
 -- One more entry.
 module _ (s : State) (l : IsLawfulState s) (room : s.taken_before < 2 ^ 64 - 1) where
@@ -190,7 +187,7 @@ module _ (s : State) (k : IsLawfulState s) (h : IsStateInRange s) where
             search (rules, words, k.admitted.in_range n d lt));
       })
 
-  range_step : (kept : ℕ) (v : Event) (r : Reply) → MayFollow kept s (record { event = v; reply = r }) → IsStateInRange (after_reply s v r)
+  pub range_step : (kept : ℕ) (v : Event) (r : Reply) → MayFollow kept s (record { event = v; reply = r }) → IsStateInRange (after_reply s v r)
   range_step kept (Admit u i d) r f = search (rules, All-inserted IsSmallAccount (λ b. nat_lt b.alloc_id i) (fresh_account i s.next) s.book tt h.reports)
   range_step kept (Change i d) r f = search rules
   range_step kept (Remove i) r f = search (rules, All-filter (λ a. not (a.alloc_id == i)) IsSmallAccount s.book h.reports)
@@ -208,44 +205,3 @@ module _ (s : State) (k : IsLawfulState s) (h : IsStateInRange s) where
       search (rules, All-map IsSmallAccount (lessened gs) s.book fewer, All-with_map (λ m. AreGrantsInRange m.grants) s.next gs s.window h.maps (made_in_range made f.reply))
   range_step kept (Fail cause) r f = record { rule = h.rule; cause = f.event; reports = All-map IsSmallAccount (afresh s.next) s.book (λ n d lt. tt); maps = All-nil _ }
   range_step kept Restore r f = record { rule = h.rule; cause = tt; reports = All-map IsSmallAccount (afresh s.next) s.book (λ n d lt. tt); maps = All-nil _ }
-
--- The states of a lawful chapter, and the two parts that it splits into.
-module _ (c : Chapter) (l : IsLawfulChapter c) where
-  lawful_after : (es : List Entry) → IsLegal (record { number = c.number; opening = c.opening; entries = es }) → IsLawfulState (replay c.opening es)
-  lawful_after es legal = along c.number c.opening (λ es. IsLawfulState (replay c.opening es))
-      (λ es e m l. rw (replay_push c.opening es e) (lawful_step (length es) (replay c.opening es) e m l)) [] es legal l.opening.state
-
-  pub present_lawful : IsLawfulState (present_state c)
-  present_lawful = lawful_after c.entries l.legal
-
-  -- a later chapter may open with the end
-  pub opens_at_present : (n : ℕ) → 0 < n → IsLawfulOpening n (present_state c)
-  opens_at_present n later = record { first = λ is. absurd (omega (arith, later, is)); state = present_lawful }
-
-  module _ (k : ℕ) where
-    parted : IsLegal (record { number = c.number; opening = c.opening; entries = take k c.entries ++ drop k c.entries })
-    parted = rw take-append-drop l.legal
-
-    pub front_lawful : IsLawfulChapter (cut_at c k)
-    front_lawful = record { opening = l.opening; legal = legal_front c.number c.opening (take k c.entries) (drop k c.entries) parted }
-
-    -- the second part has the same end as the whole
-    pub same_end : (n : ℕ) → present_state (record { number = n; opening = state_before c k; entries = drop k c.entries }) ≡ present_state c
-    same_end n = sym (replay_append c.opening (take k c.entries) (drop k c.entries)) ∙ ap (replay c.opening) (take-append-drop k c.entries)
-
-  pub lawful_before : (k : ℕ) → IsLawfulState (state_before c k)
-  lawful_before k = lawful_after (take k c.entries) (front_lawful k).legal
-
-  -- and with the state before any entry
-  pub opens_before : (n k : ℕ) → 0 < n → IsLawfulOpening n (state_before c k)
-  opens_before n k later = record { first = λ is. absurd (omega (arith, later, is)); state = lawful_before k }
-
-  pub rest_lawful : (k n : ℕ) → 0 < n → IsLawfulChapter (record { number = n; opening = state_before c k; entries = drop k c.entries })
-  rest_lawful k n later = record { opening = opens_before n k later; legal = legal_rest c.number n c.opening (take k c.entries) (drop k c.entries) (parted k) }
-
--- the end of a lawful chapter is in range if its opening is
-pub in_range_at_present : (c : Chapter) → IsLawfulChapter c → IsStateInRange c.opening → IsStateInRange (present_state c)
-in_range_at_present c l h =
-    (along c.number c.opening (λ es. IsLawfulState (replay c.opening es) × IsStateInRange (replay c.opening es))
-    (λ es e m p. rw (replay_push c.opening es e) (lawful_step (length es) (replay c.opening es) e m p.0, range_step (replay c.opening es) p.0 p.1 (length es) e.event e.reply m))
-    [] c.entries l.legal (l.opening.state, h)).1
