@@ -54,7 +54,7 @@ without r i = record { surplus = r.surplus - i.cap; weight = r.weight - i.weight
 pub record IsStep (is : List Item) (r : Rest) (bs : List Bool) (k : ℕ) (i : Item) : Type 0 where
   pub surplus : i.cap ≤ r.surplus
   pub weight : i.weight ≤ r.weight
-  pub rises : r.surplus * (r.weight - i.weight) ≤ (r.surplus - i.cap) * r.weight
+  pub higher : (cap weight : ℕ) → cap * r.weight ≤ weight * r.surplus → cap * (r.weight - i.weight) ≤ weight * (r.surplus - i.cap)
   pub spent : r.surplus - i.cap + saturated_caps is (set bs k true) ≡ r.surplus + saturated_caps is bs
   pub filling : IsFilling is (without r i) (set bs k true)
 
@@ -71,17 +71,18 @@ step is r bs k d f lt out heavy met =
     let left : (r.surplus - i.cap) + i.cap ≡ r.surplus = omega (arith, surplus) in
     let rest : (r.weight - i.weight) + i.weight ≡ r.weight = omega (arith, weight) in
     let rises : r.surplus * (r.weight - i.weight) ≤ (r.surplus - i.cap) * r.weight = omega (arith, met, ap (λ n. n * r.weight) left, ap (λ n. r.surplus * n) rest) in
+    let above : (c w : ℕ) → c * r.weight ≤ w * r.surplus → c * (r.weight - i.weight) ≤ w * (r.surplus - i.cap) = λ c w. higher r.surplus r.weight (r.surplus - i.cap) (r.weight - i.weight) c w (λ none. omega (arith, none)) rises in
     record {
       surplus = surplus;
       weight = weight;
-      rises = rises;
+      higher = above;
       spent = omega (arith, left, sum-set (λ p. if p.1 then p.0.cap else 0) is bs k d lt f.long out);
       filling = record {
         long = length-set bs k true ∙ f.long;
         weight = omega (arith, rest, split, f.weight);
         met = λ j e ltj flag. elim (eqb_tells j k) [
           | inl same ↦ rw (ap (λ n. get_or is n e) same.1, get_or_default is k e d lt) (omega (arith, met, ap (λ n. i.weight * n) left, ap (λ n. i.cap * n) rest))
-          | inr other ↦ higher r.surplus r.weight (r.surplus - i.cap) (r.weight - i.weight) (get_or is j e).cap (get_or is j e).weight (λ none. omega (arith, none)) rises (f.met j e ltj (sym (get_or-set_other bs k j true false other.1) ∙ flag))
+          | inr other ↦ above (get_or is j e).cap (get_or is j e).weight (f.met j e ltj (sym (get_or-set_other bs k j true false other.1) ∙ flag))
         ];
       };
     }

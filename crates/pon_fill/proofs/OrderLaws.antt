@@ -1,9 +1,8 @@
 -- Items sorted by rounded parts are in the order of cap over weight.
-use Rattle.std.proofs.Common.{◌≡◌, ℕ, ◌+◌, ◌*◌, ◌/◌, ◌<◌, ◌≤◌, Bool, true, false, List, length, get_or, set, ap, sym, ◌∙◌, inl, inr, arith, get_or-set_other, get_or-set_same}
+use Rattle.std.proofs.Common.{◌≡◌, ℕ, ◌+◌, ◌*◌, ◌/◌, ◌<◌, ◌≤◌, Bool, true, false, List, length, get_or, ap, sym, ◌∙◌, inl, inr, arith}
 use Rattle.std.specs.Prelude.{All, bit_and}
 use Rattle.std.specs.List.Sorted.{IsPermutation, IsNonDecreasingBy}
 use Rattle.std.proofs.lemmas.Bool.{cases_lt}
-use Rattle.std.proofs.lemmas.Bool.Decides.{eqb_tells}
 use Rattle.std.proofs.lemmas.List.{get_or_default}
 use Rattle.std.proofs.lemmas.List.Sorted.{All-permutation, Contains-permutation}
 use Rattle.std.proofs.lemmas.Nat.{and_mask}
@@ -65,16 +64,6 @@ in_order items keys xs ys each count long same numbers parts_of perm up =
 -- the first j items of the order are saturated
 abbrev pub IsWalked : List ℕ → ℕ → List Bool → Type 0
 IsWalked numbers j flags = (k : ℕ) → k < j → k < length numbers → get_or flags (get_or numbers k 0) false ≡ true
-
--- one more is saturated
-pub walked_more : (numbers : List ℕ) (j i : ℕ) (flags : List Bool) → i < length flags → i ≡ get_or numbers j 0 → IsWalked numbers j flags → IsWalked numbers (j + 1) (set flags i true)
-walked_more numbers j i flags lt is w k ltk ltn = elim (eqb_tells (get_or numbers k 0) i) [
-  | inl same ↦ ap (λ n. get_or (set flags i true) n false) same.1 ∙ get_or-set_same flags i true false lt
-  | inr other ↦ get_or-set_other flags i (get_or numbers k 0) true false other.1 ∙ w k (elim (cases_lt k j) [
-    | inl less ↦ less
-    | inr ge ↦ absurd (other.1 (ap (λ n. get_or numbers n 0) (let same : k ≡ j = omega (arith, ge, ltk) in same) ∙ sym is))
-  ]) ltn
-]
 
 -- a cap that is above the level is above it for each later item of the order
 later : (r : Rest) (a b : Item) → 0 < b.weight → a.weight * r.surplus < a.cap * r.weight → a.cap * b.weight ≤ b.cap * a.weight → b.weight * r.surplus < b.cap * r.weight

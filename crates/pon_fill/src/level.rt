@@ -1,4 +1,5 @@
-ghost use Rattle.std.specs.Prelude.{◌≡◌, ◌+◌, ◌≤◌, All, length};
+ghost use Rattle.std.specs.Prelude.{◌≡◌, ℕ, ◌+◌, ◌*◌, ◌<◌, ◌≤◌, false, true, All, length, slice_index_or, slice_set};
+ghost use Rattle.pon_cert.specs.declared.problem.Item.{Item};
 ghost use Rattle.pon_cert.specs.Problem.{IsItem, IsProblem};
 ghost use Rattle.pon_cert.specs.Certificate.{IsCertificate};
 ghost use Rattle.pon_fill.specs.Filling.{IsFilled, IsFilling, IsInRange, saturated_caps};
@@ -7,6 +8,30 @@ ghost use Rattle.pon_fill.specs.Order.{IsOrder};
 use crate::order::order;
 use crate::rest::Rest;
 use pon_cert::{Item, Level};
+
+// Saturates item `i`, whose cap is met at the level of `rest`. Returns what it leaves: its level is no lower, so all caps
+// that are met at the level of `rest` are met there.
+#[inline]
+fn saturate(items: &[Item], i: usize, rest: Rest, saturated: &mut [bool]) -> Rest
+    requires each { All IsItem items.now }
+    requires inside { i < length items.now }
+    requires out { slice_index_or saturated.old i false ≡ false }
+    requires met { (d : Item) → (slice_index_or items.now i d).cap * rest.weight
+        ≤ (slice_index_or items.now i d).weight * rest.surplus }
+    requires range { IsInRange rest }
+    requires filling { IsFilling items.now rest saturated.old }
+    ensures range { IsInRange result }
+    ensures less { result.weight < rest.weight }
+    ensures higher { (cap weight : ℕ) → cap * rest.weight ≤ weight * rest.surplus
+        → cap * result.weight ≤ weight * result.surplus }
+    ensures filling { IsFilling items.now result saturated.new }
+    ensures spent { result.surplus + saturated_caps items.now saturated.new
+        ≡ rest.surplus + saturated_caps items.now saturated.old }
+    ensures flags { saturated.new ≡ slice_set saturated.old i true }
+{
+    saturated[i] = true;
+    rest.without(items[i])
+}
 
 // Makes one round: saturates every item whose cap is met at the level of `rest`. Returns what they leave; if that is
 // the same weight, no other cap is met.
@@ -23,8 +48,7 @@ fn saturate_met(items: &[Item], rest: Rest, saturated: &mut [bool]) -> Rest
     let mut left = rest;
     for (i, item) in items.iter().enumerate() {
         if !saturated[i] && rest.meets(*item) {
-            saturated[i] = true;
-            left = left.without(*item);
+            left = saturate(items, i, left, saturated);
         }
     }
     left
@@ -50,8 +74,7 @@ fn saturate_sorted(items: &[Item], numbers: &[u16], rest: Rest, saturated: &mut 
             if !left.meets(item) {
                 return left;
             }
-            saturated[i] = true;
-            left = left.without(item);
+            left = saturate(items, i, left, saturated);
         }
     }
     left

@@ -8,8 +8,8 @@ invariant-loop-i l = record {
   range : IsInRange l.left;
   filling : IsFilling l.items l.left l.saturated;
   spent : l.left.surplus + saturated_caps l.items l.saturated ≡ l.rest.surplus + saturated_caps l.items l.initial.saturated;
-  rises : l.rest.surplus * l.left.weight ≤ l.left.surplus * l.rest.weight;
+  higher : (cap weight : ℕ) → cap * l.rest.weight ≤ weight * l.rest.surplus → cap * l.left.weight ≤ weight * l.left.surplus;
   less : l.left.weight ≤ l.rest.weight;
   same : l.left.weight ≡ l.rest.weight → l.left ≡ l.rest;
-  filled : l.left.weight ≡ l.rest.weight → (k : ℕ) (d : Item) → k < l.i → k < length l.items → get_or l.saturated k false ≡ false → (get_or l.items k d).weight * l.left.surplus < (get_or l.items k d).cap * l.left.weight;
+  above : (k : ℕ) (d : Item) → k < l.i → k < length l.items → get_or l.saturated k false ≡ false → (get_or l.items k d).weight * l.rest.surplus < (get_or l.items k d).cap * l.rest.weight;
 }
