@@ -1,4 +1,1 @@
-pub mod MapRows
 pub mod MapRules
-mod Packed
-pub mod SoundMaps

@@ -16,6 +16,7 @@ pub fn grants_in_map_order_have_sound_bursts()
 {}
 
 /// Their structures are a map if there are at most 512 of them, and at most 16 of each ONU.
+#[tactic(auto, using(crate::proofs::MapRules::is_map_of_rising))]
 pub fn map_rules()
     ensures { (gap profile : ℕ) (gs : List Granted) → AreInMapOrder gs
         → ((u : ℕ) → count_by (λ g. g.onu == u) gs ≤ MAX_SERIES) → length gs ≤ MAX_STRUCTURES

@@ -12,7 +12,7 @@ use Rattle.pon_units.specs.Frac.{Frac}
 use Rattle.pon_lists.proofs.Lists.{map-map, sum_by-map}
 use Rattle.pon_burst.specs.Bursts.{AreSound}
 use Rattle.pon_burst.specs.Maps.{frame_words}
-use Rattle.pon_burst.proofs.SoundMaps.{sound_of_rising}
+use Rattle.pon_burst.proofs.MapRules.{sound_of_rising}
 use Rattle.pon_descr.specs.Descriptor.{promised}
 use Rattle.pon_admit.specs.Roster.{IsAdmitted, IsInMapOrder, capacity, comes_before, max_carry, onus_of, overhead, overhead_words, promised_sum}
 use Rattle.pon_admit.specs.declared.row.Row.{Row}

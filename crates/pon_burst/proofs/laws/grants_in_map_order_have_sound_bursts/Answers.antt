@@ -1,4 +1,4 @@
-use Rattle.pon_burst.proofs.SoundMaps.{sound_of_rising}
+use Rattle.pon_burst.proofs.MapRules.{sound_of_rising}
 use Rattle.pon_burst.proofs.laws.grants_in_map_order_have_sound_bursts.Goals as goal
 
 pub returns : goal.returns

@@ -1,8 +1,24 @@
-use Rattle.std.proofs.Common.{◌+◌, ◌≤◌, ◌++◌, drop, length, map, take}
+use Rattle.std.proofs.Common.{◌≡◌, ℕ, ◌+◌, ◌≤◌, List, ◌++◌, drop, length, map, take}
 use Rattle.std.specs.Prelude.{All}
+use Rattle.pon_units.specs.declared.Granted.{Granted}
+use Rattle.pon_bwmap.specs.Alloc.{Alloc}
+use Rattle.pon_burst.specs.declared.layout.Layout.{Layout}
+use Rattle.pon_burst.specs.Layout.{IsAfter}
+use Rattle.pon_burst.specs.Maps.{structure_of}
 use Rattle.pon_burst.specs.Series.{grants_of_series}
-use Rattle.pon_burst.proofs.Packed.{Packed, granted_of}
 use Rattle.pon_burst.proofs.packing.pack.Given as goal
+
+-- the grant of an Alloc-ID of the ONU
+abbrev pub granted_of : ℕ → ℕ × ℕ → Granted
+granted_of u a = record { onu = u; alloc_id = a.0; words = a.1 }
+
+-- the structures of all grants but the rest are written
+pub record Packed (gap profile : ℕ) (gs rest : List Granted) (l : Layout) (filled : ℕ) (out old : List Alloc) : Type 0 where
+  pub count : filled + length rest ≡ length gs
+  pub left : drop filled gs ≡ rest
+  pub after : IsAfter gap (take filled gs) l
+  pub structures : take filled out ≡ map (structure_of gap profile gs) (take filled gs)
+  pub kept : drop filled out ≡ drop filled old
 
 abbrev pub invariant-loop-onu : goal.invariant-loop-onu
 invariant-loop-onu l = record {
