@@ -82,7 +82,7 @@ pub carries_removed : (i k : ℕ) (x : Row) (rows : List Row) (carries : List �
 carries_removed i k x rows carries s same =
     ap (λ l. remove l k) (sym (carries_each rows carries s.apart same)) ∙ sym (map-remove (λ q. number_of rows carries q.alloc_id) rows k) ∙ ap (carries_of (number_of rows carries)) (remove_found i k x rows s)
 
--- a number that an Alloc-ID without a row has
+-- an Alloc-ID without a row has the number 0
 pub number_absent : (i : ℕ) (rows : List Row) (ns : List ℕ) → has_alloc i rows ≡ false → number_of rows ns i ≡ 0
 number_absent i [] ns h = refl
 number_absent i (r ∷ rows) [] h = refl

@@ -1,4 +1,4 @@
--- A state has at most one reply to an event: no two certificates of its map are accepted.
+-- A lawful chapter has at most one reply to an event, and is lawful with that entry.
 use Rattle.std.proofs.Common.{◌≡◌, ap, sym, ◌∙◌, subst}
 use Rattle.pon_history.specs.Chapters.{Chapter, IsLawfulChapter, present_state}
 use Rattle.pon_history.specs.Taking.{Takes, with_entry}
@@ -8,7 +8,6 @@ use Rattle.pon_history.proofs.Legality.{legal_one_more}
 use Rattle.pon_history.proofs.LawfulChapters.{present_lawful}
 use Rattle.pon_state.proofs.Replies.{one_reply}
 
--- a lawful chapter has at most one reply, and is lawful with that entry
 pub one_taken : (c d e : Chapter) (v : Event) (a b : Reply) → IsLawfulChapter c → Takes c v a d → Takes c v b e → (a ≡ b) × (d ≡ e)
 one_taken c d e v a b l p q =
     let same : a ≡ b = one_reply (present_state c) (present_lawful c l).admitted v a b p.follows.reply q.follows.reply in

@@ -1,4 +1,4 @@
--- Only `MakeMap` gets a map.
+-- Only `MakeMap` gets a map, and a state has at most one reply to an event.
 use Rattle.std.proofs.Common.{◌≡◌, refl, sym, subst, ap, ◌∙◌}
 use Rattle.pon_admit.specs.declared.event.Event.{Event}
 use Rattle.pon_admit.specs.declared.event.Event.TheVariants.{Admit, Change, Remove, Report, MakeMap, Fail, Restore}
@@ -26,6 +26,7 @@ gets_reply s (Report frame onu occ) reply h = gets_taken (Report frame onu occ) 
 gets_reply s (Fail cause) reply h = gets_taken (Fail cause) reply h
 gets_reply s Restore reply h = gets_taken Restore reply h
 
+-- a state has at most one reply: no two certificates of its map are accepted
 module _ (s : State) (k : IsAdmitted s.rule s.gap s.roster) where
   one_made : (a b : MadeMap) → IsMade s a → IsMade s b → a ≡ b
   one_made a b p q =
