@@ -1,6 +1,5 @@
-use Rattle.std.proofs.Common.{◌≡◌, ◌∙◌, ◌+◌, ◌/◌, ◌≤◌, ap, arith, rules, subst, ℕ}
+use Rattle.std.proofs.Common.{◌≡◌, ◌∙◌, ap, rules, ℕ}
 use Rattle.std.proofs.lemmas.List.Elements.{All-nil, All-push}
-use Rattle.pon_units.specs.declared.limits.TheConstants.{LINE_RATE}
 use Rattle.pon_guar.specs.Book.{load_of}
 use Rattle.pon_demand.specs.Sharing.{surplus_rate}
 use Rattle.pon_demand.proofs.Planning.{one_more, row_of}
