@@ -42,6 +42,9 @@ impl Gate for Both {
     }
 }
 
+// What a worker reads, and what it writes.
+type Line = (MemRead, MemWrite);
+
 // The seat of a worker, how it ended, and what it wrote.
 type Done<L, M> = (Seat<L, M>, WorkerEnd, MemWrite);
 
@@ -52,9 +55,9 @@ fn serve<L: Ledger, M: Ledger, G: Gate, R: Wait>(
     mut seat: Seat<L, M>,
     port: PortNo,
     gate: &G,
-    mut reader: MemRead,
-    mut writer: MemWrite,
+    line: Line,
 ) -> Done<L, M> {
+    let (mut reader, mut writer) = line;
     let mut pace = Turns::new(2);
     let end = serve_port(
         rt,
@@ -70,12 +73,9 @@ fn serve<L: Ledger, M: Ledger, G: Gate, R: Wait>(
     (seat, end, writer)
 }
 
-fn input(rt: &impl Abort, alloc: Global) -> MemRead {
-    MemRead::new(bursts(rt, alloc, 2), 7, Vec::new(alloc))
-}
-
-fn output(alloc: Global) -> MemWrite {
-    MemWrite::new(alloc, 7, Vec::new(alloc))
+fn line(rt: &impl Abort, alloc: Global) -> Line {
+    let reader = MemRead::new(bursts(rt, alloc, 2), 7, Vec::new(alloc));
+    (reader, MemWrite::new(alloc, 7, Vec::new(alloc)))
 }
 
 fn serve_both<L: Ledger + Send + Sync, M: Ledger + Send + Sync, R: Threads + Wait + Abort + Sync>(
@@ -90,12 +90,11 @@ fn serve_both<L: Ledger + Send + Sync, M: Ledger + Send + Sync, R: Threads + Wai
     };
     let held = &gate;
     let (first, second) = (number(rt, 0), number(rt, 1));
-    let (from, other_from) = (input(rt, alloc), input(rt, alloc));
-    let (to, other_to) = (output(alloc), output(alloc));
+    let (line, other) = (line(rt, alloc), line(rt, alloc));
     thread::join(
         rt,
-        move || serve(rt, desk, one, first, held, from, to),
-        move || serve(rt, desk, two, second, held, other_from, other_to),
+        move || serve(rt, desk, one, first, held, line),
+        move || serve(rt, desk, two, second, held, other),
     )
 }
 

@@ -179,16 +179,14 @@ fn products_do_not_wrap(rt: HostRuntime) {
     }
 }
 
-// Judges a certificate of both classes, which have these items and share 30 kbit/s; `None` if there is no problem, or
-// memory is refused.
+// Judges a certificate of both classes, each a level and flags; the classes have these items and share 30 kbit/s. `None` if
+// there is no problem, or memory is refused.
 fn map_judged(
     alloc: Global,
     na: &[Item],
     be: &[Item],
-    na_level: Level,
-    na_flags: &[bool],
-    be_level: Level,
-    be_flags: &[bool],
+    na_cert: (Level, &[bool]),
+    be_cert: (Level, &[bool]),
 ) -> Option<Result<(), MapCertFault>> {
     if !is_problem(na, 30) {
         return None;
@@ -196,11 +194,9 @@ fn map_judged(
     if !is_problem(be, 30) {
         return None;
     }
-    let na_class = class(alloc, na_level, na_flags)?;
-    let be_class = class(alloc, be_level, be_flags)?;
     let cert = MapCert {
-        na: na_class,
-        be: be_class,
+        na: class(alloc, na_cert.0, na_cert.1)?,
+        be: class(alloc, be_cert.0, be_cert.1)?,
     };
     Some(check_map(na, be, 30, &cert))
 }
@@ -231,7 +227,8 @@ fn nothing_left_to_best_effort(rt: HostRuntime) {
     ];
     for (na_level, be_level, wanted) in cases {
         let met = [true, true, false];
-        let told = map_judged(rt.alloc(), &na, &be, na_level, &met, be_level, &[false]);
+        let (na_cert, be_cert) = ((na_level, met.as_slice()), (be_level, [false].as_slice()));
+        let told = map_judged(rt.alloc(), &na, &be, na_cert, be_cert);
         assert!(rt;
             told == Some(wanted),
             "{na_level:?}, {be_level:?}: {told:?}"
@@ -252,7 +249,8 @@ fn surplus_less_the_caps_to_best_effort(rt: HostRuntime) {
     ];
     let na = [item(1, 10)];
     for (level, flags, wanted) in cases {
-        let told = map_judged(rt.alloc(), &na, &be, Level::All, &[true], level, flags);
+        let na_cert = (Level::All, [true].as_slice());
+        let told = map_judged(rt.alloc(), &na, &be, na_cert, (level, flags));
         assert!(rt; told == Some(wanted), "{level:?}, {flags:?}: {told:?}");
     }
 }

@@ -39,6 +39,14 @@ fn names_the_place_and_the_rule(rt: HostRuntime) {
             "[[port]]\ngap = 0\ngaps = 1",
             "  port 0: unknown key \"gaps\"",
         ),
+    ] {
+        assert!(rt; is_told(rt.alloc(), text, wanted), "{text}");
+    }
+}
+
+#[test]
+fn names_the_place_in_a_port(rt: HostRuntime) {
+    for (text, wanted) in [
         (
             "[[port]]\ngap = 1\ngaps = 1\nqueues = 1",
             "  port 0: unknown key \"gaps\"",

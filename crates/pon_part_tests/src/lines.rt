@@ -61,6 +61,14 @@ fn tells_the_first_check_that_fails(rt: HostRuntime) {
         (b"0 admit x 1024 0 0 0".as_slice(), LineFault::WordCount),
         (b"0 admit 5 1023 x 0 0 none".as_slice(), LineFault::BadField),
         (b"0 admit 5 1023 0 0 0 NA".as_slice(), LineFault::BadField),
+    ] {
+        assert!(rt; fault_of(line) == Some(fault), "at {line:?}");
+    }
+}
+
+#[test]
+fn tells_the_first_check_that_fails_after_an_admission(rt: HostRuntime) {
+    for (line, fault) in [
         (b"0 change 1023 x 0 0".as_slice(), LineFault::WordCount),
         (b"0 change 1023 0 0 x na".as_slice(), LineFault::BadField),
         (b"0 remove x 1".as_slice(), LineFault::WordCount),
@@ -83,7 +91,7 @@ fn tells_the_first_check_that_fails(rt: HostRuntime) {
 }
 
 #[test]
-fn tells_what_the_port_would_refuse_of_the_numbers(rt: HostRuntime) {
+fn tells_what_the_port_would_refuse_of_an_admission(rt: HostRuntime) {
     for (line, refusal) in [
         (
             b"0 admit 1023 1023 2488321 0 0 none".as_slice(),
@@ -109,6 +117,15 @@ fn tells_what_the_port_would_refuse_of_the_numbers(rt: HostRuntime) {
             b"0 admit 5 1024 0 0 9 na".as_slice(),
             Refusal::NeedsGuarantee,
         ),
+    ] {
+        let fault = fault_of(line);
+        assert!(rt; fault == Some(LineFault::Port(refusal)), "at {line:?}");
+    }
+}
+
+#[test]
+fn tells_what_the_port_would_refuse_of_other_numbers(rt: HostRuntime) {
+    for (line, refusal) in [
         (
             b"0 change 1023 2488321 0 0 be".as_slice(),
             Refusal::AllocRange,
@@ -118,10 +135,8 @@ fn tells_what_the_port_would_refuse_of_the_numbers(rt: HostRuntime) {
         (b"0 why 1023".as_slice(), Refusal::AllocRange),
         (b"0 why 16384".as_slice(), Refusal::AllocRange),
     ] {
-        assert!(rt;
-            fault_of(line) == Some(LineFault::Port(refusal)),
-            "at {line:?}"
-        );
+        let fault = fault_of(line);
+        assert!(rt; fault == Some(LineFault::Port(refusal)), "at {line:?}");
     }
 }
 

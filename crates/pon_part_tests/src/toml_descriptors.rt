@@ -16,7 +16,7 @@ fn reads_four_keys(rt: HostRuntime) {
 }
 
 #[test]
-fn tells_a_field_before_a_refusal(rt: HostRuntime) {
+fn tells_the_refusal_of_a_descriptor(rt: HostRuntime) {
     for (text, wanted) in [
         (
             "fixed = 2488321\nassured = 0\nmax = 0\nclass = \"none\"\n",
@@ -30,29 +30,23 @@ fn tells_a_field_before_a_refusal(rt: HostRuntime) {
             "fixed = 1\nassured = 0\nmax = 0\nclass = \"none\"\n",
             DescrFault::Refused(Refusal::MaxBelowGuaranteed),
         ),
-        (
-            "fixed = 1\nassured = 0\nclass = \"none\"\n",
-            DescrFault::Field,
-        ),
-        (
-            "fixed = -1\nassured = 0\nmax = 0\nclass = \"none\"\n",
-            DescrFault::Field,
-        ),
-        (
-            "fixed = 0\nassured = 0.0\nmax = 0\nclass = \"none\"\n",
-            DescrFault::Field,
-        ),
-        (
-            "fixed = 2488321\nassured = 0\nmax = 0\nclass = \"best\"\n",
-            DescrFault::Field,
-        ),
-        (
-            "fixed = 0\nassured = 0\nmax = 0\nclass = 1\n",
-            DescrFault::Field,
-        ),
-        ("", DescrFault::Field),
     ] {
         let told = read(rt.alloc(), text);
         assert!(rt; told == Some(Err(wanted)), "{text}: {told:?}");
+    }
+}
+
+#[test]
+fn tells_a_field_before_a_refusal(rt: HostRuntime) {
+    for text in [
+        "",
+        "fixed = 1\nassured = 0\nclass = \"none\"\n",
+        "fixed = -1\nassured = 0\nmax = 0\nclass = \"none\"\n",
+        "fixed = 0\nassured = 0.0\nmax = 0\nclass = \"none\"\n",
+        "fixed = 2488321\nassured = 0\nmax = 0\nclass = \"best\"\n",
+        "fixed = 0\nassured = 0\nmax = 0\nclass = 1\n",
+    ] {
+        let told = read(rt.alloc(), text);
+        assert!(rt; told == Some(Err(DescrFault::Field)), "{text}: {told:?}");
     }
 }

@@ -325,16 +325,15 @@ fn assert_report_refusal(
     assert!(rt; told == wanted, "frame {frame}, ONU {owner}: {told:?}");
 }
 
-// Expects a report to be refused: `report_refusal` returns the same refusal, and nothing changes.
+// Expects a report of a frame, an ONU and occupancies to be refused: `report_refusal` returns the same refusal, and nothing changes.
 fn assert_refused(
     rt: &impl Abort,
     loads: &mut Loads,
     copy: &Loads,
-    frame: u64,
-    owner: u16,
-    occupancies: &[Option<BufOcc>],
+    report: (u64, u16, &[Option<BufOcc>]),
     wanted: &Refusal,
 ) {
+    let (frame, owner, occupancies) = report;
     assert_report_refusal(rt, loads, frame, owner, occupancies.len(), Some(*wanted));
     assert_reported(rt, loads, frame, owner, occupancies, Err(*wanted));
     assert_same(rt, loads, copy);
@@ -359,7 +358,8 @@ fn refuses_reports_by_the_first_check(rt: HostRuntime) {
         (2, 5, &words[..2], Refusal::ReportCount),
         (2, 5, &words[..1], Refusal::AlreadyReported),
     ] {
-        assert_refused(&rt, &mut loads, &copy, frame, owner, occupancies, &wanted);
+        let report = (frame, owner, occupancies);
+        assert_refused(&rt, &mut loads, &copy, report, &wanted);
     }
     assert_report_refusal(&rt, &loads, 3, 5, 1, None);
     report(&rt, &mut loads, 3, 100);
