@@ -10,7 +10,7 @@ use Rattle.std.proofs.lemmas.List.Folds.{list_any-append}
 use Rattle.std.proofs.lemmas.List.Sums.{sum_by-cons}
 use Rattle.pon_descr.specs.Descriptor.{Descriptor, IsLawful, promised}
 use Rattle.pon_lists.specs.Distinct.{distinct}
-use Rattle.pon_units.specs.declared.limits.TheConstants.{MAX_ONUS, MAX_SERIES}
+use Rattle.pon_units.specs.declared.limits.TheConstants.{MAX_ONUS, MAX_SERIES, FRAME_WORDS}
 use Rattle.pon_admit.specs.Roster.{IsAdmitted, IsDistinct, IsInMapOrder, IsInRange, Row, Rule, admit_checks, capacity, change_checks, comes_before, fits, has_alloc, has_onu, max_allocs, onus_of, overhead, overhead_words, owned, promised_sum, refuses_admit, refuses_change, with_descriptor, with_row, without}
 use Rattle.pon_descr.specs.declared.refusal.Refusal.TheVariants.{AllocTaken, TooManyAllocs, TooManyOnus, SeriesFull, Capacity}
 use Rattle.pon_descr.proofs.Checks.{AreNone, none_refuses, when_none}
@@ -157,21 +157,21 @@ onus_filter t (r ∷ rows) p = elim (t r) as (λ b. count_once (onus (cond b (r 
 
 -- Sets that fit a frame.
 
-pub fits_parts : (rule : Rule) (gap : ℕ) (rows : List Row) → fits rule gap rows ≡ true → (overhead rule gap rows ≤ 9720) × (promised_sum rows ≤ 256 * capacity rule gap rows)
+pub fits_parts : (rule : Rule) (gap : ℕ) (rows : List Row) → fits rule gap rows ≡ true → (overhead rule gap rows ≤ FRAME_WORDS) × (promised_sum rows ≤ 256 * capacity rule gap rows)
 fits_parts rule gap rows h =
-    let two : (nat_le (overhead rule gap rows) 9720 ≡ true) × (nat_le (promised_sum rows) (256 * capacity rule gap rows) ≡ true) = and_parts _ _ h in
+    let two : (nat_le (overhead rule gap rows) FRAME_WORDS ≡ true) × (nat_le (promised_sum rows) (256 * capacity rule gap rows) ≡ true) = and_parts _ _ h in
     (leb-true _ _ two.0, leb-true _ _ two.1)
 
 -- a set with no more ONUs, rows and promised rates fits too
 fewer_fit : (rule : Rule) (gap : ℕ) (rows less : List Row) → length (onus_of less) ≤ length (onus_of rows) → length less ≤ length rows → promised_sum less ≤ promised_sum rows →
     fits rule gap rows ≡ true → fits rule gap less ≡ true
 fewer_fit rule gap rows less few_onus few_rows few_promised h =
-    let two : (overhead rule gap rows ≤ 9720) × (promised_sum rows ≤ 256 * capacity rule gap rows) = fits_parts rule gap rows h in
+    let two : (overhead rule gap rows ≤ FRAME_WORDS) × (promised_sum rows ≤ 256 * capacity rule gap rows) = fits_parts rule gap rows h in
     let a : (gap + 2) * length (onus_of less) ≤ (gap + 2) * length (onus_of rows) = mul-le-mul_left (gap + 2) few_onus in
     let b : (overhead_words rule) * length less ≤ (overhead_words rule) * length rows = mul-le-mul_left (overhead_words rule) few_rows in
     let c : overhead rule gap less ≤ overhead rule gap rows = omega (arith, a, b) in
-    and_from (nat_le (overhead rule gap less) 9720) (nat_le (promised_sum less) (256 * capacity rule gap less))
-    (le-leb (overhead rule gap less) 9720 (omega (arith, c, two.0)))
+    and_from (nat_le (overhead rule gap less) FRAME_WORDS) (nat_le (promised_sum less) (256 * capacity rule gap less))
+    (le-leb (overhead rule gap less) FRAME_WORDS (omega (arith, c, two.0)))
     (le-leb (promised_sum less) (256 * capacity rule gap less) (omega (arith, c, two.1, few_promised)))
 
 -- A row is removed.

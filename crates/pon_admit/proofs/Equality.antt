@@ -12,6 +12,8 @@ use Rattle.pon_descr.specs.declared.class.Class.{Class}
 use Rattle.pon_descr.specs.declared.class.Class.TheVariants.{Plain, NonAssured, BestEffort}
 use Rattle.pon_descr.specs.contracts.descriptor.DescriptorPartialEq.TheImpl as descriptor_eq
 use Rattle.pon_descr.specs.Descriptor.{Descriptor}
+use Rattle.pon_admit.specs.contracts.row.RowPartialEq.TheImpl as row_eq
+use Rattle.pon_admit.specs.declared.row.Row.{Row}
 use Rattle.pon_admit.specs.contracts.event.EventPartialEq.TheImpl as event_eq
 use Rattle.pon_admit.specs.declared.event.Event.{Event}
 use Rattle.pon_admit.specs.declared.event.Event.TheVariants.{Admit, Change, Remove, Report, MakeMap, Fail, Restore}
@@ -40,12 +42,15 @@ options_decide same each (Some x) (Some y) = (λ e. ap Option.Some ((each x y).0
 reports_decide : (xs ys : List (Option ℕ)) → Decides (pointwise (option_eq ◌==◌) xs ys) (xs ≡ ys)
 reports_decide xs ys = slice_eq-Decides (options_decide ◌==◌ unsigned_Decides) xs ys _ refl
 
-pub events_decide : (a b : Event) → Decides ((event_eq.ghosts).eq a b) (a ≡ b)
-events_decide (Admit onu alloc descriptor) (Admit onu' alloc' descriptor') =
-    let parts = Decides-and _ _ (unsigned_Decides onu onu') (Decides-and _ _ (unsigned_Decides alloc alloc') (descriptors_decide descriptor descriptor')) in (
-      λ e. let p = parts.0 e in (λ i. Admit (p.0 i) (p.1.0 i) (p.1.1 i)),
-      λ e. parts.1 (cc, (cc, cc)),
+rows_decide : (a b : Row) → Decides ((row_eq.ghosts).eq a b) (a ≡ b)
+rows_decide a b =
+    let parts = Decides-and _ _ (unsigned_Decides a.onu b.onu) (Decides-and _ _ (unsigned_Decides a.alloc_id b.alloc_id) (descriptors_decide a.descriptor b.descriptor)) in (
+      λ e. let p = parts.0 e in (λ i. record { onu = p.0 i; alloc_id = p.1.0 i; descriptor = p.1.1 i }),
+      λ e. parts.1 (ap (λ r. r.onu) e, (ap (λ r. r.alloc_id) e, ap (λ r. r.descriptor) e)),
     )
+
+pub events_decide : (a b : Event) → Decides ((event_eq.ghosts).eq a b) (a ≡ b)
+events_decide (Admit row) (Admit row') = (λ e. ap Admit ((rows_decide row row').0 e), λ e. (rows_decide row row').1 cc)
 events_decide (Change alloc descriptor) (Change alloc' descriptor') =
     let parts = Decides-and _ _ (unsigned_Decides alloc alloc') (descriptors_decide descriptor descriptor') in (
       λ e. let p = parts.0 e in (λ i. Change (p.0 i) (p.1 i)),

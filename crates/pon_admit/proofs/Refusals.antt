@@ -64,10 +64,10 @@ module _ {t : Roster} {r : Row} {rule : Rule} {g n s : ℕ} {rows seen : List Ro
   too_many : (new : ℕ) → new ≡ bool_byte (owns == 0) → (nat_le MAX_ONUS (length (onus_of rows)) && not (has_onu r.onu rows)) ≡ nat_lt 128 (n + new)
   too_many new e =
       (λ i. nat_le MAX_ONUS (sym h.kept.sums.onus i) && (not-has_onu r.onu rows ∙ ap (λ m. m == 0) (sym owns-is)) i)
-      ∙ step (owns == 0) (subst (λ m. m ≤ 128) (sym h.kept.sums.onus) h.kept.admitted.few_onus)
+      ∙ step (owns == 0) (subst (λ m. m ≤ MAX_ONUS) (sym h.kept.sums.onus) h.kept.admitted.few_onus)
       ∙ ap (λ m. nat_lt 128 (n + m)) (sym (e ∙ byte_bit (owns == 0)))
     where
-      step : (b : Bool) → n ≤ 128 → (nat_le MAX_ONUS n && b) ≡ nat_lt 128 (n + bit b)
+      step : (b : Bool) → n ≤ MAX_ONUS → (nat_le MAX_ONUS n && b) ≡ nat_lt 128 (n + bit b)
       step true few = elim (cases_lt n 128) [
         | inl lt ↦ ap (λ b. b && true) (lt-leb 128 n lt) ∙ sym (le-ltb 128 (n + 1) (omega (arith, lt)))
         | inr le ↦ ap (λ b. b && true) (le-leb 128 n le) ∙ sym (lt-ltb 128 (n + 1) (omega (arith, le)))
@@ -100,12 +100,12 @@ module _ {t : Roster} {r : Row} {rule : Rule} {g n s : ℕ} {rows seen : List Ro
       by_tests false true (nat_le MAX_SERIES (owned r.onu rows)) (not (fits rule g (with_row r rows))) (short few) (too_many new e ∙ lt-ltb 128 (n + new) many) refl refl
       ∙ ap (λ b. first_refusal_of (when b AllocTaken ∷ when true TooManyOnus ∷ when (nat_le MAX_SERIES (owned r.onu rows)) SeriesFull ∷ when (not (fits rule g (with_row r rows))) Capacity ∷ [])) free
 
-  pub refuses_series : taken ≡ false → len < max_allocs rule → (new : ℕ) → new ≡ bool_byte (owns == 0) → n + new ≤ 128 → 16 ≤ owns → refuses_admit t.rule t.gap t.rows r ≡ Some SeriesFull
+  pub refuses_series : taken ≡ false → len < max_allocs rule → (new : ℕ) → new ≡ bool_byte (owns == 0) → n + new ≤ MAX_ONUS → 16 ≤ owns → refuses_admit t.rule t.gap t.rows r ≡ Some SeriesFull
   refuses_series free few new e room many =
       by_tests false false true (not (fits rule g (with_row r rows))) (short few) (too_many new e ∙ le-ltb 128 (n + new) room) (le-leb 16 (owned r.onu rows) (omega (arith, many, owns-is))) refl
       ∙ ap (λ b. first_refusal_of (when b AllocTaken ∷ when true SeriesFull ∷ when (not (fits rule g (with_row r rows))) Capacity ∷ [])) free
 
-  pub refuses_unfit : taken ≡ false → len < max_allocs rule → (new s' : ℕ) → new ≡ bool_byte (owns == 0) → n + new ≤ 128 → owns < 16 → s' ≡ s + promised r.descriptor →
+  pub refuses_unfit : taken ≡ false → len < max_allocs rule → (new s' : ℕ) → new ≡ bool_byte (owns == 0) → n + new ≤ MAX_ONUS → owns < MAX_SERIES → s' ≡ s + promised r.descriptor →
       (b : Bool) → sums_fit rule g (n + new) (len + 1) s' ≡ b → refuses_admit t.rule t.gap t.rows r ≡ when (not b) Capacity
   refuses_unfit free few new s' e room short_series more b fitting =
       let longer : len + 1 ≡ length (with_row r rows) = omega (arith, allocs-is, length-with_row r rows h.kept.admitted.in_map_order) in

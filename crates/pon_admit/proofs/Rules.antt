@@ -1,5 +1,6 @@
 -- The ranges of the overhead and of the number of Alloc-IDs under each rule.
 use Rattle.std.proofs.Common.{◌≡◌, ℕ, ◌+◌, ◌*◌, ◌≤◌, refl, arith}
+use Rattle.pon_units.specs.declared.limits.TheConstants.{MAX_STRUCTURES}
 use Rattle.pon_admit.specs.Roster.{Rule, left_over, max_allocs, max_carry, overhead_words}
 use Rattle.pon_admit.specs.declared.rule.Rule.TheVariants.{DropRemainders, CarryRemainders}
 
@@ -9,7 +10,7 @@ some_overhead DropRemainders = omega arith
 some_overhead CarryRemainders = omega arith
 
 -- a rule allows at most as many Alloc-IDs as a map has structures
-pub few_allowed : (rule : Rule) → max_allocs rule ≤ 512
+pub few_allowed : (rule : Rule) → max_allocs rule ≤ MAX_STRUCTURES
 few_allowed DropRemainders = omega arith
 few_allowed CarryRemainders = omega arith
 

@@ -1,3 +1,4 @@
+use crate::row::Row;
 use pon_dbru::Occupancies;
 use pon_descr::{Cause, Descriptor};
 use pon_units::{AllocId, FrameNo, OnuId};
@@ -6,11 +7,7 @@ use pon_units::{AllocId, FrameNo, OnuId};
 #[derive(Debug, PartialEq, Eq, Drop)]
 pub enum Event {
     /// An Alloc-ID of an ONU is admitted with a descriptor.
-    Admit {
-        onu: OnuId,
-        alloc_id: AllocId,
-        descriptor: Descriptor,
-    },
+    Admit(Row),
     /// An admitted Alloc-ID gets another descriptor; it keeps its report.
     Change {
         alloc_id: AllocId,
@@ -44,15 +41,7 @@ impl Event {
         ensures { result ≡ self.now }
     {
         match self {
-            Event::Admit {
-                onu,
-                alloc_id,
-                descriptor,
-            } => Event::Admit {
-                onu: *onu,
-                alloc_id: *alloc_id,
-                descriptor: *descriptor,
-            },
+            Event::Admit(row) => Event::Admit(*row),
             Event::Change {
                 alloc_id,
                 descriptor,

@@ -95,7 +95,7 @@ one_entry_fault k s e w v (inr a) (inr b) = one_reply_fault s e.reply w v a.1 b.
 reply_holds : (s : State) (v : Event) (r : Reply) (w : AuditReason) → IsReply s v r → ReplyFails s r w → ⊥
 reply_holds s v Taken w i f = f
 reply_holds s event.MakeMap (Map m) w i f = made_holds s m w i f
-reply_holds s (event.Admit u a d) (Map m) w i f = absurd cc
+reply_holds s (event.Admit row) (Map m) w i f = absurd cc
 reply_holds s (event.Change a d) (Map m) w i f = absurd cc
 reply_holds s (event.Remove a) (Map m) w i f = absurd cc
 reply_holds s (event.Report n u occ) (Map m) w i f = absurd cc

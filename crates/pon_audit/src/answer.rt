@@ -31,9 +31,7 @@ fn write_line<W: DevWrite>(
     ensures write { TellsWrite (W.failures writer.old) (W.failures writer.new) result }
     ensures no_read { result ≢ Err Read }
 {
-    let Ok(line) = line_of(alloc, verdict) else {
-        return Err(DeviceFault::Memory);
-    };
+    let line = line_of(alloc, verdict)?;
     match write_text(writer, line.as_bytes()) {
         Ok(()) => Ok(verdict.is_good()),
         Err(_) => Err(DeviceFault::Write),

@@ -43,9 +43,7 @@ impl Auditing {
         ensures begins { IfOk result (BeginsAudit (R.remaining reader.old) (R.remaining reader.new)) }
         ensures failures { TellsFailure (R.failures reader.old) (R.failures reader.new) result }
     {
-        let Ok(audit) = Audit::open(alloc) else {
-            return Err(DeviceFault::Memory);
-        };
+        let audit = Audit::open(alloc)?;
         match ChapterReader::open(alloc, reader) {
             Ok(source) => Ok(Ok(Auditing { source, audit })),
             Err(StreamFault::BadFormat { at }) => Ok(Err(Verdict::BadFormat { at })),
@@ -83,10 +81,7 @@ impl Auditing {
             → HasRead start self.old batch.now left → GoesOn start self.new left found) }
         ensures err { IfErr result (λ fault. fault ≡ Memory) }
     {
-        match self.audit.take_batch(rt, alloc, batch) {
-            Ok(found) => Ok(found),
-            Err(_) => Err(DeviceFault::Memory),
-        }
+        Ok(self.audit.take_batch(rt, alloc, batch)?)
     }
 
     /// As [`Auditing::judge`], with the answers on the chapters, each regardless of those before it.
@@ -101,10 +96,7 @@ impl Auditing {
             → HasRead start self.old batch.now left → GoesOn start self.new left found) }
         ensures err { IfErr result (λ fault. fault ≡ Memory) }
     {
-        match self.audit.take_answered_batch(batch, answers) {
-            Ok(found) => Ok(found),
-            Err(_) => Err(DeviceFault::Memory),
-        }
+        Ok(self.audit.take_answered_batch(batch, answers)?)
     }
 
     /// Reads and judges the next chapters, as [`Auditing::read`] and [`Auditing::judge`] do.

@@ -55,7 +55,10 @@ fn are_same_carries(raws: &[RawRow], carries: &[u8]) -> bool
 fn has_account(raw: &RawRow, loads: &Loads) -> bool
     ensures { IsTrue result ↔ HasAccount loads.now.accounts raw.now }
 {
-    loads.since(raw.alloc_id) == Some(raw.since) && loads.counted(raw.alloc_id) == raw.counted
+    match loads.account(raw.alloc_id) {
+        Some(account) => account.since == raw.since && account.counted == raw.counted,
+        None => false,
+    }
 }
 
 // Returns whether a report book has the account of each recorded row.
@@ -93,17 +96,16 @@ fn is_same_map(raw: &RawMap, map: &WindowMap) -> bool
         && are_same_onus(&raw.reported, map.reported())
 }
 
-// Returns whether recorded maps are the window of a report book.
-fn is_same_window(raws: &[RawMap], loads: &Loads) -> bool
-    ensures { IsTrue result ↔ (raws.now ≡ loads.now.window) }
+// Returns whether recorded maps are those of a window.
+fn is_same_window(raws: &[RawMap], maps: &[WindowMap]) -> bool
+    ensures { IsTrue result ↔ (raws.now ≡ maps.now) }
 {
-    if raws.len() != loads.window_len() {
+    if raws.len() != maps.len() {
         return false;
     }
     for place in 0..raws.len() {
-        match loads.window_at(place) {
-            Some(map) if is_same_map(&raws[place], map) => {}
-            _ => return false,
+        if !is_same_map(&raws[place], &maps[place]) {
+            return false;
         }
     }
     true
@@ -130,7 +132,7 @@ fn has_parts(opening: &Opening, state: &PortState) -> bool
         && are_same_rows(&opening.rows, state.roster().rows())
         && are_same_carries(&opening.rows, state.carries())
         && has_accounts(&opening.rows, state.loads())
-        && is_same_window(&opening.window, state.loads())
+        && is_same_window(&opening.window, state.loads().window().maps())
 }
 
 /// Returns whether a chapter opens with the state at the end of another. It compares the opening with that state once.

@@ -23,8 +23,8 @@ use pon_cert::MapCert;
 use pon_check::check_map;
 use pon_demand::{MapBuffers, Problems};
 use pon_state::{
-    Entry, EntryRef, MadeMap, MapUnder, PortState, Reply, add_map, map_under, next_problems,
-    prove_in_range, refusal_of, step,
+    Entry, EntryRef, MadeMap, MapUnder, PortState, Reply, add_map, check, map_under, next_problems,
+    prove_in_range, step,
 };
 use std::alloc::{AllocError, Global};
 
@@ -171,7 +171,7 @@ pub fn take_map(
         × (state.new ≡ after_entry state.old (map_entry made.now)))
         (EntryFails kept state.old (map_entry made.now))) }
 {
-    if refusal_of(state, kept, &Event::MakeMap).is_some() {
+    if check(state, kept, &Event::MakeMap).is_err() {
         return Ok(Some(AuditReason::Event));
     }
     match problems {
@@ -204,11 +204,11 @@ pub fn take_entry(
             take_map(alloc, buffers, state, kept, made, problems)
         }
         EntryRef::Taken(event) => {
-            if refusal_of(state, kept, event).is_some() {
+            let Ok(checked) = check(state, kept, event) else {
                 return Ok(Some(AuditReason::Event));
-            }
+            };
             prove_in_range(event);
-            step(state, event)?;
+            step(state, &checked)?;
             Ok(None)
         }
     }

@@ -242,8 +242,8 @@ fn is_owned(rows: &[Row], loads: &Loads, frame: FrameNo, granted: &Granted) -> b
     requires { IsInMapOrder rows.now }
     ensures { IsTrue result ↔ GrantIsOwned rows.now loads.now.accounts frame granted.now }
 {
-    match loads.since(granted.alloc_id) {
-        Some(since) if since <= frame => has_row(rows, granted.onu, granted.alloc_id),
+    match loads.account(granted.alloc_id) {
+        Some(account) if account.since <= frame => has_row(rows, granted.onu, granted.alloc_id),
         _ => true,
     }
 }

@@ -1,6 +1,7 @@
 -- Bytes have at most one first fault as a map.
 use Rattle.std.proofs.Common.{◌≡◌, ℕ, ◌<◌, ◌≤◌, List, length, drop, All, Some, None, inl, inr, refl, ap, sym, ◌∙◌, subst, arith}
 use Rattle.std.proofs.lemmas.Bool.{cases_lt}
+use Rattle.pon_units.specs.declared.limits.TheConstants.{MAX_STRUCTURES}
 use Rattle.pon_lists.specs.Bytes.{AreBytes}
 use Rattle.pon_lists.proofs.Bytes.{bytes-drop, bytes-from_All}
 use Rattle.pon_xgtc.specs.Header.{IsHeaderFault}
@@ -97,9 +98,9 @@ one_end bytes count f g are (Read rows corrected r e) (Read rows2 corrected2 r2 
 
 -- the outcomes after the head: too many structures, too few bytes, or a fault of the structures
 pub data HeadEnd (bytes : List ℕ) (head : HLend) (f : MapFault) : Type 0 where
-  Many : 512 < head.n → f ≡ TooMany → HeadEnd bytes head f
-  Cut : head.n ≤ 512 → length bytes < map_size head → f ≡ Short → HeadEnd bytes head f
-  Rows : head.n ≤ 512 → map_size head ≤ length bytes → IsRowsFirstFault (drop 4 bytes) head.n f → HeadEnd bytes head f
+  Many : MAX_STRUCTURES < head.n → f ≡ TooMany → HeadEnd bytes head f
+  Cut : head.n ≤ MAX_STRUCTURES → length bytes < map_size head → f ≡ Short → HeadEnd bytes head f
+  Rows : head.n ≤ MAX_STRUCTURES → map_size head ≤ length bytes → IsRowsFirstFault (drop 4 bytes) head.n f → HeadEnd bytes head f
 
 -- the outcomes of reading a map: no whole head, a head that is lost, or a head that reads
 pub data MapEnd (bytes : List ℕ) (f : MapFault) : Type 0 where

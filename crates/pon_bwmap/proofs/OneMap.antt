@@ -41,8 +41,8 @@ same_start None None ls lt e = refl
 
 same_structure : (a b : Alloc) → FitsStructure a → FitsStructure b → structure_payload a ≡ structure_payload b → a ≡ b
 same_structure a b fa fb e =
-    let ra : start_field a.start < 65536 = omega (arith, start_small a.start fa.start) in
-    let rb : start_field b.start < 65536 = omega (arith, start_small b.start fb.start) in
+    let ra : start_field a.start < 2 ^ 16 = omega (arith, start_small a.start fa.start) in
+    let rb : start_field b.start < 2 ^ 16 = omega (arith, start_small b.start fb.start) in
     let id : a.id ≡ b.id = omega (arith, e, flag_small a.dbru, flag_small b.dbru, flag_small a.ploam, flag_small b.ploam, ra, rb, fa.grant, fb.grant, flag_small a.fwi, flag_small b.fwi, fa.profile, fb.profile) in
     let dbru : flag_bit a.dbru ≡ flag_bit b.dbru = omega (arith, e, id, flag_small a.ploam, flag_small b.ploam, ra, rb, fa.grant, fb.grant, flag_small a.fwi, flag_small b.fwi, fa.profile, fb.profile) in
     let ploam : flag_bit a.ploam ≡ flag_bit b.ploam = omega (arith, e, id, dbru, ra, rb, fa.grant, fb.grant, flag_small a.fwi, flag_small b.fwi, fa.profile, fb.profile) in

@@ -4,7 +4,7 @@ use Rattle.std.specs.Prelude.{slice_get, if◌then◌else◌, is_none}
 use Rattle.std.proofs.lemmas.Bool.{cases_lt, le-ltb, lt-leb}
 use Rattle.std.proofs.lemmas.Option.{slice_get_within}
 use Rattle.std.proofs.Math.Dec.{eqb-suc-zero}
-use Rattle.pon_units.specs.declared.limits.TheConstants.{FRAME_WORDS}
+use Rattle.pon_units.specs.declared.limits.TheConstants.{FRAME_WORDS, MAX_SERIES}
 use Rattle.pon_bwmap.specs.Alloc.{Alloc}
 use Rattle.pon_bwmap.specs.MapRules.{place_in_series, continues, start_fault, row_fault, IsMap, KeepsSeriesRules}
 use Rattle.pon_bwmap.specs.declared.fault.MapFault.TheVariants.{StartRange}
@@ -55,13 +55,13 @@ not_seventeen rows k (Some a) map here on = no_start a.start on (nothing_at rows
     no_start (Some start) on e = absurd (cc)
     no_start None on e = short k None (place_in_series rows k) (λ h. absurd (cc)) e
 
-no_long_series : (rows : List Alloc) (k : ℕ) → IsMap rows → ((j : ℕ) → j < 16 → continues (slice_get rows (k + j)) ≡ true) → ⊥
+no_long_series : (rows : List Alloc) (k : ℕ) → IsMap rows → ((j : ℕ) → j < MAX_SERIES → continues (slice_get rows (k + j)) ≡ true) → ⊥
 no_long_series rows zero map all =
     let on : continues (slice_get rows 0) ≡ true = all 0 (omega arith) in
     let off = first_starts rows (slice_get rows 0) map refl in
     absurd (cc)
 no_long_series rows (suc k) map all =
-    let later : (j : ℕ) → j < 16 → continues (slice_get rows (k + suc j)) ≡ true = λ j lt. (let e : k + suc j ≡ suc k + j = omega arith in rw e (all j lt)) in
+    let later : (j : ℕ) → j < MAX_SERIES → continues (slice_get rows (k + suc j)) ≡ true = λ j lt. (let e : k + suc j ≡ suc k + j = omega arith in rw e (all j lt)) in
     absurd (omega (arith, goes_on rows k 16 later, not_seventeen rows (k + 16) (slice_get rows (k + 16)) map refl (later 15 (omega arith))))
 
 -- ---- from the rules to maps

@@ -2,7 +2,7 @@
 use Rattle.std.proofs.Common.{◌≡◌, ℕ, zero, suc, ◌+◌, ◌-◌, ◌<◌, ◌≤◌, Bool, true, false, leb, ltb, List, length, get_or, Option, Some, None, IsNone, IsSome, IfSome, refl, ap, sym, ◌∙◌, arith, rules}
 use Rattle.std.specs.Prelude.{slice_get, if◌then◌else◌, is_none, is_some, eqb}
 use Rattle.std.proofs.lemmas.Option.{slice_get_read}
-use Rattle.pon_units.specs.declared.limits.TheConstants.{FRAME_WORDS}
+use Rattle.pon_units.specs.declared.limits.TheConstants.{FRAME_WORDS, MAX_STRUCTURES}
 use Rattle.pon_bwmap.specs.Alloc.{Alloc}
 use Rattle.pon_bwmap.specs.MapRules.{place_in_series, continues, start_fault, row_fault, FirstKeepRules, IsMap, IsRowsFault}
 use Rattle.pon_bwmap.specs.declared.fault.MapFault.{MapFault}
@@ -63,7 +63,7 @@ pub keep_more : (rows : List Alloc) (k : ℕ) → FirstKeepRules rows k → row_
 keep_more rows k before here i lt = grind (arith, before i)
 
 -- the first structure with a fault
-first_fault_at : (rows : List Alloc) (k : ℕ) (start : Option ℕ) (place : ℕ) → length rows ≤ 512 → k < length rows → FirstKeepRules rows k → row_fault rows k ≡ start_fault k start place
+first_fault_at : (rows : List Alloc) (k : ℕ) (start : Option ℕ) (place : ℕ) → length rows ≤ MAX_STRUCTURES → k < length rows → FirstKeepRules rows k → row_fault rows k ≡ start_fault k start place
     → IfSome (start_fault k start place) (IsRowsFault rows)
 first_fault_at rows k (Some s) place count within before here = by_test (leb FRAME_WORDS s) here
   where
@@ -78,7 +78,7 @@ first_fault_at rows k None place count within before here = by_tests (eqb k 0) (
     by_tests false true here = record { count = count; within = within; before = before; here = here }
     by_tests false false here = tt
 
-pub first_fault : (rows : List Alloc) (k : ℕ) (start : Option ℕ) (place : ℕ) (fault : Option MapFault) → length rows ≤ 512 → k < length rows → FirstKeepRules rows k → row_fault rows k ≡ fault
+pub first_fault : (rows : List Alloc) (k : ℕ) (start : Option ℕ) (place : ℕ) (fault : Option MapFault) → length rows ≤ MAX_STRUCTURES → k < length rows → FirstKeepRules rows k → row_fault rows k ≡ fault
     → fault ≡ start_fault k start place → IfSome fault (IsRowsFault rows)
 first_fault rows k start place fault count within before here found = rw found (first_fault_at rows k start place count within before (here ∙ found))
 

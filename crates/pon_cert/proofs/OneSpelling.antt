@@ -6,6 +6,7 @@ use Rattle.std.proofs.lemmas.Bool.{and_parts, eqb-true, ltb-false, ltb-true}
 use Rattle.std.proofs.lemmas.List.{length-drop, length-take, take-append-drop}
 use Rattle.std.proofs.lemmas.Nat.{be_bytes_2, be_bytes_8}
 use Rattle.std.proofs.Math.Seq.{take-append_seam}
+use Rattle.pon_cert.specs.declared.problem.TheConstants.{MAX_ITEMS}
 use Rattle.pon_lists.specs.Bytes.{AreBytes}
 use Rattle.pon_lists.specs.ResultSteps.{◌>>=◌}
 use Rattle.pon_lists.proofs.Bytes.{bytes-front, bytes-back}
@@ -160,7 +161,7 @@ class_read bytes c rest are e =
     let numbers : l.value.1 ≡ to_be_bytes w16 (length flags.value.0) ++ (map flag_byte flags.value.0 ++ flags.value.1)
     = count_so.spelled ∙ (λ i. to_be_bytes w16 (sym flags_so.count i) ++ flags_so.spelled i) in
     let whole : bytes ≡ class_bytes (record { level = l.value.0; saturated = flags.value.0 }) ++ flags.value.1 = rw (append_assoc, append_assoc) (level_so.spelled ∙ ap (λ (xs : List ℕ). level_bytes l.value.0 ++ xs) numbers) in
-    let few : length flags.value.0 ≤ 512 = omega (arith, flags_so.count, ltb-true count.value.0 513 known.0) in
+    let few : length flags.value.0 ≤ MAX_ITEMS = omega (arith, flags_so.count, ltb-true count.value.0 513 known.0) in
     let still : AreBytes flags.value.1 = bytes-back (map flag_byte flags.value.0) flags.value.1 (subst AreBytes flags_so.spelled count_so.still) in
     subst (λ (p : ClassCert × List ℕ). Spells (FitsClass p.0) (class_bytes p.0) bytes p.1) pair (record { fits = record { level = level_so.fits; count = few }; spelled = whole; still = still })
 

@@ -8,6 +8,8 @@ use Rattle.std.specs.Str.Parse.{digits_value}
 use Rattle.std.proofs.lemmas.Bool.{and_parts, leb-true, ltb-true}
 use Rattle.std.proofs.lemmas.List.{length-drop, length-take-le}
 use Rattle.std.proofs.lemmas.Slice.Eq.{bytes_eq-Decides}
+use Rattle.pon_cert.specs.declared.problem.TheConstants.{MAX_ITEMS}
+use Rattle.pon_units.specs.declared.limits.TheConstants.{LINE_RATE}
 use Rattle.pon_lists.specs.OptionSteps.{◌>>=◌}
 use Rattle.pon_text.specs.Cuts.{cut_at, follows}
 use Rattle.pon_text.specs.Lines.{is_numeral, number_of}
@@ -64,27 +66,27 @@ surplus_short : (l : List ℕ) (s : ℕ) → surplus_of l ≡ Some s → length 
 unfolding surplus_of
 surplus_short l s e = go (follows (codes "surplus ") l) refl e
   where
-    go : (o : Option (List ℕ)) → follows (codes "surplus ") l ≡ o → (o >>= number_within 0 2488320) ≡ Some s → length l ≤ 28
+    go : (o : Option (List ℕ)) → follows (codes "surplus ") l ≡ o → (o >>= number_within 0 LINE_RATE) ≡ Some s → length l ≤ 28
     go None is e = absurd (cc)
-    go (Some w) is e = omega (arith, follows_short (codes "surplus ") l w is, within_short 0 2488320 w s e)
+    go (Some w) is e = omega (arith, follows_short (codes "surplus ") l w is, within_short 0 LINE_RATE w s e)
 
 item_short : (l : List ℕ) (i : Item) → item_on_line l ≡ Some i → length l ≤ 46
 unfolding item_on_line
 item_short l i e = go (follows (codes "item ") l) refl e
   where
-    two : (v w : List ℕ) (o q : Option ℕ) → number_within 1 2488320 v ≡ o → number_within 0 2488320 w ≡ q →
+    two : (v w : List ℕ) (o q : Option ℕ) → number_within 1 LINE_RATE v ≡ o → number_within 0 LINE_RATE w ≡ q →
         (o >>= λ weight. q >>= λ cap. Some (record { weight = weight; cap = cap })) ≡ Some i → length v + length w ≤ 40
     two v w None q a b e = absurd (cc)
     two v w (Some m) None a b e = absurd (cc)
-    two v w (Some m) (Some n) a b e = omega (arith, within_short 1 2488320 v m a, within_short 0 2488320 w n b)
+    two v w (Some m) (Some n) a b e = omega (arith, within_short 1 LINE_RATE v m a, within_short 0 LINE_RATE w n b)
 
     parts : (w : List ℕ) (o : Option (List ℕ × List ℕ)) → cut_at 32 w ≡ o →
-        (o >>= λ parts. number_within 1 2488320 parts.0 >>= λ weight. number_within 0 2488320 parts.1 >>= λ cap. Some (record { weight = weight; cap = cap })) ≡ Some i → length w ≤ 41
+        (o >>= λ parts. number_within 1 LINE_RATE parts.0 >>= λ weight. number_within 0 LINE_RATE parts.1 >>= λ cap. Some (record { weight = weight; cap = cap })) ≡ Some i → length w ≤ 41
     parts w None is e = absurd (cc)
-    parts w (Some p) is e = omega (arith, cut_short 32 w p is, two p.0 p.1 (number_within 1 2488320 p.0) (number_within 0 2488320 p.1) refl refl e)
+    parts w (Some p) is e = omega (arith, cut_short 32 w p is, two p.0 p.1 (number_within 1 LINE_RATE p.0) (number_within 0 LINE_RATE p.1) refl refl e)
 
     go : (o : Option (List ℕ)) → follows (codes "item ") l ≡ o →
-        (o >>= λ numbers. cut_at 32 numbers >>= λ parts. number_within 1 2488320 parts.0 >>= λ weight. number_within 0 2488320 parts.1 >>= λ cap. Some (record { weight = weight; cap = cap })) ≡ Some i → length l ≤ 46
+        (o >>= λ numbers. cut_at 32 numbers >>= λ parts. number_within 1 LINE_RATE parts.0 >>= λ weight. number_within 0 LINE_RATE parts.1 >>= λ cap. Some (record { weight = weight; cap = cap })) ≡ Some i → length l ≤ 46
     go None is e = absurd (cc)
     go (Some w) is e = omega (arith, follows_short (codes "item ") l w is, parts w (cut_at 32 w) refl e)
 
@@ -148,7 +150,7 @@ few_indexes k [] = omega arith
 few_indexes k (true ∷ fs) = omega (arith, few_indexes (suc k) fs)
 few_indexes k (false ∷ fs) = omega (arith, few_indexes (suc k) fs)
 
-set_short : (n : ℕ) (set : List ℕ) (fs : List Bool) → n ≤ 512 → flags_from 0 n (parts_of set) ≡ Some fs → length set ≤ 10751
+set_short : (n : ℕ) (set : List ℕ) (fs : List Bool) → n ≤ MAX_ITEMS → flags_from 0 n (parts_of set) ≡ Some fs → length set ≤ 10751
 set_short n set fs few e = go (bytes_eq set (codes "-")) refl e
   where
     go : (b : Bool) → bytes_eq set (codes "-") ≡ b → flags_from 0 n (if b then [] else slice_split (λ b. b == 44) set) ≡ Some fs → length set ≤ 10751
@@ -157,7 +159,7 @@ set_short n set fs few e = go (bytes_eq set (codes "-")) refl e
         let written = (sets_name_items n (slice_split (λ b. b == 44) set) fs).0 e in
         omega (arith, few, written.0, parts_total set, numbers_total (slice_split (λ b. b == 44) set) (indexes_from 0 fs) written.1, few_indexes 0 fs)
 
-flags_short : (n : ℕ) (l : List ℕ) (fs : List Bool) → n ≤ 512 → flags_of n l ≡ Some fs → length l ≤ 10761
+flags_short : (n : ℕ) (l : List ℕ) (fs : List Bool) → n ≤ MAX_ITEMS → flags_of n l ≡ Some fs → length l ≤ 10761
 unfolding flags_of
 flags_short n l fs few e = go (follows (codes "saturated ") l) refl e
   where

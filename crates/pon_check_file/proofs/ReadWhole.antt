@@ -1,6 +1,8 @@
 -- A file that parses is a class problem.
 use Rattle.std.proofs.Common.{◌≡◌, ℕ, ◌+◌, ◌≤◌, Bool, List, [], ◌∷◌, length, drop, refl, subst, Option, Some, None, Result, Ok, Err}
 use Rattle.std.proofs.lemmas.List.Elements.{All-from_recursion}
+use Rattle.pon_cert.specs.declared.problem.TheConstants.{MAX_ITEMS}
+use Rattle.pon_units.specs.declared.limits.TheConstants.{LINE_RATE}
 use Rattle.pon_lists.specs.ResultSteps.{◌>>=◌}
 use Rattle.pon_cert.specs.declared.problem.Item.{Item}
 use Rattle.pon_cert.specs.declared.cert.Level.{Level}
@@ -41,10 +43,10 @@ read_is_problem ls f e = at_surplus (first_spells surplus_of ls) refl e
     at_surplus : (o : Option ℕ) → first_spells surplus_of ls ≡ o → (on_line 1 o >>= λ s. file_with s (items_of (drop 1 ls)) (drop (length (items_of (drop 1 ls))) (drop 1 ls))) ≡ Ok f → IsProblem f.items f.surplus
     at_surplus None is e = absurd (cc)
     at_surplus (Some s) is e =
-        let r = row 512 (drop 1 ls) in
+        let r = row MAX_ITEMS (drop 1 ls) in
         behind_read s (items_of (drop 1 ls)) (drop (length (items_of (drop 1 ls))) (drop 1 ls)) f
         (record {
           count = r.count;
           each = All-from_recursion IsItem (items_of (drop 1 ls)) (items_read r.lines (items_of (drop 1 ls)) r.are_items);
-          surplus_range = first_read (λ s. s ≤ 2488320) surplus_of surplus_range ls s is;
+          surplus_range = first_read (λ s. s ≤ LINE_RATE) surplus_of surplus_range ls s is;
         }) e

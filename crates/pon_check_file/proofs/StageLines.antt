@@ -1,6 +1,7 @@
 -- How a line changes each stage of a check file.
 use Rattle.std.proofs.Common.{◌≡◌, ℕ, zero, suc, ◌+◌, ◌-◌, ◌<◌, Bool, List, [], ◌∷◌, ◌++◌, length, take, drop, refl, ap, sym, ◌∙◌, arith, append_assoc, Option, Some, None, Result, Ok, Err}
 use Rattle.std.proofs.lemmas.List.{append-nil, length_push}
+use Rattle.pon_cert.specs.declared.problem.TheConstants.{MAX_ITEMS}
 use Rattle.pon_lists.specs.ResultSteps.{◌>>=◌}
 use Rattle.pon_cert.specs.declared.problem.Item.{Item}
 use Rattle.pon_cert.specs.declared.cert.Level.{Level}
@@ -22,13 +23,13 @@ unfolding file_of with_surplus behind_items
 one_surplus l s ls e = ap (with_surplus ls) e
 
 -- ---- an item
-pub one_item : (s : ℕ) (is : List Item) (l : List ℕ) (i : Item) (ls : List (List ℕ)) → length is < 512 → item_on_line l ≡ Some i → behind_items s is (l ∷ ls) ≡ behind_items s (is ++ i ∷ []) ls
+pub one_item : (s : ℕ) (is : List Item) (l : List ℕ) (i : Item) (ls : List (List ℕ)) → length is < MAX_ITEMS → item_on_line l ≡ Some i → behind_items s is (l ∷ ls) ≡ behind_items s (is ++ i ∷ []) ls
 unfolding behind_items
 one_item s is l i ls few e =
-    let k : ℕ = 512 - length (is ++ i ∷ []) in
+    let k : ℕ = MAX_ITEMS - length (is ++ i ∷ []) in
     let row : List Item = items_in_row ls in
-    let count : 512 - length is ≡ suc k = omega (arith, few, length_push is i) in
-    ap (λ o. file_with s (is ++ take (512 - length is) (and_others o row)) (drop (length (take (512 - length is) (and_others o row))) (l ∷ ls))) e
+    let count : MAX_ITEMS - length is ≡ suc k = omega (arith, few, length_push is i) in
+    ap (λ o. file_with s (is ++ take (MAX_ITEMS - length is) (and_others o row)) (drop (length (take (MAX_ITEMS - length is) (and_others o row))) (l ∷ ls))) e
     ∙ ap (λ n. file_with s (is ++ take n (i ∷ row)) (drop (length (take n (i ∷ row))) (l ∷ ls))) count
     ∙ ap (λ xs. file_with s xs (drop (length (take k row)) ls)) (sym (append_assoc is (i ∷ []) (take k row)))
 
@@ -37,17 +38,17 @@ nothing : (k : ℕ) (o : Option Item) (is : List Item) → (0 < k → o ≡ None
 nothing zero o is none = refl
 nothing (suc k) o is none = ap (λ o. take (suc k) (and_others o is)) (none (omega arith))
 
-at_level : (s : ℕ) (is : List Item) (l : List ℕ) (ls : List (List ℕ)) → (length is < 512 → item_on_line l ≡ None) → behind_items s is (l ∷ ls) ≡ file_with s is (l ∷ ls)
+at_level : (s : ℕ) (is : List Item) (l : List ℕ) (ls : List (List ℕ)) → (length is < MAX_ITEMS → item_on_line l ≡ None) → behind_items s is (l ∷ ls) ≡ file_with s is (l ∷ ls)
 unfolding behind_items
 at_level s is l ls none =
-    ap (λ t. file_with s (is ++ t) (drop (length t) (l ∷ ls))) (nothing (512 - length is) (item_on_line l) (items_in_row ls) (λ m. none (omega (arith, m))))
+    ap (λ t. file_with s (is ++ t) (drop (length t) (l ∷ ls))) (nothing (MAX_ITEMS - length is) (item_on_line l) (items_in_row ls) (λ m. none (omega (arith, m))))
     ∙ ap (λ xs. file_with s xs (l ∷ ls)) (append-nil is)
 
-pub no_level : (s : ℕ) (is : List Item) (l : List ℕ) (ls : List (List ℕ)) → (length is < 512 → item_on_line l ≡ None) → level_on_line l ≡ None → behind_items s is (l ∷ ls) ≡ Err (length is + 1 + 1)
+pub no_level : (s : ℕ) (is : List Item) (l : List ℕ) (ls : List (List ℕ)) → (length is < MAX_ITEMS → item_on_line l ≡ None) → level_on_line l ≡ None → behind_items s is (l ∷ ls) ≡ Err (length is + 1 + 1)
 unfolding file_with
 no_level s is l ls none e = at_level s is l ls none ∙ ap (with_level s is (l ∷ ls)) e ∙ ap Err (let n : length is + 2 ≡ length is + 1 + 1 = omega arith in n)
 
-pub one_level : (s : ℕ) (is : List Item) (l : List ℕ) (level : Level) (ls : List (List ℕ)) → (length is < 512 → item_on_line l ≡ None) → level_on_line l ≡ Some level → behind_items s is (l ∷ ls) ≡ behind_level s is level ls
+pub one_level : (s : ℕ) (is : List Item) (l : List ℕ) (level : Level) (ls : List (List ℕ)) → (length is < MAX_ITEMS → item_on_line l ≡ None) → level_on_line l ≡ Some level → behind_items s is (l ∷ ls) ≡ behind_level s is level ls
 unfolding file_with behind_level
 one_level s is l level ls none e = at_level s is l ls none ∙ ap (with_level s is (l ∷ ls)) e
 
@@ -77,7 +78,7 @@ one_empty f n (b ∷ l) ls none = absurd (omega (arith, none))
 -- ---- the end of the file
 pub ends_at_items : (s : ℕ) (is : List Item) → behind_items s is [] ≡ Err (length is + 2)
 unfolding behind_items file_with
-ends_at_items s is = go (512 - length is)
+ends_at_items s is = go (MAX_ITEMS - length is)
   where
     go : (k : ℕ) → file_with s (is ++ take k []) (drop (length (take {A = Item} k [])) []) ≡ Err (length is + 2)
     go zero = ap (λ xs. file_with s xs []) (append-nil is)

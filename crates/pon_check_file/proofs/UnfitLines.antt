@@ -3,6 +3,7 @@ use Rattle.std.proofs.Common.{◌≡◌, ◌⊎◌, ℕ, zero, suc, ◌+◌, ◌
 use Rattle.std.specs.Prelude.{◌↔◌, codes, if◌then◌else◌, get_or}
 use Rattle.std.specs.Str.{bytes_eq}
 use Rattle.std.proofs.lemmas.Slice.Eq.{bytes_eq-Decides}
+use Rattle.pon_cert.specs.declared.problem.TheConstants.{MAX_ITEMS}
 use Rattle.pon_text.specs.Cuts.{follows}
 use Rattle.pon_lists.specs.ResultSteps.{◌>>=◌}
 use Rattle.pon_cert.specs.declared.problem.Item.{Item}
@@ -80,7 +81,7 @@ with_level s items ls o = on_line (length items + 2) o >>= λ level. on_line (le
 
 -- a line that does not fit after the problem
 unfit_behind : (s : ℕ) (items : List Item) (lines rest : List (List ℕ)) (n : ℕ) → AreProblem lines items → length lines ≡ length items + 1 →
-    (length items < 512 → first_spells item_on_line rest ≡ None) → file_with s items rest ≡ Err n → IsFirstUnfit (lines ++ rest) n
+    (length items < MAX_ITEMS → first_spells item_on_line rest ≡ None) → file_with s items rest ≡ Err n → IsFirstUnfit (lines ++ rest) n
 unfolding file_with
 unfit_behind s items lines rest n p size ends e = at_level (first_spells level_on_line rest) refl e
   where
@@ -149,7 +150,7 @@ told (l ∷ ls) n e = at_surplus (surplus_of l) refl e
     at_surplus : (o : Option ℕ) → surplus_of l ≡ o → (on_line 1 o >>= λ s. file_with s (items_of ls) (drop (length (items_of ls)) ls)) ≡ Err n → IsFirstUnfit (l ∷ ls) n
     at_surplus None is e = let same : 1 ≡ n = cc in record { before = []; rest = l ∷ ls; all = refl; place = sym same; unfit = inl (record { first = refl; no_surplus = is }) }
     at_surplus (Some s) is e =
-        let r = row 512 ls in
+        let r = row MAX_ITEMS ls in
         let behind = unfit_behind s (items_of ls) (l ∷ r.lines) r.rest n
         (record { surplus = s; is_surplus = is; are_items = r.are_items; count = r.count })
         (omega (arith, row_length r.lines (items_of ls) r.are_items)) r.ends (ap (file_with s (items_of ls)) (sym r.left) ∙ e) in
@@ -176,12 +177,12 @@ drop_lines zero (x ∷ a) b e = absurd (omega (arith, e))
 drop_lines (suc n) (x ∷ a) b e = drop_lines n a b (omega (arith, e))
 
 -- the content of a file with these lines after a problem
-pub behind_problem : (lines rest : List (List ℕ)) (items : List Item) (p : AreProblem lines items) → (length items < 512 → first_spells item_on_line rest ≡ None) →
+pub behind_problem : (lines rest : List (List ℕ)) (items : List Item) (p : AreProblem lines items) → (length items < MAX_ITEMS → first_spells item_on_line rest ≡ None) →
     (file_of (lines ++ rest) ≡ file_with p.surplus items rest) × (length lines ≡ length items + 1)
 unfolding file_of
 behind_problem [] rest items p ends = let none : None ≡ Some p.surplus = p.is_surplus in absurd (cc)
 behind_problem (l ∷ ls) rest items p ends =
-    let row : items_of (ls ++ rest) ≡ items = row_back 512 ls rest items p.are_items p.count ends in
+    let row : items_of (ls ++ rest) ≡ items = row_back MAX_ITEMS ls rest items p.are_items p.count ends in
     let size = row_length ls items p.are_items in
     let first : surplus_of l ≡ Some p.surplus = p.is_surplus in (
       ap (λ o. on_line 1 o >>= λ s. file_with s (items_of (ls ++ rest)) (drop (length (items_of (ls ++ rest))) (ls ++ rest))) first

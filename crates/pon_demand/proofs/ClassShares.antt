@@ -1,6 +1,7 @@
 -- The rates of a class, and the certificate of a map: it is unique.
 use Rattle.std.proofs.Common.{◌≡◌, ℕ, ◌≤◌, Bool, true, false, cond, List, [], ◌∷◌, map, refl, ap, sym, ◌∙◌, subst, arith}
 use Rattle.std.specs.List.{zip}
+use Rattle.pon_units.specs.declared.limits.TheConstants.{LINE_RATE}
 use Rattle.pon_units.specs.Frac.{Frac}
 use Rattle.pon_descr.specs.declared.class.Class.{Class}
 use Rattle.pon_descr.specs.declared.class.Class.TheVariants.{Plain, NonAssured, BestEffort}
@@ -59,7 +60,7 @@ spelled_rates s class cert left k c =
     spelled_flag : Row → Bool
     spelled_flag r = is_saturated class s.roster cert r.alloc_id
 
-pub left_within : (l : Level) (is : List Item) (n : ℕ) → n ≤ 2488320 → left_surplus l is n ≤ 2488320
+pub left_within : (l : Level) (is : List Item) (n : ℕ) → n ≤ LINE_RATE → left_surplus l is n ≤ LINE_RATE
 left_within level.All is n h = omega (arith, h)
 left_within (level.At f) is n h = omega arith
 

@@ -5,6 +5,7 @@ use Rattle.std.proofs.Math.Nat.{mul-le-mul_left}
 use Rattle.std.proofs.lemmas.List.{length-map}
 use Rattle.std.proofs.lemmas.List.Elements.{All-map, All-weaker}
 use Rattle.std.proofs.lemmas.List.Sums.{sum_by-cons}
+use Rattle.pon_units.specs.declared.limits.TheConstants.{FRAME_WORDS, MAX_SERIES}
 use Rattle.pon_units.specs.Granted.{AreInMapOrder, ComesBefore, onus_granted}
 use Rattle.pon_units.specs.declared.granted.Granted.{Granted}
 use Rattle.pon_lists.specs.Distinct.{distinct}
@@ -55,10 +56,10 @@ module _ (s : Input) (surplus : Row → Frac) (carry : Row → ℕ) where
 
   -- the bursts fit a frame if the payload fits the capacity and the carries
   pub fitting_with : IsAdmitted s.rule s.gap s.roster → 256 * sum_by (payload s surplus carry) s.roster ≤ 256 * capacity s.rule s.gap s.roster + length s.roster * max_carry s.rule →
-      frame_words s.gap (planned_grants s surplus carry) ≤ 9720
+      frame_words s.gap (planned_grants s surplus carry) ≤ FRAME_WORDS
   fitting_with k fitting =
       let n : ℕ = length s.roster in
-      let room : overhead s.rule s.gap s.roster ≤ 9720 = (fits_parts s.rule s.gap s.roster k.fitting).0 in
+      let room : overhead s.rule s.gap s.roster ≤ FRAME_WORDS = (fits_parts s.rule s.gap s.roster k.fitting).0 in
       let reports : n * (256 + max_carry s.rule) ≤ n * (256 * overhead_words s.rule) = mul-le-mul_left n (room_for_carry s.rule) in
       let gaps : (s.gap + 2) * length (onus_granted (planned_grants s surplus carry)) ≡ (s.gap + 2) * length (onus_of s.roster) = ap (λ us. (s.gap + 2) * length us) onus_same in
       omega (arith, room, reports, gaps, fitting, grant_words s.roster)
@@ -68,7 +69,7 @@ module _ (s : Input) (surplus : Row → Frac) (carry : Row → ℕ) where
       AreOneMap s.gap (planned_grants s surplus carry)
   one_map_with k fitting = record {
     in_map_order = in_order s.roster k.in_map_order;
-    short_series = λ u. subst (λ m. m ≤ 16) (sym (sum_by-map (λ g. cond (g.onu == u) 1 0) granted_to_row s.roster)) (k.short_series u);
+    short_series = λ u. subst (λ m. m ≤ MAX_SERIES) (sym (sum_by-map (λ g. cond (g.onu == u) 1 0) granted_to_row s.roster)) (k.short_series u);
     few = omega (arith, length-map s.roster granted_to_row, k.few_allocs, few_allowed s.rule);
     fitting = fitting_with k fitting;
   }

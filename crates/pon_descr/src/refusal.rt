@@ -1,4 +1,5 @@
 use crate::cause::Cause;
+use std::alloc::AllocError;
 use std::fmt;
 
 /// Why a descriptor or an event is refused. Each refusal has a number, E01 to E21, and a name, as printed in output
@@ -47,6 +48,17 @@ pub enum Refusal {
     ChapterFull,
     /// E21: an allocation was refused.
     OutOfMemory,
+}
+
+impl From<AllocError> for Refusal {
+    ghost use Rattle.std.specs.Prelude.{◌≡◌};
+    ghost use Rattle.pon_descr.specs.declared.refusal.Refusal.TheVariants.{OutOfMemory};
+
+    ghost from_gives = { λ _ refusal. refusal ≡ OutOfMemory };
+
+    fn from(_e: AllocError) -> Refusal {
+        Refusal::OutOfMemory
+    }
 }
 
 impl fmt::Display for Refusal {

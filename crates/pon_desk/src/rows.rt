@@ -4,7 +4,7 @@
 use crate::closed::Closed;
 use crate::receipt::{Receipt, take};
 use crate::unsettled::Unsettled;
-use pon_admit::Event;
+use pon_admit::{Event, Row};
 use pon_dbru::Occupancies;
 use pon_descr::{Class, Descriptor};
 use pon_port::{Chapter, Entry, Port, PortCfg, Reply};
@@ -33,11 +33,9 @@ fn onu(rt: &impl Abort) -> OnuId {
 
 // Makes an admission of Alloc-ID 1024 with a fixed rate of 10 words a frame.
 fn admission(rt: &impl Abort) -> Event {
-    Event::Admit {
-        onu: onu(rt),
-        alloc_id: AllocId::new(1024).expect(rt, "an Alloc-ID"),
-        descriptor: Descriptor::new(2560, 0, 2560, Class::Plain).expect(rt, "a descriptor"),
-    }
+    let alloc_id = AllocId::new(1024).expect(rt, "an Alloc-ID");
+    let descriptor = Descriptor::new(2560, 0, 2560, Class::Plain).expect(rt, "a descriptor");
+    Event::Admit(Row::new(onu(rt), alloc_id, descriptor))
 }
 
 // Makes a report of this occupancy for the map of frame 0.

@@ -1,6 +1,6 @@
 //! Numbers, events, and the seats and the end of a desk.
 
-use pon_admit::Event;
+use pon_admit::{Event, Row};
 use pon_dbru::Occupancies;
 use pon_descr::{Cause, Class, Descriptor};
 use pon_desk::{Closed, Desk, Seat};
@@ -37,11 +37,7 @@ pub(crate) fn cfg(rt: &impl Abort, gap: u16, first: u64) -> (PortCfg, FrameNo) {
 
 /// Makes an admission of Alloc-ID 1024.
 fn admission_of(rt: &impl Abort, descriptor: Descriptor) -> Event {
-    Event::Admit {
-        onu: onu(rt),
-        alloc_id: id(rt),
-        descriptor,
-    }
+    Event::Admit(Row::new(onu(rt), id(rt), descriptor))
 }
 
 /// Makes an admission of Alloc-ID 1024, with a fixed rate of 10 words a frame only.

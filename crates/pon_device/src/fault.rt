@@ -1,3 +1,7 @@
+ghost use Rattle.std.specs.Prelude.{◌≡◌};
+ghost use Rattle.pon_device.specs.declared.fault.DeviceFault.TheVariants as fault;
+
+use std::alloc::{AllocError, AllocFailed};
 use thiserror::Error;
 
 /// Why a text was not wholly read or not wholly written.
@@ -12,4 +16,20 @@ pub enum DeviceFault {
     /// Memory was refused.
     #[error("out of memory")]
     Memory,
+}
+
+impl From<AllocError> for DeviceFault {
+    ghost from_gives = { λ _ e. e ≡ fault.Memory };
+
+    fn from(_e: AllocError) -> DeviceFault {
+        DeviceFault::Memory
+    }
+}
+
+impl<T: Drop> From<AllocFailed<T>> for DeviceFault {
+    ghost from_gives = { λ _ e. e ≡ fault.Memory };
+
+    fn from(_e: AllocFailed<T>) -> DeviceFault {
+        DeviceFault::Memory
+    }
 }

@@ -7,6 +7,8 @@ use Rattle.std.proofs.lemmas.List.{get_or_default}
 use Rattle.std.proofs.lemmas.List.Sorted.{All-permutation, Contains-permutation}
 use Rattle.std.proofs.lemmas.Nat.{and_mask}
 use Rattle.std.proofs.Math.Nat.{mul-le-mul_left, mul-lt-mul_of_pos_left}
+use Rattle.pon_cert.specs.declared.problem.TheConstants.{MAX_ITEMS}
+use Rattle.pon_units.specs.declared.limits.TheConstants.{LINE_RATE}
 use Rattle.pon_cert.specs.declared.problem.Item.{Item}
 use Rattle.pon_cert.specs.Problem.{IsItem}
 use Rattle.pon_fill.specs.declared.rest.Rest.{Rest}
@@ -19,7 +21,7 @@ abbrev pub parts : Item → ℕ
 parts item = item.cap * 6191736422400 / item.weight
 
 -- if a has at most as many parts as b, its level is at most that of b: different levels differ by at least one part
-no_lower : (ca wa cb wb qa qb : ℕ) → 0 < wa → 0 < wb → wa ≤ 2488320 → wb ≤ 2488320 → ca * 6191736422400 < (qa + 1) * wa → qb * wb ≤ cb * 6191736422400 → qa ≤ qb → ca * wb ≤ cb * wa
+no_lower : (ca wa cb wb qa qb : ℕ) → 0 < wa → 0 < wb → wa ≤ LINE_RATE → wb ≤ LINE_RATE → ca * 6191736422400 < (qa + 1) * wa → qb * wb ≤ cb * 6191736422400 → qa ≤ qb → ca * wb ≤ cb * wa
 no_lower ca wa cb wb qa qb pa pb la lb ha hb le = elim (cases_lt (cb * wa) (ca * wb)) [
   | inr ge ↦ ge
   | inl lt ↦
@@ -36,7 +38,7 @@ rises a b ia ib le =
     let pb : 0 < b.weight = ib.has_weight in
     no_lower a.cap a.weight b.cap b.weight (parts a) (parts b) pa pb ia.weight_range ib.weight_range (omega arith) (omega arith) le
 
-pub in_order : (items : List Item) (keys xs ys : List ℕ) → All IsItem items → length items ≤ 512 → length xs ≡ length items → length ys ≡ length xs
+pub in_order : (items : List Item) (keys xs ys : List ℕ) → All IsItem items → length items ≤ MAX_ITEMS → length xs ≡ length items → length ys ≡ length xs
     → ((k : ℕ) → k < length items → get_or xs k 0 ≡ k)
     → ((k : ℕ) (d : Item) → k < length items → get_or keys k 0 ≡ parts (get_or items k d))
     → IsPermutation xs ys → IsNonDecreasingBy (λ i. get_or keys (bit_and i 511) 0) ys → IsOrder items ys

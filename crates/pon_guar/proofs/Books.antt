@@ -3,13 +3,13 @@ use Rattle.std.proofs.Common.{◌≡◌, ℕ, zero, suc, ◌+◌, ◌-◌, ◌<�
 use Rattle.std.specs.Prelude.{◌==◌, nat_le, nat_lt, if◌then◌else◌, filter, flat_map, sum_by, All, Option, Some, None}
 use Rattle.std.specs.List.{list_any}
 use Rattle.std.proofs.lemmas.Bool.{cases_order, eq-eqb, le-leb, lt-leb, ltb-false, ltb-true, not-true}
-use Rattle.std.proofs.lemmas.List.{length-map, map-append}
+use Rattle.std.proofs.lemmas.List.{get_or-map, length-map, map-append}
 use Rattle.std.proofs.lemmas.List.Elements.{All-filter, All-weaker, filter_passes}
 use Rattle.std.proofs.lemmas.List.Sums.{sum_by-cons}
 use Rattle.pon_units.specs.declared.granted.Granted.{Granted}
-use Rattle.pon_lists.proofs.Lists.{flat_map-map, list_any-map, map_filter, map-map, none_any, sum_by-map, sum_by_agree}
+use Rattle.pon_lists.proofs.Lists.{flat_map-map, map_filter, map-map, none_any, sum_by-map, sum_by_agree}
 use Rattle.pon_guar.specs.Book.{Account, AreRising, Counted, alloc_ids, with_alloc}
-use Rattle.pon_guar.specs.Window.{IsPlaceOf, AreConsecutive, WindowMap, grants_at, is_of, words_to, words_to_from}
+use Rattle.pon_guar.specs.Window.{IsPlaceOf, AreConsecutive, WindowMap, grants_at, words_to, words_to_from}
 use Rattle.pon_guar.specs.ReportChecks.{with_report}
 use Rattle.pon_guar.specs.Reports.{after_occupancies, counting}
 use Rattle.pon_guar.specs.Loads.{afresh, with_account, without_account}
@@ -99,8 +99,12 @@ noted_same f u v ms ns book = (λ j. after_occupancies (λ i. sum_by-map (λ m. 
     same = ap (λ t. filter (λ g. g.onu == u) t)
         (ap (λ t. flat_map (λ m. m.grants) t) (map_filter (with_report f v) (λ m. m.frame == f) ms) ∙ flat_map-map (λ m. m.grants) (with_report f v) (filter (λ m. m.frame == f) ms))
 
-pub noted_there : (f u : ℕ) (ms : List WindowMap) → list_any (is_of f) (map (with_report f u) ms) ≡ list_any (is_of f) ms
-noted_there f u ms = list_any-map (is_of f) (with_report f u) ms
+-- noting that an ONU reported moves no map
+pub noted_place : (f u : ℕ) (ms : List WindowMap) (k : ℕ) → IsPlaceOf f ms k → IsPlaceOf f (map (with_report f u) ms) k
+noted_place f u ms k place = record {
+  within = let same : length (map (with_report f u) ms) ≡ length ms = length-map ms (with_report f u) in let there : k < length ms = place.within in omega (arith, same, there);
+  is = λ d. ap (λ m. m.frame) (get_or-map (with_report f u) ms k d d place.within) ∙ place.is d;
+}
 
 -- counting the occupancies after the note gives the same accounts as counting them before it
 pub counted_after : (f u : ℕ) (ms noted : List WindowMap) (ns : List (Option ℕ)) (at book new : List Account) → noted ≡ map (with_report f u) ms → at ≡ book →

@@ -12,6 +12,8 @@ use Rattle.std.proofs.lemmas.List.Sums.{position_or_len_is, sum_by_push, sum_by-
 use Rattle.std.proofs.lemmas.Option.{same_Some}
 use Rattle.pon_units.specs.Granted.{AreInMapOrder, ComesBefore}
 use Rattle.std.proofs.lemmas.List.{get_or-drop, get_or-take, length-drop, length-map, length-take, length_push, map-append}
+use Rattle.pon_guar.specs.declared.window.TheConstants.{MAX_MAPS}
+use Rattle.pon_units.specs.declared.limits.TheConstants.{FRAME_WORDS}
 use Rattle.pon_lists.proofs.Lists.{position-None_or_len, position-Some_or_len, sum_by-map}
 use Rattle.pon_guar.specs.Window.{Granted, WindowMap, last_64, words_granted, words_to}
 use Rattle.pon_guar.specs.Window.{with_map}
@@ -125,11 +127,11 @@ module _ (u i : ℕ) where
   pub no_grant : (m : WindowMap) (ns : List ℕ) → length ns ≡ length m.grants → sum_before u i m.grants ns ≡ None → words_to u i m ≡ 0
   no_grant m ns e h = ap words_granted (find_in m.grants) ∙ ungranted m.grants ns e h
 
-  few_words : (gs : List Granted) → All (λ g. g.words ≤ 9720) gs → words_granted (find (is_to u i) gs) ≤ 9720
+  few_words : (gs : List Granted) → All (λ g. g.words ≤ FRAME_WORDS) gs → words_granted (find (is_to u i) gs) ≤ FRAME_WORDS
   few_words [] h = omega arith
-  few_words (g ∷ gs) h = elim (is_to u i g) as (λ b. words_granted (cond b (Some g) (find (is_to u i) gs)) ≤ 9720) [
-    | true ↦ All-head (λ g. g.words ≤ 9720) g gs h
-    | false ↦ few_words gs (All-tail (λ g. g.words ≤ 9720) g gs h)
+  few_words (g ∷ gs) h = elim (is_to u i g) as (λ b. words_granted (cond b (Some g) (find (is_to u i) gs)) ≤ FRAME_WORDS) [
+    | true ↦ All-head (λ g. g.words ≤ FRAME_WORDS) g gs h
+    | false ↦ few_words gs (All-tail (λ g. g.words ≤ FRAME_WORDS) g gs h)
   ]
 
   -- The sum after a grant, and after the last grant.
@@ -185,7 +187,7 @@ beside_more ms sums done all g n before e q more =
     (λ j. q j ++ e j ∷ []) ∙ sym (ap (sums_beside ms sums) more ∙ map-append (λ g. or_zero (sum_now g.onu g.alloc_id ms sums)) done (g ∷ []))
 
 -- One more map.
-module _ (m : WindowMap) (ns : List ℕ) (beside : length ns ≡ length m.grants) (small : All (λ g. g.words ≤ 9720) m.grants) where
+module _ (m : WindowMap) (ns : List ℕ) (beside : length ns ≡ length m.grants) (small : All (λ g. g.words ≤ FRAME_WORDS) m.grants) where
   pub summed_push : (ms : List WindowMap) (sums : List (List ℕ)) → AreSummed ms sums → length sums ≡ length ms
       → ((u i n t : ℕ) → sum_before u i m.grants ns ≡ Some n → sum_now u i ms sums ≡ Some t → n ≡ t) → AreSummed (ms ++ m ∷ []) (sums ++ ns ∷ [])
   summed_push [] [] h e next = (
@@ -256,24 +258,24 @@ module _ (frame : ℕ) (gs : List Granted) (ms : List WindowMap) (sums : List (L
   pub as_many_mapped : length sums ≡ length ms → length (last_64 (sums ++ sums_beside ms sums gs ∷ [])) ≡ length (with_map frame gs ms)
   as_many_mapped e = omega (arith, as_many_more e, length-drop (length (sums ++ sums_beside ms sums gs ∷ []) - 64) (sums ++ sums_beside ms sums gs ∷ []), length-drop (length (ms ++ new_map ∷ []) - 64) (ms ++ new_map ∷ []))
 
-  pub summed_mapped : AreSummed ms sums → length sums ≡ length ms → All (λ g. g.words ≤ 9720) gs → AreSummed (with_map frame gs ms) (last_64 (sums ++ sums_beside ms sums gs ∷ []))
+  pub summed_mapped : AreSummed ms sums → length sums ≡ length ms → All (λ g. g.words ≤ FRAME_WORDS) gs → AreSummed (with_map frame gs ms) (last_64 (sums ++ sums_beside ms sums gs ∷ []))
   summed_mapped h e small =
       summed_last (ms ++ new_map ∷ []) (sums ++ sums_beside ms sums gs ∷ [])
       (summed_push new_map (sums_beside ms sums gs) (length-map gs (λ g. or_zero (sum_now g.onu g.alloc_id ms sums))) small ms sums h e (λ u i n t b now. beside_now u i ms sums n t now gs b))
       (as_many_more e)
 
 -- a map is restored, with the sums beside its grants
-pub summed_restored : (m : WindowMap) (ms : List WindowMap) (sums : List (List ℕ)) → AreSummed ms sums → length sums ≡ length ms → All (λ g. g.words ≤ 9720) m.grants → AreSummed (ms ++ m ∷ []) (sums ++ sums_beside ms sums m.grants ∷ [])
+pub summed_restored : (m : WindowMap) (ms : List WindowMap) (sums : List (List ℕ)) → AreSummed ms sums → length sums ≡ length ms → All (λ g. g.words ≤ FRAME_WORDS) m.grants → AreSummed (ms ++ m ∷ []) (sums ++ sums_beside ms sums m.grants ∷ [])
 summed_restored m ms sums h e small =
     summed_push m (sums_beside ms sums m.grants) (length-map m.grants (λ g. or_zero (sum_now g.onu g.alloc_id ms sums))) small ms sums h e (λ u i n t b now. beside_now u i ms sums n t now m.grants b)
 
 -- The words granted are the difference of two sums.
 
-pub few_granted : (u i : ℕ) (ms : List WindowMap) (sums : List (List ℕ)) → AreSummed ms sums → length sums ≡ length ms → sum_by (words_to u i) ms ≤ length ms * 9720
+pub few_granted : (u i : ℕ) (ms : List WindowMap) (sums : List (List ℕ)) → AreSummed ms sums → length sums ≡ length ms → sum_by (words_to u i) ms ≤ length ms * FRAME_WORDS
 few_granted u i [] sums h e = omega arith
 few_granted u i (m ∷ ms) [] h e = absurd (omega (arith, e))
 few_granted u i (m ∷ ms) (ns ∷ sums) h e =
-    let one : words_to u i m ≤ 9720 = subst (λ r. words_granted r ≤ 9720) (sym (find_in u i m.grants)) (few_words u i m.grants h.0.small) in
+    let one : words_to u i m ≤ FRAME_WORDS = subst (λ r. words_granted r ≤ FRAME_WORDS) (sym (find_in u i m.grants)) (few_words u i m.grants h.0.small) in
     omega (arith, one, few_granted u i ms sums h.1 (omega (arith, e)), sum_by-cons (words_to u i) m ms)
 
 pub wrapped : (b s : ℕ) → b < 2 ^ 32 → s < 2 ^ 32 → ((b + s) % 2 ^ 32 + (2 ^ 32 - b)) % 2 ^ 32 ≡ s
@@ -297,7 +299,7 @@ module _ (ms later : List WindowMap) (m : WindowMap) (sums others : List (List �
       let all : sum_by (words_to u i) ms ≡ words_to u i m + sum_by (words_to u i) later = ap (sum_by (words_to u i)) e ∙ sum_by-cons (words_to u i) m later in
       omega (arith, all, no_grant u i m ns summed_parts.0.beside none)
 
-  pub granted_is : (u i before sum : ℕ) → length sums ≡ length ms → length ms ≤ 64 → before < 2 ^ 32 → sum_before u i m.grants ns ≡ Some before → sum_now u i ms sums ≡ Some sum
+  pub granted_is : (u i before sum : ℕ) → length sums ≡ length ms → length ms ≤ MAX_MAPS → before < 2 ^ 32 → sum_before u i m.grants ns ≡ Some before → sum_now u i ms sums ≡ Some sum
       → (sum + (2 ^ 32 - before)) % 2 ^ 32 ≡ sum_by (words_to u i) ms
   granted_is u i before sum same few l b now =
       let told : sum ≡ (before + sum_by (words_to u i) ms) % 2 ^ 32

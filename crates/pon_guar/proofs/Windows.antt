@@ -4,6 +4,7 @@ use Rattle.std.specs.Prelude.{◌==◌, filter, All}
 use Rattle.std.specs.List.{list_any}
 use Rattle.std.proofs.lemmas.List.{drop-append-le, drop-drop, length-map, length-drop, length_push}
 use Rattle.std.proofs.lemmas.List.Elements.{All-nil, All-cons, All-append, All-drop, All-map, All-weaker, All-push}
+use Rattle.pon_guar.specs.declared.window.TheConstants.{MAX_MAPS}
 use Rattle.pon_units.specs.Granted.{AreInMapOrder}
 use Rattle.pon_units.specs.declared.granted.Granted.{Granted}
 use Rattle.pon_guar.specs.Window.{IsLawfulMap, IsWindow, AreConsecutive, WindowMap, frame_after, last_64, latest_grants, onus_polled, with_map}
@@ -29,7 +30,7 @@ module _ (window : List WindowMap) (k : IsWindow window) where
       nobody [] = refl
       nobody (x ∷ xs) = nobody xs
 
-  pub one_restored : (new : WindowMap) → length window < 64 → AreConsecutive new.frame window → IsLawfulMap new → IsWindow (window ++ new ∷ [])
+  pub one_restored : (new : WindowMap) → length window < MAX_MAPS → AreConsecutive new.frame window → IsLawfulMap new → IsWindow (window ++ new ∷ [])
   one_restored new room next lawful = record {
     few_maps = omega (arith, length_push window new, room);
     frames = leads_after (new.frame + 1) (window ++ new ∷ []) (leads_push new.frame window new next refl);
@@ -57,7 +58,7 @@ latest_of [] m = refl
 latest_of (a ∷ []) m = refl
 latest_of (a ∷ b ∷ ms) m = latest_of (b ∷ ms) m
 
-pub latest_added : (frame : ℕ) (gs : List Granted) (window : List WindowMap) → length window ≤ 64 → latest_grants (with_map frame gs window) ≡ gs
+pub latest_added : (frame : ℕ) (gs : List Granted) (window : List WindowMap) → length window ≤ MAX_MAPS → latest_grants (with_map frame gs window) ≡ gs
 latest_added frame gs window few =
     let new : WindowMap = record { frame = frame; grants = gs; reported = [] } in
     let past : ℕ = length (window ++ new ∷ []) - 64 in

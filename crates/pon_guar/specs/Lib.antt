@@ -1,3 +1,4 @@
+pub mod AcceptedReports
 pub mod AccountReports
 pub mod Book
 pub mod Loads

@@ -1,8 +1,7 @@
 //! Reports taken into the accounts.
 
-ghost use Rattle.std.specs.Prelude.{◌≡◌, ◌≤◌, ◌==◌, true, drop, filter, length, map, sum_by};
-ghost use Rattle.std.specs.List.{list_any};
-ghost use Rattle.pon_guar.specs.Window.{IsLawfulMap, grants_at, is_of, words_to, words_to_from};
+ghost use Rattle.std.specs.Prelude.{◌≡◌, ◌≤◌, ◌==◌, drop, filter, length, map, sum_by};
+ghost use Rattle.pon_guar.specs.Window.{IsLawfulMap, IsPlaceOf, grants_at, words_to, words_to_from};
 ghost use Rattle.pon_guar.specs.Book.{AreRising, alloc_ids};
 ghost use Rattle.pon_guar.specs.Reports.{after_occupancies, counting, taking};
 ghost use Rattle.pon_guar.specs.Loads.{afresh};
@@ -10,8 +9,9 @@ ghost use Rattle.pon_guar.specs.Loads.{afresh};
 use crate::account::{Account, Counted, index_near};
 use crate::deduction::{hint_at, words_left};
 use crate::map::WindowMap;
+use crate::reports::Accepted;
 use crate::window::Window;
-use pon_units::{AllocId, BufOcc, FrameNo, OnuId};
+use pon_units::{AllocId, BufOcc, FrameNo};
 
 // Returns an account after a report: the report counts if its frame is at least `since` and no report of a later frame
 // counts.
@@ -49,25 +49,30 @@ fn count(accounts: &mut [Account], hint: usize, alloc_id: AllocId, report: Count
     }
 }
 
-/// Counts an ONU's report for the map of a frame that is in the window: each occupancy reduced by what the maps from that
-/// one on granted. `places` has a hint for the index of the account of each grant of a map. Returns the index after the
-/// grants of the ONU in the map, where the next reporter's may begin.
+/// Counts an accepted report: each occupancy reduced by what the maps from that of the report on granted. `places` has a
+/// hint for the index of the account of each grant of a map. Returns the index after the grants of the ONU in the map,
+/// where the next reporter's may begin.
 pub(crate) fn count_report(
     accounts: &mut [Account],
     places: &[usize],
     window: &Window,
-    frame: FrameNo,
-    onu: OnuId,
+    report: &Accepted,
     occupancies: &[Option<BufOcc>],
 ) -> usize
     requires rising { AreRising (alloc_ids accounts.old) }
-    requires there { list_any (is_of frame) window.now ≡ true }
-    ensures { accounts.new ≡ after_occupancies (λ i. words_to_from onu i frame window.now) frame
-        (grants_at frame onu window.now) occupancies.now accounts.old }
+    requires there { IsPlaceOf report.now.frame window.now report.now.map }
+    ensures { accounts.new ≡ after_occupancies
+        (λ i. words_to_from report.now.onu i report.now.frame window.now) report.now.frame
+        (grants_at report.now.frame report.now.onu window.now) occupancies.now accounts.old }
 {
-    let place = window.place_of(frame).unwrap();
+    let Accepted {
+        frame,
+        onu,
+        map: place,
+        first,
+    } = *report;
     let maps = window.maps();
-    let series = maps[place].series(window.next_hint(), onu);
+    let series = maps[place].series(first, onu);
     let mut index = series.first;
     for (granted, occupancy) in series.grants.iter().zip(occupancies) {
         if let Some(reported) = *occupancy {

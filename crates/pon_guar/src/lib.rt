@@ -26,4 +26,5 @@ pub use loads::Loads;
 pub use map::{OnuGrants, WindowMap};
 pub use parts::{LoadsFault, MapParts};
 pub use rates::{cap, guaranteed};
+pub use reports::Accepted;
 pub use window::{MAX_MAPS, Window};

@@ -4,8 +4,8 @@ ghost use Rattle.pon_guar.specs.Book.{load_of_counted};
 use crate::account::{Account, Counted, account_of, add_account, index_near, remove_account};
 use crate::counting::{count_report, forget};
 use crate::deduction::{deduct_grants, hint_at};
-use crate::map::WindowMap;
 use crate::parts::{LoadsFault, MapParts, in_ascending_order, is_window, restore_window};
+use crate::reports::Accepted;
 use crate::window::Window;
 use pon_descr::Refusal;
 use pon_units::{AllocId, BufOcc, FrameNo, Granted, Kbps, OnuId, WORD_RATE};
@@ -47,13 +47,13 @@ fn load_of_report(counted: Option<Counted>) -> Kbps
 }
 
 impl Loads {
-    ghost use Rattle.std.specs.Prelude.{false, None, [], ◌==◌, length, IfErr, MatchResult, OnOk, OnErr, slice_get};
+    ghost use Rattle.std.specs.Prelude.{false, None, [], ◌==◌, length, IfErr, MatchResult, OnOk, OnErr};
     ghost use Rattle.std.specs.List.{list_any};
-    ghost use Rattle.std.specs.Option.{option_copied};
     ghost use Rattle.pon_units.specs.Granted.{AreInMapOrder};
     ghost use Rattle.pon_descr.specs.Checks.{IsTold};
-    ghost use Rattle.pon_guar.specs.Book.{account_of, alloc_ids, known_report, known_since, load_of};
-    ghost use Rattle.pon_guar.specs.Window.{IsWindow, AreConsecutive};
+    ghost use Rattle.pon_guar.specs.Book.{account_of, alloc_ids, known_report, load_of};
+    ghost use Rattle.pon_guar.specs.Window.{AreConsecutive};
+    ghost use Rattle.pon_guar.specs.AcceptedReports.{IsAccepted};
     ghost use Rattle.pon_guar.specs.ReportChecks.{refuses_report};
     ghost use Rattle.pon_guar.specs.Parts.{AreParts, RefusesParts, loads_from};
     ghost use Rattle.pon_guar.specs.Loads.{after_admitted, after_cleared, after_mapped, after_removed, after_reported};
@@ -129,39 +129,28 @@ impl Loads {
         }
     }
 
-    /// Frame from which reports of an Alloc-ID count; `None` if it has no account.
-    pub fn since(&self, alloc_id: AllocId) -> Option<FrameNo>
-        ensures { result ≡ known_since (account_of self.now.accounts alloc_id) }
+    /// Account of an Alloc-ID: the frame from which its reports count, and the report that counts. `None` if it has none.
+    pub fn account(&self, alloc_id: AllocId) -> Option<Account>
+        ensures { result ≡ account_of self.now.accounts alloc_id }
     {
-        match account_of(&self.accounts, alloc_id) {
-            None => None,
-            Some(account) => Some(account.since),
-        }
+        account_of(&self.accounts, alloc_id)
     }
 
     /// Report of an Alloc-ID that counts; `None` if none does, or the Alloc-ID has no account.
     pub fn counted(&self, alloc_id: AllocId) -> Option<Counted>
         ensures { result ≡ known_report (account_of self.now.accounts alloc_id) }
     {
-        match account_of(&self.accounts, alloc_id) {
+        match self.account(alloc_id) {
             None => None,
             Some(account) => account.counted,
         }
     }
 
-    /// Number of maps of the window, at most 64. Their frames are consecutive.
-    pub fn window_len(&self) -> usize
-        ensures value { result ≡ length self.now.window }
-        ensures lawful { IsWindow self.now.window }
+    /// Window of the last maps, at most 64.
+    pub fn window(&self) -> &Window
+        ensures { result.now ≡ self.now.window }
     {
-        self.window.maps().len()
-    }
-
-    /// Map of the window at an index, the oldest first; `None` past the newest.
-    pub fn window_at(&self, index: usize) -> Option<&WindowMap>
-        ensures { option_copied result ≡ slice_get self.now.window index }
-    {
-        self.window.maps().get(index)
+        &self.window
     }
 
     /// Adds an account for an Alloc-ID that has none: its reports count from a frame on. `OutOfMemory` if memory is
@@ -172,9 +161,7 @@ impl Loads {
         ensures refused { IfErr result (IsTold None) }
         ensures err { OnErr result (self.new ≡ self.old) }
     {
-        if self.accounts.reserve(1).is_err() {
-            return Err(Refusal::OutOfMemory);
-        }
+        self.accounts.reserve(1)?;
         let counted = None;
         let account = Account {
             alloc_id,
@@ -204,13 +191,8 @@ impl Loads {
         ensures err { OnErr result (self.new ≡ self.old) }
     {
         let alloc = *self.places.allocator();
-        let kept = match Vec::from_slice(alloc, grants) {
-            Ok(kept) => kept,
-            Err(_) => return Err(Refusal::OutOfMemory),
-        };
-        if self.add_map(frame, kept).is_err() {
-            return Err(Refusal::OutOfMemory);
-        }
+        let kept = Vec::from_slice(alloc, grants)?;
+        self.add_map(frame, kept)?;
         Ok(())
     }
 
@@ -233,19 +215,11 @@ impl Loads {
         Ok(left)
     }
 
-    /// Returns the first check that refuses an ONU's report of `count` occupancies for the map of a frame: `StaleFrame`
-    /// if no map of the window is of the frame, `NotPolled` if that map grants the ONU nothing, `ReportCount` if it has
-    /// another number of structures for it, `AlreadyReported` if a report for it was taken.
-    pub fn report_refusal(&self, frame: FrameNo, onu: OnuId, count: usize) -> Option<Refusal>
-        ensures { result ≡ refuses_report self.now.window frame onu count }
-    {
-        self.window.report_refusal(frame, onu, count)
-    }
-
     /// Takes an ONU's report for the map of a frame: one occupancy for each of its structures there, in order, in words
     /// of 4 bytes, `None` if it is garbled. An occupancy counts for its Alloc-ID if its frame is at least the
     /// since-frame and no report of a later frame counts; it is reduced by what was granted from its frame on. The
-    /// error is the first check that refuses, then `OutOfMemory` if memory is refused; and then nothing changes.
+    /// error is the first check that refuses ([`Window::accept`]), then `OutOfMemory` if memory is refused; and then
+    /// nothing changes.
     pub fn reported(
         &mut self,
         frame: FrameNo,
@@ -259,38 +233,26 @@ impl Loads {
             (refuses_report self.old.window frame onu (length occupancies.now))) }
         ensures err { OnErr result (self.new ≡ self.old) }
     {
-        if let Some(refusal) = self.report_refusal(frame, onu, occupancies.len()) {
-            return Err(refusal);
-        }
-        if self.take_report(frame, onu, occupancies).is_err() {
-            return Err(Refusal::OutOfMemory);
-        }
+        let report = self.window.accept(frame, onu, occupancies.len())?;
+        self.take_report(&report, occupancies)?;
         Ok(())
     }
 
-    /// Takes a report that no check refuses, as [`Loads::reported`] does. `Err` only if memory is refused, and then
-    /// nothing changes.
+    /// Takes an accepted report, as [`Loads::reported`] does. `Err` only if memory is refused, and then nothing changes.
     pub fn take_report(
         &mut self,
-        frame: FrameNo,
-        onu: OnuId,
+        report: &Accepted,
         occupancies: &[Option<BufOcc>],
     ) -> Result<(), AllocError>
-        requires accepted { refuses_report self.old.window frame onu
-            (length occupancies.now) ≡ None }
-        ensures ok { OnOk result (self.new ≡ after_reported self.old frame onu occupancies.now) }
+        requires accepted { IsAccepted self.old.window report.now.frame report.now.onu
+            (length occupancies.now) report.now }
+        ensures ok { OnOk result (self.new
+            ≡ after_reported self.old report.now.frame report.now.onu occupancies.now) }
         ensures err { OnErr result (self.new ≡ self.old) }
     {
-        self.window.note_report(frame, onu)?;
+        self.window.note_report(report)?;
         let accounts = &mut self.accounts;
-        let next = count_report(
-            accounts,
-            &self.places,
-            &self.window,
-            frame,
-            onu,
-            occupancies,
-        );
+        let next = count_report(accounts, &self.places, &self.window, report, occupancies);
         self.window.hint_next(next);
         Ok(())
     }

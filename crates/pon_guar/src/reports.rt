@@ -1,7 +1,8 @@
 //! Reports for the maps of a window: the checks that refuse a report, and the note that an ONU reported.
 
-ghost use Rattle.std.specs.Prelude.{◌≡◌, ◌≤◌, ℕ, None, All, OnOk, OnErr, drop, length, map};
-ghost use Rattle.pon_guar.specs.Window.{IsLawfulMap, AreConsecutive, frame_after};
+ghost use Rattle.std.specs.Prelude.{◌≡◌, ◌≤◌, ℕ, None, Some, All, IfOk, IfErr, OnOk, OnErr, drop, length, map};
+ghost use Rattle.pon_guar.specs.Window.{IsLawfulMap, IsPlaceOf, AreConsecutive, frame_after};
+ghost use Rattle.pon_guar.specs.AcceptedReports.{IsAccepted};
 ghost use Rattle.pon_guar.specs.ReportChecks.{refuses_report, with_report};
 
 use crate::map::WindowMap;
@@ -10,41 +11,61 @@ use pon_descr::Refusal;
 use pon_units::{FrameNo, OnuId};
 use std::alloc::AllocError;
 
-/// Returns the first check that refuses a report of `count` occupancies. The hint is the index at which the grants to the
-/// ONU may begin.
-pub(crate) fn report_refusal(
+/// A report that no check refuses: of an ONU, for the map of a frame.
+#[derive(Clone, Copy, Debug)]
+pub struct Accepted {
+    pub frame: FrameNo,
+    pub onu: OnuId,
+    /// Index of the map in the window, the oldest first, 0 to 63.
+    pub map: usize,
+    /// Index in the map of the first grant to the ONU, 0 to 511: a hint, since no clause states it.
+    pub first: usize,
+}
+
+/// Accepts a report of `count` occupancies, or returns the first check that refuses it. The hint is the index at which the
+/// grants to the ONU may begin.
+pub(crate) fn accept_report(
     window: &[WindowMap],
     hint: usize,
     frame: FrameNo,
     onu: OnuId,
     count: usize,
-) -> Option<Refusal>
+) -> Result<Accepted, Refusal>
     requires frames { AreConsecutive (frame_after window.now) window.now }
     requires maps { All IsLawfulMap window.now }
-    ensures { result ≡ refuses_report window.now frame onu count }
+    ensures ok { IfOk result (IsAccepted window.now frame onu count) }
+    ensures refused { IfErr result (λ refusal. refuses_report window.now frame onu count
+        ≡ Some refusal) }
 {
-    let map = match place_of(window, frame) {
-        None => return Some(Refusal::StaleFrame),
-        Some(place) => &window[place],
+    let Some(place) = place_of(window, frame) else {
+        return Err(Refusal::StaleFrame);
     };
-    let polled = map.series(hint, onu).grants.len();
+    let map = &window[place];
+    let series = map.series(hint, onu);
+    let polled = series.grants.len();
     if polled == 0 {
-        return Some(Refusal::NotPolled);
+        return Err(Refusal::NotPolled);
     }
     if count != polled {
-        return Some(Refusal::ReportCount);
+        return Err(Refusal::ReportCount);
     }
     if map.has_reported(onu) {
-        return Some(Refusal::AlreadyReported);
+        return Err(Refusal::AlreadyReported);
     }
-    None
+    Ok(Accepted {
+        frame,
+        onu,
+        map: place,
+        first: series.first,
+    })
 }
 
-/// Notes an ONU's report for the map of a frame in the window, which begins at an index of the kept maps. `Err` only if
-/// memory is refused, and then nothing changes.
+/// Notes an ONU's report for the map of a frame, which is at an index of the window; the window begins at an index of the
+/// kept maps. `Err` only if memory is refused, and then nothing changes.
 pub(crate) fn note_report(
     kept: &mut [WindowMap],
     past: usize,
+    place: usize,
     frame: FrameNo,
     onu: OnuId,
 ) -> Result<(), AllocError>
@@ -53,15 +74,11 @@ pub(crate) fn note_report(
     requires maps { All IsLawfulMap (drop past kept.old) }
     requires accepted { (count : ℕ)
         × (refuses_report (drop past kept.old) frame onu count ≡ None) }
+    requires there { IsPlaceOf frame (drop past kept.old) place }
     ensures ok { OnOk result (drop past kept.new
         ≡ map (with_report frame onu) (drop past kept.old)) }
     ensures err { OnErr result (kept.new ≡ kept.old) }
 {
-    let (_, window) = kept.split_at(past);
-    let place = match place_of(window, frame) {
-        Some(place) => past + place,
-        None => unreachable!(),
-    };
-    kept[place].note(onu)?;
+    kept[past + place].note(onu)?;
     Ok(())
 }

@@ -2,7 +2,7 @@ ghost use Rattle.std.specs.Prelude.{◌≡◌, ◌≤◌, ◌+◌, ◌-◌, [], 
 
 use crate::map::WindowMap;
 use crate::place::place_of;
-use crate::reports::{note_report, report_refusal};
+use crate::reports::{Accepted, accept_report, note_report};
 use crate::sums::{MapSums, fill_sums, next_sums, words_granted, words_scanned};
 use pon_descr::Refusal;
 use pon_units::{AllocId, FrameNo, Granted, OnuId};
@@ -111,10 +111,11 @@ fn drop_past(maps: &mut Vec<WindowMap>, sums: &mut Vec<MapSums>, past: usize) ->
 }
 
 impl Window {
-    ghost use Rattle.std.specs.Prelude.{◌<◌, ◌++◌, ◌∷◌, ℕ, None, false, drop, map, sum_by, IfSome, OnOk, OnErr};
+    ghost use Rattle.std.specs.Prelude.{◌<◌, ◌++◌, ◌∷◌, ℕ, None, Some, false, drop, map, sum_by, IfSome, IfErr, OnOk, OnErr};
     ghost use Rattle.std.specs.List.{list_any};
     ghost use Rattle.pon_units.specs.Granted.{AreInMapOrder};
     ghost use Rattle.pon_guar.specs.Window.{IsLawfulMap, IsPlaceOf, IsWindow, AreConsecutive, is_of, latest_grants, with_map, words_to};
+    ghost use Rattle.pon_guar.specs.AcceptedReports.{IsAccepted};
     ghost use Rattle.pon_guar.specs.ReportChecks.{refuses_report, with_report};
 
     /// Makes a window of no maps. It allocates no memory; maps added later use this allocator.
@@ -185,34 +186,40 @@ impl Window {
         words_granted(maps, sums, hint, onu, alloc_id)
     }
 
-    /// Returns the first check that refuses an ONU's report of `count` occupancies for the map of a frame: `StaleFrame`
-    /// if no map of the window is of the frame, `NotPolled` if that map grants the ONU nothing, `ReportCount` if it has
-    /// another number of structures for it, `AlreadyReported` if a report for it was taken.
-    pub fn report_refusal(&self, frame: FrameNo, onu: OnuId, count: usize) -> Option<Refusal>
-        ensures { result ≡ refuses_report self.now frame onu count }
+    /// Accepts an ONU's report of `count` occupancies for the map of a frame, or returns the first check that refuses it:
+    /// `StaleFrame` if no map of the window is of the frame, `NotPolled` if that map grants the ONU nothing, `ReportCount`
+    /// if it has another number of structures for it, `AlreadyReported` if a report for it was taken.
+    pub fn accept(&self, frame: FrameNo, onu: OnuId, count: usize) -> Result<Accepted, Refusal>
+        ensures ok { IfOk result (IsAccepted self.now frame onu count) }
+        ensures refused { IfErr result (λ refusal. refuses_report self.now frame onu count
+            ≡ Some refusal) }
     {
-        report_refusal(self.maps(), self.next, frame, onu, count)
+        accept_report(self.maps(), self.next, frame, onu, count)
     }
 
-    /// Index in its map at which the grants to the next reporter may begin: that given to [`Window::hint_next`], a hint.
-    pub fn next_hint(&self) -> usize {
-        self.next
-    }
-
-    /// Keeps the index after the grants of an ONU that reported, as the hint for the next report. The index may be any.
+    /// Keeps the index after the grants of an ONU that reported, where those of the next reporter may begin: a hint, which
+    /// may be any index.
     pub fn hint_next(&mut self, index: usize)
         ensures { self.new ≡ self.old }
     {
         self.next = index;
     }
 
-    /// Notes that an ONU reported for the map of a frame. `Err` only if memory is refused, and then nothing changes.
-    pub fn note_report(&mut self, frame: FrameNo, onu: OnuId) -> Result<(), AllocError>
-        requires accepted { (count : ℕ) × (refuses_report self.old frame onu count ≡ None) }
-        ensures ok { OnOk result (self.new ≡ map (with_report frame onu) self.old) }
+    /// Notes that an ONU reported for a map. `Err` only if memory is refused, and then nothing changes.
+    pub fn note_report(&mut self, report: &Accepted) -> Result<(), AllocError>
+        requires accepted { (count : ℕ)
+            × IsAccepted self.old report.now.frame report.now.onu count report.now }
+        ensures ok { OnOk result (self.new
+            ≡ map (with_report report.now.frame report.now.onu) self.old) }
         ensures err { OnErr result (self.new ≡ self.old) }
     {
-        note_report(&mut self.maps, self.past, frame, onu)?;
+        note_report(
+            &mut self.maps,
+            self.past,
+            report.map,
+            report.frame,
+            report.onu,
+        )?;
         Ok(())
     }
 

@@ -47,8 +47,7 @@ use Rattle.pon_state.proofs.Replays.{replay_push}
 
 -- an Alloc-ID that an event does not admit was admitted before
 had_row : (i : ℕ) (v : Event) (rows : List Row) → admits i v ≡ false → has_alloc i (roster_after rows v) ≡ true → has_alloc i rows ≡ true
-had_row i (Admit onu alloc_id descriptor) rows a h =
-    let r : Row = record { onu = onu; alloc_id = alloc_id; descriptor = descriptor } in
+had_row i (Admit r) rows a h =
     sym (ap (λ b. b || has_alloc i rows) a) ∙ sym (list_any-inserted (λ q. q.alloc_id == i) (λ q. comes_before q r) r rows) ∙ h
 had_row i (Change alloc_id descriptor) rows a h = sym (has_alloc-changed alloc_id descriptor i rows) ∙ h
 had_row i (Remove alloc_id) rows a h = (and_parts (not (i == alloc_id)) (has_alloc i rows) (sym (any_without (λ r. r.alloc_id) alloc_id i rows) ∙ h)).1
@@ -135,7 +134,7 @@ module _ (o : State) (es : List Entry) (l : IsLawfulState (closed_form o es)) wh
       one MakeMap (Map made) m = carries_mapped made same
       one MakeMap Taken m = absurd m
       one v (Map made) m = absurd (let t : Map made ≡ Taken = m in cc)
-      one (Admit onu alloc_id descriptor) Taken m = carries_taken (Admit onu alloc_id descriptor)
+      one (Admit r) Taken m = carries_taken (Admit r)
       one (Remove alloc_id) Taken m = carries_taken (Remove alloc_id)
       one (Change alloc_id descriptor) Taken m = carries_taken (Change alloc_id descriptor)
           ∙ map-map (λ r. number_of rows (carries_of carry rows) r.alloc_id) (changed alloc_id descriptor) rows ∙ map_same _ _ (λ r. ap (number_of rows (carries_of carry rows)) (changed_alloc alloc_id descriptor r)) rows ∙ still

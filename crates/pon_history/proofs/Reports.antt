@@ -263,15 +263,15 @@ module _ (o : State) (es : List Entry) (kept : ℕ) (leads : AllLead o es) (belo
 
   -- the accounts of the Alloc-IDs after an event are those of the state after it
   pushed : (v : Event) → MayFollow kept (closed_form o es) (entry v) → map (now v) (allocs_after ids v) ≡ (after_reply (closed_form o es) v reply).book
-  pushed (Admit onu alloc_id descriptor) m =
-      let v : Event = Admit onu alloc_id descriptor in
-      let free : has_alloc alloc_id (roster_of o.roster es) ≡ false
-      = (passes o.rule o.gap (roster_of o.roster es) (record { onu = onu; alloc_id = alloc_id; descriptor = descriptor }) (or_else_none _ (when_full kept (closed_form o es).taken_before) m.accepted).0).free in
+  pushed (Admit r) m =
+      let v : Event = Admit r in
+      let free : has_alloc r.alloc_id (roster_of o.roster es) ≡ false
+      = (passes o.rule o.gap (roster_of o.roster es) r (or_else_none _ (when_full kept (closed_form o es).taken_before) m.accepted).0).free in
       let others : (i : ℕ) → IsKnown i → now v i ≡ was i
       = (λ i k. unmoved v i (continued o es (entry v) below i (ap (λ b. b || false)
-      (ne_eqb alloc_id i (λ e. both_ways (has_alloc i (roster_of o.roster es)) (ap (λ i. has_alloc i (roster_of o.roster es)) (sym e) ∙ free) k.0))))) in
-      map-append (now v) (filter (λ j. nat_lt j alloc_id) ids) (alloc_id ∷ filter (λ j. not (nat_lt j alloc_id)) ids)
-      ∙ (λ j. chosen v (λ j. nat_lt j alloc_id) others j ++ begun o es (entry v) below alloc_id (ap (λ b. b || false) (eq-eqb alloc_id alloc_id refl)) tt j ∷ chosen v (λ j. not (nat_lt j alloc_id)) others j)
+      (ne_eqb r.alloc_id i (λ e. both_ways (has_alloc i (roster_of o.roster es)) (ap (λ i. has_alloc i (roster_of o.roster es)) (sym e) ∙ free) k.0))))) in
+      map-append (now v) (filter (λ j. nat_lt j r.alloc_id) ids) (r.alloc_id ∷ filter (λ j. not (nat_lt j r.alloc_id)) ids)
+      ∙ (λ j. chosen v (λ j. nat_lt j r.alloc_id) others j ++ begun o es (entry v) below r.alloc_id (ap (λ b. b || false) (eq-eqb r.alloc_id r.alloc_id refl)) tt j ∷ chosen v (λ j. not (nat_lt j r.alloc_id)) others j)
   pushed (Change alloc_id descriptor) m = map_same (now (Change alloc_id descriptor)) was (λ i. unmoved (Change alloc_id descriptor) i (continued o es (entry (Change alloc_id descriptor)) below i refl)) ids
   pushed (Remove alloc_id) m = chosen (Remove alloc_id) (λ j. not (j == alloc_id)) (λ i k. unmoved (Remove alloc_id) i (continued o es (entry (Remove alloc_id)) below i refl))
   pushed (Report f u occ) m =

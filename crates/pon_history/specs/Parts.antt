@@ -17,7 +17,7 @@ forgets Restore = true
 forgets _ = false
 
 abbrev pub admits : ℕ → Event → Bool
-admits i (Admit onu alloc_id descriptor) = alloc_id == i
+admits i (Admit r) = r.alloc_id == i
 admits i _ = false
 
 abbrev pub is_report_for : ℕ → ℕ → Event → Bool
@@ -46,7 +46,7 @@ cause_of cause (e ∷ es) = cause_of (cause_after cause e.event) es
 
 -- the roster after an event: a row is added, changed or removed
 abbrev pub roster_after : List Row → Event → List Row
-roster_after rows (Admit onu alloc_id descriptor) = with_row (record { onu = onu; alloc_id = alloc_id; descriptor = descriptor }) rows
+roster_after rows (Admit r) = with_row r rows
 roster_after rows (Change alloc_id descriptor) = with_descriptor alloc_id descriptor rows
 roster_after rows (Remove alloc_id) = without alloc_id rows
 roster_after rows _ = rows
@@ -57,7 +57,7 @@ roster_of rows (e ∷ es) = roster_of (roster_after rows e.event) es
 
 -- the Alloc-IDs of the report book
 abbrev pub allocs_after : List ℕ → Event → List ℕ
-allocs_after ids (Admit onu alloc_id descriptor) = with_alloc alloc_id ids
+allocs_after ids (Admit r) = with_alloc r.alloc_id ids
 allocs_after ids (Remove alloc_id) = without_alloc alloc_id ids
 allocs_after ids _ = ids
 

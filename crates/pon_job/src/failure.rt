@@ -6,7 +6,7 @@ ghost use Rattle.pon_device.specs.declared.fault.DeviceFault.TheVariants.{Memory
 ghost use Rattle.std.specs.declared.io.ErrorKind.TheVariants.{OutOfMemory};
 
 use pon_device::DeviceFault;
-use std::alloc::Global;
+use std::alloc::{AllocError, AllocFailed, Global};
 use std::fmt::{self, Display, Formatter, Write};
 use std::io::{self, ErrorKind};
 
@@ -56,6 +56,26 @@ impl From<DeviceFault> for Failure {
 
     fn from(fault: DeviceFault) -> Self {
         Failure { fault, text: None }
+    }
+}
+
+impl From<AllocError> for Failure {
+    ghost use Rattle.std.specs.Prelude.{◌≡◌, None};
+
+    ghost from_gives = { λ _ failure. failure ≡ record { fault = Memory; text = None } };
+
+    fn from(error: AllocError) -> Self {
+        Failure::from(DeviceFault::from(error))
+    }
+}
+
+impl<T: Drop> From<AllocFailed<T>> for Failure {
+    ghost use Rattle.std.specs.Prelude.{◌≡◌, None};
+
+    ghost from_gives = { λ _ failure. failure ≡ record { fault = Memory; text = None } };
+
+    fn from(_error: AllocFailed<T>) -> Self {
+        Failure::from(AllocError)
     }
 }
 

@@ -5,7 +5,7 @@ use Rattle.std.specs.Str.{bytes_eq}
 use Rattle.pon_text.specs.Lines.{number_of}
 use Rattle.std.proofs.lemmas.Bool.{cases_lt, le-ltb, lt-ltb}
 use Rattle.std.proofs.lemmas.List.{append-nil}
-use Rattle.pon_units.specs.declared.limits.TheConstants.{MAX_OCCUPANCY}
+use Rattle.pon_units.specs.declared.limits.TheConstants.{MAX_OCCUPANCY, MAX_SERIES}
 use Rattle.pon_lists.specs.ResultSteps.{◌>>=◌}
 use Rattle.pon_line.specs.Fields.{number_field, or_bad_field}
 use Rattle.pon_line.specs.Commands.{occupancy_field, occupancy_fields, report, report_of}
@@ -57,7 +57,7 @@ too_many frame onu ws many = miscounted frame onu ws (ap (λ b. length ws == 0 |
 pub too_few : (frame onu : List ℕ) (ws : List (List ℕ)) → length ws ≡ 0 → report_of (frame ∷ onu ∷ ws) ≡ Err WordCount
 too_few frame onu ws none = miscounted frame onu ws (ap (λ n. n == 0 || nat_lt 16 n) none)
 
-counted : (ws : List (List ℕ)) → 0 < length ws → length ws ≤ 16 → count_fails ws ≡ false
+counted : (ws : List (List ℕ)) → 0 < length ws → length ws ≤ MAX_SERIES → count_fails ws ≡ false
 counted ws some few =
     let not_none : (length ws == 0) ≡ false = grind (arith, some) in
     ap (λ b. b || nat_lt 16 (length ws)) not_none ∙ le-ltb 16 (length ws) few

@@ -28,7 +28,7 @@ unrefused (Some refusal) v h = tt
 
 admits : (onu alloc : ℕ) (d : Descriptor) → Reads IsOtherEvent (admit onu alloc d)
 unfolding admit
-admits onu alloc d = unrefused (first_refusal_of (alloc_refusal alloc ∷ onu_refusal onu ∷ descriptor_refusal d ∷ [])) (Admit onu alloc d) tt
+admits onu alloc d = unrefused (first_refusal_of (alloc_refusal alloc ∷ onu_refusal onu ∷ descriptor_refusal d ∷ [])) (Admit (record { onu = onu; alloc_id = alloc; descriptor = d })) tt
 
 changes : (alloc : ℕ) (d : Descriptor) → Reads IsOtherEvent (change alloc d)
 unfolding change

@@ -26,7 +26,7 @@ onu_refusal onu = when (nat_lt MAX_ONU_ID onu) OnuRange
 
 -- the events of numbers, or the first refusal
 unfoldable pub admit : ℕ → ℕ → Descriptor → Result Event LineFault
-admit onu alloc d = unless (first_refusal_of (alloc_refusal alloc ∷ onu_refusal onu ∷ descriptor_refusal d ∷ [])) (Admit onu alloc d)
+admit onu alloc d = unless (first_refusal_of (alloc_refusal alloc ∷ onu_refusal onu ∷ descriptor_refusal d ∷ [])) (Admit (record { onu = onu; alloc_id = alloc; descriptor = d }))
 
 unfoldable pub change : ℕ → Descriptor → Result Event LineFault
 change alloc d = unless (first_refusal_of (alloc_refusal alloc ∷ descriptor_refusal d ∷ [])) (Change alloc d)

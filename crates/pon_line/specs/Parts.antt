@@ -22,7 +22,7 @@ asks_in (FrameCommand.Report port frame onu) ns = Asks port (Report frame onu ns
 
 -- neither a request for a map nor a report
 abbrev pub IsOtherEvent : Event → Type 0
-IsOtherEvent (Admit onu alloc d) = Unit {0}
+IsOtherEvent (Admit r) = Unit {0}
 IsOtherEvent (Change alloc d) = Unit {0}
 IsOtherEvent (Remove alloc) = Unit {0}
 IsOtherEvent (Report frame onu ns) = ⊥

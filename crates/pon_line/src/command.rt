@@ -15,7 +15,7 @@ use crate::fields::{
 };
 use crate::occupancies::occupancy_fields;
 use crate::reading::{FrameCommand, Reading};
-use pon_admit::Event;
+use pon_admit::{Event, Row};
 use pon_dbru::Occupancies;
 use pon_descr::Refusal;
 use pon_text::{Word, first_word};
@@ -33,11 +33,7 @@ fn admit(onu: u64, alloc: u64, rates: &Rates) -> Result<Event, LineFault>
         return Err(LineFault::Port(Refusal::OnuRange));
     };
     match descriptor_of(rates) {
-        Ok(descriptor) => Ok(Event::Admit {
-            onu,
-            alloc_id,
-            descriptor,
-        }),
+        Ok(descriptor) => Ok(Event::Admit(Row::new(onu, alloc_id, descriptor))),
         Err(refusal) => Err(LineFault::Port(refusal)),
     }
 }

@@ -4,6 +4,7 @@ use Rattle.std.specs.Int.{w32, from_be_bytes}
 use Rattle.std.proofs.lemmas.Bool.{cases_lt}
 use Rattle.std.proofs.lemmas.List.{get_or_append_left, drop-append-le, length-drop}
 use Rattle.std.proofs.lemmas.Slice.{between_to_end}
+use Rattle.pon_units.specs.declared.limits.TheConstants.{MAX_STRUCTURES}
 use Rattle.pon_hec.specs.HeaderCode.{Reads}
 use Rattle.pon_xgtc.specs.HLend.{HLend, hlend_payload, ReadsHLend}
 use Rattle.pon_bwmap.proofs.OneMap.{one_head}
@@ -170,7 +171,7 @@ down_told d bytes r down m =
     (subst (λ (t : List ℕ). MatchOption r ((n : ℕ) → AnnouncesMap t n → ⊥) (AnnouncesMap t)) rest m)
 
 -- a head that announces too much gives no size
-pub big_head : (map : List ℕ) (h : HLend) (k n : ℕ) → AreBytes map → ReadsHLend map h k → (512 < h.n) ⊎ (0 < h.p) → AnnouncesMap map n → ⊥
+pub big_head : (map : List ℕ) (h : HLend) (k n : ℕ) → AreBytes map → ReadsHLend map h k → (MAX_STRUCTURES < h.n) ⊎ (0 < h.p) → AnnouncesMap map n → ⊥
 big_head map h k n small r big a =
     let same = one_head map h a.0 k a.1 small r a.2 in
     elim big [ inl rows ↦ omega (arith, rows, same.0, a.3) | inr messages ↦ omega (arith, messages, same.1, a.4) ]

@@ -4,6 +4,7 @@ use Rattle.std.specs.Prelude.{slice_get, is_none, is_some}
 use Rattle.std.proofs.lemmas.Bool.{cases_lt}
 use Rattle.std.proofs.lemmas.List.{length-take-le}
 use Rattle.std.proofs.lemmas.Option.{slice_get_past, slice_get_read}
+use Rattle.pon_units.specs.declared.limits.TheConstants.{MAX_SERIES}
 use Rattle.pon_bwmap.specs.Alloc.{Alloc}
 use Rattle.pon_bwmap.specs.MapRules.{IsMap, continues}
 use Rattle.pon_bwmap.proofs.SeriesLaw.{map_rules}
@@ -37,7 +38,7 @@ is_series rows len some within keeps goes =
       goes_on = λ k after lt. (let within_len : k < len = omega (arith, size, lt) in ap continues (get_front len k rows within_len) ∙ goes k after within_len);
     }
 
-pub at_most_16 : (rows : List Alloc) (len : ℕ) → KeepsSeries rows → GoesOn rows len → len ≤ 16
+pub at_most_16 : (rows : List Alloc) (len : ℕ) → KeepsSeries rows → GoesOn rows len → len ≤ MAX_SERIES
 at_most_16 rows len keeps goes = elim (cases_lt len 17) [
   | inl less ↦ omega (arith, less)
   | inr ge ↦ absurd (keeps.short 1 (λ j lt. goes (1 + j) (omega arith) (omega (arith, lt, ge))))

@@ -3,6 +3,7 @@ use Rattle.std.proofs.Common.{◌≡◌, ℕ, ◌+◌, ◌-◌, ◌<◌, ◌≤�
 use Rattle.std.specs.List.{list_any}
 use Rattle.std.proofs.lemmas.List.{append-nil, drop_all}
 use Rattle.std.proofs.Math.Seq.{take-nil}
+use Rattle.pon_units.specs.declared.limits.TheConstants.{MAX_OCCUPANCY, MAX_SERIES}
 use Rattle.pon_bwmap.specs.Alloc.{Alloc}
 use Rattle.pon_link.specs.Units.{asks, answered, waiting, queue_after, served, reported_occupancies}
 
@@ -16,7 +17,7 @@ own_kept a (q ∷ queues) id = ap (λ (n : ℕ). (n == id) || list_any (λ p. p.
 
 -- After k structures, the reports so far, followed by those for the other structures, are the whole answer.
 pub record HasAnswered (first : List (ℕ × ℕ)) (rows : List Alloc) (k : ℕ) (queues : List (ℕ × ℕ)) (occ : List (Option ℕ)) : Type 0 where
-  pub few : length occ ≤ 16
+  pub few : length occ ≤ MAX_SERIES
   pub own : (id : ℕ) → list_any (λ q. q.0 == id) queues ≡ list_any (λ q. q.0 == id) first
   pub reports_are : occ ++ reported_occupancies queues (take (16 - length occ) (filter (asks first) (drop k rows))) ≡ reported_occupancies first (answered first rows)
   pub queues_are : served queues (take (16 - length occ) (filter (asks first) (drop k rows))) ≡ served first (answered first rows)
@@ -51,9 +52,9 @@ passed_over first rows k queues occ a h lt is not =
     }
 
 -- a structure that requests a report is answered
-pub is_answered : (first : List (ℕ × ℕ)) (rows : List Alloc) (k : ℕ) (queues : List (ℕ × ℕ)) (occ : List (Option ℕ)) (a : Alloc) → HasAnswered first rows k queues occ → k < length rows → a ≡ get_or rows k a → length occ < 16 → asks first a ≡ true → HasAnswered first rows (k + 1) (map (queue_after a) queues) (occ ++ Some (min (waiting queues a.id) 16777215) ∷ [])
+pub is_answered : (first : List (ℕ × ℕ)) (rows : List Alloc) (k : ℕ) (queues : List (ℕ × ℕ)) (occ : List (Option ℕ)) (a : Alloc) → HasAnswered first rows k queues occ → k < length rows → a ≡ get_or rows k a → length occ < MAX_SERIES → asks first a ≡ true → HasAnswered first rows (k + 1) (map (queue_after a) queues) (occ ++ Some (min (waiting queues a.id) MAX_OCCUPANCY) ∷ [])
 is_answered first rows k queues occ a h lt is room asked =
-    let report = Some (min (waiting queues a.id) 16777215) in
+    let report = Some (min (waiting queues a.id) MAX_OCCUPANCY) in
     let later = filter (asks first) (drop (k + 1) rows) in
     let grown : length (occ ++ report ∷ []) ≡ length occ + 1 = length-append occ (report ∷ []) in
     let others : filter (asks first) (drop k rows) ≡ a ∷ later
@@ -86,7 +87,7 @@ pub asks_alike : (first queues : List (ℕ × ℕ)) (a : Alloc) → ((id : ℕ) 
 asks_alike first queues a own = ap (λ (b : Bool). a.dbru && b) (own a.id)
 
 -- one more structure
-pub one_more : (first : List (ℕ × ℕ)) (rows : List Alloc) (k : ℕ) (queues queues2 : List (ℕ × ℕ)) (occ occ2 : List (Option ℕ)) (a : Alloc) → HasAnswered first rows k queues occ → k < length rows → a ≡ get_or rows k a → length occ < 16 → (asks queues a ≡ true → (occ2 ≡ occ ++ Some (min (waiting queues a.id) 16777215) ∷ []) × (queues2 ≡ map (queue_after a) queues)) → (asks queues a ≡ false → (occ2 ≡ occ) × (queues2 ≡ queues)) → HasAnswered first rows (k + 1) queues2 occ2
+pub one_more : (first : List (ℕ × ℕ)) (rows : List Alloc) (k : ℕ) (queues queues2 : List (ℕ × ℕ)) (occ occ2 : List (Option ℕ)) (a : Alloc) → HasAnswered first rows k queues occ → k < length rows → a ≡ get_or rows k a → length occ < MAX_SERIES → (asks queues a ≡ true → (occ2 ≡ occ ++ Some (min (waiting queues a.id) MAX_OCCUPANCY) ∷ []) × (queues2 ≡ map (queue_after a) queues)) → (asks queues a ≡ false → (occ2 ≡ occ) × (queues2 ≡ queues)) → HasAnswered first rows (k + 1) queues2 occ2
 one_more first rows k queues queues2 occ occ2 a h lt is room if_asked if_not =
     let alike = asks_alike first queues a h.own in
     let P : Bool → Type 0 = λ b. asks queues a ≡ b → HasAnswered first rows (k + 1) queues2 occ2 in

@@ -1,6 +1,7 @@
 -- Each answer can be written.
 use Rattle.std.proofs.Common.{◌≡◌, ◌≢◌, ℕ, zero, suc, ◌<◌, ◌≤◌, List, [], ◌∷◌, length, All, map, IsSome, Option, Some, inl, inr, refl, sym, ap, subst, arith}
 use Rattle.std.proofs.lemmas.List.{length-take}
+use Rattle.pon_units.specs.declared.limits.TheConstants.{MAX_SERIES}
 use Rattle.pon_bwmap.specs.Alloc.{Alloc}
 use Rattle.pon_link.specs.Units.{UnitState, answered, queue_after, reported_occupancies}
 use Rattle.pon_link.specs.declared.record.UpRecord.{UpRecord}
@@ -32,7 +33,7 @@ all_zeros (a ∷ rows) (suc k) d lt = all_zeros rows k d (omega (arith, lt))
 
 -- ---- answers
 
-foreign_writable : (frame : ℕ) (series : List Alloc) → 0 < length series → length series ≤ 16 → IsWritable (foreign_answer frame series)
+foreign_writable : (frame : ℕ) (series : List Alloc) → 0 < length series → length series ≤ MAX_SERIES → IsWritable (foreign_answer frame series)
 foreign_writable frame series some limit =
     let size = length-zeros series in
     record { head = refl; some = omega (arith, size, some); limit = omega (arith, size, limit); reports = all_zeros series }
@@ -41,10 +42,10 @@ unit_writable : (frame : ℕ) (unit : UnitState) (series : List Alloc) → 0 < l
 unit_writable frame unit series some =
     let rows = answered unit.queues series in
     let size = length-reports unit.queues rows in
-    let few : length rows ≤ 16 = omega (arith, length-take {A = Alloc}) in
+    let few : length rows ≤ MAX_SERIES = omega (arith, length-take {A = Alloc}) in
     record { head = refl; some = omega (arith, size, some); limit = omega (arith, size, few); reports = all_reported unit.queues rows }
 
-answer_writable : (frame : ℕ) (unit : UnitState) (series : List Alloc) (answer : UpRecord) → 0 < length series → length series ≤ 16 → UnitAnswers frame unit series answer → IsWritable answer
+answer_writable : (frame : ℕ) (unit : UnitState) (series : List Alloc) (answer : UpRecord) → 0 < length series → length series ≤ MAX_SERIES → UnitAnswers frame unit series answer → IsWritable answer
 answer_writable frame unit series answer some limit h = by_rows (answered unit.queues series) refl
   where
     by_rows : (rows : List Alloc) → answered unit.queues series ≡ rows → IsWritable answer
@@ -54,6 +55,6 @@ answer_writable frame unit series answer some limit h = by_rows (answered unit.q
         let not : answered unit.queues series ≢ [] = λ none. absurd (cc) in
         subst IsWritable (sym (h.reported not)) (unit_writable frame unit series (omega (arith, size)))
 
-pub writable : (frame : ℕ) (series : List Alloc) (old new : List UnitState) (answer : UpRecord) → 0 < length series → length series ≤ 16 → AnswersSeries frame series old new answer → IsWritable answer
+pub writable : (frame : ℕ) (series : List Alloc) (old new : List UnitState) (answer : UpRecord) → 0 < length series → length series ≤ MAX_SERIES → AnswersSeries frame series old new answer → IsWritable answer
 writable frame series old new answer some limit (inl own) = answer_writable frame own.unit series answer some limit own.answers
 writable frame series old new answer some limit (inr nobody) = subst IsWritable (sym nobody.answer_is) (foreign_writable frame series some limit)

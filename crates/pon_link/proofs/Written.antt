@@ -3,6 +3,7 @@ use Rattle.std.proofs.Common.{◌≡◌, ℕ, ◌+◌, ◌*◌, ◌^◌, ◌<◌
 use Rattle.std.specs.Int.{w64, to_be_bytes, from_be_bytes}
 use Rattle.std.proofs.lemmas.Nat.{from_be_bytes-to_be_bytes_8}
 use Rattle.std.proofs.lemmas.List.{take_more, drop-append-le, take-append-drop}
+use Rattle.pon_units.specs.declared.limits.TheConstants.{MAX_SERIES}
 use Rattle.pon_xgtc.specs.Header.{header_bytes}
 use Rattle.pon_xgtc.specs.BurstHead.{BurstHead, FitsBurstHead, ReadsBurstHead, burst_head_payload}
 use Rattle.pon_xgtc.proofs.HeaderReading.{header_reads}
@@ -25,7 +26,7 @@ front frame h count = 0x55 ∷ (to_be_bytes w64 frame ++ header_bytes (burst_hea
 head_written : (frame count : ℕ) (h : BurstHead) (rest : List ℕ) → FitsBurstHead h → ReadsBurstHead (take 4 (drop 9 (front frame h count ++ rest))) h 0
 head_written frame count h rest fits = record { fits = fits; header = header_reads (burst_head_payload h) [] (omega (arith, fits.onu_raw, fits.ind)) }
 
-pub record_written : (bytes : List ℕ) (r : UpRecord) (h : BurstHead) → FitsBurstHead h → r.frame < 2 ^ 64 → r.head ≡ Some h → length bytes ≡ 14 + 4 * length r.occ → 1 ≤ length r.occ → length r.occ ≤ 16 → take 14 bytes ≡ front r.frame h (length r.occ) → ReadsReports (drop 14 bytes) r.occ → IsRecord bytes r
+pub record_written : (bytes : List ℕ) (r : UpRecord) (h : BurstHead) → FitsBurstHead h → r.frame < 2 ^ 64 → r.head ≡ Some h → length bytes ≡ 14 + 4 * length r.occ → 1 ≤ length r.occ → length r.occ ≤ MAX_SERIES → take 14 bytes ≡ front r.frame h (length r.occ) → ReadsReports (drop 14 bytes) r.occ → IsRecord bytes r
 record_written bytes r h fits frame head size some limit is reports =
     let whole : front r.frame h (length r.occ) ++ drop 14 bytes ≡ bytes = ap (λ (t : List ℕ). t ++ drop 14 bytes) (sym is) ∙ take-append-drop 14 bytes in
     record {

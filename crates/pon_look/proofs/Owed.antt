@@ -63,7 +63,7 @@ module _ (range : FrameRange) (i : ℕ) where
   none_of_reply : (s : State) (v : Event) (r : Reply) → IsReply s v r → (amounts_in_reply range i s r).below ≡ 0
   none_of_reply s MakeMap Taken h = absurd h
   none_of_reply s MakeMap (Map m) h = none_of_map s m h (is_within range m.frame)
-  none_of_reply s (Admit u j d) r h = none_of_other s r h
+  none_of_reply s (Admit row) r h = none_of_other s r h
   none_of_reply s (Change j d) r h = none_of_other s r h
   none_of_reply s (Remove j) r h = none_of_other s r h
   none_of_reply s (Report f u occ) r h = none_of_other s r h

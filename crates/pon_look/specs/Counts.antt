@@ -15,7 +15,7 @@ is_report (Report frame onu occ) = true
 is_report _ = false
 
 abbrev pub is_admission : Event → Bool
-is_admission (Admit onu alloc_id descriptor) = true
+is_admission (Admit r) = true
 is_admission _ = false
 
 abbrev pub is_removal : Event → Bool

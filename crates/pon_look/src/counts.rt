@@ -31,7 +31,7 @@ pub fn report_count(entries: &[Entry]) -> u64
 fn is_admission(entry: &Entry) -> bool
     ensures { result ≡ Rattle.pon_look.specs.Counts.is_admission entry.now.event }
 {
-    matches!(entry.as_ref(), EntryRef::Taken(Event::Admit { .. }))
+    matches!(entry.as_ref(), EntryRef::Taken(Event::Admit(_)))
 }
 
 /// Returns the number of admissions of an Alloc-ID.

@@ -45,12 +45,9 @@ fn append_report(
 // Makes the management line of an event that is no report, without its port.
 fn event_text(alloc: Global, event: &Event) -> Result<String, AllocError> {
     match event {
-        Event::Admit {
-            onu,
-            alloc_id,
-            descriptor,
-        } => {
-            let (onu, alloc_id, rates) = (onu.get(), alloc_id.get(), Rates(descriptor));
+        Event::Admit(row) => {
+            let (onu, alloc_id) = (row.onu.get(), row.alloc_id.get());
+            let rates = Rates(&row.descriptor);
             format!(in alloc; "admit {onu} {alloc_id} {rates}")
         }
         Event::Change {

@@ -28,8 +28,8 @@ fn onu_count(alloc: Global, owners: &OnuOfAlloc) -> Result<u64, AllocError> {
 // Takes an entry.
 fn take(owners: &mut OnuOfAlloc, entry: &Entry) -> Result<(), AllocError> {
     match entry.as_ref() {
-        EntryRef::Taken(Event::Admit { onu, alloc_id, .. }) => {
-            owners.insert(alloc_id.get(), onu.get())?;
+        EntryRef::Taken(Event::Admit(row)) => {
+            owners.insert(row.alloc_id.get(), row.onu.get())?;
         }
         EntryRef::Taken(Event::Remove { alloc_id }) => {
             owners.remove(&alloc_id.get());

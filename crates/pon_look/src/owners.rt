@@ -31,11 +31,7 @@ impl Owners {
     // Takes an event that the port took.
     fn take(&mut self, event: &Event) {
         match event {
-            Event::Admit {
-                onu,
-                alloc_id,
-                descriptor,
-            } => self.set(*alloc_id, Some(Row::new(*onu, *alloc_id, *descriptor))),
+            Event::Admit(row) => self.set(row.alloc_id, Some(*row)),
             Event::Change {
                 alloc_id,
                 descriptor,

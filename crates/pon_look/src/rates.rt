@@ -111,9 +111,7 @@ fn write_port<W: DevWrite>(
 ) -> Result<(), DeviceFault>
     ensures write { OnlyWrites (W.failures writer.old) (W.failures writer.new) result }
 {
-    let Ok(changes) = sorted_changes(alloc, rates.tally.changes(), query) else {
-        return Err(DeviceFault::Memory);
-    };
+    let changes = sorted_changes(alloc, rates.tally.changes(), query)?;
     for (place, change) in changes.iter().enumerate() {
         let is_last = match changes.get(place + 1) {
             Some(next) => next.row.alloc_id != change.row.alloc_id,

@@ -94,7 +94,7 @@ impl Tally {
         ensures { self.new.allocs ≡ self.old.allocs }
     {
         match event {
-            Event::Admit { .. } | Event::Change { .. } | Event::Remove { .. } => {
+            Event::Admit(_) | Event::Change { .. } | Event::Remove { .. } => {
                 self.are_rows_noted = false;
             }
             _ => {}

@@ -110,9 +110,7 @@ fn write_map<W: DevWrite>(
     let EntryRef::Map(made) = chapter.entries[place.entry].as_ref() else {
         return Ok(());
     };
-    let Ok(reports) = reports_of(alloc, &chapter.entries[..place.entry], &explained.rows) else {
-        return Err(DeviceFault::Memory);
-    };
+    let reports = reports_of(alloc, &chapter.entries[..place.entry], &explained.rows)?;
     write_line(map_line(alloc, place, explained, &made.cert), writer)?;
     write_rows(alloc, place, made, explained, &reports, writer)
 }
@@ -141,21 +139,20 @@ fn answer_by<W: DevWrite>(
         alloc: query.alloc,
         format,
     };
-    match explain_entry(alloc, chapter, *entry) {
-        Ok(MapAnswer::Explained(explained)) => match missing_alloc(&explained.rows, query.alloc) {
+    match explain_entry(alloc, chapter, *entry)? {
+        MapAnswer::Explained(explained) => match missing_alloc(&explained.rows, query.alloc) {
             Some(missing) => Ok(Answer::NotFound(missing)),
             None => {
                 write_map(alloc, chapter, &place, &explained, writer)?;
                 Ok(Answer::Shown)
             }
         },
-        Ok(MapAnswer::Refused(entry)) => Ok(Answer::NotFound(Missing::State {
+        MapAnswer::Refused(entry) => Ok(Answer::NotFound(Missing::State {
             port: chapter.port,
             frame: *frame,
             chapter: chapter.number,
             entry: entry as u64,
         })),
-        Err(_) => Err(DeviceFault::Memory),
     }
 }
 

@@ -6,7 +6,7 @@ use Rattle.std.specs.Str.Parse.{digits_value}
 use Rattle.std.specs.List.{AllByRecursion}
 use Rattle.std.proofs.lemmas.Bool.{or_parts, and_parts, ltb-true, ltb-false, eqb-false}
 use Rattle.std.proofs.lemmas.List.Elements.{All-from_recursion}
-use Rattle.pon_units.specs.declared.limits.TheConstants.{LINE_RATE}
+use Rattle.pon_units.specs.declared.limits.TheConstants.{LINE_RATE, MAX_ALLOC_ID, MAX_OCCUPANCY, MAX_ONU_ID, MAX_SERIES, MIN_ALLOC_ID}
 use Rattle.pon_lists.specs.ResultSteps.{◌>>=◌}
 use Rattle.pon_text.specs.Lines.{is_numeral}
 use Rattle.pon_descr.specs.Checks.{when, first_refusal_of}
@@ -55,11 +55,11 @@ number_small w = small (is_numeral w && nat_lt (digits_value 10 w) (2 ^ 64)) (λ
 
 managed : (i : ℕ) → alloc_refusal i ≡ None → IsManaged i
 managed i h =
-    let out : ((nat_lt i 1024) ≡ false) × ((nat_lt 16383 i) ≡ false) = or_parts (nat_lt i 1024) (nat_lt 16383 i) (when_none (nat_lt i 1024 || nat_lt 16383 i) AllocRange h) in
-    (ltb-false i 1024 out.0, ltb-false 16383 i out.1)
+    let out : ((nat_lt i MIN_ALLOC_ID) ≡ false) × ((nat_lt MAX_ALLOC_ID i) ≡ false) = or_parts (nat_lt i MIN_ALLOC_ID) (nat_lt MAX_ALLOC_ID i) (when_none (nat_lt i MIN_ALLOC_ID || nat_lt MAX_ALLOC_ID i) AllocRange h) in
+    (ltb-false i MIN_ALLOC_ID out.0, ltb-false MAX_ALLOC_ID i out.1)
 
-onu_small : (u : ℕ) → onu_refusal u ≡ None → u ≤ 1022
-onu_small u h = ltb-false 1022 u (when_none (nat_lt 1022 u) OnuRange h)
+onu_small : (u : ℕ) → onu_refusal u ≡ None → u ≤ MAX_ONU_ID
+onu_small u h = ltb-false MAX_ONU_ID u (when_none (nat_lt MAX_ONU_ID u) OnuRange h)
 
 suits : (c : Class) (promise most : ℕ) → promise ≤ most → class_refusal c promise most ≡ None → SuitsClass c promise most
 suits Plain promise most le h = tt
@@ -87,7 +87,7 @@ lawful d h =
 
 admit_reads : (onu alloc : ℕ) (d : Descriptor) → Reads IsEvent (admit onu alloc d)
 unfolding admit
-admit_reads onu alloc d = unrefused (first_refusal_of (alloc_refusal alloc ∷ onu_refusal onu ∷ descriptor_refusal d ∷ [])) (Admit onu alloc d) (λ h.
+admit_reads onu alloc d = unrefused (first_refusal_of (alloc_refusal alloc ∷ onu_refusal onu ∷ descriptor_refusal d ∷ [])) (Admit (record { onu = onu; alloc_id = alloc; descriptor = d })) (λ h.
     let none = none_refuses (alloc_refusal alloc ∷ onu_refusal onu ∷ descriptor_refusal d ∷ []) h in
     let i : IsManaged alloc = managed alloc none.0 in
     record { onu = onu_small onu none.1.0; managed = i.0; alloc_id = i.1; descriptor = lawful d none.1.1.0 })
@@ -136,7 +136,7 @@ unfolding occupancy_field
 occupancy_small w =
     chosen IsOccupancy (bytes_eq w (codes "x")) (Ok None) _ tt (
     next_step (λ _. Unit {0}) IsOccupancy (number_field w) _ (any (number_field w)) (λ n _.
-    guarded IsOccupancy (nat_lt 16777215 n) BadField (Ok (Some n)) (λ e. let le : n ≤ 16777215 = ltb-false 16777215 n e in omega (arith, le))))
+    guarded IsOccupancy (nat_lt MAX_OCCUPANCY n) BadField (Ok (Some n)) (λ e. let le : n ≤ MAX_OCCUPANCY = ltb-false MAX_OCCUPANCY n e in omega (arith, le))))
 
 -- one occupancy for each word
 abbrev OneEach : List (List ℕ) → List (Option ℕ) → Type 0
@@ -155,7 +155,7 @@ report_words [] = tt
 report_words (frame ∷ []) = tt
 report_words (frame ∷ onu ∷ ws) =
     guarded IsEvent (length ws == 0 || nat_lt 16 (length ws)) _ _ (λ e.
-    let few : length ws ≤ 16 = ltb-false 16 (length ws) (or_parts (length ws == 0) (nat_lt 16 (length ws)) e).1 in
+    let few : length ws ≤ MAX_SERIES = ltb-false MAX_SERIES (length ws) (or_parts (length ws == 0) (nat_lt MAX_SERIES (length ws)) e).1 in
     next_step (λ n. n < 2 ^ 64) IsEvent (number_field frame) _ (number_small frame) (λ f small.
     next_step (λ _. Unit {0}) IsEvent (number_field onu) _ (any (number_field onu)) (λ u _.
     next_step (OneEach ws) IsEvent (occupancy_fields ws) _ (occupancies_small ws) (λ ns each.

@@ -49,13 +49,9 @@ pub fn plan<N: Notes, R: DevRead, W: DevWrite>(
         (R.failures reader.new) result }
     ensures write { TellsWrite (W.failures writer.old) (W.failures writer.new) result }
 {
-    match start(alloc, ports, steps.as_slice()) {
-        Ok(mut plant) => {
-            let mut answers = AtPlant::new(alloc, notes);
-            answer_input(alloc, &mut answers, &mut plant, reader, writer)
-        }
-        Err(_) => Err(DeviceFault::Memory),
-    }
+    let mut plant = start(alloc, ports, steps.as_slice())?;
+    let mut answers = AtPlant::new(alloc, notes);
+    answer_input(alloc, &mut answers, &mut plant, reader, writer)
 }
 
 /// How management lines and the recording of their ports ended.

@@ -31,9 +31,7 @@ pub(crate) fn start(
     requires { IsPlantSize (length ports.now) }
     ensures { IfOk result (λ plant. IsStart ports.now steps.now plant) }
 {
-    let Ok(mut plant) = Plant::open(alloc, ports) else {
-        return Err(AllocError);
-    };
+    let mut plant = Plant::open(alloc, ports).map_err(|_| AllocError)?;
     let answers = plant.run(alloc, steps)?;
     if answers.iter().any(is_out_of_memory) {
         return Err(AllocError);

@@ -32,10 +32,8 @@ fn print_verdict<R: Print>(
     name: &str,
     verdict: &Verdict,
 ) -> Result<(), DeviceFault> {
-    match format!(in alloc; "{name}: {verdict}\n") {
-        Ok(line) => write_text(&mut StdWrite::new(io::writer(rt)), line.as_bytes()),
-        Err(_) => Err(DeviceFault::Memory),
-    }
+    let line = format!(in alloc; "{name}: {verdict}\n")?;
+    write_text(&mut StdWrite::new(io::writer(rt)), line.as_bytes())
 }
 
 // Prints the verdict on a recording, and what it holds, as JSON.

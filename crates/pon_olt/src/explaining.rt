@@ -87,10 +87,8 @@ fn reason_of_frame<'a>(port: &Port, frame: u64) -> Reason<'a> {
     if frame >= next {
         return Reason::NotMade { frame, next };
     }
-    let first = match port.state().loads().window_at(0) {
-        Some(map) => Some(map.frame().get()),
-        None => None,
-    };
+    let maps = port.state().loads().window().maps();
+    let first = maps.first().map(|map| map.frame().get());
     Reason::TooOld { frame, first }
 }
 

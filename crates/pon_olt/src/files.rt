@@ -7,7 +7,7 @@ use pon_device::{DeviceFault, StdRead};
 use pon_job::{Failure, Named};
 use pon_record::Version;
 use pon_run::PartFile;
-use std::alloc::Global;
+use std::alloc::{AllocError, Global};
 use std::fs::{self, OpenFile};
 use std::io::{self, BufReader, Read, Write};
 use std::rt::Files;
@@ -32,10 +32,8 @@ pub(crate) fn open_recording<R: Files>(
     name: &str,
 ) -> Result<StdRead<BufReader<R::File>>, Failure> {
     let file = open_file(rt, alloc, name, Named::Recording(name))?;
-    match BufReader::new(alloc, file) {
-        Ok(input) => Ok(StdRead::new(input)),
-        Err(_) => Err(Failure::from(DeviceFault::Memory)),
-    }
+    let input = BufReader::new(alloc, file).map_err(|_| AllocError)?;
+    Ok(StdRead::new(input))
 }
 
 // Reads the bytes of a recording that may be migrated: a file that does not begin as one of version 1 is read no further.

@@ -36,7 +36,7 @@ use pon_job::{Failure, Job, Named, Outcome, exit_status, outcome_of_job, outcome
 pub use pon_manage::plan;
 pub use pon_record::migrate;
 pub use pon_run::{run_ports, run_units};
-use std::alloc::Global;
+use std::alloc::{AllocError, Global};
 use std::io::{self, BufReader};
 use std::net::{Net, TcpListener, TcpStream};
 use std::process::ExitCode;
@@ -57,9 +57,7 @@ fn print_refusal(rt: &impl Eprint, line: &str) -> Outcome
 fn judge_file<R: Files + Print>(rt: &R, alloc: Global, name: &str) -> Result<bool, Failure> {
     let named = Named::CheckFile(name);
     let file = open_file(rt, alloc, name, named)?;
-    let Ok(input) = BufReader::new(alloc, file) else {
-        return Err(Failure::from(DeviceFault::Memory));
-    };
+    let input = BufReader::new(alloc, file).map_err(|_| AllocError)?;
     let mut reader = StdRead::new(input);
     let mut writer = StdWrite::new(io::writer(rt));
     match check_file(alloc, &mut reader, &mut writer) {

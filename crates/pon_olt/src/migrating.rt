@@ -10,9 +10,7 @@ use std::rt::Files;
 
 // Prints a line of text.
 fn print_line<R: Print>(rt: &R, line: Result<String, AllocError>) -> Result<(), DeviceFault> {
-    let Ok(line) = line else {
-        return Err(DeviceFault::Memory);
-    };
+    let line = line?;
     write_text(&mut StdWrite::new(io::writer(rt)), line.as_bytes())
 }
 

@@ -10,7 +10,7 @@ use pon_device::{DevRead, DevWrite, DeviceFault, StdRead, StdWrite};
 use pon_job::{Failure, Plan};
 use pon_manage::{Opening, PlanEnd, RecordedPlan, plan, plan_recorded};
 use pon_run::{RecordArgs, begin_recording, end_recording};
-use std::alloc::Global;
+use std::alloc::{AllocError, Global};
 use std::io::{self, BufReader};
 use std::rt::Files;
 
@@ -78,9 +78,7 @@ fn plan_lines<R: Input + Print + Eprint + Files>(
 ) -> Result<bool, Failure>
     requires { IsPlantSize (length opening.ports.items) }
 {
-    let Ok(input) = BufReader::new(alloc, rt.reader()) else {
-        return Err(Failure::from(DeviceFault::Memory));
-    };
+    let input = BufReader::new(alloc, rt.reader()).map_err(|_| AllocError)?;
     let mut reader = StdRead::new(input);
     let mut writer = StdWrite::new(io::writer(rt));
     if !job.strict {

@@ -35,7 +35,7 @@ fn port_of_admit(line: &[u8]) -> Option<usize> {
     match read_line(2, line) {
         Reading::Asks {
             port,
-            event: Event::Admit { .. },
+            event: Event::Admit(_),
         } => Some(port),
         _ => None,
     }

@@ -18,17 +18,7 @@ fn row(onu: u16, alloc_id: u16, rates: (u64, u64, u64), class: Class) -> Option<
 }
 
 fn admission(port: u8, row: Row) -> Option<(PortNo, Event)> {
-    let Row {
-        onu,
-        alloc_id,
-        descriptor,
-    } = row;
-    let event = Event::Admit {
-        onu,
-        alloc_id,
-        descriptor,
-    };
-    Some((PortNo::new(port)?, event))
+    Some((PortNo::new(port)?, Event::Admit(row)))
 }
 
 // Returns whether a port has the opening and the row of the example.

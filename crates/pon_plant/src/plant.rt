@@ -6,7 +6,7 @@ use crate::opening::open_ports;
 use pon_admit::{Event, PortCfg, Step};
 use pon_descr::Refusal;
 use pon_port::{Chapter, Port};
-use pon_state::{MAX_ENTRIES, Reply, refusal_of};
+use pon_state::{MAX_ENTRIES, Reply, check};
 use pon_units::{FrameNo, MAX_PORTS, PortNo};
 use std::alloc::{AllocError, Global};
 use std::marker::Model;
@@ -19,7 +19,7 @@ fn is_full_for(port: &Port, event: &Event) -> bool
     if kept < MAX_ENTRIES || port.chapter_number() == u64::MAX {
         return false;
     }
-    refusal_of(port.state(), kept, event) == Some(Refusal::ChapterFull)
+    matches!(check(port.state(), kept, event), Err(Refusal::ChapterFull))
 }
 
 /// The ports of a line terminal, 1 to 64, numbered from 0.

@@ -4,6 +4,7 @@ use Rattle.std.proofs.Common.{◌≡◌, ℕ, List, [], ◌∷◌, ◌++◌, len
 use Rattle.std.specs.Prelude.{Option, Some, None}
 use Rattle.std.proofs.lemmas.List.{length-map}
 use Rattle.std.proofs.lemmas.Slice.Zip.{AllZip-long}
+use Rattle.pon_units.specs.declared.limits.TheConstants.{MAX_STRUCTURES}
 use Rattle.pon_descr.specs.declared.class.Class.{Class}
 use Rattle.pon_descr.specs.declared.class.Class.TheVariants.{NonAssured, BestEffort}
 use Rattle.pon_admit.specs.declared.row.Row.{Row}
@@ -58,7 +59,7 @@ counted : (s : Input) (class : Class) (cert : ClassCert) (surplus : ℕ) → IsC
 counted s class cert surplus k =
     AllZip-long (RuleHolds cert.level) (items class s) cert.saturated k.rules ∙ length-map (members class s.roster) (item_of s) ∙ sym (length-map (members class s.roster) (λ r. r.alloc_id))
 
-few_ids : (class : Class) (rows : List Row) → length rows ≤ 512 → length (member_ids class rows) ≤ 512
+few_ids : (class : Class) (rows : List Row) → length rows ≤ MAX_STRUCTURES → length (member_ids class rows) ≤ MAX_STRUCTURES
 few_ids class rows few = omega (arith, length-map (members class rows) (λ r. r.alloc_id), few_members class rows, few)
 
 suits_made : (s : State) (made : MadeMap) → IsAdmitted s.rule s.gap s.roster → IsMade s made → MatchesMembers made.cert (member_ids NonAssured s.roster) (member_ids BestEffort s.roster)

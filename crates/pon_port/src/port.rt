@@ -8,9 +8,7 @@ use pon_admit::{Event, PortCfg};
 use pon_demand::MapBuffers;
 use pon_descr::Refusal;
 use pon_history::Chapter;
-use pon_state::{
-    Entry, EntryRef, MadeMap, PortState, Reply, add_map, prove_in_range, refusal_of, step,
-};
+use pon_state::{Entry, EntryRef, MadeMap, PortState, Reply, add_map, check, prove_in_range, step};
 use pon_units::{AllocId, FrameNo};
 use std::alloc::{AllocError, Global};
 use std::marker::Model;
@@ -147,12 +145,12 @@ impl Port {
         ensures refused { IfErr result (λ told. IsTold (refusal_of self.old event) told) }
         ensures err { OnErr result (self.new ≡ self.old) }
     {
-        if let Some(refusal) = refusal_of(&self.state, self.entries.len(), &event) {
-            return Err(refusal);
-        }
-        if self.entries.reserve(1).is_err() || step(&mut self.state, &event).is_err() {
-            return Err(Refusal::OutOfMemory);
-        }
+        let checked = match check(&self.state, self.entries.len(), &event) {
+            Ok(checked) => checked,
+            Err(refusal) => return Err(refusal),
+        };
+        self.entries.reserve(1)?;
+        step(&mut self.state, &checked)?;
         self.entries.push_reserved(Entry::new(event, Reply::Taken));
         Ok(())
     }
@@ -164,13 +162,11 @@ impl Port {
         ensures refused { IfErr result (λ told. IsTold (refusal_of self.old Event.MakeMap) told) }
         ensures same { self.new ≡ self.old }
     {
-        if let Some(refusal) = refusal_of(&self.state, self.entries.len(), &Event::MakeMap) {
+        if let Err(refusal) = check(&self.state, self.entries.len(), &Event::MakeMap) {
             return Err(refusal);
         }
-        match next_map(*self.entries.allocator(), &mut self.room, &self.state) {
-            Ok(next) => Ok(next),
-            Err(_) => Err(Refusal::OutOfMemory),
-        }
+        let next = next_map(*self.entries.allocator(), &mut self.room, &self.state)?;
+        Ok(next)
     }
 
     // Keeps the next map.
@@ -190,13 +186,9 @@ impl Port {
             na,
             be,
         } = next;
-        if self.entries.reserve(1).is_err() {
-            return Err(Refusal::OutOfMemory);
-        }
-        match add_map(&mut self.state, grants, carries) {
-            Ok(left) => self.room.keep_grants(left),
-            Err(_) => return Err(Refusal::OutOfMemory),
-        }
+        self.entries.reserve(1)?;
+        let left = add_map(&mut self.state, grants, carries)?;
+        self.room.keep_grants(left);
         self.last = Some(self.entries.len());
         self.na = na;
         self.be = be;
@@ -224,10 +216,7 @@ impl Port {
     {
         if let Event::MakeMap = event {
             let next = self.ready_map()?;
-            let made = match next.made.try_copy(*self.entries.allocator()) {
-                Ok(made) => made,
-                Err(_) => return Err(Refusal::OutOfMemory),
-            };
+            let made = next.made.try_copy(*self.entries.allocator())?;
             self.keep_map(next)?;
             return Ok(Reply::Map(made));
         }
@@ -266,10 +255,7 @@ impl Port {
             return Err(Refusal::ChapterFull);
         }
         let alloc = *self.entries.allocator();
-        let opening = match self.state.try_copy(alloc) {
-            Ok(opening) => opening,
-            Err(_) => return Err(Refusal::OutOfMemory),
-        };
+        let opening = self.state.try_copy(alloc)?;
         let opening = mem::replace(&mut self.opening, opening);
         let entries = mem::replace(&mut self.entries, Vec::new(alloc));
         let chapter = Chapter::new(self.number, opening, entries);

@@ -1,5 +1,6 @@
 -- The two directions of the formats of made maps, entries and chapters agree.
 use Rattle.std.proofs.Common.{◌≡◌, ℕ, List, ◌++◌, Some, refl, sym, ap, subst, ◌∙◌}
+use Rattle.pon_state.specs.declared.checks.TheConstants.{MAX_ENTRIES}
 use Rattle.pon_admit.specs.declared.rule.Rule.{Rule}
 use Rattle.pon_admit.specs.declared.event.Event.{Event}
 use Rattle.pon_admit.specs.declared.event.Event.TheVariants.{Admit, Change, Remove, Report, MakeMap, Fail, Restore}
@@ -35,7 +36,7 @@ exact_map_reply = record {
 
 exact_reply_to : (e : Event) → IsExact (reply_to e)
 exact_reply_to MakeMap = exact_map_reply
-exact_reply_to (Admit u i d) = constants Taken
+exact_reply_to (Admit r) = constants Taken
 exact_reply_to (Change i d) = constants Taken
 exact_reply_to (Remove i) = constants Taken
 exact_reply_to (Report f u o) = constants Taken
@@ -46,7 +47,7 @@ pub exact_entry : IsExact entry
 exact_entry = told _ _ _ (followed_by _ _ exact_event exact_reply_to) (λ x r fits e. ap (λ e. (e.event, e.reply)) (sym (some_is (record { event = x.0; reply = x.1 }) r e)))
 
 exact_under : (v : Version) (r : Rule) → IsExact (body_under v r)
-exact_under v r = both _ _ (only_those _ _ n8) (both _ _ n64 (both _ _ (exact_opening v r) (lists _ 65536 _ n32 exact_entry)))
+exact_under v r = both _ _ (only_those _ _ n8) (both _ _ n64 (both _ _ (exact_opening v r) (lists _ MAX_ENTRIES _ n32 exact_entry)))
 
 -- the opening has the rule that was read before it
 one_body : (v : Version) (x : Rule × (ℕ × (ℕ × (Opening × List Entry)))) (b : Body) → (followed (rule_in v) (body_under v)).Fits x → as_value body_of x ≡ Some b → body_parts b ≡ x

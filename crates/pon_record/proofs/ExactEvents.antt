@@ -2,6 +2,7 @@
 use Rattle.std.proofs.Common.{◌≡◌, ℕ, Bool, true, false, cond, eqb, List, ◌∷◌, ◌++◌, Option, Some, None, refl, sym, ap, subst, ◌∙◌, lit<, ◌<◌, arith}
 use Rattle.std.specs.Int.{w8}
 use Rattle.std.proofs.lemmas.Bool.{eqb-true}
+use Rattle.pon_descr.specs.Descriptor.{Descriptor}
 use Rattle.pon_admit.specs.declared.event.Event.{Event}
 use Rattle.pon_admit.specs.declared.event.Event.TheVariants.{Admit, Change, Remove, Report, MakeMap, Fail, Restore}
 use Rattle.pon_lists.specs.Bytes.{AreBytes}
@@ -31,7 +32,9 @@ exact_told = both _ _ n64 (both _ _ exact_onu exact_occupancies)
 
 -- an event is read back from its tag and fields
 event_again : (e : Event) (rest : List ℕ) → EventFits e → event.read (event_bytes e ++ rest) ≡ Some (e, rest)
-event_again (Admit u i d) rest fits = rw (n8.again 1 (admit_fields.write (u, (i, d)) ++ rest) (lit< tt), exact_admit.again (u, (i, d)) rest fits) refl
+event_again (Admit r) rest fits =
+    let fields : ℕ × (ℕ × Descriptor) = (r.onu, (r.alloc_id, r.descriptor)) in
+    rw (n8.again 1 (admit_fields.write fields ++ rest) (lit< tt), exact_admit.again fields rest fits) refl
 event_again (Change i d) rest fits = rw (n8.again 2 (change_fields.write (i, d) ++ rest) (lit< tt), exact_change.again (i, d) rest fits) refl
 event_again (Remove i) rest fits = rw (n8.again 3 (alloc_id.write i ++ rest) (lit< tt), exact_alloc.again i rest fits) refl
 event_again (Report f u occ) rest fits = rw (n8.again 4 (report_fields.write (f, (u, occ)) ++ rest) (lit< tt), exact_told.again (f, (u, occ)) rest fits) refl
@@ -53,7 +56,7 @@ behind f F make t fits writes bytes x h e =
 
 event_takes : (t : ℕ) (bytes : List ℕ) (x : Event × List ℕ) → AreBytes bytes → (b1 b2 b3 b4 b5 b6 b7 : Bool) →
     eqb t 1 ≡ b1 → eqb t 2 ≡ b2 → eqb t 3 ≡ b3 → eqb t 4 ≡ b4 → eqb t 5 ≡ b5 → eqb t 6 ≡ b6 → eqb t 7 ≡ b7 →
-    cond b1 (admit_fields.read bytes >>= λ a. Some (Admit a.0.0 a.0.1.0 a.0.1.1, a.1))
+    cond b1 (admit_fields.read bytes >>= λ a. Some (Admit (record { onu = a.0.0; alloc_id = a.0.1.0; descriptor = a.0.1.1 }), a.1))
     (cond b2 (change_fields.read bytes >>= λ a. Some (Change a.0.0 a.0.1, a.1))
     (cond b3 (alloc_id.read bytes >>= λ a. Some (Remove a.0, a.1))
     (cond b4 (report_fields.read bytes >>= λ a. Some (Report a.0.0 a.0.1.0 a.0.1.1, a.1))
@@ -61,7 +64,7 @@ event_takes : (t : ℕ) (bytes : List ℕ) (x : Event × List ℕ) → AreBytes 
     (cond b6 (cause.read bytes >>= λ a. Some (Fail a.0, a.1))
     (cond b7 (Some (Restore, bytes)) None)))))) ≡ Some x → IsFrom t bytes x
 event_takes t bytes x h true b2 b3 b4 b5 b6 b7 e1 e2 e3 e4 e5 e6 e7 e =
-    rw (eqb-true t 1 e1) (behind admit_fields exact_admit (λ a. Admit a.0 a.1.0 a.1.1) 1 (λ a f. f) (λ a. refl) bytes x h e)
+    rw (eqb-true t 1 e1) (behind admit_fields exact_admit (λ a. Admit (record { onu = a.0; alloc_id = a.1.0; descriptor = a.1.1 })) 1 (λ a f. f) (λ a. refl) bytes x h e)
 event_takes t bytes x h false true b3 b4 b5 b6 b7 e1 e2 e3 e4 e5 e6 e7 e =
     rw (eqb-true t 2 e2) (behind change_fields exact_change (λ a. Change a.0 a.1) 2 (λ a f. f) (λ a. refl) bytes x h e)
 event_takes t bytes x h false false true b4 b5 b6 b7 e1 e2 e3 e4 e5 e6 e7 e =

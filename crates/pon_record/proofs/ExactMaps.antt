@@ -2,6 +2,7 @@
 use Rattle.std.proofs.Common.{◌≡◌, ℕ, ◌/◌, ◌%◌, ◌^◌, ◌<◌, Bool, true, false, cond, eqb, Some, None, refl, sym, ap, ◌∙◌, arith}
 use Rattle.std.specs.Int.{w32, w64}
 use Rattle.std.proofs.lemmas.Bool.{eqb-true, eqb-false}
+use Rattle.pon_units.specs.declared.limits.TheConstants.{MAX_STRUCTURES}
 use Rattle.pon_hec.specs.HeaderCode.{sealed}
 use Rattle.pon_bwmap.specs.MapBytes.{flag_bit, start_field, structure_payload}
 use Rattle.pon_record.specs.Format.{number}
@@ -46,4 +47,4 @@ exact_structure = told structure_meaning structure_code (number w64) n64 (λ wor
     ap structure_code (sym p.1) ∙ ap sealed (payload_of (word / 2 ^ 13)) ∙ eqb-true _ _ p.0)
 
 pub exact_map : IsExact map
-exact_map = only_those is_map _ (lists _ 512 _ exact_head exact_structure)
+exact_map = only_those is_map _ (lists _ MAX_STRUCTURES _ exact_head exact_structure)

@@ -2,6 +2,7 @@
 use Rattle.std.proofs.Common.{◌≡◌, ℕ, Bool, true, false, cond, eqb, leb, ◌&&◌, Option, Some, None, refl, sym, ap, ◌∙◌}
 use Rattle.std.specs.Int.{w8, w16, w32, w64}
 use Rattle.std.proofs.lemmas.Bool.{eqb-true, and_parts}
+use Rattle.pon_units.specs.declared.limits.TheConstants.{FRAME_WORDS, MAX_ALLOC_ID, MAX_OCCUPANCY, MAX_ONU_ID, MIN_ALLOC_ID}
 use Rattle.pon_admit.specs.Roster.{max_allocs, max_carry}
 use Rattle.pon_admit.specs.declared.rule.Rule.{Rule}
 use Rattle.pon_admit.specs.declared.rule.Rule.TheVariants as rule
@@ -34,13 +35,13 @@ n64 = numbers w64 wide64
 -- ---- fields
 
 pub exact_onu : IsExact Fields.onu_id
-exact_onu = only_those (λ n. leb n 1022) (number w16) n16
+exact_onu = only_those (λ n. leb n MAX_ONU_ID) (number w16) n16
 
 pub exact_alloc : IsExact Fields.alloc_id
-exact_alloc = only_those (λ n. leb 1024 n && leb n 16383) (number w16) n16
+exact_alloc = only_those (λ n. leb MIN_ALLOC_ID n && leb n MAX_ALLOC_ID) (number w16) n16
 
 pub exact_words : IsExact Fields.words
-exact_words = only_those (λ n. leb n 9720) (number w16) n16
+exact_words = only_those (λ n. leb n FRAME_WORDS) (number w16) n16
 
 pub exact_cause : IsExact Fields.cause
 exact_cause = only_those (λ n. leb 1 n && leb n 9) (number w8) n8
@@ -71,7 +72,7 @@ exact_descriptor = told Fields.descriptor_meaning Fields.descriptor_code (Fields
     (both _ _ n32 (both _ _ n32 (both _ _ n32 exact_class)))
     (λ x d fits e. ap Fields.descriptor_code (kept _ _ d e))
 
-report_is : (n f w : ℕ) (c : Option Counted) (x y z : Bool) → eqb n 0 ≡ x → (eqb f 0 && eqb w 0) ≡ y → (eqb n 1 && leb w 16777215) ≡ z →
+report_is : (n f w : ℕ) (c : Option Counted) (x y z : Bool) → eqb n 0 ≡ x → (eqb f 0 && eqb w 0) ≡ y → (eqb n 1 && leb w MAX_OCCUPANCY) ≡ z →
     cond x (cond y (Some None) None) (cond z (Some (Some (record { frame = f; words = w }))) None) ≡ Some c → Fields.report_code c ≡ (n, (f, w))
 report_is n f w c true true z a b d e = ap Fields.report_code (sym (some_is None c e)) ∙ (λ i. (sym (eqb-true n 0 a) i, (sym (eqb-true f 0 (and_parts _ _ b).0) i, sym (eqb-true w 0 (and_parts _ _ b).1) i)))
 report_is n f w c true false z a b d e = absurd cc

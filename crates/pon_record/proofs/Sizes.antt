@@ -5,6 +5,8 @@ use Rattle.std.specs.Int.{w8, w16, w32, w64, to_be_bytes}
 use Rattle.std.specs.List.{AllByRecursion, flat_map}
 use Rattle.std.proofs.lemmas.List.{length-map}
 use Rattle.std.proofs.lemmas.List.Concat.{flat_map-cons}
+use Rattle.pon_units.specs.declared.limits.TheConstants.{MAX_STRUCTURES}
+use Rattle.pon_guar.specs.declared.window.TheConstants.{MAX_MAPS}
 use Rattle.pon_admit.specs.Roster.{max_allocs}
 use Rattle.pon_admit.specs.declared.rule.Rule.{Rule}
 use Rattle.pon_admit.specs.declared.rule.Rule.TheVariants as rule
@@ -39,7 +41,7 @@ occ_size [] = refl
 occ_size (o ∷ occ) = ap (λ (bs : List ℕ). length bs) (flat_map-cons occupancy.write o occ) ∙ omega (arith, occ_size occ)
 
 event_size : (v : Event) → event.Fits v → length (event.write v) ≤ 76
-event_size (Admit u i d) fits = omega arith
+event_size (Admit r) fits = omega arith
 event_size (Change i d) fits = omega arith
 event_size (Remove i) fits = omega arith
 event_size (Report f u occ) fits = omega (arith, occ_size occ, fits.1.1.1)
@@ -65,14 +67,14 @@ cert_size m fits = omega (arith, length-append (class_bytes m.na) (class_bytes m
 
 made_size : (m : MadeMap) → made_map.Fits m → length (made_map.write m) ≤ 5170
 made_size m fits =
-    let rows : length m.map ≤ 512 = fits.0.1.0.0.1 in
+    let rows : length m.map ≤ MAX_STRUCTURES = fits.0.1.0.0.1 in
     omega (arith, length-append (flat_map structure.write m.map) (cert_bytes m.cert), rows_size m.map, rows, cert_size m.cert fits.0.1.1)
 
 no_reply : (bs : List ℕ) → length bs ≤ 76 → length (bs ++ []) ≤ 5171
 no_reply bs le = omega (arith, length-append bs [], le)
 
 parts_size : (v : Event) (a : Reply) → (followed event reply_to).Fits (v, a) → length (event.write v ++ (reply_to v).write a) ≤ 5171
-parts_size (Admit u i d) a fits = no_reply (event.write (Admit u i d)) (event_size (Admit u i d) fits.0)
+parts_size (Admit r) a fits = no_reply (event.write (Admit r)) (event_size (Admit r) fits.0)
 parts_size (Change i d) a fits = no_reply (event.write (Change i d)) (event_size (Change i d) fits.0)
 parts_size (Remove i) a fits = no_reply (event.write (Remove i)) (event_size (Remove i) fits.0)
 parts_size (Report f u occ) a fits = no_reply (event.write (Report f u occ)) (event_size (Report f u occ) fits.0)
@@ -110,7 +112,7 @@ onus_size : (us : List ℕ) → length (flat_map onu_id.write us) ≡ 2 * length
 onus_size [] = refl
 onus_size (u ∷ us) = ap (λ (bs : List ℕ). length bs) (flat_map-cons onu_id.write u us) ∙ omega (arith, onus_size us)
 
-pub few_allocs : (r : Rule) → max_allocs r ≤ 512
+pub few_allocs : (r : Rule) → max_allocs r ≤ MAX_STRUCTURES
 few_allocs rule.DropRemainders = omega arith
 few_allocs rule.CarryRemainders = omega arith
 
@@ -131,7 +133,7 @@ opening_size : (v : Version) (r : Rule) (o : Opening) → (opening_in v r).Fits 
 opening_size v r o fits =
     let rows : List ℕ = flat_map (row_in v r).write o.rows in
     let few : length o.rows ≤ max_allocs r = fits.0.1.1.1.1.1.0.1 in
-    let maps : length o.window ≤ 64 = fits.0.1.1.1.1.1.1.1 in
+    let maps : length o.window ≤ MAX_MAPS = fits.0.1.1.1.1.1.1.1 in
     omega (
       arith,
       length-append rows (to_be_bytes w8 (length o.window) ++ flat_map (window_map_under r).write o.window),
@@ -152,7 +154,7 @@ pub body_fits_length : (v : Version) (b : Body) → (body_in v).Fits b → lengt
 body_fits_length v b fits =
     let r : Rule = b.opening.rule in
     let es : List ℕ = (counted (number w32) MAX_ENTRIES entry).write b.entries in
-    let few : length b.entries ≤ 65536 = fits.0.1.1.1.1.1 in
+    let few : length b.entries ≤ MAX_ENTRIES = fits.0.1.1.1.1.1 in
     omega (
       arith,
       length-append ((rule_in v).write r) (port.write b.port ++ to_be_bytes w64 b.number ++ (opening_in v r).write b.opening ++ es),

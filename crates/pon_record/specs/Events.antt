@@ -36,7 +36,7 @@ abbrev pub report_fields : Format (ℕ × (ℕ × List (Option ℕ)))
 report_fields = frame & onu_id & occupancies
 
 abbrev pub EventFits : Event → Type 0
-EventFits (Admit u i d) = admit_fields.Fits (u, (i, d))
+EventFits (Admit r) = admit_fields.Fits (r.onu, (r.alloc_id, r.descriptor))
 EventFits (Change i d) = change_fields.Fits (i, d)
 EventFits (Remove i) = alloc_id.Fits i
 EventFits (Report f u occ) = report_fields.Fits (f, (u, occ))
@@ -44,7 +44,7 @@ EventFits (Fail c) = cause.Fits c
 EventFits _ = Unit {0}
 
 abbrev pub event_bytes : Event → List ℕ
-event_bytes (Admit u i d) = 1 ∷ admit_fields.write (u, (i, d))
+event_bytes (Admit r) = 1 ∷ admit_fields.write (r.onu, (r.alloc_id, r.descriptor))
 event_bytes (Change i d) = 2 ∷ change_fields.write (i, d)
 event_bytes (Remove i) = 3 ∷ alloc_id.write i
 event_bytes (Report f u occ) = 4 ∷ report_fields.write (f, (u, occ))
@@ -55,7 +55,7 @@ event_bytes Restore = 7 ∷ []
 -- the event with this tag
 abbrev pub event_at : ℕ → List ℕ → Option (Event × List ℕ)
 event_at tag bytes =
-    if tag == 1 then (admit_fields.read bytes >>= λ x. Some (Admit x.0.0 x.0.1.0 x.0.1.1, x.1))
+    if tag == 1 then (admit_fields.read bytes >>= λ x. Some (Admit (record { onu = x.0.0; alloc_id = x.0.1.0; descriptor = x.0.1.1 }), x.1))
     else if tag == 2 then (change_fields.read bytes >>= λ x. Some (Change x.0.0 x.0.1, x.1))
     else if tag == 3 then (alloc_id.read bytes >>= λ x. Some (Remove x.0, x.1))
     else if tag == 4 then (report_fields.read bytes >>= λ x. Some (Report x.0.0 x.0.1.0 x.0.1.1, x.1))

@@ -62,10 +62,7 @@ impl Recording {
     pub(crate) fn push(&mut self, chapter: RawChapter) -> Result<(), AllocError>
         ensures { OnOk result (self.new ≡ self.old ++ chapter ∷ []) }
     {
-        match self.chapters.push(chapter) {
-            Ok(()) => Ok(()),
-            Err(_) => Err(AllocError),
-        }
+        Ok(self.chapters.push(chapter)?)
     }
 
     /// The chapters, in the order of the recording.

@@ -7,7 +7,7 @@ ghost use Rattle.pon_record.specs.Events.{event, occupancies, occupancy};
 
 use crate::cursor::Cursor;
 use crate::fault::Malformed;
-use pon_admit::Event;
+use pon_admit::{Event, Row};
 use pon_dbru::Occupancies;
 use pon_units::MAX_SERIES;
 
@@ -15,11 +15,7 @@ pub(crate) fn read_event(cursor: &mut Cursor<'_>) -> Result<Event, Malformed>
     ensures { Reads (λ x. (x, cursor.new)) result (event.read cursor.old) }
 {
     match cursor.u8()? {
-        1 => Ok(Event::Admit {
-            onu: cursor.onu()?,
-            alloc_id: cursor.alloc_id()?,
-            descriptor: cursor.descriptor()?,
-        }),
+        1 => Ok(Event::Admit(Row::new(cursor.onu()?, cursor.alloc_id()?, cursor.descriptor()?))),
         2 => Ok(Event::Change {
             alloc_id: cursor.alloc_id()?,
             descriptor: cursor.descriptor()?,

@@ -58,7 +58,7 @@ module _ (k : ℕ) (s : State) where
   reply_follows : (v : Event) (r : Reply) → IsEvent v → (reply_to v).Fits r → ((w : AuditReason) → EntryFails k s (record { event = v; reply = r }) w → ⊥) → first_refusal k s v ≡ None → (MayFollow k s (record { event = v; reply = r }) → ⊥) → ⊥
   reply_follows MakeMap Taken range fits sound none n = fits
   reply_follows MakeMap (Map m) range fits sound none n = map_follows m sound none n
-  reply_follows (Admit u i d) r range fits sound none n = n (record { event = range; accepted = none; reply = fits })
+  reply_follows (Admit row) r range fits sound none n = n (record { event = range; accepted = none; reply = fits })
   reply_follows (Change i d) r range fits sound none n = n (record { event = range; accepted = none; reply = fits })
   reply_follows (Remove i) r range fits sound none n = n (record { event = range; accepted = none; reply = fits })
   reply_follows (Report f u occ) r range fits sound none n = n (record { event = range; accepted = none; reply = fits })

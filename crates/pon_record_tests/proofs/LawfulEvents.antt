@@ -78,9 +78,9 @@ all_in_24_bits [] h = All-nil (λ o. IfSome o (λ words. words < 2 ^ 24))
 all_in_24_bits (o ∷ occ) h = All-cons (λ o. IfSome o (λ words. words < 2 ^ 24)) o occ (in_24_bits o h.0) (all_in_24_bits occ h.1)
 
 is_event : (v : Event) → event.Fits v → IsEvent v
-is_event (Admit u i d) h =
-    let id : IsManaged i = managed i h.1.0 in
-    record { onu = small_onu u h.0; managed = id.0; alloc_id = id.1; descriptor = lawful d h.1.1 }
+is_event (Admit r) h =
+    let id : IsManaged r.alloc_id = managed r.alloc_id h.1.0 in
+    record { onu = small_onu r.onu h.0; managed = id.0; alloc_id = id.1; descriptor = lawful r.descriptor h.1.1 }
 is_event (Change i d) h = (managed i h.0, lawful d h.1)
 is_event (Remove i) h = managed i h
 is_event (Report f u occ) h = record {

@@ -1,7 +1,7 @@
 //! Recordings on devices over memory, with ample memory.
 
 use crate::recordings::{RECORDING_TWO, bytes, bytes_again};
-use pon_admit::Event;
+use pon_admit::{Event, Row};
 use pon_dbru::Occupancies;
 use pon_descr::{Class, Descriptor};
 use pon_device::MemWrite;
@@ -44,11 +44,11 @@ pub(crate) fn open_port(rt: &impl Abort, alloc: Global, gap: u16, profile: u8, f
 
 pub(crate) fn admission(rt: &impl Abort) -> Event {
     let descriptor = Descriptor::new(2560, 0, 2560, Class::Plain);
-    Event::Admit {
-        onu: OnuId::new(5).expect(rt, "an ONU-ID"),
-        alloc_id: AllocId::new(1024).expect(rt, "an Alloc-ID"),
-        descriptor: descriptor.expect(rt, "a descriptor"),
-    }
+    Event::Admit(Row::new(
+        OnuId::new(5).expect(rt, "an ONU-ID"),
+        AllocId::new(1024).expect(rt, "an Alloc-ID"),
+        descriptor.expect(rt, "a descriptor"),
+    ))
 }
 
 /// Reports 100 words for the map of a frame.

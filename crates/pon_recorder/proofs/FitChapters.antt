@@ -5,6 +5,8 @@ use Rattle.std.specs.List.{AllByRecursion}
 use Rattle.std.proofs.lemmas.Bool.{cases_lt, le-leb, leb-false}
 use Rattle.std.proofs.lemmas.Option.{slice_get-get_or}
 use Rattle.std.proofs.lemmas.List.Elements.{All-from_recursion}
+use Rattle.pon_units.specs.declared.limits.TheConstants.{MAX_PORTS}
+use Rattle.pon_state.specs.declared.checks.TheConstants.{MAX_ENTRIES}
 use Rattle.pon_descr.specs.declared.refusal.Refusal.TheVariants.{ChapterFull, FrameLimit}
 use Rattle.pon_descr.proofs.Checks.{or_else_none, when_none}
 use Rattle.pon_admit.specs.Roster.{IsAdmitted}
@@ -37,19 +39,19 @@ first_false : (a b : Bool) → (a || b) ≡ false → a ≡ false
 first_false true b e = absurd cc
 first_false false b e = refl
 
-kept_below : (k : ℕ) (s : State) (v : Event) → first_refusal k s v ≡ None → k < 65536
+kept_below : (k : ℕ) (s : State) (v : Event) → first_refusal k s v ≡ None → k < MAX_ENTRIES
 kept_below k s v h =
     let full = or_else_none (refuses s v) (when_full k s.taken_before) h in
-    leb-false 65536 k (first_false (leb 65536 k) _ (when_none _ ChapterFull full.1))
+    leb-false MAX_ENTRIES k (first_false (leb MAX_ENTRIES k) _ (when_none _ ChapterFull full.1))
 
-few_if : (es : List Entry) → ((k : ℕ) (e : Entry) → slice_get es k ≡ Some e → k < 65536) → length es ≤ 65536
+few_if : (es : List Entry) → ((k : ℕ) (e : Entry) → slice_get es k ≡ Some e → k < MAX_ENTRIES) → length es ≤ MAX_ENTRIES
 few_if [] h = omega arith
-few_if (x ∷ xs) h = elim (cases_lt 65536 (length (x ∷ xs))) [
-  | inl lt ↦ let below : 65536 < 65536 = h 65536 (get_or (x ∷ xs) 65536 x) (slice_get-get_or (x ∷ xs) 65536 x lt) in absurd (omega (arith, below))
+few_if (x ∷ xs) h = elim (cases_lt MAX_ENTRIES (length (x ∷ xs))) [
+  | inl lt ↦ let below : MAX_ENTRIES < MAX_ENTRIES = h MAX_ENTRIES (get_or (x ∷ xs) MAX_ENTRIES x) (slice_get-get_or (x ∷ xs) MAX_ENTRIES x lt) in absurd (omega (arith, below))
   | inr ge ↦ omega (arith, ge)
 ]
 
-pub few_entries : (c : Chapter) → IsLawfulChapter c → length c.entries ≤ 65536
+pub few_entries : (c : Chapter) → IsLawfulChapter c → length c.entries ≤ MAX_ENTRIES
 few_entries c l = few_if c.entries (λ k e at. kept_below k (state_before c k) e.event (l.legal k e at).accepted)
 
 next_below : (k : ℕ) (s : State) → first_refusal k s MakeMap ≡ None → s.next < 2 ^ 64
@@ -62,7 +64,7 @@ next_below k s h =
 reply_fits : (k : ℕ) (s : State) (v : Event) (a : Reply) → IsAdmitted s.rule s.gap s.roster → AreCarries s.rule s.roster s.carries → s.profile ≤ 3 → first_refusal k s v ≡ None → IsReply s v a → TellsFairMap s a → (reply_to v).Fits a
 reply_fits k s MakeMap (Map made) adm q p h r f = made_fits s made adm q p (next_below k s h) f
 reply_fits k s MakeMap Taken adm q p h r f = absurd r
-reply_fits k s (Admit u i d) a adm q p h r f = r
+reply_fits k s (Admit row) a adm q p h r f = r
 reply_fits k s (Change i d) a adm q p h r f = r
 reply_fits k s (Remove i) a adm q p h r f = r
 reply_fits k s (Report n u occ) a adm q p h r f = r
@@ -84,7 +86,7 @@ entries_fit c l = from_places entry.Fits c.entries (entry_fits c l)
 cert_of : (v : Event) (a : Reply) → (reply_to v).Fits a → HoldsFittingCert a
 cert_of v Taken fits = tt
 cert_of MakeMap (Map made) fits = fits.0.1.1
-cert_of (Admit u i d) (Map made) fits = absurd cc
+cert_of (Admit row) (Map made) fits = absurd cc
 cert_of (Change i d) (Map made) fits = absurd cc
 cert_of (Remove i) (Map made) fits = absurd cc
 cert_of (Report f u occ) (Map made) fits = absurd cc
@@ -100,9 +102,9 @@ certs_fit c l = All-from_recursion (λ (e : Entry). HoldsFittingCert e.reply) c.
 
 -- ---- chapters
 
-body_fits : (p : ℕ) (c : Chapter) → p < 64 → IsLawfulChapter c → c.number < 2 ^ 64 → IsStateInRange c.opening → (body_in version.Two).Fits (chapter_body p c)
+body_fits : (p : ℕ) (c : Chapter) → p < MAX_PORTS → IsLawfulChapter c → c.number < 2 ^ 64 → IsStateInRange c.opening → (body_in version.Two).Fits (chapter_body p c)
 body_fits p c lt l n f =
-    let few : length c.entries ≤ 65536 = few_entries c l in (
+    let few : length c.entries ≤ MAX_ENTRIES = few_entries c l in (
       (
         rule_fits c.opening.rule,
         (
@@ -113,7 +115,7 @@ body_fits p c lt l n f =
       refl,
     )
 
-pub chapter_fits : (p : ℕ) (c : Chapter) → p < 64 → IsLawfulChapter c → c.number < 2 ^ 64 → IsStateInRange c.opening → FitsChapter version.Two (chapter_body p c)
+pub chapter_fits : (p : ℕ) (c : Chapter) → p < MAX_PORTS → IsLawfulChapter c → c.number < 2 ^ 64 → IsStateInRange c.opening → FitsChapter version.Two (chapter_body p c)
 chapter_fits p c lt l n f =
     let body = body_fits p c lt l n f in
     ((omega arith, refl), (body, body_fits_length version.Two (chapter_body p c) body))

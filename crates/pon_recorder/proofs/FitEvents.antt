@@ -4,6 +4,7 @@ use Rattle.std.specs.Prelude.{IfSome}
 use Rattle.std.specs.List.{AllByRecursion, list_any}
 use Rattle.std.proofs.lemmas.Bool.{eqb-false, eqb-true, le-leb, le-ltb, ne_eqb}
 use Rattle.std.proofs.lemmas.List.Elements.{recursion_from_All}
+use Rattle.pon_units.specs.declared.limits.TheConstants.{LINE_RATE, MAX_ALLOC_ID, MAX_OCCUPANCY, MAX_ONU_ID, MAX_SERIES, MIN_ALLOC_ID}
 use Rattle.pon_descr.specs.declared.class.Class.{Class}
 use Rattle.pon_descr.specs.declared.class.Class.TheVariants.{Plain, NonAssured, BestEffort}
 use Rattle.pon_descr.specs.declared.refusal.Refusal.{Refusal}
@@ -28,11 +29,11 @@ passes test x e = ap (λ (b : Bool). cond b (Some x) None) e
 pub between : (low n high : ℕ) → low ≤ n → n ≤ high → (leb low n && leb n high) ≡ true
 between low n high a b = rw (le-leb low n a, le-leb n high b) refl
 
-pub onu_fits : (u : ℕ) → u ≤ 1022 → onu_id.Fits u
-onu_fits u le = (omega (arith, le), passes (λ (n : ℕ). leb n 1022) u (le-leb u 1022 le))
+pub onu_fits : (u : ℕ) → u ≤ MAX_ONU_ID → onu_id.Fits u
+onu_fits u le = (omega (arith, le), passes (λ (n : ℕ). leb n MAX_ONU_ID) u (le-leb u MAX_ONU_ID le))
 
-pub alloc_fits : (i : ℕ) → 1024 ≤ i → i ≤ 16383 → alloc_id.Fits i
-alloc_fits i low high = (omega (arith, high), passes (λ (n : ℕ). leb 1024 n && leb n 16383) i (between 1024 i 16383 low high))
+pub alloc_fits : (i : ℕ) → MIN_ALLOC_ID ≤ i → i ≤ MAX_ALLOC_ID → alloc_id.Fits i
+alloc_fits i low high = (omega (arith, high), passes (λ (n : ℕ). leb MIN_ALLOC_ID n && leb n MAX_ALLOC_ID) i (between MIN_ALLOC_ID i MAX_ALLOC_ID low high))
 
 cause_fits : (c : ℕ) → 1 ≤ c → c ≤ 9 → cause.Fits c
 cause_fits c low high = (omega (arith, high), passes (λ (n : ℕ). leb 1 n && leb n 9) c (between 1 c 9 low high))
@@ -54,9 +55,9 @@ none_of_class BestEffort promise most s =
 
 lawful_passes : (d : Descriptor) → IsLawful d → descriptor_refusal d ≡ None
 lawful_passes d l =
-    let fixed : ltb 2488320 d.fixed ≡ false = le-ltb 2488320 d.fixed (omega (arith, l.in_range, l.enough)) in
-    let assured : ltb 2488320 d.assured ≡ false = le-ltb 2488320 d.assured (omega (arith, l.in_range, l.enough)) in
-    let most : ltb 2488320 d.max ≡ false = le-ltb 2488320 d.max l.in_range in
+    let fixed : ltb LINE_RATE d.fixed ≡ false = le-ltb LINE_RATE d.fixed (omega (arith, l.in_range, l.enough)) in
+    let assured : ltb LINE_RATE d.assured ≡ false = le-ltb LINE_RATE d.assured (omega (arith, l.in_range, l.enough)) in
+    let most : ltb LINE_RATE d.max ≡ false = le-ltb LINE_RATE d.max l.in_range in
     let enough : ltb d.max (promised d) ≡ false = le-ltb d.max (promised d) l.enough in
     rw (fixed, assured, most, enough, none_of_class d.class (promised d) d.max l.class) refl
 
@@ -70,7 +71,7 @@ occupancy_fits : (o : Option ℕ) → IfSome o (λ words. words < 2 ^ 24) → oc
 occupancy_fits None lt = (omega arith, refl)
 occupancy_fits (Some n) lt =
     let other : eqb n 4294967295 ≡ false = ne_eqb n 4294967295 (λ e. absurd (omega (arith, e, lt))) in
-    let within : leb n 16777215 ≡ true = le-leb n 16777215 (omega (arith, lt)) in
+    let within : leb n MAX_OCCUPANCY ≡ true = le-leb n MAX_OCCUPANCY (omega (arith, lt)) in
     (omega (arith, lt), rw (other, within) refl)
 
 each_fits : (occ : List (Option ℕ)) → AllByRecursion (λ o. IfSome o (λ words. words < 2 ^ 24)) occ → AllByRecursion occupancy.Fits occ
@@ -90,14 +91,14 @@ some_reported window f u count h =
     omega (arith, some, same)
 
 pub event_fits : (kept : ℕ) (s : State) (v : Event) → IsEvent v → first_refusal kept s v ≡ None → event.Fits v
-event_fits kept s (Admit u i d) r h = (onu_fits u r.onu, (alloc_fits i r.managed r.alloc_id, descriptor_fits d r.descriptor))
+event_fits kept s (Admit row) r h = (onu_fits row.onu r.onu, (alloc_fits row.alloc_id r.managed r.alloc_id, descriptor_fits row.descriptor r.descriptor))
 event_fits kept s (Change i d) r h = (alloc_fits i r.0.0 r.0.1, descriptor_fits d r.1)
 event_fits kept s (Remove i) r h = alloc_fits i r.0 r.1
 event_fits kept s (Report f u occ) r h =
     let own = or_else_none _ (when_full kept s.taken_before) h in
     let report = or_else_none (when_down s.cause) (refuses_report s.window f u (length occ)) own.0 in
     let some : 1 ≤ length occ = some_reported s.window f u (length occ) report.1 in
-    let few : length occ ≤ 16 = r.occupancies.few in (
+    let few : length occ ≤ MAX_SERIES = r.occupancies.few in (
       omega (arith, r.frame_range),
       (
         onu_fits u r.onu_range,

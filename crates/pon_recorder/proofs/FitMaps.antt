@@ -5,6 +5,7 @@ use Rattle.std.specs.List.{AllByRecursion}
 use Rattle.std.proofs.lemmas.Bool.{eq-eqb, ne_eqb}
 use Rattle.std.proofs.lemmas.List.Elements.{recursion_from_All}
 use Rattle.std.proofs.lemmas.List.Sums.{sum_by-cons}
+use Rattle.pon_units.specs.declared.limits.TheConstants.{FRAME_WORDS, MAX_ALLOC_ID, MAX_STRUCTURES}
 use Rattle.pon_units.specs.Frac.{Frac}
 use Rattle.pon_units.specs.declared.granted.Granted.{Granted}
 use Rattle.pon_hec.specs.HeaderCode.{sealed}
@@ -38,7 +39,7 @@ use Rattle.pon_recorder.proofs.FitCerts.{class_cert_fits}
 head_if : (n word : ℕ) → head_code n ≡ word → cond (eqb (head_code n) word) (Some n) None ≡ Some n
 head_if n word e = ap (λ (b : Bool). cond b (Some n) None) (eq-eqb (head_code n) word e)
 
-head_fits : (n : ℕ) → n ≤ 512 → head.Fits n
+head_fits : (n : ℕ) → n ≤ MAX_STRUCTURES → head.Fits n
 head_fits n le =
     let code = sealed_codeword (2 ^ 32) (n * 2 ^ 8 + 0) (omega (arith, le)) (omega (arith, le)) in
     let back : head_code n / 2 ^ 21 ≡ n = omega (arith, code.1) in
@@ -96,7 +97,7 @@ structure_fits a fits =
 
 -- the fields except the start are in range
 record FitsRest (a : Alloc) : Type 0 where
-  id : a.id ≤ 16383
+  id : a.id ≤ MAX_ALLOC_ID
   grants : a.grant ≤ 65535
   profile : a.profile ≤ 3
 
@@ -116,20 +117,20 @@ each_below f (x ∷ xs) n le =
     let parts : sum_by f (x ∷ xs) ≡ f x + sum_by f xs = sum_by-cons f x xs in
     (omega (arith, parts, le), each_below f xs n (omega (arith, parts, le)))
 
-rest_fits : (gap profile : ℕ) (all gs : List Granted) → profile ≤ 3 → AllByRecursion (λ (g : Granted). g.alloc_id ≤ 16383) gs → AllByRecursion (λ (g : Granted). grant g ≤ 9720) gs → AllByRecursion FitsRest (map (structure_granting gap profile all) gs)
+rest_fits : (gap profile : ℕ) (all gs : List Granted) → profile ≤ 3 → AllByRecursion (λ (g : Granted). g.alloc_id ≤ MAX_ALLOC_ID) gs → AllByRecursion (λ (g : Granted). grant g ≤ FRAME_WORDS) gs → AllByRecursion FitsRest (map (structure_granting gap profile all) gs)
 rest_fits gap profile all [] p i w = tt
 rest_fits gap profile all (g ∷ gs) p i w = (record { id = i.0; grants = omega (arith, w.0); profile = p }, rest_fits gap profile all gs p i.1 w.1)
 
 start_fits : (rows : List Alloc) → IsMap rows → (k : ℕ) (a : Alloc) → slice_get rows k ≡ Some a → (o : Option ℕ) → a.start ≡ o → IfSome o (λ s. s < 0xffff)
 start_fits rows m k a at None e = tt
-start_fits rows m k a at (Some s) e = let lt : s < 9720 = ((map_rules rows).0 m).starts k s a at e in omega (arith, lt)
+start_fits rows m k a at (Some s) e = let lt : s < FRAME_WORDS = ((map_rules rows).0 m).starts k s a at e in omega (arith, lt)
 
 rows_fit : (rows : List Alloc) → IsMap rows → AllByRecursion FitsRest rows → AllByRecursion structure.Fits rows
 rows_fit rows m rest = from_places structure.Fits rows (λ k a at.
     let r = each_at FitsRest rows k a rest at in
     structure_fits a (record { id = r.id; start = start_fits rows m k a at a.start refl; grant = r.grants; profile = r.profile }))
 
-ids_fit : (s : Input) (surplus : Row → Frac) (carry : Row → ℕ) (rows : List Row) → AllByRecursion IsInRange rows → AllByRecursion (λ (g : Granted). g.alloc_id ≤ 16383) (map (λ (r : Row). record { onu = r.onu; alloc_id = r.alloc_id; words = payload s surplus carry r }) rows)
+ids_fit : (s : Input) (surplus : Row → Frac) (carry : Row → ℕ) (rows : List Row) → AllByRecursion IsInRange rows → AllByRecursion (λ (g : Granted). g.alloc_id ≤ MAX_ALLOC_ID) (map (λ (r : Row). record { onu = r.onu; alloc_id = r.alloc_id; words = payload s surplus carry r }) rows)
 ids_fit s surplus carry [] a = tt
 ids_fit s surplus carry (r ∷ rows) a = (a.0.alloc_id, ids_fit s surplus carry rows a.1)
 
@@ -140,8 +141,8 @@ made_fits s made k carries p next f =
     let gs : List Granted = planned_grants t (surplus_rate t made.cert) (carry_at s) in
     let one : AreOneMap s.gap gs = one_map t made.cert (carry_at s) k f.certificate (λ r. carry_within (max_carry s.rule) s.roster s.carries r.alloc_id carries.range) in
     let m : IsMap (map_granting s.gap s.profile gs) = is_map_of_rising s.gap s.profile gs one.in_map_order one.short_series one.few one.fitting in
-    let grants : sum_by grant gs ≤ 9720 = omega (arith, one.fitting) in
-    let each = rest_fits s.gap s.profile gs gs p (ids_fit t (surplus_rate t made.cert) (carry_at s) s.roster (recursion_from_All IsInRange s.roster k.in_range)) (each_below grant gs 9720 grants) in
+    let grants : sum_by grant gs ≤ FRAME_WORDS = omega (arith, one.fitting) in
+    let each = rest_fits s.gap s.profile gs gs p (ids_fit t (surplus_rate t made.cert) (carry_at s) s.roster (recursion_from_All IsInRange s.roster k.in_range)) (each_below grant gs FRAME_WORDS grants) in
     let is_map : IsMap made.map = subst IsMap (sym f.map) m in
     let fit : AllByRecursion structure.Fits made.map = subst (λ (rows : List Alloc). AllByRecursion structure.Fits rows) (sym f.map) (rows_fit (map_granting s.gap s.profile gs) m each) in (
       (

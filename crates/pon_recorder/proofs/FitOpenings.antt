@@ -7,6 +7,7 @@ use Rattle.std.proofs.lemmas.List.{length-map}
 use Rattle.std.proofs.lemmas.List.Elements.{All-nil, All-cons, All-head, All-tail, All-filter, All-map, All-weaker, recursion_from_All}
 use Rattle.std.proofs.lemmas.List.Sums.{count_by-le-length, length-filter}
 use Rattle.std.proofs.lemmas.Slice.Zip.{length-zip}
+use Rattle.pon_units.specs.declared.limits.TheConstants.{FRAME_WORDS, MAX_OCCUPANCY}
 use Rattle.pon_units.specs.declared.granted.Granted.{Granted}
 use Rattle.pon_lists.specs.Distinct.{distinct}
 use Rattle.pon_admit.specs.declared.row.Row.{Row}
@@ -40,12 +41,12 @@ failure_fits (Some c) h =
 
 -- a counted report fits the format
 abbrev FitsCounted : Counted → Type 0
-FitsCounted c = (c.frame < 2 ^ 64) × (c.words ≤ 16777215)
+FitsCounted c = (c.frame < 2 ^ 64) × (c.words ≤ MAX_OCCUPANCY)
 
 report_fits : (o : Option Counted) → IfSome o FitsCounted → report.Fits o
 report_fits None h = ((omega arith, (omega arith, omega arith)), refl)
 report_fits (Some c) h =
-    let within : leb c.words 16777215 ≡ true = le-leb c.words 16777215 h.1 in
+    let within : leb c.words MAX_OCCUPANCY ≡ true = le-leb c.words MAX_OCCUPANCY h.1 in
     ((omega arith, (h.0, omega (arith, h.1))), rw within refl)
 
 -- an account fits the format
@@ -62,11 +63,11 @@ known_fits (a ∷ book) i h = elim (a.alloc_id == i) as (λ b. FitsKnown (cond b
   | false ↦ known_fits book i (All-tail FitsAccount a book h)
 ]
 
-counted_fits : (s : State) (a : Account) (o : Option Counted) → s.next < 2 ^ 64 → IfSome o (CountedIsLawful s a) → IfSome o (λ c. c.words ≤ 16777215) → IfSome o FitsCounted
+counted_fits : (s : State) (a : Account) (o : Option Counted) → s.next < 2 ^ 64 → IfSome o (CountedIsLawful s a) → IfSome o (λ c. c.words ≤ MAX_OCCUPANCY) → IfSome o FitsCounted
 counted_fits s a None n l w = tt
 counted_fits s a (Some c) n l w = (omega (arith, l.not_late, n), w)
 
-accounts_fit : (s : State) → s.next < 2 ^ 64 → All (AccountIsLawful s) s.book → All (λ a. IfSome a.counted (λ c. c.words ≤ 16777215)) s.book → All FitsAccount s.book
+accounts_fit : (s : State) → s.next < 2 ^ 64 → All (AccountIsLawful s) s.book → All (λ a. IfSome a.counted (λ c. c.words ≤ MAX_OCCUPANCY)) s.book → All FitsAccount s.book
 accounts_fit s n l w i d lt =
     let a : Account = get_or s.book i d in
     let lawful : AccountIsLawful s a = l i d lt in
@@ -97,7 +98,7 @@ rows_fit rule book (r ∷ rows) (c ∷ carries) h k l = (
 
 grant_fits : (g : Granted) → IsGrantInRange g → grant.Fits g
 grant_fits g k =
-    ((onu_fits g.onu k.onu, (alloc_fits g.alloc_id k.managed k.alloc_id, (omega (arith, k.words), passes (λ (n : ℕ). leb n 9720) g.words (le-leb g.words 9720 k.words)))), refl)
+    ((onu_fits g.onu k.onu, (alloc_fits g.alloc_id k.managed k.alloc_id, (omega (arith, k.words), passes (λ (n : ℕ). leb n FRAME_WORDS) g.words (le-leb g.words FRAME_WORDS k.words)))), refl)
 
 -- what all numbers have, the distinct ones have
 All-distinct : (P : ℕ → Type 0) (ns : List ℕ) → All P ns → All P (distinct ns)

@@ -16,7 +16,7 @@ behind old a b x y first second = second ∙ ap (λ (l : List ℕ). l ++ b) firs
 
 -- the tag of an event and its fields are its bytes
 pub tagged : (e : Event) → to_be_bytes w8 (event_tag e) ++ event_fields e ≡ event.write e
-tagged (Admit u i d) = refl
+tagged (Admit r) = refl
 tagged (Change i d) = refl
 tagged (Remove i) = refl
 tagged (Report f u occ) = refl

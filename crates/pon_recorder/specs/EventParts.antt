@@ -7,7 +7,7 @@ use Rattle.pon_record.specs.Events.{admit_fields, change_fields, report_fields}
 
 -- the tag of a kind of event
 abbrev pub event_tag : Event → ℕ
-event_tag (Admit u i d) = 1
+event_tag (Admit r) = 1
 event_tag (Change i d) = 2
 event_tag (Remove i) = 3
 event_tag (Report f u occ) = 4
@@ -17,7 +17,7 @@ event_tag Restore = 7
 
 -- the bytes of an event after its tag
 abbrev pub event_fields : Event → List ℕ
-event_fields (Admit u i d) = admit_fields.write (u, (i, d))
+event_fields (Admit r) = admit_fields.write (r.onu, (r.alloc_id, r.descriptor))
 event_fields (Change i d) = change_fields.write (i, d)
 event_fields (Remove i) = alloc_id.write i
 event_fields (Report f u occ) = report_fields.write (f, (u, occ))

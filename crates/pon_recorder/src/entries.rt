@@ -14,7 +14,7 @@ use crate::fields::{
     put_alloc_id, put_descriptor, put_frame, put_occupancy, put_onu, put_u8, put_u32,
 };
 use crate::made::put_made;
-use pon_admit::Event;
+use pon_admit::{Event, Row};
 use pon_dbru::Occupancies;
 use pon_descr::Descriptor;
 use pon_state::{Entry, EntryRef};
@@ -56,18 +56,13 @@ fn put_report(
     Ok(())
 }
 
-fn put_admission(
-    bytes: &mut Vec<u8>,
-    onu: OnuId,
-    alloc_id: AllocId,
-    descriptor: &Descriptor,
-) -> Result<(), AllocError>
-    ensures { OnOk result (bytes.new.items
-        ≡ bytes.old.items ++ admit_fields.write (onu, (alloc_id, descriptor.now))) }
+fn put_admission(bytes: &mut Vec<u8>, row: &Row) -> Result<(), AllocError>
+    ensures { OnOk result (bytes.new.items ≡ bytes.old.items
+        ++ admit_fields.write (row.now.onu, (row.now.alloc_id, row.now.descriptor))) }
 {
-    put_onu(bytes, onu)?;
-    put_alloc_id(bytes, alloc_id)?;
-    put_descriptor(bytes, descriptor)?;
+    put_onu(bytes, row.onu)?;
+    put_alloc_id(bytes, row.alloc_id)?;
+    put_descriptor(bytes, &row.descriptor)?;
     Ok(())
 }
 
@@ -89,7 +84,7 @@ fn tag_of(event: &Event) -> u8
     ensures { result ≡ event_tag event.now }
 {
     match event {
-        Event::Admit { .. } => 1,
+        Event::Admit(_) => 1,
         Event::Change { .. } => 2,
         Event::Remove { .. } => 3,
         Event::Report { .. } => 4,
@@ -104,11 +99,7 @@ fn put_fields(bytes: &mut Vec<u8>, event: &Event) -> Result<(), AllocError>
     ensures { OnOk result (bytes.new.items ≡ bytes.old.items ++ event_fields event.now) }
 {
     match event {
-        Event::Admit {
-            onu,
-            alloc_id,
-            descriptor,
-        } => put_admission(bytes, *onu, *alloc_id, descriptor),
+        Event::Admit(row) => put_admission(bytes, row),
         Event::Change {
             alloc_id,
             descriptor,

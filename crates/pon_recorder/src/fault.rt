@@ -1,3 +1,8 @@
+ghost use Rattle.std.specs.Prelude.{◌≡◌};
+ghost use Rattle.pon_recorder.specs.declared.fault.RecordFault.TheVariants as fault;
+
+use std::alloc::AllocError;
+
 /// Why a chapter was not written whole.
 #[derive(Clone, Copy, Debug, PartialEq, Eq)]
 pub enum RecordFault {
@@ -7,4 +12,12 @@ pub enum RecordFault {
     Memory,
     /// The device failed. The chapter is taken, and the bytes of it that were not written are left.
     Device,
+}
+
+impl From<AllocError> for RecordFault {
+    ghost from_gives = { λ _ e. e ≡ fault.Memory };
+
+    fn from(_e: AllocError) -> RecordFault {
+        RecordFault::Memory
+    }
 }

@@ -5,11 +5,11 @@ ghost use Rattle.std.specs.Int.{to_be_bytes, w8, w16};
 ghost use Rattle.std.specs.List.{flat_map, zip};
 ghost use Rattle.pon_units.specs.declared.limits.TheConstants.{MAX_STRUCTURES};
 ghost use Rattle.pon_admit.specs.declared.rule.Rule.{Rule};
-ghost use Rattle.pon_guar.specs.Book.{account_of, since_of_account};
+ghost use Rattle.pon_guar.specs.Book.{known_report, since_of_account};
 ghost use Rattle.pon_guar.specs.declared.window.TheConstants.{MAX_MAPS};
 ghost use Rattle.pon_record.specs.declared.limits.TheConstants.{MAX_REPORTED};
 ghost use Rattle.pon_record.specs.declared.version.Version.{Version};
-ghost use Rattle.pon_record.specs.Fields.{onu_id, report};
+ghost use Rattle.pon_record.specs.Fields.{frame, onu_id, report};
 ghost use Rattle.pon_record.specs.Format.{counted, number};
 ghost use Rattle.pon_record.specs.Openings.{grant, opening_in, window_map_under};
 ghost use Rattle.pon_recorder.specs.Bodies.{FitsCounts, FitsWindowMap, head_bytes, recorded_opening, row_bytes};
@@ -19,9 +19,9 @@ use crate::fields::{
     put_u16, put_u32, put_u64,
 };
 use pon_admit::Row;
-use pon_guar::{Counted, Loads, WindowMap};
+use pon_guar::{Account, Counted, Loads, Window, WindowMap};
 use pon_state::PortState;
-use pon_units::{FrameNo, Granted, OnuId};
+use pon_units::{Granted, OnuId};
 use std::alloc::AllocError;
 
 // Appends the report that counts, or zeros.
@@ -44,13 +44,20 @@ fn put_counted(bytes: &mut Vec<u8>, value: Option<Counted>) -> Result<(), AllocE
     }
 }
 
-// Returns the frame from which reports of a row count.
-fn since_of(loads: &Loads, row: &Row) -> FrameNo
-    ensures { result ≡ since_of_account (account_of loads.now.accounts row.now.alloc_id) }
+// Appends the frame from which reports of an account count, and the report that counts; zeros if there is no account.
+fn put_account(bytes: &mut Vec<u8>, value: Option<Account>) -> Result<(), AllocError>
+    ensures { OnOk result (bytes.new.items ≡ bytes.old.items
+        ++ frame.write (since_of_account value) ++ report.write (known_report value)) }
 {
-    match loads.since(row.alloc_id) {
-        None => FrameNo::new(0),
-        Some(frame) => frame,
+    match value {
+        None => {
+            put_u64(bytes, 0)?;
+            put_counted(bytes, None)
+        }
+        Some(account) => {
+            put_frame(bytes, account.since)?;
+            put_counted(bytes, account.counted)
+        }
     }
 }
 
@@ -62,8 +69,7 @@ fn put_row(bytes: &mut Vec<u8>, loads: &Loads, value: &Row, carry: u8) -> Result
     put_onu(bytes, value.onu)?;
     put_alloc_id(bytes, value.alloc_id)?;
     put_descriptor(bytes, &value.descriptor)?;
-    put_frame(bytes, since_of(loads, value))?;
-    put_counted(bytes, loads.counted(value.alloc_id))?;
+    put_account(bytes, loads.account(value.alloc_id))?;
     put_u8(bytes, carry)?;
     Ok(())
 }
@@ -147,15 +153,13 @@ fn put_window_map(bytes: &mut Vec<u8>, value: &WindowMap) -> Result<(), AllocErr
 }
 
 // Appends the maps of the window, oldest first.
-fn put_maps(bytes: &mut Vec<u8>, loads: &Loads) -> Result<(), AllocError>
-    requires { All FitsWindowMap loads.now.window }
+fn put_maps(bytes: &mut Vec<u8>, values: &[WindowMap]) -> Result<(), AllocError>
+    requires { All FitsWindowMap values.now }
     ensures { OnOk result (bytes.new.items
-        ≡ bytes.old.items ++ flat_map (window_map_under Rule.CarryRemainders).write loads.now.window) }
+        ≡ bytes.old.items ++ flat_map (window_map_under Rule.CarryRemainders).write values.now) }
 {
-    for index in 0..loads.window_len() {
-        if let Some(map) = loads.window_at(index) {
-            put_window_map(bytes, map)?;
-        }
+    for value in values {
+        put_window_map(bytes, value)?;
     }
     Ok(())
 }
@@ -178,13 +182,14 @@ fn put_all_rows(
 }
 
 // Appends the number of the maps of the window, and the maps.
-fn put_window(bytes: &mut Vec<u8>, loads: &Loads) -> Result<(), AllocError>
-    requires { All FitsWindowMap loads.now.window }
+fn put_window(bytes: &mut Vec<u8>, window: &Window) -> Result<(), AllocError>
+    requires { All FitsWindowMap window.now }
     ensures { OnOk result (bytes.new.items ≡ bytes.old.items
-        ++ (counted (number w8) MAX_MAPS (window_map_under Rule.CarryRemainders)).write loads.now.window) }
+        ++ (counted (number w8) MAX_MAPS (window_map_under Rule.CarryRemainders)).write window.now) }
 {
-    put_u8(bytes, loads.window_len() as u8)?;
-    put_maps(bytes, loads)?;
+    let maps = window.maps();
+    put_u8(bytes, maps.len() as u8)?;
+    put_maps(bytes, maps)?;
     Ok(())
 }
 
@@ -212,6 +217,6 @@ pub(crate) fn put_opening(bytes: &mut Vec<u8>, value: &PortState) -> Result<(), 
     let rows = value.roster().rows();
     put_head(bytes, value)?;
     put_all_rows(bytes, loads, rows, value.carries())?;
-    put_window(bytes, loads)?;
+    put_window(bytes, loads.window())?;
     Ok(())
 }

@@ -69,9 +69,7 @@ impl<W: DevWrite + Drop> RecordFile<W> {
         if !self.left().is_empty() {
             return Err(RecordFault::Busy);
         }
-        let Ok(bytes) = self.chapter_bytes(port, chapter) else {
-            return Err(RecordFault::Memory);
-        };
+        let bytes = self.chapter_bytes(port, chapter)?;
         match self.write_next(bytes) {
             Ok(()) => Ok(()),
             Err(_) => Err(RecordFault::Device),

@@ -21,10 +21,11 @@ impl<W: DevWrite + Drop> Recorder<W> {
         ensures left { IfOk result (λ r. r.file.left ≡ []) }
         ensures sound { IfOk result IsSound }
     {
-        match RecordFile::open(alloc, device) {
-            Ok(file) if file.left().is_empty() => Ok(Recorder::new(file)),
-            Ok(_) => Err(DeviceFault::Write),
-            Err(_) => Err(DeviceFault::Memory),
+        let file = RecordFile::open(alloc, device)?;
+        if file.left().is_empty() {
+            Ok(Recorder::new(file))
+        } else {
+            Err(DeviceFault::Write)
         }
     }
 }

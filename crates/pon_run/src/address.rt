@@ -55,6 +55,6 @@ pub(crate) fn failed_at(alloc: Global, at: SocketAddr, error: &io::Error) -> Fai
             Named::Address(name.as_str()),
             error,
         ),
-        Err(_) => Failure::from(DeviceFault::Memory),
+        Err(refused) => Failure::from(refused),
     }
 }

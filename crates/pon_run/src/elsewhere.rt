@@ -107,9 +107,7 @@ impl Terminal {
             Ok(at) => at,
             Err(error) => return Err(failed_at(alloc, self.first, &error)),
         };
-        let Ok(units) = units_of(alloc, rows) else {
-            return Err(Failure::from(DeviceFault::Memory));
-        };
+        let units = units_of(alloc, rows)?;
         match self.open_stream(rt, at) {
             Ok(stream) => Ok(Connected {
                 port,
@@ -145,9 +143,7 @@ where
     for (port, of_port) in settings.ports().iter().enumerate() {
         if is_asked(args, port) {
             let connected = terminal.connect_port(rt, alloc, port, of_port.rows())?;
-            if all.push(connected).is_err() {
-                return Err(Failure::from(DeviceFault::Memory));
-            }
+            all.push(connected)?;
         }
     }
     Ok(all)
@@ -161,9 +157,7 @@ fn start_all<'s, E>(
 ) -> Result<Vec<Answering>, AllocError> {
     let mut answering = Vec::with_capacity(alloc, all.len())?;
     for Connected { port, part } in all {
-        let Ok(thread) = scope.spawn(move || answer(alloc, part)) else {
-            return Err(AllocError);
-        };
+        let thread = scope.spawn(move || answer(alloc, part))?;
         answering.push(Answering { port, thread })?;
     }
     Ok(answering)
@@ -250,10 +244,7 @@ where
         wait: args.wait,
     };
     let all = connect_all(rt, alloc, settings, args, &terminal)?;
-    match answer_all(rt, alloc, all) {
-        Ok(ended) => Ok(ended),
-        Err(_) => Err(Failure::from(DeviceFault::Memory)),
-    }
+    Ok(answer_all(rt, alloc, all)?)
 }
 
 /// Simulates the units of the settings for a terminal elsewhere: connects to each of its ports, in order, and answers its

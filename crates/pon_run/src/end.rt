@@ -56,8 +56,6 @@ pub(crate) fn write_ends<W: DevWrite>(
     ensures text { TellsEnds ends.now (W.contents writer.old) (W.contents writer.new) result }
     ensures write { TellsWrite (W.failures writer.old) (W.failures writer.new) result }
 {
-    match lines_of(alloc, ends) {
-        Ok(text) => write_text(writer, text.as_bytes()),
-        Err(_) => Err(DeviceFault::Memory),
-    }
+    let text = lines_of(alloc, ends)?;
+    write_text(writer, text.as_bytes())
 }

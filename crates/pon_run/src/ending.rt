@@ -20,7 +20,7 @@ use crate::settling::{
 };
 use crate::thread::Worked;
 use pon_desk::{CloseFault, Closed, Desk, Seat};
-use pon_device::{DevWrite, DeviceFault};
+use pon_device::DevWrite;
 use pon_job::Failure;
 use pon_port::Port;
 use pon_recorder::{Ended, PortSink, Recording, Rings};
@@ -157,16 +157,10 @@ fn write_lines<K: Rings, G: Gate, F: OpenFile + Write + Drop, W: DevWrite, R: Fi
         (W.contents writer.old) (W.contents writer.new)) }
     ensures whole { OnOk result (IfSome recording (λ r. IsWholeRecording r.recorder r.whole)) }
 {
-    let Ok(ends) = ends_of(run.alloc, ports.as_slice(), workers) else {
-        return Err(Failure::from(DeviceFault::Memory));
-    };
-    let Ok(mut dropped) = vec![in run.alloc; 0; ports.len()] else {
-        return Err(Failure::from(DeviceFault::Memory));
-    };
+    let ends = ends_of(run.alloc, ports.as_slice(), workers)?;
+    let mut dropped = vec![in run.alloc; 0; ports.len()]?;
     let recorded = record_kept(run, recording, ports, dropped.as_mut_slice());
-    let Ok(told) = with_dropped(run.alloc, ends.as_slice(), dropped.as_slice()) else {
-        return Err(Failure::from(DeviceFault::Memory));
-    };
+    let told = with_dropped(run.alloc, ends.as_slice(), dropped.as_slice())?;
     write_ends(run.alloc, told.as_slice(), writer)?;
     write_settlements(run.alloc, settlements, writer)?;
     recorded
@@ -260,9 +254,7 @@ where
         → IfSome results.recording (λ r. IsWholeRecording r.recorder r.whole)) }
 {
     let mut recording = results.recording;
-    let Ok(workers) = worker_ends(run.alloc, results.worked.as_slice()) else {
-        return Err(Failure::from(DeviceFault::Memory));
-    };
+    let workers = worker_ends(run.alloc, results.worked.as_slice())?;
     let settle = run.args.settle;
     match close_run(
         run.alloc,
@@ -271,9 +263,8 @@ where
         results.worked,
         &mut recording,
         settle,
-    ) {
-        Ok(Some(closed)) => tell_closed(run, closed, workers.as_slice(), recording, writer),
-        Ok(None) => Ok(false),
-        Err(_) => Err(Failure::from(DeviceFault::Memory)),
+    )? {
+        Some(closed) => tell_closed(run, closed, workers.as_slice(), recording, writer),
+        None => Ok(false),
     }
 }

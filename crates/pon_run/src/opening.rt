@@ -66,9 +66,7 @@ where
 {
     let ports = run.settings.ports().len();
     let links = links_of(run, ports)?;
-    let Ok(rings) = open_rings(run.alloc, ports, &recorder) else {
-        return Err(Failure::from(DeviceFault::Memory));
-    };
+    let rings = open_rings(run.alloc, ports, &recorder)?;
     Ok(Opened {
         links,
         rings,
@@ -108,10 +106,8 @@ pub(crate) fn split_rings<K: Rings, F: Drop>(
         rings,
         recorder,
     } = opened;
-    match Sinks::split(alloc, rings, recorder, settle) {
-        Ok(sinks) => Ok(RunParts { links, sinks }),
-        Err(_) => Err(DeviceFault::Memory),
-    }
+    let sinks = Sinks::split(alloc, rings, recorder, settle)?;
+    Ok(RunParts { links, sinks })
 }
 
 /// Opens a desk for the ports of the settings, with a seat for each worker and the other seats. `Err` only if memory is
@@ -129,9 +125,7 @@ pub(crate) fn open_desk<L: Ledger, M: Ledger>(
     ensures ports { IfOk result (λ opened. opened.0.ports ≡ length settings.now) }
     ensures seats { IfOk result (λ opened. OTHER_SEATS ≤ vec_len opened.1) }
 {
-    let Ok(openings) = settings.openings(alloc) else {
-        return Err(DeviceFault::Memory);
-    };
+    let openings = settings.openings(alloc)?;
     let count = openings.len() + OTHER_SEATS;
     match Desk::open(alloc, of_ports, of_seats, openings.as_slice(), count) {
         Ok(opened) => Ok(opened),

@@ -52,9 +52,7 @@ fn answer_lines<L: Ledger, M: Ledger, F: Read + Drop, W: DevWrite, R: Wait>(
     file: F,
     writer: &mut W,
 ) -> Result<(), DeviceFault> {
-    let Ok(input) = BufReader::new(alloc, file) else {
-        return Err(DeviceFault::Memory);
-    };
+    let input = BufReader::new(alloc, file).map_err(|_| DeviceFault::Memory)?;
     let mut reader = StdRead::new(input);
     match operate(rt, alloc, desk, seat, &mut reader, writer) {
         Ok(_) => Ok(()),

@@ -44,20 +44,15 @@ fn listen_for_all<R: Net<Listener = TcpListener, Stream = TcpStream> + Eprint>(
 ) -> Result<Vec<Listening>, Failure>
     ensures { IfOk result (λ all. vec_len all ≡ ports) }
 {
-    let Ok(mut all) = Vec::with_capacity(alloc, ports) else {
-        return Err(Failure::from(DeviceFault::Memory));
-    };
+    let mut all = Vec::with_capacity(alloc, ports)?;
     for port in 0..ports {
         let at = match address_of(first, port) {
             Ok(at) => at,
             Err(error) => return Err(failed_at(alloc, first, &error)),
         };
-        let pushed = match listen_on(rt, at, port) {
-            Ok(listening) => all.push(listening),
+        match listen_on(rt, at, port) {
+            Ok(listening) => all.push(listening)?,
             Err(error) => return Err(failed_at(alloc, at, &error)),
-        };
-        if pushed.is_err() {
-            return Err(Failure::from(DeviceFault::Memory));
         }
     }
     Ok(all)
@@ -119,14 +114,10 @@ fn accept_all<R: Clock>(
 ) -> Result<Vec<Link>, Failure>
     ensures { IfOk result (λ links. vec_len links ≡ vec_len all) }
 {
-    let Ok(mut links) = Vec::with_capacity(alloc, all.len()) else {
-        return Err(Failure::from(DeviceFault::Memory));
-    };
+    let mut links = Vec::with_capacity(alloc, all.len())?;
     for listening in all {
         let link = accept_link(rt, alloc, listening, begun, wait)?;
-        if links.push(link).is_err() {
-            return Err(Failure::from(DeviceFault::Memory));
-        }
+        links.push(link)?;
     }
     Ok(links)
 }

@@ -108,10 +108,7 @@ pub(crate) fn worker_ends<L: Ledger, M: Ledger, K: Rings>(
 {
     let mut ends = Vec::with_capacity(alloc, all.len())?;
     for worked in all {
-        match &worked.end {
-            Ok(end) => ends.push(*end)?,
-            Err(_) => return Err(AllocError),
-        }
+        ends.push(worked.end?)?;
     }
     Ok(ends)
 }

@@ -119,16 +119,12 @@ where
     G: Gate + Sync,
     R: Wait + Clock + Sync,
 {
-    let Ok(mut running) = Vec::with_capacity(run.alloc, all.len()) else {
-        return Err(DeviceFault::Memory);
-    };
+    let mut running = Vec::with_capacity(run.alloc, all.len())?;
     for served in all {
         let Some(threads) = start(scope, run, desk, served, stop) else {
             return Err(DeviceFault::Memory);
         };
-        if running.push(threads).is_err() {
-            return Err(DeviceFault::Memory);
-        }
+        running.push(threads)?;
     }
     Ok(running)
 }
@@ -139,14 +135,10 @@ fn join_all<L: Ledger, M: Ledger, K: Rings, R: Threads>(
     alloc: Global,
     running: Vec<Running<L, M, K>>,
 ) -> Result<Vec<Worked<L, M, K>>, DeviceFault> {
-    let Ok(mut all) = Vec::with_capacity(alloc, running.len()) else {
-        return Err(DeviceFault::Memory);
-    };
+    let mut all = Vec::with_capacity(alloc, running.len())?;
     for Running { worker, units } in running {
         let _answered = units.map(|units| units.join(rt));
-        if all.push(worker.join(rt)).is_err() {
-            return Err(DeviceFault::Memory);
-        }
+        all.push(worker.join(rt))?;
     }
     Ok(all)
 }

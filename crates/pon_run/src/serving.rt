@@ -84,10 +84,8 @@ where
     ensures whole { IfOk result (λ done. done ≡ true
         → IfSome results.recording (λ r. IsWholeRecording r.recorder r.whole)) }
 {
-    match Vec::from_array(run.alloc, others) {
-        Ok(others) => tell(run, desk, others, results, writer),
-        Err(_) => Err(Failure::from(DeviceFault::Memory)),
-    }
+    let others = Vec::from_array(run.alloc, others)?;
+    tell(run, desk, others, results, writer)
 }
 
 // Writes what each port did, and returns whether the run is done. `Err` also if the operator's lines were not all executed.
@@ -127,15 +125,11 @@ fn prepare<L: Ledger, M: Ledger, K: Rings, G: Gate, F: Drop, R: Wait>(
     seats: Vec<Seat<L, M>>,
     parts: RunParts<K, F>,
 ) -> Result<PortsServed<L, M, K, RunTape<F>>, DeviceFault> {
-    if admit_rows(run.rt, run.alloc, desk, seat, run.settings).is_err() {
-        return Err(DeviceFault::Memory);
-    }
+    admit_rows(run.rt, run.alloc, desk, seat, run.settings)?;
     let RunParts { links, sinks } = parts;
     let Sinks { sinks, recording } = sinks;
-    match served_ports(run.alloc, run.settings, seats, sinks, links) {
-        Ok(all) => Ok(PortsServed { all, recording }),
-        Err(_) => Err(DeviceFault::Memory),
-    }
+    let all = served_ports(run.alloc, run.settings, seats, sinks, links)?;
+    Ok(PortsServed { all, recording })
 }
 
 // Has each seat keep the receipts of its posts, if the ports are to be settled.

@@ -43,8 +43,6 @@ pub(crate) fn write_settlements<W: DevWrite>(
     ensures { OnOk result (Appends (W.contents writer.old) (W.contents writer.new)
         (settlement_lines all.now)) }
 {
-    match lines_of(alloc, all) {
-        Ok(text) => write_text(writer, text.as_bytes()),
-        Err(_) => Err(DeviceFault::Memory),
-    }
+    let text = lines_of(alloc, all)?;
+    write_text(writer, text.as_bytes())
 }

@@ -59,7 +59,7 @@ fn refused(text: Result<String, AllocError>) -> Failure {
             fault: DeviceFault::Write,
             text: Some(text),
         },
-        Err(_) => Failure::from(DeviceFault::Memory),
+        Err(error) => Failure::from(error),
     }
 }
 
@@ -147,9 +147,7 @@ fn part_target<R: Files>(
     args: &RecordArgs<'_>,
     path: String,
 ) -> Result<Target, Failure> {
-    let Ok(part) = part_of(alloc, path.as_str()) else {
-        return Err(Failure::from(DeviceFault::Memory));
-    };
+    let part = part_of(alloc, path.as_str())?;
     let named = Named::Recording(args.file);
     match fs::symlink_metadata(rt, part.as_str()) {
         Ok(found) if !found.is_file() => {
@@ -158,9 +156,7 @@ fn part_target<R: Files>(
         }
         _ => {}
     }
-    let Ok(shown) = format!(in alloc; "{named}: {part}") else {
-        return Err(Failure::from(DeviceFault::Memory));
-    };
+    let shown = format!(in alloc; "{named}: {part}")?;
     check_not_read(rt, alloc, args, shown.as_str(), part.as_str())?;
     Ok(Target::Part { path, part })
 }
@@ -170,10 +166,7 @@ fn path_to_write<R: Files>(rt: &R, alloc: Global, name: &str) -> Result<String, 
     if let Some(path) = path_of(rt, alloc, name)? {
         return Ok(path);
     }
-    match String::from_str(alloc, name) {
-        Ok(path) => Ok(path),
-        Err(_) => Err(Failure::from(DeviceFault::Memory)),
-    }
+    Ok(String::from_str(alloc, name)?)
 }
 
 /// Checks the file of a recording before anything is written. Returns where the chapters are recorded.
@@ -189,9 +182,7 @@ pub(crate) fn target_of<R: Files>(
     let name = args.file;
     check_not_there(rt, alloc, args)?;
     let named = Named::Recording(name);
-    let Ok(shown) = format!(in alloc; "{named}") else {
-        return Err(Failure::from(DeviceFault::Memory));
-    };
+    let shown = format!(in alloc; "{named}")?;
     check_not_read(rt, alloc, args, shown.as_str(), name)?;
     match fs::metadata(rt, name) {
         Ok(found) if !found.is_file() => Ok(Target::Direct),

@@ -48,9 +48,7 @@ fn serve<L: Ledger, M: Ledger, K: Rings, G: Gate, R: Wait + Clock>(
     stop: &AtomicBool,
 ) -> Result<WorkerEnd, AllocError> {
     let mut pace = RunPace::new(run, part.sink.port, stop);
-    let Ok(input) = BufReader::new(run.alloc, &part.stream) else {
-        return Err(AllocError);
-    };
+    let input = BufReader::new(run.alloc, &part.stream).map_err(|_| AllocError)?;
     let mut reader = StdRead::new(input);
     let mut writer = StdWrite::new(&part.stream);
     Ok(serve_port(
@@ -82,12 +80,8 @@ pub(crate) fn work<L: Ledger, M: Ledger, K: Rings, G: Gate, R: Wait + Clock>(
 /// Runs the units of a port, and closes their end of the connection.
 pub(crate) fn answer(alloc: Global, part: UnitsPart) -> Result<(), UnitsFault> {
     let UnitsPart { mut units, stream } = part;
-    let Ok(input) = BufReader::new(alloc, &stream) else {
-        return Err(UnitsFault::Memory);
-    };
-    let Ok(output) = BufWriter::new(alloc, &stream) else {
-        return Err(UnitsFault::Memory);
-    };
+    let input = BufReader::new(alloc, &stream).map_err(|_| UnitsFault::Memory)?;
+    let output = BufWriter::new(alloc, &stream).map_err(|_| UnitsFault::Memory)?;
     let mut reader = StdRead::new(input);
     let mut writer = StdWrite::new(output);
     serve_units(alloc, units.as_mut_slice(), &mut reader, &mut writer)

@@ -145,7 +145,7 @@ abbrev pub openings : List PortSettings → List (PortCfg × ℕ)
 openings ports = map (λ p. p.opening) ports
 
 abbrev pub admission : ℕ → SettingsRow → Step
-admission port r = record { port = port; event = Admit r.row.onu r.row.alloc_id r.row.descriptor }
+admission port r = record { port = port; event = Admit r.row }
 
 -- the steps that admit the rows of the ports, numbered from this number on
 abbrev pub steps_from : ℕ → List PortSettings → List Step

@@ -1,5 +1,9 @@
+ghost use Rattle.std.specs.Prelude.{◌≡◌};
+ghost use Rattle.pon_settings.specs.declared.fault.SettingsFault.TheVariants as fault;
+
 use pon_descr::Refusal;
 use pon_units::PortNo;
+use std::alloc::{AllocError, AllocFailed};
 
 /// Why a text is not settings. Ports and rows are counted from 0.
 #[derive(Clone, Copy, Debug, PartialEq, Eq)]
@@ -26,4 +30,20 @@ pub enum SettingsFault {
     },
     /// Memory was refused.
     Memory,
+}
+
+impl From<AllocError> for SettingsFault {
+    ghost from_gives = { λ _ e. e ≡ fault.Memory };
+
+    fn from(_e: AllocError) -> SettingsFault {
+        SettingsFault::Memory
+    }
+}
+
+impl<T: Drop> From<AllocFailed<T>> for SettingsFault {
+    ghost from_gives = { λ _ e. e ≡ fault.Memory };
+
+    fn from(_e: AllocFailed<T>) -> SettingsFault {
+        SettingsFault::Memory
+    }
 }

@@ -47,9 +47,7 @@ fn ports_of(alloc: Global, tables: &[Value]) -> Result<Vec<PortSettings>, Settin
             Ok(port) => port,
             Err(fault) => return Err(fault),
         };
-        if ports.push(port).is_err() {
-            return Err(SettingsFault::Memory);
-        }
+        ports.push(port)?;
     }
     Ok(ports)
 }

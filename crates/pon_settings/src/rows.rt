@@ -32,18 +32,14 @@ pub(crate) fn rows_of(
     ensures ok { IfOk result (λ rows. SpellsRows gap (map view tables.now) rows.items) }
     ensures fault { IfErr result (IsRowsFault port gap (map view tables.now)) }
 {
-    let Ok(mut roster) = Roster::open(alloc, gap) else {
-        return Err(SettingsFault::Memory);
-    };
+    let mut roster = Roster::open(alloc, gap)?;
     let mut rows = Vec::new(alloc);
     for (k, table) in tables.iter().enumerate() {
         let row = match admit(&mut roster, table) {
             Ok(row) => row,
             Err(fault) => return Err(fault_at(port, k, fault)),
         };
-        if rows.push(row).is_err() {
-            return Err(SettingsFault::Memory);
-        }
+        rows.push(row)?;
     }
     Ok(rows)
 }

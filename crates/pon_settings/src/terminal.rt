@@ -5,7 +5,7 @@ ghost use Rattle.pon_settings.specs.Ports.{IsPortCount, admission, openings, ste
 
 use crate::port::PortSettings;
 use crate::row::SettingsRow;
-use pon_admit::{Event, PortCfg, Row, Step};
+use pon_admit::{Event, PortCfg, Step};
 use pon_units::{FrameNo, PortNo};
 use std::alloc::{AllocError, Global};
 use std::marker::Model;
@@ -33,16 +33,7 @@ fn add_steps(steps: &mut Vec<Step>, port: PortNo, rows: &[SettingsRow]) -> Resul
         (steps.new.items ≡ steps.old.items ++ map (admission port) rows.now) }
 {
     for settings_row in rows {
-        let Row {
-            onu,
-            alloc_id,
-            descriptor,
-        } = settings_row.row;
-        let event = Event::Admit {
-            onu,
-            alloc_id,
-            descriptor,
-        };
+        let event = Event::Admit(settings_row.row);
         steps.push(Step { port, event })?;
     }
     Ok(())

@@ -151,9 +151,7 @@ lawful_step kept s e f l = one e.event e.reply f.event f.reply (checks_passed ke
     room = (checks_passed kept s e.event f.accepted).2
 
     one : (v : Event) (r : Reply) → IsEvent v → IsReply s v r → refuses s v ≡ None → IsLawfulState (after_reply s v r)
-    one (Admit u i d) r range reply h =
-        let row : Row = record { onu = u; alloc_id = i; descriptor = d } in
-        admit_lawful s l room row (admit_keeps s.rule s.gap s.roster row h range l.admitted) (passes s.rule s.gap s.roster row h).free
+    one (Admit row) r range reply h = admit_lawful s l room row (admit_keeps s.rule s.gap s.roster row h range l.admitted) (passes s.rule s.gap s.roster row h).free
     one (Change i d) r range reply h = change_lawful s l room i d (change_keeps s.rule s.gap s.roster i d h range.1 l.admitted)
     one (Remove i) r range reply h = remove_lawful s l room i
     one (Report frame u ns) r range reply h =
@@ -188,7 +186,7 @@ module _ (s : State) (k : IsLawfulState s) (h : IsStateInRange s) where
       })
 
   pub range_step : (kept : ℕ) (v : Event) (r : Reply) → MayFollow kept s (record { event = v; reply = r }) → IsStateInRange (after_reply s v r)
-  range_step kept (Admit u i d) r f = search (rules, All-inserted IsSmallAccount (λ b. nat_lt b.alloc_id i) (fresh_account i s.next) s.book tt h.reports)
+  range_step kept (Admit row) r f = search (rules, All-inserted IsSmallAccount (λ b. nat_lt b.alloc_id row.alloc_id) (fresh_account row.alloc_id s.next) s.book tt h.reports)
   range_step kept (Change i d) r f = search rules
   range_step kept (Remove i) r f = search (rules, All-filter (λ a. not (a.alloc_id == i)) IsSmallAccount s.book h.reports)
   range_step kept (Report frame u ns) r f =

@@ -19,7 +19,7 @@ gets_taken event reply e = subst (GetsReply event) (sym e) tt
 pub gets_reply : (s : State) (event : Event) (reply : Reply) → IsReply s event reply → GetsReply event reply
 gets_reply s MakeMap (Map made) h = refl
 gets_reply s MakeMap Taken h = absurd h
-gets_reply s (Admit onu alloc_id descriptor) reply h = gets_taken (Admit onu alloc_id descriptor) reply h
+gets_reply s (Admit row) reply h = gets_taken (Admit row) reply h
 gets_reply s (Change alloc_id descriptor) reply h = gets_taken (Change alloc_id descriptor) reply h
 gets_reply s (Remove alloc_id) reply h = gets_taken (Remove alloc_id) reply h
 gets_reply s (Report frame onu occ) reply h = gets_taken (Report frame onu occ) reply h

@@ -61,7 +61,7 @@ after_cut s cause = with_parts s s.next cause s.roster s.carries (after_cleared 
 
 -- the state after an accepted event; that of a map also depends on its reply
 abbrev pub after_event : State → Event → State
-after_event s (Admit onu alloc_id descriptor) = after_admit s (record { onu = onu; alloc_id = alloc_id; descriptor = descriptor })
+after_event s (Admit row) = after_admit s row
 after_event s (Change alloc_id descriptor) = after_change s alloc_id descriptor
 after_event s (Remove alloc_id) = after_remove s alloc_id
 after_event s (Report frame onu occ) = after_report s frame onu occ

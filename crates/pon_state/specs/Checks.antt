@@ -28,7 +28,7 @@ when_full kept taken_before = when (nat_le MAX_ENTRIES kept || nat_le (2 ^ 64 - 
 
 -- Each event's own checks, in order.
 abbrev pub refuses : State → Event → Option Refusal
-refuses s (Admit onu alloc_id descriptor) = refuses_admit s.rule s.gap s.roster (record { onu = onu; alloc_id = alloc_id; descriptor = descriptor })
+refuses s (Admit row) = refuses_admit s.rule s.gap s.roster row
 refuses s (Change alloc_id descriptor) = refuses_change s.rule s.gap s.roster alloc_id descriptor
 refuses s (Remove alloc_id) = refuses_remove s.roster alloc_id
 refuses s (Report frame onu occ) = or_else (when_down s.cause) (refuses_report s.window frame onu (length occ))

@@ -23,7 +23,7 @@ pub record IsReported (frame onu : ℕ) (occ : List (Option ℕ)) : Type 0 where
 
 -- the numbers of an event are in range
 abbrev pub IsEvent : Event → Type 0
-IsEvent (Admit onu alloc_id descriptor) = IsInRange (record { onu = onu; alloc_id = alloc_id; descriptor = descriptor })
+IsEvent (Admit row) = IsInRange row
 IsEvent (Change alloc_id descriptor) = IsManaged alloc_id × IsLawful descriptor
 IsEvent (Remove alloc_id) = IsManaged alloc_id
 IsEvent (Report frame onu occ) = IsReported frame onu occ

@@ -1,6 +1,7 @@
 pub mod Accounts
 pub mod After
 pub mod Carries
+pub mod Checked
 pub mod Checks
 pub mod Entries
 pub mod Entry

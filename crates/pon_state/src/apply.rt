@@ -6,19 +6,22 @@ ghost use Rattle.pon_units.specs.Granted.{AreInMapOrder};
 ghost use Rattle.pon_admit.specs.Roster.{IsAdmitted, refuses_admit, refuses_change, refuses_remove};
 ghost use Rattle.pon_guar.specs.Book.{AreRising, alloc_ids};
 ghost use Rattle.pon_guar.specs.Window.{AreConsecutive};
-ghost use Rattle.pon_guar.specs.ReportChecks.{refuses_report};
+ghost use Rattle.pon_guar.specs.AcceptedReports.{IsAccepted};
 ghost use Rattle.pon_demand.specs.Carries.{AreCarries};
 ghost use Rattle.pon_state.specs.Accounts.{AccountsFor};
+ghost use Rattle.pon_state.specs.Checked.{IsFound, event_of};
 ghost use Rattle.pon_state.specs.Checks.{refuses};
 ghost use Rattle.pon_state.specs.Maps.{makes_map};
 ghost use Rattle.pon_state.specs.After.{after_admit, after_change, after_cut, after_event, after_map, after_remove, after_report};
 
+use crate::checks::Checked;
 use crate::state::PortState;
-use pon_admit::{Event, Row};
+use pon_admit::Row;
 use pon_dbru::Occupancies;
 use pon_demand::Grants;
 use pon_descr::{Cause, Descriptor};
-use pon_units::{AllocId, FrameNo, Granted, OnuId};
+use pon_guar::Accepted;
+use pon_units::{AllocId, FrameNo, Granted};
 use std::alloc::AllocError;
 use std::mem;
 
@@ -115,19 +118,20 @@ fn remove_row(state: &mut PortState, alloc_id: AllocId)
     state.taken_before += 1;
 }
 
-// Takes a report that no check refuses. `Err` only if memory is refused, and then the state is unchanged.
+// Takes an accepted report. `Err` only if memory is refused, and then the state is unchanged.
 fn take_report(
     state: &mut PortState,
-    frame: FrameNo,
-    onu: OnuId,
+    report: &Accepted,
     occ: &Occupancies,
 ) -> Result<(), AllocError>
-    requires accepted { refuses_report state.old.window frame onu (length occ.now) ≡ None }
+    requires accepted { IsAccepted state.old.window report.now.frame report.now.onu
+        (length occ.now) report.now }
     requires count { state.old.taken_before + 1 < 2 ^ 64 }
-    ensures ok { OnOk result (state.new ≡ after_report state.old frame onu occ.now) }
+    ensures ok { OnOk result (state.new
+        ≡ after_report state.old report.now.frame report.now.onu occ.now) }
     ensures err { OnErr result (state.new ≡ state.old) }
 {
-    state.loads.take_report(frame, onu, occ.as_slice())?;
+    state.loads.take_report(report, occ.as_slice())?;
     state.taken_before += 1;
     Ok(())
 }
@@ -142,33 +146,26 @@ fn forget_reports(state: &mut PortState, cause: Option<Cause>)
     state.taken_before += 1;
 }
 
-/// Updates the state by an event that makes no map and that no check refuses. `Err` only if memory is refused, and then
-/// the state is unchanged.
-pub fn step(state: &mut PortState, event: &Event) -> Result<(), AllocError>
-    requires plain { makes_map event.now ≡ false }
-    requires accepted { refuses state.old event.now ≡ None }
+/// Updates the state by a checked event that makes no map. `Err` only if memory is refused, and then the state is unchanged.
+pub fn step(state: &mut PortState, checked: &Checked<'_>) -> Result<(), AllocError>
+    requires plain { makes_map (event_of checked.now) ≡ false }
+    requires accepted { refuses state.old (event_of checked.now) ≡ None }
+    requires found { IsFound state.old checked.now }
     requires book { AccountsFor state.old.roster state.old.book }
     requires admitted { IsAdmitted state.old.rule state.old.gap state.old.roster }
     requires carries { AreCarries state.old.rule state.old.roster state.old.carries }
     requires count { state.old.taken_before + 1 < 2 ^ 64 }
-    ensures ok { OnOk result (state.new ≡ after_event state.old event.now) }
+    ensures ok { OnOk result (state.new ≡ after_event state.old (event_of checked.now)) }
     ensures err { OnErr result (state.new ≡ state.old) }
 {
-    match event {
-        Event::Admit {
-            onu,
-            alloc_id,
-            descriptor,
-        } => return admit_row(state, &Row::new(*onu, *alloc_id, *descriptor)),
-        Event::Change {
-            alloc_id,
-            descriptor,
-        } => change_row(state, *alloc_id, *descriptor),
-        Event::Remove { alloc_id } => remove_row(state, *alloc_id),
-        Event::Report { frame, onu, occ } => return take_report(state, *frame, *onu, occ),
-        Event::MakeMap => unreachable!(),
-        Event::Fail { cause } => forget_reports(state, Some(*cause)),
-        Event::Restore => forget_reports(state, None),
+    match checked {
+        Checked::Admit(row) => return admit_row(state, row),
+        Checked::Change(alloc_id, descriptor) => change_row(state, *alloc_id, **descriptor),
+        Checked::Remove(alloc_id) => remove_row(state, *alloc_id),
+        Checked::Report(report, occ) => return take_report(state, report, occ),
+        Checked::MakeMap => unreachable!(),
+        Checked::Fail(cause) => forget_reports(state, Some(*cause)),
+        Checked::Restore => forget_reports(state, None),
     }
     Ok(())
 }

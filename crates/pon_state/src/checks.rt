@@ -1,143 +1,179 @@
 //! The checks that refuse an event, in their order.
 
-ghost use Rattle.std.specs.Prelude.{◌≡◌};
+ghost use Rattle.std.specs.Prelude.{◌≡◌, None, Some, IfErr, IfOk, OnOk};
+ghost use Rattle.pon_state.specs.Checked.{IsChecked};
 ghost use Rattle.pon_state.specs.Checks.{first_refusal, when_down, when_full};
 
 use crate::state::PortState;
 use pon_admit::{Event, Row};
 use pon_dbru::Occupancies;
 use pon_descr::{Cause, Descriptor, Refusal};
+use pon_guar::Accepted;
 use pon_units::{AllocId, FrameNo, OnuId};
 
 /// The greatest number of entries of a chapter.
 pub const MAX_ENTRIES: usize = 65_536;
 
-// Returns `ChapterFull` if a chapter with `kept` entries, or the count over all chapters, is full.
-fn chapter_refusal(kept: usize, taken_before: u64) -> Option<Refusal>
-    ensures { result ≡ when_full kept taken_before }
+/// An event that no check refuses, with what the checks found.
+#[derive(Clone, Copy)]
+pub enum Checked<'a> {
+    Admit(&'a Row),
+    Change(AllocId, &'a Descriptor),
+    Remove(AllocId),
+    /// A report, with the place of the map that requested it.
+    Report(Accepted, &'a Occupancies),
+    MakeMap,
+    Fail(Cause),
+    Restore,
+}
+
+// Returns the refusal as an error, if there is one.
+fn refuse_if(refusal: Option<Refusal>) -> Result<(), Refusal>
+    ensures ok { OnOk result (refusal ≡ None) }
+    ensures refused { IfErr result (λ told. refusal ≡ Some told) }
 {
-    if kept >= MAX_ENTRIES || taken_before == u64::MAX {
-        Some(Refusal::ChapterFull)
-    } else {
-        None
+    match refusal {
+        Some(refusal) => Err(refusal),
+        None => Ok(()),
     }
 }
 
-// Returns `PortDown` if the line is down.
-fn down_refusal(state: &PortState) -> Option<Refusal>
-    ensures { result ≡ when_down state.now.cause }
+// Refuses by `ChapterFull` if a chapter with `kept` entries, or the count over all chapters, is full.
+fn check_chapter(state: &PortState, kept: usize) -> Result<(), Refusal>
+    ensures ok { OnOk result (when_full kept state.now.taken_before ≡ None) }
+    ensures refused { IfErr result (λ told. when_full kept state.now.taken_before ≡ Some told) }
+{
+    if kept >= MAX_ENTRIES || state.taken_before == u64::MAX {
+        return Err(Refusal::ChapterFull);
+    }
+    Ok(())
+}
+
+// Refuses by `PortDown` if the line is down.
+fn check_up(state: &PortState) -> Result<(), Refusal>
+    ensures ok { OnOk result (when_down state.now.cause ≡ None) }
+    ensures refused { IfErr result (λ told. when_down state.now.cause ≡ Some told) }
 {
     match state.cause {
-        Some(cause) => Some(Refusal::PortDown { cause }),
-        None => None,
+        Some(cause) => Err(Refusal::PortDown { cause }),
+        None => Ok(()),
     }
 }
 
-// Returns the first refusal of an admission, after `kept` entries of its chapter.
-fn admit_refusal(state: &PortState, kept: usize, row: &Row) -> Option<Refusal>
-    ensures { result ≡ first_refusal kept state.now
-        (Event.Admit row.now.onu row.now.alloc_id row.now.descriptor) }
+// Checks an admission, after `kept` entries of its chapter.
+fn check_admit<'a>(state: &PortState, kept: usize, row: &'a Row) -> Result<Checked<'a>, Refusal>
+    ensures ok { IfOk result (IsChecked kept state.now (Event.Admit row.now)) }
+    ensures refused { IfErr result (λ told. first_refusal kept state.now (Event.Admit row.now)
+        ≡ Some told) }
 {
-    match state.roster.admit_refusal(row) {
-        Some(refusal) => Some(refusal),
-        None => chapter_refusal(kept, state.taken_before),
-    }
+    refuse_if(state.roster.admit_refusal(row))?;
+    check_chapter(state, kept)?;
+    Ok(Checked::Admit(row))
 }
 
-// Returns the first refusal of a change, after `kept` entries of its chapter.
-fn change_refusal(
+// Checks a change of a descriptor.
+fn check_change<'a>(
     state: &PortState,
     kept: usize,
     alloc_id: AllocId,
-    descriptor: &Descriptor,
-) -> Option<Refusal>
-    ensures { result ≡ first_refusal kept state.now (Event.Change alloc_id descriptor.now) }
+    descriptor: &'a Descriptor,
+) -> Result<Checked<'a>, Refusal>
+    ensures ok { IfOk result (IsChecked kept state.now (Event.Change alloc_id descriptor.now)) }
+    ensures refused { IfErr result (λ told. first_refusal kept state.now (Event.Change alloc_id descriptor.now)
+        ≡ Some told) }
 {
-    match state.roster.change_refusal(alloc_id, descriptor) {
-        Some(refusal) => Some(refusal),
-        None => chapter_refusal(kept, state.taken_before),
-    }
+    refuse_if(state.roster.change_refusal(alloc_id, descriptor))?;
+    check_chapter(state, kept)?;
+    Ok(Checked::Change(alloc_id, descriptor))
 }
 
-// Returns the first refusal of a removal, after `kept` entries of its chapter.
-fn remove_refusal(state: &PortState, kept: usize, alloc_id: AllocId) -> Option<Refusal>
-    ensures { result ≡ first_refusal kept state.now (Event.Remove alloc_id) }
+// Checks a removal.
+fn check_remove<'a>(
+    state: &PortState,
+    kept: usize,
+    alloc_id: AllocId,
+) -> Result<Checked<'a>, Refusal>
+    ensures ok { IfOk result (IsChecked kept state.now (Event.Remove alloc_id)) }
+    ensures refused { IfErr result (λ told. first_refusal kept state.now (Event.Remove alloc_id)
+        ≡ Some told) }
 {
-    match state.roster.remove_refusal(alloc_id) {
-        Some(refusal) => Some(refusal),
-        None => chapter_refusal(kept, state.taken_before),
-    }
+    refuse_if(state.roster.remove_refusal(alloc_id))?;
+    check_chapter(state, kept)?;
+    Ok(Checked::Remove(alloc_id))
 }
 
-// Returns the first refusal of a map, after `kept` entries of its chapter.
-fn map_refusal(state: &PortState, kept: usize) -> Option<Refusal>
-    ensures { result ≡ first_refusal kept state.now Event.MakeMap }
-{
-    match down_refusal(state) {
-        None if state.next.get() == u64::MAX => Some(Refusal::FrameLimit),
-        None => chapter_refusal(kept, state.taken_before),
-        Some(refusal) => Some(refusal),
-    }
-}
-
-// Returns the first refusal of a report, after `kept` entries of its chapter.
-fn report_refusal(
+// Checks a report.
+fn check_report<'a>(
     state: &PortState,
     kept: usize,
     frame: FrameNo,
     onu: OnuId,
-    occ: &Occupancies,
-) -> Option<Refusal>
-    ensures { result ≡ first_refusal kept state.now (Event.Report frame onu occ.now) }
+    occ: &'a Occupancies,
+) -> Result<Checked<'a>, Refusal>
+    ensures ok { IfOk result (IsChecked kept state.now (Event.Report frame onu occ.now)) }
+    ensures refused { IfErr result (λ told. first_refusal kept state.now (Event.Report frame onu occ.now)
+        ≡ Some told) }
 {
-    if let Some(refusal) = down_refusal(state) {
-        return Some(refusal);
-    }
+    check_up(state)?;
     let count = occ.as_slice().len();
-    match state.loads.report_refusal(frame, onu, count) {
-        Some(refusal) => Some(refusal),
-        None => chapter_refusal(kept, state.taken_before),
-    }
+    let report = state.loads.window().accept(frame, onu, count)?;
+    check_chapter(state, kept)?;
+    Ok(Checked::Report(report, occ))
 }
 
-// Returns the first refusal of a line failure, after `kept` entries of its chapter.
-fn fail_refusal(state: &PortState, kept: usize, cause: Cause) -> Option<Refusal>
-    ensures { result ≡ first_refusal kept state.now (Event.Fail cause) }
+// Checks a request for a map.
+fn check_map<'a>(state: &PortState, kept: usize) -> Result<Checked<'a>, Refusal>
+    ensures ok { IfOk result (IsChecked kept state.now (Event.MakeMap)) }
+    ensures refused { IfErr result (λ told. first_refusal kept state.now (Event.MakeMap)
+        ≡ Some told) }
 {
-    match down_refusal(state) {
-        Some(refusal) => Some(refusal),
-        None => chapter_refusal(kept, state.taken_before),
+    check_up(state)?;
+    if state.next.get() == u64::MAX {
+        return Err(Refusal::FrameLimit);
     }
+    check_chapter(state, kept)?;
+    Ok(Checked::MakeMap)
 }
 
-// Returns the first refusal of a restoration, after `kept` entries of its chapter.
-fn restore_refusal(state: &PortState, kept: usize) -> Option<Refusal>
-    ensures { result ≡ first_refusal kept state.now Event.Restore }
+// Checks a line failure.
+fn check_fail<'a>(state: &PortState, kept: usize, cause: Cause) -> Result<Checked<'a>, Refusal>
+    ensures ok { IfOk result (IsChecked kept state.now (Event.Fail cause)) }
+    ensures refused { IfErr result (λ told. first_refusal kept state.now (Event.Fail cause)
+        ≡ Some told) }
 {
-    match state.cause {
-        None => Some(Refusal::PortUp),
-        Some(_) => chapter_refusal(kept, state.taken_before),
-    }
+    check_up(state)?;
+    check_chapter(state, kept)?;
+    Ok(Checked::Fail(cause))
 }
 
-/// Returns the first refusal of an event, after `kept` entries of its chapter, or `None`.
-pub fn refusal_of(state: &PortState, kept: usize, event: &Event) -> Option<Refusal>
-    ensures { result ≡ first_refusal kept state.now event.now }
+// Checks a restoration.
+fn check_restore<'a>(state: &PortState, kept: usize) -> Result<Checked<'a>, Refusal>
+    ensures ok { IfOk result (IsChecked kept state.now (Event.Restore)) }
+    ensures refused { IfErr result (λ told. first_refusal kept state.now (Event.Restore)
+        ≡ Some told) }
+{
+    if state.cause.is_none() {
+        return Err(Refusal::PortUp);
+    }
+    check_chapter(state, kept)?;
+    Ok(Checked::Restore)
+}
+
+/// Checks an event, after `kept` entries of its chapter. Returns the event with what the checks found, or the first refusal.
+pub fn check<'a>(state: &PortState, kept: usize, event: &'a Event) -> Result<Checked<'a>, Refusal>
+    ensures ok { IfOk result (IsChecked kept state.now event.now) }
+    ensures refused { IfErr result (λ told. first_refusal kept state.now event.now ≡ Some told) }
 {
     match event {
-        Event::Admit {
-            onu,
-            alloc_id,
-            descriptor,
-        } => admit_refusal(state, kept, &Row::new(*onu, *alloc_id, *descriptor)),
+        Event::Admit(row) => check_admit(state, kept, row),
         Event::Change {
             alloc_id,
             descriptor,
-        } => change_refusal(state, kept, *alloc_id, descriptor),
-        Event::Remove { alloc_id } => remove_refusal(state, kept, *alloc_id),
-        Event::Report { frame, onu, occ } => report_refusal(state, kept, *frame, *onu, occ),
-        Event::MakeMap => map_refusal(state, kept),
-        Event::Fail { cause } => fail_refusal(state, kept, *cause),
-        Event::Restore => restore_refusal(state, kept),
+        } => check_change(state, kept, *alloc_id, descriptor),
+        Event::Remove { alloc_id } => check_remove(state, kept, *alloc_id),
+        Event::Report { frame, onu, occ } => check_report(state, kept, *frame, *onu, occ),
+        Event::MakeMap => check_map(state, kept),
+        Event::Fail { cause } => check_fail(state, kept, *cause),
+        Event::Restore => check_restore(state, kept),
     }
 }

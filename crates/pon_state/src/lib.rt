@@ -14,7 +14,7 @@ mod reply;
 mod state;
 
 pub use apply::{add_map, step};
-pub use checks::{MAX_ENTRIES, refusal_of};
+pub use checks::{Checked, MAX_ENTRIES, check};
 pub use entry::{Entry, EntryRef};
 pub use maps::{MapUnder, map_under, next_problems};
 pub use parts::StateParts;

@@ -29,12 +29,8 @@ pub fn prove_in_range(event: &Event)
     ensures { IsEvent event.now }
 {
     match event {
-        Event::Admit {
-            onu,
-            alloc_id,
-            descriptor,
-        } => {
-            let _row = Row::new(*onu, *alloc_id, *descriptor);
+        Event::Admit(row) => {
+            let _row = Row::new(row.onu, row.alloc_id, row.descriptor);
         }
         Event::Change {
             alloc_id,

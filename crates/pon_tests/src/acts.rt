@@ -1,6 +1,6 @@
 //! Events in plain numbers, so that tables of them are constants.
 
-use pon_admit::Event;
+use pon_admit::{Event, Row};
 use pon_dbru::Occupancies;
 use pon_descr::{Cause, Class, Descriptor, Refusal};
 use pon_units::{AllocId, BufOcc, FrameNo, Gap, OnuId, Profile};
@@ -96,11 +96,7 @@ fn loaded(rt: &impl Abort) -> Descriptor {
 }
 
 fn admission(rt: &impl Abort, unit: u16, number: u16, descriptor: Descriptor) -> Event {
-    Event::Admit {
-        onu: onu(rt, unit),
-        alloc_id: id(rt, number),
-        descriptor,
-    }
+    Event::Admit(Row::new(onu(rt, unit), id(rt, number), descriptor))
 }
 
 fn occupancy(rt: &impl Abort, words: Option<u32>) -> Option<BufOcc> {

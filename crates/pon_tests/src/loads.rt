@@ -37,16 +37,16 @@ fn grant(rt: &impl Abort, owner: u16, alloc_id: u16, words: u16) -> Granted {
 fn is_free(loads: &Loads, alloc_id: AllocId) -> bool
     ensures { result ≡ true → list_any (λ j. j == alloc_id) (alloc_ids loads.now.accounts) ≡ false }
 {
-    loads.since(alloc_id).is_none()
+    loads.account(alloc_id).is_none()
 }
 
 fn is_next(loads: &Loads, frame: FrameNo) -> bool
     ensures { result ≡ true → AreConsecutive frame loads.now.window }
 {
-    let len = loads.window_len();
-    match loads.window_at(0) {
+    let maps = loads.window().maps();
+    match maps.first() {
         None => true,
-        Some(map) => frame.get().checked_sub(map.frame().get()) == Some(len as u64),
+        Some(map) => frame.get().checked_sub(map.frame().get()) == Some(maps.len() as u64),
     }
 }
 
@@ -121,13 +121,15 @@ fn assert_load(rt: &impl Abort, loads: &Loads, alloc_id: u16, wanted: u32) {
 }
 
 fn assert_since(rt: &impl Abort, loads: &Loads, alloc_id: u16, wanted: Option<u64>) {
-    let since = loads.since(id(rt, alloc_id)).map(|frame| frame.get());
+    let account = loads.account(id(rt, alloc_id));
+    let since = account.map(|account| account.since.get());
     assert!(rt; since == wanted, "{alloc_id}: {since:?}");
 }
 
 // Compares the frame and the words of the counted report with the expected ones.
 fn assert_counted(rt: &impl Abort, loads: &Loads, alloc_id: u16, wanted: Option<(u64, u32)>) {
-    let counted = loads.counted(id(rt, alloc_id));
+    let account = loads.account(id(rt, alloc_id));
+    let counted = account.and_then(|account| account.counted);
     let told = counted.map(|report| (report.frame.get(), report.words.get()));
     assert!(rt; told == wanted, "{alloc_id}: {told:?}");
 }
@@ -154,19 +156,15 @@ fn assert_map(
 }
 
 fn assert_window_len(rt: &impl Abort, loads: &Loads, wanted: usize) {
-    let len = loads.window_len();
-    assert!(rt;
-        len == wanted && loads.window_at(len).is_none(),
-        "{len} maps, not {wanted}"
-    );
+    let len = loads.window().maps().len();
+    assert!(rt; len == wanted, "{len} maps, not {wanted}");
 }
 
 // Compares the accounts of an Alloc-ID in two books.
 fn assert_same_account(rt: &impl Abort, loads: &Loads, other: &Loads, number: u16) {
     let alloc_id = id(rt, number);
-    let since = loads.since(alloc_id) == other.since(alloc_id);
-    let counted = loads.counted(alloc_id) == other.counted(alloc_id);
-    assert!(rt; since && counted, "{number}");
+    let same = loads.account(alloc_id) == other.account(alloc_id);
+    assert!(rt; same, "{number}");
 }
 
 // Compares two books: the accounts of Alloc-IDs 1024 to 1031, and the window.
@@ -174,12 +172,12 @@ fn assert_same(rt: &impl Abort, loads: &Loads, other: &Loads) {
     for number in 1024..1032 {
         assert_same_account(rt, loads, other, number);
     }
-    assert_window_len(rt, loads, other.window_len());
-    for index in 0..other.window_len() {
-        let copy = other.window_at(index).expect(rt, "a map");
+    let copies = other.window().maps();
+    assert_window_len(rt, loads, copies.len());
+    for (index, copy) in copies.iter().enumerate() {
         assert_map(
             rt,
-            loads.window_at(index),
+            loads.window().maps().get(index),
             copy.frame().get(),
             copy.grants(),
             copy.reported(),
@@ -321,11 +319,14 @@ fn assert_report_refusal(
     count: usize,
     wanted: Option<Refusal>,
 ) {
-    let told = loads.report_refusal(FrameNo::new(frame), onu(rt, owner), count);
+    let accepted = loads
+        .window()
+        .accept(FrameNo::new(frame), onu(rt, owner), count);
+    let told = accepted.err();
     assert!(rt; told == wanted, "frame {frame}, ONU {owner}: {told:?}");
 }
 
-// Expects a report of a frame, an ONU and occupancies to be refused: `report_refusal` returns the same refusal, and nothing changes.
+// Expects a report of a frame, an ONU and occupancies to be refused: `accept` returns the same refusal, and nothing changes.
 fn assert_refused(
     rt: &impl Abort,
     loads: &mut Loads,
@@ -372,16 +373,22 @@ fn the_window_has_64_maps(rt: HostRuntime) {
     map_all(&rt, &mut loads, 7, 71, 3);
     assert_window_len(&rt, &loads, 64);
     let grants = [grant(&rt, 5, 1024, 3)];
-    assert_map(&rt, loads.window_at(0), 7, &grants, &[]);
+    assert_map(&rt, loads.window().maps().first(), 7, &grants, &[]);
     map_all(&rt, &mut loads, 71, 72, 3);
     assert_window_len(&rt, &loads, 64);
     for index in 0..64 {
-        assert_map(&rt, loads.window_at(index), 8 + index as u64, &grants, &[]);
+        assert_map(
+            &rt,
+            loads.window().maps().get(index),
+            8 + index as u64,
+            &grants,
+            &[],
+        );
     }
 }
 
 fn copy_of_first(rt: &impl Abort, alloc: Global, loads: &Loads) -> WindowMap {
-    let first = loads.window_at(0).expect(rt, "a map");
+    let first = loads.window().maps().first().expect(rt, "a map");
     first.try_copy(alloc).expect(rt, "memory")
 }
 
@@ -401,8 +408,8 @@ fn a_map_shows_what_it_granted_and_who_reported(rt: HostRuntime) {
     report(&rt, &mut loads, 12, 100);
     let owners = [onu(&rt, 3), onu(&rt, 5), onu(&rt, 9)];
     assert_map(&rt, Some(&copy), 12, &grants, &[owners[0], owners[2]]);
-    assert_map(&rt, loads.window_at(0), 12, &grants, &owners);
-    assert_map(&rt, loads.window_at(1), 13, &[], &[]);
+    assert_map(&rt, loads.window().maps().first(), 12, &grants, &owners);
+    assert_map(&rt, loads.window().maps().get(1), 13, &[], &[]);
 }
 
 // The greatest occupancy, and one map that grants a whole frame.

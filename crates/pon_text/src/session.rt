@@ -53,9 +53,7 @@ fn end_line<S, A: Answers<S>>(
     if line.is_empty() {
         return answers.answer_line(state, part, replies);
     }
-    if keep_part(line, part).is_err() {
-        return Err(AllocError);
-    }
+    keep_part(line, part)?;
     let answered = answers.answer_line(state, line.as_slice(), replies);
     line.clear();
     answered
@@ -94,21 +92,13 @@ fn answer_piece<S, A: Answers<S>, W: DevWrite>(
 {
     let mut rest = piece;
     'lines: while let Some((part, after)) = cut(rest, b'\n') {
-        if end_line(answers, state, line, part, replies).is_err() {
-            return Err(DeviceFault::Memory);
-        }
+        end_line(answers, state, line, part, replies)?;
         if replies.len() >= FULL {
-            match send(replies, writer) {
-                Ok(()) => {}
-                Err(fault) => return Err(fault),
-            }
+            send(replies, writer)?;
         }
         rest = after;
     }
-    match keep_part(line, rest) {
-        Ok(()) => Ok(()),
-        Err(_) => Err(DeviceFault::Memory),
-    }
+    Ok(keep_part(line, rest)?)
 }
 
 // Answers the lines that end in a piece, and writes their replies, also those before memory is refused.
@@ -152,10 +142,8 @@ fn print_line<S, A: Answers<S>, W: DevWrite>(
     ensures path { A.path state.old state.new }
     ensures failures { TellsWrite (W.failures writer.old) (W.failures writer.new) result }
 {
-    match answers.answer_line(state, line, replies) {
-        Ok(()) => send(replies, writer),
-        Err(_) => Err(DeviceFault::Memory),
-    }
+    answers.answer_line(state, line, replies)?;
+    send(replies, writer)
 }
 
 // Reads lines to the end of the input, and writes their replies before the next read.

@@ -20,7 +20,7 @@ use Rattle.pon_why.specs.declared.last.LastWhy.TheVariants.{NoMap}
 -- the reply of an event that makes no map
 pub plain_event : (kept : ℕ) (s : State) (v : Event) → MayFollow kept s (record { event = v; reply = Taken }) → makes_map v ≡ false
 plain_event kept s MakeMap m = absurd m.reply
-plain_event kept s (Admit u i d) m = refl
+plain_event kept s (Admit r) m = refl
 plain_event kept s (Change i d) m = refl
 plain_event kept s (Remove i) m = refl
 plain_event kept s (Report f u occ) m = refl

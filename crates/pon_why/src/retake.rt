@@ -15,7 +15,8 @@ ghost use Rattle.pon_why.specs.Lasts.{chapter_with};
 
 use pon_demand::MapBuffers;
 use pon_state::{
-    Entry, EntryRef, MadeMap, MapUnder, PortState, Reply, add_map, map_under, next_problems, step,
+    Entry, EntryRef, MadeMap, MapUnder, PortState, Reply, add_map, check, map_under, next_problems,
+    step,
 };
 use std::alloc::{AllocError, Global};
 
@@ -47,15 +48,16 @@ fn retake_map(
     Ok(())
 }
 
-// Applies an entry that may follow. `buffers` is memory for the demands and grants of a map. `Err` only if memory is
-// refused.
+// Applies an entry that may follow `kept` entries of its chapter. `buffers` is memory for the demands and grants of a map.
+// `Err` only if memory is refused.
 fn retake(
     alloc: Global,
     buffers: &mut MapBuffers,
     state: &mut PortState,
+    kept: usize,
     entry: &Entry,
 ) -> Result<(), AllocError>
-    requires follows { (kept : ℕ) × MayFollow kept state.old entry.now }
+    requires follows { MayFollow kept state.old entry.now }
     requires admitted { IsAdmitted state.old.rule state.old.gap state.old.roster }
     requires carries { AreCarries state.old.rule state.old.roster state.old.carries }
     requires book { AccountsFor state.old.roster state.old.book }
@@ -64,7 +66,12 @@ fn retake(
 {
     match entry.as_ref() {
         EntryRef::Map(made) => retake_map(alloc, buffers, state, made),
-        EntryRef::Taken(event) => step(state, event),
+        EntryRef::Taken(event) => {
+            let Ok(checked) = check(state, kept, event) else {
+                unreachable!()
+            };
+            step(state, &checked)
+        }
     }
 }
 
@@ -85,7 +92,7 @@ pub(crate) fn state_before(
     let mut buffers = MapBuffers::open(alloc);
     let mut state = opening.try_copy(alloc)?;
     for index in 0..end {
-        retake(alloc, &mut buffers, &mut state, &entries[index])?;
+        retake(alloc, &mut buffers, &mut state, index, &entries[index])?;
     }
     Ok(state)
 }

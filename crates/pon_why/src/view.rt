@@ -51,11 +51,12 @@ fn last_of(loads: &Loads) -> Option<&WindowMap>
     ensures map { option_copied result ≡ last_of loads.now.window }
     ensures map_order { IfSome result (λ m. AreInMapOrder m.now.grants) }
 {
-    let count = loads.window_len();
+    let maps = loads.window().maps();
+    let count = maps.len();
     if count == 0 {
         return None;
     }
-    loads.window_at(count - 1)
+    maps.get(count - 1)
 }
 
 /// Makes the view of each admitted Alloc-ID of a state, in map order: ONUs ascending, and the Alloc-IDs of an ONU

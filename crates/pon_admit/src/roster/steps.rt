@@ -157,9 +157,7 @@ impl Roster {
         if let Some(refusal) = self.admit_refusal(&row) {
             return Err(refusal);
         }
-        if self.take_row(row).is_err() {
-            return Err(Refusal::OutOfMemory);
-        }
+        self.take_row(row)?;
         Ok(())
     }
 

@@ -158,7 +158,7 @@ fn admit_one(rt: &impl Abort, run: &mut Run) {
     let place = draw_place(rt, run);
     let since = run.next;
     let place = run.places.get_mut(place).expect(rt, "a place");
-    if run.loads.since(place.alloc_id).is_none() {
+    if run.loads.account(place.alloc_id).is_none() {
         admit(rt, &mut run.loads, place.alloc_id.get(), since);
         place.since = Some(since);
     }

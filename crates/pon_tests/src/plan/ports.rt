@@ -2,7 +2,7 @@
 ghost use Rattle.std.specs.Prelude.{◌<◌};
 
 use super::*;
-use pon_admit::Event;
+use pon_admit::{Event, Row};
 use pon_descr::{Class, Descriptor};
 use pon_manage::Step;
 use pon_units::{AllocId, OnuId, PortNo};
@@ -70,14 +70,9 @@ fn the_last_of_64_ports_lists_its_own(rt: HostRuntime) {
 
 fn admission(port: u8, id: u16) -> Option<Step> {
     let descriptor = Descriptor::new(2560, 0, 2560, Class::Plain).ok()?;
-    Some(Step {
-        port: PortNo::new(port)?,
-        event: Event::Admit {
-            onu: OnuId::new(5)?,
-            alloc_id: AllocId::new(id)?,
-            descriptor,
-        },
-    })
+    let port = PortNo::new(port)?;
+    let event = Event::Admit(Row::new(OnuId::new(5)?, AllocId::new(id)?, descriptor));
+    Some(Step { port, event })
 }
 
 // The steps of the settings write nothing and count as entries of their ports; a refused step changes nothing.

@@ -160,11 +160,7 @@ fn disturb(rt: &impl Abort, port: &mut Port, sums: &mut [Sums], seed: &mut u64) 
     match next_number(seed, 5) {
         0 | 1 => {
             let onu = onu(rt, k / 2);
-            let event = Event::Admit {
-                onu,
-                alloc_id,
-                descriptor,
-            };
+            let event = Event::Admit(Row::new(onu, alloc_id, descriptor));
             if port.take(event).is_ok() {
                 *sums.get_mut(usize::from(k)).expect(rt, "sums") = NOTHING;
             }

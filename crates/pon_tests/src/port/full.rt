@@ -3,7 +3,7 @@
 
 use super::*;
 use crate::acts::{id, onu};
-use pon_admit::Event;
+use pon_admit::{Event, Row};
 use pon_cert::{Item, Level, MapCert, is_problem};
 use pon_check::check_map;
 use pon_dbru::Occupancies;
@@ -91,11 +91,11 @@ fn take_event(rt: &impl Abort, port: &mut Port, event: Event) {
 
 fn admit(rt: &impl Abort, port: &mut Port, buffer: &Buffer) {
     let descriptor = Descriptor::new(buffer.fixed, buffer.assured, buffer.max, buffer.class);
-    let event = Event::Admit {
-        onu: onu(rt, buffer.onu),
-        alloc_id: id(rt, buffer.alloc_id),
-        descriptor: descriptor.expect(rt, "a descriptor"),
-    };
+    let event = Event::Admit(Row::new(
+        onu(rt, buffer.onu),
+        id(rt, buffer.alloc_id),
+        descriptor.expect(rt, "a descriptor"),
+    ));
     take_event(rt, port, event);
 }
 

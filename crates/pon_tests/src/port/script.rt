@@ -109,8 +109,8 @@ fn is_shown(rt: &impl Abort, port: &Port, row: Row) -> bool {
     let state = port.state();
     match row {
         Row::Counted(frame, words) => counts(rt, port, frame, words),
-        Row::Since(frame) => state.loads().since(id(rt, 1024)) == Some(FrameNo::new(frame)),
-        Row::Window(count) => state.loads().window_len() == count,
+        Row::Since(frame) => counts_from(rt, port, frame),
+        Row::Window(count) => state.loads().window().maps().len() == count,
         Row::Cause(number) => state.cause().map(|cause| cause.get()) == number,
         Row::Admitted(count) => state.roster().rows().len() == count,
         Row::Carry(number, carry) => state.carry(id(rt, number)) == carry,
@@ -125,9 +125,16 @@ fn is_shown(rt: &impl Abort, port: &Port, row: Row) -> bool {
     }
 }
 
+/// Returns whether reports of Alloc-ID 1024 count from this frame on.
+fn counts_from(rt: &impl Abort, port: &Port, frame: u64) -> bool {
+    let account = port.state().loads().account(id(rt, 1024));
+    account.map(|account| account.since.get()) == Some(frame)
+}
+
 /// Returns whether the report of Alloc-ID 1024 that counts is of this frame and has these words.
 fn counts(rt: &impl Abort, port: &Port, frame: u64, words: u32) -> bool {
-    match port.state().loads().counted(id(rt, 1024)) {
+    let account = port.state().loads().account(id(rt, 1024));
+    match account.and_then(|account| account.counted) {
         None => false,
         Some(counted) => counted.frame.get() == frame && counted.words.get() == words,
     }

@@ -2,18 +2,15 @@
 
 use super::*;
 use crate::acts::{id, onu};
-use pon_admit::Event;
+use pon_admit::{Event, Row};
 use pon_cert::Level;
 use pon_descr::{Class, Descriptor};
 use pon_units::AllocId;
 
 // Admits an Alloc-ID of ONU 5 that shares surplus.
 fn share(rt: &impl Abort, port: &mut Port, number: u16, assured: u64, max: u64, class: Class) {
-    let event = Event::Admit {
-        onu: onu(rt, 5),
-        alloc_id: id(rt, number),
-        descriptor: Descriptor::new(0, assured, max, class).expect(rt, "a descriptor"),
-    };
+    let descriptor = Descriptor::new(0, assured, max, class).expect(rt, "a descriptor");
+    let event = Event::Admit(Row::new(onu(rt, 5), id(rt, number), descriptor));
     assert!(rt; port.take(event) == Ok(Reply::Taken), "taken");
 }
 

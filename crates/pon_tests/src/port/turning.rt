@@ -39,7 +39,7 @@ fn is_second_chapter(port: &Port) -> bool {
         && port.history().is_empty()
         && port.last().is_none()
         && opening.roster().rows().len() == 256
-        && opening.loads().window_len() == WINDOW
+        && opening.loads().window().maps().len() == WINDOW
         && opening.next_frame().get() == 65
         && opening.taken_before() == ENTRIES as u64
 }

@@ -6,6 +6,7 @@ use Rattle.std.proofs.lemmas.Grind.{drop_more_same}
 use Rattle.std.proofs.lemmas.List.{drop_more, drop-set-lt, length-map, map_more, take_all, take_more_set}
 use Rattle.std.proofs.lemmas.List.Elements.{All-map, All-more}
 use Rattle.std.proofs.lemmas.List.Sums.{sum_by-le}
+use Rattle.pon_units.specs.declared.limits.TheConstants.{MAX_SERIES}
 use Rattle.pon_units.specs.declared.Granted.{Granted}
 use Rattle.pon_lists.proofs.Lists.{count_by-append}
 use Rattle.pon_bwmap.specs.Alloc.{Alloc}
@@ -61,7 +62,7 @@ loop-alloc_id-preserved c =
 pub loop-onu-preserved : goal.loop-onu-preserved
 loop-onu-preserved c = record {
   packed = rw (drop_of_length-le c.as_slice-alloc_id-items.result.now c.loop-alloc_id-test.false) at c.loop-alloc_id.invariant;
-  short = All-more (λ s. length s.1.items ≤ 16) c.args.onus.now c.loop-onu.onu-index c.loop-onu-item.result c.loop-onu-test.true c.loop-onu.invariant.short
+  short = All-more (λ s. length s.1.items ≤ MAX_SERIES) c.args.onus.now c.loop-onu.onu-index c.loop-onu-item.result c.loop-onu-test.true c.loop-onu.invariant.short
       (rw (← c.loop-onu-item.is) (omega (arith, ap length c.as_slice-alloc_id-items.ensures.value)));
 }
 

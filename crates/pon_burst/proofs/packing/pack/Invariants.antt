@@ -1,5 +1,6 @@
 use Rattle.std.proofs.Common.{◌≡◌, ℕ, ◌+◌, ◌≤◌, List, ◌++◌, drop, length, map, take}
 use Rattle.std.specs.Prelude.{All}
+use Rattle.pon_units.specs.declared.limits.TheConstants.{MAX_SERIES}
 use Rattle.pon_units.specs.declared.Granted.{Granted}
 use Rattle.pon_bwmap.specs.Alloc.{Alloc}
 use Rattle.pon_burst.specs.declared.layout.Layout.{Layout}
@@ -23,7 +24,7 @@ pub record Packed (gap profile : ℕ) (gs rest : List Granted) (l : Layout) (fil
 abbrev pub invariant-loop-onu : goal.invariant-loop-onu
 invariant-loop-onu l = record {
   packed : Packed l.fn.gap l.profile (grants_of_series l.onus) (grants_of_series (drop l.onu-index l.onus)) l.layout l.filled l.out l.initial.out;
-  short : All (λ s. length s.1.items ≤ 16) (take l.onu-index l.onus);
+  short : All (λ s. length s.1.items ≤ MAX_SERIES) (take l.onu-index l.onus);
 }
 
 abbrev pub invariant-loop-alloc_id : goal.invariant-loop-alloc_id

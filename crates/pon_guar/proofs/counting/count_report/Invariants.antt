@@ -10,5 +10,5 @@ abbrev pub invariant-loop-granted : goal.invariant-loop-granted
 invariant-loop-granted l = record {
   rising : AreRising (alloc_ids l.accounts);
   rest : after_occupancies (λ i. sum_by (words_to l.onu i) (drop l.place l.window)) l.frame l.granted-iterator.a.rest.now l.granted-iterator.b.rest.now l.accounts
-      ≡ after_occupancies (λ i. words_to_from l.onu i l.frame l.window) l.frame (grants_at l.frame l.onu l.window) l.occupancies l.fn.accounts;
+      ≡ after_occupancies (λ i. words_to_from l.report.onu i l.report.frame l.window) l.report.frame (grants_at l.report.frame l.report.onu l.window) l.occupancies l.fn.accounts;
 }

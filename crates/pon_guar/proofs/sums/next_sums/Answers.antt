@@ -2,6 +2,7 @@ use Rattle.std.proofs.Common.{◌≡◌, ◌≤◌, ◌∙◌, ◌+◌, ◌++◌
 use Rattle.std.specs.Prelude.{All}
 use Rattle.std.proofs.lemmas.List.{take_more}
 use Rattle.std.proofs.lemmas.List.Elements.{All-append, All-cons, All-nil}
+use Rattle.pon_units.specs.declared.limits.TheConstants.{FRAME_WORDS}
 use Rattle.pon_guar.specs.Sums.{or_zero, sum_now}
 use Rattle.pon_guar.proofs.RunningSums.{beside_more}
 use Rattle.pon_guar.proofs.sums.next_sums.Goals as goal
@@ -19,8 +20,8 @@ loop-granted-preserved c =
       | in-None w ↦ w.sum-is ∙ sym (ap or_zero (sym c.sum_now.ensures ∙ w.in-None.is))
     ] in record {
       sums = c.push_reserved.ensures.items ∙ beside_more c.args.maps.now c.args.sums.now done (take (c.loop-granted.granted-index + 1) c.args.grants.now) granted c.match-sum_now.sum c.loop-granted.before.items sum c.loop-granted.invariant.sums more;
-      small = subst (All (λ g. g.words ≤ 9720)) (sym more)
-          (All-append (λ g. g.words ≤ 9720) done (granted ∷ []) c.loop-granted.invariant.small (All-cons (λ g. g.words ≤ 9720) granted [] (search rules) (All-nil (λ g. g.words ≤ 9720))));
+      small = subst (All (λ g. g.words ≤ FRAME_WORDS)) (sym more)
+          (All-append (λ g. g.words ≤ FRAME_WORDS) done (granted ∷ []) c.loop-granted.invariant.small (All-cons (λ g. g.words ≤ FRAME_WORDS) granted [] (search rules) (All-nil (λ g. g.words ≤ FRAME_WORDS))));
       count = search rules;
       room = search rules;
     }

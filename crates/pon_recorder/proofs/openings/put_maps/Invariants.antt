@@ -4,5 +4,5 @@ use Rattle.pon_admit.specs.declared.rule.Rule.TheVariants as rule
 use Rattle.pon_record.specs.Openings.{window_map_under}
 use Rattle.pon_recorder.proofs.openings.put_maps.Given as goal
 
-abbrev pub invariant-loop-index : goal.invariant-loop-index
-invariant-loop-index l = l.bytes.items ≡ l.initial.bytes.items ++ flat_map (window_map_under rule.CarryRemainders).write (take l.index l.loads.window)
+abbrev pub invariant-loop-value : goal.invariant-loop-value
+invariant-loop-value l = l.bytes.items ≡ l.initial.bytes.items ++ flat_map (window_map_under rule.CarryRemainders).write (take l.value-index l.values)

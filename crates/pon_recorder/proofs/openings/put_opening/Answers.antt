@@ -28,5 +28,5 @@ returns c =
     ∙ ap (λ (bytes : List ℕ). head ++ bytes) (rows_written s.book s.roster s.carries c.requires.carries) in
     let t1 = behind old (head_bytes s) rows head c.put_all_rows.new.bytes.items c.in_ok-put_head.ensures e1 in
     let maps = (counted (number w8) MAX_MAPS (window_map_under rule.CarryRemainders)).write in
-    let e2 = c.in_ok-put_window.ensures ∙ ap (λ (w : List WindowMap). c.put_all_rows.new.bytes.items ++ maps w) c.loads-loads.ensures.window in
+    let e2 = c.in_ok-put_window.ensures ∙ ap (λ (w : List WindowMap). c.put_all_rows.new.bytes.items ++ maps w) (c.window.ensures ∙ c.loads-loads.ensures.window) in
     behind old (head_bytes s ++ rows) (maps s.window) c.put_all_rows.new.bytes.items c.put_window.new.bytes.items t1 e2

@@ -1,7 +1,8 @@
-use Rattle.std.proofs.Common.{◌++◌, ℕ, ap, ◌∙◌}
+use Rattle.std.proofs.Common.{◌++◌, ap, refl, ◌∙◌}
 use Rattle.std.specs.Prelude.{Option}
 use Rattle.std.specs.Int.{w8, to_be_bytes}
-use Rattle.pon_guar.specs.declared.account.Counted.{Counted}
+use Rattle.pon_guar.specs.declared.account.Account.{Account}
+use Rattle.pon_guar.specs.Book.{known_report, since_of_account}
 use Rattle.pon_record.specs.Fields.{alloc_id, descriptor, frame, onu_id, report}
 use Rattle.pon_recorder.specs.Bodies.{recorded_row}
 use Rattle.pon_recorder.proofs.Put.{behind}
@@ -15,9 +16,9 @@ returns c =
     let a1 = onu_id.write r.onu ++ alloc_id.write r.alloc_id in
     let t2 = behind old a1 (descriptor.write r.descriptor) c.put_alloc_id.new.bytes.items c.put_descriptor.new.bytes.items t1 c.in_ok-put_descriptor.ensures in
     let a2 = a1 ++ descriptor.write r.descriptor in
-    let e3 = c.in_ok-put_frame.ensures ∙ ap (λ (n : ℕ). c.put_descriptor.new.bytes.items ++ frame.write n) c.since_of.ensures in
-    let t3 = behind old a2 (frame.write r.since) c.put_descriptor.new.bytes.items c.put_frame.new.bytes.items t2 e3 in
+    let described = c.put_descriptor.new.bytes.items in
+    let t3 = behind old a2 (frame.write r.since) described (described ++ frame.write r.since) t2 refl in
     let a3 = a2 ++ frame.write r.since in
-    let e4 = c.in_ok-put_counted.ensures ∙ ap (λ (o : Option Counted). c.put_frame.new.bytes.items ++ report.write o) c.counted.ensures in
-    let t4 = behind old a3 (report.write r.counted) c.put_frame.new.bytes.items c.put_counted.new.bytes.items t3 e4 in
-    behind old (a3 ++ report.write r.counted) (to_be_bytes w8 r.carry) c.put_counted.new.bytes.items c.put_u8.new.bytes.items t4 c.in_ok-put_u8.ensures
+    let e4 = c.in_ok-put_account.ensures ∙ ap (λ (a : Option Account). (described ++ frame.write (since_of_account a)) ++ report.write (known_report a)) c.account.ensures in
+    let t4 = behind old a3 (report.write r.counted) (described ++ frame.write r.since) c.put_account.new.bytes.items t3 e4 in
+    behind old (a3 ++ report.write r.counted) (to_be_bytes w8 r.carry) c.put_account.new.bytes.items c.put_u8.new.bytes.items t4 c.in_ok-put_u8.ensures

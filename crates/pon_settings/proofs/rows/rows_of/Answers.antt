@@ -19,9 +19,9 @@ loop-k-preserved c =
     let v = c.index-tables-k.result in
     let within : c.loop-k.k < length vs = omega arith in
     let roster = c.loop-k.invariant.roster in
-    let admits = rw roster at c.in-Ok-admit.ensures.ok in
-    let pushed : c.push.new.self.items ≡ c.loop-k.rows.items ++ c.in-Ok-admit.row ∷ [] = search rules in
+    let admits = rw roster at c.in-Ok.ensures.ok in
+    let pushed : c.push.new.self.items ≡ c.loop-k.rows.items ++ c.in-Ok.row ∷ [] = search rules in
     record {
-      spelled = rw (add-one, pushed) (one_more_row c.args.gap (map view vs) c.loop-k.rows.items c.loop-k.k (view v) c.in-Ok-admit.row c.loop-k.invariant.spelled (view_at vs c.loop-k.k v within c.index-tables-k.is) admits.spelled admits.accepted);
-      roster = rw pushed (admits.after_it ∙ sym (one_more_admitted c.args.gap c.loop-k.rows.items c.in-Ok-admit.row));
+      spelled = rw (add-one, pushed) (one_more_row c.args.gap (map view vs) c.loop-k.rows.items c.loop-k.k (view v) c.in-Ok.row c.loop-k.invariant.spelled (view_at vs c.loop-k.k v within c.index-tables-k.is) admits.spelled admits.accepted);
+      roster = rw pushed (admits.after_it ∙ sym (one_more_admitted c.args.gap c.loop-k.rows.items c.in-Ok.row));
     }

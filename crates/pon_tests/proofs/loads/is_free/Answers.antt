@@ -2,13 +2,13 @@ use Rattle.std.proofs.Common.{◌≡◌, ◌||◌, ℕ, List, [], ◌∷◌, tru
 use Rattle.std.specs.Prelude.{◌==◌, Some, None}
 use Rattle.std.specs.List.{list_any}
 use Rattle.pon_guar.specs.declared.account.Account.{Account}
-use Rattle.pon_guar.specs.Book.{account_of, alloc_ids, known_since}
+use Rattle.pon_guar.specs.Book.{account_of, alloc_ids}
 use Rattle.pon_tests.proofs.loads.is_free.Goals as goal
 
--- an Alloc-ID without a since-frame has no account
-none_there : (i : ℕ) (book : List Account) → known_since (account_of book i) ≡ None → list_any (λ j. j == i) (alloc_ids book) ≡ false
+-- no account has an Alloc-ID that is not found
+none_there : (i : ℕ) (book : List Account) → account_of book i ≡ None → list_any (λ j. j == i) (alloc_ids book) ≡ false
 none_there i [] h = refl
-none_there i (a ∷ book) h = (elim (a.alloc_id == i) as (λ b. known_since (cond b (Some a) (account_of book i)) ≡ None → (b || list_any (λ j. j == i) (alloc_ids book)) ≡ false) [
+none_there i (a ∷ book) h = (elim (a.alloc_id == i) as (λ b. (cond b (Some a) (account_of book i)) ≡ None → (b || list_any (λ j. j == i) (alloc_ids book)) ≡ false) [
   | true ↦ λ h. absurd cc
   | false ↦ λ h. none_there i book h
 ]) h

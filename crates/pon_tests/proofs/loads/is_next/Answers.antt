@@ -16,4 +16,4 @@ pub returns-in-None : goal.returns-in-None
 returns-in-None c = λ _. none_leads c.args.frame c.args.loads.now.window (search rules)
 
 pub returns-in-Some : goal.returns-in-Some
-returns-in-Some c = λ next. first_leads c.args.frame c.args.loads.now.window c.in-Some.map.now c.window_len-len.ensures.lawful (search rules) (search rules)
+returns-in-Some c = λ next. first_leads c.args.frame c.args.loads.now.window c.in-Some.map.now (subst IsWindow c.window.ensures c.maps-maps.ensures.lawful) (search rules) (search rules)

@@ -18,7 +18,7 @@ retake-requires c =
     let kept = c.loop-index.invariant.2 in
     let chapter = chapter_with number c.args.opening.now c.args.entries.now in
     record {
-      follows = (c.loop-index.index, follows_here chapter c.loop-index.index c.loop-index.state c.index-entries-index.result lawful (omega arith) (search rules) kept);
+      follows = follows_here chapter c.loop-index.index c.loop-index.state c.index-entries-index.result lawful (omega arith) (search rules) kept;
       admitted = kept.admitted;
       carries = kept.carries;
       book = kept.book;

@@ -6,7 +6,7 @@ use Rattle.pon_audit.proofs.auditing.Auditing.judge.Goals as goal
 pub take_batch-requires-clause-audited : goal.take_batch-requires-clause-audited
 take_batch-requires-clause-audited g c = λ κs lives. let read = c.requires.read in (read.2.whole, read.2.audited)
 
-pub returns-in-Ok-clause-judged : goal.returns-in-Ok-clause-judged
-returns-in-Ok-clause-judged g c = λ start left read.
-    let told : EndsAudit read.whole c.args.batch.now c.take_batch.new.self c.in-Ok.found = rw c.in-Ok.is at c.take_batch.ensures read.whole read.audited in
-    goes_on start left c.args.self.now _ c.args.batch.now read refl c.in-Ok.found told
+pub returns-clause-judged : goal.returns-clause-judged
+returns-clause-judged g c = λ start left read.
+    let told : EndsAudit read.whole c.args.batch.now c.take_batch.new.self c.in_ok-take_batch.field-0 = rw c.in_ok-take_batch.was at c.take_batch.ensures read.whole read.audited in
+    goes_on start left c.args.self.now _ c.args.batch.now read refl c.in_ok-take_batch.field-0 told
