@@ -3,6 +3,7 @@ ghost use Rattle.std.specs.Prelude.{◌≡◌, IfOk};
 use crate::Sat;
 use pon_units::Frac;
 use std::alloc::{AllocError, Global};
+use thiserror::Error;
 
 /// The rate of an unsaturated item for each unit of its weight.
 #[derive(Clone, Copy, Debug, PartialEq, Eq)]
@@ -57,12 +58,15 @@ impl MapCert {
 }
 
 /// Why bytes or a text are not a certificate.
-#[derive(Clone, Copy, Debug, PartialEq, Eq)]
+#[derive(Clone, Copy, Debug, PartialEq, Eq, Error)]
 pub enum CertReadFault {
     /// The bytes end inside the certificate. A text is never short.
+    #[error("fewer bytes than the certificate has")]
     Short,
     /// The bytes or the text do not have the form of a certificate.
+    #[error("not in the form of a certificate")]
     Form,
     /// Memory was refused for a valid certificate.
+    #[error("out of memory")]
     Memory,
 }

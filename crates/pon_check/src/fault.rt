@@ -1,4 +1,6 @@
+use std::error;
 use std::fmt;
+use thiserror::Error;
 
 /// Why the certificate of a class is refused. Of several faults the first counts, in this order: length, denominator,
 /// items in order, sum.
@@ -36,11 +38,15 @@ impl fmt::Display for CertFault {
     }
 }
 
+impl error::Error for CertFault {}
+
 /// Why the certificate of a map is refused: the class, and its first fault. The non-assured class is checked first.
-#[derive(Clone, Copy, Debug, PartialEq, Eq)]
+#[derive(Clone, Copy, Debug, PartialEq, Eq, Error)]
 pub enum MapCertFault {
     /// The non-assured class is refused.
+    #[error("non-assured class: {0}")]
     NonAssured(CertFault),
     /// The best-effort class is refused.
+    #[error("best-effort class: {0}")]
     BestEffort(CertFault),
 }

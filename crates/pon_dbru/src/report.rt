@@ -3,9 +3,11 @@ ghost use Rattle.pon_units.specs.Polynomial.{remainder};
 ghost use Rattle.pon_dbru.specs.Report.{check_generator, Reports};
 
 use pon_units::BufOcc;
+use thiserror::Error;
 
 /// The fault of a report whose check byte is not that of its first three bytes.
-#[derive(Clone, Copy, Debug, PartialEq, Eq)]
+#[derive(Clone, Copy, Debug, PartialEq, Eq, Error)]
+#[error("the check byte of a buffer report is wrong")]
 pub struct Garbled;
 
 /// The generator of the check byte: x^8 + x^2 + x + 1.

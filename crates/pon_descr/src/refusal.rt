@@ -1,5 +1,6 @@
 use crate::cause::Cause;
 use std::alloc::AllocError;
+use std::error::Error;
 use std::fmt;
 
 /// Why a descriptor or an event is refused. Each refusal has a number, E01 to E21, and a name, as printed in output
@@ -93,3 +94,5 @@ impl fmt::Display for Refusal {
         }
     }
 }
+
+impl Error for Refusal {}

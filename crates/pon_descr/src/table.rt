@@ -8,15 +8,18 @@ ghost use Rattle.pon_descr.specs.Tables.{natural, rate_at, class_in_table, descr
 use crate::class::Class;
 use crate::descriptor::Descriptor;
 use crate::refusal::Refusal;
+use thiserror::Error;
 use toml::{Table, Value};
 
 /// Why a table has no descriptor.
-#[derive(Clone, Copy, Debug, PartialEq, Eq)]
+#[derive(Clone, Copy, Debug, PartialEq, Eq, Error)]
 pub enum DescrFault {
     /// `fixed`, `assured`, `max` or `class` is absent or of another type, a rate is negative, or the class is not one
     /// of `none`, `na` and `be`.
+    #[error("a field is absent, of another type or out of range")]
     Field,
     /// All four are present, and [`Descriptor::new`] refuses them.
+    #[error("refused: {0}")]
     Refused(Refusal),
 }
 

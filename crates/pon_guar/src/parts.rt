@@ -13,6 +13,7 @@ use crate::window::{MAX_MAPS, Window};
 use pon_units::{FrameNo, Granted, OnuId};
 use std::alloc::{AllocError, Global};
 use std::marker::Model;
+use thiserror::Error;
 
 /// A map of a window that is restored: its frame, its grants, and the ONUs that reported.
 #[derive(Debug, Drop)]
@@ -35,13 +36,15 @@ impl<'a> Model for MapParts<'a> {
 }
 
 /// Why parts do not make a report book.
-#[derive(Clone, Copy, Debug, PartialEq, Eq)]
+#[derive(Clone, Copy, Debug, PartialEq, Eq, Error)]
 pub enum LoadsFault {
     /// Two accounts are of one Alloc-ID, or the maps are not a window: there are more than 64, their frames are not
     /// consecutive, the grants of one are not in map order, or its reporters are not in ascending ONU-ID or not among
     /// the ONUs that it polls.
+    #[error("not the accounts and the window of a port")]
     Unlawful,
     /// Memory was refused.
+    #[error("out of memory")]
     Memory,
 }
 

@@ -5,7 +5,7 @@ use Rattle.clap.specs.Walk.{Row, Rule, all_of, first_of}
 use Rattle.clap.specs.declared.builder.arg.Arg.{Arg}
 use Rattle.clap.specs.declared.builder.command.Command.{Command}
 use Rattle.clap.specs.declared.builder.command.Command.TheViews.{out-Command}
-use Rattle.clap.specs.Simple.{App, Shape, app_of, new_shape, new_rule, subcommand_of}
+use Rattle.clap.specs.Simple.{App, Shape, app_of, new_shape, new_rule, subcommand_of, with_subcommand}
 use Rattle.clap.specs.Faults.{fault_of}
 use Rattle.clap.specs.Kinds.{HasKind}
 use Rattle.clap.specs.Values.{IsUnsignedIn, kind_of}
@@ -207,6 +207,12 @@ olt_app = record {
   top = record top_shape { is_leaf = false };
   subs = plan_shape ∷ check_shape ∷ audit_shape ∷ info_shape ∷ rates_shape ∷ why_shape ∷ dump_shape ∷ picture_shape ∷ loads_shape ∷ migrate_shape ∷ run_shape ∷ units_shape ∷ [];
 }
+
+-- a command line with the commands that answer from a recording
+abbrev pub with_views : App → App
+with_views app =
+    let shown = with_subcommand (with_subcommand (with_subcommand app info_shape) rates_shape) why_shape in
+    with_subcommand (with_subcommand (with_subcommand shown dump_shape) picture_shape) loads_shape
 
 -- the command has this definition, and no global argument
 pub record IsDefined (app : App) (c : Command) : Type 0 where

@@ -5,7 +5,7 @@ ghost use Rattle.clap.specs.Built.{AddsSubcommand};
 ghost use Rattle.clap.specs.Walk.{rule_of};
 ghost use Rattle.clap.specs.Simple.{app_of};
 ghost use Rattle.std.specs.Prelude.{map};
-ghost use Rattle.pon_job.specs.Jobs.{AreLocal, IsDefined, leaf, olt_app, shape_with};
+ghost use Rattle.pon_job.specs.Jobs.{AreLocal, IsDefined, leaf, olt_app, shape_with, with_views};
 ghost use Rattle.pon_job.specs.Jobs.{alloc_rule, config_rule, connect_rule, file_rule, files_rule, flag_rule, frame_rule, format_rule, from_rule, listen_rule, maps_rule, needed_alloc_rule, needed_config_rule, no_clobber_rule, number_rule, operate_rule, option_rule, out_rule, pace_rule, place_rule, port_rule, progress_rule, record_rule, settle_rule, strict_rule, summary_rule, svg_rule, to_rule, units_rule, verbose_rule, wait_rule};
 ghost use Rattle.pon_job.specs.Jobs.{audit_shape, check_shape, dump_shape, info_shape, loads_shape, migrate_shape, picture_shape, plan_shape, rates_shape, run_shape, top_shape, units_shape, why_shape};
 
@@ -469,6 +469,18 @@ fn with_subcommand<'a>(
     command.subcommand(made?)
 }
 
+// Adds the commands that answer from a recording. `Err` only if memory is refused.
+fn with_views<'a>(alloc: Global, command: Command<'a>) -> Result<Command<'a>, AllocError>
+    ensures { IfOk result (λ c. app_of c ≡ with_views (app_of command.entry)) }
+{
+    let command = with_subcommand(command, info_command(alloc))?;
+    let command = with_subcommand(command, rates_command(alloc))?;
+    let command = with_subcommand(command, why_command(alloc))?;
+    let command = with_subcommand(command, dump_command(alloc))?;
+    let command = with_subcommand(command, picture_command(alloc))?;
+    with_subcommand(command, loads_command(alloc))
+}
+
 /// Makes the program's command, with its subcommands.
 pub(crate) fn olt_command<'a>(alloc: Global) -> Result<Command<'a>, AllocError>
     ensures { IfOk result (λ c. app_of c ≡ olt_app) }
@@ -477,12 +489,7 @@ pub(crate) fn olt_command<'a>(alloc: Global) -> Result<Command<'a>, AllocError>
     let command = with_subcommand(command, plan_command(alloc))?;
     let command = with_subcommand(command, check_command(alloc))?;
     let command = with_subcommand(command, audit_command(alloc))?;
-    let command = with_subcommand(command, info_command(alloc))?;
-    let command = with_subcommand(command, rates_command(alloc))?;
-    let command = with_subcommand(command, why_command(alloc))?;
-    let command = with_subcommand(command, dump_command(alloc))?;
-    let command = with_subcommand(command, picture_command(alloc))?;
-    let command = with_subcommand(command, loads_command(alloc))?;
+    let command = with_views(alloc, command)?;
     let command = with_subcommand(command, migrate_command(alloc))?;
     let command = with_subcommand(command, run_command(alloc))?;
     with_subcommand(command, units_command(alloc))

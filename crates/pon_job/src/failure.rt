@@ -7,6 +7,7 @@ ghost use Rattle.std.specs.declared.io.ErrorKind.TheVariants.{OutOfMemory};
 
 use pon_device::DeviceFault;
 use std::alloc::{AllocError, AllocFailed, Global};
+use std::error::Error;
 use std::fmt::{self, Display, Formatter, Write};
 use std::io::{self, ErrorKind};
 
@@ -48,6 +49,17 @@ pub struct Failure {
     /// The file or the address and the reason, as `settings ports.toml: not found`.
     pub text: Option<String>,
 }
+
+impl Display for Failure {
+    fn fmt<W: Write>(&self, f: &mut Formatter<W>) -> fmt::Result {
+        match &self.text {
+            Some(text) => write!(f, "{}: {text}", self.fault),
+            None => write!(f, "{}", self.fault),
+        }
+    }
+}
+
+impl Error for Failure {}
 
 impl From<DeviceFault> for Failure {
     ghost use Rattle.std.specs.Prelude.{◌≡◌, None};

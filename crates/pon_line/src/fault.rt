@@ -1,4 +1,5 @@
 use pon_descr::Refusal;
+use std::error::Error;
 use std::fmt;
 
 /// Why a line is refused. Each fault has a number, L1 to L7, and a name, which the reply prints; a refusal has its own.
@@ -41,3 +42,5 @@ impl fmt::Display for LineFault {
         }
     }
 }
+
+impl Error for LineFault {}

@@ -1,4 +1,5 @@
 use crate::fault::LinkFault;
+use thiserror::Error;
 
 /// Result of a pull.
 #[derive(Clone, Copy, Debug, PartialEq, Eq)]
@@ -10,10 +11,12 @@ pub enum Pulled {
 }
 
 /// Why a pull added no bytes.
-#[derive(Clone, Copy, Debug, PartialEq, Eq)]
+#[derive(Clone, Copy, Debug, PartialEq, Eq, Error)]
 pub enum PullFault {
     /// The device failed. The reader is unchanged, and can pull again.
+    #[error("the device failed")]
     Device,
     /// The bytes are not records, or the input ended inside one; every later call returns the same fault.
+    #[error(transparent)]
     Link(LinkFault),
 }

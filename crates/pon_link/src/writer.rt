@@ -7,16 +7,19 @@ use pon_bwmap::{Map, write_map};
 use pon_device::DevWrite;
 use pon_units::{FrameNo, MAX_STRUCTURES};
 use std::marker::Model;
+use thiserror::Error;
 
 /// Number of bytes of the longest downstream record, with 512 structures.
 const LONGEST: usize = 4109;
 
 /// The previous record is not written whole yet.
-#[derive(Clone, Copy, Debug, PartialEq, Eq)]
+#[derive(Clone, Copy, Debug, PartialEq, Eq, Error)]
+#[error("the previous record is not written whole")]
 pub struct Busy;
 
 /// The device failed in this call.
-#[derive(Clone, Copy, Debug, PartialEq, Eq)]
+#[derive(Clone, Copy, Debug, PartialEq, Eq, Error)]
+#[error("the device failed")]
 pub struct Device;
 
 /// A writer of downstream records: it holds the remaining bytes of one record, at most 4,109, until a device has
