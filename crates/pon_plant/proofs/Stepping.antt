@@ -76,7 +76,7 @@ module _ (s : Step) {plant : List Chapter} {i : ℕ} {c : Chapter} (at : IsPort 
   left (Ok reply) taken kept = ap (λ n. set plant n d) at.number ∙ ap (set plant s.port) taken.kept ∙ sym (ap (after_accepted plant s reply) (chapter_at at))
   left (Err refusal) taken kept = unchanged at {T = Reply} d (Err refusal) kept
 
-  pub kept_ok : (r : Result (Unit {0}) Refusal) → OnOk r (Keeps c s.event d) → OnOk (answer_of r) (KeepsStep plant s (set plant i d))
+  pub kept_ok : {T : Type 0} (r : Result T Refusal) → OnOk r (Keeps c s.event d) → OnOk (answer_of r) (KeepsStep plant s (set plant i d))
   kept_ok (Ok _) ok = record { before = c; after = d; at = chapter_at at; keeps = ok; plant = ap (λ n. set plant n d) at.number }
   kept_ok (Err told) ok = tt
 

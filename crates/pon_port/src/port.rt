@@ -136,23 +136,26 @@ impl Port {
         }
     }
 
-    // Takes an event that makes no map.
-    fn take_plain(&mut self, event: Event) -> Result<(), Refusal>
-        requires plain { makes_map event ≡ false }
-        requires in_range { IsEvent event }
-        ensures ok { OnOk result (Takes self.old event Reply.Taken self.new) }
+    // Takes an event that makes no map, and returns the index of its entry.
+    fn take_plain(&mut self, event: &Event) -> Result<usize, Refusal>
+        requires plain { makes_map event.now ≡ false }
+        requires in_range { IsEvent event.now }
+        ensures index { IfOk result (λ index. index ≡ length self.old.entries) }
+        ensures ok { OnOk result (Takes self.old event.now Reply.Taken self.new) }
         ensures runs { OnOk result (RunsAreWhole self.new) }
-        ensures refused { IfErr result (λ told. IsTold (refusal_of self.old event) told) }
+        ensures refused { IfErr result (λ told. IsTold (refusal_of self.old event.now) told) }
         ensures err { OnErr result (self.new ≡ self.old) }
     {
-        let checked = match check(&self.state, self.entries.len(), &event) {
+        let index = self.entries.len();
+        let checked = match check(&self.state, index, event) {
             Ok(checked) => checked,
             Err(refusal) => return Err(refusal),
         };
         self.entries.reserve(1)?;
         step(&mut self.state, &checked)?;
-        self.entries.push_reserved(Entry::new(event, Reply::Taken));
-        Ok(())
+        let entry = Entry::new(event.copy(), Reply::Taken);
+        self.entries.push_reserved(entry);
+        Ok(index)
     }
 
     // Makes the next map.
@@ -169,10 +172,11 @@ impl Port {
         Ok(next)
     }
 
-    // Keeps the next map.
-    fn keep_map(&mut self, next: ReadyMap) -> Result<(), Refusal>
+    // Keeps the next map, and returns the index of its entry.
+    fn keep_map(&mut self, next: ReadyMap) -> Result<usize, Refusal>
         requires ready { IsReady (present_state self.old) next }
         requires accepted { refusal_of self.old Event.MakeMap ≡ None }
+        ensures index { IfOk result (λ index. index ≡ length self.old.entries) }
         ensures ok { OnOk result (Takes self.old Event.MakeMap (Reply.Map next.made) self.new) }
         ensures fair { OnOk result (IsFairMap (present_state self.old) next.made) }
         ensures runs { OnOk result (RunsAreWhole self.new) }
@@ -189,12 +193,13 @@ impl Port {
         self.entries.reserve(1)?;
         let left = add_map(&mut self.state, grants, carries)?;
         self.room.keep_grants(left);
-        self.last = Some(self.entries.len());
+        let index = self.entries.len();
+        self.last = Some(index);
         self.na = na;
         self.be = be;
         self.entries
             .push_reserved(Entry::new(Event::MakeMap, Reply::Map(made)));
-        Ok(())
+        Ok(index)
     }
 
     /// Takes an event and keeps it with its reply, or returns the first refusal.
@@ -221,23 +226,24 @@ impl Port {
             return Ok(Reply::Map(made));
         }
         prove_in_range(&event);
-        self.take_plain(event)?;
+        self.take_plain(&event)?;
         Ok(Reply::Taken)
     }
 
-    /// Takes an event and keeps it with its reply, as [`Port::take`] does, but returns no copy of the reply: it is that
-    /// of the last entry.
-    pub fn keep(&mut self, event: Event) -> Result<(), Refusal>
-        ensures ok { OnOk result (Keeps self.old event self.new) }
+    /// Takes an event and keeps it with its reply, as [`Port::take`] does, but returns no copy of the reply: it returns the
+    /// index of the entry, which is the last one.
+    pub fn keep(&mut self, event: &Event) -> Result<usize, Refusal>
+        ensures index { IfOk result (λ index. index ≡ length self.old.entries) }
+        ensures ok { OnOk result (Keeps self.old event.now self.new) }
         ensures runs { OnOk result (RunsAreWhole self.new) }
-        ensures refused { IfErr result (λ told. IsTold (refusal_of self.old event) told) }
+        ensures refused { IfErr result (λ told. IsTold (refusal_of self.old event.now) told) }
         ensures err { OnErr result (self.new ≡ self.old) }
     {
         if let Event::MakeMap = event {
             let next = self.ready_map()?;
             return self.keep_map(next);
         }
-        prove_in_range(&event);
+        prove_in_range(event);
         self.take_plain(event)
     }
 

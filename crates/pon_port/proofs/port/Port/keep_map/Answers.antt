@@ -40,7 +40,7 @@ pub invariant_of-self-2 : goal.invariant_of-self-2
 invariant_of-self-2 c = record {
   kept = mapped (old c) (new c) c.self.inside.state _ c.args.next.made c.self.invariant.kept (accepted c) (ready c).made (more c) (rw (← (ready c).grants, ← (ready c).carries) (search rules));
   in_range = c.self.invariant.in_range;
-  last = last_made (old c) (new c) c.self.inside.state c.args.next.made c.len.result c.args.next.na.items c.args.next.be.items c.self.invariant.kept (ready c).made (more c) (search rules) (ready c).na (ready c).be;
+  last = last_made (old c) (new c) c.self.inside.state c.args.next.made c.len-index.result c.args.next.na.items c.args.next.be.items c.self.invariant.kept (ready c).made (more c) (search rules) (ready c).na (ready c).be;
 }
 
 pub returns-clause-ok : goal.returns-clause-ok
