@@ -3,17 +3,21 @@ ghost use Rattle.pon_record.specs.declared.fault.Stop.TheVariants.{Malformed, Me
 
 use crate::chapter::Recording;
 use std::alloc::{AllocError, AllocFailed};
+use thiserror::Error;
 
 /// Why bytes are not a recording. `at` is the place of the first byte of a chapter, from 0.
-#[derive(Debug, Drop)]
+#[derive(Debug, Drop, Error)]
 pub enum ReadFault {
     /// The magic bytes are wrong (at 0), or the chapter that begins at `at` has a wrong tag, a field out of its range,
     /// a refused descriptor, or a body that does not end where its length says.
+    #[error("byte {at}: no chapter of the format")]
     BadFormat { at: usize },
     /// The bytes end inside the chapter that begins at `at`, or inside the magic bytes (at 0). `whole` has the chapters
     /// before it.
+    #[error("byte {at}: the chapter is cut short")]
     Truncated { at: usize, whole: Recording },
     /// Memory was refused.
+    #[error("out of memory")]
     Memory,
 }
 
