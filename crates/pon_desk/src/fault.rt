@@ -1,6 +1,8 @@
 use crate::desk::Desk;
 use crate::seat::Seat;
 use pon_port::Port;
+use std::error::Error;
+use std::fmt::{self, Debug, Display, Formatter, Write};
 use std::sync::ledger::Ledger;
 
 /// Why a desk could not be closed.
@@ -18,3 +20,23 @@ pub enum CloseFault<L: Ledger, M: Ledger> {
         counts: Vec<u64>,
     },
 }
+
+impl<L: Ledger, M: Ledger> Debug for CloseFault<L, M> {
+    fn fmt<W: Write>(&self, f: &mut Formatter<W>) -> fmt::Result {
+        match self {
+            CloseFault::Missing { .. } => f.write_str("Missing"),
+            CloseFault::Uneven { .. } => f.write_str("Uneven"),
+        }
+    }
+}
+
+impl<L: Ledger, M: Ledger> Display for CloseFault<L, M> {
+    fn fmt<W: Write>(&self, f: &mut Formatter<W>) -> fmt::Result {
+        match self {
+            CloseFault::Missing { .. } => f.write_str("fewer seats than were opened"),
+            CloseFault::Uneven { .. } => f.write_str("ports and seats count other entries"),
+        }
+    }
+}
+
+impl<L: Ledger, M: Ledger> Error for CloseFault<L, M> {}
