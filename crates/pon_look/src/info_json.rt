@@ -64,12 +64,13 @@ pub(crate) fn chapter_json(
             ("onus_end", onus.end as u64),
             ("failures", summary.failures),
         ],
-    )?;
-    let members = members.with("first", frame_json(summary.first))?;
-    let members = members.with("last", frame_json(summary.last))?;
-    let members = members.with("seconds", line_seconds(summary.maps))?;
-    let causes = causes_json(alloc, summary, entries)?;
-    members.with("causes", causes)?.into_line()
+    );
+    members
+        .with("first", frame_json(summary.first))
+        .with("last", frame_json(summary.last))
+        .with("seconds", line_seconds(summary.maps))
+        .with_made("causes", causes_json(alloc, summary, entries))
+        .into_line()
 }
 
 /// Makes the object of the chapters `first` to `last` that are missing. `Err` only if memory is refused.
@@ -79,9 +80,9 @@ pub(crate) fn missing_json(
     first: u64,
     last: u64,
 ) -> Result<String, AllocError> {
-    let missing = json!(in alloc; [first, last])?;
-    let members = Members::of(alloc, &[("port", u64::from(port))])?;
-    members.with("missing", missing)?.into_line()
+    let missing = json!(in alloc; [first, last]);
+    let members = Members::of(alloc, &[("port", u64::from(port))]);
+    members.with_made("missing", missing).into_line()
 }
 
 /// Makes the object of the totals. `Err` only if memory is refused.
@@ -95,7 +96,7 @@ pub(crate) fn total_json(alloc: Global, totals: &Totals, bytes: u64) -> Result<S
             ("reports", totals.reports),
             ("failures", totals.failures),
         ],
-    )?;
+    );
     let seconds = line_seconds(totals.maps);
-    members.with("seconds", seconds)?.into_line()
+    members.with("seconds", seconds).into_line()
 }

@@ -22,7 +22,7 @@ pub(crate) fn refused_json(alloc: Global, refused: &Refused) -> Result<String, A
             ("chapter", refused.chapter),
             ("refused", refused.entry as u64),
         ],
-    )?;
+    );
     members.into_line()
 }
 
@@ -41,9 +41,9 @@ pub(crate) fn change_json(
             ("from", change.frame.get()),
             ("weight", change.weight),
         ],
-    )?;
-    let descriptor = descriptor_json(alloc, &change.row)?;
-    members.with("descriptor", descriptor)?.into_line()
+    );
+    let descriptor = descriptor_json(alloc, &change.row);
+    members.with_made("descriptor", descriptor).into_line()
 }
 
 // Makes the object of a descriptor.
@@ -56,9 +56,9 @@ fn descriptor_json(alloc: Global, row: &Row) -> Result<Value, AllocError> {
             ("assured", u64::from(descriptor.assured().get())),
             ("max", u64::from(descriptor.max().get())),
         ],
-    )?;
+    );
     let class = class_word(descriptor.class());
-    Ok(members.with_text("class", class)?.into_value())
+    members.with_text("class", class).into_value()
 }
 
 /// Makes the object of the sums of an Alloc-ID, which are exact. `Err` only if memory is refused.
@@ -83,15 +83,21 @@ pub(crate) fn sums_json(
             ("below", sums.below),
             ("idle", idle),
         ],
-    )?;
+    );
     members.into_line()
+}
+
+// Makes the value of a level: its text.
+fn level_json(alloc: Global, level: &Level) -> Result<Value, AllocError> {
+    Ok(Value::from(LevelText(level).to_string(alloc)?))
 }
 
 // Makes the object of a class in a map: its surplus and its level.
 fn class_json(alloc: Global, surplus: u64, level: &Level) -> Result<Value, AllocError> {
-    let members = Members::of(alloc, &[("surplus", surplus)])?;
-    let level = Value::from(LevelText(level).to_string(alloc)?);
-    Ok(members.with("level", level)?.into_value())
+    let members = Members::of(alloc, &[("surplus", surplus)]);
+    members
+        .with_made("level", level_json(alloc, level))
+        .into_value()
 }
 
 /// Makes the object of a map: the surplus and the level of each class. `Err` only if memory is refused.
@@ -109,10 +115,10 @@ pub(crate) fn map_json(
             ("chapter", place.chapter),
             ("entry", place.entry as u64),
         ],
-    )?;
-    let na = class_json(alloc, explained.non_assured, &cert.na.level)?;
-    let be = class_json(alloc, explained.best_effort, &cert.be.level)?;
-    members.with("na", na)?.with("be", be)?.into_line()
+    );
+    let na = class_json(alloc, explained.non_assured, &cert.na.level);
+    let be = class_json(alloc, explained.best_effort, &cert.be.level);
+    members.with_made("na", na).with_made("be", be).into_line()
 }
 
 // Makes the object of the counted report, or null.
@@ -127,12 +133,12 @@ fn report_json(alloc: Global, shown: &Shown) -> Result<Value, AllocError> {
             ("granted", reported.granted),
             ("left", u64::from(counted.words.get())),
         ],
-    )?;
+    );
     let occupancy = match reported.occupancy {
         Some(words) => Value::from(words),
         None => Value::Null,
     };
-    Ok(members.with("occupancy", occupancy)?.into_value())
+    members.with("occupancy", occupancy).into_value()
 }
 
 // Makes the object of what shares the surplus, or null for a class that shares none.
@@ -148,9 +154,10 @@ fn share_json(alloc: Global, shown: &Shown) -> Result<Value, AllocError> {
             ("num", shown.row.surplus.num()),
             ("den", shown.row.surplus.den()),
         ],
-    )?;
-    let level = Value::from(LevelText(&level).to_string(alloc)?);
-    Ok(members.with("level", level)?.into_value())
+    );
+    members
+        .with_made("level", level_json(alloc, &level))
+        .into_value()
 }
 
 // Makes the object of a structure, or null.
@@ -169,11 +176,13 @@ fn structure_json(alloc: Global, structure: Option<&Alloc>) -> Result<Value, All
             ("grant", u64::from(structure.grant())),
             ("profile", u64::from(structure.profile())),
         ],
-    )?;
-    let members = members.with("dbru", Value::from(structure.dbru()))?;
-    let members = members.with("ploam", Value::from(structure.ploam()))?;
-    let members = members.with("fwi", Value::from(structure.fwi()))?;
-    Ok(members.with("start", start)?.into_value())
+    );
+    members
+        .with("dbru", Value::from(structure.dbru()))
+        .with("ploam", Value::from(structure.ploam()))
+        .with("fwi", Value::from(structure.fwi()))
+        .with("start", start)
+        .into_value()
 }
 
 // Makes the object of the rates and the words of an Alloc-ID.
@@ -187,8 +196,8 @@ fn rates_json(alloc: Global, row: &Explanation) -> Result<Value, AllocError> {
             ("owed", row.owed),
             ("words", row.owed / WORD_RATE),
         ],
-    )?;
-    Ok(members.into_value())
+    );
+    members.into_value()
 }
 
 /// Makes the object of an Alloc-ID in a map. `Err` only if memory is refused.
@@ -205,11 +214,12 @@ pub(crate) fn row_json(
             ("alloc", u64::from(shown.row.row.alloc_id.get())),
             ("onu", u64::from(shown.row.row.onu.get())),
         ],
-    )?;
-    let members = members.with("descriptor", descriptor_json(alloc, &shown.row.row)?)?;
-    let members = members.with("report", report_json(alloc, shown)?)?;
-    let members = members.with("rates", rates_json(alloc, shown.row)?)?;
-    let members = members.with("share", share_json(alloc, shown)?)?;
-    let structure = structure_json(alloc, shown.structure)?;
-    members.with("structure", structure)?.into_line()
+    );
+    members
+        .with_made("descriptor", descriptor_json(alloc, &shown.row.row))
+        .with_made("report", report_json(alloc, shown))
+        .with_made("rates", rates_json(alloc, shown.row))
+        .with_made("share", share_json(alloc, shown))
+        .with_made("structure", structure_json(alloc, shown.structure))
+        .into_line()
 }

@@ -61,11 +61,13 @@ fn place_json(alloc: Global, verdict: &Verdict) -> Result<Value, AllocError> {
         } => {
             let (port, entry) = (u64::from(port.get()), index as u64);
             let numbers = [("port", port), ("chapter", chapter), ("entry", entry)];
-            let why = Value::from(format!(in alloc; "{why}")?);
-            Ok(Members::of(alloc, &numbers)?.with("why", why)?.into_value())
+            let why = format!(in alloc; "{why}").map(Value::from);
+            Members::of(alloc, &numbers)
+                .with_made("why", why)
+                .into_value()
         }
         Verdict::BadFormat { at } | Verdict::Truncated { at } => {
-            Ok(Members::of(alloc, &[("at", at as u64)])?.into_value())
+            Members::of(alloc, &[("at", at as u64)]).into_value()
         }
     }
 }
@@ -88,13 +90,13 @@ fn judged_json(
     contents: &Contents,
     bytes: u64,
 ) -> Result<String, AllocError> {
-    let members = Members::of(alloc, &[("maps", contents.maps), ("bytes", bytes)])?;
-    let members = members.with_text("file", file)?;
-    let members = members.with_text("verdict", word_of(verdict))?;
-    let members = members.with("place", place_json(alloc, verdict)?)?;
-    let members = members.with("ports", ports_json(alloc, contents)?)?;
-    let seconds = line_seconds(contents.maps);
-    members.with("seconds", seconds)?.into_line()
+    Members::of(alloc, &[("maps", contents.maps), ("bytes", bytes)])
+        .with_text("file", file)
+        .with_text("verdict", word_of(verdict))
+        .with_made("place", place_json(alloc, verdict))
+        .with_made("ports", ports_json(alloc, contents))
+        .with("seconds", line_seconds(contents.maps))
+        .into_line()
 }
 
 /// Writes the object of a recording that was judged: its file, verdict and place of the fault, and what it holds up to the

@@ -46,6 +46,35 @@ fn changes_text(alloc: Global, port: &PortTally, query: &LoadsQuery) -> Result<S
     Ok(text)
 }
 
+// Makes the line about a series, of which the first and the last frame are given.
+fn heading_of(
+    alloc: Global,
+    port: &PortTally,
+    query: &LoadsQuery,
+    series: &Series,
+    (first, last): (u64, u64),
+) -> Result<String, AllocError> {
+    let (sums, _idle) = port.tally.of(query.alloc_id);
+    let (number, alloc_id) = (port.port.get(), query.alloc_id.get());
+    let (maps, frames) = (sums.maps, series.frames());
+    format!(in alloc;
+        "port {number} alloc {alloc_id} frames {first} to {last} maps {maps}, mean kbit/s of {frames} frames a row"
+    )
+}
+
+// Makes the text of a picture: its heading, the descriptors, and the steps.
+fn picture_text(
+    alloc: Global,
+    heading: &str,
+    port: &PortTally,
+    query: &LoadsQuery,
+    series: &Series,
+) -> Result<String, AllocError> {
+    let changes = changes_text(alloc, port, query)?;
+    let steps = steps_text(alloc, series)?;
+    format!(in alloc; "{heading}\n{changes}{SIGNS}\n\n{steps}")
+}
+
 // Draws a series that has a map.
 fn draw(
     alloc: Global,
@@ -53,19 +82,12 @@ fn draw(
     query: &LoadsQuery,
     series: &Series,
 ) -> Result<Option<Picture>, AllocError> {
-    let Some((first, last)) = series.range() else {
+    let Some(range) = series.range() else {
         return Ok(None);
     };
-    let (sums, _idle) = port.tally.of(query.alloc_id);
-    let (number, alloc_id) = (port.port.get(), query.alloc_id.get());
-    let (maps, frames) = (sums.maps, series.frames());
-    let heading = format!(in alloc;
-        "port {number} alloc {alloc_id} frames {first} to {last} maps {maps}, mean kbit/s of {frames} frames a row"
-    )?;
+    let heading = heading_of(alloc, port, query, series, range)?;
     let svg = loads_svg(alloc, heading.as_str(), series)?;
-    let changes = changes_text(alloc, port, query)?;
-    let steps = steps_text(alloc, series)?;
-    let text = format!(in alloc; "{heading}\n{changes}{SIGNS}\n\n{steps}")?;
+    let text = picture_text(alloc, heading.as_str(), port, query, series)?;
     Ok(Some(Picture { text, svg }))
 }
 

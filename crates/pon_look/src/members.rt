@@ -3,44 +3,75 @@
 use serde_json::{Map, Value, put};
 use std::alloc::{AllocError, Global};
 
-/// The members of an object, which is printed in the order of their keys.
+/// The members of an object, which is printed in the order of their keys. Whether memory was refused is told when the object
+/// is taken.
 #[derive(Drop)]
 pub(crate) struct Members {
     alloc: Global,
     map: Map<String, Value>,
+    is_refused: bool,
+}
+
+// Adds a member for each number.
+fn put_numbers(
+    map: &mut Map<String, Value>,
+    alloc: Global,
+    numbers: &[(&str, u64)],
+) -> Result<(), AllocError> {
+    for (key, number) in numbers {
+        put(map, alloc, key, Value::from(*number))?;
+    }
+    Ok(())
 }
 
 impl Members {
-    /// Makes the members with whole numbers. `Err` only if memory is refused.
-    pub(crate) fn of(alloc: Global, numbers: &[(&str, u64)]) -> Result<Members, AllocError> {
+    /// Makes the members with whole numbers.
+    pub(crate) fn of(alloc: Global, numbers: &[(&str, u64)]) -> Members {
         let mut map = Map::new(alloc);
-        for (key, number) in numbers {
-            put(&mut map, alloc, key, Value::from(*number))?;
+        let is_refused = put_numbers(&mut map, alloc, numbers).is_err();
+        Members {
+            alloc,
+            map,
+            is_refused,
         }
-        Ok(Members { alloc, map })
     }
 
-    /// Adds a member. `Err` only if memory is refused.
-    pub(crate) fn with(mut self, key: &str, value: Value) -> Result<Members, AllocError> {
-        put(&mut self.map, self.alloc, key, value)?;
-        Ok(self)
+    // Adds a member that was made.
+    fn add(&mut self, key: &str, made: Result<Value, AllocError>) -> Result<(), AllocError> {
+        put(&mut self.map, self.alloc, key, made?)
     }
 
-    /// Adds a text. `Err` only if memory is refused.
-    pub(crate) fn with_text(self, key: &str, text: &str) -> Result<Members, AllocError> {
-        let text = String::from_str(self.alloc, text)?;
-        self.with(key, Value::from(text))
+    /// Adds a member that was made.
+    pub(crate) fn with_made(mut self, key: &str, made: Result<Value, AllocError>) -> Members {
+        if self.add(key, made).is_err() {
+            self.is_refused = true;
+        }
+        self
     }
 
-    /// The object of the members.
-    pub(crate) fn into_value(self) -> Value {
-        Value::Object(self.map)
+    /// Adds a member.
+    pub(crate) fn with(self, key: &str, value: Value) -> Members {
+        self.with_made(key, Ok(value))
     }
 
-    /// The object of the members on a line. `Err` only if memory is refused.
+    /// Adds a text.
+    pub(crate) fn with_text(self, key: &str, text: &str) -> Members {
+        let made = String::from_str(self.alloc, text).map(Value::from);
+        self.with_made(key, made)
+    }
+
+    /// The object of the members. `Err` only if memory was refused.
+    pub(crate) fn into_value(self) -> Result<Value, AllocError> {
+        if self.is_refused {
+            return Err(AllocError);
+        }
+        Ok(Value::Object(self.map))
+    }
+
+    /// The object of the members on a line. `Err` only if memory was refused.
     pub(crate) fn into_line(self) -> Result<String, AllocError> {
         let alloc = self.alloc;
-        let mut line = self.into_value().to_string(alloc)?;
+        let mut line = self.into_value()?.to_string(alloc)?;
         line.push('\n')?;
         Ok(line)
     }
