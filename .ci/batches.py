@@ -2,7 +2,7 @@
 
 A function is proved against the contracts of what it calls. So the body of one says nothing of the proof of another, and what the prover
 says of a function in a check of several wrong programs is what it says of the only one that changes it. An edit counts as refused here only by
-a line about one of its own functions; each edit without such a line is left to be tried alone.
+a line about one of its own functions. Each edit without such a line has a check of its own, and without one then too is left to be tried alone.
 """
 import os
 import re
@@ -226,7 +226,11 @@ class Batches:
             refused = {}
             for found in pool.map(lambda group: self.try_group(crate, group, seed), groups):
                 refused.update(found)
+            # A goal waits for the proof of each function that its own one calls, and so for that of another edit of its group.
+            left = [[edit] for group in groups if len(group) > 1 for edit in group if edit.name not in refused]
+            for found in pool.map(lambda group: self.try_group(crate, group, seed), left):
+                refused.update(found)
         for edit, line in sorted(refused.items()):
             print(f"edits: {name}/{edit} is refused: {line}", flush=True)
-        print(f"edits: {name}: {len(refused)} of {len(edits)} refused in {len(groups)} checks", flush=True)
+        print(f"edits: {name}: {len(refused)} of {len(edits)} refused in {len(groups) + len(left)} checks", flush=True)
         return refused
