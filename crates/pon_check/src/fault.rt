@@ -1,5 +1,4 @@
-use std::error;
-use std::fmt;
+use std::{error, fmt};
 use thiserror::Error;
 
 /// Why the certificate of a class is refused. Of several faults the first counts, in this order: length, denominator,
