@@ -19,6 +19,9 @@ use Rattle.pon_line.specs.declared.fault.LineFault.TheVariants.{Port}
 use Rattle.pon_line.specs.declared.reading.Reading.TheVariants.{Asks}
 use Rattle.pon_manage.specs.Text.{AddsAnswer, Answers, AsksPort, Posts, last_reply, refusal_line, reply_line}
 
+abbrev pub at : ℕ → Event → Step
+at port event = record { port = port; event = event }
+
 -- the text of a refused event is that of its first refusal, unless memory was refused
 refused_at : (old : List Chapter) (port : ℕ) (event : Event) (told : Refusal) (text : List ℕ) (o : Option Chapter) →
     IsStepAnswer o event (Err (Refused told)) → told ≢ OutOfMemory → text ≡ refusal_line (Port told) → AsksPort old port o event text old
@@ -29,16 +32,15 @@ refused_at old port event told text (Some c) h other is = by_check (refusal_of c
     by_check None h = absurd (other h)
     by_check (Some r) h = (subst (λ r. text ≡ refusal_line (Port r)) h is, refl)
 
-pub refused_text : {T E : Type 0} (old new : List Chapter) (s : Step) (told : Refusal) (replies_old replies_new : List ℕ) (r : Result T E) →
-    IsStepAnswer (slice_get old s.port) s.event (Err (Refused told)) → told ≢ OutOfMemory → new ≡ old →
-    OnOk r (replies_new ≡ replies_old ++ refusal_line (Port told)) → OnOk r (AddsAnswer old (Asks s.port s.event) new replies_old replies_new)
-refused_text old new s told replies_old replies_new (Ok done) h other after is = (
+pub refused_text : {T E : Type 0} (old new : List Chapter) (port : ℕ) (event : Event) (told : Refusal) (replies_old replies_new : List ℕ) (r : Result T E) →
+    IsStepAnswer (slice_get old port) event (Err (Refused told)) → told ≢ OutOfMemory → new ≡ old →
+    OnOk r (replies_new ≡ replies_old ++ refusal_line (Port told)) → OnOk r (AddsAnswer old (Asks port event) new replies_old replies_new)
+refused_text old new port event told replies_old replies_new (Ok done) h other after is = (
   refusal_line (Port told),
-  subst (λ ports. Answers old (Asks s.port s.event) (refusal_line (Port told)) ports) (sym after)
-      (refused_at old s.port s.event told (refusal_line (Port told)) (slice_get old s.port) h other refl),
+  subst (λ ports. Answers old (Asks port event) (refusal_line (Port told)) ports) (sym after) (refused_at old port event told (refusal_line (Port told)) (slice_get old port) h other refl),
   is,
 )
-refused_text old new s told replies_old replies_new (Err e) h other after is = tt
+refused_text old new port event told replies_old replies_new (Err e) h other after is = tt
 
 -- the last element of a list
 last_of : {X : Type 0} (xs : List X) (y : X) → slice_get (xs ++ y ∷ []) (length (xs ++ y ∷ []) - 1) ≡ Some y
@@ -60,17 +62,17 @@ pub reply_there : (old new : List Chapter) (s : Step) → KeepsStep old s new �
 reply_there old new s k = subst IsSome (sym (reply_kept old new s k)) refl
 
 -- the text of an event that is kept is the reply of the last entry
-pub kept_text : {T E : Type 0} (old new : List Chapter) (s : Step) (index : ℕ) (reply : Reply) (replies_old replies_new : List ℕ) (r : Result T E) →
-    KeepsStep old s new → IfSome (slice_get old s.port) (λ c. index ≡ length c.entries) → last_reply (slice_get new s.port) ≡ Some reply →
-    OnOk r (replies_new ≡ replies_old ++ reply_line index reply) → OnOk r (AddsAnswer old (Asks s.port s.event) new replies_old replies_new)
-kept_text old new s index reply replies_old replies_new (Err e) k place last is = tt
-kept_text old new s index reply replies_old replies_new (Ok done) k place last is =
-    let kept : Some reply ≡ Some k.keeps.reply = sym last ∙ reply_kept old new s k in
+pub kept_text : {T E : Type 0} (old new : List Chapter) (port : ℕ) (event : Event) (index : ℕ) (reply : Reply) (replies_old replies_new : List ℕ) (r : Result T E) →
+    KeepsStep old (at port event) new → IfSome (slice_get old port) (λ c. index ≡ length c.entries) → last_reply (slice_get new port) ≡ Some reply →
+    OnOk r (replies_new ≡ replies_old ++ reply_line index reply) → OnOk r (AddsAnswer old (Asks port event) new replies_old replies_new)
+kept_text old new port event index reply replies_old replies_new (Err e) k place last is = tt
+kept_text old new port event index reply replies_old replies_new (Ok done) k place last is =
+    let kept : Some reply ≡ Some k.keeps.reply = sym last ∙ reply_kept old new (at port event) k in
     let same : reply ≡ k.keeps.reply = cc in
     let count : index ≡ length k.before.entries = subst (λ o. IfSome o (λ c. index ≡ length c.entries)) k.at place in
-    let posts : Posts old s.port k.before s.event None (reply_line index reply) new = (k.keeps.reply, k.after, k.keeps.takes, (λ i. reply_line (count i) (same i)), k.plant) in (
+    let posts : Posts old port k.before event None (reply_line index reply) new = (k.keeps.reply, k.after, k.keeps.takes, (λ i. reply_line (count i) (same i)), k.plant) in (
       reply_line index reply,
-      subst (λ o. AsksPort old s.port o s.event (reply_line index reply) new) (sym k.at)
-          (subst (λ r. Posts old s.port k.before s.event r (reply_line index reply) new) (sym k.keeps.takes.follows.accepted) posts),
+      subst (λ o. AsksPort old port o event (reply_line index reply) new) (sym k.at)
+          (subst (λ r. Posts old port k.before event r (reply_line index reply) new) (sym k.keeps.takes.follows.accepted) posts),
       is,
     )

@@ -1,6 +1,6 @@
 //! The text that one line gives at a plant.
 
-ghost use Rattle.std.specs.Prelude.{◌≡◌, ◌<◌, ◌++◌, IsSome, OnOk, OnErr, Some, length, slice_get};
+ghost use Rattle.std.specs.Prelude.{◌≡◌, ◌<◌, ◌++◌, IfSome, IsSome, OnOk, OnErr, Some, length, slice_get};
 ghost use Rattle.pon_history.specs.Chapters.{present_state};
 ghost use Rattle.pon_history.specs.Last.{last_map};
 ghost use Rattle.pon_line.specs.Parts.{asks_in};
@@ -25,6 +25,14 @@ use pon_units::{AllocId, MAX_PORTS, PortNo};
 use pon_why::{explain_last, row_views};
 use std::alloc::AllocError;
 
+// Returns the number of entries that a port keeps.
+fn kept_entries(plant: &Plant, port: PortNo) -> usize
+    requires { port < length plant.now }
+    ensures { IfSome (slice_get plant.now port) (λ c. result ≡ length c.entries) }
+{
+    plant.port(port).unwrap().history().len()
+}
+
 // Returns the last entry of a port.
 fn last_entry(plant: &Plant, port: PortNo) -> &Entry
     requires { IsSome (last_reply (slice_get plant.now port)) }
@@ -42,30 +50,24 @@ pub(crate) fn port_no(plant: &Plant, place: usize) -> PortNo
     PortNo::at(place)
 }
 
-// Returns the step of an event at the port at an index.
-fn step_at(plant: &Plant, place: usize, event: Event) -> Step
-    requires { place < length plant.now }
-    ensures { result ≡ record { port = place; event = event } }
-{
-    let port = port_no(plant, place);
-    Step { port, event }
-}
-
-// Passes the event of a step to its port, and appends its reply or its refusal.
+// Passes an event to a port, and appends its reply or its refusal.
 fn answer_event(
     plant: &mut Plant,
-    step: &Step,
+    port: usize,
+    event: Event,
     room: &mut Vec<u8>,
     replies: &mut Vec<u8>,
 ) -> Result<(), AllocError>
-    requires { step.now.port < length plant.old }
-    ensures ok { OnOk result (AddsAnswer plant.old (Reading.Asks step.now.port step.now.event)
+    requires { port < length plant.old }
+    ensures ok { OnOk result (AddsAnswer plant.old (Reading.Asks port event)
         plant.new replies.old.items replies.new.items) }
     ensures err { OnErr result (replies.new.items ≡ replies.old.items) }
     ensures path { KeepsChapters plant.old plant.new }
 {
-    match plant.keep(step) {
-        Ok(index) => append_reply(replies, room, index, last_entry(plant, step.port)),
+    let port = port_no(plant, port);
+    let index = kept_entries(plant, port);
+    match plant.keep(Step { port, event }) {
+        Ok(()) => append_reply(replies, room, index, last_entry(plant, port)),
         Err(StepFault::Refused(refusal)) => match refusal {
             Refusal::OutOfMemory => Err(AllocError),
             told => append_refusal(replies, LineFault::Port(told)),
@@ -143,9 +145,7 @@ pub(crate) fn answer(
     match reading {
         Reading::Nothing => Ok(()),
         Reading::Refused(fault) => append_refusal(replies, fault),
-        Reading::Asks { port, event } => {
-            answer_event(plant, &step_at(plant, port, event), room, replies)
-        }
+        Reading::Asks { port, event } => answer_event(plant, port, event, room, replies),
         Reading::AsksCert { port } => show_cert(port_at(plant, port), replies),
         Reading::AsksState { port } => show_state(port_at(plant, port), replies),
         Reading::AsksRows { port } => show_rows(port_at(plant, port), replies),
@@ -169,11 +169,11 @@ pub(crate) fn answer_frame_line(
     ensures err { OnErr result (replies.new.items ≡ replies.old.items) }
     ensures path { KeepsChapters plant.old plant.new }
 {
-    let step = match asked {
-        FrameCommand::Map { port } => step_at(plant, port, Event::MakeMap),
+    match asked {
+        FrameCommand::Map { port } => answer_event(plant, port, Event::MakeMap, room, replies),
         FrameCommand::Report { port, frame, onu } => {
-            step_at(plant, port, Event::Report { frame, onu, occ })
+            let event = Event::Report { frame, onu, occ };
+            answer_event(plant, port, event, room, replies)
         }
-    };
-    answer_event(plant, &step, room, replies)
+    }
 }

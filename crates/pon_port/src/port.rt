@@ -137,24 +137,23 @@ impl Port {
     }
 
     // Takes an event that makes no map, and returns the index of its entry.
-    fn take_plain(&mut self, event: &Event) -> Result<usize, Refusal>
-        requires plain { makes_map event.now ≡ false }
-        requires in_range { IsEvent event.now }
+    fn take_plain(&mut self, event: Event) -> Result<usize, Refusal>
+        requires plain { makes_map event ≡ false }
+        requires in_range { IsEvent event }
         ensures index { IfOk result (λ index. index ≡ length self.old.entries) }
-        ensures ok { OnOk result (Takes self.old event.now Reply.Taken self.new) }
+        ensures ok { OnOk result (Takes self.old event Reply.Taken self.new) }
         ensures runs { OnOk result (RunsAreWhole self.new) }
-        ensures refused { IfErr result (λ told. IsTold (refusal_of self.old event.now) told) }
+        ensures refused { IfErr result (λ told. IsTold (refusal_of self.old event) told) }
         ensures err { OnErr result (self.new ≡ self.old) }
     {
         let index = self.entries.len();
-        let checked = match check(&self.state, index, event) {
+        let checked = match check(&self.state, index, &event) {
             Ok(checked) => checked,
             Err(refusal) => return Err(refusal),
         };
         self.entries.reserve(1)?;
         step(&mut self.state, &checked)?;
-        let entry = Entry::new(event.copy(), Reply::Taken);
-        self.entries.push_reserved(entry);
+        self.entries.push_reserved(Entry::new(event, Reply::Taken));
         Ok(index)
     }
 
@@ -226,24 +225,24 @@ impl Port {
             return Ok(Reply::Map(made));
         }
         prove_in_range(&event);
-        self.take_plain(&event)?;
+        self.take_plain(event)?;
         Ok(Reply::Taken)
     }
 
     /// Takes an event and keeps it with its reply, as [`Port::take`] does, but returns no copy of the reply: it returns the
     /// index of the entry, which is the last one.
-    pub fn keep(&mut self, event: &Event) -> Result<usize, Refusal>
+    pub fn keep(&mut self, event: Event) -> Result<usize, Refusal>
         ensures index { IfOk result (λ index. index ≡ length self.old.entries) }
-        ensures ok { OnOk result (Keeps self.old event.now self.new) }
+        ensures ok { OnOk result (Keeps self.old event self.new) }
         ensures runs { OnOk result (RunsAreWhole self.new) }
-        ensures refused { IfErr result (λ told. IsTold (refusal_of self.old event.now) told) }
+        ensures refused { IfErr result (λ told. IsTold (refusal_of self.old event) told) }
         ensures err { OnErr result (self.new ≡ self.old) }
     {
         if let Event::MakeMap = event {
             let next = self.ready_map()?;
             return self.keep_map(next);
         }
-        prove_in_range(event);
+        prove_in_range(&event);
         self.take_plain(event)
     }
 

@@ -32,9 +32,8 @@ fn accept(rt: &impl Abort, port: &mut Port, act: Act) {
 }
 
 fn keep(rt: &impl Abort, port: &mut Port, act: Act) {
-    let before = port.history().len();
-    let index = port.keep(&event(rt, act)).ok();
-    assert!(rt; index == Some(before), "kept");
+    let is_kept = port.keep(event(rt, act)).is_ok();
+    assert!(rt; is_kept, "kept");
 }
 
 // A port that took a map and a failure.
@@ -79,7 +78,7 @@ fn begins_by_a_map(port: &Port) -> bool {
 }
 
 fn keeps_no_map(rt: &impl Abort, port: &mut Port) -> bool {
-    let refused = port.keep(&event(rt, Act::MakeMap)).err();
+    let refused = port.keep(event(rt, Act::MakeMap)).err();
     refused == Some(refusal(rt, Why::PortDown(4))) && port.history().len() == 2
 }
 

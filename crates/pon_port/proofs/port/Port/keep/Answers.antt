@@ -19,7 +19,7 @@ returns-in-MakeMap-clause-ok c =
     let old = c.args.self.now in
     let new = c.keep_map.new.self in
     let made = c.in_ok-next.next.made in
-    both c.keep_map.result (Takes c.ready_map.new.self MakeMap (Map made) new) (IsFairMap (present_state c.ready_map.new.self) made) (Keeps old c.args.event.now new)
+    both c.keep_map.result (Takes c.ready_map.new.self MakeMap (Map made) new) (IsFairMap (present_state c.ready_map.new.self) made) (Keeps old c.args.event new)
     (λ takes fair. record {
       reply = Map made;
       takes = subst (λ v. Takes old v (Map made) new) (sym c.in-MakeMap.is) (subst (λ before. Takes before MakeMap (Map made) new) c.ready_map.ensures.same takes);
