@@ -43,7 +43,7 @@ impl Model for Plant {
 }
 
 impl Plant {
-    ghost use Rattle.std.specs.Prelude.{◌≡◌, ◌≤◌, ◌↔◌, length, true, Err, IfOk, IfErr, MatchOption, OnErr, OnOk, Some, slice_get};
+    ghost use Rattle.std.specs.Prelude.{◌≡◌, ◌≤◌, ◌↔◌, length, true, Err, IfOk, IfErr, IfSome, MatchOption, OnErr, OnOk, Some, slice_get};
     ghost use Rattle.pon_plant.specs.Plants.{IsPlant, IsPlantSize, TellsOpening, opened_ports};
     ghost use Rattle.pon_plant.specs.Answers.{IsStepAnswer, KeepsStep, after_step};
     ghost use Rattle.pon_plant.specs.Runs.{Ran};
@@ -96,9 +96,11 @@ impl Plant {
         port.take(step.event).map_err(StepFault::Refused)
     }
 
-    /// Takes the event of a step at its port, as [`Plant::step`] does, but returns no copy of its reply: it is that of
-    /// the last entry of the port.
-    pub fn keep(&mut self, step: Step) -> Result<(), StepFault>
+    /// Takes the event of a step at its port, as [`Plant::step`] does, but returns no copy of its reply: it returns the
+    /// index of the entry, which is the last one of the port.
+    pub fn keep(&mut self, step: Step) -> Result<usize, StepFault>
+        ensures index { IfOk result (λ index. IfSome (slice_get self.old step.port)
+            (λ c. index ≡ length c.entries)) }
         ensures ok { OnOk result (KeepsStep self.old step self.new) }
         ensures refused { IfErr result (λ fault. IsStepAnswer
             (slice_get self.old step.port) step.event (Err fault)) }
