@@ -1,6 +1,6 @@
 //! The text that one line gives at a plant.
 
-ghost use Rattle.std.specs.Prelude.{◌≡◌, ◌<◌, ◌++◌, IfSome, IsSome, OnOk, OnErr, Some, length, slice_get};
+ghost use Rattle.std.specs.Prelude.{◌≡◌, ◌<◌, ◌++◌, IsSome, OnOk, OnErr, Some, length, slice_get};
 ghost use Rattle.pon_history.specs.Chapters.{present_state};
 ghost use Rattle.pon_history.specs.Last.{last_map};
 ghost use Rattle.pon_line.specs.Parts.{asks_in};
@@ -24,14 +24,6 @@ use pon_port::{Entry, Event, Port};
 use pon_units::{AllocId, MAX_PORTS, PortNo};
 use pon_why::{explain_last, row_views};
 use std::alloc::AllocError;
-
-// Returns the number of entries that a port keeps.
-fn kept_entries(plant: &Plant, port: PortNo) -> usize
-    requires { port < length plant.now }
-    ensures { IfSome (slice_get plant.now port) (λ c. result ≡ length c.entries) }
-{
-    plant.port(port).unwrap().history().len()
-}
 
 // Returns the last entry of a port.
 fn last_entry(plant: &Plant, port: PortNo) -> &Entry
@@ -65,9 +57,8 @@ fn answer_event(
     ensures path { KeepsChapters plant.old plant.new }
 {
     let port = port_no(plant, port);
-    let index = kept_entries(plant, port);
     match plant.keep(Step { port, event }) {
-        Ok(()) => append_reply(replies, room, index, last_entry(plant, port)),
+        Ok(index) => append_reply(replies, room, index, last_entry(plant, port)),
         Err(StepFault::Refused(refusal)) => match refusal {
             Refusal::OutOfMemory => Err(AllocError),
             told => append_refusal(replies, LineFault::Port(told)),

@@ -32,8 +32,9 @@ fn accept(rt: &impl Abort, port: &mut Port, act: Act) {
 }
 
 fn keep(rt: &impl Abort, port: &mut Port, act: Act) {
-    let is_kept = port.keep(event(rt, act)).is_ok();
-    assert!(rt; is_kept, "kept");
+    let before = port.history().len();
+    let index = port.keep(event(rt, act)).ok();
+    assert!(rt; index == Some(before), "kept");
 }
 
 // A port that took a map and a failure.

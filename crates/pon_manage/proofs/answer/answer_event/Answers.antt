@@ -7,8 +7,8 @@ last_entry-requires c = reply_there c.args.plant.now c.keep.new.self (at c.port_
 
 pub returns-in-Ok-clause-ok : goal.returns-in-Ok-clause-ok
 returns-in-Ok-clause-ok c =
-    rw (← c.port_no-port.ensures) (kept_text c.args.plant.now c.keep.new.self c.port_no-port.result c.args.event c.kept_entries-index.result c.last_entry.result.now.reply c.args.replies.now.items c.append_reply.new.replies.items c.append_reply.result
-    c.in-Ok.ensures.ok c.kept_entries-index.ensures c.last_entry.ensures c.append_reply.ensures.ok)
+    rw (← c.port_no-port.ensures) (kept_text c.args.plant.now c.keep.new.self c.port_no-port.result c.args.event c.in-Ok.index c.last_entry.result.now.reply c.args.replies.now.items c.append_reply.new.replies.items c.append_reply.result
+    c.in-Ok.ensures.ok c.in-Ok.ensures.index c.last_entry.ensures c.append_reply.ensures.ok)
 
 pub returns-in_default-clause-ok : goal.returns-in_default-clause-ok
 returns-in_default-clause-ok c =
