@@ -22,8 +22,8 @@ within (y ∷ xs) zero x h = omega arith
 within (y ∷ xs) (suc i) x h = omega (arith, within xs i x h)
 
 -- what any two chapters have in order, a chapter has after each before it
-behind : (R : PlacedChapter → PlacedChapter → Type 0) (cs : List PlacedChapter) (k : ℕ) (c : PlacedChapter) → AllPairs R cs → slice_get cs k ≡ Some c → All (λ d. R d c) (take k cs)
-behind R cs k c pairs here j d less =
+after : (R : PlacedChapter → PlacedChapter → Type 0) (cs : List PlacedChapter) (k : ℕ) (c : PlacedChapter) → AllPairs R cs → slice_get cs k ≡ Some c → All (λ d. R d c) (take k cs)
+after R cs k c pairs here j d less =
     let lt : k < length cs = within cs k c here in
     let before : j < k = omega (arith, less, length-take-le k cs (omega (arith, lt))) in
     let there : get_or cs k d ≡ c = get_or_from_slice_get cs k c d here in
@@ -35,7 +35,7 @@ none_fails cs k c i w good here fails =
     let lt : k < length cs = within cs k c here in
     let at : get_or cs k c ≡ c = get_or_from_slice_get cs k c c here in
     good_has_no_fault (take k cs) c i w (subst IsGoodChapter at (good.each k c lt))
-    (record { chained = behind Continues cs k c good.chained here; rising = behind Rises cs k c good.rising here })
+    (record { chained = after Continues cs k c good.chained here; rising = after Rises cs k c good.rising here })
     fails
 
 pub good_no_fault : (cs : List PlacedChapter) (port number index : ℕ) (w : AuditReason) → AreGood cs → IsFirstFault cs port number index w → ⊥

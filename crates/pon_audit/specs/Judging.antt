@@ -42,7 +42,7 @@ pub record IsEndOf (c : PlacedChapter) (e : End) : Type 0 where
   pub of_number : e.number ≡ c.body.number
   pub ends : EndsWith c e.end
 
--- the chapter at a place is the last of a port; its other chapters have lesser numbers
+-- the chapter at a place is the last of a port; its other chapters have smaller numbers
 pub record IsLastPlace (earlier : List PlacedChapter) (port place : ℕ) : Type 0 where
   pub chapter : PlacedChapter
   pub here : slice_get earlier place ≡ Some chapter
@@ -67,7 +67,7 @@ OpensAt c e = e.port ≡ c.body.port → c.body.number ≡ e.number + 1 → stat
 abbrev pub IsKeptEnd : End → Type 0
 IsKeptEnd e = (b : Body) × IsKept (chapter_of b) e.end
 
--- the number and the end of the last chapter of a port; its other chapters have lesser numbers
+-- the number and the end of the last chapter of a port; its other chapters have smaller numbers
 pub record IsLast (earlier : List PlacedChapter) (port : ℕ) (last : End) : Type 0 where
   pub place : ℕ
   pub chapter : PlacedChapter

@@ -28,7 +28,7 @@ pub record IsGoodChapter (c : PlacedChapter) : Type 0 where
   pub fair : MapsAreFair (chapter_of c.body)
   pub runs : RunsAreWhole (chapter_of c.body)
 
--- if both are chapters of one port, the earlier one in the recording has the lesser number
+-- if both are chapters of one port, the earlier one in the recording has the smaller number
 abbrev pub Rises : PlacedChapter → PlacedChapter → Type 0
 Rises earlier later = earlier.body.port ≡ later.body.port → earlier.body.number < later.body.number
 

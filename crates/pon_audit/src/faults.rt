@@ -16,7 +16,7 @@ use std::alloc::AllocError;
 
 // Returns why a chapter may not stand after earlier good ones with these ends, the last of its port being `last`; `None` if
 // it may. Only if its number does not ascend, all ends are searched for one that it does not open with.
-fn fault_behind(ends: &[End], last: &End, chapter: &RawChapter) -> Option<AuditReason>
+fn fault_after(ends: &[End], last: &End, chapter: &RawChapter) -> Option<AuditReason>
     requires kept { All IsKeptEnd ends.now }
     requires kept_last { IsKeptEnd last.now }
     requires opens { OpensLawfully chapter.now.body }
@@ -52,7 +52,7 @@ fn place_fault(ends: &Ends, chapter: &RawChapter) -> Option<AuditReason>
         Some(last) => last,
         None => return None,
     };
-    fault_behind(ends.all(), last, chapter)
+    fault_after(ends.all(), last, chapter)
 }
 
 // Finds the fault of a chapter after those judged, from the answer on it alone. If it has none, its end is kept. `Err` only

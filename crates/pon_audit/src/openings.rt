@@ -227,10 +227,10 @@ fn has_row(rows: &[Row], onu: OnuId, alloc_id: AllocId) -> bool
     requires { IsInMapOrder rows.now }
     ensures { result ≡ has_row onu alloc_id rows.now }
 {
-    let lesser = rows.partition_point(|row| {
+    let earlier = rows.partition_point(|row| {
         row.onu < onu || (row.onu == onu && row.alloc_id < alloc_id)
     });
-    let (_, others) = rows.split_at(lesser);
+    let (_, others) = rows.split_at(earlier);
     match others.split_first() {
         Some((row, _)) => row.onu == onu && row.alloc_id == alloc_id,
         None => false,

@@ -22,9 +22,9 @@ first_read : {T : Type 0} (P : T → Type 0) (read : List ℕ → Option T) → 
 first_read P read one [] x e = absurd (cc)
 first_read P read one (l ∷ ls) x e = one l x e
 
-behind_read : (s : ℕ) (items : List Item) (ls : List (List ℕ)) (f : Filed) → IsProblem items s → file_with s items ls ≡ Ok f → IsProblem f.items f.surplus
+after_read : (s : ℕ) (items : List Item) (ls : List (List ℕ)) (f : Filed) → IsProblem items s → file_with s items ls ≡ Ok f → IsProblem f.items f.surplus
 unfolding file_with
-behind_read s items ls f p e = at_level (first_spells level_on_line ls) refl e
+after_read s items ls f p e = at_level (first_spells level_on_line ls) refl e
   where
     at_set : (level : Level) → first_spells level_on_line ls ≡ Some level → (o : Option (List Bool)) → first_spells (flags_of (length items)) (drop 1 ls) ≡ o →
         (on_line (length items + 3) o >>= λ flags. with_end s items level flags (are_empty (length items + 4) (drop 2 ls))) ≡ Ok f → IsProblem f.items f.surplus
@@ -44,7 +44,7 @@ read_is_problem ls f e = at_surplus (first_spells surplus_of ls) refl e
     at_surplus None is e = absurd (cc)
     at_surplus (Some s) is e =
         let r = row MAX_ITEMS (drop 1 ls) in
-        behind_read s (items_of (drop 1 ls)) (drop (length (items_of (drop 1 ls))) (drop 1 ls)) f
+        after_read s (items_of (drop 1 ls)) (drop (length (items_of (drop 1 ls))) (drop 1 ls)) f
         (record {
           count = r.count;
           each = All-from_recursion IsItem (items_of (drop 1 ls)) (items_read r.lines (items_of (drop 1 ls)) r.are_items);

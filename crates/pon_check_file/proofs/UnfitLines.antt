@@ -80,10 +80,10 @@ abbrev pub with_level : ℕ → List Item → List (List ℕ) → Option Level �
 with_level s items ls o = on_line (length items + 2) o >>= λ level. on_line (length items + 3) (first_spells (flags_of (length items)) (drop 1 ls)) >>= λ flags. with_end s items level flags (are_empty (length items + 4) (drop 2 ls))
 
 -- a line that does not fit after the problem
-unfit_behind : (s : ℕ) (items : List Item) (lines rest : List (List ℕ)) (n : ℕ) → AreProblem lines items → length lines ≡ length items + 1 →
+unfit_after : (s : ℕ) (items : List Item) (lines rest : List (List ℕ)) (n : ℕ) → AreProblem lines items → length lines ≡ length items + 1 →
     (length items < MAX_ITEMS → first_spells item_on_line rest ≡ None) → file_with s items rest ≡ Err n → IsFirstUnfit (lines ++ rest) n
 unfolding file_with
-unfit_behind s items lines rest n p size ends e = at_level (first_spells level_on_line rest) refl e
+unfit_after s items lines rest n p size ends e = at_level (first_spells level_on_line rest) refl e
   where
     at_set : (ll : List ℕ) (ls : List (List ℕ)) (level : Level) → rest ≡ ll ∷ ls → level_on_line ll ≡ Some level → (o : Option (List Bool)) → first_spells (flags_of (length items)) ls ≡ o →
         with_set s items level ls o ≡ Err n → IsFirstUnfit (lines ++ rest) n
@@ -151,10 +151,10 @@ told (l ∷ ls) n e = at_surplus (surplus_of l) refl e
     at_surplus None is e = let same : 1 ≡ n = cc in record { before = []; rest = l ∷ ls; all = refl; place = sym same; unfit = inl (record { first = refl; no_surplus = is }) }
     at_surplus (Some s) is e =
         let r = row MAX_ITEMS ls in
-        let behind = unfit_behind s (items_of ls) (l ∷ r.lines) r.rest n
+        let after = unfit_after s (items_of ls) (l ∷ r.lines) r.rest n
         (record { surplus = s; is_surplus = is; are_items = r.are_items; count = r.count })
         (omega (arith, row_length r.lines (items_of ls) r.are_items)) r.ends (ap (file_with s (items_of ls)) (sym r.left) ∙ e) in
-        subst (λ ls. IsFirstUnfit (l ∷ ls) n) (sym r.all) behind
+        subst (λ ls. IsFirstUnfit (l ∷ ls) n) (sym r.all) after
 
 -- ---- a line that does not fit is returned
 row_back : (most : ℕ) (lines rest : List (List ℕ)) (items : List Item) → map item_on_line lines ≡ map Some items → length items ≤ most →
@@ -177,11 +177,11 @@ drop_lines zero (x ∷ a) b e = absurd (omega (arith, e))
 drop_lines (suc n) (x ∷ a) b e = drop_lines n a b (omega (arith, e))
 
 -- the content of a file with these lines after a problem
-pub behind_problem : (lines rest : List (List ℕ)) (items : List Item) (p : AreProblem lines items) → (length items < MAX_ITEMS → first_spells item_on_line rest ≡ None) →
+pub after_problem : (lines rest : List (List ℕ)) (items : List Item) (p : AreProblem lines items) → (length items < MAX_ITEMS → first_spells item_on_line rest ≡ None) →
     (file_of (lines ++ rest) ≡ file_with p.surplus items rest) × (length lines ≡ length items + 1)
 unfolding file_of
-behind_problem [] rest items p ends = let none : None ≡ Some p.surplus = p.is_surplus in absurd (cc)
-behind_problem (l ∷ ls) rest items p ends =
+after_problem [] rest items p ends = let none : None ≡ Some p.surplus = p.is_surplus in absurd (cc)
+after_problem (l ∷ ls) rest items p ends =
     let row : items_of (ls ++ rest) ≡ items = row_back MAX_ITEMS ls rest items p.are_items p.count ends in
     let size = row_length ls items p.are_items in
     let first : surplus_of l ≡ Some p.surplus = p.is_surplus in (
@@ -231,26 +231,26 @@ not_fitting before rest (inl x) =
     let told : file_of rest ≡ Err 1 = ap (λ o. on_line 1 o >>= λ s. file_with s (items_of (drop 1 rest)) (drop (length (items_of (drop 1 rest))) (drop 1 rest))) x.no_surplus in
     subst (λ b. file_of (b ++ rest) ≡ Err (length b + 1)) (sym x.first) told
 not_fitting before rest (inr (inl x)) =
-    let behind = behind_problem before rest x.items x.problem x.no_item in
-    behind.0 ∙ ap (with_level x.problem.surplus x.items rest) x.no_level ∙ ap Err (omega (arith, behind.1))
+    let after = after_problem before rest x.items x.problem x.no_item in
+    after.0 ∙ ap (with_level x.problem.surplus x.items rest) x.no_level ∙ ap Err (omega (arith, after.1))
 not_fitting before rest (inr (inr (inl x))) =
-    let behind = behind_problem x.lines (x.level_line ∷ rest) x.items x.problem (λ l. level_no_item x.level_line x.level x.is_level) in
+    let after = after_problem x.lines (x.level_line ∷ rest) x.items x.problem (λ l. level_no_item x.level_line x.level x.is_level) in
     let at : file_of ((x.lines ++ x.level_line ∷ []) ++ rest) ≡ Err (length x.items + 3)
-    = ap file_of (append_assoc x.lines (x.level_line ∷ []) rest) ∙ behind.0 ∙ ap (with_level x.problem.surplus x.items (x.level_line ∷ rest)) x.is_level
+    = ap file_of (append_assoc x.lines (x.level_line ∷ []) rest) ∙ after.0 ∙ ap (with_level x.problem.surplus x.items (x.level_line ∷ rest)) x.is_level
     ∙ ap (with_set x.problem.surplus x.items x.level rest) x.no_set in
-    let place : length x.items + 3 ≡ length (x.lines ++ x.level_line ∷ []) + 1 = omega (arith, behind.1, length_to x.lines (x.level_line ∷ [])) in
+    let place : length x.items + 3 ≡ length (x.lines ++ x.level_line ∷ []) + 1 = omega (arith, after.1, length_to x.lines (x.level_line ∷ [])) in
     subst (λ b. file_of (b ++ rest) ≡ Err (length b + 1)) (sym x.all_before) (at ∙ ap Err place)
 not_fitting before rest (inr (inr (inr x))) =
     let empties : List (List ℕ) = replicate x.empty [] in
     let more : List (List ℕ) = (x.byte ∷ x.bytes) ∷ x.others in
-    let behind = behind_problem x.lines (x.level_line ∷ x.set_line ∷ empties ++ more) x.items x.problem (λ l. level_no_item x.level_line x.level x.is_level) in
+    let after = after_problem x.lines (x.level_line ∷ x.set_line ∷ empties ++ more) x.items x.problem (λ l. level_no_item x.level_line x.level x.is_level) in
     let at : file_of ((x.lines ++ x.level_line ∷ x.set_line ∷ empties) ++ more) ≡ Err (length x.items + 4 + x.empty)
-    = ap file_of (append_assoc x.lines (x.level_line ∷ x.set_line ∷ empties) more) ∙ behind.0
+    = ap file_of (append_assoc x.lines (x.level_line ∷ x.set_line ∷ empties) more) ∙ after.0
     ∙ ap (with_level x.problem.surplus x.items (x.level_line ∷ x.set_line ∷ empties ++ more)) x.is_level
     ∙ ap (with_set x.problem.surplus x.items x.level (x.set_line ∷ empties ++ more)) x.is_set
     ∙ ap (with_end x.problem.surplus x.items x.level x.flags) (are_not_empty (length x.items + 4) x.empty x.byte x.bytes x.others) in
     let place : length x.items + 4 + x.empty ≡ length (x.lines ++ x.level_line ∷ x.set_line ∷ empties) + 1
-    = omega (arith, behind.1, length_to x.lines (x.level_line ∷ x.set_line ∷ empties), length_empty x.empty) in
+    = omega (arith, after.1, length_to x.lines (x.level_line ∷ x.set_line ∷ empties), length_empty x.empty) in
     let told : file_of ((x.lines ++ x.level_line ∷ x.set_line ∷ empties) ++ more) ≡ Err (length (x.lines ++ x.level_line ∷ x.set_line ∷ empties) + 1) = at ∙ ap Err place in
     let whole : file_of (before ++ more) ≡ Err (length before + 1) = subst (λ b. file_of (b ++ more) ≡ Err (length b + 1)) (sym x.all_before) told in
     subst (λ r. file_of (before ++ r) ≡ Err (length before + 1)) (sym x.not_empty) whole

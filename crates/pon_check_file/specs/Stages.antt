@@ -21,19 +21,19 @@ use Rattle.pon_check_file.specs.declared.stage.Stage.{Stage}
 use Rattle.pon_check_file.specs.declared.stage.Stage.TheVariants as stage
 
 -- the content of a file with these lines after a surplus and items
-unfoldable pub behind_items : ℕ → List Item → List (List ℕ) → Result Filed ℕ
-behind_items surplus is ls = file_with surplus (is ++ take (MAX_ITEMS - length is) (items_in_row ls)) (drop (length (take (MAX_ITEMS - length is) (items_in_row ls))) ls)
+unfoldable pub after_items : ℕ → List Item → List (List ℕ) → Result Filed ℕ
+after_items surplus is ls = file_with surplus (is ++ take (MAX_ITEMS - length is) (items_in_row ls)) (drop (length (take (MAX_ITEMS - length is) (items_in_row ls))) ls)
 
 -- the content of a file with these lines after a level
-unfoldable pub behind_level : ℕ → List Item → Level → List (List ℕ) → Result Filed ℕ
-behind_level surplus is level ls = do
+unfoldable pub after_level : ℕ → List Item → Level → List (List ℕ) → Result Filed ℕ
+after_level surplus is level ls = do
   flags ← on_line (length is + 3) (first_spells (flags_of (length is)) ls)
   end ← are_empty (length is + 4) (drop 1 ls)
   Ok (record { surplus = surplus; items = is; cert = record { level = level; saturated = flags } })
 
 -- the content of a file with these lines after a whole file of n lines
-unfoldable pub behind_file : Filed → ℕ → List (List ℕ) → Result Filed ℕ
-behind_file f n ls = are_empty (n + 1) ls >>= λ end. Ok f
+unfoldable pub after_file : Filed → ℕ → List (List ℕ) → Result Filed ℕ
+after_file f n ls = are_empty (n + 1) ls >>= λ end. Ok f
 
 -- the content of a check file
 abbrev pub filed : CheckFile → Filed
@@ -46,9 +46,9 @@ said (parsed.Syntax line) = Err line
 -- the content of a file with these lines after a stage
 abbrev pub goes_on : Stage → List (List ℕ) → Result Filed ℕ
 goes_on stage.First ls = file_of ls
-goes_on (stage.Items s) ls = behind_items s.surplus s.items.items ls
-goes_on (stage.Level l) ls = behind_level l.shared.surplus l.shared.items.items l.level ls
-goes_on (stage.Whole w) ls = behind_file (filed w.file) w.lines ls
+goes_on (stage.Items s) ls = after_items s.surplus s.items.items ls
+goes_on (stage.Level l) ls = after_level l.shared.surplus l.shared.items.items l.level ls
+goes_on (stage.Whole w) ls = after_file (filed w.file) w.lines ls
 
 -- the number of lines so far
 abbrev pub lines_before : Stage → ℕ

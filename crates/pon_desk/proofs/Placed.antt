@@ -14,7 +14,7 @@ pub length-placed : (c s : ℕ) (es : List Entry) → length (placed_from c s es
 length-placed c s [] = refl
 length-placed c s (e ∷ es) = ap suc (length-placed c (suc s) es)
 
--- the next entry, and those behind it
+-- the next entry, and those after it
 pub next_placed : (c s : ℕ) (es : List Entry) (i : ℕ) (e : Entry) → slice_get es i ≡ Some e → drop i (placed_from c s es) ≡ at c (s + i) e ∷ drop (suc i) (placed_from c s es)
 next_placed c s [] i e h = absurd (none-some e h)
 next_placed c s (x ∷ xs) zero e h =
@@ -24,6 +24,6 @@ next_placed c s (x ∷ xs) (suc i) e h =
     let index : suc s + i ≡ s + suc i = omega arith in
     next_placed c (suc s) xs i e h ∙ ap (λ (k : ℕ). at c k e ∷ drop (suc i) (placed_from c (suc s) xs)) index
 
--- behind the last entry there is none
+-- after the last entry there is none
 pub past_placed : (c s : ℕ) (es : List Entry) (i : ℕ) → length es ≤ i → drop i (placed_from c s es) ≡ []
 past_placed c s es i past = drop_all i (placed_from c s es) (omega (arith, past, length-placed c s es))

@@ -35,7 +35,7 @@ AreNumbered n cs = (k : ℕ) (c : Chapter) → slice_get cs k ≡ Some c → c.n
 numbered_rest : (n : ℕ) (c : Chapter) (cs : List Chapter) → AreNumbered n (c ∷ cs) → AreNumbered (suc n) cs
 numbered_rest n c cs are k d at = omega (arith, are (suc k) d at)
 
--- all entries behind are of later chapters
+-- all entries after a chapter are of later chapters
 all_from : (low n : ℕ) (cs : List Chapter) → low ≤ n → AreNumbered n cs → All (λ (p : Placed). low ≤ p.chapter) (flat_map placed_in cs)
 all_from low n [] least are = λ k d below. absurd (omega (arith, below))
 all_from low n (c ∷ cs) least are =
@@ -76,7 +76,7 @@ module _ (h : PortHistory) (right : (k : ℕ) → IsRightChapter h k) where
   pub all_in_order : IsInOrder IsEarlier (all_placed h)
   all_in_order = chapters_in_order 0 (all_chapters h) all_numbered
 
-  -- the entry of the lesser index has the earlier place
+  -- the entry of the smaller index has the earlier place
   pub earlier_place : (i j : ℕ) (p q : Placed) → i < j → slice_get (all_placed h) i ≡ Some p → slice_get (all_placed h) j ≡ Some q → IsEarlier p q
   earlier_place i j p q below at there =
       let first : get_or (all_placed h) i p ≡ p = get_or_from_slice_get (all_placed h) i p p at in

@@ -8,7 +8,7 @@ use Rattle.pon_state.specs.State.{State}
 use Rattle.pon_history.specs.Chapters.{Chapter}
 use Rattle.pon_plant.specs.Plants.{opened_port}
 use Rattle.pon_desk.specs.Settling.{CountsUpTo, IsRightChapter, PortHistory, all_chapters}
-use Rattle.pon_desk.proofs.Elements.{get_before, get_behind, get_either, get_from_front}
+use Rattle.pon_desk.proofs.Elements.{get_before, get_after, get_either, get_from_front}
 
 pub some_and : {X : Type 0} (o : Option X) (P : X → Type 0) (x : X) → o ≡ Some x → IsSomeAnd o P → P x
 some_and {X} o P x is h = let Q : Option X → Type 0 = λ r. IsSomeAnd r P in subst Q is h
@@ -28,7 +28,7 @@ pub record AreBefore (h : PortHistory) (k : ℕ) (before : List Chapter) : Type 
 abbrev pub Opens : PortHistory → State → Type 0
 Opens h s = s ≡ (opened_port h.opened).opening
 
--- an opening behind these chapters is right
+-- an opening after these chapters is right
 pub record OpensRight (h : PortHistory) (before : List Chapter) (s : State) : Type 0 where
   pub first : length before ≡ 0 → Opens h s
   pub later : (c : Chapter) → 0 < length before → slice_get before (length before - 1) ≡ Some c → CountsUpTo c s
@@ -50,7 +50,7 @@ module _ (h : PortHistory) where
   }
 
   pub kept_there : slice_get (all_chapters h) (length h.chapters) ≡ Some h.kept
-  kept_there = get_behind h.chapters (h.kept ∷ [])
+  kept_there = get_after h.chapters (h.kept ∷ [])
 
   module _ (k : ℕ) (before : List Chapter) (d : Chapter) (are : AreBefore h k before) (at : slice_get (all_chapters h) k ≡ Some d) where
     last_before : (c : Chapter) → 0 < k → slice_get (all_chapters h) (k - 1) ≡ Some c → slice_get before (length before - 1) ≡ Some c
@@ -68,9 +68,9 @@ module _ (h : PortHistory) where
     follows_last right c e some earlier here =
         subst (λ (x : Chapter). CountsUpTo c x.opening) (same_Some d e (sym at ∙ here)) (right.later c (omega (arith, some, are.count)) (last_before c some earlier))
 
-    -- what is right behind these chapters
-    pub right_behind : IsRightChapter h k → OpensRight h before d.opening
-    right_behind right = record {
+    -- what is right after these chapters
+    pub right_after : IsRightChapter h k → OpensRight h before d.opening
+    right_after right = record {
       first = λ none.
           let zero : k ≡ 0 = sym are.count ∙ none in
           some_and (slice_get (all_chapters h) 0) (λ c. Opens h c.opening) d (first_at zero) (right.opens zero);

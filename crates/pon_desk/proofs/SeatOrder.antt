@@ -30,25 +30,25 @@ no_fewer rs i j seat longer =
     let f : Receipt → ℕ = λ (x : Receipt). cond (x.seat == seat) 1 0 in
     omega (arith, sum_by-take-le f (take j rs) i, ap (posts_of seat) (take-take i j rs longer))
 
-more_behind : (rs : List Receipt) (i j : ℕ) (r : Receipt) → slice_get rs i ≡ Some r → i < j → posts_of r.seat (take i rs) < posts_of r.seat (take j rs)
-more_behind rs i j r at below = omega (arith, counted rs i r.seat r at refl, no_fewer rs (i + 1) j r.seat (omega (arith, below)))
+more_after : (rs : List Receipt) (i j : ℕ) (r : Receipt) → slice_get rs i ≡ Some r → i < j → posts_of r.seat (take i rs) < posts_of r.seat (take j rs)
+more_after rs i j r at below = omega (arith, counted rs i r.seat r at refl, no_fewer rs (i + 1) j r.seat (omega (arith, below)))
 
 module _ (rs : List Receipt) (named : (k : ℕ) (r : Receipt) → slice_get rs k ≡ Some r → r.nth ≡ posts_of r.seat (take k rs)) where
   nth_rises : (i j : ℕ) (r s : Receipt) → slice_get rs i ≡ Some r → slice_get rs j ≡ Some s → r.seat ≡ s.seat → i < j → r.nth < s.nth
   nth_rises i j r s at there same below =
       let later : s.nth ≡ posts_of r.seat (take j rs) = named j s there ∙ ap (λ (n : ℕ). posts_of n (take j rs)) (sym same) in
-      omega (arith, named i r at, later, more_behind rs i j r at below)
+      omega (arith, named i r at, later, more_after rs i j r at below)
 
   same_nth : (i j : ℕ) (r s : Receipt) → slice_get rs i ≡ Some r → slice_get rs j ≡ Some s → i ≡ j → r.nth ≡ s.nth
   same_nth i j r s at there e = ap (λ (x : Receipt). x.nth) (same_Some r s (sym at ∙ ap (slice_get rs) e ∙ there))
 
-  -- the receipt with the lesser number is the earlier one
-  pub lesser_is_earlier : (i j : ℕ) (r s : Receipt) → slice_get rs i ≡ Some r → slice_get rs j ≡ Some s → r.seat ≡ s.seat → r.nth < s.nth → i < j
-  lesser_is_earlier i j r s at there same lesser = elim (cases_order i j) [
-    | inl e ↦ absurd (omega (arith, lesser, same_nth i j r s at there e))
+  -- the receipt with the smaller number is the earlier one
+  pub less_is_earlier : (i j : ℕ) (r s : Receipt) → slice_get rs i ≡ Some r → slice_get rs j ≡ Some s → r.seat ≡ s.seat → r.nth < s.nth → i < j
+  less_is_earlier i j r s at there same less = elim (cases_order i j) [
+    | inl e ↦ absurd (omega (arith, less, same_nth i j r s at there e))
     | inr other ↦ elim other [
       | inl below ↦ below
-      | inr above ↦ absurd (omega (arith, lesser, nth_rises j i s r there at (sym same) above))
+      | inr above ↦ absurd (omega (arith, less, nth_rises j i s r there at (sym same) above))
     ]
   ]
 
@@ -94,4 +94,4 @@ module _ (rs : List Receipt) (named : (k : ℕ) (r : Receipt) → slice_get rs k
   pub nth_below : (k : ℕ) (r : Receipt) → slice_get rs k ≡ Some r → r.nth < posts_of r.seat rs
   nth_below k r at =
       let all : take (length rs) rs ≡ rs = take_all (length rs) rs (omega arith) in
-      omega (arith, named k r at, more_behind rs k (length rs) r at (slice_get_within rs k r at), ap (posts_of r.seat) all)
+      omega (arith, named k r at, more_after rs k (length rs) r at (slice_get_within rs k r at), ap (posts_of r.seat) all)

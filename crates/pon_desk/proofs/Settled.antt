@@ -10,9 +10,9 @@ use Rattle.pon_desk.specs.declared.receipt.Placed.{Placed}
 use Rattle.pon_desk.specs.declared.unsettled.Unsettled.{Unsettled}
 use Rattle.pon_desk.specs.declared.unsettled.Unsettled.TheVariants as fault
 use Rattle.pon_desk.proofs.AllTaken.{all_taken}
-use Rattle.pon_desk.proofs.Elements.{get_behind, get_in_front}
+use Rattle.pon_desk.proofs.Elements.{get_after, get_in_front}
 use Rattle.pon_desk.proofs.Places.{earlier_place}
-use Rattle.pon_desk.proofs.SeatOrder.{lesser_is_earlier}
+use Rattle.pon_desk.proofs.SeatOrder.{less_is_earlier}
 
 -- the last receipt of a seat names the number of those before it
 pub last_of_seat : (rs : List Receipt) (left seat : ℕ) (r : Receipt) → 0 < left → left ≤ length rs → r ≡ get_or rs (left - 1) r → r.seat ≡ seat → r.nth ≡ posts_of r.seat (take (left - 1) rs) → r.nth + 1 ≡ posts_of seat (take left rs)
@@ -60,7 +60,7 @@ module _ (entries : List Placed) (port : ℕ) (rs : List Receipt) where
   entry_here left k below so_far =
       let placed : Receipt → Placed = λ (x : Receipt). x.placed in
       let long : length (map placed (take k rs)) ≡ k = length-map (take k rs) placed ∙ length-take-le k rs (omega (arith, below)) in
-      ap (λ (l : List Placed). slice_get l k) so_far ∙ ap (λ (n : ℕ). slice_get (map placed (take k rs) ++ left) n) (sym long) ∙ get_behind (map placed (take k rs)) left
+      ap (λ (l : List Placed). slice_get l k) so_far ∙ ap (λ (n : ℕ). slice_get (map placed (take k rs) ++ left) n) (sym long) ∙ get_after (map placed (take k rs)) left
 
 -- entries are left without receipts
 pub miscounted : (h : PortHistory) (port : ℕ) (rs : List Receipt) (entries left : List Placed) → entries ≡ all_placed h → ((k : ℕ) → IsRightChapter h k) → ((k : ℕ) → IsRightAt entries port rs k) → entries ≡ map (λ (x : Receipt). x.placed) rs ++ left → (left ≡ [] → ⊥) → IsMiscounted h port rs
@@ -102,8 +102,8 @@ no_fault h port rs (fault.Chapter k) s t = t.wrong (s.chapters k)
 no_fault h port rs (fault.Receipt k) s t = t.first.wrong (s.each k)
 no_fault h port rs fault.Count s t = t.wrong s.count
 
--- of two receipts of a seat that with the lesser number has the earlier place
+-- of two receipts of a seat, the one with the smaller number has the earlier place
 pub earlier_of_seat : (h : PortHistory) (port : ℕ) (rs : List Receipt) → IsSettled h port rs → (i j : ℕ) (r s : Receipt) → slice_get rs i ≡ Some r → slice_get rs j ≡ Some s → r.seat ≡ s.seat → r.nth < s.nth → IsEarlier r.placed s.placed
-earlier_of_seat h port rs settled i j r s at there same lesser =
-    let below = lesser_is_earlier rs (λ k x is. (settled.each k x is).nth) i j r s at there same lesser in
+earlier_of_seat h port rs settled i j r s at there same less =
+    let below = less_is_earlier rs (λ k x is. (settled.each k x is).nth) i j r s at there same less in
     earlier_place h settled.chapters i j r.placed s.placed below (settled.each i r at).has_entry (settled.each j s there).has_entry

@@ -15,6 +15,6 @@ module _ (number index : ℕ) (es : List Entry) (rest : List Placed) where
       let one = next_placed number 0 es index e here in
       ap (λ (l : List Placed). l ++ rest) (one ∙ ap (λ (i : ℕ). at number i e ∷ drop (suc index) (placed_from number 0 es)) place) ∙ ap (λ (i : ℕ). at number index e ∷ (drop i (placed_from number 0 es) ++ rest)) next
 
-  -- behind the last entry the rest is left
+  -- after the last entry the rest is left
   pub rest_left : length es ≤ index → drop index (placed_from number 0 es) ++ rest ≡ rest
   rest_left past = ap (λ (l : List Placed). l ++ rest) (past_placed number 0 es index past)

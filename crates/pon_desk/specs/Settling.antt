@@ -87,7 +87,7 @@ pub record IsMiscounted (h : PortHistory) (port : ℕ) (receipts : List Receipt)
   pub each : (k : ℕ) → IsRightAt (all_placed h) port receipts k
   pub wrong : IsRightCount h receipts → ⊥
 
--- a place is earlier than another: its chapter is, or it is of the same chapter and its index is lesser
+-- a place is earlier than another: its chapter is, or it is of the same chapter and its index is smaller
 abbrev pub IsEarlier : Placed → Placed → Type 0
 IsEarlier p q = (p.chapter < q.chapter) ⊎ ((p.chapter ≡ q.chapter) × (p.index < q.index))
 

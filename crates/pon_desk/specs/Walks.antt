@@ -11,15 +11,15 @@ abbrev pub left_kept : Option (Bor Chapter) → List Placed
 left_kept None = []
 left_kept (Some port) = placed_in port.now
 
--- the entries behind the present chapter, each with its place
-abbrev pub left_behind : Walk → List Placed
-left_behind w = flat_map placed_in w.later.now ++ left_kept w.kept
+-- the entries after the present chapter, each with its place
+abbrev pub left_after : Walk → List Placed
+left_after w = flat_map placed_in w.later.now ++ left_kept w.kept
 
 -- the entries that are not passed yet
 abbrev pub left_of : Walk → List Placed
-left_of w = drop w.index (placed_from w.number 0 w.entries.now) ++ left_behind w
+left_of w = drop w.index (placed_from w.number 0 w.entries.now) ++ left_after w
 
--- the number of chapters behind the present one
+-- the number of chapters after the present one
 abbrev pub count_kept : Option (Bor Chapter) → ℕ
 count_kept None = 0
 count_kept (Some port) = 1

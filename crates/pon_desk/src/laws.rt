@@ -23,7 +23,7 @@ pub fn unsettled_ports_have_one_fault()
         → TellsUnsettled h port receipts why → TellsUnsettled h port receipts other → why ≡ other }
 {}
 
-/// Of two receipts of a seat that settle a port with others, that of the lesser `nth` has the earlier place.
+/// Of two receipts of a seat that settle a port with others, the one with the smaller `nth` has the earlier place.
 pub fn places_of_a_seat_rise()
     ensures { (h : PortHistory) (port : ℕ) (receipts : List Receipt) → IsSettled h port receipts
         → (i j : ℕ) (r s : Receipt) → slice_get receipts i ≡ Some r → slice_get receipts j ≡ Some s

@@ -66,7 +66,7 @@ impl<L: Ledger, M: Ledger> Seat<L, M> {
         self.kept = Kept::open(alloc);
     }
 
-    /// Keeps a receipt behind those that it keeps, if it is to keep receipts; otherwise the receipt is dropped. If memory
+    /// Keeps a receipt after those that it keeps, if it is to keep receipts; otherwise the receipt is dropped. If memory
     /// is refused, all are dropped, and it keeps no further ones.
     pub fn keep(&mut self, receipt: Receipt)
         ensures number { self.new.number ≡ self.old.number }

@@ -41,9 +41,9 @@ fn counts_up_to(chapter: &Chapter, opening: &PortState) -> bool
     taken - before == chapter.entries().len() as u64
 }
 
-// Returns whether a chapter behind these ones opens right: the first as the port was to be opened, and any other with the
+// Returns whether a chapter after these ones opens right: the first as the port was to be opened, and any other with the
 // count of entries at the end of the last one.
-fn opens_behind(before: &[Chapter], opening: &PortState, opened: &(PortCfg, FrameNo)) -> bool
+fn opens_after(before: &[Chapter], opening: &PortState, opened: &(PortCfg, FrameNo)) -> bool
     requires { OpensFirst (length before.now) opening.now }
     ensures first { length before.now ≡ 0
         → (IsTrue result ↔ (opening.now ≡ (opened_port opened.now).opening)) }
@@ -69,14 +69,14 @@ fn chapter_fault(opened: &(PortCfg, FrameNo), kept: &Port, chapters: &[Chapter])
         if number >= last || chapter.number() != number {
             return Some(k);
         }
-        if !opens_behind(&chapters[..k], chapter.opening(), opened) {
+        if !opens_after(&chapters[..k], chapter.opening(), opened) {
             return Some(k);
         }
     }
     if (chapters.len() as u64) < last {
         return Some(chapters.len());
     }
-    if !opens_behind(chapters, kept.opening(), opened) {
+    if !opens_after(chapters, kept.opening(), opened) {
         return Some(chapters.len());
     }
     None

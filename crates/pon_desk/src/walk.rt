@@ -2,7 +2,7 @@
 
 ghost use Rattle.std.specs.Prelude.{◌≡◌, ◌≢◌, ◌↔◌, ◌+◌, ◌<◌, ◌≤◌, ◌^◌, ◌∷◌, [], ◌++◌, flat_map, length, IsTrue, MatchBool, MatchOption, slice_get, Some};
 ghost use Rattle.pon_desk.specs.Settling.{placed_in};
-ghost use Rattle.pon_desk.specs.Walks.{chapters_left, left_of, left_behind};
+ghost use Rattle.pon_desk.specs.Walks.{chapters_left, left_of, left_after};
 
 use crate::receipt::Placed;
 use pon_port::{Chapter, Entry, Port};
@@ -66,8 +66,8 @@ impl<'a> Walk<'a> {
 
     // Begins the next chapter, if there is one.
     fn next_chapter(&self) -> Option<Walk<'a>>
-        ensures left { MatchOption result (left_behind self.now ≡ [])
-            (λ next. left_of next ≡ left_behind self.now) }
+        ensures left { MatchOption result (left_after self.now ≡ [])
+            (λ next. left_of next ≡ left_after self.now) }
         ensures fewer { MatchOption result (Unit {0})
             (λ next. chapters_left next < chapters_left self.now) }
     {

@@ -38,7 +38,7 @@ accounts_all g (x ∷ book) h = (λ i. All-head (λ a. g a.alloc_id ≡ a) x boo
 
 -- A book split at an Alloc-ID.
 
--- no account of a lesser Alloc-ID comes after one that is not lesser
+-- no account of a smaller Alloc-ID comes after one of no smaller Alloc-ID
 pub rising_parted : (i : ℕ) (book : List Account) → AreRising (alloc_ids book) → IsPartitionedBy (λ a. nat_lt a.alloc_id i) book
 rising_parted i book h m n d l k t = elim (cases_lt m n) [
   | inl less ↦ lt-ltb (get_or book m d).alloc_id i (omega (arith, rising m n d less k, ltb-true (get_or book n d).alloc_id i t))
@@ -59,7 +59,7 @@ none_above i (x ∷ book) h =
     ap (λ b. cond b (Some x) (account_of book i)) (ne_eqb x.alloc_id i (λ e. omega (arith, e, All-head (λ j. i < j) x.alloc_id (alloc_ids book) h)))
     ∙ none_above i book (All-tail (λ j. i < j) x.alloc_id (alloc_ids book) h)
 
--- the account of an Alloc-ID is the first among those of no lesser Alloc-ID
+-- the account of an Alloc-ID is the first among those of no smaller Alloc-ID
 pub account_first : (i : ℕ) (book : List Account) → AreRising (alloc_ids book) → account_of book i ≡ first_if i (filter (λ a. not (nat_lt a.alloc_id i)) book)
 account_first i [] h = refl
 account_first i (x ∷ book) h = elim (cases_lt x.alloc_id i) [
@@ -94,9 +94,9 @@ put_at a (x ∷ book) h zero d l e =
     ap (λ t. a ∷ t) (sym (put_absent a book (none_above a.alloc_id book (subst (λ i. All (λ j. i < j) (alloc_ids book)) e h.0))))
     ∙ ap (λ b. (if b then a else x) ∷ put a book) (sym (eq-eqb x.alloc_id a.alloc_id e))
 put_at a (x ∷ book) h (suc k) d l e =
-    let lesser : x.alloc_id < a.alloc_id = subst (λ i. x.alloc_id < i) e (All-unmap (λ j. x.alloc_id < j) (λ a. a.alloc_id) book h.0 k d (omega (arith, l))) in
+    let below : x.alloc_id < a.alloc_id = subst (λ i. x.alloc_id < i) e (All-unmap (λ j. x.alloc_id < j) (λ a. a.alloc_id) book h.0 k d (omega (arith, l))) in
     ap (λ t. x ∷ t) (put_at a book h.1 k d (omega (arith, l)) e)
-    ∙ ap (λ b. (if b then a else x) ∷ put a book) (sym (ne_eqb x.alloc_id a.alloc_id (λ q. omega (arith, q, lesser))))
+    ∙ ap (λ b. (if b then a else x) ∷ put a book) (sym (ne_eqb x.alloc_id a.alloc_id (λ q. omega (arith, q, below))))
 
 -- An account that is changed at its index.
 

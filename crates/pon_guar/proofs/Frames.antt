@@ -76,8 +76,8 @@ module _ (n f : ℕ) (ms : List WindowMap) (m : WindowMap) (h : AreConsecutive n
   no_place_before l = list_any_none (is_of f) ms
       (All-weaker (λ q. n ≤ q.frame + length ms) (λ q. (q.frame == f) ≡ false) (λ q k. ne_eqb q.frame f (λ e. omega (arith, e, l, k, length_is))) ms (leads_above n ms h))
 
-  pub no_place_behind : m.frame + length ms ≤ f → list_any (is_of f) ms ≡ false
-  no_place_behind l = list_any_none (is_of f) ms
+  pub no_place_after : m.frame + length ms ≤ f → list_any (is_of f) ms ≡ false
+  no_place_after l = list_any_none (is_of f) ms
       (All-weaker (λ q. q.frame < n) (λ q. (q.frame == f) ≡ false) (λ q k. ne_eqb q.frame f (λ e. omega (arith, e, l, k, length_is))) ms (leads_below n ms h))
 
 -- The checks of a report, by the map of its frame.

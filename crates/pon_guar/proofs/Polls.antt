@@ -84,29 +84,29 @@ above_last : (x y : ℕ) (xs : List ℕ) → All (λ v. x < v) (xs ++ y ∷ []) 
 above_last x y [] h = All-head (λ v. x < v) y [] h
 above_last x y (v ∷ xs) h = above_last x y xs (All-tail (λ v. x < v) v (xs ++ y ∷ []) h)
 
-lesser_if_last : (u y : ℕ) (xs : List ℕ) → AreRising (xs ++ y ∷ []) → y < u → All (λ v. v < u) (xs ++ y ∷ [])
-lesser_if_last u y [] h l = All-cons (λ v. v < u) y [] l (All-nil (λ v. v < u))
-lesser_if_last u y (x ∷ xs) h l = All-cons (λ v. v < u) x (xs ++ y ∷ []) (let q : x < y = above_last x y xs h.0 in omega (arith, q, l)) (lesser_if_last u y xs h.1 l)
+below_if_last : (u y : ℕ) (xs : List ℕ) → AreRising (xs ++ y ∷ []) → y < u → All (λ v. v < u) (xs ++ y ∷ [])
+below_if_last u y [] h l = All-cons (λ v. v < u) y [] l (All-nil (λ v. v < u))
+below_if_last u y (x ∷ xs) h l = All-cons (λ v. v < u) x (xs ++ y ∷ []) (let q : x < y = above_last x y xs h.0 in omega (arith, q, l)) (below_if_last u y xs h.1 l)
 
-pub all_lesser : (u y : ℕ) (xs ys : List ℕ) → AreRising xs → xs ≡ ys ++ y ∷ [] → y < u → All (λ v. v < u) xs
-all_lesser u y xs ys h e l = subst (All (λ v. v < u)) (sym e) (lesser_if_last u y ys (subst AreRising e h) l)
+pub all_below : (u y : ℕ) (xs ys : List ℕ) → AreRising xs → xs ≡ ys ++ y ∷ [] → y < u → All (λ v. v < u) xs
+all_below u y xs ys h e l = subst (All (λ v. v < u)) (sym e) (below_if_last u y ys (subst AreRising e h) l)
 
-pub lesser_kept : (u : ℕ) (xs : List ℕ) → All (λ v. v < u) xs → xs ≡ filter (λ v. nat_lt v u) xs
-lesser_kept u [] h = refl
-lesser_kept u (x ∷ xs) h = ap (λ t. x ∷ t) (lesser_kept u xs (All-tail (λ v. v < u) x xs h))
+pub below_kept : (u : ℕ) (xs : List ℕ) → All (λ v. v < u) xs → xs ≡ filter (λ v. nat_lt v u) xs
+below_kept u [] h = refl
+below_kept u (x ∷ xs) h = ap (λ t. x ∷ t) (below_kept u xs (All-tail (λ v. v < u) x xs h))
     ∙ ap (λ b. cond b (x ∷ filter (λ v. nat_lt v u) xs) (filter (λ v. nat_lt v u) xs)) (sym (lt-ltb x u (All-head (λ v. v < u) x xs h)))
 
-pub lesser_left_out : (u : ℕ) (xs : List ℕ) → All (λ v. v < u) xs → [] ≡ filter (λ v. not (nat_lt v u)) xs
-lesser_left_out u [] h = refl
-lesser_left_out u (x ∷ xs) h = lesser_left_out u xs (All-tail (λ v. v < u) x xs h)
+pub below_left_out : (u : ℕ) (xs : List ℕ) → All (λ v. v < u) xs → [] ≡ filter (λ v. not (nat_lt v u)) xs
+below_left_out u [] h = refl
+below_left_out u (x ∷ xs) h = below_left_out u xs (All-tail (λ v. v < u) x xs h)
     ∙ ap (λ b. cond (not b) (x ∷ filter (λ v. not (nat_lt v u)) xs) (filter (λ v. not (nat_lt v u)) xs)) (sym (lt-ltb x u (All-head (λ v. v < u) x xs h)))
 
 -- One more number, inserted in ascending order.
 
-none_lesser : (u : ℕ) (xs : List ℕ) → All (λ x. u < x) xs → filter (λ x. nat_lt x u) xs ≡ []
-none_lesser u [] h = refl
-none_lesser u (x ∷ xs) h = ap (λ b. cond b (x ∷ filter (λ x. nat_lt x u) xs) (filter (λ x. nat_lt x u) xs)) (le-ltb x u (let l : u < x = All-head (λ x. u < x) x xs h in omega (arith, l)))
-    ∙ none_lesser u xs (All-tail (λ x. u < x) x xs h)
+none_below : (u : ℕ) (xs : List ℕ) → All (λ x. u < x) xs → filter (λ x. nat_lt x u) xs ≡ []
+none_below u [] h = refl
+none_below u (x ∷ xs) h = ap (λ b. cond b (x ∷ filter (λ x. nat_lt x u) xs) (filter (λ x. nat_lt x u) xs)) (le-ltb x u (let l : u < x = All-head (λ x. u < x) x xs h in omega (arith, l)))
+    ∙ none_below u xs (All-tail (λ x. u < x) x xs h)
 
 all_others : (u : ℕ) (xs : List ℕ) → All (λ x. u < x) xs → filter (λ x. not (nat_lt x u)) xs ≡ xs
 all_others u [] h = refl
@@ -136,14 +136,14 @@ placed p u (x ∷ xs) h t n = elim (eqb_tells x u) [
       let fails : p x ≡ false = ap p e.1 ∙ n in
       let holds : (p x || (u == x)) ≡ true = ap (λ b. b || (u == x)) fails ∙ eq-eqb u x (sym e.1) in
       ap (λ b. with_number u (cond b (x ∷ filter p xs) (filter p xs))) fails
-      ∙ (λ j. none_lesser u (filter p xs) kept j ++ u ∷ all_others u (filter p xs) kept j)
+      ∙ (λ j. none_below u (filter p xs) kept j ++ u ∷ all_others u (filter p xs) kept j)
       ∙ (λ j. sym e.1 j ∷ changed_below p u xs over j)
       ∙ ap (λ b. cond b (x ∷ filter (λ v. p v || (u == v)) xs) (filter (λ v. p v || (u == v)) xs)) (sym holds)
   | inr e ↦
       let there : occurs u xs ≡ true = subst (λ b. (b || occurs u xs) ≡ true) e.0 t in
-      let lesser : nat_lt x u ≡ true = lt-ltb x u (above_member x u xs h.0 there) in
+      let below : nat_lt x u ≡ true = lt-ltb x u (above_member x u xs h.0 there) in
       let same : p x ≡ (p x || (u == x)) = sym (ap (λ b. p x || b) (ne_eqb u x (λ q. e.1 (sym q))) ∙ or-false (p x)) in
-      step (p x) lesser
+      step (p x) below
       ∙ (λ j. cond (same j) (x ∷ placed p u xs h.1 there n j) (placed p u xs h.1 there n j))
 ]
   where

@@ -98,7 +98,7 @@ map_order_trans g h k a b = (
       omega (arith, l, m)),
 )
 
--- A binary search for the grants of an ONU: the first of those that are not to lesser ONUs.
+-- A binary search for the grants of an ONU: the first of those that are not to smaller ONUs.
 
 others_any : (u : ℕ) (gs : List Granted) → list_any (λ g. g.onu == u) (filter (λ g. not (nat_lt g.onu u)) gs) ≡ list_any (λ g. g.onu == u) gs
 others_any u [] = refl

@@ -18,7 +18,7 @@ use Rattle.pon_lists.proofs.Lists.{position-None_or_len, position-Some_or_len, s
 use Rattle.pon_guar.specs.Window.{Granted, WindowMap, last_64, words_granted, words_to}
 use Rattle.pon_guar.specs.Window.{with_map}
 use Rattle.pon_guar.specs.ReportChecks.{with_report}
-use Rattle.pon_guar.specs.Sums.{AreSummed, AreSumsOf, is_to, or_zero, sum_before, sum_behind, sum_now, sums_beside}
+use Rattle.pon_guar.specs.Sums.{AreSummed, AreSumsOf, is_to, or_zero, sum_before, sum_after, sum_now, sums_beside}
 use Rattle.pon_guar.proofs.Series.{words_found}
 use Rattle.pon_lists.proofs.Order.{in_order_at}
 
@@ -136,18 +136,18 @@ module _ (u i : ℕ) where
 
   -- The sum after a grant, and after the last grant.
 
-  pub behind_none : (m : WindowMap) (ns : List ℕ) → sum_before u i m.grants ns ≡ None → sum_behind u i m ns ≡ None
-  behind_none m ns h = ap (option_map (λ n. (n + words_to u i m) % 2 ^ 32)) h
+  pub after_none : (m : WindowMap) (ns : List ℕ) → sum_before u i m.grants ns ≡ None → sum_after u i m ns ≡ None
+  after_none m ns h = ap (option_map (λ n. (n + words_to u i m) % 2 ^ 32)) h
 
-  behind_some : (m : WindowMap) (ns : List ℕ) (n : ℕ) → sum_before u i m.grants ns ≡ Some n → sum_behind u i m ns ≡ Some ((n + words_to u i m) % 2 ^ 32)
-  behind_some m ns n h = ap (option_map (λ n. (n + words_to u i m) % 2 ^ 32)) h
+  after_some : (m : WindowMap) (ns : List ℕ) (n : ℕ) → sum_before u i m.grants ns ≡ Some n → sum_after u i m ns ≡ Some ((n + words_to u i m) % 2 ^ 32)
+  after_some m ns n h = ap (option_map (λ n. (n + words_to u i m) % 2 ^ 32)) h
 
   -- at the index that was found
-  pub behind_at : (m : WindowMap) (ns : List ℕ) (r : Option ℕ) (k b w : ℕ) (d : Granted) → r ≡ position (is_to u i) m.grants → r ≡ Some k → k < length m.grants → slice_get ns k ≡ Some b → w ≡ (get_or m.grants k d).words
-      → Some ((b + w) % 2 ^ 32) ≡ sum_behind u i m ns
-  behind_at m ns r k b w d is e l read words =
+  pub after_at : (m : WindowMap) (ns : List ℕ) (r : Option ℕ) (k b w : ℕ) (d : Granted) → r ≡ position (is_to u i) m.grants → r ≡ Some k → k < length m.grants → slice_get ns k ≡ Some b → w ≡ (get_or m.grants k d).words
+      → Some ((b + w) % 2 ^ 32) ≡ sum_after u i m ns
+  after_at m ns r k b w d is e l read words =
       ap (λ w. Some ((b + w) % 2 ^ 32)) (words ∙ words_there m r k d is e l)
-      ∙ sym (behind_some m ns b (before_at m.grants ns r k is e l ∙ read))
+      ∙ sym (after_some m ns b (before_at m.grants ns r k is e l ∙ read))
 
   or_none : (p : Option ℕ) → option_or p None ≡ p
   or_none None = refl
@@ -157,16 +157,16 @@ module _ (u i : ℕ) where
   or_assoc None q r = refl
   or_assoc (Some n) q r = refl
 
-  pub now_push : (ms : List WindowMap) (sums : List (List ℕ)) (m : WindowMap) (ns : List ℕ) → length sums ≡ length ms → sum_now u i (ms ++ m ∷ []) (sums ++ ns ∷ []) ≡ option_or (sum_behind u i m ns) (sum_now u i ms sums)
-  now_push [] [] m ns e = sym (or_none (sum_behind u i m ns))
+  pub now_push : (ms : List WindowMap) (sums : List (List ℕ)) (m : WindowMap) (ns : List ℕ) → length sums ≡ length ms → sum_now u i (ms ++ m ∷ []) (sums ++ ns ∷ []) ≡ option_or (sum_after u i m ns) (sum_now u i ms sums)
+  now_push [] [] m ns e = sym (or_none (sum_after u i m ns))
   now_push [] (s ∷ sums) m ns e = absurd (omega (arith, e))
   now_push (x ∷ ms) [] m ns e = absurd (omega (arith, e))
-  now_push (x ∷ ms) (s ∷ sums) m ns e = ap (λ r. option_or r (sum_behind u i x s)) (now_push ms sums m ns (omega (arith, e))) ∙ or_assoc (sum_behind u i m ns) (sum_now u i ms sums) (sum_behind u i x s)
+  now_push (x ∷ ms) (s ∷ sums) m ns e = ap (λ r. option_or r (sum_after u i x s)) (now_push ms sums m ns (omega (arith, e))) ∙ or_assoc (sum_after u i m ns) (sum_now u i ms sums) (sum_after u i x s)
 
   now_noted : (f v : ℕ) (ms : List WindowMap) (sums : List (List ℕ)) → sum_now u i (map (with_report f v) ms) sums ≡ sum_now u i ms sums
   now_noted f v [] sums = refl
   now_noted f v (m ∷ ms) [] = refl
-  now_noted f v (m ∷ ms) (ns ∷ sums) = ap (λ r. option_or r (sum_behind u i m ns)) (now_noted f v ms sums)
+  now_noted f v (m ∷ ms) (ns ∷ sums) = ap (λ r. option_or r (sum_after u i m ns)) (now_noted f v ms sums)
 
   -- the sum before a grant of the next map is the sum after the last grant
   pub beside_now : (ms : List WindowMap) (sums : List (List ℕ)) (n t : ℕ) → sum_now u i ms sums ≡ Some t → (gs : List Granted) → sum_before u i gs (sums_beside ms sums gs) ≡ Some n → n ≡ t
@@ -194,7 +194,7 @@ module _ (m : WindowMap) (ns : List ℕ) (beside : length ns ≡ length m.grants
     record {
       beside = beside;
       small = small;
-      differ = λ u i n b. behind_some u i m ns n b ∙ ap (λ w. Some ((n + w) % 2 ^ 32)) (let one : words_to u i m ≡ sum_by (words_to u i) (m ∷ []) = omega (arith, sum_by-cons (words_to u i) m []) in one);
+      differ = λ u i n b. after_some u i m ns n b ∙ ap (λ w. Some ((n + w) % 2 ^ 32)) (let one : words_to u i m ≡ sum_by (words_to u i) (m ∷ []) = omega (arith, sum_by-cons (words_to u i) m []) in one);
     },
     tt,
   )
@@ -202,7 +202,7 @@ module _ (m : WindowMap) (ns : List ℕ) (beside : length ns ≡ length m.grants
   summed_push (x ∷ ms) [] h e next = absurd (omega (arith, e))
   summed_push (x ∷ ms) (s ∷ sums) h e next = (
     record { beside = h.0.beside; small = h.0.small; differ = differ },
-    summed_push ms sums h.1 (omega (arith, e)) (λ u i n t b q. next u i n t b (ap (λ r. option_or r (sum_behind u i x s)) q)),
+    summed_push ms sums h.1 (omega (arith, e)) (λ u i n t b q. next u i n t b (ap (λ r. option_or r (sum_after u i x s)) q)),
   )
     where
       differ : (u i n : ℕ) → sum_before u i x.grants s ≡ Some n → sum_now u i ((x ∷ ms) ++ m ∷ []) ((s ∷ sums) ++ ns ∷ []) ≡ Some ((n + sum_by (words_to u i) ((x ∷ ms) ++ m ∷ [])) % 2 ^ 32)
@@ -214,12 +214,12 @@ module _ (m : WindowMap) (ns : List ℕ) (beside : length ns ≡ length m.grants
           all : sum_by (words_to u i) ((x ∷ ms) ++ m ∷ []) ≡ sum_by (words_to u i) (x ∷ ms) + words_to u i m
           all = sum_by_push (words_to u i) (x ∷ ms) m
 
-          go : (r : Option ℕ) → sum_before u i m.grants ns ≡ r → option_or (sum_behind u i m ns) (sum_now u i (x ∷ ms) (s ∷ sums)) ≡ Some ((n + sum_by (words_to u i) ((x ∷ ms) ++ m ∷ [])) % 2 ^ 32)
+          go : (r : Option ℕ) → sum_before u i m.grants ns ≡ r → option_or (sum_after u i m ns) (sum_now u i (x ∷ ms) (s ∷ sums)) ≡ Some ((n + sum_by (words_to u i) ((x ∷ ms) ++ m ∷ [])) % 2 ^ 32)
           go None q =
-              (λ j. option_or (behind_none u i m ns q j) (before j))
+              (λ j. option_or (after_none u i m ns q j) (before j))
               ∙ ap (λ w. Some ((n + w) % 2 ^ 32)) (let same : sum_by (words_to u i) (x ∷ ms) ≡ sum_by (words_to u i) ((x ∷ ms) ++ m ∷ []) = omega (arith, all, no_grant u i m ns beside q) in same)
           go (Some k) q =
-              (λ j. option_or (behind_some u i m ns k q j) (sum_now u i (x ∷ ms) (s ∷ sums)))
+              (λ j. option_or (after_some u i m ns k q j) (sum_now u i (x ∷ ms) (s ∷ sums)))
               ∙ ap (λ k. Some ((k + words_to u i m) % 2 ^ 32)) (next u i k _ q before)
               ∙ ap Some (mod-add-mod (n + sum_by (words_to u i) (x ∷ ms)) (2 ^ 32) (words_to u i m))
               ∙ ap (λ t. Some (t % 2 ^ 32)) (let sum : n + sum_by (words_to u i) (x ∷ ms) + words_to u i m ≡ n + sum_by (words_to u i) ((x ∷ ms) ++ m ∷ []) = omega (arith, all) in sum)
@@ -287,7 +287,7 @@ wrapped b s l k =
 -- A window by its last map, and by its first.
 
 pub now_last : (u i : ℕ) (ms rest : List WindowMap) (m : WindowMap) (sums others : List (List ℕ)) (ns : List ℕ) → ms ≡ rest ++ m ∷ [] → sums ≡ others ++ ns ∷ [] → length others ≡ length rest
-    → sum_now u i ms sums ≡ option_or (sum_behind u i m ns) (sum_now u i rest others)
+    → sum_now u i ms sums ≡ option_or (sum_after u i m ns) (sum_now u i rest others)
 now_last u i ms rest m sums others ns e q l = (λ j. sum_now u i (e j) (q j)) ∙ now_push u i rest others m ns l
 
 module _ (ms later : List WindowMap) (m : WindowMap) (sums others : List (List ℕ)) (ns : List ℕ) (e : ms ≡ m ∷ later) (q : sums ≡ ns ∷ others) (h : AreSummed ms sums) where

@@ -23,7 +23,7 @@ by_onu gs h m n d l k = elim (cases_lt m n) [
   | inr not_less ↦ (let e : n ≡ m = omega (arith, l, not_less) in let q : (get_or gs n d).onu ≡ (get_or gs m d).onu = ap (λ j. (get_or gs j d).onu) e in omega (arith, q))
 ]
 
--- The grants of an ONU are the first of those with no lesser ONU-ID.
+-- The grants of an ONU are the first of those with no smaller ONU-ID.
 
 none_own : (u : ℕ) (gs : List Granted) → All (λ g. u < g.onu) gs → filter (λ g. g.onu == u) gs ≡ []
 none_own u [] h = refl
@@ -31,11 +31,11 @@ none_own u (g ∷ gs) h =
     ap (λ b. cond b (g ∷ filter (λ g. g.onu == u) gs) (filter (λ g. g.onu == u) gs)) (ne_eqb g.onu u (λ q. let l : u < g.onu = All-head (λ g. u < g.onu) g gs h in omega (arith, l, q)))
     ∙ none_own u gs (All-tail (λ g. u < g.onu) g gs h)
 
-not_lesser : (u : ℕ) (gs : List Granted) → All (λ g. u ≤ g.onu) (filter (λ g. not (nat_lt g.onu u)) gs)
-not_lesser u [] = All-nil (λ g. u ≤ g.onu)
-not_lesser u (g ∷ gs) = elim (cases_lt g.onu u) [
-  | inl l ↦ rw (lt-ltb g.onu u l) (not_lesser u gs)
-  | inr l ↦ rw (le-ltb g.onu u l) (All-cons (λ g. u ≤ g.onu) g (filter (λ g. not (nat_lt g.onu u)) gs) l (not_lesser u gs))
+not_below : (u : ℕ) (gs : List Granted) → All (λ g. u ≤ g.onu) (filter (λ g. not (nat_lt g.onu u)) gs)
+not_below u [] = All-nil (λ g. u ≤ g.onu)
+not_below u (g ∷ gs) = elim (cases_lt g.onu u) [
+  | inl l ↦ rw (lt-ltb g.onu u l) (not_below u gs)
+  | inr l ↦ rw (le-ltb g.onu u l) (All-cons (λ g. u ≤ g.onu) g (filter (λ g. not (nat_lt g.onu u)) gs) l (not_below u gs))
 ]
 
 own_front : (u : ℕ) (gs : List Granted) → All (λ g. u ≤ g.onu) gs → AreInMapOrder gs → take (position_or_len (λ g. not (g.onu == u)) gs) gs ≡ filter (λ g. g.onu == u) gs
@@ -58,11 +58,11 @@ own_front u (g ∷ gs) low order =
           ∙ sym (none_own u (g ∷ gs) (All-cons (λ g. u < g.onu) g gs above (All-weaker (ComesBefore g) (λ h. u < h.onu) (λ h c. omega (arith, above, c.0)) gs order.0)))
     ]
 
--- the grants with no lesser ONU-ID, up to the first of another ONU
+-- the grants with no smaller ONU-ID, up to the first of another ONU
 pub own_series : (u : ℕ) (gs rest : List Granted) → AreInMapOrder gs → rest ≡ filter (λ g. not (nat_lt g.onu u)) gs → take (position_or_len (λ g. not (g.onu == u)) rest) rest ≡ filter (λ g. g.onu == u) gs
 own_series u gs rest h e =
     ap (λ t. take (position_or_len (λ g. not (g.onu == u)) t) t) e
-    ∙ own_front u (filter (λ g. not (nat_lt g.onu u)) gs) (not_lesser u gs) (in_order-filter ComesBefore (λ g. not (nat_lt g.onu u)) gs h)
+    ∙ own_front u (filter (λ g. not (nat_lt g.onu u)) gs) (not_below u gs) (in_order-filter ComesBefore (λ g. not (nat_lt g.onu u)) gs h)
     ∙ filter-filter (λ g. g.onu == u) (λ g. not (nat_lt g.onu u)) gs
     ∙ filter_agree _ _ (λ g. both g.onu) gs
   where
@@ -74,20 +74,20 @@ module _ (u : ℕ) (gs : List Granted) (h : AreInMapOrder gs) (k : ℕ) (d : Gra
   own_at : (e : Granted) → (get_or gs k e).onu ≡ u
   own_at e = ap (λ g. g.onu) (get_or_default gs k e d l) ∙ own
 
-  none_lesser : (n : ℕ) (e : Granted) → k ≤ n → n < length gs → nat_lt (get_or gs n e).onu u ≡ false
-  none_lesser n e a b = le-ltb (get_or gs n e).onu u (let q : (get_or gs k e).onu ≤ (get_or gs n e).onu = by_onu gs h k n e a b in let s : (get_or gs k e).onu ≡ u = own_at e in omega (arith, q, s))
+  none_below : (n : ℕ) (e : Granted) → k ≤ n → n < length gs → nat_lt (get_or gs n e).onu u ≡ false
+  none_below n e a b = le-ltb (get_or gs n e).onu u (let q : (get_or gs k e).onu ≤ (get_or gs n e).onu = by_onu gs h k n e a b in let s : (get_or gs k e).onu ≡ u = own_at e in omega (arith, q, s))
 
   begin : ((n : ℕ) (e : Granted) → 0 ≤ n → n < k → nat_lt (get_or gs n e).onu u ≡ true) → (k ≤ length gs) × (drop k gs ≡ filter (λ g. not (nat_lt g.onu u)) gs)
-  begin lesser = (omega (arith, l), (parts_at (λ g. nat_lt g.onu u) gs k (omega (arith, l)) (lesser, none_lesser)).1)
+  begin below = (omega (arith, l), (parts_at (λ g. nat_lt g.onu u) gs k (omega (arith, l)) (below, none_below)).1)
 
   pub begin_first : k ≡ 0 → (k ≤ length gs) × (drop k gs ≡ filter (λ g. not (nat_lt g.onu u)) gs)
   begin_first z = begin (λ n e a b. absurd (omega (arith, z, b)))
 
   pub begin_after : k ≢ 0 → (e : Granted) → (get_or gs (k - 1) e).onu ≢ u → (k ≤ length gs) × (drop k gs ≡ filter (λ g. not (nat_lt g.onu u)) gs)
-  begin_after z e other = begin lesser
+  begin_after z e other = begin below
     where
-      lesser : (n : ℕ) (q : Granted) → 0 ≤ n → n < k → nat_lt (get_or gs n q).onu u ≡ true
-      lesser n q a b =
+      below : (n : ℕ) (q : Granted) → 0 ≤ n → n < k → nat_lt (get_or gs n q).onu u ≡ true
+      below n q a b =
           let before : (get_or gs (k - 1) q).onu ≤ (get_or gs k q).onu = by_onu gs h (k - 1) k q (omega arith) l in
           let upto : (get_or gs n q).onu ≤ (get_or gs (k - 1) q).onu = by_onu gs h n (k - 1) q (omega (arith, b)) (omega (arith, l)) in
           let here : (get_or gs k q).onu ≡ u = own_at q in

@@ -16,12 +16,12 @@ sum_before u i [] ns = None
 sum_before u i (g ∷ gs) [] = None
 
 -- the sum after the grant of a map
-abbrev pub sum_behind : ℕ → ℕ → WindowMap → List ℕ → Option ℕ
-sum_behind u i m ns = option_map (λ n. (n + words_to u i m) % 2 ^ 32) (sum_before u i m.grants ns)
+abbrev pub sum_after : ℕ → ℕ → WindowMap → List ℕ → Option ℕ
+sum_after u i m ns = option_map (λ n. (n + words_to u i m) % 2 ^ 32) (sum_before u i m.grants ns)
 
 -- the sum after the last grant
 abbrev pub sum_now : ℕ → ℕ → List WindowMap → List (List ℕ) → Option ℕ
-sum_now u i (m ∷ ms) (ns ∷ sums) = option_or (sum_now u i ms sums) (sum_behind u i m ns)
+sum_now u i (m ∷ ms) (ns ∷ sums) = option_or (sum_now u i ms sums) (sum_after u i m ns)
 sum_now u i [] sums = None
 sum_now u i (m ∷ ms) [] = None
 

@@ -22,11 +22,11 @@ pub struct Account {
     pub counted: Option<Counted>,
 }
 
-// Returns the number of accounts of a lesser Alloc-ID, by a binary search.
+// Returns the number of accounts of a smaller Alloc-ID, by a binary search.
 fn place_of(accounts: &[Account], alloc_id: AllocId) -> usize
     requires { AreRising (alloc_ids accounts.now) }
     ensures within { result ≤ length accounts.now }
-    ensures lesser { take result accounts.now
+    ensures below { take result accounts.now
         ≡ filter (λ a. nat_lt a.alloc_id alloc_id) accounts.now }
     ensures others { drop result accounts.now
         ≡ filter (λ a. not (nat_lt a.alloc_id alloc_id)) accounts.now }

@@ -68,9 +68,9 @@ fn begins_at(grants: &[Granted], index: usize, onu: OnuId) -> bool
     index == 0 || grants[index - 1].onu != onu
 }
 
-// Returns the number of grants to lesser ONU-IDs: the hint if the grants to the ONU begin there, otherwise by a binary
+// Returns the number of grants to smaller ONU-IDs: the hint if the grants to the ONU begin there, otherwise by a binary
 // search.
-fn lesser_count(grants: &[Granted], hint: usize, onu: OnuId) -> usize
+fn count_below(grants: &[Granted], hint: usize, onu: OnuId) -> usize
     requires { AreInMapOrder grants.now }
     ensures within { result ≤ length grants.now }
     ensures others { drop result grants.now ≡ filter (λ g. not (nat_lt g.onu onu)) grants.now }
@@ -89,14 +89,14 @@ pub(crate) fn series_of(grants: &[Granted], hint: usize, onu: OnuId) -> OnuGrant
         ≡ take (length result.grants.now) (drop result.first grants.now) }
     ensures grants { result.grants.now ≡ filter (λ g. g.onu == onu) grants.now }
 {
-    let first = lesser_count(grants, hint, onu);
+    let first = count_below(grants, hint, onu);
     let (_, others) = grants.split_at(first);
     let (own, _) = others.split_at(series_len(others, onu));
     OnuGrants { first, grants: own }
 }
 
-// Returns whether all ONU-IDs are lesser; none are.
-fn are_lesser(onus: &[OnuId], onu: OnuId) -> bool
+// Returns whether all ONU-IDs are smaller, as they are if there is none.
+fn are_below(onus: &[OnuId], onu: OnuId) -> bool
     requires { AreRising onus.now }
     ensures { result ≡ true → All (λ v. v < onu) onus.now }
 {
@@ -106,15 +106,15 @@ fn are_lesser(onus: &[OnuId], onu: OnuId) -> bool
     }
 }
 
-// Returns the number of lesser ONU-IDs: at once if all are lesser, since ONUs often report in order, otherwise by a binary
+// Returns the number of smaller ONU-IDs: at once if all are smaller, since ONUs often report in order, otherwise by a binary
 // search.
 fn place_among(onus: &[OnuId], onu: OnuId) -> usize
     requires { AreRising onus.now }
     ensures within { result ≤ length onus.now }
-    ensures lesser { take result onus.now ≡ filter (λ v. nat_lt v onu) onus.now }
+    ensures below { take result onus.now ≡ filter (λ v. nat_lt v onu) onus.now }
     ensures others { drop result onus.now ≡ filter (λ v. not (nat_lt v onu)) onus.now }
 {
-    if are_lesser(onus, onu) {
+    if are_below(onus, onu) {
         return onus.len();
     }
     onus.partition_point(|reporter| reporter.get() < onu.get())

@@ -92,8 +92,8 @@ fn is_polled(grants: &[Granted], onu: OnuId) -> bool
     requires { AreInMapOrder grants.now }
     ensures { result ≡ list_any (λ g. g.onu == onu) grants.now }
 {
-    let lesser = grants.partition_point(|granted| granted.onu.get() < onu.get());
-    let (_, others) = grants.split_at(lesser);
+    let below = grants.partition_point(|granted| granted.onu.get() < onu.get());
+    let (_, others) = grants.split_at(below);
     match others.split_first() {
         Some((first, _)) => first.onu == onu,
         None => false,

@@ -3,7 +3,7 @@
 ghost use Rattle.std.specs.Prelude.{◌≡◌, ◌≢◌, ◌≤◌, ◌*◌, ◌<◌, [], All, IfOk, IfSome, OnErr, OnOk, Some, length, position, sum_by, List, ℕ};
 ghost use Rattle.pon_units.specs.Granted.{AreInMapOrder};
 ghost use Rattle.pon_guar.specs.Window.{IsLawfulMap, words_to};
-ghost use Rattle.pon_guar.specs.Sums.{AreSummed, is_to, sum_before, sum_behind, sum_now, sums_beside};
+ghost use Rattle.pon_guar.specs.Sums.{AreSummed, is_to, sum_before, sum_after, sum_now, sums_beside};
 
 use crate::map::{WindowMap, series_of};
 use crate::window::MAX_MAPS;
@@ -97,7 +97,7 @@ fn sum_before(
 }
 
 // Returns the sum after the grant to an Alloc-ID under an ONU; `None` if the map has no such grant.
-fn sum_behind(
+fn sum_after(
     map: &WindowMap,
     sums: &MapSums,
     hint: usize,
@@ -105,7 +105,7 @@ fn sum_behind(
     alloc_id: AllocId,
 ) -> Option<u32>
     requires { AreInMapOrder map.now.grants }
-    ensures { result ≡ sum_behind onu alloc_id map.now sums.now }
+    ensures { result ≡ sum_after onu alloc_id map.now sums.now }
 {
     let place = match place_of_grant(&map.grants, hint, onu, alloc_id) {
         None => return None,
@@ -129,7 +129,7 @@ fn sum_at(
     alloc_id: AllocId,
 ) -> Option<u32>
     requires { AreInMapOrder map.now.grants }
-    ensures { IfSome result (λ sum. sum_behind onu alloc_id map.now sums.now ≡ Some sum) }
+    ensures { IfSome result (λ sum. sum_after onu alloc_id map.now sums.now ≡ Some sum) }
 {
     if hint >= map.grants.len() || hint >= sums.before.len() {
         return None;
@@ -156,7 +156,7 @@ fn search_sum(
 {
     let (map, earlier) = maps.split_last()?;
     let (last, others) = sums.split_last()?;
-    match sum_behind(map, last, hint, onu, alloc_id) {
+    match sum_after(map, last, hint, onu, alloc_id) {
         Some(sum) => Some(sum),
         None => search_sum(earlier, others, hint, onu, alloc_id),
     }

@@ -2,7 +2,7 @@
 use Rattle.std.specs.Prelude.{ℕ, List, [], ◌∷◌, ◌+◌, Option, Some, None}
 use Rattle.pon_bwmap.specs.Alloc.{Alloc}
 
--- the first word of a grant: behind the header of the burst that it starts, or behind the grant before it, which ends before `next`
+-- the first word of a grant: after the header of the burst that it starts, or after the grant before it, which ends before `next`
 abbrev pub first_word : ℕ → Option ℕ → ℕ
 first_word next (Some start) = start + 1
 first_word next None = next

@@ -137,7 +137,7 @@ impl SoFar {
     }
 }
 
-// Returns the byte behind the last chapter of a batch, after which `read` bytes are read.
+// Returns the byte after the last chapter of a batch, after which `read` bytes are read.
 fn end_of(end: BatchEnd, read: u64) -> u64 {
     match end {
         BatchEnd::More | BatchEnd::Whole => read,

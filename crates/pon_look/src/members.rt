@@ -3,8 +3,8 @@
 use serde_json::{Map, Value, put};
 use std::alloc::{AllocError, Global};
 
-/// The members of an object, which is printed in the order of their keys. Whether memory was refused is told when the object
-/// is taken.
+/// The members of an object, which is printed in the order of their keys. If memory is refused for one of them, taking the
+/// object returns the error.
 #[derive(Drop)]
 pub(crate) struct Members {
     alloc: Global,

@@ -1,6 +1,7 @@
 //! What a person asks of a recording, and what an answer says if nothing in it matches.
 
 use pon_units::{AllocId, FrameNo, PortNo};
+use std::error::Error;
 use std::fmt;
 
 /// Which maps `olt rates` sums up. A field that is `None` matches each port, Alloc-ID or frame.
@@ -163,3 +164,5 @@ impl fmt::Display for Missing {
         }
     }
 }
+
+impl Error for Missing {}

@@ -18,12 +18,12 @@ abbrev pub queues_of : List SettingsRow → ℕ → List (ℕ × ℕ)
 queues_of rows onu = take MAX_SERIES (own_queues rows onu)
 
 -- the units of the ONUs whose first row is in this part of all rows, given the rows before this part
-abbrev pub units_behind : List SettingsRow → List SettingsRow → List SettingsRow → List UnitState
-units_behind all before [] = []
-units_behind all before (r ∷ rs) =
-    if list_any (is_row_of r.row.onu) before then units_behind all (before ++ r ∷ []) rs
-    else (record { onu = r.row.onu; queues = queues_of all r.row.onu }) ∷ units_behind all (before ++ r ∷ []) rs
+abbrev pub units_after : List SettingsRow → List SettingsRow → List SettingsRow → List UnitState
+units_after all before [] = []
+units_after all before (r ∷ rs) =
+    if list_any (is_row_of r.row.onu) before then units_after all (before ++ r ∷ []) rs
+    else (record { onu = r.row.onu; queues = queues_of all r.row.onu }) ∷ units_after all (before ++ r ∷ []) rs
 
 -- one unit for each ONU that has rows
 abbrev pub units_of : List SettingsRow → List UnitState
-units_of rows = units_behind rows [] rows
+units_of rows = units_after rows [] rows

@@ -33,7 +33,7 @@ pub(crate) struct Opened<F> {
     pub(crate) recorder: Option<Recorder<RunTape<F>>>,
 }
 
-/// The connection and the sink of each port, in order, and the recording behind the sinks, if chapters are wanted.
+/// The connection and the sink of each port, in order, and the recording after the sinks, if chapters are wanted.
 #[derive(Drop)]
 pub(crate) struct RunParts<K: Rings, F> {
     pub(crate) links: Vec<Link>,

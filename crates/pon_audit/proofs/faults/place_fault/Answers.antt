@@ -13,11 +13,11 @@ returns-in-None c = λ earlier judged.
     let here : end_at t.ends (slice_index_or t.places port None) ≡ None = search rules in
     no_earlier earlier c.args.chapter.now (subst (IsLastOf earlier port) here (last_told earlier t port (slice_index_or t.places port None) judged.each (judged.lasts port (rw (← same) c.last_of.ensures.range))))
 
-pub fault_behind-requires-clause-kept : goal.fault_behind-requires-clause-kept
-fault_behind-requires-clause-kept c = subst (All IsKeptEnd) (sym c.all.ensures) (all_kept c.requires.judged.0 c.args.ends.now.ends c.requires.judged.1.each)
+pub fault_after-requires-clause-kept : goal.fault_after-requires-clause-kept
+fault_after-requires-clause-kept c = subst (All IsKeptEnd) (sym c.all.ensures) (all_kept c.requires.judged.0 c.args.ends.now.ends c.requires.judged.1.each)
 
-pub fault_behind-requires-clause-kept_last : goal.fault_behind-requires-clause-kept_last
-fault_behind-requires-clause-kept_last c =
+pub fault_after-requires-clause-kept_last : goal.fault_after-requires-clause-kept_last
+fault_after-requires-clause-kept_last c =
     let earlier = c.requires.judged.0 in
     let t = c.args.ends.now in
     let port = c.args.chapter.now.body.port in
@@ -33,4 +33,4 @@ returns c = λ earlier judged.
     let same : c.chapter.inside.port ≡ port = search rules in
     let here : end_at t.ends (slice_index_or t.places port None) ≡ Some c.in-Some.last.now = search rules in
     let last : IsLast earlier port c.in-Some.last.now = subst (IsLastOf earlier port) here (last_told earlier t port (slice_index_or t.places port None) judged.each (judged.lasts port (rw (← same) c.last_of.ensures.range))) in
-    c.fault_behind.ensures earlier (subst (AllZip IsEndOf earlier) (sym c.all.ensures) judged.each) last
+    c.fault_after.ensures earlier (subst (AllZip IsEndOf earlier) (sym c.all.ensures) judged.each) last

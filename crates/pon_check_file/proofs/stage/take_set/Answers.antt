@@ -1,5 +1,5 @@
 use Rattle.std.proofs.Common.{rules, arith, ◌≡◌, ◌∙◌, ◌+◌, ap, sym, length}
-use Rattle.pon_check_file.specs.Stages.{behind_file}
+use Rattle.pon_check_file.specs.Stages.{after_file}
 use Rattle.pon_check_file.proofs.StageLines.{no_set, one_set}
 use Rattle.pon_check_file.proofs.stage.take_set.Goals as goal
 
@@ -11,7 +11,7 @@ returns c =
     let count : c.len-count.result ≡ length c.args.levelled.shared.items.items = search rules in
     record {
       same = λ ls. one_set c.args.levelled.shared.surplus c.args.levelled.shared.items.items c.args.levelled.level c.args.line.now c.in-Some.saturated ls (search rules)
-          ∙ ap (λ n. behind_file (record { surplus = c.args.levelled.shared.surplus; items = c.args.levelled.shared.items.items; cert = record { level = c.args.levelled.level; saturated = c.in-Some.saturated } }) (n + 3) ls) (sym count);
+          ∙ ap (λ n. after_file (record { surplus = c.args.levelled.shared.surplus; items = c.args.levelled.shared.items.items; cert = record { level = c.args.levelled.level; saturated = c.in-Some.saturated } }) (n + 3) ls) (sym count);
       few = tt;
       lines = omega (arith, count);
     }

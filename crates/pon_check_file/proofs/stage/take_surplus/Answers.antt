@@ -1,5 +1,5 @@
 use Rattle.std.proofs.Common.{rules, arith, ◌≡◌, ◌∙◌, [], ap, sym, length}
-use Rattle.pon_check_file.specs.Stages.{behind_items}
+use Rattle.pon_check_file.specs.Stages.{after_items}
 use Rattle.pon_check_file.proofs.StageLines.{no_surplus, one_surplus}
 use Rattle.pon_check_file.proofs.stage.take_surplus.Goals as goal
 
@@ -7,7 +7,7 @@ pub returns-in-Some : goal.returns-in-Some
 returns-in-Some c =
     let none : c.new.result.items ≡ [] = search rules in
     record {
-      same = λ ls. one_surplus c.args.line.now c.in-Some.surplus ls (search rules) ∙ ap (λ is. behind_items c.in-Some.surplus is ls) (sym none);
+      same = λ ls. one_surplus c.args.line.now c.in-Some.surplus ls (search rules) ∙ ap (λ is. after_items c.in-Some.surplus is ls) (sym none);
       few = omega (arith, ap length none);
       lines = omega (arith, ap length none);
     }

@@ -5,8 +5,8 @@ use Rattle.pon_lists.proofs.Parts.{parts_at}
 use Rattle.pon_guar.proofs.Accounts.{rising_parted}
 use Rattle.pon_guar.proofs.account.place_of.Goals as goal
 
-pub returns-clause-lesser : goal.returns-clause-lesser
-returns-clause-lesser c =
+pub returns-clause-below : goal.returns-clause-below
+returns-clause-below c =
     let facts = c.partition_point.ensures in
     let parted = facts.partitioned (λ a. nat_lt a.alloc_id c.args.alloc_id) (always_returns_same _ _ _ (λ a r f k. search rules)) (rising_parted c.args.alloc_id c.args.accounts.now c.requires) in
     (parts_at (λ a. nat_lt a.alloc_id c.args.alloc_id) c.args.accounts.now c.partition_point.result facts.bound parted).0

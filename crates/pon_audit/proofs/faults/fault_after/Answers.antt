@@ -3,7 +3,7 @@ use Rattle.std.specs.Prelude.{◌↔◌, All}
 use Rattle.std.proofs.lemmas.Bool.{iff_false}
 use Rattle.pon_audit.specs.Judging.{OpensAt}
 use Rattle.pon_audit.proofs.FirstFaults.{chained_if, far_above, next_above, not_ascending, not_chained, opens_if}
-use Rattle.pon_audit.proofs.faults.fault_behind.Goals as goal
+use Rattle.pon_audit.proofs.faults.fault_after.Goals as goal
 
 pub returns-then-is_chained : goal.returns-then-is_chained
 returns-then-is_chained c = λ earlier zip l.

@@ -4,7 +4,7 @@ use Rattle.std.proofs.lemmas.Fn.{always_returns_same}
 use Rattle.std.proofs.lemmas.List.Sorted.{IsPartitionedBy-ltb}
 use Rattle.pon_lists.proofs.Parts.{parts_at}
 use Rattle.pon_guar.proofs.Series.{by_onu}
-use Rattle.pon_guar.proofs.map.lesser_count.Goals as goal
+use Rattle.pon_guar.proofs.map.count_below.Goals as goal
 
 pub returns-clause-others : goal.returns-clause-others
 returns-clause-others c =
