@@ -38,10 +38,10 @@ fn write_line<W: DevWrite>(
     }
 }
 
-/// Audits the recording that `reader` gives, and writes the verdict as one line. Returns `true` exactly if the recording is
+/// Audits the recording that `reader` gives, and writes the verdict as one line. Returns `true` exactly when the recording is
 /// good.
 ///
-/// `Read` exactly if the reader fails, and `Memory` if memory is refused: nothing is written. `Write` if the writer fails: a
+/// `Read` exactly when the reader fails, and `Memory` if memory is refused: nothing is written. `Write` if the writer fails: a
 /// prefix of the line is written. The writer is flushed once, after the line.
 pub fn write_verdict<R: DevRead, W: DevWrite>(
     rt: &(impl Threads + Sync),

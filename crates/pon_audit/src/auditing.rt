@@ -35,7 +35,7 @@ pub struct Step {
 impl Auditing {
     /// Reads the magic bytes of a recording; returns the verdict if they are wrong or cut.
     ///
-    /// `Read` exactly if the device fails. `Memory` if memory is refused.
+    /// `Read` exactly when the device fails. `Memory` if memory is refused.
     pub fn open<R: DevRead>(
         alloc: Global,
         reader: &mut R,
@@ -55,7 +55,7 @@ impl Auditing {
 
     /// Reads the next chapters: at most 64, and no further one after as many entries as four full chapters have.
     ///
-    /// `Read` exactly if the device fails. `Memory` if memory is refused, or if the place of a chapter is 2^64 or more.
+    /// `Read` exactly when the device fails. `Memory` if memory is refused, or if the place of a chapter is 2^64 or more.
     pub fn read<R: DevRead>(&mut self, alloc: Global, reader: &mut R) -> Result<Batch, DeviceFault>
         ensures fit { IfOk result (λ b. All (λ c. FitsRecording c.body) b.chapters.items) }
         ensures batch { IfOk result (λ b. (start : Option (List ℕ))
@@ -131,7 +131,7 @@ impl Auditing {
 /// Chapters of a batch with [`PARALLEL_MAPS`](crate::PARALLEL_MAPS) maps or more are audited in as many threads as there are
 /// processors, with the same verdict.
 ///
-/// `Read` exactly if the device fails. `Memory` if memory is refused, or if the recording has 2^64 bytes or more.
+/// `Read` exactly when the device fails. `Memory` if memory is refused, or if the recording has 2^64 bytes or more.
 pub fn audit_from<R: DevRead>(
     rt: &(impl Threads + Sync),
     alloc: Global,

@@ -37,7 +37,7 @@ pub struct Batch {
     pub end: BatchEnd,
 }
 
-/// Reads the next chapters. `Read` exactly if the device fails. `Memory` if memory is refused or the place of a chapter is 2^64
+/// Reads the next chapters. `Read` exactly when the device fails. `Memory` if memory is refused or the place of a chapter is 2^64
 /// or more.
 pub(crate) fn read_batch<R: DevRead>(
     alloc: Global,

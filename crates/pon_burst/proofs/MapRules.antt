@@ -44,7 +44,7 @@ within_frame gap gs k fits =
 any_middle : {X : Type 0} (p : X → Bool) (xs ys : List X) (x : X) → p x ≡ true → list_any p (xs ++ x ∷ ys) ≡ true
 any_middle p xs ys x h = list_any-append p xs (x ∷ ys) ∙ or_right (list_any p xs) (p x || list_any p ys) (or_left (p x) (list_any p ys) h)
 
--- what a grant behind xs brings, zs with it: the start of its structure, and the words that it takes, if it continues a burst or begins one
+-- what a grant after xs brings, zs with it: the start of its structure, and the words that it takes, if it continues a burst or begins one
 pub record IsNext (gap profile : ℕ) (gs xs zs : List Granted) (r : Granted) (b : Bool) : Type 0 where
   pub start : (structure_of gap profile gs r).start ≡ (if b then None else Some (gap + frame_words gap xs))
   pub words : frame_words gap zs ≡ frame_words gap xs + ((if b then 0 else gap + 2) + grant r)
@@ -59,7 +59,7 @@ module _ (gap profile : ℕ) (gs : List Granted) (order : AreInMapOrder gs) (xs 
   abbrev leads : Granted → Bool
   leads h = h.onu == r.onu && nat_lt h.alloc_id r.alloc_id
 
-  -- a grant behind another of its ONU
+  -- a grant after another of its ONU
   continues : (front : List Granted) (g : Granted) → xs ≡ front ++ g ∷ [] → g.onu ≡ r.onu → IsNext gap profile gs xs (xs ++ r ∷ []) r true
   continues front g cut same =
       let before = (All-middle (λ q. ComesBefore q r) front [] g (subst (All (λ q. ComesBefore q r)) cut sides.0)).1 same in
@@ -69,7 +69,7 @@ module _ (gap profile : ℕ) (gs : List Granted) (order : AreInMapOrder gs) (xs 
       = list_any-map (λ v. v == r.onu) (λ h. h.onu) xs ∙ ap (list_any (λ (h : Granted). h.onu == r.onu)) cut ∙ any_middle (λ h. h.onu == r.onu) front [] g (eq-eqb g.onu r.onu same) in
       record { start = ap (λ b. if b then None else Some (start_of gap profile gs r.onu)) follows; words = omega (arith, words_more true known) }
 
-  -- a grant behind grants of ONUs of lesser number alone
+  -- a grant after grants of ONUs of smaller number alone
   begins : All (λ q. q.onu < r.onu) xs → IsNext gap profile gs xs (xs ++ r ∷ []) r false
   begins less =
       let alone : All (λ q. leads q ≡ false) (xs ++ r ∷ ys)
@@ -131,13 +131,13 @@ one_laid more true next laid = record {
 }
 one_laid {gap} {profile} {end} {gs} {xs} {zs} {r} more false next laid =
     let first : Burst = record { start = gap + frame_words gap xs; words = grant r + continued more } in
-    let behind : All (λ b. first.start + 1 + first.words + 1 + gap ≤ b.start) (bursts_of more) = λ k d lt. omega (arith, next.words, (laid.bursts k d lt).0) in
+    let after : All (λ b. first.start + 1 + first.words + 1 + gap ≤ b.start) (bursts_of more) = λ k d lt. omega (arith, next.words, (laid.bursts k d lt).0) in
     record {
       words = rw next.start (omega (arith, next.words, laid.words));
       bursts = rw next.start (All-cons (λ b. (first.start + 0 ≤ b.start) × (b.start + 1 + b.words + 1 + gap ≤ end)) first (bursts_of more)
           (omega arith, omega (arith, next.words, laid.words))
-          (λ k d lt. (omega (arith, behind k d lt), (laid.bursts k d lt).1)));
-      disjoint = rw next.start (AllPairs-cons (AreDisjoint gap) first (bursts_of more) (λ k d lt. inl (behind k d lt)) laid.disjoint);
+          (λ k d lt. (omega (arith, after k d lt), (laid.bursts k d lt).1)));
+      disjoint = rw next.start (AllPairs-cons (AreDisjoint gap) first (bursts_of more) (λ k d lt. inl (after k d lt)) laid.disjoint);
     }
 
 module _ (gap profile : ℕ) (gs : List Granted) (order : AreInMapOrder gs) where

@@ -18,8 +18,8 @@ reads_more : (bytes : List ℕ) (rows : List Alloc) (corrected : ℕ) (a : Alloc
     → ReadsRows bytes (rows ++ a ∷ []) (corrected + here)
 reads_more bytes [] corrected a here none s = (here, 0, s, refl, omega (arith, none))
 reads_more bytes (x ∷ rows) corrected a here r s =
-    let behind : drop (8 * suc (length rows)) bytes ≡ drop (8 * length rows) (drop 8 bytes) = (let e : 8 * suc (length rows) ≡ 8 + 8 * length rows = omega arith in rw e (sym (drop-drop (8 * length rows) 8 bytes))) in
-    (r.0, r.1 + here, r.2, reads_more (drop 8 bytes) rows r.1 a here r.3 (subst (λ (bs : List ℕ). ReadsStructure bs a here) behind s), omega (arith, r.4))
+    let after : drop (8 * suc (length rows)) bytes ≡ drop (8 * length rows) (drop 8 bytes) = (let e : 8 * suc (length rows) ≡ 8 + 8 * length rows = omega arith in rw e (sym (drop-drop (8 * length rows) 8 bytes))) in
+    (r.0, r.1 + here, r.2, reads_more (drop 8 bytes) rows r.1 a here r.3 (subst (λ (bs : List ℕ). ReadsStructure bs a here) after s), omega (arith, r.4))
 
 slice_get-append : (rows more : List Alloc) (i : ℕ) → i < length rows → slice_get (rows ++ more) i ≡ slice_get rows i
 slice_get-append [] more i lt = absurd (omega (arith, lt))

@@ -73,14 +73,14 @@ unfolding cert_at
 second_class_fault bytes rest na f first e = cert_fault bytes f (rw (first, e) refl) (λ m. class_none rest (e ∙ ap Err m))
 
 tail_of_tail : (bytes mid rest : List ℕ) → IsTail bytes mid → IsTail mid rest → IsTail bytes rest
-tail_of_tail bytes mid rest one two = record { shorter = omega (arith, one.shorter, two.shorter); behind = two.behind ∙ ap (drop (length mid - length rest)) one.behind ∙ drop-drop (length mid - length rest) (length bytes - length mid) bytes ∙ ap (λ (n : ℕ). drop n bytes) (omega (arith, one.shorter, two.shorter)) }
+tail_of_tail bytes mid rest one two = record { shorter = omega (arith, one.shorter, two.shorter); after = two.after ∙ ap (drop (length mid - length rest)) one.after ∙ drop-drop (length mid - length rest) (length bytes - length mid) bytes ∙ ap (λ (n : ℕ). drop n bytes) (omega (arith, one.shorter, two.shorter)) }
 
 pub reads_both : (bytes mid rest : List ℕ) (na be : ClassCert) → class_in_bytes bytes ≡ Ok (na, mid) → class_in_bytes mid ≡ Ok (be, rest) → IsTail bytes mid → IsTail mid rest →
     ReadsCert bytes (record { na = na; be = be }) (length bytes - length rest)
 unfolding cert_at
 reads_both bytes mid rest na be first second one two =
     let both = tail_of_tail bytes mid rest one two in
-    record { within = omega arith; read = rw (first, second) (ap (λ (r : List ℕ). Ok (record { na = na; be = be }, r)) both.behind) }
+    record { within = omega arith; read = rw (first, second) (ap (λ (r : List ℕ). Ok (record { na = na; be = be }, r)) both.after) }
 
 pub memory_fault : (bytes mid rest : List ℕ) (na be : ClassCert) → class_in_bytes bytes ≡ Ok (na, mid) → class_in_bytes mid ≡ Ok (be, rest) → IsTail bytes mid → IsTail mid rest → IsByteFault bytes Memory
 memory_fault bytes mid rest na be first second one two = (record { na = na; be = be }, length bytes - length rest, reads_both bytes mid rest na be first second one two)

@@ -77,4 +77,4 @@ IsByteFault bytes Memory = (cert : MapCert) × (used : ℕ) × ReadsCert bytes c
 -- the rest is what remains of the bytes after a prefix
 pub record IsTail (bytes rest : List ℕ) : Type 0 where
   pub shorter : length rest ≤ length bytes
-  pub behind : rest ≡ drop (length bytes - length rest) bytes
+  pub after : rest ≡ drop (length bytes - length rest) bytes

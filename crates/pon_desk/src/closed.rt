@@ -31,7 +31,7 @@ impl Closed {
     ghost use Rattle.pon_history.specs.Chapters.{Chapter};
     ghost use Rattle.pon_desk.specs.Settling.{IsSettled, TellsUnsettled, history_at};
 
-    /// Port of a number, or `None` exactly if the desk had no such port.
+    /// Port of a number, or `None` exactly when the desk had no such port.
     pub fn port(&self, port: PortNo) -> Option<&Port>
         ensures { MatchOption result (length self.now.ports ≤ port)
             (λ p. slice_get self.now.ports port ≡ Some p.now) }
@@ -49,7 +49,7 @@ impl Closed {
     /// Compares the entries of a port, those of the chapters that it returned and of the chapter that it keeps, with
     /// receipts in the order of their places. It allocates no memory.
     ///
-    /// `Ok` exactly if the chapters are numbered from 0 up to the kept one, the first of them opens as the port was to be
+    /// `Ok` exactly when the chapters are numbered from 0 up to the kept one, the first of them opens as the port was to be
     /// opened, each later one (also the kept one) counts the entries up to the end of the one before it, and the receipts
     /// are those of all entries: the k-th has this port, the place, the event and the reply of the k-th entry, names the
     /// number of earlier receipts of its seat, and there are as many as entries and as the port took. Otherwise the first

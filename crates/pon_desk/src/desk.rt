@@ -60,7 +60,7 @@ impl<L: Ledger, M: Ledger> Desk<L, M> {
     /// the seats.
     ///
     /// Requires at least one seat; the blank of the ports' ledger must have one part for each port, that of the seats'
-    /// ledger one for each seat. `Ports` exactly if there are no ports or more than 64; `Memory` only if memory is
+    /// ledger one for each seat. `Ports` exactly when there are no ports or more than 64; `Memory` only if memory is
     /// refused. On an error the blanks are dropped.
     pub fn open(
         alloc: Global,
@@ -111,7 +111,7 @@ impl<L: Ledger, M: Ledger> Desk<L, M> {
 
     /// Posts an event at a port, under that port's lock, by one call of [`Held::post`], with its refusals.
     ///
-    /// `NoSuchPort` exactly if the desk has no such port. Only an accepted post is counted at the seat.
+    /// `NoSuchPort` exactly when the desk has no such port. Only an accepted post is counted at the seat.
     pub fn post<R: Wait>(
         &self,
         rt: &R,
@@ -141,7 +141,7 @@ impl<L: Ledger, M: Ledger> Desk<L, M> {
 
     /// Turns a port, under that port's lock, by one call of [`Held::turn`], with its refusals. It changes no count.
     ///
-    /// `NoSuchPort` exactly if the desk has no such port. The chapter is lawful, as each [`Chapter`] is by its type; that
+    /// `NoSuchPort` exactly when the desk has no such port. The chapter is lawful, as each [`Chapter`] is by its type; that
     /// it is the one that the named port kept is not stated.
     pub fn turn<R: Wait>(&self, rt: &R, port: PortNo) -> Result<Chapter, StepFault>
         ensures no_such { IsNoSuchPort result ↔ self.now.ports ≤ port }
@@ -161,7 +161,7 @@ impl<L: Ledger, M: Ledger> Desk<L, M> {
 
     /// Calls `look` on a port under that port's lock only, and returns its result. `look` must accept any port.
     ///
-    /// `Err` is `NoSuchPort`, exactly if the desk has no such port.
+    /// `Err` is `NoSuchPort`, exactly when the desk has no such port.
     pub fn inspect<T, F: FnOnce(&Port) -> T, R: Wait>(
         &self,
         rt: &R,
@@ -183,7 +183,7 @@ impl<L: Ledger, M: Ledger> Desk<L, M> {
 
     /// Copies the view of a port, as it is at some moment, under that port's lock.
     ///
-    /// `NoSuchPort` exactly if the desk has no such port; otherwise `Refused` with `OutOfMemory`, only if memory for
+    /// `NoSuchPort` exactly when the desk has no such port; otherwise `Refused` with `OutOfMemory`, only if memory for
     /// the copy is refused.
     pub fn look<R: Wait>(&self, rt: &R, alloc: Global, port: PortNo) -> Result<PortView, StepFault>
         ensures no_such { IsNoSuchPort result ↔ self.now.ports ≤ port }
@@ -204,8 +204,8 @@ impl<L: Ledger, M: Ledger> Desk<L, M> {
 
     /// Closes the desk: each port took as many entries as the seats count at it. It allocates no memory.
     ///
-    /// `Missing` exactly if there are fewer seats than were opened; seats of another desk do not compile. `Uneven`
-    /// exactly if all seats are given and some port took another number of entries than they count at it.
+    /// `Missing` exactly when there are fewer seats than were opened; seats of another desk do not compile. `Uneven`
+    /// exactly when all seats are given and some port took another number of entries than they count at it.
     pub fn close(self, seats: Vec<Seat<L, M>>) -> Result<Closed, CloseFault<L, M>>
         ensures ports { IfOk result (λ closed. length closed.ports ≡ self.ports) }
         ensures opened { IfOk result (λ closed. closed.opened ≡ self.opened) }

@@ -93,7 +93,7 @@ fn a_seat_keeps_all_receipts_of_a_worker(rt: HostRuntime) {
     assert!(rt; keeps_all(served(&rt, rt.alloc())));
 }
 
-// Returns whether each record was taken, or only the last one refused, and the worker made all its turns exactly if none
+// Returns whether each record was taken, or only the last one refused, and the worker made all its turns exactly when none
 // was and no map was refused.
 fn is_right(end: &WorkerEnd) -> bool {
     let is_whole = end.why == StopReason::Finished && end.maps == TURNS && end.refused == 0;

@@ -192,7 +192,7 @@ pub(crate) fn put_receipt(
     receipts.insert(k, receipt).expect(rt, "memory");
 }
 
-// Moves a receipt of the second list behind the same place of the first.
+// Moves a receipt of the second list after the same place of the first.
 pub(crate) fn double(
     rt: &impl Abort,
     receipts: &mut Vec<Receipt>,

@@ -65,7 +65,7 @@ pub trait DevWrite {
         ensures bytes { Keeps (contents self.old) (contents self.new) };
 }
 
-/// Writes all of the bytes, or fails after a prefix of them, exactly if the writer failed. It does not flush.
+/// Writes all of the bytes, or fails after a prefix of them, exactly when the writer failed. It does not flush.
 pub fn write_all<W: DevWrite>(writer: &mut W, bytes: &[u8]) -> Result<(), Failed>
     ensures ok { OnOk result (Appends (W.contents writer.old) (W.contents writer.new) bytes.now) }
     ensures err { OnErr result ((sent rest : List ℕ)

@@ -289,7 +289,7 @@ apart_drop zero accounts h = h
 apart_drop (suc n) [] h = tt
 apart_drop (suc n) (a ∷ accounts) h = apart_drop n accounts h.1
 
--- an Alloc-ID has an account exactly if the look-up finds one
+-- an Alloc-ID has an account exactly when the look-up finds one
 pub account_any : (i : ℕ) (book : List Account) (o : Option Account) → account_of book i ≡ o → list_any (λ a. a.alloc_id == i) book ≡ is_some o
 account_any i [] None e = refl
 account_any i [] (Some a) e = absurd cc

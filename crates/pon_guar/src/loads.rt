@@ -70,7 +70,7 @@ impl Loads {
     }
 
     /// Makes the book of these accounts, in any order, and of a window of copies of these maps, the oldest first.
-    /// `Unlawful` exactly if two accounts are of one Alloc-ID or the maps are not a window, unless memory is refused
+    /// `Unlawful` exactly when two accounts are of one Alloc-ID or the maps are not a window, unless memory is refused
     /// first: at most 64 maps of consecutive frames, with grants in map order, and with reporters in ascending ONU-ID,
     /// each of which the map polls. `Memory` only if memory is refused.
     pub fn from_parts(

@@ -18,14 +18,14 @@ pub record_spelled : (room frame map_part map rest : List ℕ) (tag n k : ℕ) �
 record_spelled room frame map_part map rest tag n k some eight size is =
     let tagged = set room 0 tag in
     let fronted = put_mid 1 8 tagged frame in
-    let behind = post_of 9 k fronted in
+    let after = post_of 9 k fronted in
     let first : take 1 tagged ≡ tag ∷ [] = take-set_at room 0 1 tag (omega arith) some in
     let long : 1 ≤ length tagged = omega (arith, some, length-set room 0 tag) in
     let front : take 9 fronted ≡ tag ∷ frame = take-put_mid 1 8 tagged frame 9 (omega (arith, eight)) long ∙ ap (λ (t : List ℕ). t ++ frame) first in
     let nine : length (take 9 fronted) ≡ 9 = ap (λ (t : List ℕ). length t) front ∙ omega (arith, eight) in
-    let body : take n (map_part ++ behind) ≡ map = ap (λ (t : List ℕ). take n (t ++ behind)) is ∙ ap (λ (t : List ℕ). take n t) (append_assoc map rest behind) ∙ take_at map (rest ++ behind) n size in
-    ap (λ (m : ℕ). take (m + n) (take 9 fronted ++ (map_part ++ behind))) (sym nine)
-    ∙ take-append-add (take 9 fronted) (map_part ++ behind) n
+    let body : take n (map_part ++ after) ≡ map = ap (λ (t : List ℕ). take n (t ++ after)) is ∙ ap (λ (t : List ℕ). take n t) (append_assoc map rest after) ∙ take_at map (rest ++ after) n size in
+    ap (λ (m : ℕ). take (m + n) (take 9 fronted ++ (map_part ++ after))) (sym nine)
+    ∙ take-append-add (take 9 fronted) (map_part ++ after) n
     ∙ ap (λ (t : List ℕ). take 9 fronted ++ t) body
     ∙ ap (λ (t : List ℕ). t ++ map) front
 

@@ -11,7 +11,7 @@ use Rattle.pon_link.specs.declared.fault.LinkFault.{LinkFault}
 use Rattle.pon_link.specs.declared.record.DownRecord.{DownRecord}
 use Rattle.pon_link.specs.declared.record.UpRecord.{UpRecord}
 use Rattle.pon_link.proofs.Outcomes.{faultless}
-use Rattle.pon_link.proofs.RunLaws.{records_behind, held_record}
+use Rattle.pon_link.proofs.RunLaws.{records_after, held_record}
 use Rattle.pon_link.specs.Answers.{AnswersRows, AnswersMaps}
 use Rattle.pon_link.specs.Outputs.{HasAnswered}
 use Rattle.pon_link.specs.Progress.{AnswersHeld}
@@ -75,7 +75,7 @@ read_more a b c out_old out_new old new held bytes far read = record {
   maps = far.maps;
   answers = far.answers;
   read = Consumes-trans a b c far.input bytes far.read read;
-  are_maps = records_behind IsDownRecord far.input bytes far.maps held far.are_maps;
+  are_maps = records_after IsDownRecord far.input bytes far.maps held far.are_maps;
   answered = far.answered;
   written = far.written;
 }

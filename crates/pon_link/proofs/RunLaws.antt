@@ -54,15 +54,15 @@ down_told = record {
 }
 
 -- the size of a record that is followed by any bytes
-size_behind : {R : Type 0} (Is : List ℕ → R → Type 0) (d : Direction) → AreTold Is d → (bytes first rest : List ℕ) (r : R) → bytes ≡ first ++ rest → Is first r → Announces d bytes (length first)
-size_behind Is d t bytes first rest r e h =
+size_after : {R : Type 0} (Is : List ℕ → R → Type 0) (d : Direction) → AreTold Is d → (bytes first rest : List ℕ) (r : R) → bytes ≡ first ++ rest → Is first r → Announces d bytes (length first)
+size_after Is d t bytes first rest r e h =
     subst (λ (b : List ℕ). Announces d b (length first)) (sym e) (size_kept d first rest (length first) (t.told first r h) (t.size first r h))
 
 -- two records followed by bytes are split at the same index
 record_cut : {R : Type 0} (Is : List ℕ → R → Type 0) (d : Direction) → AreTold Is d → (a b x y : List ℕ) (r s : R) → AreBytes (a ++ x) → Is a r → Is b s → a ++ x ≡ b ++ y → (a ≡ b) × (x ≡ y)
 record_cut Is d t a b x y r s small h k e =
-    let first = size_behind Is d t (a ++ x) a x r refl h in
-    let second = size_behind Is d t (a ++ x) b y s e k in
+    let first = size_after Is d t (a ++ x) a x r refl h in
+    let second = size_after Is d t (a ++ x) b y s e k in
     same_cut a b x y (one_size d (a ++ x) (length a) (length b) small first second) e
 
 -- a proper prefix of a record does not begin with a whole one
@@ -70,7 +70,7 @@ no_record_yet : {R : Type 0} (Is : List ℕ → R → Type 0) (d : Direction) �
 no_record_yet Is d t held first rest r small b e h =
     let size : length held ≡ length first + length rest = ap (λ (s : List ℕ). length s) e ∙ length-append first rest in
     let long : header_len d ≤ length held = omega (arith, size, t.told first r h) in
-    omega (arith, size, more_needed d held (length first) small long (size_behind Is d t held first rest r e h) b)
+    omega (arith, size, more_needed d held (length first) small long (size_after Is d t held first rest r e h) b)
 
 -- no prefix of these bytes is a record
 abbrev NoRecord : {R : Type 0} → (List ℕ → R → Type 0) → List ℕ → Type 0
@@ -90,9 +90,9 @@ one_way Is d t bytes (r ∷ rs) (s ∷ ss) held kept small b c h k =
 -- ---- the end of a run
 
 -- bytes appended to those that a run took are appended to those that it holds
-pub records_behind : {R : Type 0} (Is : List ℕ → R → Type 0) (bytes rest : List ℕ) (rs : List R) (held : List ℕ) → AreRecords Is bytes rs held → AreRecords Is (bytes ++ rest) rs (held ++ rest)
-records_behind Is bytes rest [] held h = ap (λ (t : List ℕ). t ++ rest) h
-records_behind Is bytes rest (r ∷ rs) held h = (h.0, h.1 ++ rest, ap (λ (t : List ℕ). t ++ rest) h.2 ∙ append_assoc h.0 h.1 rest, h.3, records_behind Is h.1 rest rs held h.4)
+pub records_after : {R : Type 0} (Is : List ℕ → R → Type 0) (bytes rest : List ℕ) (rs : List R) (held : List ℕ) → AreRecords Is bytes rs held → AreRecords Is (bytes ++ rest) rs (held ++ rest)
+records_after Is bytes rest [] held h = ap (λ (t : List ℕ). t ++ rest) h
+records_after Is bytes rest (r ∷ rs) held h = (h.0, h.1 ++ rest, ap (λ (t : List ℕ). t ++ rest) h.2 ∙ append_assoc h.0 h.1 rest, h.3, records_after Is h.1 rest rs held h.4)
 
 -- records, followed by others
 pub records_joined : {R : Type 0} (Is : List ℕ → R → Type 0) (bytes more : List ℕ) (rs others : List R) (held : List ℕ) → AreRecords Is bytes rs [] → AreRecords Is more others held → AreRecords Is (bytes ++ more) (rs ++ others) held
@@ -128,12 +128,12 @@ none_faulty Is d t s rest f is small (Tag bad e) end fault first more r same h =
     let there : get_or s.held 0 0 ≡ tag_of d = sym (get_or_append_left s.held rest 0 0 bad.0) ∙ ap (λ (x : List ℕ). get_or x 0 0) same ∙ get_or_append_left first more 0 0 long ∙ t.tag first r h in
     bad.1 there
 none_faulty Is d t s rest f is small (Form ge tag (inl bad) e) end fault first more r same h =
-    let size = size_before d s.held rest (length first) ge (size_behind Is d t (s.held ++ rest) first more r same h) in
+    let size = size_before d s.held rest (length first) ge (size_after Is d t (s.held ++ rest) first more r same h) in
     no_size d s.held (length first) bad size
 none_faulty Is d t s rest f is small (Form ge tag (inr whole) e) end fault first more r same h =
     let all = s.held ++ rest in
     let size : Announces d all (length s.held) = size_kept d s.held rest (length s.held) ge whole in
-    let cut = same_cut s.held first rest more (one_size d all (length s.held) (length first) small size (size_behind Is d t all first more r same h)) same in
+    let cut = same_cut s.held first rest more (one_size d all (length s.held) (length first) small size (size_after Is d t all first more r same h)) same in
     t.sound s r f is (bytes-front s.held rest small) (subst (λ (x : List ℕ). Is x r) (sym cut.0) h) fault
 
 no_record_left : {R : Type 0} (Is : List ℕ → R → Type 0) (d : Direction) → AreTold Is d → (over : Bool) (s : ReaderState) (rest : List ℕ) (f : Option LinkFault) → s.direction ≡ d → AreBytes (s.held ++ rest) → ComesTo over s rest f → NoRecord Is (s.held ++ rest)
@@ -142,8 +142,8 @@ no_record_left Is d t over s rest (Some f) is small c = none_faulty Is d t s res
 
 pub whatever_the_pieces : {R : Type 0} (Is : List ℕ → R → Type 0) (d : Direction) → AreTold Is d → (stream : List ℕ) (over : Bool) (steps others : List (ReaderStep R)) (s t : ReaderState) (f g : Option LinkFault) → AreBytes stream → RunsOver Is d stream over steps s f → RunsOver Is d stream over others t g → (given steps ≡ given others) × (f ≡ g) × (f ≡ None → s.held ≡ t.held)
 whatever_the_pieces Is d told stream over steps others s t f g small a b =
-    let first : AreRecords Is stream (given steps) (s.held ++ a.rest) = subst (λ (x : List ℕ). AreRecords Is x (given steps) (s.held ++ a.rest)) a.stream_is (records_behind Is (bytes_taken steps) a.rest (given steps) s.held (nothing_is_lost Is d steps s a.leads)) in
-    let second : AreRecords Is stream (given others) (t.held ++ b.rest) = subst (λ (x : List ℕ). AreRecords Is x (given others) (t.held ++ b.rest)) b.stream_is (records_behind Is (bytes_taken others) b.rest (given others) t.held (nothing_is_lost Is d others t b.leads)) in
+    let first : AreRecords Is stream (given steps) (s.held ++ a.rest) = subst (λ (x : List ℕ). AreRecords Is x (given steps) (s.held ++ a.rest)) a.stream_is (records_after Is (bytes_taken steps) a.rest (given steps) s.held (nothing_is_lost Is d steps s a.leads)) in
+    let second : AreRecords Is stream (given others) (t.held ++ b.rest) = subst (λ (x : List ℕ). AreRecords Is x (given others) (t.held ++ b.rest)) b.stream_is (records_after Is (bytes_taken others) b.rest (given others) t.held (nothing_is_lost Is d others t b.leads)) in
     let up = direction_kept Is (empty d) steps s a.leads in
     let down = direction_kept Is (empty d) others t b.leads in
     let here = held_bytes Is stream (given steps) (s.held ++ a.rest) small first in

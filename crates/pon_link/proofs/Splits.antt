@@ -18,10 +18,10 @@ get_front (suc n) k [] lt = refl
 get_front (suc n) zero (x ∷ xs) lt = refl
 get_front (suc n) (suc k) (x ∷ xs) lt = get_front n k xs (omega (arith, lt))
 
-get_behind : (n k : ℕ) (xs : List Alloc) → slice_get (drop n xs) k ≡ slice_get xs (n + k)
-get_behind zero k xs = let e : 0 + k ≡ k = omega arith in ap (λ (i : ℕ). slice_get xs i) (sym e)
-get_behind (suc n) k [] = refl
-get_behind (suc n) k (x ∷ xs) = let e : suc n + k ≡ suc (n + k) = omega arith in get_behind n k xs ∙ ap (λ (i : ℕ). slice_get (x ∷ xs) i) (sym e)
+get_after : (n k : ℕ) (xs : List Alloc) → slice_get (drop n xs) k ≡ slice_get xs (n + k)
+get_after zero k xs = let e : 0 + k ≡ k = omega arith in ap (λ (i : ℕ). slice_get xs i) (sym e)
+get_after (suc n) k [] = refl
+get_after (suc n) k (x ∷ xs) = let e : suc n + k ≡ suc (n + k) = omega arith in get_after n k xs ∙ ap (λ (i : ℕ). slice_get (x ∷ xs) i) (sym e)
 
 -- ---- the first series
 
@@ -48,9 +48,9 @@ pub keeps_later : (rows : List Alloc) (len : ℕ) → KeepsSeries rows → conti
 keeps_later rows len keeps stops =
     let at : len + 0 ≡ len = omega arith in
     record {
-      first = ap continues (get_behind len 0 rows ∙ ap (λ (i : ℕ). slice_get rows i) at) ∙ stops;
+      first = ap continues (get_after len 0 rows ∙ ap (λ (i : ℕ). slice_get rows i) at) ∙ stops;
       short = λ k all. keeps.short (len + k) (λ j lt. (let e : len + (k + j) ≡ len + k + j = omega arith in
-          sym (ap continues (get_behind len (k + j) rows ∙ ap (λ (i : ℕ). slice_get rows i) e)) ∙ all j lt));
+          sym (ap continues (get_after len (k + j) rows ∙ ap (λ (i : ℕ). slice_get rows i) e)) ∙ all j lt));
     }
 
 pub one_more : (rows : List Alloc) (len : ℕ) → GoesOn rows len → continues (slice_get rows len) ≡ true → GoesOn rows (len + 1)

@@ -14,10 +14,10 @@ use Rattle.pon_link.proofs.Reports.{reports_more}
 -- one more report is written
 pub report_written : (bytes report more : List ℕ) (os : List (Option ℕ)) (o : Option ℕ) (i : ℕ) → 14 ≤ length bytes → more ≡ bytes ++ report → i < length os → get_or os i o ≡ o → ReadsReports (drop 14 bytes) (take i os) → ReadsReport report o → ReadsReports (drop 14 more) (take (i + 1) os)
 report_written bytes report more os o i long is lt here h r =
-    let behind : drop 14 bytes ++ report ≡ drop 14 more = sym (ap (λ (t : List ℕ). drop 14 t) is ∙ drop-append-le 14 bytes report long) in
+    let after : drop 14 bytes ++ report ≡ drop 14 more = sym (ap (λ (t : List ℕ). drop 14 t) is ∙ drop-append-le 14 bytes report long) in
     let grown : take i os ++ o ∷ [] ≡ take (i + 1) os = ap (λ (x : Option ℕ). take i os ++ x ∷ []) (sym here) ∙ sym (take_more os i o lt) in
     subst (λ (t : List (Option ℕ)). ReadsReports (drop 14 more) t) grown
-    (subst (λ (t : List ℕ). ReadsReports t (take i os ++ o ∷ [])) behind (reports_more (drop 14 bytes) report (take i os) o h r))
+    (subst (λ (t : List ℕ). ReadsReports t (take i os ++ o ∷ [])) after (reports_more (drop 14 bytes) report (take i os) o h r))
 
 -- the first 14 bytes of a record
 abbrev pub front : ℕ → BurstHead → ℕ → List ℕ

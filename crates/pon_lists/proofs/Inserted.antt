@@ -44,8 +44,8 @@ module _ {X : Type 0} (p : X → Bool) (x : X) (xs : List X) (whole : filter p x
   -- its place is after the elements that pass the test
   pub insert_inserted : (k : ℕ) → k ≡ count_by p xs → insert xs k x ≡ with_inserted p x xs
   insert_inserted k place =
-      let behind : k ≡ length (filter p xs) = place ∙ sym (length-filter p xs) in
-      (λ i. take (behind i) (sym whole i) ++ x ∷ drop (behind i) (sym whole i))
+      let after : k ≡ length (filter p xs) = place ∙ sym (length-filter p xs) in
+      (λ i. take (after i) (sym whole i) ++ x ∷ drop (after i) (sym whole i))
       ∙ (λ i. take-append_seam (filter p xs) (filter (λ y. not (p y)) xs) i ++ x ∷ drop-append_seam (filter p xs) (filter (λ y. not (p y)) xs) i)
 
   pub length-inserted : length (with_inserted p x xs) ≡ length xs + 1

@@ -9,7 +9,7 @@ kept_items kept.Nothing = None
 kept_items (kept.Items items) = Some items.items
 kept_items kept.Lost = None
 
--- one more item is kept behind the others, or all are given up since memory is refused; if none are kept, none is
+-- one more item is kept after the others, or all are given up since memory is refused; if none are kept, none is
 abbrev pub AddsTo : {T : Type 0} → Option (List T) → T → Option (List T) → Type 0
 AddsTo None item new = new ≡ None
 AddsTo (Some items) item new = (new ≡ Some (items ++ item ∷ [])) ⊎ (new ≡ None)

@@ -181,7 +181,7 @@ fn write_batch<W: DevWrite>(
 /// `olt plan` with settings of the same first frame, gap and profile and no rows, if its remainders are carried; those of
 /// a later chapter are comments. It ends at the end of the recording, or at the first fault of its format.
 ///
-/// `Read` exactly if the reader fails, `Write` exactly if the writer fails, `Memory` if memory is refused.
+/// `Read` exactly when the reader fails, `Write` exactly when the writer fails, `Memory` if memory is refused.
 pub fn write_dump<R: DevRead, W: DevWrite>(
     rt: &(impl Threads + Sync),
     alloc: Global,

@@ -189,7 +189,7 @@ fn found_after(
 /// port in it without a port, and the last map of the port without a frame. It is the first one, if two maps are of the
 /// frame. Returns the verdict of the audit, and the map or what is missing.
 ///
-/// `Read` exactly if the reader fails, `Memory` if memory is refused.
+/// `Read` exactly when the reader fails, `Memory` if memory is refused.
 pub(crate) fn find_map<R: DevRead>(
     rt: &(impl Threads + Sync),
     alloc: Global,

@@ -112,7 +112,7 @@ fn draw_loads(
 /// entry, and the recording up to the first fault of its format. It is judged by the way, in as many threads as there are
 /// processors; returns the verdict of the audit, and the picture or what is missing.
 ///
-/// `Read` exactly if the reader fails, `Memory` if memory is refused or a sum is 2^64 or more.
+/// `Read` exactly when the reader fails, `Memory` if memory is refused or a sum is 2^64 or more.
 pub fn loads_of<R: DevRead>(
     rt: &(impl Threads + Sync),
     alloc: Global,

@@ -71,7 +71,7 @@ fn draw(alloc: Global, found: &FoundMap) -> Result<Option<Picture>, AllocError> 
 /// without a frame. A recording that is not good is drawn as it stands, up to the first fault of its format. Returns the
 /// verdict of its audit, and the picture or what is missing.
 ///
-/// `Read` exactly if the reader fails, `Memory` if memory is refused.
+/// `Read` exactly when the reader fails, `Memory` if memory is refused.
 pub fn picture_of<R: DevRead>(
     rt: &(impl Threads + Sync),
     alloc: Global,

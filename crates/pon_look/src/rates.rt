@@ -144,7 +144,7 @@ fn write_ports<W: DevWrite>(
 /// fault of its format, and judged while it is summed up, in as many threads as there are processors. Returns the verdict of the
 /// audit, and what is missing.
 ///
-/// `Read` exactly if the reader fails, `Write` exactly if the writer fails, `Memory` if memory is refused or a sum is 2^64 or
+/// `Read` exactly when the reader fails, `Write` exactly when the writer fails, `Memory` if memory is refused or a sum is 2^64 or
 /// more.
 pub fn write_rates<R: DevRead, W: DevWrite>(
     rt: &(impl Threads + Sync),

@@ -207,7 +207,7 @@ fn add_batch(
 /// Sums up the wanted maps of a recording, up to its end or the first fault of its format, and judges it by the way. Returns
 /// the verdict of the audit, and the tallies.
 ///
-/// `Read` exactly if the reader fails, `Memory` if memory is refused or a sum is 2^64 or more.
+/// `Read` exactly when the reader fails, `Memory` if memory is refused or a sum is 2^64 or more.
 pub(crate) fn sum_up<R: DevRead>(
     rt: &(impl Threads + Sync),
     alloc: Global,

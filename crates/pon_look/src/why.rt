@@ -161,7 +161,7 @@ fn answer_by<W: DevWrite>(
 /// from which its words follow, and its structure. The recording is read up to its end or the first fault of its format.
 /// Returns the verdict of its audit, and what is missing.
 ///
-/// `Read` exactly if the reader fails, `Write` exactly if the writer fails, `Memory` if memory is refused.
+/// `Read` exactly when the reader fails, `Write` exactly when the writer fails, `Memory` if memory is refused.
 pub fn write_why<R: DevRead, W: DevWrite>(
     rt: &(impl Threads + Sync),
     alloc: Global,

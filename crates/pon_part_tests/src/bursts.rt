@@ -139,8 +139,8 @@ fn lays_what_pack_writes(rt: HostRuntime) {
     assert!(rt; lays(rt.alloc(), &packed_three()) == Some(true));
 }
 
-// Lays no grants and then one behind a structure, and returns whether each call appended its structures.
-fn lays_behind(alloc: Global) -> Option<bool> {
+// Lays no grants and then one after a structure, and returns whether each call appended its structures.
+fn lays_after(alloc: Global) -> Option<bool> {
     let mut laid = Vec::with_capacity(alloc, 2).ok()?;
     laid.push_reserved(blank());
     lay_bursts(gap(), profile(), &[], &mut laid);
@@ -151,6 +151,6 @@ fn lays_behind(alloc: Global) -> Option<bool> {
 }
 
 #[test]
-fn lays_behind_what_is_there(rt: HostRuntime) {
-    assert!(rt; lays_behind(rt.alloc()) == Some(true));
+fn lays_after_what_is_there(rt: HostRuntime) {
+    assert!(rt; lays_after(rt.alloc()) == Some(true));
 }

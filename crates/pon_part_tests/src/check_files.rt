@@ -295,9 +295,9 @@ fn unread_of_many(alloc: Global, count: usize) -> Option<usize> {
 }
 
 #[test]
-fn nothing_is_read_behind_a_513th_item(rt: HostRuntime) {
-    let behind = b"item 1 0\n".len() * 87 + b"level 5/1\nsaturated -\n".len();
-    assert!(rt; unread_of_many(rt.alloc(), 600) == Some(behind));
+fn nothing_is_read_after_a_513th_item(rt: HostRuntime) {
+    let after = b"item 1 0\n".len() * 87 + b"level 5/1\nsaturated -\n".len();
+    assert!(rt; unread_of_many(rt.alloc(), 600) == Some(after));
 }
 
 // Appends a whole file and 20,000 empty lines.
@@ -330,8 +330,8 @@ fn push_index(alloc: Global, input: &mut Vec<u8>, index: u64) -> Result<(), Allo
     input.extend_from_slice(digits.as_bytes())
 }
 
-// Appends a file whose set has 512 indexes of 20 digits, followed by `behind`.
-fn push_longest_set(alloc: Global, input: &mut Vec<u8>, behind: &[u8]) -> Result<(), AllocError> {
+// Appends a file whose set has 512 indexes of 20 digits, followed by `after`.
+fn push_longest_set(alloc: Global, input: &mut Vec<u8>, after: &[u8]) -> Result<(), AllocError> {
     input.extend_from_slice(b"surplus 0\n")?;
     for _ in 0..512 {
         input.extend_from_slice(b"item 1 0\n")?;
@@ -340,27 +340,27 @@ fn push_longest_set(alloc: Global, input: &mut Vec<u8>, behind: &[u8]) -> Result
     for index in 0..512u64 {
         push_index(alloc, input, index)?;
     }
-    input.extend_from_slice(behind)
+    input.extend_from_slice(after)
 }
 
 // Returns whether the file with the longest set is answered by this text.
-fn is_told_of_longest(alloc: Global, behind: &[u8], text: &[u8]) -> Option<bool> {
+fn is_told_of_longest(alloc: Global, after: &[u8], text: &[u8]) -> Option<bool> {
     let mut input = Vec::new(alloc);
-    push_longest_set(alloc, &mut input, behind).ok()?;
+    push_longest_set(alloc, &mut input, after).ok()?;
     is_answered(alloc, &input, 4096, text)
 }
 
 #[test]
 fn the_longest_line_fits(rt: HostRuntime) {
-    for (behind, text) in [
+    for (after, text) in [
         (b"\r\n".as_slice(), b"yes\n".as_slice()),
         (b"\r", b"yes\n"),
         (b"\r\r\n", b"no Syntax 515\n"),
         (b"0\n", b"no Syntax 515\n"),
     ] {
         assert!(rt;
-            is_told_of_longest(rt.alloc(), behind, text) == Some(true),
-            "{behind:?}"
+            is_told_of_longest(rt.alloc(), after, text) == Some(true),
+            "{after:?}"
         );
     }
 }

@@ -51,7 +51,7 @@ impl Plant {
 
     /// Opens a port for each configuration and first frame, numbered from 0 in this order.
     ///
-    /// `Ports` exactly if there are none or more than 64; `Memory` only if memory is refused.
+    /// `Ports` exactly when there are none or more than 64; `Memory` only if memory is refused.
     pub fn open(alloc: Global, ports: &[(PortCfg, FrameNo)]) -> Result<Plant, PlantFault>
         ensures ok { IfOk result (λ plant. plant ≡ opened_ports ports.now) }
         ensures size { IfOk result (λ plant. IsPlantSize (length ports.now)) }
@@ -72,7 +72,7 @@ impl Plant {
         self.ports.len()
     }
 
-    /// Returns the port with this number. `None` exactly if the plant has no such port.
+    /// Returns the port with this number. `None` exactly when the plant has no such port.
     pub fn port(&self, port: PortNo) -> Option<&Port>
         ensures { MatchOption result (length self.now ≤ port)
             (λ p. slice_get self.now port ≡ Some p.now) }
@@ -82,7 +82,7 @@ impl Plant {
 
     /// Takes the event of a step at its port.
     ///
-    /// Returns `NoSuchPort` exactly if the plant has no such port; `Refused` with the first refusal of the event, or
+    /// Returns `NoSuchPort` exactly when the plant has no such port; `Refused` with the first refusal of the event, or
     /// with `OutOfMemory` if no check refuses but memory does. Only an accepted step changes the plant, and only its
     /// own port.
     pub fn step(&mut self, step: Step) -> Result<Reply, StepFault>
@@ -152,7 +152,7 @@ impl Plant {
 
     /// Turns a port: returns its chapter, and begins the next one in the same state.
     ///
-    /// Returns `NoSuchPort` exactly if the plant has no such port; otherwise `Refused` with `ChapterFull` exactly if the
+    /// Returns `NoSuchPort` exactly when the plant has no such port; otherwise `Refused` with `ChapterFull` exactly when the
     /// chapter has the last number (2^64 - 1), or with `OutOfMemory`, only if memory is refused. Then nothing has changed.
     pub fn turn(&mut self, port: PortNo) -> Result<Chapter, StepFault>
         ensures ok { IfOk result (λ chapter. TurnsPort self.old port chapter self.new) }

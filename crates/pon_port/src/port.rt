@@ -249,7 +249,7 @@ impl Port {
     /// Turns the port: returns the kept chapter, and begins the next one, which opens with the present state. No entry is
     /// copied.
     ///
-    /// `ChapterFull` exactly if the kept chapter has the last number (2^64 - 1); otherwise `OutOfMemory`, only if memory
+    /// `ChapterFull` exactly when the kept chapter has the last number (2^64 - 1); otherwise `OutOfMemory`, only if memory
     /// for the opening is refused. After a refusal nothing has changed.
     pub fn turn(&mut self) -> Result<Chapter, Refusal>
         ensures ok { IfOk result (λ chapter. Turns self.old chapter self.new) }

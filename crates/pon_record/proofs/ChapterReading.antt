@@ -22,10 +22,10 @@ module _ {A : Type 0} (f : Format A) where
   tagged_value b = Some ((CHAPTER_TAG, b.0), b.1)
 
   -- what is read after the tag and the length
-  abbrev behind_head : ℕ → List ℕ → Option ((ℕ × A) × List ℕ)
-  behind_head size rest = cond (ltb (length rest) size) None (all_of (f.read (take size rest)) >>= λ x. sized_value x (drop size rest)) >>= tagged_value
+  abbrev after_head : ℕ → List ℕ → Option ((ℕ × A) × List ℕ)
+  after_head size rest = cond (ltb (length rest) size) None (all_of (f.read (take size rest)) >>= λ x. sized_value x (drop size rest)) >>= tagged_value
 
-  with_head : (tag : ℕ) (more : List ℕ) → 4 ≤ length more → tag ≡ CHAPTER_TAG → tagged.read (tag ∷ more) ≡ behind_head (from_be_bytes w32 (take 4 more)) (drop 4 more)
+  with_head : (tag : ℕ) (more : List ℕ) → 4 ≤ length more → tag ≡ CHAPTER_TAG → tagged.read (tag ∷ more) ≡ after_head (from_be_bytes w32 (take 4 more)) (drop 4 more)
   with_head tag more long is =
       let one : ltb (length (tag ∷ more)) 1 ≡ false = le-ltb (length (tag ∷ more)) 1 (omega arith) in
       let four : ltb (length more) 4 ≡ false = le-ltb (length more) 4 long in
@@ -41,7 +41,7 @@ module _ {A : Type 0} (f : Format A) where
       let after : drop (length piece) (drop 4 more) ≡ drop (5 + length piece) (b ∷ more)
       = drop-drop (length piece) 4 more ∙ drop-drop (4 + length piece) 1 (b ∷ more) ∙ ap (λ (n : ℕ). drop n (b ∷ more)) five in
       with_head b more (omega (arith, within)) tag
-      ∙ ap (λ (n : ℕ). behind_head n (drop 4 more)) (sym size)
+      ∙ ap (λ (n : ℕ). after_head n (drop 4 more)) (sym size)
       ∙ rw (inside, whole, e, after) refl
 
 -- a chapter whose body is read begins the bytes

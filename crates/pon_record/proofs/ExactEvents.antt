@@ -47,9 +47,9 @@ abbrev IsFrom : ℕ → List ℕ → Event × List ℕ → Type 0
 IsFrom t bytes x = EventFits x.0 × (t ∷ bytes ≡ event_bytes x.0 ++ x.1)
 
 -- the fields after a tag
-behind : {A : Type 0} (f : Format A) → IsExact f → (make : A → Event) (t : ℕ) → ((a : A) → f.Fits a → EventFits (make a)) → ((a : A) → event_bytes (make a) ≡ t ∷ f.write a) →
+after_tag : {A : Type 0} (f : Format A) → IsExact f → (make : A → Event) (t : ℕ) → ((a : A) → f.Fits a → EventFits (make a)) → ((a : A) → event_bytes (make a) ≡ t ∷ f.write a) →
     (bytes : List ℕ) (x : Event × List ℕ) → AreBytes bytes → (f.read bytes >>= λ a. Some (make a.0, a.1)) ≡ Some x → IsFrom t bytes x
-behind f F make t fits writes bytes x h e =
+after_tag f F make t fits writes bytes x h e =
     let a = bind_some (f.read bytes) (λ a. Some (make a.0, a.1)) x e in
     let s = F.takes bytes a.0.0 a.0.1 h a.1 in
     subst (IsFrom t bytes) (some_is (make a.0.0, a.0.1) x a.2) (fits a.0.0 s.0, ap (λ b. t ∷ b) s.1 ∙ ap (λ b. b ++ a.0.1) (sym (writes a.0.0)))
@@ -64,17 +64,17 @@ event_takes : (t : ℕ) (bytes : List ℕ) (x : Event × List ℕ) → AreBytes 
     (cond b6 (cause.read bytes >>= λ a. Some (Fail a.0, a.1))
     (cond b7 (Some (Restore, bytes)) None)))))) ≡ Some x → IsFrom t bytes x
 event_takes t bytes x h true b2 b3 b4 b5 b6 b7 e1 e2 e3 e4 e5 e6 e7 e =
-    rw (eqb-true t 1 e1) (behind admit_fields exact_admit (λ a. Admit (record { onu = a.0; alloc_id = a.1.0; descriptor = a.1.1 })) 1 (λ a f. f) (λ a. refl) bytes x h e)
+    rw (eqb-true t 1 e1) (after_tag admit_fields exact_admit (λ a. Admit (record { onu = a.0; alloc_id = a.1.0; descriptor = a.1.1 })) 1 (λ a f. f) (λ a. refl) bytes x h e)
 event_takes t bytes x h false true b3 b4 b5 b6 b7 e1 e2 e3 e4 e5 e6 e7 e =
-    rw (eqb-true t 2 e2) (behind change_fields exact_change (λ a. Change a.0 a.1) 2 (λ a f. f) (λ a. refl) bytes x h e)
+    rw (eqb-true t 2 e2) (after_tag change_fields exact_change (λ a. Change a.0 a.1) 2 (λ a f. f) (λ a. refl) bytes x h e)
 event_takes t bytes x h false false true b4 b5 b6 b7 e1 e2 e3 e4 e5 e6 e7 e =
-    rw (eqb-true t 3 e3) (behind alloc_id exact_alloc (λ a. Remove a) 3 (λ a f. f) (λ a. refl) bytes x h e)
+    rw (eqb-true t 3 e3) (after_tag alloc_id exact_alloc (λ a. Remove a) 3 (λ a f. f) (λ a. refl) bytes x h e)
 event_takes t bytes x h false false false true b5 b6 b7 e1 e2 e3 e4 e5 e6 e7 e =
-    rw (eqb-true t 4 e4) (behind report_fields exact_told (λ a. Report a.0 a.1.0 a.1.1) 4 (λ a f. f) (λ a. refl) bytes x h e)
+    rw (eqb-true t 4 e4) (after_tag report_fields exact_told (λ a. Report a.0 a.1.0 a.1.1) 4 (λ a f. f) (λ a. refl) bytes x h e)
 event_takes t bytes x h false false false false true b6 b7 e1 e2 e3 e4 e5 e6 e7 e =
     rw (eqb-true t 5 e5) (subst (IsFrom 5 bytes) (some_is (MakeMap, bytes) x e) (tt, refl))
 event_takes t bytes x h false false false false false true b7 e1 e2 e3 e4 e5 e6 e7 e =
-    rw (eqb-true t 6 e6) (behind cause exact_cause (λ a. Fail a) 6 (λ a f. f) (λ a. refl) bytes x h e)
+    rw (eqb-true t 6 e6) (after_tag cause exact_cause (λ a. Fail a) 6 (λ a f. f) (λ a. refl) bytes x h e)
 event_takes t bytes x h false false false false false false true e1 e2 e3 e4 e5 e6 e7 e =
     rw (eqb-true t 7 e7) (subst (IsFrom 7 bytes) (some_is (Restore, bytes) x e) (tt, refl))
 event_takes t bytes x h false false false false false false false e1 e2 e3 e4 e5 e6 e7 e = absurd cc

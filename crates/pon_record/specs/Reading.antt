@@ -4,7 +4,7 @@ use Rattle.pon_record.specs.declared.fault.Malformed.{Malformed}
 use Rattle.pon_record.specs.declared.fault.Stop.{Stop}
 use Rattle.pon_record.specs.declared.fault.Stop.TheVariants as stop
 
--- the value that is read, seen by `view`; an error exactly if there is none
+-- the value that is read, seen by `view`; an error exactly when there is none
 abbrev pub Reads : {X Y : Type 0} → (X → Y) → Result X Malformed → Option Y → Type 0
 Reads view (Ok x) read = read ≡ Some (view x)
 Reads view (Err e) read = read ≡ None

@@ -42,7 +42,7 @@ impl Model for ChapterReader {
 impl ChapterReader {
     /// Reads the magic bytes, and no further.
     ///
-    /// `BadFormat` and `Truncated` at 0 only for the magic bytes. `Read` exactly if the device fails. `Memory` if memory is
+    /// `BadFormat` and `Truncated` at 0 only for the magic bytes. `Read` exactly when the device fails. `Memory` if memory is
     /// refused.
     pub fn open<R: DevRead>(alloc: Global, reader: &mut R) -> Result<ChapterReader, StreamFault>
         ensures opens { (bytes : List ℕ) → R.remaining reader.old ≡ Some bytes
@@ -69,8 +69,8 @@ impl ChapterReader {
     /// Reads the next chapter; `None` at the end of the device.
     ///
     /// A wrong tag is returned without reading on, and memory is taken only for bytes that the device gave, whatever the
-    /// length in a head says. `Read` exactly if the device fails. `Memory` if memory is refused, or if the place of the
-    /// chapter behind this one is 2^64 or more. After an `Err` the place of the device in the recording is not known.
+    /// length in a head says. `Read` exactly when the device fails. `Memory` if memory is refused, or if the place of the
+    /// chapter after this one is 2^64 or more. After an `Err` the place of the device in the recording is not known.
     pub fn next<R: DevRead>(
         &mut self,
         alloc: Global,

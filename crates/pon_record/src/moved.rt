@@ -1,4 +1,4 @@
-//! Functions that append a chapter of version one as one of version two: rule one, and a carry of 0 behind each row. The
+//! Functions that append a chapter of version one as one of version two: rule one, and a carry of 0 after each row. The
 //! other bytes stay as they are. Each returns `Err` only if memory is refused.
 
 ghost use Rattle.std.specs.Prelude.{◌≡◌, ◌∷◌, ◌++◌, ◌<◌, ◌^◌, All, OnOk};

@@ -11,7 +11,7 @@ use std::alloc::Global;
 
 /// Reads the chapters of a recording of either version.
 ///
-/// `Ok` exactly if the bytes are the magic bytes of a version and then whole chapters of it, one after another, with each
+/// `Ok` exactly when the bytes are the magic bytes of a version and then whole chapters of it, one after another, with each
 /// field in its range. An `Err` is the fault of the first chapter that has one. `Truncated` if the bytes end inside the
 /// magic bytes, or inside a chapter that begins with its tag, whatever its body. `BadFormat` for wrong magic bytes, a wrong
 /// tag, a field out of its range, a refused descriptor, or a body that does not end where its length says. `Memory` if

@@ -11,7 +11,7 @@ const FIRST_OF_THREE: [u8; 43] = [
     0, 0, 0, 0, 0, 0, 0, 0, 0, 0, 0, 0, 0, 0, 0x02, 0xff,
 ];
 
-// Size of the certificate without the bytes behind it.
+// Size of the certificate without the bytes after it.
 const SIZE: usize = 41;
 
 fn at(num: u64, den: u64) -> Level

@@ -35,7 +35,7 @@ fn insert(rt: &impl Abort, bytes: &mut Vec<u8>, at: usize, byte: u8) {
     bytes.insert(at, byte).expect(rt, "memory");
 }
 
-// Returns `ALL_FIELDS` in version two: its magic byte, the longer body, the rule, and a carry behind each of its two rows.
+// Returns `ALL_FIELDS` in version two: its magic byte, the longer body, the rule, and a carry after each of its two rows.
 fn all_fields_in_version_two(rt: &impl Abort, alloc: Global) -> Vec<u8> {
     let mut bytes = bytes(rt, alloc, ALL_FIELDS);
     assert!(rt; bytes.len() > 120);

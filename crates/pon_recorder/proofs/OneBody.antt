@@ -26,7 +26,7 @@ none_above n (m ∷ ns) h i le =
 least_in : (n : ℕ) (ns : List ℕ) → list_any (λ j. j == n) (n ∷ ns) ≡ true
 least_in n ns = or_left (n == n) (list_any (λ j. j == n) ns) (eq-eqb n n refl)
 
--- a lesser number than all is not among them
+-- a smaller number than all is not among them
 not_least : (m n : ℕ) (ns : List ℕ) → All (λ k. n < k) ns → m < n → list_any (λ j. j == m) (n ∷ ns) ≡ false
 not_least m n ns h lt = ap (λ b. b || list_any (λ j. j == m) ns) (ne_eqb n m (λ e. absurd (omega (arith, e, lt)))) ∙ none_above n ns h m (omega (arith, lt))
 

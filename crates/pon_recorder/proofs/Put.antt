@@ -11,8 +11,8 @@ use Rattle.pon_record.specs.Events.{event}
 use Rattle.pon_record.specs.MadeMaps.{map}
 use Rattle.pon_recorder.specs.EventParts.{event_fields, event_tag}
 
-pub behind : (old a b x y : List ℕ) → x ≡ old ++ a → y ≡ x ++ b → y ≡ old ++ (a ++ b)
-behind old a b x y first second = second ∙ ap (λ (l : List ℕ). l ++ b) first ∙ append_assoc old a b
+pub put_after : (old a b x y : List ℕ) → x ≡ old ++ a → y ≡ x ++ b → y ≡ old ++ (a ++ b)
+put_after old a b x y first second = second ∙ ap (λ (l : List ℕ). l ++ b) first ∙ append_assoc old a b
 
 -- the tag of an event and its fields are its bytes
 pub tagged : (e : Event) → to_be_bytes w8 (event_tag e) ++ event_fields e ≡ event.write e

@@ -9,12 +9,12 @@ use Rattle.pon_recorder.specs.Rings.{AreRingsOf, out_at}
 use Rattle.pon_recorder.specs.declared.rings.PortRing.{PortRing}
 
 -- the ring of the port that comes after these
-out_behind : (rs : List PortRing) (r : PortRing) (more : List PortRing) → out_at (rs ++ r ∷ more) (length rs) ≡ r.out
-out_behind [] r more = refl
-out_behind (x ∷ rs) r more = out_behind rs r more
+out_after : (rs : List PortRing) (r : PortRing) (more : List PortRing) → out_at (rs ++ r ∷ more) (length rs) ≡ r.out
+out_after [] r more = refl
+out_after (x ∷ rs) r more = out_after rs r more
 
 out_next : (all rs more : List PortRing) (r : PortRing) → rs ++ r ∷ more ≡ all → out_at all (length rs) ≡ r.out
-out_next all rs more r are = subst (λ (l : List PortRing). out_at l (length rs) ≡ r.out) are (out_behind rs r more)
+out_next all rs more r are = subst (λ (l : List PortRing). out_at l (length rs) ≡ r.out) are (out_after rs r more)
 
 -- the ring of the next port is named
 pub ring_here : (ring : ℕ → Option RingOut) (all rs left more : List PortRing) (r : PortRing) (port : ℕ) → AreRingsOf ring all → rs ++ left ≡ all → left ≡ r ∷ more → port ≡ length rs → ring port ≡ r.out

@@ -38,14 +38,14 @@ IsTaken (Err Device) = Unit {0}
 IsTaken (Err Busy) = ⊥
 IsTaken (Err Memory) = ⊥
 
--- one more failure exactly if the device failed, modulo 2 ^ 64
+-- one more failure exactly when the device failed, modulo 2 ^ 64
 abbrev pub CountsDevice : {T : Type 0} → ℕ → ℕ → Result T RecordFault → Type 0
 CountsDevice old new (Ok t) = new ≡ old
 CountsDevice old new (Err Device) = new ≡ (old + 1) % 2 ^ 64
 CountsDevice old new (Err Busy) = new ≡ old
 CountsDevice old new (Err Memory) = new ≡ old
 
--- one more failure exactly if some of the magic bytes are left
+-- one more failure exactly when some of the magic bytes are left
 abbrev pub CountsOpening : ℕ → ℕ → List ℕ → Type 0
 CountsOpening old new [] = new ≡ old
 CountsOpening old new (b ∷ bs) = new ≡ (old + 1) % 2 ^ 64

@@ -4,7 +4,7 @@
 //!
 //! A [`RecordFile`] writes the format of `pon_record`. It keeps the bytes that a failed device did not take, and writes
 //! them before anything else. The worker of a port passes each full chapter to the sink of the port, and the recorder
-//! takes it out of the ring behind that sink, in a thread of its own. At the end the recorder takes what is left in each
+//! takes it out of the ring after that sink, in a thread of its own. At the end the recorder takes what is left in each
 //! sink, and the chapter that each port keeps. No worker waits for it: a chapter that the file does not take is dropped
 //! and counted. The crate opens no file, starts no thread and decides nothing about a port.
 #![tactic(auto)]

@@ -54,8 +54,8 @@ impl<W: DevWrite + Drop> RecordFile<W> {
 
     /// Appends a chapter of a port. After `Ok` nothing is left.
     ///
-    /// Returns `Busy` exactly if bytes from earlier calls are left, and `Memory` if memory is refused; neither changes
-    /// anything. Returns `Device` exactly if the device failed in this call: the chapter is taken, and the bytes of it
+    /// Returns `Busy` exactly when bytes from earlier calls are left, and `Memory` if memory is refused; neither changes
+    /// anything. Returns `Device` exactly when the device failed in this call: the chapter is taken, and the bytes of it
     /// that were not written are left.
     pub fn append(&mut self, port: PortNo, chapter: &Chapter) -> Result<(), RecordFault>
         ensures ok { OnOk result (self.new.left ≡ []) }
@@ -88,7 +88,7 @@ impl<W: DevWrite + Drop> RecordFile<W> {
         chapter_bytes(self.alloc, port, chapter)
     }
 
-    /// Writes the next bytes of a recording of which nothing is left. `Failed` exactly if the device failed in this call;
+    /// Writes the next bytes of a recording of which nothing is left. `Failed` exactly when the device failed in this call;
     /// the bytes that it had not taken by then are left.
     pub(crate) fn write_next(&mut self, bytes: Vec<u8>) -> Result<(), Failed>
         requires { self.old.left ≡ [] }
@@ -103,7 +103,7 @@ impl<W: DevWrite + Drop> RecordFile<W> {
         self.pending.push(&mut self.writer)
     }
 
-    /// Writes what is left, and then flushes the device. `Failed` exactly if the device failed in this call; the bytes
+    /// Writes what is left, and then flushes the device. `Failed` exactly when the device failed in this call; the bytes
     /// that it had not taken by then are left.
     pub fn flush(&mut self) -> Result<(), Failed>
         ensures ok { OnOk result (self.new.left ≡ []) }

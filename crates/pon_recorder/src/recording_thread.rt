@@ -33,7 +33,7 @@ pub struct Recording<K: Rings, W> {
     whole: bool,
 }
 
-/// Where the chapters of the ports go: the sink of each, in order, and the recording behind them, if there is one.
+/// Where the chapters of the ports go: the sink of each, in order, and the recording after them, if there is one.
 #[derive(Drop)]
 pub struct Sinks<K: Rings, W> {
     /// The sink of each port, in the order of the ports.

@@ -15,7 +15,7 @@ TriesTurn old new =
     ⊎ ((told : Refusal) × IsSomeTurnRefusal told × (new ≡ old))
 
 -- the turns at a post that was kept with this index: at most one before it, since the chapter was full, and one after it
--- exactly if the sink wants it
+-- exactly when the sink wants it
 pub record TurnsAtPost (old : Sink) (index : ℕ) (new : Sink) : Type 0 where
   pub mid : Option Outlet
   pub before : (mid ≡ old.outlet) ⊎ TriesTurn old.outlet mid

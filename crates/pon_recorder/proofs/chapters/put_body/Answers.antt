@@ -13,7 +13,7 @@ use Rattle.pon_record.specs.Chapters.{entry, port}
 use Rattle.pon_recorder.specs.Bodies.{FitsCounts, HoldsFittingCert, recorded_opening}
 use Rattle.pon_recorder.proofs.FitChapters.{certs_fit, few_entries}
 use Rattle.pon_recorder.proofs.FitOpenings.{opening_counts}
-use Rattle.pon_recorder.proofs.Put.{behind}
+use Rattle.pon_recorder.proofs.Put.{put_after}
 use Rattle.pon_recorder.proofs.chapters.put_body.Goals as goal
 
 pub put_opening-requires : goal.put_opening-requires
@@ -44,7 +44,7 @@ returns c =
     let a1 = a0 ++ port.write c.args.port in
     let a2 = a1 ++ to_be_bytes w64 h.number in
     let opening = (opening_in version.Two r).write (recorded_opening h.opening) in
-    let t1 = behind old a0 (port.write c.args.port) c.put_rule.new.bytes.items c.put_port.new.bytes.items e0 e1 in
-    let t2 = behind old a1 (to_be_bytes w64 h.number) c.put_port.new.bytes.items c.put_u64.new.bytes.items t1 e2 in
-    let t3 = behind old a2 opening c.put_u64.new.bytes.items c.put_opening.new.bytes.items t2 e3 in
-    behind old (a2 ++ opening) ((counted (number w32) MAX_ENTRIES entry).write h.entries) c.put_opening.new.bytes.items c.put_entries.new.bytes.items t3 e4
+    let t1 = put_after old a0 (port.write c.args.port) c.put_rule.new.bytes.items c.put_port.new.bytes.items e0 e1 in
+    let t2 = put_after old a1 (to_be_bytes w64 h.number) c.put_port.new.bytes.items c.put_u64.new.bytes.items t1 e2 in
+    let t3 = put_after old a2 opening c.put_u64.new.bytes.items c.put_opening.new.bytes.items t2 e3 in
+    put_after old (a2 ++ opening) ((counted (number w32) MAX_ENTRIES entry).write h.entries) c.put_opening.new.bytes.items c.put_entries.new.bytes.items t3 e4

@@ -8,7 +8,7 @@ use Rattle.pon_record.specs.declared.version.Version.TheVariants as version
 use Rattle.pon_record.specs.Format.{counted, number}
 use Rattle.pon_record.specs.Openings.{row_in, window_map_under}
 use Rattle.pon_recorder.specs.Bodies.{head_bytes, recorded_row, row_bytes}
-use Rattle.pon_recorder.proofs.Put.{behind}
+use Rattle.pon_recorder.proofs.Put.{put_after}
 use Rattle.pon_recorder.proofs.PutLists.{rows_written}
 use Rattle.pon_recorder.proofs.openings.put_opening.Goals as goal
 
@@ -26,7 +26,7 @@ returns c =
     ∙ (λ i. head ++ to_be_bytes w16 (length (same i)) ++ flat_map (row_bytes (accounts i)) (zip (same i) (carried i)))
     ∙ append_assoc head (to_be_bytes w16 (length s.roster)) (flat_map (row_bytes s.book) (zip s.roster s.carries))
     ∙ ap (λ (bytes : List ℕ). head ++ bytes) (rows_written s.book s.roster s.carries c.requires.carries) in
-    let t1 = behind old (head_bytes s) rows head c.put_all_rows.new.bytes.items c.in_ok-put_head.ensures e1 in
+    let t1 = put_after old (head_bytes s) rows head c.put_all_rows.new.bytes.items c.in_ok-put_head.ensures e1 in
     let maps = (counted (number w8) MAX_MAPS (window_map_under rule.CarryRemainders)).write in
     let e2 = c.in_ok-put_window.ensures ∙ ap (λ (w : List WindowMap). c.put_all_rows.new.bytes.items ++ maps w) (c.window.ensures ∙ c.loads-loads.ensures.window) in
-    behind old (head_bytes s ++ rows) (maps s.window) c.put_all_rows.new.bytes.items c.put_window.new.bytes.items t1 e2
+    put_after old (head_bytes s ++ rows) (maps s.window) c.put_all_rows.new.bytes.items c.put_window.new.bytes.items t1 e2
