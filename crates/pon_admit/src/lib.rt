@@ -2,8 +2,8 @@
 //! assignment, ITU-T G.987.3); the configuration of a port, and the seven events that it may be asked to take.
 //!
 //! A [`Roster`] is always an admitted set, by its type: the overhead of all bursts fits a frame, and the promised rates
-//! fit the remaining words. The sums are kept, so a step costs one or two searches in the rows. An [`Event`] is a value: the
-//! crates above define what it does to a port and when a port refuses it.
+//! fit the remaining words. The sums are kept, so a step costs one or two searches in the rows. An [`Event`] is a
+//! value: the crates above define what it does to a port and when a port refuses it.
 #![tactic(auto)]
 
 mod event;

@@ -1,8 +1,10 @@
 use pon_units::{Gap, Profile};
 
-/// The configuration of a port: the gap before each burst, 1 to 256 words, and the burst profile, 0 to 3.
+/// The configuration of a port.
 #[derive(Clone, Copy, Debug, PartialEq, Eq)]
 pub struct PortCfg {
+    /// The gap before each burst, 1 to 256 words of 4 bytes.
     pub gap: Gap,
+    /// The burst profile, 0 to 3.
     pub profile: Profile,
 }

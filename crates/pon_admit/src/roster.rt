@@ -16,8 +16,8 @@ mod steps;
 pub const RULE_IN_FORCE: Rule = Rule::CarryRemainders;
 
 /// The admitted Alloc-IDs of a port in map order, at all times an admitted set under its rule: at most 512 Alloc-IDs
-/// (256 under [`Rule::DropRemainders`]) of at most 128 ONUs, at most 16 of one ONU, no Alloc-ID twice, and promised rates that fit
-/// the words that the overhead leaves of a frame.
+/// (256 under [`Rule::DropRemainders`]) of at most 128 ONUs, at most 16 of one ONU, no Alloc-ID twice, and promised
+/// rates that fit the words that the overhead leaves of a frame.
 #[derive(Drop)]
 pub struct Roster {
     rule: Rule,
@@ -39,8 +39,12 @@ impl Model for Roster {
 }
 
 impl Roster {
-    /// Opens a roster with no rows, for bursts with this gap before each, under the rule in force, [`Rule::CarryRemainders`]. It
-    /// allocates memory for 512 rows, and fails if that is refused.
+    /// Opens a roster with no rows, for bursts with this gap before each, under the rule in force,
+    /// [`Rule::CarryRemainders`]. It allocates memory for 512 rows.
+    ///
+    /// # Errors
+    ///
+    /// `AllocError` if that memory is refused.
     pub fn open(alloc: Global, gap: Gap) -> Result<Roster, AllocError>
         ensures { IfOk result
             (λ roster. roster ≡ record { rule = rule_in_force; gap = gap; rows = [] }) }
@@ -49,7 +53,11 @@ impl Roster {
     }
 
     /// Opens a roster with no rows, for bursts with this gap before each, under the given rule. It allocates memory for
-    /// the maximum number of rows of the rule, and fails if that is refused.
+    /// the maximum number of rows of the rule.
+    ///
+    /// # Errors
+    ///
+    /// `AllocError` if that memory is refused.
     pub fn open_with(alloc: Global, gap: Gap, rule: Rule) -> Result<Roster, AllocError>
         ensures { IfOk result (λ roster. roster ≡ record { rule = rule; gap = gap; rows = [] }) }
     {
@@ -63,7 +71,11 @@ impl Roster {
         })
     }
 
-    /// Makes an equal roster. It allocates memory for the rows, and fails if that is refused.
+    /// Makes an equal roster. It allocates memory for the rows.
+    ///
+    /// # Errors
+    ///
+    /// `AllocError` if that memory is refused.
     pub fn try_copy(&self, alloc: Global) -> Result<Roster, AllocError>
         ensures { IfOk result (λ roster. roster ≡ self.now) }
     {

@@ -1,11 +1,14 @@
 use pon_descr::Descriptor;
 use pon_units::{AllocId, LINE_RATE, MAX_ALLOC_ID, MAX_ONU_ID, MIN_ALLOC_ID, OnuId};
 
-/// An admitted Alloc-ID, the ONU that owns it, and its descriptor.
+/// An admitted Alloc-ID.
 #[derive(Clone, Copy, Debug, PartialEq, Eq)]
 pub struct Row {
+    /// The ONU that owns it, 0 to 1022.
     pub onu: OnuId,
+    /// The Alloc-ID, 1024 to 16383.
     pub alloc_id: AllocId,
+    /// Its traffic descriptor, with rates in kbit/s.
     pub descriptor: Descriptor,
 }
 

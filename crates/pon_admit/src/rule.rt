@@ -13,7 +13,8 @@ const MAX_ALLOCS: usize = 256;
 pub enum Rule {
     /// At most 256 Alloc-IDs on a port, and one word of overhead for each: its report. Nothing is carried.
     DropRemainders,
-    /// At most 512 Alloc-IDs on a port, and two words of overhead for each: its report, and the word that carries may add.
+    /// At most 512 Alloc-IDs on a port, and two words of overhead for each: its report, and the word that carries may
+    /// add.
     CarryRemainders,
 }
 

@@ -38,11 +38,13 @@ fn write_line<W: DevWrite>(
     }
 }
 
-/// Audits the recording that `reader` gives, and writes the verdict as one line. Returns `true` exactly when the recording is
-/// good.
+/// Audits the recording that `reader` gives, and writes the verdict as one line. Returns `true` exactly when the
+/// recording is good. The writer is flushed once, after the line.
 ///
-/// `Read` exactly when the reader fails, and `Memory` if memory is refused: nothing is written. `Write` if the writer fails: a
-/// prefix of the line is written. The writer is flushed once, after the line.
+/// # Errors
+///
+/// `Read` exactly when the reader fails, and `Memory` if memory is refused: nothing is written. `Write` if the writer
+/// fails: a prefix of the line is written.
 pub fn write_verdict<R: DevRead, W: DevWrite>(
     rt: &(impl Threads + Sync),
     alloc: Global,

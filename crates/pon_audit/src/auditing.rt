@@ -25,15 +25,19 @@ pub struct Auditing {
     audit: Audit,
 }
 
-/// The next chapters of a recording, which are read and judged, and the verdict on it if they are the last.
+/// The next chapters of a recording, which are read and judged.
 #[derive(Drop)]
 pub struct Step {
+    /// The chapters.
     pub batch: Batch,
+    /// The verdict on the recording, if they are its last chapters.
     pub verdict: Option<Verdict>,
 }
 
 impl Auditing {
     /// Reads the magic bytes of a recording; returns the verdict if they are wrong or cut.
+    ///
+    /// # Errors
     ///
     /// `Read` exactly when the device fails. `Memory` if memory is refused.
     pub fn open<R: DevRead>(
@@ -55,7 +59,10 @@ impl Auditing {
 
     /// Reads the next chapters: at most 64, and no further one after as many entries as four full chapters have.
     ///
-    /// `Read` exactly when the device fails. `Memory` if memory is refused, or if the place of a chapter is 2^64 or more.
+    /// # Errors
+    ///
+    /// `Read` exactly when the device fails. `Memory` if memory is refused, or if the place of a chapter is 2^64 or
+    /// more.
     pub fn read<R: DevRead>(&mut self, alloc: Global, reader: &mut R) -> Result<Batch, DeviceFault>
         ensures fit { IfOk result (λ b. All (λ c. FitsRecording c.body) b.chapters.items) }
         ensures batch { IfOk result (λ b. (start : Option (List ℕ))
@@ -66,9 +73,13 @@ impl Auditing {
         read_batch(alloc, &mut self.source, reader)
     }
 
-    /// Judges the chapters that were read; returns the verdict on the recording if they are the last. After a chapter that
-    /// fails none is judged. Two or more chapters with [`PARALLEL_MAPS`](crate::PARALLEL_MAPS) maps are judged in as many
-    /// threads as there are processors. `Memory` only if memory is refused.
+    /// Judges the chapters that were read; returns the verdict on the recording if they are the last. After a chapter
+    /// that fails none is judged. Two or more chapters with [`PARALLEL_MAPS`](crate::PARALLEL_MAPS) maps are judged in
+    /// as many threads as there are processors.
+    ///
+    /// # Errors
+    ///
+    /// `Memory` only if memory is refused.
     pub fn judge(
         &mut self,
         rt: &(impl Threads + Sync),
@@ -84,7 +95,11 @@ impl Auditing {
         Ok(self.audit.take_batch(rt, alloc, batch)?)
     }
 
-    /// As [`Auditing::judge`], with the answers on the chapters, each regardless of those before it.
+    /// Judges the chapters as [`Auditing::judge`] does, with the answers on them, each regardless of those before it.
+    ///
+    /// # Errors
+    ///
+    /// As for [`Auditing::judge`].
     pub fn place(
         &mut self,
         batch: &Batch,
@@ -100,6 +115,10 @@ impl Auditing {
     }
 
     /// Reads and judges the next chapters, as [`Auditing::read`] and [`Auditing::judge`] do.
+    ///
+    /// # Errors
+    ///
+    /// As for [`Auditing::read`] and [`Auditing::judge`].
     pub fn next<R: DevRead>(
         &mut self,
         rt: &(impl Threads + Sync),
@@ -120,16 +139,18 @@ impl Auditing {
 }
 
 /// Audits the recording that a device gives, chapter by chapter, to the end of the device or to the first fault of the
-/// format. Its memory is for a batch of at most 64 chapters with about as many entries as four full ones, and for the state at
-/// the end of each chapter.
+/// format. Its memory is for a batch of at most 64 chapters with about as many entries as four full ones, and for the
+/// state at the end of each chapter.
 ///
-/// `Good` only if the bytes are a recording, each opening is lawful, each entry may follow those before it, each map is fair
-/// for the state before it, the numbers of a port's chapters ascend, and a chapter opens with the state at the end of the
-/// chapter one number before in its port, if that is in the recording. `Bad` only if a chapter fails and those before it in
-/// the recording are good, also if the recording is cut in its last chapter. `Truncated` only if the whole chapters are
-/// good. `BadFormat` regardless of the chapters before the fault: after a chapter that fails only the format is checked.
-/// Chapters of a batch with [`PARALLEL_MAPS`](crate::PARALLEL_MAPS) maps or more are audited in as many threads as there are
-/// processors, with the same verdict.
+/// `Good` only if the bytes are a recording, each opening is lawful, each entry may follow those before it, each map is
+/// fair for the state before it, the numbers of a port's chapters ascend, and a chapter opens with the state at the end
+/// of the chapter one number before in its port, if that is in the recording. `Bad` only if a chapter fails and those
+/// before it in the recording are good, also if the recording is cut in its last chapter. `Truncated` only if the whole
+/// chapters are good. `BadFormat` regardless of the chapters before the fault: after a chapter that fails only the
+/// format is checked. Chapters of a batch with [`PARALLEL_MAPS`](crate::PARALLEL_MAPS) maps or more are audited in as
+/// many threads as there are processors, with the same verdict.
+///
+/// # Errors
 ///
 /// `Read` exactly when the device fails. `Memory` if memory is refused, or if the recording has 2^64 bytes or more.
 pub fn audit_from<R: DevRead>(
@@ -153,7 +174,11 @@ pub fn audit_from<R: DevRead>(
     Err(DeviceFault::Memory)
 }
 
-/// Audits the bytes of a recording in memory, as [`audit_from`] does. `Err` only if memory is refused.
+/// Audits the bytes of a recording in memory, as [`audit_from`] does.
+///
+/// # Errors
+///
+/// `AllocError` only if memory is refused.
 pub fn audit(rt: &(impl Threads + Sync), alloc: Global, bytes: &[u8]) -> Result<Verdict, AllocError>
     ensures { IfOk result (λ verdict. IsVerdict bytes.now verdict) }
 {

@@ -40,8 +40,8 @@ fn judge_in_parallel(
         .collect::<Result<Vec<Judged>, AllocError>>(rt, alloc)?
 }
 
-/// Returns the verdict if one of the chapters after those judged fails, from the answers on them alone. `None` if all are
-/// good, and then they are judged too. `Err` only if memory is refused.
+/// Returns the verdict if one of the chapters after those judged fails, from the answers on them alone. `None` if all
+/// are good, and then they are judged too. `Err` only if memory is refused.
 pub(crate) fn place_all(
     ends: &mut Ends,
     chapters: &[RawChapter],
@@ -84,9 +84,9 @@ fn judge_in_order(
     Ok(None)
 }
 
-/// Returns the verdict if one of the chapters after those judged fails. `None` if all are good, and then they are judged too.
-/// Two or more chapters with [`PARALLEL_MAPS`] maps are judged in as many threads as there are processors. `Err` only if
-/// memory is refused.
+/// Returns the verdict if one of the chapters after those judged fails. `None` if all are good, and then they are
+/// judged too. Two or more chapters with [`PARALLEL_MAPS`] maps are judged in as many threads as there are processors.
+/// `Err` only if memory is refused.
 pub(crate) fn judge_batch(
     rt: &(impl Threads + Sync),
     alloc: Global,

@@ -111,7 +111,8 @@ fn is_same_window(raws: &[RawMap], maps: &[WindowMap]) -> bool
     true
 }
 
-// Returns whether an opening has the numbers of a state: rule, gap, profile, next frame, cause and number of earlier entries.
+// Returns whether an opening has the numbers of a state: rule, gap, profile, next frame, cause and number of earlier
+// entries.
 fn has_numbers(opening: &Opening, state: &PortState) -> bool
     ensures { IsTrue result ↔ HasNumbers opening.now state.now }
 {

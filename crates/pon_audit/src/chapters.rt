@@ -14,11 +14,12 @@ use pon_record::RawChapter;
 use pon_state::PortState;
 use std::alloc::{AllocError, Global};
 
-/// The fault of a chapter: the index of the entry that fails, and why. The index is 0 for a fault of the opening, the chain
-/// or the number.
+/// The fault of a chapter.
 #[derive(Clone, Copy, Debug, PartialEq, Eq)]
 pub struct Fault {
+    /// The index of the entry that fails, from 0; also 0 for a fault of the opening, the chain or the number.
     pub index: usize,
+    /// Why the chapter fails.
     pub why: AuditReason,
 }
 
@@ -42,8 +43,8 @@ pub enum Judged {
     Ends(PortState),
 }
 
-// Finds the first entry that fails, of a chapter that opens with this state. If none fails, the state is then that at the
-// end of the chapter. `Err` only if memory is refused.
+// Finds the first entry that fails, of a chapter that opens with this state. If none fails, the state is then that at
+// the end of the chapter. `Err` only if memory is refused.
 fn entry_fault(
     alloc: Global,
     chapter: &RawChapter,
@@ -65,7 +66,11 @@ fn entry_fault(
     Ok(None)
 }
 
-/// Judges a chapter regardless of those before it. `Err` only if memory is refused.
+/// Judges a chapter regardless of those before it.
+///
+/// # Errors
+///
+/// `AllocError` only if memory is refused.
 pub fn judge(alloc: Global, chapter: &RawChapter) -> Result<Judged, AllocError>
     requires { FitsRecording chapter.now.body }
     ensures { IfOk result (λ answer. IsJudgment chapter.now answer) }

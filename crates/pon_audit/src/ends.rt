@@ -39,7 +39,11 @@ impl Model for Ends {
 }
 
 impl Ends {
-    /// Makes the table of no chapters. `Err` only if memory is refused.
+    /// Makes the table of no chapters.
+    ///
+    /// # Errors
+    ///
+    /// `AllocError` only if memory is refused.
     pub fn open(alloc: Global) -> Result<Ends, AllocError>
         ensures { IfOk result (λ e. e ≡ record { ends = []; places = replicate MAX_PORTS None }) }
     {
@@ -70,7 +74,11 @@ impl Ends {
         }
     }
 
-    /// Keeps the state at the end of a chapter. `Err` only if memory is refused.
+    /// Keeps the state at the end of a chapter.
+    ///
+    /// # Errors
+    ///
+    /// `AllocError` only if memory is refused.
     pub fn keep(&mut self, chapter: &RawChapter, end: PortState) -> Result<(), AllocError>
         ensures ends { OnOk result (self.new.ends ≡ self.old.ends ++ record {
           port = chapter.now.body.port;

@@ -97,8 +97,12 @@ fn map_fault(state: &PortState, wanted: &Map, made: &MadeMap) -> Option<AuditRea
     }
 }
 
-/// Computes the class problems of the next map of a state, in the memory of `buffers`, if they accept a certificate; `None`
-/// if they do not. `Err` only if memory is refused.
+/// Computes the class problems of the next map of a state, in the memory of `buffers`, if they accept a certificate;
+/// `None` if they do not.
+///
+/// # Errors
+///
+/// `AllocError` only if memory is refused.
 pub fn accepted_problems(
     alloc: Global,
     buffers: &mut MapBuffers,
@@ -116,8 +120,8 @@ pub fn accepted_problems(
     Ok(Some(problems))
 }
 
-// Checks a map with an accepted certificate, and applies it to the state if it is the one that the state makes. `Err` only
-// if memory is refused.
+// Checks a map with an accepted certificate, and applies it to the state if it is the one that the state makes. `Err`
+// only if memory is refused.
 fn take_accepted(
     alloc: Global,
     buffers: &mut MapBuffers,
@@ -151,9 +155,12 @@ fn take_accepted(
     Ok(fault)
 }
 
-/// Checks a map that follows `kept` entries of its chapter, and applies it to the state if it may follow. `problems` are
-/// those of the state, if they accept its certificate. `buffers` is memory for its demands and grants. `Err` only if memory is
-/// refused.
+/// Checks a map that follows `kept` entries of its chapter, and applies it to the state if it may follow. `problems`
+/// are the class problems of the state, if they accept its certificate. `buffers` is memory for its demands and grants.
+///
+/// # Errors
+///
+/// `AllocError` only if memory is refused.
 pub fn take_map(
     alloc: Global,
     buffers: &mut MapBuffers,
@@ -180,8 +187,12 @@ pub fn take_map(
     }
 }
 
-/// Checks an entry that follows `kept` entries of its chapter, and applies it to the state if it may follow. `buffers` is
-/// memory for the demands and grants of a map. `Err` only if memory is refused.
+/// Checks an entry that follows `kept` entries of its chapter, and applies it to the state if it may follow. `buffers`
+/// is memory for the demands and grants of a map.
+///
+/// # Errors
+///
+/// `AllocError` only if memory is refused.
 pub fn take_entry(
     alloc: Global,
     buffers: &mut MapBuffers,

@@ -14,8 +14,8 @@ use crate::verdict::{AuditReason, Verdict};
 use pon_record::RawChapter;
 use std::alloc::AllocError;
 
-// Returns why a chapter may not stand after earlier good ones with these ends, the last of its port being `last`; `None` if
-// it may. Only if its number does not ascend, all ends are searched for one that it does not open with.
+// Returns why a chapter may not stand after earlier good ones with these ends, the last of its port being `last`;
+// `None` if it may. Only if its number does not ascend, all ends are searched for one that it does not open with.
 fn fault_after(ends: &[End], last: &End, chapter: &RawChapter) -> Option<AuditReason>
     requires kept { All IsKeptEnd ends.now }
     requires kept_last { IsKeptEnd last.now }
@@ -55,8 +55,8 @@ fn place_fault(ends: &Ends, chapter: &RawChapter) -> Option<AuditReason>
     fault_after(ends.all(), last, chapter)
 }
 
-// Finds the fault of a chapter after those judged, from the answer on it alone. If it has none, its end is kept. `Err` only
-// if memory is refused.
+// Finds the fault of a chapter after those judged, from the answer on it alone. If it has none, its end is kept. `Err`
+// only if memory is refused.
 fn chapter_fault(
     ends: &mut Ends,
     chapter: &RawChapter,
@@ -84,8 +84,8 @@ fn chapter_fault(
     }
 }
 
-/// Returns the verdict if a chapter after those judged fails, from the answer on it alone. `None` if it is good, and then it
-/// is judged too. `Err` only if memory is refused.
+/// Returns the verdict if a chapter after those judged fails, from the answer on it alone. `None` if it is good, and
+/// then it is judged too. `Err` only if memory is refused.
 pub(crate) fn judge_next(
     ends: &mut Ends,
     chapter: &RawChapter,

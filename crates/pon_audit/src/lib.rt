@@ -2,8 +2,8 @@
 //! G.987.3).
 //!
 //! [`audit_from`] reads a recording from a device, and [`audit`] has its bytes in memory. They replay each chapter and
-//! check each map against its certificate: either each entry may follow those before it and each map is fair, or the first
-//! fault is returned. The crate computes no certificate and applies no event to a port.
+//! check each map against its certificate: either each entry may follow those before it and each map is fair, or the
+//! first fault is returned. The crate computes no certificate and applies no event to a port.
 #![tactic(auto)]
 
 mod answer;

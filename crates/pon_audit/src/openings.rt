@@ -274,8 +274,8 @@ fn are_owned_maps(rows: &[Row], loads: &Loads, window: &[RawMap]) -> bool
     true
 }
 
-// Returns whether the rows and the window of an opening fit each other and the next frame. The roster and the report book
-// are made of them.
+// Returns whether the rows and the window of an opening fit each other and the next frame. The roster and the report
+// book are made of them.
 fn fits(opening: &Opening, rows: &[Row], loads: &Loads) -> bool
     requires frames { AreConsecutive (frame_after opening.now.window) opening.now.window }
     requires rows { IsInMapOrder rows.now }
@@ -338,8 +338,11 @@ fn prove_numbers(opening: &Opening)
     let _taken_before = opening.taken_before;
 }
 
-/// Makes the state that a chapter of this number opens with; `None` if the opening is not lawful. `Err` only if memory is
-/// refused.
+/// Makes the state that a chapter of this number opens with; `None` if the opening is not lawful.
+///
+/// # Errors
+///
+/// `AllocError` only if memory is refused.
 pub fn open_state(
     alloc: Global,
     number: u64,

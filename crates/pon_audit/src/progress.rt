@@ -48,7 +48,11 @@ fn add_maps(maps: u64, chapters: &[RawChapter]) -> Option<u64>
 }
 
 impl Audit {
-    /// Starts the audit, with no chapters. `Err` only if memory is refused.
+    /// Starts the audit, with no chapters.
+    ///
+    /// # Errors
+    ///
+    /// `AllocError` only if memory is refused.
     pub fn open(alloc: Global) -> Result<Audit, AllocError>
         ensures { IfOk result (λ audit. AreAudited [] audit) }
     {
@@ -143,7 +147,11 @@ impl Audit {
         }
     }
 
-    /// Audits the next batch. Returns the verdict if it is the last one. `Err` only if memory is refused.
+    /// Audits the next batch. Returns the verdict if it is the last one.
+    ///
+    /// # Errors
+    ///
+    /// `AllocError` only if memory is refused.
     pub fn take_batch(
         &mut self,
         rt: &(impl Threads + Sync),
@@ -162,8 +170,12 @@ impl Audit {
         Ok(self.verdict_at(batch.end))
     }
 
-    /// As [`Audit::take_batch`], with the answers on the chapters of the batch, each regardless of those before it. `Err` only
-    /// if memory is refused.
+    /// Audits the next batch as [`Audit::take_batch`] does, with the answers on its chapters, each regardless of those
+    /// before it.
+    ///
+    /// # Errors
+    ///
+    /// `AllocError` only if memory is refused.
     pub fn take_answered_batch(
         &mut self,
         batch: &Batch,

@@ -30,15 +30,17 @@ pub enum BatchEnd {
     Malformed { at: usize },
 }
 
-/// The next chapters of a recording, and why there are no more of them.
+/// The next chapters of a recording.
 #[derive(Drop)]
 pub struct Batch {
+    /// The chapters, at most 64.
     pub chapters: Vec<RawChapter>,
+    /// Why the batch has no further chapter.
     pub end: BatchEnd,
 }
 
-/// Reads the next chapters. `Read` exactly when the device fails. `Memory` if memory is refused or the place of a chapter is 2^64
-/// or more.
+/// Reads the next chapters. `Read` exactly when the device fails. `Memory` if memory is refused or the place of a
+/// chapter is 2^64 or more.
 pub(crate) fn read_batch<R: DevRead>(
     alloc: Global,
     source: &mut ChapterReader,

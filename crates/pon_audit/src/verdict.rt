@@ -1,16 +1,16 @@
 use pon_units::PortNo;
 use std::fmt;
 
-/// Why a chapter of a recording is bad. Of several faults the first counts, in this order: opening, chain, number, entries
-/// in order; for one entry: event, certificate, words, bursts.
+/// Why a chapter of a recording is bad. Of several faults the first counts, in this order: opening, chain, number,
+/// entries in order; for one entry: event, certificate, words, bursts.
 #[derive(Clone, Copy, Debug, PartialEq, Eq)]
 pub enum AuditReason {
     /// The opening is not lawful: its rows are no admitted set in map order, a since-frame or a counted report does not
     /// fit the rows, the window and the next frame, the maps are no window up to the next frame, a failed port has maps
     /// or counted reports, or chapter 0 does not open with a port just opened.
     Opening,
-    /// The chapter of the port with the number before is earlier in the recording, and the opening is not the state at its
-    /// end.
+    /// The chapter of the port with the number before is earlier in the recording, and the opening is not the state at
+    /// its end.
     Chain,
     /// An earlier chapter of the port has the same number or a greater one.
     Number,

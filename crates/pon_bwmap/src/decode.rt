@@ -18,10 +18,14 @@ use pon_xgtc::{HLend, HeadFault};
 use std::alloc::Global;
 
 /// Decodes the map at the start of the bytes, and returns it with the number of corrected bits in its header words and
-/// the number of bytes that it uses: 4, 8 for each structure, and 48 for each announced message. Messages are skipped,
-/// and later bytes are not read. An `Err` is the first fault: `Short` for fewer than 4 bytes, `HeadHec`, `TooMany`,
-/// `Short` for fewer bytes than the map uses, then for each structure in order `StructHec`, `SeriesStart`, `StartRange`
-/// and `SeriesLong`. `Memory` only if the bytes begin with a valid map.
+/// the number of bytes that it uses. A map uses 4 bytes, 8 for each structure, and 48 for each announced message.
+/// Messages are skipped, and later bytes are not read.
+///
+/// # Errors
+///
+/// The first fault: `Short` for fewer than 4 bytes, `HeadHec`, `TooMany`, `Short` for fewer bytes than the map uses,
+/// then for each structure in order `StructHec`, `SeriesStart`, `StartRange` and `SeriesLong`. `Memory` only if the
+/// bytes begin with a valid map.
 pub fn decode_map(alloc: Global, bytes: &[u8]) -> Result<(Map, u32, usize), MapFault>
     ensures ok { IfOk result (λ r. ReadsMap bytes.now r.0 r.1 r.2) }
     ensures fault { IfErr result (λ f. IsFirstMapFault bytes.now f) }

@@ -11,7 +11,11 @@ use pon_xgtc::HLend;
 use std::alloc::{AllocError, Global};
 
 /// Encodes a map: its head with N structures and no messages, then 8 bytes for each structure. The bytes, followed by
-/// any others, read as the map, with nothing corrected. `AllocError` if memory is refused; there is one allocation.
+/// any others, read as the map, with nothing corrected. It makes one allocation.
+///
+/// # Errors
+///
+/// `AllocError` if memory is refused.
 pub fn encode_map(alloc: Global, map: &Map) -> Result<Vec<u8>, AllocError>
     ensures spelled { IfOk result (λ bytes. bytes.items ≡ map_bytes map.now) }
     ensures reads_back { IfOk result (λ bytes. (rest : List ℕ)
@@ -60,8 +64,8 @@ fn structure(row: &Alloc) -> [u8; 8]
     structure_word(row).to_be_bytes()
 }
 
-// Returns the word of a structure, with its header code. It is not inlined: the compiler swaps the bytes of a result with
-// one instruction, and those of a sum that it sees with 25.
+// Returns the word of a structure, with its header code. It is not inlined: the compiler swaps the bytes of a result
+// with one instruction, and those of a sum that it sees with 25.
 #[inline(never)]
 fn structure_word(row: &Alloc) -> u64
     ensures { result ≡ sealed (structure_payload row.now) }

@@ -50,9 +50,12 @@ impl Map {
     ghost use Rattle.pon_bwmap.specs.MapReading.{FitsStructure};
     ghost use Rattle.pon_bwmap.specs.MapRules.{IsMap, IsRowsFault};
 
-    /// Makes a map of these structures. An `Err` returns them with the first fault: `TooMany`, or `SeriesStart`,
-    /// `StartRange` or `SeriesLong` of the first structure that breaks a rule; a start of 65,535 is a `StartRange`. It
-    /// allocates no memory.
+    /// Makes a map of these structures. It allocates no memory.
+    ///
+    /// # Errors
+    ///
+    /// The structures with the first fault: `TooMany`, or `SeriesStart`, `StartRange` or `SeriesLong` of the first
+    /// structure that breaks a rule. A start of 65,535 is a `StartRange`.
     pub fn from_rows(rows: Vec<Alloc>) -> Result<Map, (Vec<Alloc>, MapFault)>
         ensures made { IsOk result ↔ IsMap rows.items }
         ensures ok { IfOk result (λ map. map ≡ rows.items) }
@@ -83,7 +86,11 @@ impl Map {
         self.rows.as_slice()
     }
 
-    /// Makes an equal map; `AllocError` if memory is refused.
+    /// Makes an equal map.
+    ///
+    /// # Errors
+    ///
+    /// `AllocError` if memory is refused.
     pub fn try_copy(&self, alloc: Global) -> Result<Map, AllocError>
         ensures { IfOk result (λ copy. copy ≡ self.now) }
     {

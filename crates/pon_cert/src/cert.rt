@@ -24,7 +24,11 @@ pub struct ClassCert {
 }
 
 impl ClassCert {
-    /// Makes an equal certificate; `AllocError` if memory is refused.
+    /// Makes an equal certificate.
+    ///
+    /// # Errors
+    ///
+    /// `AllocError` if memory is refused.
     pub fn try_copy(&self, alloc: Global) -> Result<Self, AllocError>
         ensures { IfOk result (λ copy. copy ≡ self.now) }
     {
@@ -47,7 +51,11 @@ pub struct MapCert {
 }
 
 impl MapCert {
-    /// Makes an equal certificate; `AllocError` if memory is refused.
+    /// Makes an equal certificate.
+    ///
+    /// # Errors
+    ///
+    /// `AllocError` if memory is refused.
     pub fn try_copy(&self, alloc: Global) -> Result<Self, AllocError>
         ensures { IfOk result (λ copy. copy ≡ self.now) }
     {

@@ -14,9 +14,13 @@ use std::marker::Model;
 
 impl MapCert {
     /// Decodes the certificate at the start of the bytes, and returns it with the number of its bytes. Later bytes are
-    /// not read. An `Err` is the first fault from left to right: `Short` if the bytes end inside a number or the flags,
-    /// `Form` for a kind of level above 1, numbers at a level of all, a denominator of 0, more than 512 items, or a
-    /// flag other than 0 and 1. `Memory` only if the bytes begin with a valid certificate.
+    /// not read.
+    ///
+    /// # Errors
+    ///
+    /// The first fault from left to right. `Short` if the bytes end inside a number or the flags. `Form` for a kind of
+    /// level above 1, numbers at a level of all, a denominator of 0, more than 512 items, or a flag other than 0 and 1.
+    /// `Memory` only if the bytes begin with a valid certificate.
     pub fn from_bytes(alloc: Global, bytes: &[u8]) -> Result<(MapCert, usize), CertReadFault>
         ensures ok { IfOk result (λ r. ReadsCert bytes.now r.0 r.1) }
         ensures fault { IfErr result (λ f. IsByteFault bytes.now f) }

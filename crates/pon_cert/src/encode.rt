@@ -9,7 +9,11 @@ use std::alloc::{AllocError, Global};
 
 impl MapCert {
     /// Encodes the certificate: its non-assured class, then its best-effort class. A class has 19 bytes, and one for
-    /// each item. Each class must have at most 512 items. `AllocError` if memory is refused.
+    /// each item. Each class must have at most 512 items.
+    ///
+    /// # Errors
+    ///
+    /// `AllocError` if memory is refused.
     pub fn to_bytes(&self, alloc: Global) -> Result<Vec<u8>, AllocError>
         requires non_assured { length self.now.na.saturated ≤ MAX_ITEMS }
         requires best_effort { length self.now.be.saturated ≤ MAX_ITEMS }

@@ -10,7 +10,11 @@ use std::alloc::{AllocError, Global};
 impl MapCert {
     /// Prints the certificate as `na <level> <set> be <level> <set>`, for classes with these Alloc-IDs in map order. A
     /// level is `all` or a fraction as it is written, a set the saturated Alloc-IDs, joined by commas, or `-`. Each
-    /// class must have as many Alloc-IDs as items, at most 512. `AllocError` if memory is refused.
+    /// class must have as many Alloc-IDs as items, at most 512.
+    ///
+    /// # Errors
+    ///
+    /// `AllocError` if memory is refused.
     pub fn to_text(
         &self,
         alloc: Global,

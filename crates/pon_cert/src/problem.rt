@@ -6,12 +6,13 @@ use pon_units::LINE_RATE;
 /// Maximum number of items of a class problem (this project's choice).
 pub const MAX_ITEMS: usize = 512;
 
-/// An item of a class problem: a weight above 0, and a cap in kbit/s, the most surplus that it can use.
-///
-/// Both are at most 2,488,320, the rate of the line, in a problem that is filled or checked.
+/// An item of a class problem. Its weight and its cap are at most 2,488,320, the rate of the line, in a problem that is
+/// filled or checked.
 #[derive(Clone, Copy, Debug, PartialEq, Eq)]
 pub struct Item {
+    /// The weight, above 0.
     pub weight: u64,
+    /// The cap in kbit/s: the most surplus that the item can use.
     pub cap: u64,
 }
 

@@ -54,7 +54,11 @@ impl Sat {
         self.flags.as_slice()
     }
 
-    /// Makes an equal copy; `AllocError` if memory is refused.
+    /// Makes an equal copy.
+    ///
+    /// # Errors
+    ///
+    /// `AllocError` if memory is refused.
     pub fn try_copy(&self, alloc: Global) -> Result<Self, AllocError>
         ensures { IfOk result (λ copy. copy ≡ self.now) }
     {

@@ -85,12 +85,16 @@ fn check_sum(level: &Level, total: u128, surplus: u64) -> Result<(), CertFault>
     Ok(())
 }
 
-/// Checks that the certificate is that of these items and this surplus, or returns the first fault.
+/// Checks that `cert` is the certificate of these items and this surplus.
 ///
 /// Requires at most 512 items, each weight 1 to 2,488,320, each cap and the surplus 0 to 2,488,320 kbit/s. The numbers
 /// of the certificate may be any: products are of 128 bits. On `Ok`, the assignment of the certificate is within
-/// surplus and caps, no other such assignment is fairer, and each other one is less fair; and no other certificate is
+/// surplus and caps, no other such assignment is fairer, and each other one is less fair. No other certificate is then
 /// accepted for these items and this surplus. It allocates no memory.
+///
+/// # Errors
+///
+/// The first fault, if `cert` is not their certificate.
 pub fn check_class(items: &[Item], surplus: u64, cert: &ClassCert) -> Result<(), CertFault>
     requires { IsProblem items.now surplus }
     ensures accepted { IsOk result ↔ IsCertificate items.now surplus cert.now }

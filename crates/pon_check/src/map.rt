@@ -9,12 +9,16 @@ use crate::class::check_class;
 use crate::fault::MapCertFault;
 use pon_cert::{Item, MapCert, left_surplus};
 
-/// Checks that the certificate is that of a map with these items of the two classes and this surplus, or returns the
-/// first fault, the non-assured class first. The best-effort class is checked against what the non-assured class
-/// leaves: 0 if its level is a fraction, otherwise the surplus less its caps. On `Ok`, the assignment of each class is
-/// the fairest, and no other certificate of a map is accepted for these items and this surplus.
+/// Checks that `cert` is the certificate of a map with these items of the two classes and this surplus. The best-effort
+/// class is checked against what the non-assured class leaves: 0 if its level is a fraction, otherwise the surplus less
+/// its caps. On `Ok`, the assignment of each class is the fairest, and no other certificate of a map is accepted for
+/// these items and this surplus.
 ///
-/// The requirements are those of [`check_class`] for each class. It allocates no memory.
+/// Each class must meet the requirements of [`check_class`]. It allocates no memory.
+///
+/// # Errors
+///
+/// The first fault, the non-assured class first, if `cert` is not their certificate.
 pub fn check_map(na: &[Item], be: &[Item], surplus: u64, cert: &MapCert) -> Result<(), MapCertFault>
     requires non_assured { IsProblem na.now surplus }
     requires best_effort { IsProblem be.now surplus }

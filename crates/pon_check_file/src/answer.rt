@@ -86,11 +86,13 @@ fn answer_of(alloc: Global, parsed: Parsed) -> Result<Answer, AllocError>
 /// and then only empty lines. Rates are in kbit/s, 0 to 2,488,320; a weight is 1 to 2,488,320; the saturated items are
 /// given by their indexes, from 0, in ascending order.
 ///
-/// At most 512 items and one line are kept, and of the line at most [`MAX_LINE_BYTES`](crate::MAX_LINE_BYTES) + 1 bytes: a
-/// longer line does not fit.
+/// At most 512 items and one line are kept, and of the line at most [`MAX_LINE_BYTES`](crate::MAX_LINE_BYTES) + 1
+/// bytes: a longer line does not fit. The writer is flushed once, after the answer.
+///
+/// # Errors
 ///
 /// `Read` if the reader fails or 2^64 - 1 reads reach no answer, and `Memory` if memory is refused: nothing is written.
-/// `Write` if the writer fails: a prefix of the answer is written. The writer is flushed once, after the answer.
+/// `Write` if the writer fails: a prefix of the answer is written.
 pub fn check_file<R: DevRead, W: DevWrite>(
     alloc: Global,
     reader: &mut R,

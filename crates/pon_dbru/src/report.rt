@@ -52,7 +52,11 @@ pub fn encode(occupancy: BufOcc) -> [u8; 4]
     report_bytes(occupancy.get())
 }
 
-/// Returns the occupancy that four bytes report; `Garbled` exactly when they report none. 0xFFFFFF is a usual value.
+/// Returns the occupancy that four bytes report. 0xFFFFFF is a usual value.
+///
+/// # Errors
+///
+/// `Garbled` exactly when they report none.
 pub fn decode(bytes: [u8; 4]) -> Result<BufOcc, Garbled>
     ensures ok { IfOk result (λ occupancy. Reports bytes occupancy) }
     ensures garbled { IsErr result ↔ ((words : ℕ) → Reports bytes words → ⊥) }

@@ -13,14 +13,18 @@ use pon_guar::{cap, guaranteed};
 use pon_units::{AllocId, Kbps, OnuId};
 use std::alloc::AllocError;
 
-/// The demand of an admitted Alloc-ID on a map: its guaranteed rate in kbit/s, its class, and the weight and cap with
-/// which it shares the surplus of the class.
+/// The demand of an admitted Alloc-ID on a map.
 #[derive(Clone, Copy, Debug, PartialEq, Eq)]
 pub struct Demand {
+    /// The ONU that owns the Alloc-ID, 0 to 1022.
     pub onu: OnuId,
+    /// The Alloc-ID, 1024 to 16383.
     pub alloc_id: AllocId,
+    /// Its class.
     pub class: Class,
+    /// Its guaranteed rate in kbit/s.
     pub guaranteed: Kbps,
+    /// The weight and the cap, in kbit/s, with which it shares the surplus of the class.
     pub item: Item,
 }
 
@@ -55,7 +59,8 @@ fn demand_of(input: &ShareInput, index: usize, row: &Row) -> Demand
     }
 }
 
-/// Computes the demand of each admitted Alloc-ID, in map order, in the memory of `room`. `Err` only if memory is refused.
+/// Computes the demand of each admitted Alloc-ID, in map order, in the memory of `room`. `Err` only if memory is
+/// refused.
 pub(crate) fn demands_of(room: Vec<Demand>, input: &ShareInput) -> Result<Vec<Demand>, AllocError>
     ensures { IfOk result (λ found. found.items ≡ demands_of input.now) }
 {

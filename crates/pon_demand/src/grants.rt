@@ -39,10 +39,12 @@ fn grant(demand: &Demand, owed: u64) -> Granted
     }
 }
 
-/// The grants of a map, and what their whole words leave to each Alloc-ID for its next map, both in map order.
+/// The grants of a map, and what it leaves for the next map.
 #[derive(Drop)]
 pub struct Grants {
+    /// The grants, in map order.
     pub grants: Vec<Granted>,
+    /// What their whole words leave to each Alloc-ID for its next map, 0 to 255 kbit/s, in map order.
     pub carries: Vec<u8>,
 }
 

@@ -2,8 +2,8 @@
 //! admitted Alloc-ID, the class problems of what is not guaranteed, and, under a given certificate, the payload words of
 //! each Alloc-ID and the structures that grant them.
 //!
-//! Nothing here fills a class: a certificate comes from elsewhere. [`MapBuffers`] keep the memory of demands and grants for
-//! the next map.
+//! Nothing here fills a class: a certificate comes from elsewhere. [`MapBuffers`] keep the memory of demands and grants
+//! for the next map.
 #![tactic(auto)]
 
 mod buffers;

@@ -29,7 +29,11 @@ fn structures(
 
 /// Makes the map of these grants: a structure for each, in their order, with the DBRu flag on; each ONU's burst begins
 /// a gap after the previous burst. The grants must be in map order, at most 16 to an ONU and 512 in all, and their
-/// bursts must fit a frame. `Err` only if memory is refused.
+/// bursts must fit a frame.
+///
+/// # Errors
+///
+/// `AllocError` only if memory is refused.
 pub fn pack_grants(
     alloc: Global,
     gap: Gap,

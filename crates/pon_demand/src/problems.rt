@@ -16,17 +16,24 @@ use pon_cert::MapCert;
 use pon_descr::Class;
 use std::alloc::{AllocError, Global};
 
-/// The class problems of a map: the demand of each admitted Alloc-ID in map order, the members of the non-assured and of
-/// the best-effort class with their items, and the surplus in kbit/s that the non-assured class shares first.
+/// The class problems of a map.
 #[derive(Drop)]
 pub struct Problems {
+    /// The demand of each admitted Alloc-ID, in map order.
     pub demands: Vec<Demand>,
+    /// The members of the non-assured class, with their items.
     pub na: Members,
+    /// The members of the best-effort class, with their items.
     pub be: Members,
+    /// The surplus in kbit/s that the non-assured class shares first.
     pub surplus: u64,
 }
 
-/// Makes the class problems of the next map, with the demands in the memory of `buffers`. `Err` only if memory is refused.
+/// Makes the class problems of the next map, with the demands in the memory of `buffers`.
+///
+/// # Errors
+///
+/// `AllocError` only if memory is refused.
 pub fn class_problems(
     alloc: Global,
     buffers: &mut MapBuffers,
@@ -47,9 +54,13 @@ pub fn class_problems(
     })
 }
 
-/// Computes the grant of each admitted Alloc-ID under a certificate, in map order: the whole words of its guaranteed
-/// rate, of the surplus rate that the certificate gives it, and of its carry; and what they leave. Both lists are in the
-/// memory of `buffers`. `Err` only if memory is refused.
+/// Computes the grant of each admitted Alloc-ID under a certificate, and what it leaves, both in map order. A grant is
+/// the whole words of the guaranteed rate, the surplus rate that the certificate gives, and the carry, together. Both
+/// lists are in the memory of `buffers`.
+///
+/// # Errors
+///
+/// `AllocError` only if memory is refused.
 pub fn grants_under(
     alloc: Global,
     buffers: &mut MapBuffers,

@@ -50,10 +50,12 @@ fn member_count(demands: &[Demand], class: Class) -> usize
         .count()
 }
 
-/// The Alloc-IDs of a class in map order, and the item of each, with which it shares the surplus of the class.
+/// The members of a class.
 #[derive(Drop)]
 pub struct Members {
+    /// The Alloc-IDs, in map order.
     pub ids: Vec<AllocId>,
+    /// The item of each, with which it shares the surplus of the class.
     pub items: Vec<Item>,
 }
 

@@ -55,8 +55,10 @@ impl Descriptor {
 
     /// Makes a descriptor of these rates in kbit/s.
     ///
-    /// Fails with the first of: `RateRange` for a rate above 2,488,320, `MaxBelowGuaranteed` for a maximum below fixed
-    /// and assured rate together, `NeedsGuarantee` for the non-assured class if both are 0, `NoSurplusRoom` for a class
+    /// # Errors
+    ///
+    /// The first that applies. `RateRange` for a rate above 2,488,320. `MaxBelowGuaranteed` for a maximum below fixed
+    /// and assured rate together. `NeedsGuarantee` for the non-assured class if both are 0. `NoSurplusRoom` for a class
     /// that shares surplus if the maximum is not above both together.
     pub fn new(fixed: u64, assured: u64, max: u64, class: Class) -> Result<Self, Refusal>
         ensures ok { IfOk result

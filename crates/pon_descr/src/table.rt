@@ -82,7 +82,10 @@ fn class_in_table(table: &Table) -> Option<Class>
 /// Reads the descriptor of a table from its keys `fixed`, `assured`, `max` (integers, kbit/s) and `class` (`none`, `na`
 /// or `be`). Other keys are ignored.
 ///
-/// `Field` if one of the four is absent or has no such value, then the refusal of [`Descriptor::new`].
+/// # Errors
+///
+/// `Field` if one of the four keys is absent or has no such value, then `Refused` with the refusal of
+/// [`Descriptor::new`].
 pub fn from_toml(table: &Table) -> Result<Descriptor, DescrFault>
     ensures ok { IfOk result (λ d. described (table_view table.now) ≡ Some d) }
     ensures fault { IfErr result (IsDescrFault (described (table_view table.now))) }

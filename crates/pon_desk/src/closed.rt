@@ -49,11 +49,16 @@ impl Closed {
     /// Compares the entries of a port, those of the chapters that it returned and of the chapter that it keeps, with
     /// receipts in the order of their places. It allocates no memory.
     ///
-    /// `Ok` exactly when the chapters are numbered from 0 up to the kept one, the first of them opens as the port was to be
-    /// opened, each later one (also the kept one) counts the entries up to the end of the one before it, and the receipts
-    /// are those of all entries: the k-th has this port, the place, the event and the reply of the k-th entry, names the
-    /// number of earlier receipts of its seat, and there are as many as entries and as the port took. Otherwise the first
-    /// chapter that is not right, or else the first receipt, or else `Count`.
+    /// `Ok` exactly when each of the following holds. The chapters are numbered from 0 up to the kept one. The first of
+    /// them opens as the port was to be opened, and each later one (also the kept one) counts the entries up to the end
+    /// of the one before it. The receipts are of all entries: the k-th has this port, and the place, the event and the
+    /// reply of the k-th entry, and names the number of earlier receipts of its seat. There are as many receipts as
+    /// entries, and the port took as many.
+    ///
+    /// # Errors
+    ///
+    /// `Chapter` for the first chapter that is not right, or else `Receipt` for the first receipt that is not, or else
+    /// `Count`.
     pub fn settle(
         &self,
         port: PortNo,

@@ -59,9 +59,13 @@ impl<L: Ledger, M: Ledger> Desk<L, M> {
     /// Opens a port for each configuration and first frame, numbered from 0 in their order, and returns the desk with
     /// the seats.
     ///
-    /// Requires at least one seat; the blank of the ports' ledger must have one part for each port, that of the seats'
-    /// ledger one for each seat. `Ports` exactly when there are no ports or more than 64; `Memory` only if memory is
-    /// refused. On an error the blanks are dropped.
+    /// Requires at least one seat; the blank of the ports' ledger must have one part for each port, the blank of the
+    /// seats' ledger one for each seat.
+    ///
+    /// # Errors
+    ///
+    /// `Ports` exactly when there are no ports or more than 64; `Memory` only if memory is refused. On an error the
+    /// blanks are dropped.
     pub fn open(
         alloc: Global,
         of_ports: Blank,
@@ -109,9 +113,12 @@ impl<L: Ledger, M: Ledger> Desk<L, M> {
         self.ports.len()
     }
 
-    /// Posts an event at a port, under that port's lock, by one call of [`Held::post`], with its refusals.
+    /// Posts an event at a port, under that port's lock, by one call of [`Held::post`]. Only an accepted post is
+    /// counted at the seat.
     ///
-    /// `NoSuchPort` exactly when the desk has no such port. Only an accepted post is counted at the seat.
+    /// # Errors
+    ///
+    /// `NoSuchPort` exactly when the desk has no such port; otherwise `Refused` with the refusal of [`Held::post`].
     pub fn post<R: Wait>(
         &self,
         rt: &R,
@@ -139,10 +146,14 @@ impl<L: Ledger, M: Ledger> Desk<L, M> {
         }
     }
 
-    /// Turns a port, under that port's lock, by one call of [`Held::turn`], with its refusals. It changes no count.
+    /// Turns a port, under that port's lock, by one call of [`Held::turn`]. It changes no count.
     ///
-    /// `NoSuchPort` exactly when the desk has no such port. The chapter is lawful, as each [`Chapter`] is by its type; that
-    /// it is the one that the named port kept is not stated.
+    /// The chapter is lawful, as each [`Chapter`] is by its type; that it is the one that the named port kept is not
+    /// stated.
+    ///
+    /// # Errors
+    ///
+    /// `NoSuchPort` exactly when the desk has no such port; otherwise `Refused` with the refusal of [`Held::turn`].
     pub fn turn<R: Wait>(&self, rt: &R, port: PortNo) -> Result<Chapter, StepFault>
         ensures no_such { IsNoSuchPort result ↔ self.now.ports ≤ port }
         ensures turned { IfOk result (λ chapter. IsSomeTurn chapter) }
@@ -161,7 +172,9 @@ impl<L: Ledger, M: Ledger> Desk<L, M> {
 
     /// Calls `look` on a port under that port's lock only, and returns its result. `look` must accept any port.
     ///
-    /// `Err` is `NoSuchPort`, exactly when the desk has no such port.
+    /// # Errors
+    ///
+    /// `NoSuchPort`, exactly when the desk has no such port.
     pub fn inspect<T, F: FnOnce(&Port) -> T, R: Wait>(
         &self,
         rt: &R,
@@ -183,6 +196,8 @@ impl<L: Ledger, M: Ledger> Desk<L, M> {
 
     /// Copies the view of a port, as it is at some moment, under that port's lock.
     ///
+    /// # Errors
+    ///
     /// `NoSuchPort` exactly when the desk has no such port; otherwise `Refused` with `OutOfMemory`, only if memory for
     /// the copy is refused.
     pub fn look<R: Wait>(&self, rt: &R, alloc: Global, port: PortNo) -> Result<PortView, StepFault>
@@ -202,10 +217,13 @@ impl<L: Ledger, M: Ledger> Desk<L, M> {
         }
     }
 
-    /// Closes the desk: each port took as many entries as the seats count at it. It allocates no memory.
+    /// Closes the desk: each port took as many entries as the seats count at it. Seats of another desk do not compile.
+    /// It allocates no memory.
     ///
-    /// `Missing` exactly when there are fewer seats than were opened; seats of another desk do not compile. `Uneven`
-    /// exactly when all seats are given and some port took another number of entries than they count at it.
+    /// # Errors
+    ///
+    /// `Missing` exactly when there are fewer seats than were opened. `Uneven` exactly when all seats are given and
+    /// some port took another number of entries than they count at it.
     pub fn close(self, seats: Vec<Seat<L, M>>) -> Result<Closed, CloseFault<L, M>>
         ensures ports { IfOk result (λ closed. length closed.ports ≡ self.ports) }
         ensures opened { IfOk result (λ closed. closed.opened ≡ self.opened) }

@@ -50,6 +50,8 @@ impl<L: Ledger> Held<L> {
     /// Posts an event at this port, and counts the post at the port and at the seat. The seat must count a port of this
     /// number.
     ///
+    /// # Errors
+    ///
     /// `ChapterFull` first if the number of entries of all ports of the desk is at its maximum (2^64 - 1); otherwise
     /// the first refusal of the port; `OutOfMemory` only if no other applies. A refusal changes neither the port nor
     /// the seat.
@@ -97,8 +99,12 @@ impl<L: Ledger> Held<L> {
         }
     }
 
-    /// Turns the port, as [`Port::turn`] does, with its refusals: returns the kept chapter, and begins the next one in
-    /// the same state. The number of entries that the port took is unchanged, and so is its share.
+    /// Turns the port, as [`Port::turn`] does: returns the kept chapter, and begins the next one in the same state. The
+    /// number of entries that the port took is unchanged, and so is its share.
+    ///
+    /// # Errors
+    ///
+    /// As for [`Port::turn`].
     pub fn turn(&mut self) -> Result<Chapter, Refusal>
         ensures ok { IfOk result (λ chapter. Turns self.old chapter self.new) }
         ensures refused { IfErr result (λ told. IsTold (turn_refusal self.old) told) }

@@ -30,8 +30,8 @@ pub fn places_of_a_seat_rise()
         → r.seat ≡ s.seat → r.nth < s.nth → IsEarlier r.placed s.placed }
 {}
 
-/// Among receipts that settle a port, each `nth` below the number of receipts of a seat occurs once for that seat, and no
-/// other occurs.
+/// Among receipts that settle a port, each `nth` below the number of receipts of a seat occurs once for that seat, and
+/// no other occurs.
 pub fn each_nth_of_a_seat_occurs_once()
     ensures once { (h : PortHistory) (port : ℕ) (receipts : List Receipt) → IsSettled h port receipts
         → (seat nth : ℕ) → nth < posts_of seat receipts → (k : ℕ) × IsOnlyPost receipts seat nth k }

@@ -1,5 +1,5 @@
-//! The settlement of one port with two seats, worked by hand: an admission and a map of the first seat, a turn, a report and
-//! a map of the second. It is in this crate since only here a field of a receipt can be changed.
+//! The settlement of one port with two seats, worked by hand: an admission and a map of the first seat, a turn, a
+//! report and a map of the second. It is in this crate since only here a field of a receipt can be changed.
 
 use crate::closed::Closed;
 use crate::receipt::{Receipt, take};

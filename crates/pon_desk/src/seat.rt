@@ -57,7 +57,8 @@ impl<L: Ledger, M: Ledger> Seat<L, M> {
         self.counts.as_slice()
     }
 
-    /// Begins to keep receipts: those that [`Seat::keep`] is given from now on. Receipts that it keeps already are dropped.
+    /// Begins to keep receipts: those that [`Seat::keep`] is given from now on. Receipts that it keeps already are
+    /// dropped.
     pub fn keep_receipts(&mut self, alloc: Global)
         ensures number { self.new.number ≡ self.old.number }
         ensures counts { self.new.counts ≡ self.old.counts }
@@ -76,8 +77,8 @@ impl<L: Ledger, M: Ledger> Seat<L, M> {
         self.kept.add(receipt);
     }
 
-    /// Takes the receipts out, oldest first; the seat keeps no further ones. `None` if it was to keep none, or memory was
-    /// refused for one.
+    /// Takes the receipts out, oldest first; the seat keeps no further ones. `None` if it was to keep none, or memory
+    /// was refused for one.
     pub fn take_receipts(&mut self) -> Option<Vec<Receipt>>
         ensures number { self.new.number ≡ self.old.number }
         ensures counts { self.new.counts ≡ self.old.counts }

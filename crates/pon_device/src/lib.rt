@@ -1,8 +1,8 @@
 //! Devices that bytes are read from and written to, and the reading and writing of whole texts.
 //!
 //! Each device counts its failures, and a reader also its reads, so a contract can state that a fault was returned only
-//! if the device failed. A failed read is never taken for the end of the input, and a failed write leaves a prefix of the
-//! text. The contracts of a device over memory also give its bytes, and only [`MemWrite`] allocates memory.
+//! if the device failed. A failed read is never taken for the end of the input, and a failed write leaves a prefix of
+//! the text. The contracts of a device over memory also give its bytes, and only [`MemWrite`] allocates memory.
 #![tactic(auto)]
 
 mod fault;

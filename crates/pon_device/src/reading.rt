@@ -5,7 +5,11 @@ ghost use Rattle.pon_device.specs.Streams.{GivesByte};
 
 use crate::traits::{DevRead, Failed};
 
-/// Reads the next byte. `None` at the end of the input. `Failed` if the reader fails.
+/// Reads the next byte. `None` at the end of the input.
+///
+/// # Errors
+///
+/// `Failed` if the reader fails.
 pub fn next_byte<R: DevRead>(reader: &mut R) -> Result<Option<u8>, Failed>
     ensures byte { GivesByte (R.remaining reader.old) (R.remaining reader.new) result }
     ensures calls { CountsCall (R.calls reader.old) (R.calls reader.new) }

@@ -31,6 +31,8 @@ pub trait DevRead {
     /// Reads bytes to the front of `buf`, and returns their number: 0 only at the end of the bytes, or if `buf` is
     /// empty.
     ///
+    /// # Errors
+    ///
     /// `Failed` if the device failed in this call; then no byte is read.
     fn read(&mut self, buf: &mut [u8]) -> Result<usize, Failed>
         ensures count { IfOk result (λ n. n ≤ length buf.old) }
@@ -49,6 +51,8 @@ pub trait DevWrite {
 
     /// Writes bytes from the front of `buf`, and returns their number.
     ///
+    /// # Errors
+    ///
     /// `Failed` if the device failed in this call; then no byte is written. To write no byte of a piece that is not
     /// empty is a failure.
     fn write(&mut self, buf: &[u8]) -> Result<usize, Failed>
@@ -59,13 +63,19 @@ pub trait DevWrite {
 
     /// Flushes the bytes written so far.
     ///
+    /// # Errors
+    ///
     /// `Failed` if the device failed in this call.
     fn flush(&mut self) -> Result<(), Failed>
         ensures failures { CountsFailure (failures self.old) (failures self.new) result }
         ensures bytes { Keeps (contents self.old) (contents self.new) };
 }
 
-/// Writes all of the bytes, or fails after a prefix of them, exactly when the writer failed. It does not flush.
+/// Writes all of the bytes. It does not flush.
+///
+/// # Errors
+///
+/// `Failed` exactly when the writer failed; then a prefix of the bytes is written.
 pub fn write_all<W: DevWrite>(writer: &mut W, bytes: &[u8]) -> Result<(), Failed>
     ensures ok { OnOk result (Appends (W.contents writer.old) (W.contents writer.new) bytes.now) }
     ensures err { OnErr result ((sent rest : List ℕ)

@@ -7,7 +7,9 @@ use crate::traits::{DevWrite, write_all};
 
 /// Writes a text, and flushes the writer.
 ///
-/// Returns `Write` if the writer fails: a prefix of the text is then written, or all of it if only the flush fails.
+/// # Errors
+///
+/// `Write` if the writer fails: a prefix of the text is then written, or all of it if only the flush fails.
 pub fn write_text<W: DevWrite>(writer: &mut W, text: &[u8]) -> Result<(), DeviceFault>
     ensures text { TellsLine text.now (W.contents writer.old) (W.contents writer.new) result }
     ensures write { TellsWrite (W.failures writer.old) (W.failures writer.new) result }

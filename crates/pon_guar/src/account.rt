@@ -6,19 +6,23 @@ ghost use Rattle.pon_guar.specs.Loads.{with_account, without_account};
 
 use pon_units::{AllocId, BufOcc, FrameNo};
 
-/// A report that counts: the frame of the map that requested it, and its words of 4 bytes that were not granted since,
-/// 0 to 16,777,215.
+/// A report that counts.
 #[derive(Clone, Copy, Debug, PartialEq, Eq)]
 pub struct Counted {
+    /// The frame of the map that requested it, of 125 µs.
     pub frame: FrameNo,
+    /// Its words of 4 bytes that were not granted since, 0 to 16,777,215.
     pub words: BufOcc,
 }
 
-/// The account of an Alloc-ID in the report book: the frame from which its reports count, and the report that counts.
+/// The account of an Alloc-ID in the report book.
 #[derive(Clone, Copy, Debug, PartialEq, Eq)]
 pub struct Account {
+    /// The Alloc-ID, 1024 to 16383.
     pub alloc_id: AllocId,
+    /// The frame from which its reports count, of 125 µs.
     pub since: FrameNo,
+    /// The report that counts; `None` if there is none.
     pub counted: Option<Counted>,
 }
 

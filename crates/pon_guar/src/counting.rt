@@ -37,8 +37,8 @@ fn with_report(account: Account, report: Counted) -> Account
     }
 }
 
-// Counts a report in the account of its Alloc-ID, if there is one. The account is found with no search if the hint is its
-// index.
+// Counts a report in the account of its Alloc-ID, if there is one. The account is found with no search if the hint is
+// its index.
 fn count(accounts: &mut [Account], hint: usize, alloc_id: AllocId, report: Counted)
     requires { AreRising (alloc_ids accounts.old) }
     ensures { accounts.new ≡ counting alloc_id report accounts.old }

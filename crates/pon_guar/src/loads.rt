@@ -69,10 +69,14 @@ impl Loads {
         }
     }
 
-    /// Makes the book of these accounts, in any order, and of a window of copies of these maps, the oldest first.
+    /// Makes the book of these accounts, in any order, and of a window of copies of these maps, the oldest first. A
+    /// window has at most 64 maps of consecutive frames, with grants in map order, and with reporters in ascending
+    /// ONU-ID, each of which the map polls.
+    ///
+    /// # Errors
+    ///
     /// `Unlawful` exactly when two accounts are of one Alloc-ID or the maps are not a window, unless memory is refused
-    /// first: at most 64 maps of consecutive frames, with grants in map order, and with reporters in ascending ONU-ID,
-    /// each of which the map polls. `Memory` only if memory is refused.
+    /// first. `Memory` only if memory is refused.
     pub fn from_parts(
         alloc: Global,
         accounts: &[Account],
@@ -97,8 +101,12 @@ impl Loads {
         })
     }
 
-    /// Makes an equal book, with its own memory. It has no hints, and its window no running sums ([`Window::try_copy`]).
-    /// `Err` only if memory is refused.
+    /// Makes an equal book, with its own memory. It has no hints, and its window no running sums
+    /// ([`Window::try_copy`]).
+    ///
+    /// # Errors
+    ///
+    /// `AllocError` only if memory is refused.
     pub fn try_copy(&self, alloc: Global) -> Result<Loads, AllocError>
         ensures { IfOk result (λ loads. loads ≡ self.now) }
     {
@@ -129,7 +137,8 @@ impl Loads {
         }
     }
 
-    /// Account of an Alloc-ID: the frame from which its reports count, and the report that counts. `None` if it has none.
+    /// Account of an Alloc-ID: the frame from which its reports count, and the report that counts. `None` if it has
+    /// none.
     pub fn account(&self, alloc_id: AllocId) -> Option<Account>
         ensures { result ≡ account_of self.now.accounts alloc_id }
     {
@@ -153,8 +162,11 @@ impl Loads {
         &self.window
     }
 
-    /// Adds an account for an Alloc-ID that has none: its reports count from a frame on. `OutOfMemory` if memory is
-    /// refused, and then nothing changes.
+    /// Adds an account for an Alloc-ID that has none: its reports count from a frame on.
+    ///
+    /// # Errors
+    ///
+    /// `OutOfMemory` if memory is refused; then nothing changes.
     pub fn admitted(&mut self, alloc_id: AllocId, since: FrameNo) -> Result<(), Refusal>
         requires { list_any (λ j. j == alloc_id) (alloc_ids self.old.accounts) ≡ false }
         ensures ok { OnOk result (self.new ≡ after_admitted self.old alloc_id since) }
@@ -179,10 +191,13 @@ impl Loads {
         remove_account(&mut self.accounts, alloc_id);
     }
 
-    /// Adds the map of a frame to the window, and drops the oldest if there are then more than 64; each report that
+    /// Adds the map of a frame to the window, and drops the oldest if there are then more than 64. Each report that
     /// counts is reduced by what the map grants its Alloc-ID. The grants must be in map order, and the frame must be
-    /// that of the last map plus 1, or any if the window is empty. `OutOfMemory` if memory is refused, and then nothing
-    /// changes.
+    /// the frame of the last map plus 1, or any if the window is empty.
+    ///
+    /// # Errors
+    ///
+    /// `OutOfMemory` if memory is refused; then nothing changes.
     pub fn mapped(&mut self, frame: FrameNo, grants: &[Granted]) -> Result<(), Refusal>
         requires next { AreConsecutive frame self.old.window }
         requires map_order { AreInMapOrder grants.now }
@@ -197,7 +212,11 @@ impl Loads {
     }
 
     /// Adds a map as [`Loads::mapped`] does, and keeps these grants. Returns a vector for the grants of a later map, as
-    /// [`Window::add`] does. `Err` only if memory is refused, and then nothing changes.
+    /// [`Window::add`] does.
+    ///
+    /// # Errors
+    ///
+    /// `AllocError` only if memory is refused; then nothing changes.
     pub fn add_map(
         &mut self,
         frame: FrameNo,
@@ -217,9 +236,12 @@ impl Loads {
 
     /// Takes an ONU's report for the map of a frame: one occupancy for each of its structures there, in order, in words
     /// of 4 bytes, `None` if it is garbled. An occupancy counts for its Alloc-ID if its frame is at least the
-    /// since-frame and no report of a later frame counts; it is reduced by what was granted from its frame on. The
-    /// error is the first check that refuses ([`Window::accept`]), then `OutOfMemory` if memory is refused; and then
-    /// nothing changes.
+    /// since-frame and no report of a later frame counts. It is reduced by what was granted from its frame on.
+    ///
+    /// # Errors
+    ///
+    /// The first check that refuses the report ([`Window::accept`]), then `OutOfMemory` if memory is refused. On an
+    /// error nothing changes.
     pub fn reported(
         &mut self,
         frame: FrameNo,
@@ -238,7 +260,11 @@ impl Loads {
         Ok(())
     }
 
-    /// Takes an accepted report, as [`Loads::reported`] does. `Err` only if memory is refused, and then nothing changes.
+    /// Takes an accepted report, as [`Loads::reported`] does.
+    ///
+    /// # Errors
+    ///
+    /// `AllocError` only if memory is refused; then nothing changes.
     pub fn take_report(
         &mut self,
         report: &Accepted,

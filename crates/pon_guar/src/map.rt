@@ -30,11 +30,12 @@ impl Model for WindowMap {
     } };
 }
 
-/// The grants of a map to an ONU. `first` is the index of the first of them in the map, a hint for callers: no clause
-/// of [`WindowMap::series`] states it.
+/// The grants of a map to an ONU.
 #[derive(Clone, Copy, Debug)]
 pub struct OnuGrants<'a> {
+    /// The index of the first of them in the map, a hint for callers: no clause of [`WindowMap::series`] states it.
     pub first: usize,
+    /// The grants, in map order.
     pub grants: &'a [Granted],
 }
 
@@ -106,8 +107,8 @@ fn are_below(onus: &[OnuId], onu: OnuId) -> bool
     }
 }
 
-// Returns the number of smaller ONU-IDs: at once if all are smaller, since ONUs often report in order, otherwise by a binary
-// search.
+// Returns the number of smaller ONU-IDs: at once if all are smaller, since ONUs often report in order, otherwise by a
+// binary search.
 fn place_among(onus: &[OnuId], onu: OnuId) -> usize
     requires { AreRising onus.now }
     ensures within { result ≤ length onus.now }
@@ -180,7 +181,11 @@ impl WindowMap {
         &self.reported
     }
 
-    /// Makes an equal map. `Err` only if memory is refused.
+    /// Makes an equal map.
+    ///
+    /// # Errors
+    ///
+    /// `AllocError` only if memory is refused.
     pub fn try_copy(&self, alloc: Global) -> Result<WindowMap, AllocError>
         ensures { IfOk result (λ map. map ≡ self.now) }
     {

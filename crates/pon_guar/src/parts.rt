@@ -15,11 +15,14 @@ use std::alloc::{AllocError, Global};
 use std::marker::Model;
 use thiserror::Error;
 
-/// A map of a window that is restored: its frame, its grants, and the ONUs that reported.
+/// A map of a window that is restored.
 #[derive(Debug, Drop)]
 pub struct MapParts<'a> {
+    /// The frame of the map, of 125 µs.
     pub frame: FrameNo,
+    /// The grants of the map.
     pub grants: &'a [Granted],
+    /// The ONUs that reported for the map, each 0 to 1022.
     pub reported: &'a [OnuId],
 }
 

@@ -11,10 +11,12 @@ use pon_descr::Refusal;
 use pon_units::{FrameNo, OnuId};
 use std::alloc::AllocError;
 
-/// A report that no check refuses: of an ONU, for the map of a frame.
+/// A report that no check refuses.
 #[derive(Clone, Copy, Debug)]
 pub struct Accepted {
+    /// The frame of the map that it is for, of 125 µs.
     pub frame: FrameNo,
+    /// The ONU that reports, 0 to 1022.
     pub onu: OnuId,
     /// Index of the map in the window, the oldest first, 0 to 63.
     pub map: usize,
@@ -22,8 +24,8 @@ pub struct Accepted {
     pub first: usize,
 }
 
-/// Accepts a report of `count` occupancies, or returns the first check that refuses it. The hint is the index at which the
-/// grants to the ONU may begin.
+/// Accepts a report of `count` occupancies, or returns the first check that refuses it. The hint is the index at which
+/// the grants to the ONU may begin.
 pub(crate) fn accept_report(
     window: &[WindowMap],
     hint: usize,
@@ -60,8 +62,8 @@ pub(crate) fn accept_report(
     })
 }
 
-/// Notes an ONU's report for the map of a frame, which is at an index of the window; the window begins at an index of the
-/// kept maps. `Err` only if memory is refused, and then nothing changes.
+/// Notes an ONU's report for the map of a frame, which is at an index of the window; the window begins at an index of
+/// the kept maps. `Err` only if memory is refused, and then nothing changes.
 pub(crate) fn note_report(
     kept: &mut [WindowMap],
     past: usize,

@@ -132,7 +132,10 @@ impl Window {
     }
 
     /// Makes an equal window. It has no running sums: the words of its maps are counted by a scan until a map is added.
-    /// `Err` only if memory is refused.
+    ///
+    /// # Errors
+    ///
+    /// `AllocError` only if memory is refused.
     pub fn try_copy(&self, alloc: Global) -> Result<Window, AllocError>
         ensures { IfOk result (λ window. window ≡ self.now) }
     {
@@ -186,9 +189,13 @@ impl Window {
         words_granted(maps, sums, hint, onu, alloc_id)
     }
 
-    /// Accepts an ONU's report of `count` occupancies for the map of a frame, or returns the first check that refuses it:
-    /// `StaleFrame` if no map of the window is of the frame, `NotPolled` if that map grants the ONU nothing, `ReportCount`
-    /// if it has another number of structures for it, `AlreadyReported` if a report for it was taken.
+    /// Accepts an ONU's report of `count` occupancies for the map of a frame.
+    ///
+    /// # Errors
+    ///
+    /// The first check that refuses the report, in this order. `StaleFrame` if no map of the window is of the frame,
+    /// `NotPolled` if that map grants the ONU nothing. `ReportCount` if the map has another number of structures for
+    /// the ONU, `AlreadyReported` if a report of the ONU for the map was taken.
     pub fn accept(&self, frame: FrameNo, onu: OnuId, count: usize) -> Result<Accepted, Refusal>
         ensures ok { IfOk result (IsAccepted self.now frame onu count) }
         ensures refused { IfErr result (λ refusal. refuses_report self.now frame onu count
@@ -197,15 +204,19 @@ impl Window {
         accept_report(self.maps(), self.next, frame, onu, count)
     }
 
-    /// Keeps the index after the grants of an ONU that reported, where those of the next reporter may begin: a hint, which
-    /// may be any index.
+    /// Keeps the index after the grants of an ONU that reported, where those of the next reporter may begin: a hint,
+    /// which may be any index.
     pub fn hint_next(&mut self, index: usize)
         ensures { self.new ≡ self.old }
     {
         self.next = index;
     }
 
-    /// Notes that an ONU reported for a map. `Err` only if memory is refused, and then nothing changes.
+    /// Notes that an ONU reported for a map.
+    ///
+    /// # Errors
+    ///
+    /// `AllocError` only if memory is refused; then nothing changes.
     pub fn note_report(&mut self, report: &Accepted) -> Result<(), AllocError>
         requires accepted { (count : ℕ)
             × IsAccepted self.old report.now.frame report.now.onu count report.now }
@@ -224,9 +235,13 @@ impl Window {
     }
 
     /// Adds the map of a frame, and drops the oldest if there are then more than 64. The grants must be in map order,
-    /// and the frame must be that of the last map plus 1, or any if the window is empty. Returns a vector for the grants
-    /// of a later map: it has the memory of those of the map that left, if one did, and no clause states its content.
-    /// `Err` only if memory is refused, and then nothing changes.
+    /// and the frame must be the frame of the last map plus 1, or any if the window is empty. Returns a vector for the
+    /// grants of a later map: it has the memory of the grants of the map that left, if one did, and no clause states
+    /// its content.
+    ///
+    /// # Errors
+    ///
+    /// `AllocError` only if memory is refused; then nothing changes.
     pub fn add(&mut self, frame: FrameNo, grants: Vec<Granted>) -> Result<Vec<Granted>, AllocError>
         requires next { AreConsecutive frame self.old }
         requires map_order { AreInMapOrder grants.items }
@@ -258,9 +273,13 @@ impl Window {
         Ok(grants)
     }
 
-    /// Adds a map with the ONUs that reported for it, as a recorded window has it, in whole: the window must have room for
-    /// it, its frame must be that of the last map plus 1, or any if the window is empty, and it must be lawful. `Err` only
-    /// if memory is refused, and then nothing changes.
+    /// Adds a map with the ONUs that reported for it, as a recorded window has it, in whole. The window must have room
+    /// for it, and it must be lawful. Its frame must be the frame of the last map plus 1, or any if the window is
+    /// empty.
+    ///
+    /// # Errors
+    ///
+    /// `AllocError` only if memory is refused; then nothing changes.
     pub fn restore(
         &mut self,
         frame: FrameNo,

@@ -8,6 +8,9 @@ use crate::places::PLACES;
 use crate::seal::check_bits;
 
 /// Opens a header word of 4 bytes, and returns its payload, below 2^19, and the number of corrected bits, 0 to 2.
+///
+/// # Errors
+///
 /// `HecFault` exactly when the word is more than two bit errors away from every codeword.
 pub fn open32(word: u32) -> Result<(u32, u8), HecFault>
     ensures ok { IfOk result (λ p. Reads (2 ^ 32) word p.0 p.1) }
@@ -23,6 +26,9 @@ pub fn open32(word: u32) -> Result<(u32, u8), HecFault>
 }
 
 /// Opens a header word of 8 bytes, and returns its payload, below 2^51, and the number of corrected bits, 0 to 2.
+///
+/// # Errors
+///
 /// `HecFault` exactly when the word is more than two bit errors away from every codeword.
 pub fn open64(word: u64) -> Result<(u64, u8), HecFault>
     ensures ok { IfOk result (λ p. Reads (2 ^ 64) word p.0 p.1) }

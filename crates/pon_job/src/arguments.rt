@@ -326,8 +326,10 @@ fn job_of<'a>(alloc: Global, matches: &ArgMatches<'a>) -> Result<Option<Job<'a>>
 /// Parses the words of the command line, the program's name first, and returns the job of their subcommand, with the
 /// values of its arguments.
 ///
-/// The error is clap's: the first fault of the words, the help or the version if they request it, or out of memory. It
-/// is `InvalidSubcommand` for words in which clap finds no fault, but whose subcommand names no job.
+/// # Errors
+///
+/// An error of clap: the first fault of the words, the help or the version if they request it, or out of memory. It is
+/// `InvalidSubcommand` for words in which clap finds no fault, but whose subcommand names no job.
 pub fn job<'a>(alloc: Global, words: &'a [String]) -> Result<Job<'a>, Error>
     ensures job { IfOk result (IsJob (subcommand_of olt_app (map string_bytes words.now))) }
     ensures refused { IfErr result (RefusesWords (map string_bytes words.now)) }

@@ -12,7 +12,8 @@ use pon_device::DeviceFault;
 /// Outcome of a run of the program.
 #[derive(Clone, Copy, Debug, PartialEq, Eq)]
 pub enum Outcome {
-    /// The job is done; a check or an audit accepted, a recording was migrated, or one that is good was shown. Also help and the version, if they were requested.
+    /// The job is done; a check or an audit accepted, a recording was migrated, or one that is good was shown. Also
+    /// help and the version, if they were requested.
     Done,
     /// A check, an audit or strict management refused its input, or a recording to migrate or to show has a fault.
     Refused,
@@ -26,8 +27,9 @@ pub enum Outcome {
     Unfinished,
 }
 
-/// Returns the exit status of an outcome: 0 if the job is done, 1 if a check, an audit, a migration or strict management refused, 2 if the command line
-/// or the settings are refused, 3 if a device failed, memory was refused, or a port was not served to its last map.
+/// Returns the exit status of an outcome: 0 if the job is done, 1 if a check, an audit, a migration or strict
+/// management refused, 2 if the command line or the settings are refused, 3 if a device failed, memory was refused, or
+/// a port was not served to its last map.
 pub fn exit_status(outcome: Outcome) -> u8
     ensures { result ≡ exit_status outcome }
 {
@@ -81,8 +83,8 @@ pub fn outcome_of_ports(ended: Result<bool, DeviceFault>) -> Outcome
     }
 }
 
-/// Returns the outcome of a job, from how it ended: `true` is acceptance, or that no management line was refused, or that
-/// each port was served to its last map.
+/// Returns the outcome of a job, from how it ended: `true` is acceptance, or that no management line was refused, or
+/// that each port was served to its last map.
 pub fn outcome_of_job(job: &Job<'_>, ended: Result<bool, DeviceFault>) -> Outcome
     ensures { result ≡ outcome_of_job job.now ended }
 {

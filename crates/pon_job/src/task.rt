@@ -50,70 +50,91 @@ pub struct Part {
     pub to: Option<u64>,
 }
 
-/// A view of a part of the recording `file`: as text, or as JSON; with `svg` also as a picture in that file.
+/// A view of a part of a recording.
 #[derive(Clone, Copy, Debug, PartialEq, Eq)]
 pub struct Show<'a> {
+    /// The view.
     pub view: View,
+    /// The file of the recording.
     pub file: &'a str,
+    /// The part of the recording.
     pub part: Part,
+    /// The file for a picture of the view; `None` for no picture.
     pub svg: Option<&'a str>,
+    /// Whether the view is JSON; otherwise it is text.
     pub json: bool,
 }
 
-/// An audit of the recordings `files`, each by itself; with `json` an object of each is printed in place of a line.
+/// An audit of recordings, each by itself.
 #[derive(Debug, PartialEq, Eq, Drop)]
 pub struct Audit<'a> {
+    /// The files of the recordings.
     pub files: Vec<&'a str>,
+    /// Whether an object of each recording is printed in place of a line.
     pub json: bool,
 }
 
-/// Management lines to be answered, at the ports of the settings file `config`, or at one port if there is none. With
-/// `strict` a refused line is a refusal of the input, with `verbose` each refusal is explained on standard error. `record`
-/// is the file for a recording of the ports' chapters, which with `no_clobber` may not exist.
+/// Management lines to be answered.
 #[derive(Clone, Copy, Debug, PartialEq, Eq)]
 pub struct Plan<'a> {
+    /// The settings file of the ports; `None` for one port.
     pub config: Option<&'a str>,
+    /// Whether a refused line is a refusal of the input.
     pub strict: bool,
+    /// Whether each refusal is explained on standard error.
     pub verbose: bool,
+    /// The file for a recording of the ports' chapters; `None` for no recording.
     pub record: Option<&'a str>,
+    /// Whether a recording whose file exists is refused.
     pub no_clobber: bool,
 }
 
-/// How the ports of a run meet their units: with `external` these come from elsewhere, and each port waits for them for `wait`
-/// seconds, 1 to 3,600; with a `pace` each port makes that number of maps in a second by the clock, 1 to 1,000,000.
+/// How the ports of a run meet their units.
 #[derive(Clone, Copy, Debug, PartialEq, Eq)]
 pub struct Meeting {
+    /// Whether the units come from elsewhere.
     pub external: bool,
+    /// The seconds that each port waits for units from elsewhere, 1 to 3,600; `None` if not given.
     pub wait: Option<u64>,
+    /// The number of maps that each port makes in a second by the clock, 1 to 1,000,000; `None` for no pace.
     pub pace: Option<u64>,
 }
 
-/// A run: `maps` maps, 1 to `MAX_MAPS`, at each port of the settings file `config`, over sockets at the address `listen`;
-/// `record` is the file for a recording of their chapters, which with `no_clobber` may not exist, `operate` a file of
-/// management lines for an operator, or `-` for standard input, and with `settle` each port is settled at the end with the
-/// receipts of all posts. With `progress` it can be followed on standard error, and with `summary` each port has a line there at
-/// the end.
+/// A run of the ports of a settings file over sockets.
 #[derive(Clone, Copy, Debug, PartialEq, Eq)]
 pub struct Run<'a> {
+    /// The settings file.
     pub config: &'a str,
+    /// The address of the sockets.
     pub listen: &'a str,
+    /// The number of maps at each port, 1 to [`MAX_MAPS`].
     pub maps: u64,
+    /// How the ports meet their units.
     pub meeting: Meeting,
+    /// The file for a recording of the ports' chapters; `None` for no recording.
     pub record: Option<&'a str>,
+    /// Whether a recording whose file exists is refused.
     pub no_clobber: bool,
+    /// The file of management lines for an operator, or `-` for standard input; `None` for no lines.
     pub operate: Option<&'a str>,
+    /// Whether each port is settled at the end with the receipts of all posts.
     pub settle: bool,
+    /// Whether the run can be followed on standard error.
     pub progress: bool,
+    /// Whether each port has a line on standard error at the end.
     pub summary: bool,
 }
 
-/// The simulated units of the settings file `config` for a terminal elsewhere, whose port 0 has the address `connect`; of one
-/// port, 0 to 63, or of all. They try to connect for `wait` seconds, 1 to 3,600.
+/// The simulated units of a settings file, for a terminal elsewhere.
 #[derive(Clone, Copy, Debug, PartialEq, Eq)]
 pub struct Units<'a> {
+    /// The settings file.
     pub config: &'a str,
+    /// The address of port 0 of the terminal.
     pub connect: &'a str,
+    /// The port that the units are of, 0 to 63; `None` for the units of all ports.
     pub port: Option<u64>,
+    /// The seconds for which the units try to connect, 1 to 3,600; `None` if not given.
     pub wait: Option<u64>,
 }
 

@@ -60,13 +60,17 @@ impl DownReader {
         self.reading.feed(piece)
     }
 
-    /// Returns the record and clears the reader, exactly when a whole record is held. `None` if the held bytes are a
-    /// prefix of a record.
+    /// Returns the record and clears the reader if a whole record is held; `None` if the held bytes are a prefix of a
+    /// record.
     ///
-    /// `BadTag` as soon as the first byte is held and is not the tag; `BadMap` as soon as the head of the map is held
-    /// and is refused, or announces messages or more than 512 structures, and if the whole map is refused; `Truncated`
-    /// if the input ended inside the record. Every later call returns the same fault. `Memory` if memory is refused for
-    /// the map of a whole record; then the reader is unchanged, and the next call tries again.
+    /// # Errors
+    ///
+    /// `BadTag` as soon as the first byte is held and is not the tag. `BadMap` as soon as the head of the map is held
+    /// and is refused, or announces messages or more than 512 structures, and if the whole map is refused. `Truncated`
+    /// if the input ended inside the record. Every later call returns the same fault.
+    ///
+    /// `Memory` if memory is refused for the map of a whole record; then the reader is unchanged, and the next call
+    /// tries again.
     pub fn next(&mut self) -> Result<Option<DownRecord>, DownFault>
         ensures outcome { GivesDown self.old self.new result }
         ensures sticky { (f : LinkFault) → HasFault self.old f → result ≡ Err (DownFault.Link f) }
@@ -91,7 +95,9 @@ impl DownReader {
 
     /// Reads once from the device, and never past the present record: at most up to the end of its map's head, and then
     /// at most its rest. It reads nothing while a whole record is held for [`DownReader::next`], and nothing after a
-    /// fault; each other pull that succeeds adds at least one byte, or finds the end.
+    /// fault. Each other pull that succeeds adds at least one byte, or finds the end.
+    ///
+    /// # Errors
     ///
     /// `Device` exactly when the device failed in this call. `Link` for a fault of [`DownReader::next`], and if the
     /// input ended inside a record.

@@ -59,8 +59,10 @@ impl UpReader {
     /// Returns the record and clears the reader, exactly when a whole record is held. `None` if the held bytes are a
     /// prefix of a record.
     ///
-    /// `BadTag` as soon as the first byte is held and is not the tag, `BadCount` as soon as the count byte is held and
-    /// is not 1 to 16, `Truncated` if the input ended inside the record. Every later call returns the same fault.
+    /// # Errors
+    ///
+    /// `BadTag` as soon as the first byte is held and is not the tag. `BadCount` as soon as the count byte is held and
+    /// is not 1 to 16. `Truncated` if the input ended inside the record. Every later call returns the same fault.
     pub fn next(&mut self) -> Result<Option<UpRecord>, LinkFault>
         ensures outcome { Returns IsRecord self.old self.new result }
         ensures sticky { (f : LinkFault) → HasFault self.old f → result ≡ Err f }
@@ -80,8 +82,10 @@ impl UpReader {
     }
 
     /// Reads once from the device, and never past the present record: at most up to its count byte, and then at most
-    /// its rest. It reads nothing while a whole record is held for [`UpReader::next`], and nothing after a fault; each
+    /// its rest. It reads nothing while a whole record is held for [`UpReader::next`], and nothing after a fault. Each
     /// other pull that succeeds adds at least one byte, or finds the end.
+    ///
+    /// # Errors
     ///
     /// `Device` exactly when the device failed in this call. `Link` for a fault of [`UpReader::next`], and if the input
     /// ended inside a record.

@@ -48,9 +48,11 @@ fn answer_held<W: DevWrite>(
 /// If several units own an Alloc-ID, the one after the last owner in the slice answers if it is one of them, otherwise
 /// the first of them.
 ///
-/// Returns `Device` if a read, a write or a flush failed, or 2^64 - 1 reads were made: a prefix of the answers to the
-/// maps that were read is written. Returns `Link` if the bytes that were read are not a map, or the input ended inside
-/// one, and `Memory` if memory was refused for a map: the answers to all earlier maps are written.
+/// # Errors
+///
+/// `Device` if a read, a write or a flush failed, or 2^64 - 1 reads were made; then a prefix of the answers to the maps
+/// that were read is written. `Link` if the bytes that were read are not a map, or the input ended inside one. `Memory`
+/// if memory was refused for a map. After `Link` or `Memory` the answers to all earlier maps are written.
 pub fn serve_units<R: DevRead, W: DevWrite>(
     alloc: Global,
     units: &mut [Unit],

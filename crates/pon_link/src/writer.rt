@@ -53,8 +53,10 @@ impl DownWriter {
         }
     }
 
-    /// Encodes the record of the frame and its map, to be written next: a tag byte, the frame in 8 bytes, the most
-    /// significant first, and the bytes of the map. A reader decodes them to this record.
+    /// Encodes the record of the frame and its map, to be written next. The record is a tag byte, the frame in 8 bytes,
+    /// the most significant first, and the bytes of the map. A reader decodes them to this record.
+    ///
+    /// # Errors
     ///
     /// `Busy` exactly when bytes of the previous record remain; then the writer is unchanged.
     pub fn put(&mut self, frame: FrameNo, map: &Map) -> Result<(), Busy>
@@ -75,7 +77,9 @@ impl DownWriter {
 
     /// Writes the remaining bytes, in as many writes as the device needs.
     ///
-    /// `Device` exactly when the device failed in this call; the bytes that it had not written remain, and can be
+    /// # Errors
+    ///
+    /// `Device` exactly when the device failed in this call. The bytes that it had not written remain, and can be
     /// pushed again.
     pub fn push<W: DevWrite>(&mut self, writer: &mut W) -> Result<(), Device>
         ensures sent { (sent : List ℕ) × Appends (W.contents writer.old)

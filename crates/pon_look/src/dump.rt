@@ -32,8 +32,8 @@ struct Page {
     room: Vec<u8>,
 }
 
-// Appends the event of an entry as a management line, and its reply, of which `index` counts the entries of the port before
-// it.
+// Appends the event of an entry as a management line, and its reply, of which `index` counts the entries of the port
+// before it.
 fn append_taken(text: &mut Vec<u8>, event: &Event, index: u64) -> Result<(), AllocError> {
     append_event(text, event)?;
     text.extend_from_slice(b"\n# ok ")?;
@@ -174,12 +174,15 @@ fn write_batch<W: DevWrite>(
     Ok(())
 }
 
-/// Writes the events of each chapter of a port, or of all ports, as management lines, each with its reply as a comment, while
-/// the recording is audited. Returns the verdict of the audit, and what is missing.
+/// Writes the events of each chapter of a port, or of all ports, as management lines, each with its reply as a comment,
+/// while the recording is audited. Returns the verdict of the audit, and what is missing.
 ///
-/// A chapter begins with a comment about its opening. The lines of chapter 0 of a port give the same replies again, by
-/// `olt plan` with settings of the same first frame, gap and profile and no rows, if its remainders are carried; those of
-/// a later chapter are comments. It ends at the end of the recording, or at the first fault of its format.
+/// A chapter begins with a comment about its opening. In `olt plan`, with settings of the same first frame, gap and
+/// profile and no rows, the lines of chapter 0 of a port give the same replies again. This holds if the chapter's
+/// remainders are carried. The lines of a later chapter are comments. The text ends at the end of the recording, or at
+/// the first fault of its format.
+///
+/// # Errors
 ///
 /// `Read` exactly when the reader fails, `Write` exactly when the writer fails, `Memory` if memory is refused.
 pub fn write_dump<R: DevRead, W: DevWrite>(

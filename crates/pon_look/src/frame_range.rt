@@ -7,7 +7,9 @@ use pon_units::FrameNo;
 /// A range of frames of 125 µs, both ends included.
 #[derive(Clone, Copy, Debug, PartialEq, Eq)]
 pub struct FrameRange {
+    /// The number of the first frame.
     pub first: u64,
+    /// The number of the last frame.
     pub last: u64,
 }
 

@@ -145,8 +145,11 @@ fn end_of(end: BatchEnd, read: u64) -> u64 {
     }
 }
 
-/// Writes a line for each chapter of a recording, one for chapters that are missing between two of a port, and the totals at
-/// the end of the recording or at the first fault of its format, while it is audited. Returns the verdict of the audit.
+/// Writes a line for each chapter of a recording, and one for chapters that are missing between two of a port, while
+/// the recording is audited. Then writes the totals, at the end of the recording or at the first fault of its format.
+/// Returns the verdict of the audit.
+///
+/// # Errors
 ///
 /// `Read` exactly when the reader fails, `Write` exactly when the writer fails, `Memory` if memory is refused.
 pub fn write_info<R: DevRead, W: DevWrite>(

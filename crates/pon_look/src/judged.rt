@@ -99,8 +99,10 @@ fn judged_json(
         .into_line()
 }
 
-/// Writes the object of a recording that was judged: its file, verdict and place of the fault, and what it holds up to the
-/// first fault of its format: maps, ports, bytes, and seconds of line time.
+/// Writes the object of a recording that was judged: its file, its verdict and the place of its fault. The object also
+/// has what the recording holds up to the first fault of its format: maps, ports, bytes, and seconds of line time.
+///
+/// # Errors
 ///
 /// `Read` if the reader fails, `Write` if the writer fails, `Memory` if memory is refused.
 pub fn write_judged<R: DevRead, W: DevWrite>(

@@ -106,11 +106,15 @@ fn draw_loads(
     }
 }
 
-/// Draws what an Alloc-ID requested, what it was guaranteed and what it was granted along the frames of a port in a
-/// recording, in at most 60 steps of equally many frames: of the first port in it without a port. Each number is a mean of the
-/// sums that `write_rates` writes for the frames of the step. A chapter that is refused at an entry is followed up to that
-/// entry, and the recording up to the first fault of its format. It is judged by the way, in as many threads as there are
-/// processors; returns the verdict of the audit, and the picture or what is missing.
+/// Draws what an Alloc-ID requested, what it was guaranteed and what it was granted, along the frames of a port in a
+/// recording. Without a port in the query, the port is the first one in the recording. The picture has at most 60 steps
+/// of equally many frames. Each number is a mean of the sums that `write_rates` writes for the frames of the step.
+///
+/// A chapter that is refused at an entry is followed up to that entry, and the recording up to the first fault of its
+/// format. The recording is judged at the same time, in as many threads as there are processors. Returns the verdict of
+/// the audit, and the picture or what is missing.
+///
+/// # Errors
 ///
 /// `Read` exactly when the reader fails, `Memory` if memory is refused or a sum is 2^64 or more.
 pub fn loads_of<R: DevRead>(

@@ -9,8 +9,12 @@ use std::alloc::{AllocError, Global};
 /// Words of a burst header, and of a trailer.
 pub(crate) const HEADER_WORDS: u64 = 1;
 
-/// Returns the first word of each grant of a map, counted from the beginning of the frame: after the header if the
-/// structure starts a burst, and otherwise after the grant before it. `Err` only if memory is refused.
+/// Returns the first word of each grant of a map, counted from the beginning of the frame. A grant begins after the
+/// header if its structure starts a burst, and otherwise after the grant before it.
+///
+/// # Errors
+///
+/// `AllocError` only if memory is refused.
 pub fn grant_places(alloc: Global, map: &Map) -> Result<Vec<u64>, AllocError>
     ensures { IfOk result (λ places. places.items ≡ first_words 0 map.now) }
 {
@@ -28,8 +32,8 @@ pub fn grant_places(alloc: Global, map: &Map) -> Result<Vec<u64>, AllocError>
     Ok(places)
 }
 
-/// The burst of an ONU: its first structure and the number after its last one, counted from 0 in the map, the word of its
-/// header, and the word of its trailer.
+/// The burst of an ONU: its first structure and the number after its last one, counted from 0 in the map, the word of
+/// its header, and the word of its trailer.
 #[derive(Clone, Copy, Debug, PartialEq, Eq)]
 pub(crate) struct Burst {
     pub(crate) first: usize,

@@ -17,10 +17,12 @@ use pon_units::{FrameNo, PortNo};
 use std::alloc::{AllocError, Global};
 use std::thread::Threads;
 
-/// The picture of a map: as text of at most 80 columns, and as SVG.
+/// The picture of a map.
 #[derive(Debug, Drop)]
 pub struct Picture {
+    /// The picture as text of at most 80 columns.
     pub text: String,
+    /// The picture as SVG.
     pub svg: String,
 }
 
@@ -67,9 +69,11 @@ fn draw(alloc: Global, found: &FoundMap) -> Result<Option<Picture>, AllocError> 
     Ok(Some(Picture { text, svg }))
 }
 
-/// Draws the map of a frame of a port in a recording: of the first port in it without a port, and the last map of the port
-/// without a frame. A recording that is not good is drawn as it stands, up to the first fault of its format. Returns the
-/// verdict of its audit, and the picture or what is missing.
+/// Draws the map of a frame of a port in a recording. Without a port, the port is the first one in the recording;
+/// without a frame, the map is the last one of the port. A recording that is not good is drawn as it stands, up to the
+/// first fault of its format. Returns the verdict of its audit, and the picture or what is missing.
+///
+/// # Errors
 ///
 /// `Read` exactly when the reader fails, `Memory` if memory is refused.
 pub fn picture_of<R: DevRead>(

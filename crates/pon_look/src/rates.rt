@@ -65,7 +65,8 @@ fn missing(tallies: &PortTallies, query: &RatesQuery) -> Option<Missing> {
     }
 }
 
-// Returns the changes of the Alloc-IDs that were asked for, by ascending Alloc-ID, and those of one in the order of the maps.
+// Returns the changes of the Alloc-IDs that were asked for, by ascending Alloc-ID, and those of one in the order of the
+// maps.
 fn sorted_changes(
     alloc: Global,
     changes: &[Change],
@@ -138,14 +139,17 @@ fn write_ports<W: DevWrite>(
     Ok(())
 }
 
-/// Writes what the maps of a recording add up to for each Alloc-ID: a line for each of its descriptors, with the frame of
-/// the first map that has it, and a line of mean rates, by ascending port and Alloc-ID. A chapter that is refused at an
-/// entry has a line, and only its maps up to that entry are summed up. The recording is read up to its end or to the first
-/// fault of its format, and judged while it is summed up, in as many threads as there are processors. Returns the verdict of the
-/// audit, and what is missing.
+/// Writes what the maps of a recording add up to for each Alloc-ID, by ascending port and Alloc-ID. There is a line for
+/// each of its descriptors, with the frame of the first map that has it, and a line of mean rates. A chapter that is
+/// refused at an entry has a line, and only its maps up to that entry are summed up.
 ///
-/// `Read` exactly when the reader fails, `Write` exactly when the writer fails, `Memory` if memory is refused or a sum is 2^64 or
-/// more.
+/// The recording is read up to its end or to the first fault of its format. It is judged while it is summed up, in as
+/// many threads as there are processors. Returns the verdict of the audit, and what is missing.
+///
+/// # Errors
+///
+/// `Read` exactly when the reader fails, `Write` exactly when the writer fails, `Memory` if memory is refused or a sum
+/// is 2^64 or more.
 pub fn write_rates<R: DevRead, W: DevWrite>(
     rt: &(impl Threads + Sync),
     alloc: Global,

@@ -43,8 +43,8 @@ pub(crate) fn open_replay(alloc: Global, chapter: &RawChapter) -> Result<Option<
     }
 }
 
-/// Replays a chapter up to the entry at `end`, from its opening. Returns the index of the first entry that may not follow,
-/// or `None` if each before `end` does. `Err` only if memory is refused.
+/// Replays a chapter up to the entry at `end`, from its opening. Returns the index of the first entry that may not
+/// follow, or `None` if each before `end` does. `Err` only if memory is refused.
 pub(crate) fn replay_to(
     alloc: Global,
     chapter: &RawChapter,
@@ -70,19 +70,19 @@ pub(crate) fn replay_to(
     Ok(None)
 }
 
-/// What a map gives, with the numbers that it follows from: those of each admitted Alloc-ID, in map order, and the
-/// surpluses that the two classes share, in kbit/s.
+/// What a map gives, with the numbers that it follows from.
 #[derive(Drop)]
 pub struct MapExplanation {
+    /// The numbers of each admitted Alloc-ID, in map order.
     pub rows: Vec<Explanation>,
-    /// The surplus that the non-assured class shares.
+    /// The surplus that the non-assured class shares, in kbit/s.
     pub non_assured: u64,
-    /// The surplus that the best-effort class shares: what the non-assured class leaves.
+    /// The surplus that the best-effort class shares, in kbit/s: what the non-assured class leaves.
     pub best_effort: u64,
 }
 
-/// Explains a map that is made from the state; `None` if its certificate is not that of the state. `Err` only if memory is
-/// refused.
+/// Explains a map that is made from the state; `None` if its certificate is not that of the state. `Err` only if memory
+/// is refused.
 pub(crate) fn explain_map(
     alloc: Global,
     replay: &mut Replay,

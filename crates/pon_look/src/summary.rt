@@ -8,18 +8,26 @@ use crate::frames::{first_frame, last_frame};
 use pon_record::RawChapter;
 use pon_units::{FrameNo, PortNo};
 
-/// What a chapter holds: its port and number, the frames of its first and its last map, the numbers of its maps, reports
-/// and failures, and the numbers of Alloc-IDs at its opening and at its end.
+/// What a chapter holds.
 #[derive(Clone, Copy, Debug, PartialEq, Eq)]
 pub struct Summary {
+    /// The port of the chapter, 0 to 63.
     pub port: PortNo,
+    /// The number of the chapter, counted from 0 in its port.
     pub number: u64,
+    /// The frame of its first map, of 125 µs; `None` without a map.
     pub first: Option<FrameNo>,
+    /// The frame of its last map, of 125 µs; `None` without a map.
     pub last: Option<FrameNo>,
+    /// The number of its maps.
     pub maps: u64,
+    /// The number of its reports.
     pub reports: u64,
+    /// The number of its failures of the line.
     pub failures: u64,
+    /// The number of Alloc-IDs at its opening.
     pub allocs: u64,
+    /// The number of Alloc-IDs at its end.
     pub allocs_end: u64,
 }
 
@@ -43,12 +51,16 @@ pub fn summary_of(chapter: &RawChapter) -> Summary
     }
 }
 
-/// The numbers of chapters, maps, reports and failures of a recording.
+/// The totals of a recording.
 #[derive(Clone, Copy, Debug, PartialEq, Eq)]
 pub struct Totals {
+    /// The number of its chapters.
     pub chapters: u64,
+    /// The number of its maps.
     pub maps: u64,
+    /// The number of its reports.
     pub reports: u64,
+    /// The number of its failures of the line.
     pub failures: u64,
 }
 

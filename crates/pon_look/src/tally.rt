@@ -32,8 +32,8 @@ use pon_why::{AllocTallies, Change, Changes, Followed, RowRates, Sums, rates_und
 use std::alloc::{AllocError, Global};
 use std::mem;
 
-/// What maps of a port add up to for each Alloc-ID, the changes of ONU or descriptor, and the maps of the Alloc-ID that is
-/// followed, if one is.
+/// What maps of a port add up to for each Alloc-ID, the changes of ONU or descriptor, and the maps of the Alloc-ID that
+/// is followed, if one is.
 #[derive(Drop)]
 pub struct Tally {
     allocs: AllocTallies,
@@ -64,7 +64,8 @@ impl Tally {
         self.changes.as_slice()
     }
 
-    /// The sums of an Alloc-ID, and the length of the longest run of maps of consecutive frames that granted it nothing.
+    /// The sums of an Alloc-ID, and the length of the longest run of maps of consecutive frames that granted it
+    /// nothing.
     pub(crate) fn of(&self, alloc_id: AllocId) -> (Sums, u64)
         ensures { result.0 ≡ tally_sums self.now alloc_id }
     {
@@ -131,15 +132,17 @@ pub enum Tallied {
     Stops { why: AuditReason, added: bool },
 }
 
-/// How far a chapter was summed up: the number of entries in the sums; and the answer on the chapter, regardless of those
-/// before it.
+/// How far a chapter was summed up.
 #[derive(Drop)]
 pub struct Summed {
+    /// The number of entries in the sums.
     pub entries: usize,
+    /// The answer on the chapter, regardless of the chapters before it.
     pub judged: Judged,
 }
 
-/// Returns the index of the entry that may not follow, 0 also if the opening is not lawful; `None` if the chapter is good.
+/// Returns the index of the entry that may not follow, 0 also if the opening is not lawful; `None` if the chapter is
+/// good.
 pub fn refused_entry(judged: &Judged) -> Option<usize>
     ensures { result ≡ refused_at judged.now }
 {
@@ -204,8 +207,8 @@ fn tally_map(
     Ok(true)
 }
 
-// Adds a map that follows `kept` entries of its chapter to the sums, if its frame is in the range, and applies it to the state
-// if it may follow. `Err` if memory is refused or a sum is 2^64 or more.
+// Adds a map that follows `kept` entries of its chapter to the sums, if its frame is in the range, and applies it to
+// the state if it may follow. `Err` if memory is refused or a sum is 2^64 or more.
 fn tally_made(
     alloc: Global,
     replay: &mut Replay,
@@ -235,8 +238,8 @@ fn tally_made(
     }
 }
 
-// Adds an entry that follows `kept` entries of its chapter to the sums, and applies it to the state if it may follow. `Err`
-// if memory is refused or a sum is 2^64 or more.
+// Adds an entry that follows `kept` entries of its chapter to the sums, and applies it to the state if it may follow.
+// `Err` if memory is refused or a sum is 2^64 or more.
 fn tally_entry(
     alloc: Global,
     replay: &mut Replay,
@@ -278,9 +281,13 @@ fn ended(index: usize, why: AuditReason, added: bool) -> Summed
     }
 }
 
-/// Adds the maps of a chapter in a range of frames to a tally of its port, up to the first entry that may not follow, and
-/// with its map if that has the Alloc-IDs of the state and its certificate is that of the state; and judges the chapter,
-/// regardless of those before it. `Err` if memory is refused or a sum is 2^64 or more.
+/// Adds the maps of a chapter in a range of frames to a tally of its port, up to the first entry that may not follow.
+/// These include the map of that entry if it has the Alloc-IDs of the state and its certificate is the state's. Judges
+/// the chapter too, regardless of the chapters before it.
+///
+/// # Errors
+///
+/// `AllocError` if memory is refused or a sum is 2^64 or more.
 pub fn tally_chapter(
     alloc: Global,
     chapter: &RawChapter,

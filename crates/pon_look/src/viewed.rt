@@ -1,8 +1,10 @@
 use pon_audit::Verdict;
 
-/// What is shown of a recording, and the verdict of its audit.
+/// A view of a recording.
 #[derive(Drop)]
 pub struct Viewed<T> {
+    /// The verdict of the recording's audit.
     pub verdict: Verdict,
+    /// What is shown of the recording.
     pub shown: T,
 }

@@ -27,13 +27,17 @@ use std::thread::Threads;
 pub enum MapAnswer {
     /// The map follows from the state before its entry.
     Explained(MapExplanation),
-    /// No state is known before the entry, or it is not the one that the map's certificate is of: the chapter is refused at
-    /// the entry of this index, 0 also if its opening is not lawful.
+    /// No state is known before the entry, or it is not the one that the map's certificate is of: the chapter is
+    /// refused at the entry of this index, 0 also if its opening is not lawful.
     Refused(usize),
 }
 
-/// Explains the map of the entry at an index of a chapter by the state before it, which is the replay of the entries before
-/// it. `Err` only if memory is refused.
+/// Explains the map of the entry at an index of a chapter by the state before it, which is the replay of the entries
+/// before it.
+///
+/// # Errors
+///
+/// `AllocError` only if memory is refused.
 pub fn explain_entry(
     alloc: Global,
     chapter: &RawChapter,
@@ -156,10 +160,13 @@ fn answer_by<W: DevWrite>(
     }
 }
 
-/// Writes the explanation of the first map of a frame at a port, or of the last map without a frame, and of the first port
-/// in the recording without a port: the surpluses and levels of the classes, and for each Alloc-ID, or for one, each number
-/// from which its words follow, and its structure. The recording is read up to its end or the first fault of its format.
-/// Returns the verdict of its audit, and what is missing.
+/// Writes the explanation of the first map of a frame at a port. Without a port in the query, the port is the first one
+/// in the recording; without a frame, the map is the last one of the port. The explanation has the surpluses and levels
+/// of the classes. It also has, for each Alloc-ID or for one, each number from which its words follow, and its
+/// structure. The recording is read up to its end or the first fault of its format. Returns the verdict of its audit,
+/// and what is missing.
+///
+/// # Errors
 ///
 /// `Read` exactly when the reader fails, `Write` exactly when the writer fails, `Memory` if memory is refused.
 pub fn write_why<R: DevRead, W: DevWrite>(

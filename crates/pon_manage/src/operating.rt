@@ -42,16 +42,19 @@ impl<'a, L: Ledger, M: Ledger, H: Wait> Answers<Seat<L, M>> for AtDesk<'a, L, M,
 /// Reads management lines to the end of the input, posts their events at the desk with this seat, and writes the reply
 /// or the refusal of each. Other threads may post at the desk at the same time.
 ///
-/// The text of a line has the form that its reading allows: none for a blank line or a comment, the refusal of a line
-/// that cannot be read, otherwise the reply or the refusal of an event, or the state of some port with a lawful chapter;
-/// which chapter is not stated, since other threads post too. An accepted event is posted at the port that its line
-/// names, and is one post more of the seat at that port; the seat is given the receipt to keep. Any other line leaves the
-/// seat unchanged. No lock is held during a read or a write. The replies to one read are written before the next read.
+/// The text of a line has the form that its reading allows: none for a blank line or a comment, and the refusal of a
+/// line that cannot be read. The text of any other line is the reply or the refusal of an event, or the state of some
+/// port with a lawful chapter. Which chapter is not stated, since other threads post too.
 ///
-/// `Read` if the reader failed or 2^64 - 1 reads were made: the text of all whole lines read is written.
-/// `Write` if the writer failed: a prefix of the text is written. `Memory` if memory was refused: the text of some first
-/// lines is written, and nothing of the next one. A line without its line feed at a fault is not answered. The writer is
-/// flushed once, at the end of the input.
+/// An accepted event is posted at the port that its line names, and is one post more of the seat at that port. The seat
+/// is given the receipt to keep. Any other line leaves the seat unchanged. No lock is held during a read or a write.
+/// The replies to one read are written before the next read. The writer is flushed once, at the end of the input.
+///
+/// # Errors
+///
+/// `Read` if the reader failed or 2^64 - 1 reads were made; then the text of all whole lines read is written. `Write`
+/// if the writer failed; then a prefix of the text is written. `Memory` if memory was refused; then the text of some
+/// first lines is written, and nothing of the next one. A line without its line feed at a fault is not answered.
 pub fn operate<L: Ledger, M: Ledger, H: Wait, R: DevRead, W: DevWrite>(
     rt: &H,
     alloc: Global,

@@ -22,17 +22,19 @@ use pon_text::{PlanEnd, answer_input};
 use pon_units::{FrameNo, MAX_PORTS};
 use std::alloc::Global;
 
-/// Opens the ports, takes the steps of their settings, which have no text, reads management lines to the end of the
-/// input, writes the reply or the refusal of each, and notes each refusal.
+/// Opens the ports, and takes the steps of their settings, which have no text. Then reads management lines to the end
+/// of the input, writes the reply or the refusal of each, and notes each refusal.
 ///
 /// There must be 1 to 64 ports, each with its configuration and first frame, numbered from 0. What is written is the
 /// output text of what was read, at the ports as the steps leave them; a step that its port refuses changes nothing.
-/// The replies to one read are written before the next read.
+/// The replies to one read are written before the next read. The writer is flushed once, at the end of the input.
 ///
-/// `Read` if the reader failed or 2^64 - 1 reads were made: the text of all whole lines read is written.
-/// `Write` if the writer failed: a prefix of the text is written. `Memory` if memory was refused: the text of some first
-/// lines is written, and nothing of the next one. A line without its line feed at a fault is not answered. `Memory`
-/// before the first read leaves reader and writer unchanged. The writer is flushed once, at the end of the input.
+/// # Errors
+///
+/// `Read` if the reader failed or 2^64 - 1 reads were made; then the text of all whole lines read is written. `Write`
+/// if the writer failed; then a prefix of the text is written. `Memory` if memory was refused; then the text of some
+/// first lines is written, and nothing of the next one. A line without its line feed at a fault is not answered.
+/// `Memory` before the first read leaves reader and writer unchanged.
 pub fn plan<N: Notes, R: DevRead, W: DevWrite>(
     alloc: Global,
     ports: &[(PortCfg, FrameNo)],
@@ -81,13 +83,13 @@ fn not_begun<D: DevWrite + Drop>(recorder: Recorder<D>) -> RecordedPlan<D>
 /// Answers management lines as [`plan`] does, and records the ports. Where an event would be refused only because the
 /// chapter of its port is full, the port is turned: its chapter is recorded, and the next one takes the event.
 ///
-/// However the lines end, the chapter that each port keeps is recorded after all others, and the recording is ended. If it
-/// ends well, it has every chapter of the ports, each port's in order. A recorder that takes no further chapter stops no
-/// line.
+/// However the lines end, the chapter that each port keeps is recorded after all others, and the recording is ended. If
+/// it ends well, it has every chapter of the ports, each port's in order. A recorder that takes no further chapter
+/// stops no line.
 ///
-/// The faults of the lines are those of [`plan`]; `Memory` also if memory is refused for the next chapter of a port. The
-/// recording ends with `Write` if its device failed three times in a row, and with `Memory` if memory was refused for a
-/// chapter, or before the first read.
+/// The faults of the lines are those of [`plan`]; `Memory` also if memory is refused for the next chapter of a port.
+/// The recording ends with `Write` if its device failed three times in a row, and with `Memory` if memory was refused
+/// for a chapter, or before the first read.
 pub fn plan_recorded<N: Notes, D: DevWrite + Drop, R: DevRead, W: DevWrite>(
     alloc: Global,
     opening: Opening,

@@ -51,7 +51,9 @@ impl Plant {
 
     /// Opens a port for each configuration and first frame, numbered from 0 in this order.
     ///
-    /// `Ports` exactly when there are none or more than 64; `Memory` only if memory is refused.
+    /// # Errors
+    ///
+    /// `Ports` exactly when there are none or more than 64. `Memory` only if memory is refused.
     pub fn open(alloc: Global, ports: &[(PortCfg, FrameNo)]) -> Result<Plant, PlantFault>
         ensures ok { IfOk result (λ plant. plant ≡ opened_ports ports.now) }
         ensures size { IfOk result (λ plant. IsPlantSize (length ports.now)) }
@@ -80,11 +82,12 @@ impl Plant {
         self.ports.get(usize::from(port.get()))
     }
 
-    /// Takes the event of a step at its port.
+    /// Takes the event of a step at its port. An accepted step changes only its own port.
     ///
-    /// Returns `NoSuchPort` exactly when the plant has no such port; `Refused` with the first refusal of the event, or
-    /// with `OutOfMemory` if no check refuses but memory does. Only an accepted step changes the plant, and only its
-    /// own port.
+    /// # Errors
+    ///
+    /// `NoSuchPort` exactly when the plant has no such port. `Refused` with the first refusal of the event, or with
+    /// `OutOfMemory` if no check refuses but memory is refused. After an error the plant is unchanged.
     pub fn step(&mut self, step: Step) -> Result<Reply, StepFault>
         ensures answer { IsStepAnswer (slice_get self.old step.port) step.event result }
         ensures plant { self.new ≡ after_step self.old step result }
@@ -96,8 +99,12 @@ impl Plant {
         port.take(step.event).map_err(StepFault::Refused)
     }
 
-    /// Takes the event of a step at its port, as [`Plant::step`] does, but returns no copy of its reply: it returns the
+    /// Takes the event of a step at its port, as [`Plant::step`] does, but returns no copy of its reply. Returns the
     /// index of the entry, which is the last one of the port.
+    ///
+    /// # Errors
+    ///
+    /// As for [`Plant::step`].
     pub fn keep(&mut self, step: Step) -> Result<usize, StepFault>
         ensures index { IfOk result (λ index. IfSome (slice_get self.old step.port)
             (λ c. index ≡ length c.entries)) }
@@ -114,9 +121,12 @@ impl Plant {
         port.keep(step.event).map_err(StepFault::Refused)
     }
 
-    /// Takes steps in order and returns their answers in the same order. A refused step does not stop the run.
+    /// Takes steps in order and returns their answers in the same order. A refused step does not stop the run. Room for
+    /// all answers is reserved first.
     ///
-    /// Reserves room for all answers first: `Err`, only if this memory is refused, leaves the plant unchanged.
+    /// # Errors
+    ///
+    /// `AllocError` only if the memory for the answers is refused; then the plant is unchanged.
     pub fn run(
         &mut self,
         alloc: Global,
@@ -139,8 +149,8 @@ impl Plant {
         Ok(answers)
     }
 
-    /// Returns whether the port of this number refuses an event only because its chapter is full, and [`Plant::turn`] would
-    /// begin another one. `false` if the plant has no such port.
+    /// Returns whether the port of this number refuses an event only because its chapter is full, and [`Plant::turn`]
+    /// would begin another one. `false` if the plant has no such port.
     pub fn is_full(&self, port: PortNo, event: &Event) -> bool
         ensures { (result ≡ true) ↔ IsFullAt self.now port event.now }
     {
@@ -152,8 +162,11 @@ impl Plant {
 
     /// Turns a port: returns its chapter, and begins the next one in the same state.
     ///
-    /// Returns `NoSuchPort` exactly when the plant has no such port; otherwise `Refused` with `ChapterFull` exactly when the
-    /// chapter has the last number (2^64 - 1), or with `OutOfMemory`, only if memory is refused. Then nothing has changed.
+    /// # Errors
+    ///
+    /// `NoSuchPort` exactly when the plant has no such port. Otherwise `Refused`: with `ChapterFull` exactly when the
+    /// chapter has the last number, 2^64 - 1, or with `OutOfMemory`, only if memory is refused. After an error nothing
+    /// has changed.
     pub fn turn(&mut self, port: PortNo) -> Result<Chapter, StepFault>
         ensures ok { IfOk result (λ chapter. TurnsPort self.old port chapter self.new) }
         ensures refused { IfErr result (λ fault. IsTurnFault (slice_get self.old port) fault) }

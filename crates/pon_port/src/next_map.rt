@@ -16,19 +16,26 @@ use pon_state::{MadeMap, MapUnder, PortState, Reply, map_under, next_problems};
 use pon_units::{AllocId, Granted};
 use std::alloc::{AllocError, Global};
 
-/// A finished map: its reply, its grants with what they leave to each Alloc-ID, and the Alloc-IDs of the two classes that
-/// share surplus.
+/// A finished map.
 #[derive(Drop)]
 pub struct ReadyMap {
+    /// Its reply: the map, its frame and its certificate.
     pub made: MadeMap,
+    /// Its grants, in map order.
     pub grants: Vec<Granted>,
+    /// What the grants leave to each Alloc-ID, in map order, in kbit/s: 0 to 255.
     pub carries: Vec<u8>,
+    /// The Alloc-IDs of the non-assured class, which share surplus, in map order.
     pub na: Vec<AllocId>,
+    /// The Alloc-IDs of the best-effort class, which share surplus, in map order.
     pub be: Vec<AllocId>,
 }
 
 /// Makes the map of the state's next frame, with its certificate. `buffers` is memory for its demands and its grants.
-/// `Err` only if memory is refused.
+///
+/// # Errors
+///
+/// `AllocError` only if memory is refused.
 pub fn next_map(
     alloc: Global,
     buffers: &mut MapBuffers,

@@ -61,7 +61,11 @@ impl Port {
     ghost use Rattle.pon_demand.specs.Carries.{AreCarries};
     ghost use Rattle.pon_descr.specs.Checks.{IsTold};
 
-    /// Opens a port: no Alloc-ID, the line up, and `first` as its next frame. `Err` only if memory is refused.
+    /// Opens a port: no Alloc-ID, the line up, and `first` as its next frame.
+    ///
+    /// # Errors
+    ///
+    /// `AllocError` only if memory is refused.
     pub fn open(alloc: Global, cfg: PortCfg, first: FrameNo) -> Result<Port, AllocError>
         ensures opening { IfOk result (λ port. port.opening
             ≡ just_opened cfg.gap cfg.profile first) }
@@ -201,19 +205,23 @@ impl Port {
         Ok(index)
     }
 
-    /// Takes an event and keeps it with its reply, or returns the first refusal.
+    /// Takes an event and keeps it with its reply.
     ///
-    /// `Admit` is refused by `AllocTaken`, `TooManyAllocs`, `TooManyOnus`, `SeriesFull`, `Capacity`; `Change` by
-    /// `NoSuchAlloc`, `Capacity`; `Remove` by `NoSuchAlloc`; `Report` by `PortDown`, `StaleFrame`, `NotPolled`,
-    /// `ReportCount`, `AlreadyReported`; `MakeMap` by `PortDown`, `FrameLimit`; `Fail` by `PortDown`; `Restore` by
-    /// `PortUp`; each then by `ChapterFull` and `OutOfMemory`; in these orders. `OutOfMemory` only if no check refuses.
-    /// After a refusal the state and the history are unchanged.
+    /// # Errors
+    ///
+    /// The first refusal of the event, in these orders. `Admit` is refused by `AllocTaken`, `TooManyAllocs`,
+    /// `TooManyOnus`, `SeriesFull`, `Capacity`; `Change` by `NoSuchAlloc`, `Capacity`; `Remove` by `NoSuchAlloc`.
+    /// `Report` is refused by `PortDown`, `StaleFrame`, `NotPolled`, `ReportCount`, `AlreadyReported`. `MakeMap` is
+    /// refused by `PortDown`, `FrameLimit`; `Fail` by `PortDown`; `Restore` by `PortUp`. Each event is then refused by
+    /// `ChapterFull` and `OutOfMemory`.
+    ///
+    /// `OutOfMemory` only if no check refuses. After a refusal the state and the history are unchanged.
     pub fn take(&mut self, event: Event) -> Result<Reply, Refusal>
         ensures ok { IfOk result (λ reply. Takes self.old event reply self.new) }
         // Each map is fair: certified, the fairest, in whole words, with bursts that do not overlap.
         ensures fair { IfOk result (λ reply. TellsFairMap (present_state self.old) reply) }
-        // Over each run of maps from an admission on, the words are the whole part of the sum of the rates, under the rule
-        // that carries what whole words leave.
+        // Over each run of maps from an admission on, the words are the whole part of the sum of the rates, under the
+        // rule that carries what whole words leave.
         ensures runs { OnOk result (RunsAreWhole self.new) }
         ensures refused { IfErr result (λ told. IsTold (refusal_of self.old event) told) }
         ensures err { OnErr result (self.new ≡ self.old) }
@@ -229,8 +237,12 @@ impl Port {
         Ok(Reply::Taken)
     }
 
-    /// Takes an event and keeps it with its reply, as [`Port::take`] does, but returns no copy of the reply: it returns the
-    /// index of the entry, which is the last one.
+    /// Takes an event and keeps it with its reply, as [`Port::take`] does, but returns no copy of the reply. Returns
+    /// the index of the entry, which is the last one.
+    ///
+    /// # Errors
+    ///
+    /// As for [`Port::take`].
     pub fn keep(&mut self, event: Event) -> Result<usize, Refusal>
         ensures index { IfOk result (λ index. index ≡ length self.old.entries) }
         ensures ok { OnOk result (Keeps self.old event self.new) }
@@ -246,11 +258,13 @@ impl Port {
         self.take_plain(event)
     }
 
-    /// Turns the port: returns the kept chapter, and begins the next one, which opens with the present state. No entry is
-    /// copied.
+    /// Turns the port: returns the kept chapter, and begins the next one, which opens with the present state. No entry
+    /// is copied.
     ///
-    /// `ChapterFull` exactly when the kept chapter has the last number (2^64 - 1); otherwise `OutOfMemory`, only if memory
-    /// for the opening is refused. After a refusal nothing has changed.
+    /// # Errors
+    ///
+    /// `ChapterFull` exactly when the kept chapter has the last number, 2^64 - 1; otherwise `OutOfMemory`, only if
+    /// memory for the opening is refused. After a refusal nothing has changed.
     pub fn turn(&mut self) -> Result<Chapter, Refusal>
         ensures ok { IfOk result (λ chapter. Turns self.old chapter self.new) }
         ensures refused { IfErr result (λ told. IsTold (turn_refusal self.old) told) }

@@ -4,14 +4,18 @@ use pon_units::PortNo;
 use std::alloc::{AllocError, Global};
 use std::marker::Model;
 
-/// A recorded chapter of a port: the place of its first byte in the recording, the port, the number of the chapter, its
-/// opening, and its entries.
+/// A recorded chapter of a port.
 #[derive(Debug, Drop)]
 pub struct RawChapter {
+    /// The place of its first byte in the recording, from 0.
     pub at: usize,
+    /// The port, 0 to 63.
     pub port: PortNo,
+    /// The number of the chapter, counted from 0 in its port.
     pub number: u64,
+    /// The state that it opens with.
     pub opening: Opening,
+    /// Its entries, in order, at most 65,536.
     pub entries: Vec<Entry>,
 }
 

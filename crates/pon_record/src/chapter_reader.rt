@@ -18,8 +18,8 @@ use std::marker::Model;
 // Maximum number of bytes of a read.
 const PIECE_BYTES: usize = 65_536;
 
-/// A reader of the chapters of a recording, one after another. It keeps the bytes of one chapter. Contracts see it as the
-/// version of the recording and the place of the next chapter.
+/// A reader of the chapters of a recording, one after another. It keeps the bytes of one chapter. Contracts see it as
+/// the version of the recording and the place of the next chapter.
 #[derive(Drop)]
 pub struct ChapterReader {
     version: Version,
@@ -42,8 +42,10 @@ impl Model for ChapterReader {
 impl ChapterReader {
     /// Reads the magic bytes, and no further.
     ///
-    /// `BadFormat` and `Truncated` at 0 only for the magic bytes. `Read` exactly when the device fails. `Memory` if memory is
-    /// refused.
+    /// # Errors
+    ///
+    /// `BadFormat` and `Truncated`, at 0, only for the magic bytes. `Read` exactly when the device fails. `Memory` if
+    /// memory is refused.
     pub fn open<R: DevRead>(alloc: Global, reader: &mut R) -> Result<ChapterReader, StreamFault>
         ensures opens { (bytes : List ℕ) → R.remaining reader.old ≡ Some bytes
             → Opens bytes (R.remaining reader.new) result }
@@ -66,11 +68,14 @@ impl ChapterReader {
         }
     }
 
-    /// Reads the next chapter; `None` at the end of the device.
+    /// Reads the next chapter; `None` at the end of the device. Memory is taken only for bytes that the device gave,
+    /// whatever length a head has.
     ///
-    /// A wrong tag is returned without reading on, and memory is taken only for bytes that the device gave, whatever the
-    /// length in a head says. `Read` exactly when the device fails. `Memory` if memory is refused, or if the place of the
-    /// chapter after this one is 2^64 or more. After an `Err` the place of the device in the recording is not known.
+    /// # Errors
+    ///
+    /// `BadFormat` and `Truncated` only for the bytes of this chapter; a wrong tag is returned without reading on.
+    /// `Read` exactly when the device fails. `Memory` if memory is refused, or if the place of the chapter after this
+    /// one is 2^64 or more. After an error the place of the device in the recording is not known.
     pub fn next<R: DevRead>(
         &mut self,
         alloc: Global,

@@ -14,8 +14,8 @@ use crate::recording::read_chapters;
 use crate::version::{Version, version_of};
 use std::alloc::{AllocError, Global};
 
-// Returns the magic bytes of version two, with room for the chapters of version one of `len` bytes: a byte more for each
-// row, and for each chapter, which has more bytes than a row.
+// Returns the magic bytes of version two, with room for the chapters of version one of `len` bytes: a byte more for
+// each row, and for each chapter, which has more bytes than a row.
 fn begin(alloc: Global, len: usize) -> Result<Vec<u8>, AllocError>
     ensures { IfOk result (λ out. out.items ≡ MAGIC_TWO) }
 {
@@ -25,8 +25,8 @@ fn begin(alloc: Global, len: usize) -> Result<Vec<u8>, AllocError>
     Ok(out)
 }
 
-// Returns the fault of a version one recording that ends inside the chapter at a place: the bytes before it are a recording
-// of the chapters before it.
+// Returns the fault of a version one recording that ends inside the chapter at a place: the bytes before it are a
+// recording of the chapters before it.
 fn cut_short(alloc: Global, bytes: &[u8], at: usize) -> ReadFault
     requires { (whole : List PlacedChapter) × EndsInside Version.One bytes.now at whole }
     ensures { IsFaultIn Version.One bytes.now result }
@@ -62,13 +62,15 @@ fn migrate_chapters(alloc: Global, bytes: &[u8]) -> Result<Vec<u8>, ReadFault>
     Ok(out)
 }
 
-/// Returns a version one recording as a version two recording of the same chapters: each under rule one, with a carry of 0
-/// in each row.
+/// Returns a version one recording as a version two recording of the same chapters: each under rule one, with a carry
+/// of 0 in each row. The result has one byte more for each chapter and for each row.
 ///
-/// The result has one byte more for each chapter and for each row. An `Err` is the first fault of the bytes as a version one
-/// recording, as in [`crate::read_recording`], with the places of the input; a version two recording is `BadFormat` at 0.
-/// `Memory` if memory is refused before a fault is found. Takes memory for the result and one chapter, and for the chapters
-/// before a cut.
+/// Takes memory for the result and one chapter, and for the chapters before a cut.
+///
+/// # Errors
+///
+/// The first fault of the bytes as a version one recording, as for [`crate::read_recording`], with the places of the
+/// input. A version two recording is `BadFormat` at 0. `Memory` if memory is refused before a fault is found.
 pub fn migrate(alloc: Global, bytes: &[u8]) -> Result<Vec<u8>, ReadFault>
     ensures ok { IfOk result (λ new. IsMigrated bytes.now new.items) }
     ensures fault { IfErr result (λ f. IsMigrationFault bytes.now f) }

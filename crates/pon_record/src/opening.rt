@@ -4,11 +4,14 @@ use pon_descr::Cause;
 use pon_units::{FrameNo, Gap, Granted, OnuId, Profile};
 use std::marker::Model;
 
-/// A map of a recorded window: its frame, its grants, and the ONUs that reported.
+/// A map of a recorded window.
 #[derive(Debug, Drop)]
 pub struct RawMap {
+    /// The frame of the map, of 125 µs.
     pub frame: FrameNo,
+    /// Its grants, at most 512.
     pub grants: Vec<Granted>,
+    /// The ONUs that reported for it, at most 255.
     pub reported: Vec<OnuId>,
 }
 
@@ -24,17 +27,24 @@ impl Model for RawMap {
     } };
 }
 
-/// The state that a recorded chapter opens with: rule, gap, burst profile, cause of the failure if the port is failed, next
-/// frame, number of entries before the chapter, rows of the admitted Alloc-IDs, and window.
+/// The state that a recorded chapter opens with.
 #[derive(Debug, Drop)]
 pub struct Opening {
+    /// The rule of the chapter.
     pub rule: Rule,
+    /// The gap before each burst, 1 to 256 words of 4 bytes.
     pub gap: Gap,
+    /// The burst profile, 0 to 3.
     pub profile: Profile,
+    /// The cause of the failure, 1 to 9, if the port is failed.
     pub cause: Option<Cause>,
+    /// The next frame, of 125 µs.
     pub next: FrameNo,
+    /// The number of entries before the chapter.
     pub taken_before: u64,
+    /// The rows of the admitted Alloc-IDs, at most 512.
     pub rows: Vec<RawRow>,
+    /// The maps of the window, at most 64.
     pub window: Vec<RawMap>,
 }
 

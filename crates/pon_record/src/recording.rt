@@ -9,13 +9,15 @@ use crate::limits::MAGIC_BYTES;
 use crate::version::{Version, version_of};
 use std::alloc::Global;
 
-/// Reads the chapters of a recording of either version.
+/// Reads the chapters of a recording of either version. Returns them only if the bytes are the magic bytes of a version
+/// and then whole chapters of it, one after another, with each field in its range.
 ///
-/// `Ok` exactly when the bytes are the magic bytes of a version and then whole chapters of it, one after another, with each
-/// field in its range. An `Err` is the fault of the first chapter that has one. `Truncated` if the bytes end inside the
-/// magic bytes, or inside a chapter that begins with its tag, whatever its body. `BadFormat` for wrong magic bytes, a wrong
-/// tag, a field out of its range, a refused descriptor, or a body that does not end where its length says. `Memory` if
-/// memory is refused before a fault is found.
+/// # Errors
+///
+/// The fault of the first chapter that has one. `Truncated` if the bytes end inside the magic bytes, or inside a
+/// chapter that begins with its tag, whatever its body. `BadFormat` for wrong magic bytes, a wrong tag, a field out of
+/// its range, a refused descriptor, or a body that does not end where its length says. `Memory` if memory is refused
+/// before a fault is found.
 pub fn read_recording(alloc: Global, bytes: &[u8]) -> Result<Recording, ReadFault>
     ensures ok { IfOk result (λ r. IsRecording bytes.now r) }
     ensures fault { IfErr result (λ f. IsReadFault bytes.now f) }

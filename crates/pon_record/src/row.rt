@@ -8,15 +8,20 @@ use pon_descr::Descriptor;
 use pon_guar::Counted;
 use pon_units::{AllocId, FrameNo, OnuId};
 
-/// A row of a recorded opening: an admitted Alloc-ID, its since-frame, its counted report, if any, and what the last map
-/// left to it, in kbit/s: 0 under rule one, 0 to 255 under rule two.
+/// A row of a recorded opening: an admitted Alloc-ID.
 #[derive(Clone, Copy, Debug, PartialEq, Eq)]
 pub struct RawRow {
+    /// The ONU that owns the Alloc-ID, 0 to 1022.
     pub onu: OnuId,
+    /// The Alloc-ID, 1024 to 16383.
     pub alloc_id: AllocId,
+    /// Its descriptor.
     pub descriptor: Descriptor,
+    /// The frame from which its reports count, of 125 µs.
     pub since: FrameNo,
+    /// Its counted report, if any.
     pub counted: Option<Counted>,
+    /// What the last map left to it, in kbit/s: 0 under rule one, 0 to 255 under rule two.
     pub carry: u8,
 }
 

@@ -34,8 +34,12 @@ impl<W> Model for RecordFile<W> {
 impl<W: DevWrite + Drop> RecordFile<W> {
     ghost use Rattle.pon_recorder.specs.Recorders.{CountsDevice, CountsOpening, GoesOut, Grows, IsTaken, Records, Stays};
 
-    /// Begins a recording of version two: tries once to write the magic bytes to the device. If the device fails, the bytes
-    /// that it did not take are left. `Err` only if memory is refused.
+    /// Begins a recording of version two: tries once to write the magic bytes to the device. If the device fails, the
+    /// bytes that it did not take are left.
+    ///
+    /// # Errors
+    ///
+    /// `AllocError` only if memory is refused.
     pub fn open(alloc: Global, writer: W) -> Result<RecordFile<W>, AllocError>
         ensures recorded { IfOk result (λ file.
             Records (W.contents writer) (W.contents file.device) file.left []) }
@@ -54,9 +58,11 @@ impl<W: DevWrite + Drop> RecordFile<W> {
 
     /// Appends a chapter of a port. After `Ok` nothing is left.
     ///
-    /// Returns `Busy` exactly when bytes from earlier calls are left, and `Memory` if memory is refused; neither changes
-    /// anything. Returns `Device` exactly when the device failed in this call: the chapter is taken, and the bytes of it
-    /// that were not written are left.
+    /// # Errors
+    ///
+    /// `Busy` exactly when bytes from earlier calls are left, and `Memory` if memory is refused; neither changes
+    /// anything. `Device` exactly when the device failed in this call: the chapter is taken, and the bytes of it that
+    /// were not written are left.
     pub fn append(&mut self, port: PortNo, chapter: &Chapter) -> Result<(), RecordFault>
         ensures ok { OnOk result (self.new.left ≡ []) }
         ensures taken { IsTaken result → Grows (W.contents self.old.device) self.old.left
@@ -88,8 +94,8 @@ impl<W: DevWrite + Drop> RecordFile<W> {
         chapter_bytes(self.alloc, port, chapter)
     }
 
-    /// Writes the next bytes of a recording of which nothing is left. `Failed` exactly when the device failed in this call;
-    /// the bytes that it had not taken by then are left.
+    /// Writes the next bytes of a recording of which nothing is left. `Failed` exactly when the device failed in this
+    /// call; the bytes that it had not taken by then are left.
     pub(crate) fn write_next(&mut self, bytes: Vec<u8>) -> Result<(), Failed>
         requires { self.old.left ≡ [] }
         ensures sent { GoesOut (W.contents self.old.device) (W.contents self.new.device)
@@ -103,8 +109,11 @@ impl<W: DevWrite + Drop> RecordFile<W> {
         self.pending.push(&mut self.writer)
     }
 
-    /// Writes what is left, and then flushes the device. `Failed` exactly when the device failed in this call; the bytes
-    /// that it had not taken by then are left.
+    /// Writes what is left, and then flushes the device.
+    ///
+    /// # Errors
+    ///
+    /// `Failed` exactly when the device failed in this call; the bytes that it had not taken by then are left.
     pub fn flush(&mut self) -> Result<(), Failed>
         ensures ok { OnOk result (self.new.left ≡ []) }
         ensures recorded { Stays (W.contents self.old.device) self.old.left

@@ -15,7 +15,9 @@ impl<W: DevWrite + Drop> Recorder<W> {
 
     /// Begins a recording on a device: writes its magic bytes.
     ///
-    /// Returns `Write` if the device does not take them, and `Memory` if memory is refused.
+    /// # Errors
+    ///
+    /// `Write` if the device does not take the magic bytes, and `Memory` if memory is refused.
     pub fn begin(alloc: Global, device: W) -> Result<Self, DeviceFault>
         ensures begun { IfOk result (λ r. Records (W.contents device) (W.contents r.file.device) [] []) }
         ensures left { IfOk result (λ r. r.file.left ≡ []) }
@@ -32,7 +34,9 @@ impl<W: DevWrite + Drop> Recorder<W> {
 
 /// Begins a recording in this file.
 ///
-/// Errors as in [`Recorder::begin`].
+/// # Errors
+///
+/// As for [`Recorder::begin`].
 pub fn record_to<F: Write + Drop>(
     alloc: Global,
     file: F,
@@ -40,10 +44,12 @@ pub fn record_to<F: Write + Drop>(
     Recorder::begin(alloc, Tape::File(TapeFile::new(file)))
 }
 
-/// Begins a recording in this file; without a file, in none, if the chapters are kept to settle their ports. `None` if no
-/// chapters are wanted.
+/// Begins a recording in this file; without a file, in none, if the chapters are kept to settle their ports. `None` if
+/// no chapters are wanted.
 ///
-/// Errors as in [`Recorder::begin`].
+/// # Errors
+///
+/// As for [`Recorder::begin`].
 pub fn open_recorder<F: Write + Drop>(
     alloc: Global,
     file: Option<F>,

@@ -51,8 +51,8 @@ fn kept_chapters(alloc: Global, settle: bool) -> Kept<Chapter> {
     }
 }
 
-// Splits the rings of all ports into the sinks and the recorder's ends, which keep their chapters if the ports are to be
-// settled. `Err` only if memory is refused.
+// Splits the rings of all ports into the sinks and the recorder's ends, which keep their chapters if the ports are to
+// be settled. `Err` only if memory is refused.
 fn split_rings<K: Rings>(
     alloc: Global,
     rings: Vec<PortRing>,
@@ -76,7 +76,11 @@ fn split_rings<K: Rings>(
 
 impl<K: Rings, W: Drop> Sinks<K, W> {
     /// Splits the rings of all ports into the sinks and the recording, which keeps the chapters if the ports are to be
-    /// settled. `Err` only if memory is refused.
+    /// settled.
+    ///
+    /// # Errors
+    ///
+    /// `AllocError` only if memory is refused.
     pub fn split(
         alloc: Global,
         rings: Vec<PortRing>,
@@ -176,8 +180,11 @@ impl<K: Rings, W: DevWrite + Drop> Recording<K, W> {
         self.whole = self.whole && whole;
     }
 
-    /// Takes out the chapters of each port, in order, for the settlement of the ports. `Err` if memory is refused or was
-    /// refused for a chapter, and if the chapters were not to be kept.
+    /// Takes out the chapters of each port, in order, for the settlement of the ports.
+    ///
+    /// # Errors
+    ///
+    /// `AllocError` if memory is refused or was refused for a chapter, and if the chapters were not to be kept.
     pub fn taken_chapters(&mut self, alloc: Global) -> Result<Vec<TakenChapters>, AllocError>
         ensures ports { IfOk result (λ all.
             map (λ taken. taken.port) all.items ≡ map (λ i. i.port) self.old.inlets.items) }
@@ -194,11 +201,12 @@ impl<K: Rings, W: DevWrite + Drop> Recording<K, W> {
         Ok(all)
     }
 
-    /// Records the chapter that each port keeps, in order, writes the number of each port's dropped chapters to its place in
-    /// `dropped`, at most 2^64 - 1, and flushes the file. A port without a place is recorded, and its number is not written.
+    /// Records the chapter that each port keeps, in order, writes the number of each port's dropped chapters to its
+    /// place in `dropped`, at most 2^64 - 1, and flushes the file. A port without a place is recorded, and its number
+    /// is not written.
     ///
-    /// Returns the device, with `Write` if it failed three times in a row, or a sink was not that of its port, and `Memory`
-    /// if memory was refused for a chapter.
+    /// Returns the device, with `Write` if it failed three times in a row, or a sink was not that of its port, and
+    /// `Memory` if memory was refused for a chapter.
     pub fn finish(self, ports: Vec<Port>, dropped: &mut [u64]) -> Ended<W>
         ensures whole { OnOk result.result (IsWholeRecording self.recorder self.whole) }
     {
@@ -238,8 +246,8 @@ fn set_dropped(dropped: &mut [u64], place: usize, count: u64)
     }
 }
 
-// Records the chapter that the port at a place keeps, if a ring of it has an end there, and sets the number of the port's
-// dropped chapters.
+// Records the chapter that the port at a place keeps, if a ring of it has an end there, and sets the number of the
+// port's dropped chapters.
 fn take_kept_at<K: Rings, W: DevWrite + Drop>(
     recorder: &mut Recorder<W>,
     inlets: &[Inlet<K>],

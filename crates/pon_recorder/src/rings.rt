@@ -51,7 +51,10 @@ impl PortRing {
 }
 
 /// Makes a ring for each of this number of ports if there is a recorder, and otherwise sinks that pass nothing on.
-/// `Err` only if memory is refused.
+///
+/// # Errors
+///
+/// `AllocError` only if memory is refused.
 pub fn open_rings<W>(
     alloc: Global,
     ports: usize,

@@ -8,7 +8,11 @@ use pon_history::Chapter;
 use rtrb::RingBuffer;
 use std::alloc::{AllocError, Global};
 
-/// Makes a ring with room for one chapter. `Err` only if memory is refused.
+/// Makes a ring with room for one chapter.
+///
+/// # Errors
+///
+/// `AllocError` only if memory is refused.
 pub fn ring(alloc: Global) -> Result<(RingIn, RingOut), AllocError>
     ensures ends { IfOk result (λ r. AreEnds r.0 r.1) }
     ensures sent { IfOk result (λ r. sent_chapters r.0 ≡ []) }

@@ -36,8 +36,11 @@ impl RingIn {
         self.last
     }
 
-    /// Pushes a chapter, or hands it back if the ring is full. Its number must be above those of all chapters pushed
-    /// before.
+    /// Pushes a chapter. Its number must be above the numbers of all chapters pushed before.
+    ///
+    /// # Errors
+    ///
+    /// The chapter itself, if the ring is full.
     pub fn push(&mut self, chapter: Chapter) -> Result<(), Chapter>
         requires { ComesAfter (sent_chapters self.old) chapter }
         ensures ring { SameIn self.old self.new }

@@ -85,11 +85,14 @@ pub struct Sink {
     pub(crate) discarded: Option<Vec<Entry>>,
 }
 
-/// What is left in a sink: the end of the ring, the chapter that waits for room, and the number of dropped chapters.
+/// What is left in a sink.
 #[derive(Drop)]
 pub struct Rest {
+    /// The end of the ring.
     pub ring: RingIn,
+    /// The chapter that waits for room, if there is one.
     pub pending: Option<Chapter>,
+    /// The number of dropped chapters, at most 2^64 - 1.
     pub dropped: u64,
 }
 
@@ -146,8 +149,8 @@ impl Sink {
         self.discarded = Some(chapter.into_entries());
     }
 
-    /// Passes a chapter on: first lets the waiting one into the ring, then this one; if it finds no room, it waits, and if
-    /// another one waits, or its number is not above those of all that came, it is dropped and counted.
+    /// Passes a chapter on: first lets the waiting one into the ring, then this one; if it finds no room, it waits, and
+    /// if another one waits, or its number is not above those of all that came, it is dropped and counted.
     ///
     /// The entries of a chapter that is not passed on wait to be freed; those of an earlier one that still wait are
     /// freed now.
@@ -165,8 +168,8 @@ impl Sink {
         }
     }
 
-    /// Frees at most two of the entries that wait to be freed, the last ones. A worker that calls it at each of its posts
-    /// frees a dropped chapter before the next one of as many entries is dropped.
+    /// Frees at most two of the entries that wait to be freed, the last ones. A worker that calls it at each of its
+    /// posts frees a dropped chapter before the next one of as many entries is dropped.
     pub fn free_some(&mut self)
         ensures outlet { self.new.outlet ≡ self.old.outlet }
         ensures cut { self.new.cut ≡ self.old.cut }

@@ -27,8 +27,8 @@ pub enum Progress {
     Named,
 }
 
-/// A file that is written as its part, FILE.part for a file FILE, and gets its name when it is whole. Contracts see it as
-/// its progress.
+/// A file that is written as its part, FILE.part for a file FILE, and gets its name when it is whole. Contracts see it
+/// as its progress.
 #[derive(Drop)]
 pub struct PartFile<F> {
     file: F,
@@ -65,6 +65,10 @@ impl<F: Write> Write for PartFile<F> {
 
 impl<F: OpenFile + Write> PartFile<F> {
     /// Creates the part of the file `name`, in place of an earlier part. The file itself is unchanged.
+    ///
+    /// # Errors
+    ///
+    /// If the part cannot be created, or memory is refused.
     pub fn create<R: Files<File = F>>(rt: &R, alloc: Global, name: &str) -> io::Result<Self>
         ensures { IfOk result (λ p. p ≡ Progress.Open) }
     {
@@ -104,8 +108,11 @@ impl<F: OpenFile + Write> PartFile<F> {
         Ok(())
     }
 
-    /// Writes the part to the disk, and then gives it the name of its file, in place of an earlier file. After an error the
-    /// earlier file is unchanged.
+    /// Writes the part to the disk, and then gives it the name of its file, in place of an earlier file.
+    ///
+    /// # Errors
+    ///
+    /// If the part cannot be synced or renamed; then the earlier file is unchanged.
     pub fn keep<R: Files>(&mut self, rt: &R) -> io::Result<()>
         ensures { OnOk result (self.new ≡ Progress.Named) }
     {

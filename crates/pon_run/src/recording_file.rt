@@ -49,7 +49,8 @@ impl<F: OpenFile + Write> RecordingFile<F> {
         }
     }
 
-    // Returns the failure of a recording, with the error of its file, and the name of the part that has what was recorded.
+    // Returns the failure of a recording, with the error of its file, and the name of the part that has what was
+    // recorded.
     fn failure(
         &self,
         alloc: Global,
@@ -68,10 +69,11 @@ impl<F: OpenFile + Write> RecordingFile<F> {
         }
     }
 
-    /// Ends the file of a recording that ended so, with the last error of the file. The part of a whole recording gets the
-    /// name of its file; otherwise an earlier file is kept, and so is the part.
+    /// Ends the file of a recording that ended so, with the last error of the file. The part of a whole recording gets
+    /// the name of its file; otherwise an earlier file is kept, and so is the part.
     ///
-    /// Returns the fault of the recording, `Write` if the part cannot be synced or renamed, and `Memory` if memory is refused.
+    /// Returns the fault of the recording, `Write` if the part cannot be synced or renamed, and `Memory` if memory is
+    /// refused.
     pub(crate) fn end<R: Files>(
         &mut self,
         rt: &R,
@@ -147,9 +149,11 @@ pub(crate) fn record_in<R: Files>(
 
 /// Checks the file of a recording, and begins the recording in it.
 ///
-/// Returns `Write` if the file or its part, FILE.part, is one that is read, if the part is no regular file, if the file exists
-/// and is not to be replaced, and if it cannot be created or does not take the first bytes; `Memory` if memory is refused.
-/// Then nothing is replaced.
+/// # Errors
+///
+/// `Write` if the file or its part, FILE.part, is one that is read, or if the part is no regular file. `Write` also if
+/// the file exists and is not to be replaced, and if it cannot be created or does not take the first bytes. `Memory` if
+/// memory is refused. After an error nothing is replaced.
 pub fn begin_recording<R: Files>(
     rt: &R,
     alloc: Global,
@@ -159,10 +163,12 @@ pub fn begin_recording<R: Files>(
     record_in(rt, alloc, args.file, &target)
 }
 
-/// Ends the file of a recording: if the recording is whole, its part is synced and gets the name of the file. Otherwise an
-/// earlier file is kept, and so is the part.
+/// Ends the file of a recording: if the recording is whole, its part is synced and gets the name of the file. Otherwise
+/// an earlier file is kept, and so is the part.
 ///
-/// Returns the fault of the recording, `Write` if the part cannot be synced or renamed, and `Memory` if memory is refused.
+/// # Errors
+///
+/// The fault of the recording. `Write` if the part cannot be synced or renamed, and `Memory` if memory is refused.
 pub fn end_recording<F: OpenFile + Write + Drop, R: Files>(
     rt: &R,
     alloc: Global,

@@ -145,9 +145,13 @@ fn line_about(
 }
 
 /// Returns a further line about a row that is refused for a value or for the capacity: what it asks for, and what is
-/// allowed, in kbit/s. `None` for other faults. `Err` only if memory is refused.
+/// allowed, in kbit/s. `None` for other faults.
 ///
 /// `fault` is the fault that [`settings`](crate::settings) returned for this text.
+///
+/// # Errors
+///
+/// `AllocError` only if memory is refused.
 pub fn explain_further(
     alloc: Global,
     text: &str,

@@ -127,7 +127,11 @@ fn explain_row(alloc: Global, text: &str, port: PortNo, row: usize) -> Result<St
 /// and rows are counted from 0.
 ///
 /// `fault` is the fault that [`settings`](crate::settings) returned for this text; for another fault the line may name
-/// only the place. The line of `Memory` is empty. `Err` only if memory is refused.
+/// only the place. The line of `Memory` is empty.
+///
+/// # Errors
+///
+/// `AllocError` only if memory is refused.
 pub fn explain(alloc: Global, text: &str, fault: &SettingsFault) -> Result<String, AllocError>
     ensures { IfOk result (λ line. Explains fault.now (string_bytes line)) }
 {

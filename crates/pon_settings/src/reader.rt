@@ -54,9 +54,11 @@ fn ports_of(alloc: Global, tables: &[Value]) -> Result<Vec<PortSettings>, Settin
 
 /// Reads settings from a text (TOML).
 ///
-/// Otherwise returns the first fault: `Text` if the text is not TOML; `Ports` if its table has no list of 1 to 64
-/// `port` tables or has another key; then port by port: `Field` for the port's own fields, then row by row `Row` for
-/// the row's fields and `Refused` for its admission after the rows before it. `Memory` if memory was refused.
+/// # Errors
+///
+/// The first fault. `Text` if the text is not TOML. `Ports` if its table has no list of 1 to 64 `port` tables or has
+/// another key. Then port by port: `Field` for the port's own fields, then row by row `Row` for the row's fields and
+/// `Refused` for its admission after the rows before it. `Memory` if memory was refused.
 pub fn settings(alloc: Global, text: &str) -> Result<Settings, SettingsFault>
     ensures ok { IfOk result (Spells (parse_document text.now)) }
     ensures fault { IfErr result (IsFirstSettingsFault (parse_document text.now)) }

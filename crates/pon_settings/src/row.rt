@@ -15,11 +15,12 @@ use toml::{Table, Value};
 /// Maximum number of words that wait in a simulated unit.
 pub(crate) const MAX_QUEUE: u64 = 4_294_967_295;
 
-/// An Alloc-ID that is admitted before the first line, and the number of words that wait for it in its simulated unit,
-/// 0 to 4,294,967,295.
+/// An Alloc-ID that is admitted before the first line.
 #[derive(Clone, Copy, Debug, PartialEq, Eq)]
 pub struct SettingsRow {
+    /// The Alloc-ID, its ONU and its descriptor.
     pub row: Row,
+    /// The number of words of 4 bytes that wait for it in its simulated unit, 0 to 4,294,967,295.
     pub queue: u32,
 }
 

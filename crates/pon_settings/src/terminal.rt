@@ -48,14 +48,22 @@ impl Settings {
         &self.ports
     }
 
-    /// Returns the configuration and the first frame of each port, in order. `Err` only if memory is refused.
+    /// Returns the configuration and the first frame of each port, in order.
+    ///
+    /// # Errors
+    ///
+    /// `AllocError` only if memory is refused.
     pub fn openings(&self, alloc: Global) -> Result<Vec<(PortCfg, FrameNo)>, AllocError>
         ensures { IfOk result (λ all. all.items ≡ openings self.now) }
     {
         self.ports.iter().map(|port| port.opening()).collect(alloc)
     }
 
-    /// Returns the steps that admit the rows, port by port, in order. `Err` only if memory is refused.
+    /// Returns the steps that admit the rows, port by port, in order.
+    ///
+    /// # Errors
+    ///
+    /// `AllocError` only if memory is refused.
     pub fn steps(&self, alloc: Global) -> Result<Vec<Step>, AllocError>
         ensures { IfOk result (λ steps. steps.items ≡ steps_from 0 self.now) }
     {

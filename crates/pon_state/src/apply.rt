@@ -25,9 +25,13 @@ use pon_units::{AllocId, FrameNo, Granted};
 use std::alloc::AllocError;
 use std::mem;
 
-/// Updates the state by a map of the next frame, of which it keeps the grants and what they leave to each Alloc-ID. Returns
-/// lists that a later map may use the memory of: the grants of the map that left the window, if one did, and the former
-/// carries. `Err` only if memory is refused, and then the state is unchanged.
+/// Updates the state by a map of the next frame, of which it keeps the grants and what they leave to each Alloc-ID.
+/// Returns lists that a later map may use the memory of: the grants of the map that left the window, if one did, and
+/// the former carries.
+///
+/// # Errors
+///
+/// `AllocError` only if memory is refused; then the state is unchanged.
 pub fn add_map(
     state: &mut PortState,
     grants: Vec<Granted>,
@@ -146,7 +150,11 @@ fn forget_reports(state: &mut PortState, cause: Option<Cause>)
     state.taken_before += 1;
 }
 
-/// Updates the state by a checked event that makes no map. `Err` only if memory is refused, and then the state is unchanged.
+/// Updates the state by a checked event that makes no map.
+///
+/// # Errors
+///
+/// `AllocError` only if memory is refused; then the state is unchanged.
 pub fn step(state: &mut PortState, checked: &Checked<'_>) -> Result<(), AllocError>
     requires plain { makes_map (event_of checked.now) ≡ false }
     requires accepted { refuses state.old (event_of checked.now) ≡ None }

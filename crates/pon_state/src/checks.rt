@@ -159,7 +159,11 @@ fn check_restore<'a>(state: &PortState, kept: usize) -> Result<Checked<'a>, Refu
     Ok(Checked::Restore)
 }
 
-/// Checks an event, after `kept` entries of its chapter. Returns the event with what the checks found, or the first refusal.
+/// Checks an event, after `kept` entries of its chapter. Returns the event with what the checks found.
+///
+/// # Errors
+///
+/// The first refusal of the event.
 pub fn check<'a>(state: &PortState, kept: usize, event: &'a Event) -> Result<Checked<'a>, Refusal>
     ensures ok { IfOk result (IsChecked kept state.now event.now) }
     ensures refused { IfErr result (λ told. first_refusal kept state.now event.now ≡ Some told) }

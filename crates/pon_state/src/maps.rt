@@ -20,8 +20,11 @@ use pon_demand::{
 use pon_units::Granted;
 use std::alloc::{AllocError, Global};
 
-/// Computes the class problems of the next map, against which a certificate is checked, in the memory of `buffers`. `Err`
-/// only if memory is refused.
+/// Computes the class problems of the next map, against which a certificate is checked, in the memory of `buffers`.
+///
+/// # Errors
+///
+/// `AllocError` only if memory is refused.
 pub fn next_problems(
     alloc: Global,
     buffers: &mut MapBuffers,
@@ -37,16 +40,23 @@ pub fn next_problems(
     )
 }
 
-/// The map of a state under a certificate, and its grants in map order with what they leave to each Alloc-ID.
+/// The map of a state under a certificate.
 #[derive(Drop)]
 pub struct MapUnder {
+    /// The map.
     pub map: Map,
+    /// Its grants, in map order.
     pub grants: Vec<Granted>,
+    /// What the grants leave to each Alloc-ID, in map order, in kbit/s: 0 to 255.
     pub carries: Vec<u8>,
 }
 
-/// Makes the map of the state under a certificate that is accepted for the given class problems. `buffers` is memory for
-/// its grants. `Err` only if memory is refused.
+/// Makes the map of the state under a certificate that is accepted for the given class problems. `buffers` is memory
+/// for its grants.
+///
+/// # Errors
+///
+/// `AllocError` only if memory is refused.
 pub fn map_under(
     alloc: Global,
     buffers: &mut MapBuffers,

@@ -7,16 +7,22 @@ use pon_descr::Cause;
 use pon_guar::Loads;
 use pon_units::{FrameNo, Profile};
 
-/// The parts of a state: burst profile, next frame, cause of the failure if the port is failed, number of entries before
-/// the state, roster, report book, and what the last map left to each row, in map order, in kbit/s.
+/// The parts of a state.
 #[derive(Drop)]
 pub struct StateParts {
+    /// The burst profile, 0 to 3.
     pub profile: Profile,
+    /// The next frame, of 125 µs.
     pub next: FrameNo,
+    /// The cause of the failure, 1 to 9, if the port is failed.
     pub cause: Option<Cause>,
+    /// The number of entries before the state.
     pub taken_before: u64,
+    /// The roster of the admitted Alloc-IDs, in map order.
     pub roster: Roster,
+    /// The report book.
     pub loads: Loads,
+    /// What the last map left to each row, in map order, in kbit/s: 0 to 255.
     pub carries: Vec<u8>,
 }
 

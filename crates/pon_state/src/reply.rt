@@ -5,16 +5,23 @@ use pon_cert::MapCert;
 use pon_units::FrameNo;
 use std::alloc::{AllocError, Global};
 
-/// A map that was made, its frame, and its certificate of how the surplus is shared.
+/// A map that was made.
 #[derive(Debug, PartialEq, Eq, Drop)]
 pub struct MadeMap {
+    /// Its frame, of 125 µs.
     pub frame: FrameNo,
+    /// The map.
     pub map: Map,
+    /// Its certificate of how the surplus is shared.
     pub cert: MapCert,
 }
 
 impl MadeMap {
-    /// Makes an equal map. `Err` only if memory is refused.
+    /// Makes an equal map.
+    ///
+    /// # Errors
+    ///
+    /// `AllocError` only if memory is refused.
     pub fn try_copy(&self, alloc: Global) -> Result<MadeMap, AllocError>
         ensures { IfOk result (λ made. made ≡ self.now) }
     {

@@ -46,8 +46,11 @@ impl PortState {
     ghost use Rattle.pon_demand.specs.Carries.{AreCarries};
     ghost use Rattle.pon_state.specs.State.{carry_of, just_opened};
 
-    /// Makes the state of a port just opened: no Alloc-ID, the line up, and `first` as its next frame. `Err` only if
-    /// memory is refused.
+    /// Makes the state of a port just opened: no Alloc-ID, the line up, and `first` as its next frame.
+    ///
+    /// # Errors
+    ///
+    /// `AllocError` only if memory is refused.
     pub fn open(alloc: Global, cfg: &PortCfg, first: FrameNo) -> Result<PortState, AllocError>
         ensures { IfOk result (λ state. state ≡ just_opened cfg.now.gap cfg.now.profile first) }
     {
@@ -62,7 +65,11 @@ impl PortState {
         })
     }
 
-    /// Makes an equal state. `Err` only if memory is refused.
+    /// Makes an equal state.
+    ///
+    /// # Errors
+    ///
+    /// `AllocError` only if memory is refused.
     pub fn try_copy(&self, alloc: Global) -> Result<PortState, AllocError>
         ensures { IfOk result (λ state. state ≡ self.now) }
     {
@@ -123,7 +130,8 @@ impl PortState {
         &self.loads
     }
 
-    /// What the last map left to each row of the roster, in map order, in kbit/s: 0 under rule one, 0 to 255 under rule two.
+    /// What the last map left to each row of the roster, in map order, in kbit/s: 0 under rule one, 0 to 255 under rule
+    /// two.
     pub fn carries(&self) -> &[u8]
         ensures { result.now ≡ self.now.carries }
     {

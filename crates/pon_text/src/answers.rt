@@ -15,8 +15,12 @@ pub trait Answers<S> {
     ghost path: { S → S → Type 0 };
 
     /// Appends the text of a line to the replies, nothing if it has no reply. Memory is allocated by the allocator of
-    /// the replies. `Err` only if memory is refused; then the replies are unchanged, and of the state afterwards it is
-    /// only known that it is on the path.
+    /// the replies.
+    ///
+    /// # Errors
+    ///
+    /// `AllocError` only if memory is refused; then the replies are unchanged, and of the state afterwards it is only
+    /// known that it is on the path.
     fn answer_line(
         &mut self,
         state: &mut S,

@@ -193,11 +193,16 @@ fn answer_lines<S, A: Answers<S>, R: DevRead, W: DevWrite>(
 /// Reads lines to the end of the input, answers each, writes its text, and flushes the writer.
 ///
 /// What is written is the output text of what was read, from the state before. The replies to one read are written
-/// before the next read. `Read` if the reader failed or 2^64 - 1 reads were made: the text of all whole lines read is
-/// written. `Write` if the writer failed: a prefix of the text is written. `Memory` if memory was refused: the text of
-/// some first lines is written, and nothing of the next one. A line without its line feed at a fault is not answered.
-/// The state after is that after the last line, at the end of the input and after `Read`; after each fault it is on the
-/// path. The writer is flushed once, at the end of the input.
+/// before the next read. At the end of the input, the state is the state after the last line. The writer is flushed
+/// once, at the end of the input.
+///
+/// # Errors
+///
+/// `Read` if the reader failed or 2^64 - 1 reads were made; then the text of all whole lines read is written. The state
+/// is then the state after the last of these lines. `Write` if the writer failed; then a prefix of the text is written.
+/// `Memory` if memory was refused; then the text of some first lines is written, and nothing of the next one.
+///
+/// A line without its line feed at a fault is not answered. After each fault the state is on the path.
 pub fn answer_input<S, A: Answers<S>, R: DevRead, W: DevWrite>(
     alloc: Global,
     answers: &mut A,

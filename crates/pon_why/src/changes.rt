@@ -8,10 +8,12 @@ use pon_admit::Row;
 use pon_units::FrameNo;
 use std::alloc::{AllocError, Global};
 
-/// The frame of the first map from which on an Alloc-ID has this ONU and this descriptor.
+/// The ONU and the descriptor that an Alloc-ID has from a map on.
 #[derive(Clone, Copy, Debug, PartialEq, Eq)]
 pub struct Change {
+    /// The frame of the first map with them, of 125 µs.
     pub frame: FrameNo,
+    /// The Alloc-ID, its ONU and its descriptor.
     pub row: Row,
     /// The weight of the descriptor, in kbit/s.
     pub weight: u64,
@@ -27,7 +29,11 @@ pub struct Changes {
 }
 
 impl Changes {
-    /// Makes the list of no changes. `Err` only if memory is refused.
+    /// Makes the list of no changes.
+    ///
+    /// # Errors
+    ///
+    /// `AllocError` only if memory is refused.
     pub fn new(alloc: Global) -> Result<Changes, AllocError> {
         Ok(Changes {
             changes: Vec::new(alloc),
@@ -40,7 +46,11 @@ impl Changes {
         self.changes.as_slice()
     }
 
-    /// Notes the row that an Alloc-ID has from a frame on, if it is another than before. `Err` only if memory is refused.
+    /// Notes the row that an Alloc-ID has from a frame on, if it is another than before.
+    ///
+    /// # Errors
+    ///
+    /// `AllocError` only if memory is refused.
     pub fn note(&mut self, change: &Change) -> Result<(), AllocError> {
         let number = usize::from(change.row.alloc_id.get());
         let place = self.last[number] as usize;
@@ -52,7 +62,11 @@ impl Changes {
         Ok(())
     }
 
-    /// Notes those of later maps. `Err` only if memory is refused.
+    /// Notes the changes of later maps.
+    ///
+    /// # Errors
+    ///
+    /// `AllocError` only if memory is refused.
     pub fn note_all(&mut self, others: &Changes) -> Result<(), AllocError> {
         for change in &others.changes {
             self.note(change)?;

@@ -39,7 +39,11 @@ fn copy_entries(alloc: Global, entries: &[Entry]) -> Result<Vec<Entry>, AllocErr
     Ok(copies)
 }
 
-/// Copies the opening and the entries of a chapter. `Err` only if memory is refused.
+/// Copies the opening and the entries of a chapter.
+///
+/// # Errors
+///
+/// `AllocError` only if memory is refused.
 pub fn copy_chapter(
     alloc: Global,
     opening: &PortState,

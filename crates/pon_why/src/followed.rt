@@ -10,15 +10,17 @@ use pon_units::{AllocId, FrameNo};
 use std::alloc::{AllocError, Global};
 use std::marker::Model;
 
-/// What the map of a frame gives the Alloc-ID: the sums over that map alone.
+/// What the map of a frame gives the Alloc-ID.
 #[derive(Clone, Copy, Debug, PartialEq, Eq)]
 pub struct FollowedMap {
+    /// The frame of the map, of 125 µs.
     pub frame: FrameNo,
+    /// The sums over this map alone.
     pub sums: Sums,
 }
 
-// Returns what the map of a frame gives an Alloc-ID: the rows and their structures, in map order. `None` if the map does not
-// have it.
+// Returns what the map of a frame gives an Alloc-ID: the rows and their structures, in map order. `None` if the map
+// does not have it.
 fn map_of(
     alloc_id: AllocId,
     frame: FrameNo,
@@ -76,8 +78,11 @@ impl Followed {
         self.maps.clear();
     }
 
-    /// Adds the map of a frame, if it has the Alloc-ID: the rows and their structures, in map order. `Err` only if memory is
-    /// refused.
+    /// Adds the map of a frame, if it has the Alloc-ID: the rows and their structures, in map order.
+    ///
+    /// # Errors
+    ///
+    /// `AllocError` only if memory is refused.
     pub fn add_map(
         &mut self,
         frame: FrameNo,
@@ -94,7 +99,11 @@ impl Followed {
         Ok(())
     }
 
-    /// Adds later maps. `Err` only if memory is refused.
+    /// Adds later maps.
+    ///
+    /// # Errors
+    ///
+    /// `AllocError` only if memory is refused.
     pub fn add_all(&mut self, others: &Followed) -> Result<(), AllocError>
         ensures ok { OnOk result (self.new ≡ with_maps self.old others.now.maps) }
         ensures err { OnErr result (self.new ≡ self.old) }

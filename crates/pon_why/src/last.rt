@@ -118,9 +118,13 @@ fn explain_for(
     }))
 }
 
-/// Explains the last map of a lawful chapter, given by its opening and its entries, for an Alloc-ID: each number is that of
-/// the state before the map, which is the replay of the entries before it. They are taken again one by one, each map from
-/// its certificate. `Err` only if memory is refused.
+/// Explains the last map of a lawful chapter, given by its opening and its entries, for an Alloc-ID. Each number is
+/// taken from the state before the map, which is the replay of the entries before it. These entries are taken again one
+/// by one, each map from its certificate.
+///
+/// # Errors
+///
+/// `AllocError` only if memory is refused.
 pub fn explain_last(
     alloc: Global,
     opening: &PortState,

@@ -63,8 +63,12 @@ fn explain_row(
     }
 }
 
-/// Computes the numbers of each admitted Alloc-ID under a certificate, in map order. `demands` are those of the state.
-/// `Err` only if memory is refused.
+/// Computes the numbers of each admitted Alloc-ID under a certificate, in map order. `demands` are the demands of the
+/// state.
+///
+/// # Errors
+///
+/// `AllocError` only if memory is refused.
 pub fn explain(
     alloc: Global,
     state: &PortState,

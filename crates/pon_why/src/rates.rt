@@ -16,6 +16,7 @@ use std::alloc::AllocError;
 /// The rates of an admitted Alloc-ID in a map, in kbit/s.
 #[derive(Clone, Copy, Debug, PartialEq, Eq)]
 pub struct RowRates {
+    /// The Alloc-ID, 1024 to 16383.
     pub alloc_id: AllocId,
     /// The offered load.
     pub load: Kbps,
@@ -35,8 +36,12 @@ impl RowRates {
     }
 }
 
-/// Computes the rates of each admitted Alloc-ID under a certificate, in map order, in the memory of `room`. `demands` are
-/// those of the state. `Err` only if memory is refused.
+/// Computes the rates of each admitted Alloc-ID under a certificate, in map order, in the memory of `room`. `demands`
+/// are the demands of the state.
+///
+/// # Errors
+///
+/// `AllocError` only if memory is refused.
 pub fn rates_under(
     room: Vec<RowRates>,
     state: &PortState,

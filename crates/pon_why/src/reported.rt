@@ -17,7 +17,8 @@ use std::alloc::{AllocError, Global};
 pub struct Reported {
     /// The frame that it is of.
     frame: u64,
-    /// The occupancy that was reported, in words; `None` if the report, or the map of its frame, is in an earlier chapter.
+    /// The occupancy that was reported, in words; `None` if the report, or the map of its frame, is in an earlier
+    /// chapter.
     pub occupancy: Option<u32>,
     /// The payload words that the maps of the chapter from that frame on granted.
     pub granted: u64,
@@ -26,7 +27,8 @@ pub struct Reported {
 }
 
 impl Reported {
-    // Returns what is known after a map of a frame, in which a structure at this place of its series granted these words.
+    // Returns what is known after a map of a frame, in which a structure at this place of its series granted these
+    // words.
     fn after_map(self, frame: u64, place: usize, words: u64) -> Reported {
         if frame < self.frame {
             return self;
@@ -113,7 +115,8 @@ impl Reports {
         }
     }
 
-    // Takes note of a report of an ONU for the map of a frame. The rows are in map order, so those of an ONU stand together.
+    // Takes note of a report of an ONU for the map of a frame. The rows are in map order, so those of an ONU stand
+    // together.
     fn add_report(&mut self, rows: &[Explanation], frame: FrameNo, onu: OnuId, occ: &Occupancies) {
         let first = rows.partition_point(|row| row.row.onu.get() < onu.get());
         for row in rows.iter().skip(first) {
@@ -128,7 +131,11 @@ impl Reports {
     }
 }
 
-/// Finds the counted reports of the rows of a map in the entries before it. `Err` only if memory is refused.
+/// Finds the counted reports of the rows of a map in the entries before it.
+///
+/// # Errors
+///
+/// `AllocError` only if memory is refused.
 pub fn reports_of(
     alloc: Global,
     entries: &[Entry],

@@ -100,7 +100,11 @@ impl Series {
         Ok(())
     }
 
-    /// Adds maps, in their order. `Err` if memory is refused or a sum is 2^64 or more.
+    /// Adds maps, in their order.
+    ///
+    /// # Errors
+    ///
+    /// `AllocError` if memory is refused or a sum is 2^64 or more.
     pub fn add_maps(&mut self, maps: &[FollowedMap]) -> Result<(), AllocError> {
         for map in maps {
             self.add_map(map)?;

@@ -16,8 +16,8 @@ pub struct RowView {
     pub row: Row,
     /// The counted report: its frame, and its words of 4 bytes that were not granted since; `None` if no report counts.
     pub counted: Option<Counted>,
-    /// The payload words that the last map of the window granted it at its ONU; `None` if the window is empty, or that map
-    /// has no grant for it there.
+    /// The payload words that the last map of the window granted it at its ONU; `None` if the window is empty, or that
+    /// map has no grant for it there.
     pub granted: Option<Words>,
 }
 
@@ -60,7 +60,11 @@ fn last_of(loads: &Loads) -> Option<&WindowMap>
 }
 
 /// Makes the view of each admitted Alloc-ID of a state, in map order: ONUs ascending, and the Alloc-IDs of an ONU
-/// ascending. Each needs a search of the report book and one of the last map. `Err` only if memory is refused.
+/// ascending. Each needs a search of the report book and one of the last map.
+///
+/// # Errors
+///
+/// `AllocError` only if memory is refused.
 pub fn row_views(alloc: Global, state: &PortState) -> Result<Vec<RowView>, AllocError>
     ensures { IfOk result (λ views. views.items ≡ row_views state.now) }
 {

@@ -65,9 +65,13 @@ impl HLend {
         seal32(self.payload()).to_be_bytes()
     }
 
-    /// Decodes the head at the front of the bytes. Returns it with the number of corrected bits, at most two.
-    /// `Short` exactly when there are fewer than 4 bytes, otherwise `Hec` exactly when the first four differ in
-    /// more than two bits from every codeword. Later bytes are not read.
+    /// Decodes the head at the front of the bytes. Returns it with the number of corrected bits, at most two. Later
+    /// bytes are not read.
+    ///
+    /// # Errors
+    ///
+    /// `Short` exactly when there are fewer than 4 bytes; otherwise `Hec` exactly when the first four differ in more
+    /// than two bits from every codeword.
     pub fn decode(bytes: &[u8]) -> Result<(Self, u8), HeadFault>
         ensures ok { IfOk result (λ r. ReadsHLend bytes.now r.0 r.1) }
         ensures fault { IfErr result (λ f. IsHeaderFault bytes.now f) }

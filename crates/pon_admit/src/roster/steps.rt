@@ -68,8 +68,11 @@ impl Roster {
         }
     }
 
-    /// Inserts a row that no check refuses, at its place in map order. `Err` only if memory is refused, and then the
-    /// roster is unchanged.
+    /// Inserts a row that no check refuses, at its place in map order.
+    ///
+    /// # Errors
+    ///
+    /// `AllocError` only if memory is refused; then the roster is unchanged.
     pub fn take_row(&mut self, row: Row) -> Result<(), AllocError>
         requires accepted { refuses_admit self.old.rule self.old.gap self.old.rows row ≡ None }
         ensures ok { OnOk result
@@ -130,8 +133,10 @@ impl Roster {
 
     /// Inserts a row at its place in map order.
     ///
-    /// Fails with [`Roster::admit_refusal`] if that is a refusal, otherwise with `OutOfMemory` if the rows cannot grow.
-    /// On an error the roster is unchanged.
+    /// # Errors
+    ///
+    /// [`Roster::admit_refusal`] if that is a refusal, otherwise `OutOfMemory` if the rows cannot grow. On an error the
+    /// roster is unchanged.
     pub fn admit(
         &mut self,
         onu: OnuId,
@@ -161,9 +166,11 @@ impl Roster {
         Ok(())
     }
 
-    /// Replaces the descriptor of an Alloc-ID. Its row keeps its place.
+    /// Replaces the descriptor of an Alloc-ID. Its row keeps its place. It allocates no memory.
     ///
-    /// Fails with [`Roster::change_refusal`]; then the roster is unchanged. It allocates no memory.
+    /// # Errors
+    ///
+    /// [`Roster::change_refusal`]; then the roster is unchanged.
     pub fn change(&mut self, alloc_id: AllocId, descriptor: Descriptor) -> Result<(), Refusal>
         ensures ok { OnOk result
             (self.new ≡ record {
@@ -185,9 +192,11 @@ impl Roster {
         Ok(())
     }
 
-    /// Removes an Alloc-ID.
+    /// Removes an Alloc-ID. It allocates no memory.
     ///
-    /// Fails with [`Roster::remove_refusal`]; then the roster is unchanged. It allocates no memory.
+    /// # Errors
+    ///
+    /// [`Roster::remove_refusal`]; then the roster is unchanged.
     pub fn remove(&mut self, alloc_id: AllocId) -> Result<(), Refusal>
         ensures ok { OnOk result
             (self.new ≡ record {

@@ -14,7 +14,11 @@ use pon_units::{AllocId, FrameNo};
 use std::alloc::{AllocError, Global};
 
 impl AllocTallies {
-    /// Makes the tallies of no maps. `Err` only if memory is refused.
+    /// Makes the tallies of no maps.
+    ///
+    /// # Errors
+    ///
+    /// `AllocError` only if memory is refused.
     pub fn new(alloc: Global) -> Result<AllocTallies, AllocError>
         ensures { IfOk result (λ made. (i : ℕ) → sums_at made i ≡ no_sums) }
     {
@@ -24,8 +28,8 @@ impl AllocTallies {
         })
     }
 
-    /// The sums of an Alloc-ID, 0 if no map has it; and the length of the longest run of maps of consecutive frames that
-    /// granted it nothing.
+    /// The sums of an Alloc-ID, 0 if no map has it; and the length of the longest run of maps of consecutive frames
+    /// that granted it nothing.
     pub fn of(&self, alloc_id: AllocId) -> (Sums, u64)
         ensures { result.0 ≡ sums_at self.now alloc_id }
     {
@@ -39,8 +43,8 @@ impl AllocTallies {
         (Sums::NONE, 0)
     }
 
-    // Adds the tally of later maps at a place, if that has a tally of the same Alloc-ID. Returns whether it has. `Err` if a
-    // sum is 2^64 or more.
+    // Adds the tally of later maps at a place, if that has a tally of the same Alloc-ID. Returns whether it has. `Err`
+    // if a sum is 2^64 or more.
     fn add_at(&mut self, place: usize, others: &AllocTally) -> Result<bool, AllocError>
         ensures sums { IfOk result (λ added. (i : ℕ) → sums_at self.new i
             ≡ plus (sums_at self.old i)
@@ -62,8 +66,8 @@ impl AllocTallies {
         Ok(true)
     }
 
-    // Adds the tally of later maps for an Alloc-ID, at the place in the table or as a new one. Returns the place after its own.
-    // `Err` if memory is refused or a sum is 2^64 or more.
+    // Adds the tally of later maps for an Alloc-ID, at the place in the table or as a new one. Returns the place after
+    // its own. `Err` if memory is refused or a sum is 2^64 or more.
     fn add_by_table(&mut self, others: &AllocTally) -> Result<usize, AllocError>
         ensures { OnOk result ((i : ℕ) → sums_at self.new i
             ≡ plus (sums_at self.old i) (sums_if i others.now)) }
@@ -93,8 +97,8 @@ impl AllocTallies {
         Ok(next)
     }
 
-    // Adds a row of the map of a frame and its structure at a place, if that has a tally of its Alloc-ID. Returns whether it has.
-    // `Err` if a sum is 2^64 or more.
+    // Adds a row of the map of a frame and its structure at a place, if that has a tally of its Alloc-ID. Returns
+    // whether it has. `Err` if a sum is 2^64 or more.
     #[inline(always)]
     fn grow_at(
         &mut self,
@@ -120,8 +124,8 @@ impl AllocTallies {
         Ok(true)
     }
 
-    // Adds a row of the map of a frame and its structure, and looks at the place `hint` first. Returns the place after its own.
-    // `Err` if memory is refused or a sum is 2^64 or more.
+    // Adds a row of the map of a frame and its structure, and looks at the place `hint` first. Returns the place after
+    // its own. `Err` if memory is refused or a sum is 2^64 or more.
     #[inline(always)]
     fn add_row(
         &mut self,
@@ -146,8 +150,11 @@ impl AllocTallies {
         Ok(next)
     }
 
-    /// Adds the map of a frame: the rows and their structures, in map order. `Err` if memory is refused or a sum is 2^64 or
-    /// more.
+    /// Adds the map of a frame: the rows and their structures, in map order.
+    ///
+    /// # Errors
+    ///
+    /// `AllocError` if memory is refused or a sum is 2^64 or more.
     pub fn add_map(
         &mut self,
         frame: FrameNo,
@@ -165,7 +172,11 @@ impl AllocTallies {
         Ok(())
     }
 
-    /// Adds the tallies of later maps. `Err` if memory is refused or a sum is 2^64 or more.
+    /// Adds the tallies of later maps.
+    ///
+    /// # Errors
+    ///
+    /// `AllocError` if memory is refused or a sum is 2^64 or more.
     pub fn add_all(&mut self, others: &AllocTallies) -> Result<(), AllocError>
         ensures { OnOk result ((i : ℕ) → sums_at self.new i
             ≡ plus (sums_at self.old i) (sums_at others.now i)) }
