@@ -21,7 +21,7 @@ use Rattle.pon_lists.proofs.Distinct.{bit, count_once, count_once-append, count_
 
 -- Map order.
 
--- a lesser ONU, or the same ONU and a lesser Alloc-ID
+-- a smaller ONU, or the same ONU and a smaller Alloc-ID
 abbrev pub Precedes : Row → Row → Type 0
 Precedes r s = (r.onu < s.onu) ⊎ ((r.onu ≡ s.onu) × (r.alloc_id < s.alloc_id))
 

@@ -15,13 +15,13 @@ abbrev pub frame_words : ℕ → List Granted → ℕ
 frame_words gap gs = (gap + 2) * length (onus_granted gs) + sum_by grant gs
 
 module _ (gap profile : ℕ) (gs : List Granted) where
-  -- the start of the burst of an ONU: after gap, header, grants and trailer of each ONU of lesser number, and after its own gap
+  -- the start of the burst of an ONU: after gap, header, grants and trailer of each ONU of smaller number, and after its own gap
   abbrev pub start_of : ℕ → ℕ
   start_of u =
       gap + (gap + 2) * length (filter (λ v. nat_lt v u) (onus_granted gs))
       + sum_by (λ g. if nat_lt g.onu u then grant g else 0) gs
 
-  -- the ONU has an Alloc-ID of lesser number
+  -- the ONU has an Alloc-ID of smaller number
   abbrev pub follows_in_series : Granted → Bool
   follows_in_series g = list_any (λ h. h.onu == g.onu && nat_lt h.alloc_id g.alloc_id) gs
 

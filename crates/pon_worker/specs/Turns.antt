@@ -45,7 +45,7 @@ pub record KeepsPost (port : ℕ) (event : Event) (old new : SeatState) : Type 0
   pub raised : RaisedAt port 1 old new
   pub kept : AddsTo old.receipts receipt new.receipts
 
--- these receipts are kept behind the others, in order, or all are given up since memory is refused; if none are kept,
+-- these receipts are kept after the others, in order, or all are given up since memory is refused; if none are kept,
 -- none are
 abbrev pub KeepsAll : Option (List Receipt) → List Receipt → Option (List Receipt) → Type 0
 KeepsAll None given new = new ≡ None
