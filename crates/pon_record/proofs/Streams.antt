@@ -11,7 +11,7 @@ use Rattle.pon_record.specs.declared.version.Version.{Version}
 use Rattle.pon_record.specs.Chapters.{IsCutShort, PlacedChapter, tagged_body_in}
 use Rattle.pon_record.specs.ChapterReading.{BeginsWith}
 use Rattle.pon_record.specs.Recordings.{Holds, IsBadFormat, IsNoChapter, IsRecording, IsTruncated, magic}
-use Rattle.pon_record.specs.Streams.{Fills, GivesNext, HasFront, IsOfDevice, Opens, Position, StandsAfter}
+use Rattle.pon_record.specs.Streams.{CountsRead, Fills, GivesNext, HasFront, IsOfDevice, Opens, Position, StandsAfter}
 use Rattle.pon_record.proofs.ChapterFronts.{ended, front_is, none_begins, stated}
 use Rattle.pon_record.proofs.Magic.{magic_length}
 use Rattle.pon_record.proofs.Reading.{holds_next, holds_none}
@@ -105,3 +105,10 @@ gives_failed bytes whole p left (Err Read) e is of = tt
 gives_failed bytes whole p left (Err Memory) e is of = tt
 gives_failed bytes whole p left (Err (BadFormat at)) e is of = absurd (subst IsOfDevice (sym is) of)
 gives_failed bytes whole p left (Err (Truncated at)) e is of = absurd (subst IsOfDevice (sym is) of)
+
+pub counts_failed : {T : Type 0} (old new : ℕ) (r : Result T StreamFault) (e : StreamFault) → IsErrAnd r (λ x. x ≡ e) → CountsRead {T = Unit {0}} old new (Err e) → CountsRead old new r
+counts_failed {T} old new (Ok x) e is counts = absurd is
+counts_failed {T} old new (Err x) Read is counts = subst (λ (f : StreamFault). CountsRead {T = T} old new (Err f)) (sym is) counts
+counts_failed {T} old new (Err x) Memory is counts = subst (λ (f : StreamFault). CountsRead {T = T} old new (Err f)) (sym is) counts
+counts_failed {T} old new (Err x) (BadFormat at) is counts = subst (λ (f : StreamFault). CountsRead {T = T} old new (Err f)) (sym is) counts
+counts_failed {T} old new (Err x) (Truncated at) is counts = subst (λ (f : StreamFault). CountsRead {T = T} old new (Err f)) (sym is) counts
