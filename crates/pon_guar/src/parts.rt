@@ -1,6 +1,7 @@
 //! The parts of a report book, as a recording has them: the accounts in any order, and the maps of the window.
 
-ghost use Rattle.std.specs.Prelude.{◌≡◌, ◌+◌, ◌==◌, ◌↔◌, All, IfOk, IsTrue, MatchOption, true};
+ghost use Rattle.std.specs.Prelude.{◌≡◌, ◌<◌, ◌+◌, ◌++◌, ◌∷◌, ◌==◌, ◌↔◌, [], length, All, IfOk, IsTrue, MatchOption, OnOk, true};
+ghost use Rattle.pon_guar.specs.declared.window.TheConstants.{MAX_MAPS};
 ghost use Rattle.std.specs.List.{list_any};
 ghost use Rattle.pon_units.specs.Granted.{AreInMapOrder, ComesBefore};
 ghost use Rattle.pon_lists.specs.Order.{AreRising};
@@ -169,6 +170,18 @@ pub(crate) fn is_window(maps: &[MapParts<'_>]) -> bool
     maps.len() <= MAX_MAPS && are_consecutive(maps) && are_lawful_maps(maps)
 }
 
+// Adds a copy of a map to a window. `Err` only if memory is refused.
+fn restore_map(alloc: Global, window: &mut Window, map: &MapParts<'_>) -> Result<(), AllocError>
+    requires room { length window.old < MAX_MAPS }
+    requires next { AreConsecutive map.now.frame window.old }
+    requires lawful { IsLawfulMap map.now }
+    ensures { OnOk result (window.new ≡ window.old ++ map.now ∷ []) }
+{
+    let grants = Vec::from_slice(alloc, map.grants)?;
+    let reported = Vec::from_slice(alloc, map.reported)?;
+    window.restore(map.frame, grants, reported)
+}
+
 /// Makes a window of copies of maps. `Err` only if memory is refused.
 pub(crate) fn restore_window(alloc: Global, maps: &[MapParts<'_>]) -> Result<Window, AllocError>
     requires { IsWindow maps.now }
@@ -176,9 +189,7 @@ pub(crate) fn restore_window(alloc: Global, maps: &[MapParts<'_>]) -> Result<Win
 {
     let mut window = Window::open(alloc);
     for map in maps {
-        let grants = Vec::from_slice(alloc, map.grants)?;
-        let reported = Vec::from_slice(alloc, map.reported)?;
-        window.restore(map.frame, grants, reported)?;
+        restore_map(alloc, &mut window, map)?;
     }
     Ok(window)
 }

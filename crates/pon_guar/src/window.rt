@@ -1,4 +1,6 @@
-ghost use Rattle.std.specs.Prelude.{◌≡◌, ◌≤◌, ◌+◌, ◌-◌, [], drop, length, IfOk};
+ghost use Rattle.std.specs.Prelude.{◌≡◌, ◌<◌, ◌≤◌, ◌+◌, ◌-◌, [], drop, length, vec_len, vec_capacity, All, IfOk, OnOk};
+ghost use Rattle.pon_units.specs.declared.limits.TheConstants.{FRAME_WORDS};
+ghost use Rattle.pon_guar.specs.Sums.{IsKeptWindow, sums_beside};
 
 use crate::map::WindowMap;
 use crate::place::place_of;
@@ -110,8 +112,33 @@ fn drop_past(maps: &mut Vec<WindowMap>, sums: &mut Vec<MapSums>, past: usize) ->
     0
 }
 
+// Reserves room for a map and its sums after the kept maps, whose sums it fills. Returns the sums beside the grants of
+// the map, in the memory of `room`. `Err` only if memory is refused.
+fn prepare_next(
+    maps: &mut Vec<WindowMap>,
+    sums: &mut Vec<MapSums>,
+    past: usize,
+    room: MapSums,
+    grants: &[Granted],
+) -> Result<MapSums, AllocError>
+    requires { IsKeptWindow past maps.old.items sums.old.items }
+    ensures maps { maps.new.items ≡ maps.old.items }
+    ensures kept { IsKeptWindow past maps.old.items sums.new.items }
+    ensures as_many { OnOk result (length sums.new.items ≡ length maps.old.items) }
+    ensures room_for_map { OnOk result (vec_len maps.new < vec_capacity maps.new) }
+    ensures room_for_sums { OnOk result (vec_len sums.new < vec_capacity sums.new) }
+    ensures next { IfOk result (λ next. next
+        ≡ sums_beside (drop past maps.old.items) (drop past sums.new.items) grants.now) }
+    ensures small { OnOk result (All (λ g. g.words ≤ FRAME_WORDS) grants.now) }
+{
+    fill_sums(maps, sums)?;
+    maps.reserve(1)?;
+    sums.reserve(1)?;
+    next_sums(room, from_index(maps, past), from_index(sums, past), grants)
+}
+
 impl Window {
-    ghost use Rattle.std.specs.Prelude.{◌<◌, ◌++◌, ◌∷◌, ℕ, None, Some, false, drop, map, sum_by, IfSome, IfErr, OnOk, OnErr};
+    ghost use Rattle.std.specs.Prelude.{◌++◌, ◌∷◌, ℕ, None, Some, false, map, sum_by, IfSome, IfErr, OnErr};
     ghost use Rattle.std.specs.List.{list_any};
     ghost use Rattle.pon_units.specs.Granted.{AreInMapOrder};
     ghost use Rattle.pon_guar.specs.Window.{IsLawfulMap, IsPlaceOf, IsWindow, AreConsecutive, is_of, latest_grants, with_map, words_to};
@@ -250,14 +277,9 @@ impl Window {
         ensures err { OnErr result (self.new ≡ self.old) }
     {
         let alloc = *self.maps.allocator();
-        fill_sums(&self.maps, &mut self.sums)?;
+        let past = past_after(self.past, from_index(&self.maps, self.past).len());
         let room = mem::replace(&mut self.spare, MapSums::empty(alloc));
-        let maps = from_index(&self.maps, self.past);
-        let sums = from_index(&self.sums, self.past);
-        let past = past_after(self.past, maps.len());
-        let next = next_sums(room, maps, sums, &grants)?;
-        self.maps.reserve(1)?;
-        self.sums.reserve(1)?;
+        let next = prepare_next(&mut self.maps, &mut self.sums, self.past, room, &grants)?;
         let reported = Vec::new(alloc);
         self.maps.push_reserved(WindowMap {
             frame,
@@ -298,12 +320,8 @@ impl Window {
         ensures err { OnErr result (self.new ≡ self.old) }
     {
         let alloc = *self.maps.allocator();
-        fill_sums(&self.maps, &mut self.sums)?;
-        let maps = from_index(&self.maps, self.past);
-        let sums = from_index(&self.sums, self.past);
-        let next = next_sums(MapSums::empty(alloc), maps, sums, &grants)?;
-        self.maps.reserve(1)?;
-        self.sums.reserve(1)?;
+        let room = MapSums::empty(alloc);
+        let next = prepare_next(&mut self.maps, &mut self.sums, self.past, room, &grants)?;
         self.maps.push_reserved(WindowMap {
             frame,
             grants,

@@ -1,8 +1,7 @@
-use Rattle.std.proofs.Common.{◌≡◌, ◌+◌, ◌-◌, ◌++◌, ◌∷◌, [], arith, drop, length, refl, rules, sym}
+use Rattle.std.proofs.Common.{◌≡◌, ◌∙◌, ◌+◌, ◌-◌, ◌++◌, ◌∷◌, [], ap, arith, drop, length, refl, rules, sym}
 use Rattle.pon_guar.specs.Sums.{sums_beside}
 use Rattle.pon_guar.specs.Window.{WindowMap, last_64, with_map}
 use Rattle.std.proofs.lemmas.List.{length-drop}
-use Rattle.pon_guar.proofs.KeptSums.{summed_filled}
 use Rattle.pon_guar.proofs.RunningSums.{summed_mapped}
 use Rattle.pon_guar.proofs.Windows.{latest_added, one_more, one_more_kept}
 use Rattle.pon_guar.proofs.window.Window.add.Goals as goal
@@ -23,9 +22,9 @@ returns-clause-latest c = rw (more c) (latest_added c.args.frame c.args.grants.i
 pub invariant_of-self-2 : goal.invariant_of-self-2
 invariant_of-self-2 c =
     let maps = drop c.self.inside.past c.self.inside.maps.items in
-    let held = c.fill_sums.new.sums.items in
+    let held = c.prepare_next.new.sums.items in
     let sums = drop c.self.inside.past held in
-    let full : length held ≡ length c.self.inside.maps.items = search rules in
+    let full : length held ≡ length c.self.inside.maps.items = c.in_ok-next.ensures.as_many in
     let as_many : length sums ≡ length maps = omega (arith, full, length-drop c.self.inside.past held, length-drop c.self.inside.past c.self.inside.maps.items) in
     let grants = c.args.grants.items in
     let kept = c.drop_past-self-inside in
@@ -36,7 +35,12 @@ invariant_of-self-2 c =
     record {
       within = kept.ensures.within;
       window = rw (more c) (one_more maps c.self.invariant.window c.args.frame grants (search rules) c.requires.map_order);
-      summed = λ e. rw (more c, beside) (summed_mapped c.args.frame grants maps sums
-          (summed_filled c.self.inside.past c.self.inside.maps.items c.self.inside.sums.items c.self.invariant held (search rules) (search rules)) as_many (search rules));
+      summed = λ e. rw (more c, beside) (summed_mapped c.args.frame grants maps sums (c.prepare_next.ensures.kept.summed full) as_many (search rules));
       without = λ other. absurd (other kept.ensures.as_many);
     }
+
+pub invariant_of-self : goal.invariant_of-self
+invariant_of-self c = rw c.prepare_next.ensures.maps c.prepare_next.ensures.kept
+
+pub returns-clause-ok : goal.returns-clause-ok
+returns-clause-ok c = more c ∙ ap (with_map c.args.frame c.args.grants.items) c.self.view_is
