@@ -1,5 +1,6 @@
 pub mod Carries
 pub mod ClassItems
+pub mod ClassMembers
 pub mod ClassShares
 pub mod Planning
 pub mod RosterMaps

@@ -1,7 +1,14 @@
-use Rattle.std.proofs.Common.{◌≡◌, ◌∙◌, ◌/◌, ap, rules, ℕ}
+use Rattle.std.proofs.Common.{◌≡◌, ◌∙◌, ◌/◌, List, ap, arith, length, map, rules, take, ℕ}
 use Rattle.std.specs.Prelude.{slice_index}
+use Rattle.std.proofs.lemmas.List.{length-map, take_all}
 use Rattle.pon_admit.specs.Roster.{left_over}
+use Rattle.pon_admit.specs.declared.row.Row.{Row}
+use Rattle.pon_demand.specs.Carries.{number_of}
+use Rattle.pon_demand.specs.Demands.{demand_of}
+use Rattle.pon_demand.specs.Sharing.{surplus_rate}
+use Rattle.pon_demand.specs.declared.demand.Demand.{Demand}
 use Rattle.pon_demand.proofs.Planning.{one_more, owed_here, owed_to, row_of}
+use Rattle.pon_demand.proofs.RosterMaps.{granted_to_row}
 use Rattle.pon_demand.proofs.grants.planned_grants.Goals as goal
 
 pub next-surplus-requires : goal.next-surplus-requires
@@ -30,3 +37,26 @@ loop-demand-preserved c =
       count_carries = search rules;
       room_carries = search rules;
     }
+
+pub bounds-former-len : goal.bounds-former-len
+bounds-former-len c = omega (arith, c.len.ensures, c.loop-demand.invariant.count, ap (λ (ds : List Demand). length ds) c.requires.demands, length-map c.args.input.now.roster (demand_of c.args.input.now), c.requires.carries.count)
+
+pub owed-owed-requires : goal.owed-owed-requires
+owed-owed-requires c = c.next-surplus.ensures.within
+
+pub grant-requires : goal.grant-requires
+grant-requires c = c.owed-owed.ensures.range
+
+pub returns-clause-grants : goal.returns-clause-grants
+returns-clause-grants c =
+    let s = c.args.input.now in
+    let few : length s.roster ≡ length c.args.demands.now = omega (arith, ap (λ (ds : List Demand). length ds) c.requires.demands, length-map s.roster (demand_of s)) in
+    let all : take c.loop-demand.demand-index s.roster ≡ s.roster = take_all c.loop-demand.demand-index s.roster (omega (arith, few)) in
+    c.loop-demand.invariant.granted ∙ ap (map (granted_to_row s (surplus_rate s c.args.cert.now) (λ q. number_of s.roster c.args.former.now q.alloc_id))) all
+
+pub returns-clause-carries : goal.returns-clause-carries
+returns-clause-carries c =
+    let s = c.args.input.now in
+    let few : length s.roster ≡ length c.args.demands.now = omega (arith, ap (λ (ds : List Demand). length ds) c.requires.demands, length-map s.roster (demand_of s)) in
+    let all : take c.loop-demand.demand-index s.roster ≡ s.roster = take_all c.loop-demand.demand-index s.roster (omega (arith, few)) in
+    c.loop-demand.invariant.left ∙ ap (map (λ (r : Row). left_over s.rule (owed_to s c.args.cert.now c.args.former.now r))) all
