@@ -10,7 +10,6 @@ use pon_units::{FRAME_WORDS, Gap, Granted, Profile};
 ///
 /// Requires grants in map order; gaps, headers, trailers and grants of all ONUs of at most 9,720 words together; and room
 /// in `out` for a structure for each grant. No grants have no structures.
-#[tactic(auto, using(crate::proofs::MapRules::within_frame))]
 pub fn lay_bursts(gap: Gap, profile: Profile, grants: &[Granted], out: &mut Vec<Alloc>)
     requires order { AreInMapOrder grants.now }
     requires fit { frame_words gap grants.now ≤ FRAME_WORDS }
