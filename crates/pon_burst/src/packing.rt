@@ -19,7 +19,6 @@ use pon_units::{
 /// Requires ascending ONU-IDs, and ascending Alloc-IDs of each ONU; gaps, headers, trailers and grants of all ONUs with
 /// Alloc-IDs of at most 9,720 words together; and room in `out` for a structure for each Alloc-ID. An ONU without
 /// Alloc-IDs has no structure.
-#[tactic(auto, using(crate::proofs::MapRules::within_frame))]
 pub fn pack(
     gap: Gap,
     profile: Profile,

@@ -14,7 +14,7 @@ use Rattle.pon_burst.specs.declared.layout.Layout.{Layout}
 use Rattle.pon_burst.specs.Layout.{IsAfter}
 use Rattle.pon_burst.specs.Maps.{map_granting, structure_of}
 use Rattle.pon_burst.specs.Series.{Series, grants_of_series, granted_to}
-use Rattle.pon_burst.proofs.MapRules.{is_map_of_rising, sound_of_rising}
+use Rattle.pon_burst.proofs.MapRules.{is_map_of_rising, sound_of_rising, within_frame}
 use Rattle.pon_burst.proofs.packing.pack.Invariants.{Packed, granted_of}
 use Rattle.pon_burst.proofs.packing.pack.Goals as goal
 
@@ -53,6 +53,9 @@ counted u most (s ∷ ss) rise short =
       | inr e ↦ omega (arith, parts, rw e.0 at own, counted u most ss later (λ k d lt. short (suc k) d (omega (arith, lt))))
     ]
 
+pub structure-requires : goal.structure-requires
+structure-requires c = omega (arith, c.loop-alloc_id.invariant.after.end, within_frame c.args.gap (grants_of_series c.args.onus.now) c.loop-alloc_id.filled c.requires.fit)
+
 pub loop-alloc_id-preserved : goal.loop-alloc_id-preserved
 loop-alloc_id-preserved c =
     let cut = drop_more c.as_slice-alloc_id-items.result.now c.loop-alloc_id.alloc_id-index c.loop-alloc_id-item.result c.loop-alloc_id-test.true in
@@ -68,6 +71,15 @@ loop-onu-preserved c = record {
 
 written : (c : goal.After-loop-onu) → (c.loop-onu.filled ≡ length (grants_of_series c.args.onus.now)) × (take c.loop-onu.filled c.loop-onu.out ≡ map_granting c.args.gap c.args.profile (grants_of_series c.args.onus.now))
 written c = all_packed (rw (drop_of_length-le c.args.onus.now c.loop-onu-test.false) at c.loop-onu.invariant.packed)
+
+pub returns-clause-count : goal.returns-clause-count
+returns-clause-count c = (written c).0
+
+pub returns-clause-structures : goal.returns-clause-structures
+returns-clause-structures c = (written c).1
+
+pub returns-clause-rest : goal.returns-clause-rest
+returns-clause-rest c = c.loop-onu.invariant.packed.kept
 
 pub returns-clause-sound : goal.returns-clause-sound
 returns-clause-sound c = rw ((written c).1) (sound_of_rising c.args.gap c.args.profile (grants_of_series c.args.onus.now) c.requires.order c.requires.fit)
