@@ -1,9 +1,9 @@
 use Rattle.std.proofs.Common.{◌≡◌, ◌≤◌, ◌∙◌, ◌+◌, ◌++◌, ◌∷◌, [], ap, rules, subst, sym, take}
 use Rattle.std.specs.Prelude.{All}
-use Rattle.std.proofs.lemmas.List.{take_more}
+use Rattle.std.proofs.lemmas.List.{take_all, take_more}
 use Rattle.std.proofs.lemmas.List.Elements.{All-append, All-cons, All-nil}
 use Rattle.pon_units.specs.declared.limits.TheConstants.{FRAME_WORDS}
-use Rattle.pon_guar.specs.Sums.{or_zero, sum_now}
+use Rattle.pon_guar.specs.Sums.{or_zero, sum_now, sums_beside}
 use Rattle.pon_guar.proofs.RunningSums.{beside_more}
 use Rattle.pon_guar.proofs.sums.next_sums.Goals as goal
 use Rattle.pon_guar.proofs.sums.next_sums.Goals.{in-Some, in-None}
@@ -25,3 +25,9 @@ loop-granted-preserved c =
       count = search rules;
       room = search rules;
     }
+
+pub returns-clause-sums : goal.returns-clause-sums
+returns-clause-sums c = c.loop-granted.invariant.sums ∙ ap (sums_beside c.args.maps.now c.args.sums.now) (take_all c.loop-granted.granted-index c.args.grants.now c.loop-granted-test.false)
+
+pub returns-clause-small : goal.returns-clause-small
+returns-clause-small c = subst (All (λ g. g.words ≤ FRAME_WORDS)) (take_all c.loop-granted.granted-index c.args.grants.now c.loop-granted-test.false) c.loop-granted.invariant.small

@@ -1,6 +1,8 @@
-use Rattle.std.proofs.Common.{◌≡◌, ◌∙◌, ◌+◌, ◌++◌, ◌∷◌, [], ap, rules, subst, sym, take}
-use Rattle.std.proofs.lemmas.List.{take_more}
+use Rattle.std.proofs.Common.{◌≡◌, ◌∙◌, ◌+◌, ◌++◌, ◌∷◌, List, [], ap, rules, subst, sym, take}
+use Rattle.std.proofs.lemmas.List.{take_all, take_more}
+use Rattle.std.proofs.lemmas.List.Elements.{All-take}
 use Rattle.pon_guar.specs.Sums.{AreSummed, sums_beside}
+use Rattle.pon_guar.specs.Window.{IsLawfulMap, WindowMap}
 use Rattle.pon_guar.proofs.RunningSums.{summed_restored}
 use Rattle.pon_guar.proofs.sums.sums_of.Goals as goal
 
@@ -17,3 +19,9 @@ loop-i-preserved c =
       summed = subst (λ s. AreSummed (take (c.loop-i.i + 1) maps) s) (sym next) (subst (λ ms. AreSummed ms (sums ++ sums_beside done sums m.grants ∷ [])) (sym more)
           (summed_restored m done sums c.loop-i.invariant.summed (search rules) (search rules)));
     }
+
+pub next_sums-requires-clause-lawful : goal.next_sums-requires-clause-lawful
+next_sums-requires-clause-lawful c = All-take IsLawfulMap c.loop-i.i c.args.maps.now c.requires
+
+pub returns-clause-summed : goal.returns-clause-summed
+returns-clause-summed c = subst (λ (maps : List WindowMap). AreSummed maps c.loop-i.sums.items) (take_all c.loop-i.i c.args.maps.now c.loop-i-test.false) c.loop-i.invariant.summed
