@@ -56,6 +56,12 @@ counted u most (s ∷ ss) rise short =
 pub structure-requires : goal.structure-requires
 structure-requires c = omega (arith, c.loop-alloc_id.invariant.after.end, within_frame c.args.gap (grants_of_series c.args.onus.now) c.loop-alloc_id.filled c.requires.fit)
 
+pub bounds-out-filled : goal.bounds-out-filled
+bounds-out-filled c =
+    let cut = drop_more c.as_slice-alloc_id-items.result.now c.loop-alloc_id.alloc_id-index c.loop-alloc_id-item.result c.loop-alloc_id-test.true in
+    let p = rw cut at c.loop-alloc_id.invariant in
+    omega (arith, p.count)
+
 pub loop-alloc_id-preserved : goal.loop-alloc_id-preserved
 loop-alloc_id-preserved c =
     let cut = drop_more c.as_slice-alloc_id-items.result.now c.loop-alloc_id.alloc_id-index c.loop-alloc_id-item.result c.loop-alloc_id-test.true in
