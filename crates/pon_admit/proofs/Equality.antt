@@ -1,6 +1,5 @@
 -- Events that compare as equal are equal.
-use Rattle.std.proofs.Common.{◌≡◌, ℕ, Bool, List, Option, Some, None, refl, ap}
-use Rattle.std.specs.Prelude.{◌==◌}
+use Rattle.std.proofs.Common.{◌≡◌, ◌==◌, ℕ, Bool, List, Option, Some, None, refl, ap, sym, true≢false}
 use Rattle.std.specs.Bool.{Decides}
 use Rattle.std.specs.Cmp.{unsigned_Decides}
 use Rattle.std.specs.Cmp.Lexicographic.{pointwise}
@@ -18,11 +17,17 @@ use Rattle.pon_admit.specs.contracts.event.EventPartialEq.TheImpl as event_eq
 use Rattle.pon_admit.specs.declared.event.Event.{Event}
 use Rattle.pon_admit.specs.declared.event.Event.TheVariants.{Admit, Change, Remove, Report, MakeMap, Fail, Restore}
 
+-- the place of a class among its variants
+abbrev class_place : Class → ℕ
+class_place Plain = 0
+class_place NonAssured = 1
+class_place BestEffort = 2
+
 classes_decide : (a b : Class) → Decides ((class_eq.ghosts).eq a b) (a ≡ b)
 classes_decide Plain Plain = (λ _. refl, λ _. refl)
 classes_decide NonAssured NonAssured = (λ _. refl, λ _. refl)
 classes_decide BestEffort BestEffort = (λ _. refl, λ _. refl)
-classes_decide a b = (λ e. absurd cc, λ e. absurd cc)
+classes_decide a b = (λ e. absurd (true≢false (sym e)), λ e. absurd (true≢false (sym ((unsigned_Decides (class_place a) (class_place b)).1 (ap class_place e)))))
 
 descriptors_decide : (a b : Descriptor) → Decides ((descriptor_eq.ghosts).eq a b) (a ≡ b)
 descriptors_decide a b =
@@ -49,6 +54,16 @@ rows_decide a b =
       λ e. parts.1 (ap (λ r. r.onu) e, (ap (λ r. r.alloc_id) e, ap (λ r. r.descriptor) e)),
     )
 
+-- the place of an event among its variants
+abbrev event_place : Event → ℕ
+event_place (Admit row) = 0
+event_place (Change alloc descriptor) = 1
+event_place (Remove alloc) = 2
+event_place (Report frame onu occ) = 3
+event_place MakeMap = 4
+event_place (Fail cause) = 5
+event_place Restore = 6
+
 pub events_decide : (a b : Event) → Decides ((event_eq.ghosts).eq a b) (a ≡ b)
 events_decide (Admit row) (Admit row') = (λ e. ap Admit ((rows_decide row row').0 e), λ e. (rows_decide row row').1 cc)
 events_decide (Change alloc descriptor) (Change alloc' descriptor') =
@@ -65,4 +80,4 @@ events_decide (Report frame onu occ) (Report frame' onu' occ') =
 events_decide MakeMap MakeMap = (λ _. refl, λ _. refl)
 events_decide (Fail cause) (Fail cause') = (λ e. ap Fail ((unsigned_Decides cause cause').0 e), λ e. (unsigned_Decides cause cause').1 cc)
 events_decide Restore Restore = (λ _. refl, λ _. refl)
-events_decide a b = (λ e. absurd cc, λ e. absurd cc)
+events_decide a b = (λ e. absurd (true≢false (sym e)), λ e. absurd (true≢false (sym ((unsigned_Decides (event_place a) (event_place b)).1 (ap event_place e)))))
