@@ -69,29 +69,30 @@ impl fmt::Display for Refusal {
     ghost output = { λ r. Some (refusal_text r) };
 
     fn fmt<W: fmt::Write>(&self, f: &mut fmt::Formatter<W>) -> fmt::Result {
-        match *self {
-            Refusal::NoSuchAlloc => write!(f, "E01 NoSuchAlloc"),
-            Refusal::AllocTaken => write!(f, "E02 AllocTaken"),
-            Refusal::AllocRange => write!(f, "E03 AllocRange"),
-            Refusal::OnuRange => write!(f, "E04 OnuRange"),
-            Refusal::RateRange => write!(f, "E05 RateRange"),
-            Refusal::MaxBelowGuaranteed => write!(f, "E06 MaxBelowGuaranteed"),
-            Refusal::NeedsGuarantee => write!(f, "E07 NeedsGuarantee"),
-            Refusal::NoSurplusRoom => write!(f, "E08 NoSurplusRoom"),
-            Refusal::TooManyAllocs => write!(f, "E09 TooManyAllocs"),
-            Refusal::TooManyOnus => write!(f, "E10 TooManyOnus"),
-            Refusal::SeriesFull => write!(f, "E11 SeriesFull"),
-            Refusal::Capacity => write!(f, "E12 Capacity"),
-            Refusal::StaleFrame => write!(f, "E13 StaleFrame"),
-            Refusal::NotPolled => write!(f, "E14 NotPolled"),
-            Refusal::ReportCount => write!(f, "E15 ReportCount"),
-            Refusal::AlreadyReported => write!(f, "E16 AlreadyReported"),
-            Refusal::PortDown { cause } => write!(f, "E17 PortDown {}", cause.get()),
-            Refusal::PortUp => write!(f, "E18 PortUp"),
-            Refusal::FrameLimit => write!(f, "E19 FrameLimit"),
-            Refusal::ChapterFull => write!(f, "E20 ChapterFull"),
-            Refusal::OutOfMemory => write!(f, "E21 OutOfMemory"),
-        }
+        let text = match *self {
+            Refusal::NoSuchAlloc => "E01 NoSuchAlloc",
+            Refusal::AllocTaken => "E02 AllocTaken",
+            Refusal::AllocRange => "E03 AllocRange",
+            Refusal::OnuRange => "E04 OnuRange",
+            Refusal::RateRange => "E05 RateRange",
+            Refusal::MaxBelowGuaranteed => "E06 MaxBelowGuaranteed",
+            Refusal::NeedsGuarantee => "E07 NeedsGuarantee",
+            Refusal::NoSurplusRoom => "E08 NoSurplusRoom",
+            Refusal::TooManyAllocs => "E09 TooManyAllocs",
+            Refusal::TooManyOnus => "E10 TooManyOnus",
+            Refusal::SeriesFull => "E11 SeriesFull",
+            Refusal::Capacity => "E12 Capacity",
+            Refusal::StaleFrame => "E13 StaleFrame",
+            Refusal::NotPolled => "E14 NotPolled",
+            Refusal::ReportCount => "E15 ReportCount",
+            Refusal::AlreadyReported => "E16 AlreadyReported",
+            Refusal::PortDown { cause } => return write!(f, "E17 PortDown {}", cause.get()),
+            Refusal::PortUp => "E18 PortUp",
+            Refusal::FrameLimit => "E19 FrameLimit",
+            Refusal::ChapterFull => "E20 ChapterFull",
+            Refusal::OutOfMemory => "E21 OutOfMemory",
+        };
+        f.write_str(text)
     }
 }
 
