@@ -1,7 +1,7 @@
 -- The explanations of the rows of a state, row by row.
-use Rattle.std.proofs.Common.{◌≡◌, ℕ, ◌+◌, ◌<◌, List, [], ◌∷◌, ◌++◌, map, length, take, get_or, ap, sym, ◌∙◌}
+use Rattle.std.proofs.Common.{◌≡◌, ℕ, ◌+◌, ◌<◌, List, [], ◌∷◌, ◌++◌, map, length, take, get_or, ap, subst, sym, ◌∙◌}
 use Rattle.std.specs.Prelude.{slice_index, Option}
-use Rattle.std.proofs.lemmas.List.{get_or-map, map_more}
+use Rattle.std.proofs.lemmas.List.{get_or-map, length-map, map_more}
 use Rattle.pon_admit.specs.declared.row.Row.{Row}
 use Rattle.pon_admit.specs.Roster.{IsDistinct}
 use Rattle.pon_guar.specs.declared.account.Counted.{Counted}
@@ -15,6 +15,10 @@ use Rattle.pon_why.specs.Explanations.{explanation_of, numbers_of}
 use Rattle.pon_why.specs.Rates.{rates_of, row_rates}
 use Rattle.pon_why.specs.declared.numbers.Explanation.{Explanation}
 use Rattle.pon_why.specs.declared.rates.RowRates.{RowRates}
+
+-- an index of a row is one of what each row gives
+pub within_mapped : {X Y : Type 0} (f : X → Y) (xs : List X) (ys : List Y) (i : ℕ) → i < length xs → ys ≡ map f xs → i < length ys
+within_mapped f xs ys i lt same = subst (λ n. i < n) (sym (ap length same ∙ length-map xs f)) lt
 
 -- one more row is explained: by its demand, its counted report, its rates and its carry
 pub row_explained : (s : State) (cert : MapCert) → IsDistinct s.roster → length s.carries ≡ length s.roster → (i : ℕ) (r : Row) (d e : Demand) (o : Option Counted) (x : RowRates) (n : ℕ) (xs : List Explanation) → i < length s.roster → r ≡ get_or s.roster i r →

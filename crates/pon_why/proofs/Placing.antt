@@ -2,7 +2,7 @@
 use Rattle.std.proofs.Common.{◌≡◌, ℕ, zero, suc, ◌<◌, List, [], ◌∷◌, ◌++◌, length, get_or, refl, ap, sym, ◌∙◌, subst, arith, inl, inr}
 use Rattle.std.specs.Prelude.{if◌then◌else◌, slice_index, slice_set}
 use Rattle.std.proofs.lemmas.Bool.Decides.{eqb_tells}
-use Rattle.std.proofs.lemmas.List.{get_or-map, get_or_append_left, get_or-set_other, get_or-set_same, length-append, length-map}
+use Rattle.std.proofs.lemmas.List.{get_or-map, get_or_append_left, get_or-set_other, get_or-set_same, length-append, length-map, map-append}
 use Rattle.std.proofs.Math.Seq.{get_or-append_seam, map-set_same}
 use Rattle.pon_why.specs.Places.{ArePlaced, LacksAt, ids_of}
 use Rattle.pon_why.specs.Sums.{no_sums, plus, sums_in}
@@ -28,6 +28,16 @@ placed_more ids places i within lacks placed k lt = elim (eqb_tells k (length id
       subst (λ p. p < length ids → slice_index ids p ≡ i → ⊥) (sym here) lacks before e in
       ap (slice_index (slice_set places i (length ids))) old ∙ get_or-set_other places i (slice_index ids k) (length ids) 0 other ∙ placed k before
 ]
+
+-- one more tally, of an Alloc-ID that has none, with its place in the table
+pub placed_pushed : (ts : List AllocTally) (places : List ℕ) (i p next : ℕ) (t : AllocTally) → i < length places → p ≡ slice_index places i → i ≡ t.alloc_id → next ≡ length ts → LacksAt p t.alloc_id (ids_of ts) → ArePlaced (ids_of ts) places →
+    ArePlaced (ids_of (ts ++ t ∷ [])) (slice_set places i next)
+placed_pushed ts places i p next t within at own last lacks placed =
+    let id = λ (t : AllocTally). t.alloc_id in
+    let here : LacksAt (slice_index places i) i (ids_of ts) = subst (λ q. LacksAt q i (ids_of ts)) at (subst (λ j. LacksAt p j (ids_of ts)) (sym own) lacks) in
+    let more : ids_of ts ++ i ∷ [] ≡ ids_of (ts ++ t ∷ []) = ap (λ j. ids_of ts ++ j ∷ []) own ∙ sym (map-append id ts (t ∷ [])) in
+    let count : length (ids_of ts) ≡ next = length-map ts id ∙ sym last in
+    subst (λ ids. ArePlaced ids (slice_set places i next)) more (subst (λ n. ArePlaced (ids_of ts ++ i ∷ []) (slice_set places i n)) count (placed_more (ids_of ts) places i within here placed))
 
 -- The sums of an Alloc-ID.
 

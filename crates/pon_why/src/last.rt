@@ -6,7 +6,8 @@ ghost use Rattle.pon_demand.specs.Carries.{AreCarries};
 ghost use Rattle.pon_demand.specs.Sharing.{IsCertified};
 ghost use Rattle.pon_state.specs.State.{input_of};
 ghost use Rattle.pon_history.specs.Chapters.{IsLawfulChapter};
-ghost use Rattle.pon_why.specs.Lasts.{chapter_with, last_place, level_in, why_in, why_of};
+ghost use Rattle.pon_why.specs.Explanations.{explanations_of};
+ghost use Rattle.pon_why.specs.Lasts.{chapter_with, explained_by, last_place, level_in, why_in, why_of};
 
 use crate::numbers::{Explanation, explain};
 use crate::retake::state_before;
@@ -92,6 +93,37 @@ pub fn level_in(cert: &MapCert, class: Class) -> Option<Level>
     }
 }
 
+// Explains each admitted Alloc-ID under the certificate of a map of a state. `Err` only if memory is refused.
+fn explain_map(
+    alloc: Global,
+    state: &PortState,
+    made: &MadeMap,
+) -> Result<Vec<Explanation>, AllocError>
+    requires admitted { IsAdmitted state.now.rule state.now.gap state.now.roster }
+    requires carries { AreCarries state.now.rule state.now.roster state.now.carries }
+    requires certified { IsCertified (input_of state.now) made.now.cert }
+    ensures { IfOk result (λ rows. rows.items ≡ explanations_of state.now made.now.cert) }
+{
+    let mut buffers = MapBuffers::open(alloc);
+    let problems = next_problems(alloc, &mut buffers, state)?;
+    explain(alloc, state, problems.demands.as_slice(), &made.cert)
+}
+
+// Adds what the map itself gives to the numbers of an Alloc-ID, looked up in those of all.
+fn explain_among(rows: &[Explanation], made: &MadeMap, alloc_id: AllocId) -> LastWhy
+    ensures { result ≡ explained_by made.now alloc_id (find (λ x. x.row.alloc_id == alloc_id) rows.now) }
+{
+    let Some(row) = row_of(rows, alloc_id) else {
+        return LastWhy::NoSuchAlloc;
+    };
+    LastWhy::Explained(LastExplanation {
+        frame: made.frame,
+        row,
+        level: level_in(&made.cert, row.row.descriptor.class()),
+        structure: structure_of(&made.map, alloc_id),
+    })
+}
+
 // Explains a map of a state for an Alloc-ID. `Err` only if memory is refused.
 fn explain_for(
     alloc: Global,
@@ -104,18 +136,8 @@ fn explain_for(
     requires certified { IsCertified (input_of state.now) made.now.cert }
     ensures { IfOk result (λ why. why ≡ why_in state.now alloc_id (Some made.now)) }
 {
-    let mut buffers = MapBuffers::open(alloc);
-    let problems = next_problems(alloc, &mut buffers, state)?;
-    let rows = explain(alloc, state, problems.demands.as_slice(), &made.cert)?;
-    let Some(row) = row_of(&rows, alloc_id) else {
-        return Ok(LastWhy::NoSuchAlloc);
-    };
-    Ok(LastWhy::Explained(LastExplanation {
-        frame: made.frame,
-        row,
-        level: level_in(&made.cert, row.row.descriptor.class()),
-        structure: structure_of(&made.map, alloc_id),
-    }))
+    let rows = explain_map(alloc, state, made)?;
+    Ok(explain_among(&rows, made, alloc_id))
 }
 
 /// Explains the last map of a lawful chapter, given by its opening and its entries, for an Alloc-ID. Each number is
@@ -137,9 +159,11 @@ pub fn explain_last(
     let Some(place) = last_place(entries) else {
         return Ok(LastWhy::NoMap);
     };
-    let state = state_before(alloc, opening, entries, place)?;
     match entries[place].as_ref() {
-        EntryRef::Map(made) => explain_for(alloc, &state, made, alloc_id),
+        EntryRef::Map(made) => {
+            let state = state_before(alloc, opening, entries, place)?;
+            explain_for(alloc, &state, made, alloc_id)
+        }
         EntryRef::Taken(_) => Ok(LastWhy::NoMap),
     }
 }
