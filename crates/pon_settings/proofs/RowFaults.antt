@@ -1,5 +1,5 @@
 -- Why a row is refused: the fault of its descriptor, and the refusal of a roster.
-use Rattle.std.proofs.Common.{◌≡◌, Bool, true, false, [], ◌∷◌, refl, ap, ◌∙◌, sym}
+use Rattle.std.proofs.Common.{◌≡◌, Bool, true, false, [], ◌∷◌, refl, ap, ◌∙◌, subst, sym}
 use Rattle.std.specs.Prelude.{Option, Some, None}
 use Rattle.toml.specs.Data.{Data}
 use Rattle.pon_descr.specs.Checks.{when, or_else, first_refusal_of, IsTold}
@@ -10,6 +10,7 @@ use Rattle.pon_descr.specs.declared.refusal.Refusal.TheVariants.{AllocTaken, Too
 use Rattle.pon_descr.specs.declared.table.DescrFault.{DescrFault}
 use Rattle.pon_admit.specs.Roster.{Roster, refuses_admit}
 use Rattle.pon_settings.specs.declared.row.Numbers.{Numbers}
+use Rattle.pon_settings.specs.declared.row.RowFault.{RowFault}
 use Rattle.pon_settings.specs.declared.row.RowFault.TheVariants.{Refused}
 use Rattle.pon_settings.specs.Rows.{SettingsRow, row_at, row_from, number_refusal, id_refusal, descriptor_fault, admission_fault, IsRowFault, IsToldAs, IsAdmissionFault}
 
@@ -40,3 +41,9 @@ pub refused_row : (roster : Roster) (d : Data) (r : SettingsRow) (told : Refusal
     → IsTold (refuses_admit roster.rule roster.gap roster.rows r.row) told → IsAdmissionFault roster (row_at d) (admission_fault told)
 refused_row roster d r told spelled numbers is =
     rw (spelled, numbers) (told_as (refuses_admit roster.rule roster.gap roster.rows r.row) told (not_memory _ _ _ _ _) is)
+
+-- a table that spells no row, or one whose numbers are refused, is not admitted
+pub faulty_numbers : (roster : Roster) (o : Option SettingsRow) (fault : RowFault) → IsRowFault o fault → IsAdmissionFault roster o fault
+faulty_numbers roster None fault is = is
+faulty_numbers roster (Some r) fault (why, refused, is) =
+    subst (λ q. IsToldAs (or_else q (refuses_admit roster.rule roster.gap roster.rows r.row)) fault) (sym refused) is

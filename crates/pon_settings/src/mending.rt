@@ -64,18 +64,20 @@ fn words_of(alloc: Global, rule: Option<Rule<'_>>) -> Result<String, AllocError>
     }
 }
 
-// Returns the line and the column where a text stops being TOML, and why.
-fn explain_text(alloc: Global, text: &str) -> Result<String, AllocError> {
-    let Err(fault) = toml::table_from_str(alloc, text) else {
-        return Ok(String::new(alloc));
-    };
+// Returns the line and the column of a fault of TOML, and what it is.
+fn words_of_fault(alloc: Global, fault: &toml::de::Error) -> Result<String, AllocError> {
     let told = format!(in alloc; "{fault}")?;
-    let place = match told.as_str().lines().next() {
-        Some(line) => line,
-        None => "",
-    };
+    let place = told.as_str().lines().next().unwrap_or("");
     let why = fault.message();
     format!(in alloc; "  {place}: {why}")
+}
+
+// Returns the line and the column where a text stops being TOML, and why.
+fn explain_text(alloc: Global, text: &str) -> Result<String, AllocError> {
+    match toml::table_from_str(alloc, text) {
+        Ok(_) => Ok(String::new(alloc)),
+        Err(fault) => words_of_fault(alloc, &fault),
+    }
 }
 
 // Returns the text of the rule that is broken at the top.

@@ -3,6 +3,7 @@
 ghost use Rattle.std.specs.Prelude.{◌≡◌};
 ghost use Rattle.toml.specs.View.{table_view};
 ghost use Rattle.pon_settings.specs.Keys.{is_known, has_known_keys};
+ghost use Rattle.pon_settings.specs.declared.place.Place.TheVariants as place;
 
 use toml::Table;
 
@@ -14,6 +15,29 @@ pub(crate) enum Place {
     Row,
 }
 
+// Returns whether a port's table may have the key.
+fn is_port_key(key: &[u8]) -> bool
+    ensures { result ≡ is_known place.Port key.now }
+{
+    key == b"gap".as_slice()
+        || key == b"profile".as_slice()
+        || key == b"first".as_slice()
+        || key == b"alloc".as_slice()
+}
+
+// Returns whether a row's table may have the key.
+fn is_row_key(key: &[u8]) -> bool
+    ensures { result ≡ is_known place.Row key.now }
+{
+    key == b"onu".as_slice()
+        || key == b"alloc".as_slice()
+        || key == b"fixed".as_slice()
+        || key == b"assured".as_slice()
+        || key == b"max".as_slice()
+        || key == b"class".as_slice()
+        || key == b"queue".as_slice()
+}
+
 impl Place {
     /// Returns whether a table of this kind may have the key.
     pub(crate) fn knows(self, key: &str) -> bool
@@ -22,21 +46,8 @@ impl Place {
         let key = key.as_bytes();
         match self {
             Place::Top => key == b"port".as_slice(),
-            Place::Port => {
-                key == b"gap".as_slice()
-                    || key == b"profile".as_slice()
-                    || key == b"first".as_slice()
-                    || key == b"alloc".as_slice()
-            }
-            Place::Row => {
-                key == b"onu".as_slice()
-                    || key == b"alloc".as_slice()
-                    || key == b"fixed".as_slice()
-                    || key == b"assured".as_slice()
-                    || key == b"max".as_slice()
-                    || key == b"class".as_slice()
-                    || key == b"queue".as_slice()
-            }
+            Place::Port => is_port_key(key),
+            Place::Row => is_row_key(key),
         }
     }
 

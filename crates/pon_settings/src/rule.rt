@@ -118,27 +118,32 @@ fn has_class(table: &Table) -> bool {
     }
 }
 
+// The numbers that each row has, and the rule of each.
+const ROW_NUMBERS: [(&str, &str); 5] = [
+    ("onu", "onu must be a whole number, not negative"),
+    ("alloc", "alloc must be a whole number, not negative"),
+    ("fixed", "fixed must be a whole number, not negative"),
+    ("assured", "assured must be a whole number, not negative"),
+    ("max", "max must be a whole number, not negative"),
+];
+
 /// Returns the first rule that the fields of a row break.
 pub(crate) fn row_rule(table: &Table) -> Option<Rule<'_>> {
     if let Some(rule) = unknown_key(Place::Row, table) {
         return Some(rule);
     }
-    let (key, rule) = if !has_number(table, "onu") {
-        ("onu", "onu must be a whole number, not negative")
-    } else if !has_number(table, "alloc") {
-        ("alloc", "alloc must be a whole number, not negative")
-    } else if !has_number(table, "fixed") {
-        ("fixed", "fixed must be a whole number, not negative")
-    } else if !has_number(table, "assured") {
-        ("assured", "assured must be a whole number, not negative")
-    } else if !has_number(table, "max") {
-        ("max", "max must be a whole number, not negative")
-    } else if !has_class(table) {
-        ("class", "class must be none, na or be")
-    } else if optional(table, "queue", MAX_QUEUE).is_none() {
-        ("queue", "queue must be 0 to 4294967295")
-    } else {
-        return None;
-    };
-    Some(rule_at(table, key, rule))
+    for (key, rule) in ROW_NUMBERS {
+        if !has_number(table, key) {
+            return Some(rule_at(table, key, rule));
+        }
+    }
+    if !has_class(table) {
+        let rule = "class must be none, na or be";
+        return Some(rule_at(table, "class", rule));
+    }
+    if optional(table, "queue", MAX_QUEUE).is_none() {
+        let rule = "queue must be 0 to 4294967295";
+        return Some(rule_at(table, "queue", rule));
+    }
+    None
 }
