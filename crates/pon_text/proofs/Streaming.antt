@@ -1,17 +1,26 @@
 -- Text that is read piece by piece, answered line by line and written.
-use Rattle.std.proofs.Common.{◌≡◌, ℕ, List, [], ◌∷◌, ◌++◌, take, refl, ap, sym, ◌∙◌, subst}
-use Rattle.std.proofs.lemmas.List.{append-nil}
+use Rattle.std.proofs.Common.{◌≡◌, ℕ, false, List, [], ◌∷◌, ◌++◌, length, take, refl, ap, arith, sym, ◌∙◌, subst}
+use Rattle.std.proofs.lemmas.List.{append-nil, length-take}
 use Rattle.std.specs.Prelude.{◌≢◌, Option, Result, Ok, Err}
 use Rattle.pon_device.specs.Device.{Appends, Consumes, Keeps}
+use Rattle.pon_device.specs.Streams.{TellsRead}
 use Rattle.pon_device.proofs.Pieces.{appends_kept, appends_more}
-use Rattle.pon_device.proofs.DeviceBytes.{appends_none, consumes_more}
+use Rattle.pon_device.proofs.DeviceBytes.{appends_none, consumes_kept, consumes_more}
 use Rattle.pon_device.specs.declared.fault.DeviceFault.{DeviceFault}
 use Rattle.pon_device.specs.declared.fault.DeviceFault.TheVariants.{Read, Write, Memory}
-use Rattle.pon_text.specs.Lines.{lines_of}
+use Rattle.pon_text.specs.Lines.{lines_of, whole_lines}
 use Rattle.pon_text.specs.Giving.{Giving, GivesLines, ReadsFirst}
 use Rattle.pon_text.specs.Planning.{IsText, Planned, PrintsLine}
 use Rattle.pon_text.specs.Progress.{Answered, Continues, PrintsPiece}
-use Rattle.pon_text.proofs.Continuing.{answered_lines, begins_lines, gives_kept, gives_more, lone_line, reach_nothing, reach_written}
+use Rattle.pon_text.proofs.Continuing.{answered_lines, begins_lines, gives_kept, gives_more, has_feed, lone_line, reach_nothing, reach_written}
+
+no_whole_line : (bs : List ℕ) → has_feed bs ≡ false → whole_lines bs ≡ []
+no_whole_line [] h = refl
+no_whole_line (b ∷ bs) h = rw h refl
+
+nothing_kept : (line cur : List ℕ) → line ≡ [] → line ≡ take 4097 cur → cur ≡ []
+nothing_kept line [] e k = refl
+nothing_kept line (b ∷ cur) e k = absurd (omega (arith, ap length (sym k ∙ e), length-take 4097 (b ∷ cur)))
 
 -- the progress of the reading
 pub record Progress {S : Type 0} (gives : Giving S) (first : S) (left_first left held_first held : Option (List ℕ)) (state : S) (line : List ℕ) : Type 0 where
@@ -62,6 +71,41 @@ module _ {S : Type 0} {gives : Giving S} {first state : S} {l0 l h0 h : Option (
       (w.0, [], after, gives_kept gives law state after line p.answered.cur w.0 p.answered.kept w.2, (refl, refl), sym (append-nil w.0)) w.4)
   last_line law m k after (Err Memory) c n w =
       print_failed m k after after line [] Memory c (reach_written (reach_nothing gives state line [] [] h refl) k (appends_kept h h k [] (appends_none h) w))
+
+  -- the input ended after a line feed
+  pub no_more_lines : (m : Option (List ℕ)) → Consumes l m [] → line ≡ [] → Planned {T = Unit {0}} gives first state l0 m h0 h (Ok tt)
+  no_more_lines m c e =
+      let a = p.answered in
+      let all : lines_of (p.input ++ []) ≡ a.lines = answered_lines a [] ∙ ap (λ t. a.lines ++ lines_of t) (append-nil a.cur ∙ nothing_kept line a.cur e a.kept) ∙ append-nil a.lines in
+      more_planned m h state [] [] (Ok tt) c (appends_none h)
+      (subst (λ t. GivesLines gives first (lines_of (p.input ++ [])) t state) (sym (append-nil p.written)) (subst (λ ls. GivesLines gives first ls p.written state) (sym all) a.gave))
+
+  -- the reading ended: the text of all whole lines is written
+  pub stopped : (m : Option (List ℕ)) → Keeps l m → Planned {T = Unit {0}} gives first state l0 m h0 h (Err Read)
+  stopped m kept =
+      let a = p.answered in
+      let whole : whole_lines p.input ≡ a.done = ap whole_lines a.parts ∙ a.whole a.cur ∙ ap (λ t. a.done ++ t) (no_whole_line a.cur a.open_line) ∙ append-nil a.done in
+      let all : lines_of (whole_lines p.input) ≡ a.lines = ap lines_of (whole ∙ sym (append-nil a.done)) ∙ a.split [] ∙ append-nil a.lines in
+      record {
+        input = p.input;
+        written = p.written;
+        read = consumes_kept l0 l m p.input p.read kept;
+        wrote = p.wrote;
+        text = subst (λ ls. GivesLines gives first ls p.written state) (sym all) a.gave;
+      }
+
+-- no read failed while a line or a piece was answered
+module _ {S : Type 0} (gives : Giving S) (old new : S) (line : List ℕ) (h k : Option (List ℕ)) (calls_old calls_new failures_old failures_new : ℕ) (same : failures_new ≡ failures_old) where
+  pub line_tells_read : (r : Result (Unit {0}) DeviceFault) → PrintsLine gives old new line h k r → TellsRead calls_old calls_new failures_old failures_new r
+  line_tells_read (Ok done) w = same
+  line_tells_read (Err Read) w = absurd w
+  line_tells_read (Err Write) w = same
+  line_tells_read (Err Memory) w = same
+
+  pub piece_tells_read : (after piece : List ℕ) (f : DeviceFault) → PrintsPiece gives old line new after piece h k (Err f) → TellsRead {T = Unit {0}} calls_old calls_new failures_old failures_new (Err f)
+  piece_tells_read after piece Read w = absurd w
+  piece_tells_read after piece Write w = same
+  piece_tells_read after piece Memory w = same
 
 -- all was written, and the flush failed
 pub not_flushed : {S D T : Type 0} (gives : Giving S) (first last : S) (l0 l h0 h k : Option (List ℕ)) (done : D) → Planned {T = D} gives first last l0 l h0 h (Ok done) → Keeps h k → Planned {T = T} gives first last l0 l h0 k (Err Write)

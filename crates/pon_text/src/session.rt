@@ -146,6 +146,45 @@ fn print_line<S, A: Answers<S>, W: DevWrite>(
     send(replies, writer)
 }
 
+// Reads lines to the end of the input, and writes their replies before the next read. `line` and `replies` are memory
+// for the open line and for the gathered replies.
+fn answer_reads<S, A: Answers<S>, R: DevRead, W: DevWrite>(
+    answers: &mut A,
+    state: &mut S,
+    line: &mut Vec<u8>,
+    replies: &mut Vec<u8>,
+    reader: &mut R,
+    writer: &mut W,
+) -> Result<(), DeviceFault>
+    requires no_line { line.old.items ≡ [] }
+    requires no_replies { replies.old.items ≡ [] }
+    ensures text { Planned A.gives state.old state.new (R.remaining reader.old) (R.remaining reader.new)
+        (W.contents writer.old) (W.contents writer.new) result }
+    ensures path { A.path state.old state.new }
+    ensures end { OnOk result (IsAtEnd (R.remaining reader.new)) }
+    ensures read { TellsRead (R.calls reader.old) (R.calls reader.new) (R.failures reader.old)
+        (R.failures reader.new) result }
+    ensures write { TellsWrite (W.failures writer.old) (W.failures writer.new) result }
+{
+    let mut piece = [0u8; PIECE];
+    for _turn in 0..u64::MAX {
+        let Ok(len) = reader.read(&mut piece) else {
+            return Err(DeviceFault::Read);
+        };
+        if len == 0 {
+            if line.is_empty() {
+                return Ok(());
+            }
+            return print_line(answers, state, line.as_slice(), replies, writer);
+        }
+        match print_piece(answers, state, line, &piece[..len], replies, writer) {
+            Ok(()) => {}
+            Err(fault) => return Err(fault),
+        }
+    }
+    Err(DeviceFault::Read)
+}
+
 // Reads lines to the end of the input, and writes their replies before the next read.
 fn answer_lines<S, A: Answers<S>, R: DevRead, W: DevWrite>(
     alloc: Global,
@@ -164,30 +203,7 @@ fn answer_lines<S, A: Answers<S>, R: DevRead, W: DevWrite>(
 {
     let mut line = Vec::new(alloc);
     let mut replies = Vec::new(alloc);
-    let mut piece = [0u8; PIECE];
-    for _turn in 0..u64::MAX {
-        let Ok(len) = reader.read(&mut piece) else {
-            return Err(DeviceFault::Read);
-        };
-        if len == 0 {
-            if line.is_empty() {
-                return Ok(());
-            }
-            return print_line(answers, state, line.as_slice(), &mut replies, writer);
-        }
-        match print_piece(
-            answers,
-            state,
-            &mut line,
-            &piece[..len],
-            &mut replies,
-            writer,
-        ) {
-            Ok(()) => {}
-            Err(fault) => return Err(fault),
-        }
-    }
-    Err(DeviceFault::Read)
+    answer_reads(answers, state, &mut line, &mut replies, reader, writer)
 }
 
 /// Reads lines to the end of the input, answers each, writes its text, and flushes the writer.

@@ -1,7 +1,7 @@
 use Rattle.std.proofs.Common.{◌≡◌, []}
 use Rattle.pon_device.proofs.ReadCounts.{AfterReads}
 use Rattle.pon_text.proofs.Streaming.{Progress}
-use Rattle.pon_text.proofs.session.answer_lines.Given as goal
+use Rattle.pon_text.proofs.session.answer_reads.Given as goal
 
 -- the progress of the reading: all text is written, and no device has failed
 abbrev pub invariant-loop-turn : goal.invariant-loop-turn
