@@ -43,13 +43,10 @@ with_args app args old (Err e) h local adds = tt
 with_sub : (app : App) (shape : Shape) (old sub new : Command) → app_of old ≡ app → IsDefined (leaf shape) sub → AddsSubcommand old sub new → app_of new ≡ with_subcommand app shape
 with_sub app shape old sub new is defined adds = adds.shape defined.local ∙ ap (λ k. with_subcommand k (shape_of sub)) is ∙ ap (with_subcommand app) (ap (λ (a : App). a.top) defined.definition)
 
--- a command with one more subcommand, if that was made
-pub with_made : {E : Type 0} (app : App) (shape : Shape) (old : Command) (made : Result Command E) (new : Command) → app_of old ≡ app → IfOk made (IsDefined (leaf shape))
-    → IsOkAnd made (λ sub. AddsSubcommand old sub new) → app_of new ≡ with_subcommand app shape
-with_made app shape old (Ok sub) new is defined adds = with_sub app shape old sub new is defined adds
-with_made app shape old (Err e) new is defined adds = absurd adds
-
-pub with_last_made : {E : Type 0} (app : App) (shape : Shape) (old : Command) (made r : Result Command E) → app_of old ≡ app → IfOk made (IsDefined (leaf shape))
-    → IfOk r (λ new. IsOkAnd made (λ sub. AddsSubcommand old sub new)) → IfOk r (λ new. app_of new ≡ with_subcommand app shape)
-with_last_made app shape old made (Ok new) is defined adds = with_made app shape old made new is defined adds
-with_last_made app shape old made (Err e) is defined adds = tt
+-- a command with one more subcommand, if both were made
+pub with_made : {E : Type 0} (app : App) (shape : Shape) (old made r : Result Command E) → IfOk old (λ c. app_of c ≡ app) → IfOk made (IsDefined (leaf shape))
+    → IfOk r (λ new. IsOkAnd old (λ c. IsOkAnd made (λ sub. AddsSubcommand c sub new))) → IfOk r (λ new. app_of new ≡ with_subcommand app shape)
+with_made app shape (Ok old) (Ok sub) (Ok new) is defined adds = with_sub app shape old sub new is defined adds
+with_made app shape (Ok old) (Err e) (Ok new) is defined adds = absurd adds
+with_made app shape (Err e) made (Ok new) is defined adds = absurd adds
+with_made app shape old made (Err e) is defined adds = tt

@@ -3,7 +3,7 @@
 ghost use Rattle.std.specs.Prelude.{◌≡◌, IfOk, IsOkAnd, false};
 ghost use Rattle.clap.specs.Built.{AddsSubcommand};
 ghost use Rattle.clap.specs.Walk.{rule_of};
-ghost use Rattle.clap.specs.Simple.{app_of};
+ghost use Rattle.clap.specs.Simple.{App, app_of};
 ghost use Rattle.std.specs.Prelude.{map};
 ghost use Rattle.pon_job.specs.Jobs.{AreLocal, IsDefined, leaf, olt_app, shape_with, with_views};
 ghost use Rattle.pon_job.specs.Jobs.{alloc_rule, config_rule, connect_rule, file_rule, files_rule, flag_rule, frame_rule, format_rule, from_rule, listen_rule, maps_rule, needed_alloc_rule, needed_config_rule, no_clobber_rule, number_rule, operate_rule, option_rule, out_rule, pace_rule, place_rule, port_rule, progress_rule, record_rule, settle_rule, strict_rule, summary_rule, svg_rule, to_rule, units_rule, verbose_rule, wait_rule};
@@ -459,25 +459,30 @@ fn top_command<'a>(alloc: Global) -> Result<Command<'a>, AllocError>
     )
 }
 
-// Adds a subcommand that was made. `Err` only if memory is refused.
+// Adds a subcommand to a command, if both were made. `Err` only if memory is refused.
 fn with_subcommand<'a>(
-    command: Command<'a>,
+    command: Result<Command<'a>, AllocError>,
     made: Result<Command<'a>, AllocError>,
 ) -> Result<Command<'a>, AllocError>
-    ensures { IfOk result (λ new. IsOkAnd made.entry (λ sub. AddsSubcommand command.entry sub new)) }
+    ensures { IfOk result (λ new. IsOkAnd command.entry (λ old.
+        IsOkAnd made.entry (λ sub. AddsSubcommand old sub new))) }
 {
-    command.subcommand(made?)
+    command?.subcommand(made?)
 }
 
 // Adds the commands that answer from a recording. `Err` only if memory is refused.
-fn with_views<'a>(alloc: Global, command: Command<'a>) -> Result<Command<'a>, AllocError>
-    ensures { IfOk result (λ c. app_of c ≡ with_views (app_of command.entry)) }
+fn with_views<'a>(
+    alloc: Global,
+    command: Result<Command<'a>, AllocError>,
+) -> Result<Command<'a>, AllocError>
+    ensures { (app : App) → IfOk command.entry (λ old. app_of old ≡ app)
+        → IfOk result (λ new. app_of new ≡ with_views app) }
 {
-    let command = with_subcommand(command, info_command(alloc))?;
-    let command = with_subcommand(command, rates_command(alloc))?;
-    let command = with_subcommand(command, why_command(alloc))?;
-    let command = with_subcommand(command, dump_command(alloc))?;
-    let command = with_subcommand(command, picture_command(alloc))?;
+    let command = with_subcommand(command, info_command(alloc));
+    let command = with_subcommand(command, rates_command(alloc));
+    let command = with_subcommand(command, why_command(alloc));
+    let command = with_subcommand(command, dump_command(alloc));
+    let command = with_subcommand(command, picture_command(alloc));
     with_subcommand(command, loads_command(alloc))
 }
 
@@ -485,12 +490,11 @@ fn with_views<'a>(alloc: Global, command: Command<'a>) -> Result<Command<'a>, Al
 pub(crate) fn olt_command<'a>(alloc: Global) -> Result<Command<'a>, AllocError>
     ensures { IfOk result (λ c. app_of c ≡ olt_app) }
 {
-    let command = top_command(alloc)?;
-    let command = with_subcommand(command, plan_command(alloc))?;
-    let command = with_subcommand(command, check_command(alloc))?;
-    let command = with_subcommand(command, audit_command(alloc))?;
-    let command = with_views(alloc, command)?;
-    let command = with_subcommand(command, migrate_command(alloc))?;
-    let command = with_subcommand(command, run_command(alloc))?;
+    let command = with_subcommand(top_command(alloc), plan_command(alloc));
+    let command = with_subcommand(command, check_command(alloc));
+    let command = with_subcommand(command, audit_command(alloc));
+    let command = with_views(alloc, command);
+    let command = with_subcommand(command, migrate_command(alloc));
+    let command = with_subcommand(command, run_command(alloc));
     with_subcommand(command, units_command(alloc))
 }
