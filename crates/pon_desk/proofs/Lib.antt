@@ -4,6 +4,7 @@ pub mod Elements
 pub mod OneFault
 pub mod Placed
 pub mod Places
+pub mod Posted
 pub mod RightChapters
 pub mod SeatOrder
 pub mod Settled

@@ -35,3 +35,15 @@ loop-seat-preserved g c =
       omega (arith, c.audit.ensures.amount, c.merge.ensures.amount, held.4, part.amount, both),
       omega (arith, c.audit.ensures.parts, c.merge.ensures.apart),
     )
+
+pub add_counts-requires-clause-one_each : goal.add_counts-requires-clause-one_each
+add_counts-requires-clause-one_each g c = c.loop-seat.invariant.1.one_each ∙ sym (ap (λ (l : List ℕ). length l) (c.as_slice.ensures.value ∙ c.counts_and_share-counts.ensures.counts) ∙ c.counts_and_share-counts.ensures.one_each)
+
+pub add_counts-requires-clause-fits : goal.add_counts-requires-clause-fits
+add_counts-requires-clause-fits g c = omega (arith, c.loop-seat.invariant.2, c.requires.fits, c.loop-seat.invariant.4, c.merge.ensures.amount, c.counts_and_share-counts.ensures.amount, ap sum (c.as_slice.ensures.value ∙ c.counts_and_share-counts.ensures.counts), c.audit.ensures.amount, c.audit.ensures.bound, c.audit.ensures.total)
+
+pub returns-clause-total : goal.returns-clause-total
+returns-clause-total g c = c.loop-seat.invariant.2
+
+pub returns-clause-amount : goal.returns-clause-amount
+returns-clause-amount g c = c.loop-seat.invariant.4
