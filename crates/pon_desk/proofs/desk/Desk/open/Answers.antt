@@ -2,6 +2,7 @@ use Rattle.std.proofs.Common.{◌≡◌, ◌≤◌, ◌∙◌, false, arith, len
 use Rattle.std.specs.Prelude.{◌==◌, Err, IfOk, Ok, Result}
 use Rattle.std.specs.Result.{IsErrAnd}
 use Rattle.std.proofs.lemmas.Result.{err_from_is_err_and}
+use Rattle.pon_units.specs.declared.limits.TheConstants.{MAX_PORTS}
 use Rattle.pon_plant.specs.Plants.{IsPlantSize}
 use Rattle.pon_desk.proofs.desk.Desk.open.Goals as goal
 
@@ -10,7 +11,7 @@ without_value : {T E : Type 0} (P : T → Type 0) (Q : E → Type 0) (r : Result
 without_value P Q (Ok x) h = absurd h
 without_value P Q (Err y) h = tt
 
-permitted : (n : ℕ) → false ≡ (n == 0) → n ≤ 64 → IsPlantSize n
+permitted : (n : ℕ) → false ≡ (n == 0) → n ≤ MAX_PORTS → IsPlantSize n
 permitted n some most = (search rules, most)
 
 pub open-of_ports-requires-clause-name : goal.open-of_ports-requires-clause-name
