@@ -1,10 +1,11 @@
 -- Lists whose elements are appended to bytes, one after another.
-use Rattle.std.proofs.Common.{◌≡◌, ℕ, zero, suc, ◌+◌, List, [], ◌∷◌, ◌++◌, map, length, take, ap, sym, ◌∙◌, arith}
+use Rattle.std.proofs.Common.{◌≡◌, ℕ, zero, suc, ◌+◌, ◌<◌, List, [], ◌∷◌, ◌++◌, get_or, map, length, take, ap, refl, sym, ◌∙◌, arith}
 use Rattle.std.specs.Prelude.{Some, slice_get}
 use Rattle.std.specs.Int.{w16, to_be_bytes}
 use Rattle.std.specs.List.{flat_map, zip}
 use Rattle.std.proofs.lemmas.List.{flat_map_more, length-map}
 use Rattle.std.proofs.lemmas.List.Folds.{flat_map-map}
+use Rattle.std.proofs.lemmas.Option.{slice_get_read}
 use Rattle.std.proofs.lemmas.Slice.Zip.{length-zip}
 use Rattle.pon_admit.specs.declared.row.Row.{Row}
 use Rattle.pon_guar.specs.declared.account.Account.{Account}
@@ -27,6 +28,10 @@ one_more_put f old now more xs i x at before next =
     ∙ flat_map_more f old (take i xs) x
     ∙ ap (λ t. old ++ flat_map f t) (sym (take_one xs i x at))
     ∙ ap (λ n. old ++ flat_map f (take n xs)) after
+
+-- the same, for an element that a loop has read
+pub one_read_put : {X : Type 0} (f : X → List ℕ) (old now more : List ℕ) (xs : List X) (i : ℕ) (x : X) → i < length xs → x ≡ get_or xs i x → now ≡ old ++ flat_map f (take i xs) → more ≡ now ++ f x → more ≡ old ++ flat_map f (take (i + 1) xs)
+one_read_put f old now more xs i x lt is before next = one_more_put f old now more xs i x (slice_get_read xs (length xs) i x refl lt is) before next
 
 -- an element of two lists beside each other
 pub zip_at : {X Y : Type 0} (xs : List X) (ys : List Y) (i : ℕ) (x : X) (y : Y) → slice_get xs i ≡ Some x → slice_get ys i ≡ Some y → slice_get (zip xs ys) i ≡ Some (x, y)
