@@ -7,6 +7,7 @@
 mod arguments;
 mod commands;
 mod failure;
+mod options;
 mod outcome;
 mod task;
 
