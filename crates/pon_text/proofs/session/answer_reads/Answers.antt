@@ -1,8 +1,9 @@
-use Rattle.std.proofs.Common.{◌≡◌, ◌+◌, ◌%◌, ◌^◌, List, arith, inl, ℕ, length, ◌≢◌, [], ap, refl, subst, sym, ◌∙◌, take, ◌∷◌}
-use Rattle.std.specs.Prelude.{Option, Some, None, vec_len}
-use Rattle.pon_device.specs.Device.{Keeps}
+use Rattle.std.proofs.Common.{◌+◌, ◌%◌, ◌^◌, arith, inl, length, ◌≢◌, [], ap, subst, sym, ◌∙◌, take}
+use Rattle.std.specs.Prelude.{vec_len}
 use Rattle.pon_device.specs.Streams.{TellsWrite}
 use Rattle.std.proofs.lemmas.Bool.{eqb-false, eqb-true}
+use Rattle.std.proofs.lemmas.List.{nil_from_length}
+use Rattle.pon_device.proofs.DeviceBytes.{keeps_itself}
 use Rattle.pon_device.proofs.ReadCounts.{read_more}
 use Rattle.pon_text.proofs.Streaming.{last_line, line_tells_read, no_more_lines, piece_tells_read, print_failed, printed_piece, stopped}
 use Rattle.pon_text.proofs.session.answer_reads.Goals as goal
@@ -13,14 +14,10 @@ returns-in_default-clause-text g c = stopped c.loop-turn.invariant.progress (g.R
 pub returns-in_default-clause-read : goal.returns-in_default-clause-read
 returns-in_default-clause-read g c = inl (c.in_default.ensures.failures ∙ ap (λ n. (n + 1) % 2 ^ 64) c.loop-turn.invariant.none_failed)
 
-nothing : (l : List ℕ) → length l ≡ 0 → l ≡ []
-nothing [] e = refl
-nothing (x ∷ l) e = absurd (cc)
-
 pub returns-then-is_empty-clause-text : goal.returns-then-is_empty-clause-text
 returns-then-is_empty-clause-text g c =
     no_more_lines c.loop-turn.invariant.progress (g.R.DevRead.remaining c.read.new.self) (rw c.if-len-eq0.true at c.in-Ok.ensures.bytes.0)
-    (nothing c.loop-turn.line.items (sym c.loop-turn.line.ok.0 ∙ eqb-true (vec_len c.loop-turn.line) 0 (sym c.if-is_empty.ensures)))
+    (nil_from_length c.loop-turn.line.items (sym c.loop-turn.line.ok.0 ∙ eqb-true (vec_len c.loop-turn.line) 0 (sym c.if-is_empty.ensures)))
 
 pub returns-then-is_empty-clause-read : goal.returns-then-is_empty-clause-read
 returns-then-is_empty-clause-read g c = c.in-Ok.ensures.failures ∙ c.loop-turn.invariant.none_failed
@@ -40,12 +37,8 @@ returns-in-Err-clause-read g c =
     (g.R.DevRead.calls c.args.reader.now) (g.R.DevRead.calls c.read.new.self) (g.R.DevRead.failures c.args.reader.now) (g.R.DevRead.failures c.read.new.self)
     (c.in-Ok.ensures.failures ∙ c.loop-turn.invariant.none_failed) c.print_piece.new.line.items (take c.in-Ok.len c.read.new.buf) c.in-Err.fault c.in-Err.ensures.text
 
-kept : (o : Option (List ℕ)) → Keeps o o
-kept None = tt
-kept (Some xs) = refl
-
 pub returns-clause-text : goal.returns-clause-text
-returns-clause-text g c = stopped c.loop-turn.invariant.progress (g.R.DevRead.remaining c.loop-turn.reader) (kept (g.R.DevRead.remaining c.loop-turn.reader))
+returns-clause-text g c = stopped c.loop-turn.invariant.progress (g.R.DevRead.remaining c.loop-turn.reader) (keeps_itself (g.R.DevRead.remaining c.loop-turn.reader))
 
 pub returns-then-len-eq0-clause-text : goal.returns-then-len-eq0-clause-text
 returns-then-len-eq0-clause-text g c =
