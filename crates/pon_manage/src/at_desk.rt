@@ -6,7 +6,7 @@ ghost use Rattle.pon_line.specs.Reading.{AsksWithin};
 ghost use Rattle.pon_desk.specs.Views.{view_of};
 ghost use Rattle.pon_why.specs.RowViews.{row_views};
 ghost use Rattle.pon_why.specs.Lasts.{why_of};
-ghost use Rattle.pon_manage.specs.Desks.{AddsText, DeskAnswers, shown_in};
+ghost use Rattle.pon_manage.specs.Desks.{AddsText, DeskAnswers, ShowsCert, ShowsRows, ShowsState, ShowsWhy, shown_in};
 ghost use Rattle.pon_manage.specs.Text.{cert_line};
 
 use crate::help::append_help;
@@ -152,6 +152,51 @@ impl<'a, L: Ledger, M: Ledger, H: Wait> AtDesk<'a, L, M, H> {
         explain_last(alloc, &copy.opening, &copy.entries, alloc_id)
     }
 
+    // Appends the certificate of the last map of a port at some moment, or that it has none.
+    fn answer_cert(&self, place: usize, replies: &mut Vec<u8>) -> Result<(), AllocError>
+        requires { place < self.now.desk.now.ports }
+        ensures ok { OnOk result (AddsText ShowsCert replies.old.items replies.new.items) }
+        ensures err { OnErr result (replies.new.items ≡ replies.old.items) }
+    {
+        let view = self.view_at(*replies.allocator(), place)?;
+        show_cert(&view, replies)
+    }
+
+    // Appends the state of a port at some moment.
+    fn answer_state(&self, place: usize, replies: &mut Vec<u8>) -> Result<(), AllocError>
+        requires { place < self.now.desk.now.ports }
+        ensures ok { OnOk result (AddsText ShowsState replies.old.items replies.new.items) }
+        ensures err { OnErr result (replies.new.items ≡ replies.old.items) }
+    {
+        let view = self.view_at(*replies.allocator(), place)?;
+        append_shown(replies, &shown_in(&view))
+    }
+
+    // Appends the list of the Alloc-IDs of a port at some moment.
+    fn answer_rows(&self, place: usize, replies: &mut Vec<u8>) -> Result<(), AllocError>
+        requires { place < self.now.desk.now.ports }
+        ensures ok { OnOk result (AddsText ShowsRows replies.old.items replies.new.items) }
+        ensures err { OnErr result (replies.new.items ≡ replies.old.items) }
+    {
+        let views = self.rows_at(*replies.allocator(), place)?;
+        append_rows(replies, &views)
+    }
+
+    // Appends why the last map of a port at some moment gives an Alloc-ID its words.
+    fn answer_why(
+        &self,
+        place: usize,
+        alloc_id: AllocId,
+        replies: &mut Vec<u8>,
+    ) -> Result<(), AllocError>
+        requires { place < self.now.desk.now.ports }
+        ensures ok { OnOk result (AddsText (ShowsWhy alloc_id) replies.old.items replies.new.items) }
+        ensures err { OnErr result (replies.new.items ≡ replies.old.items) }
+    {
+        let why = self.why_at(*replies.allocator(), place, alloc_id)?;
+        append_why(replies, &why)
+    }
+
     /// Appends the text of a reading: an event is posted, and what is shown is copied, each under the lock of its port
     /// only. `Err` only if memory is refused; then the replies are unchanged.
     pub(crate) fn answer(
@@ -165,7 +210,6 @@ impl<'a, L: Ledger, M: Ledger, H: Wait> AtDesk<'a, L, M, H> {
             replies.old.items replies.new.items) }
         ensures err { OnErr result (replies.new.items ≡ replies.old.items) }
     {
-        let alloc = *replies.allocator();
         match reading {
             Reading::Nothing => Ok(()),
             Reading::Refused(fault) => append_refusal(replies, fault),
@@ -173,23 +217,11 @@ impl<'a, L: Ledger, M: Ledger, H: Wait> AtDesk<'a, L, M, H> {
                 let port = port_no(self.desk, port);
                 self.answer_event(seat, port, event, replies)
             }
-            Reading::AsksCert { port } => {
-                let view = self.view_at(alloc, port)?;
-                show_cert(&view, replies)
-            }
-            Reading::AsksState { port } => {
-                let view = self.view_at(alloc, port)?;
-                append_shown(replies, &shown_in(&view))
-            }
-            Reading::AsksRows { port } => {
-                let views = self.rows_at(alloc, port)?;
-                append_rows(replies, &views)
-            }
+            Reading::AsksCert { port } => self.answer_cert(port, replies),
+            Reading::AsksState { port } => self.answer_state(port, replies),
+            Reading::AsksRows { port } => self.answer_rows(port, replies),
             Reading::AsksHelp { port: _ } => append_help(replies),
-            Reading::AsksWhy { port, alloc_id } => {
-                let why = self.why_at(alloc, port, alloc_id)?;
-                append_why(replies, &why)
-            }
+            Reading::AsksWhy { port, alloc_id } => self.answer_why(port, alloc_id, replies),
         }
     }
 }
