@@ -8,10 +8,10 @@ ghost use Rattle.pon_job.specs.Jobs.{AreLocal, IsDefined, leaf, olt_app, shape_w
 ghost use Rattle.pon_job.specs.Jobs.{audit_shape, check_shape, dump_shape, info_shape, loads_shape, migrate_shape, picture_shape, plan_shape, rates_shape, run_shape, top_shape, units_shape, why_shape};
 
 use crate::options::{
-    alloc_arg, check_file_arg, config_arg, connect_arg, format_arg, frame_arg, from_arg, listen_arg,
-    maps_arg, no_clobber_arg, operate_arg, out_arg, pace_arg, port_arg, progress_arg, record_arg,
-    recording_arg, recordings_arg, settle_arg, strict_arg, summary_arg, svg_arg, to_arg, units_arg,
-    verbose_arg, wait_arg,
+    alloc_arg, check_file_arg, config_arg, connect_arg, format_arg, frame_arg, from_arg,
+    listen_arg, maps_arg, no_clobber_arg, operate_arg, out_arg, pace_arg, port_arg, progress_arg,
+    record_arg, recording_arg, recordings_arg, settle_arg, strict_arg, summary_arg, svg_arg,
+    to_arg, units_arg, verbose_arg, wait_arg,
 };
 use clap::{Arg, Command};
 use std::alloc::{AllocError, Global};
