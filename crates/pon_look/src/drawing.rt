@@ -14,7 +14,7 @@ pub(crate) const FRAME_WORDS: u64 = pon_units::FRAME_WORDS as u64;
 const FRAME_NANOSECONDS: u64 = 125_000;
 
 /// The grant of an Alloc-ID: its first word, and its words.
-#[derive(Clone, Copy, Debug, PartialEq, Eq)]
+#[derive(Clone, Copy)]
 pub(crate) struct Grant {
     pub(crate) id: u16,
     pub(crate) first: u64,
@@ -57,7 +57,7 @@ impl Drawing<'_> {
 }
 
 /// A time from the beginning of the frame, in microseconds with three decimal places, rounded half up.
-#[derive(Clone, Copy, Debug, PartialEq, Eq)]
+#[derive(Clone, Copy)]
 pub(crate) struct Micros(pub(crate) u64);
 
 impl Micros {

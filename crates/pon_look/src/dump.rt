@@ -1,7 +1,8 @@
 //! The events of a recording as management lines, each with its reply.
 
-ghost use Rattle.std.specs.Prelude.{IfOk};
+ghost use Rattle.std.specs.Prelude.{IfOk, List, Option, ℕ};
 ghost use Rattle.pon_device.specs.Streams.{TellsWrite};
+ghost use Rattle.pon_audit.specs.Auditing.{IsAuditing};
 ghost use Rattle.pon_audit.specs.Streams.{IsVerdictOf};
 ghost use Rattle.pon_look.specs.Views.{CountsReads, OnlyWrites};
 
@@ -11,7 +12,7 @@ use crate::query::Answer;
 use crate::seen::SeenPorts;
 use crate::viewed::Viewed;
 use pon_admit::{Event, Rule};
-use pon_audit::{Auditing, Step};
+use pon_audit::{Auditing, Step, Verdict};
 use pon_device::{DevRead, DevWrite, DeviceFault, write_text};
 use pon_record::{Opening, RawChapter};
 use pon_state::{Entry, EntryRef, MadeMap};
@@ -156,7 +157,7 @@ fn write_chapter<W: DevWrite>(
     write_from(&mut page.text, 0, writer)
 }
 
-// Writes the chapters of a port, or of all ports. Returns the ports of all chapters, and whether one was written.
+// Writes the chapters of a port, or of all ports, and notes the port of each.
 fn write_batch<W: DevWrite>(
     alloc: Global,
     page: &mut Page,
@@ -172,6 +173,35 @@ fn write_batch<W: DevWrite>(
         }
     }
     Ok(())
+}
+
+// Writes the chapters that are left of a recording. Returns the verdict of its audit.
+fn write_chapters<R: DevRead, W: DevWrite>(
+    rt: &(impl Threads + Sync),
+    alloc: Global,
+    auditing: &mut Auditing,
+    reader: &mut R,
+    seen: &mut SeenPorts,
+    writer: &mut W,
+) -> Result<Verdict, DeviceFault>
+    requires { (start : Option (List ℕ)) × IsAuditing start auditing.old (R.remaining reader.old) }
+    ensures verdict { IfOk result (λ verdict. (start : Option (List ℕ))
+        → IsAuditing start auditing.old (R.remaining reader.old) → IsVerdictOf start verdict) }
+    ensures read { CountsReads (R.failures reader.old) (R.failures reader.new) result }
+    ensures write { TellsWrite (W.failures writer.old) (W.failures writer.new) result }
+{
+    let mut page = Page {
+        text: Vec::new(alloc),
+        room: Vec::new(alloc),
+    };
+    for _batch in 0..u64::MAX {
+        let Step { batch, verdict } = auditing.next(rt, alloc, reader)?;
+        write_batch(alloc, &mut page, seen, &batch.chapters, writer)?;
+        if let Some(verdict) = verdict {
+            return Ok(verdict);
+        }
+    }
+    Err(DeviceFault::Memory)
 }
 
 /// Writes the events of each chapter of a port, or of all ports, as management lines, each with its reply as a comment,
@@ -197,24 +227,10 @@ pub fn write_dump<R: DevRead, W: DevWrite>(
     ensures write { TellsWrite (W.failures writer.old) (W.failures writer.new) result }
 {
     let mut seen = SeenPorts::new(port);
-    let mut auditing = match Auditing::open(alloc, reader)? {
-        Ok(auditing) => auditing,
-        Err(verdict) => {
-            let shown = seen.answer();
-            return Ok(Viewed { verdict, shown });
-        }
+    let verdict = match Auditing::open(alloc, reader)? {
+        Ok(mut auditing) => { write_chapters(rt, alloc, &mut auditing, reader, &mut seen, writer)? }
+        Err(verdict) => verdict,
     };
-    let mut page = Page {
-        text: Vec::new(alloc),
-        room: Vec::new(alloc),
-    };
-    for _batch in 0..u64::MAX {
-        let Step { batch, verdict } = auditing.next(rt, alloc, reader)?;
-        write_batch(alloc, &mut page, &mut seen, &batch.chapters, writer)?;
-        if let Some(verdict) = verdict {
-            let shown = seen.answer();
-            return Ok(Viewed { verdict, shown });
-        }
-    }
-    Err(DeviceFault::Memory)
+    let shown = seen.answer();
+    Ok(Viewed { verdict, shown })
 }

@@ -1,6 +1,7 @@
 //! The map of a frame in a recording.
 
-ghost use Rattle.std.specs.Prelude.{◌<◌, All, IfOk, IfSome, length};
+ghost use Rattle.std.specs.Prelude.{◌<◌, All, IfOk, IfSome, List, Option, length, ℕ};
+ghost use Rattle.pon_audit.specs.Auditing.{IsAuditing};
 ghost use Rattle.pon_audit.specs.Openings.{FitsRecording};
 ghost use Rattle.pon_audit.specs.Streams.{IsVerdictOf, TellsFailure};
 ghost use Rattle.pon_look.specs.Finding.{IsFound};
@@ -68,7 +69,7 @@ fn missing_frame(port: PortNo, frame: Option<FrameNo>, frames: Frames) -> Missin
 }
 
 /// What is looked for, and what was seen so far.
-#[derive(Clone, Copy, Debug, PartialEq, Eq)]
+#[derive(Clone, Copy)]
 struct Search {
     port: Option<PortNo>,
     frame: Option<FrameNo>,
@@ -79,7 +80,7 @@ struct Search {
 }
 
 // The place of a map among chapters: that of its chapter, and the index of its entry there.
-#[derive(Clone, Copy, Debug, PartialEq, Eq)]
+#[derive(Clone, Copy)]
 struct MapAt {
     chapter: usize,
     entry: usize,
@@ -185,6 +186,33 @@ fn found_after(
     }
 }
 
+// Finds the map that is looked for in the chapters that are left of a recording. Returns the verdict of its audit too.
+fn look_through<R: DevRead>(
+    rt: &(impl Threads + Sync),
+    alloc: Global,
+    auditing: &mut Auditing,
+    reader: &mut R,
+    search: Search,
+) -> Result<Viewed<Result<FoundMap, Missing>>, DeviceFault>
+    requires { (start : Option (List ℕ)) × IsAuditing start auditing.old (R.remaining reader.old) }
+    ensures found { IfOk result (λ viewed. IfOk viewed.shown IsFound) }
+    ensures verdict { IfOk result (λ viewed. (start : Option (List ℕ))
+        → IsAuditing start auditing.old (R.remaining reader.old) → IsVerdictOf start viewed.verdict) }
+    ensures failures { TellsFailure (R.failures reader.old) (R.failures reader.new) result }
+{
+    let mut search = search;
+    let mut found = None;
+    for _batch in 0..u64::MAX {
+        let Step { batch, verdict } = auditing.next(rt, alloc, reader)?;
+        found = found_after(&mut search, found, batch.chapters);
+        if let Some(verdict) = verdict {
+            let shown = found.ok_or(search.missing());
+            return Ok(Viewed { verdict, shown });
+        }
+    }
+    Err(DeviceFault::Memory)
+}
+
 /// Finds the map of a frame of a port in a recording, up to the first fault of its format, while it is audited: of the first
 /// port in it without a port, and the last map of the port without a frame. It is the first one, if two maps are of the
 /// frame. Returns the verdict of the audit, and the map or what is missing.
@@ -201,22 +229,13 @@ pub(crate) fn find_map<R: DevRead>(
     ensures verdict { IfOk result (λ viewed. IsVerdictOf (R.remaining reader.old) viewed.verdict) }
     ensures failures { TellsFailure (R.failures reader.old) (R.failures reader.new) result }
 {
-    let mut auditing = match Auditing::open(alloc, reader)? {
-        Ok(auditing) => auditing,
+    match Auditing::open(alloc, reader)? {
+        Ok(mut auditing) => {
+            look_through(rt, alloc, &mut auditing, reader, Search::new(port, frame))
+        }
         Err(verdict) => {
             let shown = Err(Missing::Chapters);
-            return Ok(Viewed { verdict, shown });
-        }
-    };
-    let mut search = Search::new(port, frame);
-    let mut found = None;
-    for _batch in 0..u64::MAX {
-        let Step { batch, verdict } = auditing.next(rt, alloc, reader)?;
-        found = found_after(&mut search, found, batch.chapters);
-        if let Some(verdict) = verdict {
-            let shown = found.ok_or(search.missing());
-            return Ok(Viewed { verdict, shown });
+            Ok(Viewed { verdict, shown })
         }
     }
-    Err(DeviceFault::Memory)
 }

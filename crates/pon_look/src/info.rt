@@ -1,7 +1,8 @@
 //! What `olt info` prints of a recording, chapter by chapter.
 
-ghost use Rattle.std.specs.Prelude.{IfOk};
+ghost use Rattle.std.specs.Prelude.{IfOk, List, Option, ℕ};
 ghost use Rattle.pon_device.specs.Streams.{TellsWrite};
+ghost use Rattle.pon_audit.specs.Auditing.{IsAuditing};
 ghost use Rattle.pon_audit.specs.Streams.{IsVerdictOf};
 ghost use Rattle.pon_look.specs.Views.{CountsReads, OnlyWrites};
 
@@ -10,7 +11,7 @@ use crate::query::{Answer, Format};
 use crate::summary::{Totals, summary_of, with_chapter};
 use crate::text::{chapter_line, missing_line, total_line};
 use crate::viewed::Viewed;
-use pon_audit::{Auditing, BatchEnd, Step};
+use pon_audit::{Auditing, BatchEnd, Step, Verdict};
 use pon_device::{DevRead, DevWrite, DeviceFault, write_text};
 use pon_record::RawChapter;
 use pon_units::MAX_PORTS;
@@ -145,6 +146,35 @@ fn end_of(end: BatchEnd, read: u64) -> u64 {
     }
 }
 
+// Writes the lines of the chapters that are left of a recording, and the totals. Returns the verdict of its audit.
+fn write_chapters<R: DevRead, W: DevWrite>(
+    rt: &(impl Threads + Sync),
+    alloc: Global,
+    auditing: &mut Auditing,
+    reader: &mut CountedBytes<R>,
+    format: Format,
+    writer: &mut W,
+) -> Result<Verdict, DeviceFault>
+    requires { (start : Option (List ℕ)) × IsAuditing start auditing.old (⟦<CountedBytes<R> as DevRead>⟧.remaining reader.old) }
+    ensures verdict { IfOk result (λ verdict. (start : Option (List ℕ))
+        → IsAuditing start auditing.old (⟦<CountedBytes<R> as DevRead>⟧.remaining reader.old) → IsVerdictOf start verdict) }
+    ensures read { CountsReads (⟦<CountedBytes<R> as DevRead>⟧.failures reader.old) (⟦<CountedBytes<R> as DevRead>⟧.failures reader.new) result }
+    ensures write { TellsWrite (W.failures writer.old) (W.failures writer.new) result }
+{
+    let mut seen = SoFar::NOTHING;
+    for _batch in 0..u64::MAX {
+        let Step { batch, verdict } = auditing.next(rt, alloc, reader)?;
+        let end = end_of(batch.end, reader.bytes());
+        seen.write_batch(alloc, format, &batch.chapters, end, writer)?;
+        if let Some(verdict) = verdict {
+            let line = total_line(alloc, format, &seen.totals, reader.bytes());
+            write_line(line, writer)?;
+            return Ok(verdict);
+        }
+    }
+    Err(DeviceFault::Memory)
+}
+
 /// Writes a line for each chapter of a recording, and one for chapters that are missing between two of a port, while
 /// the recording is audited. Then writes the totals, at the end of the recording or at the first fault of its format.
 /// Returns the verdict of the audit.
@@ -163,21 +193,10 @@ pub fn write_info<R: DevRead, W: DevWrite>(
     ensures read { CountsReads (⟦<CountedBytes<R> as DevRead>⟧.failures reader.old) (⟦<CountedBytes<R> as DevRead>⟧.failures reader.new) result }
     ensures write { TellsWrite (W.failures writer.old) (W.failures writer.new) result }
 {
-    let shown = Answer::Shown;
-    let mut auditing = match Auditing::open(alloc, reader)? {
-        Ok(auditing) => auditing,
-        Err(verdict) => return Ok(Viewed { verdict, shown }),
+    let verdict = match Auditing::open(alloc, reader)? {
+        Ok(mut auditing) => write_chapters(rt, alloc, &mut auditing, reader, format, writer)?,
+        Err(verdict) => verdict,
     };
-    let mut seen = SoFar::NOTHING;
-    for _batch in 0..u64::MAX {
-        let Step { batch, verdict } = auditing.next(rt, alloc, reader)?;
-        let end = end_of(batch.end, reader.bytes());
-        seen.write_batch(alloc, format, &batch.chapters, end, writer)?;
-        if let Some(verdict) = verdict {
-            let line = total_line(alloc, format, &seen.totals, reader.bytes());
-            write_line(line, writer)?;
-            return Ok(Viewed { verdict, shown });
-        }
-    }
-    Err(DeviceFault::Memory)
+    let shown = Answer::Shown;
+    Ok(Viewed { verdict, shown })
 }

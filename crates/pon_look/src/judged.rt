@@ -13,7 +13,7 @@ use serde_json::Value;
 use std::alloc::{AllocError, Global};
 
 /// What a recording holds: whether it has a chapter of a port, and the number of maps.
-#[derive(Clone, Copy, Debug, PartialEq, Eq)]
+#[derive(Clone, Copy)]
 struct Contents {
     ports: [bool; MAX_PORTS],
     maps: u64,

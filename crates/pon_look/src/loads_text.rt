@@ -19,7 +19,7 @@ const REQUESTED_SIGN: char = '.';
 const BEYOND_SIGN: char = '>';
 
 /// The mean rates of a step, in whole kbit/s.
-#[derive(Clone, Copy, Debug, PartialEq, Eq)]
+#[derive(Clone, Copy)]
 pub(crate) struct Means {
     pub(crate) requested: u64,
     pub(crate) guaranteed: u64,

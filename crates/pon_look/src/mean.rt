@@ -18,7 +18,7 @@ fn mean_tenths(sum: u128, count: u64) -> u128
 }
 
 /// The mean of `count` numbers with the sum `sum * unit`, with one decimal place, rounded half up; `-` without numbers.
-#[derive(Clone, Copy, Debug, PartialEq, Eq)]
+#[derive(Clone, Copy)]
 pub(crate) struct Mean {
     sum: u64,
     unit: u16,

@@ -10,7 +10,7 @@ use std::collections::{BTreeMap, BTreeSet};
 type OnuOfAlloc = BTreeMap<u16, u16>;
 
 /// The numbers of ONUs that own an Alloc-ID at the opening of a chapter and at its end.
-#[derive(Clone, Copy, Debug, PartialEq, Eq)]
+#[derive(Clone, Copy)]
 pub(crate) struct OnuCounts {
     pub(crate) opening: u64,
     pub(crate) end: u64,

@@ -34,7 +34,7 @@ pub fn grant_places(alloc: Global, map: &Map) -> Result<Vec<u64>, AllocError>
 
 /// The burst of an ONU: its first structure and the number after its last one, counted from 0 in the map, the word of
 /// its header, and the word of its trailer.
-#[derive(Clone, Copy, Debug, PartialEq, Eq)]
+#[derive(Clone, Copy)]
 pub(crate) struct Burst {
     pub(crate) first: usize,
     pub(crate) end: usize,

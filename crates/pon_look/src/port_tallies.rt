@@ -16,7 +16,7 @@ pub(crate) struct PortTally {
 }
 
 /// A chapter that is refused at an entry.
-#[derive(Clone, Copy, Debug, PartialEq, Eq)]
+#[derive(Clone, Copy)]
 pub(crate) struct Refused {
     pub port: PortNo,
     pub chapter: u64,

@@ -4,7 +4,7 @@ use crate::query::{Answer, Missing};
 use pon_units::PortNo;
 
 /// The least and the greatest port of the chapters.
-#[derive(Clone, Copy, Debug, PartialEq, Eq)]
+#[derive(Clone, Copy)]
 pub(crate) struct Ports {
     pub first: PortNo,
     pub last: PortNo,
@@ -33,7 +33,7 @@ pub(crate) fn missing_port(ports: Option<Ports>, port: Option<PortNo>) -> Missin
 }
 
 /// The ports of the chapters so far, and whether one is of the port that is shown, or of any port if it is `None`.
-#[derive(Clone, Copy, Debug, PartialEq, Eq)]
+#[derive(Clone, Copy)]
 pub(crate) struct SeenPorts {
     port: Option<PortNo>,
     ports: Option<Ports>,

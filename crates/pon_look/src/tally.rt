@@ -124,7 +124,7 @@ impl Tally {
 }
 
 /// What became of an entry.
-#[derive(Clone, Copy, Debug, PartialEq, Eq)]
+#[derive(Clone, Copy)]
 pub enum Tallied {
     /// It may follow, and it is in the sums.
     Follows,

@@ -3,7 +3,7 @@ use crate::query::{LoadsQuery, RatesQuery};
 use pon_units::{AllocId, PortNo};
 
 /// The ports whose maps are summed up.
-#[derive(Clone, Copy, Debug, PartialEq, Eq)]
+#[derive(Clone, Copy)]
 pub(crate) enum WantedPorts {
     /// Each port.
     Each,
@@ -14,7 +14,7 @@ pub(crate) enum WantedPorts {
 }
 
 /// Which maps of a recording are summed up, and the Alloc-ID that is followed along them, if one is.
-#[derive(Clone, Copy, Debug, PartialEq, Eq)]
+#[derive(Clone, Copy)]
 pub(crate) struct Wanted {
     pub ports: WantedPorts,
     pub range: FrameRange,

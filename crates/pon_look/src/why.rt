@@ -2,6 +2,8 @@
 
 ghost use Rattle.std.specs.Prelude.{◌<◌, IfOk, length};
 ghost use Rattle.pon_audit.specs.Openings.{FitsRecording, chapter_of};
+ghost use Rattle.pon_history.specs.Chapters.{cut_at};
+ghost use Rattle.pon_history.specs.Taking.{IsKept};
 ghost use Rattle.pon_look.specs.Finding.{IsFound};
 ghost use Rattle.pon_device.specs.Streams.{TellsWrite};
 ghost use Rattle.pon_audit.specs.Streams.{IsVerdictOf};
@@ -11,7 +13,7 @@ ghost use Rattle.pon_look.specs.Whys.{IsExplained};
 use crate::finding::{FoundMap, find_map};
 use crate::info::write_line;
 use crate::query::{Answer, Format, Missing, WhyQuery};
-use crate::replay::{MapExplanation, explain_map, open_replay, replay_to};
+use crate::replay::{MapExplanation, Replay, explain_map, open_replay, replay_to};
 use crate::viewed::Viewed;
 use crate::why_text::{MapPlace, Shown, map_line, row_lines};
 use pon_device::{DevRead, DevWrite, DeviceFault};
@@ -30,6 +32,26 @@ pub enum MapAnswer {
     /// No state is known before the entry, or it is not the one that the map's certificate is of: the chapter is
     /// refused at the entry of this index, 0 also if its opening is not lawful.
     Refused(usize),
+}
+
+// Explains the map of the entry at an index of a chapter by the state before it.
+fn explain_at(
+    alloc: Global,
+    chapter: &RawChapter,
+    index: usize,
+    replay: &mut Replay,
+) -> Result<MapAnswer, AllocError>
+    requires index { index < length chapter.now.body.entries }
+    requires kept { IsKept (cut_at (chapter_of chapter.now.body) index) replay.old.state }
+    ensures { IfOk result (λ answer. IsExplained (chapter_of chapter.now.body) index answer) }
+{
+    match chapter.entries[index].as_ref() {
+        EntryRef::Map(made) => match explain_map(alloc, replay, made)? {
+            Some(explained) => Ok(MapAnswer::Explained(explained)),
+            None => Ok(MapAnswer::Refused(index)),
+        },
+        EntryRef::Taken(_) => Ok(MapAnswer::Refused(index)),
+    }
 }
 
 /// Explains the map of the entry at an index of a chapter by the state before it, which is the replay of the entries
@@ -55,13 +77,7 @@ pub fn explain_entry(
         Some(entry) => return Ok(MapAnswer::Refused(entry)),
         None => {}
     }
-    match chapter.entries[index].as_ref() {
-        EntryRef::Map(made) => match explain_map(alloc, &mut replay, made)? {
-            Some(explained) => Ok(MapAnswer::Explained(explained)),
-            None => Ok(MapAnswer::Refused(index)),
-        },
-        EntryRef::Taken(_) => Ok(MapAnswer::Refused(index)),
-    }
+    explain_at(alloc, chapter, index, &mut replay)
 }
 
 // Writes the lines of the rows that the query asks for, each with its structure.

@@ -12,7 +12,7 @@ use pon_why::{Explanation, Reported};
 use std::alloc::{AllocError, Global};
 
 /// The map that is explained, for which Alloc-IDs, and the form of the answer.
-#[derive(Clone, Copy, Debug, PartialEq, Eq)]
+#[derive(Clone, Copy)]
 pub(crate) struct MapPlace {
     pub port: PortNo,
     pub chapter: u64,
