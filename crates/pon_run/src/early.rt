@@ -13,7 +13,7 @@ const BAD_RECORD: u8 = 4;
 const INPUT_ENDED: u8 = 5;
 
 /// Why a worker ended early, in words for a person.
-#[derive(Clone, Copy, Debug, PartialEq, Eq)]
+#[derive(Clone, Copy)]
 struct Early(StopReason);
 
 impl Display for Early {

@@ -50,7 +50,7 @@ struct Answering {
 }
 
 /// The terminal that units connect to.
-#[derive(Clone, Copy, Debug, PartialEq, Eq)]
+#[derive(Clone, Copy)]
 struct Terminal {
     // The address of its port 0.
     first: SocketAddr,

@@ -8,7 +8,7 @@ use pon_device::{DevWrite, DeviceFault, write_text};
 use std::alloc::{AllocError, Global};
 
 /// What one port did in a run.
-#[derive(Clone, Copy, Debug, PartialEq, Eq)]
+#[derive(Clone, Copy)]
 pub(crate) struct PortEnd {
     /// The number of maps that its worker had made.
     pub(crate) maps: u64,

@@ -19,7 +19,7 @@ pub(crate) struct Account {
 }
 
 /// The settlement of a port: the number of its receipts, or what is not right.
-#[derive(Clone, Copy, Debug, PartialEq, Eq)]
+#[derive(Clone, Copy)]
 pub(crate) struct Settlement {
     pub(crate) port: PortNo,
     pub(crate) result: Result<usize, Unsettled>,

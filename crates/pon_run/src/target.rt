@@ -26,7 +26,7 @@ pub struct RecordArgs<'a> {
 }
 
 /// Where chapters are recorded.
-#[derive(Debug, PartialEq, Eq, Drop)]
+#[derive(Drop)]
 pub(crate) enum Target {
     /// In this part, which gets the name of the file at this path when the recording is whole.
     Part { path: String, part: String },
@@ -35,7 +35,7 @@ pub(crate) enum Target {
 }
 
 /// A file that is read.
-#[derive(Clone, Copy, Debug, PartialEq, Eq)]
+#[derive(Clone, Copy)]
 enum Source {
     /// The settings.
     Settings,

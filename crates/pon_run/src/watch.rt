@@ -25,7 +25,7 @@ pub(crate) struct PortWatch {
 }
 
 /// The numbers of one port at a moment.
-#[derive(Clone, Copy, Debug, PartialEq, Eq)]
+#[derive(Clone, Copy)]
 pub(crate) struct PortNumbers {
     pub(crate) maps: u64,
     pub(crate) reports: u64,
