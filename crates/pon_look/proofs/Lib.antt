@@ -1,6 +1,7 @@
 pub mod Judgments
 pub mod LastFrames
 pub mod ListedRows
+pub mod Loops
 pub mod Owed
 pub mod Refusals
 pub mod Tallying

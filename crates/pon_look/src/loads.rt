@@ -3,9 +3,6 @@
 ghost use Rattle.std.specs.Prelude.{IfOk};
 ghost use Rattle.pon_audit.specs.Streams.{IsVerdictOf, TellsFailure};
 
-use crate::loads_svg::loads_svg;
-use crate::loads_text::steps_text;
-use crate::picture::Picture;
 use crate::port_tallies::{PortTallies, PortTally};
 use crate::query::{Format, LoadsQuery, Missing};
 use crate::rates_text::change_line;
@@ -14,6 +11,7 @@ use crate::summing::sum_up;
 use crate::viewed::Viewed;
 use crate::wanted::Wanted;
 use pon_device::{DevRead, DeviceFault};
+use pon_draw::{Picture, steps_svg, steps_text};
 use pon_why::Series;
 use std::alloc::{AllocError, Global};
 use std::thread::Threads;
@@ -86,7 +84,7 @@ fn draw(
         return Ok(None);
     };
     let heading = heading_of(alloc, port, query, series, range)?;
-    let svg = loads_svg(alloc, heading.as_str(), series)?;
+    let svg = steps_svg(alloc, heading.as_str(), series)?;
     let text = picture_text(alloc, heading.as_str(), port, query, series)?;
     Ok(Some(Picture { text, svg }))
 }

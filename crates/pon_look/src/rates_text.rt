@@ -1,11 +1,11 @@
 //! The lines of `olt rates`.
 
 use crate::json::{change_json, refused_json, sums_json};
-use crate::mean::Mean;
 use crate::port_tallies::Refused;
 use crate::query::Format;
 use crate::words::class_word;
 use pon_admit::Row;
+use pon_draw::Mean;
 use pon_units::PortNo;
 use pon_why::{Change, Sums};
 use std::alloc::{AllocError, Global};

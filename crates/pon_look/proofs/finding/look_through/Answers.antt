@@ -1,10 +1,9 @@
-use Rattle.std.proofs.Common.{refl, subst, ◌∙◌}
-use Rattle.pon_audit.specs.Auditing.{GoesOn}
+use Rattle.std.proofs.Common.{refl, ◌∙◌}
+use Rattle.pon_look.proofs.Loops.{ends_so, goes_on}
 use Rattle.pon_look.proofs.finding.look_through.Goals as goal
 
 pub returns-in-Some-clause-verdict : goal.returns-in-Some-clause-verdict
-returns-in-Some-clause-verdict g c start is =
-    subst (GoesOn start c.next.new.self (g.R.DevRead.remaining c.next.new.reader)) c.in-Some.is (c.in_ok-batch.ensures.judged start (c.loop-batch.invariant.auditing start is))
+returns-in-Some-clause-verdict g c = ends_so _ _ c.loop-batch.invariant.auditing c.in_ok-batch.ensures.judged c.in-Some.is
 
 pub loop-batch-init : goal.loop-batch-init
 loop-batch-init g c = record { auditing = λ start is. is; none_failed = refl; found = tt }
@@ -14,7 +13,7 @@ next-requires g c = (c.type_bounds.sync-typeof-rt, (c.requires.0, c.loop-batch.i
 
 pub loop-batch-preserved : goal.loop-batch-preserved
 loop-batch-preserved g c = record {
-  auditing = λ start is. subst (GoesOn start c.next.new.self (g.R.DevRead.remaining c.next.new.reader)) c.in_default.is (c.in_ok-batch.ensures.judged start (c.loop-batch.invariant.auditing start is));
+  auditing = goes_on _ _ c.loop-batch.invariant.auditing c.in_ok-batch.ensures.judged c.in_default.is;
   none_failed = c.in_ok-batch.ensures.failures ∙ c.loop-batch.invariant.none_failed;
   found = c.found_after-found.ensures;
 }

@@ -1,13 +1,13 @@
-use Rattle.std.proofs.Common.{◌≡◌, List, Option, ℕ}
+use Rattle.std.proofs.Common.{◌≡◌}
 use Rattle.std.specs.Prelude.{IfSome}
-use Rattle.pon_audit.specs.Auditing.{IsAuditing}
 use Rattle.pon_look.specs.Finding.{IsFound}
+use Rattle.pon_look.proofs.Loops.{KeepsOn}
 use Rattle.pon_look.proofs.finding.look_through.Given as goal
 
 -- the audit goes on from whatever it began with, and no read has failed
 abbrev pub invariant-loop-batch : goal.invariant-loop-batch
 invariant-loop-batch g l = record {
-  auditing : (start : Option (List ℕ)) → IsAuditing start l.fn.auditing (g.R.DevRead.remaining l.fn.reader) → IsAuditing start l.auditing (g.R.DevRead.remaining l.reader);
+  auditing : KeepsOn l.fn.auditing (g.R.DevRead.remaining l.fn.reader) l.auditing (g.R.DevRead.remaining l.reader);
   none_failed : g.R.DevRead.failures l.reader ≡ g.R.DevRead.failures l.fn.reader;
   found : IfSome l.found IsFound;
 }

@@ -139,13 +139,12 @@ fn push_frames(text: &mut String, series: &Series) -> Result<(), AllocError> {
     )
 }
 
-/// The picture of a series as SVG: a bar for each step, with its frames and its rates as its title. `Err` only if memory is
-/// refused.
-pub(crate) fn loads_svg(
-    alloc: Global,
-    heading: &str,
-    series: &Series,
-) -> Result<String, AllocError> {
+/// The picture of a series as SVG: a bar for each step, with its frames and its rates as its title.
+///
+/// # Errors
+///
+/// If memory is refused.
+pub fn steps_svg(alloc: Global, heading: &str, series: &Series) -> Result<String, AllocError> {
     let (width, height) = (LEFT + WIDTH + RIGHT, BOTTOM + 4 * ROW);
     let mut text = head_text(alloc, width, height, heading)?;
     let scale = scale_of(series);

@@ -110,8 +110,12 @@ fn push_row(
 }
 
 /// A row for each step under a scale in kbit/s: its first frame, the mean rates that were requested, guaranteed and granted,
-/// and a bar of them. `Err` only if memory is refused.
-pub(crate) fn steps_text(alloc: Global, series: &Series) -> Result<String, AllocError> {
+/// and a bar of them.
+///
+/// # Errors
+///
+/// If memory is refused.
+pub fn steps_text(alloc: Global, series: &Series) -> Result<String, AllocError> {
     let scale = scale_of(series);
     let mut text = format!(in alloc;
         "     frame    requested guaranteed    granted  0{scale:>29}\n"

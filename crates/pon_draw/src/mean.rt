@@ -19,21 +19,21 @@ fn mean_tenths(sum: u128, count: u64) -> u128
 
 /// The mean of `count` numbers with the sum `sum * unit`, with one decimal place, rounded half up; `-` without numbers.
 #[derive(Clone, Copy)]
-pub(crate) struct Mean {
+pub struct Mean {
     sum: u64,
     unit: u16,
     count: u64,
 }
 
 impl Mean {
-    /// The mean of the rates of maps.
-    pub(crate) fn of_rates(sum: u64, maps: u64) -> Mean {
+    /// The mean of the rates of maps, in kbit/s, given their sum.
+    pub fn of_rates(sum: u64, maps: u64) -> Mean {
         let (unit, count) = (1, maps);
         Mean { sum, unit, count }
     }
 
-    /// The mean rate of the words of maps.
-    pub(crate) fn of_words(sum: u64, maps: u64) -> Mean {
+    /// The mean rate of the words of maps, in kbit/s, given their sum.
+    pub fn of_words(sum: u64, maps: u64) -> Mean {
         let (unit, count) = (RATE_OF_WORD, maps);
         Mean { sum, unit, count }
     }

@@ -1,7 +1,7 @@
 use Rattle.std.proofs.Common.{◌≡◌, ◌++◌, ◌+◌, ◌*◌, ◌^◌, ◌≤◌, drop, length}
 use Rattle.pon_units.specs.declared.limits.TheConstants.{MAX_STRUCTURES}
-use Rattle.pon_look.specs.Places.{first_words}
-use Rattle.pon_look.proofs.parts.grant_places.Given as goal
+use Rattle.pon_draw.specs.Places.{first_words}
+use Rattle.pon_draw.proofs.parts.grant_places.Given as goal
 
 -- the places so far, and those of the structures to come
 abbrev pub invariant-loop-structure : goal.invariant-loop-structure

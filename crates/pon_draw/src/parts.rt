@@ -1,7 +1,7 @@
 //! The parts of the upstream frame that a map assigns.
 
 ghost use Rattle.std.specs.Prelude.{◌≡◌, IfOk};
-ghost use Rattle.pon_look.specs.Places.{first_words};
+ghost use Rattle.pon_draw.specs.Places.{first_words};
 
 use pon_bwmap::{Alloc, Map};
 use std::alloc::{AllocError, Global};
