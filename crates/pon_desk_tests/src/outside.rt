@@ -2,7 +2,8 @@
 
 use crate::running::{args, ended_with, ran, read, text};
 use pon_device::MemWrite;
-use pon_run::{RunArgs, UnitsArgs, UnitsPlace, run_units};
+use pon_run::{RunArgs, UnitsPlace};
+use pon_sockets::{UnitsArgs, run_units};
 use pon_units::PortNo;
 use pon_worker::OpenGate;
 use std::alloc::Global;

@@ -1,12 +1,12 @@
 //! Opening, reading and writing the files that the command line names.
 
 ghost use Rattle.std.specs.Prelude.{◌≡◌, OnOk};
-ghost use Rattle.pon_run.specs.declared.part.Progress.TheVariants.{Named as HasName};
+ghost use Rattle.pon_files.specs.declared.part.Progress.TheVariants.{Named as HasName};
 
 use pon_device::{DeviceFault, StdRead};
+use pon_files::PartFile;
 use pon_job::{Failure, Named};
 use pon_record::Version;
-use pon_run::PartFile;
 use std::alloc::{AllocError, Global};
 use std::fs::{self, OpenFile};
 use std::io::{self, BufReader, Read, Write};

@@ -21,7 +21,7 @@ const RATE: &str = "rate in kbit/s, 0 to 2488320";
 const OCCUPANCY: &str = "occupancy in words, 0 to 16777215, or x";
 
 /// What a place of a line requires.
-#[derive(Clone, Copy, Debug, PartialEq, Eq)]
+#[derive(Clone, Copy)]
 pub(crate) enum Field {
     Port,
     Onu,

@@ -3,7 +3,8 @@
 use crate::opening::{NotOpened, settings_of};
 use pon_device::StdWrite;
 use pon_job::{Run, Units};
-use pon_run::{LinesFrom, RunArgs, UnitsArgs, UnitsPlace, run_ports, run_units};
+use pon_run::{LinesFrom, RunArgs, UnitsPlace, run_ports};
+use pon_sockets::{UnitsArgs, run_units};
 use pon_units::PortNo;
 use pon_worker::OpenGate;
 use std::alloc::Global;

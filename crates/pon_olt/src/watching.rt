@@ -6,7 +6,7 @@ ghost use Rattle.pon_olt.specs.Refusals.{ends_word, place_after, place_in_line, 
 use pon_device::{DevWrite, Failed};
 
 /// How far the open line has the word of a refusal, `err`.
-#[derive(Clone, Copy, Debug, PartialEq, Eq)]
+#[derive(Clone, Copy)]
 pub(crate) enum Place {
     Start,
     First,
@@ -16,7 +16,7 @@ pub(crate) enum Place {
 }
 
 /// What is seen of a text: how far its open line has the word, and whether a line of it begins with the word.
-#[derive(Clone, Copy, Debug, PartialEq, Eq)]
+#[derive(Clone, Copy)]
 pub(crate) struct Seen {
     place: Place,
     refused: bool,

@@ -12,7 +12,6 @@ use crate::early::print_early;
 use crate::end::write_ends;
 use crate::ports::{all_finished, ends_of, split_results, with_dropped, worker_ends};
 use crate::progress::print_summary;
-use crate::recording_file::{RunTape, end_recording};
 use crate::running::Results;
 use crate::settlement_text::write_settlements;
 use crate::settling::{
@@ -21,6 +20,7 @@ use crate::settling::{
 use crate::thread::Worked;
 use pon_desk::{CloseFault, Closed, Desk, Seat};
 use pon_device::DevWrite;
+use pon_files::{FileTape, end_recording};
 use pon_job::Failure;
 use pon_port::Port;
 use pon_recorder::{Ended, PortSink, Recording, Rings};
@@ -114,7 +114,7 @@ fn close<L: Ledger, M: Ledger>(
 // Ends the file of a recording that ended so, if it has one.
 fn end_file<G: Gate, F: OpenFile + Write + Drop, R: Files>(
     run: &RunContext<'_, G, R>,
-    ended: Ended<RunTape<F>>,
+    ended: Ended<FileTape<F>>,
 ) -> Result<(), Failure>
     ensures { OnOk result (is_ok ended.result ≡ true) }
 {
@@ -128,7 +128,7 @@ fn end_file<G: Gate, F: OpenFile + Write + Drop, R: Files>(
 // recording.
 fn record_kept<K: Rings, G: Gate, F: OpenFile + Write + Drop, R: Files>(
     run: &RunContext<'_, G, R>,
-    recording: Option<Recording<K, RunTape<F>>>,
+    recording: Option<Recording<K, FileTape<F>>>,
     ports: Vec<Port>,
     dropped: &mut [u64],
 ) -> Result<(), Failure>
@@ -150,7 +150,7 @@ fn write_lines<K: Rings, G: Gate, F: OpenFile + Write + Drop, W: DevWrite, R: Fi
     ports: Vec<Port>,
     workers: &[WorkerEnd],
     settlements: &[Settlement],
-    recording: Option<Recording<K, RunTape<F>>>,
+    recording: Option<Recording<K, FileTape<F>>>,
     writer: &mut W,
 ) -> Result<(), Failure>
     ensures lines { OnOk result (WritesLines ports.items workers.now settlements.now
@@ -180,7 +180,7 @@ fn tell_closed<K: Rings, G: Gate, F: OpenFile + Write + Drop, W: DevWrite, R: Fi
     run: &RunContext<'_, G, R>,
     closed: ClosedRun,
     workers: &[WorkerEnd],
-    recording: Option<Recording<K, RunTape<F>>>,
+    recording: Option<Recording<K, FileTape<F>>>,
     writer: &mut W,
 ) -> Result<bool, Failure>
     ensures done { IfOk result (λ done. done ≡ true → TellsPorts closed.ports.items workers.now run.now.args.settle
@@ -236,7 +236,7 @@ pub(crate) fn tell<L, M, K, G, F, W, R>(
     run: &RunContext<'_, G, R>,
     desk: Desk<L, M>,
     others: Vec<Seat<L, M>>,
-    results: Results<L, M, K, RunTape<F>>,
+    results: Results<L, M, K, FileTape<F>>,
     writer: &mut W,
 ) -> Result<bool, Failure>
 where

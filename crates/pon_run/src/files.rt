@@ -2,9 +2,8 @@
 
 use crate::arguments::RunArgs;
 use crate::context::RunContext;
-use crate::recording_file::{RunTape, record_in};
-use crate::target::{RecordArgs, Target, target_of};
 use pon_device::DeviceFault;
+use pon_files::{FileTape, RecordArgs, Target, record_in, target_of};
 use pon_job::{Failure, Named};
 use pon_recorder::{Recorder, open_recorder};
 use pon_worker::Gate;
@@ -50,7 +49,7 @@ pub(crate) fn recording_target<G: Gate, R: Files>(
 pub(crate) fn recorder_of<G: Gate, R: Files>(
     run: &RunContext<'_, G, R>,
     target: &Option<Target>,
-) -> Result<Option<Recorder<RunTape<R::File>>>, Failure> {
+) -> Result<Option<Recorder<FileTape<R::File>>>, Failure> {
     match (run.args.record, target) {
         (Some(name), Some(target)) => Ok(Some(record_in(run.rt, run.alloc, name, target)?)),
         _ => Ok(open_recorder(run.alloc, None, run.args.settle)?),

@@ -7,16 +7,14 @@ ghost use Rattle.pon_recorder.specs.Rings.{AreRingsOf};
 use crate::arguments::UnitsPlace;
 use crate::context::RunContext;
 use crate::files::{recorder_of, recording_target};
-use crate::link::{Link, open_links};
-use crate::outside::accept_links;
 use crate::ports::OTHER_SEATS;
-use crate::recording_file::RunTape;
-use crate::target::discard;
 use pon_desk::{Desk, Seat};
 use pon_device::DeviceFault;
+use pon_files::FileTape;
 use pon_job::Failure;
 use pon_recorder::{PortRing, Recorder, Rings, Sinks, open_rings};
 use pon_settings::Settings;
+use pon_sockets::{Link, accept_links, open_links};
 use pon_units::MAX_PORTS;
 use pon_worker::Gate;
 use std::alloc::Global;
@@ -30,14 +28,14 @@ use std::time::Clock;
 pub(crate) struct Opened<F> {
     pub(crate) links: Vec<Link>,
     pub(crate) rings: Vec<PortRing>,
-    pub(crate) recorder: Option<Recorder<RunTape<F>>>,
+    pub(crate) recorder: Option<Recorder<FileTape<F>>>,
 }
 
 /// The connection and the sink of each port, in order, and the recording after the sinks, if chapters are wanted.
 #[derive(Drop)]
 pub(crate) struct RunParts<K: Rings, F> {
     pub(crate) links: Vec<Link>,
-    pub(crate) sinks: Sinks<K, RunTape<F>>,
+    pub(crate) sinks: Sinks<K, FileTape<F>>,
 }
 
 // Opens a connection for each port, with its units in this process or elsewhere.
@@ -57,7 +55,7 @@ where
 // Opens a connection and a ring for each port of the settings.
 fn open_ends<G, R>(
     run: &RunContext<'_, G, R>,
-    recorder: Option<Recorder<RunTape<R::File>>>,
+    recorder: Option<Recorder<FileTape<R::File>>>,
 ) -> Result<Opened<R::File>, Failure>
 where
     G: Gate,
@@ -86,7 +84,7 @@ where
     let recorder = recorder_of(run, &target)?;
     let opened = open_ends(run, recorder);
     if let (Err(_), Some(target)) = (&opened, &target) {
-        discard(run.rt, target);
+        target.discard(run.rt);
     }
     opened
 }

@@ -5,14 +5,13 @@ ghost use Rattle.pon_run.specs.Ends.{end_of, ends_of, with_dropped};
 ghost use Rattle.pon_run.specs.Runs.{EndedAs, IsFinished};
 
 use crate::end::PortEnd;
-use crate::link::Link;
 use crate::running::Served;
-use crate::thread::{UnitsPart, Worked, WorkerPart};
-use crate::units::units_of;
+use crate::thread::{Worked, WorkerPart};
 use pon_desk::{Desk, Seat};
 use pon_port::Port;
 use pon_recorder::{PortSink, Rings};
 use pon_settings::{Settings, SettingsRow};
+use pon_sockets::{Link, UnitsPart, units_of};
 use pon_worker::{StopReason, WorkerEnd};
 use std::alloc::{AllocError, Global};
 use std::net::TcpStream;

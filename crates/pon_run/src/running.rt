@@ -3,11 +3,12 @@
 
 use crate::context::RunContext;
 use crate::progress::print_progress;
-use crate::thread::{UnitsPart, Worked, WorkerPart, answer, work};
+use crate::thread::{Worked, WorkerPart, work};
 use pon_desk::Desk;
 use pon_device::{DevWrite, DeviceFault};
 use pon_link::UnitsFault;
 use pon_recorder::{Recording, Rings};
+use pon_sockets::{UnitsPart, answer};
 use pon_worker::Gate;
 use std::alloc::{AllocError, Global};
 use std::sync::Wait;

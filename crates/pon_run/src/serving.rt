@@ -12,11 +12,11 @@ use crate::ending::tell;
 use crate::opening::{Opened, RunParts, open_desk, open_parts, split_rings};
 use crate::operator::{OpenedLines, answer, open_operator};
 use crate::ports::{OTHER_SEATS, admit_rows, served_ports};
-use crate::recording_file::RunTape;
 use crate::running::{PortsServed, Results, serve_all};
 use crate::watch::RunWatch;
 use pon_desk::{Desk, Seat};
 use pon_device::{DevWrite, DeviceFault};
+use pon_files::FileTape;
 use pon_job::{Failure, exit_status, outcome_of_ports};
 use pon_recorder::{Rings, Sinks};
 use pon_settings::Settings;
@@ -38,11 +38,11 @@ use std::time::Clock;
 fn serve<L, M, K, G, F, W, R>(
     run: &RunContext<'_, G, R>,
     desk: &Desk<L, M>,
-    ports: PortsServed<L, M, K, RunTape<F>>,
+    ports: PortsServed<L, M, K, FileTape<F>>,
     operator: &mut Seat<L, M>,
     lines: Option<OpenedLines<F>>,
     writer: &mut W,
-) -> Result<Results<L, M, K, RunTape<F>>, DeviceFault>
+) -> Result<Results<L, M, K, FileTape<F>>, DeviceFault>
 where
     L: Ledger + Send + Sync,
     M: Ledger + Send + Sync,
@@ -67,7 +67,7 @@ fn tell_with_seats<L, M, K, G, F, W, R>(
     run: &RunContext<'_, G, R>,
     desk: Desk<L, M>,
     others: [Seat<L, M>; OTHER_SEATS],
-    results: Results<L, M, K, RunTape<F>>,
+    results: Results<L, M, K, FileTape<F>>,
     writer: &mut W,
 ) -> Result<bool, Failure>
 where
@@ -93,7 +93,7 @@ fn tell_results<L, M, K, G, F, W, R>(
     run: &RunContext<'_, G, R>,
     desk: Desk<L, M>,
     others: [Seat<L, M>; OTHER_SEATS],
-    results: Results<L, M, K, RunTape<F>>,
+    results: Results<L, M, K, FileTape<F>>,
     writer: &mut W,
 ) -> Result<bool, Failure>
 where
@@ -124,7 +124,7 @@ fn prepare<L: Ledger, M: Ledger, K: Rings, G: Gate, F: Drop, R: Wait>(
     seat: &mut Seat<L, M>,
     seats: Vec<Seat<L, M>>,
     parts: RunParts<K, F>,
-) -> Result<PortsServed<L, M, K, RunTape<F>>, DeviceFault> {
+) -> Result<PortsServed<L, M, K, FileTape<F>>, DeviceFault> {
     admit_rows(run.rt, run.alloc, desk, seat, run.settings)?;
     let RunParts { links, sinks } = parts;
     let Sinks { sinks, recording } = sinks;

@@ -1,14 +1,13 @@
-//! The two threads of a port: one runs its worker, the other its units.
+//! The thread of a port that runs its worker.
 
 use crate::context::RunContext;
 use crate::pace::RunPace;
 use pon_desk::{Desk, Seat};
 use pon_device::{StdRead, StdWrite};
-use pon_link::{Unit, UnitsFault, serve_units};
 use pon_recorder::{PortSink, Rings};
 use pon_worker::{Gate, WorkerEnd, serve_port};
 use std::alloc::{AllocError, Global};
-use std::io::{BufReader, BufWriter};
+use std::io::BufReader;
 use std::net::TcpStream;
 use std::sync::Wait;
 use std::sync::atomic::AtomicBool;
@@ -21,13 +20,6 @@ use std::time::Clock;
 pub(crate) struct WorkerPart<L: Ledger, M: Ledger, K: Rings> {
     pub(crate) seat: Seat<L, M>,
     pub(crate) sink: PortSink<K>,
-    pub(crate) stream: TcpStream,
-}
-
-/// The units of a port, and their end of the connection.
-#[derive(Drop)]
-pub(crate) struct UnitsPart {
-    pub(crate) units: Vec<Unit>,
     pub(crate) stream: TcpStream,
 }
 
@@ -75,14 +67,4 @@ pub(crate) fn work<L: Ledger, M: Ledger, K: Rings, G: Gate, R: Wait + Clock>(
     run.watch.end_worker();
     let WorkerPart { seat, sink, .. } = part;
     Worked { seat, sink, end }
-}
-
-/// Runs the units of a port, and closes their end of the connection.
-pub(crate) fn answer(alloc: Global, part: UnitsPart) -> Result<(), UnitsFault> {
-    let UnitsPart { mut units, stream } = part;
-    let input = BufReader::new(alloc, &stream).map_err(|_| UnitsFault::Memory)?;
-    let output = BufWriter::new(alloc, &stream).map_err(|_| UnitsFault::Memory)?;
-    let mut reader = StdRead::new(input);
-    let mut writer = StdWrite::new(output);
-    serve_units(alloc, units.as_mut_slice(), &mut reader, &mut writer)
 }

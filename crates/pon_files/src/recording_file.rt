@@ -3,7 +3,7 @@
 ghost use Rattle.std.specs.Prelude.{◌≡◌, OnOk, false, is_ok, true};
 
 use crate::part::PartFile;
-use crate::target::{RecordArgs, Target, discard, target_of};
+use crate::target::{RecordArgs, Target, target_of};
 use pon_device::DeviceFault;
 use pon_job::{Failure, Named};
 use pon_recorder::{Ended, Recorder, Tape, record_to};
@@ -13,7 +13,7 @@ use std::io::{self, Write};
 use std::rt::Files;
 
 /// The device of a recording.
-pub type RunTape<F> = Tape<RecordingFile<F>>;
+pub type FileTape<F> = Tape<RecordingFile<F>>;
 
 /// The file of a recording.
 #[derive(Drop)]
@@ -124,15 +124,17 @@ fn create_file<R: Files>(
     }
 }
 
-/// Begins the recording in a file. If the magic bytes cannot be written, its part is removed.
+/// Begins the recording in the file `name`, at its target. If the magic bytes cannot be written, its part is removed.
 ///
-/// Returns `Write` if the file cannot be created or does not take the magic bytes, and `Memory` if memory is refused.
-pub(crate) fn record_in<R: Files>(
+/// # Errors
+///
+/// `Write` if the file cannot be created or does not take the magic bytes, and `Memory` if memory is refused.
+pub fn record_in<R: Files>(
     rt: &R,
     alloc: Global,
     name: &str,
     target: &Target,
-) -> Result<Recorder<RunTape<R::File>>, Failure> {
+) -> Result<Recorder<FileTape<R::File>>, Failure> {
     let named = Named::Recording(name);
     let file = match create_file(rt, alloc, name, target) {
         Ok(file) => file,
@@ -141,7 +143,7 @@ pub(crate) fn record_in<R: Files>(
     match record_to(alloc, file) {
         Ok(recorder) => Ok(recorder),
         Err(fault) => {
-            discard(rt, target);
+            target.discard(rt);
             Err(Failure::in_writing(alloc, fault, named))
         }
     }
@@ -158,7 +160,7 @@ pub fn begin_recording<R: Files>(
     rt: &R,
     alloc: Global,
     args: &RecordArgs<'_>,
-) -> Result<Recorder<RunTape<R::File>>, Failure> {
+) -> Result<Recorder<FileTape<R::File>>, Failure> {
     let target = target_of(rt, alloc, args)?;
     record_in(rt, alloc, args.file, &target)
 }
@@ -173,7 +175,7 @@ pub fn end_recording<F: OpenFile + Write + Drop, R: Files>(
     rt: &R,
     alloc: Global,
     name: &str,
-    ended: Ended<RunTape<F>>,
+    ended: Ended<FileTape<F>>,
 ) -> Result<(), Failure>
     ensures { OnOk result (is_ok ended.result ≡ true) }
 {

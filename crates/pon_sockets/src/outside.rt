@@ -127,9 +127,11 @@ fn accept_all<R: Clock>(
 /// port the next TCP port, or each a free one if that of the address is 0. Each read and write of a connection fails if it
 /// lasts longer than `wait`.
 ///
-/// Returns `Memory` if memory is refused, and `Read` if the address cannot be read, or that of a port not be bound or accepted
-/// on, also if a port has no connection when `wait` has passed.
-pub(crate) fn accept_links<R>(
+/// # Errors
+///
+/// `Memory` if memory is refused, and `Read` if the address cannot be read, or that of a port not be bound or accepted on,
+/// also if a port has no connection when `wait` has passed.
+pub fn accept_links<R>(
     rt: &R,
     alloc: Global,
     address: &str,

@@ -2,7 +2,7 @@
 
 ghost use Rattle.std.specs.Prelude.{◌≡◌, IfOk};
 ghost use Rattle.std.specs.Net.Socket.{socket_ip, socket_port};
-ghost use Rattle.pon_run.specs.Addresses.{port_at};
+ghost use Rattle.pon_sockets.specs.Addresses.{port_at};
 
 use pon_device::DeviceFault;
 use pon_job::{Failure, Named};

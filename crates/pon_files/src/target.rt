@@ -1,7 +1,7 @@
 //! Where chapters are recorded: what is checked before anything is written.
 
 ghost use Rattle.std.specs.Prelude.{◌≡◌, ◌↔◌, IsSome, IsSomeAnd, Some, string_bytes, true};
-ghost use Rattle.pon_run.specs.declared.target.Source.TheVariants.{Settings};
+ghost use Rattle.pon_files.specs.declared.target.Source.TheVariants.{Settings};
 
 use crate::part::part_of;
 use pon_device::DeviceFault;
@@ -27,7 +27,7 @@ pub struct RecordArgs<'a> {
 
 /// Where chapters are recorded.
 #[derive(Drop)]
-pub(crate) enum Target {
+pub enum Target {
     /// In this part, which gets the name of the file at this path when the recording is whole.
     Part { path: String, part: String },
     /// In what exists and is no regular file.
@@ -171,10 +171,13 @@ fn path_to_write<R: Files>(rt: &R, alloc: Global, name: &str) -> Result<String, 
 
 /// Checks the file of a recording before anything is written. Returns where the chapters are recorded.
 ///
-/// Returns `Write` if the file or its part is one that is read, if the part is no regular file, and if the file
-/// exists and is not to be replaced; `Memory` if memory is refused. Other names of a file that is read are found out
-/// by their path without links, so a hard link is not.
-pub(crate) fn target_of<R: Files>(
+/// Other names of a file that is read are found out by their path without links, so a hard link is not.
+///
+/// # Errors
+///
+/// `Write` if the file or its part is one that is read, if the part is no regular file, and if the file exists and is
+/// not to be replaced; `Memory` if memory is refused.
+pub fn target_of<R: Files>(
     rt: &R,
     alloc: Global,
     args: &RecordArgs<'_>,
@@ -192,9 +195,11 @@ pub(crate) fn target_of<R: Files>(
     }
 }
 
-/// Removes the part of a recording that holds no chapter.
-pub(crate) fn discard<R: Files>(rt: &R, target: &Target) {
-    if let Target::Part { part, .. } = target {
-        let _ = fs::remove_file(rt, part.as_str());
+impl Target {
+    /// Removes the part of a recording that holds no chapter.
+    pub fn discard<R: Files>(&self, rt: &R) {
+        if let Target::Part { part, .. } = self {
+            let _ = fs::remove_file(rt, part.as_str());
+        }
     }
 }

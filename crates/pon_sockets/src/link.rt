@@ -23,11 +23,13 @@ const PAUSE_MILLISECONDS: u64 = 1;
 /// Maximum number of connections that are dropped before each attempt to connect: more than the queue of a listener has.
 const MAX_DROPPED: u32 = 256;
 
-/// A connection: the end of the port, and the end of its units, if they are in this process.
+/// A connection.
 #[derive(Drop)]
-pub(crate) struct Link {
-    pub(crate) port: TcpStream,
-    pub(crate) units: Option<TcpStream>,
+pub struct Link {
+    /// The end of the port.
+    pub port: TcpStream,
+    /// The end of its units, if they are in this process.
+    pub units: Option<TcpStream>,
 }
 
 fn too_many_others() -> io::Error {
@@ -138,12 +140,14 @@ fn listen_on<R: Net<Listener = TcpListener, Stream = TcpStream> + Clock>(
     Ok(links)
 }
 
-/// Listens on the address, opens a connection for each port, in order, and stops listening. Connections of others are
-/// dropped.
+/// Listens on the address, opens a connection for each port, in order, and stops listening. Both ends of each are in this
+/// process. Connections of others are dropped.
 ///
-/// Returns `Memory` if memory is refused, and `Read` if the address cannot be read, bound, connected to or accepted on,
-/// also if connections of others keep the run from its own for 10 seconds.
-pub(crate) fn open_links<R: Net<Listener = TcpListener, Stream = TcpStream> + Clock>(
+/// # Errors
+///
+/// `Memory` if memory is refused, and `Read` if the address cannot be read, bound, connected to or accepted on, also if
+/// connections of others keep the run from its own for 10 seconds.
+pub fn open_links<R: Net<Listener = TcpListener, Stream = TcpStream> + Clock>(
     rt: &R,
     alloc: Global,
     address: &str,

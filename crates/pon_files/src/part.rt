@@ -38,7 +38,7 @@ pub struct PartFile<F> {
 }
 
 impl<F> Model for PartFile<F> {
-    ghost use Rattle.pon_run.specs.declared.part.Progress.{Progress};
+    ghost use Rattle.pon_files.specs.declared.part.Progress.{Progress};
 
     ghost Value = { Progress };
 

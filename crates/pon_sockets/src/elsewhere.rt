@@ -3,7 +3,7 @@
 ghost use Rattle.std.specs.Prelude.{◌≡◌, ◌<◌, ◌⊎◌, ◌↔◌, IfSome, OnOk, length, true};
 
 use crate::address::{address_of, begin, failed_at};
-use crate::thread::{UnitsPart, answer};
+use crate::answering::{UnitsPart, answer};
 use crate::units::units_of;
 use pon_device::DeviceFault;
 use pon_job::{Failure, Named, Outcome, exit_status};
@@ -248,7 +248,7 @@ where
 }
 
 /// Simulates the units of the settings for a terminal elsewhere: connects to each of its ports, in order, and answers its
-/// maps, as the simulated units of [`crate::run_ports`] do, until the terminal closes the connection.
+/// maps, as the simulated units of a run do, until the terminal closes the connection.
 ///
 /// Returns the exit status: 0 if the terminal closed each connection after a whole map; otherwise 3. Standard error then has
 /// a text: `olt: read failed` if the address cannot be read, or that of a port not be connected to, or the settings have no such

@@ -2,7 +2,7 @@
 
 ghost use Rattle.std.specs.Prelude.{◌≡◌, IfOk, take};
 ghost use Rattle.std.specs.List.{list_any};
-ghost use Rattle.pon_run.specs.Units.{is_row_of, own_queues, units_of};
+ghost use Rattle.pon_sockets.specs.Units.{is_row_of, own_queues, units_of};
 
 use arrayvec::ArrayVec;
 use pon_link::Unit;
@@ -46,9 +46,13 @@ fn has_onu(rows: &[SettingsRow], onu: OnuId) -> bool
     rows.iter().any(|settings_row| settings_row.row.onu == onu)
 }
 
-/// Returns a unit for each ONU that has rows, in the order of the first row of each, with the queues of its rows. `Err`
-/// only if memory is refused.
-pub(crate) fn units_of(alloc: Global, rows: &[SettingsRow]) -> Result<Vec<Unit>, AllocError>
+/// Returns a unit for each ONU that has rows, in the order of the first row of each, with the waiting words of the
+/// first 16 of its rows.
+///
+/// # Errors
+///
+/// If memory is refused.
+pub fn units_of(alloc: Global, rows: &[SettingsRow]) -> Result<Vec<Unit>, AllocError>
     ensures { IfOk result (λ units. units.items ≡ units_of rows.now) }
 {
     let mut units = Vec::new(alloc);

@@ -1,0 +1,16 @@
+//! The connections between the ports of a terminal and their units, over sockets: with both ends in this process, with units
+//! elsewhere, and the simulated units of a terminal elsewhere.
+#![tactic(auto)]
+
+mod address;
+mod answering;
+mod elsewhere;
+mod link;
+mod outside;
+mod units;
+
+pub use answering::{UnitsPart, answer};
+pub use elsewhere::{UnitsArgs, run_units};
+pub use link::{Link, open_links};
+pub use outside::accept_links;
+pub use units::units_of;
