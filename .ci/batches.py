@@ -3,6 +3,7 @@
 A function is proved against the contracts of what it calls. So the body of one says nothing of the proof of another, and what the prover
 says of a function in a check of several wrong programs is what it says of the only one that changes it. An edit counts as refused here only by
 a line about one of its own functions. Each edit without such a line has a check of its own, and without one then too is left to be tried alone.
+So is an edit of a definition or a contract, as those of a crate of laws are: its refusal stands in a lemma or in the proof of another function.
 """
 import os
 import re
@@ -216,6 +217,9 @@ class Batches:
         """Returns the edits of a crate that are refused together with others, with what the prover said of each."""
         crate, started = self.crates[name], f"{self.crates[name].folder}/out/incremental"
         groups = groups_of([read_edit(it, crate.folder) for it in edits], crate.folder)
+        if not groups and os.path.isdir(started):
+            print(f"edits: {name}: none of {len(edits)} changes the body of a function, each is tried by itself", flush=True)
+            return {}
         with tempfile.TemporaryDirectory(prefix="batch-seed-") as room, ThreadPoolExecutor(len(groups) or 1) as pool:
             # Where no check kept anything, the edits that are tried alone begin with what this one keeps.
             seed = shutil.copytree(started, f"{room}/seed", copy_function=link_or_copy) if os.path.isdir(started) else started

@@ -1,0 +1,13 @@
+pub mod ClassParts
+pub mod ExactRates
+pub mod GrowingItems
+pub mod MapWords
+pub mod Members
+pub mod MoreReported
+pub mod OthersReport
+pub mod RunWords
+pub mod ShortRun
+pub mod Sure
+pub mod SureNumbers
+pub mod Unserved
+pub mod Worked

@@ -1,0 +1,4 @@
+pub mod Exact
+pub mod Growth
+pub mod Runs
+pub mod Shares
