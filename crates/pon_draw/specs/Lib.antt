@@ -1,2 +1,5 @@
+pub mod Heights
+pub mod Means
 pub mod Pictures
+pub mod Pieces
 pub mod Places
