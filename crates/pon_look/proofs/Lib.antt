@@ -1,3 +1,4 @@
+pub mod FaultDetails
 pub mod Judgments
 pub mod LastFrames
 pub mod ListedRows

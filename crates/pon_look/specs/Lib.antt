@@ -1,6 +1,8 @@
 pub mod Counts
 pub mod Explanations
+pub mod FaultDetails
 pub mod Finding
+pub mod Gaps
 pub mod Summaries
 pub mod Sums
 pub mod Tallies

@@ -1,20 +1,20 @@
 //! The map of a frame in a recording.
 
-ghost use Rattle.std.specs.Prelude.{◌<◌, All, IfOk, IfSome, List, Option, length, ℕ};
+ghost use Rattle.std.specs.Prelude.{◌<◌, ◌↔◌, All, IfOk, IfSome, IsTrue, List, Option, length, ℕ};
 ghost use Rattle.pon_audit.specs.Auditing.{IsAuditing};
 ghost use Rattle.pon_audit.specs.Openings.{FitsRecording};
 ghost use Rattle.pon_audit.specs.Streams.{IsVerdictOf, TellsFailure};
-ghost use Rattle.pon_look.specs.Finding.{IsFound};
+ghost use Rattle.pon_look.specs.Finding.{ComesBefore, IsFound};
 
 use crate::frames::{first_frame, last_frame};
-use crate::query::Missing;
+use crate::query::{Missing, WhyQuery};
 use crate::seen::{Ports, missing_port, with_port};
 use crate::viewed::Viewed;
 use pon_audit::{Auditing, Step};
 use pon_device::{DevRead, DeviceFault};
 use pon_record::RawChapter;
-use pon_state::{Entry, EntryRef};
-use pon_units::{FrameNo, PortNo};
+use pon_state::{Entry, EntryRef, MadeMap};
+use pon_units::{AllocId, FrameNo, PortNo};
 use std::alloc::Global;
 use std::thread::Threads;
 
@@ -26,57 +26,124 @@ pub(crate) struct FoundMap {
     pub(crate) frame: FrameNo,
 }
 
-// The least and the greatest frame of the maps of a port.
-type Frames = Option<(FrameNo, FrameNo)>;
+/// The least and the greatest frame of the maps of a port.
+#[derive(Clone, Copy)]
+struct PortFrames {
+    port: PortNo,
+    first: FrameNo,
+    last: FrameNo,
+}
 
-// Returns the frames of a port with those of a further chapter.
-fn with_chapter(frames: Frames, chapter: &RawChapter) -> Frames {
-    let entries = chapter.entries.as_slice();
+// Returns the frames of the lower of two ports, or those of both chapters of one port.
+fn of_lower(known: &PortFrames, other: &PortFrames) -> PortFrames {
+    if known.port < other.port {
+        return *known;
+    }
+    if other.port < known.port {
+        return *other;
+    }
+    PortFrames {
+        port: known.port,
+        first: known.first.min(other.first),
+        last: known.last.max(other.last),
+    }
+}
+
+// Returns the frames of the lowest port so far, with a further chapter.
+fn with_chapter(frames: Option<PortFrames>, chapter: &RawChapter) -> Option<PortFrames> {
+    let (entries, port) = (chapter.entries.as_slice(), chapter.port);
     let (Some(first), Some(last)) = (first_frame(entries), last_frame(entries)) else {
         return frames;
     };
+    let other = PortFrames { port, first, last };
     match frames {
-        Some((least, greatest)) => Some((least.min(first), greatest.max(last))),
-        None => Some((first, last)),
+        Some(known) => Some(of_lower(&known, &other)),
+        None => Some(other),
     }
 }
 
-// Returns the index of the first map of a frame.
-fn map_at(entries: &[Entry], frame: FrameNo) -> Option<usize>
-    ensures { IfSome result (λ index. index < length entries.now) }
+// Returns whether a map has a structure of an Alloc-ID.
+fn has_alloc(made: &MadeMap, alloc_id: AllocId) -> bool {
+    let structures = made.map.rows();
+    structures.iter().any(|it| it.id() == alloc_id.get())
+}
+
+// The index of a map in its chapter, and whether it has no structure of the Alloc-ID that is asked for.
+#[derive(Clone, Copy)]
+struct WantedMap {
+    entry: usize,
+    lacks_alloc: bool,
+}
+
+// Returns whether an entry is a map of the frame that is asked for; if it is one, whether it lacks the Alloc-ID.
+fn fit_of(entry: &Entry, query: &WhyQuery) -> Option<bool> {
+    let EntryRef::Map(made) = entry.as_ref() else {
+        return None;
+    };
+    match query.frame {
+        Some(frame) if made.frame != frame => None,
+        _ => Some(
+            query
+                .alloc
+                .is_some_and(|alloc_id| !has_alloc(made, alloc_id)),
+        ),
+    }
+}
+
+// Returns whether a later map of a chapter is taken in place of one that was found.
+fn is_taken(found: Option<WantedMap>, lacks_alloc: bool, query: &WhyQuery) -> bool {
+    match found {
+        None => true,
+        Some(before) if before.lacks_alloc == lacks_alloc => query.frame.is_none(),
+        Some(before) => before.lacks_alloc,
+    }
+}
+
+// Returns the map that is asked for among the entries of a chapter: with the Alloc-ID, if one has it; of these the first
+// of a frame, and the last without a frame.
+fn wanted_in(entries: &[Entry], query: &WhyQuery) -> Option<WantedMap>
+    ensures { IfSome result (λ map. map.entry < length entries.now) }
 {
-    for (index, entry) in entries.iter().enumerate() {
-        if let EntryRef::Map(made) = entry.as_ref() {
-            if made.frame == frame {
-                return Some(index);
+    let mut found: Option<WantedMap> = None;
+    for entry in 0..entries.len() {
+        if let Some(lacks_alloc) = fit_of(&entries[entry], query) {
+            if is_taken(found, lacks_alloc, query) {
+                found = Some(WantedMap { entry, lacks_alloc });
             }
         }
     }
-    None
+    found
 }
 
-// Returns what is missing if a port has no map of a frame.
-fn missing_frame(port: PortNo, frame: Option<FrameNo>, frames: Frames) -> Missing {
-    match (frame, frames) {
-        (Some(frame), Some((first, last))) => Missing::Frame {
-            port,
-            frame,
-            first,
-            last,
-        },
-        _ => Missing::Maps { port: Some(port) },
+// How well a map fits: one with the Alloc-ID before one without, then one of a lower port.
+#[derive(Clone, Copy)]
+struct Rank {
+    port: PortNo,
+    lacks_alloc: bool,
+}
+
+impl Rank {
+    // Returns whether a map of this rank is shown before one of another rank.
+    fn is_before(&self, other: &Rank) -> bool
+        ensures { IsTrue result ↔ ComesBefore self.now other.now }
+    {
+        if self.lacks_alloc != other.lacks_alloc {
+            return other.lacks_alloc;
+        }
+        self.port < other.port
     }
 }
 
-/// What is looked for, and what was seen so far.
+/// What is looked for, and what was seen so far: the ports of all chapters, the frames of the port that is asked for, or of
+/// the lowest one, and the rank of the map that was found.
 #[derive(Clone, Copy)]
 struct Search {
-    port: Option<PortNo>,
-    frame: Option<FrameNo>,
+    query: WhyQuery,
     ports: Option<Ports>,
-    // Whether the port has a chapter.
-    met: bool,
-    frames: Frames,
+    // Whether a chapter is of the port that is asked for.
+    is_met: bool,
+    frames: Option<PortFrames>,
+    best: Option<Rank>,
 }
 
 // The place of a map among chapters: that of its chapter, and the index of its entry there.
@@ -87,37 +154,52 @@ struct MapAt {
 }
 
 impl Search {
-    fn new(port: Option<PortNo>, frame: Option<FrameNo>) -> Search {
+    fn new(query: WhyQuery) -> Search {
         Search {
-            port,
-            frame,
+            query,
             ports: None,
-            met: false,
+            is_met: false,
             frames: None,
+            best: None,
         }
     }
 
-    // Returns the frame that is wanted of a chapter: the last one without a frame, and none of another port.
-    fn wanted_of(&mut self, chapter: &RawChapter) -> Option<FrameNo> {
+    // Notes a chapter. Returns whether it is of the port that is asked for, or of any port without one.
+    fn sees(&mut self, chapter: &RawChapter) -> bool {
         self.ports = Some(with_port(self.ports, chapter.port));
-        self.port = self.port.or(Some(chapter.port));
-        if self.port != Some(chapter.port) {
-            return None;
+        let is_wanted = self.query.port.is_none() || self.query.port == Some(chapter.port);
+        if is_wanted {
+            self.is_met = true;
+            self.frames = with_chapter(self.frames, chapter);
         }
-        self.met = true;
-        self.frames = with_chapter(self.frames, chapter);
-        self.frame.or(last_frame(&chapter.entries))
+        is_wanted
+    }
+
+    // Returns whether a map of a later chapter is shown in place of the one that was found: without a frame, also one of
+    // the same rank.
+    fn replaces(&self, rank: &Rank) -> bool {
+        match &self.best {
+            None => true,
+            Some(best) if self.query.frame.is_some() => rank.is_before(best),
+            Some(best) => !best.is_before(rank),
+        }
     }
 
     // Returns what is missing if no map was found.
     fn missing(&self) -> Missing {
-        match self.port {
-            Some(port) if self.met => missing_frame(port, self.frame, self.frames),
-            port => missing_port(self.ports, port),
+        match (self.query.port, self.query.frame, self.frames) {
+            (_, Some(frame), Some(PortFrames { port, first, last })) => Missing::Frame {
+                port,
+                frame,
+                first,
+                last,
+            },
+            (port, _, _) if self.is_met => Missing::Maps { port },
+            (port, _, _) => missing_port(self.ports, port),
         }
     }
 
-    // Returns the place of the map that is wanted of chapters: of the first of a frame, and the last without a frame.
+    // Returns the place of the map among chapters that is shown in place of the one that was found.
     fn place_in(&mut self, chapters: &[RawChapter]) -> Option<MapAt>
         ensures { IfSome result (λ at. at.chapter < length chapters.now) }
     {
@@ -125,18 +207,26 @@ impl Search {
         for chapter in 0..chapters.len() {
             if let Some(entry) = self.entry_in(&chapters[chapter]) {
                 found = Some(MapAt { chapter, entry });
-                if self.frame.is_some() {
-                    return found;
-                }
             }
         }
         found
     }
 
-    // Returns the index of the entry of the map that is wanted of a chapter.
+    // Returns the index of the entry of the map of a chapter that is shown in place of the one that was found.
     fn entry_in(&mut self, chapter: &RawChapter) -> Option<usize> {
-        let frame = self.wanted_of(chapter)?;
-        map_at(&chapter.entries, frame)
+        if !self.sees(chapter) {
+            return None;
+        }
+        let WantedMap { entry, lacks_alloc } = wanted_in(&chapter.entries, &self.query)?;
+        let rank = Rank {
+            port: chapter.port,
+            lacks_alloc,
+        };
+        if !self.replaces(&rank) {
+            return None;
+        }
+        self.best = Some(rank);
+        Some(entry)
     }
 }
 
@@ -167,7 +257,7 @@ fn taken_out(chapters: Vec<RawChapter>, at: MapAt) -> Option<FoundMap>
     found_at(chapter, at.entry)
 }
 
-// Returns the map that is found after the next chapters, which are looked through unless the first map of a frame is found.
+// Returns the map that is found after the next chapters.
 fn found_after(
     search: &mut Search,
     found: Option<FoundMap>,
@@ -177,9 +267,6 @@ fn found_after(
     requires fit { All (λ c. FitsRecording c.body) chapters.items }
     ensures { IfSome result IsFound }
 {
-    if search.frame.is_some() && found.is_some() {
-        return found;
-    }
     match search.place_in(&chapters) {
         Some(at) => taken_out(chapters, at),
         None => found,
@@ -213,26 +300,24 @@ fn look_through<R: DevRead>(
     Err(DeviceFault::Memory)
 }
 
-/// Finds the map of a frame of a port in a recording, up to the first fault of its format, while it is audited: of the first
-/// port in it without a port, and the last map of the port without a frame. It is the first one, if two maps are of the
-/// frame. Returns the verdict of the audit, and the map or what is missing.
+/// Finds the map that a query asks for in a recording, up to the first fault of its format, while it is audited. Without a
+/// port it is one of the lowest port that has such a map, whatever the order of the chapters. It is the first map of the
+/// frame, or without a frame the last map, and one with the Alloc-ID if there is one. Returns the verdict of the audit, and
+/// the map or what is missing.
 ///
 /// `Read` exactly when the reader fails, `Memory` if memory is refused.
 pub(crate) fn find_map<R: DevRead>(
     rt: &(impl Threads + Sync),
     alloc: Global,
     reader: &mut R,
-    port: Option<PortNo>,
-    frame: Option<FrameNo>,
+    query: WhyQuery,
 ) -> Result<Viewed<Result<FoundMap, Missing>>, DeviceFault>
     ensures found { IfOk result (λ viewed. IfOk viewed.shown IsFound) }
     ensures verdict { IfOk result (λ viewed. IsVerdictOf (R.remaining reader.old) viewed.verdict) }
     ensures failures { TellsFailure (R.failures reader.old) (R.failures reader.new) result }
 {
     match Auditing::open(alloc, reader)? {
-        Ok(mut auditing) => {
-            look_through(rt, alloc, &mut auditing, reader, Search::new(port, frame))
-        }
+        Ok(mut auditing) => look_through(rt, alloc, &mut auditing, reader, Search::new(query)),
         Err(verdict) => {
             let shown = Err(Missing::Chapters);
             Ok(Viewed { verdict, shown })

@@ -2,6 +2,7 @@
 
 use crate::members::Members;
 use crate::port_tallies::Refused;
+use crate::rates_text::Extent;
 use crate::replay::MapExplanation;
 use crate::why_text::{MapPlace, Shown};
 use crate::words::{LevelText, class_word};
@@ -68,6 +69,7 @@ pub(crate) fn sums_json(
     row: &Row,
     sums: &Sums,
     idle: u64,
+    extent: Extent,
 ) -> Result<String, AllocError> {
     let members = Members::of(
         alloc,
@@ -84,7 +86,8 @@ pub(crate) fn sums_json(
             ("idle", idle),
         ],
     );
-    members.into_line()
+    let is_partial = extent == Extent::Partial;
+    members.with("partial", Value::from(is_partial)).into_line()
 }
 
 // Makes the value of a level: its text.

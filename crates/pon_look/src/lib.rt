@@ -6,12 +6,16 @@
 
 mod append;
 mod chapters;
+mod contents;
 mod counted;
 mod counts;
 mod dump;
+mod fault;
+mod fault_text;
 mod finding;
 mod frame_range;
 mod frames;
+mod gaps;
 mod info;
 mod info_json;
 mod json;
@@ -38,13 +42,17 @@ mod why;
 mod why_text;
 mod words;
 
+pub use contents::{Contents, audit_contents, write_gaps, write_verdict_line};
 pub use counted::CountedBytes;
 pub use counts::{
     admission_count, cause_count, failure_count, map_count, removal_count, report_count,
 };
 pub use dump::write_dump;
+pub use fault::{FaultDetail, explain_fault};
+pub use fault_text::fault_line;
 pub use frame_range::FrameRange;
 pub use frames::{first_frame, last_frame};
+pub use gaps::{Gap, gap_before};
 pub use info::write_info;
 pub use judged::write_judged;
 pub use loads::loads_of;

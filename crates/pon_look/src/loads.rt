@@ -11,25 +11,27 @@ use crate::summing::sum_up;
 use crate::viewed::Viewed;
 use crate::wanted::Wanted;
 use pon_device::{DevRead, DeviceFault};
-use pon_draw::{Picture, steps_svg, steps_text};
-use pon_why::Series;
+use pon_draw::{Picture, Steps, steps_svg, steps_text};
 use std::alloc::{AllocError, Global};
 use std::thread::Threads;
 
 /// What the signs of a bar mean.
 const SIGNS: &str =
-    "# guaranteed, = granted beyond, . requested and not granted, > beyond the scale";
+    "# guaranteed, = granted beyond, in kbit/s; o waiting, in kB, and ms to grant it";
 
 // Returns what the recording does not have, if nothing in it matches.
 fn missing(tallies: &PortTallies, query: &LoadsQuery) -> Missing {
-    match tallies.as_slice().first() {
-        None => missing_port(tallies.ports, query.port),
-        Some(port) if port.tally.changes().is_empty() => Missing::Maps {
-            port: Some(port.port),
-        },
-        Some(_) => Missing::Alloc {
-            alloc_id: query.alloc_id,
-        },
+    let port = match tallies.as_slice() {
+        [] => return missing_port(tallies.ports, query.port),
+        [only] => Some(only.port),
+        _ => query.port,
+    };
+    let ports = tallies.as_slice();
+    if ports.iter().all(|port| port.tally.changes().is_empty()) {
+        return Missing::Maps { port };
+    }
+    Missing::Alloc {
+        alloc_id: query.alloc_id,
     }
 }
 
@@ -44,69 +46,73 @@ fn changes_text(alloc: Global, port: &PortTally, query: &LoadsQuery) -> Result<S
     Ok(text)
 }
 
-// Makes the line about a series, of which the first and the last frame are given.
+// Returns the greatest maximum rate that the Alloc-ID had, in kbit/s.
+fn max_rate(port: &PortTally, query: &LoadsQuery) -> u64 {
+    let mut max = 0;
+    for change in port.tally.changes() {
+        if change.row.alloc_id == query.alloc_id {
+            max = u64::from(change.row.descriptor.max().get()).max(max);
+        }
+    }
+    max
+}
+
+// Makes the line about the series of a port, of which the first and the last frame are given.
 fn heading_of(
     alloc: Global,
     port: &PortTally,
     query: &LoadsQuery,
-    series: &Series,
     (first, last): (u64, u64),
 ) -> Result<String, AllocError> {
     let (sums, _idle) = port.tally.of(query.alloc_id);
     let (number, alloc_id) = (port.port.get(), query.alloc_id.get());
-    let (maps, frames) = (sums.maps, series.frames());
+    let (maps, frames) = (sums.maps, port.series.frames());
     format!(in alloc;
-        "port {number} alloc {alloc_id} frames {first} to {last} maps {maps}, mean kbit/s of {frames} frames a row"
+        "port {number} alloc {alloc_id} frames {first} to {last} maps {maps}, means of {frames} frames a row"
     )
 }
 
-// Makes the text of a picture: its heading, the descriptors, and the steps.
-fn picture_text(
-    alloc: Global,
-    heading: &str,
-    port: &PortTally,
-    query: &LoadsQuery,
-    series: &Series,
-) -> Result<String, AllocError> {
-    let changes = changes_text(alloc, port, query)?;
-    let steps = steps_text(alloc, series)?;
-    format!(in alloc; "{heading}\n{changes}{SIGNS}\n\n{steps}")
-}
-
-// Draws a series that has a map.
+// Draws the series of a port, if it has a map.
 fn draw(
     alloc: Global,
     port: &PortTally,
     query: &LoadsQuery,
-    series: &Series,
 ) -> Result<Option<Picture>, AllocError> {
-    let Some(range) = series.range() else {
+    let Some(range) = port.series.range() else {
         return Ok(None);
     };
-    let heading = heading_of(alloc, port, query, series, range)?;
-    let svg = steps_svg(alloc, heading.as_str(), series)?;
-    let text = picture_text(alloc, heading.as_str(), port, query, series)?;
+    let heading = heading_of(alloc, port, query, range)?;
+    let steps = Steps {
+        series: &port.series,
+        max: max_rate(port, query),
+    };
+    let svg = steps_svg(alloc, heading.as_str(), &steps)?;
+    let (changes, rows) = (
+        changes_text(alloc, port, query)?,
+        steps_text(alloc, &steps)?,
+    );
+    let text = format!(in alloc; "{heading}\n{changes}{SIGNS}\n\n{rows}")?;
     Ok(Some(Picture { text, svg }))
 }
 
-// Draws what was followed of an Alloc-ID, or returns what is missing.
+// Draws what was followed of an Alloc-ID at the lowest port that has it, or returns what is missing.
 fn draw_loads(
     alloc: Global,
     query: &LoadsQuery,
     tallies: &PortTallies,
 ) -> Result<Result<Picture, Missing>, AllocError> {
-    let Some(port) = tallies.as_slice().first() else {
-        return Ok(Err(missing(tallies, query)));
-    };
-    match draw(alloc, port, query, &tallies.series)? {
-        Some(picture) => Ok(Ok(picture)),
-        None => Ok(Err(missing(tallies, query))),
+    for port in tallies.as_slice() {
+        if let Some(picture) = draw(alloc, port, query)? {
+            return Ok(Ok(picture));
+        }
     }
+    Ok(Err(missing(tallies, query)))
 }
 
-/// Draws what an Alloc-ID requested, what it was guaranteed and what it was granted, along the frames of a port in a
-/// recording. Without a port in the query, the port is the first one in the recording. The picture has at most 60 steps
-/// of equally many frames. Each number is a mean of the sums that `write_rates` writes for the frames of the step.
+/// Draws what an Alloc-ID was guaranteed and granted, and the words that waited, along the frames of a port in a
+/// recording. Without a port in the query it is the lowest port that has the Alloc-ID in these frames. The picture has at
+/// most 60 steps of equally many frames. Each number is a mean of the sums that `write_rates` writes for the frames of the
+/// step.
 ///
 /// A chapter that is refused at an entry is followed up to that entry, and the recording up to the first fault of its
 /// format. The recording is judged at the same time, in as many threads as there are processors. Returns the verdict of

@@ -4,7 +4,7 @@ ghost use Rattle.std.specs.Prelude.{IfOk};
 ghost use Rattle.pon_audit.specs.Streams.{IsVerdictOf, TellsFailure};
 
 use crate::finding::find_map;
-use crate::query::Missing;
+use crate::query::{Missing, WhyQuery};
 use crate::viewed::Viewed;
 use pon_device::{DevRead, DeviceFault};
 use pon_draw::{Picture, picture_at};
@@ -12,8 +12,8 @@ use pon_units::{FrameNo, PortNo};
 use std::alloc::Global;
 use std::thread::Threads;
 
-/// Draws the map of a frame of a port in a recording. Without a port, the port is the first one in the recording;
-/// without a frame, the map is the last one of the port. A recording that is not good is drawn as it stands, up to the
+/// Draws the map of a frame of a port in a recording. Without a port it is the lowest port that has such a map; without
+/// a frame, the map is the last one of the port. A recording that is not good is drawn as it stands, up to the
 /// first fault of its format. Returns the verdict of its audit, and the picture or what is missing.
 ///
 /// # Errors
@@ -29,7 +29,12 @@ pub fn picture_of<R: DevRead>(
     ensures verdict { IfOk result (λ viewed. IsVerdictOf (R.remaining reader.old) viewed.verdict) }
     ensures failures { TellsFailure (R.failures reader.old) (R.failures reader.new) result }
 {
-    let Viewed { verdict, shown } = find_map(rt, alloc, reader, port, frame)?;
+    let query = WhyQuery {
+        port,
+        frame,
+        alloc: None,
+    };
+    let Viewed { verdict, shown } = find_map(rt, alloc, reader, query)?;
     let found = match shown {
         Ok(found) => found,
         Err(missing) => {

@@ -8,11 +8,23 @@ use pon_units::{AllocId, PortNo};
 use pon_why::Series;
 use std::alloc::{AllocError, Global};
 
-/// The tally of a port.
+/// The tally of a port, and the series of the Alloc-ID that is followed there.
 #[derive(Drop)]
 pub(crate) struct PortTally {
     pub port: PortNo,
     pub tally: Tally,
+    pub series: Series,
+}
+
+impl PortTally {
+    // Moves the followed maps into the series.
+    fn add_followed(&mut self) -> Result<(), AllocError> {
+        if let Some(followed) = self.tally.followed_mut() {
+            self.series.add_maps(followed.maps())?;
+            followed.clear();
+        }
+        Ok(())
+    }
 }
 
 /// A chapter that is refused at an entry.
@@ -24,15 +36,12 @@ pub(crate) struct Refused {
 }
 
 /// What the chapters so far add up to: the tallies of the wanted ports, by ascending port, and the wanted chapters that are
-/// refused, in their order; the ports of all chapters, and the port of the first one.
+/// refused, in their order; the ports of all chapters.
 #[derive(Drop)]
 pub(crate) struct PortTallies {
     tallies: Vec<PortTally>,
     pub refused: Vec<Refused>,
     pub ports: Option<Ports>,
-    pub first: Option<PortNo>,
-    /// The series of the Alloc-ID that is followed.
-    pub series: Series,
     followed: Option<AllocId>,
 }
 
@@ -43,8 +52,6 @@ impl PortTallies {
             tallies: Vec::new(alloc),
             refused: Vec::new(alloc),
             ports: None,
-            first: None,
-            series: Series::new(alloc),
             followed,
         }
     }
@@ -57,7 +64,6 @@ impl PortTallies {
     /// Notes that a chapter is of a port.
     pub(crate) fn see(&mut self, port: PortNo) {
         self.ports = Some(with_port(self.ports, port));
-        self.first = self.first.or(Some(port));
     }
 
     // Returns the place of the tally of a port, which is made if there is none.
@@ -68,8 +74,12 @@ impl PortTallies {
         if place < self.tallies.len() && self.tallies[place].port == port {
             return Ok(place);
         }
-        let tally = Tally::new(alloc, self.followed)?;
-        self.tallies.insert(place, PortTally { port, tally })?;
+        let tally = PortTally {
+            port,
+            tally: Tally::new(alloc, self.followed)?,
+            series: Series::new(alloc),
+        };
+        self.tallies.insert(place, tally)?;
         Ok(place)
     }
 
@@ -79,14 +89,12 @@ impl PortTallies {
         Ok(&mut self.tallies[place].tally)
     }
 
-    /// Moves the followed maps of the tallies into the series. `Err` if memory is refused or a sum is 2^64 or more.
+    /// Moves the followed maps of each tally into the series of its port. `Err` if memory is refused or a sum is 2^64 or
+    /// more.
     pub(crate) fn add_followed(&mut self) -> Result<(), AllocError> {
         for place in 0..self.tallies.len() {
             if let Some(port) = self.tallies.get_mut(place) {
-                if let Some(followed) = port.tally.followed_mut() {
-                    self.series.add_maps(followed.maps())?;
-                    followed.clear();
-                }
+                port.add_followed()?;
             }
         }
         Ok(())

@@ -20,7 +20,7 @@ pub struct RatesQuery {
 /// Which Alloc-ID `olt loads` follows, and along which frames.
 #[derive(Clone, Copy, Debug, PartialEq, Eq)]
 pub struct LoadsQuery {
-    /// The port, 0 to 63; `None` for the first one in the recording.
+    /// The port, 0 to 63; `None` for the lowest one that has the Alloc-ID in these frames.
     pub port: Option<PortNo>,
     /// The Alloc-ID, 1024 to 16383.
     pub alloc_id: AllocId,
@@ -30,12 +30,12 @@ pub struct LoadsQuery {
     pub to: Option<u64>,
 }
 
-/// Which map `olt why` explains.
+/// Which map `olt why` explains, and `olt picture` draws.
 #[derive(Clone, Copy, Debug, PartialEq, Eq)]
 pub struct WhyQuery {
-    /// The port, 0 to 63; `None` for the first one in the recording.
+    /// The port, 0 to 63; `None` for the lowest one that has such a map.
     pub port: Option<PortNo>,
-    /// The frame of the map, of 125 µs; `None` for the last map of the port.
+    /// The frame of the map, of 125 µs; `None` for the last map of the port, with the Alloc-ID if one has it.
     pub frame: Option<FrameNo>,
     /// The Alloc-ID, 1024 to 16383; `None` for each Alloc-ID of the map.
     pub alloc: Option<AllocId>,

@@ -8,7 +8,7 @@ ghost use Rattle.pon_look.specs.Views.{CountsReads, OnlyWrites};
 use crate::info::write_line;
 use crate::port_tallies::{PortTallies, PortTally, Refused};
 use crate::query::{Answer, Format, Missing, RatesQuery};
-use crate::rates_text::{change_line, refused_line, sums_line};
+use crate::rates_text::{Extent, Form, change_line, refused_line, sums_line};
 use crate::seen::Ports;
 use crate::summing::sum_up;
 use crate::viewed::Viewed;
@@ -88,17 +88,17 @@ fn write_change<W: DevWrite>(
     rates: &PortTally,
     change: &Change,
     is_last: bool,
-    format: Format,
+    form: Form,
     writer: &mut W,
 ) -> Result<(), DeviceFault>
     ensures write { OnlyWrites (W.failures writer.old) (W.failures writer.new) result }
 {
-    write_line(change_line(alloc, format, rates.port, change), writer)?;
+    write_line(change_line(alloc, form.format, rates.port, change), writer)?;
     if !is_last {
         return Ok(());
     }
     let (sums, idle) = rates.tally.of(change.row.alloc_id);
-    let line = sums_line(alloc, format, rates.port, &change.row, &sums, idle);
+    let line = sums_line(alloc, form, rates.port, &change.row, &sums, idle);
     write_line(line, writer)
 }
 
@@ -107,7 +107,7 @@ fn write_port<W: DevWrite>(
     alloc: Global,
     rates: &PortTally,
     query: &RatesQuery,
-    format: Format,
+    form: Form,
     writer: &mut W,
 ) -> Result<(), DeviceFault>
     ensures write { OnlyWrites (W.failures writer.old) (W.failures writer.new) result }
@@ -118,7 +118,7 @@ fn write_port<W: DevWrite>(
             Some(next) => next.row.alloc_id != change.row.alloc_id,
             None => true,
         };
-        write_change(alloc, rates, change, is_last, format, writer)?;
+        write_change(alloc, rates, change, is_last, form, writer)?;
     }
     Ok(())
 }
@@ -128,13 +128,13 @@ fn write_ports<W: DevWrite>(
     alloc: Global,
     rates: &[PortTally],
     query: &RatesQuery,
-    format: Format,
+    form: Form,
     writer: &mut W,
 ) -> Result<(), DeviceFault>
     ensures write { OnlyWrites (W.failures writer.old) (W.failures writer.new) result }
 {
     for port in rates {
-        write_port(alloc, port, query, format, writer)?;
+        write_port(alloc, port, query, form, writer)?;
     }
     Ok(())
 }
@@ -164,11 +164,13 @@ pub fn write_rates<R: DevRead, W: DevWrite>(
 {
     let wanted = Wanted::from(&query);
     let Viewed { verdict, shown } = sum_up(rt, alloc, reader, &wanted)?;
+    let extent = Extent::of(&verdict);
+    let form = Form { format, extent };
     write_refused(alloc, shown.refused.as_slice(), format, writer)?;
     let shown = match missing(&shown, &query) {
         Some(missing) => Answer::NotFound(missing),
         None => {
-            write_ports(alloc, shown.as_slice(), &query, format, writer)?;
+            write_ports(alloc, shown.as_slice(), &query, form, writer)?;
             Answer::Shown
         }
     };

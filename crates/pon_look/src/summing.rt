@@ -14,7 +14,6 @@ use crate::wanted::Wanted;
 use pon_audit::{Auditing, Judged, PARALLEL_MAPS, judge};
 use pon_device::{DevRead, DeviceFault};
 use pon_record::RawChapter;
-use pon_units::PortNo;
 use rayon::prelude::*;
 use std::alloc::{AllocError, Global};
 use std::thread::Threads;
@@ -27,16 +26,11 @@ struct Part {
 }
 
 // Judges a chapter, and sums it up by itself if it is wanted.
-fn part_of(
-    alloc: Global,
-    chapter: &RawChapter,
-    wanted: &Wanted,
-    first: Option<PortNo>,
-) -> Result<Part, AllocError>
+fn part_of(alloc: Global, chapter: &RawChapter, wanted: &Wanted) -> Result<Part, AllocError>
     requires { FitsRecording chapter.now.body }
     ensures { IfOk result (λ part. IsJudgment chapter.now part.judged) }
 {
-    if !wanted.has(chapter.port, first) {
+    if !wanted.has(chapter.port) {
         let judged = judge(alloc, chapter)?;
         return Ok(Part {
             judged,
@@ -57,7 +51,6 @@ fn parts_of(
     alloc: Global,
     chapters: &[RawChapter],
     wanted: &Wanted,
-    first: Option<PortNo>,
 ) -> Result<Vec<Part>, AllocError>
     requires { All (λ c. FitsRecording c.body) chapters.now }
     ensures { IfOk result (λ parts. AllZip (λ c p. IsJudgment c p.judged) chapters.now parts.items) }
@@ -70,7 +63,7 @@ fn parts_of(
             |chapter: &RawChapter| -> Result<Part, AllocError>
                 requires { FitsRecording chapter.now.body }
                 ensures { IfOk result (λ part. IsJudgment chapter.now part.judged) }
-            { part_of(alloc, chapter, &wanted, first) },
+            { part_of(alloc, chapter, &wanted) },
         )
         .collect::<Result<Vec<Part>, AllocError>>(rt, alloc)?
 }
@@ -129,7 +122,7 @@ fn add_in_threads(
     requires { All (λ c. FitsRecording c.body) chapters.now }
     ensures { IfOk result (λ answers. AllZip IsJudgment chapters.now answers.items) }
 {
-    let parts = parts_of(rt, alloc, chapters, wanted, tallies.first)?;
+    let parts = parts_of(rt, alloc, chapters, wanted)?;
     add_parts(alloc, tallies, chapters, &parts)?;
     let answers = answers_of(alloc, parts)?;
     Ok(answers)
@@ -145,7 +138,7 @@ fn add_chapter(
     requires { FitsRecording chapter.now.body }
     ensures { IfOk result (IsJudgment chapter.now) }
 {
-    if !wanted.has(chapter.port, tallies.first) {
+    if !wanted.has(chapter.port) {
         return judge(alloc, chapter);
     }
     let tally = tallies.of_mut(alloc, chapter.port)?;

@@ -176,8 +176,9 @@ fn answer_by<W: DevWrite>(
     }
 }
 
-/// Writes the explanation of the first map of a frame at a port. Without a port in the query, the port is the first one
-/// in the recording; without a frame, the map is the last one of the port. The explanation has the surpluses and levels
+/// Writes the explanation of the first map of a frame at a port. Without a port in the query it is the lowest port that has
+/// such a map, with the Alloc-ID if one is asked for; without a frame, the map is the last one of the port that has the
+/// Alloc-ID. The explanation has the surpluses and levels
 /// of the classes. It also has, for each Alloc-ID or for one, each number from which its words follow, and its
 /// structure. The recording is read up to its end or the first fault of its format. Returns the verdict of its audit,
 /// and what is missing.
@@ -197,7 +198,7 @@ pub fn write_why<R: DevRead, W: DevWrite>(
     ensures read { CountsReads (R.failures reader.old) (R.failures reader.new) result }
     ensures write { TellsWrite (W.failures writer.old) (W.failures writer.new) result }
 {
-    let Viewed { verdict, shown } = find_map(rt, alloc, reader, query.port, query.frame)?;
+    let Viewed { verdict, shown } = find_map(rt, alloc, reader, query)?;
     let shown = match shown {
         Ok(found) => answer_by(alloc, &found, &query, format, writer)?,
         Err(missing) => Answer::NotFound(missing),
