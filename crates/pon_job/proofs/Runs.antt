@@ -34,7 +34,7 @@ no_run rows none (Plan plan) j = absurd (cc (j.0))
 no_run rows none (Check file) j = absurd (cc (j.0))
 no_run rows none (Audit audit) j = absurd (cc (j.0))
 no_run rows none (Show shown) j = absurd (view_is_no_word shown.view (codes "run") refl (sym j.0))
-no_run rows none (Migrate file out) j = absurd (cc (j.0))
+no_run rows none (Migrate migration) j = absurd (cc (j.0))
 no_run rows none (Run run) j = none run j.1
 no_run rows none (Units units) j = absurd (cc (j.0))
 

@@ -57,7 +57,7 @@ no_check name rows is none (Plan plan) j = words_differ (codes "check") (codes "
 no_check name rows is none (Check file) j = absurd (cc (none, j.1))
 no_check name rows is none (Audit audit) j = words_differ (codes "check") (codes "audit") refl (sym is ∙ j.0)
 no_check name rows is none (Show shown) j = absurd (cc (none, j.1.recording))
-no_check name rows is none (Migrate file out) j = absurd (cc (none, j.1.0))
+no_check name rows is none (Migrate migration) j = absurd (cc (none, j.1.recording))
 no_check name rows is none (Run run) j = words_differ (codes "check") (codes "run") refl (sym is ∙ j.0)
 no_check name rows is none (Units units) j = words_differ (codes "check") (codes "units") refl (sym is ∙ j.0)
 
@@ -67,7 +67,7 @@ no_audit rows none (Plan plan) j = words_differ (codes "audit") (codes "plan") r
 no_audit rows none (Check file) j = words_differ (codes "audit") (codes "check") refl j.0
 no_audit rows none (Audit audit) j = none audit j.1
 no_audit rows none (Show shown) j = view_is_no_word shown.view (codes "audit") refl (sym j.0)
-no_audit rows none (Migrate file out) j = words_differ (codes "audit") (codes "migrate") refl j.0
+no_audit rows none (Migrate migration) j = words_differ (codes "audit") (codes "migrate") refl j.0
 no_audit rows none (Run run) j = words_differ (codes "audit") (codes "run") refl j.0
 no_audit rows none (Units units) j = words_differ (codes "audit") (codes "units") refl j.0
 

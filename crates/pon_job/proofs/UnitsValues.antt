@@ -15,7 +15,7 @@ no_units rows none (Plan plan) j = words_differ (codes "units") (codes "plan") r
 no_units rows none (Check file) j = words_differ (codes "units") (codes "check") refl j.0
 no_units rows none (Audit audit) j = words_differ (codes "units") (codes "audit") refl j.0
 no_units rows none (Show shown) j = view_is_no_word shown.view (codes "units") refl (sym j.0)
-no_units rows none (Migrate file out) j = words_differ (codes "units") (codes "migrate") refl j.0
+no_units rows none (Migrate migration) j = words_differ (codes "units") (codes "migrate") refl j.0
 no_units rows none (Run run) j = words_differ (codes "units") (codes "run") refl j.0
 no_units rows none (Units units) j = none units j.1
 

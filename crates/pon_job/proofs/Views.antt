@@ -32,7 +32,7 @@ no_view view rows none (Plan plan) j = view_is_no_word view (codes "plan") refl 
 no_view view rows none (Check file) j = view_is_no_word view (codes "check") refl j.0
 no_view view rows none (Audit audit) j = view_is_no_word view (codes "audit") refl j.0
 no_view view rows none (Show shown) j = none shown j.1
-no_view view rows none (Migrate file out) j = view_is_no_word view (codes "migrate") refl j.0
+no_view view rows none (Migrate migration) j = view_is_no_word view (codes "migrate") refl j.0
 no_view view rows none (Run run) j = view_is_no_word view (codes "run") refl j.0
 no_view view rows none (Units units) j = view_is_no_word view (codes "units") refl j.0
 

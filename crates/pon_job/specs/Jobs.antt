@@ -17,6 +17,7 @@ use Rattle.pon_job.specs.declared.task.TheConstants.{MAX_ALLOC, MAX_FRAME, MAX_M
 use Rattle.pon_job.specs.declared.task.Audit.{Audit as AuditOf}
 use Rattle.pon_job.specs.declared.task.Job.{Job}
 use Rattle.pon_job.specs.declared.task.Meeting.{Meeting}
+use Rattle.pon_job.specs.declared.task.Migration.{Migration as MigrationOf}
 use Rattle.pon_job.specs.declared.task.Part.{Part}
 use Rattle.pon_job.specs.declared.task.Plan.{Plan as PlanOf}
 use Rattle.pon_job.specs.declared.task.Run.{Run as RunOf}
@@ -105,9 +106,17 @@ summary_rule = flag_rule (codes "summary")
 abbrev pub settle_rule : Rule
 settle_rule = flag_rule (codes "settle")
 
--- the flag of `run` and `plan` with which the file of a recording may not exist
+-- the flag of each command that writes a file, with which the file may not exist
 abbrev pub no_clobber_rule : Rule
 no_clobber_rule = flag_rule (codes "no-clobber")
+
+-- the flag of `plan` with which a full chapter is forgotten
+abbrev pub forget_rule : Rule
+forget_rule = flag_rule (codes "forget")
+
+-- the flag of `run` with which a recording that lacks a chapter fails the run
+abbrev pub strict_record_rule : Rule
+strict_record_rule = flag_rule (codes "strict-record")
 
 -- the flag of `plan` with which a refused line is a refusal of the input
 abbrev pub strict_rule : Rule
@@ -141,6 +150,10 @@ to_rule = number_rule (codes "to") 0 MAX_FRAME
 abbrev pub format_rule : Rule
 format_rule = option_rule (codes "format")
 
+-- the flag of `audit` with which a recording has to be complete
+abbrev pub complete_rule : Rule
+complete_rule = flag_rule (codes "complete")
+
 -- the file of a picture
 abbrev pub svg_rule : Rule
 svg_rule = option_rule (codes "svg")
@@ -150,13 +163,13 @@ abbrev pub shape_with : List ℕ → List Rule → Shape
 shape_with name rules = record (new_shape name) { rules = rules }
 
 abbrev pub plan_shape : Shape
-plan_shape = shape_with (codes "plan") (config_rule ∷ strict_rule ∷ verbose_rule ∷ record_rule ∷ no_clobber_rule ∷ [])
+plan_shape = shape_with (codes "plan") (config_rule ∷ strict_rule ∷ verbose_rule ∷ record_rule ∷ no_clobber_rule ∷ forget_rule ∷ [])
 
 abbrev pub check_shape : Shape
 check_shape = shape_with (codes "check") (file_rule ∷ [])
 
 abbrev pub audit_shape : Shape
-audit_shape = shape_with (codes "audit") (files_rule ∷ format_rule ∷ [])
+audit_shape = shape_with (codes "audit") (files_rule ∷ complete_rule ∷ format_rule ∷ [])
 
 abbrev pub info_shape : Shape
 info_shape = shape_with (codes "info") (file_rule ∷ format_rule ∷ [])
@@ -171,16 +184,16 @@ abbrev pub dump_shape : Shape
 dump_shape = shape_with (codes "dump") (file_rule ∷ port_rule ∷ [])
 
 abbrev pub picture_shape : Shape
-picture_shape = shape_with (codes "picture") (file_rule ∷ port_rule ∷ frame_rule ∷ svg_rule ∷ [])
+picture_shape = shape_with (codes "picture") (file_rule ∷ port_rule ∷ frame_rule ∷ svg_rule ∷ no_clobber_rule ∷ [])
 
 abbrev pub loads_shape : Shape
-loads_shape = shape_with (codes "loads") (file_rule ∷ needed_alloc_rule ∷ port_rule ∷ from_rule ∷ to_rule ∷ svg_rule ∷ [])
+loads_shape = shape_with (codes "loads") (file_rule ∷ needed_alloc_rule ∷ port_rule ∷ from_rule ∷ to_rule ∷ svg_rule ∷ no_clobber_rule ∷ [])
 
 abbrev pub migrate_shape : Shape
-migrate_shape = shape_with (codes "migrate") (file_rule ∷ out_rule ∷ [])
+migrate_shape = shape_with (codes "migrate") (file_rule ∷ out_rule ∷ no_clobber_rule ∷ [])
 
 abbrev pub run_shape : Shape
-run_shape = shape_with (codes "run") (needed_config_rule ∷ listen_rule ∷ maps_rule ∷ units_rule ∷ wait_rule ∷ pace_rule ∷ record_rule ∷ no_clobber_rule ∷ operate_rule ∷ settle_rule ∷ progress_rule ∷ summary_rule ∷ [])
+run_shape = shape_with (codes "run") (needed_config_rule ∷ listen_rule ∷ maps_rule ∷ units_rule ∷ wait_rule ∷ pace_rule ∷ record_rule ∷ no_clobber_rule ∷ strict_record_rule ∷ operate_rule ∷ settle_rule ∷ progress_rule ∷ summary_rule ∷ [])
 
 abbrev pub units_shape : Shape
 units_shape = shape_with (codes "units") (needed_config_rule ∷ connect_rule ∷ port_rule ∷ wait_rule ∷ [])
@@ -234,7 +247,7 @@ word_of (Plan plan) = codes "plan"
 word_of (Check file) = codes "check"
 word_of (Audit audit) = codes "audit"
 word_of (Show shown) = word_of_view shown.view
-word_of (Migrate file out) = codes "migrate"
+word_of (Migrate migration) = codes "migrate"
 word_of (Run run) = codes "run"
 word_of (Units units) = codes "units"
 
@@ -278,12 +291,14 @@ IsFormat (Some text) false = text ≡ codes "text"
 pub record IsAudit (rows : List Row) (audit : AuditOf) : Type 0 where
   pub recordings : all_of (codes "file") rows ≡ Some (map (λ name. name.now) audit.files.items)
   pub format : IsFormat (first_of (codes "format") rows) audit.json
+  pub whole : HasFlag (codes "complete") rows audit.complete
 
 -- the matches of a view have these values
 pub record IsShown (rows : List Row) (shown : Shown) : Type 0 where
   pub recording : first_of (codes "file") rows ≡ Some shown.file.now
   pub selection : IsPart rows shown.part
   pub picture : first_of (codes "svg") rows ≡ option_map (λ name. name.now) shown.svg
+  pub keeps : HasFlag (codes "no-clobber") rows shown.no_clobber
   pub format : IsFormat (first_of (codes "format") rows) shown.json
 
 -- the matches of `plan` have these values
@@ -293,6 +308,7 @@ pub record IsPlan (rows : List Row) (plan : PlanOf) : Type 0 where
   pub verbose : HasFlag (codes "verbose") rows plan.verbose
   pub recording_file : first_of (codes "record") rows ≡ option_map (λ name. name.now) plan.record
   pub keeps : HasFlag (codes "no-clobber") rows plan.no_clobber
+  pub forgets : HasFlag (codes "forget") rows plan.forget
 
 -- the units are external, or simulated, which they also are without a value
 abbrev pub IsPlace : Option (List ℕ) → Bool → Type 0
@@ -314,10 +330,17 @@ pub record IsRun (rows : List Row) (run : RunOf) : Type 0 where
   pub recording_file : first_of (codes "record") rows ≡ option_map (λ name. name.now) run.record
   pub operator : first_of (codes "operate") rows ≡ option_map (λ name. name.now) run.operate
   pub keeps : HasFlag (codes "no-clobber") rows run.no_clobber
+  pub strict : HasFlag (codes "strict-record") rows run.strict_record
   pub settles : HasFlag (codes "settle") rows run.settle
   pub meets : IsMeeting rows run.meeting
   pub follows : HasFlag (codes "progress") rows run.progress
   pub sums : HasFlag (codes "summary") rows run.summary
+
+-- the matches of `migrate` have these values
+pub record IsMigration (rows : List Row) (migration : MigrationOf) : Type 0 where
+  pub recording : first_of (codes "file") rows ≡ Some migration.file.now
+  pub written : first_of (codes "out") rows ≡ Some migration.out.now
+  pub keeps : HasFlag (codes "no-clobber") rows migration.no_clobber
 
 -- the matches of `units` have these values
 pub record IsUnits (rows : List Row) (units : UnitsOf) : Type 0 where
@@ -332,7 +355,7 @@ HasValues rows (Plan plan) = IsPlan rows plan
 HasValues rows (Check file) = first_of (codes "file") rows ≡ Some file.now
 HasValues rows (Audit audit) = IsAudit rows audit
 HasValues rows (Show shown) = IsShown rows shown
-HasValues rows (Migrate file out) = (first_of (codes "file") rows ≡ Some file.now) × (first_of (codes "out") rows ≡ Some out.now)
+HasValues rows (Migrate migration) = IsMigration rows migration
 HasValues rows (Run run) = IsRun rows run
 HasValues rows (Units units) = IsUnits rows units
 

@@ -5,12 +5,14 @@ use Rattle.clap.specs.declared.error.kind.ErrorKind.TheVariants.{DisplayHelp, Di
 use Rattle.pon_device.specs.declared.fault.DeviceFault.{DeviceFault}
 use Rattle.pon_device.specs.declared.fault.DeviceFault.TheVariants.{Memory}
 use Rattle.pon_job.specs.declared.outcome.Outcome.{Outcome}
+use Rattle.pon_job.specs.declared.outcome.TheConstants.{CLOSED_PIPE_STATUS}
 use Rattle.pon_job.specs.declared.task.Job.{Job}
 use Rattle.pon_job.specs.declared.task.Job.TheVariants.{Plan, Check, Audit, Show, Migrate, Run, Units}
-use Rattle.pon_job.specs.declared.outcome.Outcome.TheVariants.{Done, Refused, CommandLine, Settings, Failed, Unfinished}
+use Rattle.pon_job.specs.declared.outcome.Outcome.TheVariants.{Done, Refused, CommandLine, Settings, Failed, Unfinished, PipeClosed}
 
 -- The exit status is 0 if the job is done, 1 if a check or an audit refused, 2 if the command line or the settings are
--- refused, and 3 if a device failed, memory was refused or a port was not served to its last map.
+-- refused, 3 if a device failed, memory was refused or a port was not served to its last map, and 141 if the reader of a
+-- view's text went away.
 abbrev pub exit_status : Outcome → ℕ
 exit_status Done = 0
 exit_status Refused = 1
@@ -18,6 +20,7 @@ exit_status CommandLine = 2
 exit_status Settings = 2
 exit_status (Failed fault) = 3
 exit_status Unfinished = 3
+exit_status PipeClosed = CLOSED_PIPE_STATUS
 
 -- a job without a verdict is done, or failed
 abbrev pub outcome_of_run : {T : Type 0} → Result T DeviceFault → Outcome
@@ -46,7 +49,7 @@ outcome_of_job (Plan plan) ended = outcome_of_lines plan.strict ended
 outcome_of_job (Check file) ended = outcome_of_check ended
 outcome_of_job (Audit audit) ended = outcome_of_check ended
 outcome_of_job (Show shown) ended = outcome_of_check ended
-outcome_of_job (Migrate file out) ended = outcome_of_check ended
+outcome_of_job (Migrate migration) ended = outcome_of_check ended
 outcome_of_job (Run run) ended = outcome_of_ports ended
 outcome_of_job (Units units) ended = outcome_of_ports ended
 

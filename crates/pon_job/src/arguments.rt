@@ -11,14 +11,17 @@ ghost use Rattle.pon_job.specs.Jobs.{HasFlag, HasNumber, IsFormat, IsJob, IsMeet
 use crate::commands::olt_command;
 use crate::task::{
     Audit, Job, MAX_ALLOC, MAX_FRAME, MAX_MAPS, MAX_PACE, MAX_PORT, MAX_WAIT, MIN_ALLOC, Meeting,
-    Part, Plan, Run, Show, Units, View,
+    Migration, Part, Plan, Run, Show, Units, View,
 };
 use clap::error::ErrorKind;
 use clap::{ArgMatches, Error};
 use std::alloc::{AllocError, Global};
 
-/// What is said of words that clap accepts, and that name no job.
-const NO_JOB: &str = "a format is text or json, units are simulated or external";
+/// What is said of words that clap accepts, and that name no job: a value that is not one of those possible.
+const NO_FORMAT: &str = "invalid value for '--format <FORMAT>'\n  [possible values: text, json]";
+
+const NO_PLACE: &str =
+    "invalid value for '--units <PLACE>'\n  [possible values: simulated, external]";
 
 // Parses a number, which is in a range.
 fn number_in(text: &str, low: u64, high: u64) -> Option<u64>
@@ -88,12 +91,14 @@ fn plan_of<'a>(found: &ArgMatches<'a>) -> Plan<'a>
     let verbose = is_given(found, "verbose");
     let recording = found.get_str("record");
     let keeps = is_given(found, "no-clobber");
+    let forget = is_given(found, "forget");
     Plan {
         config: settings,
         strict,
         verbose,
         record: recording,
         no_clobber: keeps,
+        forget,
     }
 }
 
@@ -144,6 +149,7 @@ fn run_of<'a>(found: &ArgMatches<'a>) -> Option<Job<'a>>
     let meeting = meeting_of(found)?;
     let record = found.get_str("record");
     let no_clobber = is_given(found, "no-clobber");
+    let strict_record = is_given(found, "strict-record");
     let operate = found.get_str("operate");
     let settle = is_given(found, "settle");
     let progress = is_given(found, "progress");
@@ -155,6 +161,7 @@ fn run_of<'a>(found: &ArgMatches<'a>) -> Option<Job<'a>>
         meeting,
         record,
         no_clobber,
+        strict_record,
         operate,
         settle,
         progress,
@@ -187,7 +194,12 @@ fn migration_of<'a>(found: &ArgMatches<'a>) -> Option<Job<'a>>
 {
     let file = found.get_str("file")?;
     let out = found.get_str("out")?;
-    Some(Job::Migrate { file, out })
+    let no_clobber = is_given(found, "no-clobber");
+    Some(Job::Migrate(Migration {
+        file,
+        out,
+        no_clobber,
+    }))
 }
 
 // Returns the part of a recording that the matches of a view name.
@@ -239,6 +251,7 @@ fn shown_by<'a>(view: View, found: &ArgMatches<'a>) -> Option<Job<'a>>
     let file = found.get_str("file")?;
     let part = part_of(found)?;
     let svg = found.get_str("svg");
+    let no_clobber = is_given(found, "no-clobber");
     let format = found.get_str("format");
     let json = is_json(format)?;
     Some(Job::Show(Show {
@@ -246,6 +259,7 @@ fn shown_by<'a>(view: View, found: &ArgMatches<'a>) -> Option<Job<'a>>
         file,
         part,
         svg,
+        no_clobber,
         json,
     }))
 }
@@ -275,8 +289,13 @@ fn audit_of<'a>(alloc: Global, found: &ArgMatches<'a>) -> Result<Option<Job<'a>>
         Some(json) => json,
         None => return Ok(None),
     };
+    let complete = is_given(found, "complete");
     let files = files_of(alloc, names)?;
-    Ok(Some(Job::Audit(Audit { files, json })))
+    Ok(Some(Job::Audit(Audit {
+        files,
+        json,
+        complete,
+    })))
 }
 
 // Returns the job that a subcommand other than `audit` gives.
@@ -323,6 +342,14 @@ fn job_of<'a>(alloc: Global, matches: &ArgMatches<'a>) -> Result<Option<Job<'a>>
     }
 }
 
+// Returns why the subcommand of matches names no job: of its options, one has none of the possible values.
+fn why_no_job(matches: &ArgMatches<'_>) -> &'static str {
+    match matches.subcommand() {
+        Some((_, found)) if is_json(found.get_str("format")).is_none() => NO_FORMAT,
+        _ => NO_PLACE,
+    }
+}
+
 /// Parses the words of the command line, the program's name first, and returns the job of their subcommand, with the
 /// values of its arguments.
 ///
@@ -339,5 +366,5 @@ pub fn job<'a>(alloc: Global, words: &'a [String]) -> Result<Job<'a>, Error>
     if let Some(job) = job_of(alloc, &matches)? {
         return Ok(job);
     }
-    Err(command.error(ErrorKind::InvalidSubcommand, NO_JOB)?)
+    Err(command.error(ErrorKind::InvalidSubcommand, why_no_job(&matches))?)
 }

@@ -8,25 +8,32 @@ ghost use Rattle.pon_job.specs.Jobs.{AreLocal, IsDefined, leaf, olt_app, shape_w
 ghost use Rattle.pon_job.specs.Jobs.{audit_shape, check_shape, dump_shape, info_shape, loads_shape, migrate_shape, picture_shape, plan_shape, rates_shape, run_shape, top_shape, units_shape, why_shape};
 
 use crate::options::{
-    alloc_arg, check_file_arg, config_arg, connect_arg, format_arg, frame_arg, from_arg,
-    listen_arg, maps_arg, no_clobber_arg, operate_arg, out_arg, pace_arg, port_arg, progress_arg,
-    record_arg, recording_arg, recordings_arg, settle_arg, strict_arg, summary_arg, svg_arg,
-    to_arg, units_arg, verbose_arg, wait_arg,
+    alloc_arg, check_file_arg, complete_arg, config_arg, connect_arg, forget_arg, format_arg,
+    frame_arg, from_arg, listen_arg, maps_arg, no_clobber_arg, operate_arg, out_arg, pace_arg,
+    port_arg, progress_arg, record_arg, recording_arg, recordings_arg, settle_arg, strict_arg,
+    strict_record_arg, summary_arg, svg_arg, to_arg, units_arg, verbose_arg, wait_arg,
 };
 use clap::{Arg, Command};
 use std::alloc::{AllocError, Global};
 
-// Makes a subcommand with these arguments.
+/// The version of the program, and the logic of the kit that its proofs are of.
+const VERSION: &str = "0.2.0 (Rattle logic dac8208d650f15bf)";
+
+// Makes a subcommand with these arguments; its help ends with an example.
 fn command<'a>(
     alloc: Global,
     name: &'a str,
     about: &'a str,
+    example: &'a str,
     args: Vec<Arg<'a>>,
 ) -> Result<Command<'a>, AllocError>
     requires { AreLocal args.items }
     ensures { IfOk result (IsDefined (leaf (shape_with name.now (map rule_of args.entry.items)))) }
 {
-    Command::new(alloc, name).about(about).args(args)
+    Command::new(alloc, name)
+        .about(about)
+        .after_help(example)
+        .args(args)
 }
 
 fn plan_command<'a>(alloc: Global) -> Result<Command<'a>, AllocError>
@@ -41,9 +48,11 @@ fn plan_command<'a>(alloc: Global) -> Result<Command<'a>, AllocError>
             verbose_arg(alloc),
             record_arg(alloc),
             no_clobber_arg(alloc),
+            forget_arg(alloc),
         ],
     )?;
-    command(alloc, "plan", about, args)
+    let example = "Example: olt plan --config ports.toml <lines";
+    command(alloc, "plan", about, example, args)
 }
 
 fn check_command<'a>(alloc: Global) -> Result<Command<'a>, AllocError>
@@ -51,23 +60,33 @@ fn check_command<'a>(alloc: Global) -> Result<Command<'a>, AllocError>
 {
     let about = "Judge the certificate of a shared surplus";
     let args = Vec::from_array(alloc, [check_file_arg(alloc)])?;
-    command(alloc, "check", about, args)
+    let example = "Example: olt check problem";
+    command(alloc, "check", about, example, args)
 }
 
 fn audit_command<'a>(alloc: Global) -> Result<Command<'a>, AllocError>
     ensures { IfOk result (IsDefined (leaf audit_shape)) }
 {
     let about = "Judge recordings: each entry and each map of them";
-    let args = Vec::from_array(alloc, [recordings_arg(alloc), format_arg(alloc)])?;
-    command(alloc, "audit", about, args)
+    let args = Vec::from_array(
+        alloc,
+        [
+            recordings_arg(alloc),
+            complete_arg(alloc),
+            format_arg(alloc),
+        ],
+    )?;
+    let example = "Example: olt audit recording";
+    command(alloc, "audit", about, example, args)
 }
 
 fn info_command<'a>(alloc: Global) -> Result<Command<'a>, AllocError>
     ensures { IfOk result (IsDefined (leaf info_shape)) }
 {
-    let about = "Print what each chapter of a recording holds";
+    let about = "Print what each chapter of a recording holds, in the order of the file";
     let args = Vec::from_array(alloc, [recording_arg(alloc), format_arg(alloc)])?;
-    command(alloc, "info", about, args)
+    let example = "Example: olt info recording --format json";
+    command(alloc, "info", about, example, args)
 }
 
 fn rates_command<'a>(alloc: Global) -> Result<Command<'a>, AllocError>
@@ -85,13 +104,14 @@ fn rates_command<'a>(alloc: Global) -> Result<Command<'a>, AllocError>
             format_arg(alloc),
         ],
     )?;
-    command(alloc, "rates", about, args)
+    let example = "Example: olt rates recording --port 0 --alloc 1024";
+    command(alloc, "rates", about, example, args)
 }
 
 fn why_command<'a>(alloc: Global) -> Result<Command<'a>, AllocError>
     ensures { IfOk result (IsDefined (leaf why_shape)) }
 {
-    let about = "Print how the numbers of a map of a recording follow from its definitions";
+    let about = "Explain why each Alloc-ID got its grant in one map of a recording";
     let args = Vec::from_array(
         alloc,
         [
@@ -102,15 +122,18 @@ fn why_command<'a>(alloc: Global) -> Result<Command<'a>, AllocError>
             format_arg(alloc),
         ],
     )?;
-    command(alloc, "why", about, args)
+    let example = "Example: olt why recording --frame 5 --alloc 1024";
+    command(alloc, "why", about, example, args)
 }
 
 fn dump_command<'a>(alloc: Global) -> Result<Command<'a>, AllocError>
     ensures { IfOk result (IsDefined (leaf dump_shape)) }
 {
-    let about = "Print the events of a recording as management lines, each with its reply";
+    let about =
+        "Print the events of a recording as management lines with their replies, in the order of the file";
     let args = Vec::from_array(alloc, [recording_arg(alloc), port_arg(alloc)])?;
-    command(alloc, "dump", about, args)
+    let example = "Example: olt dump recording --port 0";
+    command(alloc, "dump", about, example, args)
 }
 
 fn picture_command<'a>(alloc: Global) -> Result<Command<'a>, AllocError>
@@ -124,9 +147,11 @@ fn picture_command<'a>(alloc: Global) -> Result<Command<'a>, AllocError>
             port_arg(alloc),
             frame_arg(alloc),
             svg_arg(alloc),
+            no_clobber_arg(alloc),
         ],
     )?;
-    command(alloc, "picture", about, args)
+    let example = "Example: olt picture recording --frame 5 --svg map.svg";
+    command(alloc, "picture", about, example, args)
 }
 
 fn loads_command<'a>(alloc: Global) -> Result<Command<'a>, AllocError>
@@ -142,17 +167,23 @@ fn loads_command<'a>(alloc: Global) -> Result<Command<'a>, AllocError>
             from_arg(alloc),
             to_arg(alloc),
             svg_arg(alloc),
+            no_clobber_arg(alloc),
         ],
     )?;
-    command(alloc, "loads", about, args)
+    let example = "Example: olt loads recording --alloc 1024 --svg loads.svg";
+    command(alloc, "loads", about, example, args)
 }
 
 fn migrate_command<'a>(alloc: Global) -> Result<Command<'a>, AllocError>
     ensures { IfOk result (IsDefined (leaf migrate_shape)) }
 {
     let about = "Write a recording of version 1 as one of version 2, with the same chapters";
-    let args = Vec::from_array(alloc, [recording_arg(alloc), out_arg(alloc)])?;
-    command(alloc, "migrate", about, args)
+    let args = Vec::from_array(
+        alloc,
+        [recording_arg(alloc), out_arg(alloc), no_clobber_arg(alloc)],
+    )?;
+    let example = "Example: olt migrate old new";
+    command(alloc, "migrate", about, example, args)
 }
 
 fn run_command<'a>(alloc: Global) -> Result<Command<'a>, AllocError>
@@ -169,13 +200,17 @@ fn run_command<'a>(alloc: Global) -> Result<Command<'a>, AllocError>
             pace_arg(alloc),
             record_arg(alloc),
             no_clobber_arg(alloc),
+            strict_record_arg(alloc),
             operate_arg(alloc),
             settle_arg(alloc),
             progress_arg(alloc),
             summary_arg(alloc),
         ],
     )?;
-    command(alloc, "run", "Make maps at each port, over sockets", args)
+    let about = "Make maps at each port, over sockets";
+    let example =
+        "Example: olt run --config ports.toml --listen 127.0.0.1:0 --maps 8000 --record recording";
+    command(alloc, "run", about, example, args)
 }
 
 fn units_command<'a>(alloc: Global) -> Result<Command<'a>, AllocError>
@@ -191,7 +226,8 @@ fn units_command<'a>(alloc: Global) -> Result<Command<'a>, AllocError>
             wait_arg(alloc),
         ],
     )?;
-    command(alloc, "units", about, args)
+    let example = "Example: olt units --config ports.toml --connect 127.0.0.1:5000";
+    command(alloc, "units", about, example, args)
 }
 
 // Makes the program's command without its subcommands.
@@ -201,7 +237,7 @@ fn top_command<'a>(alloc: Global) -> Result<Command<'a>, AllocError>
     Ok(
         Command::new(alloc, "olt")
             .bin_name("olt")?
-            .version("0.1.0")
+            .version(VERSION)
             .about("Upstream bandwidth scheduler of an XG-PON optical line terminal")
             .subcommand_required(true)
             .arg_required_else_help(true),

@@ -28,6 +28,20 @@ pub enum Named<'a> {
     Address(&'a str),
 }
 
+impl<'a> Named<'a> {
+    /// The name of the file, or the address.
+    pub fn name(&self) -> &'a str {
+        match *self {
+            Named::Settings(name)
+            | Named::CheckFile(name)
+            | Named::Recording(name)
+            | Named::Picture(name)
+            | Named::Lines(name)
+            | Named::Address(name) => name,
+        }
+    }
+}
+
 impl Display for Named<'_> {
     fn fmt<W: Write>(&self, f: &mut Formatter<W>) -> fmt::Result {
         match *self {
@@ -100,6 +114,11 @@ fn reason_of(named: Named<'_>, kind: ErrorKind) -> Option<&'static str> {
         ErrorKind::NotADirectory => Some("a part of its path is not a directory"),
         ErrorKind::ReadOnlyFilesystem => Some("the file system is read-only"),
         ErrorKind::StorageFull | ErrorKind::QuotaExceeded => Some("no space left"),
+        ErrorKind::WouldBlock => match named {
+            Named::Recording(_) => Some("is being recorded by another run"),
+            Named::Picture(_) => Some("is being written by another process"),
+            _ => None,
+        },
         ErrorKind::AddrInUse => Some("in use"),
         ErrorKind::AddrNotAvailable => Some("not an address of this machine"),
         ErrorKind::InvalidInput => match named {

@@ -17,4 +17,4 @@ pub use outcome::{
     Outcome, exit_status, outcome_of_check, outcome_of_job, outcome_of_ports, outcome_of_run,
     outcome_of_words,
 };
-pub use task::{Audit, Job, MAX_MAPS, Meeting, Part, Plan, Run, Show, Units, View};
+pub use task::{Audit, Job, MAX_MAPS, Meeting, Migration, Part, Plan, Run, Show, Units, View};

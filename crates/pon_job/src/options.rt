@@ -2,7 +2,7 @@
 
 ghost use Rattle.std.specs.Prelude.{◌≡◌, false};
 ghost use Rattle.clap.specs.Walk.{rule_of};
-ghost use Rattle.pon_job.specs.Jobs.{alloc_rule, config_rule, connect_rule, file_rule, files_rule, flag_rule, frame_rule, format_rule, from_rule, listen_rule, maps_rule, no_clobber_rule, number_rule, operate_rule, option_rule, out_rule, pace_rule, place_rule, port_rule, progress_rule, record_rule, settle_rule, strict_rule, summary_rule, svg_rule, to_rule, units_rule, verbose_rule, wait_rule};
+ghost use Rattle.pon_job.specs.Jobs.{alloc_rule, complete_rule, config_rule, connect_rule, file_rule, files_rule, flag_rule, forget_rule, frame_rule, format_rule, from_rule, listen_rule, maps_rule, no_clobber_rule, number_rule, operate_rule, option_rule, out_rule, pace_rule, place_rule, port_rule, progress_rule, record_rule, settle_rule, strict_record_rule, strict_rule, summary_rule, svg_rule, to_rule, units_rule, verbose_rule, wait_rule};
 
 use crate::task::{MAX_ALLOC, MAX_FRAME, MAX_MAPS, MAX_PACE, MAX_PORT, MAX_WAIT, MIN_ALLOC};
 use clap::builder::ValueParser;
@@ -100,7 +100,8 @@ pub(crate) fn units_arg<'a>(alloc: Global) -> Arg<'a>
     ensures rule { rule_of result ≡ units_rule }
     ensures local { result.global ≡ false }
 {
-    let help = "simulated units in this program, or external ones, which connect to each port";
+    let help =
+        "Where the units are: simulated in this program, or external ones, which connect to each port [default: simulated] [possible values: simulated, external]";
     option_arg(alloc, "units", "PLACE", help)
 }
 
@@ -108,7 +109,8 @@ pub(crate) fn wait_arg<'a>(alloc: Global) -> Arg<'a>
     ensures rule { rule_of result ≡ wait_rule }
     ensures local { result.global ≡ false }
 {
-    let help = "The seconds that a connection with external units may keep waiting, 1 to 3600";
+    let help =
+        "Seconds that a connection with external units may keep waiting, 1 to 3600 [default: 10]";
     number_arg(alloc, "wait", 1, MAX_WAIT, help)
 }
 
@@ -117,7 +119,7 @@ pub(crate) fn pace_arg<'a>(alloc: Global) -> Arg<'a>
     ensures local { result.global ≡ false }
 {
     let help =
-        "The maps of each port in a second by the clock, 1 to 1000000; as fast as it can without";
+        "Maps per second on each port, 1 to 1000000 (8000 is the line's rate); unlimited if omitted";
     number_arg(alloc, "pace", 1, MAX_PACE, help)
 }
 
@@ -181,8 +183,24 @@ pub(crate) fn no_clobber_arg<'a>(alloc: Global) -> Arg<'a>
     ensures rule { rule_of result ≡ no_clobber_rule }
     ensures local { result.global ≡ false }
 {
-    let help = "Refuse a recording whose file exists";
+    let help = "Refuse to replace a file that exists";
     flag_arg(alloc, "no-clobber", help)
+}
+
+pub(crate) fn forget_arg<'a>(alloc: Global) -> Arg<'a>
+    ensures rule { rule_of result ≡ forget_rule }
+    ensures local { result.global ≡ false }
+{
+    let help = "Forget a port's chapter when it is full, and go on, in place of E20";
+    flag_arg(alloc, "forget", help)
+}
+
+pub(crate) fn strict_record_arg<'a>(alloc: Global) -> Arg<'a>
+    ensures rule { rule_of result ≡ strict_record_rule }
+    ensures local { result.global ≡ false }
+{
+    let help = "End with status 3 if the recording lacks a chapter";
+    flag_arg(alloc, "strict-record", help)
 }
 
 pub(crate) fn strict_arg<'a>(alloc: Global) -> Arg<'a>
@@ -246,8 +264,17 @@ pub(crate) fn format_arg<'a>(alloc: Global) -> Arg<'a>
     ensures rule { rule_of result ≡ format_rule }
     ensures local { result.global ≡ false }
 {
-    let help = "text, or json: an object a line";
+    let help =
+        "How it is printed: as text, or as JSON, an object a line [default: text] [possible values: text, json]";
     option_arg(alloc, "format", "FORMAT", help)
+}
+
+pub(crate) fn complete_arg<'a>(alloc: Global) -> Arg<'a>
+    ensures rule { rule_of result ≡ complete_rule }
+    ensures local { result.global ≡ false }
+{
+    let help = "Name each gap in the chapters, and end with status 1 if there is one, or no map";
+    flag_arg(alloc, "complete", help)
 }
 
 pub(crate) fn svg_arg<'a>(alloc: Global) -> Arg<'a>

@@ -25,11 +25,16 @@ pub enum Outcome {
     Failed(DeviceFault),
     /// A port was not served to its last map.
     Unfinished,
+    /// The reader of a view's text went away.
+    PipeClosed,
 }
+
+/// The status of a process that a closed pipe ends: 128 and the number of the signal for it, as a shell has it.
+const CLOSED_PIPE_STATUS: u8 = 141;
 
 /// Returns the exit status of an outcome: 0 if the job is done, 1 if a check, an audit, a migration or strict
 /// management refused, 2 if the command line or the settings are refused, 3 if a device failed, memory was refused, or
-/// a port was not served to its last map.
+/// a port was not served to its last map, and 141 if the reader of a view's text went away.
 pub fn exit_status(outcome: Outcome) -> u8
     ensures { result ≡ exit_status outcome }
 {
@@ -39,6 +44,7 @@ pub fn exit_status(outcome: Outcome) -> u8
         Outcome::CommandLine | Outcome::Settings => 2,
         Outcome::Failed(_) => 3,
         Outcome::Unfinished => 3,
+        Outcome::PipeClosed => CLOSED_PIPE_STATUS,
     }
 }
 
@@ -90,7 +96,7 @@ pub fn outcome_of_job(job: &Job<'_>, ended: Result<bool, DeviceFault>) -> Outcom
 {
     match job {
         Job::Plan(plan) => outcome_of_lines(plan.strict, ended),
-        Job::Check { .. } | Job::Audit(_) | Job::Show(_) | Job::Migrate { .. } => {
+        Job::Check { .. } | Job::Audit(_) | Job::Show(_) | Job::Migrate(_) => {
             outcome_of_check(ended)
         }
         Job::Run(_) | Job::Units(_) => outcome_of_ports(ended),

@@ -61,6 +61,8 @@ pub struct Show<'a> {
     pub part: Part,
     /// The file for a picture of the view; `None` for no picture.
     pub svg: Option<&'a str>,
+    /// Whether a picture whose file exists is refused.
+    pub no_clobber: bool,
     /// Whether the view is JSON; otherwise it is text.
     pub json: bool,
 }
@@ -72,6 +74,8 @@ pub struct Audit<'a> {
     pub files: Vec<&'a str>,
     /// Whether an object of each recording is printed in place of a line.
     pub json: bool,
+    /// Whether a recording has to be complete: each port from its chapter 0 on without a gap, and a map.
+    pub complete: bool,
 }
 
 /// Management lines to be answered.
@@ -87,6 +91,8 @@ pub struct Plan<'a> {
     pub record: Option<&'a str>,
     /// Whether a recording whose file exists is refused.
     pub no_clobber: bool,
+    /// Whether a full chapter is forgotten if it is not recorded, so that the port goes on.
+    pub forget: bool,
 }
 
 /// How the ports of a run meet their units.
@@ -115,6 +121,8 @@ pub struct Run<'a> {
     pub record: Option<&'a str>,
     /// Whether a recording whose file exists is refused.
     pub no_clobber: bool,
+    /// Whether a recording that lacks a chapter fails the run.
+    pub strict_record: bool,
     /// The file of management lines for an operator, or `-` for standard input; `None` for no lines.
     pub operate: Option<&'a str>,
     /// Whether each port is settled at the end with the receipts of all posts.
@@ -123,6 +131,17 @@ pub struct Run<'a> {
     pub progress: bool,
     /// Whether each port has a line on standard error at the end.
     pub summary: bool,
+}
+
+/// A recording that is written anew, in the present version of the format.
+#[derive(Clone, Copy, Debug, PartialEq, Eq)]
+pub struct Migration<'a> {
+    /// The file of the recording.
+    pub file: &'a str,
+    /// The file that is written.
+    pub out: &'a str,
+    /// Whether a file to write that exists is refused.
+    pub no_clobber: bool,
 }
 
 /// The simulated units of a settings file, for a terminal elsewhere.
@@ -149,8 +168,8 @@ pub enum Job<'a> {
     Audit(Audit<'a>),
     /// Show a part of a recording.
     Show(Show<'a>),
-    /// Write the recording `file` anew, in the present version of the format, as the file `out`.
-    Migrate { file: &'a str, out: &'a str },
+    /// Write a recording anew, in the present version of the format.
+    Migrate(Migration<'a>),
     /// Serve ports over sockets.
     Run(Run<'a>),
     /// Answer the maps of a terminal elsewhere.

@@ -42,63 +42,71 @@ fn refusal(alloc: Global, line: &str) -> Option<ErrorKind> {
 }
 
 /// Jobs over lines and check files.
-static LINES: [(&str, &str); 7] = [
+static LINES: [(&str, &str); 8] = [
     (
         "olt plan",
-        r#"Plan(Plan { config: None, strict: false, verbose: false, record: None, no_clobber: false })"#,
+        r#"Plan(Plan { config: None, strict: false, verbose: false, record: None, no_clobber: false, forget: false })"#,
     ),
     (
         "olt plan --config a.toml",
-        r#"Plan(Plan { config: Some("a.toml"), strict: false, verbose: false, record: None, no_clobber: false })"#,
+        r#"Plan(Plan { config: Some("a.toml"), strict: false, verbose: false, record: None, no_clobber: false, forget: false })"#,
     ),
     (
         "olt plan --strict",
-        r#"Plan(Plan { config: None, strict: true, verbose: false, record: None, no_clobber: false })"#,
+        r#"Plan(Plan { config: None, strict: true, verbose: false, record: None, no_clobber: false, forget: false })"#,
     ),
     (
         "olt plan --verbose --config a.toml",
-        r#"Plan(Plan { config: Some("a.toml"), strict: false, verbose: true, record: None, no_clobber: false })"#,
+        r#"Plan(Plan { config: Some("a.toml"), strict: false, verbose: true, record: None, no_clobber: false, forget: false })"#,
     ),
     (
         "olt plan --record r.bin",
-        r#"Plan(Plan { config: None, strict: false, verbose: false, record: Some("r.bin"), no_clobber: false })"#,
+        r#"Plan(Plan { config: None, strict: false, verbose: false, record: Some("r.bin"), no_clobber: false, forget: false })"#,
     ),
     (
         "olt plan --no-clobber --record=r.bin",
-        r#"Plan(Plan { config: None, strict: false, verbose: false, record: Some("r.bin"), no_clobber: true })"#,
+        r#"Plan(Plan { config: None, strict: false, verbose: false, record: Some("r.bin"), no_clobber: true, forget: false })"#,
+    ),
+    (
+        "olt plan --forget --strict",
+        r#"Plan(Plan { config: None, strict: true, verbose: false, record: None, no_clobber: false, forget: true })"#,
     ),
     ("olt check c.txt", r#"Check { file: "c.txt" }"#),
 ];
 
 /// Runs, and units elsewhere.
-static RUNS: [(&str, &str); 9] = [
+static RUNS: [(&str, &str); 10] = [
     (
         "olt run --config a.toml --listen 127.0.0.1:0 --maps 1",
-        r#"Run(Run { config: "a.toml", listen: "127.0.0.1:0", maps: 1, meeting: Meeting { external: false, wait: None, pace: None }, record: None, no_clobber: false, operate: None, settle: false, progress: false, summary: false })"#,
+        r#"Run(Run { config: "a.toml", listen: "127.0.0.1:0", maps: 1, meeting: Meeting { external: false, wait: None, pace: None }, record: None, no_clobber: false, strict_record: false, operate: None, settle: false, progress: false, summary: false })"#,
     ),
     (
         "olt run --maps=1000000000 --listen=127.0.0.1:0 --config=a.toml",
-        r#"Run(Run { config: "a.toml", listen: "127.0.0.1:0", maps: 1000000000, meeting: Meeting { external: false, wait: None, pace: None }, record: None, no_clobber: false, operate: None, settle: false, progress: false, summary: false })"#,
+        r#"Run(Run { config: "a.toml", listen: "127.0.0.1:0", maps: 1000000000, meeting: Meeting { external: false, wait: None, pace: None }, record: None, no_clobber: false, strict_record: false, operate: None, settle: false, progress: false, summary: false })"#,
     ),
     (
         "olt run --config a.toml --operate b.txt --listen 127.0.0.1:0 --maps 3 --record r.bin",
-        r#"Run(Run { config: "a.toml", listen: "127.0.0.1:0", maps: 3, meeting: Meeting { external: false, wait: None, pace: None }, record: Some("r.bin"), no_clobber: false, operate: Some("b.txt"), settle: false, progress: false, summary: false })"#,
+        r#"Run(Run { config: "a.toml", listen: "127.0.0.1:0", maps: 3, meeting: Meeting { external: false, wait: None, pace: None }, record: Some("r.bin"), no_clobber: false, strict_record: false, operate: Some("b.txt"), settle: false, progress: false, summary: false })"#,
     ),
     (
         "olt run --settle --config a.toml --listen 127.0.0.1:0 --maps 2",
-        r#"Run(Run { config: "a.toml", listen: "127.0.0.1:0", maps: 2, meeting: Meeting { external: false, wait: None, pace: None }, record: None, no_clobber: false, operate: None, settle: true, progress: false, summary: false })"#,
+        r#"Run(Run { config: "a.toml", listen: "127.0.0.1:0", maps: 2, meeting: Meeting { external: false, wait: None, pace: None }, record: None, no_clobber: false, strict_record: false, operate: None, settle: true, progress: false, summary: false })"#,
     ),
     (
         "olt run --config a.toml --listen h:1 --maps 1 --units external --wait 3600 --pace 1000000 --progress --summary",
-        r#"Run(Run { config: "a.toml", listen: "h:1", maps: 1, meeting: Meeting { external: true, wait: Some(3600), pace: Some(1000000) }, record: None, no_clobber: false, operate: None, settle: false, progress: true, summary: true })"#,
+        r#"Run(Run { config: "a.toml", listen: "h:1", maps: 1, meeting: Meeting { external: true, wait: Some(3600), pace: Some(1000000) }, record: None, no_clobber: false, strict_record: false, operate: None, settle: false, progress: true, summary: true })"#,
     ),
     (
         "olt run --units simulated --config a.toml --listen h:1 --maps 1 --operate -",
-        r#"Run(Run { config: "a.toml", listen: "h:1", maps: 1, meeting: Meeting { external: false, wait: None, pace: None }, record: None, no_clobber: false, operate: Some("-"), settle: false, progress: false, summary: false })"#,
+        r#"Run(Run { config: "a.toml", listen: "h:1", maps: 1, meeting: Meeting { external: false, wait: None, pace: None }, record: None, no_clobber: false, strict_record: false, operate: Some("-"), settle: false, progress: false, summary: false })"#,
     ),
     (
         "olt run --config a.toml --listen h:1 --maps 1 --pace=1 --wait=1",
-        r#"Run(Run { config: "a.toml", listen: "h:1", maps: 1, meeting: Meeting { external: false, wait: Some(1), pace: Some(1) }, record: None, no_clobber: false, operate: None, settle: false, progress: false, summary: false })"#,
+        r#"Run(Run { config: "a.toml", listen: "h:1", maps: 1, meeting: Meeting { external: false, wait: Some(1), pace: Some(1) }, record: None, no_clobber: false, strict_record: false, operate: None, settle: false, progress: false, summary: false })"#,
+    ),
+    (
+        "olt run --strict-record --record=r.bin --config a.toml --listen h:1 --maps 1",
+        r#"Run(Run { config: "a.toml", listen: "h:1", maps: 1, meeting: Meeting { external: false, wait: None, pace: None }, record: Some("r.bin"), no_clobber: false, strict_record: true, operate: None, settle: false, progress: false, summary: false })"#,
     ),
     (
         "olt units --config a.toml --connect h:1",
@@ -111,54 +119,70 @@ static RUNS: [(&str, &str); 9] = [
 ];
 
 /// Audits and views of recordings.
-static RECORDINGS: [(&str, &str); 12] = [
+static RECORDINGS: [(&str, &str); 16] = [
     (
         "olt audit r.bin",
-        r#"Audit(Audit { files: ["r.bin"], json: false })"#,
+        r#"Audit(Audit { files: ["r.bin"], json: false, complete: false })"#,
     ),
     (
         "olt audit a.bin b.bin c.bin",
-        r#"Audit(Audit { files: ["a.bin", "b.bin", "c.bin"], json: false })"#,
+        r#"Audit(Audit { files: ["a.bin", "b.bin", "c.bin"], json: false, complete: false })"#,
     ),
     (
         "olt audit --format json r.bin",
-        r#"Audit(Audit { files: ["r.bin"], json: true })"#,
+        r#"Audit(Audit { files: ["r.bin"], json: true, complete: false })"#,
     ),
     (
         "olt audit a.bin b.bin --format=json c.bin",
-        r#"Audit(Audit { files: ["a.bin", "b.bin", "c.bin"], json: true })"#,
+        r#"Audit(Audit { files: ["a.bin", "b.bin", "c.bin"], json: true, complete: false })"#,
+    ),
+    (
+        "olt audit --complete a.bin b.bin",
+        r#"Audit(Audit { files: ["a.bin", "b.bin"], json: false, complete: true })"#,
     ),
     (
         "olt info r.bin --format text",
-        r#"Show(Show { view: Info, file: "r.bin", part: Part { port: None, alloc: None, frame: None, from: None, to: None }, svg: None, json: false })"#,
+        r#"Show(Show { view: Info, file: "r.bin", part: Part { port: None, alloc: None, frame: None, from: None, to: None }, svg: None, no_clobber: false, json: false })"#,
     ),
     (
         "olt info --format json r.bin",
-        r#"Show(Show { view: Info, file: "r.bin", part: Part { port: None, alloc: None, frame: None, from: None, to: None }, svg: None, json: true })"#,
+        r#"Show(Show { view: Info, file: "r.bin", part: Part { port: None, alloc: None, frame: None, from: None, to: None }, svg: None, no_clobber: false, json: true })"#,
     ),
     (
         "olt rates r.bin",
-        r#"Show(Show { view: Rates, file: "r.bin", part: Part { port: None, alloc: None, frame: None, from: None, to: None }, svg: None, json: false })"#,
+        r#"Show(Show { view: Rates, file: "r.bin", part: Part { port: None, alloc: None, frame: None, from: None, to: None }, svg: None, no_clobber: false, json: false })"#,
     ),
     (
         "olt rates r.bin --port 63 --alloc 16383 --from 0 --to 18446744073709551615 --format json",
-        r#"Show(Show { view: Rates, file: "r.bin", part: Part { port: Some(63), alloc: Some(16383), frame: None, from: Some(0), to: Some(18446744073709551615) }, svg: None, json: true })"#,
+        r#"Show(Show { view: Rates, file: "r.bin", part: Part { port: Some(63), alloc: Some(16383), frame: None, from: Some(0), to: Some(18446744073709551615) }, svg: None, no_clobber: false, json: true })"#,
     ),
     (
         "olt why --port=0 --frame=7 --alloc=1024 r.bin",
-        r#"Show(Show { view: Why, file: "r.bin", part: Part { port: Some(0), alloc: Some(1024), frame: Some(7), from: None, to: None }, svg: None, json: false })"#,
+        r#"Show(Show { view: Why, file: "r.bin", part: Part { port: Some(0), alloc: Some(1024), frame: Some(7), from: None, to: None }, svg: None, no_clobber: false, json: false })"#,
     ),
     (
         "olt dump r.bin --port 2",
-        r#"Show(Show { view: Dump, file: "r.bin", part: Part { port: Some(2), alloc: None, frame: None, from: None, to: None }, svg: None, json: false })"#,
+        r#"Show(Show { view: Dump, file: "r.bin", part: Part { port: Some(2), alloc: None, frame: None, from: None, to: None }, svg: None, no_clobber: false, json: false })"#,
     ),
     (
         "olt loads r.bin --alloc 1024 --from 3 --to 9",
-        r#"Show(Show { view: Loads, file: "r.bin", part: Part { port: None, alloc: Some(1024), frame: None, from: Some(3), to: Some(9) }, svg: None, json: false })"#,
+        r#"Show(Show { view: Loads, file: "r.bin", part: Part { port: None, alloc: Some(1024), frame: None, from: Some(3), to: Some(9) }, svg: None, no_clobber: false, json: false })"#,
     ),
     (
         "olt picture r.bin --frame 5 --svg p.svg",
-        r#"Show(Show { view: Picture, file: "r.bin", part: Part { port: None, alloc: None, frame: Some(5), from: None, to: None }, svg: Some("p.svg"), json: false })"#,
+        r#"Show(Show { view: Picture, file: "r.bin", part: Part { port: None, alloc: None, frame: Some(5), from: None, to: None }, svg: Some("p.svg"), no_clobber: false, json: false })"#,
+    ),
+    (
+        "olt loads --no-clobber r.bin --alloc 16383 --svg p.svg",
+        r#"Show(Show { view: Loads, file: "r.bin", part: Part { port: None, alloc: Some(16383), frame: None, from: None, to: None }, svg: Some("p.svg"), no_clobber: true, json: false })"#,
+    ),
+    (
+        "olt migrate a.bin b.bin",
+        r#"Migrate(Migration { file: "a.bin", out: "b.bin", no_clobber: false })"#,
+    ),
+    (
+        "olt migrate --no-clobber a.bin b.bin",
+        r#"Migrate(Migration { file: "a.bin", out: "b.bin", no_clobber: true })"#,
     ),
 ];
 

@@ -19,5 +19,9 @@ pub returns-clause-some : goal.returns-clause-some
 returns-clause-some c =
     let f = found_of c.args.found.now in (
       refl,
-      (sym (c.in_ok-file.ensures ∙ first_value-rows f (codes "file")), sym (c.in_ok-out.ensures ∙ first_value-rows f (codes "out"))),
+      record {
+        recording = sym (c.in_ok-file.ensures ∙ first_value-rows f (codes "file"));
+        written = sym (c.in_ok-out.ensures ∙ first_value-rows f (codes "out"));
+        keeps = c.is_given-no_clobber.ensures;
+      },
     )

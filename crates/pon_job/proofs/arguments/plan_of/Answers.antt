@@ -12,4 +12,5 @@ returns c =
       verbose = c.is_given-verbose.ensures;
       recording_file = sym (c.get_str-recording.ensures ∙ first_value-rows f (codes "record"));
       keeps = c.is_given-keeps.ensures;
+      forgets = c.is_given-forget.ensures;
     }

@@ -31,6 +31,7 @@ returns-clause-some c =
         recording_file = sym (c.get_str-record.ensures ∙ first_value-rows f (codes "record"));
         operator = sym (c.get_str-operate.ensures ∙ first_value-rows f (codes "operate"));
         keeps = c.is_given-no_clobber.ensures;
+        strict = c.is_given-strict_record.ensures;
         settles = c.is_given-settle.ensures;
         meets = c.in_ok-meeting.ensures.some;
         follows = c.is_given-progress.ensures;

@@ -24,6 +24,7 @@ returns-clause-some c =
         recording = sym (c.in_ok-file.ensures ∙ first_value-rows f (codes "file"));
         selection = c.in_ok-part.ensures.some;
         picture = sym (c.get_str-svg.ensures ∙ first_value-rows f (codes "svg"));
+        keeps = c.is_given-no_clobber.ensures;
         format = subst (λ o. IsFormat o c.in_ok-json.json) (c.get_str-format.ensures ∙ first_value-rows f (codes "format")) c.in_ok-json.ensures.some;
       },
     )
