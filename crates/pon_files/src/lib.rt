@@ -1,10 +1,24 @@
-//! Files that are written beside their name and get it when they are whole, and the file of a recording.
+//! The files that the command line names: those that are read; those that are written beside their name, and get it when they
+//! are whole; and the file of a recording.
+//!
+//! No file that is read is ever written, by whatever name it is called; no part of an earlier run is emptied, and no two
+//! processes write one part.
 #![tactic(auto)]
 
+mod identity;
+mod inputs;
+mod leftover;
+mod lock;
 mod part;
+mod reading;
 mod recording_file;
 mod target;
+mod writing;
 
+pub use inputs::{Inputs, Source};
+pub use lock::LockFile;
 pub use part::{PartFile, Progress};
+pub use reading::open_input;
 pub use recording_file::{FileTape, RecordingFile, begin_recording, end_recording, record_in};
-pub use target::{RecordArgs, Target, target_of};
+pub use target::{Output, Target, target_of};
+pub use writing::write_file;

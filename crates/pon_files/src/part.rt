@@ -2,6 +2,8 @@
 
 ghost use Rattle.std.specs.Prelude.{◌≡◌, IfOk, OnErr, OnOk};
 
+use crate::leftover::set_aside;
+use crate::lock::{LockFile, take_file};
 use std::alloc::{AllocError, Global};
 use std::fs::{self, OpenFile, OpenOptions};
 use std::io::{self, Write};
@@ -27,13 +29,14 @@ pub enum Progress {
     Named,
 }
 
-/// A file that is written as its part, FILE.part for a file FILE, and gets its name when it is whole. Contracts see it
-/// as its progress.
+/// A file that is written as its part, FILE.part for a file FILE, and gets its name when it is whole. The part is locked
+/// against other processes meanwhile. Contracts see it as its progress.
 #[derive(Drop)]
 pub struct PartFile<F> {
     file: F,
     name: String,
     part: String,
+    left: Option<String>,
     progress: Progress,
 }
 
@@ -50,6 +53,14 @@ impl<F> PartFile<F> {
     pub fn part(&self) -> &str {
         self.part.as_str()
     }
+
+    /// The name under which the part of an earlier run is kept. `None` if none was there.
+    pub fn left(&self) -> Option<&str> {
+        match &self.left {
+            Some(left) => Some(left.as_str()),
+            None => None,
+        }
+    }
 }
 
 impl<F: Write> Write for PartFile<F> {
@@ -63,30 +74,45 @@ impl<F: Write> Write for PartFile<F> {
     }
 }
 
-impl<F: OpenFile + Write> PartFile<F> {
-    /// Creates the part of the file `name`, in place of an earlier part. The file itself is unchanged.
+// Creates a part, and takes it for this process.
+fn create_part<R: Files>(rt: &R, part: &str) -> io::Result<R::File>
+where
+    R::File: LockFile,
+{
+    let file = OpenOptions::new()
+        .write(true)
+        .create_new(true)
+        .open(rt, part)?;
+    take_file(rt, &file, part)?;
+    Ok(file)
+}
+
+impl<F: OpenFile + Write + LockFile> PartFile<F> {
+    /// Creates the part of the file `name`, and takes it for this process. A part that an earlier run left is kept under
+    /// the first free name FILE.part.1, FILE.part.2 ... The file itself is unchanged.
     ///
     /// # Errors
     ///
-    /// If the part cannot be created, or memory is refused.
+    /// `WouldBlock` if another process writes the part. Any other error if the part cannot be created, one that was left
+    /// cannot be renamed, or memory is refused.
     pub fn create<R: Files<File = F>>(rt: &R, alloc: Global, name: &str) -> io::Result<Self>
         ensures { IfOk result (λ p. p ≡ Progress.Open) }
     {
         let name = String::from_str(alloc, name)?;
         let part = part_of(alloc, name.as_str())?;
-        let _ = fs::remove_file(rt, part.as_str());
-        let file = OpenOptions::new()
-            .write(true)
-            .create_new(true)
-            .open(rt, part.as_str())?;
+        let left = set_aside(rt, alloc, part.as_str())?;
+        let file = create_part(rt, part.as_str())?;
         Ok(PartFile {
             file,
             name,
             part,
+            left,
             progress: Progress::Open,
         })
     }
+}
 
+impl<F: OpenFile + Write> PartFile<F> {
     // Waits until all that was written is on the disk.
     fn sync(&mut self) -> io::Result<()>
         ensures ok { OnOk result (self.new ≡ Progress.Synced) }

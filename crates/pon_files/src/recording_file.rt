@@ -2,13 +2,14 @@
 
 ghost use Rattle.std.specs.Prelude.{◌≡◌, OnOk, false, is_ok, true};
 
+use crate::lock::LockFile;
 use crate::part::PartFile;
-use crate::target::{RecordArgs, Target, target_of};
+use crate::target::{Output, Target, target_of};
 use pon_device::DeviceFault;
 use pon_job::{Failure, Named};
 use pon_recorder::{Ended, Recorder, Tape, record_to};
 use std::alloc::Global;
-use std::fs::{self, OpenFile};
+use std::fs::{self, OpenFile, OpenOptions};
 use std::io::{self, Write};
 use std::rt::Files;
 
@@ -108,33 +109,90 @@ fn with_part(alloc: Global, failure: Failure, part: &str) -> Failure {
     }
 }
 
+// Creates the part of a recording, and says on standard error which part of an earlier run is kept.
+fn create_part<R: Files + Eprint>(
+    rt: &R,
+    alloc: Global,
+    path: &str,
+) -> io::Result<PartFile<R::File>>
+where
+    R::File: LockFile,
+{
+    let file = PartFile::create(rt, alloc, path)?;
+    if let Some(left) = file.left() {
+        let part = file.part();
+        let _ = eprintln!(rt; "olt: {part} was left by an earlier run and is kept as {left}");
+    }
+    Ok(file)
+}
+
 // Creates the part of a recording, or opens what is no regular file.
-fn create_file<R: Files>(
+fn create_file<R: Files + Eprint>(
     rt: &R,
     alloc: Global,
     name: &str,
     target: &Target,
-) -> io::Result<RecordingFile<R::File>> {
+) -> io::Result<RecordingFile<R::File>>
+where
+    R::File: LockFile,
+{
     match target {
         Target::Part { path, .. } => {
-            let file = PartFile::create(rt, alloc, path.as_str())?;
+            let file = create_part(rt, alloc, path.as_str())?;
             Ok(RecordingFile::Part(file))
         }
         Target::Direct => Ok(RecordingFile::Direct(fs::create(rt, name)?)),
     }
 }
 
-/// Begins the recording in the file `name`, at its target. If the magic bytes cannot be written, its part is removed.
-///
-/// # Errors
-///
-/// `Write` if the file cannot be created or does not take the magic bytes, and `Memory` if memory is refused.
-pub fn record_in<R: Files>(
+// Writes a byte where a recording was to begin, to learn why it takes none.
+fn write_byte<R: Files>(rt: &R, name: &str, target: &Target) -> io::Result<()> {
+    let name = match target {
+        Target::Part { part, .. } => part.as_str(),
+        Target::Direct => name,
+    };
+    OpenOptions::new()
+        .write(true)
+        .open(rt, name)?
+        .write_all(&[0])
+}
+
+// Returns the failure of a recording that does not take its first bytes, and removes its part.
+fn failure_to_begin<R: Files>(
     rt: &R,
     alloc: Global,
     name: &str,
     target: &Target,
-) -> Result<Recorder<FileTape<R::File>>, Failure> {
+    fault: DeviceFault,
+) -> Failure {
+    let named = Named::Recording(name);
+    let tried = match fault {
+        DeviceFault::Write => write_byte(rt, name, target),
+        _ => Ok(()),
+    };
+    target.discard(rt);
+    match tried {
+        Ok(()) => Failure::in_writing(alloc, fault, named),
+        Err(error) => Failure::of(alloc, fault, named, &error),
+    }
+}
+
+/// Begins the recording in the file `name`, at its target. If the magic bytes cannot be written, its part is removed.
+/// Standard error says if the part of an earlier run stood there, and under which name it is kept.
+///
+/// # Errors
+///
+/// `Write` if the file cannot be created, is being recorded by another run, or does not take the magic bytes, and `Memory`
+/// if memory is refused.
+pub fn record_in<R: Files + Eprint>(
+    rt: &R,
+    alloc: Global,
+    name: &str,
+    target: &Target,
+) -> Result<Recorder<FileTape<R::File>>, Failure>
+where
+    R::File: LockFile,
+{
     let named = Named::Recording(name);
     let file = match create_file(rt, alloc, name, target) {
         Ok(file) => file,
@@ -142,10 +200,7 @@ pub fn record_in<R: Files>(
     };
     match record_to(alloc, file) {
         Ok(recorder) => Ok(recorder),
-        Err(fault) => {
-            target.discard(rt);
-            Err(Failure::in_writing(alloc, fault, named))
-        }
+        Err(fault) => Err(failure_to_begin(rt, alloc, name, target, fault)),
     }
 }
 
@@ -153,16 +208,17 @@ pub fn record_in<R: Files>(
 ///
 /// # Errors
 ///
-/// `Write` if the file or its part, FILE.part, is one that is read, or if the part is no regular file. `Write` also if
-/// the file exists and is not to be replaced, and if it cannot be created or does not take the first bytes. `Memory` if
-/// memory is refused. After an error nothing is replaced.
-pub fn begin_recording<R: Files>(
+/// As [`target_of`] and [`record_in`]. After an error nothing is replaced.
+pub fn begin_recording<R: Files + Eprint>(
     rt: &R,
     alloc: Global,
-    args: &RecordArgs<'_>,
-) -> Result<Recorder<FileTape<R::File>>, Failure> {
-    let target = target_of(rt, alloc, args)?;
-    record_in(rt, alloc, args.file, &target)
+    output: &Output<'_>,
+) -> Result<Recorder<FileTape<R::File>>, Failure>
+where
+    R::File: LockFile,
+{
+    let target = target_of(rt, alloc, output)?;
+    record_in(rt, alloc, output.named.name(), &target)
 }
 
 /// Ends the file of a recording: if the recording is whole, its part is synced and gets the name of the file. Otherwise

@@ -2,11 +2,11 @@
 
 ghost use Rattle.std.specs.Prelude.{◌≡◌, ◌<◌, ◌⊎◌, ◌↔◌, IfSome, OnOk, length, true};
 
-use crate::address::{address_of, begin, failed_at};
+use crate::address::{address_of, begin, failed_address, failed_at};
 use crate::answering::{UnitsPart, answer};
 use crate::units::units_of;
 use pon_device::DeviceFault;
-use pon_job::{Failure, Named, Outcome, exit_status};
+use pon_job::{Failure, Outcome, exit_status};
 use pon_link::UnitsFault;
 use pon_settings::{Settings, SettingsRow};
 use pon_units::PortNo;
@@ -233,10 +233,7 @@ where
     check_port(alloc, settings, args.port)?;
     let (first, begun) = match begin(rt, args.connect) {
         Ok(begun) => begun,
-        Err(error) => {
-            let named = Named::Address(args.connect);
-            return Err(Failure::of(alloc, DeviceFault::Read, named, &error));
-        }
+        Err(error) => return Err(failed_address(alloc, args.connect, &error)),
     };
     let terminal = Terminal {
         first,

@@ -9,6 +9,7 @@ mod link;
 mod outside;
 mod units;
 
+pub use address::has_room;
 pub use answering::{UnitsPart, answer};
 pub use elsewhere::{UnitsArgs, run_units};
 pub use link::{Link, open_links};

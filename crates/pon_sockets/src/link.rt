@@ -3,8 +3,8 @@
 ghost use Rattle.std.specs.Prelude.{◌≡◌, IfOk};
 ghost use Rattle.std.specs.Vec.{vec_len};
 
-use pon_device::DeviceFault;
-use pon_job::{Failure, Named};
+use crate::address::failed_address;
+use pon_job::Failure;
 use std::alloc::Global;
 use std::io::{self, ErrorKind};
 use std::net::{Net, SocketAddr, TcpListener, TcpStream};
@@ -157,9 +157,6 @@ pub fn open_links<R: Net<Listener = TcpListener, Stream = TcpStream> + Clock>(
 {
     match listen_on(rt, alloc, address, ports) {
         Ok(links) => Ok(links),
-        Err(error) => {
-            let named = Named::Address(address);
-            Err(Failure::of(alloc, DeviceFault::Read, named, &error))
-        }
+        Err(error) => Err(failed_address(alloc, address, &error)),
     }
 }

@@ -3,10 +3,9 @@
 ghost use Rattle.std.specs.Prelude.{◌≡◌, IfOk};
 ghost use Rattle.std.specs.Vec.{vec_len};
 
-use crate::address::{address_of, begin, failed_at};
+use crate::address::{address_of, begin, failed_address, failed_at};
 use crate::link::{Link, next_connection};
-use pon_device::DeviceFault;
-use pon_job::{Failure, Named};
+use pon_job::Failure;
 use std::alloc::Global;
 use std::net::{Net, SocketAddr, TcpListener, TcpStream};
 use std::time::{Clock, Duration, Instant};
@@ -147,9 +146,6 @@ where
             let all = listen_for_all(rt, alloc, first, ports)?;
             accept_all(rt, alloc, all, begun, wait)
         }
-        Err(error) => {
-            let named = Named::Address(address);
-            Err(Failure::of(alloc, DeviceFault::Read, named, &error))
-        }
+        Err(error) => Err(failed_address(alloc, address, &error)),
     }
 }
