@@ -2,12 +2,14 @@
 
 use crate::running::{args, ended_with, ran, read, text};
 use pon_device::MemWrite;
+use pon_files::LockFile;
 use pon_run::{RunArgs, UnitsPlace};
 use pon_sockets::{UnitsArgs, run_units};
 use pon_units::PortNo;
 use pon_worker::OpenGate;
 use std::alloc::Global;
 use std::net::{Net, TcpListener, TcpStream};
+use std::os::fd::AsRawFd;
 use std::process::Abort;
 use std::rt::Files;
 use std::sync::Wait;
@@ -55,7 +57,7 @@ where
         + Eprint
         + Sync
         + Abort,
-    R::File: Send,
+    R::File: AsRawFd + LockFile + Send,
 {
     let wait = Duration::from_secs(WAIT_SECONDS);
     let args = RunArgs {
@@ -78,7 +80,7 @@ where
         + Eprint
         + Sync
         + Abort,
-    R::File: Send,
+    R::File: AsRawFd + LockFile + Send,
 {
     thread::join(
         rt,

@@ -1,12 +1,14 @@
 //! Ports that are served over sockets of this machine.
 
 use pon_device::MemWrite;
+use pon_files::LockFile;
 use pon_run::{LinesFrom, RunArgs, UnitsPlace, run_ports};
 use pon_settings::{Settings, settings};
 use pon_units::PortNo;
 use pon_worker::{Gate, OpenGate, Point};
 use std::alloc::Global;
 use std::net::{Net, TcpListener, TcpStream};
+use std::os::fd::AsRawFd;
 use std::process::Abort;
 use std::rt::Files;
 use std::sync::Wait;
@@ -88,7 +90,7 @@ where
         + Eprint
         + Sync
         + Abort,
-    R::File: Send,
+    R::File: AsRawFd + LockFile + Send,
 {
     let settings = read(rt, alloc, text);
     let mut writer = MemWrite::new(alloc, 4096, Vec::new(alloc));
@@ -115,7 +117,7 @@ where
         + Eprint
         + Sync
         + Abort,
-    R::File: Send,
+    R::File: AsRawFd + LockFile + Send,
 {
     let text = text(rt, alloc, ports);
     ran_with(rt, alloc, text.as_str(), args, gate)
@@ -142,6 +144,7 @@ pub(crate) fn args(maps: u64) -> RunArgs<'static> {
         operate: None,
         record: None,
         no_clobber: false,
+        strict_record: false,
         config: None,
         settle: false,
         progress: false,

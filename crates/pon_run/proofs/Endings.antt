@@ -1,6 +1,6 @@
 -- The lines at the end of a run.
 use Rattle.std.proofs.Common.{◌≡◌, ℕ, List, [], ◌∷◌, ap, map, length, refl, sym, subst, ◌∙◌, ◌<◌, Option}
-use Rattle.std.specs.Prelude.{Bool, true, Result, Ok, Err, IfOk, IfSome, OnOk, Some, None, is_some}
+use Rattle.std.specs.Prelude.{Bool, true, Result, Ok, Err, IfOk, IfSome, Some, None, is_some}
 use Rattle.std.specs.declared.alloc.AllocError.{AllocError}
 use Rattle.std.proofs.KnownBytes.{Appends-trans}
 use Rattle.pon_device.specs.Device.{Appends}
@@ -13,11 +13,6 @@ use Rattle.pon_run.specs.Runs.{EndedAs, EndsDone, TellsPorts, TellsWorked, Write
 use Rattle.pon_run.specs.Settlements.{settlement_lines}
 use Rattle.pon_run.specs.declared.end.PortEnd.{PortEnd}
 use Rattle.pon_run.specs.declared.settling.Settlement.{Settlement}
-
--- what holds in any case holds on success
-pub on_ok : {T E : Type 0} {X : Type 0} (r : Result T E) → X → OnOk r X
-on_ok (Ok v) x = x
-on_ok (Err e) x = tt
 
 -- the lines of the ports, and then those of their settlements
 pub both_written : (kept : List Chapter) (workers : List WorkerEnd) (ends : List PortEnd) (settlements : List Settlement) (old mid new : Option (List ℕ)) → map without_dropped ends ≡ ends_of kept workers

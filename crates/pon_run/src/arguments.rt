@@ -34,6 +34,8 @@ pub struct RunArgs<'a> {
     pub record: Option<&'a str>,
     /// Whether the run is refused if the file of the recording exists.
     pub no_clobber: bool,
+    /// Whether the run fails if its recording lacks a chapter.
+    pub strict_record: bool,
     /// The file that the settings were read from, which the recording may not replace.
     pub config: Option<&'a str>,
     /// The management lines that are executed during the run.

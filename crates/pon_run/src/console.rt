@@ -1,4 +1,5 @@
-//! Standard input as the lines of an operator, which end at the latest when the workers of a run have ended.
+//! Standard input, a pipe or a device as the lines of an operator, which end at the latest when the workers of a run have
+//! ended.
 
 use crate::watch::RunWatch;
 use mio::unix::SourceFd;
@@ -9,18 +10,19 @@ use std::net::Net;
 use std::time::Duration;
 
 /// The descriptor of standard input.
-const STANDARD_INPUT: i32 = 0;
+pub(crate) const STANDARD_INPUT: i32 = 0;
 
-/// The token of standard input.
+/// The token of the input.
 const INPUT: Token = Token(0);
 
 /// How long a read waits for input before it looks whether the workers have ended, in milliseconds.
 const LOOK_MILLISECONDS: u64 = 50;
 
-/// Standard input, which ends when all workers of a run have ended.
+/// An input that ends when all workers of a run have ended.
 #[derive(Drop)]
 pub(crate) struct Console<'a, F> {
     input: F,
+    descriptor: i32,
     poll: Poll,
     events: Events,
     // Whether the system tells when there is input. It does not for a file, which can always be read.
@@ -29,8 +31,8 @@ pub(crate) struct Console<'a, F> {
 }
 
 // Has the system tell when there is input. Returns `false` if it cannot, since the input is a file.
-fn register(poll: &Poll) -> io::Result<bool> {
-    let mut source = SourceFd(&STANDARD_INPUT);
+fn register(poll: &Poll, descriptor: i32) -> io::Result<bool> {
+    let mut source = SourceFd(&descriptor);
     match poll
         .registry()
         .register(&mut source, INPUT, Interest::READABLE)
@@ -42,18 +44,20 @@ fn register(poll: &Poll) -> io::Result<bool> {
 }
 
 impl<'a, F: Read + Drop> Console<'a, F> {
-    /// Opens the console over the reader of standard input.
+    /// Opens the console over an input with this descriptor.
     pub(crate) fn open<R: Net>(
         rt: &R,
         alloc: Global,
         input: F,
+        descriptor: i32,
         watch: &'a RunWatch,
     ) -> io::Result<Self> {
         let poll = Poll::new(rt)?;
         let events = Events::with_capacity(alloc, 1)?;
-        let tells = register(&poll)?;
+        let tells = register(&poll, descriptor)?;
         Ok(Console {
             input,
+            descriptor,
             poll,
             events,
             tells,
@@ -63,7 +67,7 @@ impl<'a, F: Read + Drop> Console<'a, F> {
 
     // Returns whether there is input, after a short wait for it.
     fn is_ready(&mut self) -> io::Result<bool> {
-        let mut source = SourceFd(&STANDARD_INPUT);
+        let mut source = SourceFd(&self.descriptor);
         let wait = Duration::from_millis(LOOK_MILLISECONDS);
         self.poll
             .registry()

@@ -10,6 +10,7 @@ ghost use Rattle.pon_run.specs.Runs.{AllSettled, TellsPorts, TellsWorked, Writes
 use crate::context::RunContext;
 use crate::early::print_early;
 use crate::end::write_ends;
+use crate::lack::print_lack;
 use crate::ports::{all_finished, ends_of, split_results, with_dropped, worker_ends};
 use crate::progress::print_summary;
 use crate::running::Results;
@@ -144,15 +145,15 @@ fn record_kept<K: Rings, G: Gate, F: OpenFile + Write + Drop, R: Files>(
 }
 
 // Records the chapter that each port keeps, and writes the lines about the ports and their settlements, also if the
-// recording fails.
-fn write_lines<K: Rings, G: Gate, F: OpenFile + Write + Drop, W: DevWrite, R: Files>(
+// recording fails. Returns whether the recording lacks a chapter.
+fn write_lines<K: Rings, G: Gate, F: OpenFile + Write + Drop, W: DevWrite, R: Files + Eprint>(
     run: &RunContext<'_, G, R>,
     ports: Vec<Port>,
     workers: &[WorkerEnd],
     settlements: &[Settlement],
     recording: Option<Recording<K, FileTape<F>>>,
     writer: &mut W,
-) -> Result<(), Failure>
+) -> Result<bool, Failure>
     ensures lines { OnOk result (WritesLines ports.items workers.now settlements.now
         (W.contents writer.old) (W.contents writer.new)) }
     ensures whole { OnOk result (IfSome recording (λ r. IsWholeRecording r.recorder r.whole)) }
@@ -163,7 +164,8 @@ fn write_lines<K: Rings, G: Gate, F: OpenFile + Write + Drop, W: DevWrite, R: Fi
     let told = with_dropped(run.alloc, ends.as_slice(), dropped.as_slice())?;
     write_ends(run.alloc, told.as_slice(), writer)?;
     write_settlements(run.alloc, settlements, writer)?;
-    recorded
+    recorded?;
+    Ok(print_lack(run, dropped.as_slice()))
 }
 
 // Returns whether this number of ports is settled, in order, if they are to be settled.
@@ -199,7 +201,7 @@ fn tell_closed<K: Rings, G: Gate, F: OpenFile + Write + Drop, W: DevWrite, R: Fi
         print_summary(run.rt, run.watch, workers);
     }
     print_early(run.rt, workers);
-    write_lines(
+    let lacks = write_lines(
         run,
         ports,
         workers,
@@ -207,7 +209,8 @@ fn tell_closed<K: Rings, G: Gate, F: OpenFile + Write + Drop, W: DevWrite, R: Fi
         recording,
         writer,
     )?;
-    Ok(even && settled && one_each && all_finished(workers))
+    let recorded = !(lacks && run.args.strict_record);
+    Ok(recorded && even && settled && one_each && all_finished(workers))
 }
 
 // Records what is left of each port, closes the desk, and settles its ports if that is wanted. `None` if a seat is missing.

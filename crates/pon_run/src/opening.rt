@@ -10,7 +10,7 @@ use crate::files::{recorder_of, recording_target};
 use crate::ports::OTHER_SEATS;
 use pon_desk::{Desk, Seat};
 use pon_device::DeviceFault;
-use pon_files::FileTape;
+use pon_files::{FileTape, LockFile};
 use pon_job::Failure;
 use pon_recorder::{PortRing, Recorder, Rings, Sinks, open_rings};
 use pon_settings::Settings;
@@ -78,6 +78,7 @@ pub(crate) fn open_parts<G, R>(run: &RunContext<'_, G, R>) -> Result<Opened<R::F
 where
     G: Gate,
     R: Net<Listener = TcpListener, Stream = TcpStream> + Files + Clock + Eprint,
+    R::File: LockFile,
     ensures { IfOk result (λ opened. vec_len opened.rings ≡ length run.now.settings.now) }
 {
     let target = recording_target(run)?;

@@ -3,17 +3,20 @@
 ghost use Rattle.std.specs.Prelude.{◌↔◌, IfOk, IsNone};
 
 use crate::arguments::LinesFrom;
-use crate::console::Console;
+use crate::console::{Console, STANDARD_INPUT};
 use crate::context::RunContext;
-use crate::files::open_lines;
 use pon_desk::{Desk, Seat};
-use pon_device::{DevWrite, DeviceFault, StdRead};
-use pon_job::Failure;
+use pon_device::{DevRead, DevWrite, DeviceFault, StdRead};
+use pon_files::open_input;
+use pon_job::{Failure, Named};
 use pon_manage::operate;
 use pon_worker::Gate;
 use std::alloc::Global;
+use std::fs::{self, OpenOptions};
 use std::io::{BufReader, Read};
 use std::net::Net;
+use std::os::fd::AsRawFd;
+use std::os::unix::fs::FileTypeExt;
 use std::rt::Files;
 use std::sync::Wait;
 use std::sync::ledger::Ledger;
@@ -21,10 +24,41 @@ use std::sync::ledger::Ledger;
 /// The lines of an operator, ready to be read.
 #[derive(Drop)]
 pub(crate) enum OpenedLines<F> {
-    /// Those of a file.
+    /// Those of a regular file, which are all executed.
     File(F),
-    /// Those of standard input.
+    /// Those of a pipe or a device, which end when the workers have ended.
+    Stream(F),
+    /// Those of standard input, which end when the workers have ended.
     StandardInput,
+}
+
+// Opens a named pipe for both directions, so that it needs no writer, and does not end when one goes.
+fn open_pipe<R: Files>(rt: &R, alloc: Global, name: &str) -> Result<R::File, Failure> {
+    match OpenOptions::new().read(true).write(true).open(rt, name) {
+        Ok(file) => Ok(file),
+        Err(error) => Err(Failure::of(alloc, DeviceFault::Read, Named::Lines(name), &error)),
+    }
+}
+
+// Opens the file of an operator's lines. Returns `Read` if it cannot be opened or is a folder.
+fn open_lines<R: Files>(
+    rt: &R,
+    alloc: Global,
+    name: &str,
+) -> Result<OpenedLines<R::File>, Failure> {
+    match fs::metadata(rt, name) {
+        Ok(found) if found.file_type().is_fifo() => {
+            Ok(OpenedLines::Stream(open_pipe(rt, alloc, name)?))
+        }
+        Ok(found) if !found.is_file() => {
+            let file = open_input(rt, alloc, Named::Lines(name))?;
+            Ok(OpenedLines::Stream(file))
+        }
+        _ => {
+            let file = open_input(rt, alloc, Named::Lines(name))?;
+            Ok(OpenedLines::File(file))
+        }
+    }
 }
 
 /// Opens the lines of the operator of a run, if it has one. Returns `Read` if their file cannot be opened.
@@ -36,10 +70,7 @@ pub(crate) fn open_operator<G: Gate, R: Files>(
     match run.args.operate {
         None => Ok(None),
         Some(LinesFrom::StandardInput) => Ok(Some(OpenedLines::StandardInput)),
-        Some(LinesFrom::File(name)) => {
-            let file = open_lines(run.rt, run.alloc, name)?;
-            Ok(Some(OpenedLines::File(file)))
-        }
+        Some(LinesFrom::File(name)) => Ok(Some(open_lines(run.rt, run.alloc, name)?)),
     }
 }
 
@@ -60,7 +91,31 @@ fn answer_lines<L: Ledger, M: Ledger, F: Read + Drop, W: DevWrite, R: Wait>(
     }
 }
 
-/// Executes the lines of the operator: all of a file, or those that standard input gives before the workers have ended.
+// Executes the lines that a stream gives before the workers have ended.
+fn answer_stream<L, M, G, F, W, R>(
+    run: &RunContext<'_, G, R>,
+    desk: &Desk<L, M>,
+    seat: &mut Seat<L, M>,
+    stream: F,
+    descriptor: i32,
+    writer: &mut W,
+) -> Result<(), DeviceFault>
+where
+    L: Ledger,
+    M: Ledger,
+    G: Gate,
+    F: Read + Drop,
+    W: DevWrite,
+    R: Net + Wait,
+{
+    match Console::open(run.rt, run.alloc, stream, descriptor, run.watch) {
+        Ok(console) => answer_lines(run.rt, run.alloc, desk, seat, console, writer),
+        Err(_) => Err(DeviceFault::Read),
+    }
+}
+
+/// Executes the lines of the operator: all of a regular file, or those that a pipe, a device or standard input gives before
+/// the workers have ended.
 pub(crate) fn answer<L, M, G, F, W, R>(
     run: &RunContext<'_, G, R>,
     desk: &Desk<L, M>,
@@ -72,17 +127,20 @@ where
     L: Ledger,
     M: Ledger,
     G: Gate,
-    F: Read + Drop,
+    F: Read + AsRawFd + Drop,
     W: DevWrite,
     R: Input + Net + Wait,
 {
-    match lines {
+    let answered = match lines {
         OpenedLines::File(file) => answer_lines(run.rt, run.alloc, desk, seat, file, writer),
-        OpenedLines::StandardInput => {
-            match Console::open(run.rt, run.alloc, run.rt.reader(), run.watch) {
-                Ok(console) => answer_lines(run.rt, run.alloc, desk, seat, console, writer),
-                Err(_) => Err(DeviceFault::Read),
-            }
+        OpenedLines::Stream(stream) => {
+            let descriptor = stream.as_raw_fd();
+            answer_stream(run, desk, seat, stream, descriptor, writer)
         }
-    }
+        OpenedLines::StandardInput => {
+            answer_stream(run, desk, seat, run.rt.reader(), STANDARD_INPUT, writer)
+        }
+    };
+    run.watch.end_operator();
+    answered
 }

@@ -15,20 +15,35 @@ pub(crate) struct RunPace<'a, R> {
     stop: &'a AtomicBool,
     timer: Option<Timer<'a, R>>,
     watch: Option<&'a PortWatch>,
+    // What the worker did before.
+    before: SoFar,
+}
+
+// Returns what a worker did before and so far together. The chapters that its sink dropped are counted by the sink.
+fn together(before: &SoFar, so_far: &SoFar) -> SoFar {
+    SoFar {
+        maps: before.maps.saturating_add(so_far.maps),
+        reports: before.reports.saturating_add(so_far.reports),
+        garbled: before.garbled.saturating_add(so_far.garbled),
+        refused: before.refused.saturating_add(so_far.refused),
+        dropped: so_far.dropped,
+    }
 }
 
 impl<'a, R: Clock> RunPace<'a, R> {
-    /// Makes the pace of the worker of a port.
+    /// Makes the pace of the worker of a port for the maps that are left after what it did before.
     pub(crate) fn new<G: Gate>(
         run: &'a RunContext<'a, G, R>,
         port: PortNo,
         stop: &'a AtomicBool,
+        before: SoFar,
     ) -> Self {
         RunPace {
-            turns: Turns::new(run.args.maps),
+            turns: Turns::new(run.args.maps.saturating_sub(before.maps)),
             stop,
             timer: run.args.pace.map(|rate| Timer::new(run.rt, rate)),
             watch: run.watch.port(port),
+            before,
         }
     }
 
@@ -46,7 +61,7 @@ impl<'a, R: Clock> RunPace<'a, R> {
 impl<'a, R: Clock> Pace for RunPace<'a, R> {
     fn next(&mut self, so_far: &SoFar) -> bool {
         if let Some(watch) = self.watch {
-            watch.see(so_far);
+            watch.see(&together(&self.before, so_far));
         }
         if self.stop.load(Ordering::SeqCst) || !self.turns.next(so_far) {
             return false;

@@ -28,8 +28,14 @@ fn print_second<R: Eprint>(rt: &R, watch: &RunWatch, second: u64, before: &mut [
         let made = now.maps.saturating_sub(*maps);
         *maps = now.maps;
         let _ = eprintln!(rt;
-            "olt: {second} s port {port} maps {} ({made} in this second) reports {} refused {} garbled {} chapters {} dropped {}",
-            now.maps, now.reports, now.refused, now.garbled, now.recorded, now.dropped
+            "olt: {second} s port {port} maps {} ({made} in this second) reports {} refused {} garbled {} chapters {} dropped {} {}",
+            now.maps,
+            now.reports,
+            now.refused,
+            now.garbled,
+            now.recorded,
+            now.dropped,
+            seen.service()
         );
     }
 }

@@ -16,7 +16,7 @@ use crate::running::{PortsServed, Results, serve_all};
 use crate::watch::RunWatch;
 use pon_desk::{Desk, Seat};
 use pon_device::{DevWrite, DeviceFault};
-use pon_files::FileTape;
+use pon_files::{FileTape, LockFile};
 use pon_job::{Failure, exit_status, outcome_of_ports};
 use pon_recorder::{Rings, Sinks};
 use pon_settings::Settings;
@@ -27,6 +27,7 @@ use std::fs::OpenFile;
 use std::io::{Read, Write};
 use std::marker::Brand;
 use std::net::{Net, TcpListener, TcpStream};
+use std::os::fd::AsRawFd;
 use std::rt::Files;
 use std::sync::Wait;
 use std::sync::ledger::{Blank, Ledger};
@@ -48,7 +49,7 @@ where
     M: Ledger + Send + Sync,
     K: Rings + Send + Sync,
     G: Gate + Sync,
-    F: Read + Write + OpenFile + Drop + Send,
+    F: Read + Write + OpenFile + AsRawFd + Drop + Send,
     W: DevWrite,
     R: Input + Net + Eprint + Wait + Threads + Clock + Sync,
     ensures quiet { IsNone lines → W.contents writer.new ≡ W.contents writer.old }
@@ -157,7 +158,7 @@ where
     M: Ledger + Send + Sync,
     K: Rings + Send + Sync,
     G: Gate + Sync,
-    F: Read + Write + OpenFile + Drop + Send,
+    F: Read + Write + OpenFile + AsRawFd + Drop + Send,
     W: DevWrite,
     R: Files + Input + Eprint + Net + Wait + Threads + Clock + Sync,
     requires { OTHER_SEATS ≤ vec_len seats }
@@ -187,7 +188,7 @@ where
     M: Ledger + Send + Sync,
     K: Rings + Send + Sync,
     G: Gate + Sync,
-    F: Read + Write + OpenFile + Drop + Send,
+    F: Read + Write + OpenFile + AsRawFd + Drop + Send,
     W: DevWrite,
     R: Files + Input + Eprint + Net + Wait + Threads + Clock + Sync,
     requires ports { (of_ports.name ≡ L.name) × (of_ports.parts ≡ L.parts)
@@ -216,7 +217,7 @@ where
         + Wait
         + Clock
         + Sync,
-    R::File: Send,
+    R::File: AsRawFd + LockFile + Send,
     ensures { IfOk result (λ done. done ≡ true → EndsDone (length run.now.settings.now)
         run.now.args.settle (IsNone run.now.args.operate)
         (W.contents writer.old) (W.contents writer.new)) }
@@ -283,13 +284,13 @@ where
         + Wait
         + Clock
         + Sync,
-    R::File: Send,
+    R::File: AsRawFd + LockFile + Send,
     ensures status { (result ≡ 0) ⊎ (result ≡ 3) }
     // Without an operator only these lines are written.
     ensures lines { result ≡ 0 → EndsDone (length settings) args.entry.settle (IsNone args.entry.operate)
         (W.contents writer.old) (W.contents writer.new) }
 {
-    let Ok(watch) = RunWatch::open(alloc, settings.ports().len()) else {
+    let Ok(watch) = RunWatch::open(alloc, settings.ports().len(), args.operate.is_some()) else {
         return status_of(rt, Err(Failure::from(DeviceFault::Memory)));
     };
     let run = RunContext::new(rt, alloc, &settings, args, gate, &watch);

@@ -2,8 +2,9 @@
 
 use crate::context::RunContext;
 use crate::pace::RunPace;
+use crate::restoring::{is_served_again, nothing_done, so_far, together};
 use pon_desk::{Desk, Seat};
-use pon_device::{StdRead, StdWrite};
+use pon_device::{DevRead, DevWrite, StdRead, StdWrite};
 use pon_recorder::{PortSink, Rings};
 use pon_worker::{Gate, WorkerEnd, serve_port};
 use std::alloc::{AllocError, Global};
@@ -32,39 +33,87 @@ pub(crate) struct Worked<L: Ledger, M: Ledger, K: Rings> {
     pub(crate) end: Result<WorkerEnd, AllocError>,
 }
 
-// Serves a port over its end of a connection.
-fn serve<L: Ledger, M: Ledger, K: Rings, G: Gate, R: Wait + Clock>(
-    run: &RunContext<'_, G, R>,
+// Serves a port for the maps that are left after what its worker did, and adds what it does. Returns whether the port is
+// served again.
+fn serve_on<'a, L, M, K, G, D, W, R>(
+    run: &'a RunContext<'a, G, R>,
     desk: &Desk<L, M>,
-    part: &mut WorkerPart<L, M, K>,
-    stop: &AtomicBool,
-) -> Result<WorkerEnd, AllocError> {
-    let mut pace = RunPace::new(run, part.sink.port, stop);
-    let input = BufReader::new(run.alloc, &part.stream).map_err(|_| AllocError)?;
-    let mut reader = StdRead::new(input);
-    let mut writer = StdWrite::new(&part.stream);
-    Ok(serve_port(
+    seat: &mut Seat<L, M>,
+    sink: &mut PortSink<K>,
+    ended: &mut WorkerEnd,
+    reader: &mut D,
+    writer: &mut W,
+    stop: &'a AtomicBool,
+) -> bool
+where
+    L: Ledger,
+    M: Ledger,
+    K: Rings,
+    G: Gate,
+    D: DevRead,
+    W: DevWrite,
+    R: Wait + Clock,
+{
+    let port = sink.port;
+    let mut pace = RunPace::new(run, port, stop, so_far(ended));
+    let served = serve_port(
         run.rt,
         desk,
-        &mut part.seat,
-        part.sink.port,
+        seat,
+        port,
         run.gate,
         &mut pace,
-        &mut reader,
-        &mut writer,
-        &mut part.sink.sink,
-    ))
+        reader,
+        writer,
+        &mut sink.sink,
+    );
+    *ended = together(ended, &served);
+    is_served_again(run, desk, port, served.why, stop)
+}
+
+// Serves a port over its end of a connection, and again each time an operator has restored it.
+fn serve<'a, L: Ledger, M: Ledger, K: Rings, G: Gate, R: Wait + Clock>(
+    run: &'a RunContext<'a, G, R>,
+    desk: &Desk<L, M>,
+    seat: &mut Seat<L, M>,
+    sink: &mut PortSink<K>,
+    stream: &TcpStream,
+    stop: &'a AtomicBool,
+) -> Result<WorkerEnd, AllocError> {
+    let input = BufReader::new(run.alloc, stream).map_err(|_| AllocError)?;
+    let mut reader = StdRead::new(input);
+    let mut writer = StdWrite::new(stream);
+    let mut ended = nothing_done();
+    for _ in run.rt.forever() {
+        if !serve_on(
+            run,
+            desk,
+            seat,
+            sink,
+            &mut ended,
+            &mut reader,
+            &mut writer,
+            stop,
+        ) {
+            break;
+        }
+    }
+    Ok(ended)
 }
 
 /// Runs the worker of a port, and closes its end of the connection.
-pub(crate) fn work<L: Ledger, M: Ledger, K: Rings, G: Gate, R: Wait + Clock>(
-    run: &RunContext<'_, G, R>,
+pub(crate) fn work<'a, L: Ledger, M: Ledger, K: Rings, G: Gate, R: Wait + Clock>(
+    run: &'a RunContext<'a, G, R>,
     desk: &Desk<L, M>,
-    mut part: WorkerPart<L, M, K>,
-    stop: &AtomicBool,
+    part: WorkerPart<L, M, K>,
+    stop: &'a AtomicBool,
 ) -> Worked<L, M, K> {
-    let end = serve(run, desk, &mut part, stop);
-    run.watch.end_worker();
-    let WorkerPart { seat, sink, .. } = part;
+    let WorkerPart {
+        mut seat,
+        mut sink,
+        stream,
+    } = part;
+    let end = serve(run, desk, &mut seat, &mut sink, &stream, stop);
+    run.watch.end_worker(sink.port);
     Worked { seat, sink, end }
 }

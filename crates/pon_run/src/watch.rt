@@ -4,7 +4,8 @@ use pon_recorder::ChapterWatch;
 use pon_units::PortNo;
 use pon_worker::SoFar;
 use std::alloc::{AllocError, Global};
-use std::sync::atomic::{AtomicU64, Ordering};
+use std::fmt::{self, Display, Formatter, Write};
+use std::sync::atomic::{AtomicBool, AtomicU64, Ordering};
 use std::time::Duration;
 
 /// The numbers of one port. Each is read and written by itself, so that two of them may be of different moments.
@@ -22,6 +23,30 @@ pub(crate) struct PortWatch {
     // The maps that began late, and the microseconds of the latest.
     late: AtomicU64,
     latest: AtomicU64,
+    // Whether the port is down and waits to be restored, and whether its worker has ended.
+    waits: AtomicBool,
+    ended: AtomicBool,
+}
+
+/// Whether a port is served.
+#[derive(Clone, Copy)]
+pub(crate) enum Service {
+    /// Its worker makes turns.
+    Served,
+    /// It is down, and its worker waits until it is restored.
+    Waiting,
+    /// Its worker has ended.
+    Ended,
+}
+
+impl Display for Service {
+    fn fmt<W: Write>(&self, f: &mut Formatter<W>) -> fmt::Result {
+        match *self {
+            Service::Served => f.write_str("served"),
+            Service::Waiting => f.write_str("waiting"),
+            Service::Ended => f.write_str("ended"),
+        }
+    }
 }
 
 /// The numbers of one port at a moment.
@@ -53,7 +78,25 @@ impl PortWatch {
             dropped: AtomicU64::new(0),
             late: AtomicU64::new(0),
             latest: AtomicU64::new(0),
+            waits: AtomicBool::new(false),
+            ended: AtomicBool::new(false),
         }
+    }
+
+    /// Notes whether the port waits to be restored.
+    pub(crate) fn set_waiting(&self, waits: bool) {
+        self.waits.store(waits, Ordering::SeqCst);
+    }
+
+    /// Returns whether the port is served.
+    pub(crate) fn service(&self) -> Service {
+        if self.ended.load(Ordering::SeqCst) {
+            return Service::Ended;
+        }
+        if self.waits.load(Ordering::SeqCst) {
+            return Service::Waiting;
+        }
+        Service::Served
     }
 
     /// Notes what the worker of the port did so far.
@@ -89,16 +132,18 @@ impl PortWatch {
     }
 }
 
-/// What is seen of a run: the numbers of each port, in order, and the number of workers that have ended.
+/// What is seen of a run: the numbers of each port, in order, the number of workers that have ended, and whether the
+/// operator has.
 #[derive(Drop)]
 pub(crate) struct RunWatch {
     ports: Vec<PortWatch>,
     ended: AtomicU64,
+    operated: AtomicBool,
 }
 
 impl RunWatch {
-    /// Opens the watch of this number of ports. `Err` only if memory is refused.
-    pub(crate) fn open(alloc: Global, ports: usize) -> Result<Self, AllocError> {
+    /// Opens the watch of this number of ports, of a run with an operator or without one. `Err` only if memory is refused.
+    pub(crate) fn open(alloc: Global, ports: usize, operator: bool) -> Result<Self, AllocError> {
         let mut all = Vec::with_capacity(alloc, ports)?;
         for _port in 0..ports {
             all.push(PortWatch::new())?;
@@ -106,6 +151,7 @@ impl RunWatch {
         Ok(RunWatch {
             ports: all,
             ended: AtomicU64::new(0),
+            operated: AtomicBool::new(!operator),
         })
     }
 
@@ -119,9 +165,22 @@ impl RunWatch {
         self.ports.get(usize::from(port.get()))
     }
 
-    /// Notes that a worker has ended.
-    pub(crate) fn end_worker(&self) {
+    /// Notes that the worker of a port has ended.
+    pub(crate) fn end_worker(&self, port: PortNo) {
+        if let Some(seen) = self.port(port) {
+            seen.ended.store(true, Ordering::SeqCst);
+        }
         self.ended.fetch_add(1, Ordering::SeqCst);
+    }
+
+    /// Notes that the operator has ended.
+    pub(crate) fn end_operator(&self) {
+        self.operated.store(true, Ordering::SeqCst);
+    }
+
+    /// Returns whether there is no operator, or it has ended, so that no line restores a port any more.
+    pub(crate) fn is_operated(&self) -> bool {
+        self.operated.load(Ordering::SeqCst)
     }
 
     /// Returns whether the worker of each port has ended.

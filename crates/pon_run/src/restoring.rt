@@ -1,0 +1,131 @@
+//! A port that is down: its worker waits until an operator has restored it, and then serves it again.
+
+ghost use Rattle.std.specs.Prelude.{◌≡◌, ◌+◌, min};
+
+use crate::context::RunContext;
+use pon_descr::Refusal;
+use pon_desk::{Desk, StepFault};
+use pon_port::Port;
+use pon_units::PortNo;
+use pon_worker::{Gate, SoFar, StopReason, WorkerEnd};
+use std::sync::Wait;
+use std::sync::atomic::{AtomicBool, Ordering};
+use std::sync::ledger::Ledger;
+use std::thread;
+use std::time::{Clock, Duration};
+
+/// How long a worker sleeps before it looks again whether its port is up, in milliseconds.
+const LOOK_MILLISECONDS: u64 = 10;
+
+/// The greatest value of a count.
+const MAX_COUNT: u64 = u64::MAX;
+
+/// Returns the end of a worker that has done nothing.
+pub(crate) fn nothing_done() -> WorkerEnd {
+    WorkerEnd {
+        maps: 0,
+        reports: 0,
+        garbled: 0,
+        refused: 0,
+        why: StopReason::Finished,
+    }
+}
+
+/// Returns what a worker did that ended so.
+pub(crate) fn so_far(end: &WorkerEnd) -> SoFar
+    ensures maps { result.maps ≡ end.now.maps }
+    ensures reports { result.reports ≡ end.now.reports }
+    ensures garbled { result.garbled ≡ end.now.garbled }
+    ensures refused { result.refused ≡ end.now.refused }
+{
+    SoFar {
+        maps: end.maps,
+        reports: end.reports,
+        garbled: end.garbled,
+        refused: end.refused,
+        dropped: 0,
+    }
+}
+
+/// Returns what a worker did that ended twice: the sums, and why it ended last.
+pub(crate) fn together(first: &WorkerEnd, last: &WorkerEnd) -> WorkerEnd
+    ensures maps { result.maps ≡ min (first.now.maps + last.now.maps) MAX_COUNT }
+    ensures reports { result.reports ≡ min (first.now.reports + last.now.reports) MAX_COUNT }
+    ensures garbled { result.garbled ≡ min (first.now.garbled + last.now.garbled) MAX_COUNT }
+    ensures refused { result.refused ≡ min (first.now.refused + last.now.refused) MAX_COUNT }
+    ensures why { result.why ≡ last.now.why }
+{
+    WorkerEnd {
+        maps: first.maps.saturating_add(last.maps),
+        reports: first.reports.saturating_add(last.reports),
+        garbled: first.garbled.saturating_add(last.garbled),
+        refused: first.refused.saturating_add(last.refused),
+        why: last.why,
+    }
+}
+
+// Returns whether a worker ended since its port is down.
+fn is_down(why: StopReason) -> bool {
+    matches!(
+        why,
+        StopReason::Refused(StepFault::Refused(Refusal::PortDown { .. }))
+    )
+}
+
+// Returns whether a port is up.
+fn is_up<L: Ledger, M: Ledger, R: Wait>(rt: &R, desk: &Desk<L, M>, port: PortNo) -> bool {
+    let look = |port: &Port| port.state().cause().is_none();
+    desk.inspect(rt, port, look).unwrap_or(false)
+}
+
+// Looks again and again whether a port is up, while an operator may restore it. Returns whether it is.
+fn looks_until_up<L: Ledger, M: Ledger, G: Gate, R: Wait + Clock>(
+    run: &RunContext<'_, G, R>,
+    desk: &Desk<L, M>,
+    port: PortNo,
+    stop: &AtomicBool,
+) -> bool {
+    for _look in run.rt.forever() {
+        // No line comes after the last look.
+        let is_last = run.watch.is_operated() || stop.load(Ordering::SeqCst);
+        if is_up(run.rt, desk, port) {
+            return true;
+        }
+        if is_last {
+            return false;
+        }
+        thread::sleep(run.rt, Duration::from_millis(LOOK_MILLISECONDS));
+    }
+    false
+}
+
+// Waits until a port that is down is restored. Returns `false` if it is not, and no operator can do it any more, or the run
+// is stopped.
+fn waits_until_up<L: Ledger, M: Ledger, G: Gate, R: Wait + Clock>(
+    run: &RunContext<'_, G, R>,
+    desk: &Desk<L, M>,
+    port: PortNo,
+    stop: &AtomicBool,
+) -> bool {
+    let Some(seen) = run.watch.port(port) else {
+        return false;
+    };
+    seen.set_waiting(true);
+    let is_up = looks_until_up(run, desk, port, stop);
+    seen.set_waiting(false);
+    is_up
+}
+
+/// Returns whether a port is served again whose worker ended so: if it is down, once an operator has restored it.
+pub(crate) fn is_served_again<L: Ledger, M: Ledger, G: Gate, R: Wait + Clock>(
+    run: &RunContext<'_, G, R>,
+    desk: &Desk<L, M>,
+    port: PortNo,
+    why: StopReason,
+    stop: &AtomicBool,
+) -> bool {
+    if !is_down(why) {
+        return false;
+    }
+    waits_until_up(run, desk, port, stop)
+}
