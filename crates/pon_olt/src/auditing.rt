@@ -1,87 +1,136 @@
 //! The audit of recordings in files.
 
+use crate::faulty::{print_fault, print_missing};
 use crate::files::open_recording;
-use pon_audit::{Verdict, audit_from, write_verdict};
-use pon_device::{DeviceFault, StdWrite, write_text};
+use pon_audit::Verdict;
+use pon_device::{DevWrite, DeviceFault, StdWrite, write_text};
 use pon_job::{Audit, Failure, Named};
-use pon_look::{CountedBytes, write_judged};
+use pon_look::{
+    Contents, CountedBytes, Viewed, audit_contents, write_gaps, write_judged, write_verdict_line,
+};
 use std::alloc::Global;
 use std::io;
 use std::rt::Files;
 use std::thread::Threads;
 
-// Judges the recording in the file `name` while it reads it, and prints the verdict. Returns `true` if the recording is
-// good.
-fn audit_file<R: Files + Print + Threads + Sync>(
+/// How recordings are audited, and whether one is alone.
+#[derive(Clone, Copy)]
+struct Auditor {
+    json: bool,
+    complete: bool,
+    is_alone: bool,
+}
+
+/// A recording that was audited, and the number of its bytes up to its end or the first fault of its format.
+#[derive(Drop)]
+struct Audited {
+    judged: Viewed<Contents>,
+    bytes: u64,
+}
+
+// Audits the recording in the file `name`.
+fn audit_file<R: Files + Threads + Sync>(
     rt: &R,
     alloc: Global,
     name: &str,
-) -> Result<bool, Failure> {
-    let mut reader = open_recording(rt, alloc, name)?;
-    let mut writer = StdWrite::new(io::writer(rt));
-    match write_verdict(rt, alloc, &mut reader, &mut writer) {
-        Ok(is_good) => Ok(is_good),
+) -> Result<Audited, Failure> {
+    let mut reader = CountedBytes::new(open_recording(rt, alloc, name)?);
+    match audit_contents(rt, alloc, &mut reader) {
+        Ok(judged) => {
+            let bytes = reader.bytes();
+            Ok(Audited { judged, bytes })
+        }
         Err(fault) => Err(Failure::in_reading(alloc, fault, Named::Recording(name))),
     }
 }
 
-// Prints the verdict on a recording after the name of its file.
-fn print_verdict<R: Print>(
-    rt: &R,
+// Writes the verdict on a recording after the name of its file.
+fn write_named<W: DevWrite>(
     alloc: Global,
     name: &str,
     verdict: &Verdict,
+    writer: &mut W,
 ) -> Result<(), DeviceFault> {
     let line = format!(in alloc; "{name}: {verdict}\n")?;
-    write_text(&mut StdWrite::new(io::writer(rt)), line.as_bytes())
+    write_text(writer, line.as_bytes())
 }
 
-// Prints the verdict on a recording, and what it holds, as JSON.
-fn print_object<R: Files + Print>(
-    rt: &R,
-    alloc: Global,
-    name: &str,
-    verdict: &Verdict,
-) -> Result<(), Failure> {
-    let mut reader = CountedBytes::new(open_recording(rt, alloc, name)?);
-    let mut writer = StdWrite::new(io::writer(rt));
-    match write_judged(alloc, name, verdict, &mut reader, &mut writer) {
-        Ok(()) => Ok(()),
-        Err(fault) => Err(Failure::in_reading(alloc, fault, Named::Recording(name))),
+impl Auditor {
+    // Writes the verdict on a recording: alone, after the name of its file, or as an object.
+    fn write_verdict<W: DevWrite>(
+        self,
+        alloc: Global,
+        name: &str,
+        audited: &Audited,
+        writer: &mut W,
+    ) -> Result<(), DeviceFault> {
+        let judged = &audited.judged;
+        if self.json {
+            return write_judged(alloc, name, judged, audited.bytes, writer);
+        }
+        if self.is_alone {
+            write_verdict_line(alloc, &judged.verdict, writer)?;
+            return Ok(());
+        }
+        write_named(alloc, name, &judged.verdict, writer)
+    }
+
+    // Writes what a recording does not have: a line for each gap, or one on standard error.
+    fn write_missing<R: Eprint, W: DevWrite>(
+        self,
+        rt: &R,
+        alloc: Global,
+        name: &str,
+        contents: &Contents,
+        writer: &mut W,
+    ) -> Result<(), DeviceFault> {
+        if self.json {
+            return Ok(());
+        }
+        if self.complete {
+            let file = if self.is_alone { None } else { Some(name) };
+            return write_gaps(alloc, file, contents, writer);
+        }
+        print_missing(rt, name, contents);
+        Ok(())
+    }
+
+    // Returns whether a recording is good, and complete if it has to be.
+    fn accepts(self, judged: &Viewed<Contents>) -> bool {
+        let is_enough = !self.complete || judged.shown.is_complete();
+        judged.verdict.is_good() && is_enough
+    }
+
+    // Audits the recording in the file `name`, and prints the verdict and what it does not have. Returns whether it is
+    // accepted.
+    fn audit<R: Files + Print + Eprint + Threads + Sync>(
+        self,
+        rt: &R,
+        alloc: Global,
+        name: &str,
+    ) -> Result<bool, Failure> {
+        let audited = audit_file(rt, alloc, name)?;
+        let mut writer = StdWrite::new(io::writer(rt));
+        self.write_verdict(alloc, name, &audited, &mut writer)?;
+        let judged = &audited.judged;
+        self.write_missing(rt, alloc, name, &judged.shown, &mut writer)?;
+        print_fault(rt, alloc, name, &judged.verdict);
+        Ok(self.accepts(judged))
     }
 }
 
-// Judges the recording in the file `name`, and prints the file and the verdict. Returns `true` if the recording is good.
-fn audit_one_of<R: Files + Print + Threads + Sync>(
-    rt: &R,
-    alloc: Global,
-    name: &str,
-    json: bool,
-) -> Result<bool, Failure> {
-    let mut reader = open_recording(rt, alloc, name)?;
-    let verdict = match audit_from(rt, alloc, &mut reader) {
-        Ok(verdict) => verdict,
-        Err(fault) => return Err(Failure::in_reading(alloc, fault, Named::Recording(name))),
-    };
-    if json {
-        print_object(rt, alloc, name, &verdict)?;
-    } else {
-        print_verdict(rt, alloc, name, &verdict)?;
-    }
-    Ok(verdict.is_good())
-}
-
-// Judges recordings one after another. One that cannot be read is named on standard error, and the others are judged.
+// Audits recordings one after another. One that cannot be read is named on standard error, and the others are audited.
 // Returns the failure of the last such file.
 fn audit_each<R: Files + Print + Eprint + Threads + Sync>(
     rt: &R,
     alloc: Global,
-    audit: &Audit<'_>,
+    names: &[&str],
+    auditor: Auditor,
 ) -> Result<bool, Failure> {
     let mut are_good = true;
     let mut unread: Option<Failure> = None;
-    for name in &audit.files {
-        match audit_one_of(rt, alloc, name, audit.json) {
+    for name in names {
+        match auditor.audit(rt, alloc, name) {
             Ok(is_good) => are_good = are_good && is_good,
             Err(failure) => {
                 if let Some(before) = unread {
@@ -100,15 +149,19 @@ fn audit_each<R: Files + Print + Eprint + Threads + Sync>(
     }
 }
 
-/// Judges recordings, and prints the verdicts: of one file the verdict alone, of several a line each that begins with the
-/// file, and with `json` an object each. Returns `true` if each recording is good, and `Read` if a file cannot be read.
+/// Audits recordings, and prints the verdicts: of one file the verdict alone, of several a line each that begins with the
+/// file, and with `json` an object each. Chapters that are missing have a line each after that with `complete`, and one
+/// line on standard error without. Returns `true` if each recording is good, and also complete with `complete`; `Read` if a
+/// file cannot be read.
 pub(crate) fn audit_files<R: Files + Print + Eprint + Threads + Sync>(
     rt: &R,
     alloc: Global,
     audit: &Audit<'_>,
 ) -> Result<bool, Failure> {
-    match audit.files.as_slice() {
-        [name] if !audit.json => audit_file(rt, alloc, name),
-        _ => audit_each(rt, alloc, audit),
-    }
+    let auditor = Auditor {
+        json: audit.json,
+        complete: audit.complete,
+        is_alone: audit.files.len() == 1,
+    };
+    audit_each(rt, alloc, &audit.files, auditor)
 }

@@ -1,28 +1,25 @@
 //! Why management lines are refused, for a person.
 
+use crate::commands::{nearest, word_at, words_of};
 use crate::misfits::{Field, Misfit, misfit_in};
+use crate::refusals::{Refused, refused_event, refused_rates};
+use pon_line::{Reading, read_line};
 use pon_manage::Notes;
 use pon_plant::Plant;
-use pon_port::Port;
-use pon_text::{count_words, cut, first_word, number_of};
-use pon_units::PortNo;
+use pon_text::{cut, number_of};
+use std::alloc::Global;
 use std::fmt::{self, Display, Formatter, Write};
 use std::str;
 
-/// Number of words before the arguments of a command: the port and the command.
-const HEAD_WORDS: usize = 2;
+/// The place of the command in a line, counted from 0, and of the first rate of a descriptor, by its command.
+const COMMAND_PLACE: usize = 1;
 
-/// The place of the frame in a report, counted from 0.
-const FRAME_PLACE: usize = 2;
+const RATE_PLACES: [(&str, usize); 2] = [("admit", 4), ("change", 3)];
 
-/// The codes of refusals.
-const UNKNOWN_COMMAND: &str = "L1";
+/// The letters of a code, as L2 or E12.
+const LINE_CODE_LETTERS: usize = 2;
 
-const WORD_COUNT: &str = "L2";
-
-const NO_PORT: &str = "L4";
-
-const STALE: &str = "E13";
+const CODE_LETTERS: usize = 3;
 
 /// The codes of refusals for a word: any field, or the field whose range it is out of.
 const MISFITS: [(&str, Option<Field>); 4] = [
@@ -37,16 +34,28 @@ const MISFITS: [(&str, Option<Field>); 4] = [
 enum Reason<'a> {
     /// A word is not what its place requires.
     Word(Misfit<'a>),
-    /// The second word is no command.
-    Command,
-    /// The line has this number of words.
-    Count(usize),
+    /// The second word is no command; it may be meant for this one.
+    Command {
+        word: &'a str,
+        meant: Option<&'static str>,
+    },
+    /// The command takes these words.
+    Words {
+        command: &'a str,
+        takes: &'static str,
+    },
+    /// There is no command.
+    OneWord,
     /// There is no such port; there are this many.
     NoPort(usize),
-    /// The frame of a report is not made yet; the next one is this.
-    NotMade { frame: u64, next: u64 },
-    /// The frame of a report is too old; the first for which a report may come is this, if there is one.
-    TooOld { frame: u64, first: Option<u64> },
+    /// The port has made no map.
+    NoMap,
+    /// The line is too long.
+    Long,
+    /// A byte of the line is none of a text.
+    NoText,
+    /// The port refuses the event.
+    Event(Refused),
     /// The reply says all.
     Reply(&'a str),
 }
@@ -55,93 +64,150 @@ impl Display for Reason<'_> {
     fn fmt<W: Write>(&self, f: &mut Formatter<W>) -> fmt::Result {
         match *self {
             Reason::Word(misfit) => write!(f, "{misfit}"),
-            Reason::Command => f.write_str("word 2 is no command"),
-            Reason::Count(count) => write!(f, "its command does not take {count} words"),
+            Reason::Command {
+                word,
+                meant: Some(meant),
+            } => write!(f, "no command \"{word}\"; did you mean {meant}?"),
+            Reason::Command { word, meant: None } => {
+                write!(f, "no command \"{word}\"; <port> help lists the commands")
+            }
+            Reason::Words { command, takes } => write!(f, "{command} takes {takes}"),
+            Reason::OneWord => f.write_str("a line has a port and a command, as 0 help"),
             Reason::NoPort(count) => write!(f, "word 1 is no port, of {count} from 0 on"),
-            Reason::NotMade { frame, next } => {
-                write!(f, "frame {frame} is not made yet, the next is {next}")
-            }
-            Reason::TooOld {
-                frame,
-                first: Some(first),
-            } => write!(f, "frame {frame} is too old, the first is {first}"),
-            Reason::TooOld { frame, first: None } => {
-                write!(f, "frame {frame} is too old, no map waits for a report")
-            }
+            Reason::NoMap => f.write_str("the port has made no map in its chapter"),
+            Reason::Long => f.write_str("the line is too long"),
+            Reason::NoText => f.write_str("a byte is no tab and no printable ASCII character"),
+            Reason::Event(refused) => write!(f, "{refused}"),
             Reason::Reply(text) => f.write_str(text),
         }
     }
 }
 
-// Returns the first word of a line that is not what its place requires, or the reply if there is none.
-fn reason_of_word<'a>(line: &'a [u8], of: Option<Field>, reply: &'a str) -> Reason<'a> {
-    match misfit_in(line, of) {
-        Some(misfit) => Reason::Word(misfit),
-        None => Reason::Reply(reply),
-    }
+// Returns why a second word is no command.
+fn reason_of_command(alloc: Global, line: &[u8]) -> Option<Reason<'_>> {
+    let word = word_at(line, COMMAND_PLACE)?;
+    Some(Reason::Command {
+        word,
+        meant: nearest(alloc, word),
+    })
 }
 
-// Returns why a report for a frame is stale at a port.
-fn reason_of_frame<'a>(port: &Port, frame: u64) -> Reason<'a> {
-    let next = port.state().next_frame().get();
-    if frame >= next {
-        return Reason::NotMade { frame, next };
-    }
-    let maps = port.state().loads().window().maps();
-    let first = maps.first().map(|map| map.frame().get());
-    Reason::TooOld { frame, first }
+// Returns why a line has too few or too many words.
+fn reason_of_count(line: &[u8]) -> Option<Reason<'_>> {
+    let Some(command) = word_at(line, COMMAND_PLACE) else {
+        return Some(Reason::OneWord);
+    };
+    Some(Reason::Words {
+        command,
+        takes: words_of(command)?,
+    })
 }
 
-// Returns the number that the word at a place of a line writes, counted from 0.
+// Returns the number that a word of a line writes.
 fn number_at(line: &[u8], place: usize) -> Option<u64> {
-    let mut rest = line;
-    for _before in 0..place {
-        rest = first_word(rest)?.rest;
+    number_of(word_at(line, place)?.as_bytes())
+}
+
+// Returns why the descriptor of a line is refused by this code.
+fn reason_of_rates<'a>(line: &[u8], code: &str) -> Option<Reason<'a>> {
+    let command = word_at(line, COMMAND_PLACE)?;
+    for (name, place) in RATE_PLACES {
+        if name == command {
+            let rates = [
+                number_at(line, place)?,
+                number_at(line, place + 1)?,
+                number_at(line, place + 2)?,
+            ];
+            return Some(Reason::Event(refused_rates(code, rates)?));
+        }
     }
-    number_of(first_word(rest)?.word)
+    None
 }
 
-// Returns the port that a line names.
-fn port_of<'a>(plant: &'a Plant, line: &[u8]) -> Option<&'a Port> {
-    let number = number_at(line, 0)?;
-    let number = PortNo::new(u8::try_from(number).ok()?)?;
-    plant.port(number)
+// Returns why the port of a line refuses what it asks for, by this code.
+fn reason_of_event<'a>(
+    alloc: Global,
+    plant: &Plant,
+    line: &[u8],
+    code: &str,
+) -> Option<Reason<'a>> {
+    match read_line(plant.count(), line) {
+        Reading::Asks { port, event } => {
+            let refused = refused_event(alloc, code, plant, port, &event)?;
+            Some(Reason::Event(refused))
+        }
+        Reading::AsksWhy { alloc_id, .. } if code == "E01" => {
+            let alloc = alloc_id.get();
+            Some(Reason::Event(Refused::NotAdmitted { alloc }))
+        }
+        _ => None,
+    }
 }
 
-// Returns why a report is stale, or the reply if its line names no frame.
-fn reason_of_report<'a>(plant: &Plant, line: &[u8], reply: &'a str) -> Reason<'a> {
-    match (port_of(plant, line), number_at(line, FRAME_PLACE)) {
-        (Some(port), Some(frame)) => reason_of_frame(port, frame),
-        _ => Reason::Reply(reply),
+// Returns the first word of a line that is not what its place requires, if the code is of one.
+fn reason_of_word<'a>(line: &'a [u8], reply: &str) -> Option<Reason<'a>> {
+    for (code, of) in MISFITS {
+        if reply.starts_with(code) {
+            return Some(Reason::Word(misfit_in(line, of)?));
+        }
+    }
+    None
+}
+
+// Returns why a line is refused that asks no port for anything.
+fn reason_of_form<'a>(
+    alloc: Global,
+    plant: &Plant,
+    line: &'a [u8],
+    reply: &str,
+) -> Option<Reason<'a>> {
+    if reply.starts_with("L1") {
+        return reason_of_command(alloc, line);
+    }
+    if reply.starts_with("L2") {
+        return reason_of_count(line);
+    }
+    if reply.starts_with("L4") {
+        return Some(Reason::NoPort(plant.count()));
+    }
+    match reply.get(..LINE_CODE_LETTERS) {
+        Some("L5") => Some(Reason::NoMap),
+        Some("L6") => Some(Reason::Long),
+        Some("L7") => Some(Reason::NoText),
+        _ => reason_of_word(line, reply),
     }
 }
 
 // Returns why a line got this reply.
-fn reason_of<'a>(plant: &Plant, line: &'a [u8], reply: &'a str) -> Reason<'a> {
-    for (code, of) in MISFITS {
-        if reply.starts_with(code) {
-            return reason_of_word(line, of, reply);
-        }
+fn reason_of<'a>(alloc: Global, plant: &Plant, line: &'a [u8], reply: &'a str) -> Reason<'a> {
+    if let Some(reason) = reason_of_form(alloc, plant, line, reply) {
+        return reason;
     }
-    if reply.starts_with(UNKNOWN_COMMAND) {
-        return Reason::Command;
+    let Some(code) = reply.get(..CODE_LETTERS) else {
+        return Reason::Reply(reply);
+    };
+    if let Some(reason) = reason_of_rates(line, code) {
+        return reason;
     }
-    if reply.starts_with(WORD_COUNT) {
-        return Reason::Count(count_words(line).saturating_sub(HEAD_WORDS));
+    match reason_of_event(alloc, plant, line, code) {
+        Some(reason) => reason,
+        None => Reason::Reply(reply),
     }
-    if reply.starts_with(NO_PORT) {
-        return Reason::NoPort(plant.count());
+}
+
+// Returns the code of a reply, its first word.
+fn code_of(reply: &str) -> &str {
+    match reply.split_once(' ') {
+        Some((code, _)) => code,
+        None => reply,
     }
-    if reply.starts_with(STALE) {
-        return reason_of_report(plant, line, reply);
-    }
-    Reason::Reply(reply)
 }
 
 /// Prints a line to standard error for each refused line, with its number and the reason, if that is wanted.
 #[derive(Drop)]
 pub(crate) struct Explainer<'a, R> {
     pub(crate) rt: &'a R,
+    pub(crate) alloc: Global,
     pub(crate) verbose: bool,
 }
 
@@ -159,7 +225,8 @@ impl<'a, R: Eprint> Notes for Explainer<'a, R> {
         let Ok(reply) = str::from_utf8(reply) else {
             return;
         };
-        let reason = reason_of(plant, line, reply);
-        let _ = eprintln!(self.rt; "line {number}: {reason}");
+        let code = code_of(reply);
+        let reason = reason_of(self.alloc, plant, line, reply);
+        let _ = eprintln!(self.rt; "line {number}: {code}: {reason}");
     }
 }

@@ -1,29 +1,12 @@
-//! Opening, reading and writing the files that the command line names.
-
-ghost use Rattle.std.specs.Prelude.{◌≡◌, OnOk};
-ghost use Rattle.pon_files.specs.declared.part.Progress.TheVariants.{Named as HasName};
+//! The recordings that the command line names.
 
 use pon_device::{DeviceFault, StdRead};
-use pon_files::PartFile;
+use pon_files::open_input;
 use pon_job::{Failure, Named};
 use pon_record::Version;
 use std::alloc::{AllocError, Global};
-use std::fs::{self, OpenFile};
-use std::io::{self, BufReader, Read, Write};
+use std::io::{self, BufReader, Read};
 use std::rt::Files;
-
-/// Opens the file `name`, which is named so in the text of a failure. Returns `Read` if it cannot be opened.
-pub(crate) fn open_file<R: Files>(
-    rt: &R,
-    alloc: Global,
-    name: &str,
-    named: Named<'_>,
-) -> Result<R::File, Failure> {
-    match fs::open(rt, name) {
-        Ok(file) => Ok(file),
-        Err(error) => Err(Failure::of(alloc, DeviceFault::Read, named, &error)),
-    }
-}
 
 /// Opens the recording in the file `name`. Returns `Read` if it cannot be opened, and `Memory` if memory is refused.
 pub(crate) fn open_recording<R: Files>(
@@ -31,7 +14,7 @@ pub(crate) fn open_recording<R: Files>(
     alloc: Global,
     name: &str,
 ) -> Result<StdRead<BufReader<R::File>>, Failure> {
-    let file = open_file(rt, alloc, name, Named::Recording(name))?;
+    let file = open_input(rt, alloc, Named::Recording(name))?;
     let input = BufReader::new(alloc, file).map_err(|_| AllocError)?;
     Ok(StdRead::new(input))
 }
@@ -54,49 +37,10 @@ pub(crate) fn first_version_in<R: Files>(
     name: &str,
 ) -> Result<Vec<u8>, Failure> {
     let named = Named::Recording(name);
-    let mut file = open_file(rt, alloc, name, named)?;
+    let mut file = open_input(rt, alloc, named)?;
     let mut bytes = Vec::new(alloc);
     match read_first_version(&mut file, &mut bytes) {
         Ok(()) => Ok(bytes),
         Err(error) => Err(Failure::of(alloc, DeviceFault::Read, named, &error)),
-    }
-}
-
-// Writes bytes to a part, and gives it the name of its file.
-fn fill<F: OpenFile + Write, R: Files>(
-    rt: &R,
-    file: &mut PartFile<F>,
-    bytes: &[u8],
-) -> io::Result<()>
-    ensures { OnOk result (file.new ≡ HasName) }
-{
-    file.write_all(bytes)?;
-    file.keep(rt)
-}
-
-// Writes bytes as the file `out`. After an error its part is removed.
-fn write_whole<R: Files>(rt: &R, alloc: Global, out: &str, bytes: &[u8]) -> io::Result<()> {
-    let mut file = PartFile::<R::File>::create(rt, alloc, out)?;
-    let filled = fill(rt, &mut file, bytes);
-    if filled.is_err() {
-        file.discard(rt);
-    }
-    filled
-}
-
-/// Writes bytes as the file `out`, which is named so in the text of a failure, and is replaced if there is one. After a
-/// failure a file `out` is as before, and no part of it is left.
-///
-/// Returns `Write` if the file cannot be created, written, synced or renamed, and `Memory` if memory is refused.
-pub(crate) fn replace_file<R: Files>(
-    rt: &R,
-    alloc: Global,
-    named: Named<'_>,
-    out: &str,
-    bytes: &[u8],
-) -> Result<(), Failure> {
-    match write_whole(rt, alloc, out, bytes) {
-        Ok(()) => Ok(()),
-        Err(error) => Err(Failure::of(alloc, DeviceFault::Write, named, &error)),
     }
 }

@@ -3,9 +3,13 @@
 ghost use Rattle.std.specs.Prelude.{◌≡◌, None};
 ghost use Rattle.pon_device.specs.declared.fault.DeviceFault.TheVariants.{Memory, Write};
 
-use crate::files::{open_recording, replace_file};
+use crate::faulty::print_fault;
+use crate::files::open_recording;
+use crate::opening::NotOpened;
+use crate::piped::Piped;
 use pon_audit::Verdict;
 use pon_device::{DevRead, DevWrite, DeviceFault, MemWrite, StdWrite, write_text};
+use pon_files::{Inputs, LockFile, Output, write_file};
 use pon_job::{Failure, Named, Part, Show, View};
 use pon_look::{
     Answer, CountedBytes, Format, LoadsQuery, Missing, Picture, RatesQuery, Viewed, WhyQuery,
@@ -75,6 +79,19 @@ fn draw<D: DevRead>(
     }
 }
 
+// Returns the file of a picture. `None` if the command line names none.
+fn output_of<'a>(show: &Show<'a>) -> Option<Output<'a>> {
+    Some(Output {
+        named: Named::Picture(show.svg?),
+        no_clobber: show.no_clobber,
+        inputs: Inputs {
+            settings: None,
+            lines: None,
+            recording: Some(show.file),
+        },
+    })
+}
+
 // Prints a picture, and before that writes it to a file, if the command line names one.
 fn print_picture<R: Files, W: DevWrite>(
     rt: &R,
@@ -82,10 +99,12 @@ fn print_picture<R: Files, W: DevWrite>(
     picture: &Picture,
     show: &Show<'_>,
     writer: &mut W,
-) -> Result<(), Failure> {
-    if let Some(file) = show.svg {
-        let named = Named::Picture(file);
-        replace_file(rt, alloc, named, file, picture.svg.as_bytes())?;
+) -> Result<(), Failure>
+where
+    R::File: LockFile,
+{
+    if let Some(output) = output_of(show) {
+        write_file(rt, alloc, &output, picture.svg.as_bytes())?;
     }
     write_text(writer, picture.text.as_bytes())?;
     Ok(())
@@ -98,7 +117,10 @@ fn show_picture<R: Files + Threads + Sync, D: DevRead, W: DevWrite>(
     reader: &mut D,
     show: &Show<'_>,
     writer: &mut W,
-) -> Result<Viewed<Answer>, Failure> {
+) -> Result<Viewed<Answer>, Failure>
+where
+    R::File: LockFile,
+{
     let Viewed { verdict, shown } = match draw(rt, alloc, reader, show) {
         Ok(viewed) => viewed,
         Err(fault) => {
@@ -122,7 +144,10 @@ fn show_part<R: Files + Threads + Sync, W: DevWrite>(
     alloc: Global,
     show: &Show<'_>,
     writer: &mut W,
-) -> Result<Viewed<Answer>, Failure> {
+) -> Result<Viewed<Answer>, Failure>
+where
+    R::File: LockFile,
+{
     let mut reader = CountedBytes::new(open_recording(rt, alloc, show.file)?);
     let format = if show.json {
         Format::Json
@@ -145,10 +170,11 @@ fn show_part<R: Files + Threads + Sync, W: DevWrite>(
     }
 }
 
-// Prints the verdict to standard error if it is not good.
-fn print_verdict(rt: &impl Eprint, verdict: &Verdict) {
+// Prints the verdict to standard error if it is not good, and a line that explains it.
+fn print_verdict<R: Files + Eprint>(rt: &R, alloc: Global, name: &str, verdict: &Verdict) {
     if !verdict.is_good() {
         let _ = eprintln!(rt; "olt: {verdict}");
+        print_fault(rt, alloc, name, verdict);
     }
 }
 
@@ -172,13 +198,16 @@ fn show_after_verdict<R: Files + Eprint + Threads + Sync, W: DevWrite>(
     alloc: Global,
     show: &Show<'_>,
     writer: &mut W,
-) -> Result<Viewed<Answer>, Failure> {
+) -> Result<Viewed<Answer>, Failure>
+where
+    R::File: LockFile,
+{
     let mut held = MemWrite::new(alloc, usize::MAX, Vec::new(alloc));
     let viewed = match show_part(rt, alloc, show, &mut held) {
         Ok(viewed) => viewed,
         Err(failure) => return Err(held_failure(failure)),
     };
-    print_verdict(rt, &viewed.verdict);
+    print_verdict(rt, alloc, show.file, &viewed.verdict);
     write_text(writer, held.bytes())?;
     Ok(viewed)
 }
@@ -190,10 +219,43 @@ fn show_events<R: Files + Eprint + Threads + Sync, W: DevWrite>(
     alloc: Global,
     show: &Show<'_>,
     writer: &mut W,
-) -> Result<Viewed<Answer>, Failure> {
+) -> Result<Viewed<Answer>, Failure>
+where
+    R::File: LockFile,
+{
     let viewed = show_part(rt, alloc, show, writer)?;
-    print_verdict(rt, &viewed.verdict);
+    print_verdict(rt, alloc, show.file, &viewed.verdict);
     Ok(viewed)
+}
+
+// Returns how a view ended. If its reader went away, that is no failure.
+fn end_of(
+    ended: Result<Viewed<Answer>, Failure>,
+    is_closed: bool,
+) -> Result<Viewed<Answer>, NotOpened> {
+    match ended {
+        Ok(viewed) => Ok(viewed),
+        Err(failure) if is_closed && failure.fault == DeviceFault::Write => {
+            Err(NotOpened::PipeClosed)
+        }
+        Err(failure) => Err(NotOpened::Failed(failure)),
+    }
+}
+
+// Shows a part of a recording, and prints its verdict if it is not good.
+fn show_and_judge<R: Files + Eprint + Threads + Sync, W: DevWrite>(
+    rt: &R,
+    alloc: Global,
+    show: &Show<'_>,
+    writer: &mut W,
+) -> Result<Viewed<Answer>, Failure>
+where
+    R::File: LockFile,
+{
+    match show.view {
+        View::Dump => show_events(rt, alloc, show, writer),
+        _ => show_after_verdict(rt, alloc, show, writer),
+    }
 }
 
 /// Shows a part of a recording, after the verdict of its audit on standard error if it is not good; events come before it.
@@ -202,12 +264,13 @@ pub(crate) fn show_recording<R: Files + Print + Eprint + Threads + Sync>(
     rt: &R,
     alloc: Global,
     show: &Show<'_>,
-) -> Result<bool, Failure> {
-    let mut writer = StdWrite::new(io::writer(rt));
-    let Viewed { verdict, shown } = match show.view {
-        View::Dump => show_events(rt, alloc, show, &mut writer)?,
-        _ => show_after_verdict(rt, alloc, show, &mut writer)?,
-    };
+) -> Result<bool, NotOpened>
+where
+    R::File: LockFile,
+{
+    let mut output = Piped::new(io::writer(rt));
+    let ended = show_and_judge(rt, alloc, show, &mut StdWrite::new(&mut output));
+    let Viewed { verdict, shown } = end_of(ended, output.is_closed())?;
     match shown {
         Answer::Shown => Ok(verdict.is_good()),
         Answer::NotFound(missing) => {

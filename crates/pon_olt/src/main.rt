@@ -10,18 +10,21 @@ ghost use Rattle.std.specs.Prelude.{◌≡◌, Err, IfOk, Ok};
 ghost use Rattle.pon_job.specs.Outcomes.{exit_status, outcome_of_job};
 
 mod auditing;
+mod commands;
 mod explaining;
+mod faulty;
 mod files;
 mod looking;
 mod migrating;
 mod misfits;
 mod opening;
+mod piped;
 mod planning;
+mod refusals;
 mod running;
 mod watching;
 
 use crate::auditing::audit_files;
-use crate::files::open_file;
 use crate::looking::show_recording;
 use crate::migrating::migrate_file;
 use crate::opening::NotOpened;
@@ -31,6 +34,7 @@ use clap::Error;
 pub use pon_audit::{audit, audit_from, write_verdict};
 pub use pon_check_file::check_file;
 use pon_device::{DeviceFault, StdRead, StdWrite};
+use pon_files::{LockFile, open_input};
 pub use pon_job::job;
 use pon_job::{Failure, Job, Named, Outcome, exit_status, outcome_of_job, outcome_of_words};
 pub use pon_manage::plan;
@@ -40,6 +44,7 @@ pub use pon_sockets::run_units;
 use std::alloc::{AllocError, Global};
 use std::io::{self, BufReader};
 use std::net::{Net, TcpListener, TcpStream};
+use std::os::fd::AsRawFd;
 use std::process::ExitCode;
 use std::rt::Files;
 use std::sync::Wait;
@@ -57,7 +62,7 @@ fn print_refusal(rt: &impl Eprint, line: &str) -> Outcome
 // Judges the certificate of a check file. Returns `Read` if the file cannot be opened.
 fn judge_file<R: Files + Print>(rt: &R, alloc: Global, name: &str) -> Result<bool, Failure> {
     let named = Named::CheckFile(name);
-    let file = open_file(rt, alloc, name, named)?;
+    let file = open_input(rt, alloc, named)?;
     let input = BufReader::new(alloc, file).map_err(|_| AllocError)?;
     let mut reader = StdRead::new(input);
     let mut writer = StdWrite::new(io::writer(rt));
@@ -119,6 +124,7 @@ fn outcome_of_end(rt: &impl Eprint, job: &Job<'_>, ended: Result<bool, NotOpened
             outcome_of_job(job, Err(failure.fault))
         }
         Err(NotOpened::Refused(line)) => print_refusal(rt, &line),
+        Err(NotOpened::PipeClosed) => Outcome::PipeClosed,
     }
 }
 
@@ -128,6 +134,7 @@ fn status_of(rt: &impl Eprint, ended: Result<u8, NotOpened>) -> u8 {
         Ok(status) => status,
         Err(NotOpened::Failed(failure)) => exit_status(print_failure(rt, &failure)),
         Err(NotOpened::Refused(line)) => exit_status(print_refusal(rt, &line)),
+        Err(NotOpened::PipeClosed) => exit_status(Outcome::PipeClosed),
     }
 }
 
@@ -143,7 +150,7 @@ where
         + Wait
         + Clock
         + Sync,
-    R::File: Send,
+    R::File: AsRawFd + LockFile + Send,
 {
     let job = match job(alloc, words) {
         Ok(job) => job,
@@ -153,8 +160,8 @@ where
         Job::Plan(plan) => run_plan(rt, alloc, plan),
         Job::Check { file } => judge_file(rt, alloc, file).map_err(NotOpened::Failed),
         Job::Audit(audit) => audit_files(rt, alloc, audit).map_err(NotOpened::Failed),
-        Job::Show(show) => show_recording(rt, alloc, show).map_err(NotOpened::Failed),
-        Job::Migrate { file, out } => migrate_file(rt, alloc, file, out).map_err(NotOpened::Failed),
+        Job::Show(show) => show_recording(rt, alloc, show),
+        Job::Migrate(migration) => migrate_file(rt, alloc, migration).map_err(NotOpened::Failed),
         Job::Run(run) => return status_of(rt, run_settings(rt, alloc, run)),
         Job::Units(units) => return status_of(rt, connect_units(rt, alloc, units)),
     };

@@ -1,8 +1,9 @@
 //! The migration of a recording in a file.
 
-use crate::files::{first_version_in, replace_file};
+use crate::files::first_version_in;
 use pon_device::{DeviceFault, StdWrite, write_text};
-use pon_job::{Failure, Named};
+use pon_files::{Inputs, LockFile, Output, write_file};
+use pon_job::{Failure, Migration, Named};
 use pon_record::{ReadFault, chapter_count, migrate};
 use std::alloc::{AllocError, Global};
 use std::io;
@@ -14,18 +15,33 @@ fn print_line<R: Print>(rt: &R, line: Result<String, AllocError>) -> Result<(), 
     write_text(&mut StdWrite::new(io::writer(rt)), line.as_bytes())
 }
 
-/// Migrates the recording in the file `name` to the file `out`, and prints the number of its chapters, or the fault of the
-/// recording, without a file `out`. Returns `true` if the recording was migrated.
+// Returns the file that a migration writes.
+fn output_of<'a>(migration: &Migration<'a>) -> Output<'a> {
+    Output {
+        named: Named::Recording(migration.out),
+        no_clobber: migration.no_clobber,
+        inputs: Inputs {
+            settings: None,
+            lines: None,
+            recording: Some(migration.file),
+        },
+    }
+}
+
+/// Migrates a recording to the file that is to be written, and prints the number of its chapters, or the fault of the
+/// recording, without such a file. Returns `true` if the recording was migrated.
 pub(crate) fn migrate_file<R: Files + Print>(
     rt: &R,
     alloc: Global,
-    name: &str,
-    out: &str,
-) -> Result<bool, Failure> {
-    let bytes = first_version_in(rt, alloc, name)?;
+    migration: &Migration<'_>,
+) -> Result<bool, Failure>
+where
+    R::File: LockFile,
+{
+    let bytes = first_version_in(rt, alloc, migration.file)?;
     let fault = match migrate(alloc, &bytes) {
         Ok(recording) => {
-            replace_file(rt, alloc, Named::Recording(out), out, &recording)?;
+            write_file(rt, alloc, &output_of(migration), &recording)?;
             let chapters = chapter_count(&recording);
             print_line(rt, format!(in alloc; "migrated chapters {chapters}\n"))?;
             return Ok(true);

@@ -5,8 +5,8 @@ ghost use Rattle.pon_plant.specs.Plants.{IsPlantSize};
 ghost use Rattle.toml.specs.Parse.{parse_document};
 ghost use Rattle.pon_settings.specs.Ports.{IsOpening, Spells, openings, steps_from};
 
-use crate::files::open_file;
 use pon_device::DeviceFault;
+use pon_files::open_input;
 use pon_job::{Failure, Named};
 use pon_manage::Opening;
 use pon_port::PortCfg;
@@ -35,6 +35,8 @@ pub(crate) enum NotOpened {
     Failed(Failure),
     /// The settings are refused. The text names the place, and the rule that is broken.
     Refused(String),
+    /// The reader of the text went away.
+    PipeClosed,
 }
 
 impl From<Failure> for NotOpened {
@@ -123,7 +125,7 @@ fn refused_as(alloc: Global, rule: &str) -> NotOpened {
 // Reads the settings file `name`. Returns `Failed` with `Read` if it cannot be opened or read.
 fn text_of<R: Files>(rt: &R, alloc: Global, name: &str) -> Result<String, NotOpened> {
     let named = Named::Settings(name);
-    let file = open_file(rt, alloc, name, named)?;
+    let file = open_input(rt, alloc, named)?;
     match io::read_to_string(alloc, file.take(MAX_BYTES + 1)) {
         Ok(text) if text.len() as u64 <= MAX_BYTES => Ok(text),
         Ok(_) => Err(refused_as(alloc, "the file has more than 16777216 bytes")),

@@ -7,9 +7,10 @@ use crate::explaining::Explainer;
 use crate::opening::{NotOpened, with_settings, without_settings};
 use crate::watching::Watched;
 use pon_device::{DevRead, DevWrite, DeviceFault, StdRead, StdWrite};
-use pon_files::{RecordArgs, begin_recording, end_recording};
-use pon_job::{Failure, Plan};
+use pon_files::{FileTape, Inputs, LockFile, Output, begin_recording, end_recording};
+use pon_job::{Failure, Named, Plan};
 use pon_manage::{Opening, PlanEnd, RecordedPlan, plan, plan_recorded};
+use pon_recorder::{Recorder, open_recorder};
 use std::alloc::{AllocError, Global};
 use std::io::{self, BufReader};
 use std::rt::Files;
@@ -33,13 +34,31 @@ fn end_of(lines: Result<PlanEnd, DeviceFault>, recorded: Result<(), Failure>) ->
 }
 
 // Returns the recording of the ports that is wanted, if one is.
-fn recording_of<'a>(job: &Plan<'a>) -> Option<RecordArgs<'a>> {
-    Some(RecordArgs {
-        file: job.record?,
+fn output_of<'a>(job: &Plan<'a>) -> Option<Output<'a>> {
+    Some(Output {
+        named: Named::Recording(job.record?),
         no_clobber: job.no_clobber,
-        config: job.config,
-        operate: None,
+        inputs: Inputs {
+            settings: job.config,
+            lines: None,
+            recording: None,
+        },
     })
+}
+
+// Begins the recording of the ports, or one in no file if full chapters are forgotten. `None` if a full chapter refuses.
+fn recorder_of<R: Eprint + Files>(
+    rt: &R,
+    alloc: Global,
+    job: &Plan<'_>,
+) -> Result<Option<Recorder<FileTape<R::File>>>, Failure>
+where
+    R::File: LockFile,
+{
+    match output_of(job) {
+        Some(output) => Ok(Some(begin_recording(rt, alloc, &output)?)),
+        None => Ok(open_recorder(alloc, None, job.forget)?),
+    }
 }
 
 // Executes lines, and records the ports if that is wanted.
@@ -51,22 +70,27 @@ fn answer_lines<R: Eprint + Files, I: DevRead, W: DevWrite>(
     reader: &mut I,
     writer: &mut W,
 ) -> Result<(), Failure>
+where
+    R::File: LockFile,
     requires { IsPlantSize (length opening.ports.items) }
 {
     let mut notes = Explainer {
         rt,
+        alloc,
         verbose: job.verbose,
     };
-    let Some(args) = recording_of(job) else {
+    let Some(recorder) = recorder_of(rt, alloc, job)? else {
         let Opening { ports, steps } = opening;
         plan(alloc, ports.as_slice(), steps, &mut notes, reader, writer)?;
         return Ok(());
     };
-    let recorder = begin_recording(rt, alloc, &args)?;
     let RecordedPlan { lines, recording } = plan_recorded(
         alloc, opening, &mut notes, recorder, reader, writer,
     );
-    end_of(lines, end_recording(rt, alloc, args.file, recording))
+    end_of(
+        lines,
+        end_recording(rt, alloc, job.record.unwrap_or(""), recording),
+    )
 }
 
 // Executes the lines of standard input. Returns `false` if they are strict and one was refused.
@@ -76,6 +100,8 @@ fn plan_lines<R: Input + Print + Eprint + Files>(
     opening: Opening,
     job: &Plan<'_>,
 ) -> Result<bool, Failure>
+where
+    R::File: LockFile,
     requires { IsPlantSize (length opening.ports.items) }
 {
     let input = BufReader::new(alloc, rt.reader()).map_err(|_| AllocError)?;
@@ -97,7 +123,10 @@ pub(crate) fn run_plan<R: Input + Print + Eprint + Files>(
     rt: &R,
     alloc: Global,
     job: &Plan<'_>,
-) -> Result<bool, NotOpened> {
+) -> Result<bool, NotOpened>
+where
+    R::File: LockFile,
+{
     let opening = match job.config {
         Some(name) => with_settings(rt, alloc, name)?,
         None => without_settings(alloc)?,

@@ -2,14 +2,18 @@
 
 use crate::opening::{NotOpened, settings_of};
 use pon_device::StdWrite;
-use pon_job::{Run, Units};
+use pon_files::LockFile;
+use pon_job::{Outcome, Run, Units, exit_status};
 use pon_run::{LinesFrom, RunArgs, UnitsPlace, run_ports};
-use pon_sockets::{UnitsArgs, run_units};
+use pon_settings::Settings;
+use pon_sockets::{UnitsArgs, has_room, run_units};
 use pon_units::PortNo;
 use pon_worker::OpenGate;
 use std::alloc::Global;
+use std::fmt::{self, Display, Formatter, Write};
 use std::io;
 use std::net::{Net, TcpListener, TcpStream};
+use std::os::fd::AsRawFd;
 use std::rt::Files;
 use std::sync::Wait;
 use std::thread::Threads;
@@ -50,12 +54,61 @@ fn args_of<'a>(run: &Run<'a>) -> RunArgs<'a> {
         pace: run.meeting.pace,
         record: run.record,
         no_clobber: run.no_clobber,
+        strict_record: run.strict_record,
         config: Some(run.config),
         operate: run.operate.map(lines_of),
         settle: run.settle,
         progress: run.progress,
         summary: run.summary,
     }
+}
+
+/// Why the words of a command line do not fit the settings.
+#[derive(Clone, Copy)]
+enum Misfit {
+    /// The settings have not this port; they have this many.
+    Port { asked: u64, ports: usize },
+    /// The address leaves no TCP port for one of this many.
+    Address { ports: usize },
+}
+
+impl Display for Misfit {
+    fn fmt<W: Write>(&self, f: &mut Formatter<W>) -> fmt::Result {
+        match *self {
+            Misfit::Port { asked, ports } => {
+                write!(f, "port {asked} is not in the settings, which have {ports}")
+            }
+            Misfit::Address { ports } => write!(
+                f,
+                "each of {ports} ports has a TCP port of its own, and the last one is above 65535"
+            ),
+        }
+    }
+}
+
+// Returns whether all ports of a run have a TCP port, if their units come from elsewhere.
+fn misfit_of_run(settings: &Settings, run: &Run<'_>) -> Option<Misfit> {
+    let ports = settings.ports().len();
+    if run.meeting.external && !has_room(run.listen, ports) {
+        return Some(Misfit::Address { ports });
+    }
+    None
+}
+
+// Returns why units cannot connect to the port that is asked for, or to all.
+fn misfit_of_units(settings: &Settings, units: &Units<'_>) -> Option<Misfit> {
+    let ports = settings.ports().len();
+    match units.port {
+        Some(asked) if asked >= ports as u64 => Some(Misfit::Port { asked, ports }),
+        _ if !has_room(units.connect, ports) => Some(Misfit::Address { ports }),
+        _ => None,
+    }
+}
+
+// Says why the words of the command line do not fit the settings. Returns the exit status.
+fn refuse(rt: &impl Eprint, misfit: Misfit) -> u8 {
+    let _ = eprintln!(rt; "error: {misfit}");
+    exit_status(Outcome::CommandLine)
 }
 
 /// Runs the ports of the settings file over sockets. Returns the exit status.
@@ -70,9 +123,12 @@ where
         + Wait
         + Clock
         + Sync,
-    R::File: Send,
+    R::File: AsRawFd + LockFile + Send,
 {
     let settings = settings_of(rt, alloc, run.config)?;
+    if let Some(misfit) = misfit_of_run(&settings, run) {
+        return Ok(refuse(rt, misfit));
+    }
     let mut writer = StdWrite::new(io::writer(rt));
     let args = args_of(run);
     Ok(run_ports(rt, alloc, settings, args, &OpenGate, &mut writer))
@@ -84,6 +140,9 @@ where
     R: Net<Listener = TcpListener, Stream = TcpStream> + Files + Eprint + Threads + Wait + Clock,
 {
     let settings = settings_of(rt, alloc, units.config)?;
+    if let Some(misfit) = misfit_of_units(&settings, units) {
+        return Ok(refuse(rt, misfit));
+    }
     let port = units.port.and_then(|port| u8::try_from(port).ok());
     let args = UnitsArgs {
         connect: units.connect,
