@@ -1,6 +1,9 @@
 # Completion of olt for bash: source this file, or copy it to /usr/share/bash-completion/completions/olt.
 _olt() {
     local current=${COMP_WORDS[COMP_CWORD]} before=${COMP_WORDS[COMP_CWORD - 1]} command=${COMP_WORDS[1]}
+    # The shell makes words of their own of an option's equals sign and its value.
+    [ "$current" = '=' ] && current=
+    [ "$before" = '=' ] && before=${COMP_WORDS[COMP_CWORD - 2]}
     case $before in
         --config | --record | --operate | --svg) mapfile -t COMPREPLY < <(compgen -f -- "$current"); return ;;
         --listen | --connect | --maps | --wait | --pace | --port | --alloc | --frame | --from | --to) return ;;
@@ -12,19 +15,22 @@ _olt() {
         words='plan run check audit info rates why dump picture loads migrate units --help --version'
     else
         case $command in
-            plan) words='--config --strict --verbose --record --no-clobber --help' ;;
-            run) words='--config --listen --maps --units --wait --pace --record --no-clobber --operate --settle --progress --summary --help' ;;
+            help) words='plan run check audit info rates why dump picture loads migrate units' ;;
+            plan) words='--config --strict --verbose --record --no-clobber --forget --help' ;;
+            run) words='--config --listen --maps --units --wait --pace --record --no-clobber --strict-record --operate --settle --progress --summary --help' ;;
             units) words='--config --connect --port --wait --help' ;;
             check | audit | info | rates | why | dump | picture | loads | migrate)
                 case $current in
                     -*)
                         case $command in
-                            audit | info) words='--format --help' ;;
+                            audit) words='--complete --format --help' ;;
+                            info) words='--format --help' ;;
                             rates) words='--port --alloc --from --to --format --help' ;;
                             why) words='--port --frame --alloc --format --help' ;;
                             dump) words='--port --help' ;;
-                            loads) words='--alloc --port --from --to --svg --help' ;;
-                            picture) words='--port --frame --svg --help' ;;
+                            loads) words='--alloc --port --from --to --svg --no-clobber --help' ;;
+                            picture) words='--port --frame --svg --no-clobber --help' ;;
+                            migrate) words='--no-clobber --help' ;;
                             *) words='--help' ;;
                         esac
                         ;;
