@@ -1,0 +1,28 @@
+-- A port that is owned behind a pointer may go to another thread, as a box of a port may.
+use mir.Raw.{raw}
+use base.Shift.{Keyless}
+use denote.Memory.{lone}
+use denote.RawPtr.{Ptr}
+use denote.Struct.Struct.{exits_of}
+use denote.Struct.Owning.{shape, fields, to}
+use denote.Param.Send.{IsSend, AllSend, owning_send, struct_send, sendable}
+use Rattle.std.specs.Prelude.{Some, None}
+use Rattle.std.specs.declared.option.Option.{Option}
+use Rattle.std.specs.Global.{Global}
+use Rattle.std.proofs.Crossing as heap
+use Rattle.std_alloc.proofs.SendSync.{quiet, lies}
+use Rattle.std_heap.proofs.Global.TheSendSync as heap_send
+use Rattle.pon_port.specs.contracts.port.Port as Port
+use Rattle.pon_port.proofs.port.Port.TheSendSync.{the_send as port}
+use Rattle.pon_c.specs.Owned.{port_owns}
+use Rattle.pon_c.specs.contracts.owned.port.OwnedPort.{the_row, the_type}
+
+owned : (alloc : Global) (p : Ptr) (o : Option Port.the_row.Denot) → Keyless (port_owns alloc p o)
+owned alloc p None = tt
+owned alloc p (Some x) = (lies Port.the_row port p x, heap.frees.frees alloc (raw (lone Port.the_row.mir)) p)
+
+pub send : IsSend the_row
+send =
+    let all : AllSend (fields the_type) = (search sendable, (heap_send.the_field_send, tt)) in
+    owning_send the_type all (λ d. owned d.alloc d.ptr d.port)
+    (λ k. quiet (to the_type) (exits_of k (fields the_type)) ((struct_send (shape the_type) all).leaving k))

@@ -1,0 +1,12 @@
+pub mod Answers
+pub mod Arguments
+pub mod Audits
+pub mod Checking
+pub mod Codecs
+pub mod Filling
+pub mod Numbers
+pub mod Owned
+pub mod OwnedChapters
+pub mod States
+pub mod Turning
+pub mod Whys
