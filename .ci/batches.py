@@ -16,7 +16,7 @@ from dataclasses import dataclass, field
 from threading import Lock, Semaphore
 
 sys.path.insert(0, os.path.dirname(os.path.dirname(os.path.realpath(__file__))) + "/bench")
-from kit import load, remember_stamps
+from kit import load, remember_stamps, stamp_libraries
 
 PARTS = ("src", "specs", "proofs")
 FUNCTION = re.compile(r"^( *)(?:pub(?:\([a-z]+\))? )?(?:(?:final|const|unsafe) )*fn (\w+)")
@@ -177,10 +177,7 @@ class Batches:
 
     def stamp_libraries(self):
         """Marks each library that is there as proved from the sources as they stand."""
-        for crate in self.crates.values():
-            if os.path.isdir(crate.rlib):
-                with open(f"{os.path.dirname(crate.rlib)}/stamp", "w", encoding="utf-8") as file:
-                    file.write(crate.stamp())
+        stamp_libraries(self.crates.values())
 
     def build_below(self, crate):
         """Builds the libraries below a crate that are not built. Returns whether all are proved."""

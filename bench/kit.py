@@ -29,3 +29,11 @@ def remember_stamps(crates):
 
     crates.stamp = stamp
     return computed
+
+
+def stamp_libraries(crates):
+    """Marks the library of each of these crates that is there as proved from the sources as they stand, as `rt ci` has just left it: it leaves no stamp."""
+    for crate in crates:
+        if os.path.isdir(crate.rlib):
+            with open(f"{os.path.dirname(crate.rlib)}/stamp", "w", encoding="utf-8") as file:
+                file.write(crate.stamp())

@@ -6,7 +6,7 @@ _olt() {
     [ "$before" = '=' ] && before=${COMP_WORDS[COMP_CWORD - 2]}
     case $before in
         --config | --record | --operate | --svg) mapfile -t COMPREPLY < <(compgen -f -- "$current"); return ;;
-        --listen | --connect | --maps | --wait | --pace | --port | --alloc | --frame | --from | --to) return ;;
+        --listen | --connect | --maps | --wait | --pace | --flush | --port | --alloc | --frame | --from | --to) return ;;
         --format) mapfile -t COMPREPLY < <(compgen -W 'text json' -- "$current"); return ;;
         --units) mapfile -t COMPREPLY < <(compgen -W 'simulated external' -- "$current"); return ;;
     esac
@@ -16,8 +16,8 @@ _olt() {
     else
         case $command in
             help) words='plan run check audit info rates why dump picture loads migrate units' ;;
-            plan) words='--config --strict --verbose --record --no-clobber --forget --help' ;;
-            run) words='--config --listen --maps --units --wait --pace --record --no-clobber --strict-record --operate --settle --progress --summary --help' ;;
+            plan) words='--config --strict --verbose --record --no-clobber --forget --flush --help' ;;
+            run) words='--config --listen --maps --units --once --grow --wait --pace --record --no-clobber --strict-record --flush --operate --settle --progress --summary --help' ;;
             units) words='--config --connect --port --wait --help' ;;
             check | audit | info | rates | why | dump | picture | loads | migrate)
                 case $current in

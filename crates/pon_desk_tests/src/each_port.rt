@@ -17,11 +17,11 @@ use std::sync::ledger::{Blank, Ledger};
 
 // Each command at port 2, with what it needs before.
 const AT_THE_LAST: &[u8] =
-    b"2 admit 8 1027 2560 0 25600 be\n2 list\n2 map\n2 report 100 8 100\n2 list\n2 change 1027 5120 0 25600 be\n2 map\n2 cert\n2 why 1027\n2 show\n2 list\n2 fail 4\n2 map\n2 show\n2 list\n2 why 1027\n2 why 1028\n2 help\n2 restore\n2 map\n2 list\n2 remove 1027\n2 cert\n2 show\n2 list\n";
+    b"2 admit 8 1027 2560 0 25600 be\n2 list\n2 map\n2 report 100 8 100\n2 list\n2 change 1027 5120 0 25600 be\n2 map\n2 cert\n2 why 1027\n2 sure 1027\n2 sure 1028\n2 show\n2 list\n2 fail 4\n2 map\n2 show\n2 list\n2 why 1027\n2 why 1028\n2 help\n2 restore\n2 map\n2 list\n2 remove 1027\n2 cert\n2 show\n2 list\n";
 
 // Rows and maps at the other ports.
 const AT_THE_OTHERS: &[u8] =
-    b"1 admit 6 1025 2560 0 25600 na\n1 admit 7 1026 2560 2560 25600 none\n0 admit 5 1024 2560 0 25600 be\n0 map\n0 cert\n1 cert\n2 cert\n0 show\n1 show\n2 show\n1 map\n1 map\n1 cert\n1 show\n0 show\n2 show\n0 list\n1 list\n2 list\n0 why 1024\n1 why 1025\n1 why 1024\n2 why 1027\n";
+    b"1 admit 6 1025 2560 0 25600 na\n1 admit 7 1026 2560 2560 25600 none\n0 admit 5 1024 2560 0 25600 be\n0 map\n0 cert\n1 cert\n2 cert\n0 show\n1 show\n2 show\n1 map\n1 map\n1 cert\n1 show\n0 show\n2 show\n0 list\n1 list\n2 list\n0 why 1024\n1 why 1025\n1 why 1024\n2 why 1027\n0 sure 1024\n1 sure 1025\n1 sure 1026\n1 sure 1024\n2 sure 1027\n";
 
 fn port(rt: &impl Abort, gap: u16, profile: u8, first: u64) -> (PortCfg, FrameNo) {
     let gap = Gap::new(gap).expect(rt, "a gap");

@@ -105,6 +105,7 @@ fn made_turns(end: &WorkerEnd, turns: u64) -> bool {
     end.maps == turns
         && end.reports == turns
         && end.garbled == 0
+        && end.unowned == 0
         && end.refused == 0
         && end.why == StopReason::Finished
 }

@@ -138,11 +138,12 @@ fn ended_with_lines(run: (u8, MemWrite), count: usize) -> bool {
 pub(crate) fn args(maps: u64) -> RunArgs<'static> {
     RunArgs {
         listen: HERE,
-        units: UnitsPlace::Here,
+        units: UnitsPlace::Here { grow: false },
         maps,
         pace: None,
         operate: None,
         record: None,
+        flush: 0,
         no_clobber: false,
         strict_record: false,
         config: None,

@@ -61,7 +61,7 @@ struct Case {
     entries: usize,
 }
 
-static CASES: [Case; 18] = [
+static CASES: [Case; 19] = [
     Case {
         name: "serves_its_turns",
         shut: None,
@@ -255,6 +255,18 @@ static CASES: [Case; 18] = [
         entries: 3,
     },
     Case {
+        name: "counts_a_damaged_burst",
+        shut: None,
+        turns: 2,
+        input: Input::Damaged(9, 0xff, 36),
+        reads: &[],
+        writes: &[],
+        counts: [2, 1, 1, 0],
+        end: End::Finished,
+        written: Written::Maps(2),
+        entries: 4,
+    },
+    Case {
         name: "a_shut_gate_ends_it: send",
         shut: Some(Point::Send),
         turns: 1,
@@ -328,11 +340,20 @@ pub(crate) fn why(rt: &impl Abort, end: End) -> StopReason {
     }
 }
 
+// Returns the number of bursts that no unit owns.
+fn unowned(input: Input) -> u64 {
+    match input {
+        Input::NotPosted => 1,
+        Input::Bursts(_) | Input::Damaged(..) => 0,
+    }
+}
+
 fn is_end(rt: &impl Abort, end: &WorkerEnd, case: &Case) -> bool {
     let [maps, reports, garbled, refused] = case.counts;
     end.maps == maps
         && end.reports == reports
         && end.garbled == garbled
+        && end.unowned == unowned(case.input)
         && end.refused == refused
         && end.why == why(rt, case.end)
 }

@@ -5,6 +5,7 @@
 //! processes write one part.
 #![tactic(auto)]
 
+mod flushing;
 mod identity;
 mod inputs;
 mod leftover;
@@ -15,6 +16,7 @@ mod recording_file;
 mod target;
 mod writing;
 
+pub use flushing::FlushTimer;
 pub use inputs::{Inputs, Source};
 pub use lock::LockFile;
 pub use part::{PartFile, Progress};

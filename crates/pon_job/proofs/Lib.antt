@@ -1,4 +1,5 @@
 mod Builders
+mod Lines
 mod Migrations
 mod Runs
 mod Subcommands

@@ -3,6 +3,7 @@ use Rattle.std.proofs.Common.{◌≡◌, ℕ, List, Option, Some, None, refl, su
 use Rattle.std.specs.Prelude.{IfSome, IsNone, IsSomeAnd, MatchOption, codes}
 use Rattle.clap.specs.Walk.{Row, first_of}
 use Rattle.pon_job.specs.Jobs.{HasMaps, HasNumber, IsMeeting, IsRun, MayHave, NamesNoJob, Spells}
+use Rattle.pon_job.specs.declared.task.TheConstants.{MAX_FLUSH}
 use Rattle.pon_job.specs.declared.task.Meeting.{Meeting}
 use Rattle.pon_job.specs.declared.task.Run.{Run as RunOf}
 use Rattle.pon_job.specs.declared.task.Job.TheVariants.{Plan, Check, Audit, Show, Migrate, Run, Units}
@@ -46,6 +47,9 @@ without_address rows none = no_run rows (λ run is. absurd (cc (none, is.address
 
 pub without_meeting : (rows : List Row) → ((meeting : Meeting) → ¬ IsMeeting rows meeting) → NamesNoJob (Some (codes "run", rows))
 without_meeting rows none = no_run rows (λ run is. none run.meeting is.meets)
+
+pub without_flush : (rows : List Row) → ((flush : Option ℕ) → ¬ MayHave (codes "flush") 0 MAX_FLUSH rows flush) → NamesNoJob (Some (codes "run", rows))
+without_flush rows none = no_run rows (λ run is. none run.flush is.flushes)
 
 pub without_number : (rows : List Row) → ((maps : ℕ) → ¬ HasMaps rows maps) → NamesNoJob (Some (codes "run", rows))
 without_number rows none = no_run rows (λ run is. none run.maps is.number)

@@ -13,7 +13,7 @@ use Rattle.clap.specs.declared.builder.action.ArgAction.TheVariants.{Append, Set
 use Rattle.clap.specs.declared.builder.value_parser.ValueParser.TheVariants.{Unsigned}
 use Rattle.clap.specs.declared.error.Error.{Error}
 use Rattle.clap.specs.declared.error.kind.ErrorKind.TheVariants.{InvalidSubcommand}
-use Rattle.pon_job.specs.declared.task.TheConstants.{MAX_ALLOC, MAX_FRAME, MAX_MAPS, MAX_PACE, MAX_PORT, MAX_WAIT, MIN_ALLOC}
+use Rattle.pon_job.specs.declared.task.TheConstants.{MAX_ALLOC, MAX_FLUSH, MAX_FRAME, MAX_MAPS, MAX_PACE, MAX_PORT, MAX_WAIT, MIN_ALLOC}
 use Rattle.pon_job.specs.declared.task.Audit.{Audit as AuditOf}
 use Rattle.pon_job.specs.declared.task.Job.{Job}
 use Rattle.pon_job.specs.declared.task.Meeting.{Meeting}
@@ -114,6 +114,18 @@ no_clobber_rule = flag_rule (codes "no-clobber")
 abbrev pub forget_rule : Rule
 forget_rule = flag_rule (codes "forget")
 
+-- the seconds after which a chapter of a recording is cut by the clock
+abbrev pub flush_rule : Rule
+flush_rule = number_rule (codes "flush") 0 MAX_FLUSH
+
+-- the flag of `run` with which a port takes one connection of external units only
+abbrev pub once_rule : Rule
+once_rule = flag_rule (codes "once")
+
+-- the flag of `run` with which simulated units get queues for Alloc-IDs that are admitted meanwhile
+abbrev pub grow_rule : Rule
+grow_rule = flag_rule (codes "grow")
+
 -- the flag of `run` with which a recording that lacks a chapter fails the run
 abbrev pub strict_record_rule : Rule
 strict_record_rule = flag_rule (codes "strict-record")
@@ -163,7 +175,7 @@ abbrev pub shape_with : List ℕ → List Rule → Shape
 shape_with name rules = record (new_shape name) { rules = rules }
 
 abbrev pub plan_shape : Shape
-plan_shape = shape_with (codes "plan") (config_rule ∷ strict_rule ∷ verbose_rule ∷ record_rule ∷ no_clobber_rule ∷ forget_rule ∷ [])
+plan_shape = shape_with (codes "plan") (config_rule ∷ strict_rule ∷ verbose_rule ∷ record_rule ∷ no_clobber_rule ∷ forget_rule ∷ flush_rule ∷ [])
 
 abbrev pub check_shape : Shape
 check_shape = shape_with (codes "check") (file_rule ∷ [])
@@ -193,7 +205,7 @@ abbrev pub migrate_shape : Shape
 migrate_shape = shape_with (codes "migrate") (file_rule ∷ out_rule ∷ no_clobber_rule ∷ [])
 
 abbrev pub run_shape : Shape
-run_shape = shape_with (codes "run") (needed_config_rule ∷ listen_rule ∷ maps_rule ∷ units_rule ∷ wait_rule ∷ pace_rule ∷ record_rule ∷ no_clobber_rule ∷ strict_record_rule ∷ operate_rule ∷ settle_rule ∷ progress_rule ∷ summary_rule ∷ [])
+run_shape = shape_with (codes "run") (needed_config_rule ∷ listen_rule ∷ maps_rule ∷ units_rule ∷ once_rule ∷ grow_rule ∷ wait_rule ∷ pace_rule ∷ record_rule ∷ no_clobber_rule ∷ strict_record_rule ∷ flush_rule ∷ operate_rule ∷ settle_rule ∷ progress_rule ∷ summary_rule ∷ [])
 
 abbrev pub units_shape : Shape
 units_shape = shape_with (codes "units") (needed_config_rule ∷ connect_rule ∷ port_rule ∷ wait_rule ∷ [])
@@ -309,6 +321,7 @@ pub record IsPlan (rows : List Row) (plan : PlanOf) : Type 0 where
   pub recording_file : first_of (codes "record") rows ≡ option_map (λ name. name.now) plan.record
   pub keeps : HasFlag (codes "no-clobber") rows plan.no_clobber
   pub forgets : HasFlag (codes "forget") rows plan.forget
+  pub flushes : MayHave (codes "flush") 0 MAX_FLUSH rows plan.flush
 
 -- the units are external, or simulated, which they also are without a value
 abbrev pub IsPlace : Option (List ℕ) → Bool → Type 0
@@ -319,6 +332,8 @@ IsPlace (Some text) false = text ≡ codes "simulated"
 -- the matches of `run` have these values on how the ports meet their units
 pub record IsMeeting (rows : List Row) (meeting : Meeting) : Type 0 where
   pub place : IsPlace (first_of (codes "units") rows) meeting.external
+  pub once : HasFlag (codes "once") rows meeting.once
+  pub grows : HasFlag (codes "grow") rows meeting.grow
   pub waiting : MayHave (codes "wait") 1 MAX_WAIT rows meeting.wait
   pub speed : MayHave (codes "pace") 1 MAX_PACE rows meeting.pace
 
@@ -331,6 +346,7 @@ pub record IsRun (rows : List Row) (run : RunOf) : Type 0 where
   pub operator : first_of (codes "operate") rows ≡ option_map (λ name. name.now) run.operate
   pub keeps : HasFlag (codes "no-clobber") rows run.no_clobber
   pub strict : HasFlag (codes "strict-record") rows run.strict_record
+  pub flushes : MayHave (codes "flush") 0 MAX_FLUSH rows run.flush
   pub settles : HasFlag (codes "settle") rows run.settle
   pub meets : IsMeeting rows run.meeting
   pub follows : HasFlag (codes "progress") rows run.progress

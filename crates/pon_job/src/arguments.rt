@@ -6,12 +6,12 @@ ghost use Rattle.pon_job.specs.declared.task.Part.{Part};
 ghost use Rattle.pon_job.specs.declared.task.View.{View};
 ghost use Rattle.clap.specs.Words.{found_of, rows_of, subcommand_rows_of};
 ghost use Rattle.clap.specs.Simple.{subcommand_of};
-ghost use Rattle.pon_job.specs.Jobs.{HasFlag, HasNumber, IsFormat, IsJob, IsMeeting, IsPart, IsPlace, IsPlan, MayHave, NamesNoJob, RefusesWords, Spells, olt_app, word_of_view};
+ghost use Rattle.pon_job.specs.Jobs.{HasFlag, HasNumber, IsFormat, IsJob, IsMeeting, IsPart, IsPlace, MayHave, NamesNoJob, RefusesWords, Spells, olt_app, word_of_view};
 
 use crate::commands::olt_command;
 use crate::task::{
-    Audit, Job, MAX_ALLOC, MAX_FRAME, MAX_MAPS, MAX_PACE, MAX_PORT, MAX_WAIT, MIN_ALLOC, Meeting,
-    Migration, Part, Plan, Run, Show, Units, View,
+    Audit, Job, MAX_ALLOC, MAX_FLUSH, MAX_FRAME, MAX_MAPS, MAX_PACE, MAX_PORT, MAX_WAIT, MIN_ALLOC,
+    Meeting, Migration, Part, Plan, Run, Show, Units, View,
 };
 use clap::error::ErrorKind;
 use clap::{ArgMatches, Error};
@@ -83,8 +83,9 @@ fn is_json(text: Option<&str>) -> Option<bool>
 }
 
 // Returns the management lines that the matches of their subcommand give.
-fn plan_of<'a>(found: &ArgMatches<'a>) -> Plan<'a>
-    ensures { IsPlan (rows_of (found_of found.now)) result }
+fn plan_of<'a>(found: &ArgMatches<'a>) -> Option<Job<'a>>
+    ensures some { IfSome result (IsJob (Some (codes "plan", rows_of (found_of found.now)))) }
+    ensures none { IsNone result → NamesNoJob (Some (codes "plan", rows_of (found_of found.now))) }
 {
     let settings = found.get_str("config");
     let strict = is_given(found, "strict");
@@ -92,14 +93,16 @@ fn plan_of<'a>(found: &ArgMatches<'a>) -> Plan<'a>
     let recording = found.get_str("record");
     let keeps = is_given(found, "no-clobber");
     let forget = is_given(found, "forget");
-    Plan {
+    let flush = chosen(found, "flush", 0, MAX_FLUSH)?;
+    Some(Job::Plan(Plan {
         config: settings,
         strict,
         verbose,
         record: recording,
         no_clobber: keeps,
         forget,
-    }
+        flush,
+    }))
 }
 
 // Returns whether units are external. `None` if the text is no place of units.
@@ -129,10 +132,14 @@ fn meeting_of(found: &ArgMatches<'_>) -> Option<Meeting>
 {
     let place = found.get_str("units");
     let external = is_external(place)?;
+    let once = is_given(found, "once");
+    let grow = is_given(found, "grow");
     let wait = chosen(found, "wait", 1, MAX_WAIT)?;
     let pace = chosen(found, "pace", 1, MAX_PACE)?;
     Some(Meeting {
         external,
+        once,
+        grow,
         wait,
         pace,
     })
@@ -150,6 +157,7 @@ fn run_of<'a>(found: &ArgMatches<'a>) -> Option<Job<'a>>
     let record = found.get_str("record");
     let no_clobber = is_given(found, "no-clobber");
     let strict_record = is_given(found, "strict-record");
+    let flush = chosen(found, "flush", 0, MAX_FLUSH)?;
     let operate = found.get_str("operate");
     let settle = is_given(found, "settle");
     let progress = is_given(found, "progress");
@@ -162,6 +170,7 @@ fn run_of<'a>(found: &ArgMatches<'a>) -> Option<Job<'a>>
         record,
         no_clobber,
         strict_record,
+        flush,
         operate,
         settle,
         progress,
@@ -305,7 +314,7 @@ fn other_job_of<'a>(name: &str, found: &ArgMatches<'a>) -> Option<Job<'a>>
         → NamesNoJob (Some (name.now, rows_of (found_of found.now))) }
 {
     if name == "plan" {
-        return Some(Job::Plan(plan_of(found)));
+        return plan_of(found);
     }
     if name == "check" {
         let file = found.get_str("file")?;

@@ -8,16 +8,24 @@ ghost use Rattle.pon_job.specs.Jobs.{AreLocal, IsDefined, leaf, olt_app, shape_w
 ghost use Rattle.pon_job.specs.Jobs.{audit_shape, check_shape, dump_shape, info_shape, loads_shape, migrate_shape, picture_shape, plan_shape, rates_shape, run_shape, top_shape, units_shape, why_shape};
 
 use crate::options::{
-    alloc_arg, check_file_arg, complete_arg, config_arg, connect_arg, forget_arg, format_arg,
-    frame_arg, from_arg, listen_arg, maps_arg, no_clobber_arg, operate_arg, out_arg, pace_arg,
-    port_arg, progress_arg, record_arg, recording_arg, recordings_arg, settle_arg, strict_arg,
-    strict_record_arg, summary_arg, svg_arg, to_arg, units_arg, verbose_arg, wait_arg,
+    alloc_arg, check_file_arg, complete_arg, config_arg, connect_arg, flush_arg, forget_arg,
+    format_arg, frame_arg, from_arg, grow_arg, listen_arg, maps_arg, no_clobber_arg, once_arg,
+    operate_arg, out_arg, pace_arg, port_arg, progress_arg, record_arg, recording_arg,
+    recordings_arg, settle_arg, strict_arg, strict_record_arg, summary_arg, svg_arg, to_arg,
+    units_arg, verbose_arg, wait_arg,
 };
 use clap::{Arg, Command};
 use std::alloc::{AllocError, Global};
 
 /// The version of the program, and the logic of the kit that its proofs are of.
-const VERSION: &str = "0.2.0 (Rattle logic dac8208d650f15bf)";
+const VERSION: &str = "0.3.0 (Rattle logic dac8208d650f15bf)";
+
+/// The help of `--flush` of lines and of runs.
+const PLAN_FLUSH_HELP: &str =
+    "Seconds after which the chapters so far are written, 0 to 3600; 0 for full ones only [default: 1]";
+
+const RUN_FLUSH_HELP: &str =
+    "Seconds after which a chapter that is not full is written, 0 to 3600; 0 for full ones only [default: 0]";
 
 // Makes a subcommand with these arguments; its help ends with an example.
 fn command<'a>(
@@ -49,6 +57,7 @@ fn plan_command<'a>(alloc: Global) -> Result<Command<'a>, AllocError>
             record_arg(alloc),
             no_clobber_arg(alloc),
             forget_arg(alloc),
+            flush_arg(alloc, PLAN_FLUSH_HELP),
         ],
     )?;
     let example = "Example: olt plan --config ports.toml <lines";
@@ -196,11 +205,14 @@ fn run_command<'a>(alloc: Global) -> Result<Command<'a>, AllocError>
             listen_arg(alloc),
             maps_arg(alloc),
             units_arg(alloc),
+            once_arg(alloc),
+            grow_arg(alloc),
             wait_arg(alloc),
             pace_arg(alloc),
             record_arg(alloc),
             no_clobber_arg(alloc),
             strict_record_arg(alloc),
+            flush_arg(alloc, RUN_FLUSH_HELP),
             operate_arg(alloc),
             settle_arg(alloc),
             progress_arg(alloc),

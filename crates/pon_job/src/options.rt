@@ -2,9 +2,11 @@
 
 ghost use Rattle.std.specs.Prelude.{◌≡◌, false};
 ghost use Rattle.clap.specs.Walk.{rule_of};
-ghost use Rattle.pon_job.specs.Jobs.{alloc_rule, complete_rule, config_rule, connect_rule, file_rule, files_rule, flag_rule, forget_rule, frame_rule, format_rule, from_rule, listen_rule, maps_rule, no_clobber_rule, number_rule, operate_rule, option_rule, out_rule, pace_rule, place_rule, port_rule, progress_rule, record_rule, settle_rule, strict_record_rule, strict_rule, summary_rule, svg_rule, to_rule, units_rule, verbose_rule, wait_rule};
+ghost use Rattle.pon_job.specs.Jobs.{alloc_rule, complete_rule, config_rule, connect_rule, file_rule, files_rule, flag_rule, flush_rule, forget_rule, frame_rule, format_rule, from_rule, grow_rule, listen_rule, maps_rule, no_clobber_rule, number_rule, once_rule, operate_rule, option_rule, out_rule, pace_rule, place_rule, port_rule, progress_rule, record_rule, settle_rule, strict_record_rule, strict_rule, summary_rule, svg_rule, to_rule, units_rule, verbose_rule, wait_rule};
 
-use crate::task::{MAX_ALLOC, MAX_FRAME, MAX_MAPS, MAX_PACE, MAX_PORT, MAX_WAIT, MIN_ALLOC};
+use crate::task::{
+    MAX_ALLOC, MAX_FLUSH, MAX_FRAME, MAX_MAPS, MAX_PACE, MAX_PORT, MAX_WAIT, MIN_ALLOC,
+};
 use clap::builder::ValueParser;
 use clap::{Arg, ArgAction};
 use std::alloc::Global;
@@ -135,7 +137,8 @@ pub(crate) fn summary_arg<'a>(alloc: Global) -> Arg<'a>
     ensures rule { rule_of result ≡ summary_rule }
     ensures local { result.global ≡ false }
 {
-    let help = "Print at the end refused and garbled reports and late maps on standard error";
+    let help =
+        "Print at the end what each port refused, its late maps and connections on standard error";
     flag_arg(alloc, "summary", help)
 }
 
@@ -193,6 +196,29 @@ pub(crate) fn forget_arg<'a>(alloc: Global) -> Arg<'a>
 {
     let help = "Forget a port's chapter when it is full, and go on, in place of E20";
     flag_arg(alloc, "forget", help)
+}
+
+pub(crate) fn flush_arg<'a>(alloc: Global, help: &'a str) -> Arg<'a>
+    ensures rule { rule_of result ≡ flush_rule }
+    ensures local { result.global ≡ false }
+{
+    number_arg(alloc, "flush", 0, MAX_FLUSH, help)
+}
+
+pub(crate) fn once_arg<'a>(alloc: Global) -> Arg<'a>
+    ensures rule { rule_of result ≡ once_rule }
+    ensures local { result.global ≡ false }
+{
+    let help = "Take one connection of external units on each port, and none after it";
+    flag_arg(alloc, "once", help)
+}
+
+pub(crate) fn grow_arg<'a>(alloc: Global) -> Arg<'a>
+    ensures rule { rule_of result ≡ grow_rule }
+    ensures local { result.global ≡ false }
+{
+    let help = "Let simulated units also answer for Alloc-IDs that are admitted during the run";
+    flag_arg(alloc, "grow", help)
 }
 
 pub(crate) fn strict_record_arg<'a>(alloc: Global) -> Arg<'a>

@@ -7,6 +7,9 @@ pub(crate) const MAX_PACE: u64 = 1_000_000;
 /// Maximum number of seconds that a port waits for units elsewhere, or they for it.
 pub(crate) const MAX_WAIT: u64 = 3_600;
 
+/// Maximum number of seconds after which a chapter of a recording is cut by the clock.
+pub(crate) const MAX_FLUSH: u64 = 3_600;
+
 /// The greatest number of a port.
 pub(crate) const MAX_PORT: u64 = 63;
 
@@ -93,6 +96,8 @@ pub struct Plan<'a> {
     pub no_clobber: bool,
     /// Whether a full chapter is forgotten if it is not recorded, so that the port goes on.
     pub forget: bool,
+    /// The seconds after which chapters are cut and recorded, 0 to 3,600; `None` if not given.
+    pub flush: Option<u64>,
 }
 
 /// How the ports of a run meet their units.
@@ -100,6 +105,10 @@ pub struct Plan<'a> {
 pub struct Meeting {
     /// Whether the units come from elsewhere.
     pub external: bool,
+    /// Whether a port takes one connection of units from elsewhere only.
+    pub once: bool,
+    /// Whether simulated units get a queue for each Alloc-ID that is admitted during the run.
+    pub grow: bool,
     /// The seconds that each port waits for units from elsewhere, 1 to 3,600; `None` if not given.
     pub wait: Option<u64>,
     /// The number of maps that each port makes in a second by the clock, 1 to 1,000,000; `None` for no pace.
@@ -123,6 +132,8 @@ pub struct Run<'a> {
     pub no_clobber: bool,
     /// Whether a recording that lacks a chapter fails the run.
     pub strict_record: bool,
+    /// The seconds after which a chapter is cut and recorded, 0 to 3,600; `None` if not given.
+    pub flush: Option<u64>,
     /// The file of management lines for an operator, or `-` for standard input; `None` for no lines.
     pub operate: Option<&'a str>,
     /// Whether each port is settled at the end with the receipts of all posts.

@@ -6,11 +6,11 @@ use Rattle.std.specs.List.{list_all}
 use Rattle.pon_admit.specs.declared.event.Event.{Event}
 use Rattle.pon_text.specs.Lines.{words_of, without_return}
 use Rattle.pon_line.specs.Commands.{alloc_of, no_arguments, event_of}
-use Rattle.pon_line.specs.Reading.{asks_why, read_line, read_words, request_of, by_port, shows, takes, port_of, is_comment, is_text}
+use Rattle.pon_line.specs.Reading.{asks_sure, asks_why, read_line, read_words, request_of, by_port, shows, takes, port_of, is_comment, is_text}
 use Rattle.pon_line.specs.declared.fault.LineFault.{LineFault}
 use Rattle.pon_line.specs.declared.fault.LineFault.TheVariants.{LineLong, NotText}
 use Rattle.pon_line.specs.declared.reading.Reading.{Reading}
-use Rattle.pon_line.specs.declared.reading.Reading.TheVariants.{Nothing, Refused, Asks, AsksCert, AsksState, AsksRows, AsksHelp, AsksWhy}
+use Rattle.pon_line.specs.declared.reading.Reading.TheVariants.{Nothing, Refused, Asks, AsksCert, AsksState, AsksRows, AsksHelp, AsksWhy, AsksSure}
 
 -- P holds for the value that was read, if there is one
 abbrev pub Reads : {A : Type 0} → (A → Type 0) → Result A LineFault → Type 0
@@ -35,6 +35,7 @@ AsksFor P (AsksState port) = Unit {0}
 AsksFor P (AsksRows port) = Unit {0}
 AsksFor P (AsksHelp port) = Unit {0}
 AsksFor P (AsksWhy port alloc) = Unit {0}
+AsksFor P (AsksSure port alloc) = Unit {0}
 
 asks_taken : (P : Event → Type 0) (port : ℕ) (r : Result Event LineFault) → Reads P r → AsksFor P (takes port r)
 asks_taken P port (Ok event) h = h
@@ -47,6 +48,10 @@ asks_shown P asked (w ∷ ws) h = tt
 asks_explained : (P : Event → Type 0) (port : ℕ) (r : Result ℕ LineFault) → AsksFor P (asks_why port r)
 asks_explained P port (Ok alloc) = tt
 asks_explained P port (Err fault) = tt
+
+asks_promised : (P : Event → Type 0) (port : ℕ) (r : Result ℕ LineFault) → AsksFor P (asks_sure port r)
+asks_promised P port (Ok alloc) = tt
+asks_promised P port (Err fault) = tt
 
 module _ (P : Event → Type 0) (events : (ws : List (List ℕ)) → Reads P (event_of ws)) where
   either : (b : Bool) (r s : Reading) → AsksFor P r → AsksFor P s → AsksFor P (if b then r else s)
@@ -62,7 +67,8 @@ module _ (P : Event → Type 0) (events : (ws : List (List ℕ)) → Reads P (ev
       either (bytes_eq name (codes "list")) _ _ (asks_shown P (AsksRows port) ws tt) (
       either (bytes_eq name (codes "help")) _ _ (asks_shown P (AsksHelp port) ws tt) (
       either (bytes_eq name (codes "why")) _ _ (asks_explained P port (alloc_of ws)) (
-      asks_taken P port (event_of (name ∷ ws)) (events (name ∷ ws)))))))
+      either (bytes_eq name (codes "sure")) _ _ (asks_promised P port (alloc_of ws)) (
+      asks_taken P port (event_of (name ∷ ws)) (events (name ∷ ws))))))))
 
   port_asks : (r : Result ℕ LineFault) (ws : List (List ℕ)) → AsksFor P (by_port r ws)
   port_asks (Err fault) ws = tt

@@ -9,7 +9,7 @@ use Rattle.pon_text.specs.Lines.{words_of, without_return}
 use Rattle.pon_lists.specs.ResultSteps.{◌>>=◌}
 use Rattle.pon_line.specs.Fields.{number_field}
 use Rattle.pon_line.specs.Commands.{alloc_of, event_of}
-use Rattle.pon_line.specs.Reading.{AsksWithin, asks_why, read_line, read_words, request_of, by_port, shows, takes, port_of, is_comment, is_text}
+use Rattle.pon_line.specs.Reading.{AsksWithin, asks_sure, asks_why, read_line, read_words, request_of, by_port, shows, takes, port_of, is_comment, is_text}
 use Rattle.pon_line.specs.declared.fault.LineFault.{LineFault}
 use Rattle.pon_line.specs.declared.fault.LineFault.TheVariants.{LineLong, NotText, NoSuchPort}
 use Rattle.pon_line.specs.declared.reading.Reading.{Reading}
@@ -39,6 +39,10 @@ why_within : (ports port : ℕ) (r : Result ℕ LineFault) → port < ports → 
 why_within ports port (Ok alloc) h = h
 why_within ports port (Err fault) h = tt
 
+sure_within : (ports port : ℕ) (r : Result ℕ LineFault) → port < ports → AsksWithin ports (asks_sure port r)
+sure_within ports port (Ok alloc) h = h
+sure_within ports port (Err fault) h = tt
+
 shows_within : (ports : ℕ) (asked : Reading) (ws : List (List ℕ)) → AsksWithin ports asked → AsksWithin ports (shows asked ws)
 shows_within ports asked [] h = h
 shows_within ports asked (w ∷ ws) h = tt
@@ -56,7 +60,8 @@ request_within ports port (name ∷ ws) h =
     either ports (bytes_eq name (codes "list")) _ _ (shows_within ports (AsksRows port) ws h) (
     either ports (bytes_eq name (codes "help")) _ _ (shows_within ports (AsksHelp port) ws h) (
     either ports (bytes_eq name (codes "why")) _ _ (why_within ports port (alloc_of ws) h) (
-    takes_within ports port (event_of (name ∷ ws)) h)))))
+    either ports (bytes_eq name (codes "sure")) _ _ (sure_within ports port (alloc_of ws) h) (
+    takes_within ports port (event_of (name ∷ ws)) h))))))
 
 port_within : (ports : ℕ) (r : Result ℕ LineFault) (ws : List (List ℕ)) → IsThere ports r → AsksWithin ports (by_port r ws)
 unfolding IsThere

@@ -11,7 +11,7 @@ use Rattle.pon_lists.specs.ResultSteps.{◌>>=◌}
 use Rattle.pon_line.specs.Commands.{alloc_of, admit, admit_of, alloc_refusal, change, change_of, event_of, fail_of, no_arguments, onu_refusal, remove, remove_of, unless}
 use Rattle.pon_line.specs.Fields.{descriptor_words, number_field, rate_fields}
 use Rattle.pon_line.specs.Parts.{IsOtherEvent, IsOtherReading}
-use Rattle.pon_line.specs.Reading.{asks_why, request_of, shows, takes}
+use Rattle.pon_line.specs.Reading.{asks_sure, asks_why, request_of, shows, takes}
 use Rattle.pon_line.specs.declared.fault.LineFault.{LineFault}
 use Rattle.pon_line.specs.declared.fault.LineFault.TheVariants.{BadField}
 use Rattle.pon_line.specs.declared.reading.Reading.{Reading}
@@ -79,6 +79,10 @@ explained : (port : ℕ) (r : Result ℕ LineFault) → IsOtherReading (asks_why
 explained port (Ok alloc) = tt
 explained port (Err fault) = tt
 
+promised : (port : ℕ) (r : Result ℕ LineFault) → IsOtherReading (asks_sure port r)
+promised port (Ok alloc) = tt
+promised port (Err fault) = tt
+
 shown : (asked : Reading) (ws : List (List ℕ)) → IsOtherReading asked → IsOtherReading (shows asked ws)
 shown asked [] h = h
 shown asked (w ∷ ws) h = tt
@@ -95,4 +99,5 @@ other_command port name ws map report =
     either (bytes_eq name (codes "list")) _ _ (shown (AsksRows port) ws tt) (
     either (bytes_eq name (codes "help")) _ _ (shown (AsksHelp port) ws tt) (
     either (bytes_eq name (codes "why")) _ _ (explained port (alloc_of ws)) (
-    taken port (event_of (name ∷ ws)) (other_event name ws map report))))))
+    either (bytes_eq name (codes "sure")) _ _ (promised port (alloc_of ws)) (
+    taken port (event_of (name ∷ ws)) (other_event name ws map report)))))))

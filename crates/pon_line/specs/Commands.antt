@@ -63,7 +63,7 @@ abbrev pub or_refused : ℕ → Option Refusal → Result ℕ LineFault
 or_refused alloc None = Ok alloc
 or_refused alloc (Some refusal) = Err (Port refusal)
 
--- the one word after `why`: an Alloc-ID
+-- the one word after `why` or `sure`: an Alloc-ID
 unfoldable pub alloc_of : List (List ℕ) → Result ℕ LineFault
 alloc_of (alloc ∷ []) = do
   i ← number_field alloc

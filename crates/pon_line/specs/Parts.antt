@@ -7,7 +7,7 @@ use Rattle.pon_line.specs.Reading.{request_of}
 use Rattle.pon_line.specs.declared.reading.Front.{Front}
 use Rattle.pon_line.specs.declared.reading.FrameCommand.{FrameCommand}
 use Rattle.pon_line.specs.declared.reading.Reading.{Reading}
-use Rattle.pon_line.specs.declared.reading.Reading.TheVariants.{Nothing, Refused, Asks, AsksCert, AsksState, AsksRows, AsksHelp, AsksWhy}
+use Rattle.pon_line.specs.declared.reading.Reading.TheVariants.{Nothing, Refused, Asks, AsksCert, AsksState, AsksRows, AsksHelp, AsksWhy, AsksSure}
 
 -- the reading of a line of this front
 abbrev pub goes_on : Front → Reading
@@ -40,3 +40,4 @@ IsOtherReading (AsksState port) = Unit {0}
 IsOtherReading (AsksRows port) = Unit {0}
 IsOtherReading (AsksHelp port) = Unit {0}
 IsOtherReading (AsksWhy port alloc) = Unit {0}
+IsOtherReading (AsksSure port alloc) = Unit {0}

@@ -10,7 +10,7 @@ use Rattle.pon_line.specs.Commands.{alloc_of, event_of}
 use Rattle.pon_line.specs.declared.fault.LineFault.{LineFault}
 use Rattle.pon_line.specs.declared.fault.LineFault.TheVariants.{NoSuchPort, LineLong, NotText, WordCount}
 use Rattle.pon_line.specs.declared.reading.Reading.{Reading}
-use Rattle.pon_line.specs.declared.reading.Reading.TheVariants.{Nothing, Refused, Asks, AsksCert, AsksState, AsksRows, AsksHelp, AsksWhy}
+use Rattle.pon_line.specs.declared.reading.Reading.TheVariants.{Nothing, Refused, Asks, AsksCert, AsksState, AsksRows, AsksHelp, AsksWhy, AsksSure}
 
 -- the port that a word names, below the number of ports
 unfoldable pub port_of : ℕ → List ℕ → Result ℕ LineFault
@@ -31,8 +31,13 @@ abbrev pub asks_why : ℕ → Result ℕ LineFault → Reading
 asks_why port (Ok alloc) = AsksWhy port alloc
 asks_why port (Err fault) = Refused fault
 
+-- what is sure for an Alloc-ID, or the refusal of the line
+abbrev pub asks_sure : ℕ → Result ℕ LineFault → Reading
+asks_sure port (Ok alloc) = AsksSure port alloc
+asks_sure port (Err fault) = Refused fault
+
 -- what the words after a port request of it: its last certificate, its state, its Alloc-IDs, the explanation of its last map
--- for one of them, the list of all lines, or that it takes an event
+-- for one of them, what is sure for one of them, the list of all lines, or that it takes an event
 unfoldable pub request_of : ℕ → List (List ℕ) → Reading
 request_of port [] = Refused WordCount
 request_of port (name ∷ ws) =
@@ -40,7 +45,8 @@ request_of port (name ∷ ws) =
     (if bytes_eq name (codes "show") then shows (AsksState port) ws else
     (if bytes_eq name (codes "list") then shows (AsksRows port) ws else
     (if bytes_eq name (codes "help") then shows (AsksHelp port) ws else
-    (if bytes_eq name (codes "why") then asks_why port (alloc_of ws) else takes port (event_of (name ∷ ws))))))
+    (if bytes_eq name (codes "why") then asks_why port (alloc_of ws) else
+    (if bytes_eq name (codes "sure") then asks_sure port (alloc_of ws) else takes port (event_of (name ∷ ws)))))))
 
 -- the port is read before the command
 abbrev pub by_port : Result ℕ LineFault → List (List ℕ) → Reading
@@ -80,3 +86,4 @@ AsksWithin ports (AsksState port) = port < ports
 AsksWithin ports (AsksRows port) = port < ports
 AsksWithin ports (AsksHelp port) = port < ports
 AsksWithin ports (AsksWhy port alloc) = port < ports
+AsksWithin ports (AsksSure port alloc) = port < ports

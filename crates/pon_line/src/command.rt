@@ -4,7 +4,7 @@ ghost use Rattle.std.specs.Prelude.{◌≡◌, [], ◌∷◌, Ok, Err, MatchOpti
 ghost use Rattle.std.specs.Str.{bytes_eq};
 ghost use Rattle.pon_text.specs.Lines.{words_of};
 ghost use Rattle.pon_line.specs.Commands.{admit, admit_of, alloc_of, no_arguments, change, change_of, event_of, fail_of, remove, remove_of, report_of};
-ghost use Rattle.pon_line.specs.Reading.{asks_why, request_of, shows, takes};
+ghost use Rattle.pon_line.specs.Reading.{asks_sure, asks_why, request_of, shows, takes};
 ghost use Rattle.pon_line.specs.Parts.{IsOtherReading, asks_in};
 ghost use Rattle.pon_line.specs.Written.{rates_in};
 
@@ -241,7 +241,7 @@ fn shows(text: &[u8], asked: Reading) -> Reading
     }
 }
 
-// Returns the Alloc-ID that the words after `why` name.
+// Returns the Alloc-ID that the words after `why` or `sure` name.
 #[tactic(auto, unfolding(crate::specs::Commands::alloc_of))]
 fn alloc_of(text: &[u8]) -> Result<AllocId, LineFault>
     ensures { result ≡ alloc_of (words_of text.now) }
@@ -266,6 +266,16 @@ fn asks_why(port: usize, text: &[u8]) -> Reading
     }
 }
 
+// Returns the request of the words after `sure`.
+fn asks_sure(port: usize, text: &[u8]) -> Reading
+    ensures { result ≡ asks_sure port (alloc_of (words_of text.now)) }
+{
+    match alloc_of(text) {
+        Ok(alloc_id) => Reading::AsksSure { port, alloc_id },
+        Err(fault) => Reading::Refused(fault),
+    }
+}
+
 /// Returns the request of the words after the port, or their first fault.
 #[tactic(auto, unfolding(crate::specs::Reading::request_of))]
 pub(crate) fn request_of(port: usize, text: &[u8]) -> Reading
@@ -284,6 +294,8 @@ pub(crate) fn request_of(port: usize, text: &[u8]) -> Reading
         shows(name.rest, Reading::AsksHelp { port })
     } else if name.word == b"why".as_slice() {
         asks_why(port, name.rest)
+    } else if name.word == b"sure".as_slice() {
+        asks_sure(port, name.rest)
     } else {
         event_request(port, &name)
     }

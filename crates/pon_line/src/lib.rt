@@ -1,7 +1,7 @@
 //! The grammar of management lines: a line is read as its request, or as its first fault.
 //!
-//! A line names a port and an event at it, or requests its last certificate, its state, its Alloc-IDs, or the list of
-//! all lines. Reading allocates no memory and needs no port: the crates above decide whether the port accepts the event.
+//! A line names a port and an event at it, or requests its last certificate, its state, its Alloc-IDs, the explanation
+//! of its last map, what is sure for an Alloc-ID, or the list of all lines. Reading allocates no memory and needs no port: the crates above decide whether the port accepts the event.
 #![tactic(auto)]
 
 mod command;

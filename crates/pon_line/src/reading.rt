@@ -50,6 +50,8 @@ pub enum Reading {
     AsksHelp { port: usize },
     /// The line requests the explanation of the port's last map for an Alloc-ID.
     AsksWhy { port: usize, alloc_id: AllocId },
+    /// The line requests what is sure for an Alloc-ID of the port.
+    AsksSure { port: usize, alloc_id: AllocId },
 }
 
 // Returns the port that a word names, `BadField` if the word is no number, or `NoSuchPort` if no port has it.
@@ -122,8 +124,8 @@ fn front_of(ports: usize, line: &[u8]) -> Front<'_>
 /// <assured> <max> <class>` gives it another descriptor, `<port> remove <alloc>` removes it, `<port> report <frame>
 /// <onu> <occ> ..` reports the occupancies of an ONU's structures in a frame's map, `<port> map` makes the next map,
 /// `<port> cert` requests the certificate of the last map, `<port> show` the state of the port, `<port> list` its
-/// admitted Alloc-IDs, `<port> why <alloc>` the explanation of the last map and `<port> help` the list of all lines,
-/// `<port> fail <cause>` reports that the line has failed
+/// admitted Alloc-IDs, `<port> why <alloc>` the explanation of the last map, `<port> sure <alloc>` what is sure for an
+/// Alloc-ID and `<port> help` the list of all lines, `<port> fail <cause>` reports that the line has failed
 /// and `<port> restore` that it is restored. Words are separated by spaces and tabs; a number is 1 to 20 decimal digits
 /// with a value below 2^64; rates are in kbit/s; a class is `none`, `na` or `be`; there are 1 to 16 occupancies, each 0
 /// to 16,777,215 words of 4 bytes, or `x` if it is garbled; a cause is 1 to 9.

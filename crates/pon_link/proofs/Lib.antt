@@ -1,6 +1,7 @@
 pub mod Answering
 pub mod DownReading
-pub mod Growth
+pub mod Grown
+mod Growth
 pub mod Left
 pub mod OneReading
 pub mod Outcomes

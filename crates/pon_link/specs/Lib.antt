@@ -1,5 +1,6 @@
 pub mod Answers
 pub mod DownRecords
+pub mod Growing
 pub mod Outputs
 pub mod Progress
 pub mod Reading

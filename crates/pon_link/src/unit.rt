@@ -1,5 +1,6 @@
 ghost use Rattle.std.specs.Prelude.{◌≡◌, ◌<◌, ◌==◌, ◌↔◌, ◌++◌, [], ◌∷◌, true, false, min, map, length, Some, IsNone, IfSome, MatchOption};
 ghost use Rattle.std.specs.List.{list_any};
+ghost use Rattle.pon_link.specs.Growing.{with_queue};
 ghost use Rattle.pon_link.specs.Units.{owns, asks, answered, waiting, queue_after, served, reported_occupancies};
 
 use crate::record::UpRecord;
@@ -33,6 +34,22 @@ impl Unit {
         ensures { result ≡ record { onu = onu; queues = queues.items } }
     {
         Unit { onu, queues }
+    }
+
+    /// Returns its ONU-ID.
+    pub fn onu(&self) -> OnuId
+        ensures { result ≡ self.now.onu }
+    {
+        self.onu
+    }
+
+    /// Adds an empty queue for an Alloc-ID, which becomes one of its own. If it has 16 already, nothing happens.
+    pub fn add_queue(&mut self, alloc_id: AllocId)
+        ensures { self.new ≡ with_queue alloc_id self.old }
+    {
+        if !self.queues.is_full() {
+            self.queues.push((alloc_id, 0));
+        }
     }
 
     /// Returns whether the Alloc-ID is one of its own.

@@ -5,4 +5,5 @@ pub mod ListedRows
 pub mod Loops
 pub mod Owed
 pub mod Refusals
+mod Selling
 pub mod Tallying

@@ -2,15 +2,17 @@
 
 use crate::members::Members;
 use crate::port_tallies::Refused;
-use crate::rates_text::Extent;
+use crate::rates_text::{Extent, Figures};
 use crate::replay::MapExplanation;
 use crate::why_text::{MapPlace, Shown};
 use crate::words::{LevelText, class_word};
 use pon_admit::Row;
 use pon_bwmap::Alloc;
 use pon_cert::{Level, MapCert};
+use pon_sold::Sold;
+use pon_sure::Sure;
 use pon_units::{PortNo, WORD_RATE};
-use pon_why::{Change, Explanation, Sums};
+use pon_why::{Change, Explanation};
 use serde_json::Value;
 use std::alloc::{AllocError, Global};
 
@@ -62,15 +64,55 @@ fn descriptor_json(alloc: Global, row: &Row) -> Result<Value, AllocError> {
     members.with_text("class", class).into_value()
 }
 
-/// Makes the object of the sums of an Alloc-ID, which are exact. `Err` only if memory is refused.
-pub(crate) fn sums_json(
+// Makes the value of a number that may be missing.
+fn number_or_null(number: Option<u64>) -> Value {
+    match number {
+        Some(number) => Value::from(number),
+        None => Value::Null,
+    }
+}
+
+// Makes the object of what is sure for an Alloc-ID, or null.
+fn sure_json(alloc: Global, sure: &Option<Sure>) -> Result<Value, AllocError> {
+    let Some(sure) = sure else {
+        return Ok(Value::Null);
+    };
+    let members = Members::of(
+        alloc,
+        &[
+            ("guaranteed", u64::from(sure.guaranteed.get())),
+            ("surplus", sure.surplus),
+        ],
+    );
+    members.with("wait", number_or_null(sure.wait)).into_value()
+}
+
+// Makes the object of what was sold to an Alloc-ID and what it got of it, in words and maps.
+fn sold_json(alloc: Global, sold: &Sold) -> Result<Value, AllocError> {
+    let members = Members::of(
+        alloc,
+        &[
+            ("words", sold.sold_words()),
+            ("granted", sold.words),
+            ("short", sold.short_words()),
+        ],
+    );
+    let bound = sold.wait_bound();
+    members
+        .with("wait", number_or_null(bound.map(|_| sold.wait)))
+        .with("bound", number_or_null(bound))
+        .into_value()
+}
+
+/// Makes the object of the figures of an Alloc-ID, whose sums are exact. `Err` only if memory is refused.
+pub(crate) fn figures_json(
     alloc: Global,
     port: PortNo,
     row: &Row,
-    sums: &Sums,
-    idle: u64,
+    figures: &Figures,
     extent: Extent,
 ) -> Result<String, AllocError> {
+    let sums = &figures.sums;
     let members = Members::of(
         alloc,
         &[
@@ -83,11 +125,15 @@ pub(crate) fn sums_json(
             ("granted_words", sums.granted),
             ("surplus_sum", sums.surplus),
             ("below", sums.below),
-            ("idle", idle),
+            ("idle", figures.idle),
         ],
     );
     let is_partial = extent == Extent::Partial;
-    members.with("partial", Value::from(is_partial)).into_line()
+    members
+        .with("partial", Value::from(is_partial))
+        .with_made("sold", sold_json(alloc, &figures.sold))
+        .with_made("sure", sure_json(alloc, &figures.sure))
+        .into_line()
 }
 
 // Makes the value of a level: its text.

@@ -8,7 +8,7 @@ ghost use Rattle.pon_look.specs.Views.{CountsReads, OnlyWrites};
 use crate::info::write_line;
 use crate::port_tallies::{PortTallies, PortTally, Refused};
 use crate::query::{Answer, Format, Missing, RatesQuery};
-use crate::rates_text::{Extent, Form, change_line, refused_line, sums_line};
+use crate::rates_text::{Extent, Figures, Form, change_line, figures_text, refused_line};
 use crate::seen::Ports;
 use crate::summing::sum_up;
 use crate::viewed::Viewed;
@@ -82,7 +82,7 @@ fn sorted_changes(
     Ok(sorted)
 }
 
-// Writes the lines of an Alloc-ID's descriptors, and after the last one the line of its sums.
+// Writes the line of a descriptor of an Alloc-ID, and after the last one the lines of its figures.
 fn write_change<W: DevWrite>(
     alloc: Global,
     rates: &PortTally,
@@ -97,9 +97,18 @@ fn write_change<W: DevWrite>(
     if !is_last {
         return Ok(());
     }
-    let (sums, idle) = rates.tally.of(change.row.alloc_id);
-    let line = sums_line(alloc, form, rates.port, &change.row, &sums, idle);
-    write_line(line, writer)
+    let alloc_id = change.row.alloc_id;
+    let (sums, idle) = rates.tally.of(alloc_id);
+    let figures = Figures {
+        sums,
+        idle,
+        sold: rates.tally.sold_to(alloc_id),
+        sure: rates.tally.sure_for(alloc_id),
+    };
+    write_line(
+        figures_text(alloc, form, rates.port, &change.row, &figures),
+        writer,
+    )
 }
 
 // Writes the lines of a port.
@@ -140,8 +149,9 @@ fn write_ports<W: DevWrite>(
 }
 
 /// Writes what the maps of a recording add up to for each Alloc-ID, by ascending port and Alloc-ID. There is a line for
-/// each of its descriptors, with the frame of the first map that has it, and a line of mean rates. A chapter that is
-/// refused at an entry has a line, and only its maps up to that entry are summed up.
+/// each of its descriptors, with the frame of the first map that has it, a line of mean rates, one of what was sold and
+/// got, and one of what is sure. A chapter that is refused at an entry has a line, and only its maps up to that entry are
+/// summed up.
 ///
 /// The recording is read up to its end or to the first fault of its format. It is judged while it is summed up, in as
 /// many threads as there are processors. Returns the verdict of the audit, and what is missing.

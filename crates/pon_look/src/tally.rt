@@ -16,28 +16,35 @@ ghost use Rattle.pon_audit.specs.Judging.{IsJudgment};
 ghost use Rattle.pon_audit.specs.declared.chapters.Judged.TheVariants.{Fails};
 ghost use Rattle.pon_why.specs.Rates.{rates_of};
 ghost use Rattle.pon_why.specs.Sums.{amounts_in, no_sums, plus};
+ghost use Rattle.pon_sold.specs.Chapters.{after_map, after_event, watch_over, where_carried};
+ghost use Rattle.pon_sold.specs.Watches.{after_rows, joined, nothing, restarted};
 ghost use Rattle.pon_look.specs.Sums.{sums_of};
-ghost use Rattle.pon_look.specs.Tallies.{IsTallied, refused_at, tally_sums};
+ghost use Rattle.pon_look.specs.Tallies.{IsTallied, IsWatched, refused_at, tally_sums, tally_watch};
 
 use crate::frame_range::FrameRange;
 use crate::replay::{Replay, open_replay};
-use pon_admit::{Event, Row};
+use pon_admit::{Event, Roster, Rule};
 use pon_audit::{AuditReason, Fault, Judged, accepted_problems, take_entry, take_map};
 use pon_bwmap::Alloc;
 use pon_demand::{Demand, Problems};
 use pon_record::RawChapter;
+use pon_sold::{Sold, Watches};
 use pon_state::{Entry, EntryRef, MadeMap, PortState};
+use pon_sure::{Sure, sure_of};
 use pon_units::{AllocId, FrameNo};
 use pon_why::{AllocTallies, Change, Changes, Followed, RowRates, Sums, rates_under};
 use std::alloc::{AllocError, Global};
 use std::mem;
 
-/// What maps of a port add up to for each Alloc-ID, the changes of ONU or descriptor, and the maps of the Alloc-ID that
-/// is followed, if one is.
+/// What maps of a port add up to for each Alloc-ID, what was sold to it and what it got of that, the changes of ONU or
+/// descriptor, and the maps of the Alloc-ID that is followed, if one is.
 #[derive(Drop)]
 pub struct Tally {
     allocs: AllocTallies,
+    watches: Watches,
     changes: Changes,
+    // The roster at the last map.
+    roster: Option<Roster>,
     followed: Option<Followed>,
     // Whether the rows of the next map are those of the last one.
     are_rows_noted: bool,
@@ -48,11 +55,14 @@ pub struct Tally {
 impl Tally {
     /// Makes the tally of no maps. `Err` only if memory is refused.
     pub(crate) fn new(alloc: Global, followed: Option<AllocId>) -> Result<Tally, AllocError>
-        ensures { IfOk result (λ tally. (i : ℕ) → tally_sums tally i ≡ no_sums) }
+        ensures sums { IfOk result (λ tally. (i : ℕ) → tally_sums tally i ≡ no_sums) }
+        ensures sold { IfOk result (λ tally. (i : ℕ) → tally_watch tally i ≡ nothing) }
     {
         Ok(Tally {
             allocs: AllocTallies::new(alloc)?,
+            watches: Watches::new(alloc)?,
             changes: Changes::new(alloc)?,
+            roster: None,
             followed: followed.map(|alloc_id| Followed::new(alloc, alloc_id)),
             are_rows_noted: false,
             rates: Vec::new(alloc),
@@ -72,6 +82,23 @@ impl Tally {
         self.allocs.of(alloc_id)
     }
 
+    /// What was sold to an Alloc-ID, and what it got of it.
+    pub(crate) fn sold_to(&self, alloc_id: AllocId) -> Sold
+        ensures { result ≡ (tally_watch self.now alloc_id).sold }
+    {
+        self.watches.of(alloc_id)
+    }
+
+    /// What is sure for an Alloc-ID by the roster at the last map, under the rule that carries what whole words leave. `None`
+    /// if it is not in that roster.
+    pub(crate) fn sure_for(&self, alloc_id: AllocId) -> Option<Sure> {
+        let roster = self.roster.as_ref()?;
+        match roster.rule() {
+            Rule::CarryRemainders => sure_of(roster, alloc_id),
+            Rule::DropRemainders => None,
+        }
+    }
+
     /// The maps of the Alloc-ID that is followed.
     pub(crate) fn followed_mut(&mut self) -> Option<&mut Followed> {
         self.followed.as_mut()
@@ -79,39 +106,83 @@ impl Tally {
 
     /// Adds the tally of later chapters of the port. `Err` if memory is refused or a sum is 2^64 or more.
     pub(crate) fn add_all(&mut self, others: &Tally) -> Result<(), AllocError>
-        ensures { OnOk result ((i : ℕ) → tally_sums self.new i
+        ensures sums { OnOk result ((i : ℕ) → tally_sums self.new i
             ≡ plus (tally_sums self.old i) (tally_sums others.now i)) }
+        ensures sold { OnOk result ((i : ℕ) → tally_watch self.new i
+            ≡ joined (tally_watch self.old i) (tally_watch others.now i)) }
     {
         self.allocs.add_all(&others.allocs)?;
+        self.watches.add_all(&others.watches)?;
         self.changes.note_all(&others.changes)?;
+        if let Some(roster) = &others.roster {
+            self.roster = Some(roster.try_copy(*self.rates.allocator())?);
+        }
         match (&mut self.followed, &others.followed) {
             (Some(followed), Some(others)) => followed.add_all(others),
             _ => Ok(()),
         }
     }
 
-    // After an admission, a change or a removal the rows of the next map are others than those of the last one.
+    // A chapter begins: its rows are noted again, and no run of maps goes on.
+    fn begin_chapter(&mut self)
+        ensures sums { self.new.allocs ≡ self.old.allocs }
+        ensures sold { (i : ℕ) → tally_watch self.new i ≡ restarted (tally_watch self.old i) }
+    {
+        self.are_rows_noted = false;
+        self.watches.restart();
+    }
+
+    // After an admission, a change or a removal the rows of the next map are others than those of the last one; an
+    // admission begins a run of maps.
     fn note_event(&mut self, event: &Event)
-        ensures { self.new.allocs ≡ self.old.allocs }
+        ensures sums { self.new.allocs ≡ self.old.allocs }
+        ensures sold { (i : ℕ) → tally_watch self.new i
+            ≡ after_event i event.now (tally_watch self.old i) }
     {
         match event {
-            Event::Admit(_) | Event::Change { .. } | Event::Remove { .. } => {
+            Event::Admit(row) => {
+                self.are_rows_noted = false;
+                self.watches.restart_at(row.alloc_id);
+            }
+            Event::Change { .. } | Event::Remove { .. } => {
                 self.are_rows_noted = false;
             }
-            _ => {}
+            Event::Report { .. } | Event::MakeMap | Event::Fail { .. } | Event::Restore => {}
         }
     }
 
-    // Notes the rows and their weights at the map of a frame.
+    // Adds what a map sold and granted, under the rule that carries what whole words leave.
+    fn add_sold(
+        &mut self,
+        roster: &Roster,
+        rates: &[RowRates],
+        structures: &[Alloc],
+    ) -> Result<(), AllocError>
+        requires rates { length rates.now ≡ length roster.now.rows }
+        requires structures { length structures.now ≡ length roster.now.rows }
+        ensures sums { self.new.allocs ≡ self.old.allocs }
+        ensures sold { OnOk result ((i : ℕ) → tally_watch self.new i
+            ≡ where_carried roster.now.rule (after_rows i roster.now.rows rates.now structures.now
+            (tally_watch self.old i)) (tally_watch self.old i)) }
+    {
+        match roster.rule() {
+            Rule::CarryRemainders => self.watches.add_map(roster.rows(), rates, structures),
+            Rule::DropRemainders => Ok(()),
+        }
+    }
+
+    // Notes the roster and the weights of its rows at the map of a frame.
     fn note_rows(
         &mut self,
         frame: FrameNo,
-        rows: &[Row],
+        roster: &Roster,
         demands: &[Demand],
     ) -> Result<(), AllocError>
-        ensures { self.new.allocs ≡ self.old.allocs }
+        ensures sums { self.new.allocs ≡ self.old.allocs }
+        ensures sold { self.new.watches ≡ self.old.watches }
     {
-        for (row, demand) in rows.iter().zip(demands) {
+        self.roster = Some(roster.try_copy(*self.rates.allocator())?);
+        for (row, demand) in roster.rows().iter().zip(demands) {
             self.changes.note(&Change {
                 frame,
                 row: *row,
@@ -186,6 +257,9 @@ fn tally_map(
         ≡ plus (tally_sums tally.old i)
         (if added then amounts_in i (rates_of state.now made.now.cert) made.now.map
         else no_sums)) }
+    ensures sold { IfOk result (λ added. (i : ℕ) → tally_watch tally.new i
+        ≡ (if added then after_map i state.now made.now (tally_watch tally.old i)
+        else tally_watch tally.old i)) }
     ensures good { IfOk result (λ added. IsMade state.now made.now → IsTrue added) }
 {
     let demands = problems.demands.as_slice();
@@ -197,11 +271,12 @@ fn tally_map(
         return Ok(false);
     }
     tally.allocs.add_map(made.frame, &rates, structures)?;
+    tally.add_sold(state.roster(), &rates, structures)?;
     if let Some(followed) = &mut tally.followed {
         followed.add_map(made.frame, &rates, structures)?;
     }
     if !tally.are_rows_noted {
-        tally.note_rows(made.frame, state.roster().rows(), demands)?;
+        tally.note_rows(made.frame, state.roster(), demands)?;
     }
     tally.rates = rates;
     Ok(true)
@@ -220,8 +295,10 @@ fn tally_made(
     requires admitted { IsAdmitted replay.old.state.rule replay.old.state.gap replay.old.state.roster }
     requires carries { AreCarries replay.old.state.rule replay.old.state.roster replay.old.state.carries }
     requires frames { AreConsecutive replay.old.state.next replay.old.state.window }
-    ensures { IfOk result (λ tallied. IsTallied range.now kept replay.old.state
+    ensures tallied { IfOk result (λ tallied. IsTallied range.now kept replay.old.state
         (map_entry made.now) replay.new.state (tally_sums tally.old) (tally_sums tally.new) tallied) }
+    ensures sold { IfOk result (λ tallied. IsWatched range.now replay.old.state
+        (map_entry made.now) (tally_watch tally.old) (tally_watch tally.new) tallied) }
 {
     let Replay { state, buffers } = replay;
     let problems = accepted_problems(alloc, buffers, state, &made.cert)?;
@@ -253,8 +330,10 @@ fn tally_entry(
     requires carries { AreCarries replay.old.state.rule replay.old.state.roster replay.old.state.carries }
     requires book { AccountsFor replay.old.state.roster replay.old.state.book }
     requires frames { AreConsecutive replay.old.state.next replay.old.state.window }
-    ensures { IfOk result (λ tallied. IsTallied range.now kept replay.old.state entry.now
+    ensures tallied { IfOk result (λ tallied. IsTallied range.now kept replay.old.state entry.now
         replay.new.state (tally_sums tally.old) (tally_sums tally.new) tallied) }
+    ensures sold { IfOk result (λ tallied. IsWatched range.now replay.old.state entry.now
+        (tally_watch tally.old) (tally_watch tally.new) tallied) }
 {
     match entry.as_ref() {
         EntryRef::Map(made) => return tally_made(alloc, replay, tally, range, kept, made),
@@ -298,17 +377,20 @@ pub fn tally_chapter(
     ensures sums { IfOk result (λ summed. (i : ℕ) → tally_sums tally.new i
         ≡ plus (tally_sums tally.old i)
         (sums_of range.now i (chapter_of chapter.now.body) summed.entries)) }
+    ensures sold { IfOk result (λ summed. (i : ℕ) → tally_watch tally.new i
+        ≡ watch_over range.now.first range.now.last i (chapter_of chapter.now.body)
+        (restarted (tally_watch tally.old i)) summed.entries) }
     ensures judged { IfOk result (λ summed. IsJudgment chapter.now summed.judged) }
     ensures whole { IfOk result (λ summed. IfNone (refused_at summed.judged)
         (summed.entries ≡ length chapter.now.body.entries)) }
 {
+    tally.begin_chapter();
     let Some(mut replay) = open_replay(alloc, chapter)? else {
         return Ok(Summed {
             entries: 0,
             judged: Judged::Unlawful,
         });
     };
-    tally.are_rows_noted = false;
     for (index, entry) in chapter.entries.iter().enumerate() {
         match tally_entry(alloc, &mut replay, tally, range, index, entry)? {
             Tallied::Follows => {}

@@ -11,8 +11,8 @@ use pon_units::FrameNo;
 use std::alloc::{AllocError, Global};
 use std::fmt::{self, Display, Formatter, Write};
 
-// The length of a frame, in microseconds.
-const FRAME_MICROSECONDS: u64 = 125;
+/// The length of a frame, in microseconds.
+pub(crate) const FRAME_MICROSECONDS: u64 = 125;
 
 /// The greatest number of a cause.
 pub(crate) const MAX_CAUSE: u8 = 9;

@@ -15,16 +15,17 @@ use Rattle.pon_text.specs.Lines.{lines_of}
 use Rattle.pon_line.specs.Reading.{AsksWithin, read_line}
 use Rattle.pon_line.specs.declared.fault.LineFault.TheVariants.{Port}
 use Rattle.pon_line.specs.declared.reading.Reading.{Reading}
-use Rattle.pon_line.specs.declared.reading.Reading.TheVariants.{Nothing, Refused, Asks, AsksCert, AsksState, AsksRows, AsksHelp, AsksWhy}
+use Rattle.pon_line.specs.declared.reading.Reading.TheVariants.{Nothing, Refused, Asks, AsksCert, AsksState, AsksRows, AsksHelp, AsksWhy, AsksSure}
 use Rattle.pon_line.proofs.Asking.{read_line-within}
 use Rattle.pon_text.specs.Giving.{GivesLines}
 use Rattle.pon_text.specs.Planning.{BeginsNext}
 use Rattle.pon_manage.specs.Planning.{BeginsOutput}
 use Rattle.pon_why.specs.Lasts.{why_of}
+use Rattle.pon_manage.specs.Sures.{sure_in, sure_line}
 use Rattle.pon_manage.specs.Whys.{why_line}
 use Rattle.pon_manage.specs.Help.{help_text}
 use Rattle.pon_manage.specs.Rows.{list_text}
-use Rattle.pon_manage.specs.Text.{refusal_line, reply_line, cert_line, state_line, Answers, AsksPort, Posts, TellsCert, TellsRows, TellsState, TellsWhy, Gives, IsOutput}
+use Rattle.pon_manage.specs.Text.{refusal_line, reply_line, cert_line, state_line, Answers, AsksPort, Posts, TellsCert, TellsRows, TellsState, TellsSure, TellsWhy, Gives, IsOutput}
 use Rattle.pon_manage.proofs.OneOutput.{AreLawful, lawful_at, lawful_answer}
 use Rattle.pon_manage.proofs.ReadEvents.{AsksInRange, read_line-in_range}
 
@@ -59,6 +60,10 @@ each_why : (old : List Chapter) (port alloc : ℕ) (c : Option Chapter) → port
 each_why old port alloc None lt at = absurd (there old port lt at)
 each_why old port alloc (Some c) lt at = (why_line (why_of c.opening c.entries alloc), refl)
 
+each_sure : (old : List Chapter) (port alloc : ℕ) (c : Option Chapter) → port < length old → slice_get old port ≡ c → (text : List ℕ) × TellsSure c alloc text
+each_sure old port alloc None lt at = absurd (there old port lt at)
+each_sure old port alloc (Some c) lt at = (sure_line alloc (sure_in (present_state c) alloc), refl)
+
 each_answer : (old : List Chapter) (r : Reading) → AreLawful old → AsksWithin (length old) r → AsksInRange r → (text : List ℕ) × (new : List Chapter) × Answers old r text new
 each_answer old Nothing l within range = ([], old, (refl, refl))
 each_answer old (Refused fault) l within range = (refusal_line fault, old, (refl, refl))
@@ -75,6 +80,9 @@ each_answer old (AsksRows port) l within range =
 each_answer old (AsksHelp port) l within range = (help_text, old, (refl, refl))
 each_answer old (AsksWhy port alloc) l within range =
     let told : (text : List ℕ) × TellsWhy (slice_get old port) alloc text = each_why old port alloc (slice_get old port) within refl in
+    (told.0, old, (told.1, refl))
+each_answer old (AsksSure port alloc) l within range =
+    let told : (text : List ℕ) × TellsSure (slice_get old port) alloc text = each_sure old port alloc (slice_get old port) within refl in
     (told.0, old, (told.1, refl))
 
 each_line : (old : List Chapter) (line : List ℕ) → AreLawful old → (text : List ℕ) × (new : List Chapter) × Gives old line text new

@@ -1,6 +1,7 @@
 mod AnswerLaws
 mod DeskPosts
 mod EachOutput
+mod FlushedPlans
 mod OneOutput
 mod ReadEvents
 mod RecordedPlans

@@ -11,9 +11,9 @@ use Rattle.pon_descr.specs.declared.refusal.Refusal.{Refusal}
 use Rattle.pon_text.specs.Lines.{lines_of}
 use Rattle.pon_line.specs.Reading.{read_line}
 use Rattle.pon_text.specs.Giving.{GivesLines}
-use Rattle.pon_manage.specs.Text.{reply_line, Answers, AsksPort, Posts, TellsCert, TellsRows, TellsState, TellsWhy, Gives, IsOutput}
+use Rattle.pon_manage.specs.Text.{reply_line, Answers, AsksPort, Posts, TellsCert, TellsRows, TellsState, TellsSure, TellsWhy, Gives, IsOutput}
 use Rattle.pon_line.specs.declared.reading.Reading.{Reading}
-use Rattle.pon_line.specs.declared.reading.Reading.TheVariants.{Nothing, Refused, Asks, AsksCert, AsksState, AsksRows, AsksHelp, AsksWhy}
+use Rattle.pon_line.specs.declared.reading.Reading.TheVariants.{Nothing, Refused, Asks, AsksCert, AsksState, AsksRows, AsksHelp, AsksWhy, AsksSure}
 
 -- the two texts are equal, and so are the chapters after them
 abbrev Same : List ℕ → List ℕ → List Chapter → List Chapter → Type 0
@@ -54,6 +54,10 @@ one_why : (c : Option Chapter) (alloc : ℕ) (text more : List ℕ) → TellsWhy
 one_why None alloc text more p q = absurd p
 one_why (Some c) alloc text more p q = p ∙ sym q
 
+one_sure : (c : Option Chapter) (alloc : ℕ) (text more : List ℕ) → TellsSure c alloc text → TellsSure c alloc more → text ≡ more
+one_sure None alloc text more p q = absurd p
+one_sure (Some c) alloc text more p q = p ∙ sym q
+
 one_answer : (old : List Chapter) (r : Reading) (text more : List ℕ) (new other : List Chapter) → AreLawful old → Answers old r text new → Answers old r more other → Same text more new other
 one_answer old Nothing text more new other l p q = (p.0 ∙ sym q.0, p.1 ∙ sym q.1)
 one_answer old (Refused fault) text more new other l p q = (p.0 ∙ sym q.0, p.1 ∙ sym q.1)
@@ -63,6 +67,7 @@ one_answer old (AsksState port) text more new other l p q = (one_state (slice_ge
 one_answer old (AsksRows port) text more new other l p q = (one_list (slice_get old port) text more p.0 q.0, p.1 ∙ sym q.1)
 one_answer old (AsksHelp port) text more new other l p q = (p.0 ∙ sym q.0, p.1 ∙ sym q.1)
 one_answer old (AsksWhy port alloc) text more new other l p q = (one_why (slice_get old port) alloc text more p.0 q.0, p.1 ∙ sym q.1)
+one_answer old (AsksSure port alloc) text more new other l p q = (one_sure (slice_get old port) alloc text more p.0 q.0, p.1 ∙ sym q.1)
 
 lawful_post : (old : List Chapter) (port : ℕ) (c : Chapter) (v : Event) (r : Option Refusal) (text : List ℕ) (new : List Chapter) → AreLawful old → IsLawfulChapter c → Posts old port c v r text new → AreLawful new
 lawful_post old port c v (Some refusal) text new l k p = subst AreLawful (sym p.1) l
@@ -81,6 +86,7 @@ lawful_answer old (AsksState port) text new l p = subst AreLawful (sym p.1) l
 lawful_answer old (AsksRows port) text new l p = subst AreLawful (sym p.1) l
 lawful_answer old (AsksHelp port) text new l p = subst AreLawful (sym p.1) l
 lawful_answer old (AsksWhy port alloc) text new l p = subst AreLawful (sym p.1) l
+lawful_answer old (AsksSure port alloc) text new l p = subst AreLawful (sym p.1) l
 
 one_lines : (old : List Chapter) (ls : List (List ℕ)) (text more : List ℕ) (new other : List Chapter) → AreLawful old → GivesLines Gives old ls text new → GivesLines Gives old ls more other → Same text more new other
 one_lines old [] text more new other l p q = (p.0 ∙ sym q.0, p.1 ∙ sym q.1)

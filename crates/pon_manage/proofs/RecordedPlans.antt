@@ -8,7 +8,7 @@ use Rattle.pon_admit.specs.declared.port_cfg.PortCfg.{PortCfg}
 use Rattle.pon_admit.specs.declared.step.Step.{Step}
 use Rattle.pon_history.specs.Chapters.{Chapter}
 use Rattle.pon_line.specs.declared.reading.Reading.{Reading}
-use Rattle.pon_line.specs.declared.reading.Reading.TheVariants.{Nothing, Refused, Asks, AsksCert, AsksState, AsksRows, AsksHelp, AsksWhy}
+use Rattle.pon_line.specs.declared.reading.Reading.TheVariants.{Nothing, Refused, Asks, AsksCert, AsksState, AsksRows, AsksHelp, AsksWhy, AsksSure}
 use Rattle.pon_plant.specs.Turning.{KeepsChapters, TurnsPort}
 use Rattle.pon_plant.proofs.Turning.{gives_turned, turned_length}
 use Rattle.pon_recorder.specs.Bodies.{chapter_body}
@@ -101,6 +101,7 @@ no_event old (AsksState port) other = refl
 no_event old (AsksRows port) other = refl
 no_event old (AsksHelp port) other = refl
 no_event old (AsksWhy port alloc) other = refl
+no_event old (AsksSure port alloc) other = refl
 
 -- room changes no number of ports
 room_length : (old mid : List Chapter) (port : ℕ) (event : Event) → MakesRoom old port event mid → length mid ≡ length old
@@ -116,10 +117,11 @@ room_for_length old mid (AsksState port) room = ap length room
 room_for_length old mid (AsksRows port) room = ap length room
 room_for_length old mid (AsksHelp port) room = ap length room
 room_for_length old mid (AsksWhy port alloc) room = ap length room
+room_for_length old mid (AsksSure port alloc) room = ap length room
 
 -- The recording after all lines, and then the kept chapters.
 module _ {D E : Type 0} (contents : D → Option (List ℕ)) (first last : RecordedPlant D) (path : RecordsTurned contents first last) (tape : Option (List ℕ)) where
-  recorded_all : (ended : Result E DeviceFault) → OnOk ended (IsSound last.recorder)
+  pub recorded_all : (ended : Result E DeviceFault) → OnOk ended (IsSound last.recorder)
       → OnOk ended (HasRecorded (contents last.recorder.file.device) last.recorder.file.left tape [] (all_kept last.plant))
       → OnOk ended (HasRecorded (contents first.recorder.file.device) first.recorder.file.left tape [] (turned_bodies path.turned ++ all_kept last.plant))
   recorded_all (Err fault) sound kept = tt

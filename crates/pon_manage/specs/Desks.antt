@@ -13,10 +13,11 @@ use Rattle.pon_desk.specs.declared.view.PortView.{PortView}
 use Rattle.pon_line.specs.Reading.{read_line}
 use Rattle.pon_line.specs.declared.fault.LineFault.TheVariants.{Port}
 use Rattle.pon_line.specs.declared.reading.Reading.{Reading}
-use Rattle.pon_line.specs.declared.reading.Reading.TheVariants.{Nothing, Refused, Asks, AsksCert, AsksState, AsksRows, AsksHelp, AsksWhy}
+use Rattle.pon_line.specs.declared.reading.Reading.TheVariants.{Nothing, Refused, Asks, AsksCert, AsksState, AsksRows, AsksHelp, AsksWhy, AsksSure}
 use Rattle.pon_manage.specs.declared.show.Shown.{Shown}
 use Rattle.pon_manage.specs.Help.{help_text}
 use Rattle.pon_manage.specs.Rows.{list_text}
+use Rattle.pon_manage.specs.Sures.{sure_in, sure_line}
 use Rattle.pon_manage.specs.Whys.{why_line}
 use Rattle.pon_why.specs.Lasts.{why_of}
 use Rattle.pon_manage.specs.Text.{cert_line, refusal_line, reply_line, state_line}
@@ -57,6 +58,10 @@ ShowsRows text = (at : Chapter) × IsLawfulChapter at × (text ≡ list_text (pr
 abbrev pub ShowsWhy : ℕ → List ℕ → Type 0
 ShowsWhy alloc text = (at : Chapter) × IsLawfulChapter at × (text ≡ why_line (why_of at.opening at.entries alloc))
 
+-- the text says what is sure for an Alloc-ID of a port with a lawful chapter
+abbrev pub ShowsSure : ℕ → List ℕ → Type 0
+ShowsSure alloc text = (at : Chapter) × IsLawfulChapter at × (text ≡ sure_line alloc (sure_in (present_state at) alloc))
+
 -- the text of a reading at a desk, and the seat after it: one post more at the port of the reading, or as before
 abbrev pub DeskAnswers : SeatState → Reading → List ℕ → SeatState → Type 0
 DeskAnswers old Nothing text new = (text ≡ []) × (new ≡ old)
@@ -67,6 +72,7 @@ DeskAnswers old (AsksState port) text new = ShowsState text × (new ≡ old)
 DeskAnswers old (AsksRows port) text new = ShowsRows text × (new ≡ old)
 DeskAnswers old (AsksHelp port) text new = (text ≡ help_text) × (new ≡ old)
 DeskAnswers old (AsksWhy port alloc) text new = ShowsWhy alloc text × (new ≡ old)
+DeskAnswers old (AsksSure port alloc) text new = ShowsSure alloc text × (new ≡ old)
 
 -- the text of a line at a desk, and the seat after it; a seat has a count for each port of its desk
 abbrev pub DeskGives : SeatState → List ℕ → List ℕ → SeatState → Type 0

@@ -15,6 +15,7 @@ line_forms =
     ∷ codes "show"
     ∷ codes "list"
     ∷ codes "why <alloc>"
+    ∷ codes "sure <alloc>"
     ∷ codes "help"
     ∷ []
 
@@ -23,4 +24,4 @@ form_line form = codes "<port> " ++ form ++ 10 ∷ []
 
 -- a line with their number, and the form of each
 abbrev pub help_text : List ℕ
-help_text = codes "help 12" ++ 10 ∷ flat_map form_line line_forms
+help_text = codes "help 13" ++ 10 ∷ flat_map form_line line_forms

@@ -1,9 +1,11 @@
 pub mod Desks
 pub mod FirstBytes
+pub mod Flushed
 pub mod Help
 pub mod Paths
 pub mod Planning
 pub mod Recorded
 pub mod Rows
+pub mod Sures
 pub mod Text
 pub mod Whys

@@ -18,10 +18,11 @@ use Rattle.pon_line.specs.Reading.{read_line}
 use Rattle.pon_line.specs.declared.fault.LineFault.{LineFault}
 use Rattle.pon_line.specs.declared.fault.LineFault.TheVariants.{NoMap, Port}
 use Rattle.pon_line.specs.declared.reading.Reading.{Reading}
-use Rattle.pon_line.specs.declared.reading.Reading.TheVariants.{Nothing, Refused, Asks, AsksCert, AsksState, AsksRows, AsksHelp, AsksWhy}
+use Rattle.pon_line.specs.declared.reading.Reading.TheVariants.{Nothing, Refused, Asks, AsksCert, AsksState, AsksRows, AsksHelp, AsksWhy, AsksSure}
 use Rattle.pon_text.specs.Giving.{GivesText}
 use Rattle.pon_manage.specs.Help.{help_text}
 use Rattle.pon_manage.specs.Rows.{list_text, named}
+use Rattle.pon_manage.specs.Sures.{sure_in, sure_line}
 use Rattle.pon_manage.specs.Whys.{why_line}
 use Rattle.pon_why.specs.Lasts.{why_of}
 use Rattle.pon_manage.specs.declared.show.Shown.{Shown}
@@ -108,6 +109,11 @@ abbrev pub TellsWhy : Option Chapter → ℕ → List ℕ → Type 0
 TellsWhy None alloc text = ⊥
 TellsWhy (Some c) alloc text = text ≡ why_line (why_of c.opening c.entries alloc)
 
+-- the text says what is sure for an Alloc-ID of an existing port
+abbrev pub TellsSure : Option Chapter → ℕ → List ℕ → Type 0
+TellsSure None alloc text = ⊥
+TellsSure (Some c) alloc text = text ≡ sure_line alloc (sure_in (present_state c) alloc)
+
 -- the text of a reading, and the chapters of the ports after it
 abbrev pub Answers : List Chapter → Reading → List ℕ → List Chapter → Type 0
 Answers old Nothing text new = (text ≡ []) × (new ≡ old)
@@ -118,6 +124,7 @@ Answers old (AsksState port) text new = TellsState (slice_get old port) text × 
 Answers old (AsksRows port) text new = TellsRows (slice_get old port) text × (new ≡ old)
 Answers old (AsksHelp port) text new = (text ≡ help_text) × (new ≡ old)
 Answers old (AsksWhy port alloc) text new = TellsWhy (slice_get old port) alloc text × (new ≡ old)
+Answers old (AsksSure port alloc) text new = TellsSure (slice_get old port) alloc text × (new ≡ old)
 
 -- the text of a reading is appended to the replies
 abbrev pub AddsAnswer : List Chapter → Reading → List Chapter → List ℕ → List ℕ → Type 0

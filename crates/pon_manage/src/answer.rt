@@ -8,12 +8,14 @@ ghost use Rattle.pon_line.specs.Reading.{AsksWithin};
 ghost use Rattle.pon_plant.specs.Turning.{KeepsChapters};
 ghost use Rattle.pon_manage.specs.Text.{AddsAnswer, cert_line, last_reply, state_line};
 ghost use Rattle.pon_manage.specs.Rows.{list_text};
+ghost use Rattle.pon_manage.specs.Sures.{sure_in, sure_line};
 ghost use Rattle.pon_manage.specs.Whys.{why_line};
 ghost use Rattle.pon_why.specs.Lasts.{why_of};
 
 use crate::help::append_help;
 use crate::list::append_rows;
 use crate::show::{append_shown, shown_of};
+use crate::sure::{append_sure, sure_in};
 use crate::texts::{append_cert, append_refusal, append_reply};
 use crate::why::append_why;
 use pon_dbru::Occupancies;
@@ -111,6 +113,15 @@ fn show_why(port: &Port, alloc_id: AllocId, replies: &mut Vec<u8>) -> Result<(),
     }
 }
 
+// Appends what is sure for an Alloc-ID.
+fn show_sure(port: &Port, alloc_id: AllocId, replies: &mut Vec<u8>) -> Result<(), AllocError>
+    ensures ok { OnOk result (replies.new.items ≡ replies.old.items
+        ++ sure_line alloc_id (sure_in (present_state port.now) alloc_id)) }
+    ensures err { OnErr result (replies.new.items ≡ replies.old.items) }
+{
+    append_sure(replies, alloc_id, &sure_in(port.state(), alloc_id))
+}
+
 // Returns the port at an index.
 fn port_at(plant: &Plant, place: usize) -> &Port
     requires { place < length plant.now }
@@ -142,6 +153,7 @@ pub(crate) fn answer(
         Reading::AsksRows { port } => show_rows(port_at(plant, port), replies),
         Reading::AsksHelp { port: _ } => append_help(replies),
         Reading::AsksWhy { port, alloc_id } => show_why(port_at(plant, port), alloc_id, replies),
+        Reading::AsksSure { port, alloc_id } => show_sure(port_at(plant, port), alloc_id, replies),
     }
 }
 

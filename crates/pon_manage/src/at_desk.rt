@@ -6,18 +6,21 @@ ghost use Rattle.pon_line.specs.Reading.{AsksWithin};
 ghost use Rattle.pon_desk.specs.Views.{view_of};
 ghost use Rattle.pon_why.specs.RowViews.{row_views};
 ghost use Rattle.pon_why.specs.Lasts.{why_of};
-ghost use Rattle.pon_manage.specs.Desks.{AddsText, DeskAnswers, ShowsCert, ShowsRows, ShowsState, ShowsWhy, shown_in};
+ghost use Rattle.pon_manage.specs.Desks.{AddsText, DeskAnswers, ShowsCert, ShowsRows, ShowsState, ShowsSure, ShowsWhy, shown_in};
+ghost use Rattle.pon_manage.specs.Sures.{sure_in};
 ghost use Rattle.pon_manage.specs.Text.{cert_line};
 
 use crate::help::append_help;
 use crate::list::append_rows;
 use crate::show::{Shown, append_shown};
+use crate::sure::{append_sure, sure_in};
 use crate::texts::{append_cert, append_refusal, append_reply};
 use crate::why::append_why;
 use pon_descr::Refusal;
 use pon_desk::{Desk, PortView, Seat, StepFault};
 use pon_line::{LineFault, Reading};
 use pon_port::{Event, Port};
+use pon_sure::Sure;
 use pon_units::{AllocId, MAX_PORTS, PortNo};
 use pon_why::{ChapterCopy, LastWhy, RowView, copy_chapter, explain_last, row_views};
 use std::alloc::{AllocError, Global};
@@ -152,6 +155,23 @@ impl<'a, L: Ledger, M: Ledger, H: Wait> AtDesk<'a, L, M, H> {
         explain_last(alloc, &copy.opening, &copy.entries, alloc_id)
     }
 
+    // Copies what is sure for an Alloc-ID of a port at some moment, under its lock.
+    fn sure_at(&self, place: usize, alloc_id: AllocId) -> Option<Sure>
+        requires { place < self.now.desk.now.ports }
+        ensures { (at : Chapter) × IsLawfulChapter at
+            × (result ≡ sure_in (present_state at) alloc_id) }
+    {
+        let port = port_no(self.desk, place);
+        let copied = self.desk.inspect(
+            self.rt,
+            port,
+            |port: &Port| -> Option<Sure>
+                ensures { result ≡ sure_in (present_state port.now) alloc_id }
+            { sure_in(port.state(), alloc_id) },
+        );
+        copied.unwrap()
+    }
+
     // Appends the certificate of the last map of a port at some moment, or that it has none.
     fn answer_cert(&self, place: usize, replies: &mut Vec<u8>) -> Result<(), AllocError>
         requires { place < self.now.desk.now.ports }
@@ -197,6 +217,20 @@ impl<'a, L: Ledger, M: Ledger, H: Wait> AtDesk<'a, L, M, H> {
         append_why(replies, &why)
     }
 
+    // Appends what is sure for an Alloc-ID of a port at some moment.
+    fn answer_sure(
+        &self,
+        place: usize,
+        alloc_id: AllocId,
+        replies: &mut Vec<u8>,
+    ) -> Result<(), AllocError>
+        requires { place < self.now.desk.now.ports }
+        ensures ok { OnOk result (AddsText (ShowsSure alloc_id) replies.old.items replies.new.items) }
+        ensures err { OnErr result (replies.new.items ≡ replies.old.items) }
+    {
+        append_sure(replies, alloc_id, &self.sure_at(place, alloc_id))
+    }
+
     /// Appends the text of a reading: an event is posted, and what is shown is copied, each under the lock of its port
     /// only. `Err` only if memory is refused; then the replies are unchanged.
     pub(crate) fn answer(
@@ -222,6 +256,7 @@ impl<'a, L: Ledger, M: Ledger, H: Wait> AtDesk<'a, L, M, H> {
             Reading::AsksRows { port } => self.answer_rows(port, replies),
             Reading::AsksHelp { port: _ } => append_help(replies),
             Reading::AsksWhy { port, alloc_id } => self.answer_why(port, alloc_id, replies),
+            Reading::AsksSure { port, alloc_id } => self.answer_sure(port, alloc_id, replies),
         }
     }
 }

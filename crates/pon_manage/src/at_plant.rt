@@ -23,7 +23,7 @@ const REFUSED: &[u8; 4] = b"err ";
 pub(crate) struct AtPlant<'a, N> {
     // A buffer for the bytes of a map.
     pub(crate) room: Vec<u8>,
-    notes: &'a mut N,
+    pub(crate) notes: &'a mut N,
     // The number of lines so far, at most 2^64 - 1.
     lines: u64,
 }

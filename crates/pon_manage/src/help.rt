@@ -6,7 +6,7 @@ ghost use Rattle.pon_manage.specs.Help.{help_text};
 use std::alloc::AllocError;
 
 // The number of the lines, and the form of each: a port, and the words after it.
-const HELP: &[u8] = b"help 12
+const HELP: &[u8] = b"help 13
 <port> admit <onu> <alloc> <fixed> <assured> <max> <class>
 <port> change <alloc> <fixed> <assured> <max> <class>
 <port> remove <alloc>
@@ -18,6 +18,7 @@ const HELP: &[u8] = b"help 12
 <port> show
 <port> list
 <port> why <alloc>
+<port> sure <alloc>
 <port> help
 ";
 

@@ -66,7 +66,7 @@ pub struct RecordedPlan<D> {
 }
 
 // Ends a recording without a chapter: memory was refused before the first read.
-fn not_begun<D: DevWrite + Drop>(recorder: Recorder<D>) -> RecordedPlan<D>
+pub(crate) fn not_begun<D: DevWrite + Drop>(recorder: Recorder<D>) -> RecordedPlan<D>
     ensures lines { result.lines ≡ Err Memory }
     ensures recording { result.recording.result ≡ Err Memory }
 {

@@ -62,9 +62,9 @@ fn make_room_for<D: DevWrite + Drop>(
     }
 }
 
-// Appends the text of a reading, at a port that has room for its event. `Err` only if memory is refused; then the replies
-// are unchanged.
-fn answer_in_room<D: DevWrite + Drop>(
+/// Appends the text of a reading, at a port that has room for its event. `Err` only if memory is refused; then the replies
+/// are unchanged.
+pub(crate) fn answer_in_room<D: DevWrite + Drop>(
     at: &mut RecordedPlant<D>,
     reading: Reading,
     room: &mut Vec<u8>,

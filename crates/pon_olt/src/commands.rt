@@ -6,7 +6,7 @@ use std::str;
 use strsim::levenshtein;
 
 /// Each command, with the words that it takes after the port.
-const COMMANDS: [(&str, &str); 12] = [
+const COMMANDS: [(&str, &str); 13] = [
     ("admit", "onu alloc fixed assured max class"),
     ("change", "alloc fixed assured max class"),
     ("remove", "alloc"),
@@ -18,6 +18,7 @@ const COMMANDS: [(&str, &str); 12] = [
     ("show", "no further word"),
     ("list", "no further word"),
     ("why", "alloc"),
+    ("sure", "alloc"),
     ("help", "no further word"),
 ];
 

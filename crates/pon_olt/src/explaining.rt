@@ -136,7 +136,7 @@ fn reason_of_event<'a>(
             let refused = refused_event(alloc, code, plant, port, &event)?;
             Some(Reason::Event(refused))
         }
-        Reading::AsksWhy { alloc_id, .. } if code == "E01" => {
+        Reading::AsksWhy { alloc_id, .. } | Reading::AsksSure { alloc_id, .. } if code == "E01" => {
             let alloc = alloc_id.get();
             Some(Reason::Event(Refused::NotAdmitted { alloc }))
         }

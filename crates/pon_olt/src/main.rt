@@ -14,6 +14,7 @@ mod commands;
 mod explaining;
 mod faulty;
 mod files;
+mod floors;
 mod looking;
 mod migrating;
 mod misfits;

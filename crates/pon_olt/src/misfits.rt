@@ -115,7 +115,7 @@ fn fields_of(command: &[u8]) -> &'static [Field] {
             Field::Class,
         ];
     }
-    if command == b"remove".as_slice() || command == b"why".as_slice() {
+    if [b"remove".as_slice(), b"why".as_slice(), b"sure".as_slice()].contains(&command) {
         return &[Field::Alloc];
     }
     if command == b"report".as_slice() {

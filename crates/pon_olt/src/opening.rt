@@ -5,6 +5,7 @@ ghost use Rattle.pon_plant.specs.Plants.{IsPlantSize};
 ghost use Rattle.toml.specs.Parse.{parse_document};
 ghost use Rattle.pon_settings.specs.Ports.{IsOpening, Spells, openings, steps_from};
 
+use crate::floors::tell_floors;
 use pon_device::DeviceFault;
 use pon_files::open_input;
 use pon_job::{Failure, Named};
@@ -154,8 +155,9 @@ pub(crate) fn settings_of<R: Files>(
     }
 }
 
-/// Reads the settings file `name` and returns the ports and the steps that its text spells.
-pub(crate) fn with_settings<R: Files>(
+/// Reads the settings file `name` and returns the ports and the steps that its text spells. Prints which best-effort rows have
+/// no floor.
+pub(crate) fn with_settings<R: Files + Eprint>(
     rt: &R,
     alloc: Global,
     name: &str,
@@ -165,5 +167,6 @@ pub(crate) fn with_settings<R: Files>(
         × IsOpening text opening.ports.items opening.steps.items) }
 {
     let settings = settings_of(rt, alloc, name)?;
+    tell_floors(rt, alloc, &settings)?;
     Ok(opening_of(alloc, &settings)?)
 }

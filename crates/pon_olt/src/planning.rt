@@ -7,13 +7,75 @@ use crate::explaining::Explainer;
 use crate::opening::{NotOpened, with_settings, without_settings};
 use crate::watching::Watched;
 use pon_device::{DevRead, DevWrite, DeviceFault, StdRead, StdWrite};
-use pon_files::{FileTape, Inputs, LockFile, Output, begin_recording, end_recording};
+use pon_files::{FileTape, FlushTimer, Inputs, LockFile, Output, begin_recording, end_recording};
 use pon_job::{Failure, Named, Plan};
-use pon_manage::{Opening, PlanEnd, RecordedPlan, plan, plan_recorded};
+use pon_manage::{
+    CutTimes, Notes, Opening, PlanEnd, RecordedPlan, plan, plan_flushed, plan_recorded,
+};
+use pon_plant::Plant;
 use pon_recorder::{Recorder, open_recorder};
+use pon_units::PortNo;
 use std::alloc::{AllocError, Global};
-use std::io::{self, BufReader};
+use std::fs::OpenFile;
+use std::io::{self, BufReader, Write};
 use std::rt::Files;
+use std::time::Clock;
+
+/// The seconds after which a chapter is recorded before it is full, if the command line does not say.
+const FLUSH_SECONDS: u64 = 1;
+
+/// Notes refused lines, and says when the chapter of each port is recorded.
+#[derive(Drop)]
+struct TimedNotes<'a, R> {
+    notes: Explainer<'a, R>,
+    // Those of the ports, in order.
+    timers: Vec<FlushTimer<'a, R>>,
+}
+
+impl<'a, R: Eprint> Notes for TimedNotes<'a, R> {
+    fn note(&mut self, number: u64, plant: &Plant, line: &[u8], reply: &[u8]) {
+        self.notes.note(number, plant, line, reply);
+    }
+}
+
+impl<'a, R: Clock> CutTimes for TimedNotes<'a, R> {
+    fn is_due(&mut self, port: PortNo) -> bool {
+        match self.timers.get_mut(usize::from(port.get())) {
+            Some(timer) => timer.is_due(),
+            None => false,
+        }
+    }
+}
+
+// Returns a timer for the chapters of each of this number of ports. `None` if they are recorded only when they are full, or to
+// no file.
+fn timers_of<'a, R: Clock>(
+    rt: &'a R,
+    alloc: Global,
+    job: &Plan<'_>,
+    ports: usize,
+) -> Result<Option<Vec<FlushTimer<'a, R>>>, AllocError> {
+    if job.record.is_none() {
+        return Ok(None);
+    }
+    let mut timers = Vec::with_capacity(alloc, ports)?;
+    for _port in 0..ports {
+        match FlushTimer::new(rt, job.flush.unwrap_or(FLUSH_SECONDS)) {
+            Some(timer) => timers.push(timer)?,
+            None => return Ok(None),
+        }
+    }
+    Ok(Some(timers))
+}
+
+// Returns what notes refused lines.
+fn notes_of<'a, R: Eprint>(rt: &'a R, alloc: Global, job: &Plan<'_>) -> Explainer<'a, R> {
+    Explainer {
+        rt,
+        alloc,
+        verbose: job.verbose,
+    }
+}
 
 // Returns how recorded lines ended: as the lines did, and else as the recording did. If both failed, the text is that of the
 // recording.
@@ -61,8 +123,30 @@ where
     }
 }
 
+// Executes lines, and records the ports: their full chapters, and also others each time that a period has passed.
+fn record_lines<R: Clock + Eprint, T: OpenFile + Write + Drop, I: DevRead, W: DevWrite>(
+    rt: &R,
+    alloc: Global,
+    opening: Opening,
+    job: &Plan<'_>,
+    recorder: Recorder<FileTape<T>>,
+    reader: &mut I,
+    writer: &mut W,
+) -> Result<RecordedPlan<FileTape<T>>, AllocError>
+    requires { IsPlantSize (length opening.ports.items) }
+{
+    let mut notes = notes_of(rt, alloc, job);
+    match timers_of(rt, alloc, job, opening.ports.len())? {
+        Some(timers) => {
+            let mut timed = TimedNotes { notes, timers };
+            Ok(plan_flushed(alloc, opening, &mut timed, recorder, reader, writer))
+        }
+        None => Ok(plan_recorded(alloc, opening, &mut notes, recorder, reader, writer)),
+    }
+}
+
 // Executes lines, and records the ports if that is wanted.
-fn answer_lines<R: Eprint + Files, I: DevRead, W: DevWrite>(
+fn answer_lines<R: Clock + Eprint + Files, I: DevRead, W: DevWrite>(
     rt: &R,
     alloc: Global,
     opening: Opening,
@@ -74,19 +158,15 @@ where
     R::File: LockFile,
     requires { IsPlantSize (length opening.ports.items) }
 {
-    let mut notes = Explainer {
-        rt,
-        alloc,
-        verbose: job.verbose,
-    };
     let Some(recorder) = recorder_of(rt, alloc, job)? else {
         let Opening { ports, steps } = opening;
+        let mut notes = notes_of(rt, alloc, job);
         plan(alloc, ports.as_slice(), steps, &mut notes, reader, writer)?;
         return Ok(());
     };
-    let RecordedPlan { lines, recording } = plan_recorded(
-        alloc, opening, &mut notes, recorder, reader, writer,
-    );
+    let RecordedPlan { lines, recording } = record_lines(
+        rt, alloc, opening, job, recorder, reader, writer,
+    )?;
     end_of(
         lines,
         end_recording(rt, alloc, job.record.unwrap_or(""), recording),
@@ -94,7 +174,7 @@ where
 }
 
 // Executes the lines of standard input. Returns `false` if they are strict and one was refused.
-fn plan_lines<R: Input + Print + Eprint + Files>(
+fn plan_lines<R: Input + Print + Clock + Eprint + Files>(
     rt: &R,
     alloc: Global,
     opening: Opening,
@@ -119,7 +199,7 @@ where
 /// Executes the lines of standard input at the ports of the settings file, or at one port without settings, and writes the
 /// reply to each; if wanted, also the reason of each refusal to standard error, and a recording of the ports to a file.
 /// Returns `false` if they are strict and one was refused.
-pub(crate) fn run_plan<R: Input + Print + Eprint + Files>(
+pub(crate) fn run_plan<R: Input + Print + Clock + Eprint + Files>(
     rt: &R,
     alloc: Global,
     job: &Plan<'_>,

@@ -1,12 +1,13 @@
 //! Runs of a terminal, and the simulated units of a terminal elsewhere.
 
+use crate::floors::tell_floors;
 use crate::opening::{NotOpened, settings_of};
 use pon_device::StdWrite;
 use pon_files::LockFile;
-use pon_job::{Outcome, Run, Units, exit_status};
+use pon_job::{Meeting, Outcome, Run, Units, exit_status};
 use pon_run::{LinesFrom, RunArgs, UnitsPlace, run_ports};
 use pon_settings::Settings;
-use pon_sockets::{UnitsArgs, has_room, run_units};
+use pon_sockets::{ExternalUnits, UnitsArgs, has_room, run_units};
 use pon_units::PortNo;
 use pon_worker::OpenGate;
 use std::alloc::Global;
@@ -41,18 +42,26 @@ fn lines_of(name: &str) -> LinesFrom<'_> {
 
 // Returns the arguments of a run.
 fn args_of<'a>(run: &Run<'a>) -> RunArgs<'a> {
-    let units = if run.meeting.external {
-        let wait = wait_of(run.meeting.wait);
-        UnitsPlace::Elsewhere { wait }
+    let Meeting {
+        external,
+        once,
+        grow,
+        wait,
+        pace,
+    } = run.meeting;
+    let units = if external {
+        let wait = wait_of(wait);
+        UnitsPlace::Elsewhere(ExternalUnits { wait, once })
     } else {
-        UnitsPlace::Here
+        UnitsPlace::Here { grow }
     };
     RunArgs {
         listen: run.listen,
         units,
         maps: run.maps,
-        pace: run.meeting.pace,
+        pace,
         record: run.record,
+        flush: run.flush.unwrap_or(0),
         no_clobber: run.no_clobber,
         strict_record: run.strict_record,
         config: Some(run.config),
@@ -126,6 +135,7 @@ where
     R::File: AsRawFd + LockFile + Send,
 {
     let settings = settings_of(rt, alloc, run.config)?;
+    tell_floors(rt, alloc, &settings)?;
     if let Some(misfit) = misfit_of_run(&settings, run) {
         return Ok(refuse(rt, misfit));
     }

@@ -42,71 +42,79 @@ fn refusal(alloc: Global, line: &str) -> Option<ErrorKind> {
 }
 
 /// Jobs over lines and check files.
-static LINES: [(&str, &str); 8] = [
+static LINES: [(&str, &str); 9] = [
     (
         "olt plan",
-        r#"Plan(Plan { config: None, strict: false, verbose: false, record: None, no_clobber: false, forget: false })"#,
+        r#"Plan(Plan { config: None, strict: false, verbose: false, record: None, no_clobber: false, forget: false, flush: None })"#,
     ),
     (
         "olt plan --config a.toml",
-        r#"Plan(Plan { config: Some("a.toml"), strict: false, verbose: false, record: None, no_clobber: false, forget: false })"#,
+        r#"Plan(Plan { config: Some("a.toml"), strict: false, verbose: false, record: None, no_clobber: false, forget: false, flush: None })"#,
     ),
     (
         "olt plan --strict",
-        r#"Plan(Plan { config: None, strict: true, verbose: false, record: None, no_clobber: false, forget: false })"#,
+        r#"Plan(Plan { config: None, strict: true, verbose: false, record: None, no_clobber: false, forget: false, flush: None })"#,
     ),
     (
         "olt plan --verbose --config a.toml",
-        r#"Plan(Plan { config: Some("a.toml"), strict: false, verbose: true, record: None, no_clobber: false, forget: false })"#,
+        r#"Plan(Plan { config: Some("a.toml"), strict: false, verbose: true, record: None, no_clobber: false, forget: false, flush: None })"#,
     ),
     (
         "olt plan --record r.bin",
-        r#"Plan(Plan { config: None, strict: false, verbose: false, record: Some("r.bin"), no_clobber: false, forget: false })"#,
+        r#"Plan(Plan { config: None, strict: false, verbose: false, record: Some("r.bin"), no_clobber: false, forget: false, flush: None })"#,
     ),
     (
         "olt plan --no-clobber --record=r.bin",
-        r#"Plan(Plan { config: None, strict: false, verbose: false, record: Some("r.bin"), no_clobber: true, forget: false })"#,
+        r#"Plan(Plan { config: None, strict: false, verbose: false, record: Some("r.bin"), no_clobber: true, forget: false, flush: None })"#,
     ),
     (
         "olt plan --forget --strict",
-        r#"Plan(Plan { config: None, strict: true, verbose: false, record: None, no_clobber: false, forget: true })"#,
+        r#"Plan(Plan { config: None, strict: true, verbose: false, record: None, no_clobber: false, forget: true, flush: None })"#,
+    ),
+    (
+        "olt plan --record r.bin --flush 3600",
+        r#"Plan(Plan { config: None, strict: false, verbose: false, record: Some("r.bin"), no_clobber: false, forget: false, flush: Some(3600) })"#,
     ),
     ("olt check c.txt", r#"Check { file: "c.txt" }"#),
 ];
 
 /// Runs, and units elsewhere.
-static RUNS: [(&str, &str); 10] = [
+static RUNS: [(&str, &str); 11] = [
     (
         "olt run --config a.toml --listen 127.0.0.1:0 --maps 1",
-        r#"Run(Run { config: "a.toml", listen: "127.0.0.1:0", maps: 1, meeting: Meeting { external: false, wait: None, pace: None }, record: None, no_clobber: false, strict_record: false, operate: None, settle: false, progress: false, summary: false })"#,
+        r#"Run(Run { config: "a.toml", listen: "127.0.0.1:0", maps: 1, meeting: Meeting { external: false, once: false, grow: false, wait: None, pace: None }, record: None, no_clobber: false, strict_record: false, flush: None, operate: None, settle: false, progress: false, summary: false })"#,
     ),
     (
         "olt run --maps=1000000000 --listen=127.0.0.1:0 --config=a.toml",
-        r#"Run(Run { config: "a.toml", listen: "127.0.0.1:0", maps: 1000000000, meeting: Meeting { external: false, wait: None, pace: None }, record: None, no_clobber: false, strict_record: false, operate: None, settle: false, progress: false, summary: false })"#,
+        r#"Run(Run { config: "a.toml", listen: "127.0.0.1:0", maps: 1000000000, meeting: Meeting { external: false, once: false, grow: false, wait: None, pace: None }, record: None, no_clobber: false, strict_record: false, flush: None, operate: None, settle: false, progress: false, summary: false })"#,
     ),
     (
         "olt run --config a.toml --operate b.txt --listen 127.0.0.1:0 --maps 3 --record r.bin",
-        r#"Run(Run { config: "a.toml", listen: "127.0.0.1:0", maps: 3, meeting: Meeting { external: false, wait: None, pace: None }, record: Some("r.bin"), no_clobber: false, strict_record: false, operate: Some("b.txt"), settle: false, progress: false, summary: false })"#,
+        r#"Run(Run { config: "a.toml", listen: "127.0.0.1:0", maps: 3, meeting: Meeting { external: false, once: false, grow: false, wait: None, pace: None }, record: Some("r.bin"), no_clobber: false, strict_record: false, flush: None, operate: Some("b.txt"), settle: false, progress: false, summary: false })"#,
     ),
     (
         "olt run --settle --config a.toml --listen 127.0.0.1:0 --maps 2",
-        r#"Run(Run { config: "a.toml", listen: "127.0.0.1:0", maps: 2, meeting: Meeting { external: false, wait: None, pace: None }, record: None, no_clobber: false, strict_record: false, operate: None, settle: true, progress: false, summary: false })"#,
+        r#"Run(Run { config: "a.toml", listen: "127.0.0.1:0", maps: 2, meeting: Meeting { external: false, once: false, grow: false, wait: None, pace: None }, record: None, no_clobber: false, strict_record: false, flush: None, operate: None, settle: true, progress: false, summary: false })"#,
     ),
     (
         "olt run --config a.toml --listen h:1 --maps 1 --units external --wait 3600 --pace 1000000 --progress --summary",
-        r#"Run(Run { config: "a.toml", listen: "h:1", maps: 1, meeting: Meeting { external: true, wait: Some(3600), pace: Some(1000000) }, record: None, no_clobber: false, strict_record: false, operate: None, settle: false, progress: true, summary: true })"#,
+        r#"Run(Run { config: "a.toml", listen: "h:1", maps: 1, meeting: Meeting { external: true, once: false, grow: false, wait: Some(3600), pace: Some(1000000) }, record: None, no_clobber: false, strict_record: false, flush: None, operate: None, settle: false, progress: true, summary: true })"#,
     ),
     (
         "olt run --units simulated --config a.toml --listen h:1 --maps 1 --operate -",
-        r#"Run(Run { config: "a.toml", listen: "h:1", maps: 1, meeting: Meeting { external: false, wait: None, pace: None }, record: None, no_clobber: false, strict_record: false, operate: Some("-"), settle: false, progress: false, summary: false })"#,
+        r#"Run(Run { config: "a.toml", listen: "h:1", maps: 1, meeting: Meeting { external: false, once: false, grow: false, wait: None, pace: None }, record: None, no_clobber: false, strict_record: false, flush: None, operate: Some("-"), settle: false, progress: false, summary: false })"#,
     ),
     (
         "olt run --config a.toml --listen h:1 --maps 1 --pace=1 --wait=1",
-        r#"Run(Run { config: "a.toml", listen: "h:1", maps: 1, meeting: Meeting { external: false, wait: Some(1), pace: Some(1) }, record: None, no_clobber: false, strict_record: false, operate: None, settle: false, progress: false, summary: false })"#,
+        r#"Run(Run { config: "a.toml", listen: "h:1", maps: 1, meeting: Meeting { external: false, once: false, grow: false, wait: Some(1), pace: Some(1) }, record: None, no_clobber: false, strict_record: false, flush: None, operate: None, settle: false, progress: false, summary: false })"#,
     ),
     (
         "olt run --strict-record --record=r.bin --config a.toml --listen h:1 --maps 1",
-        r#"Run(Run { config: "a.toml", listen: "h:1", maps: 1, meeting: Meeting { external: false, wait: None, pace: None }, record: Some("r.bin"), no_clobber: false, strict_record: true, operate: None, settle: false, progress: false, summary: false })"#,
+        r#"Run(Run { config: "a.toml", listen: "h:1", maps: 1, meeting: Meeting { external: false, once: false, grow: false, wait: None, pace: None }, record: Some("r.bin"), no_clobber: false, strict_record: true, flush: None, operate: None, settle: false, progress: false, summary: false })"#,
+    ),
+    (
+        "olt run --once --grow --flush 0 --config a.toml --listen h:1 --maps 1",
+        r#"Run(Run { config: "a.toml", listen: "h:1", maps: 1, meeting: Meeting { external: false, once: true, grow: true, wait: None, pace: None }, record: None, no_clobber: false, strict_record: false, flush: Some(0), operate: None, settle: false, progress: false, summary: false })"#,
     ),
     (
         "olt units --config a.toml --connect h:1",
@@ -203,6 +211,8 @@ fn refuses_numbers_out_of_range(rt: HostRuntime) {
         "olt run --config a.toml --listen 127.0.0.1:0 --maps x",
         "olt run --config a.toml --listen 127.0.0.1:0 --maps 1 --pace 0",
         "olt run --config a.toml --listen 127.0.0.1:0 --maps 1 --pace 1000001",
+        "olt plan --flush 3601",
+        "olt run --config a.toml --listen 127.0.0.1:0 --maps 1 --flush 3601",
         "olt units --config a.toml --connect 127.0.0.1:1 --wait 3601",
         "olt units --config a.toml --connect 127.0.0.1:1 --port 64",
         "olt rates r.bin --port 64",

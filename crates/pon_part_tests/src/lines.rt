@@ -13,7 +13,8 @@ fn fault_of(line: &[u8]) -> Option<LineFault> {
         | Reading::AsksState { .. }
         | Reading::AsksRows { .. }
         | Reading::AsksHelp { .. }
-        | Reading::AsksWhy { .. } => None,
+        | Reading::AsksWhy { .. }
+        | Reading::AsksSure { .. } => None,
     }
 }
 
@@ -81,6 +82,10 @@ fn tells_the_first_check_that_fails_after_an_admission(rt: HostRuntime) {
         (b"2 why x".as_slice(), LineFault::NoSuchPort),
         (b"0 why x".as_slice(), LineFault::BadField),
         (b"0 help map".as_slice(), LineFault::WordCount),
+        (b"0 sure".as_slice(), LineFault::WordCount),
+        (b"0 sure x 1024".as_slice(), LineFault::WordCount),
+        (b"2 sure x".as_slice(), LineFault::NoSuchPort),
+        (b"0 sure x".as_slice(), LineFault::BadField),
         (b"2 help".as_slice(), LineFault::NoSuchPort),
         (b"help".as_slice(), LineFault::BadField),
         (b"0 lists".as_slice(), LineFault::UnknownCommand),
@@ -134,6 +139,8 @@ fn tells_what_the_port_would_refuse_of_other_numbers(rt: HostRuntime) {
         (b"0 remove 16384".as_slice(), Refusal::AllocRange),
         (b"0 why 1023".as_slice(), Refusal::AllocRange),
         (b"0 why 16384".as_slice(), Refusal::AllocRange),
+        (b"0 sure 1023".as_slice(), Refusal::AllocRange),
+        (b"0 sure 16384".as_slice(), Refusal::AllocRange),
     ] {
         let fault = fault_of(line);
         assert!(rt; fault == Some(LineFault::Port(refusal)), "at {line:?}");
@@ -193,6 +200,7 @@ fn request_of(line: &[u8]) -> Option<&'static str> {
         Reading::AsksRows { port: 1 } => Some("list"),
         Reading::AsksHelp { port: 1 } => Some("help"),
         Reading::AsksWhy { port: 1, .. } => Some("why"),
+        Reading::AsksSure { port: 1, .. } => Some("sure"),
         _ => None,
     }
 }
@@ -205,6 +213,7 @@ fn reads_each_request(rt: HostRuntime) {
         (b"1 list".as_slice(), "list"),
         (b"1 help".as_slice(), "help"),
         (b"1 why 16383".as_slice(), "why"),
+        (b"1 sure 1024".as_slice(), "sure"),
     ] {
         assert!(rt; request_of(line) == Some(command), "at {line:?}");
     }
@@ -237,6 +246,7 @@ fn leaves_other_lines_and_refused_ones(rt: HostRuntime) {
         b"1 list".as_slice(),
         b"1 help".as_slice(),
         b"1 why 1024".as_slice(),
+        b"1 sure 1024".as_slice(),
         b"0 restore".as_slice(),
         b"0 map x".as_slice(),
         b"2 map".as_slice(),

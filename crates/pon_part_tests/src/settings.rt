@@ -1,7 +1,9 @@
 // Settings at their limits, and the first fault of wrong ones.
 use pon_admit::{Event, Row, Step};
 use pon_descr::{Class, Descriptor, Refusal};
-use pon_settings::{PortSettings, Settings, SettingsFault, SettingsRow, settings};
+use pon_settings::{
+    PortSettings, Settings, SettingsFault, SettingsRow, rows_without_floor, settings,
+};
 use pon_units::{AllocId, OnuId, PortNo};
 use std::alloc::{AllocError, Global};
 
@@ -265,5 +267,45 @@ fn takes_64_ports_and_no_more(rt: HostRuntime) {
     for (count, wanted) in [(64, Ok(64)), (65, Err(SettingsFault::Ports))] {
         let read = ports_read(rt.alloc(), count);
         assert!(rt; read == Some(wanted), "{count}: {read:?}");
+    }
+}
+
+// The settings of a port with a non-assured Alloc-ID of this maximum rate, and three of best effort, one with an assured rate.
+fn with_maximum(alloc: Global, most: &str) -> Option<String> {
+    let head =
+        "[[port]]\ngap = 16\n[[port.alloc]]\nonu = 5\nalloc = 1024\nfixed = 0\nassured = 1\nclass = \"na\"\nmax = ";
+    let rest =
+        "\n[[port.alloc]]\nonu = 5\nalloc = 1026\nfixed = 0\nassured = 0\nmax = 3\nclass = \"be\"\n[[port.alloc]]\nonu = 5\nalloc = 1025\nfixed = 0\nassured = 0\nmax = 1\nclass = \"be\"\n[[port.alloc]]\nonu = 5\nalloc = 1027\nfixed = 0\nassured = 1\nmax = 2\nclass = \"be\"\n";
+    format!(in alloc; "{head}{most}{rest}").ok()
+}
+
+// Returns whether these Alloc-IDs of the one port of a text have no floor, in this order.
+fn lack_floors(alloc: Global, text: &str, wanted: &[u16]) -> Option<bool> {
+    let read = settings(alloc, text).ok()?;
+    let rows = rows_without_floor(alloc, read.ports().first()?).ok()?;
+    let mut same = rows.len() == wanted.len();
+    for (row, alloc_id) in rows.iter().zip(wanted) {
+        same = row.alloc_id.get() == *alloc_id && same;
+    }
+    Some(same)
+}
+
+fn lack_floors_at(alloc: Global, most: &str, wanted: &[u16]) -> Option<bool> {
+    let text = with_maximum(alloc, most)?;
+    lack_floors(alloc, text.as_str(), wanted)
+}
+
+// Best effort shares what this maximum and 1 kbit/s leave of 2,481,664 kbit/s, by weights of 3, 1 and 1.
+#[test]
+fn names_the_rows_without_a_floor(rt: HostRuntime) {
+    for (most, wanted) in [
+        ("2481663", [1026, 1025].as_slice()),
+        ("2481660", [1025].as_slice()),
+        ("2400000", [].as_slice()),
+    ] {
+        assert!(rt;
+            lack_floors_at(rt.alloc(), most, wanted) == Some(true),
+            "{most}"
+        );
     }
 }

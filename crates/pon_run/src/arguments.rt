@@ -1,12 +1,13 @@
-use std::time::Duration;
+use pon_sockets::ExternalUnits;
 
 /// Where the units of the ports of a run are.
 #[derive(Clone, Copy, Debug, PartialEq, Eq)]
 pub enum UnitsPlace {
-    /// In this process: simulated units answer each port.
-    Here,
-    /// Elsewhere: each port waits so long for a connection of its units, and for each read and write of it.
-    Elsewhere { wait: Duration },
+    /// In this process: simulated units answer each port. If they grow, an Alloc-ID that is admitted during the run gets an
+    /// empty queue at the unit of its ONU.
+    Here { grow: bool },
+    /// Elsewhere: units connect to each port.
+    Elsewhere(ExternalUnits),
 }
 
 /// Where the management lines of an operator come from.
@@ -32,6 +33,8 @@ pub struct RunArgs<'a> {
     pub pace: Option<u64>,
     /// The file of a recording of the ports' chapters. It is written as its part, and replaced when the recording is whole.
     pub record: Option<&'a str>,
+    /// The seconds after which a chapter that is recorded is cut and written, also if it is not full. 0 for never.
+    pub flush: u64,
     /// Whether the run is refused if the file of the recording exists.
     pub no_clobber: bool,
     /// Whether the run fails if its recording lacks a chapter.
@@ -44,7 +47,8 @@ pub struct RunArgs<'a> {
     pub settle: bool,
     /// Whether standard error has once a second a line for each port with what it did so far.
     pub progress: bool,
-    /// Whether standard error has at the end a line for each port with its refused and garbled reports and its late maps.
+    /// Whether standard error has at the end a line for each port with its refused and garbled reports, its late maps, its
+    /// connections, and why its worker ended.
     pub summary: bool,
 }
 

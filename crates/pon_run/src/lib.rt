@@ -5,7 +5,9 @@
 //! units; all threads have ended when a run returns, in every case.
 #![tactic(auto)]
 
+mod answering;
 mod arguments;
+mod connecting;
 mod console;
 mod context;
 mod early;
@@ -20,6 +22,7 @@ mod ports;
 mod progress;
 mod restoring;
 mod running;
+mod server;
 mod serving;
 mod settlement_text;
 mod settling;

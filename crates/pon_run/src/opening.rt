@@ -47,8 +47,10 @@ where
 {
     let address = run.args.listen;
     match run.args.units {
-        UnitsPlace::Here => open_links(run.rt, run.alloc, address, ports),
-        UnitsPlace::Elsewhere { wait } => accept_links(run.rt, run.alloc, address, ports, wait),
+        UnitsPlace::Here { .. } => open_links(run.rt, run.alloc, address, ports),
+        UnitsPlace::Elsewhere(external) => {
+            accept_links(run.rt, run.alloc, address, ports, external)
+        }
     }
 }
 

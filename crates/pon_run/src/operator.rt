@@ -5,11 +5,12 @@ ghost use Rattle.std.specs.Prelude.{◌↔◌, IfOk, IsNone};
 use crate::arguments::LinesFrom;
 use crate::console::{Console, STANDARD_INPUT};
 use crate::context::RunContext;
+use crate::watch::{RunWatch, Service};
 use pon_desk::{Desk, Seat};
 use pon_device::{DevRead, DevWrite, DeviceFault, StdRead};
 use pon_files::open_input;
 use pon_job::{Failure, Named};
-use pon_manage::operate;
+use pon_manage::{ShowNotes, operate_noted};
 use pon_worker::Gate;
 use std::alloc::Global;
 use std::fs::{self, OpenOptions};
@@ -74,18 +75,49 @@ pub(crate) fn open_operator<G: Gate, R: Files>(
     }
 }
 
-// Executes lines, as [`operate`] does.
-fn answer_lines<L: Ledger, M: Ledger, F: Read + Drop, W: DevWrite, R: Wait>(
-    rt: &R,
-    alloc: Global,
+/// Says on standard error how a port is served whose state was shown.
+#[derive(Drop)]
+struct ServiceNotes<'a, R> {
+    rt: &'a R,
+    watch: &'a RunWatch,
+}
+
+impl<'a, R: Eprint> ShowNotes for ServiceNotes<'a, R> {
+    fn shown(&self, port: usize) {
+        let Some(seen) = self.watch.ports().get(port) else {
+            return;
+        };
+        let service = seen.service();
+        let _ = match service {
+            Service::Ended(why) => eprintln!(self.rt; "  port {port} {service}: {why}"),
+            Service::Served | Service::Waiting => eprintln!(self.rt; "  port {port} {service}"),
+        };
+    }
+}
+
+// Executes lines, as [`operate_noted`] does.
+fn answer_lines<L, M, G, F, W, R>(
+    run: &RunContext<'_, G, R>,
     desk: &Desk<L, M>,
     seat: &mut Seat<L, M>,
     file: F,
     writer: &mut W,
-) -> Result<(), DeviceFault> {
-    let input = BufReader::new(alloc, file).map_err(|_| DeviceFault::Memory)?;
+) -> Result<(), DeviceFault>
+where
+    L: Ledger,
+    M: Ledger,
+    G: Gate,
+    F: Read + Drop,
+    W: DevWrite,
+    R: Wait + Eprint,
+{
+    let input = BufReader::new(run.alloc, file).map_err(|_| DeviceFault::Memory)?;
     let mut reader = StdRead::new(input);
-    match operate(rt, alloc, desk, seat, &mut reader, writer) {
+    let notes = ServiceNotes {
+        rt: run.rt,
+        watch: run.watch,
+    };
+    match operate_noted(run.rt, run.alloc, desk, seat, &notes, &mut reader, writer) {
         Ok(_) => Ok(()),
         Err(fault) => Err(fault),
     }
@@ -106,10 +138,10 @@ where
     G: Gate,
     F: Read + Drop,
     W: DevWrite,
-    R: Net + Wait,
+    R: Net + Wait + Eprint,
 {
     match Console::open(run.rt, run.alloc, stream, descriptor, run.watch) {
-        Ok(console) => answer_lines(run.rt, run.alloc, desk, seat, console, writer),
+        Ok(console) => answer_lines(run, desk, seat, console, writer),
         Err(_) => Err(DeviceFault::Read),
     }
 }
@@ -129,10 +161,10 @@ where
     G: Gate,
     F: Read + AsRawFd + Drop,
     W: DevWrite,
-    R: Input + Net + Wait,
+    R: Input + Net + Wait + Eprint,
 {
     let answered = match lines {
-        OpenedLines::File(file) => answer_lines(run.rt, run.alloc, desk, seat, file, writer),
+        OpenedLines::File(file) => answer_lines(run, desk, seat, file, writer),
         OpenedLines::Stream(stream) => {
             let descriptor = stream.as_raw_fd();
             answer_stream(run, desk, seat, stream, descriptor, writer)

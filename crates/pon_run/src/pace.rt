@@ -3,6 +3,7 @@
 use crate::context::RunContext;
 use crate::timer::Timer;
 use crate::watch::PortWatch;
+use pon_files::FlushTimer;
 use pon_units::PortNo;
 use pon_worker::{Gate, Pace, SoFar, Turns};
 use std::sync::atomic::{AtomicBool, Ordering};
@@ -17,6 +18,10 @@ pub(crate) struct RunPace<'a, R> {
     watch: Option<&'a PortWatch>,
     // What the worker did before.
     before: SoFar,
+    // Says when a chapter of the recording is cut by the clock.
+    flush: Option<FlushTimer<'a, R>>,
+    // Whether the worker is held back for a cut.
+    cut: bool,
 }
 
 // Returns what a worker did before and so far together. The chapters that its sink dropped are counted by the sink.
@@ -25,9 +30,16 @@ fn together(before: &SoFar, so_far: &SoFar) -> SoFar {
         maps: before.maps.saturating_add(so_far.maps),
         reports: before.reports.saturating_add(so_far.reports),
         garbled: before.garbled.saturating_add(so_far.garbled),
+        unowned: before.unowned.saturating_add(so_far.unowned),
         refused: before.refused.saturating_add(so_far.refused),
         dropped: so_far.dropped,
     }
+}
+
+// Returns the timer of the cuts, if chapters are recorded and cut by the clock.
+fn flush_of<'a, G: Gate, R: Clock>(run: &RunContext<'a, G, R>) -> Option<FlushTimer<'a, R>> {
+    run.args.record?;
+    FlushTimer::new(run.rt, run.args.flush)
 }
 
 impl<'a, R: Clock> RunPace<'a, R> {
@@ -44,7 +56,25 @@ impl<'a, R: Clock> RunPace<'a, R> {
             timer: run.args.pace.map(|rate| Timer::new(run.rt, rate)),
             watch: run.watch.port(port),
             before,
+            flush: flush_of(run),
+            cut: false,
         }
+    }
+
+    // Returns whether a chapter is to be cut now.
+    fn is_cut_due(&mut self) -> bool {
+        match &mut self.flush {
+            Some(flush) => flush.is_due(),
+            None => false,
+        }
+    }
+
+    /// Returns whether the worker, which did this before, was held back for a cut, and makes further turns after it.
+    pub(crate) fn takes_cut(&mut self, before: SoFar) -> bool {
+        let cut = self.cut;
+        self.cut = false;
+        self.before = before;
+        cut
     }
 
     // Waits for the time of the next turn, and notes if it is late.
@@ -63,7 +93,11 @@ impl<'a, R: Clock> Pace for RunPace<'a, R> {
         if let Some(watch) = self.watch {
             watch.see(&together(&self.before, so_far));
         }
-        if self.stop.load(Ordering::SeqCst) || !self.turns.next(so_far) {
+        if self.stop.load(Ordering::SeqCst) {
+            return false;
+        }
+        self.cut = self.is_cut_due();
+        if self.cut || !self.turns.next(so_far) {
             return false;
         }
         self.wait();

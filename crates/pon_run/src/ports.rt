@@ -11,10 +11,9 @@ use pon_desk::{Desk, Seat};
 use pon_port::Port;
 use pon_recorder::{PortSink, Rings};
 use pon_settings::{Settings, SettingsRow};
-use pon_sockets::{Link, UnitsPart, units_of};
+use pon_sockets::{FarEnd, Link, UnitsPart, units_of};
 use pon_worker::{StopReason, WorkerEnd};
 use std::alloc::{AllocError, Global};
-use std::net::TcpStream;
 use std::sync::Wait;
 use std::sync::ledger::Ledger;
 
@@ -38,19 +37,6 @@ pub(crate) fn admit_rows<L: Ledger, M: Ledger, R: Wait>(
     Ok(())
 }
 
-// Combines the simulated units of a port with their end of the connection, if it is in this process.
-fn units_part(
-    alloc: Global,
-    rows: &[SettingsRow],
-    stream: Option<TcpStream>,
-) -> Result<Option<UnitsPart>, AllocError> {
-    let Some(stream) = stream else {
-        return Ok(None);
-    };
-    let units = units_of(alloc, rows)?;
-    Ok(Some(UnitsPart { units, stream }))
-}
-
 // Combines what serves one port.
 fn served_port<L: Ledger, M: Ledger, K: Rings>(
     alloc: Global,
@@ -63,9 +49,24 @@ fn served_port<L: Ledger, M: Ledger, K: Rings>(
         port: stream,
         units: far,
     } = link;
+    let (units, visitors) = match far {
+        FarEnd::Here(end) => {
+            let part = UnitsPart {
+                units: units_of(alloc, rows)?,
+                stream: end,
+            };
+            (Some(part), None)
+        }
+        FarEnd::Elsewhere(visitors) => (None, Some(visitors)),
+    };
     Ok(Served {
-        units: units_part(alloc, rows, far)?,
-        worker: WorkerPart { seat, sink, stream },
+        units,
+        worker: WorkerPart {
+            seat,
+            sink,
+            stream,
+            visitors,
+        },
     })
 }
 

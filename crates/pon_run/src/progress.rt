@@ -1,5 +1,6 @@
 //! The progress of a run, on standard error.
 
+use crate::early::WhyEnded;
 use crate::timer::Timer;
 use crate::watch::RunWatch;
 use pon_worker::WorkerEnd;
@@ -60,13 +61,22 @@ pub(crate) fn print_progress<R: Clock + Eprint>(
     Ok(())
 }
 
-/// Prints a line for each port with what the line about it does not say: refused and garbled reports, and the late maps.
+/// Prints a line for each port with what the line about it does not say: refused and garbled reports, the late maps, the
+/// connections that were served, and why its worker ended.
 pub(crate) fn print_summary(rt: &impl Eprint, watch: &RunWatch, workers: &[WorkerEnd]) {
     for (port, (seen, worker)) in watch.ports().iter().zip(workers).enumerate() {
         let now = seen.numbers();
+        let WorkerEnd {
+            refused,
+            garbled,
+            unowned,
+            ..
+        } = *worker;
+        let damaged = garbled.saturating_sub(unowned);
+        let why = WhyEnded(worker.why);
         let _ = eprintln!(rt;
-            "olt: port {port} refused {} garbled {} late {} latest {} us",
-            worker.refused, worker.garbled, now.late, now.latest
+            "olt: port {port} refused {refused} garbled {garbled} (damaged {damaged}, unowned {unowned}) late {} latest {} us connections {} ended: {why}",
+            now.late, now.latest, now.connections
         );
     }
 }

@@ -2,20 +2,21 @@
 
 ghost use Rattle.std.specs.Prelude.{◌≡◌, ◌+◌, min};
 
-use crate::context::RunContext;
+use crate::server::PortServer;
 use pon_descr::Refusal;
-use pon_desk::{Desk, StepFault};
+use pon_desk::StepFault;
 use pon_port::Port;
-use pon_units::PortNo;
 use pon_worker::{Gate, SoFar, StopReason, WorkerEnd};
 use std::sync::Wait;
-use std::sync::atomic::{AtomicBool, Ordering};
 use std::sync::ledger::Ledger;
 use std::thread;
 use std::time::{Clock, Duration};
 
 /// How long a worker sleeps before it looks again whether its port is up, in milliseconds.
 const LOOK_MILLISECONDS: u64 = 10;
+
+/// How often it looks before it says that the port waits: for a second.
+const LOOKS_UNSAID: u64 = 1000 / LOOK_MILLISECONDS;
 
 /// The greatest value of a count.
 const MAX_COUNT: u64 = u64::MAX;
@@ -26,6 +27,7 @@ pub(crate) fn nothing_done() -> WorkerEnd {
         maps: 0,
         reports: 0,
         garbled: 0,
+        unowned: 0,
         refused: 0,
         why: StopReason::Finished,
     }
@@ -36,12 +38,14 @@ pub(crate) fn so_far(end: &WorkerEnd) -> SoFar
     ensures maps { result.maps ≡ end.now.maps }
     ensures reports { result.reports ≡ end.now.reports }
     ensures garbled { result.garbled ≡ end.now.garbled }
+    ensures unowned { result.unowned ≡ end.now.unowned }
     ensures refused { result.refused ≡ end.now.refused }
 {
     SoFar {
         maps: end.maps,
         reports: end.reports,
         garbled: end.garbled,
+        unowned: end.unowned,
         refused: end.refused,
         dropped: 0,
     }
@@ -52,6 +56,7 @@ pub(crate) fn together(first: &WorkerEnd, last: &WorkerEnd) -> WorkerEnd
     ensures maps { result.maps ≡ min (first.now.maps + last.now.maps) MAX_COUNT }
     ensures reports { result.reports ≡ min (first.now.reports + last.now.reports) MAX_COUNT }
     ensures garbled { result.garbled ≡ min (first.now.garbled + last.now.garbled) MAX_COUNT }
+    ensures unowned { result.unowned ≡ min (first.now.unowned + last.now.unowned) MAX_COUNT }
     ensures refused { result.refused ≡ min (first.now.refused + last.now.refused) MAX_COUNT }
     ensures why { result.why ≡ last.now.why }
 {
@@ -59,6 +64,7 @@ pub(crate) fn together(first: &WorkerEnd, last: &WorkerEnd) -> WorkerEnd
         maps: first.maps.saturating_add(last.maps),
         reports: first.reports.saturating_add(last.reports),
         garbled: first.garbled.saturating_add(last.garbled),
+        unowned: first.unowned.saturating_add(last.unowned),
         refused: first.refused.saturating_add(last.refused),
         why: last.why,
     }
@@ -73,26 +79,32 @@ fn is_down(why: StopReason) -> bool {
 }
 
 // Returns whether a port is up.
-fn is_up<L: Ledger, M: Ledger, R: Wait>(rt: &R, desk: &Desk<L, M>, port: PortNo) -> bool {
+fn is_up<L: Ledger, M: Ledger, G: Gate, R: Wait>(server: &PortServer<'_, L, M, G, R>) -> bool {
     let look = |port: &Port| port.state().cause().is_none();
-    desk.inspect(rt, port, look).unwrap_or(false)
+    let (desk, rt) = (server.desk, server.run.rt);
+    desk.inspect(rt, server.port, look).unwrap_or(false)
 }
 
-// Looks again and again whether a port is up, while an operator may restore it. Returns whether it is.
-fn looks_until_up<L: Ledger, M: Ledger, G: Gate, R: Wait + Clock>(
-    run: &RunContext<'_, G, R>,
-    desk: &Desk<L, M>,
-    port: PortNo,
-    stop: &AtomicBool,
+// Looks again and again whether a port is up, while an operator may restore it. Returns whether it is. If that takes a second,
+// it is said that the port waits, and when it is served again.
+fn looks_until_up<L: Ledger, M: Ledger, G: Gate, R: Wait + Clock + Eprint>(
+    server: &PortServer<'_, L, M, G, R>,
 ) -> bool {
-    for _look in run.rt.forever() {
+    let (run, port) = (server.run, server.port.get());
+    for look in 0..u64::MAX {
         // No line comes after the last look.
-        let is_last = run.watch.is_operated() || stop.load(Ordering::SeqCst);
-        if is_up(run.rt, desk, port) {
+        let is_last = run.watch.is_operated() || server.is_stopped();
+        if is_up(server) {
+            if look > LOOKS_UNSAID {
+                let _ = eprintln!(run.rt; "olt: port {port} is served again");
+            }
             return true;
         }
         if is_last {
             return false;
+        }
+        if look == LOOKS_UNSAID {
+            let _ = eprintln!(run.rt; "olt: port {port} waits until an operator restores it");
         }
         thread::sleep(run.rt, Duration::from_millis(LOOK_MILLISECONDS));
     }
@@ -101,31 +113,25 @@ fn looks_until_up<L: Ledger, M: Ledger, G: Gate, R: Wait + Clock>(
 
 // Waits until a port that is down is restored. Returns `false` if it is not, and no operator can do it any more, or the run
 // is stopped.
-fn waits_until_up<L: Ledger, M: Ledger, G: Gate, R: Wait + Clock>(
-    run: &RunContext<'_, G, R>,
-    desk: &Desk<L, M>,
-    port: PortNo,
-    stop: &AtomicBool,
+fn waits_until_up<L: Ledger, M: Ledger, G: Gate, R: Wait + Clock + Eprint>(
+    server: &PortServer<'_, L, M, G, R>,
 ) -> bool {
-    let Some(seen) = run.watch.port(port) else {
+    let Some(seen) = server.run.watch.port(server.port) else {
         return false;
     };
     seen.set_waiting(true);
-    let is_up = looks_until_up(run, desk, port, stop);
+    let is_up = looks_until_up(server);
     seen.set_waiting(false);
     is_up
 }
 
 /// Returns whether a port is served again whose worker ended so: if it is down, once an operator has restored it.
-pub(crate) fn is_served_again<L: Ledger, M: Ledger, G: Gate, R: Wait + Clock>(
-    run: &RunContext<'_, G, R>,
-    desk: &Desk<L, M>,
-    port: PortNo,
+pub(crate) fn is_served_again<L: Ledger, M: Ledger, G: Gate, R: Wait + Clock + Eprint>(
+    server: &PortServer<'_, L, M, G, R>,
     why: StopReason,
-    stop: &AtomicBool,
 ) -> bool {
     if !is_down(why) {
         return false;
     }
-    waits_until_up(run, desk, port, stop)
+    waits_until_up(server)
 }

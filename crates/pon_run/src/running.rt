@@ -1,6 +1,7 @@
 //! The threads of a run: for each port its worker and its units, if they are in this process, the recorder's, and that of
 //! the progress, if it is printed; started and joined.
 
+use crate::answering::answer_units;
 use crate::context::RunContext;
 use crate::progress::print_progress;
 use crate::thread::{Worked, WorkerPart, work};
@@ -8,7 +9,8 @@ use pon_desk::Desk;
 use pon_device::{DevWrite, DeviceFault};
 use pon_link::UnitsFault;
 use pon_recorder::{Recording, Rings};
-use pon_sockets::{UnitsPart, answer};
+use pon_sockets::UnitsPart;
+use pon_units::PortNo;
 use pon_worker::Gate;
 use std::alloc::{AllocError, Global};
 use std::sync::Wait;
@@ -80,12 +82,50 @@ impl Stops {
     }
 }
 
+// Starts the thread of the units of a port. `None` if it cannot be created.
+fn start_units<'s, E, L, M, G, R>(
+    scope: &Scope<'s, E>,
+    run: &'s RunContext<'s, G, R>,
+    desk: &'s Desk<L, M>,
+    port: PortNo,
+    units: UnitsPart,
+) -> Option<JoinHandle<Result<(), UnitsFault>>>
+where
+    L: Ledger + Send + Sync,
+    M: Ledger + Send + Sync,
+    G: Gate + Sync,
+    R: Wait + Sync,
+{
+    scope
+        .spawn(move || answer_units(run, desk, port, units))
+        .ok()
+}
+
+// Starts the thread of the worker of a port. `None` if it cannot be created.
+fn start_worker<'s, E, L, M, K, G, R>(
+    scope: &Scope<'s, E>,
+    run: &'s RunContext<'s, G, R>,
+    desk: &'s Desk<L, M>,
+    worker: WorkerPart<L, M, K>,
+    stop: &'s AtomicBool,
+) -> Option<JoinHandle<Worked<L, M, K>>>
+where
+    L: Ledger + Send + Sync,
+    M: Ledger + Send + Sync,
+    K: Rings + Send + Sync + 's,
+    G: Gate + Sync,
+    R: Wait + Clock + Eprint + Sync,
+{
+    scope.spawn(move || work(run, desk, worker, stop)).ok()
+}
+
 // Starts the threads of a port. `None` if one cannot be created; the other then finds its connection closed, and ends.
 fn start<'s, E, L, M, K, G, R>(
     scope: &Scope<'s, E>,
     run: &'s RunContext<'s, G, R>,
     desk: &'s Desk<L, M>,
-    served: Served<L, M, K>,
+    part: WorkerPart<L, M, K>,
+    units: Option<UnitsPart>,
     stop: &'s AtomicBool,
 ) -> Option<Running<L, M, K>>
 where
@@ -93,15 +133,14 @@ where
     M: Ledger + Send + Sync,
     K: Rings + Send + Sync + 's,
     G: Gate + Sync,
-    R: Wait + Clock + Sync,
+    R: Wait + Clock + Eprint + Sync,
 {
-    let Served { worker, units } = served;
-    let alloc = run.alloc;
+    let port = part.port();
     let units = match units {
-        Some(units) => Some(scope.spawn(move || answer(alloc, units)).ok()?),
+        Some(units) => Some(start_units(scope, run, desk, port, units)?),
         None => None,
     };
-    let worker = scope.spawn(move || work(run, desk, worker, stop)).ok()?;
+    let worker = start_worker(scope, run, desk, part, stop)?;
     Some(Running { worker, units })
 }
 
@@ -118,11 +157,11 @@ where
     M: Ledger + Send + Sync,
     K: Rings + Send + Sync + 's,
     G: Gate + Sync,
-    R: Wait + Clock + Sync,
+    R: Wait + Clock + Eprint + Sync,
 {
     let mut running = Vec::with_capacity(run.alloc, all.len())?;
-    for served in all {
-        let Some(threads) = start(scope, run, desk, served, stop) else {
+    for Served { worker, units } in all {
+        let Some(threads) = start(scope, run, desk, worker, units, stop) else {
             return Err(DeviceFault::Memory);
         };
         running.push(threads)?;

@@ -1,5 +1,6 @@
 //! What is seen of the ports of a run while it lasts: numbers that its threads write and others read.
 
+use crate::early::{EndNumber, NOT_ENDED};
 use pon_recorder::ChapterWatch;
 use pon_units::PortNo;
 use pon_worker::SoFar;
@@ -14,6 +15,7 @@ pub(crate) struct PortWatch {
     maps: AtomicU64,
     reports: AtomicU64,
     garbled: AtomicU64,
+    unowned: AtomicU64,
     refused: AtomicU64,
     // The chapters that the sink dropped.
     lost: AtomicU64,
@@ -23,9 +25,12 @@ pub(crate) struct PortWatch {
     // The maps that began late, and the microseconds of the latest.
     late: AtomicU64,
     latest: AtomicU64,
-    // Whether the port is down and waits to be restored, and whether its worker has ended.
+    // The connections with units that were served.
+    connections: AtomicU64,
+    // Whether the port waits to be restored, or for its units.
     waits: AtomicBool,
-    ended: AtomicBool,
+    // The number of its worker's end.
+    ended: AtomicU64,
 }
 
 /// Whether a port is served.
@@ -33,10 +38,10 @@ pub(crate) struct PortWatch {
 pub(crate) enum Service {
     /// Its worker makes turns.
     Served,
-    /// It is down, and its worker waits until it is restored.
+    /// It is down, and its worker waits until it is restored or units connect.
     Waiting,
     /// Its worker has ended.
-    Ended,
+    Ended(EndNumber),
 }
 
 impl Display for Service {
@@ -44,7 +49,7 @@ impl Display for Service {
         match *self {
             Service::Served => f.write_str("served"),
             Service::Waiting => f.write_str("waiting"),
-            Service::Ended => f.write_str("ended"),
+            Service::Ended(_) => f.write_str("ended"),
         }
     }
 }
@@ -55,6 +60,8 @@ pub(crate) struct PortNumbers {
     pub(crate) maps: u64,
     pub(crate) reports: u64,
     pub(crate) garbled: u64,
+    /// Those of the garbled reports that no unit owns.
+    pub(crate) unowned: u64,
     pub(crate) refused: u64,
     /// The chapters that were recorded.
     pub(crate) recorded: u64,
@@ -64,6 +71,8 @@ pub(crate) struct PortNumbers {
     pub(crate) late: u64,
     /// How late the latest map began, in microseconds.
     pub(crate) latest: u64,
+    /// The connections with units that were served.
+    pub(crate) connections: u64,
 }
 
 impl PortWatch {
@@ -72,26 +81,34 @@ impl PortWatch {
             maps: AtomicU64::new(0),
             reports: AtomicU64::new(0),
             garbled: AtomicU64::new(0),
+            unowned: AtomicU64::new(0),
             refused: AtomicU64::new(0),
             lost: AtomicU64::new(0),
             taken: AtomicU64::new(0),
             dropped: AtomicU64::new(0),
             late: AtomicU64::new(0),
             latest: AtomicU64::new(0),
+            connections: AtomicU64::new(0),
             waits: AtomicBool::new(false),
-            ended: AtomicBool::new(false),
+            ended: AtomicU64::new(NOT_ENDED),
         }
     }
 
-    /// Notes whether the port waits to be restored.
+    /// Notes that a connection with units is served.
+    pub(crate) fn see_connection(&self) {
+        self.connections.fetch_add(1, Ordering::Relaxed);
+    }
+
+    /// Notes whether the port waits to be restored, or for its units.
     pub(crate) fn set_waiting(&self, waits: bool) {
         self.waits.store(waits, Ordering::SeqCst);
     }
 
     /// Returns whether the port is served.
     pub(crate) fn service(&self) -> Service {
-        if self.ended.load(Ordering::SeqCst) {
-            return Service::Ended;
+        let ended = self.ended.load(Ordering::SeqCst);
+        if ended != NOT_ENDED {
+            return Service::Ended(EndNumber(ended));
         }
         if self.waits.load(Ordering::SeqCst) {
             return Service::Waiting;
@@ -104,6 +121,7 @@ impl PortWatch {
         self.maps.store(so_far.maps, Ordering::Relaxed);
         self.reports.store(so_far.reports, Ordering::Relaxed);
         self.garbled.store(so_far.garbled, Ordering::Relaxed);
+        self.unowned.store(so_far.unowned, Ordering::Relaxed);
         self.refused.store(so_far.refused, Ordering::Relaxed);
         self.lost.store(so_far.dropped, Ordering::Relaxed);
     }
@@ -123,11 +141,13 @@ impl PortWatch {
             maps: self.maps.load(Ordering::Relaxed),
             reports: self.reports.load(Ordering::Relaxed),
             garbled: self.garbled.load(Ordering::Relaxed),
+            unowned: self.unowned.load(Ordering::Relaxed),
             refused: self.refused.load(Ordering::Relaxed),
             recorded: taken.saturating_sub(dropped),
             dropped: dropped.saturating_add(self.lost.load(Ordering::Relaxed)),
             late: self.late.load(Ordering::Relaxed),
             latest: self.latest.load(Ordering::Relaxed),
+            connections: self.connections.load(Ordering::Relaxed),
         }
     }
 }
@@ -165,10 +185,10 @@ impl RunWatch {
         self.ports.get(usize::from(port.get()))
     }
 
-    /// Notes that the worker of a port has ended.
-    pub(crate) fn end_worker(&self, port: PortNo) {
+    /// Notes that the worker of a port has ended, with the number of its end.
+    pub(crate) fn end_worker(&self, port: PortNo, number: u64) {
         if let Some(seen) = self.port(port) {
-            seen.ended.store(true, Ordering::SeqCst);
+            seen.ended.store(number, Ordering::SeqCst);
         }
         self.ended.fetch_add(1, Ordering::SeqCst);
     }

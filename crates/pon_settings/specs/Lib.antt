@@ -1,4 +1,5 @@
 pub mod Fields
+pub mod Floors
 pub mod Keys
 pub mod Lines
 pub mod Rows

@@ -6,6 +6,7 @@
 
 mod fault;
 mod fields;
+mod floors;
 mod lacking;
 mod mending;
 mod place;
@@ -17,6 +18,7 @@ mod rule;
 mod terminal;
 
 pub use fault::SettingsFault;
+pub use floors::rows_without_floor;
 pub use lacking::explain_further;
 pub use mending::explain;
 pub use port::PortSettings;

@@ -1,7 +1,7 @@
 //! The simulated units of a port, at their end of its connection.
 
 use pon_device::{StdRead, StdWrite};
-use pon_link::{Unit, UnitsFault, serve_units};
+use pon_link::{Admitted, Unit, UnitsFault, serve_growing_units, serve_units};
 use std::alloc::Global;
 use std::io::{BufReader, BufWriter};
 use std::net::TcpStream;
@@ -27,4 +27,22 @@ pub fn answer(alloc: Global, part: UnitsPart) -> Result<(), UnitsFault> {
     let mut reader = StdRead::new(input);
     let mut writer = StdWrite::new(output);
     serve_units(alloc, units.as_mut_slice(), &mut reader, &mut writer)
+}
+
+/// Answers as [`answer`] does, with units that grow by the Alloc-IDs that their port admits meanwhile.
+///
+/// # Errors
+///
+/// As [`answer`]; `Memory` also if memory for a unit is refused.
+pub fn answer_growing<A: Admitted>(
+    alloc: Global,
+    part: UnitsPart,
+    admitted: &A,
+) -> Result<(), UnitsFault> {
+    let UnitsPart { mut units, stream } = part;
+    let input = BufReader::new(alloc, &stream).map_err(|_| UnitsFault::Memory)?;
+    let output = BufWriter::new(alloc, &stream).map_err(|_| UnitsFault::Memory)?;
+    let mut reader = StdRead::new(input);
+    let mut writer = StdWrite::new(output);
+    serve_growing_units(alloc, &mut units, admitted, &mut reader, &mut writer)
 }

@@ -4,6 +4,7 @@ ghost use Rattle.std.specs.Prelude.{◌≡◌, IfOk};
 ghost use Rattle.std.specs.Vec.{vec_len};
 
 use crate::address::failed_address;
+use crate::external::Visitors;
 use pon_job::Failure;
 use std::alloc::Global;
 use std::io::{self, ErrorKind};
@@ -23,13 +24,22 @@ const PAUSE_MILLISECONDS: u64 = 1;
 /// Maximum number of connections that are dropped before each attempt to connect: more than the queue of a listener has.
 const MAX_DROPPED: u32 = 256;
 
+/// What is at the other end of the connection of a port.
+#[derive(Drop)]
+pub enum FarEnd {
+    /// Units in this process, with this end.
+    Here(TcpStream),
+    /// Units elsewhere.
+    Elsewhere(Visitors),
+}
+
 /// A connection.
 #[derive(Drop)]
 pub struct Link {
     /// The end of the port.
     pub port: TcpStream,
-    /// The end of its units, if they are in this process.
-    pub units: Option<TcpStream>,
+    /// The end of its units.
+    pub units: FarEnd,
 }
 
 fn too_many_others() -> io::Error {
@@ -118,7 +128,7 @@ fn open_link<R: Net<Listener = TcpListener, Stream = TcpStream> + Clock>(
     units.set_nodelay(true)?;
     Ok(Link {
         port,
-        units: Some(units),
+        units: FarEnd::Here(units),
     })
 }
 

@@ -1,5 +1,5 @@
 -- Records that are read and counted, one after another.
-use Rattle.std.proofs.Common.{◌≡◌, ℕ, All, Bool, true, false, ◌+◌, ◌<◌, ◌≤◌, min, List, [], ◌∷◌, ◌++◌, ◌⊎◌, inl, inr, Option, Some, None, cond, count_by, length, refl, sym, subst, ap, ◌∙◌, arith, append_assoc, append-nil, length-append}
+use Rattle.std.proofs.Common.{◌≡◌, ℕ, All, Bool, true, false, ◌+◌, ◌<◌, ◌≤◌, min, ◌&&◌, List, [], ◌∷◌, ◌++◌, ◌⊎◌, inl, inr, Option, Some, None, is_some, cond, count_by, length, refl, sym, subst, ap, ◌∙◌, arith, append_assoc, append-nil, length-append}
 use Rattle.std.proofs.KnownBytes.{Consumes-nil, Consumes-trans}
 use Rattle.std.proofs.lemmas.List.Elements.{All-append, All-nil}
 use Rattle.std.proofs.lemmas.List.Sums.{sum_by-append}
@@ -13,12 +13,14 @@ use Rattle.pon_link.proofs.Sizes.{begun_limit}
 use Rattle.pon_link.specs.Runs.{AreRecords}
 use Rattle.pon_link.specs.UpRecords.{IsRecord}
 use Rattle.pon_link.specs.declared.record.UpRecord.{UpRecord}
+use Rattle.std.specs.Prelude.{Ok, Err}
 use Rattle.pon_descr.specs.declared.refusal.Refusal.{Refusal}
+use Rattle.pon_plant.specs.declared.fault.StepFault.{StepFault}
 use Rattle.pon_descr.specs.declared.refusal.Refusal.TheVariants.{OutOfMemory}
 use Rattle.pon_desk.specs.Receipts.{Receipt}
 use Rattle.pon_worker.specs.Turns.{IsNotMemory, KeepsAll, LacksMemory, RefusesReport, TakesReports}
 use Rattle.pon_worker.proofs.Receipts.{keeps_more, keeps_none, takes_more, takes_refused}
-use Rattle.pon_worker.specs.Records.{CountsRecords, HasRead, is_garbled}
+use Rattle.pon_worker.specs.Records.{CountsRecords, HasRead, after_garbled, after_report, is_garbled, is_unowned}
 use Rattle.pon_worker.specs.declared.counts.Counts.{Counts}
 use Rattle.pon_worker.proofs.Posted.{with_map}
 use Rattle.pon_worker.specs.declared.counts.TheConstants.{MAX_COUNT}
@@ -42,24 +44,30 @@ count_twice most a x y b c p q = omega (arith, p, q)
 count_append : (xs ys : List UpRecord) → count_by is_garbled (xs ++ ys) ≡ count_by is_garbled xs + count_by is_garbled ys
 count_append xs ys = sum_by-append (λ (r : UpRecord). cond (is_garbled r) 1 0) xs ys
 
+count_append_unowned : (xs ys : List UpRecord) → count_by is_unowned (xs ++ ys) ≡ count_by is_unowned xs + count_by is_unowned ys
+count_append_unowned xs ys = sum_by-append (λ (r : UpRecord). cond (is_unowned r) 1 0) xs ys
+
 -- the counts of records, followed by those of other records
 pub counted_more : (xs ys : List UpRecord) (n m : ℕ) (a b c : Counts) → CountsRecords xs n a b → CountsRecords ys m b c → CountsRecords (xs ++ ys) (n + m) a c
 counted_more xs ys n m a b c p q =
-    let split = count_append xs ys in record {
+    let split = count_append xs ys in
+    let split_unowned = count_append_unowned xs ys in record {
       refusals = p.refusals + q.refusals;
       all = omega (arith, p.all, q.all, split, length-append xs ys);
       taken = omega (arith, p.taken, q.taken);
       garbled = count_twice MAX_COUNT a.garbled (count_by is_garbled xs) (count_by is_garbled ys) b.garbled c.garbled p.garbled q.garbled ∙ ap (λ k. min (a.garbled + k) MAX_COUNT) (sym split);
+      unowned = count_twice MAX_COUNT a.unowned (count_by is_unowned xs) (count_by is_unowned ys) b.unowned c.unowned p.unowned q.unowned ∙ ap (λ k. min (a.unowned + k) MAX_COUNT) (sym split_unowned);
       refused = count_twice MAX_COUNT a.refused p.refusals q.refusals b.refused c.refused p.refused q.refused;
     }
 
 -- nothing to count
-pub counted_none : (a : Counts) → a.garbled ≤ MAX_COUNT → a.refused ≤ MAX_COUNT → CountsRecords [] 0 a a
-counted_none a garbled refused = record {
+pub counted_none : (a : Counts) → a.garbled ≤ MAX_COUNT → a.unowned ≤ MAX_COUNT → a.refused ≤ MAX_COUNT → CountsRecords [] 0 a a
+counted_none a garbled unowned refused = record {
   refusals = 0;
   all = refl;
   taken = omega arith;
   garbled = omega (arith, garbled);
+  unowned = omega (arith, unowned);
   refused = omega (arith, refused);
 }
 
@@ -140,14 +148,14 @@ kept_read (Some x) None c bytes p q = absurd p
 kept_read (Some x) (Some y) None bytes p q = absurd q
 kept_read (Some x) (Some y) (Some z) bytes p q = sym p ∙ q
 
-pub none_so_far : (port : ℕ) (a : Counts) (ka : Option (List Receipt)) (ra : Option (List ℕ)) → a.garbled ≤ MAX_COUNT → a.refused ≤ MAX_COUNT → ReadSoFar port 0 [] a a ka ka ra ra
-none_so_far port a ka ra garbled refused = record {
+pub none_so_far : (port : ℕ) (a : Counts) (ka : Option (List Receipt)) (ra : Option (List ℕ)) → a.garbled ≤ MAX_COUNT → a.unowned ≤ MAX_COUNT → a.refused ≤ MAX_COUNT → ReadSoFar port 0 [] a a ka ka ra ra
+none_so_far port a ka ra garbled unowned refused = record {
   records = [];
   reports = [];
   refusals = [];
   takes = (refl, refl);
   memory = All-nil IsNotMemory;
-  counted = counted_none a garbled refused;
+  counted = counted_none a garbled unowned refused;
   read = read_none ra;
   size = refl;
   kept = keeps_none ka;
@@ -177,53 +185,66 @@ begins_still old new up is_open same =
     subst (λ (h : List ℕ). MayBecomeRecord Up h) (sym same) (subst (λ (d : Direction). MayBecomeRecord d old.held) up is_open.beginning)
 
 -- no record was counted, and the counts of records are unchanged
-pub counted_kept : (a b : Counts) → b.reports ≡ a.reports → b.garbled ≡ a.garbled → b.refused ≡ a.refused → a.garbled ≤ MAX_COUNT → a.refused ≤ MAX_COUNT → CountsRecords [] 0 a b
-counted_kept a b reports garbled refused small_garbled small_refused = record {
+pub counted_kept : (a b : Counts) → b.reports ≡ a.reports → b.garbled ≡ a.garbled → b.unowned ≡ a.unowned → b.refused ≡ a.refused → a.garbled ≤ MAX_COUNT → a.unowned ≤ MAX_COUNT → a.refused ≤ MAX_COUNT → CountsRecords [] 0 a b
+counted_kept a b reports garbled unowned refused small_garbled small_unowned small_refused = record {
   refusals = 0;
   all = refl;
   taken = omega (arith, reports);
   garbled = omega (arith, garbled, small_garbled);
+  unowned = omega (arith, unowned, small_unowned);
   refused = omega (arith, refused, small_refused);
 }
 
 -- an earlier count of a map changes no count of records
 pub counted_on : (a : Counts) (records : List UpRecord) (reports : ℕ) (b : Counts) → CountsRecords records reports (with_map a) b → CountsRecords records reports a b
-counted_on a records reports b p = record { refusals = p.refusals; all = p.all; taken = p.taken; garbled = p.garbled; refused = p.refused }
+counted_on a records reports b p = record { refusals = p.refusals; all = p.all; taken = p.taken; garbled = p.garbled; unowned = p.unowned; refused = p.refused }
 
 count_garbled : (burst : UpRecord) (b : Bool) → is_garbled burst ≡ b → count_by is_garbled (burst ∷ []) ≡ cond b 1 0
 count_garbled burst b is =
     let one : ◌≡◌ {A = ℕ} (cond (is_garbled burst) 1 0) (cond b 1 0) = ap (λ (v : Bool). cond v 1 0) is in
     omega (arith, one)
 
+count_unowned : (burst : UpRecord) (b : Bool) → is_unowned burst ≡ b → count_by is_unowned (burst ∷ []) ≡ cond b 1 0
+count_unowned burst b is =
+    let one : ◌≡◌ {A = ℕ} (cond (is_unowned burst) 1 0) (cond b 1 0) = ap (λ (v : Bool). cond v 1 0) is in
+    omega (arith, one)
+
 -- one record without a sender
-pub counted_garbled : (burst : UpRecord) (a b : Counts) → is_garbled burst ≡ true → b.reports ≡ a.reports → b.garbled ≡ min (a.garbled + 1) MAX_COUNT → b.refused ≡ a.refused → a.refused ≤ MAX_COUNT → CountsRecords (burst ∷ []) 0 a b
-counted_garbled burst a b is reports garbled refused small =
-    let one : count_by is_garbled (burst ∷ []) ≡ 1 = count_garbled burst true is in record {
+pub counted_garbled : (burst : UpRecord) (a b : Counts) → is_garbled burst ≡ true → b ≡ after_garbled burst.head a → a.refused ≤ MAX_COUNT → CountsRecords (burst ∷ []) 0 a b
+counted_garbled burst a b is counts small =
+    let one : count_by is_garbled (burst ∷ []) ≡ 1 = count_garbled burst true is in
+    let owner : is_unowned burst ≡ is_some burst.head = ap (λ (g : Bool). g && is_some burst.head) is in
+    let unowned : count_by is_unowned (burst ∷ []) ≡ cond (is_some burst.head) 1 0 = count_unowned burst (is_some burst.head) owner in record {
       refusals = 0;
       all = omega (arith, one);
-      taken = omega (arith, reports);
-      garbled = omega (arith, one, garbled);
-      refused = omega (arith, refused, small);
+      taken = omega (arith, ap (λ (k : Counts). k.reports) counts);
+      garbled = omega (arith, one, ap (λ (k : Counts). k.garbled) counts);
+      unowned = ap (λ (k : Counts). k.unowned) counts ∙ ap (λ k. min (a.unowned + k) MAX_COUNT) (sym unowned);
+      refused = omega (arith, ap (λ (k : Counts). k.refused) counts, small);
     }
 
 -- one record that the port took as a report
-pub counted_taken : (burst : UpRecord) (a b : Counts) → is_garbled burst ≡ false → b.reports ≡ a.reports + 1 → b.garbled ≡ a.garbled → b.refused ≡ a.refused → a.garbled ≤ MAX_COUNT → a.refused ≤ MAX_COUNT → CountsRecords (burst ∷ []) 1 a b
-counted_taken burst a b is reports garbled refused small_garbled small_refused =
-    let none : count_by is_garbled (burst ∷ []) ≡ 0 = count_garbled burst false is in record {
+pub counted_taken : (burst : UpRecord) (a b : Counts) → is_garbled burst ≡ false → b ≡ after_report (Ok tt) a → a.garbled ≤ MAX_COUNT → a.unowned ≤ MAX_COUNT → a.refused ≤ MAX_COUNT → CountsRecords (burst ∷ []) 1 a b
+counted_taken burst a b is counts small_garbled small_unowned small_refused =
+    let none : count_by is_garbled (burst ∷ []) ≡ 0 = count_garbled burst false is in
+    let owned : count_by is_unowned (burst ∷ []) ≡ 0 = count_unowned burst false (ap (λ (g : Bool). g && is_some burst.head) is) in record {
       refusals = 0;
       all = omega (arith, none);
-      taken = omega (arith, reports);
-      garbled = omega (arith, none, garbled, small_garbled);
-      refused = omega (arith, refused, small_refused);
+      taken = omega (arith, ap (λ (k : Counts). k.reports) counts);
+      garbled = omega (arith, none, ap (λ (k : Counts). k.garbled) counts, small_garbled);
+      unowned = omega (arith, owned, ap (λ (k : Counts). k.unowned) counts, small_unowned);
+      refused = omega (arith, ap (λ (k : Counts). k.refused) counts, small_refused);
     }
 
 -- one report that the port refused
-pub counted_refused : (burst : UpRecord) (a b : Counts) → is_garbled burst ≡ false → b.reports ≡ a.reports → b.garbled ≡ a.garbled → b.refused ≡ min (a.refused + 1) MAX_COUNT → a.garbled ≤ MAX_COUNT → CountsRecords (burst ∷ []) 0 a b
-counted_refused burst a b is reports garbled refused small =
-    let none : count_by is_garbled (burst ∷ []) ≡ 0 = count_garbled burst false is in record {
+pub counted_refused : (burst : UpRecord) (fault : StepFault) (a b : Counts) → is_garbled burst ≡ false → b ≡ after_report (Err fault) a → a.garbled ≤ MAX_COUNT → a.unowned ≤ MAX_COUNT → CountsRecords (burst ∷ []) 0 a b
+counted_refused burst fault a b is counts small_garbled small_unowned =
+    let none : count_by is_garbled (burst ∷ []) ≡ 0 = count_garbled burst false is in
+    let owned : count_by is_unowned (burst ∷ []) ≡ 0 = count_unowned burst false (ap (λ (g : Bool). g && is_some burst.head) is) in record {
       refusals = 1;
       all = omega (arith, none);
-      taken = omega (arith, reports);
-      garbled = omega (arith, none, garbled, small);
-      refused = omega (arith, refused);
+      taken = omega (arith, ap (λ (k : Counts). k.reports) counts);
+      garbled = omega (arith, none, ap (λ (k : Counts). k.garbled) counts, small_garbled);
+      unowned = omega (arith, owned, ap (λ (k : Counts). k.unowned) counts, small_unowned);
+      refused = omega (arith, ap (λ (k : Counts). k.refused) counts);
     }

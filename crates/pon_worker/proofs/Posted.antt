@@ -78,7 +78,7 @@ posts_refused port a b old new same maps reports = subst (λ (s : SeatState). Po
 
 -- one more map counted
 abbrev pub with_map : Counts → Counts
-with_map a = record { maps = a.maps + 1; reports = a.reports; garbled = a.garbled; refused = a.refused }
+with_map a = record { maps = a.maps + 1; reports = a.reports; garbled = a.garbled; unowned = a.unowned; refused = a.refused }
 
 -- the post of a map, followed by those of its reports
 pub posts_made : (port : ℕ) (a b c : SeatState) (old new : Counts) → RaisedAt port 1 a b → PostsAt port 0 b c (with_map old) new → PostsAt port 0 a c old new

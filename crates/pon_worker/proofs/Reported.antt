@@ -26,14 +26,14 @@ fits_one port event (Ok v) a b old covers kept fits = omega (arith, covers, kept
 fits_one port event (Err fault) a b old covers kept fits = tt
 
 reported_taken : (port : ℕ) (burst : UpRecord) (onu : ℕ) (old new : Counts) (a b : SeatState) → is_nobodys burst.head ≡ false → IfSome burst.head (λ h. h.onu_raw ≡ onu)
-    → KeepsPost port (Report burst.frame onu burst.occ) a b → new ≡ after_report (Ok tt) old → old.garbled ≤ MAX_COUNT → old.refused ≤ MAX_COUNT → PostsRecord port burst old new a b
-reported_taken port burst onu old new a b sender sent_by post counts garbled refused =
+    → KeepsPost port (Report burst.frame onu burst.occ) a b → new ≡ after_report (Ok tt) old → old.garbled ≤ MAX_COUNT → old.unowned ≤ MAX_COUNT → old.refused ≤ MAX_COUNT → PostsRecord port burst old new a b
+reported_taken port burst onu old new a b sender sent_by post counts garbled unowned refused =
     let took : TakesReport port burst post.receipt = record { onu = onu; sent_by = sent_by; sender = sender; is_post = post.is_post } in record {
       reports = post.receipt ∷ [];
       refusals = [];
       takes = takes_one port burst post.receipt took;
       memory = All-nil IsNotMemory;
-      counted = counted_taken burst old new sender (ap (λ (k : Counts). k.reports) counts) (ap (λ (k : Counts). k.garbled) counts) (ap (λ (k : Counts). k.refused) counts) garbled refused;
+      counted = counted_taken burst old new sender counts garbled unowned refused;
       kept = keeps_one a.receipts b.receipts post.receipt post.kept;
     }
 
@@ -42,26 +42,26 @@ refuses burst onu told sender sent_by refused = record { onu = onu; sent_by = se
 
 -- the record is counted, as its report was taken or refused
 pub reported : (port : ℕ) (burst : UpRecord) (onu : ℕ) (event : Event) (r : Result (Unit {0}) StepFault) (more : Bool) (old new : Counts) (a b : SeatState) → event ≡ Report burst.frame onu burst.occ → is_nobodys burst.head ≡ false → IfSome burst.head (λ h. h.onu_raw ≡ onu)
-    → OnOk r (KeepsPost port event a b) → (IsNoSuchPort r → ⊥) → IfErr r (λ fault. TellsRefusal event fault) → OnErr r (b ≡ a) → new ≡ after_report r old → MatchBool more (r ≢ Err (Refused OutOfMemory)) (r ≡ Err (Refused OutOfMemory)) → old.garbled ≤ MAX_COUNT → old.refused ≤ MAX_COUNT
+    → OnOk r (KeepsPost port event a b) → (IsNoSuchPort r → ⊥) → IfErr r (λ fault. TellsRefusal event fault) → OnErr r (b ≡ a) → new ≡ after_report r old → MatchBool more (r ≢ Err (Refused OutOfMemory)) (r ≡ Err (Refused OutOfMemory)) → old.garbled ≤ MAX_COUNT → old.unowned ≤ MAX_COUNT → old.refused ≤ MAX_COUNT
     → MatchBool more (PostsRecord port burst old new a b) (LacksReport burst old new a b)
-reported port burst onu event (Ok v) true old new a b is sender sent_by kept there refused same counts memory small_garbled small_refused =
-    reported_taken port burst onu old new a b sender sent_by (subst (λ (e : Event). KeepsPost port e a b) is kept) counts small_garbled small_refused
-reported port burst onu event (Ok v) false old new a b is sender sent_by kept there refused same counts memory small_garbled small_refused = absurd (cc memory)
-reported port burst onu event (Err (Refused told)) true old new a b is sender sent_by kept there refused same counts memory small_garbled small_refused = record {
+reported port burst onu event (Ok v) true old new a b is sender sent_by kept there refused same counts memory small_garbled small_unowned small_refused =
+    reported_taken port burst onu old new a b sender sent_by (subst (λ (e : Event). KeepsPost port e a b) is kept) counts small_garbled small_unowned small_refused
+reported port burst onu event (Ok v) false old new a b is sender sent_by kept there refused same counts memory small_garbled small_unowned small_refused = absurd (cc memory)
+reported port burst onu event (Err (Refused told)) true old new a b is sender sent_by kept there refused same counts memory small_garbled small_unowned small_refused = record {
   reports = [];
   refusals = told ∷ [];
   takes = takes_refused port burst told (refuses burst onu told sender sent_by (subst (λ (e : Event). IsSomeRefusal e told) is refused));
   memory = All-cons IsNotMemory told [] (λ e. memory (ap (λ (t : Refusal). Err (Refused t)) e)) (All-nil IsNotMemory);
-  counted = counted_refused burst old new sender (ap (λ (k : Counts). k.reports) counts) (ap (λ (k : Counts). k.garbled) counts) (ap (λ (k : Counts). k.refused) counts) small_garbled;
+  counted = counted_refused burst (Refused told) old new sender counts small_garbled small_unowned;
   kept = keeps_same a b same;
 }
-reported port burst onu event (Err (Refused told)) false old new a b is sender sent_by kept there refused same counts memory small_garbled small_refused =
+reported port burst onu event (Err (Refused told)) false old new a b is sender sent_by kept there refused same counts memory small_garbled small_unowned small_refused =
     let out : told ≡ OutOfMemory = cc memory in record {
       refused = subst (RefusesReport burst) out (refuses burst onu told sender sent_by (subst (λ (e : Event). IsSomeRefusal e told) is refused));
-      counted = counted_refused burst old new sender (ap (λ (k : Counts). k.reports) counts) (ap (λ (k : Counts). k.garbled) counts) (ap (λ (k : Counts). k.refused) counts) small_garbled;
+      counted = counted_refused burst (Refused told) old new sender counts small_garbled small_unowned;
       same = same;
     }
-reported port burst onu event (Err NoSuchPort) more old new a b is sender sent_by kept there refused same counts memory small_garbled small_refused = absurd (there tt)
+reported port burst onu event (Err NoSuchPort) more old new a b is sender sent_by kept there refused same counts memory small_garbled small_unowned small_refused = absurd (there tt)
 
 -- no map is counted
 pub reported_maps : (r : Result (Unit {0}) StepFault) (old new : Counts) → new ≡ after_report r old → new.maps ≡ old.maps

@@ -69,14 +69,14 @@ ends_more port ports (Refused fault) a b c s t u wa wb wc ra rb rc p (inl q) = i
 ends_more port ports (Refused fault) a b c s t u wa wb wc ra rb rc p (inr q) = inr (stopped_more port (Refused fault) a b c s t u wa wb wc ra rb rc p q)
 
 -- no turn
-pub turned_none : (port : ℕ) (a : Counts) (s : SeatState) (wa ra : Option (List ℕ)) → a.garbled ≤ MAX_COUNT → a.refused ≤ MAX_COUNT → Turned port a a s s wa wa ra ra
-turned_none port a s wa ra garbled refused = record {
+pub turned_none : (port : ℕ) (a : Counts) (s : SeatState) (wa ra : Option (List ℕ)) → a.garbled ≤ MAX_COUNT → a.unowned ≤ MAX_COUNT → a.refused ≤ MAX_COUNT → Turned port a a s s wa wa ra ra
+turned_none port a s wa ra garbled unowned refused = record {
   turns = [];
   worked = record {
     each = All-nil (IsTurn port);
     maps = omega arith;
     wrote = Appends-nil wa;
-    counted = counted_none a garbled refused;
+    counted = counted_none a garbled unowned refused;
     read = read_none ra;
     kept = keeps_none s.receipts;
   };

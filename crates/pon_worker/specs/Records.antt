@@ -1,5 +1,5 @@
 -- The records that a worker reads from its link, and how they are counted.
-use Rattle.std.specs.Prelude.{ℕ, ◌≡◌, ◌≤◌, ◌+◌, ◌*◌, ◌%◌, ◌^◌, ◌==◌, ◌⊎◌, Bool, false, true, min, List, count_by, length, Option, Some, None, Result, Ok, Err}
+use Rattle.std.specs.Prelude.{ℕ, ◌≡◌, ◌≤◌, ◌+◌, ◌*◌, ◌%◌, ◌^◌, ◌==◌, ◌⊎◌, ◌&&◌, Bool, cond, false, true, is_some, min, List, count_by, length, Option, Some, None, Result, Ok, Err}
 use Rattle.pon_plant.specs.declared.fault.StepFault.{StepFault}
 use Rattle.pon_device.specs.Device.{Consumes, IsAtEnd}
 use Rattle.pon_xgtc.specs.BurstHead.{BurstHead}
@@ -40,18 +40,33 @@ is_nobodys (Some head) = head.onu_raw == NO_ONU
 abbrev pub is_garbled : UpRecord → Bool
 is_garbled burst = is_nobodys burst.head
 
+-- a record without a sender whose burst header is sound: no unit owns its burst
+abbrev pub is_unowned : UpRecord → Bool
+is_unowned burst = is_garbled burst && is_some burst.head
+
 -- the counts of these records: this number of reports was taken, and the others were without a sender or refused
 pub record CountsRecords (records : List UpRecord) (reports : ℕ) (old new : Counts) : Type 0 where
   pub refusals : ℕ
   pub all : reports + count_by is_garbled records + refusals ≡ length records
   pub taken : new.reports ≡ old.reports + reports
   pub garbled : new.garbled ≡ min (old.garbled + count_by is_garbled records) MAX_COUNT
+  pub unowned : new.unowned ≡ min (old.unowned + count_by is_unowned records) MAX_COUNT
   pub refused : new.refused ≡ min (old.refused + refusals) MAX_COUNT
+
+-- the counts after a record without a sender, which no unit owns if it has a burst header
+abbrev pub after_garbled : Option BurstHead → Counts → Counts
+after_garbled head old = record {
+  maps = old.maps;
+  reports = old.reports;
+  garbled = min (old.garbled + 1) MAX_COUNT;
+  unowned = min (old.unowned + cond (is_some head) 1 0) MAX_COUNT;
+  refused = old.refused;
+}
 
 -- the counts after a report was posted: the port took it, or it was refused
 abbrev pub after_report : Result (Unit {0}) StepFault → Counts → Counts
-after_report (Ok taken) old = record { maps = old.maps; reports = old.reports + 1; garbled = old.garbled; refused = old.refused }
-after_report (Err fault) old = record { maps = old.maps; reports = old.reports; garbled = old.garbled; refused = min (old.refused + 1) MAX_COUNT }
+after_report (Ok taken) old = record { maps = old.maps; reports = old.reports + 1; garbled = old.garbled; unowned = old.unowned; refused = old.refused }
+after_report (Err fault) old = record { maps = old.maps; reports = old.reports; garbled = old.garbled; unowned = old.unowned; refused = min (old.refused + 1) MAX_COUNT }
 
 -- records that were read, and bytes of the next one
 pub record HasRead (records : List UpRecord) (held : List ℕ) (left_old left_new : Option (List ℕ)) : Type 0 where

@@ -228,15 +228,15 @@ pub record PostsAt (port others : ℕ) (seat_old seat_new : SeatState) (old new 
 
 -- all counts 0
 abbrev pub no_counts : Counts
-no_counts = record { maps = 0; reports = 0; garbled = 0; refused = 0 }
+no_counts = record { maps = 0; reports = 0; garbled = 0; unowned = 0; refused = 0 }
 
 -- what a worker with these counts did so far, if its sink dropped this number of chapters
 abbrev pub so_far : Counts → ℕ → SoFar
-so_far counts dropped = record { maps = counts.maps; reports = counts.reports; garbled = counts.garbled; refused = counts.refused; dropped = dropped }
+so_far counts dropped = record { maps = counts.maps; reports = counts.reports; garbled = counts.garbled; unowned = counts.unowned; refused = counts.refused; dropped = dropped }
 
 -- the counts of a worker that ended
 abbrev pub counts_of : WorkerEnd → Counts
-counts_of end = record { maps = end.maps; reports = end.reports; garbled = end.garbled; refused = end.refused }
+counts_of end = record { maps = end.maps; reports = end.reports; garbled = end.garbled; unowned = end.unowned; refused = end.refused }
 
 -- the desk made no map, for this reason: `NoSuchPort` exactly if it has no such port
 pub record MakesNoMap (port ports : ℕ) (fault : StepFault) : Type 0 where

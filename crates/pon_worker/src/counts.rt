@@ -2,6 +2,7 @@ ghost use Rattle.std.specs.Prelude.{◌≡◌, ◌+◌, min};
 
 use pon_descr::{Cause, Refusal};
 use pon_plant::StepFault;
+use pon_xgtc::BurstHead;
 
 /// Why a worker ended.
 #[derive(Clone, Copy, Debug, PartialEq, Eq)]
@@ -17,7 +18,7 @@ pub enum StopReason {
     Refused(StepFault),
 }
 
-/// How a worker ended, and what it did. `garbled` and `refused` stay at 2^64 - 1 once they reach it.
+/// How a worker ended, and what it did. `garbled`, `unowned` and `refused` stay at 2^64 - 1 once they reach it.
 #[derive(Clone, Copy, Debug, PartialEq, Eq)]
 pub struct WorkerEnd {
     /// The number of maps that its port made for it.
@@ -26,13 +27,17 @@ pub struct WorkerEnd {
     pub reports: u64,
     /// The number of records without a sender, which it dropped.
     pub garbled: u64,
+    /// The number of those whose burst header is sound and has the ONU-ID 1023: no unit owns the burst. The burst headers
+    /// of the others are refused: they are damaged.
+    pub unowned: u64,
     /// The number of reports that its port refused.
     pub refused: u64,
     /// Why it ended.
     pub why: StopReason,
 }
 
-/// What a worker did so far, for who watches it. `garbled`, `refused` and `dropped` stay at 2^64 - 1 once they reach it.
+/// What a worker did so far, for who watches it. `garbled`, `unowned`, `refused` and `dropped` stay at 2^64 - 1 once they
+/// reach it.
 #[derive(Clone, Copy, Debug, PartialEq, Eq)]
 pub struct SoFar {
     /// The number of maps that its port made for it.
@@ -41,6 +46,9 @@ pub struct SoFar {
     pub reports: u64,
     /// The number of records without a sender, which it dropped.
     pub garbled: u64,
+    /// The number of those whose burst header is sound and has the ONU-ID 1023: no unit owns the burst. The burst headers
+    /// of the others are refused: they are damaged.
+    pub unowned: u64,
     /// The number of reports that its port refused.
     pub refused: u64,
     /// The number of chapters that its sink dropped.
@@ -56,6 +64,7 @@ pub(crate) struct Counts {
     pub(crate) maps: u64,
     pub(crate) reports: u64,
     pub(crate) garbled: u64,
+    pub(crate) unowned: u64,
     pub(crate) refused: u64,
 }
 
@@ -67,7 +76,7 @@ pub(crate) fn count(number: u64) -> u64
 }
 
 impl Counts {
-    ghost use Rattle.pon_worker.specs.Records.{after_report};
+    ghost use Rattle.pon_worker.specs.Records.{after_garbled, after_report};
     ghost use Rattle.pon_worker.specs.Turns.{counts_of, no_counts, so_far};
     ghost use Rattle.std.specs.Prelude.{◌≡◌, ◌≢◌, ◌+◌, ◌<◌, ◌≤◌, ◌^◌, MatchBool, OnOk};
 
@@ -79,6 +88,7 @@ impl Counts {
             maps: 0,
             reports: 0,
             garbled: 0,
+            unowned: 0,
             refused: 0,
         }
     }
@@ -86,10 +96,23 @@ impl Counts {
     // Proves that no count is above the greatest value.
     pub(crate) fn prove_in_range(&self)
         ensures garbled { self.now.garbled ≤ MAX_COUNT }
+        ensures unowned { self.now.unowned ≤ MAX_COUNT }
         ensures refused { self.now.refused ≤ MAX_COUNT }
     {
         let _garbled = self.garbled;
+        let _unowned = self.unowned;
         let _refused = self.refused;
+    }
+
+    // Counts a record without a sender, which no unit owns if it has a burst header.
+    pub(crate) fn count_garbled(&mut self, head: Option<BurstHead>)
+        ensures { self.new ≡ after_garbled head self.old }
+    {
+        self.prove_in_range();
+        self.garbled = count(self.garbled);
+        if head.is_some() {
+            self.unowned = count(self.unowned);
+        }
     }
 
     // Counts a report that was posted. Returns `false` if memory was refused for it.
@@ -122,6 +145,7 @@ impl Counts {
             maps: self.maps,
             reports: self.reports,
             garbled: self.garbled,
+            unowned: self.unowned,
             refused: self.refused,
             dropped,
         }
@@ -136,6 +160,7 @@ impl Counts {
             maps: self.maps,
             reports: self.reports,
             garbled: self.garbled,
+            unowned: self.unowned,
             refused: self.refused,
             why,
         }

@@ -5,6 +5,7 @@
 //! use meanwhile. It holds no lock while it calls its gate, writes or reads, starts no thread and opens no device.
 #![tactic(auto)]
 
+mod between;
 mod causes;
 mod counts;
 mod gate;
@@ -16,6 +17,7 @@ mod serving;
 mod turn;
 mod work;
 
+pub use between::{cut_chapter, restore_port};
 pub use counts::{SoFar, StopReason, WorkerEnd};
 pub use gate::{Gate, OpenGate, Pace, Point, Turns};
 pub use pon_ring::Sink;

@@ -50,7 +50,7 @@ impl<'a, L: Ledger, M: Ledger, G: Gate, T: Wait> ServedPort<'a, L, M, G, T> {
     }
 
     // Turns the port, and passes its chapter to the sink. If the port refuses, nothing happens.
-    fn turn_port(&self, sink: &mut Sink)
+    pub(crate) fn turn_port(&self, sink: &mut Sink)
         requires { self.now.port < self.now.desk.now.ports }
         ensures turned { TriesTurn sink.old.outlet sink.new.outlet }
         ensures cut { sink.new.cut ≡ sink.old.cut }

@@ -5,7 +5,7 @@ ghost use Rattle.pon_worker.specs.Passing.{PassesChapters};
 ghost use Rattle.pon_worker.specs.Records.{is_nobodys};
 ghost use Rattle.pon_worker.specs.Turns.{CoversCounts, LacksReport, PostsAt, PostsRecord, ReadsBursts};
 
-use crate::counts::{Counts, StopReason, count};
+use crate::counts::{Counts, StopReason};
 use crate::gate::Gate;
 use crate::posting::ServedPort;
 use crate::receiving::receive;
@@ -62,7 +62,7 @@ fn post_record<L: Ledger, M: Ledger, G: Gate, T: Wait>(
 {
     counts.prove_in_range();
     let Some(onu) = sender(burst.head) else {
-        counts.garbled = count(counts.garbled);
+        counts.count_garbled(burst.head);
         return true;
     };
     let posted = served.post_kept(seat, sink, report_of(burst, onu));

@@ -110,6 +110,23 @@ fn a_full_port_lists_each_alloc_id(rt: HostRuntime) {
     assert!(rt; ends_by(run, &full_list(&rt, rt.alloc())));
 }
 
+// Makes the lines of a full port: all admissions, and what is sure for the last Alloc-ID and for one that is not admitted.
+fn full_and_sure(rt: &impl Abort, alloc: Global) -> Vec<u8> {
+    let mut input = Vec::new(alloc);
+    admit_all(rt, alloc, &mut input);
+    repeat(rt, &mut input, b"0 sure 1535\n0 sure 1536\n", 1);
+    input
+}
+
+// Each of 512 equal weights has its part of 2,078,720 kbit/s.
+#[test]
+fn a_full_port_says_what_is_sure(rt: HostRuntime) {
+    let input = full_and_sure(&rt, rt.alloc());
+    let run = run(rt.alloc(), 16, &input, sound(4096));
+    let text = b"sure alloc 1535 guaranteed 0 surplus 4060 wait -\nerr E01 NoSuchAlloc\n";
+    assert!(rt; ends_by(run, text));
+}
+
 // Makes a line of the greatest length, and one more.
 fn longest_line(rt: &impl Abort, alloc: Global) -> Vec<u8> {
     let mut input = Vec::new(alloc);

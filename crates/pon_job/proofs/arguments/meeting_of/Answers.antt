@@ -13,6 +13,8 @@ pub returns-clause-some : goal.returns-clause-some
 returns-clause-some c =
     let f = found_of c.args.found.now in record {
       place = subst (λ o. IsPlace o c.in_ok-external.external) (c.get_str-place.ensures ∙ first_value-rows f (codes "units")) c.in_ok-external.ensures.some;
+      once = c.is_given-once.ensures;
+      grows = c.is_given-grow.ensures;
       waiting = c.in_ok-wait.ensures.some;
       speed = c.in_ok-pace.ensures.some;
     }

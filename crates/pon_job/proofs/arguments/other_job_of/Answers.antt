@@ -6,11 +6,6 @@ use Rattle.clap.proofs.WalkLemmas.{first_value-rows}
 use Rattle.pon_job.proofs.Subcommands.{no_check}
 use Rattle.pon_job.proofs.arguments.other_job_of.Goals as goal
 
-pub returns-then-eq-clause-some : goal.returns-then-eq-clause-some
-returns-then-eq-clause-some c =
-    let word = (bytes_eq-Decides _ (codes "plan")).0 (sym c.eq.ensures ∙ c.if-eq.true) in
-    (word, c.plan_of.ensures)
-
 pub returns-in_err-file-clause-none : goal.returns-in_err-file-clause-none
 returns-in_err-file-clause-none c =
     let f = found_of c.args.found.now in

@@ -2,7 +2,7 @@ use Rattle.std.proofs.Common.{◌∙◌, refl, rules, sym, codes}
 use Rattle.clap.specs.Matches.{found_of}
 use Rattle.clap.specs.Walk.{rows_of}
 use Rattle.clap.proofs.WalkLemmas.{first_value-rows}
-use Rattle.pon_job.proofs.Runs.{without_address, without_meeting, without_settings}
+use Rattle.pon_job.proofs.Runs.{without_address, without_flush, without_meeting, without_settings}
 use Rattle.pon_job.proofs.arguments.run_of.Goals as goal
 
 pub returns-in_err-config-clause-none : goal.returns-in_err-config-clause-none
@@ -20,6 +20,11 @@ returns-in_err-meeting-clause-none c =
     let none = without_meeting (rows_of (found_of c.args.found.now)) (c.in_err-meeting.ensures.none (search rules)) in
     λ _. none
 
+pub returns-in_err-flush-clause-none : goal.returns-in_err-flush-clause-none
+returns-in_err-flush-clause-none c =
+    let none = without_flush (rows_of (found_of c.args.found.now)) (c.in_err-flush.ensures.none (search rules)) in
+    λ _. none
+
 pub returns-clause-some : goal.returns-clause-some
 returns-clause-some c =
     let f = found_of c.args.found.now in (
@@ -32,6 +37,7 @@ returns-clause-some c =
         operator = sym (c.get_str-operate.ensures ∙ first_value-rows f (codes "operate"));
         keeps = c.is_given-no_clobber.ensures;
         strict = c.is_given-strict_record.ensures;
+        flushes = c.in_ok-flush.ensures.some;
         settles = c.is_given-settle.ensures;
         meets = c.in_ok-meeting.ensures.some;
         follows = c.is_given-progress.ensures;

@@ -12,7 +12,7 @@ returns-in_default-clause-counted g c = record {
   refusals = [];
   takes = takes_garbled c.args.served.now.port c.args.burst c.in_default.ensures;
   memory = All-nil IsNotMemory;
-  counted = counted_garbled c.args.burst c.args.counts.now _ c.in_default.ensures refl c.count-counts.ensures refl c.prove_in_range.ensures.refused;
+  counted = counted_garbled c.args.burst c.args.counts.now c.count_garbled.new.self c.in_default.ensures c.count_garbled.ensures c.prove_in_range.ensures.refused;
   kept = keeps_none c.args.seat.now.receipts;
 }
 
@@ -23,7 +23,7 @@ pub returns-clause-counted : goal.returns-clause-counted
 returns-clause-counted g c =
     let sender = c.in-Some.ensures in
     reported c.args.served.now.port c.args.burst c.in-Some.onu c.report_of.result c.post_kept-posted.result c.count_report.result c.args.counts.now c.count_report.new.self c.args.seat.now c.post_kept-posted.new.seat
-    c.report_of.ensures sender.0 sender.1 c.post_kept-posted.ensures.kept (λ none. absurd (omega (arith, c.post_kept-posted.ensures.no_such.0 none, c.requires.port))) c.post_kept-posted.ensures.refused c.post_kept-posted.ensures.err c.count_report.ensures.counts c.count_report.ensures.memory c.prove_in_range.ensures.garbled c.prove_in_range.ensures.refused
+    c.report_of.ensures sender.0 sender.1 c.post_kept-posted.ensures.kept (λ none. absurd (omega (arith, c.post_kept-posted.ensures.no_such.0 none, c.requires.port))) c.post_kept-posted.ensures.refused c.post_kept-posted.ensures.err c.count_report.ensures.counts c.count_report.ensures.memory c.prove_in_range.ensures.garbled c.prove_in_range.ensures.unowned c.prove_in_range.ensures.refused
 
 pub returns-clause-maps : goal.returns-clause-maps
 returns-clause-maps g c = reported_maps c.post_kept-posted.result c.args.counts.now c.count_report.new.self c.count_report.ensures.counts

@@ -12,7 +12,7 @@ use Rattle.pon_worker.proofs.reading.read_bursts.Goals as goal
 pub loop-burst-init : goal.loop-burst-init
 loop-burst-init g c = record {
   empty_again = c.requires.empty;
-  so_far = none_so_far c.args.served.now.port c.args.work.now.counts c.args.seat.now.receipts (g.R.DevRead.remaining c.args.reader.now) c.prove_in_range.ensures.garbled c.prove_in_range.ensures.refused;
+  so_far = none_so_far c.args.served.now.port c.args.work.now.counts c.args.seat.now.receipts (g.R.DevRead.remaining c.args.reader.now) c.prove_in_range.ensures.garbled c.prove_in_range.ensures.unowned c.prove_in_range.ensures.refused;
   maps = refl;
   posts = posts_none c.args.served.now.port c.args.seat.now c.args.work.now.counts c.args.work.now.counts refl refl;
   sink = passes_none c.args.sink.now c.args.sink.now refl refl;

@@ -10,7 +10,7 @@ use Rattle.pon_worker.proofs.serving.make_turns.Goals as goal
 pub loop-init : goal.loop-init
 loop-init g c =
     let none = sym c.new-work.ensures.counts in
-    let start = turned_none c.args.served.now.port no_counts c.args.seat.now (g.W.DevWrite.contents c.args.writer.now) (g.R.DevRead.remaining c.args.reader.now) (omega arith) (omega arith) in record {
+    let start = turned_none c.args.served.now.port no_counts c.args.seat.now (g.W.DevWrite.contents c.args.writer.now) (g.R.DevRead.remaining c.args.reader.now) (omega arith) (omega arith) (omega arith) in record {
       why = refl;
       empty_again = c.new-work.ensures.up;
       turned = subst (λ (k : Counts). Turned c.args.served.now.port no_counts k c.args.seat.now c.args.seat.now (g.W.DevWrite.contents c.args.writer.now) (g.W.DevWrite.contents c.args.writer.now) (g.R.DevRead.remaining c.args.reader.now) (g.R.DevRead.remaining c.args.reader.now)) none start;

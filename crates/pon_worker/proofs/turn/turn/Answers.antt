@@ -16,7 +16,7 @@ pub returns-in-Err-clause-ended : goal.returns-in-Err-clause-ended
 returns-in-Err-clause-ended g c = inl (
   record { refused = c.in-Err.ensures.refused; no_such = c.in-Err.ensures.no_such },
   subst (λ (s : SeatState). Turned c.args.served.now.port c.args.work.now.counts c.args.work.now.counts c.args.seat.now s (g.W.DevWrite.contents c.args.writer.now) (g.W.DevWrite.contents c.args.writer.now) (g.R.DevRead.remaining c.args.reader.now) (g.R.DevRead.remaining c.args.reader.now)) (sym c.in-Err.ensures.err)
-      (turned_none c.args.served.now.port c.args.work.now.counts c.args.seat.now (g.W.DevWrite.contents c.args.writer.now) (g.R.DevRead.remaining c.args.reader.now) c.prove_in_range.ensures.garbled c.prove_in_range.ensures.refused),
+      (turned_none c.args.served.now.port c.args.work.now.counts c.args.seat.now (g.W.DevWrite.contents c.args.writer.now) (g.R.DevRead.remaining c.args.reader.now) c.prove_in_range.ensures.garbled c.prove_in_range.ensures.unowned c.prove_in_range.ensures.refused),
 )
 
 pub returns-in_err-sent-clause-ended : goal.returns-in_err-sent-clause-ended
@@ -28,7 +28,7 @@ returns-in_err-sent-clause-ended g c =
     let is : IsTurn c.args.served.now.port t = record { is_post = c.in-Ok.ensures.made; reply = c.made_map.ensures; takes = (refl, refl) } in
     let kept = keeps_first c.args.seat.now.receipts c.make_map.new.seat.receipts c.keep.new.self.receipts c.keep.new.self.receipts c.in-Ok.receipt [] c.in-Ok.ensures.receipts c.keep.ensures.kept (keeps_none c.keep.new.self.receipts) in
     let worked = worked_one c.args.served.now.port t [] c.args.work.now.counts (with_map c.args.work.now.counts) c.args.seat.now c.keep.new.self (g.W.DevWrite.contents c.args.writer.now) (g.W.DevWrite.contents c.send_at_gate-sent.new.writer) left left is refl begun.1
-    (counted_kept c.args.work.now.counts (with_map c.args.work.now.counts) refl refl refl c.prove_in_range.ensures.garbled c.prove_in_range.ensures.refused) (read_none left) kept in
+    (counted_kept c.args.work.now.counts (with_map c.args.work.now.counts) refl refl refl refl c.prove_in_range.ensures.garbled c.prove_in_range.ensures.unowned c.prove_in_range.ensures.refused) (read_none left) kept in
     let all = sending_ends c.args.served.now.port c.args.served.now.desk.now.ports c.in_err-sent.field-0.0 t c.args.work.now.counts (with_map c.args.work.now.counts) c.args.seat.now c.keep.new.self (g.W.DevWrite.contents c.args.writer.now) (g.W.DevWrite.contents c.send_at_gate-sent.new.writer) left left worked begun.2 refl in
     rw told.1 (subst (λ (w : StopReason). EndsAs c.args.served.now.port c.args.served.now.desk.now.ports w c.args.work.now.counts (with_map c.args.work.now.counts) c.args.seat.now c.keep.new.self (g.W.DevWrite.contents c.args.writer.now) (g.W.DevWrite.contents c.send_at_gate-sent.new.writer) left left) (sym told.2) all)
 

@@ -1,0 +1,4 @@
+mod Bounds
+mod Granting
+mod Parts
+pub mod Places

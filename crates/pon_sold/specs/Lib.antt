@@ -1,0 +1,3 @@
+pub mod Chapters
+pub mod Tables
+pub mod Watches
