@@ -1,8 +1,9 @@
 //! The part that a run left which was ended before its file was whole.
 
 use crate::lock::{LockFile, take_file};
+use crate::opening::{open_part, remove_empty};
 use std::alloc::Global;
-use std::fs::{self, OpenFile, OpenOptions};
+use std::fs::{self, OpenFile};
 use std::io::{self, ErrorKind};
 use std::rt::Files;
 
@@ -29,14 +30,15 @@ pub(crate) fn set_aside<R: Files>(rt: &R, alloc: Global, part: &str) -> io::Resu
 where
     R::File: LockFile,
 {
-    let file = match OpenOptions::new().write(true).open(rt, part) {
+    let file = match open_part(rt, part) {
         Ok(file) => file,
         Err(error) if error.kind() == ErrorKind::NotFound => return Ok(None),
         Err(error) => return Err(error),
     };
     take_file(rt, &file, part)?;
-    if file.metadata()?.len() == 0 {
-        fs::remove_file(rt, part)?;
+    let found = file.metadata()?;
+    if found.len() == 0 {
+        remove_empty(rt, &found, part)?;
         return Ok(None);
     }
     Ok(Some(rename_part(rt, alloc, part)?))

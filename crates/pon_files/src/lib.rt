@@ -10,6 +10,7 @@ mod identity;
 mod inputs;
 mod leftover;
 mod lock;
+mod opening;
 mod part;
 mod reading;
 mod recording_file;

@@ -4,8 +4,9 @@ ghost use Rattle.std.specs.Prelude.{◌≡◌, IfOk, OnErr, OnOk};
 
 use crate::leftover::set_aside;
 use crate::lock::{LockFile, take_file};
+use crate::opening::create_part;
 use std::alloc::{AllocError, Global};
-use std::fs::{self, OpenFile, OpenOptions};
+use std::fs::{self, OpenFile};
 use std::io::{self, Write};
 use std::marker::Model;
 use std::rt::Files;
@@ -75,14 +76,11 @@ impl<F: Write> Write for PartFile<F> {
 }
 
 // Creates a part, and takes it for this process.
-fn create_part<R: Files>(rt: &R, part: &str) -> io::Result<R::File>
+fn begin_part<R: Files>(rt: &R, part: &str) -> io::Result<R::File>
 where
     R::File: LockFile,
 {
-    let file = OpenOptions::new()
-        .write(true)
-        .create_new(true)
-        .open(rt, part)?;
+    let file = create_part(rt, part)?;
     take_file(rt, &file, part)?;
     Ok(file)
 }
@@ -101,7 +99,7 @@ impl<F: OpenFile + Write + LockFile> PartFile<F> {
         let name = String::from_str(alloc, name)?;
         let part = part_of(alloc, name.as_str())?;
         let left = set_aside(rt, alloc, part.as_str())?;
-        let file = create_part(rt, part.as_str())?;
+        let file = begin_part(rt, part.as_str())?;
         Ok(PartFile {
             file,
             name,

@@ -3,13 +3,14 @@
 ghost use Rattle.std.specs.Prelude.{◌≡◌, OnOk, false, is_ok, true};
 
 use crate::lock::LockFile;
+use crate::opening::open_part;
 use crate::part::PartFile;
 use crate::target::{Output, Target, target_of};
 use pon_device::DeviceFault;
 use pon_job::{Failure, Named};
 use pon_recorder::{Ended, Recorder, Tape, record_to};
 use std::alloc::Global;
-use std::fs::{self, OpenFile, OpenOptions};
+use std::fs::{self, OpenFile};
 use std::io::{self, Write};
 use std::rt::Files;
 
@@ -151,10 +152,7 @@ fn write_byte<R: Files>(rt: &R, name: &str, target: &Target) -> io::Result<()> {
         Target::Part { part, .. } => part.as_str(),
         Target::Direct => name,
     };
-    OpenOptions::new()
-        .write(true)
-        .open(rt, name)?
-        .write_all(&[0])
+    open_part(rt, name)?.write_all(&[0])
 }
 
 // Returns the failure of a recording that does not take its first bytes, and removes its part.
