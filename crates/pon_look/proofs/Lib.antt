@@ -6,4 +6,5 @@ pub mod Loops
 pub mod Owed
 pub mod Refusals
 mod Selling
+mod Sold
 pub mod Tallying

@@ -3,6 +3,7 @@ pub mod Explanations
 pub mod FaultDetails
 pub mod Finding
 pub mod Gaps
+pub mod Sold
 pub mod Summaries
 pub mod Sums
 pub mod Tallies

@@ -3,7 +3,9 @@
 ghost use Rattle.std.specs.Prelude.{◌<◌, IfOk, length};
 
 use crate::seen::{Ports, with_port};
-use crate::tally::Tally;
+use crate::tally::{Tally, refused_entry};
+use pon_audit::Judged;
+use pon_record::RawChapter;
 use pon_units::{AllocId, PortNo};
 use pon_why::Series;
 use std::alloc::{AllocError, Global};
@@ -14,6 +16,8 @@ pub(crate) struct PortTally {
     pub port: PortNo,
     pub tally: Tally,
     pub series: Series,
+    // The number of the last chapter, if it was summed up whole.
+    last: Option<u64>,
 }
 
 impl PortTally {
@@ -78,15 +82,47 @@ impl PortTallies {
             port,
             tally: Tally::new(alloc, self.followed)?,
             series: Series::new(alloc),
+            last: None,
         };
         self.tallies.insert(place, tally)?;
         Ok(place)
     }
 
-    /// The tally of a port, which is made if there is none. `Err` only if memory is refused.
-    pub(crate) fn of_mut(&mut self, alloc: Global, port: PortNo) -> Result<&mut Tally, AllocError> {
-        let place = self.place_of(alloc, port)?;
-        Ok(&mut self.tallies[place].tally)
+    /// The tally of the port of a chapter, to which the chapter is added next. It is made if there is none. `Err` only if
+    /// memory is refused.
+    pub(crate) fn before(
+        &mut self,
+        alloc: Global,
+        chapter: &RawChapter,
+    ) -> Result<&mut Tally, AllocError> {
+        let place = self.place_of(alloc, chapter.port)?;
+        let PortTally { tally, last, .. } = &mut self.tallies[place];
+        tally.go_on(*last, chapter.number);
+        Ok(tally)
+    }
+
+    /// A chapter was added to the tally of its port, and judged. One that is refused at an entry is noted. `Err` only if
+    /// memory is refused.
+    pub(crate) fn note_judged(
+        &mut self,
+        alloc: Global,
+        chapter: &RawChapter,
+        judged: &Judged,
+    ) -> Result<(), AllocError> {
+        let place = self.place_of(alloc, chapter.port)?;
+        let refused = refused_entry(judged);
+        self.tallies[place].last = match refused {
+            Some(_) => None,
+            None => Some(chapter.number),
+        };
+        if let Some(entry) = refused {
+            self.refused.push(Refused {
+                port: chapter.port,
+                chapter: chapter.number,
+                entry,
+            })?;
+        }
+        Ok(())
     }
 
     /// Moves the followed maps of each tally into the series of its port. `Err` if memory is refused or a sum is 2^64 or

@@ -7,8 +7,8 @@ ghost use Rattle.pon_audit.specs.Judging.{IsJudgment};
 ghost use Rattle.pon_audit.specs.Streams.{IsVerdictOf, TellsFailure};
 
 use crate::counts::map_count;
-use crate::port_tallies::{PortTallies, Refused};
-use crate::tally::{Summed, Tally, refused_entry, tally_chapter};
+use crate::port_tallies::PortTallies;
+use crate::tally::{Summed, Tally, tally_chapter};
 use crate::viewed::Viewed;
 use crate::wanted::Wanted;
 use pon_audit::{Auditing, Judged, PARALLEL_MAPS, judge};
@@ -68,22 +68,6 @@ fn parts_of(
         .collect::<Result<Vec<Part>, AllocError>>(rt, alloc)?
 }
 
-// Notes a chapter if it is refused at an entry.
-fn note_refused(
-    tallies: &mut PortTallies,
-    chapter: &RawChapter,
-    judged: &Judged,
-) -> Result<(), AllocError> {
-    if let Some(entry) = refused_entry(judged) {
-        tallies.refused.push(Refused {
-            port: chapter.port,
-            chapter: chapter.number,
-            entry,
-        })?;
-    }
-    Ok(())
-}
-
 // Adds the sums of chapters to the tallies of their ports, in their order.
 fn add_parts(
     alloc: Global,
@@ -93,8 +77,8 @@ fn add_parts(
 ) -> Result<(), AllocError> {
     for (chapter, part) in chapters.iter().zip(parts) {
         if let Some(tally) = &part.tally {
-            tallies.of_mut(alloc, chapter.port)?.add_all(tally)?;
-            note_refused(tallies, chapter, &part.judged)?;
+            tallies.before(alloc, chapter)?.add_all(tally)?;
+            tallies.note_judged(alloc, chapter, &part.judged)?;
         }
     }
     Ok(())
@@ -141,9 +125,9 @@ fn add_chapter(
     if !wanted.has(chapter.port) {
         return judge(alloc, chapter);
     }
-    let tally = tallies.of_mut(alloc, chapter.port)?;
+    let tally = tallies.before(alloc, chapter)?;
     let Summed { judged, .. } = tally_chapter(alloc, chapter, &wanted.range, tally)?;
-    note_refused(tallies, chapter, &judged)?;
+    tallies.note_judged(alloc, chapter, &judged)?;
     Ok(judged)
 }
 

@@ -1,6 +1,6 @@
 //! What the maps of a chapter add up to.
 
-ghost use Rattle.std.specs.Prelude.{ℕ, ◌≡◌, ◌+◌, ◌<◌, ◌^◌, ◌↔◌, [], Some, IfOk, IfNone, IsTrue, OnOk, if◌then◌else◌, length, map};
+ghost use Rattle.std.specs.Prelude.{ℕ, ◌≡◌, ◌+◌, ◌<◌, ◌^◌, ◌↔◌, ◌==◌, [], Some, IfOk, IfNone, IsTrue, OnOk, if◌then◌else◌, length, map};
 ghost use Rattle.pon_admit.specs.Roster.{IsAdmitted};
 ghost use Rattle.pon_guar.specs.Window.{AreConsecutive};
 ghost use Rattle.pon_demand.specs.Carries.{AreCarries};
@@ -16,8 +16,8 @@ ghost use Rattle.pon_audit.specs.Judging.{IsJudgment};
 ghost use Rattle.pon_audit.specs.declared.chapters.Judged.TheVariants.{Fails};
 ghost use Rattle.pon_why.specs.Rates.{rates_of};
 ghost use Rattle.pon_why.specs.Sums.{amounts_in, no_sums, plus};
-ghost use Rattle.pon_sold.specs.Chapters.{after_map, after_event, watch_over, where_carried};
-ghost use Rattle.pon_sold.specs.Watches.{after_rows, joined, nothing, restarted};
+ghost use Rattle.pon_sold.specs.Chapters.{after_map, after_event, begun, watch_over, where_carried};
+ghost use Rattle.pon_sold.specs.Watches.{after_rows, joined, nothing};
 ghost use Rattle.pon_look.specs.Sums.{sums_of};
 ghost use Rattle.pon_look.specs.Tallies.{IsTallied, IsWatched, refused_at, tally_sums, tally_watch};
 
@@ -123,17 +123,24 @@ impl Tally {
         }
     }
 
-    // A chapter begins: its rows are noted again, and no run of maps goes on.
-    fn begin_chapter(&mut self)
+    /// The chapter with a number is added next, after one with the number `before`, if there is one. It goes on with the
+    /// runs of maps if its number is the next one.
+    pub(crate) fn go_on(&mut self, before: Option<u64>, number: u64)
         ensures sums { self.new.allocs ≡ self.old.allocs }
-        ensures sold { (i : ℕ) → tally_watch self.new i ≡ restarted (tally_watch self.old i) }
+        ensures sold { (i : ℕ) → tally_watch self.new i
+            ≡ begun before number (tally_watch self.old i) }
     {
-        self.are_rows_noted = false;
-        self.watches.restart();
+        let goes_on = match before {
+            Some(before) => is_next(before, number),
+            None => false,
+        };
+        if !goes_on {
+            self.watches.stop();
+        }
     }
 
     // After an admission, a change or a removal the rows of the next map are others than those of the last one; an
-    // admission begins a run of maps.
+    // admission begins a run of maps, and a removal ends it.
     fn note_event(&mut self, event: &Event)
         ensures sums { self.new.allocs ≡ self.old.allocs }
         ensures sold { (i : ℕ) → tally_watch self.new i
@@ -144,7 +151,11 @@ impl Tally {
                 self.are_rows_noted = false;
                 self.watches.restart_at(row.alloc_id);
             }
-            Event::Change { .. } | Event::Remove { .. } => {
+            Event::Remove { alloc_id } => {
+                self.are_rows_noted = false;
+                self.watches.restart_at(*alloc_id);
+            }
+            Event::Change { .. } => {
                 self.are_rows_noted = false;
             }
             Event::Report { .. } | Event::MakeMap | Event::Fail { .. } | Event::Restore => {}
@@ -192,6 +203,13 @@ impl Tally {
         self.are_rows_noted = true;
         Ok(())
     }
+}
+
+// Returns whether a number of a chapter is the next one after that of another.
+fn is_next(before: u64, number: u64) -> bool
+    ensures { result ≡ (number == before + 1) }
+{
+    before < number && number - before == 1
 }
 
 /// What became of an entry.
@@ -379,12 +397,13 @@ pub fn tally_chapter(
         (sums_of range.now i (chapter_of chapter.now.body) summed.entries)) }
     ensures sold { IfOk result (λ summed. (i : ℕ) → tally_watch tally.new i
         ≡ watch_over range.now.first range.now.last i (chapter_of chapter.now.body)
-        (restarted (tally_watch tally.old i)) summed.entries) }
+        (tally_watch tally.old i) summed.entries) }
     ensures judged { IfOk result (λ summed. IsJudgment chapter.now summed.judged) }
     ensures whole { IfOk result (λ summed. IfNone (refused_at summed.judged)
         (summed.entries ≡ length chapter.now.body.entries)) }
 {
-    tally.begin_chapter();
+    // The rows of the first map are noted again.
+    tally.are_rows_noted = false;
     let Some(mut replay) = open_replay(alloc, chapter)? else {
         return Ok(Summed {
             entries: 0,

@@ -1,4 +1,4 @@
 mod Bounds
-mod Granting
+pub mod Granting
 mod Parts
 pub mod Places

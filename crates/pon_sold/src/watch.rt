@@ -1,10 +1,11 @@
 //! What was sold to an Alloc-ID over maps, and what it got of it.
 
-ghost use Rattle.std.specs.Prelude.{◌≡◌, ◌-◌, ◌/◌, IfSome};
+ghost use Rattle.std.specs.Prelude.{◌≡◌, ◌-◌, ◌/◌, IfSome, max};
 ghost use Rattle.pon_units.specs.declared.limits.TheConstants.{WORD_RATE};
 ghost use Rattle.pon_sure.specs.Sure.{longest_wait};
-ghost use Rattle.pon_sold.specs.Watches.{after_row, after_sold, debt_after, is_sold, joined, lesser, restarted, run_after, with_debt};
+ghost use Rattle.pon_sold.specs.Watches.{after_other, after_owed, after_row, after_sold, crossing_debt, crossing_wait, debt_after, is_sold, joined, lesser, restarted, run_after, stopped};
 
+use crate::head::Head;
 use pon_admit::Row;
 use pon_bwmap::Alloc;
 use pon_units::WORD_RATE;
@@ -63,6 +64,8 @@ pub(crate) struct Watch {
     pub debt: u64,
     /// The number of the last sold maps in a row that granted no word.
     pub run: u64,
+    /// What the first maps add to runs of maps that began before them.
+    pub head: Head,
 }
 
 // Returns the lesser of two rates, of which 0 is none.
@@ -103,6 +106,44 @@ fn run_after(words: u64, run: u64) -> Option<u64>
     }
 }
 
+// Returns by how much guaranteed rates are above words, after a debt. `None` if a sum is 2^64 or more.
+fn debt_after(guaranteed: u64, words: u64, debt: u64) -> Option<u64>
+    ensures { IfSome result (λ after. after ≡ debt_after guaranteed words debt) }
+{
+    let owed = debt.checked_add(guaranteed)?;
+    Some(owed.saturating_sub(words.checked_mul(WORD_RATE)?))
+}
+
+// Returns the greatest shortfall over maps that begin before later ones. `None` if it is 2^64 or more.
+fn crossing_debt(debt: u64, peak: u64) -> Option<u64>
+    ensures { IfSome result (λ most. most ≡ crossing_debt debt peak) }
+{
+    if peak == 0 {
+        Some(0)
+    } else {
+        debt.checked_add(peak)
+    }
+}
+
+// Returns the wait over sold maps that begin before later ones, of which the first `more` granted no word. `None` if it is
+// 2^64 or more.
+fn crossing_wait(run: u64, more: u64) -> Option<u64>
+    ensures { IfSome result (λ wait. wait ≡ crossing_wait run more) }
+{
+    if more == 0 {
+        Some(0)
+    } else {
+        run.checked_add(more)?.checked_add(1)
+    }
+}
+
+// Returns the greatest of three numbers.
+fn greatest(a: u64, b: u64, c: u64) -> u64
+    ensures { result ≡ max (max a b) c }
+{
+    a.max(b).max(c)
+}
+
 impl Watch {
     /// What is known before the first map.
     pub(crate) const NOTHING: Watch = Watch {
@@ -115,25 +156,32 @@ impl Watch {
         },
         debt: 0,
         run: 0,
+        head: Head::NONE,
     };
 
-    /// The next map is no later one of the same run of maps.
-    pub(crate) fn restart(&mut self)
-        ensures { self.new ≡ restarted self.old }
+    /// No run of maps goes on.
+    pub(crate) fn stop(&mut self)
+        ensures { self.new ≡ stopped self.old }
     {
         self.debt = 0;
         self.run = 0;
     }
 
-    // Adds what the guaranteed rate of a map is above its words. `None` if the sum is 2^64 or more.
-    fn add_debt(&mut self, guaranteed: u64, words: u64) -> Option<()>
-        ensures { IfSome result (λ done. self.new
-            ≡ with_debt (debt_after guaranteed words self.old.debt) self.old) }
+    /// The run of maps ends, and the first maps in a row do.
+    pub(crate) fn restart(&mut self)
+        ensures { self.new ≡ restarted self.old }
     {
-        let owed = self.debt.checked_add(guaranteed)?;
-        self.debt = owed.saturating_sub(words.checked_mul(WORD_RATE)?);
+        self.stop();
+        self.head.close();
+    }
+
+    // Adds what the guaranteed rate of a map is above its words. `None` if the sum is 2^64 or more.
+    fn add_owed(&mut self, guaranteed: u64, words: u64) -> Option<()>
+        ensures { IfSome result (λ done. self.new ≡ after_owed guaranteed words self.old) }
+    {
+        self.debt = debt_after(guaranteed, words, self.debt)?;
         self.sold.shortfall = self.sold.shortfall.max(self.debt);
-        Some(())
+        self.head.add_owed(guaranteed, words)
     }
 
     // Adds a map that is sold at a rate, and grants these words. `None` if a sum is 2^64 or more.
@@ -145,7 +193,15 @@ impl Watch {
         self.sold.words = self.sold.words.checked_add(words)?;
         self.sold.wait = self.sold.wait.max(self.run.checked_add(1)?);
         self.sold.least = lesser(self.sold.least, rate);
-        Some(())
+        self.head.note_sold(words)
+    }
+
+    // Notes a map that is not sold.
+    fn note_other(&mut self)
+        ensures { self.new ≡ after_other self.old }
+    {
+        self.run = 0;
+        self.head.note_other();
     }
 
     /// Adds the next map: the row, its rates and its structure. `None` if a sum is 2^64 or more.
@@ -154,26 +210,64 @@ impl Watch {
             ≡ after_row row.now rates.now structure.now self.old) }
     {
         let words = words_of(structure);
-        self.add_debt(u64::from(rates.guaranteed.get()), words)?;
+        self.add_owed(u64::from(rates.guaranteed.get()), words)?;
         let rate = u64::from(row.descriptor.promised().get());
         if is_sold(rate, u64::from(rates.load.get())) {
             return self.add_sold(rate, words);
         }
-        self.run = 0;
+        self.note_other();
         Some(())
     }
 
-    /// Adds the maps of later chapters. `None` if a sum is 2^64 or more.
+    // Returns the debt after later maps. `None` if a sum is 2^64 or more.
+    fn debt_after_all(&self, later: &Watch) -> Option<u64>
+        ensures { IfSome result (λ debt. debt ≡ (joined self.now later.now).debt) }
+    {
+        let Head {
+            guaranteed,
+            words,
+            is_open,
+            ..
+        } = later.head;
+        if is_open {
+            let crossing = debt_after(guaranteed, words, self.debt)?;
+            Some(later.debt.max(crossing))
+        } else {
+            Some(later.debt)
+        }
+    }
+
+    // Returns the run of maps without a word after later maps. `None` if it has 2^64 or more.
+    fn run_after_all(&self, later: &Watch) -> Option<u64>
+        ensures { IfSome result (λ run. run ≡ (joined self.now later.now).run) }
+    {
+        if later.head.is_waiting {
+            self.run.checked_add(later.head.run)
+        } else {
+            Some(later.run)
+        }
+    }
+
+    /// Adds the maps of later chapters, which go on with the runs of maps. `None` if a sum is 2^64 or more.
     pub(crate) fn add(&mut self, later: &Watch) -> Option<()>
         ensures { IfSome result (λ done. self.new ≡ joined self.old later.now) }
     {
         self.sold.rate = self.sold.rate.checked_add(later.sold.rate)?;
         self.sold.words = self.sold.words.checked_add(later.sold.words)?;
-        self.sold.shortfall = self.sold.shortfall.max(later.sold.shortfall);
-        self.sold.wait = self.sold.wait.max(later.sold.wait);
+        let Head { peak, run, .. } = later.head;
+        self.sold.shortfall = greatest(
+            self.sold.shortfall,
+            later.sold.shortfall,
+            crossing_debt(self.debt, peak)?,
+        );
+        self.sold.wait = greatest(
+            self.sold.wait,
+            later.sold.wait,
+            crossing_wait(self.run, run)?,
+        );
         self.sold.least = lesser(self.sold.least, later.sold.least);
-        self.debt = later.debt;
-        self.run = later.run;
+        self.debt = self.debt_after_all(later)?;
+        self.run = self.run_after_all(later)?;
         Some(())
     }
 }

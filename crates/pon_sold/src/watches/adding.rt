@@ -2,7 +2,7 @@
 
 ghost use Rattle.std.specs.Prelude.{◌≡◌, ◌==◌, ℕ, IfOk, OnOk, if◌then◌else◌, length};
 ghost use Rattle.pon_sold.specs.Tables.{watch_at};
-ghost use Rattle.pon_sold.specs.Watches.{after_rows, joined, nothing, restarted};
+ghost use Rattle.pon_sold.specs.Watches.{after_rows, joined, nothing, restarted, stopped};
 
 use crate::watch::{Sold, Watch};
 use crate::watches::{PLACES, Watches};
@@ -33,16 +33,16 @@ impl Watches {
         self.watches[usize::from(alloc_id.get())].sold
     }
 
-    /// A chapter begins: its first map is no later one of the same run of maps for any Alloc-ID.
-    pub fn restart(&mut self)
-        ensures { (i : ℕ) → watch_at self.new i ≡ restarted (watch_at self.old i) }
+    /// No run of maps goes on: what comes next does not follow the last map.
+    pub fn stop(&mut self)
+        ensures { (i : ℕ) → watch_at self.new i ≡ stopped (watch_at self.old i) }
     {
         for place in 0..self.watches.len() {
-            self.watches[place].restart();
+            self.watches[place].stop();
         }
     }
 
-    /// An Alloc-ID is admitted: its next map is no later one of the same run of maps.
+    /// An Alloc-ID is admitted or removed: its next map is no later one of the same run of maps.
     pub fn restart_at(&mut self, alloc_id: AllocId)
         ensures { (i : ℕ) → watch_at self.new i
             ≡ (if alloc_id == i then restarted (watch_at self.old i) else watch_at self.old i) }
@@ -76,7 +76,7 @@ impl Watches {
         Ok(())
     }
 
-    /// Adds the maps of later chapters.
+    /// Adds the maps of later chapters, which go on with the runs of maps.
     ///
     /// # Errors
     ///

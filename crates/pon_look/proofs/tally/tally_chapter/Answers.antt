@@ -1,12 +1,10 @@
-use Rattle.std.proofs.Common.{◌≡◌, ◌∙◌, ap, arith, length, rules, subst, sym}
+use Rattle.std.proofs.Common.{◌≡◌, ◌∙◌, ap, refl, arith, length, rules, subst, sym}
 use Rattle.pon_history.proofs.Kept.{kept_frames, none_yet, one_further}
 use Rattle.pon_audit.specs.Openings.{chapter_of}
 use Rattle.pon_audit.specs.Judging.{FailsLater, IsJudgment}
 use Rattle.pon_audit.proofs.Kept.{all_taken, ended, fails_here}
 use Rattle.pon_sold.specs.Chapters.{watch_over}
-use Rattle.pon_sold.specs.Watches.{restarted}
 use Rattle.pon_why.specs.Sums.{plus}
-use Rattle.pon_why.specs.Tallies.{sums_at}
 use Rattle.pon_why.proofs.SumLaws.{plus_none}
 use Rattle.pon_look.specs.Sums.{sums_of}
 use Rattle.pon_look.specs.Tallies.{tally_sums, tally_watch}
@@ -20,8 +18,8 @@ loop-index-init c =
     record {
       opens = opened.0;
       kept = none_yet (chapter_of c.args.chapter.now.body) c.in-Some.replay.state opened.0 opened.1;
-      sums = λ i. ap (λ allocs. sums_at allocs i) c.begin_chapter.ensures.sums ∙ sym (plus_none (tally_sums c.args.tally.now i));
-      sold = c.begin_chapter.ensures.sold;
+      sums = λ i. sym (plus_none (tally_sums c.args.tally.now i));
+      sold = λ i. refl;
     }
 
 pub tally_entry-requires-clause-frames : goal.tally_entry-requires-clause-frames
@@ -65,7 +63,7 @@ returns-in-Stops-clause-sold c =
     let watched = rw c.in-Stops.is at c.in_ok-tally_entry.ensures.sold in
     let sold = ended_sold c.args.range.now (chapter_of c.args.chapter.now.body) c.loop-index.index c.entry-item.result c.loop-index.replay.state (search rules) (search rules) c.loop-index.invariant.kept
     (tally_watch c.args.tally.now) (tally_watch c.loop-index.tally) (tally_watch c.tally_entry.new.tally) c.loop-index.invariant.sold c.in-Stops.added watched in
-    λ i. sold i ∙ ap (watch_over c.args.range.now.first c.args.range.now.last i (chapter_of c.args.chapter.now.body) (restarted (tally_watch c.args.tally.now i))) (sym (ap (λ t. t.entries) c.ended.ensures))
+    λ i. sold i ∙ ap (watch_over c.args.range.now.first c.args.range.now.last i (chapter_of c.args.chapter.now.body) (tally_watch c.args.tally.now i)) (sym (ap (λ t. t.entries) c.ended.ensures))
 
 pub returns-clause-sums : goal.returns-clause-sums
 returns-clause-sums c =
@@ -79,4 +77,4 @@ returns-clause-sold c =
     let entries : c.deref-entry-items.result.now ≡ c.args.chapter.now.body.entries = search rules in
     let count : c.len-entries.result ≡ length c.args.chapter.now.body.entries = search rules in
     let same : c.loop-index.index ≡ c.len-entries.result = omega (arith, ap length entries, count) in
-    λ i. c.loop-index.invariant.sold i ∙ ap (watch_over c.args.range.now.first c.args.range.now.last i (chapter_of c.args.chapter.now.body) (restarted (tally_watch c.args.tally.now i))) same
+    λ i. c.loop-index.invariant.sold i ∙ ap (watch_over c.args.range.now.first c.args.range.now.last i (chapter_of c.args.chapter.now.body) (tally_watch c.args.tally.now i)) same
