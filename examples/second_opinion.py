@@ -1,5 +1,5 @@
 #!/usr/bin/env python3
-"""A second auditor of recordings, written from docs/olt-recording.5 and docs/REFERENCE.md alone, with exact numbers and without any code of the program.
+"""A second auditor of recordings, which follows docs/olt-recording.5 and docs/REFERENCE.md, with exact numbers and without any code of the program.
 
     examples/second_opinion.py FILE..
 
