@@ -1,4 +1,4 @@
--- A Wireshark dissector of the link records of `olt run` (docs/FORMATS.md, "Link records"): downstream maps and upstream bursts with reports.
+-- A Wireshark dissector of the link records of `olt run` (docs/PEERS.md): downstream maps and upstream bursts with reports.
 -- Use: wireshark -X lua_script:docs/olt.lua -d tcp.port==7575,olt, or copy the file to the folder of personal Lua plugins.
 
 local olt = Proto("olt", "Link records of the upstream scheduler olt (XG-PON)")

@@ -1,5 +1,5 @@
 #!/usr/bin/env python3
-"""Units of one port in another language, from docs/FORMATS.md alone: connects to a terminal, reads its maps, and answers each burst. The first word says
+"""Units of one port in another language, from docs/PEERS.md alone: connects to a terminal, reads its maps, and answers each burst. The first word says
 how; all but `honest` are faults of the line.
 
     examples/peer.py WAY ADDRESS PORT
