@@ -1,3 +1,4 @@
 pub mod EachReply
+pub mod InRange
 pub mod LastMaps
 pub mod Turning

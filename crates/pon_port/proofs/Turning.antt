@@ -1,9 +1,10 @@
--- The chapter that a port begins when it turns.
+-- The chapter that a port begins when it turns, and when it is resumed.
 use Rattle.std.proofs.Common.{◌≡◌, ℕ, ◌+◌, List, [], ap, sym, ◌∙◌, subst, refl, arith}
 use Rattle.std.specs.Prelude.{Option, None}
 use Rattle.pon_state.specs.State.{State}
 use Rattle.pon_state.specs.Entry.{Entry}
-use Rattle.pon_history.specs.Chapters.{Chapter, chapter_after, present_state}
+use Rattle.pon_state.specs.Ranges.{IsStateInRange}
+use Rattle.pon_history.specs.Chapters.{Chapter, IsLawfulOpening, chapter_after, present_state}
 use Rattle.pon_history.specs.Taking.{IsKept, Turns}
 use Rattle.pon_port.specs.Ports.{IsPort}
 use Rattle.pon_history.proofs.Kept.{kept_none}
@@ -30,3 +31,8 @@ pub turned : (c d : Chapter) (s o : State) (es : List Entry) → IsKept c s → 
 turned c d s o es k opening none same =
     let next : begun c s o es ≡ chapter_after c = is_next c s o es k opening none in
     record { returned = same; begun = next; same_state = ap present_state next }
+
+-- a chapter that begins with a lawful opening in range, and no entries
+pub resumed_port : (n : ℕ) (s o t : State) (es : List Entry) (na be : List ℕ) → IsLawfulOpening n s → IsStateInRange s → o ≡ s → t ≡ s → es ≡ [] → IsPort (record { number = n; opening = o; entries = es }) t None na be
+resumed_port n s o t es na be lawful range opening state none =
+    rw (opening, state, none) (record { kept = kept_none n s lawful; in_range = range; last = refl })

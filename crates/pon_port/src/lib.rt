@@ -9,8 +9,11 @@ mod certificates;
 pub mod laws;
 mod next_map;
 mod port;
+mod ranges;
+mod resume_fault;
 
 pub use pon_admit::{Event, PortCfg};
 pub use pon_history::Chapter;
 pub use pon_state::{Entry, EntryRef, MadeMap, PortState, Reply};
 pub use port::Port;
+pub use resume_fault::ResumeFault;

@@ -4,6 +4,8 @@ ghost use Rattle.pon_state.specs.Events.{IsEvent};
 ghost use Rattle.pon_state.specs.Maps.{makes_map};
 
 use crate::next_map::{ReadyMap, next_map};
+use crate::ranges::is_in_range;
+use crate::resume_fault::ResumeFault;
 use pon_admit::{Event, PortCfg};
 use pon_demand::MapBuffers;
 use pon_descr::Refusal;
@@ -49,7 +51,7 @@ impl Model for Port {
 }
 
 impl Port {
-    ghost use Rattle.std.specs.Prelude.{[], ◌+◌, false, length, IfOk, IfErr, IfSome, MatchOption, None, OnOk, OnErr, Some};
+    ghost use Rattle.std.specs.Prelude.{[], ◌↔◌, ◌+◌, Err, false, length, IfOk, IfErr, IfSome, MatchOption, None, OnOk, OnErr, Some};
     ghost use Rattle.pon_admit.specs.Roster.{IsAdmitted};
     ghost use Rattle.pon_history.specs.Chapters.{IsLawfulChapter, IsLawfulOpening, present_state};
     ghost use Rattle.pon_history.specs.Last.{MatchesMembers, last_map};
@@ -60,6 +62,7 @@ impl Port {
     ghost use Rattle.pon_history.specs.WordRuns.{RunsAreWhole};
     ghost use Rattle.pon_demand.specs.Carries.{AreCarries};
     ghost use Rattle.pon_descr.specs.Checks.{IsTold};
+    ghost use Rattle.pon_port.specs.declared.resume_fault.ResumeFault.TheVariants.{OutOfRange};
 
     /// Opens a port: no Alloc-ID, the line up, and `first` as its next frame.
     ///
@@ -84,8 +87,36 @@ impl Port {
         })
     }
 
+    /// Opens a port that goes on in the state of another one: its kept chapter has this number and no entries, and opens
+    /// with that state. A state is lawful if an audit shows that it is, as the end of a good chapter.
+    ///
+    /// # Errors
+    ///
+    /// `OutOfRange` exactly when the state is none of a port of this version. `Memory` only if memory is refused.
+    pub fn resume(alloc: Global, number: u64, opening: PortState) -> Result<Port, ResumeFault>
+        requires { IsLawfulOpening number opening }
+        ensures ok { IfOk result (λ port. port
+            ≡ record { number = number; opening = opening; entries = [] }) }
+        ensures out_of_range { (result ≡ Err OutOfRange) ↔ (IsStateInRange opening → ⊥) }
+    {
+        if !is_in_range(&opening) {
+            return Err(ResumeFault::OutOfRange);
+        }
+        let state = opening.try_copy(alloc)?;
+        Ok(Port {
+            number,
+            opening,
+            state,
+            entries: Vec::new(alloc),
+            last: None,
+            na: Vec::new(alloc),
+            be: Vec::new(alloc),
+            room: MapBuffers::open(alloc),
+        })
+    }
+
     /// The number of the kept chapter. The chapters of a port are counted from 0; chapter 0 begins when the port is
-    /// opened.
+    /// opened, and a port that is resumed begins with the number that it is given.
     pub fn chapter_number(&self) -> u64
         ensures { result ≡ self.now.number }
     {
@@ -101,7 +132,7 @@ impl Port {
         self.entries.as_slice()
     }
 
-    /// The number of entries taken since the port was opened.
+    /// The number of entries taken since the port was opened, those before it was resumed included.
     pub fn taken(&self) -> u64
         ensures { result ≡ self.now.opening.taken_before + length self.now.entries }
     {
