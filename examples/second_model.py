@@ -1,18 +1,17 @@
-"""A port of Sezhimow and the map that follows from it, written from the pages alone:
-docs/REFERENCE.md ("Refusals", "How a frame is shared", "Certificates", "Words of the line")
-and docs/olt-recording.5 ("LAWFUL OPENINGS", "THE STATE AFTER AN EVENT").
-
-All rates are whole kbit/s, all sizes are words of 4 bytes.
+"""A port, the events that it takes and the map that it makes, written from docs/REFERENCE.md ("Refusals", "How a frame is shared", "Certificates", "Words of
+the line") and docs/olt-recording.5 ("THE STATE AFTER AN EVENT") by somebody who had not seen the code. The second auditor (second_opinion.py) and the second
+planner (second_planner.py) use it. Rates are whole kbit/s, sizes are words of 4 bytes.
 """
-from dataclasses import dataclass, field
+from dataclasses import dataclass, field, make_dataclass
 from fractions import Fraction
 
 FRAME_WORDS = 9720
 WORD_RATE = 256                       # kbit/s of one word in every frame
 MAX_RATE = 2_488_320
 MAX_OCCUPANCY = 16_777_215
+MAX_ONU, MIN_ALLOC, MAX_ALLOC = 1022, 1024, 16383
 MAX_ONUS, MAX_SERIES = 128, 16
-MAX_ALLOCS = {1: 256, 2: 512}         # by rule
+MAX_ALLOCS, ALLOC_WORDS = {1: 256, 2: 512}, {1: 1, 2: 2}     # by rule; the overhead of an Alloc-ID
 WINDOW = 64
 LAST = 2**64 - 1
 CHAPTER_EVENTS = 65_536
@@ -21,18 +20,15 @@ CLASSES = ("none", "na", "be")
 NONE, NA, BE = CLASSES
 
 
-# --- Words of the line
-
-def remainder(number, polynomial, bits):
-    number <<= bits
-    for place in range(number.bit_length() - 1, bits - 1, -1):
-        if number >> place & 1:
-            number ^= polynomial << (place - bits)
-    return number
+# Words of the line.
 
 
 def with_hec(payload):
-    word = payload << 12 | remainder(payload, 0b1010100111001, 12)
+    word = remainder = payload << 12
+    for place in range(remainder.bit_length() - 1, 11, -1):
+        if remainder >> place & 1:
+            remainder ^= 0b1010100111001 << (place - 12)
+    word |= remainder
     return word << 1 | bin(word).count("1") % 2
 
 
@@ -41,7 +37,8 @@ def structure_bytes(alloc, start, grant, profile):
     return with_hec((payload << 16 | grant) << 3 | profile).to_bytes(8, "big")
 
 
-# --- Events
+# Events.
+
 
 @dataclass(frozen=True)
 class Descriptor:
@@ -69,47 +66,17 @@ class Descriptor:
             return "E08"
 
 
-@dataclass(frozen=True)
-class Admit:
-    onu: int
-    alloc: int
-    descriptor: Descriptor
+Admit = make_dataclass("Admit", ("onu", "alloc", "descriptor"))
+Change = make_dataclass("Change", ("alloc", "descriptor"))
+Remove = make_dataclass("Remove", ("alloc",))
+Report = make_dataclass("Report", ("frame", "onu", "occupancies"))     # of which None is garbled
+Fail = make_dataclass("Fail", ("cause",))
+Restore = make_dataclass("Restore", ())
+MakeMap = make_dataclass("MakeMap", ())
 
 
-@dataclass(frozen=True)
-class Change:
-    alloc: int
-    descriptor: Descriptor
+# The state of a port.
 
-
-@dataclass(frozen=True)
-class Remove:
-    alloc: int
-
-
-@dataclass(frozen=True)
-class Report:
-    frame: int
-    onu: int
-    occupancies: tuple                # None for one that was garbled
-
-
-@dataclass(frozen=True)
-class Fail:
-    cause: int
-
-
-@dataclass(frozen=True)
-class Restore:
-    pass
-
-
-@dataclass(frozen=True)
-class MakeMap:
-    pass
-
-
-# --- The state of a port
 
 @dataclass
 class Row:
@@ -165,12 +132,12 @@ class Port:
         """In kbit/s; below 0 if the overhead is more than a frame."""
         onus = len(self.onus()) if onus is None else onus
         allocs = len(self.rows) if allocs is None else allocs
-        return (FRAME_WORDS - (self.gap + 2) * onus - self.rule * allocs) * WORD_RATE
+        return (FRAME_WORDS - (self.gap + 2) * onus - ALLOC_WORDS[self.rule] * allocs) * WORD_RATE
 
     def sold(self):
         return sum(row.descriptor.sold for row in self.rows)
 
-    # --- Refusals
+    # Refusals.
 
     def refusal(self, event):
         """The first reason in the order of the pages, or None."""
@@ -222,7 +189,7 @@ class Port:
         if event.onu in polled.reporters:
             return "E16"
 
-    # --- The state after an event
+    # The state after an event.
 
     def apply(self, event):
         """What an event that is not refused does, a map aside."""
@@ -251,8 +218,8 @@ class Port:
                 continue
             if row.report is not None and event.frame < row.report:
                 continue
-            granted = sum(words for later in self.window if later.frame >= event.frame
-                          for *place, words in later.grants if place == [onu, alloc])
+            later = [grant for it in self.window if it.frame >= event.frame for grant in it.grants]
+            granted = sum(words for *place, words in later if place == [onu, alloc])
             row.report, row.left = event.frame, max(0, occupancy - granted)
 
     def forget_reports(self, cause):
@@ -270,7 +237,8 @@ class Port:
         self.next += 1
 
 
-# --- How a frame is shared
+# How a frame is shared.
+
 
 @dataclass
 class Share:
@@ -326,9 +294,8 @@ def fill(surplus, members):
 
 
 def share_of(row):
-    sold, load = row.descriptor.sold, row.load
-    wanted = max(row.descriptor.fixed, load)
-    guaranteed = min(sold, wanted)
+    wanted = max(row.descriptor.fixed, row.load)
+    guaranteed = min(row.descriptor.sold, wanted)
     return Share(guaranteed, row.descriptor.weight, min(row.descriptor.max, wanted) - guaranteed)
 
 
