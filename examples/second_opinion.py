@@ -1,487 +1,288 @@
 #!/usr/bin/env python3
-"""A second auditor of recordings, which follows docs/olt-recording.5 and docs/REFERENCE.md, with exact numbers and without any code of the program.
+"""A second auditor of recordings, written from docs/olt-recording.5 and docs/REFERENCE.md by somebody who had not seen the code. What a port is and which map
+it makes is in second_model.py, which the second planner uses too.
 
     examples/second_opinion.py FILE..
 
 prints the verdict of each, as `olt audit` does. It is slow: its time is for whoever wants to see that the pages suffice, or to be judged by nobody's word.
 """
-import copy
 import sys
-from dataclasses import dataclass, field, make_dataclass
+from dataclasses import dataclass
+
+from second_model import (
+    BE, CHAPTER_EVENTS, CLASSES, CONTINUES, FRAME_WORDS, LAST, MAX_ALLOC, MAX_ALLOCS, MAX_OCCUPANCY, MAX_ONU, MAX_ONUS, MAX_SERIES, MIN_ALLOC, NA, WINDOW,
+    Admit, Change, Descriptor, Fail, MakeMap, Polled, Port, Remove, Report, Restore, Row, fair_map, with_hec,
+)
 
 MAGIC = {b"PONREC01": 1, b"PONREC02": 2}
 TAG, HEAD_BYTES = 0x43, 5
-FRAME_WORDS, WORD_RATE, LINE_RATE = 9720, 256, 2_488_320
-MAX_ONU, MIN_ALLOC, MAX_ALLOC = 1022, 1024, 16383
-MAX_ONUS, MAX_SERIES, MAX_STRUCTURES, MAX_WINDOW, MAX_ENTRIES = 128, 16, 512, 64, 65_536
-MAX_OCCUPANCY, GARBLED, NO_START = 16_777_215, 0xFFFF_FFFF, 0xFFFF
-LAST = 2**64 - 1
-MAX_ALLOCS, ALLOC_WORDS, MAX_CARRY = {1: 256, 2: 512}, {1: 1, 2: 2}, {1: 0, 2: 255}
-NONE, NA, BE = 0, 1, 2
-ADMIT, CHANGE, REMOVE, REPORT, MAP, FAIL, RESTORE = range(1, 8)
+MAX_STRUCTURES, MAX_PORT, MAX_GAP, MAX_CARRY = 512, 63, 256, 255
+GARBLED = 0xFFFF_FFFF
 
 
 class BadFormat(Exception):
     """A field out of its range, or a body that does not end where its length says."""
 
 
-def need(holds):
-    if not holds:
-        raise BadFormat
-
-
-# What a recording holds.
-
-
 @dataclass
-class Row:
-    onu: int
-    alloc: int
-    fixed: int
-    assured: int
-    most: int
-    kind: int
-    since: int = 0
-    counted: tuple | None = None  # the frame of the counted report, and its words that are not granted
-    carry: int = 0
-
-    def sold(self):
-        return self.fixed + self.assured
-
-
-@dataclass
-class WindowMap:
+class Recorded:
+    """A map as an entry has it."""
     frame: int
-    grants: list  # of (ONU, Alloc-ID, words)
-    reported: list
+    bytes: bytes
+    structures: list                  # Alloc-ID and GrantSize
+    certificate: bytes
 
 
 @dataclass
-class State:
-    rule: int
-    gap: int
-    profile: int
-    cause: int
-    next: int
-    before: int
-    rows: list = field(default_factory=list)
-    window: list = field(default_factory=list)
+class Chapter:
+    port_number: int
+    number: int
+    port: Port                        # as it opens
+    entries: list
 
 
-Structure = make_dataclass("Structure", ("alloc", "dbru", "ploam", "start", "grant", "fwi", "profile"))
-# A level is None for all, or numerator and denominator.
-ClassCert = make_dataclass("ClassCert", ("level", "flags"))
-Entry = make_dataclass("Entry", ("kind", "values"))
-Chapter = make_dataclass("Chapter", ("port", "number", "opening", "entries"))
+class Body:
+    """Reads the fields of a chapter's body."""
 
-
-# The bytes.
-
-
-def hec(payload, bits):
-    """Returns a word: its payload, 12 check bits, and the bit that makes the number of ones even."""
-    word = check = payload << 12
-    for place in range(bits + 11, 11, -1):
-        if check >> place & 1:
-            check ^= 0b1010100111001 << (place - 12)
-    word |= check
-    return word << 1 | bin(word).count("1") & 1
-
-
-class Bytes:
     def __init__(self, body):
         self.body, self.at = body, 0
 
-    def number(self, width):
-        need(self.at + width <= len(self.body))
-        self.at += width
-        return int.from_bytes(self.body[self.at - width : self.at], "big")
+    def bytes(self, count):
+        found = self.body[self.at:self.at + count]
+        if len(found) < count:
+            raise BadFormat
+        self.at += count
+        return found
 
-    def within(self, width, least, most):
-        value = self.number(width)
-        need(least <= value <= most)
-        return value
+    def number(self, width, least=0, most=LAST):
+        number = int.from_bytes(self.bytes(width), "big")
+        if not least <= number <= most:
+            raise BadFormat
+        return number
 
     def onu(self):
-        return self.within(2, 0, MAX_ONU)
+        return self.number(2, 0, MAX_ONU)
 
     def alloc(self):
-        return self.within(2, MIN_ALLOC, MAX_ALLOC)
+        return self.number(2, MIN_ALLOC, MAX_ALLOC)
 
     def descriptor(self):
-        """Reads rates and class, which E05 to E08 must not refuse."""
-        fixed, assured, most, kind = self.number(4), self.number(4), self.number(4), self.within(1, NONE, BE)
-        need(max(fixed, assured, most) <= LINE_RATE and fixed + assured <= most)
-        need(kind != NA or 0 < fixed + assured)
-        need(kind == NONE or fixed + assured < most)
-        return fixed, assured, most, kind
+        rates = [self.number(4) for _ in range(3)]
+        descriptor = Descriptor(*rates, CLASSES[self.number(1, 0, 2)])
+        if descriptor.refusal():
+            raise BadFormat
+        return descriptor
 
     def row(self, version, rule):
-        row = Row(self.onu(), self.alloc(), *self.descriptor(), since=self.number(8))
-        counts, frame, words = self.within(1, 0, 1), self.number(8), self.within(4, 0, MAX_OCCUPANCY)
-        need(counts or (frame, words) == (0, 0))
-        row.counted = (frame, words) if counts else None
-        row.carry = self.within(1, 0, MAX_CARRY[rule]) if version == 2 else 0
+        row = Row(self.onu(), self.alloc(), self.descriptor(), self.number(8))
+        counts = self.number(1, 0, 1)
+        frame = self.number(8, 0, LAST if counts else 0)
+        row.left = self.number(4, 0, MAX_OCCUPANCY if counts else 0)
+        row.report = frame if counts else None
+        if version == 2:
+            row.carry = self.number(1, 0, MAX_CARRY if rule == 2 else 0)
         return row
 
-    def window_map(self, rule):
+    def polled(self, rule):
         frame = self.number(8)
-        grants = [(self.onu(), self.alloc(), self.within(2, 0, FRAME_WORDS)) for _ in range(self.within(2, 0, MAX_ALLOCS[rule]))]
-        return WindowMap(frame, grants, [self.onu() for _ in range(self.number(1))])
-
-    def structure(self):
-        word = self.number(8)
-        payload = word >> 13
-        need(hec(payload, 51) == word)
-        return Structure(payload >> 37, payload >> 36 & 1, payload >> 35 & 1, payload >> 19 & 0xFFFF, payload >> 3 & 0xFFFF, payload >> 2 & 1, payload & 3)
-
-    def map(self):
-        head = self.number(4)
-        count = head >> 21
-        need(hec(count << 8, 19) == head and count <= MAX_STRUCTURES)
-        structures, series = [], 0
-        for place in range(count):
-            it = self.structure()
-            series = 1 if it.start != NO_START else series + 1
-            need(it.start < FRAME_WORDS if it.start != NO_START else place > 0 and series <= MAX_SERIES)
-            structures.append(it)
-        return structures
-
-    def class_cert(self):
-        fraction, num, den = self.within(1, 0, 1), self.number(8), self.number(8)
-        need(den > 0 if fraction else (num, den) == (0, 0))
-        flags = [self.within(1, 0, 1) for _ in range(self.within(2, 0, MAX_STRUCTURES))]
-        return ClassCert((num, den) if fraction else None, flags)
+        grants = [(self.onu(), self.alloc(), self.number(2, 0, FRAME_WORDS))
+                  for _ in range(self.number(2, 0, MAX_ALLOCS[rule]))]
+        return Polled(frame, grants, [self.onu() for _ in range(self.number(1))])
 
     def occupancy(self):
-        value = self.number(4)
-        need(value == GARBLED or value <= MAX_OCCUPANCY)
-        return None if value == GARBLED else value
+        number = self.number(4)
+        if number == GARBLED:
+            return None
+        if number > MAX_OCCUPANCY:
+            raise BadFormat
+        return number
 
     def entry(self):
-        kind = self.within(1, ADMIT, RESTORE)
-        if kind == ADMIT:
-            return Entry(kind, (self.onu(), self.alloc(), *self.descriptor()))
-        if kind == CHANGE:
-            return Entry(kind, (self.alloc(), *self.descriptor()))
-        if kind == REMOVE:
-            return Entry(kind, (self.alloc(),))
-        if kind == REPORT:
-            return Entry(kind, (self.number(8), self.onu(), [self.occupancy() for _ in range(self.within(1, 1, MAX_SERIES))]))
-        if kind == MAP:
-            return Entry(kind, (self.number(8), self.map(), self.class_cert(), self.class_cert()))
-        return Entry(kind, (self.within(1, 1, 9),) if kind == FAIL else ())
+        match self.number(1, 1, 7):
+            case 1:
+                return Admit(self.onu(), self.alloc(), self.descriptor())
+            case 2:
+                return Change(self.alloc(), self.descriptor())
+            case 3:
+                return Remove(self.alloc())
+            case 4:
+                return self.report()
+            case 5:
+                return self.map()
+            case 6:
+                return Fail(self.number(1, 1, 9))
+            case 7:
+                return Restore()
 
-    def chapter(self, version):
-        rule = self.within(1, 1, 2) if version == 2 else 1
-        port, number = self.within(1, 0, 63), self.number(8)
-        opening = State(rule, self.within(2, 1, 256), self.within(1, 0, 3), self.within(1, 0, 9), self.number(8), self.number(8))
-        opening.rows = [self.row(version, rule) for _ in range(self.within(2, 0, MAX_ALLOCS[rule]))]
-        opening.window = [self.window_map(rule) for _ in range(self.within(1, 0, MAX_WINDOW))]
-        entries = [self.entry() for _ in range(self.within(4, 0, MAX_ENTRIES))]
-        need(self.at == len(self.body))
-        return Chapter(port, number, opening, entries)
+    def report(self):
+        frame, onu = self.number(8), self.onu()
+        return Report(frame, onu, tuple(self.occupancy() for _ in range(self.number(1, 1, MAX_SERIES))))
+
+    def map(self):
+        frame, begin = self.number(8), self.at
+        structures = self.structures()
+        written = self.body[begin:self.at]
+        begin = self.at
+        self.half_certificate()
+        self.half_certificate()
+        return Recorded(frame, written, structures, self.body[begin:self.at])
+
+    def structures(self):
+        head = self.number(4)
+        count = head >> 21
+        if head != with_hec(count << 8) or count > MAX_STRUCTURES:
+            raise BadFormat
+        found, series = [], MAX_SERIES      # as if a full burst went before: the first structure has a start
+        for _ in range(count):
+            word = self.number(8)
+            start = word >> 32 & 0xFFFF
+            series = series + 1 if start == CONTINUES else 1
+            if word != with_hec(word >> 13) or series > MAX_SERIES or FRAME_WORDS <= start < CONTINUES:
+                raise BadFormat
+            found.append((word >> 50, word >> 16 & 0xFFFF))
+        return found
+
+    def half_certificate(self):
+        fraction = self.number(1, 0, 1)
+        numerator, denominator = self.number(8), self.number(8)
+        if (denominator == 0) if fraction else (numerator or denominator):
+            raise BadFormat
+        for _ in range(self.number(2, 0, MAX_STRUCTURES)):
+            self.number(1, 0, 1)
 
 
-def chapters_of(data):
-    """Returns the whole chapters, and the verdict about the bytes if they are no recording."""
-    if len(data) < 8:
-        return [], "truncated 0"
-    version = MAGIC.get(data[:8])
-    if version is None:
-        return [], "badformat 0"
-    found, at = [], 8
-    while at < len(data):
-        if data[at] != TAG:
-            return found, f"badformat {at}"
-        end = at + HEAD_BYTES + int.from_bytes(data[at + 1 : at + HEAD_BYTES], "big")
-        if len(data) < at + HEAD_BYTES or len(data) < end:
-            return found, f"truncated {at}"
-        try:
-            found.append(Bytes(data[at + HEAD_BYTES : end]).chapter(version))
-        except BadFormat:
-            return found, f"badformat {at}"
-        at = end
-    return found, None
+def read_chapter(body, version):
+    body = Body(body)
+    rule = body.number(1, 1, 2) if version == 2 else 1
+    port_number, number = body.number(1, 0, MAX_PORT), body.number(8)
+    port = Port(rule, body.number(2, 1, MAX_GAP), body.number(1, 0, 3), body.number(1, 0, 9), body.number(8), body.number(8))
+    port.rows = [body.row(version, rule) for _ in range(body.number(2, 0, MAX_ALLOCS[rule]))]
+    port.window = [body.polled(rule) for _ in range(body.number(1, 0, WINDOW))]
+    entries = [body.entry() for _ in range(body.number(4, 0, CHAPTER_EVENTS))]
+    if body.at != len(body.body):
+        raise BadFormat
+    return Chapter(port_number, number, port, entries)
 
 
 # Lawful openings.
 
 
-def rises(numbers):
-    return all(a < b for a, b in zip(numbers, numbers[1:]))
+def ascending(items):
+    return all(one < two for one, two in zip(items, items[1:]))
 
 
-def overhead(state, rows):
-    return (state.gap + 2) * len({row.onu for row in rows}) + ALLOC_WORDS[state.rule] * len(rows)
-
-
-def fits(state, rows):
-    left = FRAME_WORDS - overhead(state, rows)
-    return left >= 0 and sum(row.sold() for row in rows) <= WORD_RATE * left
-
-
-def are_admitted(state):
-    rows = state.rows
-    onus = [row.onu for row in rows]
-    few = len(set(onus)) <= MAX_ONUS and all(onus.count(onu) <= MAX_SERIES for onu in set(onus))
-    return rises([(row.onu, row.alloc) for row in rows]) and len({row.alloc for row in rows}) == len(rows) and few and fits(state, rows)
-
-
-def is_lawful_row(state, row):
-    if row.since > state.next:
-        return False
-    if row.counted:
-        frame, _words = row.counted
-        if not row.since <= frame < state.next or any(it.frame == frame and row.onu not in it.reported for it in state.window):
-            return False
-    later = [it for it in state.window if row.since <= it.frame]
-    return all(onu == row.onu for it in later for onu, alloc, _words in it.grants if alloc == row.alloc)
-
-
-def is_lawful_map(it):
-    polled = {onu for onu, _alloc, _words in it.grants}
-    return rises([(onu, alloc) for onu, alloc, _words in it.grants]) and rises(it.reported) and polled.issuperset(it.reported)
-
-
-def opens_lawfully(chapter):
-    state = chapter.opening
-    if not are_admitted(state) or not all(is_lawful_row(state, row) for row in state.rows):
-        return False
-    if any(it.frame + len(state.window) - place != state.next for place, it in enumerate(state.window)):
-        return False
-    if not all(is_lawful_map(it) for it in state.window):
-        return False
-    if state.cause and (state.window or any(row.counted for row in state.rows)):
-        return False
-    return chapter.number > 0 or not (state.rows or state.window or state.cause or state.before)
-
-
-# The checks of an event.
-
-
-def row_of(state, alloc):
-    return next((row for row in state.rows if row.alloc == alloc), None)
-
-
-def with_row(rows, row):
-    return sorted([*rows, row], key=lambda it: (it.onu, it.alloc))
-
-
-def changed(row, rates):
-    return Row(row.onu, row.alloc, *rates, row.since, row.counted, row.carry)
-
-
-def refuses_admission(state, onu, alloc, *rates):
-    owned = [row.onu for row in state.rows]
+def lawful(chapter):
+    """The conditions of LAWFUL OPENINGS."""
+    port = chapter.port
+    frames = [polled.frame for polled in port.window]
     return (
-        row_of(state, alloc)
-        or len(state.rows) >= MAX_ALLOCS[state.rule]
-        or (len(set(owned)) >= MAX_ONUS and onu not in owned)
-        or owned.count(onu) >= MAX_SERIES
-        or not fits(state, with_row(state.rows, Row(onu, alloc, *rates)))
+        lawful_rows(port)
+        and all(lawful_report(port, row) for row in port.rows)
+        and frames == list(range(port.next - len(frames), port.next))
+        and all(lawful_polled(port, polled) for polled in port.window)
+        and not (port.cause and (port.window or any(row.report is not None for row in port.rows)))
+        and (chapter.number != 0 or not (port.rows or port.window or port.cause or port.events))
     )
 
 
-def refuses_report(state, frame, onu, occupancies):
-    it = next((it for it in state.window if it.frame == frame), None)
-    polled = [grant for grant in it.grants if grant[0] == onu] if it else []
-    return state.cause or not polled or len(polled) != len(occupancies) or onu in it.reported
+def lawful_rows(port):
+    onus = [row.onu for row in port.rows]
+    return (
+        ascending([row.place for row in port.rows])
+        and len({row.alloc for row in port.rows}) == len(port.rows)
+        and len(set(onus)) <= MAX_ONUS
+        and all(onus.count(onu) <= MAX_SERIES for onu in set(onus))
+        and port.sold() <= port.capacity()
+    )
 
 
-def refuses(state, entry):
-    """Returns whether a check refuses the event. A chapter that is full has no place for another entry."""
-    kind, values = entry.kind, entry.values
-    if state.before >= LAST:
-        return True
-    if kind == ADMIT:
-        return refuses_admission(state, *values)
-    if kind == CHANGE:
-        row = row_of(state, values[0])
-        return row is None or not fits(state, [changed(it, values[1:]) if it is row else it for it in state.rows])
-    if kind == REMOVE:
-        return row_of(state, values[0]) is None
-    if kind == REPORT:
-        return refuses_report(state, *values)
-    if kind == MAP:
-        return state.cause or state.next == LAST
-    return bool(state.cause) == (kind == FAIL)
+def lawful_report(port, row):
+    if row.report is None:
+        return row.since <= port.next
+    polled = port.polled(row.report)
+    return row.since <= row.report < port.next and (polled is None or row.onu in polled.reporters)
 
 
-# A map under its certificate.
-
-
-def load(row):
-    return WORD_RATE * row.counted[1] if row.counted else 0
-
-
-def guaranteed(row):
-    return min(row.sold(), max(row.fixed, load(row)))
-
-
-def weight(row):
-    return row.most - row.sold() if row.kind == BE else row.sold()
-
-
-def cap(row):
-    return min(row.most, max(row.fixed, load(row))) - guaranteed(row)
-
-
-def is_certificate(rows, surplus, cert):
-    """Returns whether a certificate is the one of the rows of a class that share a surplus."""
-    if len(cert.flags) != len(rows):
-        return False
-    if cert.level is None:
-        return all(cert.flags) and sum(map(cap, rows)) <= surplus
-    num, den = cert.level
-    if den != sum(weight(row) for row, flag in zip(rows, cert.flags) if not flag):
-        return False
-    if any((cap(row) * den <= weight(row) * num) != bool(flag) for row, flag in zip(rows, cert.flags)):
-        return False
-    return sum(cap(row) * den if flag else weight(row) * num for row, flag in zip(rows, cert.flags)) == den * surplus
-
-
-def shares(rows, cert):
-    """Returns the whole kbit/s of the surplus rate of each row of a class, by its Alloc-ID."""
-    if cert.level is None:
-        return {row.alloc: cap(row) for row in rows}
-    num, den = cert.level
-    return {row.alloc: cap(row) if flag else weight(row) * num // den for row, flag in zip(rows, cert.flags)}
-
-
-def members(state, kind):
-    return [row for row in state.rows if row.kind == kind]
-
-
-def surpluses(state, na_cert):
-    """Returns what non-assured shares, and what it leaves to best effort."""
-    surplus = WORD_RATE * (FRAME_WORDS - overhead(state, state.rows)) - sum(map(guaranteed, state.rows))
-    return surplus, 0 if na_cert.level else surplus - sum(map(cap, members(state, NA)))
-
-
-def owed_rates(state, na_cert, be_cert):
-    """Returns what each row is owed with its carry, or None if a certificate is not the right one."""
-    na, be = members(state, NA), members(state, BE)
-    surplus, left = surpluses(state, na_cert)
-    if not is_certificate(na, surplus, na_cert) or not is_certificate(be, left, be_cert):
-        return None
-    surplus_rates = {**shares(na, na_cert), **shares(be, be_cert)}
-    return [row.carry + guaranteed(row) + surplus_rates.get(row.alloc, 0) for row in state.rows]
-
-
-def laid(state, words):
-    """Returns the structures of the map with these payload words."""
-    structures, start, onu = [], state.gap, None
-    for row, count in zip(state.rows, words):
-        if onu is not None and row.onu != onu:
-            start += 1 + sum(it.grant for it, of in structures if of == onu) + 1 + state.gap
-        first = row.onu != onu
-        onu = row.onu
-        structures.append((Structure(row.alloc, 1, 0, start if first else NO_START, count + 1, 0, state.profile), onu))
-    return [it for it, _onu in structures]
-
-
-# The state after an event.
-
-
-def take_report(state, frame, onu, occupancies):
-    it = next(it for it in state.window if it.frame == frame)
-    it.reported = sorted([*it.reported, onu])
-    for (_onu, alloc, _words), occupancy in zip([grant for grant in it.grants if grant[0] == onu], occupancies):
-        row = row_of(state, alloc)
-        if occupancy is None or row is None or frame < row.since or (row.counted and frame < row.counted[0]):
-            continue
-        granted = sum(words for later in state.window if frame <= later.frame for u, a, words in later.grants if (u, a) == (onu, alloc))
-        row.counted = frame, max(0, occupancy - granted)
-
-
-def take_map(state, owed):
-    words = [rate // WORD_RATE for rate in owed]
-    for row, rate, count in zip(state.rows, owed, words):
-        row.carry = rate % WORD_RATE if state.rule == 2 else 0
-        if row.counted:
-            row.counted = row.counted[0], max(0, row.counted[1] - count)
-    state.window.append(WindowMap(state.next, [(row.onu, row.alloc, count) for row, count in zip(state.rows, words)], []))
-    del state.window[:-MAX_WINDOW]
-    state.next += 1
-
-
-def take(state, entry):
-    """Changes the state as an event does that is no map."""
-    kind, values = entry.kind, entry.values
-    if kind == ADMIT:
-        state.rows = with_row(state.rows, Row(*values, since=state.next))
-    elif kind == CHANGE:
-        state.rows = [changed(row, values[1:]) if row.alloc == values[0] else row for row in state.rows]
-    elif kind == REMOVE:
-        state.rows = [row for row in state.rows if row.alloc != values[0]]
-    elif kind == REPORT:
-        take_report(state, *values)
-    else:
-        state.cause, state.window = values[0] if kind == FAIL else 0, []
-        for row in state.rows:
-            row.since, row.counted = state.next, None
+def lawful_polled(port, polled):
+    owners = {row.alloc: row.onu for row in port.rows if row.since <= polled.frame}
+    return (
+        ascending([grant[:2] for grant in polled.grants])
+        and ascending(polled.reporters)
+        and {onu for onu, _, _ in polled.grants}.issuperset(polled.reporters)
+        and all(owners.get(alloc, onu) == onu for onu, alloc, _ in polled.grants)
+    )
 
 
 # The verdict.
 
 
-def fault_of_map(state, frame, structures, na_cert, be_cert):
-    """Returns why a map is not the one of the state, or None; the state is then the one after it."""
-    owed = owed_rates(state, na_cert, be_cert)
-    if owed is None:
-        return "Certificate"
-    wanted = laid(state, [rate // WORD_RATE for rate in owed])
-    if [it.alloc for it in structures] == [it.alloc for it in wanted] and [it.grant for it in structures] != [it.grant for it in wanted]:
-        return "Words"
-    if structures != wanted or frame != state.next:
-        return "Bursts"
-    take_map(state, owed)
-    return None
-
-
-def fault_of_entry(state, entry):
-    if refuses(state, entry):
+def entry_fault(port, entry):
+    """Takes an entry, or returns why it may not follow."""
+    event = MakeMap() if isinstance(entry, Recorded) else entry
+    if port.refusal(event):
         return "Event"
-    if entry.kind == MAP:
-        why = fault_of_map(state, *entry.values)
-        if why:
-            return why
-    else:
-        take(state, entry)
-    state.before += 1
+    if event is not entry:
+        return map_fault(port, entry)
+    port.apply(entry)
     return None
 
 
-def judge(chapter, ends):
-    """Returns the index and the reason of the first fault of a chapter after earlier ones, whose ends are by port and number."""
-    if not opens_lawfully(chapter):
-        return 0, "Opening"
-    earlier = ends.setdefault(chapter.port, {})
-    before = earlier.get(chapter.number - 1)
-    if before is not None and before != chapter.opening:
-        return 0, "Chain"
-    if any(chapter.number <= number for number in earlier):
-        return 0, "Number"
-    state = copy.deepcopy(chapter.opening)
-    for index, entry in enumerate(chapter.entries):
-        why = fault_of_entry(state, entry)
-        if why:
-            return index, why
-    earlier[chapter.number] = state
+def map_fault(port, recorded):
+    fair = fair_map(port)
+    if recorded.certificate != fair.filled[NA].to_bytes() + fair.filled[BE].to_bytes():
+        return "Certificate"
+    grants = [(row.alloc, share.grant) for row, share in zip(port.rows, fair.shares)]
+    if recorded.structures != grants and [alloc for alloc, _ in recorded.structures] == [alloc for alloc, _ in grants]:
+        return "Words"
+    if recorded.bytes != fair.bytes or recorded.frame != port.next:
+        return "Bursts"
+    port.apply_map(fair)
     return None
 
 
-def verdict(data):
-    chapters, fault = chapters_of(data)
-    if fault and fault.startswith("badformat"):
-        return fault
-    ends = {}
-    for chapter in chapters:
-        found = judge(chapter, ends)
-        if found:
-            return f"bad port {chapter.port} chapter {chapter.number} entry {found[0]} {found[1]}"
-    return fault or f"good maps {sum(entry.kind == MAP for chapter in chapters for entry in chapter.entries)}"
+def chapter_fault(chapter, ends):
+    """Returns the verdict bad, or None; the port is then as the chapter ends, and is kept in ends by port and number."""
+    index, why = 0, opening_fault(chapter, ends)
+    for index, entry in enumerate(chapter.entries if why is None else []):
+        why = entry_fault(chapter.port, entry)
+        if why:
+            break
+    ends[chapter.port_number, chapter.number] = chapter.port
+    return f"bad port {chapter.port_number} chapter {chapter.number} entry {index} {why}" if why else None
+
+
+def opening_fault(chapter, ends):
+    before = ends.get((chapter.port_number, chapter.number - 1))
+    if not lawful(chapter):
+        return "Opening"
+    if before is not None and before != chapter.port:
+        return "Chain"
+    if any(port == chapter.port_number and number >= chapter.number for port, number in ends):
+        return "Number"
+    return None
+
+
+def verdict(file):
+    if len(file) < 8:
+        return "truncated 0"
+    version = MAGIC.get(file[:8])
+    if version is None:
+        return "badformat 0"
+    at, maps, bad, ends = 8, 0, None, {}
+    while at < len(file):
+        if file[at] != TAG:
+            return f"badformat {at}"
+        end = at + HEAD_BYTES + int.from_bytes(file[at + 1:at + HEAD_BYTES], "big")
+        if len(file) < at + HEAD_BYTES or len(file) < end:
+            return bad or f"truncated {at}"
+        try:
+            chapter = read_chapter(file[at + HEAD_BYTES:end], version)
+        except BadFormat:
+            return f"badformat {at}"
+        bad = bad or chapter_fault(chapter, ends)
+        maps += sum(isinstance(entry, Recorded) for entry in chapter.entries)
+        at = end
+    return bad or f"good maps {maps}"
 
 
 if __name__ == "__main__":
