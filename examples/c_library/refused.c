@@ -57,14 +57,18 @@ static void make_map(sez_port *port) {
     keep(room, size);
 }
 
+/* The port turns, is closed, and goes on from the recording of its chapter. */
 static void turn(sez_port *port) {
     static uint8_t room[100000];
+    sez_verdict_info verdict;
     sez_chapter chapter = SEZ_CLOSED_HANDLE;
     size_t size;
     CALL(sez_turn(port, &chapter));
     CALL(sez_chapter_bytes(&chapter, 3, room, sizeof room, &size));
     keep(room, size);
     CALL(sez_chapter_close(&chapter));
+    CALL(sez_close(port));
+    CALL(sez_resume(port, room, size, 3, &verdict));
 }
 
 static void run(void) {
