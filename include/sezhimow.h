@@ -12,8 +12,8 @@
  * RETURN VALUES. 0 (SEZ_DONE): the call did what it is for. 1 to 21: a refusal, the E01 to E21 of `olt plan`. From 32 on:
  * an argument, or the handle, does not fit. After anything but 0 the port is exactly as it was, unless a function says
  * otherwise. If several reasons apply, the first in the order that the function gives is returned. SEZ_OUT_OF_MEMORY is
- * returned if malloc or realloc returned NULL in this call; the call may be repeated. That it is returned for no other
- * reason is tested, not proved.
+ * returned if malloc or realloc returned NULL in this call and it cannot do without; the call may be repeated. That it is
+ * returned for no other reason is tested, not proved.
  *
  * THREADS. Ports share nothing. Different handles may be used by different threads at the same time, with no lock. One
  * handle is used by one call at a time: another thread may use it after a lock, the start or join of a thread, or a
@@ -101,6 +101,9 @@ extern "C" {
 #define SEZ_CERT_UNSATURATED 57u     /* an item is not saturated, and its cap is at most its share */
 #define SEZ_CERT_NOT_EXHAUSTED 58u   /* the rates are less than the surplus, and the level is a fraction */
 #define SEZ_CERT_OVERSPENT 59u       /* the rates are more than the surplus */
+#define SEZ_NOT_GOOD 60u             /* the recording is not good: the verdict says why */
+#define SEZ_NO_CHAPTER 61u           /* no chapter of the recording is of the port */
+#define SEZ_BAD_STATE 62u            /* no port of this version goes on from the end of the recording */
 
 /* The classes by which an Alloc-ID shares surplus. */
 #define SEZ_CLASS_NONE 0u
@@ -136,6 +139,9 @@ extern "C" {
 /* The greatest number of bytes of a map: the room that sez_map needs. */
 #define SEZ_MAP_ROOM 4100u
 
+/* The greatest number of grants of a map: the places that sez_map_grants needs. */
+#define SEZ_MAX_GRANTS 512u
+
 /* The greatest number of occupancies of a report. */
 #define SEZ_MAX_REPORTS 16u
 
@@ -162,6 +168,19 @@ typedef struct sez_map_info {
     uint64_t frame;
     size_t size;
 } sez_map_info;
+
+/* The grant of a map to an Alloc-ID. */
+typedef struct sez_grant_info {
+    uint16_t alloc_id; /* 1024 to 16383 */
+    uint16_t start;    /* the first word of the burst, or SEZ_NO_START if the grant continues the burst before it */
+    uint16_t words;    /* the granted words, that of the report included */
+} sez_grant_info;
+
+/* A map that was made: its frame, and the number of its grants, one for each Alloc-ID. */
+typedef struct sez_grants_info {
+    uint64_t frame;
+    size_t count;
+} sez_grants_info;
 
 /* The levels of the certificate of a map: of the non-assured class (na) and of best effort (be). */
 typedef struct sez_levels_info {
@@ -254,6 +273,13 @@ typedef struct sez_header_info {
     uint8_t corrected;    /* the corrected bits, 0 to 2 */
 } sez_header_info;
 
+/* The head of a map. */
+typedef struct sez_map_head_info {
+    uint16_t structures; /* the structures that follow it, 0 to 2047 */
+    uint8_t messages;    /* the messages after them, 0 to 255 */
+    uint8_t corrected;   /* the corrected bits, 0 to 2 */
+} sez_map_head_info;
+
 /* An allocation structure of a map. */
 typedef struct sez_structure_info {
     uint16_t alloc_id; /* 0 to 16383 */
@@ -332,6 +358,13 @@ uint32_t sez_map(sez_port *port, uint8_t *room, size_t room_size, sez_map_info *
  * the room must have. */
 uint32_t sez_certificate(sez_port *port, uint8_t *room, size_t room_size, size_t *size);
 
+/* Makes the map of the next frame, as sez_map does, and writes its grants in place of its bytes to the front of `grants`, for
+ * hardware that writes the words of a map with their code itself. Each grant asks for a report and for no message, has the
+ * burst profile of the port, and indicates no wake-up. `count` must be at least SEZ_MAX_GRANTS, whatever the map needs.
+ * Returns SEZ_DONE, or the first of SEZ_NO_ROOM, SEZ_CLOSED, SEZ_PORT_DOWN, SEZ_FRAME_LIMIT, SEZ_CHAPTER_FULL,
+ * SEZ_OUT_OF_MEMORY; then the grants are unchanged too. */
+uint32_t sez_map_grants(sez_port *port, sez_grant_info *grants, size_t count, sez_grants_info *info);
+
 /* Shows the certificate of the last map in its parts: the levels, and for each Alloc-ID of the non-assured class (`na`) and of
  * best effort (`be`) as they were at that map, in map order, whether it gets its cap. The port is unchanged.
  * Returns SEZ_DONE, or SEZ_CLOSED, SEZ_NO_MAP, or SEZ_NO_ROOM for fewer flags than Alloc-IDs, whose numbers are then in
@@ -384,6 +417,17 @@ uint32_t sez_chapter_close(sez_chapter *chapter);
  * Returns SEZ_DONE, whatever the verdict is, or SEZ_OUT_OF_MEMORY. */
 uint32_t sez_audit(const uint8_t *bytes, size_t size, sez_verdict_info *verdict);
 
+/* Opens a port in a closed handle that goes on where a recording ends: audits the recording as sez_audit does, and if it is
+ * good goes on from the end of the last chapter of the port `number`, 0 to 63. Its Alloc-IDs, its next frame, the reports
+ * that count and the window of maps are those of that end; its first chapter has the next number and no events, so that the
+ * recording and its later chapters are good together. The recording may have chapters of other ports. It is read twice.
+ * Returns SEZ_DONE, or the first of SEZ_IS_OPEN, SEZ_BAD_PORT, SEZ_NOT_GOOD unless the verdict is SEZ_GOOD, SEZ_NO_CHAPTER,
+ * SEZ_CHAPTER_FULL if the last chapter has the number 2^64 - 1, SEZ_BAD_STATE for an end that no port of this version has
+ * (the chapter is of a recording of version one, or migrated from one; or the window has a map of more than 128 ONUs), or
+ * SEZ_OUT_OF_MEMORY; then the handle is unchanged. The verdict is told but after SEZ_IS_OPEN, SEZ_BAD_PORT and
+ * SEZ_OUT_OF_MEMORY. */
+uint32_t sez_resume(sez_port *port, const uint8_t *bytes, size_t size, uint8_t number, sez_verdict_info *verdict);
+
 /* Writes the header of an upstream burst, 4 bytes with their code, to the front of the room: an ONU-ID of 0 to 1023, and
  * indications of 0 to 511. Returns SEZ_DONE, or the first of SEZ_BAD_HEADER and SEZ_NO_ROOM. */
 uint32_t sez_header_seal(uint16_t onu, uint16_t indications, uint8_t *room, size_t room_size);
@@ -391,6 +435,15 @@ uint32_t sez_header_seal(uint16_t onu, uint16_t indications, uint8_t *room, size
 /* Reads the header at the front of a burst, and corrects up to two bits. Later bytes are not read.
  * Returns SEZ_DONE, or SEZ_SHORT for fewer than 4 bytes, or SEZ_BAD_CODE. */
 uint32_t sez_header_open(const uint8_t *bytes, size_t size, sez_header_info *header);
+
+/* Writes the head of a downstream map (HLend), 4 bytes with their code, to the front of the room: the number of structures
+ * that follow it, 0 to 2047, and of messages after them. Returns SEZ_DONE, or the first of SEZ_BAD_HEADER and SEZ_NO_ROOM. */
+uint32_t sez_map_head_seal(uint16_t structures, uint8_t messages, uint8_t *room, size_t room_size);
+
+/* Reads the head at the front of a map, and corrects up to two bits. Later bytes are not read; a map of more than 512
+ * structures, which sez_map_decode refuses, has a head too.
+ * Returns SEZ_DONE, or SEZ_SHORT for fewer than 4 bytes, or SEZ_BAD_CODE. */
+uint32_t sez_map_head_open(const uint8_t *bytes, size_t size, sez_map_head_info *head);
 
 /* Writes the report of an occupancy in words, 0 to 16,777,215, 4 bytes with their check byte, to the front of the room.
  * Returns SEZ_DONE, or the first of SEZ_BAD_OCCUPANCY and SEZ_NO_ROOM. */
@@ -422,6 +475,8 @@ SEZ_SIZE_IS(size_t, 8);
 SEZ_SIZE_IS(sez_port, 16);
 SEZ_SIZE_IS(sez_chapter, 16);
 SEZ_SIZE_IS(sez_map_info, 16);
+SEZ_SIZE_IS(sez_grant_info, 6);
+SEZ_SIZE_IS(sez_grants_info, 16);
 SEZ_SIZE_IS(sez_levels_info, 56);
 SEZ_SIZE_IS(sez_item_info, 16);
 SEZ_SIZE_IS(sez_state_info, 72);
@@ -429,6 +484,7 @@ SEZ_SIZE_IS(sez_row_info, 56);
 SEZ_SIZE_IS(sez_why_info, 128);
 SEZ_SIZE_IS(sez_verdict_info, 32);
 SEZ_SIZE_IS(sez_header_info, 6);
+SEZ_SIZE_IS(sez_map_head_info, 4);
 SEZ_SIZE_IS(sez_structure_info, 10);
 SEZ_SIZE_IS(sez_decoded_info, 24);
 

@@ -29,10 +29,12 @@ __all__ = [
     "Decoded",
     "GARBLED",
     "Good",
+    "Grant",
     "Item",
     "Level",
     "Malformed",
     "Map",
+    "NotGood",
     "Port",
     "Reason",
     "Refused",
@@ -47,8 +49,10 @@ __all__ = [
     "check_class",
     "decode_map",
     "open_header",
+    "open_map_head",
     "open_report",
     "seal_header",
+    "seal_map_head",
     "seal_report",
     "version",
 ]
@@ -115,6 +119,9 @@ class Told(IntEnum):
     CERT_UNSATURATED = 57
     CERT_NOT_EXHAUSTED = 58
     CERT_OVERSPENT = 59
+    NOT_GOOD = 60
+    NO_CHAPTER = 61
+    BAD_STATE = 62
 
 
 class Class(IntEnum):
@@ -150,6 +157,15 @@ class Map:
 
     frame: int
     data: bytes
+
+
+@dataclass(frozen=True)
+class Grant:
+    """The grant of a map to an Alloc-ID; `start` is None if it continues the burst before it."""
+
+    alloc_id: int
+    start: int | None
+    words: int
 
 
 @dataclass(frozen=True)
@@ -279,6 +295,14 @@ class Truncated:
     at: int
 
 
+class NotGood(Refused):
+    """A recording is not good, as `verdict` says."""
+
+    def __init__(self, verdict: Bad | Malformed | Truncated) -> None:
+        super().__init__(Told.NOT_GOOD)
+        self.verdict = verdict
+
+
 @dataclass(frozen=True)
 class Structure:
     """An allocation structure of a map; `start` is None if it continues the burst before it."""
@@ -341,6 +365,18 @@ class _RowInfo(ctypes.Structure):
         ("carry", ctypes.c_uint8),
         ("has_report", ctypes.c_bool),
     ]
+
+
+class _GrantInfo(ctypes.Structure):
+    _fields_ = [
+        ("alloc_id", ctypes.c_uint16),
+        ("start", ctypes.c_uint16),
+        ("words", ctypes.c_uint16),
+    ]
+
+
+class _GrantsInfo(ctypes.Structure):
+    _fields_ = [("frame", ctypes.c_uint64), ("count", ctypes.c_size_t)]
 
 
 class _LevelsInfo(ctypes.Structure):
@@ -410,6 +446,14 @@ class _HeaderInfo(ctypes.Structure):
     ]
 
 
+class _MapHeadInfo(ctypes.Structure):
+    _fields_ = [
+        ("structures", ctypes.c_uint16),
+        ("messages", ctypes.c_uint8),
+        ("corrected", ctypes.c_uint8),
+    ]
+
+
 class _StructureInfo(ctypes.Structure):
     _fields_ = [
         ("alloc_id", ctypes.c_uint16),
@@ -448,6 +492,7 @@ _SIGNATURES: dict[str, list[type]] = {
     "sez_restore": [_PORT],
     "sez_map": [_PORT, _BYTES, _SIZE, ctypes.POINTER(_MapInfo)],
     "sez_certificate": [_PORT, _BYTES, _SIZE, _SIZE_OUT],
+    "sez_map_grants": [_PORT, ctypes.POINTER(_GrantInfo), _SIZE, ctypes.POINTER(_GrantsInfo)],
     "sez_levels": [_PORT, _FLAGS, _SIZE, _FLAGS, _SIZE, ctypes.POINTER(_LevelsInfo)],
     "sez_check_class": [ctypes.POINTER(_ItemInfo), _SIZE, _U64, _U8, _U64, _U64, _FLAGS, _SIZE, _SIZE_OUT],
     "sez_state": [_PORT, ctypes.POINTER(_StateInfo)],
@@ -458,8 +503,11 @@ _SIGNATURES: dict[str, list[type]] = {
     "sez_chapter_bytes": [_CHAPTER, _U8, _BYTES, _SIZE, _SIZE_OUT],
     "sez_chapter_close": [_CHAPTER],
     "sez_audit": [_BYTES, _SIZE, ctypes.POINTER(_VerdictInfo)],
+    "sez_resume": [_PORT, _BYTES, _SIZE, _U8, ctypes.POINTER(_VerdictInfo)],
     "sez_header_seal": [_U16, _U16, _BYTES, _SIZE],
     "sez_header_open": [_BYTES, _SIZE, ctypes.POINTER(_HeaderInfo)],
+    "sez_map_head_seal": [_U16, _U8, _BYTES, _SIZE],
+    "sez_map_head_open": [_BYTES, _SIZE, ctypes.POINTER(_MapHeadInfo)],
     "sez_report_seal": [_U32, _BYTES, _SIZE],
     "sez_report_open": [_BYTES, _SIZE, ctypes.POINTER(_U32)],
     "sez_map_decode": [_BYTES, _SIZE, ctypes.POINTER(_StructureInfo), _SIZE, ctypes.POINTER(_DecodedInfo)],
@@ -573,6 +621,19 @@ class Port:
         profile = _within(profile, 8, Told.BAD_PROFILE)
         _check(_library.sez_open(self._handle, gap, profile, _within(first, 64, Told.FRAME_LIMIT)))
 
+    @classmethod
+    def resume(cls, recording: bytes, number: int) -> Port:
+        """A port that goes on where the last chapter of the port with this number, 0 to 63, ends. NotGood if the audit says so."""
+        port, info = cls.__new__(cls), _VerdictInfo()
+        port._handle, port._room = _Port(), (_U8 * _MAP_ROOM)()
+        number = _within(number, 8, Told.BAD_PORT)
+        told = _library.sez_resume(port._handle, _bytes_of(recording), len(recording), number, info)
+        verdict = _verdict(info)
+        if told == Told.NOT_GOOD and not isinstance(verdict, Good):
+            raise NotGood(verdict)
+        _check(told)
+        return port
+
     def admit(self, onu: int, alloc_id: int, fixed: int, assured: int, maximum: int, share: Class = Class.NONE) -> None:
         """Admits an Alloc-ID to an ONU: each later map has it."""
         alloc_id = _within(alloc_id, 16, Told.ALLOC_RANGE)
@@ -612,6 +673,12 @@ class Port:
         info = _MapInfo()
         _check(_library.sez_map(self._handle, self._room, _MAP_ROOM, info))
         return Map(info.frame, bytes(self._room[: info.size]))
+
+    def map_grants(self) -> tuple[int, tuple[Grant, ...]]:
+        """Makes the map of the next frame; its frame, and its grants in place of its bytes."""
+        info, grants = _GrantsInfo(), (_GrantInfo * _MOST)()
+        _check(_library.sez_map_grants(self._handle, grants, _MOST, info))
+        return (info.frame, tuple(Grant(it.alloc_id, _start(it.start), it.words) for it in grants[: info.count]))
 
     def certificate(self) -> bytes:
         """The bytes of the certificate of the last map."""
@@ -731,6 +798,10 @@ def audit(data: bytes) -> Good | Bad | Malformed | Truncated:
     """Audits the bytes of a recording."""
     info = _VerdictInfo()
     _check(_library.sez_audit(_bytes_of(data), len(data), info))
+    return _verdict(info)
+
+
+def _verdict(info: _VerdictInfo) -> Good | Bad | Malformed | Truncated:
     if info.verdict == 0:
         return Good(info.maps)
     if info.verdict == 1:
@@ -751,6 +822,21 @@ def open_header(data: bytes) -> tuple[int, int, int]:
     info = _HeaderInfo()
     _check(_library.sez_header_open(_bytes_of(data), len(data), info))
     return (info.onu, info.indications, info.corrected)
+
+
+def seal_map_head(structures: int, messages: int = 0) -> bytes:
+    """The four bytes of the head of a map: 0 to 2047 structures follow it, then 0 to 255 messages."""
+    room = (_U8 * 4)()
+    structures, messages = _within(structures, 16, Told.BAD_HEADER), _within(messages, 8, Told.BAD_HEADER)
+    _check(_library.sez_map_head_seal(structures, messages, room, 4))
+    return bytes(room)
+
+
+def open_map_head(data: bytes) -> tuple[int, int, int]:
+    """The structures, the messages and the corrected bits of the head at the front of a map."""
+    info = _MapHeadInfo()
+    _check(_library.sez_map_head_open(_bytes_of(data), len(data), info))
+    return (info.structures, info.messages, info.corrected)
 
 
 def seal_report(words: int) -> bytes:

@@ -81,6 +81,44 @@ class Tests(unittest.TestCase):
             self.assertEqual(sezhimow.audit(b"no recording"), sezhimow.Malformed(0))
             self.refused(Told.CLOSED, chapter.recording, 5)
 
+    def test_a_port_goes_on_where_a_recording_ends(self):
+        with Port() as port:
+            port.admit(7, 2000, 0, 0, 256_000, Class.BEST_EFFORT)
+            port.report(port.map().frame, 7, [100_000])
+            with port.turn() as chapter:
+                first = chapter.recording(5)
+            with Port.resume(first, 5) as resumed:
+                self.assertEqual((resumed.state(), list(resumed.rows())), (port.state(), list(port.rows())))
+                self.assertEqual(resumed.map(), port.map())
+                with resumed.turn() as chapter:
+                    both = first + chapter.recording(5)[8:]
+            self.assertEqual(sezhimow.audit(both), sezhimow.Good(2))
+        self.refused(Told.NO_CHAPTER, Port.resume, first, 6)
+        self.refused(Told.BAD_PORT, Port.resume, first, 64)
+        raised = self.refused(Told.NOT_GOOD, Port.resume, first[:-1], 5)
+        self.assertEqual(raised.verdict, sezhimow.Truncated(8))
+
+    def test_a_map_as_grants(self):
+        with Port() as port, Port() as other:
+            for it in (port, other):
+                it.admit(7, 2000, 0, 0, 256_000, Class.BEST_EFFORT)
+                it.admit(7, 2001, 2560, 0, 2560)
+            decoded = sezhimow.decode_map(port.map().data).structures
+            frame, grants = other.map_grants()
+            self.assertEqual((frame, grants[1].start), (0, None))
+            self.assertEqual([(it.alloc_id, it.start, it.words) for it in grants], [(it.alloc_id, it.start, it.grant) for it in decoded])
+
+    def test_heads_of_maps(self):
+        with Port() as port:
+            port.admit(7, 2000, 0, 0, 256_000, Class.BEST_EFFORT)
+            head = bytearray(port.map().data[:4])
+        self.assertEqual(sezhimow.seal_map_head(1), bytes(head))
+        head[3] ^= 0x81
+        self.assertEqual(sezhimow.open_map_head(bytes(head)), (1, 0, 2))
+        self.assertEqual(sezhimow.open_map_head(sezhimow.seal_map_head(2047, 255)), (2047, 255, 0))
+        self.refused(Told.BAD_HEADER, sezhimow.seal_map_head, 2048)
+        self.refused(Told.SHORT, sezhimow.open_map_head, b"")
+
     def test_headers_and_reports(self):
         header = bytearray(sezhimow.seal_header(1022, 257))
         header[0] ^= 0x42

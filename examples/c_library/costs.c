@@ -1,5 +1,5 @@
-/* Makes the maps of 256 Alloc-IDs of 16 ONUs for a number of frames, with a report of each ONU for each map if asked to, and
- * prints how often it asked for memory. Run for two numbers of frames, the difference is what the frames between cost. */
+/* Makes the maps of 256 Alloc-IDs of 16 ONUs for a number of frames, as grants or with a report of each ONU for each map if
+ * asked to, and prints how often it asked for memory. Run for two numbers of frames, the difference is what the frames between cost. */
 #include "sezhimow.h"
 
 #include <stdio.h>
@@ -37,18 +37,25 @@ static bool report_all(sez_port *port, uint64_t frame) {
     return true;
 }
 
-int main(int count, char **arguments) {
+static bool make_map(sez_port *port, bool as_grants) {
     static uint8_t room[SEZ_MAP_ROOM];
-    sez_port port = SEZ_CLOSED_HANDLE;
+    static sez_grant_info grants[SEZ_MAX_GRANTS];
     sez_map_info map;
+    sez_grants_info info;
+    if (as_grants) return sez_map_grants(port, grants, SEZ_MAX_GRANTS, &info) == SEZ_DONE;
+    return sez_map(port, room, sizeof room, &map) == SEZ_DONE;
+}
+
+int main(int count, char **arguments) {
+    sez_port port = SEZ_CLOSED_HANDLE;
     if (count != 3 || sez_open(&port, 16, 0, 0) != SEZ_DONE) return 1;
-    bool reports = strcmp(arguments[2], "reports") == 0;
+    bool reports = strcmp(arguments[2], "reports") == 0, as_grants = strcmp(arguments[2], "grants") == 0;
     for (uint16_t k = 0; k < 256; k++)
         if (!admit(&port, k)) return 2;
     long frames = atol(arguments[1]);
     for (long frame = 0; frame < frames; frame++) {
-        if (sez_map(&port, room, sizeof room, &map) != SEZ_DONE) return 3;
-        if (reports && !report_all(&port, map.frame)) return 4;
+        if (!make_map(&port, as_grants)) return 3;
+        if (reports && !report_all(&port, (uint64_t)frame)) return 4;
     }
     printf("%ld\n", asked);
     return sez_close(&port) == SEZ_DONE ? 0 : 5;

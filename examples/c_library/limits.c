@@ -25,7 +25,10 @@ static sez_why_info why;
 static sez_levels_info levels;
 static sez_verdict_info verdict;
 static sez_header_info header;
+static sez_map_head_info head;
 static sez_structure_info rows[512];
+static sez_grant_info grants[SEZ_MAX_GRANTS];
+static sez_grants_info given;
 static sez_decoded_info decoded;
 static bool na[512], be[512];
 static size_t size;
@@ -43,6 +46,7 @@ static void closed_handle(void) {
     WANT(SEZ_CLOSED, sez_fail(&port, 1));
     WANT(SEZ_CLOSED, sez_restore(&port));
     WANT(SEZ_CLOSED, sez_map(&port, room, sizeof room, &map));
+    WANT(SEZ_CLOSED, sez_map_grants(&port, grants, SEZ_MAX_GRANTS, &given));
     WANT(SEZ_CLOSED, sez_certificate(&port, room, sizeof room, &size));
     WANT(SEZ_CLOSED, sez_levels(&port, na, 512, be, 512, &levels));
     WANT(SEZ_CLOSED, sez_state(&port, &state));
@@ -64,6 +68,7 @@ static void opening(void) {
     WANT(SEZ_DONE, sez_state(&port, &state));
     if (state.next_frame != UINT64_MAX) exit(1);
     WANT(SEZ_FRAME_LIMIT, sez_map(&port, room, sizeof room, &map));
+    WANT(SEZ_FRAME_LIMIT, sez_map_grants(&port, grants, SEZ_MAX_GRANTS, &given));
     WANT(SEZ_DONE, sez_close(&port));
     WANT(SEZ_CLOSED, sez_close(&port));
 }
@@ -115,6 +120,7 @@ static void arguments(void) {
     if (size != needed) exit(1);
     WANT(SEZ_DONE, sez_fail(&port, 9));
     WANT(SEZ_PORT_DOWN, sez_map(&port, room, sizeof room, &map));
+    WANT(SEZ_PORT_DOWN, sez_map_grants(&port, grants, SEZ_MAX_GRANTS, &given));
     WANT(SEZ_DONE, sez_state(&port, &state));
     if (state.cause != 9 || state.alloc_ids != 1 || state.onus != 1 || state.guaranteed != 2 || state.next_frame != 6) exit(1);
     WANT(SEZ_DONE, sez_restore(&port));
@@ -173,6 +179,8 @@ static void shares(void) {
     WANT(SEZ_CERT_SATURATED, sez_check_class(two, 2, 8, SEZ_LEVEL_FRACTION, 4, 1, flags, 2, &size));
     must(size == 1, "the place of a fault");
 
+    WANT(SEZ_DONE, sez_map_head_open(room, map.size, &head));
+    must(head.structures == 2 && head.messages == 0 && head.corrected == 0, "the head of a map");
     WANT(SEZ_DONE, sez_map_decode(room, map.size, rows, 512, &decoded));
     must(decoded.count == 2 && decoded.size == map.size && decoded.corrected == 0, "decode");
     must(rows[0].alloc_id == 1024 && rows[0].start == why.start && rows[0].grant == why.grant && rows[0].dbru, "decode: a row");
@@ -201,6 +209,16 @@ static void headers_and_reports(void) {
     bytes[1] ^= 0x15;
     WANT(SEZ_BAD_CODE, sez_header_open(bytes, 4, &header));
     WANT(SEZ_SHORT, sez_header_open(bytes, 3, &header));
+    WANT(SEZ_BAD_HEADER, sez_map_head_seal(2048, 0, bytes, 0));
+    WANT(SEZ_NO_ROOM, sez_map_head_seal(2047, 255, bytes, 3));
+    WANT(SEZ_DONE, sez_map_head_seal(2047, 254, bytes, 5));
+    must(bytes[4] == 9, "the rest of the room");
+    bytes[0] ^= 0x42;
+    WANT(SEZ_DONE, sez_map_head_open(bytes, 5, &head));
+    must(head.structures == 2047 && head.messages == 254 && head.corrected == 2, "head");
+    bytes[1] ^= 0x15;
+    WANT(SEZ_BAD_CODE, sez_map_head_open(bytes, 4, &head));
+    WANT(SEZ_SHORT, sez_map_head_open(bytes, 3, &head));
     WANT(SEZ_BAD_OCCUPANCY, sez_report_seal(16777216, bytes, 4));
     WANT(SEZ_NO_ROOM, sez_report_seal(16777215, bytes, 3));
     WANT(SEZ_DONE, sez_report_seal(16777215, bytes, 4));
@@ -209,6 +227,21 @@ static void headers_and_reports(void) {
     bytes[3] ^= 1;
     WANT(SEZ_BAD_REPORT, sez_report_open(bytes, 4, &words));
     WANT(SEZ_SHORT, sez_report_open(bytes, 0, &words));
+}
+
+/* Closes a port, and resumes it from its chapter. */
+static void resume(sez_port *port) {
+    static uint8_t bytes[60000];
+    sez_chapter chapter = SEZ_CLOSED_HANDLE;
+    WANT(SEZ_DONE, sez_turn(port, &chapter));
+    WANT(SEZ_DONE, sez_chapter_bytes(&chapter, 63, bytes, sizeof bytes, &size));
+    WANT(SEZ_DONE, sez_chapter_close(&chapter));
+    WANT(SEZ_IS_OPEN, sez_resume(port, bytes, size, 63, &verdict));
+    WANT(SEZ_DONE, sez_close(port));
+    WANT(SEZ_BAD_PORT, sez_resume(port, bytes, size, 64, &verdict));
+    WANT(SEZ_NO_CHAPTER, sez_resume(port, bytes, size, 0, &verdict));
+    WANT(SEZ_DONE, sez_resume(port, bytes, size, 63, &verdict));
+    must(verdict.verdict == SEZ_GOOD && verdict.maps == 1, "the verdict");
 }
 
 /* 512 Alloc-IDs, 16 of an ONU, 128 ONUs. */
@@ -224,6 +257,18 @@ static void most(void) {
     WANT(SEZ_TOO_MANY_ALLOCS, sez_admit(&port, 0, 3000, 0, 0, 9999, SEZ_CLASS_BEST_EFFORT));
     WANT(SEZ_DONE, sez_map(&port, room, sizeof room, &map));
     if (map.size != SEZ_MAP_ROOM) exit(1);
+    resume(&port);
+    WANT(SEZ_DONE, sez_map(&port, room, sizeof room, &map));
+    must(map.size == SEZ_MAP_ROOM && map.frame == 1, "the next map");
+    WANT(SEZ_NO_ROOM, sez_map_grants(&port, grants, SEZ_MAX_GRANTS - 1, &given));
+    WANT(SEZ_DONE, sez_map_grants(&port, grants, SEZ_MAX_GRANTS, &given));
+    must(given.frame == 2 && given.count == 512 && grants[0].start == 1 && grants[15].start == SEZ_NO_START, "grants");
+    WANT(SEZ_DONE, sez_map(&port, room, sizeof room, &map));
+    WANT(SEZ_DONE, sez_map_decode(room, map.size, rows, 512, &decoded));
+    for (size_t k = 0; k < 512; k++) {
+        must(grants[k].alloc_id == rows[k].alloc_id && grants[k].start == rows[k].start && grants[k].words == rows[k].grant, "the grants of the bytes");
+        must(rows[k].dbru && !rows[k].ploam && !rows[k].fwi && rows[k].profile == 0, "the rest of a structure");
+    }
     WANT(SEZ_DONE, sez_row(&port, 511, &row));
     if (row.onu != 127) exit(1);
     WANT(SEZ_NO_ROW, sez_row(&port, 512, &row));
@@ -238,6 +283,7 @@ static void full_chapter(void) {
     WANT(SEZ_DONE, sez_admit(&port, 5, 1024, 2560, 0, 2560, SEZ_CLASS_NONE));
     for (int k = 1; k < 65536; k++) WANT(SEZ_DONE, sez_map(&port, room, sizeof room, &map));
     WANT(SEZ_CHAPTER_FULL, sez_map(&port, room, sizeof room, &map));
+    WANT(SEZ_CHAPTER_FULL, sez_map_grants(&port, grants, SEZ_MAX_GRANTS, &given));
     WANT(SEZ_DONE, sez_turn(&port, &chapter));
     WANT(SEZ_IS_OPEN, sez_turn(&port, &chapter));
     WANT(SEZ_DONE, sez_map(&port, room, sizeof room, &map));

@@ -156,15 +156,21 @@ pub enum Verdict {
 pub fn audit(bytes: &[u8]) -> Result<Verdict, Told> {
     let mut info = ffi::VerdictInfo::default();
     Told::check(unsafe { ffi::sez_audit(bytes.as_ptr(), bytes.len(), &mut info) })?;
-    Ok(match info.verdict {
-        0 => Verdict::Good { maps: info.maps },
-        1 => Verdict::Bad {
-            port: info.port,
-            chapter: info.chapter,
-            entry: info.place,
-            why: Reason::of(info.why),
-        },
-        2 => Verdict::Malformed { at: info.place },
-        _ => Verdict::Truncated { at: info.place },
-    })
+    Ok(Verdict::of(&info))
+}
+
+impl Verdict {
+    pub(crate) fn of(info: &ffi::VerdictInfo) -> Verdict {
+        match info.verdict {
+            0 => Verdict::Good { maps: info.maps },
+            1 => Verdict::Bad {
+                port: info.port,
+                chapter: info.chapter,
+                entry: info.place,
+                why: Reason::of(info.why),
+            },
+            2 => Verdict::Malformed { at: info.place },
+            _ => Verdict::Truncated { at: info.place },
+        }
+    }
 }

@@ -38,6 +38,39 @@ impl Header {
     }
 }
 
+/// The head of a map.
+#[derive(Clone, Copy, Debug, PartialEq, Eq, Hash)]
+pub struct MapHead {
+    /// The number of structures that follow it, 0 to 2047.
+    pub structures: u16,
+    /// The number of messages after them.
+    pub messages: u8,
+}
+
+impl MapHead {
+    /// The four bytes of the head, with their code.
+    pub fn seal(self) -> Result<[u8; 4], Told> {
+        let mut room = [0; 4];
+        Told::check(unsafe {
+            ffi::sez_map_head_seal(self.structures, self.messages, room.as_mut_ptr(), 4)
+        })?;
+        Ok(room)
+    }
+
+    /// Reads the head at the front of a map, and corrects up to two bits, whose number is returned too.
+    pub fn open(bytes: &[u8]) -> Result<(MapHead, u8), Told> {
+        let mut info = ffi::MapHeadInfo::default();
+        Told::check(unsafe { ffi::sez_map_head_open(bytes.as_ptr(), bytes.len(), &mut info) })?;
+        Ok((
+            MapHead {
+                structures: info.structures,
+                messages: info.messages,
+            },
+            info.corrected,
+        ))
+    }
+}
+
 /// The four bytes that report an occupancy, in words, 0 to 16,777,215.
 pub fn seal_report(words: u32) -> Result<[u8; 4], Told> {
     let mut room = [0; 4];

@@ -20,6 +20,21 @@ pub struct MapInfo {
 }
 
 #[repr(C)]
+#[derive(Clone, Copy, Default)]
+pub struct GrantInfo {
+    pub alloc_id: u16,
+    pub start: u16,
+    pub words: u16,
+}
+
+#[repr(C)]
+#[derive(Default)]
+pub struct GrantsInfo {
+    pub frame: u64,
+    pub count: usize,
+}
+
+#[repr(C)]
 #[derive(Default)]
 pub struct LevelsInfo {
     pub na_num: u64,
@@ -117,6 +132,14 @@ pub struct HeaderInfo {
 }
 
 #[repr(C)]
+#[derive(Default)]
+pub struct MapHeadInfo {
+    pub structures: u16,
+    pub messages: u8,
+    pub corrected: u8,
+}
+
+#[repr(C)]
 #[derive(Clone, Copy, Default)]
 pub struct StructureInfo {
     pub alloc_id: u16,
@@ -175,6 +198,12 @@ extern "C" {
         room_size: usize,
         size: *mut usize,
     ) -> u32;
+    pub fn sez_map_grants(
+        port: *mut Port,
+        grants: *mut GrantInfo,
+        count: usize,
+        info: *mut GrantsInfo,
+    ) -> u32;
     pub fn sez_levels(
         port: *mut Port,
         na: *mut bool,
@@ -208,8 +237,22 @@ extern "C" {
     ) -> u32;
     pub fn sez_chapter_close(chapter: *mut Chapter) -> u32;
     pub fn sez_audit(bytes: *const u8, size: usize, verdict: *mut VerdictInfo) -> u32;
+    pub fn sez_resume(
+        port: *mut Port,
+        bytes: *const u8,
+        size: usize,
+        number: u8,
+        verdict: *mut VerdictInfo,
+    ) -> u32;
     pub fn sez_header_seal(onu: u16, indications: u16, room: *mut u8, room_size: usize) -> u32;
     pub fn sez_header_open(bytes: *const u8, size: usize, header: *mut HeaderInfo) -> u32;
+    pub fn sez_map_head_seal(
+        structures: u16,
+        messages: u8,
+        room: *mut u8,
+        room_size: usize,
+    ) -> u32;
+    pub fn sez_map_head_open(bytes: *const u8, size: usize, head: *mut MapHeadInfo) -> u32;
     pub fn sez_report_seal(words: u32, room: *mut u8, room_size: usize) -> u32;
     pub fn sez_report_open(bytes: *const u8, size: usize, words: *mut u32) -> u32;
     pub fn sez_map_decode(

@@ -24,7 +24,7 @@ use std::ptr::null_mut;
 pub use certificate::{
     audit, check_class, Certificate, ClassCertificate, Item, Level, Reason, Verdict,
 };
-pub use codecs::{decode_map, open_report, seal_report, Decoded, Header, Structure};
+pub use codecs::{decode_map, open_report, seal_report, Decoded, Header, MapHead, Structure};
 pub use told::Told;
 
 /// The greatest number of bytes of a map.
@@ -94,6 +94,17 @@ pub struct Map {
     pub frame: u64,
     /// Its bytes, as on the line.
     pub bytes: Vec<u8>,
+}
+
+/// The grant of a map to an Alloc-ID.
+#[derive(Clone, Copy, Debug, PartialEq, Eq, Hash)]
+pub struct Grant {
+    /// The Alloc-ID, 1024 to 16383.
+    pub alloc_id: u16,
+    /// The first word of the burst; `None` if the grant continues the burst before it.
+    pub start: Option<u16>,
+    /// The granted words, that of the report included.
+    pub words: u16,
 }
 
 /// What is shown of a port.
@@ -250,6 +261,30 @@ impl Port {
         Ok(Port { handle })
     }
 
+    /// Opens a port that goes on where the last chapter of the port with this number, 0 to 63, ends in a recording. The
+    /// verdict comes with [`Told::NotGood`] alone.
+    pub fn resume(recording: &[u8], number: u8) -> Result<Port, (Told, Option<Verdict>)> {
+        let mut info = ffi::VerdictInfo::default();
+        let mut handle = ffi::Port {
+            owned: null_mut(),
+            is_open: false,
+        };
+        let told = unsafe {
+            ffi::sez_resume(
+                &mut handle,
+                recording.as_ptr(),
+                recording.len(),
+                number,
+                &mut info,
+            )
+        };
+        match Told::check(told) {
+            Ok(()) => Ok(Port { handle }),
+            Err(Told::NotGood) => Err((Told::NotGood, Some(Verdict::of(&info)))),
+            Err(told) => Err((told, None)),
+        }
+    }
+
     /// Admits an Alloc-ID to an ONU: each later map has it.
     pub fn admit(&mut self, onu: u16, alloc_id: u16, descriptor: Descriptor) -> Result<(), Told> {
         let Descriptor {
@@ -341,6 +376,26 @@ impl Port {
             ffi::sez_map(&mut self.handle, room.as_mut_ptr(), room.len(), &mut info)
         })?;
         Ok((info.frame, info.size))
+    }
+
+    /// Makes the map of the next frame. Returns its frame, and its grants in place of its bytes.
+    pub fn map_grants(&mut self) -> Result<(u64, Vec<Grant>), Told> {
+        let mut info = ffi::GrantsInfo::default();
+        let mut grants = [ffi::GrantInfo::default(); MOST_ALLOC_IDS];
+        Told::check(unsafe {
+            ffi::sez_map_grants(
+                &mut self.handle,
+                grants.as_mut_ptr(),
+                grants.len(),
+                &mut info,
+            )
+        })?;
+        let grants = grants[..info.count].iter().map(|grant| Grant {
+            alloc_id: grant.alloc_id,
+            start: codecs::start_of(grant.start),
+            words: grant.words,
+        });
+        Ok((info.frame, grants.collect()))
     }
 
     /// The bytes of the certificate of the last map.

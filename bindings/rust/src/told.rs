@@ -102,11 +102,17 @@ pub enum Told {
     CertNotExhausted = 58,
     /// The rates are more than the surplus.
     CertOverspent = 59,
+    /// The recording is not good: the verdict says why.
+    NotGood = 60,
+    /// No chapter of the recording is of the port.
+    NoChapter = 61,
+    /// No port of this version goes on from the end of the recording.
+    BadState = 62,
 }
 
 use Told::*;
 
-const ALL: [Told; 49] = [
+const ALL: [Told; 52] = [
     NoSuchAlloc,
     AllocTaken,
     AllocRange,
@@ -156,6 +162,9 @@ const ALL: [Told; 49] = [
     CertUnsaturated,
     CertNotExhausted,
     CertOverspent,
+    NotGood,
+    NoChapter,
+    BadState,
 ];
 
 impl Told {

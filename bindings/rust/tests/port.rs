@@ -1,6 +1,6 @@
 use sezhimow::{
     audit, check_class, decode_map, open_report, seal_report, Class, ClassCertificate, Descriptor,
-    Header, Item, Level, Port, Told, Verdict,
+    Header, Item, Level, MapHead, Port, Told, Verdict,
 };
 
 fn best_effort(max: u64) -> Descriptor {
@@ -167,6 +167,67 @@ fn a_recording_is_audited() {
     assert_eq!(audit(&bytes), Ok(Verdict::Good { maps: 100 }));
     assert_eq!(audit(&bytes[..9]), Ok(Verdict::Truncated { at: 8 }));
     assert_eq!(audit(b"no recording"), Ok(Verdict::Malformed { at: 0 }));
+}
+
+#[test]
+fn a_port_goes_on_where_a_recording_ends() {
+    let mut port = Port::open(16, 0, 0).unwrap();
+    port.admit(7, 2000, best_effort(256_000)).unwrap();
+    let frame = port.map().unwrap().frame;
+    port.report(frame, 7, &[Some(100_000)]).unwrap();
+    let mut bytes = port.turn().unwrap().recording(5).unwrap();
+    let mut resumed = Port::resume(&bytes, 5).unwrap();
+    assert_eq!(resumed.state(), port.state());
+    assert_eq!(resumed.row(0), port.row(0));
+    assert_eq!(resumed.map(), port.map());
+    let later = resumed.turn().unwrap().recording(5).unwrap();
+    let first = bytes.len();
+    bytes.extend_from_slice(&later[8..]);
+    assert_eq!(audit(&bytes), Ok(Verdict::Good { maps: 2 }));
+    assert!(matches!(Port::resume(&bytes, 6), Err((Told::NoChapter, None))));
+    assert!(matches!(Port::resume(&bytes, 64), Err((Told::BadPort, None))));
+    assert!(matches!(
+        Port::resume(&bytes[..bytes.len() - 1], 5),
+        Err((Told::NotGood, Some(Verdict::Truncated { at }))) if at == first
+    ));
+}
+
+#[test]
+fn a_map_as_grants() {
+    let mut ports = [Port::open(16, 0, 0).unwrap(), Port::open(16, 0, 0).unwrap()];
+    for port in &mut ports {
+        port.admit(7, 2000, best_effort(256_000)).unwrap();
+        port.admit(7, 2001, best_effort(256_000)).unwrap();
+    }
+    let decoded = decode_map(&ports[0].map().unwrap().bytes).unwrap();
+    let (frame, grants) = ports[1].map_grants().unwrap();
+    assert_eq!((frame, grants.len(), grants[1].start), (0, 2, None));
+    for (grant, structure) in grants.iter().zip(&decoded.structures) {
+        assert_eq!(
+            (grant.alloc_id, grant.start, grant.words),
+            (structure.alloc_id, structure.start, structure.grant)
+        );
+    }
+}
+
+#[test]
+fn heads_of_maps() {
+    let mut port = Port::open(16, 0, 0).unwrap();
+    port.admit(7, 2000, best_effort(256_000)).unwrap();
+    let head = MapHead {
+        structures: 1,
+        messages: 0,
+    };
+    let mut bytes = head.seal().unwrap();
+    assert_eq!(bytes, port.map().unwrap().bytes[..4]);
+    bytes[3] ^= 0x81;
+    assert_eq!(MapHead::open(&bytes), Ok((head, 2)));
+    assert_eq!(MapHead::open(&bytes[..3]), Err(Told::Short));
+    let most = MapHead {
+        structures: 2048,
+        messages: 255,
+    };
+    assert_eq!(most.seal(), Err(Told::BadHeader));
 }
 
 #[test]

@@ -14,7 +14,7 @@ use Rattle.pon_history.specs.FairMaps.{IsFairMap, TellsFairMap}
 use Rattle.pon_history.specs.Last.{LastMap, last_map, last_told, told_last}
 use Rattle.pon_history.specs.Taking.{Keeps, Takes}
 use Rattle.pon_history.specs.WordRuns.{RunsAreWhole}
-use Rattle.pon_c.specs.Answers.{IsWritten, MadeInto}
+use Rattle.pon_c.specs.Answers.{Made}
 
 last_push : (before : Option LastMap) (s : State) (es : List Entry) (e : Entry) → last_told before s (es ++ e ∷ []) ≡ told_last (last_told before s es) (replay s es).roster e.reply
 last_push before s [] e = refl
@@ -47,9 +47,8 @@ makes c d k = makes_by c d k.reply k.takes k.fair
 pub some_last : (c d : Chapter) → Keeps c MakeMap d → IsSome (last_map d)
 some_last c d k = subst IsSome (sym (makes c d k).is_last) refl
 
--- what is written of the last map is written of the map that was made
-pub made_into : (c d : Chapter) (frame count : ℕ) (before after : List ℕ) → Keeps c MakeMap d → RunsAreWhole d → IfSome (last_map d) (λ l. IsWritten l.made frame count before after) → MadeInto c d frame count before after
-made_into c d frame count before after k whole h =
+-- what is given of the last map is given of the map that was made
+pub made : (Given : MadeMap → Type 0) (c d : Chapter) → Keeps c MakeMap d → RunsAreWhole d → IfSome (last_map d) (λ l. Given l.made) → Made Given c d
+made Given c d k whole h =
     let m : Makes c d = makes c d k in
-    let w : IsWritten m.last.made frame count before after = subst (λ o. IfSome o (λ l. IsWritten l.made frame count before after)) m.is_last h in
-    record { made = m.made; takes = m.takes; fair = m.fair; whole = whole; written = subst (λ made. IsWritten made frame count before after) m.same w }
+    record { made = m.made; takes = m.takes; fair = m.fair; whole = whole; given = subst Given m.same (subst (λ o. IfSome o (λ l. Given l.made)) m.is_last h) }

@@ -50,13 +50,17 @@ pub record IsWritten (made : MadeMap) (no count : ℕ) (before after : List ℕ)
   pub size : count ≡ 4 + 8 * length made.map
   pub bytes : after ≡ map_bytes made.map ++ drop count before
 
--- a fair map of the kept history was made and is kept, and its bytes are at the front of the room
-pub record MadeInto (c d : Chapter) (no count : ℕ) (before after : List ℕ) : Type 0 where
+-- a fair map of the kept history was made, is kept, and was given out like this
+pub record Made (Given : MadeMap → Type 0) (c d : Chapter) : Type 0 where
   pub made : MadeMap
   pub takes : Takes c MakeMap (Map made) d
   pub fair : IsFairMap (present_state c) made
   pub whole : RunsAreWhole d
-  pub written : IsWritten made no count before after
+  pub given : Given made
+
+-- its bytes are at the front of the room
+abbrev pub MadeInto : Chapter → Chapter → ℕ → ℕ → List ℕ → List ℕ → Type 0
+MadeInto c d frame count before after = Made (λ made. IsWritten made frame count before after) c d
 
 -- the bytes of the certificate of the last map, or why there are none
 abbrev pub TellsLast : Option LastMap → ℕ → ℕ → List ℕ → List ℕ → Type 0

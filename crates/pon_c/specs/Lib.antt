@@ -4,9 +4,11 @@ pub mod Audits
 pub mod Checking
 pub mod Codecs
 pub mod Filling
+pub mod Grants
 pub mod Numbers
 pub mod Owned
 pub mod OwnedChapters
+pub mod Resuming
 pub mod States
 pub mod Turning
 pub mod Whys

@@ -66,7 +66,8 @@ fn info(verdict: u8, maps: u64, place: usize) -> VerdictInfo
     }
 }
 
-fn verdict_info(verdict: &Verdict) -> VerdictInfo
+/// Makes the verdict that C gets.
+pub(crate) fn verdict_info(verdict: &Verdict) -> VerdictInfo
     ensures { result ≡ verdict_info verdict.now }
 {
     match *verdict {
@@ -122,8 +123,8 @@ fn audit_next<R: DevRead>(
     }
 }
 
-// Audits the bytes of a recording. `Err` only if memory is refused.
-fn audit(alloc: Global, bytes: &[u8]) -> Result<Verdict, AllocError>
+/// Audits the bytes of a recording. `Err` only if memory is refused.
+pub(crate) fn audit(alloc: Global, bytes: &[u8]) -> Result<Verdict, AllocError>
     ensures { IfOk result (λ verdict. IsVerdict bytes.now verdict) }
 {
     let mut reader = StdRead::new(bytes);

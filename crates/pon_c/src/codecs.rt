@@ -3,6 +3,7 @@ ghost use Rattle.std.specs.Prelude.{◌≡◌, ◌≢◌, ◌<◌, ◌≤◌, �
 ghost use Rattle.pon_units.specs.declared.limits.TheConstants.{MAX_OCCUPANCY};
 ghost use Rattle.pon_dbru.specs.Report.{Reports};
 ghost use Rattle.pon_xgtc.specs.BurstHead.{ReadsBurstHead, burst_head_payload};
+ghost use Rattle.pon_xgtc.specs.HLend.{ReadsHLend, hlend_payload};
 ghost use Rattle.pon_xgtc.specs.Header.{header_bytes};
 ghost use Rattle.pon_c.specs.Codecs.{IsHeader, SealsReport, TellsFew, TellsHeaderFault, TellsMap, TellsMapFault, map_fault_number, map_fault_place, structure_of, structures_of};
 
@@ -13,7 +14,7 @@ use crate::numbers::{
 use pon_bwmap::{Alloc, MapFault, decode_map};
 use pon_dbru::{decode, encode};
 use pon_units::BufOcc;
-use pon_xgtc::{BurstHead, HeadFault};
+use pon_xgtc::{BurstHead, HLend, HeadFault};
 use std::alloc::Global;
 
 /// The header of an upstream burst.
@@ -24,6 +25,18 @@ pub struct HeaderInfo {
     pub onu: u16,
     /// The indications, 0 to 511.
     pub indications: u16,
+    /// The corrected bits, 0 to 2.
+    pub corrected: u8,
+}
+
+/// The head of a map.
+#[repr(C)]
+#[derive(Drop)]
+pub struct MapHeadInfo {
+    /// The number of structures that follow it, 0 to 2047.
+    pub structures: u16,
+    /// The number of messages after them, 0 to 255.
+    pub messages: u8,
     /// The corrected bits, 0 to 2.
     pub corrected: u8,
 }
@@ -103,6 +116,47 @@ pub extern "C" fn sez_header_open(bytes: &[u8], header: &mut HeaderInfo) -> u32
             *header = HeaderInfo {
                 onu: read.onu_raw(),
                 indications: read.ind(),
+                corrected,
+            };
+            0
+        }
+        Err(HeadFault::Short) => SHORT,
+        Err(HeadFault::Hec) => BAD_CODE,
+    }
+}
+
+/// Writes the head of a map, with its code, to the front of `room`: the numbers of the structures and of the messages that
+/// follow it. Returns 0, or the first of: `BAD_HEADER` for more than 2047 structures, and `NO_ROOM` for a room of fewer than 4
+/// bytes.
+#[unsafe(no_mangle)]
+pub extern "C" fn sez_map_head_seal(structures: u16, messages: u8, room: &mut [u8]) -> u32
+    ensures head { (structures ≤ 2047 → ⊥) → (result ≡ BAD_HEADER) × (room.new ≡ room.old) }
+    ensures few { structures ≤ 2047 → length room.old < 4
+        → (result ≡ NO_ROOM) × (room.new ≡ room.old) }
+    ensures enough { structures ≤ 2047 → 4 ≤ length room.old → (result ≡ 0)
+        × (room.new ≡ header_bytes (hlend_payload
+        (record { n = structures; p = messages })) ++ drop 4 room.old) }
+{
+    match HLend::new(structures, messages) {
+        Some(head) => put_four(head.encode(), room),
+        None => BAD_HEADER,
+    }
+}
+
+/// Reads the head at the front of a map, and corrects up to two bits. Returns 0, or `SHORT` for fewer than 4 bytes, or
+/// `BAD_CODE` if they differ in more than two bits from every head.
+#[unsafe(no_mangle)]
+pub extern "C" fn sez_map_head_open(bytes: &[u8], head: &mut MapHeadInfo) -> u32
+    ensures ok { result ≡ 0 → ReadsHLend bytes.now
+        (record { n = head.new.structures; p = head.new.messages })
+        head.new.corrected }
+    ensures told { result ≢ 0 → TellsHeaderFault bytes.now result }
+{
+    match HLend::decode(bytes) {
+        Ok((read, corrected)) => {
+            *head = MapHeadInfo {
+                structures: read.n(),
+                messages: read.p(),
                 corrected,
             };
             0

@@ -157,6 +157,15 @@ pub const CERT_NOT_EXHAUSTED: u32 = 58;
 /// The rates are more than the surplus.
 pub const CERT_OVERSPENT: u32 = 59;
 
+/// The recording is not good.
+pub const NOT_GOOD: u32 = 60;
+
+/// No chapter of the recording is of the port.
+pub const NO_CHAPTER: u32 = 61;
+
+/// No port of this version goes on from the state at the end of the recording.
+pub const BAD_STATE: u32 = 62;
+
 /// In place of the first word of a burst: the structure continues the burst before it.
 pub const NO_START: u16 = u16::MAX;
 

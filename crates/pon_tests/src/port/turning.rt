@@ -1,4 +1,4 @@
-//! Turns of a full port: the chapter that is handed out, and the map after it.
+//! Turns of a full port: the chapter that is handed out, the map after it, and a port that goes on from it.
 
 use super::*;
 use pon_port::{Chapter, Entry};
@@ -62,6 +62,36 @@ fn map_alike_after_a_turn(rt: &impl Abort, plain: &mut Port, turned: &mut Port) 
         && is_second_chapter(turned)
         && map_alike(rt, turned, plain)
         && shown(turned) == (1, plain.taken(), 66)
+}
+
+/// Opens a second port where the kept chapter of a port opens.
+fn resumed(rt: &impl Abort, alloc: Global, port: &Port) -> Port {
+    let opening = port.opening().try_copy(alloc).expect(rt, "memory");
+    Port::resume(alloc, port.chapter_number(), opening).expect(rt, "a port")
+}
+
+/// Turns the second of two equal ports, resumes it, and returns whether the resumed one makes the maps of the first.
+fn map_alike_once_resumed(
+    rt: &impl Abort,
+    alloc: Global,
+    plain: &mut Port,
+    turned: &mut Port,
+) -> bool {
+    let has_turned = turns(rt, plain, turned);
+    let mut resumed = resumed(rt, alloc, turned);
+    has_turned
+        && is_second_chapter(&resumed)
+        && map_alike(rt, &mut resumed, plain)
+        && map_alike(rt, &mut resumed, plain)
+        && shown(&resumed) == (2, plain.taken(), 67)
+}
+
+#[test]
+fn a_resumed_port_maps_as_one_that_was_not_closed(rt: HostRuntime) {
+    let mut plain = full_port(&rt, rt.alloc());
+    let mut turned = full_port(&rt, rt.alloc());
+    let are_alike = map_alike_once_resumed(&rt, rt.alloc(), &mut plain, &mut turned);
+    assert!(rt; are_alike);
 }
 
 #[test]
