@@ -12,15 +12,15 @@ NOISE = [
 ]
 
 
+def random_table(r):
+    rows = [{"onu": r.randrange(3), "alloc": 1024 + row, "fixed": r.randrange(900), "assured": 7, "max": 40_000, "class": "be"} for row in range(3)]
+    table = {"gap": r.choice([1, 16, 16, 40, 256]), "profile": r.randrange(4), "first": r.choice([0, 0, 1000, 2**63 - 1])}
+    return {**table, "alloc": r.choice([[], [], rows])}
+
+
 def random_tables(r):
     """Returns the tables of a settings file."""
-    return [
-        {
-            "gap": r.choice([1, 16, 16, 40, 256]), "profile": r.randrange(4), "first": r.choice([0, 0, 1000, 2**63 - 1]),
-            "alloc": [{"onu": r.randrange(3), "alloc": 1024 + row, "fixed": r.randrange(900), "assured": 7, "max": 40_000, "class": "be"} for row in range(r.choice([0, 0, 3]))],
-        }
-        for _ in range(r.choice([1, 1, 2, 3]))
-    ]
+    return [random_table(r) for _ in range(r.choice([1, 1, 2, 3]))]
 
 
 def settings_text(tables):
@@ -39,8 +39,9 @@ class Lines:
     def __init__(self, r, desks):
         self.r, self.desks = r, desks
         self.onus = r.choice([2, 4, 9, 30])
-        self.allocs = r.choice([3, 8, 20, 50])
-        self.scale = r.choice([300, 3000, 40_000, 400_000])
+        self.allocs = r.choice([8, 20, 50])
+        self.scale = r.choice([300, 40_000, 400_000])
+        self.waiting = r.choice([3000, 300_000])
 
     def next(self):
         if self.r.random() < 0.03:
@@ -49,12 +50,13 @@ class Lines:
         port = self.desks[place].port
         if port.cause and self.r.random() < 0.5:
             return f"{place} restore"
-        command = self.r.choices(COMMANDS, WEIGHTS)[0]
+        few = len(port.rows) < 3 and self.r.random() < 0.5
+        command = "admit" if few else self.r.choices(COMMANDS, WEIGHTS)[0]
         return f"{place} {command} {self.words(command, port)}".rstrip()
 
     def words(self, command, port):
         if command == "admit":
-            return f"{self.onu()} {self.alloc(port, 0.4)} {self.descriptor()}"
+            return f"{self.onu()} {self.alloc(port, 0.1)} {self.descriptor()}"
         if command == "change":
             return f"{self.alloc(port, 0.9)} {self.descriptor()}"
         if command in ("remove", "why", "sure"):
@@ -72,26 +74,28 @@ class Lines:
         return self.r.choice([self.r.randrange(1024, 1024 + self.allocs)] * 20 + [1023, 16383, 16384])
 
     def rate(self):
-        return self.r.choice([0, 0, 1, self.r.randrange(300), self.r.randrange(self.scale), 2_488_320 if self.r.random() < 0.02 else 256])
+        return self.r.choice([0, 0, 1, self.r.randrange(300), self.r.randrange(self.scale), 2_488_320 if self.r.random() < 0.1 else 256])
 
     def descriptor(self):
         fixed, assured = self.rate(), self.rate()
-        more = self.r.choice([0, 1, self.r.randrange(1, self.scale * 4), self.r.randrange(1, self.scale * 40)])
+        more = self.r.choice([0, 1, self.r.randrange(1, self.scale * 4), self.r.randrange(1, 2_000_000), self.r.randrange(1, 2_000_000), 2_488_320])
         most = min(fixed + assured + more, self.r.choice([2_488_320] * 30 + [2_488_321, 10]))
         return f"{fixed} {assured} {most} {self.r.choice(['none', 'na', 'be', 'be'])}"
 
     def report(self, port):
-        if not port.window or self.r.random() < 0.02:
+        open_maps = [it for it in port.window if len(it.reporters) < len({onu for onu, _, _ in it.grants})]
+        if not open_maps or self.r.random() < 0.02:
             return f"{self.r.randrange(port.next + 3)} {self.onu()} 1"
-        polled = port.window[-1] if self.r.random() < 0.6 else self.r.choice(port.window)
-        onus = sorted({onu for onu, _, _ in polled.grants}) or [1]
+        polled = open_maps[-1] if self.r.random() < 0.6 else self.r.choice(open_maps)
+        onus = sorted({onu for onu, _, _ in polled.grants})
         missing = [onu for onu in onus if onu not in polled.reporters]
-        onu = self.r.choice(missing if missing and self.r.random() < 0.9 else onus)
+        onu = self.r.choice(missing if self.r.random() < 0.97 else onus)
         count = max(1, len(polled.of_onu(onu)) + (self.r.choice([-1, 1]) if self.r.random() < 0.03 else 0))
         return f"{polled.frame} {onu} {' '.join(self.occupancy() for _ in range(count))}"
 
     def occupancy(self):
-        return self.r.choice(["x", "0", str(self.r.randrange(40)), str(self.r.randrange(3000)), str(self.r.randrange(20_000)), "16777215" if self.r.random() < 0.2 else "5"])
+        often = [str(self.r.randrange(self.waiting)) for _ in range(4)]
+        return self.r.choice(["x", "0", "16777215" if self.r.random() < 0.2 else "5", *often])
 
 
 def answered(r, desks, count, seen=None):
