@@ -57,7 +57,7 @@ static void save(sez_port *port) {
 }
 
 /* A chapter with an opening of no rows, and one map of `onus` grants in its window if there are any: the bytes of
- * docs/FORMATS.md. */
+ * docs/olt-recording.5. */
 static size_t forged(uint8_t *bytes, uint8_t rule, uint64_t number, uint16_t onus) {
     size_t at = 0;
     const uint8_t head[] = {'P', 'O', 'N', 'R', 'E', 'C', '0', '2', 'C', 0, 0, 0, 0, rule, NUMBER};
