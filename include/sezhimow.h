@@ -424,8 +424,8 @@ uint32_t sez_audit(const uint8_t *bytes, size_t size, sez_verdict_info *verdict)
  * Returns SEZ_DONE, or the first of SEZ_IS_OPEN, SEZ_BAD_PORT, SEZ_NOT_GOOD unless the verdict is SEZ_GOOD, SEZ_NO_CHAPTER,
  * SEZ_CHAPTER_FULL if the last chapter has the number 2^64 - 1, SEZ_BAD_STATE for an end that no port of this version has
  * (the chapter is of a recording of version one, or migrated from one; or the window has a map of more than 128 ONUs), or
- * SEZ_OUT_OF_MEMORY; then the handle is unchanged. The verdict is told but after SEZ_IS_OPEN, SEZ_BAD_PORT and
- * SEZ_OUT_OF_MEMORY. */
+ * SEZ_OUT_OF_MEMORY; then the handle is unchanged. `verdict` is filled in, except after SEZ_IS_OPEN,
+ * SEZ_BAD_PORT and SEZ_OUT_OF_MEMORY. */
 uint32_t sez_resume(sez_port *port, const uint8_t *bytes, size_t size, uint8_t number, sez_verdict_info *verdict);
 
 /* Writes the header of an upstream burst, 4 bytes with their code, to the front of the room: an ONU-ID of 0 to 1023, and

@@ -122,8 +122,8 @@ fn audit_and_resume(
 /// chapter of the port `number` ends: with the next number and no events. Returns 0, or the first of: `IS_OPEN` for an open
 /// handle, `BAD_PORT` for a number above 63, `NOT_GOOD` unless the verdict is good, `NO_CHAPTER` if no chapter is of the
 /// port, `CHAPTER_FULL` if the last one has the number 2^64 - 1, `BAD_STATE` if no port of this version goes on from its end,
-/// and at any time `OUT_OF_MEMORY`. Then the handle is unchanged. The verdict is told unless the handle is open, the number
-/// is above 63, or memory is refused.
+/// and at any time `OUT_OF_MEMORY`. Then the handle is unchanged. The verdict is filled in unless the handle is open, the
+/// number is above 63, or memory is refused.
 #[unsafe(no_mangle)]
 pub extern "C" fn sez_resume(
     alloc: Global,
