@@ -1,4 +1,3 @@
-pub mod AllTaken
 pub mod Balance
 pub mod Elements
 pub mod OneFault

@@ -4,12 +4,12 @@ use Rattle.std.specs.Prelude.{slice_get, option_map, ◌==◌}
 use Rattle.std.proofs.lemmas.List.{length-take, length-take-le, length-map, length-append, take-take, take_more, map-append, append_assoc, nil_from_length, same_lists}
 use Rattle.std.proofs.lemmas.List.Sums.{count_by_more_yes, count_by-le-length}
 use Rattle.std.proofs.lemmas.Option.{get_or_from_slice_get, same_Some, slice_get-map, slice_get_cases, slice_get_within}
+use Rattle.pon_desk.specs.Counts.{taken_of}
 use Rattle.pon_desk.specs.Receipts.{Receipt}
 use Rattle.pon_desk.specs.Settling.{IsEarlier, IsSettled, TellsUnsettled, IsFirstWithout, IsMiscounted, IsRightAt, IsRightChapter, IsRightReceipt, PortHistory, all_placed, posts_of}
 use Rattle.pon_desk.specs.declared.receipt.Placed.{Placed}
 use Rattle.pon_desk.specs.declared.unsettled.Unsettled.{Unsettled}
 use Rattle.pon_desk.specs.declared.unsettled.Unsettled.TheVariants as fault
-use Rattle.pon_desk.proofs.AllTaken.{all_taken}
 use Rattle.pon_desk.proofs.Elements.{get_after, get_in_front}
 use Rattle.pon_desk.proofs.Places.{earlier_place}
 use Rattle.pon_desk.proofs.SeatOrder.{less_is_earlier}
@@ -73,9 +73,16 @@ miscounted h port rs entries left all chapters each passed more =
       wrong = λ count. more (nil_from_length left (omega (arith, count.entries, ap (λ (l : List Placed). length l) (sym all ∙ passed), length-append (map placed rs) left, length-map rs placed)));
     }
 
+-- the receipts are not as many as the port took entries
+pub taken_otherwise : (h : PortHistory) (port : ℕ) (rs : List Receipt) (entries : List Placed) → entries ≡ all_placed h → ((k : ℕ) → IsRightChapter h k) → ((k : ℕ) → IsRightAt entries port rs k) → (length rs ≡ taken_of h.kept → ⊥) → IsMiscounted h port rs
+taken_otherwise h port rs entries all chapters each other =
+    let P : List Placed → Type 0 = λ es. (k : ℕ) → IsRightAt es port rs k in
+    record { chapters = chapters; each = subst P all each; wrong = λ count. other count.taken; }
+
 -- no entry is left
-pub settled_at_end : (h : PortHistory) (port : ℕ) (rs : List Receipt) (entries left : List Placed) → entries ≡ all_placed h → ((k : ℕ) → IsRightChapter h k) → ((k : ℕ) → IsRightAt entries port rs k) → entries ≡ map (λ (x : Receipt). x.placed) rs ++ left → left ≡ [] → IsSettled h port rs
-settled_at_end h port rs entries left all chapters each passed none =
+pub settled_at_end : (h : PortHistory) (port : ℕ) (rs : List Receipt) (entries left : List Placed) → entries ≡ all_placed h → ((k : ℕ) → IsRightChapter h k) → ((k : ℕ) → IsRightAt entries port rs k) → entries ≡ map (λ (x : Receipt). x.placed) rs ++ left → left ≡ []
+    → length rs ≡ taken_of h.kept → IsSettled h port rs
+settled_at_end h port rs entries left all chapters each passed none taken =
     let placed : Receipt → Placed = λ (x : Receipt). x.placed in
     let P : List Placed → Type 0 = λ es. (k : ℕ) → IsRightAt es port rs k in
     let size : List Placed → ℕ = λ (l : List Placed). length l in
@@ -83,7 +90,7 @@ settled_at_end h port rs entries left all chapters each passed none =
     record {
       chapters = chapters;
       each = subst P all each;
-      count = record { entries = count; taken = count ∙ all_taken h chapters };
+      count = record { entries = count; taken = taken };
     }
 
 -- the receipts of a settled port are those of all its entries

@@ -1,7 +1,6 @@
 -- The settlement of a closed port: its entries compared with the receipts of its posts.
-use Rattle.std.specs.Prelude.{ℕ, ◌≡◌, ◌-◌, ◌<◌, ◌≤◌, ◌==◌, ◌⊎◌, suc, List, [], ◌∷◌, ◌++◌, count_by, flat_map, length, slice_get, take, Option, None, Some, IsSomeAnd}
+use Rattle.std.specs.Prelude.{ℕ, ◌≡◌, ◌<◌, ◌≤◌, ◌==◌, ◌⊎◌, suc, List, [], ◌∷◌, ◌++◌, count_by, flat_map, length, slice_get, take, Option, None, Some, IsSomeAnd}
 use Rattle.pon_state.specs.Entry.{Entry}
-use Rattle.pon_state.specs.State.{State}
 use Rattle.pon_admit.specs.declared.port_cfg.PortCfg.{PortCfg}
 use Rattle.pon_history.specs.Chapters.{Chapter}
 use Rattle.pon_plant.specs.Plants.{opened_port}
@@ -34,18 +33,12 @@ placed_in c = placed_from c.number 0 c.entries
 abbrev pub all_placed : PortHistory → List Placed
 all_placed h = flat_map placed_in (all_chapters h)
 
--- a state counts all entries up to the end of a chapter
-abbrev pub CountsUpTo : Chapter → State → Type 0
-CountsUpTo c s = s.taken_before ≡ taken_of c
-
 -- below the number of the kept chapter the k-th chapter was returned, and has this number; from there on none was. The
--- first of all opens with the port just opened as it was to be, and each later one counts the entries up to the end of the
--- one before it
+-- first of all opens with the port just opened as it was to be
 pub record IsRightChapter (h : PortHistory) (k : ℕ) : Type 0 where
   pub there : k < h.kept.number → IsSomeAnd (slice_get h.chapters k) (λ c. c.number ≡ k)
   pub no_more : h.kept.number ≤ k → slice_get h.chapters k ≡ None
   pub opens : k ≡ 0 → IsSomeAnd (slice_get (all_chapters h) 0) (λ c. c.opening ≡ (opened_port h.opened).opening)
-  pub follows : (c d : Chapter) → 0 < k → slice_get (all_chapters h) (k - 1) ≡ Some c → slice_get (all_chapters h) k ≡ Some d → CountsUpTo c d.opening
 
 -- the number of receipts of a seat
 abbrev pub posts_of : ℕ → List Receipt → ℕ

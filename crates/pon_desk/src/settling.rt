@@ -1,11 +1,10 @@
 //! The settlement of a closed port: its entries compared with the receipts of its posts.
 
-ghost use Rattle.std.specs.Prelude.{◌≡◌, ◌↔◌, ◌-◌, ◌<◌, ◌++◌, ℕ, IsTrue, MatchOption, MatchResult, length, map, slice_get, Some, take};
+ghost use Rattle.std.specs.Prelude.{◌≡◌, ◌↔◌, ◌<◌, ◌++◌, ℕ, IsTrue, MatchOption, MatchResult, length, map, slice_get, Some, take};
 ghost use Rattle.pon_state.specs.State.{opened_under};
-ghost use Rattle.pon_history.specs.Chapters.{Chapter, OpensFirst};
 ghost use Rattle.pon_plant.specs.Plants.{opened_port};
 ghost use Rattle.pon_desk.specs.Receipts.{Receipt};
-ghost use Rattle.pon_desk.specs.Settling.{CountsUpTo, PortHistory, IsFirstWithout, IsRightAt, IsRightChapter, IsSettled, TellsUnsettled, posts_of};
+ghost use Rattle.pon_desk.specs.Settling.{PortHistory, IsFirstWithout, IsRightAt, IsRightChapter, IsSettled, TellsUnsettled, posts_of};
 ghost use Rattle.pon_desk.specs.Walks.{left_of};
 
 use crate::receipt::Receipt;
@@ -29,34 +28,6 @@ fn opens_as(opening: &PortState, opened: &(PortCfg, FrameNo)) -> bool
         && opening.next_frame().get() == first.get()
 }
 
-// Returns whether a state counts all entries up to the end of a chapter.
-fn counts_up_to(chapter: &Chapter, opening: &PortState) -> bool
-    ensures { IsTrue result ↔ CountsUpTo chapter.now opening.now }
-{
-    let before = chapter.opening().taken_before();
-    let taken = opening.taken_before();
-    if taken < before {
-        return false;
-    }
-    taken - before == chapter.entries().len() as u64
-}
-
-// Returns whether a chapter after these ones opens right: the first as the port was to be opened, and any other with the
-// count of entries at the end of the last one.
-fn opens_after(before: &[Chapter], opening: &PortState, opened: &(PortCfg, FrameNo)) -> bool
-    requires { OpensFirst (length before.now) opening.now }
-    ensures first { length before.now ≡ 0
-        → (IsTrue result ↔ (opening.now ≡ (opened_port opened.now).opening)) }
-    ensures later { (c : Chapter) → 0 < length before.now
-        → slice_get before.now (length before.now - 1) ≡ Some c
-        → (IsTrue result ↔ CountsUpTo c opening.now) }
-{
-    match before.last() {
-        Some(chapter) => counts_up_to(chapter, opening),
-        None => opens_as(opening, opened),
-    }
-}
-
 // Finds the first chapter that is not right.
 fn chapter_fault(opened: &(PortCfg, FrameNo), kept: &Port, chapters: &[Chapter]) -> Option<usize>
     ensures { let h : PortHistory = record { opened = opened.now; chapters = chapters.now; kept = kept.now } in
@@ -69,15 +40,15 @@ fn chapter_fault(opened: &(PortCfg, FrameNo), kept: &Port, chapters: &[Chapter])
         if number >= last || chapter.number() != number {
             return Some(k);
         }
-        if !opens_after(&chapters[..k], chapter.opening(), opened) {
+        if k == 0 && !opens_as(chapter.opening(), opened) {
             return Some(k);
         }
     }
     if (chapters.len() as u64) < last {
         return Some(chapters.len());
     }
-    if !opens_after(chapters, kept.opening(), opened) {
-        return Some(chapters.len());
+    if chapters.is_empty() && !opens_as(kept.opening(), opened) {
+        return Some(0);
     }
     None
 }
@@ -140,7 +111,7 @@ pub(crate) fn settle_port(
     if let Some(k) = receipt_fault(port, &mut walk, receipts) {
         return Err(Unsettled::Receipt { k });
     }
-    if !walk.is_at_end() {
+    if !walk.is_at_end() || receipts.len() as u64 != kept.taken() {
         return Err(Unsettled::Count);
     }
     Ok(())

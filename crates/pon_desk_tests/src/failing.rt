@@ -43,8 +43,8 @@ fn is_unchanged(rt: &(impl Wait + Abort), alloc: Global, most: usize) -> bool {
     let (reads, writes) = (two_of_three(rt, alloc), two_of_three(rt, alloc));
     let served = serve_failing(rt, alloc, most, reads, writes);
     served.end.why == StopReason::Finished
-        && served.end.maps == 1
-        && served.end.reports == 1
+        && served.end.counts.maps == 1
+        && served.end.counts.reports == 1
         && are_maps(rt, alloc, served.writer.bytes(), 1)
 }
 

@@ -99,7 +99,7 @@ fn ends_at_gate(
         asked: AtomicU64::new(0),
     };
     let end = serve(rt, alloc, 0, &gate);
-    end.why == why && end.maps == 1 && gate.asked.load(Ordering::SeqCst) == calls
+    end.why == why && end.counts.maps == 1 && gate.asked.load(Ordering::SeqCst) == calls
 }
 
 #[test]
@@ -118,7 +118,7 @@ fn a_gate_is_called_10000_times_in_a_row(rt: HostRuntime) {
 // Returns whether a worker of this port ends at once for this reason, since the desk makes no map.
 fn is_refused(rt: &(impl Wait + Abort), alloc: Global, port: u8, fault: StepFault) -> bool {
     let end = serve(rt, alloc, port, &OpenGate);
-    end.why == StopReason::Refused(fault) && end.maps == 0 && end.reports == 0
+    end.why == StopReason::Refused(fault) && end.counts.maps == 0 && end.counts.reports == 0
 }
 
 #[test]

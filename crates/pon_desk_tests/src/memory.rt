@@ -83,7 +83,7 @@ fn keeps_all(served: Option<Outcome>) -> bool {
     match served {
         None => false,
         Some(Outcome { end, receipts }) => {
-            end.why == StopReason::Finished && end.reports == TURNS && receipts == Some(12)
+            end.why == StopReason::Finished && end.counts.reports == TURNS && receipts == Some(12)
         }
     }
 }
@@ -96,10 +96,10 @@ fn a_seat_keeps_all_receipts_of_a_worker(rt: HostRuntime) {
 // Returns whether each record was taken, or only the last one refused, and the worker made all its turns exactly when none
 // was and no map was refused.
 fn is_right(end: &WorkerEnd) -> bool {
-    let is_whole = end.why == StopReason::Finished && end.maps == TURNS && end.refused == 0;
+    let is_whole = end.why == StopReason::Finished && end.counts.maps == TURNS && end.counts.refused == 0;
     let refused = StopReason::Refused(StepFault::Refused(Refusal::OutOfMemory));
-    let is_cut = end.why == refused && end.maps <= TURNS && end.refused <= 1;
-    (is_whole || is_cut) && end.reports.wrapping_add(end.refused) == end.maps
+    let is_cut = end.why == refused && end.counts.maps <= TURNS && end.counts.refused <= 1;
+    (is_whole || is_cut) && end.counts.reports.wrapping_add(end.counts.refused) == end.counts.maps
 }
 
 fn ends_right(served: Option<Outcome>) -> bool {

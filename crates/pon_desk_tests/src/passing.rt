@@ -102,11 +102,11 @@ fn serve_cut<R: Wait + Abort>(rt: &R, alloc: Global, ring: RingIn, turns: u64) -
 
 // Returns whether the worker made this number of turns, each with one report.
 fn made_turns(end: &WorkerEnd, turns: u64) -> bool {
-    end.maps == turns
-        && end.reports == turns
-        && end.garbled == 0
-        && end.unowned == 0
-        && end.refused == 0
+    end.counts.maps == turns
+        && end.counts.reports == turns
+        && end.counts.garbled == 0
+        && end.counts.unowned == 0
+        && end.counts.refused == 0
         && end.why == StopReason::Finished
 }
 

@@ -350,11 +350,11 @@ fn unowned(input: Input) -> u64 {
 
 fn is_end(rt: &impl Abort, end: &WorkerEnd, case: &Case) -> bool {
     let [maps, reports, garbled, refused] = case.counts;
-    end.maps == maps
-        && end.reports == reports
-        && end.garbled == garbled
-        && end.unowned == unowned(case.input)
-        && end.refused == refused
+    end.counts.maps == maps
+        && end.counts.reports == reports
+        && end.counts.garbled == garbled
+        && end.counts.unowned == unowned(case.input)
+        && end.counts.refused == refused
         && end.why == why(rt, case.end)
 }
 

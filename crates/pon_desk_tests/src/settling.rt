@@ -259,11 +259,43 @@ fn unused_chapters(rt: &(impl Wait + Abort), alloc: Global) -> Vec<Chapter> {
     unused_chapters_at::<Brand, Brand, _>(rt, alloc, Blank::new(2), Blank::new(2))
 }
 
-// The kept chapter counts eight entries before it, and so not those of the other run.
+// An empty chapter 0 of another desk of the same configuration opens as that of this one.
 #[test]
 fn a_chapter_of_another_run_is_found(rt: HostRuntime) {
     let mut books = closed_books(&rt, rt.alloc());
     books.chapters = unused_chapters(&rt, rt.alloc());
     let fault = settled_first(&rt, &books);
-    assert!(rt; fault == Some(Unsettled::Chapter { k: 1 }));
+    assert!(rt; fault == Some(Unsettled::Receipt { k: 0 }));
+}
+
+// Settles port 0 with these chapters and no receipts, after its entries were returned in a chapter.
+fn settled_without_receipts<L: Ledger, M: Ledger, R: Wait + Abort>(
+    rt: &R,
+    alloc: Global,
+    of_ports: Blank,
+    of_seats: Blank,
+    chapters: &[Chapter],
+) -> Option<Unsettled>
+    requires ports { (of_ports.name ≡ L.name) × (of_ports.parts ≡ L.parts) × (L.parts ≡ 2) }
+    requires seats { (of_seats.name ≡ M.name) × (of_seats.parts ≡ M.parts) × (M.parts ≡ 2) }
+{
+    let (desk, mut seats) = opened::<L, M>(rt, alloc, of_ports, of_seats);
+    let _receipts = post_all(rt, alloc, &desk, seats.as_mut_slice());
+    let _returned = turn(rt, alloc, &desk);
+    let closed = close(rt, desk, seats);
+    closed.settle(number(rt, 0), chapters, &[]).err()
+}
+
+// The port took eight entries, of which neither the chapters nor the receipts have one.
+#[test]
+fn entries_that_are_in_no_chapter_are_missed(rt: HostRuntime) {
+    let unused = unused_chapters(&rt, rt.alloc());
+    let fault = settled_without_receipts::<Brand, Brand, _>(
+        &rt,
+        rt.alloc(),
+        Blank::new(2),
+        Blank::new(2),
+        unused.as_slice(),
+    );
+    assert!(rt; fault == Some(Unsettled::Count));
 }

@@ -89,7 +89,7 @@ fn is_given_up(rt: &impl Abort, end: &WorkerEnd, number: u8) -> bool {
 }
 
 fn is_finished(end: &WorkerEnd) -> bool {
-    end.maps == 3 && end.reports == 3 && end.why == StopReason::Finished
+    end.counts.maps == 3 && end.counts.reports == 3 && end.why == StopReason::Finished
 }
 
 fn has_all_maps(rt: &impl Abort, alloc: Global, units: &mut TcpStream) -> bool {

@@ -107,8 +107,8 @@ fn is_done<L: Ledger, M: Ledger>(
 ) -> bool {
     let (seat, end, writer) = done;
     put(rt, seats, seat);
-    end.maps == 2
-        && end.reports == 2
+    end.counts.maps == 2
+        && end.counts.reports == 2
         && end.why == StopReason::Finished
         && are_maps(rt, alloc, writer.bytes(), 2)
 }

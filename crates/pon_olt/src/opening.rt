@@ -11,7 +11,7 @@ use pon_files::open_input;
 use pon_job::{Failure, Named};
 use pon_manage::Opening;
 use pon_port::PortCfg;
-use pon_settings::{Settings, SettingsFault, explain, explain_further, settings};
+use pon_settings::{Document, FaultySettings, Settings, SettingsFault};
 use pon_units::{FrameNo, Gap, Profile};
 use std::alloc::{AllocError, Global};
 use std::io::{self, ErrorKind, Read};
@@ -97,20 +97,20 @@ fn opening_of(alloc: Global, settings: &Settings) -> Result<Opening, AllocError>
     Ok(Opening { ports, steps })
 }
 
-fn refusal(alloc: Global, text: &str, fault: SettingsFault) -> NotOpened {
-    if let SettingsFault::Memory = fault {
+fn refusal(alloc: Global, faulty: &FaultySettings<'_>) -> NotOpened {
+    if let SettingsFault::Memory = faulty.fault() {
         return out_of_memory();
     }
-    match lines_about(alloc, text, &fault) {
+    match lines_about(alloc, faulty) {
         Ok(lines) => NotOpened::Refused(lines),
         Err(_) => out_of_memory(),
     }
 }
 
-// Returns the lines that explain the fault of a text. `Err` only if memory is refused.
-fn lines_about(alloc: Global, text: &str, fault: &SettingsFault) -> Result<String, AllocError> {
-    let line = explain(alloc, text, fault)?;
-    match explain_further(alloc, text, fault)? {
+// Returns the lines that explain a fault. `Err` only if memory is refused.
+fn lines_about(alloc: Global, faulty: &FaultySettings<'_>) -> Result<String, AllocError> {
+    let line = faulty.explain(alloc)?;
+    match faulty.explain_further(alloc)? {
         Some(further) => format!(in alloc; "{line}\n{further}"),
         None => Ok(line),
     }
@@ -149,9 +149,10 @@ pub(crate) fn settings_of<R: Files>(
     ensures { IfOk result (λ s. (text : List ℕ) × Spells (parse_document text) s) }
 {
     let text = text_of(rt, alloc, name)?;
-    match settings(alloc, text.as_str()) {
+    let document = Document::parse(alloc, text.as_str())?;
+    match document.settings(alloc) {
         Ok(settings) => Ok(settings),
-        Err(fault) => Err(refusal(alloc, text.as_str(), fault)),
+        Err(faulty) => Err(refusal(alloc, &faulty)),
     }
 }
 

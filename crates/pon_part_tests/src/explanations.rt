@@ -1,15 +1,16 @@
 // The lines that explain the faults of settings.
-use pon_settings::{explain, explain_further, settings};
+use pon_settings::Document;
 use std::alloc::{AllocError, Global};
 
 const LAWFUL: &str = "fixed = 0\nassured = 0\nmax = 0\nclass = \"none\"";
 
 // Returns the explanation of the fault of a text, or an empty text if it has no fault.
 fn told(alloc: Global, text: &str) -> Result<String, AllocError> {
-    let Some(fault) = settings(alloc, text).err() else {
-        return Ok(String::new(alloc));
-    };
-    explain(alloc, text, &fault)
+    let document = Document::parse(alloc, text)?;
+    match document.settings(alloc) {
+        Ok(_) => Ok(String::new(alloc)),
+        Err(faulty) => faulty.explain(alloc),
+    }
 }
 
 // Returns whether the explanation of a text is this line.
@@ -205,8 +206,9 @@ fn names_the_line_and_the_column(rt: HostRuntime) {
 // Returns the further line about the fault of settings whose only row has these numbers, or an empty text if there is none.
 fn told_further(alloc: Global, row: &str) -> Option<String> {
     let text = format!(in alloc; "[[port]]\ngap = 16\n[[port.alloc]]\n{row}\n").ok()?;
-    let fault = settings(alloc, text.as_str()).err()?;
-    match explain_further(alloc, text.as_str(), &fault).ok()? {
+    let document = Document::parse(alloc, text.as_str()).ok()?;
+    let faulty = document.settings(alloc).err()?;
+    match faulty.explain_further(alloc).ok()? {
         Some(line) => Some(line),
         None => Some(String::new(alloc)),
     }

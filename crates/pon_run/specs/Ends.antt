@@ -10,7 +10,7 @@ use Rattle.pon_run.specs.declared.end.PortEnd.{PortEnd}
 
 -- what a port and its worker did, before dropped chapters are counted
 abbrev pub end_of : Chapter → WorkerEnd → PortEnd
-end_of kept worker = record { maps = worker.maps; entries = taken_of kept; reports = worker.reports; dropped = 0 }
+end_of kept worker = record { counts = worker.counts; entries = taken_of kept; dropped = 0 }
 
 -- what each port did, from the chapters that the ports keep and the ends of their workers, in order
 abbrev pub ends_of : List Chapter → List WorkerEnd → List PortEnd
@@ -20,19 +20,19 @@ ends_of (k ∷ ks) (w ∷ ws) = end_of k w ∷ ends_of ks ws
 
 -- an end without its dropped chapters
 abbrev pub without_dropped : PortEnd → PortEnd
-without_dropped end = record { maps = end.maps; entries = end.entries; reports = end.reports; dropped = 0 }
+without_dropped end = record { counts = end.counts; entries = end.entries; dropped = 0 }
 
 -- the ends with these numbers of dropped chapters, in order; an end without a number is unchanged
 abbrev pub with_dropped : List PortEnd → List ℕ → List PortEnd
 with_dropped [] counts = []
 with_dropped (e ∷ es) [] = e ∷ with_dropped es []
-with_dropped (e ∷ es) (n ∷ ns) = (record { maps = e.maps; entries = e.entries; reports = e.reports; dropped = n }) ∷ with_dropped es ns
+with_dropped (e ∷ es) (n ∷ ns) = (record { counts = e.counts; entries = e.entries; dropped = n }) ∷ with_dropped es ns
 
 -- port P maps M entries E reports R dropped D, and a line feed
 abbrev pub line_of : ℕ → PortEnd → List ℕ
 line_of port end =
-    codes "port " ++ (decimal port ++ (codes " maps " ++ (decimal end.maps
-    ++ (codes " entries " ++ (decimal end.entries ++ (codes " reports " ++ (decimal end.reports
+    codes "port " ++ (decimal port ++ (codes " maps " ++ (decimal end.counts.maps
+    ++ (codes " entries " ++ (decimal end.entries ++ (codes " reports " ++ (decimal end.counts.reports
     ++ (codes " dropped " ++ (decimal end.dropped ++ 10 ∷ [])))))))))
 
 -- a line for each port, numbered from this number on

@@ -5,17 +5,16 @@ ghost use Rattle.pon_device.specs.Streams.{TellsWrite};
 ghost use Rattle.pon_run.specs.Ends.{TellsEnds, line_of, lines_from};
 
 use pon_device::{DevWrite, DeviceFault, write_text};
+use pon_worker::PortCounts;
 use std::alloc::{AllocError, Global};
 
 /// What one port did in a run.
 #[derive(Clone, Copy)]
 pub(crate) struct PortEnd {
-    /// The number of maps that its worker had made.
-    pub(crate) maps: u64,
+    /// What it counted for its worker.
+    pub(crate) counts: PortCounts,
     /// The number of entries that it took.
     pub(crate) entries: u64,
-    /// The number of reports of its units that it took.
-    pub(crate) reports: u64,
     /// The number of its dropped chapters.
     pub(crate) dropped: u64,
 }
@@ -24,11 +23,11 @@ fn line_of(alloc: Global, port: usize, end: PortEnd) -> Result<String, AllocErro
     ensures { IfOk result (λ text. string_bytes text ≡ line_of port end) }
 {
     let PortEnd {
-        maps,
+        counts,
         entries,
-        reports,
         dropped,
     } = end;
+    let PortCounts { maps, reports, .. } = counts;
     format!(in alloc;
         "port {port} maps {maps} entries {entries} reports {reports} dropped {dropped}\n"
     )

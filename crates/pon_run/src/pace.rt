@@ -5,7 +5,7 @@ use crate::timer::Timer;
 use crate::watch::PortWatch;
 use pon_files::FlushTimer;
 use pon_units::PortNo;
-use pon_worker::{Gate, Pace, SoFar, Turns};
+use pon_worker::{Gate, Pace, PortCounts, Turns};
 use std::sync::atomic::{AtomicBool, Ordering};
 use std::time::Clock;
 
@@ -16,24 +16,12 @@ pub(crate) struct RunPace<'a, R> {
     stop: &'a AtomicBool,
     timer: Option<Timer<'a, R>>,
     watch: Option<&'a PortWatch>,
-    // What the worker did before.
-    before: SoFar,
+    // What the port counted before.
+    before: PortCounts,
     // Says when a chapter of the recording is cut by the clock.
     flush: Option<FlushTimer<'a, R>>,
     // Whether the worker is held back for a cut.
     cut: bool,
-}
-
-// Returns what a worker did before and so far together. The chapters that its sink dropped are counted by the sink.
-fn together(before: &SoFar, so_far: &SoFar) -> SoFar {
-    SoFar {
-        maps: before.maps.saturating_add(so_far.maps),
-        reports: before.reports.saturating_add(so_far.reports),
-        garbled: before.garbled.saturating_add(so_far.garbled),
-        unowned: before.unowned.saturating_add(so_far.unowned),
-        refused: before.refused.saturating_add(so_far.refused),
-        dropped: so_far.dropped,
-    }
 }
 
 // Returns the timer of the cuts, if chapters are recorded and cut by the clock.
@@ -48,7 +36,7 @@ impl<'a, R: Clock> RunPace<'a, R> {
         run: &'a RunContext<'a, G, R>,
         port: PortNo,
         stop: &'a AtomicBool,
-        before: SoFar,
+        before: PortCounts,
     ) -> Self {
         RunPace {
             turns: Turns::new(run.args.maps.saturating_sub(before.maps)),
@@ -70,7 +58,7 @@ impl<'a, R: Clock> RunPace<'a, R> {
     }
 
     /// Returns whether the worker, which did this before, was held back for a cut, and makes further turns after it.
-    pub(crate) fn takes_cut(&mut self, before: SoFar) -> bool {
+    pub(crate) fn takes_cut(&mut self, before: PortCounts) -> bool {
         let cut = self.cut;
         self.cut = false;
         self.before = before;
@@ -89,15 +77,15 @@ impl<'a, R: Clock> RunPace<'a, R> {
 }
 
 impl<'a, R: Clock> Pace for RunPace<'a, R> {
-    fn next(&mut self, so_far: &SoFar) -> bool {
+    fn next(&mut self, counts: &PortCounts, dropped: u64) -> bool {
         if let Some(watch) = self.watch {
-            watch.see(&together(&self.before, so_far));
+            watch.see(&self.before.plus(counts), dropped);
         }
         if self.stop.load(Ordering::SeqCst) {
             return false;
         }
         self.cut = self.is_cut_due();
-        if self.cut || !self.turns.next(so_far) {
+        if self.cut || !self.turns.next(counts, dropped) {
             return false;
         }
         self.wait();

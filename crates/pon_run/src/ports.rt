@@ -92,9 +92,8 @@ fn end_of(port: &Port, end: &WorkerEnd) -> PortEnd
     ensures { result ≡ end_of port.now end.now }
 {
     PortEnd {
-        maps: end.maps,
+        counts: end.counts,
         entries: port.taken(),
-        reports: end.reports,
         dropped: 0,
     }
 }

@@ -3,7 +3,7 @@
 use crate::early::WhyEnded;
 use crate::timer::Timer;
 use crate::watch::RunWatch;
-use pon_worker::WorkerEnd;
+use pon_worker::{PortCounts, WorkerEnd};
 use std::alloc::{AllocError, Global};
 use std::sync::atomic::{AtomicBool, Ordering};
 use std::time::Clock;
@@ -26,14 +26,15 @@ fn next_second<R: Clock>(looks: &mut Timer<'_, R>, stop: &AtomicBool) -> bool {
 fn print_second<R: Eprint>(rt: &R, watch: &RunWatch, second: u64, before: &mut [u64]) {
     for (port, (seen, maps)) in watch.ports().iter().zip(before).enumerate() {
         let now = seen.numbers();
-        let made = now.maps.saturating_sub(*maps);
-        *maps = now.maps;
+        let counts = now.counts;
+        let made = counts.maps.saturating_sub(*maps);
+        *maps = counts.maps;
         let _ = eprintln!(rt;
             "olt: {second} s port {port} maps {} ({made} in this second) reports {} refused {} garbled {} chapters {} dropped {} {}",
-            now.maps,
-            now.reports,
-            now.refused,
-            now.garbled,
+            counts.maps,
+            counts.reports,
+            counts.refused,
+            counts.garbled,
             now.recorded,
             now.dropped,
             seen.service()
@@ -66,12 +67,12 @@ pub(crate) fn print_progress<R: Clock + Eprint>(
 pub(crate) fn print_summary(rt: &impl Eprint, watch: &RunWatch, workers: &[WorkerEnd]) {
     for (port, (seen, worker)) in watch.ports().iter().zip(workers).enumerate() {
         let now = seen.numbers();
-        let WorkerEnd {
+        let PortCounts {
             refused,
             garbled,
             unowned,
             ..
-        } = *worker;
+        } = worker.counts;
         let damaged = garbled.saturating_sub(unowned);
         let why = WhyEnded(worker.why);
         let _ = eprintln!(rt;

@@ -1,12 +1,10 @@
 //! A port that is down: its worker waits until an operator has restored it, and then serves it again.
 
-ghost use Rattle.std.specs.Prelude.{◌≡◌, ◌+◌, min};
-
 use crate::server::PortServer;
 use pon_descr::Refusal;
 use pon_desk::StepFault;
 use pon_port::Port;
-use pon_worker::{Gate, SoFar, StopReason, WorkerEnd};
+use pon_worker::{Gate, PortCounts, StopReason, WorkerEnd};
 use std::sync::Wait;
 use std::sync::ledger::Ledger;
 use std::thread;
@@ -18,55 +16,11 @@ const LOOK_MILLISECONDS: u64 = 10;
 /// How often it looks before it says that the port waits: for a second.
 const LOOKS_UNSAID: u64 = 1000 / LOOK_MILLISECONDS;
 
-/// The greatest value of a count.
-const MAX_COUNT: u64 = u64::MAX;
-
 /// Returns the end of a worker that has done nothing.
 pub(crate) fn nothing_done() -> WorkerEnd {
     WorkerEnd {
-        maps: 0,
-        reports: 0,
-        garbled: 0,
-        unowned: 0,
-        refused: 0,
+        counts: PortCounts::none(),
         why: StopReason::Finished,
-    }
-}
-
-/// Returns what a worker did that ended so.
-pub(crate) fn so_far(end: &WorkerEnd) -> SoFar
-    ensures maps { result.maps ≡ end.now.maps }
-    ensures reports { result.reports ≡ end.now.reports }
-    ensures garbled { result.garbled ≡ end.now.garbled }
-    ensures unowned { result.unowned ≡ end.now.unowned }
-    ensures refused { result.refused ≡ end.now.refused }
-{
-    SoFar {
-        maps: end.maps,
-        reports: end.reports,
-        garbled: end.garbled,
-        unowned: end.unowned,
-        refused: end.refused,
-        dropped: 0,
-    }
-}
-
-/// Returns what a worker did that ended twice: the sums, and why it ended last.
-pub(crate) fn together(first: &WorkerEnd, last: &WorkerEnd) -> WorkerEnd
-    ensures maps { result.maps ≡ min (first.now.maps + last.now.maps) MAX_COUNT }
-    ensures reports { result.reports ≡ min (first.now.reports + last.now.reports) MAX_COUNT }
-    ensures garbled { result.garbled ≡ min (first.now.garbled + last.now.garbled) MAX_COUNT }
-    ensures unowned { result.unowned ≡ min (first.now.unowned + last.now.unowned) MAX_COUNT }
-    ensures refused { result.refused ≡ min (first.now.refused + last.now.refused) MAX_COUNT }
-    ensures why { result.why ≡ last.now.why }
-{
-    WorkerEnd {
-        maps: first.maps.saturating_add(last.maps),
-        reports: first.reports.saturating_add(last.reports),
-        garbled: first.garbled.saturating_add(last.garbled),
-        unowned: first.unowned.saturating_add(last.unowned),
-        refused: first.refused.saturating_add(last.refused),
-        why: last.why,
     }
 }
 

@@ -4,7 +4,7 @@ use crate::connecting::next_stream;
 use crate::context::RunContext;
 use crate::early::WhyEnded;
 use crate::pace::RunPace;
-use crate::restoring::{is_served_again, nothing_done, so_far, together};
+use crate::restoring::{is_served_again, nothing_done};
 use crate::server::PortServer;
 use pon_descr::Refusal;
 use pon_desk::{Desk, Seat, StepFault};
@@ -80,7 +80,7 @@ where
     R: Wait + Clock,
 {
     let (run, desk, port) = (server.run, server.desk, server.port);
-    let mut pace = RunPace::new(run, port, server.stop, so_far(ended));
+    let mut pace = RunPace::new(run, port, server.stop, ended.counts);
     for _ in run.rt.forever() {
         let served = serve_port(
             run.rt,
@@ -93,8 +93,11 @@ where
             writer,
             &mut sink.sink,
         );
-        *ended = together(ended, &served);
-        if !pace.takes_cut(so_far(ended)) {
+        *ended = WorkerEnd {
+            counts: ended.counts.plus(&served.counts),
+            why: served.why,
+        };
+        if !pace.takes_cut(ended.counts) {
             break;
         }
         cut(server, sink);

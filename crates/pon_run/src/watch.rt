@@ -3,7 +3,7 @@
 use crate::early::{EndNumber, NOT_ENDED};
 use pon_recorder::ChapterWatch;
 use pon_units::PortNo;
-use pon_worker::SoFar;
+use pon_worker::PortCounts;
 use std::alloc::{AllocError, Global};
 use std::fmt::{self, Display, Formatter, Write};
 use std::sync::atomic::{AtomicBool, AtomicU64, Ordering};
@@ -57,12 +57,8 @@ impl Display for Service {
 /// The numbers of one port at a moment.
 #[derive(Clone, Copy)]
 pub(crate) struct PortNumbers {
-    pub(crate) maps: u64,
-    pub(crate) reports: u64,
-    pub(crate) garbled: u64,
-    /// Those of the garbled reports that no unit owns.
-    pub(crate) unowned: u64,
-    pub(crate) refused: u64,
+    /// What the port counted for its worker.
+    pub(crate) counts: PortCounts,
     /// The chapters that were recorded.
     pub(crate) recorded: u64,
     /// The chapters that were dropped.
@@ -116,14 +112,25 @@ impl PortWatch {
         Service::Served
     }
 
-    /// Notes what the worker of the port did so far.
-    pub(crate) fn see(&self, so_far: &SoFar) {
-        self.maps.store(so_far.maps, Ordering::Relaxed);
-        self.reports.store(so_far.reports, Ordering::Relaxed);
-        self.garbled.store(so_far.garbled, Ordering::Relaxed);
-        self.unowned.store(so_far.unowned, Ordering::Relaxed);
-        self.refused.store(so_far.refused, Ordering::Relaxed);
-        self.lost.store(so_far.dropped, Ordering::Relaxed);
+    /// Notes what the port counted for its worker so far, and how many chapters its sink dropped.
+    pub(crate) fn see(&self, counts: &PortCounts, dropped: u64) {
+        self.maps.store(counts.maps, Ordering::Relaxed);
+        self.reports.store(counts.reports, Ordering::Relaxed);
+        self.garbled.store(counts.garbled, Ordering::Relaxed);
+        self.unowned.store(counts.unowned, Ordering::Relaxed);
+        self.refused.store(counts.refused, Ordering::Relaxed);
+        self.lost.store(dropped, Ordering::Relaxed);
+    }
+
+    // Returns what the port counted for its worker.
+    fn counts(&self) -> PortCounts {
+        PortCounts {
+            maps: self.maps.load(Ordering::Relaxed),
+            reports: self.reports.load(Ordering::Relaxed),
+            garbled: self.garbled.load(Ordering::Relaxed),
+            unowned: self.unowned.load(Ordering::Relaxed),
+            refused: self.refused.load(Ordering::Relaxed),
+        }
     }
 
     /// Notes that a map began so late.
@@ -138,11 +145,7 @@ impl PortWatch {
         let taken = self.taken.load(Ordering::Relaxed);
         let dropped = self.dropped.load(Ordering::Relaxed);
         PortNumbers {
-            maps: self.maps.load(Ordering::Relaxed),
-            reports: self.reports.load(Ordering::Relaxed),
-            garbled: self.garbled.load(Ordering::Relaxed),
-            unowned: self.unowned.load(Ordering::Relaxed),
-            refused: self.refused.load(Ordering::Relaxed),
+            counts: self.counts(),
             recorded: taken.saturating_sub(dropped),
             dropped: dropped.saturating_add(self.lost.load(Ordering::Relaxed)),
             late: self.late.load(Ordering::Relaxed),

@@ -1,12 +1,18 @@
 -- The ports of settings (TOML): the port of each table, and the first fault.
-use Rattle.std.specs.Prelude.{ℕ, suc, ◌≡◌, ◌≤◌, nat_le, ◌&&◌, if◌then◌else◌, List, [], ◌∷◌, ◌++◌, map, length, take, slice_get, codes, Option, Some, None, option_and_then}
+use Rattle.std.specs.Prelude.{ℕ, suc, ◌≡◌, ◌≤◌, nat_le, ◌&&◌, if◌then◌else◌, List, [], ◌∷◌, ◌++◌, map, length, take, slice_get, codes, Option, Some, None, Result, Ok, Err, String, option_and_then}
 use Rattle.std.specs.List.{AllZip}
 use Rattle.toml.specs.Data.{Data, Members, as_table}
 use Rattle.toml.specs.Parse.{parse_document}
+use Rattle.toml.specs.View.{table_view}
+use Rattle.toml.specs.declared.value.Value.{Value}
+use Rattle.std.specs.BTreeMap.{BTreeMap}
+use Rattle.std.specs.declared.alloc.Global.{Global}
+use Rattle.toml.specs.declared.de.error.Error.{Error}
 use Rattle.pon_units.specs.declared.limits.TheConstants.{MAX_GAP, MAX_PORTS, MIN_GAP}
 use Rattle.pon_admit.specs.declared.event.Event.TheVariants.{Admit}
 use Rattle.pon_admit.specs.declared.step.Step.{Step}
 use Rattle.pon_admit.specs.declared.port_cfg.PortCfg.{PortCfg}
+use Rattle.pon_settings.specs.declared.document.Document.{Document}
 use Rattle.pon_settings.specs.declared.place.Place.TheVariants as place
 use Rattle.pon_settings.specs.declared.fault.SettingsFault.{SettingsFault}
 use Rattle.pon_settings.specs.declared.fault.SettingsFault.TheVariants as fault
@@ -107,6 +113,14 @@ IsPortsFault tables (fault.Refused p k why) = StandsAtPort tables (fault.Refused
 IsPortsFault tables fault.Memory = Unit {0}
 
 -- Whole texts. A document is the table of a text, or `None` if the text is not TOML.
+
+abbrev pub table_read : Result (BTreeMap (String Global) Value) Error → Option Members
+table_read (Ok table) = Some (table_view table)
+table_read (Err error) = None
+
+-- the document that was parsed
+abbrev pub document_of : Document → Option Members
+document_of d = table_read d.read
 
 -- the document's table has a list of ports, and its tables spell these ports
 pub record Spells (document : Option Members) (ports : List PortSettings) : Type 0 where

@@ -1,10 +1,11 @@
 //! The three kinds of tables of settings, and the keys of each.
 
-ghost use Rattle.std.specs.Prelude.{◌≡◌};
+ghost use Rattle.std.specs.Prelude.{◌≡◌, IfOk, IfErr, true, false};
 ghost use Rattle.toml.specs.View.{table_view};
 ghost use Rattle.pon_settings.specs.Keys.{is_known, has_known_keys};
 ghost use Rattle.pon_settings.specs.declared.place.Place.TheVariants as place;
 
+use crate::why::Why;
 use toml::Table;
 
 /// A kind of table.
@@ -51,10 +52,32 @@ impl Place {
         }
     }
 
-    /// Returns whether a table of this kind may have all keys of the table.
-    pub(crate) fn knows_keys(self, table: &Table) -> bool
+    // Returns whether a table of this kind may have all keys of the table.
+    fn knows_keys(self, table: &Table) -> bool
         ensures { result ≡ has_known_keys self (table_view table.now) }
     {
         table.keys().all(|key| self.knows(key.as_str()))
+    }
+
+    // Returns the first key of a table that a table of this kind may not have.
+    fn unknown_key(self, table: &Table) -> &str {
+        for key in table.keys() {
+            if !self.knows(key.as_str()) {
+                return key.as_str();
+            }
+        }
+        ""
+    }
+
+    /// Returns the first key of a table that a table of this kind may not have, as the rule that is broken.
+    pub(crate) fn check_keys(self, table: &Table) -> Result<(), Why<'_>>
+        ensures ok { IfOk result (λ _. has_known_keys self (table_view table.now) ≡ true) }
+        ensures fault { IfErr result (λ _. has_known_keys self (table_view table.now) ≡ false) }
+    {
+        if self.knows_keys(table) {
+            Ok(())
+        } else {
+            Err(Why::UnknownKey(self.unknown_key(table)))
+        }
     }
 }

@@ -4,12 +4,16 @@ ghost use Rattle.std.specs.Prelude.{◌≡◌, ◌≤◌, Some, None, IfOk, IfEr
 ghost use Rattle.std.specs.Option.{SomeIff};
 ghost use Rattle.toml.specs.View.{table_view, view};
 ghost use Rattle.pon_settings.specs.Rows.{Admits, admission_fault, descriptor_fault, IsRowFault, IsAdmissionFault, id_refusal, numbers_of, number_refusal, row_at, row_of};
+ghost use Rattle.pon_settings.specs.declared.row.RowFault.TheVariants as row_fault;
 
 use crate::fields::{MAX_INTEGER, optional, required};
 use crate::place::Place;
+use crate::refused::{why_of_admission, why_of_values};
+use crate::why::{Wanted, Why, wrong_at};
 use pon_admit::{Roster, Row};
 use pon_descr::{DescrFault, Refusal, from_toml};
 use pon_units::{AllocId, MAX_ALLOC_ID, MAX_ONU_ID, MIN_ALLOC_ID, OnuId};
+use std::marker::Model;
 use toml::{Table, Value};
 
 /// Maximum number of words that wait in a simulated unit.
@@ -24,12 +28,35 @@ pub struct SettingsRow {
     pub queue: u32,
 }
 
-/// Why a table is not a row, or its row is not admitted.
+/// Whether a table is not a row, or its row is not admitted.
 #[derive(Clone, Copy)]
 pub(crate) enum RowFault {
     Form,
     Refused(Refusal),
     Memory,
+}
+
+/// The fault of a row, and which rule is broken there.
+#[derive(Drop)]
+pub(crate) struct FaultyRow<'a> {
+    pub(crate) fault: RowFault,
+    pub(crate) why: Why<'a>,
+}
+
+impl<'a> Model for FaultyRow<'a> {
+    ghost use Rattle.pon_settings.specs.declared.row.RowFault.{RowFault};
+
+    ghost Value = { RowFault };
+
+    ghost view = { λ a. a.fault };
+}
+
+impl<'a> FaultyRow<'a> {
+    fn new(fault: RowFault, why: Why<'a>) -> Self
+        ensures { result ≡ fault }
+    {
+        FaultyRow { fault, why }
+    }
 }
 
 /// The numbers of a row, except those of its descriptor.
@@ -40,18 +67,35 @@ pub(crate) struct Numbers {
     pub(crate) queue: u32,
 }
 
-// Reads the numbers of a row. `None` if the table has an unknown key, or a number is absent, of another type or out of
-// range.
-fn numbers_of(table: &Table) -> Option<Numbers>
-    ensures { result ≡ numbers_of (table_view table.now) }
-{
-    if !Place::Row.knows_keys(table) {
-        return None;
+// Returns the rule of its descriptor or its queue that a table breaks.
+fn wrong_in_rest(table: &Table) -> Why<'_> {
+    for key in ["fixed", "assured", "max"] {
+        if required(table, key, 0, MAX_INTEGER).is_none() {
+            return wrong_at(table, key, Wanted::Whole);
+        }
     }
-    let onu = required(table, "onu", 0, MAX_INTEGER)?;
-    let alloc_id = required(table, "alloc", 0, MAX_INTEGER)?;
-    let queue = optional(table, "queue", MAX_QUEUE)?;
-    Some(Numbers {
+    match from_toml(table) {
+        Err(DescrFault::Field) => wrong_at(table, "class", Wanted::Class),
+        _ => wrong_at(table, "queue", Wanted::Within(0, MAX_QUEUE)),
+    }
+}
+
+// Reads the numbers of a row. Otherwise returns the first rule that the table breaks.
+fn numbers_of(table: &Table) -> Result<Numbers, Why<'_>>
+    ensures ok { IfOk result (λ numbers. numbers_of (table_view table.now) ≡ Some numbers) }
+    ensures fault { IfErr result (λ _. numbers_of (table_view table.now) ≡ None) }
+{
+    Place::Row.check_keys(table)?;
+    let Some(onu) = required(table, "onu", 0, MAX_INTEGER) else {
+        return Err(wrong_at(table, "onu", Wanted::Whole));
+    };
+    let Some(alloc_id) = required(table, "alloc", 0, MAX_INTEGER) else {
+        return Err(wrong_at(table, "alloc", Wanted::Whole));
+    };
+    let Some(queue) = optional(table, "queue", MAX_QUEUE) else {
+        return Err(wrong_in_rest(table));
+    };
+    Ok(Numbers {
         onu,
         alloc_id,
         queue: queue as u32,
@@ -89,16 +133,6 @@ fn ids_of(numbers: &Numbers) -> Result<(AllocId, OnuId), Refusal>
     Ok((alloc_id, onu))
 }
 
-// Returns the fault of a row for the fault of its descriptor.
-fn descriptor_fault(fault: DescrFault) -> RowFault
-    ensures { result ≡ descriptor_fault fault }
-{
-    match fault {
-        DescrFault::Field => RowFault::Form,
-        DescrFault::Refused(refusal) => RowFault::Refused(refusal),
-    }
-}
-
 // Returns the fault of a row for the refusal of a roster.
 fn admission_fault(refusal: Refusal) -> RowFault
     ensures { result ≡ admission_fault refusal }
@@ -109,39 +143,65 @@ fn admission_fault(refusal: Refusal) -> RowFault
     }
 }
 
-/// Reads a row from a table, and checks that its numbers are in range.
-pub(crate) fn row_of(table: &Table) -> Result<SettingsRow, RowFault>
+// Returns the fault of a table that is not a row.
+fn out_of_form(why: Why<'_>) -> FaultyRow<'_>
+    ensures { result ≡ row_fault.Form }
+{
+    FaultyRow::new(RowFault::Form, why)
+}
+
+// Returns the fault of a row whose values are refused.
+fn refused<'a>(table: &'a Table, refusal: Refusal) -> FaultyRow<'a>
+    ensures { result ≡ row_fault.Refused refusal }
+{
+    let why = why_of_values(table, &refusal);
+    FaultyRow::new(RowFault::Refused(refusal), why)
+}
+
+// Returns the fault of a row for the fault of its descriptor.
+fn faulty_descriptor<'a>(table: &'a Table, fault: DescrFault) -> FaultyRow<'a>
+    ensures { result ≡ descriptor_fault fault }
+{
+    match fault {
+        DescrFault::Field => out_of_form(wrong_in_rest(table)),
+        DescrFault::Refused(refusal) => refused(table, refusal),
+    }
+}
+
+// Reads a row from a table, and checks that its numbers are in range.
+fn row_of(table: &Table) -> Result<SettingsRow, FaultyRow<'_>>
     ensures ok { IfOk result
         (λ r. (row_of (table_view table.now) ≡ Some r) × (number_refusal r.row ≡ None)) }
     ensures fault { IfErr result (IsRowFault (row_of (table_view table.now))) }
 {
-    let Some(numbers) = numbers_of(table) else {
-        return Err(RowFault::Form);
+    let numbers = match numbers_of(table) {
+        Ok(numbers) => numbers,
+        Err(why) => return Err(out_of_form(why)),
     };
     let descriptor = from_toml(table);
     if descriptor == Err(DescrFault::Field) {
-        return Err(RowFault::Form);
+        return Err(out_of_form(wrong_in_rest(table)));
     }
     let (alloc_id, onu) = match ids_of(&numbers) {
         Ok(ids) => ids,
-        Err(refusal) => return Err(RowFault::Refused(refusal)),
+        Err(refusal) => return Err(refused(table, refusal)),
     };
     match descriptor {
         Ok(descriptor) => Ok(SettingsRow {
             row: Row::new(onu, alloc_id, descriptor),
             queue: numbers.queue,
         }),
-        Err(fault) => Err(descriptor_fault(fault)),
+        Err(fault) => Err(faulty_descriptor(table, fault)),
     }
 }
 
-/// Reads a row from a table, and admits it.
-pub(crate) fn admit(roster: &mut Roster, value: &Value) -> Result<SettingsRow, RowFault>
+/// Reads a row from a table, and admits it. After a fault the roster is used no more.
+pub(crate) fn admit<'a>(roster: &mut Roster, value: &'a Value) -> Result<SettingsRow, FaultyRow<'a>>
     ensures ok { IfOk result (Admits roster.old (view value.now) roster.new) }
     ensures fault { IfErr result (IsAdmissionFault roster.old (row_at (view value.now))) }
 {
     let Some(table) = value.as_table() else {
-        return Err(RowFault::Form);
+        return Err(FaultyRow::new(RowFault::Form, Why::Told));
     };
     let settings_row = match row_of(table) {
         Ok(row) => row,
@@ -150,6 +210,10 @@ pub(crate) fn admit(roster: &mut Roster, value: &Value) -> Result<SettingsRow, R
     let row = settings_row.row;
     match roster.admit(row.onu, row.alloc_id, row.descriptor) {
         Ok(()) => Ok(settings_row),
-        Err(refusal) => Err(admission_fault(refusal)),
+        Err(refusal) => {
+            let fault = admission_fault(refusal);
+            let why = why_of_admission(roster, &row, &refusal);
+            Err(FaultyRow::new(fault, why))
+        }
     }
 }

@@ -5,7 +5,8 @@ ghost use Rattle.toml.specs.View.{view};
 ghost use Rattle.pon_settings.specs.Rows.{SpellsRows, IsRowsFault, fault_at};
 
 use crate::fault::SettingsFault;
-use crate::row::{RowFault, SettingsRow, admit};
+use crate::faulty::FaultySettings;
+use crate::row::{FaultyRow, RowFault, SettingsRow, admit};
 use pon_admit::Roster;
 use pon_units::{Gap, PortNo};
 use std::alloc::Global;
@@ -22,13 +23,21 @@ fn fault_at(port: PortNo, row: usize, fault: RowFault) -> SettingsFault
     }
 }
 
+// Returns the fault of the settings for the fault of a row, with its place.
+fn faulty_at<'a>(port: PortNo, row: usize, faulty: FaultyRow<'a>) -> FaultySettings<'a>
+    ensures { result ≡ fault_at port row faulty.entry }
+{
+    let fault = fault_at(port, row, faulty.fault);
+    FaultySettings::new(fault, faulty.why)
+}
+
 /// Reads the rows from tables, and admits each after the rows before it. Otherwise returns the first fault, row by row.
 pub(crate) fn rows_of(
     alloc: Global,
     port: PortNo,
     gap: Gap,
     tables: &[Value],
-) -> Result<Vec<SettingsRow>, SettingsFault>
+) -> Result<Vec<SettingsRow>, FaultySettings<'_>>
     ensures ok { IfOk result (λ rows. SpellsRows gap (map view tables.now) rows.items) }
     ensures fault { IfErr result (IsRowsFault port gap (map view tables.now)) }
 {
@@ -37,7 +46,7 @@ pub(crate) fn rows_of(
     for (k, table) in tables.iter().enumerate() {
         let row = match admit(&mut roster, table) {
             Ok(row) => row,
-            Err(fault) => return Err(fault_at(port, k, fault)),
+            Err(faulty) => return Err(faulty_at(port, k, faulty)),
         };
         rows.push(row)?;
     }

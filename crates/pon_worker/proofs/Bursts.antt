@@ -21,12 +21,12 @@ use Rattle.pon_desk.specs.Receipts.{Receipt}
 use Rattle.pon_worker.specs.Turns.{IsNotMemory, KeepsAll, LacksMemory, RefusesReport, TakesReports}
 use Rattle.pon_worker.proofs.Receipts.{keeps_more, keeps_none, takes_more, takes_refused}
 use Rattle.pon_worker.specs.Records.{CountsRecords, HasRead, after_garbled, after_report, is_garbled, is_unowned}
-use Rattle.pon_worker.specs.declared.counts.Counts.{Counts}
+use Rattle.pon_worker.specs.declared.counts.PortCounts.{PortCounts}
 use Rattle.pon_worker.proofs.Posted.{with_map}
 use Rattle.pon_worker.specs.declared.counts.TheConstants.{MAX_COUNT}
 
 -- this number of records was read, posted and counted, and bytes of the next one were read
-pub record ReadSoFar (port number : ℕ) (held : List ℕ) (old new : Counts) (kept_old kept_new : Option (List Receipt)) (left_old left_new : Option (List ℕ)) : Type 0 where
+pub record ReadSoFar (port number : ℕ) (held : List ℕ) (old new : PortCounts) (kept_old kept_new : Option (List Receipt)) (left_old left_new : Option (List ℕ)) : Type 0 where
   pub records : List UpRecord
   pub reports : List Receipt
   pub refusals : List Refusal
@@ -48,7 +48,7 @@ count_append_unowned : (xs ys : List UpRecord) → count_by is_unowned (xs ++ ys
 count_append_unowned xs ys = sum_by-append (λ (r : UpRecord). cond (is_unowned r) 1 0) xs ys
 
 -- the counts of records, followed by those of other records
-pub counted_more : (xs ys : List UpRecord) (n m : ℕ) (a b c : Counts) → CountsRecords xs n a b → CountsRecords ys m b c → CountsRecords (xs ++ ys) (n + m) a c
+pub counted_more : (xs ys : List UpRecord) (n m : ℕ) (a b c : PortCounts) → CountsRecords xs n a b → CountsRecords ys m b c → CountsRecords (xs ++ ys) (n + m) a c
 counted_more xs ys n m a b c p q =
     let split = count_append xs ys in
     let split_unowned = count_append_unowned xs ys in record {
@@ -61,7 +61,7 @@ counted_more xs ys n m a b c p q =
     }
 
 -- nothing to count
-pub counted_none : (a : Counts) → a.garbled ≤ MAX_COUNT → a.unowned ≤ MAX_COUNT → a.refused ≤ MAX_COUNT → CountsRecords [] 0 a a
+pub counted_none : (a : PortCounts) → a.garbled ≤ MAX_COUNT → a.unowned ≤ MAX_COUNT → a.refused ≤ MAX_COUNT → CountsRecords [] 0 a a
 counted_none a garbled unowned refused = record {
   refusals = 0;
   all = refl;
@@ -95,7 +95,7 @@ pub read_part : (held : List ℕ) (a b : Option (List ℕ)) → Consumes a b hel
 read_part held a b read = record { input = held; read = read; are = refl }
 
 -- one more record is read and counted
-pub so_far_more : (port number : ℕ) (burst : UpRecord) (bytes : List ℕ) (reports : List Receipt) (refusals : List Refusal) (a b c : Counts) (ka kb kc : Option (List Receipt)) (ra rb rc : Option (List ℕ))
+pub so_far_more : (port number : ℕ) (burst : UpRecord) (bytes : List ℕ) (reports : List Receipt) (refusals : List Refusal) (a b c : PortCounts) (ka kb kc : Option (List Receipt)) (ra rb rc : Option (List ℕ))
     → ReadSoFar port number [] a b ka kb ra rb → IsRecord bytes burst → Consumes rb rc bytes → TakesReports port (burst ∷ []) reports refusals → All IsNotMemory refusals → CountsRecords (burst ∷ []) (length reports) b c → KeepsAll kb reports kc → ReadSoFar port (number + 1) [] a c ka kc ra rc
 so_far_more port number burst bytes reports refusals a b c ka kb kc ra rb rc far is read takes memory counted kept = record {
   records = far.records ++ burst ∷ [];
@@ -111,7 +111,7 @@ so_far_more port number burst bytes reports refusals a b c ka kb kc ra rb rc far
 
 -- one more record is read, whose report is refused since memory is: what was taken and refused, why reading stops, the
 -- counts, and the bytes
-pub so_far_lacks : (port number : ℕ) (burst : UpRecord) (ka kb : Option (List Receipt)) (a b : Counts) (ra rb : Option (List ℕ)) (far : ReadSoFar port number [] a b ka kb ra rb) → RefusesReport burst OutOfMemory → LacksMemory port (far.records ++ burst ∷ []) far.reports
+pub so_far_lacks : (port number : ℕ) (burst : UpRecord) (ka kb : Option (List Receipt)) (a b : PortCounts) (ra rb : Option (List ℕ)) (far : ReadSoFar port number [] a b ka kb ra rb) → RefusesReport burst OutOfMemory → LacksMemory port (far.records ++ burst ∷ []) far.reports
 so_far_lacks port number burst ka kb a b ra rb far refused = record {
   before = far.records;
   last = burst;
@@ -122,21 +122,21 @@ so_far_lacks port number burst ka kb a b ra rb far refused = record {
   refused = refused;
 }
 
-pub so_far_refused : (port number : ℕ) (burst : UpRecord) (ka kb : Option (List Receipt)) (a b : Counts) (ra rb : Option (List ℕ)) (far : ReadSoFar port number [] a b ka kb ra rb) → RefusesReport burst OutOfMemory
+pub so_far_refused : (port number : ℕ) (burst : UpRecord) (ka kb : Option (List Receipt)) (a b : PortCounts) (ra rb : Option (List ℕ)) (far : ReadSoFar port number [] a b ka kb ra rb) → RefusesReport burst OutOfMemory
     → TakesReports port (far.records ++ burst ∷ []) far.reports (far.refusals ++ OutOfMemory ∷ [])
 so_far_refused port number burst ka kb a b ra rb far refused =
     subst (λ (rs : List Receipt). TakesReports port (far.records ++ burst ∷ []) rs (far.refusals ++ OutOfMemory ∷ [])) (append-nil far.reports)
     (takes_more port far.records (burst ∷ []) far.reports [] far.refusals (OutOfMemory ∷ []) far.takes (takes_refused port burst OutOfMemory refused))
 
-pub so_far_counted : (port number : ℕ) (burst : UpRecord) (ka kb : Option (List Receipt)) (a b c : Counts) (ra rb : Option (List ℕ)) (far : ReadSoFar port number [] a b ka kb ra rb) → CountsRecords (burst ∷ []) 0 b c → CountsRecords (far.records ++ burst ∷ []) (length far.reports) a c
+pub so_far_counted : (port number : ℕ) (burst : UpRecord) (ka kb : Option (List Receipt)) (a b c : PortCounts) (ra rb : Option (List ℕ)) (far : ReadSoFar port number [] a b ka kb ra rb) → CountsRecords (burst ∷ []) 0 b c → CountsRecords (far.records ++ burst ∷ []) (length far.reports) a c
 so_far_counted port number burst ka kb a b c ra rb far counted =
     subst (λ k. CountsRecords (far.records ++ burst ∷ []) k a c) (omega arith) (counted_more far.records (burst ∷ []) (length far.reports) 0 a b c far.counted counted)
 
-pub so_far_read : (port number : ℕ) (burst : UpRecord) (bytes : List ℕ) (ka kb : Option (List Receipt)) (a b : Counts) (ra rb rc : Option (List ℕ)) (far : ReadSoFar port number [] a b ka kb ra rb) → IsRecord bytes burst → Consumes rb rc bytes → HasRead (far.records ++ burst ∷ []) [] ra rc
+pub so_far_read : (port number : ℕ) (burst : UpRecord) (bytes : List ℕ) (ka kb : Option (List Receipt)) (a b : PortCounts) (ra rb rc : Option (List ℕ)) (far : ReadSoFar port number [] a b ka kb ra rb) → IsRecord bytes burst → Consumes rb rc bytes → HasRead (far.records ++ burst ∷ []) [] ra rc
 so_far_read port number burst bytes ka kb a b ra rb rc far is read = read_more far.records (burst ∷ []) [] ra rb rc far.read (read_one burst bytes rb rc is read)
 
 -- after records, bytes of the next one are read
-pub so_far_part : (port number : ℕ) (held : List ℕ) (a b : Counts) (ka kb : Option (List Receipt)) (ra rb rc : Option (List ℕ)) (far : ReadSoFar port number [] a b ka kb ra rb) → Consumes rb rc held
+pub so_far_part : (port number : ℕ) (held : List ℕ) (a b : PortCounts) (ka kb : Option (List Receipt)) (ra rb rc : Option (List ℕ)) (far : ReadSoFar port number [] a b ka kb ra rb) → Consumes rb rc held
     → HasRead far.records held ra rc
 so_far_part port number held a b ka kb ra rb rc far read =
     subst (λ (xs : List UpRecord). HasRead xs held ra rc) (append-nil far.records) (read_more far.records [] held ra rb rc far.read (read_part held rb rc read))
@@ -148,7 +148,7 @@ kept_read (Some x) None c bytes p q = absurd p
 kept_read (Some x) (Some y) None bytes p q = absurd q
 kept_read (Some x) (Some y) (Some z) bytes p q = sym p ∙ q
 
-pub none_so_far : (port : ℕ) (a : Counts) (ka : Option (List Receipt)) (ra : Option (List ℕ)) → a.garbled ≤ MAX_COUNT → a.unowned ≤ MAX_COUNT → a.refused ≤ MAX_COUNT → ReadSoFar port 0 [] a a ka ka ra ra
+pub none_so_far : (port : ℕ) (a : PortCounts) (ka : Option (List Receipt)) (ra : Option (List ℕ)) → a.garbled ≤ MAX_COUNT → a.unowned ≤ MAX_COUNT → a.refused ≤ MAX_COUNT → ReadSoFar port 0 [] a a ka ka ra ra
 none_so_far port a ka ra garbled unowned refused = record {
   records = [];
   reports = [];
@@ -185,7 +185,7 @@ begins_still old new up is_open same =
     subst (λ (h : List ℕ). MayBecomeRecord Up h) (sym same) (subst (λ (d : Direction). MayBecomeRecord d old.held) up is_open.beginning)
 
 -- no record was counted, and the counts of records are unchanged
-pub counted_kept : (a b : Counts) → b.reports ≡ a.reports → b.garbled ≡ a.garbled → b.unowned ≡ a.unowned → b.refused ≡ a.refused → a.garbled ≤ MAX_COUNT → a.unowned ≤ MAX_COUNT → a.refused ≤ MAX_COUNT → CountsRecords [] 0 a b
+pub counted_kept : (a b : PortCounts) → b.reports ≡ a.reports → b.garbled ≡ a.garbled → b.unowned ≡ a.unowned → b.refused ≡ a.refused → a.garbled ≤ MAX_COUNT → a.unowned ≤ MAX_COUNT → a.refused ≤ MAX_COUNT → CountsRecords [] 0 a b
 counted_kept a b reports garbled unowned refused small_garbled small_unowned small_refused = record {
   refusals = 0;
   all = refl;
@@ -196,7 +196,7 @@ counted_kept a b reports garbled unowned refused small_garbled small_unowned sma
 }
 
 -- an earlier count of a map changes no count of records
-pub counted_on : (a : Counts) (records : List UpRecord) (reports : ℕ) (b : Counts) → CountsRecords records reports (with_map a) b → CountsRecords records reports a b
+pub counted_on : (a : PortCounts) (records : List UpRecord) (reports : ℕ) (b : PortCounts) → CountsRecords records reports (with_map a) b → CountsRecords records reports a b
 counted_on a records reports b p = record { refusals = p.refusals; all = p.all; taken = p.taken; garbled = p.garbled; unowned = p.unowned; refused = p.refused }
 
 count_garbled : (burst : UpRecord) (b : Bool) → is_garbled burst ≡ b → count_by is_garbled (burst ∷ []) ≡ cond b 1 0
@@ -210,41 +210,41 @@ count_unowned burst b is =
     omega (arith, one)
 
 -- one record without a sender
-pub counted_garbled : (burst : UpRecord) (a b : Counts) → is_garbled burst ≡ true → b ≡ after_garbled burst.head a → a.refused ≤ MAX_COUNT → CountsRecords (burst ∷ []) 0 a b
+pub counted_garbled : (burst : UpRecord) (a b : PortCounts) → is_garbled burst ≡ true → b ≡ after_garbled burst.head a → a.refused ≤ MAX_COUNT → CountsRecords (burst ∷ []) 0 a b
 counted_garbled burst a b is counts small =
     let one : count_by is_garbled (burst ∷ []) ≡ 1 = count_garbled burst true is in
     let owner : is_unowned burst ≡ is_some burst.head = ap (λ (g : Bool). g && is_some burst.head) is in
     let unowned : count_by is_unowned (burst ∷ []) ≡ cond (is_some burst.head) 1 0 = count_unowned burst (is_some burst.head) owner in record {
       refusals = 0;
       all = omega (arith, one);
-      taken = omega (arith, ap (λ (k : Counts). k.reports) counts);
-      garbled = omega (arith, one, ap (λ (k : Counts). k.garbled) counts);
-      unowned = ap (λ (k : Counts). k.unowned) counts ∙ ap (λ k. min (a.unowned + k) MAX_COUNT) (sym unowned);
-      refused = omega (arith, ap (λ (k : Counts). k.refused) counts, small);
+      taken = omega (arith, ap (λ (k : PortCounts). k.reports) counts);
+      garbled = omega (arith, one, ap (λ (k : PortCounts). k.garbled) counts);
+      unowned = ap (λ (k : PortCounts). k.unowned) counts ∙ ap (λ k. min (a.unowned + k) MAX_COUNT) (sym unowned);
+      refused = omega (arith, ap (λ (k : PortCounts). k.refused) counts, small);
     }
 
 -- one record that the port took as a report
-pub counted_taken : (burst : UpRecord) (a b : Counts) → is_garbled burst ≡ false → b ≡ after_report (Ok tt) a → a.garbled ≤ MAX_COUNT → a.unowned ≤ MAX_COUNT → a.refused ≤ MAX_COUNT → CountsRecords (burst ∷ []) 1 a b
+pub counted_taken : (burst : UpRecord) (a b : PortCounts) → is_garbled burst ≡ false → b ≡ after_report (Ok tt) a → a.garbled ≤ MAX_COUNT → a.unowned ≤ MAX_COUNT → a.refused ≤ MAX_COUNT → CountsRecords (burst ∷ []) 1 a b
 counted_taken burst a b is counts small_garbled small_unowned small_refused =
     let none : count_by is_garbled (burst ∷ []) ≡ 0 = count_garbled burst false is in
     let owned : count_by is_unowned (burst ∷ []) ≡ 0 = count_unowned burst false (ap (λ (g : Bool). g && is_some burst.head) is) in record {
       refusals = 0;
       all = omega (arith, none);
-      taken = omega (arith, ap (λ (k : Counts). k.reports) counts);
-      garbled = omega (arith, none, ap (λ (k : Counts). k.garbled) counts, small_garbled);
-      unowned = omega (arith, owned, ap (λ (k : Counts). k.unowned) counts, small_unowned);
-      refused = omega (arith, ap (λ (k : Counts). k.refused) counts, small_refused);
+      taken = omega (arith, ap (λ (k : PortCounts). k.reports) counts);
+      garbled = omega (arith, none, ap (λ (k : PortCounts). k.garbled) counts, small_garbled);
+      unowned = omega (arith, owned, ap (λ (k : PortCounts). k.unowned) counts, small_unowned);
+      refused = omega (arith, ap (λ (k : PortCounts). k.refused) counts, small_refused);
     }
 
 -- one report that the port refused
-pub counted_refused : (burst : UpRecord) (fault : StepFault) (a b : Counts) → is_garbled burst ≡ false → b ≡ after_report (Err fault) a → a.garbled ≤ MAX_COUNT → a.unowned ≤ MAX_COUNT → CountsRecords (burst ∷ []) 0 a b
+pub counted_refused : (burst : UpRecord) (fault : StepFault) (a b : PortCounts) → is_garbled burst ≡ false → b ≡ after_report (Err fault) a → a.garbled ≤ MAX_COUNT → a.unowned ≤ MAX_COUNT → CountsRecords (burst ∷ []) 0 a b
 counted_refused burst fault a b is counts small_garbled small_unowned =
     let none : count_by is_garbled (burst ∷ []) ≡ 0 = count_garbled burst false is in
     let owned : count_by is_unowned (burst ∷ []) ≡ 0 = count_unowned burst false (ap (λ (g : Bool). g && is_some burst.head) is) in record {
       refusals = 1;
       all = omega (arith, none);
-      taken = omega (arith, ap (λ (k : Counts). k.reports) counts);
-      garbled = omega (arith, none, ap (λ (k : Counts). k.garbled) counts, small_garbled);
-      unowned = omega (arith, owned, ap (λ (k : Counts). k.unowned) counts, small_unowned);
-      refused = omega (arith, ap (λ (k : Counts). k.refused) counts);
+      taken = omega (arith, ap (λ (k : PortCounts). k.reports) counts);
+      garbled = omega (arith, none, ap (λ (k : PortCounts). k.garbled) counts, small_garbled);
+      unowned = omega (arith, owned, ap (λ (k : PortCounts). k.unowned) counts, small_unowned);
+      refused = omega (arith, ap (λ (k : PortCounts). k.refused) counts);
     }

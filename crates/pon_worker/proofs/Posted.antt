@@ -4,7 +4,7 @@ use Rattle.std.specs.Prelude.{slice_index, slice_set}
 use Rattle.std.proofs.lemmas.List.{get_or-set_same, get_or-set_other, length-set}
 use Rattle.pon_desk.specs.Counts.{SeatState, one_more_at}
 use Rattle.pon_worker.specs.Turns.{IsPostAt, KeepsPost, PostsAt, PostsEnd, RaisedAt, most_others}
-use Rattle.pon_worker.specs.declared.counts.Counts.{Counts}
+use Rattle.pon_worker.specs.declared.counts.PortCounts.{PortCounts}
 use Rattle.pon_worker.specs.declared.counts.StopReason.{StopReason}
 use Rattle.pon_worker.specs.declared.counts.StopReason.TheVariants.{Finished, Gave, GateLimit, Refused}
 use Rattle.pon_admit.specs.declared.event.Event.{Event}
@@ -42,7 +42,7 @@ raised_kept port n a b c p same = record {
 }
 
 -- the posts of one part, followed by those of another
-pub posts_more : (port x y : ℕ) (a b c : SeatState) (old mid new : Counts) → PostsAt port x a b old mid → PostsAt port y b c mid new → PostsAt port (x + y) a c old new
+pub posts_more : (port x y : ℕ) (a b c : SeatState) (old mid new : PortCounts) → PostsAt port x a b old mid → PostsAt port y b c mid new → PostsAt port (x + y) a c old new
 posts_more port x y a b c old mid new p q = record {
   posts = p.posts + q.posts;
   raised = raised_more port p.posts q.posts a b c p.raised q.raised;
@@ -50,7 +50,7 @@ posts_more port x y a b c old mid new p q = record {
 }
 
 -- no post, and no map or report counted
-pub posts_none : (port : ℕ) (s : SeatState) (old new : Counts) → new.maps ≡ old.maps → new.reports ≡ old.reports → PostsAt port 0 s s old new
+pub posts_none : (port : ℕ) (s : SeatState) (old new : PortCounts) → new.maps ≡ old.maps → new.reports ≡ old.reports → PostsAt port 0 s s old new
 posts_none port s old new maps reports = record {
   posts = 0;
   raised = raised_none port s;
@@ -58,7 +58,7 @@ posts_none port s old new maps reports = record {
 }
 
 -- one post, which is counted as one more map or report, or as another post
-pub posts_one : (port others : ℕ) (a b : SeatState) (old new : Counts) → RaisedAt port 1 a b → new.maps + new.reports + others ≡ old.maps + old.reports + 1 → PostsAt port others a b old new
+pub posts_one : (port others : ℕ) (a b : SeatState) (old new : PortCounts) → RaisedAt port 1 a b → new.maps + new.reports + others ≡ old.maps + old.reports + 1 → PostsAt port others a b old new
 posts_one port others a b old new raised counted = record {
   posts = 1;
   raised = raised;
@@ -66,22 +66,22 @@ posts_one port others a b old new raised counted = record {
 }
 
 -- the seat counts at least as many posts as maps and reports are counted
-pub posts_fit : (port : ℕ) (a b : SeatState) (old new : Counts) → PostsAt port 0 a b old new → old.maps + old.reports ≤ slice_index a.counts port → new.maps + new.reports ≤ slice_index b.counts port
+pub posts_fit : (port : ℕ) (a b : SeatState) (old new : PortCounts) → PostsAt port 0 a b old new → old.maps + old.reports ≤ slice_index a.counts port → new.maps + new.reports ≤ slice_index b.counts port
 posts_fit port a b old new p fits = omega (arith, p.are, p.raised.here, fits)
 
 -- a post that the port took, counted as a report
-pub posts_taken : (port : ℕ) (a b : SeatState) (old new : Counts) → RaisedAt port 1 a b → new.maps ≡ old.maps → new.reports ≡ old.reports + 1 → PostsAt port 0 a b old new
+pub posts_taken : (port : ℕ) (a b : SeatState) (old new : PortCounts) → RaisedAt port 1 a b → new.maps ≡ old.maps → new.reports ≡ old.reports + 1 → PostsAt port 0 a b old new
 posts_taken port a b old new raised maps reports = posts_one port 0 a b old new raised (omega (arith, maps, reports))
 
-pub posts_refused : (port : ℕ) (a b : SeatState) (old new : Counts) → b ≡ a → new.maps ≡ old.maps → new.reports ≡ old.reports → PostsAt port 0 a b old new
+pub posts_refused : (port : ℕ) (a b : SeatState) (old new : PortCounts) → b ≡ a → new.maps ≡ old.maps → new.reports ≡ old.reports → PostsAt port 0 a b old new
 posts_refused port a b old new same maps reports = subst (λ (s : SeatState). PostsAt port 0 a s old new) (sym same) (posts_none port a old new maps reports)
 
 -- one more map counted
-abbrev pub with_map : Counts → Counts
+abbrev pub with_map : PortCounts → PortCounts
 with_map a = record { maps = a.maps + 1; reports = a.reports; garbled = a.garbled; unowned = a.unowned; refused = a.refused }
 
 -- the post of a map, followed by those of its reports
-pub posts_made : (port : ℕ) (a b c : SeatState) (old new : Counts) → RaisedAt port 1 a b → PostsAt port 0 b c (with_map old) new → PostsAt port 0 a c old new
+pub posts_made : (port : ℕ) (a b c : SeatState) (old new : PortCounts) → RaisedAt port 1 a b → PostsAt port 0 b c (with_map old) new → PostsAt port 0 a c old new
 posts_made port a b c old new raised p = record {
   posts = 1 + p.posts;
   raised = raised_more port 1 p.posts a b c raised p.raised;
@@ -89,7 +89,7 @@ posts_made port a b c old new raised p = record {
 }
 
 -- posts, followed by others that are not counted
-pub posts_beside : (port others : ℕ) (a b c : SeatState) (old new : Counts) → PostsAt port 0 a b old new → RaisedAt port others b c → PostsAt port others a c old new
+pub posts_beside : (port others : ℕ) (a b c : SeatState) (old new : PortCounts) → PostsAt port 0 a b old new → RaisedAt port others b c → PostsAt port others a c old new
 posts_beside port others a b c old new p raised = record {
   posts = p.posts + others;
   raised = raised_more port p.posts others a b c p.raised raised;
@@ -97,7 +97,7 @@ posts_beside port others a b c old new p raised = record {
 }
 
 -- posts, followed by that of the failure of the port, if there is one
-pub posts_end : (port : ℕ) (why : StopReason) (a b c : SeatState) (old new : Counts) → PostsAt port 0 a b old new → PostsEnd port why b c → (others : ℕ) × (others ≤ most_others why) × PostsAt port others a c old new
+pub posts_end : (port : ℕ) (why : StopReason) (a b c : SeatState) (old new : PortCounts) → PostsAt port 0 a b old new → PostsEnd port why b c → (others : ℕ) × (others ≤ most_others why) × PostsAt port others a c old new
 posts_end port (Gave cause) a b c old new p (inl k) = (1, omega arith, posts_beside port 1 a b c old new p k.raised)
 posts_end port (Gave cause) a b c old new p (inr e) = (0, omega arith, subst (λ (s : SeatState). PostsAt port 0 a s old new) (sym e) p)
 posts_end port Finished a b c old new p e = (0, omega arith, subst (λ (s : SeatState). PostsAt port 0 a s old new) (sym e) p)

@@ -11,7 +11,7 @@ use Rattle.pon_link.specs.declared.fault.LinkFault.{LinkFault}
 use Rattle.pon_link.specs.declared.record.UpRecord.{UpRecord}
 use Rattle.pon_worker.specs.declared.causes.TheConstants.{READ_FAILED, BAD_RECORD, INPUT_ENDED}
 use Rattle.pon_worker.specs.declared.sending.TheConstants.{MAX_TRIES}
-use Rattle.pon_worker.specs.declared.counts.Counts.{Counts}
+use Rattle.pon_worker.specs.declared.counts.PortCounts.{PortCounts}
 use Rattle.pon_worker.specs.declared.counts.TheConstants.{MAX_COUNT}
 use Rattle.pon_worker.specs.declared.reading.TheConstants.{NO_ONU}
 
@@ -45,7 +45,7 @@ abbrev pub is_unowned : UpRecord → Bool
 is_unowned burst = is_garbled burst && is_some burst.head
 
 -- the counts of these records: this number of reports was taken, and the others were without a sender or refused
-pub record CountsRecords (records : List UpRecord) (reports : ℕ) (old new : Counts) : Type 0 where
+pub record CountsRecords (records : List UpRecord) (reports : ℕ) (old new : PortCounts) : Type 0 where
   pub refusals : ℕ
   pub all : reports + count_by is_garbled records + refusals ≡ length records
   pub taken : new.reports ≡ old.reports + reports
@@ -54,7 +54,7 @@ pub record CountsRecords (records : List UpRecord) (reports : ℕ) (old new : Co
   pub refused : new.refused ≡ min (old.refused + refusals) MAX_COUNT
 
 -- the counts after a record without a sender, which no unit owns if it has a burst header
-abbrev pub after_garbled : Option BurstHead → Counts → Counts
+abbrev pub after_garbled : Option BurstHead → PortCounts → PortCounts
 after_garbled head old = record {
   maps = old.maps;
   reports = old.reports;
@@ -64,7 +64,7 @@ after_garbled head old = record {
 }
 
 -- the counts after a report was posted: the port took it, or it was refused
-abbrev pub after_report : Result (Unit {0}) StepFault → Counts → Counts
+abbrev pub after_report : Result (Unit {0}) StepFault → PortCounts → PortCounts
 after_report (Ok taken) old = record { maps = old.maps; reports = old.reports + 1; garbled = old.garbled; unowned = old.unowned; refused = old.refused }
 after_report (Err fault) old = record { maps = old.maps; reports = old.reports; garbled = old.garbled; unowned = old.unowned; refused = min (old.refused + 1) MAX_COUNT }
 

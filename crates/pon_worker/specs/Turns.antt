@@ -21,11 +21,9 @@ use Rattle.pon_link.specs.declared.record.UpRecord.{UpRecord}
 use Rattle.pon_link.specs.Reading.{ReaderState}
 use Rattle.pon_worker.specs.Records.{CountsRecords, FailsInRow, HasRead, StopsFor, is_garbled, is_nobodys}
 use Rattle.pon_worker.specs.declared.causes.TheConstants.{WRITE_FAILED}
-use Rattle.pon_worker.specs.declared.counts.Counts.{Counts}
-use Rattle.pon_worker.specs.declared.counts.SoFar.{SoFar}
+use Rattle.pon_worker.specs.declared.counts.PortCounts.{PortCounts}
 use Rattle.pon_worker.specs.declared.counts.StopReason.{StopReason}
 use Rattle.pon_worker.specs.declared.counts.StopReason.TheVariants.{Finished, Gave, GateLimit, Refused}
-use Rattle.pon_worker.specs.declared.counts.WorkerEnd.{WorkerEnd}
 
 -- the number of posts at a port increased by n, and at no other port
 pub record RaisedAt (port n : ℕ) (old new : SeatState) : Type 0 where
@@ -90,11 +88,11 @@ pub record LacksMemory (port : ℕ) (records : List UpRecord) (reports : List Re
   pub refused : RefusesReport last OutOfMemory
 
 -- the seat counts at least as many posts at a port as maps and reports are counted
-abbrev pub CoversCounts : ℕ → SeatState → Counts → Type 0
+abbrev pub CoversCounts : ℕ → SeatState → PortCounts → Type 0
 CoversCounts port seat counts = counts.maps + counts.reports ≤ slice_index seat.counts port
 
 -- a record is counted: it is without a sender, or its report was posted, and the port took it or a check refused it
-pub record PostsRecord (port : ℕ) (burst : UpRecord) (old new : Counts) (seat_old seat_new : SeatState) : Type 0 where
+pub record PostsRecord (port : ℕ) (burst : UpRecord) (old new : PortCounts) (seat_old seat_new : SeatState) : Type 0 where
   pub reports : List Receipt
   pub refusals : List Refusal
   pub takes : TakesReports port (burst ∷ []) reports refusals
@@ -103,7 +101,7 @@ pub record PostsRecord (port : ℕ) (burst : UpRecord) (old new : Counts) (seat_
   pub kept : KeepsAll seat_old.receipts reports seat_new.receipts
 
 -- a record is counted whose report was refused since memory was
-pub record LacksReport (burst : UpRecord) (old new : Counts) (seat_old seat_new : SeatState) : Type 0 where
+pub record LacksReport (burst : UpRecord) (old new : PortCounts) (seat_old seat_new : SeatState) : Type 0 where
   pub refused : RefusesReport burst OutOfMemory
   pub counted : CountsRecords (burst ∷ []) 0 old new
   pub same : seat_new ≡ seat_old
@@ -142,7 +140,7 @@ receipts_in turn = turn.receipt ∷ turn.reports
 
 -- turns one after another: the bytes that were written and read, those of a further record last, the counts, and the
 -- receipts that the seat was given
-pub record Worked (port : ℕ) (turns : List Turn) (held : List ℕ) (old new : Counts) (seat_old seat_new : SeatState)
+pub record Worked (port : ℕ) (turns : List Turn) (held : List ℕ) (old new : PortCounts) (seat_old seat_new : SeatState)
     (held_old held_new left_old left_new : Option (List ℕ)) : Type 0 where
   pub each : All (IsTurn port) turns
   pub maps : new.maps ≡ old.maps + length turns
@@ -158,7 +156,7 @@ pub record IsWholeTurn (turn : Turn) : Type 0 where
   pub memory : All IsNotMemory turn.refusals
 
 -- whole turns
-pub record Turned (port : ℕ) (old new : Counts) (seat_old seat_new : SeatState) (held_old held_new left_old left_new : Option (List ℕ)) : Type 0 where
+pub record Turned (port : ℕ) (old new : PortCounts) (seat_old seat_new : SeatState) (held_old held_new left_old left_new : Option (List ℕ)) : Type 0 where
   pub turns : List Turn
   pub worked : Worked port turns [] old new seat_old seat_new held_old held_new left_old left_new
   pub whole : All IsWholeTurn turns
@@ -188,7 +186,7 @@ StopsReading port bursts (Refused fault) records reports refusals reader left =
 
 -- records were read and counted, and their reports posted: one record for each of this number of bursts, while memory was
 -- refused for no report, or the reading ended for this reason
-pub record ReadsBursts (port bursts : ℕ) (result : Result (Unit {0}) StopReason) (seat_old seat_new : SeatState) (old new : Counts) (reader : ReaderState) (left_old left_new : Option (List ℕ)) : Type 0 where
+pub record ReadsBursts (port bursts : ℕ) (result : Result (Unit {0}) StopReason) (seat_old seat_new : SeatState) (old new : PortCounts) (reader : ReaderState) (left_old left_new : Option (List ℕ)) : Type 0 where
   pub records : List UpRecord
   pub reports : List Receipt
   pub refusals : List Refusal
@@ -212,7 +210,7 @@ IsCutBy port why turn held left =
     (CutsSending why turn.made turn.sent × (turn.records ≡ []) × (held ≡ [])) ⊎ CutsReading port why turn held left
 
 -- whole turns, and one that was cut short for this reason
-pub record Stopped (port : ℕ) (why : StopReason) (old new : Counts) (seat_old seat_new : SeatState) (held_old held_new left_old left_new : Option (List ℕ)) : Type 0 where
+pub record Stopped (port : ℕ) (why : StopReason) (old new : PortCounts) (seat_old seat_new : SeatState) (held_old held_new left_old left_new : Option (List ℕ)) : Type 0 where
   pub turns : List Turn
   pub last : Turn
   pub held : List ℕ
@@ -221,22 +219,14 @@ pub record Stopped (port : ℕ) (why : StopReason) (old new : Counts) (seat_old 
   pub cut : IsCutBy port why last held left_new
 
 -- the posts at a port are the maps and the reports counted meanwhile, and a number of others
-pub record PostsAt (port others : ℕ) (seat_old seat_new : SeatState) (old new : Counts) : Type 0 where
+pub record PostsAt (port others : ℕ) (seat_old seat_new : SeatState) (old new : PortCounts) : Type 0 where
   pub posts : ℕ
   pub raised : RaisedAt port posts seat_old seat_new
   pub are : posts + old.maps + old.reports ≡ new.maps + new.reports + others
 
 -- all counts 0
-abbrev pub no_counts : Counts
+abbrev pub no_counts : PortCounts
 no_counts = record { maps = 0; reports = 0; garbled = 0; unowned = 0; refused = 0 }
-
--- what a worker with these counts did so far, if its sink dropped this number of chapters
-abbrev pub so_far : Counts → ℕ → SoFar
-so_far counts dropped = record { maps = counts.maps; reports = counts.reports; garbled = counts.garbled; unowned = counts.unowned; refused = counts.refused; dropped = dropped }
-
--- the counts of a worker that ended
-abbrev pub counts_of : WorkerEnd → Counts
-counts_of end = record { maps = end.maps; reports = end.reports; garbled = end.garbled; unowned = end.unowned; refused = end.refused }
 
 -- the desk made no map, for this reason: `NoSuchPort` exactly if it has no such port
 pub record MakesNoMap (port ports : ℕ) (fault : StepFault) : Type 0 where
@@ -245,7 +235,7 @@ pub record MakesNoMap (port ports : ℕ) (fault : StepFault) : Type 0 where
 
 -- turns that ended for this reason: whole turns if they are over or the desk, with this number of ports, made no map;
 -- otherwise one was cut short after them, also if a report was refused since memory was
-abbrev pub EndsAs : ℕ → ℕ → StopReason → Counts → Counts → SeatState → SeatState → Option (List ℕ) → Option (List ℕ) → Option (List ℕ) → Option (List ℕ) → Type 0
+abbrev pub EndsAs : ℕ → ℕ → StopReason → PortCounts → PortCounts → SeatState → SeatState → Option (List ℕ) → Option (List ℕ) → Option (List ℕ) → Option (List ℕ) → Type 0
 EndsAs port ports Finished old new seat_old seat_new held_old held_new left_old left_new =
     Turned port old new seat_old seat_new held_old held_new left_old left_new
 EndsAs port ports (Refused fault) old new seat_old seat_new held_old held_new left_old left_new =

@@ -18,55 +18,33 @@ pub enum StopReason {
     Refused(StepFault),
 }
 
-/// How a worker ended, and what it did. `garbled`, `unowned` and `refused` stay at 2^64 - 1 once they reach it.
+/// What a port counted of its worker's turns. `garbled`, `unowned` and `refused` stay at 2^64 - 1 once they reach it.
 #[derive(Clone, Copy, Debug, PartialEq, Eq)]
-pub struct WorkerEnd {
-    /// The number of maps that its port made for it.
+pub struct PortCounts {
+    /// The number of maps that the port made for its worker.
     pub maps: u64,
-    /// The number of reports that its port took.
+    /// The number of reports that the port took.
     pub reports: u64,
-    /// The number of records without a sender, which it dropped.
+    /// The number of records without a sender, which the worker dropped.
     pub garbled: u64,
     /// The number of those whose burst header is sound and has the ONU-ID 1023: no unit owns the burst. The burst headers
     /// of the others are refused: they are damaged.
     pub unowned: u64,
-    /// The number of reports that its port refused.
+    /// The number of reports that the port refused.
     pub refused: u64,
+}
+
+/// How a worker ended, and what it did.
+#[derive(Clone, Copy, Debug, PartialEq, Eq)]
+pub struct WorkerEnd {
+    /// What its port counted.
+    pub counts: PortCounts,
     /// Why it ended.
     pub why: StopReason,
 }
 
-/// What a worker did so far, for who watches it. `garbled`, `unowned`, `refused` and `dropped` stay at 2^64 - 1 once they
-/// reach it.
-#[derive(Clone, Copy, Debug, PartialEq, Eq)]
-pub struct SoFar {
-    /// The number of maps that its port made for it.
-    pub maps: u64,
-    /// The number of reports that its port took.
-    pub reports: u64,
-    /// The number of records without a sender, which it dropped.
-    pub garbled: u64,
-    /// The number of those whose burst header is sound and has the ONU-ID 1023: no unit owns the burst. The burst headers
-    /// of the others are refused: they are damaged.
-    pub unowned: u64,
-    /// The number of reports that its port refused.
-    pub refused: u64,
-    /// The number of chapters that its sink dropped.
-    pub dropped: u64,
-}
-
 /// The greatest value of a count.
 pub(crate) const MAX_COUNT: u64 = u64::MAX;
-
-/// The counts of a worker so far.
-#[derive(Clone, Copy, Debug, PartialEq, Eq)]
-pub(crate) struct Counts {
-    pub(crate) maps: u64,
-    pub(crate) reports: u64,
-    pub(crate) garbled: u64,
-    pub(crate) unowned: u64,
-    pub(crate) refused: u64,
-}
 
 // Returns the next count, at most the greatest value.
 pub(crate) fn count(number: u64) -> u64
@@ -75,21 +53,38 @@ pub(crate) fn count(number: u64) -> u64
     number.saturating_add(1)
 }
 
-impl Counts {
+impl PortCounts {
     ghost use Rattle.pon_worker.specs.Records.{after_garbled, after_report};
-    ghost use Rattle.pon_worker.specs.Turns.{counts_of, no_counts, so_far};
-    ghost use Rattle.std.specs.Prelude.{◌≡◌, ◌≢◌, ◌+◌, ◌<◌, ◌≤◌, ◌^◌, MatchBool, OnOk};
+    ghost use Rattle.pon_worker.specs.Turns.{no_counts};
+    ghost use Rattle.std.specs.Prelude.{◌≡◌, ◌≢◌, ◌+◌, ◌<◌, ◌≤◌, ◌^◌, MatchBool, OnOk, min};
 
-    // Returns counts of 0.
-    pub(crate) fn new() -> Counts
+    /// Counts of 0.
+    pub fn none() -> PortCounts
         ensures { result ≡ no_counts }
     {
-        Counts {
+        PortCounts {
             maps: 0,
             reports: 0,
             garbled: 0,
             unowned: 0,
             refused: 0,
+        }
+    }
+
+    /// Returns these counts and others together, each at most 2^64 - 1.
+    pub fn plus(&self, other: &PortCounts) -> PortCounts
+        ensures maps { result.maps ≡ min (self.now.maps + other.now.maps) MAX_COUNT }
+        ensures reports { result.reports ≡ min (self.now.reports + other.now.reports) MAX_COUNT }
+        ensures garbled { result.garbled ≡ min (self.now.garbled + other.now.garbled) MAX_COUNT }
+        ensures unowned { result.unowned ≡ min (self.now.unowned + other.now.unowned) MAX_COUNT }
+        ensures refused { result.refused ≡ min (self.now.refused + other.now.refused) MAX_COUNT }
+    {
+        PortCounts {
+            maps: self.maps.saturating_add(other.maps),
+            reports: self.reports.saturating_add(other.reports),
+            garbled: self.garbled.saturating_add(other.garbled),
+            unowned: self.unowned.saturating_add(other.unowned),
+            refused: self.refused.saturating_add(other.refused),
         }
     }
 
@@ -137,32 +132,11 @@ impl Counts {
         }
     }
 
-    // Returns what a worker with these counts did so far, if its sink dropped this number of chapters.
-    pub(crate) fn so_far(&self, dropped: u64) -> SoFar
-        ensures { result ≡ so_far self.now dropped }
-    {
-        SoFar {
-            maps: self.maps,
-            reports: self.reports,
-            garbled: self.garbled,
-            unowned: self.unowned,
-            refused: self.refused,
-            dropped,
-        }
-    }
-
     // Returns the end of a worker with these counts.
     pub(crate) fn end(&self, why: StopReason) -> WorkerEnd
-        ensures counts { counts_of result ≡ self.now }
+        ensures counts { result.counts ≡ self.now }
         ensures why { result.why ≡ why }
     {
-        WorkerEnd {
-            maps: self.maps,
-            reports: self.reports,
-            garbled: self.garbled,
-            unowned: self.unowned,
-            refused: self.refused,
-            why,
-        }
+        WorkerEnd { counts: *self, why }
     }
 }

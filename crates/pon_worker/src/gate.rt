@@ -1,6 +1,6 @@
 ghost use Rattle.std.specs.Prelude.{◌≡◌, ◌+◌, true, MatchBool};
 
-use crate::counts::SoFar;
+use crate::counts::PortCounts;
 use pon_units::PortNo;
 use std::marker::Model;
 
@@ -33,8 +33,9 @@ impl Gate for OpenGate {
 
 /// Gives a worker its turns.
 pub trait Pace {
-    /// Returns whether the worker makes another turn, after what it did so far.
-    fn next(&mut self, so_far: &SoFar) -> bool;
+    /// Returns whether the worker makes another turn, after what its port counted so far. `dropped` is the number of
+    /// chapters that its sink dropped.
+    fn next(&mut self, counts: &PortCounts, dropped: u64) -> bool;
 }
 
 /// A number of turns. Contracts see the number of turns that are left.
@@ -63,7 +64,7 @@ impl Turns {
 }
 
 impl Pace for Turns {
-    fn next(&mut self, _so_far: &SoFar) -> bool
+    fn next(&mut self, _counts: &PortCounts, _dropped: u64) -> bool
         ensures { MatchBool result (self.old ≡ self.new + 1) ((self.old ≡ 0) × (self.new ≡ 0)) }
     {
         let more = self.left > 0;

@@ -18,7 +18,7 @@ mod turn;
 mod work;
 
 pub use between::{cut_chapter, restore_port};
-pub use counts::{SoFar, StopReason, WorkerEnd};
+pub use counts::{PortCounts, StopReason, WorkerEnd};
 pub use gate::{Gate, OpenGate, Pace, Point, Turns};
 pub use pon_ring::Sink;
 pub use serving::serve_port;

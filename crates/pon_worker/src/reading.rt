@@ -5,7 +5,7 @@ ghost use Rattle.pon_worker.specs.Passing.{PassesChapters};
 ghost use Rattle.pon_worker.specs.Records.{is_nobodys};
 ghost use Rattle.pon_worker.specs.Turns.{CoversCounts, LacksReport, PostsAt, PostsRecord, ReadsBursts};
 
-use crate::counts::{Counts, StopReason};
+use crate::counts::{PortCounts, StopReason};
 use crate::gate::Gate;
 use crate::posting::ServedPort;
 use crate::receiving::receive;
@@ -49,7 +49,7 @@ fn post_record<L: Ledger, M: Ledger, G: Gate, T: Wait>(
     seat: &mut Seat<L, M>,
     sink: &mut Sink,
     burst: UpRecord,
-    counts: &mut Counts,
+    counts: &mut PortCounts,
 ) -> bool
     requires port { served.now.port < served.now.desk.now.ports }
     requires posts { CoversCounts served.now.port seat.old counts.old }

@@ -3,7 +3,7 @@
 ghost use Rattle.std.specs.Prelude.{◌≤◌, ℕ};
 ghost use Rattle.pon_ring.specs.Passing.{KeepsRing};
 ghost use Rattle.pon_worker.specs.Passing.{PassesChapters};
-ghost use Rattle.pon_worker.specs.Turns.{EndsAs, PostsAt, PostsEnd, counts_of, most_others, no_counts};
+ghost use Rattle.pon_worker.specs.Turns.{EndsAs, PostsAt, PostsEnd, most_others, no_counts};
 ghost use Rattle.pon_desk.specs.Counts.{SeatState};
 
 use crate::counts::{StopReason, WorkerEnd};
@@ -29,16 +29,15 @@ fn make_turns<L: Ledger, M: Ledger, G: Gate, P: Pace, R: DevRead, W: DevWrite, T
     writer: &mut W,
 ) -> WorkerEnd
     ensures ended { EndsAs served.now.port served.now.desk.now.ports result.why no_counts
-        (counts_of result) seat.old seat.new (W.contents writer.old) (W.contents writer.new)
+        result.counts seat.old seat.new (W.contents writer.old) (W.contents writer.new)
         (R.remaining reader.old) (R.remaining reader.new) }
-    ensures posts { PostsAt served.now.port 0 seat.old seat.new no_counts (counts_of result) }
+    ensures posts { PostsAt served.now.port 0 seat.old seat.new no_counts result.counts }
     ensures sink { PassesChapters sink.old sink.new }
 {
     let mut work = Work::new();
     let mut why = StopReason::Finished;
     for _ in served.rt.forever() {
-        let so_far = work.counts.so_far(sink.dropped());
-        if !pace.next(&so_far) {
+        if !pace.next(&work.counts, sink.dropped()) {
             break;
         }
         match turn(served, seat, sink, &mut work, reader, writer) {
@@ -95,11 +94,11 @@ pub fn serve_port<L: Ledger, M: Ledger, G: Gate, P: Pace, R: DevRead, W: DevWrit
     // of a map, and the records counted are those that were read. The seat was given the receipts of the maps and of the
     // reports, and then, in some state, that of the failure of the port, if one was posted.
     ensures ended { (mid : SeatState) × EndsAs port desk.now.ports result.why no_counts
-        (counts_of result) seat.old mid (W.contents writer.old) (W.contents writer.new)
+        result.counts seat.old mid (W.contents writer.old) (W.contents writer.new)
         (R.remaining reader.old) (R.remaining reader.new)
         × PostsEnd port result.why mid seat.new }
     ensures posts { (others : ℕ) × (others ≤ most_others result.why)
-        × PostsAt port others seat.old seat.new no_counts (counts_of result) }
+        × PostsAt port others seat.old seat.new no_counts result.counts }
     ensures sink { PassesChapters sink.old sink.new }
     ensures ring { KeepsRing sink.old sink.new }
 {

@@ -3,14 +3,14 @@ ghost use Rattle.std.specs.Prelude.{◌≡◌};
 ghost use Rattle.pon_link.specs.Reading.{empty};
 ghost use Rattle.pon_worker.specs.Turns.{no_counts};
 
-use crate::counts::Counts;
+use crate::counts::PortCounts;
 use pon_link::{Direction, UpReader};
 
 /// The work of a worker so far: the reader of the records of its link, and its counts.
 #[derive(Drop)]
 pub(crate) struct Work {
     pub(crate) up: UpReader,
-    pub(crate) counts: Counts,
+    pub(crate) counts: PortCounts,
 }
 
 impl Work {
@@ -20,7 +20,7 @@ impl Work {
     {
         Work {
             up: UpReader::new(),
-            counts: Counts::new(),
+            counts: PortCounts::none(),
         }
     }
 }

@@ -13,10 +13,11 @@ pub returns-in-Err-admit-clause-fault : goal.returns-in-Err-admit-clause-fault
 returns-in-Err-admit-clause-fault c =
     let spelled : row_at (view c.args.value.now) ≡ Some c.in-Ok.row = ap (option_and_then row_of) (sym c.in-Some.ensures) ∙ c.in-Ok.ensures.ok.0 in
     let numbers : number_refusal c.in-Ok.row.row ≡ None = c.in-Ok.ensures.ok.1 in
-    rw c.admission_fault.ensures (refused_row c.args.roster.now (view c.args.value.now) c.in-Ok.row c.in-Err-admit.refusal spelled numbers c.in-Err-admit.ensures.refused)
+    rw (c.new-in-Err-admit.ensures, c.admission_fault-fault.ensures) (refused_row c.args.roster.now (view c.args.value.now) c.in-Ok.row c.in-Err-admit.refusal spelled numbers c.in-Err-admit.ensures.refused)
 
 pub returns-in_default-clause-fault : goal.returns-in_default-clause-fault
-returns-in_default-clause-fault c = subst (λ o. IsAdmissionFault c.args.roster.now (option_and_then row_of o) Form) c.in_default.ensures refl
+returns-in_default-clause-fault c =
+    rw c.new.ensures (subst (λ o. IsAdmissionFault c.args.roster.now (option_and_then row_of o) Form) c.in_default.ensures refl)
 
 pub returns-in-Err-clause-fault : goal.returns-in-Err-clause-fault
 returns-in-Err-clause-fault c =

@@ -9,7 +9,7 @@ use Rattle.pon_settings.proofs.row.row_of.Goals as goal
 pub returns-in-Err-descriptor-clause-fault : goal.returns-in-Err-descriptor-clause-fault
 returns-in-Err-descriptor-clause-fault c =
     let t = table_view c.args.table.now in
-    let numbers : numbers_of t ≡ Some c.in-Some.numbers = search rules in
-    let ids : id_refusal c.in-Some.numbers.alloc_id c.in-Some.numbers.onu ≡ None = search rules in
+    let numbers : numbers_of t ≡ Some c.in-Ok.numbers = search rules in
+    let ids : id_refusal c.in-Ok.numbers.alloc_id c.in-Ok.numbers.onu ≡ None = search rules in
     let descriptor : IsDescrFault (described t) c.in-Err-descriptor.fault = search rules in
-    rw (c.descriptor_fault.ensures, numbers) (faulty_row c.in-Some.numbers (described t) c.in-Err-descriptor.fault ids descriptor)
+    rw (c.faulty_descriptor.ensures, numbers) (faulty_row c.in-Ok.numbers (described t) c.in-Err-descriptor.fault ids descriptor)

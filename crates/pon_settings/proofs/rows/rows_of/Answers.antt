@@ -11,7 +11,7 @@ returns-in-Err-clause-fault c =
     let within : c.loop-k.k < length vs = omega arith in
     let roster = c.loop-k.invariant.roster in
     let told = rw roster at c.in-Err.ensures.fault in
-    rw c.fault_at.ensures (first_fault c.args.port c.args.gap (map view vs) c.loop-k.k (view v) c.loop-k.rows.items c.in-Err.fault (view_at vs c.loop-k.k v within c.index-tables-k.is) c.loop-k.invariant.spelled told)
+    rw c.faulty_at.ensures (first_fault c.args.port c.args.gap (map view vs) c.loop-k.k (view v) c.loop-k.rows.items c.in-Err.faulty (view_at vs c.loop-k.k v within c.index-tables-k.is) c.loop-k.invariant.spelled told)
 
 pub loop-k-preserved : goal.loop-k-preserved
 loop-k-preserved c =

@@ -1,4 +1,4 @@
-use Rattle.std.proofs.Common.{[], refl, arith}
+use Rattle.std.proofs.Common.{[], arith}
 use Rattle.std.proofs.lemmas.List.Elements.{All-nil}
 use Rattle.pon_worker.specs.Turns.{IsNotMemory}
 use Rattle.pon_worker.proofs.Bursts.{counted_garbled}

@@ -1,6 +1,6 @@
 use Rattle.std.proofs.Common.{refl, sym, ap, subst, arith}
-use Rattle.pon_worker.specs.Turns.{EndsAs, PostsAt, Turned, counts_of, no_counts}
-use Rattle.pon_worker.specs.declared.counts.Counts.{Counts}
+use Rattle.pon_worker.specs.Turns.{EndsAs, PostsAt, Turned, no_counts}
+use Rattle.pon_worker.specs.declared.counts.PortCounts.{PortCounts}
 use Rattle.pon_worker.proofs.Passed.{passes_none, passes_then}
 use Rattle.pon_worker.proofs.Posted.{posts_fit, posts_more, posts_none}
 use Rattle.pon_worker.proofs.Works.{ends_more, ends_with, turned_more, turned_none}
@@ -13,10 +13,10 @@ loop-init g c =
     let start = turned_none c.args.served.now.port no_counts c.args.seat.now (g.W.DevWrite.contents c.args.writer.now) (g.R.DevRead.remaining c.args.reader.now) (omega arith) (omega arith) (omega arith) in record {
       why = refl;
       empty_again = c.new-work.ensures.up;
-      turned = subst (λ (k : Counts). Turned c.args.served.now.port no_counts k c.args.seat.now c.args.seat.now (g.W.DevWrite.contents c.args.writer.now) (g.W.DevWrite.contents c.args.writer.now) (g.R.DevRead.remaining c.args.reader.now) (g.R.DevRead.remaining c.args.reader.now)) none start;
-      posts = subst (λ (k : Counts). PostsAt c.args.served.now.port 0 c.args.seat.now c.args.seat.now no_counts k) none (posts_none c.args.served.now.port c.args.seat.now no_counts no_counts refl refl);
+      turned = subst (λ (k : PortCounts). Turned c.args.served.now.port no_counts k c.args.seat.now c.args.seat.now (g.W.DevWrite.contents c.args.writer.now) (g.W.DevWrite.contents c.args.writer.now) (g.R.DevRead.remaining c.args.reader.now) (g.R.DevRead.remaining c.args.reader.now)) none start;
+      posts = subst (λ (k : PortCounts). PostsAt c.args.served.now.port 0 c.args.seat.now c.args.seat.now no_counts k) none (posts_none c.args.served.now.port c.args.seat.now no_counts no_counts refl refl);
       sink = passes_none c.args.sink.now c.args.sink.now refl refl;
-      fits = omega (arith, ap (λ (k : Counts). k.maps) c.new-work.ensures.counts, ap (λ (k : Counts). k.reports) c.new-work.ensures.counts);
+      fits = omega (arith, ap (λ (k : PortCounts). k.maps) c.new-work.ensures.counts, ap (λ (k : PortCounts). k.reports) c.new-work.ensures.counts);
     }
 
 pub turn-requires-clause-empty : goal.turn-requires-clause-empty
@@ -53,7 +53,7 @@ returns-clause-ended g c =
           rw (w.why-is, w.work-is, w.seat-is, w.writer-is, w.reader-is)
           (ends_more port ports w.in-Err.ended no_counts c.loop.work.counts w.turn.new.work.counts old c.loop.seat w.turn.new.seat wrote (g.W.DevWrite.contents c.loop.writer) (g.W.DevWrite.contents w.turn.new.writer) reads (g.R.DevRead.remaining c.loop.reader) (g.R.DevRead.remaining w.turn.new.reader) far.turned w.in-Err.ensures.ended)
     ] in
-    ends_with port ports c.match-next.why c.end.result.why no_counts c.match-next.work.counts (counts_of c.end.result) old c.match-next.seat wrote writes reads left c.end.ensures.why c.end.ensures.counts ended
+    ends_with port ports c.match-next.why c.end.result.why no_counts c.match-next.work.counts c.end.result.counts old c.match-next.seat wrote writes reads left c.end.ensures.why c.end.ensures.counts ended
 
 pub returns-clause-posts : goal.returns-clause-posts
 returns-clause-posts g c =
@@ -65,7 +65,7 @@ returns-clause-posts g c =
       | in-Some+then-not-next w ↦ rw (w.seat-is, w.work-is) far.posts
       | in-Some+else-not-next+in-Err w ↦ rw (w.seat-is, w.work-is) (posts_more port 0 0 old c.loop.seat w.turn.new.seat no_counts c.loop.work.counts w.turn.new.work.counts far.posts w.turn.ensures.posts)
     ] in
-    subst (λ (k : Counts). PostsAt port 0 old c.match-next.seat no_counts k) (sym c.end.ensures.counts) posts
+    subst (λ (k : PortCounts). PostsAt port 0 old c.match-next.seat no_counts k) (sym c.end.ensures.counts) posts
 
 pub returns-clause-sink : goal.returns-clause-sink
 returns-clause-sink g c =

@@ -4,7 +4,7 @@ use Rattle.toml.specs.View.{view}
 use Rattle.pon_settings.specs.Ports.{SpellsPort}
 use Rattle.pon_settings.proofs.Admission.{view_at}
 use Rattle.pon_settings.proofs.PortFaults.{at_port, one_more_port}
-use Rattle.pon_settings.proofs.reader.ports_of.Goals as goal
+use Rattle.pon_settings.proofs.document.ports_of.Goals as goal
 
 pub returns-in-Err-clause-fault : goal.returns-in-Err-clause-fault
 returns-in-Err-clause-fault c =
