@@ -77,7 +77,7 @@ miscounted h port rs entries left all chapters each passed more =
 pub taken_otherwise : (h : PortHistory) (port : ℕ) (rs : List Receipt) (entries : List Placed) → entries ≡ all_placed h → ((k : ℕ) → IsRightChapter h k) → ((k : ℕ) → IsRightAt entries port rs k) → (length rs ≡ taken_of h.kept → ⊥) → IsMiscounted h port rs
 taken_otherwise h port rs entries all chapters each other =
     let P : List Placed → Type 0 = λ es. (k : ℕ) → IsRightAt es port rs k in
-    record { chapters = chapters; each = subst P all each; wrong = λ count. other count.taken; }
+    record { chapters = chapters; each = subst P all each; wrong = λ count. other count.taken }
 
 -- no entry is left
 pub settled_at_end : (h : PortHistory) (port : ℕ) (rs : List Receipt) (entries left : List Placed) → entries ≡ all_placed h → ((k : ℕ) → IsRightChapter h k) → ((k : ℕ) → IsRightAt entries port rs k) → entries ≡ map (λ (x : Receipt). x.placed) rs ++ left → left ≡ []

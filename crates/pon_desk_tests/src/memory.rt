@@ -96,7 +96,9 @@ fn a_seat_keeps_all_receipts_of_a_worker(rt: HostRuntime) {
 // Returns whether each record was taken, or only the last one refused, and the worker made all its turns exactly when none
 // was and no map was refused.
 fn is_right(end: &WorkerEnd) -> bool {
-    let is_whole = end.why == StopReason::Finished && end.counts.maps == TURNS && end.counts.refused == 0;
+    let is_whole = end.why == StopReason::Finished
+        && end.counts.maps == TURNS
+        && end.counts.refused == 0;
     let refused = StopReason::Refused(StepFault::Refused(Refusal::OutOfMemory));
     let is_cut = end.why == refused && end.counts.maps <= TURNS && end.counts.refused <= 1;
     (is_whole || is_cut) && end.counts.reports.wrapping_add(end.counts.refused) == end.counts.maps
