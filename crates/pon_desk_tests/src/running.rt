@@ -139,7 +139,7 @@ pub(crate) fn args(maps: u64) -> RunArgs<'static> {
     RunArgs {
         listen: HERE,
         units: UnitsPlace::Here { grow: false },
-        maps,
+        maps: Some(maps),
         pace: None,
         operate: None,
         record: None,

@@ -1,5 +1,5 @@
 -- The matches of `migrate`.
-use Rattle.std.proofs.Common.{◌≡◌, ℕ, List, Some, None, refl, sym}
+use Rattle.std.proofs.Common.{◌≡◌, List, Some, None, refl, sym}
 use Rattle.std.specs.Prelude.{codes}
 use Rattle.clap.specs.Walk.{Row, first_of}
 use Rattle.pon_job.specs.Jobs.{IsMigration, NamesNoJob}

@@ -2,8 +2,8 @@
 use Rattle.std.proofs.Common.{◌≡◌, ℕ, List, Option, Some, None, refl, subst, sym}
 use Rattle.std.specs.Prelude.{IfSome, IsNone, IsSomeAnd, MatchOption, codes}
 use Rattle.clap.specs.Walk.{Row, first_of}
-use Rattle.pon_job.specs.Jobs.{HasMaps, HasNumber, IsMeeting, IsRun, MayHave, NamesNoJob, Spells}
-use Rattle.pon_job.specs.declared.task.TheConstants.{MAX_FLUSH}
+use Rattle.pon_job.specs.Jobs.{HasNumber, IsMeeting, IsRun, MayHave, NamesNoJob, Spells}
+use Rattle.pon_job.specs.declared.task.TheConstants.{MAX_FLUSH, MAX_MAPS}
 use Rattle.pon_job.specs.declared.task.Meeting.{Meeting}
 use Rattle.pon_job.specs.declared.task.Run.{Run as RunOf}
 use Rattle.pon_job.specs.declared.task.Job.TheVariants.{Plan, Check, Audit, Show, Migrate, Run, Units}
@@ -51,5 +51,5 @@ without_meeting rows none = no_run rows (λ run is. none run.meeting is.meets)
 pub without_flush : (rows : List Row) → ((flush : Option ℕ) → ¬ MayHave (codes "flush") 0 MAX_FLUSH rows flush) → NamesNoJob (Some (codes "run", rows))
 without_flush rows none = no_run rows (λ run is. none run.flush is.flushes)
 
-pub without_number : (rows : List Row) → ((maps : ℕ) → ¬ HasMaps rows maps) → NamesNoJob (Some (codes "run", rows))
+pub without_number : (rows : List Row) → ((maps : Option ℕ) → ¬ MayHave (codes "maps") 1 MAX_MAPS rows maps) → NamesNoJob (Some (codes "run", rows))
 without_number rows none = no_run rows (λ run is. none run.maps is.number)

@@ -67,9 +67,9 @@ needed_config_rule = record config_rule { required = true }
 abbrev pub listen_rule : Rule
 listen_rule = record (option_rule (codes "listen")) { required = true }
 
--- the number of maps of `run`, which is required
+-- the number of maps of `run`
 abbrev pub maps_rule : Rule
-maps_rule = record (number_rule (codes "maps") 1 MAX_MAPS) { required = true }
+maps_rule = number_rule (codes "maps") 1 MAX_MAPS
 
 -- the file of a recording of `run` or `plan`
 abbrev pub record_rule : Rule
@@ -272,10 +272,6 @@ pub record Spells (low high : ℕ) (text : List ℕ) (number : ℕ) : Type 0 whe
 abbrev pub HasNumber : List ℕ → ℕ → ℕ → List Row → ℕ → Type 0
 HasNumber id low high rows number = IsSomeAnd (first_of id rows) (λ text. Spells low high text number)
 
--- the matches have this number of maps
-abbrev pub HasMaps : List Row → ℕ → Type 0
-HasMaps = HasNumber (codes "maps") 1 MAX_MAPS
-
 -- the matches have this number as the value of an argument, or no value
 abbrev pub MayHave : List ℕ → ℕ → ℕ → List Row → Option ℕ → Type 0
 MayHave id low high rows None = first_of id rows ≡ None
@@ -341,7 +337,7 @@ pub record IsMeeting (rows : List Row) (meeting : Meeting) : Type 0 where
 pub record IsRun (rows : List Row) (run : RunOf) : Type 0 where
   pub settings : first_of (codes "config") rows ≡ Some run.config.now
   pub address : first_of (codes "listen") rows ≡ Some run.listen.now
-  pub number : HasMaps rows run.maps
+  pub number : MayHave (codes "maps") 1 MAX_MAPS rows run.maps
   pub recording_file : first_of (codes "record") rows ≡ option_map (λ name. name.now) run.record
   pub operator : first_of (codes "operate") rows ≡ option_map (λ name. name.now) run.operate
   pub keeps : HasFlag (codes "no-clobber") rows run.no_clobber

@@ -34,16 +34,6 @@ fn number_in(text: &str, low: u64, high: u64) -> Option<u64>
     }
 }
 
-// Returns the number of an argument, which is in a range.
-fn number_of(found: &ArgMatches<'_>, id: &str, low: u64, high: u64) -> Option<u64>
-    ensures some { IfSome result (HasNumber id.now low high (rows_of (found_of found.now))) }
-    ensures none { IsNone result → (number : ℕ)
-        → ¬ HasNumber id.now low high (rows_of (found_of found.now)) number }
-{
-    let text = found.get_str(id)?;
-    number_in(text, low, high)
-}
-
 // Returns the number of an option, if it was given. `None` if its value is no number in the range.
 fn chosen(found: &ArgMatches<'_>, id: &str, low: u64, high: u64) -> Option<Option<u64>>
     ensures some { IfSome result (MayHave id.now low high (rows_of (found_of found.now))) }
@@ -152,7 +142,7 @@ fn run_of<'a>(found: &ArgMatches<'a>) -> Option<Job<'a>>
 {
     let config = found.get_str("config")?;
     let listen = found.get_str("listen")?;
-    let maps = number_of(found, "maps", 1, MAX_MAPS)?;
+    let maps = chosen(found, "maps", 1, MAX_MAPS)?;
     let meeting = meeting_of(found)?;
     let record = found.get_str("record");
     let no_clobber = is_given(found, "no-clobber");

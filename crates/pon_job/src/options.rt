@@ -154,8 +154,8 @@ pub(crate) fn maps_arg<'a>(alloc: Global) -> Arg<'a>
     ensures rule { rule_of result ≡ maps_rule }
     ensures local { result.global ≡ false }
 {
-    let help = "The number of maps that each port makes, 1 to 1000000000";
-    number_arg(alloc, "maps", 1, MAX_MAPS, help).required(true)
+    let help = "The number of maps that each port makes, 1 to 1000000000; no end if omitted";
+    number_arg(alloc, "maps", 1, MAX_MAPS, help)
 }
 
 pub(crate) fn record_arg<'a>(alloc: Global) -> Arg<'a>

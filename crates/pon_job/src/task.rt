@@ -122,8 +122,8 @@ pub struct Run<'a> {
     pub config: &'a str,
     /// The address of the sockets.
     pub listen: &'a str,
-    /// The number of maps at each port, 1 to [`MAX_MAPS`].
-    pub maps: u64,
+    /// The number of maps at each port, 1 to [`MAX_MAPS`]; `None` if the ports go on until the run is stopped.
+    pub maps: Option<u64>,
     /// How the ports meet their units.
     pub meeting: Meeting,
     /// The file for a recording of the ports' chapters; `None` for no recording.

@@ -79,42 +79,46 @@ static LINES: [(&str, &str); 9] = [
 ];
 
 /// Runs, and units elsewhere.
-static RUNS: [(&str, &str); 11] = [
+static RUNS: [(&str, &str); 12] = [
     (
         "olt run --config a.toml --listen 127.0.0.1:0 --maps 1",
-        r#"Run(Run { config: "a.toml", listen: "127.0.0.1:0", maps: 1, meeting: Meeting { external: false, once: false, grow: false, wait: None, pace: None }, record: None, no_clobber: false, strict_record: false, flush: None, operate: None, settle: false, progress: false, summary: false })"#,
+        r#"Run(Run { config: "a.toml", listen: "127.0.0.1:0", maps: Some(1), meeting: Meeting { external: false, once: false, grow: false, wait: None, pace: None }, record: None, no_clobber: false, strict_record: false, flush: None, operate: None, settle: false, progress: false, summary: false })"#,
     ),
     (
         "olt run --maps=1000000000 --listen=127.0.0.1:0 --config=a.toml",
-        r#"Run(Run { config: "a.toml", listen: "127.0.0.1:0", maps: 1000000000, meeting: Meeting { external: false, once: false, grow: false, wait: None, pace: None }, record: None, no_clobber: false, strict_record: false, flush: None, operate: None, settle: false, progress: false, summary: false })"#,
+        r#"Run(Run { config: "a.toml", listen: "127.0.0.1:0", maps: Some(1000000000), meeting: Meeting { external: false, once: false, grow: false, wait: None, pace: None }, record: None, no_clobber: false, strict_record: false, flush: None, operate: None, settle: false, progress: false, summary: false })"#,
     ),
     (
         "olt run --config a.toml --operate b.txt --listen 127.0.0.1:0 --maps 3 --record r.bin",
-        r#"Run(Run { config: "a.toml", listen: "127.0.0.1:0", maps: 3, meeting: Meeting { external: false, once: false, grow: false, wait: None, pace: None }, record: Some("r.bin"), no_clobber: false, strict_record: false, flush: None, operate: Some("b.txt"), settle: false, progress: false, summary: false })"#,
+        r#"Run(Run { config: "a.toml", listen: "127.0.0.1:0", maps: Some(3), meeting: Meeting { external: false, once: false, grow: false, wait: None, pace: None }, record: Some("r.bin"), no_clobber: false, strict_record: false, flush: None, operate: Some("b.txt"), settle: false, progress: false, summary: false })"#,
     ),
     (
         "olt run --settle --config a.toml --listen 127.0.0.1:0 --maps 2",
-        r#"Run(Run { config: "a.toml", listen: "127.0.0.1:0", maps: 2, meeting: Meeting { external: false, once: false, grow: false, wait: None, pace: None }, record: None, no_clobber: false, strict_record: false, flush: None, operate: None, settle: true, progress: false, summary: false })"#,
+        r#"Run(Run { config: "a.toml", listen: "127.0.0.1:0", maps: Some(2), meeting: Meeting { external: false, once: false, grow: false, wait: None, pace: None }, record: None, no_clobber: false, strict_record: false, flush: None, operate: None, settle: true, progress: false, summary: false })"#,
     ),
     (
         "olt run --config a.toml --listen h:1 --maps 1 --units external --wait 3600 --pace 1000000 --progress --summary",
-        r#"Run(Run { config: "a.toml", listen: "h:1", maps: 1, meeting: Meeting { external: true, once: false, grow: false, wait: Some(3600), pace: Some(1000000) }, record: None, no_clobber: false, strict_record: false, flush: None, operate: None, settle: false, progress: true, summary: true })"#,
+        r#"Run(Run { config: "a.toml", listen: "h:1", maps: Some(1), meeting: Meeting { external: true, once: false, grow: false, wait: Some(3600), pace: Some(1000000) }, record: None, no_clobber: false, strict_record: false, flush: None, operate: None, settle: false, progress: true, summary: true })"#,
     ),
     (
         "olt run --units simulated --config a.toml --listen h:1 --maps 1 --operate -",
-        r#"Run(Run { config: "a.toml", listen: "h:1", maps: 1, meeting: Meeting { external: false, once: false, grow: false, wait: None, pace: None }, record: None, no_clobber: false, strict_record: false, flush: None, operate: Some("-"), settle: false, progress: false, summary: false })"#,
+        r#"Run(Run { config: "a.toml", listen: "h:1", maps: Some(1), meeting: Meeting { external: false, once: false, grow: false, wait: None, pace: None }, record: None, no_clobber: false, strict_record: false, flush: None, operate: Some("-"), settle: false, progress: false, summary: false })"#,
     ),
     (
         "olt run --config a.toml --listen h:1 --maps 1 --pace=1 --wait=1",
-        r#"Run(Run { config: "a.toml", listen: "h:1", maps: 1, meeting: Meeting { external: false, once: false, grow: false, wait: Some(1), pace: Some(1) }, record: None, no_clobber: false, strict_record: false, flush: None, operate: None, settle: false, progress: false, summary: false })"#,
+        r#"Run(Run { config: "a.toml", listen: "h:1", maps: Some(1), meeting: Meeting { external: false, once: false, grow: false, wait: Some(1), pace: Some(1) }, record: None, no_clobber: false, strict_record: false, flush: None, operate: None, settle: false, progress: false, summary: false })"#,
     ),
     (
         "olt run --strict-record --record=r.bin --config a.toml --listen h:1 --maps 1",
-        r#"Run(Run { config: "a.toml", listen: "h:1", maps: 1, meeting: Meeting { external: false, once: false, grow: false, wait: None, pace: None }, record: Some("r.bin"), no_clobber: false, strict_record: true, flush: None, operate: None, settle: false, progress: false, summary: false })"#,
+        r#"Run(Run { config: "a.toml", listen: "h:1", maps: Some(1), meeting: Meeting { external: false, once: false, grow: false, wait: None, pace: None }, record: Some("r.bin"), no_clobber: false, strict_record: true, flush: None, operate: None, settle: false, progress: false, summary: false })"#,
     ),
     (
         "olt run --once --grow --flush 0 --config a.toml --listen h:1 --maps 1",
-        r#"Run(Run { config: "a.toml", listen: "h:1", maps: 1, meeting: Meeting { external: false, once: true, grow: true, wait: None, pace: None }, record: None, no_clobber: false, strict_record: false, flush: Some(0), operate: None, settle: false, progress: false, summary: false })"#,
+        r#"Run(Run { config: "a.toml", listen: "h:1", maps: Some(1), meeting: Meeting { external: false, once: true, grow: true, wait: None, pace: None }, record: None, no_clobber: false, strict_record: false, flush: Some(0), operate: None, settle: false, progress: false, summary: false })"#,
+    ),
+    (
+        "olt run --config a.toml --listen h:1 --operate -",
+        r#"Run(Run { config: "a.toml", listen: "h:1", maps: None, meeting: Meeting { external: false, once: false, grow: false, wait: None, pace: None }, record: None, no_clobber: false, strict_record: false, flush: None, operate: Some("-"), settle: false, progress: false, summary: false })"#,
     ),
     (
         "olt units --config a.toml --connect h:1",
@@ -234,7 +238,6 @@ fn needs_the_arguments_of_a_run(rt: HostRuntime) {
     for line in [
         "olt run --listen 127.0.0.1:0 --maps 3",
         "olt run --config a.toml --maps 3",
-        "olt run --config a.toml --listen 127.0.0.1:0 --operate b.txt",
         "olt run",
         "olt units --config a.toml",
         "olt units --connect 127.0.0.1:1",

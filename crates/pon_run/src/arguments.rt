@@ -26,8 +26,8 @@ pub struct RunArgs<'a> {
     pub listen: &'a str,
     /// Where the units of the ports are.
     pub units: UnitsPlace,
-    /// The number of maps that each port makes.
-    pub maps: u64,
+    /// The number of maps that each port makes; `None` if the ports go on until the run is stopped.
+    pub maps: Option<u64>,
     /// The number of maps of each port in a second of the clock. `None` if each map is made as soon as the one before is
     /// answered.
     pub pace: Option<u64>,
@@ -53,6 +53,14 @@ pub struct RunArgs<'a> {
 }
 
 impl<'a> RunArgs<'a> {
+    /// The number of maps that a port still makes after this number of them.
+    pub(crate) fn maps_left(&self, made: u64) -> u64 {
+        match self.maps {
+            Some(maps) => maps.saturating_sub(made),
+            None => u64::MAX,
+        }
+    }
+
     /// The file of the operator's management lines, if they come from one.
     pub(crate) fn lines_file(&self) -> Option<&'a str> {
         match self.operate {

@@ -86,7 +86,7 @@ pub(crate) fn next_stream<L: Ledger, M: Ledger, K: Rings, G: Gate, R: Wait + Clo
     let StopReason::Gave { cause } = ended.why else {
         return None;
     };
-    if ended.counts.maps >= server.run.args.maps {
+    if server.run.args.maps_left(ended.counts.maps) == 0 {
         return None;
     }
     let stream = wait_for_units(server, visitors)?;

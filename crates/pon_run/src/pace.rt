@@ -2,18 +2,17 @@
 
 use crate::context::RunContext;
 use crate::timer::Timer;
-use crate::watch::PortWatch;
+use crate::watch::{PortWatch, RunWatch};
 use pon_files::FlushTimer;
 use pon_units::PortNo;
 use pon_worker::{Gate, Pace, PortCounts, Turns};
-use std::sync::atomic::{AtomicBool, Ordering};
 use std::time::Clock;
 
-/// A number of turns, made while a flag is not set, each at its time if there is a timer.
+/// A number of turns, made while the run is not stopped, each at its time if there is a timer.
 #[derive(Drop)]
 pub(crate) struct RunPace<'a, R> {
     turns: Turns,
-    stop: &'a AtomicBool,
+    run: &'a RunWatch,
     timer: Option<Timer<'a, R>>,
     watch: Option<&'a PortWatch>,
     // What the port counted before.
@@ -35,12 +34,11 @@ impl<'a, R: Clock> RunPace<'a, R> {
     pub(crate) fn new<G: Gate>(
         run: &'a RunContext<'a, G, R>,
         port: PortNo,
-        stop: &'a AtomicBool,
         before: PortCounts,
     ) -> Self {
         RunPace {
-            turns: Turns::new(run.args.maps.saturating_sub(before.maps)),
-            stop,
+            turns: Turns::new(run.args.maps_left(before.maps)),
+            run: run.watch,
             timer: run.args.pace.map(|rate| Timer::new(run.rt, rate)),
             watch: run.watch.port(port),
             before,
@@ -81,7 +79,7 @@ impl<'a, R: Clock> Pace for RunPace<'a, R> {
         if let Some(watch) = self.watch {
             watch.see(&self.before.plus(counts), dropped);
         }
-        if self.stop.load(Ordering::SeqCst) {
+        if self.run.is_stopped() {
             return false;
         }
         self.cut = self.is_cut_due();

@@ -32,6 +32,16 @@ fn is_down(why: StopReason) -> bool {
     )
 }
 
+/// Returns why a worker ended in a run that was stopped: one that waited then for its port or for its units has made all its
+/// turns.
+pub(crate) fn why_stopped(why: StopReason) -> StopReason {
+    match why {
+        StopReason::Gave { .. } => StopReason::Finished,
+        why if is_down(why) => StopReason::Finished,
+        why => why,
+    }
+}
+
 // Returns whether a port is up.
 fn is_up<L: Ledger, M: Ledger, G: Gate, R: Wait>(server: &PortServer<'_, L, M, G, R>) -> bool {
     let look = |port: &Port| port.state().cause().is_none();

@@ -61,27 +61,6 @@ pub(crate) struct Results<L: Ledger, M: Ledger, K: Rings, W> {
     pub(crate) operated: Result<(), DeviceFault>,
 }
 
-/// The flags that stop the threads of a run: the workers, and those that serve them until they have ended.
-#[derive(Drop)]
-struct Stops {
-    workers: AtomicBool,
-    others: AtomicBool,
-}
-
-impl Stops {
-    fn new() -> Self {
-        Stops {
-            workers: AtomicBool::new(false),
-            others: AtomicBool::new(false),
-        }
-    }
-
-    fn set_both(&self) {
-        self.workers.store(true, Ordering::SeqCst);
-        self.others.store(true, Ordering::SeqCst);
-    }
-}
-
 // Starts the thread of the units of a port. `None` if it cannot be created.
 fn start_units<'s, E, L, M, G, R>(
     scope: &Scope<'s, E>,
@@ -107,7 +86,6 @@ fn start_worker<'s, E, L, M, K, G, R>(
     run: &'s RunContext<'s, G, R>,
     desk: &'s Desk<L, M>,
     worker: WorkerPart<L, M, K>,
-    stop: &'s AtomicBool,
 ) -> Option<JoinHandle<Worked<L, M, K>>>
 where
     L: Ledger + Send + Sync,
@@ -116,7 +94,7 @@ where
     G: Gate + Sync,
     R: Wait + Clock + Eprint + Sync,
 {
-    scope.spawn(move || work(run, desk, worker, stop)).ok()
+    scope.spawn(move || work(run, desk, worker)).ok()
 }
 
 // Starts the threads of a port. `None` if one cannot be created; the other then finds its connection closed, and ends.
@@ -126,7 +104,6 @@ fn start<'s, E, L, M, K, G, R>(
     desk: &'s Desk<L, M>,
     part: WorkerPart<L, M, K>,
     units: Option<UnitsPart>,
-    stop: &'s AtomicBool,
 ) -> Option<Running<L, M, K>>
 where
     L: Ledger + Send + Sync,
@@ -140,7 +117,7 @@ where
         Some(units) => Some(start_units(scope, run, desk, port, units)?),
         None => None,
     };
-    let worker = start_worker(scope, run, desk, part, stop)?;
+    let worker = start_worker(scope, run, desk, part)?;
     Some(Running { worker, units })
 }
 
@@ -150,7 +127,6 @@ fn start_all<'s, E, L, M, K, G, R>(
     run: &'s RunContext<'s, G, R>,
     desk: &'s Desk<L, M>,
     all: Vec<Served<L, M, K>>,
-    stop: &'s AtomicBool,
 ) -> Result<Vec<Running<L, M, K>>, DeviceFault>
 where
     L: Ledger + Send + Sync,
@@ -161,7 +137,7 @@ where
 {
     let mut running = Vec::with_capacity(run.alloc, all.len())?;
     for Served { worker, units } in all {
-        let Some(threads) = start(scope, run, desk, worker, units, stop) else {
+        let Some(threads) = start(scope, run, desk, worker, units) else {
             return Err(DeviceFault::Memory);
         };
         running.push(threads)?;
@@ -230,7 +206,7 @@ fn start_threads<'s, E, L, M, K, G, W, R>(
     run: &'s RunContext<'s, G, R>,
     desk: &'s Desk<L, M>,
     ports: PortsServed<L, M, K, W>,
-    stops: &'s Stops,
+    stop: &'s AtomicBool,
 ) -> Result<RunThreads<L, M, K, W>, DeviceFault>
 where
     L: Ledger + Send + Sync,
@@ -241,9 +217,9 @@ where
     R: Wait + Clock + Eprint + Sync,
 {
     let PortsServed { all, recording } = ports;
-    let recorder = start_recorder(scope, run, recording, &stops.others)?;
-    let progress = start_progress(scope, run, &stops.others)?;
-    let ports = start_all(scope, run, desk, all, &stops.workers)?;
+    let recorder = start_recorder(scope, run, recording, stop)?;
+    let progress = start_progress(scope, run, stop)?;
+    let ports = start_all(scope, run, desk, all)?;
     Ok(RunThreads {
         ports,
         recorder,
@@ -255,7 +231,7 @@ where
 fn end_threads<L: Ledger, M: Ledger, K: Rings, G: Gate, W: Drop, R: Threads>(
     run: &RunContext<'_, G, R>,
     threads: RunThreads<L, M, K, W>,
-    stops: &Stops,
+    stop: &AtomicBool,
     operated: Result<(), DeviceFault>,
 ) -> Result<Results<L, M, K, W>, DeviceFault> {
     let RunThreads {
@@ -264,7 +240,7 @@ fn end_threads<L: Ledger, M: Ledger, K: Rings, G: Gate, W: Drop, R: Threads>(
         progress,
     } = threads;
     let worked = join_all(run.rt, run.alloc, ports);
-    stops.others.store(true, Ordering::SeqCst);
+    stop.store(true, Ordering::SeqCst);
     let _printed = progress.map(|thread| thread.join(run.rt));
     let recording = match recorder {
         None => None,
@@ -297,23 +273,24 @@ where
     O: FnOnce() -> Result<(), DeviceFault>,
     requires { O.pre meanwhile }
 {
-    let stops = Stops::new();
-    let flags = &stops;
+    let stopped = AtomicBool::new(false);
+    let stop = &stopped;
     thread::scope(
         thread::scope_env(),
         run.rt,
         move |scope| -> Result<Results<L, M, K, W>, DeviceFault>
             requires { O.pre meanwhile }
         {
-            let threads = match start_threads(scope, run, desk, ports, flags) {
+            let threads = match start_threads(scope, run, desk, ports, stop) {
                 Ok(threads) => threads,
                 Err(fault) => {
-                    flags.set_both();
+                    run.watch.stop();
+                    stop.store(true, Ordering::SeqCst);
                     return Err(fault);
                 }
             };
             let operated = meanwhile();
-            end_threads(run, threads, flags, operated)
+            end_threads(run, threads, stop, operated)
         },
     )
 }

@@ -4,7 +4,7 @@ use crate::connecting::next_stream;
 use crate::context::RunContext;
 use crate::early::WhyEnded;
 use crate::pace::RunPace;
-use crate::restoring::{is_served_again, nothing_done};
+use crate::restoring::{is_served_again, nothing_done, why_stopped};
 use crate::server::PortServer;
 use pon_descr::Refusal;
 use pon_desk::{Desk, Seat, StepFault};
@@ -18,7 +18,6 @@ use std::alloc::AllocError;
 use std::io::BufReader;
 use std::net::TcpStream;
 use std::sync::Wait;
-use std::sync::atomic::AtomicBool;
 use std::sync::ledger::Ledger;
 use std::time::Clock;
 
@@ -80,7 +79,7 @@ where
     R: Wait + Clock,
 {
     let (run, desk, port) = (server.run, server.desk, server.port);
-    let mut pace = RunPace::new(run, port, server.stop, ended.counts);
+    let mut pace = RunPace::new(run, port, ended.counts);
     for _ in run.rt.forever() {
         let served = serve_port(
             run.rt,
@@ -146,6 +145,9 @@ fn serve<L: Ledger, M: Ledger, K: Rings, G: Gate, R: Wait + Clock + Eprint>(
         drop(stream);
         next = next_stream(server, seat, sink, &mut visitors, &ended);
     }
+    if server.is_stopped() {
+        ended.why = why_stopped(ended.why);
+    }
     Ok(ended)
 }
 
@@ -163,7 +165,6 @@ pub(crate) fn work<'a, L: Ledger, M: Ledger, K: Rings, G: Gate, R: Wait + Clock 
     run: &'a RunContext<'a, G, R>,
     desk: &'a Desk<L, M>,
     part: WorkerPart<L, M, K>,
-    stop: &'a AtomicBool,
 ) -> Worked<L, M, K> {
     let WorkerPart {
         mut seat,
@@ -172,12 +173,7 @@ pub(crate) fn work<'a, L: Ledger, M: Ledger, K: Rings, G: Gate, R: Wait + Clock 
         visitors,
     } = part;
     let port = sink.port;
-    let server = PortServer {
-        run,
-        desk,
-        port,
-        stop,
-    };
+    let server = PortServer { run, desk, port };
     let end = serve(&server, &mut seat, &mut sink, stream, visitors);
     run.watch.end_worker(port, end_number(&end));
     Worked { seat, sink, end }

@@ -156,12 +156,13 @@ impl PortWatch {
 }
 
 /// What is seen of a run: the numbers of each port, in order, the number of workers that have ended, and whether the
-/// operator has.
+/// operator has ended, or the run is stopped.
 #[derive(Drop)]
 pub(crate) struct RunWatch {
     ports: Vec<PortWatch>,
     ended: AtomicU64,
     operated: AtomicBool,
+    stopped: AtomicBool,
 }
 
 impl RunWatch {
@@ -175,6 +176,7 @@ impl RunWatch {
             ports: all,
             ended: AtomicU64::new(0),
             operated: AtomicBool::new(!operator),
+            stopped: AtomicBool::new(false),
         })
     }
 
@@ -204,6 +206,16 @@ impl RunWatch {
     /// Returns whether there is no operator, or it has ended, so that no line restores a port any more.
     pub(crate) fn is_operated(&self) -> bool {
         self.operated.load(Ordering::SeqCst)
+    }
+
+    /// Stops the run: each worker finishes its turn, and makes no further one.
+    pub(crate) fn stop(&self) {
+        self.stopped.store(true, Ordering::SeqCst);
+    }
+
+    /// Returns whether the run is stopped.
+    pub(crate) fn is_stopped(&self) -> bool {
+        self.stopped.load(Ordering::SeqCst)
     }
 
     /// Returns whether the worker of each port has ended.

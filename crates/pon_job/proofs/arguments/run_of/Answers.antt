@@ -2,7 +2,7 @@ use Rattle.std.proofs.Common.{◌∙◌, refl, rules, sym, codes}
 use Rattle.clap.specs.Matches.{found_of}
 use Rattle.clap.specs.Walk.{rows_of}
 use Rattle.clap.proofs.WalkLemmas.{first_value-rows}
-use Rattle.pon_job.proofs.Runs.{without_address, without_flush, without_meeting, without_settings}
+use Rattle.pon_job.proofs.Runs.{without_address, without_flush, without_meeting, without_number, without_settings}
 use Rattle.pon_job.proofs.arguments.run_of.Goals as goal
 
 pub returns-in_err-config-clause-none : goal.returns-in_err-config-clause-none
@@ -13,6 +13,11 @@ returns-in_err-config-clause-none c =
 pub returns-in_err-listen-clause-none : goal.returns-in_err-listen-clause-none
 returns-in_err-listen-clause-none c =
     let none = without_address (rows_of (found_of c.args.found.now)) (c.in_err-listen.ensures ∙ first_value-rows (found_of c.args.found.now) (codes "listen")) in
+    λ _. none
+
+pub returns-in_err-maps-clause-none : goal.returns-in_err-maps-clause-none
+returns-in_err-maps-clause-none c =
+    let none = without_number (rows_of (found_of c.args.found.now)) (c.in_err-maps.ensures.none (search rules)) in
     λ _. none
 
 pub returns-in_err-meeting-clause-none : goal.returns-in_err-meeting-clause-none
