@@ -10,7 +10,7 @@ use pon_desk::{Desk, Seat};
 use pon_device::{DevRead, DevWrite, DeviceFault, StdRead};
 use pon_files::open_input;
 use pon_job::{Failure, Named};
-use pon_manage::{ShowNotes, operate_noted};
+use pon_manage::{RunNotes, operate_noted};
 use pon_worker::Gate;
 use std::alloc::Global;
 use std::fs::{self, OpenOptions};
@@ -75,14 +75,14 @@ pub(crate) fn open_operator<G: Gate, R: Files>(
     }
 }
 
-/// Says on standard error how a port is served whose state was shown.
+/// Says on standard error how a port is served whose state was shown, and stops the run.
 #[derive(Drop)]
 struct ServiceNotes<'a, R> {
     rt: &'a R,
     watch: &'a RunWatch,
 }
 
-impl<'a, R: Eprint> ShowNotes for ServiceNotes<'a, R> {
+impl<'a, R: Eprint> RunNotes for ServiceNotes<'a, R> {
     fn shown(&self, port: usize) {
         let Some(seen) = self.watch.ports().get(port) else {
             return;
@@ -92,6 +92,10 @@ impl<'a, R: Eprint> ShowNotes for ServiceNotes<'a, R> {
             Service::Ended(why) => eprintln!(self.rt; "  port {port} {service}: {why}"),
             Service::Served | Service::Waiting => eprintln!(self.rt; "  port {port} {service}"),
         };
+    }
+
+    fn stop(&self) {
+        self.watch.stop();
     }
 }
 
