@@ -1,11 +1,11 @@
 //! Management lines at desks: the text is that of a plant with the same ports. Each port has a gap of 16 words and
 //! starts at frame 0.
-ghost use Rattle.std.specs.Prelude.{◌≡◌, ◌<◌};
+ghost use Rattle.std.specs.Prelude.{◌≡◌, ◌<◌, true};
 
 use crate::bench::{admission, cfg, number};
 use pon_desk::{Desk, Seat};
 use pon_device::{DeviceFault, MemRead, MemWrite};
-use pon_manage::{Notes, PlanEnd, Step, operate, plan};
+use pon_manage::{LineRefusal, Notes, PlanEnd, Step, operate, plan};
 use pon_plant::Plant;
 use std::alloc::Global;
 use std::marker::Brand;
@@ -21,7 +21,9 @@ pub(crate) const ALL: usize = 4096;
 pub(crate) struct Unnoted;
 
 impl Notes for Unnoted {
-    fn note(&mut self, _number: u64, _plant: &Plant, _line: &[u8], _reply: &[u8]) {}
+    ghost noted = { λ _. true };
+
+    fn note(&mut self, _number: u64, _plant: &Plant, _line: &[u8], _refusal: LineRefusal) {}
 }
 
 // Makes the steps that admit an Alloc-ID at the first `count` ports. `None` if memory is refused.

@@ -4,6 +4,7 @@ use Rattle.std.specs.Prelude.{nat_lt}
 use Rattle.std.proofs.lemmas.Bool.{cases_lt, lt-ltb}
 use Rattle.std.proofs.lemmas.List.{length-take}
 use Rattle.pon_line.specs.Reading.{read_line}
+use Rattle.pon_line.specs.Places.{of_line}
 use Rattle.pon_line.specs.declared.fault.LineFault.TheVariants.{LineLong}
 use Rattle.pon_line.specs.declared.reading.Reading.TheVariants.{Refused}
 
@@ -15,7 +16,7 @@ take_all (suc n) [] l = refl
 take_all (suc n) (x ∷ xs) l = ap (λ t. x ∷ t) (take_all n xs (omega arith))
 
 -- a line of more than 4,096 bytes is refused as too long
-pub read_line-long : (ports : ℕ) (line : List ℕ) → 4096 < length line → read_line ports line ≡ Refused LineLong
+pub read_line-long : (ports : ℕ) (line : List ℕ) → 4096 < length line → read_line ports line ≡ Refused (of_line LineLong)
 unfolding read_line
 read_line-long ports line l =
     let long : nat_lt 4096 (length line) ≡ true = lt-ltb 4096 (length line) l in

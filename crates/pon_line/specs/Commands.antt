@@ -1,125 +1,98 @@
--- The commands of management lines: what the words after the port request.
-use Rattle.std.specs.Prelude.{ℕ, ◌≤◌, ◌==◌, ◌||◌, nat_lt, if◌then◌else◌, List, [], ◌∷◌, length, codes, Option, Some, None, Result, Ok, Err}
+-- The events of management lines: what the words after a command request. The first of them is word 2 of the line.
+use Rattle.std.specs.Prelude.{ℕ, ◌+◌, ◌==◌, ◌||◌, nat_lt, Bool, if◌then◌else◌, List, [], ◌∷◌, length, codes, Option, Some, None, Result, Ok, Err}
 use Rattle.std.specs.Str.{bytes_eq}
-use Rattle.pon_units.specs.declared.limits.TheConstants.{MAX_ALLOC_ID, MAX_OCCUPANCY, MAX_ONU_ID, MIN_ALLOC_ID, MAX_SERIES}
-use Rattle.pon_descr.specs.Checks.{when, first_refusal_of}
-use Rattle.pon_descr.specs.Descriptor.{Descriptor, descriptor_refusal}
-use Rattle.pon_descr.specs.declared.refusal.Refusal.{Refusal}
-use Rattle.pon_descr.specs.declared.refusal.Refusal.TheVariants.{AllocRange, OnuRange}
+use Rattle.pon_units.specs.declared.limits.TheConstants.{MAX_OCCUPANCY, MAX_SERIES}
+use Rattle.pon_descr.specs.Descriptor.{Descriptor}
 use Rattle.pon_admit.specs.declared.event.Event.{Event}
-use Rattle.pon_admit.specs.declared.event.Event.TheVariants.{Admit, Change, Fail, MakeMap, Remove, Report, Restore}
+use Rattle.pon_admit.specs.declared.event.Event.TheVariants.{Admit, Change, Fail, Remove, Report}
 use Rattle.pon_lists.specs.ResultSteps.{◌>>=◌}
-use Rattle.pon_line.specs.Fields.{number_field, descriptor_words, rate_fields}
-use Rattle.pon_line.specs.declared.fault.LineFault.{LineFault}
-use Rattle.pon_line.specs.declared.fault.LineFault.TheVariants.{BadField, UnknownCommand, WordCount, Port}
+use Rattle.pon_line.specs.Fields.{alloc_in, descriptor_in, descriptor_words, number_field, onu_in, rate_fields}
+use Rattle.pon_line.specs.Places.{at_word, of_line}
+use Rattle.pon_line.specs.declared.fault.LineFault.TheVariants.{BadField, WordCount}
+use Rattle.pon_line.specs.declared.fault.LineRefusal.{LineRefusal}
+use Rattle.pon_line.specs.declared.field.Field.TheVariants as field
 
--- an event, or the refusal of its numbers: the Alloc-ID is checked first, then the ONU-ID, then the descriptor
-abbrev pub unless : Option Refusal → Event → Result Event LineFault
-unless None event = Ok event
-unless (Some refusal) event = Err (Port refusal)
+-- the events of numbers: the Alloc-ID is checked first, then the ONU-ID, then the descriptor
+unfoldable pub admit : ℕ → ℕ → Descriptor → Result Event LineRefusal
+admit onu alloc d = do
+  i ← alloc_in 3 alloc
+  u ← onu_in 2 onu
+  r ← descriptor_in 4 d
+  Ok (Admit (record { onu = u; alloc_id = i; descriptor = r }))
 
-abbrev pub alloc_refusal : ℕ → Option Refusal
-alloc_refusal alloc = when (nat_lt alloc MIN_ALLOC_ID || nat_lt MAX_ALLOC_ID alloc) AllocRange
-
-abbrev pub onu_refusal : ℕ → Option Refusal
-onu_refusal onu = when (nat_lt MAX_ONU_ID onu) OnuRange
-
--- the events of numbers, or the first refusal
-unfoldable pub admit : ℕ → ℕ → Descriptor → Result Event LineFault
-admit onu alloc d = unless (first_refusal_of (alloc_refusal alloc ∷ onu_refusal onu ∷ descriptor_refusal d ∷ [])) (Admit (record { onu = onu; alloc_id = alloc; descriptor = d }))
-
-unfoldable pub change : ℕ → Descriptor → Result Event LineFault
-change alloc d = unless (first_refusal_of (alloc_refusal alloc ∷ descriptor_refusal d ∷ [])) (Change alloc d)
-
-unfoldable pub remove : ℕ → Result Event LineFault
-remove alloc = unless (alloc_refusal alloc) (Remove alloc)
+unfoldable pub change : ℕ → Descriptor → Result Event LineRefusal
+change alloc d = do
+  i ← alloc_in 2 alloc
+  r ← descriptor_in 3 d
+  Ok (Change i r)
 
 -- the words after `admit`: onu, alloc, and a descriptor, each read in turn
-unfoldable pub admit_of : List (List ℕ) → Result Event LineFault
+unfoldable pub admit_of : List (List ℕ) → Result Event LineRefusal
 admit_of (onu ∷ alloc ∷ ws) = do
   w ← descriptor_words ws
-  u ← number_field onu
-  i ← number_field alloc
-  d ← rate_fields w
+  u ← number_field 2 field.Onu onu
+  i ← number_field 3 field.Alloc alloc
+  d ← rate_fields 4 w
   admit u i d
-admit_of _ = Err WordCount
+admit_of _ = Err (of_line WordCount)
 
 -- the words after `change`: alloc, and a descriptor
-unfoldable pub change_of : List (List ℕ) → Result Event LineFault
+unfoldable pub change_of : List (List ℕ) → Result Event LineRefusal
 change_of (alloc ∷ ws) = do
   w ← descriptor_words ws
-  i ← number_field alloc
-  d ← rate_fields w
+  i ← number_field 2 field.Alloc alloc
+  d ← rate_fields 3 w
   change i d
-change_of [] = Err WordCount
+change_of [] = Err (of_line WordCount)
 
--- the one word after `remove`
-unfoldable pub remove_of : List (List ℕ) → Result Event LineFault
-remove_of (alloc ∷ []) = number_field alloc >>= remove
-remove_of _ = Err WordCount
-
--- a managed Alloc-ID, or the refusal of the number
-abbrev pub or_refused : ℕ → Option Refusal → Result ℕ LineFault
-or_refused alloc None = Ok alloc
-or_refused alloc (Some refusal) = Err (Port refusal)
-
--- the one word after `why` or `sure`: an Alloc-ID
-unfoldable pub alloc_of : List (List ℕ) → Result ℕ LineFault
+-- the one word after `remove`, `why` or `sure`: an Alloc-ID
+unfoldable pub alloc_of : List (List ℕ) → Result ℕ LineRefusal
 alloc_of (alloc ∷ []) = do
-  i ← number_field alloc
-  or_refused i (alloc_refusal i)
-alloc_of _ = Err WordCount
+  i ← number_field 2 field.Alloc alloc
+  alloc_in 2 i
+alloc_of _ = Err (of_line WordCount)
+
+unfoldable pub remove_of : List (List ℕ) → Result Event LineRefusal
+remove_of ws = alloc_of ws >>= λ i. Ok (Remove i)
 
 -- an occupancy in words, 0 to 16,777,215, or none for `x`, a garbled one
-unfoldable pub occupancy_field : List ℕ → Result (Option ℕ) LineFault
-occupancy_field w = if bytes_eq w (codes "x") then Ok None else (do
-  n ← number_field w
-  if nat_lt MAX_OCCUPANCY n then Err BadField else Ok (Some n))
+unfoldable pub occupancy_field : ℕ → List ℕ → Result (Option ℕ) LineRefusal
+occupancy_field n w = if bytes_eq w (codes "x") then Ok None else (do
+  words ← number_field n field.Occupancy w
+  if nat_lt MAX_OCCUPANCY words then Err (at_word BadField n field.Occupancy) else Ok (Some words))
 
-unfoldable pub occupancy_fields : List (List ℕ) → Result (List (Option ℕ)) LineFault
-occupancy_fields [] = Ok []
-occupancy_fields (w ∷ ws) = do
-  n ← occupancy_field w
-  ns ← occupancy_fields ws
-  Ok (n ∷ ns)
+-- the occupancies of words, of which the first is at an index
+unfoldable pub occupancy_fields : ℕ → List (List ℕ) → Result (List (Option ℕ)) LineRefusal
+occupancy_fields n [] = Ok []
+occupancy_fields n (w ∷ ws) = do
+  o ← occupancy_field n w
+  os ← occupancy_fields (n + 1) ws
+  Ok (o ∷ os)
 
-unfoldable pub report : ℕ → ℕ → List (Option ℕ) → Result Event LineFault
-report frame onu ns = unless (onu_refusal onu) (Report frame onu ns)
+unfoldable pub report : ℕ → ℕ → List (Option ℕ) → Result Event LineRefusal
+report frame onu ns = onu_in 3 onu >>= λ u. Ok (Report frame u ns)
 
--- the number of occupancies of a report
-pub record IsReportCount (n : ℕ) : Type 0 where
-  pub some : 1 ≤ n
-  pub few : n ≤ MAX_SERIES
+-- a report has 1 to 16 occupancies
+abbrev pub is_miscounted : List (List ℕ) → Bool
+is_miscounted ws = length ws == 0 || nat_lt MAX_SERIES (length ws)
 
 -- the words after `report`: frame, onu, and 1 to 16 occupancies
-unfoldable pub report_of : List (List ℕ) → Result Event LineFault
-report_of (frame ∷ onu ∷ ws) = if length ws == 0 || nat_lt MAX_SERIES (length ws) then Err WordCount else (do
-  f ← number_field frame
-  u ← number_field onu
-  ns ← occupancy_fields ws
+unfoldable pub report_of : List (List ℕ) → Result Event LineRefusal
+report_of (frame ∷ onu ∷ ws) = if is_miscounted ws then Err (of_line WordCount) else (do
+  f ← number_field 2 field.Frame frame
+  u ← number_field 3 field.Onu onu
+  ns ← occupancy_fields 4 ws
   report f u ns)
-report_of _ = Err WordCount
+report_of _ = Err (of_line WordCount)
 
 -- the one word after `fail`: a cause, 1 to 9
-unfoldable pub fail_of : List (List ℕ) → Result Event LineFault
+unfoldable pub fail_of : List (List ℕ) → Result Event LineRefusal
 fail_of (cause ∷ []) = do
-  n ← number_field cause
-  if nat_lt n 1 || nat_lt 9 n then Err BadField else Ok (Fail n)
-fail_of _ = Err WordCount
+  n ← number_field 2 field.Cause cause
+  if nat_lt n 1 || nat_lt 9 n then Err (at_word BadField 2 field.Cause) else Ok (Fail n)
+fail_of _ = Err (of_line WordCount)
 
 -- no word follows `map` and `restore`
-abbrev pub no_arguments : Event → List (List ℕ) → Result Event LineFault
+abbrev pub no_arguments : Event → List (List ℕ) → Result Event LineRefusal
 no_arguments event [] = Ok event
-no_arguments event (w ∷ ws) = Err WordCount
-
--- the event that the words after the port request: a command and its fields
-unfoldable pub event_of : List (List ℕ) → Result Event LineFault
-event_of [] = Err WordCount
-event_of (name ∷ ws) =
-    if bytes_eq name (codes "map") then no_arguments MakeMap ws else
-    (if bytes_eq name (codes "report") then report_of ws else
-    (if bytes_eq name (codes "admit") then admit_of ws else
-    (if bytes_eq name (codes "change") then change_of ws else
-    (if bytes_eq name (codes "remove") then remove_of ws else
-    (if bytes_eq name (codes "fail") then fail_of ws else
-    (if bytes_eq name (codes "restore") then no_arguments Restore ws else Err UnknownCommand))))))
+no_arguments event (w ∷ ws) = Err (of_line WordCount)

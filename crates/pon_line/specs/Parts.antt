@@ -1,18 +1,26 @@
 -- The readings of lines that are read in parts.
-use Rattle.std.specs.Prelude.{ℕ, List, Option}
+use Rattle.std.specs.Prelude.{◌≡◌, ℕ, true, false, List, Option, Err}
 use Rattle.pon_admit.specs.declared.event.Event.{Event}
 use Rattle.pon_admit.specs.declared.event.Event.TheVariants.{Admit, Change, Fail, MakeMap, Remove, Report, Restore}
 use Rattle.pon_text.specs.Lines.{words_of}
+use Rattle.pon_line.specs.Commands.{is_miscounted, occupancy_fields}
 use Rattle.pon_line.specs.Reading.{request_of}
+use Rattle.pon_line.specs.declared.occupancies.NoOccupancies.{NoOccupancies}
+use Rattle.pon_line.specs.declared.occupancies.TheConstants.{OCCUPANCY}
 use Rattle.pon_line.specs.declared.reading.Front.{Front}
 use Rattle.pon_line.specs.declared.reading.FrameCommand.{FrameCommand}
 use Rattle.pon_line.specs.declared.reading.Reading.{Reading}
 use Rattle.pon_line.specs.declared.reading.Reading.TheVariants.{Nothing, Refused, Asks, AsksCert, AsksState, AsksRows, AsksHelp, AsksWhy, AsksSure}
 
+-- why the occupancies of a report are refused: their number, or else the first word that writes none
+abbrev pub FailsBy : List (List ℕ) → NoOccupancies → Type 0
+FailsBy ws NoOccupancies.Count = is_miscounted ws ≡ true
+FailsBy ws (NoOccupancies.Word refusal) = (is_miscounted ws ≡ false) × (occupancy_fields OCCUPANCY ws ≡ Err refusal)
+
 -- the reading of a line of this front
 abbrev pub goes_on : Front → Reading
 goes_on Front.Nothing = Nothing
-goes_on (Front.Refused fault) = Refused fault
+goes_on (Front.Refused refusal) = Refused refusal
 goes_on (Front.Names port rest) = request_of port (words_of rest.now)
 
 -- the reading of a line that each frame brings, with the occupancies of its report
@@ -30,14 +38,18 @@ IsOtherEvent MakeMap = ⊥
 IsOtherEvent (Fail cause) = Unit {0}
 IsOtherEvent Restore = Unit {0}
 
+-- P holds for the requested event, if there is one
+abbrev pub AsksFor : (Event → Type 0) → Reading → Type 0
+AsksFor P Nothing = Unit {0}
+AsksFor P (Refused refusal) = Unit {0}
+AsksFor P (Asks port event) = P event
+AsksFor P (AsksCert port) = Unit {0}
+AsksFor P (AsksState port) = Unit {0}
+AsksFor P (AsksRows port) = Unit {0}
+AsksFor P (AsksHelp port) = Unit {0}
+AsksFor P (AsksWhy port alloc) = Unit {0}
+AsksFor P (AsksSure port alloc) = Unit {0}
+
 -- the reading of a line that is none of those that each frame brings
 abbrev pub IsOtherReading : Reading → Type 0
-IsOtherReading Nothing = Unit {0}
-IsOtherReading (Refused fault) = Unit {0}
-IsOtherReading (Asks port event) = IsOtherEvent event
-IsOtherReading (AsksCert port) = Unit {0}
-IsOtherReading (AsksState port) = Unit {0}
-IsOtherReading (AsksRows port) = Unit {0}
-IsOtherReading (AsksHelp port) = Unit {0}
-IsOtherReading (AsksWhy port alloc) = Unit {0}
-IsOtherReading (AsksSure port alloc) = Unit {0}
+IsOtherReading r = AsksFor IsOtherEvent r

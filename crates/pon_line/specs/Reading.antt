@@ -1,56 +1,76 @@
 -- What a management line requests.
-use Rattle.std.specs.Prelude.{ℕ, ◌<◌, ◌==◌, ◌||◌, ◌&&◌, not, nat_le, nat_lt, Bool, true, false, if◌then◌else◌, List, [], ◌∷◌, length, codes, Result, Ok, Err}
+use Rattle.std.specs.Prelude.{ℕ, ◌<◌, ◌==◌, ◌||◌, ◌&&◌, not, nat_le, nat_lt, Bool, true, false, if◌then◌else◌, List, [], ◌∷◌, length, Option, Some, None, Result, Ok, Err}
 use Rattle.std.specs.List.{list_all}
-use Rattle.std.specs.Str.{bytes_eq}
 use Rattle.pon_text.specs.Lines.{words_of, without_return}
 use Rattle.pon_lists.specs.ResultSteps.{◌>>=◌}
-use Rattle.pon_line.specs.Fields.{number_field}
 use Rattle.pon_admit.specs.declared.event.Event.{Event}
-use Rattle.pon_line.specs.Commands.{alloc_of, event_of}
-use Rattle.pon_line.specs.declared.fault.LineFault.{LineFault}
-use Rattle.pon_line.specs.declared.fault.LineFault.TheVariants.{NoSuchPort, LineLong, NotText, WordCount}
+use Rattle.pon_admit.specs.declared.event.Event.TheVariants.{MakeMap, Restore}
+use Rattle.pon_line.specs.Commands.{admit_of, alloc_of, change_of, fail_of, no_arguments, remove_of, report_of}
+use Rattle.pon_line.specs.Fields.{number_field}
+use Rattle.pon_line.specs.Places.{at_word, of_line}
+use Rattle.pon_line.specs.Table.{command_of}
+use Rattle.pon_line.specs.declared.fault.LineFault.TheVariants.{NoSuchPort, LineLong, NotText, UnknownCommand, WordCount}
+use Rattle.pon_line.specs.declared.fault.LineRefusal.{LineRefusal}
+use Rattle.pon_line.specs.declared.field.Field.TheVariants as field
 use Rattle.pon_line.specs.declared.reading.Reading.{Reading}
 use Rattle.pon_line.specs.declared.reading.Reading.TheVariants.{Nothing, Refused, Asks, AsksCert, AsksState, AsksRows, AsksHelp, AsksWhy, AsksSure}
+use Rattle.pon_line.specs.declared.table.Command.{Command}
+use Rattle.pon_line.specs.declared.table.Command.TheVariants as command
 
 -- the port that a word names, below the number of ports
-unfoldable pub port_of : ℕ → List ℕ → Result ℕ LineFault
-port_of ports w = number_field w >>= λ n. if nat_lt n ports then Ok n else Err NoSuchPort
+unfoldable pub port_of : ℕ → List ℕ → Result ℕ LineRefusal
+port_of ports w = number_field 0 field.Port w >>= λ n. if nat_lt n ports then Ok n else Err (at_word NoSuchPort 0 field.Port)
 
 -- the request that a port take an event, or the refusal of the line
-abbrev pub takes : ℕ → Result Event LineFault → Reading
+abbrev pub takes : ℕ → Result Event LineRefusal → Reading
 takes port (Ok event) = Asks port event
-takes port (Err fault) = Refused fault
+takes port (Err refusal) = Refused refusal
 
 -- no word follows `cert`, `show`, `list` and `help`
 abbrev pub shows : Reading → List (List ℕ) → Reading
 shows asked [] = asked
-shows asked (w ∷ ws) = Refused WordCount
+shows asked (w ∷ ws) = Refused (of_line WordCount)
 
 -- the explanation of the last map for an Alloc-ID, or the refusal of the line
-abbrev pub asks_why : ℕ → Result ℕ LineFault → Reading
+abbrev pub asks_why : ℕ → Result ℕ LineRefusal → Reading
 asks_why port (Ok alloc) = AsksWhy port alloc
-asks_why port (Err fault) = Refused fault
+asks_why port (Err refusal) = Refused refusal
 
 -- what is sure for an Alloc-ID, or the refusal of the line
-abbrev pub asks_sure : ℕ → Result ℕ LineFault → Reading
+abbrev pub asks_sure : ℕ → Result ℕ LineRefusal → Reading
 asks_sure port (Ok alloc) = AsksSure port alloc
-asks_sure port (Err fault) = Refused fault
+asks_sure port (Err refusal) = Refused refusal
+
+-- what the words after a command request of a port
+abbrev pub by_command : ℕ → Command → List (List ℕ) → Reading
+by_command port command.Admit ws = takes port (admit_of ws)
+by_command port command.Change ws = takes port (change_of ws)
+by_command port command.Remove ws = takes port (remove_of ws)
+by_command port command.Report ws = takes port (report_of ws)
+by_command port command.Map ws = takes port (no_arguments MakeMap ws)
+by_command port command.Fail ws = takes port (fail_of ws)
+by_command port command.Restore ws = takes port (no_arguments Restore ws)
+by_command port command.Cert ws = shows (AsksCert port) ws
+by_command port command.Show ws = shows (AsksState port) ws
+by_command port command.List ws = shows (AsksRows port) ws
+by_command port command.Why ws = asks_why port (alloc_of ws)
+by_command port command.Sure ws = asks_sure port (alloc_of ws)
+by_command port command.Help ws = shows (AsksHelp port) ws
+
+-- a word that names no command is refused
+abbrev pub by_name : ℕ → Option Command → List (List ℕ) → Reading
+by_name port None ws = Refused (at_word UnknownCommand 1 field.Command)
+by_name port (Some command) ws = by_command port command ws
 
 -- what the words after a port request of it: its last certificate, its state, its Alloc-IDs, the explanation of its last map
 -- for one of them, what is sure for one of them, the list of all lines, or that it takes an event
 unfoldable pub request_of : ℕ → List (List ℕ) → Reading
-request_of port [] = Refused WordCount
-request_of port (name ∷ ws) =
-    if bytes_eq name (codes "cert") then shows (AsksCert port) ws else
-    (if bytes_eq name (codes "show") then shows (AsksState port) ws else
-    (if bytes_eq name (codes "list") then shows (AsksRows port) ws else
-    (if bytes_eq name (codes "help") then shows (AsksHelp port) ws else
-    (if bytes_eq name (codes "why") then asks_why port (alloc_of ws) else
-    (if bytes_eq name (codes "sure") then asks_sure port (alloc_of ws) else takes port (event_of (name ∷ ws)))))))
+request_of port [] = Refused (of_line WordCount)
+request_of port (name ∷ ws) = by_name port (command_of name) ws
 
 -- the port is read before the command
-abbrev pub by_port : Result ℕ LineFault → List (List ℕ) → Reading
-by_port (Err fault) ws = Refused fault
+abbrev pub by_port : Result ℕ LineRefusal → List (List ℕ) → Reading
+by_port (Err refusal) ws = Refused refusal
 by_port (Ok port) ws = request_of port ws
 
 -- a line without words requests nothing; otherwise its first word is the port, and the others are the request
@@ -71,15 +91,15 @@ is_comment ((b ∷ w) ∷ ws) = b == 35
 -- What a line requests of this number of ports, by its checks in order. The line may end with a carriage return.
 unfoldable pub read_line : ℕ → List ℕ → Reading
 read_line ports line =
-    if nat_lt 4096 (length line) then Refused LineLong else
+    if nat_lt 4096 (length line) then Refused (of_line LineLong) else
     (if is_comment (words_of (without_return line)) then Nothing else
-    (if not (list_all is_text (without_return line)) then Refused NotText else
+    (if not (list_all is_text (without_return line)) then Refused (of_line NotText) else
     read_words ports (words_of (without_return line))))
 
 -- a request is only of an existing port
 abbrev pub AsksWithin : ℕ → Reading → Type 0
 AsksWithin ports Nothing = Unit {0}
-AsksWithin ports (Refused fault) = Unit {0}
+AsksWithin ports (Refused refusal) = Unit {0}
 AsksWithin ports (Asks port event) = port < ports
 AsksWithin ports (AsksCert port) = port < ports
 AsksWithin ports (AsksState port) = port < ports

@@ -1,108 +1,97 @@
 //! The commands of management lines: what the words after the port request.
 
-ghost use Rattle.std.specs.Prelude.{◌≡◌, [], ◌∷◌, Ok, Err, MatchOption, MatchResult, codes, false};
-ghost use Rattle.std.specs.Str.{bytes_eq};
+ghost use Rattle.std.specs.Prelude.{◌≡◌, [], Ok, Err, MatchOption, MatchResult, ◌≤◌};
+ghost use Rattle.std.specs.Option.{SomeIff};
 ghost use Rattle.pon_text.specs.Lines.{words_of};
-ghost use Rattle.pon_line.specs.Commands.{admit, admit_of, alloc_of, no_arguments, change, change_of, event_of, fail_of, remove, remove_of, report_of};
-ghost use Rattle.pon_line.specs.Reading.{asks_sure, asks_why, request_of, shows, takes};
+ghost use Rattle.pon_line.specs.Commands.{admit, admit_of, alloc_of, change, change_of, fail_of, no_arguments, remove_of, report_of};
+ghost use Rattle.pon_line.specs.Reading.{asks_sure, asks_why, by_command, request_of, shows, takes};
 ghost use Rattle.pon_line.specs.Parts.{IsOtherReading, asks_in};
 ghost use Rattle.pon_line.specs.Written.{rates_in};
 
-use crate::fault::LineFault;
+use crate::fault::{LineFault, LineRefusal};
+use crate::field::Field;
 use crate::fields::{
-    Rates, alloc_id_of, cause_of, descriptor_of, descriptor_words, next_word, number_field,
-    onu_id_of, rate_fields,
+    FIRST, Rates, alloc_in, descriptor_in, descriptor_words, next_word, number_field, onu_in,
+    rate_fields,
 };
-use crate::occupancies::occupancy_fields;
+use crate::occupancies::{NoOccupancies, occupancy_fields};
 use crate::reading::{FrameCommand, Reading};
+use crate::table::Command;
 use pon_admit::{Event, Row};
 use pon_dbru::Occupancies;
-use pon_descr::Refusal;
-use pon_text::{Word, first_word};
+use pon_descr::Cause;
+use pon_text::first_word;
 use pon_units::{AllocId, FrameNo, OnuId};
 
 // Returns the event of an `admit`, or the first refusal of its numbers.
 #[tactic(auto, unfolding(crate::specs::Commands::admit))]
-fn admit(onu: u64, alloc: u64, rates: &Rates) -> Result<Event, LineFault>
+fn admit(onu: u64, alloc: u64, rates: &Rates) -> Result<Event, LineRefusal>
     ensures { result ≡ admit onu alloc (rates_in rates.now) }
 {
-    let Some(alloc_id) = alloc_id_of(alloc) else {
-        return Err(LineFault::Port(Refusal::AllocRange));
-    };
-    let Some(onu) = onu_id_of(onu) else {
-        return Err(LineFault::Port(Refusal::OnuRange));
-    };
-    match descriptor_of(rates) {
-        Ok(descriptor) => Ok(Event::Admit(Row::new(onu, alloc_id, descriptor))),
-        Err(refusal) => Err(LineFault::Port(refusal)),
-    }
+    let alloc_id = alloc_in(FIRST + 1, alloc)?;
+    let onu = onu_in(FIRST, onu)?;
+    let descriptor = descriptor_in(FIRST + 2, rates)?;
+    Ok(Event::Admit(Row::new(onu, alloc_id, descriptor)))
 }
 
 // Returns the event of a `change`, or the first refusal of its numbers.
 #[tactic(auto, unfolding(crate::specs::Commands::change))]
-fn change(alloc: u64, rates: &Rates) -> Result<Event, LineFault>
+fn change(alloc: u64, rates: &Rates) -> Result<Event, LineRefusal>
     ensures { result ≡ change alloc (rates_in rates.now) }
 {
-    let Some(alloc_id) = alloc_id_of(alloc) else {
-        return Err(LineFault::Port(Refusal::AllocRange));
-    };
-    match descriptor_of(rates) {
-        Ok(descriptor) => Ok(Event::Change {
-            alloc_id,
-            descriptor,
-        }),
-        Err(refusal) => Err(LineFault::Port(refusal)),
-    }
-}
-
-// Returns the event of a `remove`, or the refusal of its number.
-#[tactic(auto, unfolding(crate::specs::Commands::remove))]
-fn remove(alloc: u64) -> Result<Event, LineFault>
-    ensures { result ≡ remove alloc }
-{
-    match alloc_id_of(alloc) {
-        Some(alloc_id) => Ok(Event::Remove { alloc_id }),
-        None => Err(LineFault::Port(Refusal::AllocRange)),
-    }
+    let alloc_id = alloc_in(FIRST, alloc)?;
+    let descriptor = descriptor_in(FIRST + 1, rates)?;
+    Ok(Event::Change {
+        alloc_id,
+        descriptor,
+    })
 }
 
 // Returns the event that the words after `admit` request.
 #[tactic(auto, unfolding(crate::specs::Commands::admit_of))]
-fn admit_of(text: &[u8]) -> Result<Event, LineFault>
+fn admit_of(text: &[u8]) -> Result<Event, LineRefusal>
     ensures { result ≡ admit_of (words_of text.now) }
 {
     let onu = next_word(text)?;
     let alloc = next_word(onu.rest)?;
     let words = descriptor_words(alloc.rest)?;
-    let onu = number_field(onu.word)?;
-    let alloc = number_field(alloc.word)?;
-    let rates = rate_fields(&words)?;
+    let onu = number_field(FIRST, Field::Onu, onu.word)?;
+    let alloc = number_field(FIRST + 1, Field::Alloc, alloc.word)?;
+    let rates = rate_fields(FIRST + 2, words)?;
     admit(onu, alloc, &rates)
 }
 
 // Returns the event that the words after `change` request.
 #[tactic(auto, unfolding(crate::specs::Commands::change_of))]
-fn change_of(text: &[u8]) -> Result<Event, LineFault>
+fn change_of(text: &[u8]) -> Result<Event, LineRefusal>
     ensures { result ≡ change_of (words_of text.now) }
 {
     let alloc = next_word(text)?;
     let words = descriptor_words(alloc.rest)?;
-    let alloc = number_field(alloc.word)?;
-    let rates = rate_fields(&words)?;
+    let alloc = number_field(FIRST, Field::Alloc, alloc.word)?;
+    let rates = rate_fields(FIRST + 1, words)?;
     change(alloc, &rates)
+}
+
+// Returns the Alloc-ID that the words after `remove`, `why` or `sure` name.
+#[tactic(auto, unfolding(crate::specs::Commands::alloc_of))]
+fn alloc_of(text: &[u8]) -> Result<AllocId, LineRefusal>
+    ensures { result ≡ alloc_of (words_of text.now) }
+{
+    let alloc = next_word(text)?;
+    if first_word(alloc.rest).is_some() {
+        return Err(LineRefusal::from(LineFault::WordCount));
+    }
+    alloc_in(FIRST, number_field(FIRST, Field::Alloc, alloc.word)?)
 }
 
 // Returns the event that the words after `remove` request.
 #[tactic(auto, unfolding(crate::specs::Commands::remove_of))]
-fn remove_of(text: &[u8]) -> Result<Event, LineFault>
+fn remove_of(text: &[u8]) -> Result<Event, LineRefusal>
     ensures { result ≡ remove_of (words_of text.now) }
 {
-    let alloc = next_word(text)?;
-    if first_word(alloc.rest).is_some() {
-        return Err(LineFault::WordCount);
-    }
-    let alloc = number_field(alloc.word)?;
-    remove(alloc)
+    let alloc_id = alloc_of(text)?;
+    Ok(Event::Remove { alloc_id })
 }
 
 // The frame and the ONU of a report.
@@ -113,24 +102,28 @@ struct Reporter {
 
 // Reads the words after `report`: appends the occupancies to the empty list, and returns the frame and the ONU.
 #[tactic(auto, unfolding(crate::specs::Commands::report_of, crate::specs::Commands::report))]
-fn read_report(text: &[u8], occ: &mut Occupancies) -> Result<Reporter, LineFault>
+fn read_report(text: &[u8], occ: &mut Occupancies) -> Result<Reporter, LineRefusal>
     requires { occ.old ≡ [] }
     ensures { MatchResult result
         (λ by. report_of (words_of text.now) ≡ Ok (Event.Report by.frame by.onu occ.new))
-        (λ fault. report_of (words_of text.now) ≡ Err fault) }
+        (λ refusal. report_of (words_of text.now) ≡ Err refusal) }
 {
     let frame = next_word(text)?;
     let onu = next_word(frame.rest)?;
-    occupancy_fields(onu.rest, occ)?;
-    let frame = number_field(frame.word)?;
-    let number = number_field(onu.word)?;
-    match onu_id_of(number) {
-        Some(onu) => Ok(Reporter {
-            frame: FrameNo::new(frame),
-            onu,
-        }),
-        None => Err(LineFault::Port(Refusal::OnuRange)),
+    let read = occupancy_fields(onu.rest, occ);
+    if let Err(NoOccupancies::Count) = read {
+        return Err(LineRefusal::from(LineFault::WordCount));
     }
+    let frame = number_field(FIRST, Field::Frame, frame.word)?;
+    let number = number_field(FIRST + 1, Field::Onu, onu.word)?;
+    if let Err(NoOccupancies::Word(refusal)) = read {
+        return Err(refusal);
+    }
+    let onu = onu_in(FIRST + 1, number)?;
+    Ok(Reporter {
+        frame: FrameNo::new(frame),
+        onu,
+    })
 }
 
 // Returns the request of the words after `report`.
@@ -143,91 +136,49 @@ fn report_request(port: usize, text: &[u8]) -> Reading
             port,
             event: Event::Report { frame, onu, occ },
         },
-        Err(fault) => Reading::Refused(fault),
+        Err(refusal) => Reading::Refused(refusal),
     }
+}
+
+// Returns the cause of a failure of a number, or `None` outside 1 to 9.
+fn cause_of(number: u64) -> Option<Cause>
+    ensures { SomeIff result ((1 ≤ number) × (number ≤ 9)) number }
+{
+    Cause::new(u8::try_from(number).ok()?)
 }
 
 // Returns the event that the words after `fail` request.
 #[tactic(auto, unfolding(crate::specs::Commands::fail_of))]
-fn fail_of(text: &[u8]) -> Result<Event, LineFault>
+fn fail_of(text: &[u8]) -> Result<Event, LineRefusal>
     ensures { result ≡ fail_of (words_of text.now) }
 {
     let cause = next_word(text)?;
     if first_word(cause.rest).is_some() {
-        return Err(LineFault::WordCount);
+        return Err(LineRefusal::from(LineFault::WordCount));
     }
-    match cause_of(number_field(cause.word)?) {
+    match cause_of(number_field(FIRST, Field::Cause, cause.word)?) {
         Some(cause) => Ok(Event::Fail { cause }),
-        None => Err(LineFault::BadField),
+        None => Err(LineFault::BadField.at(FIRST, Field::Cause)),
     }
 }
 
 // Returns the event, or `WordCount` if a word follows.
-fn no_arguments(text: &[u8], event: Event) -> Result<Event, LineFault>
+fn no_arguments(text: &[u8], event: Event) -> Result<Event, LineRefusal>
     ensures { result ≡ no_arguments event (words_of text.now) }
 {
     match first_word(text) {
         None => Ok(event),
-        Some(_) => Err(LineFault::WordCount),
-    }
-}
-
-// Returns the request of the words after `map`.
-fn map_request(port: usize, text: &[u8]) -> Reading
-    ensures { result ≡ takes port (no_arguments Event.MakeMap (words_of text.now)) }
-{
-    match first_word(text) {
-        None => Reading::Asks {
-            port,
-            event: Event::MakeMap,
-        },
-        Some(_) => Reading::Refused(LineFault::WordCount),
-    }
-}
-
-// Returns the event that a command other than `map` and `report` requests.
-#[tactic(auto, unfolding(crate::specs::Commands::event_of))]
-fn event_of(name: &Word<'_>) -> Result<Event, LineFault>
-    requires map { bytes_eq name.now.word.now (codes "map") ≡ false }
-    requires report { bytes_eq name.now.word.now (codes "report") ≡ false }
-    ensures { result ≡ event_of (name.now.word.now ∷ words_of name.now.rest.now) }
-{
-    if name.word == b"admit".as_slice() {
-        admit_of(name.rest)
-    } else if name.word == b"change".as_slice() {
-        change_of(name.rest)
-    } else if name.word == b"remove".as_slice() {
-        remove_of(name.rest)
-    } else if name.word == b"fail".as_slice() {
-        fail_of(name.rest)
-    } else if name.word == b"restore".as_slice() {
-        no_arguments(name.rest, Event::Restore)
-    } else {
-        Err(LineFault::UnknownCommand)
+        Some(_) => Err(LineRefusal::from(LineFault::WordCount)),
     }
 }
 
 // Returns the request that a port take the event, or the refusal of the line.
-fn takes(port: usize, event: Result<Event, LineFault>) -> Reading
+fn takes(port: usize, event: Result<Event, LineRefusal>) -> Reading
     ensures { result ≡ takes port event }
 {
     match event {
         Ok(event) => Reading::Asks { port, event },
-        Err(fault) => Reading::Refused(fault),
-    }
-}
-
-// Returns the request of the words of an event. An event is large, so `map` and `report` build it within the request.
-#[tactic(auto, unfolding(crate::specs::Commands::event_of))]
-fn event_request(port: usize, name: &Word<'_>) -> Reading
-    ensures { result ≡ takes port (event_of (name.now.word.now ∷ words_of name.now.rest.now)) }
-{
-    if name.word == b"map".as_slice() {
-        map_request(port, name.rest)
-    } else if name.word == b"report".as_slice() {
-        report_request(port, name.rest)
-    } else {
-        takes(port, event_of(name))
+        Err(refusal) => Reading::Refused(refusal),
     }
 }
 
@@ -237,22 +188,7 @@ fn shows(text: &[u8], asked: Reading) -> Reading
 {
     match first_word(text) {
         None => asked,
-        Some(_) => Reading::Refused(LineFault::WordCount),
-    }
-}
-
-// Returns the Alloc-ID that the words after `why` or `sure` name.
-#[tactic(auto, unfolding(crate::specs::Commands::alloc_of))]
-fn alloc_of(text: &[u8]) -> Result<AllocId, LineFault>
-    ensures { result ≡ alloc_of (words_of text.now) }
-{
-    let alloc = next_word(text)?;
-    if first_word(alloc.rest).is_some() {
-        return Err(LineFault::WordCount);
-    }
-    match alloc_id_of(number_field(alloc.word)?) {
-        Some(alloc_id) => Ok(alloc_id),
-        None => Err(LineFault::Port(Refusal::AllocRange)),
+        Some(_) => Reading::Refused(LineRefusal::from(LineFault::WordCount)),
     }
 }
 
@@ -262,7 +198,7 @@ fn asks_why(port: usize, text: &[u8]) -> Reading
 {
     match alloc_of(text) {
         Ok(alloc_id) => Reading::AsksWhy { port, alloc_id },
-        Err(fault) => Reading::Refused(fault),
+        Err(refusal) => Reading::Refused(refusal),
     }
 }
 
@@ -272,32 +208,43 @@ fn asks_sure(port: usize, text: &[u8]) -> Reading
 {
     match alloc_of(text) {
         Ok(alloc_id) => Reading::AsksSure { port, alloc_id },
-        Err(fault) => Reading::Refused(fault),
+        Err(refusal) => Reading::Refused(refusal),
     }
 }
 
-/// Returns the request of the words after the port, or their first fault.
+// Returns the request of a command and the words after it, or their first refusal. An event is large, so `report` builds it
+// within the request.
+fn by_command(port: usize, command: Command, text: &[u8]) -> Reading
+    ensures { result ≡ by_command port command (words_of text.now) }
+{
+    match command {
+        Command::Admit => takes(port, admit_of(text)),
+        Command::Change => takes(port, change_of(text)),
+        Command::Remove => takes(port, remove_of(text)),
+        Command::Report => report_request(port, text),
+        Command::Map => takes(port, no_arguments(text, Event::MakeMap)),
+        Command::Fail => takes(port, fail_of(text)),
+        Command::Restore => takes(port, no_arguments(text, Event::Restore)),
+        Command::Cert => shows(text, Reading::AsksCert { port }),
+        Command::Show => shows(text, Reading::AsksState { port }),
+        Command::List => shows(text, Reading::AsksRows { port }),
+        Command::Why => asks_why(port, text),
+        Command::Sure => asks_sure(port, text),
+        Command::Help => shows(text, Reading::AsksHelp { port }),
+    }
+}
+
+/// Returns the request of the words after the port, or their first refusal.
 #[tactic(auto, unfolding(crate::specs::Reading::request_of))]
 pub(crate) fn request_of(port: usize, text: &[u8]) -> Reading
     ensures { result ≡ request_of port (words_of text.now) }
 {
     let Some(name) = first_word(text) else {
-        return Reading::Refused(LineFault::WordCount);
+        return Reading::Refused(LineRefusal::from(LineFault::WordCount));
     };
-    if name.word == b"cert".as_slice() {
-        shows(name.rest, Reading::AsksCert { port })
-    } else if name.word == b"show".as_slice() {
-        shows(name.rest, Reading::AsksState { port })
-    } else if name.word == b"list".as_slice() {
-        shows(name.rest, Reading::AsksRows { port })
-    } else if name.word == b"help".as_slice() {
-        shows(name.rest, Reading::AsksHelp { port })
-    } else if name.word == b"why".as_slice() {
-        asks_why(port, name.rest)
-    } else if name.word == b"sure".as_slice() {
-        asks_sure(port, name.rest)
-    } else {
-        event_request(port, &name)
+    match Command::of_word(name.word) {
+        Some(command) => by_command(port, command, name.rest),
+        None => Reading::Refused(LineFault::UnknownCommand.at(1, Field::Command)),
     }
 }
 
@@ -328,7 +275,7 @@ fn report_line(port: usize, text: &[u8], occ: &mut Occupancies) -> Option<FrameC
 
 /// Returns the request for a map or the report that the words after the port are, and appends the occupancies to the empty
 /// list; `None` for any other words.
-#[tactic(auto, unfolding(crate::specs::Reading::request_of, crate::specs::Commands::event_of))]
+#[tactic(auto, unfolding(crate::specs::Reading::request_of))]
 pub(crate) fn frame_line_of(port: usize, text: &[u8], occ: &mut Occupancies) -> Option<FrameCommand>
     requires { occ.old ≡ [] }
     ensures { MatchOption result
@@ -336,11 +283,9 @@ pub(crate) fn frame_line_of(port: usize, text: &[u8], occ: &mut Occupancies) -> 
         (λ asked. request_of port (words_of text.now) ≡ asks_in asked occ.new) }
 {
     let name = first_word(text)?;
-    if name.word == b"map".as_slice() {
-        map_line(port, name.rest)
-    } else if name.word == b"report".as_slice() {
-        report_line(port, name.rest, occ)
-    } else {
-        None
+    match Command::of_word(name.word)? {
+        Command::Map => map_line(port, name.rest),
+        Command::Report => report_line(port, name.rest, occ),
+        _ => None,
     }
 }

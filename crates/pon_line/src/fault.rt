@@ -1,8 +1,9 @@
+use crate::field::Field;
 use pon_descr::Refusal;
 use std::error::Error;
 use std::fmt;
 
-/// Why a line is refused. Each fault has a number, L1 to L7, and a name, which the reply prints; a refusal has its own.
+/// The fault of a refused line. Each has a number, L1 to L7, and a name, which the reply prints; a refusal has its own.
 #[derive(Clone, Copy, Debug, PartialEq, Eq)]
 pub enum LineFault {
     /// L1: the second word is no command.
@@ -44,3 +45,47 @@ impl fmt::Display for LineFault {
 }
 
 impl Error for LineFault {}
+
+/// A word of a line, and what it is to be.
+#[derive(Clone, Copy, Debug, PartialEq, Eq)]
+pub struct FieldAt {
+    /// The number of words before it; the port is word 0.
+    pub word: usize,
+    /// What the word is to be.
+    pub field: Field,
+}
+
+/// Why a line is refused: the fault, and the word that has it.
+#[derive(Clone, Copy, Debug, PartialEq, Eq)]
+pub struct LineRefusal {
+    /// The fault that the reply prints.
+    pub fault: LineFault,
+    /// The word that has the fault, for L1, L3, L4 and E03 to E05.
+    pub at: Option<FieldAt>,
+}
+
+impl From<LineFault> for LineRefusal {
+    ghost use Rattle.std.specs.Prelude.{◌≡◌};
+    ghost use Rattle.pon_line.specs.Places.{of_line};
+
+    ghost from_gives = { λ fault refusal. refusal ≡ of_line fault };
+
+    fn from(fault: LineFault) -> Self {
+        LineRefusal { fault, at: None }
+    }
+}
+
+impl LineFault {
+    ghost use Rattle.std.specs.Prelude.{◌≡◌};
+    ghost use Rattle.pon_line.specs.Places.{at_word};
+
+    /// Returns the refusal of a line in which the word at an index, which is to be this field, has the fault.
+    pub(crate) fn at(self, word: usize, field: Field) -> LineRefusal
+        ensures { result ≡ at_word self word field }
+    {
+        LineRefusal {
+            fault: self,
+            at: Some(FieldAt { word, field }),
+        }
+    }
+}

@@ -6,7 +6,8 @@ ghost use Rattle.pon_line.specs.Reading.{read_line, port_of, is_text};
 ghost use Rattle.pon_line.specs.Parts.{IsOtherReading, asks_in, goes_on};
 
 use crate::command::{frame_line_of, request_of};
-use crate::fault::LineFault;
+use crate::fault::{LineFault, LineRefusal};
+use crate::field::Field;
 use crate::fields::number_field;
 use pon_admit::Event;
 use pon_dbru::Occupancies;
@@ -37,7 +38,7 @@ pub enum Reading {
     /// The line is blank or a comment: there is no reply.
     Nothing,
     /// The line is refused.
-    Refused(LineFault),
+    Refused(LineRefusal),
     /// The line requests that the port take the event.
     Asks { port: usize, event: Event },
     /// The line requests the certificate of the port's last map.
@@ -56,14 +57,14 @@ pub enum Reading {
 
 // Returns the port that a word names, `BadField` if the word is no number, or `NoSuchPort` if no port has it.
 #[tactic(auto, unfolding(crate::specs::Reading::port_of))]
-fn port_of(ports: usize, word: &[u8]) -> Result<usize, LineFault>
+fn port_of(ports: usize, word: &[u8]) -> Result<usize, LineRefusal>
     ensures { result ≡ port_of ports word.now }
 {
-    let number = number_field(word)?;
+    let number = number_field(0, Field::Port, word)?;
     if number < ports as u64 {
         Ok(number as usize)
     } else {
-        Err(LineFault::NoSuchPort)
+        Err(LineFault::NoSuchPort.at(0, Field::Port))
     }
 }
 
@@ -87,7 +88,7 @@ fn is_text(line: &[u8]) -> bool
 // The front of a line: it requests nothing, or is refused, or it names a port and goes on after it.
 enum Front<'a> {
     Nothing,
-    Refused(LineFault),
+    Refused(LineRefusal),
     Names { port: usize, rest: &'a [u8] },
 }
 
@@ -97,7 +98,7 @@ fn front_of(ports: usize, line: &[u8]) -> Front<'_>
     ensures { read_line ports line.now ≡ goes_on result }
 {
     if line.len() > LONGEST {
-        return Front::Refused(LineFault::LineLong);
+        return Front::Refused(LineRefusal::from(LineFault::LineLong));
     }
     let line = without_return(line);
     let Some(first) = first_word(line) else {
@@ -107,10 +108,10 @@ fn front_of(ports: usize, line: &[u8]) -> Front<'_>
         return Front::Nothing;
     }
     if !is_text(line) {
-        return Front::Refused(LineFault::NotText);
+        return Front::Refused(LineRefusal::from(LineFault::NotText));
     }
     match port_of(ports, first.word) {
-        Err(fault) => Front::Refused(fault),
+        Err(refusal) => Front::Refused(refusal),
         Ok(port) => Front::Names {
             port,
             rest: first.rest,
@@ -141,7 +142,7 @@ pub fn read_line(ports: usize, line: &[u8]) -> Reading
 {
     match front_of(ports, line) {
         Front::Nothing => Reading::Nothing,
-        Front::Refused(fault) => Reading::Refused(fault),
+        Front::Refused(refusal) => Reading::Refused(refusal),
         Front::Names { port, rest } => request_of(port, rest),
     }
 }

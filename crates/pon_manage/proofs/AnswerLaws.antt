@@ -15,8 +15,10 @@ use Rattle.pon_history.specs.Taking.{refusal_of}
 use Rattle.pon_plant.specs.Answers.{IsStepAnswer, KeepsStep}
 use Rattle.pon_plant.proofs.Interleaving.{slice_get-set_same}
 use Rattle.pon_plant.specs.declared.fault.StepFault.TheVariants.{Refused}
+use Rattle.pon_line.specs.Places.{of_line}
 use Rattle.pon_line.specs.declared.fault.LineFault.TheVariants.{Port}
 use Rattle.pon_line.specs.declared.reading.Reading.TheVariants.{Asks}
+use Rattle.pon_manage.specs.Refusals.{event_refusal}
 use Rattle.pon_manage.specs.Text.{AddsAnswer, Answers, AsksPort, Posts, last_reply, refusal_line, reply_line}
 
 abbrev pub at : ℕ → Event → Step
@@ -76,3 +78,16 @@ kept_text old new port event index reply replies_old replies_new (Ok done) k pla
           (subst (λ r. Posts old port k.before event r (reply_line index reply) new) (sym k.keeps.takes.follows.accepted) posts),
       is,
     )
+
+-- the refusal of an event that is kept, or refused for this
+pub kept_refusal : (old new : List Chapter) (port : ℕ) (event : Event) → KeepsStep old (at port event) new → event_refusal (slice_get old port) event ≡ None
+kept_refusal old new port event k =
+    ap (λ o. event_refusal o event) k.at ∙ ap (option_map (λ r. of_line (Port r))) k.keeps.takes.follows.accepted
+
+pub told_refusal : (o : Option Chapter) (event : Event) (told : Refusal) → IsStepAnswer o event (Err (Refused told)) → told ≢ OutOfMemory → event_refusal o event ≡ Some (of_line (Port told))
+told_refusal None event told h other = absurd (cc)
+told_refusal (Some c) event told h other = by_check (refusal_of c event) h
+  where
+    by_check : (r : Option Refusal) → IsTold r told → option_map (λ r. of_line (Port r)) r ≡ Some (of_line (Port told))
+    by_check None h = absurd (other h)
+    by_check (Some r) h = ap (λ r. Some (of_line (Port r))) (sym h)

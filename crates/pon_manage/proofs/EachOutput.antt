@@ -66,7 +66,7 @@ each_sure old port alloc (Some c) lt at = (sure_line alloc (sure_in (present_sta
 
 each_answer : (old : List Chapter) (r : Reading) → AreLawful old → AsksWithin (length old) r → AsksInRange r → (text : List ℕ) × (new : List Chapter) × Answers old r text new
 each_answer old Nothing l within range = ([], old, (refl, refl))
-each_answer old (Refused fault) l within range = (refusal_line fault, old, (refl, refl))
+each_answer old (Refused refusal) l within range = (refusal_line refusal.fault, old, (refl, refl))
 each_answer old (Asks port event) l within range = each_ask old port (slice_get old port) event l within refl range
 each_answer old (AsksCert port) l within range =
     let told : (text : List ℕ) × TellsCert (slice_get old port) text = each_cert old port (slice_get old port) within refl in

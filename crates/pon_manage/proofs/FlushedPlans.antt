@@ -1,5 +1,5 @@
 -- Lines at ports whose chapters are recorded in time.
-use Rattle.std.proofs.Common.{◌≡◌, ℕ, List, [], ◌++◌, ◌⊎◌, inl, inr, ap, length, refl, subst, sym}
+use Rattle.std.proofs.Common.{◌≡◌, ℕ, List, [], ◌⊎◌, inl, inr, ap, length, refl, subst, sym}
 use Rattle.std.specs.Prelude.{Option, Result, OnOk}
 use Rattle.pon_device.specs.declared.fault.DeviceFault.{DeviceFault}
 use Rattle.pon_admit.specs.declared.event.Event.{Event}
@@ -31,7 +31,7 @@ no_cut_before a port Restore = refl
 
 pub no_cut : (a : List Chapter) (reading : Reading) → CutsBefore a reading a
 no_cut a Nothing = refl
-no_cut a (Refused fault) = refl
+no_cut a (Refused refusal) = refl
 no_cut a (Asks port event) = no_cut_before a port event
 no_cut a (AsksCert port) = refl
 no_cut a (AsksState port) = refl
@@ -60,7 +60,7 @@ event_length a b port Restore cuts = ap length cuts
 
 pub cut_length : (a b : List Chapter) (reading : Reading) → CutsBefore a reading b → length b ≡ length a
 cut_length a b Nothing cuts = ap length cuts
-cut_length a b (Refused fault) cuts = ap length cuts
+cut_length a b (Refused refusal) cuts = ap length cuts
 cut_length a b (Asks port event) cuts = event_length a b port event cuts
 cut_length a b (AsksCert port) cuts = ap length cuts
 cut_length a b (AsksState port) cuts = ap length cuts

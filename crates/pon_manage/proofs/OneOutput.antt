@@ -60,7 +60,7 @@ one_sure (Some c) alloc text more p q = p ∙ sym q
 
 one_answer : (old : List Chapter) (r : Reading) (text more : List ℕ) (new other : List Chapter) → AreLawful old → Answers old r text new → Answers old r more other → Same text more new other
 one_answer old Nothing text more new other l p q = (p.0 ∙ sym q.0, p.1 ∙ sym q.1)
-one_answer old (Refused fault) text more new other l p q = (p.0 ∙ sym q.0, p.1 ∙ sym q.1)
+one_answer old (Refused refusal) text more new other l p q = (p.0 ∙ sym q.0, p.1 ∙ sym q.1)
 one_answer old (Asks port event) text more new other l p q = one_ask old port (slice_get old port) event text more new other l refl p q
 one_answer old (AsksCert port) text more new other l p q = (one_cert (slice_get old port) text more p.0 q.0, p.1 ∙ sym q.1)
 one_answer old (AsksState port) text more new other l p q = (one_state (slice_get old port) text more p.0 q.0, p.1 ∙ sym q.1)
@@ -79,7 +79,7 @@ lawful_ask old port (Some c) v text new l at p = lawful_post old port c v (refus
 
 pub lawful_answer : (old : List Chapter) (r : Reading) (text : List ℕ) (new : List Chapter) → AreLawful old → Answers old r text new → AreLawful new
 lawful_answer old Nothing text new l p = subst AreLawful (sym p.1) l
-lawful_answer old (Refused fault) text new l p = subst AreLawful (sym p.1) l
+lawful_answer old (Refused refusal) text new l p = subst AreLawful (sym p.1) l
 lawful_answer old (Asks port event) text new l p = lawful_ask old port (slice_get old port) event text new l refl p
 lawful_answer old (AsksCert port) text new l p = subst AreLawful (sym p.1) l
 lawful_answer old (AsksState port) text new l p = subst AreLawful (sym p.1) l

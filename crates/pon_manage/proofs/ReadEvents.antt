@@ -1,5 +1,5 @@
 -- The numbers of an event that a line requests are in range.
-use Rattle.std.proofs.Common.{◌≡◌, ℕ, ◌<◌, ◌≤◌, ◌^◌, Bool, true, false, List, [], ◌∷◌, length, refl, arith}
+use Rattle.std.proofs.Common.{◌≡◌, ℕ, ◌+◌, ◌<◌, ◌≤◌, ◌^◌, Bool, true, false, List, [], ◌∷◌, length, refl, arith}
 use Rattle.std.specs.Prelude.{◌==◌, ◌||◌, ◌&&◌, nat_lt, codes, if◌then◌else◌, Option, Some, None, IfSome, Result, Ok, Err}
 use Rattle.std.specs.Str.{bytes_eq}
 use Rattle.std.specs.Str.Parse.{digits_value}
@@ -9,57 +9,64 @@ use Rattle.std.proofs.lemmas.List.Elements.{All-from_recursion}
 use Rattle.pon_units.specs.declared.limits.TheConstants.{LINE_RATE, MAX_ALLOC_ID, MAX_OCCUPANCY, MAX_ONU_ID, MAX_SERIES, MIN_ALLOC_ID}
 use Rattle.pon_lists.specs.ResultSteps.{◌>>=◌}
 use Rattle.pon_text.specs.Lines.{is_numeral}
-use Rattle.pon_descr.specs.Checks.{when, first_refusal_of}
+use Rattle.pon_descr.specs.Checks.{when}
 use Rattle.pon_descr.specs.Descriptor.{Descriptor, IsLawful, SuitsClass, class_refusal, descriptor_refusal, promised}
 use Rattle.pon_descr.specs.declared.class.Class.{Class}
 use Rattle.pon_descr.specs.declared.class.Class.TheVariants.{Plain, NonAssured, BestEffort}
 use Rattle.pon_descr.specs.declared.refusal.Refusal.{Refusal}
-use Rattle.pon_descr.specs.declared.refusal.Refusal.TheVariants.{AllocRange, OnuRange, RateRange, MaxBelowGuaranteed, NeedsGuarantee, NoSurplusRoom}
+use Rattle.pon_descr.specs.declared.refusal.Refusal.TheVariants.{RateRange, MaxBelowGuaranteed, NeedsGuarantee, NoSurplusRoom}
 use Rattle.pon_descr.proofs.Checks.{none_refuses, when_none}
-use Rattle.pon_admit.specs.declared.event.Event.{Event}
-use Rattle.pon_admit.specs.declared.event.Event.TheVariants.{Admit, Change, Remove, Report, MakeMap, Fail, Restore}
+use Rattle.pon_admit.specs.declared.event.Event.TheVariants as event
 use Rattle.pon_state.specs.Events.{IsEvent, IsManaged}
-use Rattle.pon_line.specs.Fields.{number_field, or_bad_field, descriptor_words, rate_fields}
-use Rattle.pon_line.specs.Commands.{unless, alloc_refusal, onu_refusal, admit, change, remove, report, admit_of, change_of, remove_of, occupancy_field, occupancy_fields, report_of, fail_of, event_of}
-use Rattle.pon_line.specs.Reading.{read_line}
-use Rattle.pon_line.specs.declared.fault.LineFault.{LineFault}
-use Rattle.pon_line.specs.declared.fault.LineFault.TheVariants.{BadField}
+use Rattle.pon_line.specs.Fields.{alloc_in, descriptor_in, descriptor_words, number_field, onu_in, or_bad_field, rate_fields, rate_in, unless}
+use Rattle.pon_line.specs.Commands.{admit, admit_of, alloc_of, change, change_of, fail_of, is_miscounted, occupancy_field, occupancy_fields, remove_of, report, report_of}
+use Rattle.pon_line.specs.Parts.{AsksFor}
+use Rattle.pon_line.specs.Reading.{by_command, read_line}
+use Rattle.pon_line.specs.declared.fault.LineRefusal.{LineRefusal}
+use Rattle.pon_line.specs.declared.field.Field.{Field}
+use Rattle.pon_line.specs.declared.field.Field.TheVariants as field
 use Rattle.pon_line.specs.declared.reading.Reading.{Reading}
-use Rattle.pon_line.proofs.AskedEvents.{Reads, alone, chosen, AsksFor, read_line-asks}
+use Rattle.pon_line.specs.declared.reading.Reading.TheVariants.{AsksCert, AsksState, AsksRows, AsksHelp}
+use Rattle.pon_line.specs.declared.table.Command.{Command}
+use Rattle.pon_line.specs.declared.table.Command.TheVariants.{Admit, Change, Remove, Report, Map, Fail, Restore, Cert, Show, List as Lists, Why, Sure, Help}
+use Rattle.pon_line.proofs.AskedEvents.{Reads, alone, asks_explained, asks_promised, asks_shown, asks_taken, chosen, read_line-asks}
 
-next_step : {A B : Type 0} (Q : A → Type 0) (P : B → Type 0) (r : Result A LineFault) (f : A → Result B LineFault) → Reads Q r → ((x : A) → Q x → Reads P (f x)) → Reads P (r >>= f)
+next_step : {A B : Type 0} (Q : A → Type 0) (P : B → Type 0) (r : Result A LineRefusal) (f : A → Result B LineRefusal) → Reads Q r → ((x : A) → Q x → Reads P (f x)) → Reads P (r >>= f)
 next_step Q P (Ok x) f q h = h x q
-next_step Q P (Err fault) f q h = tt
+next_step Q P (Err refusal) f q h = tt
 
-any : {A : Type 0} (r : Result A LineFault) → Reads (λ _. Unit {0}) r
-any (Ok x) = tt
-any (Err fault) = tt
+-- the same where nothing is known of the value
+any_step : {A B : Type 0} (P : B → Type 0) (r : Result A LineRefusal) (f : A → Result B LineRefusal) → ((x : A) → Reads P (f x)) → Reads P (r >>= f)
+any_step P (Ok x) f h = h x
+any_step P (Err refusal) f h = tt
 
-guarded : {A : Type 0} (P : A → Type 0) (b : Bool) (fault : LineFault) (r : Result A LineFault) → (b ≡ false → Reads P r) → Reads P (if b then Err fault else r)
-guarded P true fault r h = tt
-guarded P false fault r h = h refl
+guarded : {A : Type 0} (P : A → Type 0) (b : Bool) (refusal : LineRefusal) (r : Result A LineRefusal) → (b ≡ false → Reads P r) → Reads P (if b then Err refusal else r)
+guarded P true refusal r h = tt
+guarded P false refusal r h = h refl
 
-unrefused : (r : Option Refusal) (v : Event) → (r ≡ None → IsEvent v) → Reads IsEvent (unless r v)
-unrefused None v h = h refl
-unrefused (Some refusal) v h = tt
+unrefused : {A : Type 0} (P : A → Type 0) (r : Option Refusal) (x : A) → (r ≡ None → P x) → Reads P (unless r x)
+unrefused P None x h = h refl
+unrefused P (Some refusal) x h = tt
 
 -- Numbers.
 
-number_small : (w : List ℕ) → Reads (λ n. n < 2 ^ 64) (number_field w)
+number_small : (at : ℕ) (f : Field) (w : List ℕ) → Reads (λ n. n < 2 ^ 64) (number_field at f w)
 unfolding number_field
-number_small w = small (is_numeral w && nat_lt (digits_value 10 w) (2 ^ 64)) (λ e. ltb-true (digits_value 10 w) (2 ^ 64) (and_parts (is_numeral w) (nat_lt (digits_value 10 w) (2 ^ 64)) e).1)
+number_small at f w = small (is_numeral w && nat_lt (digits_value 10 w) (2 ^ 64)) (λ e. ltb-true (digits_value 10 w) (2 ^ 64) (and_parts (is_numeral w) (nat_lt (digits_value 10 w) (2 ^ 64)) e).1)
   where
-    small : (b : Bool) → (b ≡ true → digits_value 10 w < 2 ^ 64) → Reads (λ n. n < 2 ^ 64) (or_bad_field (if b then Some (digits_value 10 w) else None))
+    small : (b : Bool) → (b ≡ true → digits_value 10 w < 2 ^ 64) → Reads (λ n. n < 2 ^ 64) (or_bad_field at f (if b then Some (digits_value 10 w) else None))
     small true h = h refl
     small false h = tt
 
-managed : (i : ℕ) → alloc_refusal i ≡ None → IsManaged i
-managed i h =
-    let out : ((nat_lt i MIN_ALLOC_ID) ≡ false) × ((nat_lt MAX_ALLOC_ID i) ≡ false) = or_parts (nat_lt i MIN_ALLOC_ID) (nat_lt MAX_ALLOC_ID i) (when_none (nat_lt i MIN_ALLOC_ID || nat_lt MAX_ALLOC_ID i) AllocRange h) in
-    (ltb-false i MIN_ALLOC_ID out.0, ltb-false MAX_ALLOC_ID i out.1)
+managed : (at i : ℕ) → Reads IsManaged (alloc_in at i)
+unfolding alloc_in
+managed at i = guarded IsManaged (nat_lt i MIN_ALLOC_ID || nat_lt MAX_ALLOC_ID i) _ (Ok i) (λ e.
+    let out : ((nat_lt i MIN_ALLOC_ID) ≡ false) × ((nat_lt MAX_ALLOC_ID i) ≡ false) = or_parts (nat_lt i MIN_ALLOC_ID) (nat_lt MAX_ALLOC_ID i) e in
+    (ltb-false i MIN_ALLOC_ID out.0, ltb-false MAX_ALLOC_ID i out.1))
 
-onu_small : (u : ℕ) → onu_refusal u ≡ None → u ≤ MAX_ONU_ID
-onu_small u h = ltb-false MAX_ONU_ID u (when_none (nat_lt MAX_ONU_ID u) OnuRange h)
+onu_small : (at u : ℕ) → Reads (λ u. u ≤ MAX_ONU_ID) (onu_in at u)
+unfolding onu_in
+onu_small at u = guarded (λ u. u ≤ MAX_ONU_ID) (nat_lt MAX_ONU_ID u) _ (Ok u) (λ e. ltb-false MAX_ONU_ID u e)
 
 suits : (c : Class) (promise most : ℕ) → promise ≤ most → class_refusal c promise most ≡ None → SuitsClass c promise most
 suits Plain promise most le h = tt
@@ -83,24 +90,27 @@ lawful d h =
       class = suits d.class (promised d) d.max enough none.1.1.0;
     }
 
+descriptor_lawful : (at : ℕ) (d : Descriptor) → Reads IsLawful (descriptor_in at d)
+unfolding descriptor_in
+descriptor_lawful at d =
+    any_step IsLawful (rate_in at field.Fixed d.fixed) _ (λ fixed.
+    any_step IsLawful (rate_in (at + 1) field.Assured d.assured) _ (λ assured.
+    any_step IsLawful (rate_in (at + 2) field.Max d.max) _ (λ most. unrefused IsLawful (descriptor_refusal d) d (lawful d))))
+
 -- Events of numbers.
 
 admit_reads : (onu alloc : ℕ) (d : Descriptor) → Reads IsEvent (admit onu alloc d)
 unfolding admit
-admit_reads onu alloc d = unrefused (first_refusal_of (alloc_refusal alloc ∷ onu_refusal onu ∷ descriptor_refusal d ∷ [])) (Admit (record { onu = onu; alloc_id = alloc; descriptor = d })) (λ h.
-    let none = none_refuses (alloc_refusal alloc ∷ onu_refusal onu ∷ descriptor_refusal d ∷ []) h in
-    let i : IsManaged alloc = managed alloc none.0 in
-    record { onu = onu_small onu none.1.0; managed = i.0; alloc_id = i.1; descriptor = lawful d none.1.1.0 })
+admit_reads onu alloc d =
+    next_step IsManaged IsEvent (alloc_in 3 alloc) _ (managed 3 alloc) (λ i m.
+    next_step (λ u. u ≤ MAX_ONU_ID) IsEvent (onu_in 2 onu) _ (onu_small 2 onu) (λ u small.
+    next_step IsLawful IsEvent (descriptor_in 4 d) _ (descriptor_lawful 4 d) (λ r l. record { onu = small; managed = m.0; alloc_id = m.1; descriptor = l })))
 
 change_reads : (alloc : ℕ) (d : Descriptor) → Reads IsEvent (change alloc d)
 unfolding change
-change_reads alloc d = unrefused (first_refusal_of (alloc_refusal alloc ∷ descriptor_refusal d ∷ [])) (Change alloc d) (λ h.
-    let none = none_refuses (alloc_refusal alloc ∷ descriptor_refusal d ∷ []) h in
-    (managed alloc none.0, lawful d none.1.0))
-
-remove_reads : (alloc : ℕ) → Reads IsEvent (remove alloc)
-unfolding remove
-remove_reads alloc = unrefused (alloc_refusal alloc) (Remove alloc) (λ h. managed alloc h)
+change_reads alloc d =
+    next_step IsManaged IsEvent (alloc_in 2 alloc) _ (managed 2 alloc) (λ i m.
+    next_step IsLawful IsEvent (descriptor_in 3 d) _ (descriptor_lawful 3 d) (λ r l. (m, l)))
 
 -- The words of commands.
 
@@ -109,59 +119,63 @@ unfolding admit_of
 admit_words [] = tt
 admit_words (onu ∷ []) = tt
 admit_words (onu ∷ alloc ∷ ws) =
-    next_step (λ _. Unit {0}) IsEvent (descriptor_words ws) _ (any (descriptor_words ws)) (λ w _.
-    next_step (λ _. Unit {0}) IsEvent (number_field onu) _ (any (number_field onu)) (λ u _.
-    next_step (λ _. Unit {0}) IsEvent (number_field alloc) _ (any (number_field alloc)) (λ i _.
-    next_step (λ _. Unit {0}) IsEvent (rate_fields w) _ (any (rate_fields w)) (λ d _. admit_reads u i d))))
+    any_step IsEvent (descriptor_words ws) _ (λ w.
+    any_step IsEvent (number_field 2 field.Onu onu) _ (λ u.
+    any_step IsEvent (number_field 3 field.Alloc alloc) _ (λ i.
+    any_step IsEvent (rate_fields 4 w) _ (λ d. admit_reads u i d))))
 
 change_words : (ws : List (List ℕ)) → Reads IsEvent (change_of ws)
 unfolding change_of
 change_words [] = tt
 change_words (alloc ∷ ws) =
-    next_step (λ _. Unit {0}) IsEvent (descriptor_words ws) _ (any (descriptor_words ws)) (λ w _.
-    next_step (λ _. Unit {0}) IsEvent (number_field alloc) _ (any (number_field alloc)) (λ i _.
-    next_step (λ _. Unit {0}) IsEvent (rate_fields w) _ (any (rate_fields w)) (λ d _. change_reads i d)))
+    any_step IsEvent (descriptor_words ws) _ (λ w.
+    any_step IsEvent (number_field 2 field.Alloc alloc) _ (λ i.
+    any_step IsEvent (rate_fields 3 w) _ (λ d. change_reads i d)))
+
+alloc_managed : (ws : List (List ℕ)) → Reads IsManaged (alloc_of ws)
+unfolding alloc_of
+alloc_managed [] = tt
+alloc_managed (alloc ∷ []) = any_step IsManaged (number_field 2 field.Alloc alloc) _ (λ i. managed 2 i)
+alloc_managed (alloc ∷ w ∷ ws) = tt
 
 remove_words : (ws : List (List ℕ)) → Reads IsEvent (remove_of ws)
 unfolding remove_of
-remove_words [] = tt
-remove_words (alloc ∷ []) = next_step (λ _. Unit {0}) IsEvent (number_field alloc) remove (any (number_field alloc)) (λ i _. remove_reads i)
-remove_words (alloc ∷ w ∷ ws) = tt
+remove_words ws = next_step IsManaged IsEvent (alloc_of ws) _ (alloc_managed ws) (λ i m. m)
 
 abbrev IsOccupancy : Option ℕ → Type 0
 IsOccupancy o = IfSome o (λ words. words < 2 ^ 24)
 
-occupancy_small : (w : List ℕ) → Reads IsOccupancy (occupancy_field w)
+occupancy_small : (at : ℕ) (w : List ℕ) → Reads IsOccupancy (occupancy_field at w)
 unfolding occupancy_field
-occupancy_small w =
+occupancy_small at w =
     chosen IsOccupancy (bytes_eq w (codes "x")) (Ok None) _ tt (
-    next_step (λ _. Unit {0}) IsOccupancy (number_field w) _ (any (number_field w)) (λ n _.
-    guarded IsOccupancy (nat_lt MAX_OCCUPANCY n) BadField (Ok (Some n)) (λ e. let le : n ≤ MAX_OCCUPANCY = ltb-false MAX_OCCUPANCY n e in omega (arith, le))))
+    any_step IsOccupancy (number_field at field.Occupancy w) _ (λ n.
+    guarded IsOccupancy (nat_lt MAX_OCCUPANCY n) _ (Ok (Some n)) (λ e. let le : n ≤ MAX_OCCUPANCY = ltb-false MAX_OCCUPANCY n e in omega (arith, le))))
 
 -- one occupancy for each word
 abbrev OneEach : List (List ℕ) → List (Option ℕ) → Type 0
 OneEach ws ns = (length ns ≡ length ws) × AllByRecursion IsOccupancy ns
 
-occupancies_small : (ws : List (List ℕ)) → Reads (OneEach ws) (occupancy_fields ws)
+occupancies_small : (at : ℕ) (ws : List (List ℕ)) → Reads (OneEach ws) (occupancy_fields at ws)
 unfolding occupancy_fields
-occupancies_small [] = (refl, tt)
-occupancies_small (w ∷ ws) =
-    next_step IsOccupancy (OneEach (w ∷ ws)) (occupancy_field w) _ (occupancy_small w) (λ n small.
-    next_step (OneEach ws) (OneEach (w ∷ ws)) (occupancy_fields ws) _ (occupancies_small ws) (λ ns each. (omega (arith, each.0), (small, each.1))))
+occupancies_small at [] = (refl, tt)
+occupancies_small at (w ∷ ws) =
+    next_step IsOccupancy (OneEach (w ∷ ws)) (occupancy_field at w) _ (occupancy_small at w) (λ n small.
+    next_step (OneEach ws) (OneEach (w ∷ ws)) (occupancy_fields (at + 1) ws) _ (occupancies_small (at + 1) ws) (λ ns each. (omega (arith, each.0), (small, each.1))))
 
 report_words : (ws : List (List ℕ)) → Reads IsEvent (report_of ws)
 unfolding report_of report
 report_words [] = tt
 report_words (frame ∷ []) = tt
 report_words (frame ∷ onu ∷ ws) =
-    guarded IsEvent (length ws == 0 || nat_lt 16 (length ws)) _ _ (λ e.
+    guarded IsEvent (is_miscounted ws) _ _ (λ e.
     let few : length ws ≤ MAX_SERIES = ltb-false MAX_SERIES (length ws) (or_parts (length ws == 0) (nat_lt MAX_SERIES (length ws)) e).1 in
-    next_step (λ n. n < 2 ^ 64) IsEvent (number_field frame) _ (number_small frame) (λ f small.
-    next_step (λ _. Unit {0}) IsEvent (number_field onu) _ (any (number_field onu)) (λ u _.
-    next_step (OneEach ws) IsEvent (occupancy_fields ws) _ (occupancies_small ws) (λ ns each.
-    unrefused (onu_refusal u) (Report f u ns) (λ h. record {
+    next_step (λ n. n < 2 ^ 64) IsEvent (number_field 2 field.Frame frame) _ (number_small 2 field.Frame frame) (λ f small.
+    any_step IsEvent (number_field 3 field.Onu onu) _ (λ u.
+    next_step (OneEach ws) IsEvent (occupancy_fields 4 ws) _ (occupancies_small 4 ws) (λ ns each.
+    next_step (λ u. u ≤ MAX_ONU_ID) IsEvent (onu_in 3 u) _ (onu_small 3 u) (λ u in_range. record {
       frame_range = small;
-      onu_range = onu_small u h;
+      onu_range = in_range;
       occupancies = record { few = omega (arith, each.0, few); range = All-from_recursion IsOccupancy ns each.1 };
     })))))
 
@@ -169,23 +183,11 @@ fail_words : (ws : List (List ℕ)) → Reads IsEvent (fail_of ws)
 unfolding fail_of
 fail_words [] = tt
 fail_words (cause ∷ []) =
-    next_step (λ _. Unit {0}) IsEvent (number_field cause) _ (any (number_field cause)) (λ n _.
-    guarded IsEvent (nat_lt n 1 || nat_lt 9 n) BadField (Ok (Fail n)) (λ e.
+    any_step IsEvent (number_field 2 field.Cause cause) _ (λ n.
+    guarded IsEvent (nat_lt n 1 || nat_lt 9 n) _ (Ok (event.Fail n)) (λ e.
     let out : (nat_lt n 1 ≡ false) × (nat_lt 9 n ≡ false) = or_parts (nat_lt n 1) (nat_lt 9 n) e in
     (ltb-false n 1 out.0, ltb-false 9 n out.1)))
 fail_words (cause ∷ w ∷ ws) = tt
-
-event_words : (ws : List (List ℕ)) → Reads IsEvent (event_of ws)
-unfolding event_of
-event_words [] = tt
-event_words (name ∷ ws) =
-    chosen IsEvent (bytes_eq name (codes "map")) _ _ (alone IsEvent MakeMap ws tt) (
-    chosen IsEvent (bytes_eq name (codes "report")) _ _ (report_words ws) (
-    chosen IsEvent (bytes_eq name (codes "admit")) _ _ (admit_words ws) (
-    chosen IsEvent (bytes_eq name (codes "change")) _ _ (change_words ws) (
-    chosen IsEvent (bytes_eq name (codes "remove")) _ _ (remove_words ws) (
-    chosen IsEvent (bytes_eq name (codes "fail")) _ _ (fail_words ws) (
-    chosen IsEvent (bytes_eq name (codes "restore")) _ _ (alone IsEvent Restore ws tt) tt))))))
 
 -- Lines.
 
@@ -193,5 +195,20 @@ event_words (name ∷ ws) =
 abbrev pub AsksInRange : Reading → Type 0
 AsksInRange r = AsksFor IsEvent r
 
+command_in_range : (port : ℕ) (c : Command) (ws : List (List ℕ)) → AsksInRange (by_command port c ws)
+command_in_range port Admit ws = asks_taken IsEvent port (admit_of ws) (admit_words ws)
+command_in_range port Change ws = asks_taken IsEvent port (change_of ws) (change_words ws)
+command_in_range port Remove ws = asks_taken IsEvent port (remove_of ws) (remove_words ws)
+command_in_range port Report ws = asks_taken IsEvent port (report_of ws) (report_words ws)
+command_in_range port Map ws = asks_taken IsEvent port _ (alone IsEvent event.MakeMap ws tt)
+command_in_range port Fail ws = asks_taken IsEvent port (fail_of ws) (fail_words ws)
+command_in_range port Restore ws = asks_taken IsEvent port _ (alone IsEvent event.Restore ws tt)
+command_in_range port Cert ws = asks_shown IsEvent (AsksCert port) ws tt
+command_in_range port Show ws = asks_shown IsEvent (AsksState port) ws tt
+command_in_range port Lists ws = asks_shown IsEvent (AsksRows port) ws tt
+command_in_range port Why ws = asks_explained IsEvent port (alloc_of ws)
+command_in_range port Sure ws = asks_promised IsEvent port (alloc_of ws)
+command_in_range port Help ws = asks_shown IsEvent (AsksHelp port) ws tt
+
 pub read_line-in_range : (ports : ℕ) (line : List ℕ) → AsksInRange (read_line ports line)
-read_line-in_range ports line = read_line-asks IsEvent event_words ports line
+read_line-in_range ports line = read_line-asks IsEvent command_in_range ports line

@@ -94,7 +94,7 @@ module _ {D : Type 0} (contents : D → Option (List ℕ)) where
 -- a reading without an event needs no room
 pub no_event : (old : List Chapter) (reading : Reading) → ((port : ℕ) (event : Event) → reading ≡ Asks port event → ⊥) → MakesRoomFor old reading old
 no_event old Nothing other = refl
-no_event old (Refused fault) other = refl
+no_event old (Refused refusal) other = refl
 no_event old (Asks port event) other = absurd (other port event refl)
 no_event old (AsksCert port) other = refl
 no_event old (AsksState port) other = refl
@@ -110,7 +110,7 @@ room_length old mid port event (inr same) = ap length same.1
 
 pub room_for_length : (old mid : List Chapter) (reading : Reading) → MakesRoomFor old reading mid → length mid ≡ length old
 room_for_length old mid Nothing room = ap length room
-room_for_length old mid (Refused fault) room = ap length room
+room_for_length old mid (Refused refusal) room = ap length room
 room_for_length old mid (Asks port event) room = room_length old mid port event room
 room_for_length old mid (AsksCert port) room = ap length room
 room_for_length old mid (AsksState port) room = ap length room

@@ -65,7 +65,7 @@ ShowsSure alloc text = (at : Chapter) × IsLawfulChapter at × (text ≡ sure_li
 -- the text of a reading at a desk, and the seat after it: one post more at the port of the reading, or as before
 abbrev pub DeskAnswers : SeatState → Reading → List ℕ → SeatState → Type 0
 DeskAnswers old Nothing text new = (text ≡ []) × (new ≡ old)
-DeskAnswers old (Refused fault) text new = (text ≡ refusal_line fault) × (new ≡ old)
+DeskAnswers old (Refused refusal) text new = (text ≡ refusal_line refusal.fault) × (new ≡ old)
 DeskAnswers old (Asks port event) text new = TellsPosted port event old text new ⊎ (TellsRefused event text × (new ≡ old))
 DeskAnswers old (AsksCert port) text new = ShowsCert text × (new ≡ old)
 DeskAnswers old (AsksState port) text new = ShowsState text × (new ≡ old)

@@ -1,27 +1,13 @@
 -- The text that lists all management lines.
-use Rattle.std.specs.Prelude.{ℕ, List, [], ◌∷◌, ◌++◌, codes, flat_map}
+use Rattle.std.specs.Prelude.{ℕ, List, [], ◌∷◌, ◌++◌, length, codes, flat_map}
+use Rattle.pon_line.specs.Table.{commands, line_of}
+use Rattle.pon_line.specs.declared.table.Command.{Command}
+use Rattle.pon_manage.specs.Rows.{named}
 
--- the words after the port of each line
-abbrev pub line_forms : List (List ℕ)
-line_forms =
-    codes "admit <onu> <alloc> <fixed> <assured> <max> <class>"
-    ∷ codes "change <alloc> <fixed> <assured> <max> <class>"
-    ∷ codes "remove <alloc>"
-    ∷ codes "report <frame> <onu> <occupancy> .."
-    ∷ codes "map"
-    ∷ codes "fail <cause>"
-    ∷ codes "restore"
-    ∷ codes "cert"
-    ∷ codes "show"
-    ∷ codes "list"
-    ∷ codes "why <alloc>"
-    ∷ codes "sure <alloc>"
-    ∷ codes "help"
-    ∷ []
+-- the line of a command: a port, and the words after it
+abbrev pub form_line : Command → List ℕ
+form_line c = codes "<port> " ++ (line_of c ++ 10 ∷ [])
 
-abbrev pub form_line : List ℕ → List ℕ
-form_line form = codes "<port> " ++ form ++ 10 ∷ []
-
--- a line with their number, and the form of each
+-- a line with the number of commands, and the line of each
 abbrev pub help_text : List ℕ
-help_text = codes "help 13" ++ 10 ∷ flat_map form_line line_forms
+help_text = named (codes "help ") (length commands) (10 ∷ []) ++ flat_map form_line commands

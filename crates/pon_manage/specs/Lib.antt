@@ -5,6 +5,7 @@ pub mod Help
 pub mod Paths
 pub mod Planning
 pub mod Recorded
+pub mod Refusals
 pub mod Rows
 pub mod Sures
 pub mod Text

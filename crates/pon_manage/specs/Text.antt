@@ -117,7 +117,7 @@ TellsSure (Some c) alloc text = text ≡ sure_line alloc (sure_in (present_state
 -- the text of a reading, and the chapters of the ports after it
 abbrev pub Answers : List Chapter → Reading → List ℕ → List Chapter → Type 0
 Answers old Nothing text new = (text ≡ []) × (new ≡ old)
-Answers old (Refused fault) text new = (text ≡ refusal_line fault) × (new ≡ old)
+Answers old (Refused refusal) text new = (text ≡ refusal_line refusal.fault) × (new ≡ old)
 Answers old (Asks port event) text new = AsksPort old port (slice_get old port) event text new
 Answers old (AsksCert port) text new = TellsCert (slice_get old port) text × (new ≡ old)
 Answers old (AsksState port) text new = TellsState (slice_get old port) text × (new ≡ old)

@@ -246,7 +246,7 @@ impl<'a, L: Ledger, M: Ledger, H: Wait> AtDesk<'a, L, M, H> {
     {
         match reading {
             Reading::Nothing => Ok(()),
-            Reading::Refused(fault) => append_refusal(replies, fault),
+            Reading::Refused(refusal) => append_refusal(replies, refusal.fault),
             Reading::Asks { port, event } => {
                 let port = port_no(self.desk, port);
                 self.answer_event(seat, port, event, replies)

@@ -103,12 +103,11 @@ impl<'a, N: Notes + CutTimes, D: DevWrite + Drop> Answers<FlushedPlant<D>> for A
         line: &[u8],
         replies: &mut Vec<u8>,
     ) -> Result<(), AllocError> {
-        let before = replies.len();
         let reading = read_line(at.recorded.plant.count(), line);
         cut_before(&mut at.recorded, &reading, self.notes);
-        let answered = answer_in_room(&mut at.recorded, reading, &mut self.room, replies);
-        self.note(&at.recorded.plant, line, replies.as_slice(), before);
-        answered
+        let refusal = answer_in_room(&mut at.recorded, reading, &mut self.room, replies)?;
+        self.note(&at.recorded.plant, line, refusal);
+        Ok(())
     }
 
     ghost reads_first = { flushed_gives_first };

@@ -33,5 +33,6 @@ pub use opening::Opening;
 pub use operating::operate;
 pub use planning::{RecordedPlan, plan, plan_recorded};
 pub use pon_device::DeviceFault as PlanFault;
+pub use pon_line::LineRefusal;
 pub use pon_plant::Step;
 pub use pon_text::PlanEnd;

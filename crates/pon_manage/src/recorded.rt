@@ -1,15 +1,16 @@
 //! Lines at a plant whose full chapters are recorded.
 
-ghost use Rattle.std.specs.Prelude.{◌≡◌, ◌<◌, ◌++◌, ℕ, List, OnErr, OnOk, length};
+ghost use Rattle.std.specs.Prelude.{◌≡◌, ◌<◌, ◌++◌, ℕ, List, IfOk, OnErr, OnOk, length};
 ghost use Rattle.pon_line.specs.Reading.{AsksWithin};
 ghost use Rattle.pon_manage.specs.Paths.{records_path, recorded_gives_first};
+ghost use Rattle.pon_manage.specs.Refusals.{IsRefusalInRoom};
 ghost use Rattle.pon_manage.specs.Recorded.{AnswersInRoom, GivesRecorded, MakesRoom, MakesRoomFor, RecordsTurned};
 
 use crate::answer::{answer, port_no};
 use crate::at_plant::AtPlant;
 use crate::notes::Notes;
 use pon_device::DevWrite;
-use pon_line::{Reading, read_line};
+use pon_line::{LineRefusal, Reading, read_line};
 use pon_plant::Plant;
 use pon_port::Event;
 use pon_recorder::Recorder;
@@ -62,18 +63,19 @@ fn make_room_for<D: DevWrite + Drop>(
     }
 }
 
-/// Appends the text of a reading, at a port that has room for its event. `Err` only if memory is refused; then the replies
-/// are unchanged.
+/// Appends the text of a reading, at a port that has room for its event, and returns the refusal if it is one. `Err` only if
+/// memory is refused; then the replies are unchanged.
 pub(crate) fn answer_in_room<D: DevWrite + Drop>(
     at: &mut RecordedPlant<D>,
     reading: Reading,
     room: &mut Vec<u8>,
     replies: &mut Vec<u8>,
-) -> Result<(), AllocError>
+) -> Result<Option<LineRefusal>, AllocError>
     requires { AsksWithin (length at.old.plant) reading }
     ensures ok { OnOk result ((text : List ℕ) × AnswersInRoom at.old.plant reading text at.new.plant
         × (replies.new.items ≡ replies.old.items ++ text)) }
     ensures err { OnErr result (replies.new.items ≡ replies.old.items) }
+    ensures refusal { IfOk result (IsRefusalInRoom at.old.plant reading) }
     ensures path { RecordsTurned D.contents at.old at.new }
 {
     make_room_for(at, &reading)?;
@@ -91,11 +93,10 @@ impl<'a, N: Notes, D: DevWrite + Drop> Answers<RecordedPlant<D>> for AtPlant<'a,
         line: &[u8],
         replies: &mut Vec<u8>,
     ) -> Result<(), AllocError> {
-        let before = replies.len();
         let reading = read_line(at.plant.count(), line);
-        let answered = answer_in_room(at, reading, &mut self.room, replies);
-        self.note(&at.plant, line, replies.as_slice(), before);
-        answered
+        let refusal = answer_in_room(at, reading, &mut self.room, replies)?;
+        self.note(&at.plant, line, refusal);
+        Ok(())
     }
 
     ghost reads_first = { recorded_gives_first };

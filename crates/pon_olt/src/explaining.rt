@@ -1,39 +1,31 @@
 //! Why management lines are refused, for a person.
 
-use crate::commands::{nearest, word_at, words_of};
-use crate::misfits::{Field, Misfit, misfit_in};
+ghost use Rattle.std.specs.Prelude.{◌≡◌, true};
+
+use crate::commands::{Takes, nearest};
 use crate::refusals::{Refused, refused_event, refused_rates};
-use pon_line::{Reading, read_line};
+use pon_descr::Refusal;
+use pon_line::{Command, Field, FieldAt, LineFault, LineRefusal, Reading, read_line};
 use pon_manage::Notes;
 use pon_plant::Plant;
-use pon_text::{cut, number_of};
+use pon_text::{first_word, number_of};
 use std::alloc::Global;
 use std::fmt::{self, Display, Formatter, Write};
 use std::str;
 
-/// The place of the command in a line, counted from 0, and of the first rate of a descriptor, by its command.
-const COMMAND_PLACE: usize = 1;
+/// The index of the command in a line, and of the first word after it.
+const COMMAND: usize = 1;
 
-const RATE_PLACES: [(&str, usize); 2] = [("admit", 4), ("change", 3)];
-
-/// The letters of a code, as L2 or E12.
-const LINE_CODE_LETTERS: usize = 2;
-
-const CODE_LETTERS: usize = 3;
-
-/// The codes of refusals for a word: any field, or the field whose range it is out of.
-const MISFITS: [(&str, Option<Field>); 4] = [
-    ("L3", None),
-    ("E03", Some(Field::Alloc)),
-    ("E04", Some(Field::Onu)),
-    ("E05", Some(Field::Rate)),
-];
+const FIRST: usize = 2;
 
 /// Why a line is refused.
 #[derive(Clone, Copy)]
 enum Reason<'a> {
     /// A word is not what its place requires.
-    Word(Misfit<'a>),
+    Word {
+        at: FieldAt,
+        word: &'a str,
+    },
     /// The second word is no command; it may be meant for this one.
     Command {
         word: &'a str,
@@ -41,8 +33,8 @@ enum Reason<'a> {
     },
     /// The command takes these words.
     Words {
-        command: &'a str,
-        takes: &'static str,
+        command: &'static str,
+        takes: Takes,
     },
     /// There is no command.
     OneWord,
@@ -56,14 +48,21 @@ enum Reason<'a> {
     NoText,
     /// The port refuses the event.
     Event(Refused),
-    /// The reply says all.
-    Reply(&'a str),
+    /// The fault says all.
+    Fault(LineFault),
 }
 
 impl Display for Reason<'_> {
     fn fmt<W: Write>(&self, f: &mut Formatter<W>) -> fmt::Result {
         match *self {
-            Reason::Word(misfit) => write!(f, "{misfit}"),
+            Reason::Word { at, word } => {
+                write!(
+                    f,
+                    "word {} \"{word}\" is no {}",
+                    at.word.saturating_add(1),
+                    at.field
+                )
+            }
             Reason::Command {
                 word,
                 meant: Some(meant),
@@ -78,155 +77,146 @@ impl Display for Reason<'_> {
             Reason::Long => f.write_str("the line is too long"),
             Reason::NoText => f.write_str("a byte is no tab and no printable ASCII character"),
             Reason::Event(refused) => write!(f, "{refused}"),
-            Reason::Reply(text) => f.write_str(text),
+            Reason::Fault(fault) => write!(f, "{fault}"),
         }
     }
 }
 
-// Returns why a second word is no command.
-fn reason_of_command(alloc: Global, line: &[u8]) -> Option<Reason<'_>> {
-    let word = word_at(line, COMMAND_PLACE)?;
-    Some(Reason::Command {
-        word,
-        meant: nearest(alloc, word),
-    })
+// Returns the word of a line at an index.
+fn word_at(line: &[u8], index: usize) -> Option<&str> {
+    let mut rest = line;
+    for _before in 0..index {
+        rest = first_word(rest)?.rest;
+    }
+    str::from_utf8(first_word(rest)?.word).ok()
+}
+
+// Returns why a word of a line is not what it is to be.
+fn reason_of_word(alloc: Global, line: &[u8], at: FieldAt) -> Option<Reason<'_>> {
+    let word = word_at(line, at.word)?;
+    match at.field {
+        Field::Command => Some(Reason::Command {
+            word,
+            meant: nearest(alloc, word),
+        }),
+        Field::Port if word_at(line, COMMAND).is_none() => None,
+        _ => Some(Reason::Word { at, word }),
+    }
 }
 
 // Returns why a line has too few or too many words.
-fn reason_of_count(line: &[u8]) -> Option<Reason<'_>> {
-    let Some(command) = word_at(line, COMMAND_PLACE) else {
+fn reason_of_count<'a>(line: &[u8]) -> Option<Reason<'a>> {
+    let Some(word) = word_at(line, COMMAND) else {
         return Some(Reason::OneWord);
     };
+    let form = Command::of_word(word.as_bytes())?.form();
     Some(Reason::Words {
-        command,
-        takes: words_of(command)?,
+        command: form.word,
+        takes: Takes(form.fields),
     })
 }
 
 // Returns the number that a word of a line writes.
-fn number_at(line: &[u8], place: usize) -> Option<u64> {
-    number_of(word_at(line, place)?.as_bytes())
+fn number_at(line: &[u8], index: usize) -> Option<u64> {
+    number_of(word_at(line, index)?.as_bytes())
 }
 
-// Returns why the descriptor of a line is refused by this code.
-fn reason_of_rates<'a>(line: &[u8], code: &str) -> Option<Reason<'a>> {
-    let command = word_at(line, COMMAND_PLACE)?;
-    for (name, place) in RATE_PLACES {
-        if name == command {
-            let rates = [
-                number_at(line, place)?,
-                number_at(line, place + 1)?,
-                number_at(line, place + 2)?,
-            ];
-            return Some(Reason::Event(refused_rates(code, rates)?));
-        }
-    }
-    None
+// Returns the fixed, the assured and the maximum rate of a line.
+fn rates_of(line: &[u8]) -> Option<[u64; 3]> {
+    let form = Command::of_word(word_at(line, COMMAND)?.as_bytes())?.form();
+    let first = form.fields.iter().position(|field| *field == Field::Fixed)?;
+    let first = first.checked_add(FIRST)?;
+    Some([
+        number_at(line, first)?,
+        number_at(line, first + 1)?,
+        number_at(line, first + 2)?,
+    ])
 }
 
-// Returns why the port of a line refuses what it asks for, by this code.
+// Returns why the port of a line refuses what it asks for.
 fn reason_of_event<'a>(
     alloc: Global,
     plant: &Plant,
     line: &[u8],
-    code: &str,
-) -> Option<Reason<'a>> {
+    refusal: Refusal,
+) -> Option<Refused> {
     match read_line(plant.count(), line) {
-        Reading::Asks { port, event } => {
-            let refused = refused_event(alloc, code, plant, port, &event)?;
-            Some(Reason::Event(refused))
-        }
-        Reading::AsksWhy { alloc_id, .. } | Reading::AsksSure { alloc_id, .. } if code == "E01" => {
+        Reading::Asks { port, event } => refused_event(alloc, refusal, plant, port, &event),
+        Reading::AsksWhy { alloc_id, .. } | Reading::AsksSure { alloc_id, .. } => {
             let alloc = alloc_id.get();
-            Some(Reason::Event(Refused::NotAdmitted { alloc }))
+            Some(Refused::NotAdmitted { alloc })
+        }
+        _ => refused_rates(refusal, rates_of(line)?),
+    }
+}
+
+// Returns why a line is refused. `None` if the fault says all, or memory is refused.
+fn reason_of<'a>(
+    alloc: Global,
+    plant: &Plant,
+    line: &'a [u8],
+    refusal: LineRefusal,
+) -> Option<Reason<'a>> {
+    if refusal.fault == LineFault::NoSuchPort {
+        return Some(Reason::NoPort(plant.count()));
+    }
+    if let Some(at) = refusal.at {
+        return reason_of_word(alloc, line, at);
+    }
+    match refusal.fault {
+        LineFault::WordCount => reason_of_count(line),
+        LineFault::NoMap => Some(Reason::NoMap),
+        LineFault::LineLong => Some(Reason::Long),
+        LineFault::NotText => Some(Reason::NoText),
+        LineFault::Port(refusal) => {
+            Some(Reason::Event(reason_of_event(alloc, plant, line, refusal)?))
         }
         _ => None,
     }
 }
 
-// Returns the first word of a line that is not what its place requires, if the code is of one.
-fn reason_of_word<'a>(line: &'a [u8], reply: &str) -> Option<Reason<'a>> {
-    for (code, of) in MISFITS {
-        if reply.starts_with(code) {
-            return Some(Reason::Word(misfit_in(line, of)?));
-        }
-    }
-    None
-}
-
-// Returns why a line is refused that asks no port for anything.
-fn reason_of_form<'a>(
-    alloc: Global,
-    plant: &Plant,
-    line: &'a [u8],
-    reply: &str,
-) -> Option<Reason<'a>> {
-    if reply.starts_with("L1") {
-        return reason_of_command(alloc, line);
-    }
-    if reply.starts_with("L2") {
-        return reason_of_count(line);
-    }
-    if reply.starts_with("L4") {
-        return Some(Reason::NoPort(plant.count()));
-    }
-    match reply.get(..LINE_CODE_LETTERS) {
-        Some("L5") => Some(Reason::NoMap),
-        Some("L6") => Some(Reason::Long),
-        Some("L7") => Some(Reason::NoText),
-        _ => reason_of_word(line, reply),
-    }
-}
-
-// Returns why a line got this reply.
-fn reason_of<'a>(alloc: Global, plant: &Plant, line: &'a [u8], reply: &'a str) -> Reason<'a> {
-    if let Some(reason) = reason_of_form(alloc, plant, line, reply) {
-        return reason;
-    }
-    let Some(code) = reply.get(..CODE_LETTERS) else {
-        return Reason::Reply(reply);
-    };
-    if let Some(reason) = reason_of_rates(line, code) {
-        return reason;
-    }
-    match reason_of_event(alloc, plant, line, code) {
-        Some(reason) => reason,
-        None => Reason::Reply(reply),
-    }
-}
-
-// Returns the code of a reply, its first word.
-fn code_of(reply: &str) -> &str {
-    match reply.split_once(' ') {
+// Returns the code of a fault, the first word of its text.
+fn code_of(text: &str) -> &str {
+    match text.split_once(' ') {
         Some((code, _)) => code,
-        None => reply,
+        None => text,
     }
 }
 
-/// Prints a line to standard error for each refused line, with its number and the reason, if that is wanted.
+/// Notes whether a line is refused, and prints a line to standard error for each refused line, with its number and the
+/// reason, if that is wanted.
 #[derive(Drop)]
 pub(crate) struct Explainer<'a, R> {
     pub(crate) rt: &'a R,
     pub(crate) alloc: Global,
     pub(crate) verbose: bool,
+    /// A line is refused.
+    pub(crate) refused: bool,
+}
+
+impl<'a, R: Eprint> Explainer<'a, R> {
+    // Prints why the line of this number is refused.
+    fn explain(&self, number: u64, plant: &Plant, line: &[u8], refusal: LineRefusal) {
+        let fault = refusal.fault;
+        let Ok(text) = format!(in self.alloc; "{fault}") else {
+            return;
+        };
+        let code = code_of(&text);
+        let reason = match reason_of(self.alloc, plant, line, refusal) {
+            Some(reason) => reason,
+            None => Reason::Fault(fault),
+        };
+        let _ = eprintln!(self.rt; "line {number}: {code}: {reason}");
+    }
 }
 
 impl<'a, R: Eprint> Notes for Explainer<'a, R> {
-    fn note(&mut self, number: u64, plant: &Plant, line: &[u8], reply: &[u8]) {
-        if !self.verbose {
-            return;
+    ghost noted = { λ explainer. explainer.refused };
+
+    fn note(&mut self, number: u64, plant: &Plant, line: &[u8], refusal: LineRefusal) {
+        self.refused = true;
+        if self.verbose {
+            self.explain(number, plant, line, refusal);
         }
-        let Some((_, reply)) = cut(reply, b' ') else {
-            return;
-        };
-        let Some((reply, _)) = cut(reply, b'\n') else {
-            return;
-        };
-        let Ok(reply) = str::from_utf8(reply) else {
-            return;
-        };
-        let code = code_of(reply);
-        let reason = reason_of(self.alloc, plant, line, reply);
-        let _ = eprintln!(self.rt; "line {number}: {code}: {reason}");
     }
 }

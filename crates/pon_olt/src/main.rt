@@ -17,13 +17,11 @@ mod files;
 mod floors;
 mod looking;
 mod migrating;
-mod misfits;
 mod opening;
 mod piped;
 mod planning;
 mod refusals;
 mod running;
-mod watching;
 
 use crate::auditing::audit_files;
 use crate::looking::show_recording;

@@ -5,12 +5,11 @@ ghost use Rattle.pon_plant.specs.Plants.{IsPlantSize};
 
 use crate::explaining::Explainer;
 use crate::opening::{NotOpened, with_settings, without_settings};
-use crate::watching::Watched;
 use pon_device::{DevRead, DevWrite, DeviceFault, StdRead, StdWrite};
 use pon_files::{FileTape, FlushTimer, Inputs, LockFile, Output, begin_recording, end_recording};
 use pon_job::{Failure, Named, Plan};
 use pon_manage::{
-    CutTimes, Notes, Opening, PlanEnd, RecordedPlan, plan, plan_flushed, plan_recorded,
+    CutTimes, LineRefusal, Notes, Opening, PlanEnd, RecordedPlan, plan, plan_flushed, plan_recorded,
 };
 use pon_plant::Plant;
 use pon_recorder::{Recorder, open_recorder};
@@ -26,19 +25,21 @@ const FLUSH_SECONDS: u64 = 1;
 
 /// Notes refused lines, and says when the chapter of each port is recorded.
 #[derive(Drop)]
-struct TimedNotes<'a, R> {
-    notes: Explainer<'a, R>,
+struct TimedNotes<'a, 'n, R> {
+    notes: &'n mut Explainer<'a, R>,
     // Those of the ports, in order.
     timers: Vec<FlushTimer<'a, R>>,
 }
 
-impl<'a, R: Eprint> Notes for TimedNotes<'a, R> {
-    fn note(&mut self, number: u64, plant: &Plant, line: &[u8], reply: &[u8]) {
-        self.notes.note(number, plant, line, reply);
+impl<'a, 'n, R: Eprint> Notes for TimedNotes<'a, 'n, R> {
+    ghost noted = { λ timed. timed.notes.now.refused };
+
+    fn note(&mut self, number: u64, plant: &Plant, line: &[u8], refusal: LineRefusal) {
+        self.notes.note(number, plant, line, refusal);
     }
 }
 
-impl<'a, R: Clock> CutTimes for TimedNotes<'a, R> {
+impl<'a, 'n, R: Clock> CutTimes for TimedNotes<'a, 'n, R> {
     fn is_due(&mut self, port: PortNo) -> bool {
         match self.timers.get_mut(usize::from(port.get())) {
             Some(timer) => timer.is_due(),
@@ -66,15 +67,6 @@ fn timers_of<'a, R: Clock>(
         }
     }
     Ok(Some(timers))
-}
-
-// Returns what notes refused lines.
-fn notes_of<'a, R: Eprint>(rt: &'a R, alloc: Global, job: &Plan<'_>) -> Explainer<'a, R> {
-    Explainer {
-        rt,
-        alloc,
-        verbose: job.verbose,
-    }
 }
 
 // Returns how recorded lines ended: as the lines did, and else as the recording did. If both failed, the text is that of the
@@ -124,33 +116,34 @@ where
 }
 
 // Executes lines, and records the ports: their full chapters, and also others each time that a period has passed.
-fn record_lines<R: Clock + Eprint, T: OpenFile + Write + Drop, I: DevRead, W: DevWrite>(
-    rt: &R,
+fn record_lines<'a, R: Clock + Eprint, T: OpenFile + Write + Drop, I: DevRead, W: DevWrite>(
+    rt: &'a R,
     alloc: Global,
     opening: Opening,
     job: &Plan<'_>,
+    notes: &mut Explainer<'a, R>,
     recorder: Recorder<FileTape<T>>,
     reader: &mut I,
     writer: &mut W,
 ) -> Result<RecordedPlan<FileTape<T>>, AllocError>
     requires { IsPlantSize (length opening.ports.items) }
 {
-    let mut notes = notes_of(rt, alloc, job);
     match timers_of(rt, alloc, job, opening.ports.len())? {
         Some(timers) => {
             let mut timed = TimedNotes { notes, timers };
             Ok(plan_flushed(alloc, opening, &mut timed, recorder, reader, writer))
         }
-        None => Ok(plan_recorded(alloc, opening, &mut notes, recorder, reader, writer)),
+        None => Ok(plan_recorded(alloc, opening, notes, recorder, reader, writer)),
     }
 }
 
 // Executes lines, and records the ports if that is wanted.
-fn answer_lines<R: Clock + Eprint + Files, I: DevRead, W: DevWrite>(
-    rt: &R,
+fn answer_lines<'a, R: Clock + Eprint + Files, I: DevRead, W: DevWrite>(
+    rt: &'a R,
     alloc: Global,
     opening: Opening,
     job: &Plan<'_>,
+    notes: &mut Explainer<'a, R>,
     reader: &mut I,
     writer: &mut W,
 ) -> Result<(), Failure>
@@ -160,12 +153,11 @@ where
 {
     let Some(recorder) = recorder_of(rt, alloc, job)? else {
         let Opening { ports, steps } = opening;
-        let mut notes = notes_of(rt, alloc, job);
-        plan(alloc, ports.as_slice(), steps, &mut notes, reader, writer)?;
+        plan(alloc, ports.as_slice(), steps, notes, reader, writer)?;
         return Ok(());
     };
     let RecordedPlan { lines, recording } = record_lines(
-        rt, alloc, opening, job, recorder, reader, writer,
+        rt, alloc, opening, job, notes, recorder, reader, writer,
     )?;
     end_of(
         lines,
@@ -187,13 +179,22 @@ where
     let input = BufReader::new(alloc, rt.reader()).map_err(|_| AllocError)?;
     let mut reader = StdRead::new(input);
     let mut writer = StdWrite::new(io::writer(rt));
-    if !job.strict {
-        answer_lines(rt, alloc, opening, job, &mut reader, &mut writer)?;
-        return Ok(true);
-    }
-    let mut watched = Watched::new(writer);
-    answer_lines(rt, alloc, opening, job, &mut reader, &mut watched)?;
-    Ok(!watched.refused())
+    let mut notes = Explainer {
+        rt,
+        alloc,
+        verbose: job.verbose,
+        refused: false,
+    };
+    answer_lines(
+        rt,
+        alloc,
+        opening,
+        job,
+        &mut notes,
+        &mut reader,
+        &mut writer,
+    )?;
+    Ok(!(job.strict && notes.refused))
 }
 
 /// Executes the lines of standard input at the ports of the settings file, or at one port without settings, and writes the

@@ -1,6 +1,6 @@
 //! Why a port refuses an event, with its numbers, for a person.
 
-use pon_descr::{Class, Descriptor};
+use pon_descr::{Class, Descriptor, Refusal};
 use pon_plant::Plant;
 use pon_port::{Event, Port};
 use pon_units::{AllocId, FrameNo, OnuId, PortNo, WORD_RATE};
@@ -125,20 +125,16 @@ impl Display for Refused {
     }
 }
 
-// Returns why a descriptor is refused by this code.
-fn of_descriptor(code: &str, max: u64, promised: u64) -> Option<Refused> {
-    match code {
-        "E06" => Some(Refused::MaxBelow { max, promised }),
-        "E07" => Some(Refused::NoGuarantee),
-        "E08" => Some(Refused::NoRoom { max, promised }),
+/// Returns why a descriptor with these rates, in kbit/s, is refused: fixed, assured and maximum rate.
+pub(crate) fn refused_rates(refusal: Refusal, rates: [u64; 3]) -> Option<Refused> {
+    let [fixed, assured, max] = rates;
+    let promised = fixed.saturating_add(assured);
+    match refusal {
+        Refusal::MaxBelowGuaranteed => Some(Refused::MaxBelow { max, promised }),
+        Refusal::NeedsGuarantee => Some(Refused::NoGuarantee),
+        Refusal::NoSurplusRoom => Some(Refused::NoRoom { max, promised }),
         _ => None,
     }
-}
-
-/// Returns why a descriptor with these rates, in kbit/s, is refused by this code.
-pub(crate) fn refused_rates(code: &str, rates: [u64; 3]) -> Option<Refused> {
-    let [fixed, assured, max] = rates;
-    of_descriptor(code, max, fixed.saturating_add(assured))
 }
 
 // Returns what is free on a port for a row of an ONU, in kbit/s: what the others and the overhead of its burst leave.
@@ -164,23 +160,23 @@ fn onu_of(port: &Port, alloc_id: AllocId) -> Option<OnuId> {
 // Returns why an Alloc-ID of an ONU is not admitted, or not with this descriptor.
 fn of_alloc(
     alloc: Global,
-    code: &str,
+    refusal: Refusal,
     port: &Port,
     alloc_id: AllocId,
     onu: Option<OnuId>,
     descriptor: &Descriptor,
 ) -> Option<Refused> {
     let number = alloc_id.get();
-    match code {
-        "E01" => Some(Refused::NotAdmitted { alloc: number }),
-        "E02" => Some(Refused::Taken {
+    match refusal {
+        Refusal::NoSuchAlloc => Some(Refused::NotAdmitted { alloc: number }),
+        Refusal::AllocTaken => Some(Refused::Taken {
             alloc: number,
             onu: onu_of(port, alloc_id)?.get(),
         }),
-        "E09" => Some(Refused::PortFull),
-        "E10" => Some(Refused::OnusFull),
-        "E11" => Some(Refused::SeriesFull { onu: onu?.get() }),
-        "E12" => Some(Refused::Capacity {
+        Refusal::TooManyAllocs => Some(Refused::PortFull),
+        Refusal::TooManyOnus => Some(Refused::OnusFull),
+        Refusal::SeriesFull => Some(Refused::SeriesFull { onu: onu?.get() }),
+        Refusal::Capacity => Some(Refused::Capacity {
             asked: u64::from(descriptor.promised().get()),
             free: free_for(alloc, port, onu.or(onu_of(port, alloc_id))?, alloc_id)?,
         }),
@@ -207,21 +203,27 @@ fn structures_of(port: &Port, frame: FrameNo, onu: OnuId) -> Option<usize> {
 }
 
 // Returns why a report is refused.
-fn of_report(code: &str, port: &Port, frame: FrameNo, onu: OnuId, found: usize) -> Option<Refused> {
+fn of_report(
+    refusal: Refusal,
+    port: &Port,
+    frame: FrameNo,
+    onu: OnuId,
+    found: usize,
+) -> Option<Refused> {
     let number = frame.get();
-    match code {
-        "E13" => Some(of_frame(port, number)),
-        "E14" => Some(Refused::NotPolled {
+    match refusal {
+        Refusal::StaleFrame => Some(of_frame(port, number)),
+        Refusal::NotPolled => Some(Refused::NotPolled {
             frame: number,
             onu: onu.get(),
         }),
-        "E15" => Some(Refused::Count {
+        Refusal::ReportCount => Some(Refused::Count {
             frame: number,
             onu: onu.get(),
             wanted: structures_of(port, frame, onu)?,
             found,
         }),
-        "E16" => Some(Refused::Reported {
+        Refusal::AlreadyReported => Some(Refused::Reported {
             frame: number,
             onu: onu.get(),
         }),
@@ -230,24 +232,22 @@ fn of_report(code: &str, port: &Port, frame: FrameNo, onu: OnuId, found: usize) 
 }
 
 // Returns why an event is refused for the state of the port.
-fn of_state(code: &str, port: &Port) -> Option<Refused> {
-    match code {
-        "E17" => Some(Refused::Down {
-            cause: port.state().cause()?.get(),
-        }),
-        "E18" => Some(Refused::Up),
-        "E19" => Some(Refused::LastFrame),
-        "E20" => Some(Refused::ChapterFull),
+fn of_state(refusal: Refusal) -> Option<Refused> {
+    match refusal {
+        Refusal::PortDown { cause } => Some(Refused::Down { cause: cause.get() }),
+        Refusal::PortUp => Some(Refused::Up),
+        Refusal::FrameLimit => Some(Refused::LastFrame),
+        Refusal::ChapterFull => Some(Refused::ChapterFull),
         _ => None,
     }
 }
 
-// Returns why a port refuses an event by this code, if that follows from the event.
-fn of_event(alloc: Global, code: &str, port: &Port, event: &Event) -> Option<Refused> {
+// Returns why a port refuses an event if that follows from the event.
+fn of_event(alloc: Global, refusal: Refusal, port: &Port, event: &Event) -> Option<Refused> {
     match event {
         Event::Admit(row) => of_alloc(
             alloc,
-            code,
+            refusal,
             port,
             row.alloc_id,
             Some(row.onu),
@@ -256,12 +256,14 @@ fn of_event(alloc: Global, code: &str, port: &Port, event: &Event) -> Option<Ref
         Event::Change {
             alloc_id,
             descriptor,
-        } => of_alloc(alloc, code, port, *alloc_id, None, descriptor),
-        Event::Remove { alloc_id } if code == "E01" => Some(Refused::NotAdmitted {
-            alloc: alloc_id.get(),
-        }),
+        } => of_alloc(alloc, refusal, port, *alloc_id, None, descriptor),
+        Event::Remove { alloc_id } if refusal == Refusal::NoSuchAlloc => Some(
+            Refused::NotAdmitted {
+                alloc: alloc_id.get(),
+            },
+        ),
         Event::Report { frame, onu, occ } => of_report(
-            code,
+            refusal,
             port,
             *frame,
             *onu,
@@ -271,17 +273,17 @@ fn of_event(alloc: Global, code: &str, port: &Port, event: &Event) -> Option<Ref
     }
 }
 
-/// Returns why the port of a plant refuses an event by this code. `None` if the code says all, or memory is refused.
+/// Returns why the port of a plant refuses an event. `None` if the refusal says all, or memory is refused.
 pub(crate) fn refused_event(
     alloc: Global,
-    code: &str,
+    refusal: Refusal,
     plant: &Plant,
     port: usize,
     event: &Event,
 ) -> Option<Refused> {
     let port = plant.port(PortNo::new(u8::try_from(port).ok()?)?)?;
-    match of_state(code, port) {
+    match of_state(refusal) {
         Some(refused) => Some(refused),
-        None => of_event(alloc, code, port, event),
+        None => of_event(alloc, refusal, port, event),
     }
 }

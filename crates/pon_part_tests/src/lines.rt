@@ -1,12 +1,12 @@
 use pon_admit::Event;
 use pon_dbru::Occupancies;
 use pon_descr::Refusal;
-use pon_line::{FrameCommand, LineFault, Reading, read_frame_line, read_line};
+use pon_line::{Field, FieldAt, FrameCommand, LineFault, Reading, read_frame_line, read_line};
 use pon_units::{BufOcc, FrameNo, OnuId};
 
 fn fault_of(line: &[u8]) -> Option<LineFault> {
     match read_line(2, line) {
-        Reading::Refused(fault) => Some(fault),
+        Reading::Refused(refusal) => Some(refusal.fault),
         Reading::Nothing
         | Reading::Asks { .. }
         | Reading::AsksCert { .. }
@@ -144,6 +144,92 @@ fn tells_what_the_port_would_refuse_of_other_numbers(rt: HostRuntime) {
     ] {
         let fault = fault_of(line);
         assert!(rt; fault == Some(LineFault::Port(refusal)), "at {line:?}");
+    }
+}
+
+fn place_of(line: &[u8]) -> Option<FieldAt> {
+    match read_line(2, line) {
+        Reading::Refused(refusal) => refusal.at,
+        _ => None,
+    }
+}
+
+#[test]
+fn names_the_word_of_a_fault(rt: HostRuntime) {
+    for (line, word, field) in [
+        (b"x map".as_slice(), 0, Field::Port),
+        (b"2 map".as_slice(), 0, Field::Port),
+        (b"0 maps x".as_slice(), 1, Field::Command),
+        (b"0 admit x 1 0 0 0 y".as_slice(), 2, Field::Onu),
+        (b"0 admit 5 x 0 0 0 none".as_slice(), 3, Field::Alloc),
+        (b"0 admit 5 1 x y 0 none".as_slice(), 4, Field::Fixed),
+        (b"0 admit 5 1 0 x y none".as_slice(), 5, Field::Assured),
+        (b"0 admit 5 1 0 0 x y".as_slice(), 6, Field::Max),
+        (b"0 admit 5 1 0 0 0 NA".as_slice(), 7, Field::Class),
+        (b"0 change x y 0 0 be".as_slice(), 2, Field::Alloc),
+        (b"0 change 1 0 0 0 all".as_slice(), 6, Field::Class),
+        (b"0 report x y z".as_slice(), 2, Field::Frame),
+        (b"0 report 0 y z".as_slice(), 3, Field::Onu),
+        (b"0 report 0 9999 x 0 z y".as_slice(), 6, Field::Occupancy),
+        (b"0 fail 10".as_slice(), 2, Field::Cause),
+        (b"0 sure x".as_slice(), 2, Field::Alloc),
+    ] {
+        let wanted = FieldAt { word, field };
+        assert!(rt; place_of(line) == Some(wanted), "at {line:?}");
+    }
+}
+
+#[test]
+fn names_the_word_that_is_out_of_range(rt: HostRuntime) {
+    for (line, word, field) in [
+        (
+            b"0 admit 1023 1023 2488321 0 0 be".as_slice(),
+            3,
+            Field::Alloc,
+        ),
+        (
+            b"0 admit 1023 1024 2488321 0 0 be".as_slice(),
+            2,
+            Field::Onu,
+        ),
+        (
+            b"0 admit 5 1024 2488321 2488321 0 be".as_slice(),
+            4,
+            Field::Fixed,
+        ),
+        (
+            b"0 admit 5 1024 0 2488321 2488321 be".as_slice(),
+            5,
+            Field::Assured,
+        ),
+        (b"0 change 16384 0 0 0 be".as_slice(), 2, Field::Alloc),
+        (
+            b"0 change 1024 0 0 2488321 be".as_slice(),
+            5,
+            Field::Max,
+        ),
+        (b"0 remove 1023".as_slice(), 2, Field::Alloc),
+        (b"0 why 16384".as_slice(), 2, Field::Alloc),
+        (b"0 report 0 1023 x".as_slice(), 3, Field::Onu),
+    ] {
+        let wanted = FieldAt { word, field };
+        assert!(rt; place_of(line) == Some(wanted), "at {line:?}");
+    }
+}
+
+#[test]
+fn names_no_word_of_other_faults(rt: HostRuntime) {
+    for line in [
+        b"0".as_slice(),
+        b"0 map x".as_slice(),
+        b"0 report 0 5".as_slice(),
+        b"0 map\r\r".as_slice(),
+        b"0 admit 5 1024 0 0 9 na".as_slice(),
+        b"0 admit 5 1024 2560 0 2559 none".as_slice(),
+        b"0 change 1024 0 9 9 be".as_slice(),
+    ] {
+        assert!(rt; fault_of(line).is_some(), "at {line:?}");
+        assert!(rt; place_of(line).is_none(), "at {line:?}");
     }
 }
 

@@ -1,10 +1,12 @@
 //! Recordings of management lines.
 
+ghost use Rattle.std.specs.Prelude.{true};
+
 use crate::audit::is_told;
 use pon_admit::Event;
 use pon_descr::Cause;
 use pon_device::{DeviceFault, MemRead, MemWrite};
-use pon_manage::{Notes, Opening, PlanEnd, Step, plan, plan_recorded};
+use pon_manage::{LineRefusal, Notes, Opening, PlanEnd, Step, plan, plan_recorded};
 use pon_plant::Plant;
 use pon_port::PortCfg;
 use pon_recorder::Recorder;
@@ -37,7 +39,9 @@ struct Refused {
 }
 
 impl Notes for Refused {
-    fn note(&mut self, number: u64, _plant: &Plant, _line: &[u8], _reply: &[u8]) {
+    ghost noted = { λ _. true };
+
+    fn note(&mut self, number: u64, _plant: &Plant, _line: &[u8], _refusal: LineRefusal) {
         self.lines = number;
     }
 }

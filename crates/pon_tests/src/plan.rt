@@ -1,7 +1,7 @@
-ghost use Rattle.std.specs.Prelude.{◌<◌, ◌≤◌};
+ghost use Rattle.std.specs.Prelude.{◌<◌, ◌≤◌, true};
 
 use pon_device::{DeviceFault, MemRead, MemWrite};
-use pon_manage::{Notes, PlanEnd, plan};
+use pon_manage::{LineRefusal, Notes, PlanEnd, plan};
 use pon_plant::Plant;
 use pon_port::PortCfg;
 use pon_units::{FrameNo, Gap, Profile};
@@ -20,7 +20,9 @@ const FIRST_TEXT: &[u8] = b"ok 0\nmap 0 002013ac10020010000b13cb\n";
 struct Unnoted;
 
 impl Notes for Unnoted {
-    fn note(&mut self, _number: u64, _plant: &Plant, _line: &[u8], _reply: &[u8]) {}
+    ghost noted = { λ _. true };
+
+    fn note(&mut self, _number: u64, _plant: &Plant, _line: &[u8], _refusal: LineRefusal) {}
 }
 
 // The result of a run, and the bytes of its writer.

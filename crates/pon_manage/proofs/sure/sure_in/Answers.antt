@@ -1,5 +1,4 @@
-use Rattle.std.proofs.Common.{◌∙◌, ap}
-use Rattle.pon_admit.specs.Roster.{Roster}
+use Rattle.std.proofs.Common.{◌∙◌}
 use Rattle.pon_sure.specs.Sure.{sure_of}
 use Rattle.pon_manage.proofs.sure.sure_in.Goals as goal
 
