@@ -17,7 +17,7 @@ use std::sync::ledger::{Blank, Ledger};
 
 // Each command at port 2, with what it needs before.
 const AT_THE_LAST: &[u8] =
-    b"2 admit 8 1027 2560 0 25600 be\n2 list\n2 map\n2 report 100 8 100\n2 list\n2 change 1027 5120 0 25600 be\n2 map\n2 cert\n2 why 1027\n2 sure 1027\n2 sure 1028\n2 show\n2 list\n2 fail 4\n2 map\n2 show\n2 list\n2 why 1027\n2 why 1028\n2 help\n2 restore\n2 map\n2 list\n2 remove 1027\n2 cert\n2 show\n2 list\n";
+    b"2 admit 8 1027 2560 0 25600 be\n2 list\n2 map\n2 report 100 8 100\n2 list\n2 change 1027 5120 0 25600 be\n2 map\n2 cert\n2 why 1027\n2 sure 1027\n2 sure 1028\n2 show\n2 list\n2 fail 4\n2 map\n2 show\n2 list\n2 why 1027\n2 why 1028\n2 restore\n2 map\n2 list\n2 remove 1027\n2 cert\n2 show\n2 list\n";
 
 // Rows and maps at the other ports.
 const AT_THE_OTHERS: &[u8] =

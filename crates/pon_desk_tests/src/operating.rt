@@ -221,6 +221,18 @@ fn a_desk_answers_as_a_plant(rt: HostRuntime) {
     }
 }
 
+// The lines that only a run answers.
+#[test]
+fn a_desk_stops_and_lists_the_line_that_does(rt: HostRuntime) {
+    let input = b"0 stop\n1 stop\n0 stop 1\n2 stop\n1 help\n";
+    let text =
+        b"ok stop\nok stop\nerr L2 WordCount\nerr L4 NoSuchPort\nhelp 14\n<port> admit <onu> <alloc> <fixed> <assured> <max> <class>\n<port> change <alloc> <fixed> <assured> <max> <class>\n<port> remove <alloc>\n<port> report <frame> <onu> <occupancy> ..\n<port> map\n<port> fail <cause>\n<port> restore\n<port> cert\n<port> show\n<port> list\n<port> why <alloc>\n<port> sure <alloc>\n<port> help\n<port> stop\n";
+    let devices = make_devices(rt.alloc(), input, ALL, &[], &[]).expect(&rt, "memory");
+    let told = at_desk(&rt, rt.alloc(), 0, devices);
+    let is_told = ends_with(told, Ok(PlanEnd), text);
+    assert!(rt; is_told);
+}
+
 const FIRST_MAP: &[u8] = b"0 admit 5 1024 2560 0 2560 none\n0 map\n";
 
 const FIRST_TEXT: &[u8] = b"ok 0\nmap 0 002013ac10020010000b13cb\n";

@@ -13,6 +13,7 @@ fn fault_of(line: &[u8]) -> Option<LineFault> {
         | Reading::AsksState { .. }
         | Reading::AsksRows { .. }
         | Reading::AsksHelp { .. }
+        | Reading::AsksStop { .. }
         | Reading::AsksWhy { .. }
         | Reading::AsksSure { .. } => None,
     }
@@ -203,11 +204,7 @@ fn names_the_word_that_is_out_of_range(rt: HostRuntime) {
             Field::Assured,
         ),
         (b"0 change 16384 0 0 0 be".as_slice(), 2, Field::Alloc),
-        (
-            b"0 change 1024 0 0 2488321 be".as_slice(),
-            5,
-            Field::Max,
-        ),
+        (b"0 change 1024 0 0 2488321 be".as_slice(), 5, Field::Max),
         (b"0 remove 1023".as_slice(), 2, Field::Alloc),
         (b"0 why 16384".as_slice(), 2, Field::Alloc),
         (b"0 report 0 1023 x".as_slice(), 3, Field::Onu),
@@ -285,6 +282,7 @@ fn request_of(line: &[u8]) -> Option<&'static str> {
         Reading::AsksState { port: 1 } => Some("show"),
         Reading::AsksRows { port: 1 } => Some("list"),
         Reading::AsksHelp { port: 1 } => Some("help"),
+        Reading::AsksStop { port: 1 } => Some("stop"),
         Reading::AsksWhy { port: 1, .. } => Some("why"),
         Reading::AsksSure { port: 1, .. } => Some("sure"),
         _ => None,
@@ -298,6 +296,7 @@ fn reads_each_request(rt: HostRuntime) {
         (b"1 show".as_slice(), "show"),
         (b"1 list".as_slice(), "list"),
         (b"1 help".as_slice(), "help"),
+        (b"1 stop".as_slice(), "stop"),
         (b"1 why 16383".as_slice(), "why"),
         (b"1 sure 1024".as_slice(), "sure"),
     ] {

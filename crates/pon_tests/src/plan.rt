@@ -224,8 +224,8 @@ static WORKED: [(&[u8], &[u8]); 38] = [
     ),
     (b"# a comment \xff\r\n \t\n0 map\r\n\r", b"map 0 00000000\n"),
     (
-        b"0 map 1\n0 shows\n0\nx map\n0 m\xc3p\n",
-        b"err L2 WordCount\nerr L1 UnknownCommand\nerr L2 WordCount\nerr L3 BadField\nerr L7 NotText\n",
+        b"0 map 1\n0 shows\n0 stop\n0\nx map\n0 m\xc3p\n",
+        b"err L2 WordCount\nerr L1 UnknownCommand\nerr L1 UnknownCommand\nerr L2 WordCount\nerr L3 BadField\nerr L7 NotText\n",
     ),
     (
         b"0 map\n0 map\n00\t map",
