@@ -15,7 +15,7 @@ use Rattle.pon_line.specs.declared.fault.LineFault.TheVariants.{LineLong, NotTex
 use Rattle.pon_line.specs.declared.fault.LineRefusal.{LineRefusal}
 use Rattle.pon_line.specs.declared.field.Field.TheVariants as field
 use Rattle.pon_line.specs.declared.reading.Reading.{Reading}
-use Rattle.pon_line.specs.declared.reading.Reading.TheVariants.{Nothing, Refused, AsksCert, AsksState, AsksRows, AsksHelp}
+use Rattle.pon_line.specs.declared.reading.Reading.TheVariants.{Nothing, Refused, AsksCert, AsksState, AsksRows, AsksHelp, AsksStop}
 use Rattle.pon_admit.specs.declared.event.Event.TheVariants.{MakeMap, Restore}
 use Rattle.pon_line.specs.declared.table.Command.{Command}
 use Rattle.pon_line.specs.declared.table.Command.TheVariants as command
@@ -70,6 +70,7 @@ command_within ports port command.List ws h = shows_within ports (AsksRows port)
 command_within ports port command.Why ws h = why_within ports port (alloc_of ws) h
 command_within ports port command.Sure ws h = sure_within ports port (alloc_of ws) h
 command_within ports port command.Help ws h = shows_within ports (AsksHelp port) ws h
+command_within ports port command.Stop ws h = shows_within ports (AsksStop port) ws h
 
 name_within : (ports port : ℕ) (c : Option Command) (ws : List (List ℕ)) → port < ports → AsksWithin ports (by_name port c ws)
 name_within ports port None ws h = tt

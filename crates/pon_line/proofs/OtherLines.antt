@@ -14,9 +14,9 @@ use Rattle.pon_line.specs.Table.{command_of}
 use Rattle.pon_line.specs.declared.fault.LineFault.TheVariants.{BadField}
 use Rattle.pon_line.specs.declared.fault.LineRefusal.{LineRefusal}
 use Rattle.pon_line.specs.declared.field.Field.TheVariants as field
-use Rattle.pon_line.specs.declared.reading.Reading.TheVariants.{AsksCert, AsksState, AsksRows, AsksHelp}
+use Rattle.pon_line.specs.declared.reading.Reading.TheVariants.{AsksCert, AsksState, AsksRows, AsksHelp, AsksStop}
 use Rattle.pon_line.specs.declared.table.Command.{Command}
-use Rattle.pon_line.specs.declared.table.Command.TheVariants.{Admit, Change, Remove, Report, Map, Fail, Restore, Cert, Show, List as Lists, Why, Sure, Help}
+use Rattle.pon_line.specs.declared.table.Command.TheVariants.{Admit, Change, Remove, Report, Map, Fail, Restore, Cert, Show, List as Lists, Why, Sure, Help, Stop}
 use Rattle.pon_line.proofs.AskedEvents.{Reads, alone, asks_explained, asks_promised, asks_shown, asks_taken, chosen}
 
 step : {A : Type 0} (r : Result A LineRefusal) (f : A → Result Event LineRefusal) → ((x : A) → Reads IsOtherEvent (f x)) → Reads IsOtherEvent (r >>= f)
@@ -67,6 +67,7 @@ other_command port Lists ws map report = asks_shown IsOtherEvent (AsksRows port)
 other_command port Why ws map report = asks_explained IsOtherEvent port (alloc_of ws)
 other_command port Sure ws map report = asks_promised IsOtherEvent port (alloc_of ws)
 other_command port Help ws map report = asks_shown IsOtherEvent (AsksHelp port) ws tt
+other_command port Stop ws map report = asks_shown IsOtherEvent (AsksStop port) ws tt
 
 pub other_request : (port : ℕ) (name : List ℕ) (ws : List (List ℕ)) (c : Command) → command_of name ≡ Some c → c ≢ Map → c ≢ Report → IsOtherReading (request_of port (name ∷ ws))
 unfolding request_of

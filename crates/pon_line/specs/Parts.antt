@@ -10,7 +10,7 @@ use Rattle.pon_line.specs.declared.occupancies.TheConstants.{OCCUPANCY}
 use Rattle.pon_line.specs.declared.reading.Front.{Front}
 use Rattle.pon_line.specs.declared.reading.FrameCommand.{FrameCommand}
 use Rattle.pon_line.specs.declared.reading.Reading.{Reading}
-use Rattle.pon_line.specs.declared.reading.Reading.TheVariants.{Nothing, Refused, Asks, AsksCert, AsksState, AsksRows, AsksHelp, AsksWhy, AsksSure}
+use Rattle.pon_line.specs.declared.reading.Reading.TheVariants.{Nothing, Refused, Asks, AsksCert, AsksState, AsksRows, AsksHelp, AsksStop, AsksWhy, AsksSure}
 
 -- why the occupancies of a report are refused: their number, or else the first word that writes none
 abbrev pub FailsBy : List (List ℕ) → NoOccupancies → Type 0
@@ -47,6 +47,7 @@ AsksFor P (AsksCert port) = Unit {0}
 AsksFor P (AsksState port) = Unit {0}
 AsksFor P (AsksRows port) = Unit {0}
 AsksFor P (AsksHelp port) = Unit {0}
+AsksFor P (AsksStop port) = Unit {0}
 AsksFor P (AsksWhy port alloc) = Unit {0}
 AsksFor P (AsksSure port alloc) = Unit {0}
 

@@ -7,13 +7,13 @@ use Rattle.pon_admit.specs.declared.event.Event.{Event}
 use Rattle.pon_admit.specs.declared.event.Event.TheVariants.{MakeMap, Restore}
 use Rattle.pon_line.specs.Commands.{admit_of, alloc_of, change_of, fail_of, no_arguments, remove_of, report_of}
 use Rattle.pon_line.specs.Fields.{number_field}
-use Rattle.pon_line.specs.Places.{at_word, of_line}
+use Rattle.pon_line.specs.Places.{at_word, no_command, of_line}
 use Rattle.pon_line.specs.Table.{command_of}
 use Rattle.pon_line.specs.declared.fault.LineFault.TheVariants.{NoSuchPort, LineLong, NotText, UnknownCommand, WordCount}
 use Rattle.pon_line.specs.declared.fault.LineRefusal.{LineRefusal}
 use Rattle.pon_line.specs.declared.field.Field.TheVariants as field
 use Rattle.pon_line.specs.declared.reading.Reading.{Reading}
-use Rattle.pon_line.specs.declared.reading.Reading.TheVariants.{Nothing, Refused, Asks, AsksCert, AsksState, AsksRows, AsksHelp, AsksWhy, AsksSure}
+use Rattle.pon_line.specs.declared.reading.Reading.TheVariants.{Nothing, Refused, Asks, AsksCert, AsksState, AsksRows, AsksHelp, AsksStop, AsksWhy, AsksSure}
 use Rattle.pon_line.specs.declared.table.Command.{Command}
 use Rattle.pon_line.specs.declared.table.Command.TheVariants as command
 
@@ -26,7 +26,7 @@ abbrev pub takes : ℕ → Result Event LineRefusal → Reading
 takes port (Ok event) = Asks port event
 takes port (Err refusal) = Refused refusal
 
--- no word follows `cert`, `show`, `list` and `help`
+-- no word follows `cert`, `show`, `list`, `help` and `stop`
 abbrev pub shows : Reading → List (List ℕ) → Reading
 shows asked [] = asked
 shows asked (w ∷ ws) = Refused (of_line WordCount)
@@ -56,10 +56,11 @@ by_command port command.List ws = shows (AsksRows port) ws
 by_command port command.Why ws = asks_why port (alloc_of ws)
 by_command port command.Sure ws = asks_sure port (alloc_of ws)
 by_command port command.Help ws = shows (AsksHelp port) ws
+by_command port command.Stop ws = shows (AsksStop port) ws
 
 -- a word that names no command is refused
 abbrev pub by_name : ℕ → Option Command → List (List ℕ) → Reading
-by_name port None ws = Refused (at_word UnknownCommand 1 field.Command)
+by_name port None ws = Refused no_command
 by_name port (Some command) ws = by_command port command ws
 
 -- what the words after a port request of it: its last certificate, its state, its Alloc-IDs, the explanation of its last map
@@ -105,5 +106,6 @@ AsksWithin ports (AsksCert port) = port < ports
 AsksWithin ports (AsksState port) = port < ports
 AsksWithin ports (AsksRows port) = port < ports
 AsksWithin ports (AsksHelp port) = port < ports
+AsksWithin ports (AsksStop port) = port < ports
 AsksWithin ports (AsksWhy port alloc) = port < ports
 AsksWithin ports (AsksSure port alloc) = port < ports

@@ -231,6 +231,7 @@ fn by_command(port: usize, command: Command, text: &[u8]) -> Reading
         Command::Why => asks_why(port, text),
         Command::Sure => asks_sure(port, text),
         Command::Help => shows(text, Reading::AsksHelp { port }),
+        Command::Stop => shows(text, Reading::AsksStop { port }),
     }
 }
 
@@ -244,7 +245,7 @@ pub(crate) fn request_of(port: usize, text: &[u8]) -> Reading
     };
     match Command::of_word(name.word) {
         Some(command) => by_command(port, command, name.rest),
-        None => Reading::Refused(LineFault::UnknownCommand.at(1, Field::Command)),
+        None => Reading::Refused(LineRefusal::no_command()),
     }
 }
 

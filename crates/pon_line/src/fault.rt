@@ -75,6 +75,18 @@ impl From<LineFault> for LineRefusal {
     }
 }
 
+impl LineRefusal {
+    ghost use Rattle.std.specs.Prelude.{◌≡◌};
+    ghost use Rattle.pon_line.specs.Places.{no_command};
+
+    /// Returns the refusal of a line whose second word is no command.
+    pub fn no_command() -> LineRefusal
+        ensures { result ≡ no_command }
+    {
+        LineFault::UnknownCommand.at(1, Field::Command)
+    }
+}
+
 impl LineFault {
     ghost use Rattle.std.specs.Prelude.{◌≡◌};
     ghost use Rattle.pon_line.specs.Places.{at_word};

@@ -49,6 +49,8 @@ pub enum Reading {
     AsksRows { port: usize },
     /// The line requests the list of all lines.
     AsksHelp { port: usize },
+    /// The end of the run, after the turn of each port.
+    AsksStop { port: usize },
     /// The line requests the explanation of the port's last map for an Alloc-ID.
     AsksWhy { port: usize, alloc_id: AllocId },
     /// The line requests what is sure for an Alloc-ID of the port.

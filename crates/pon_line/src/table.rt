@@ -21,9 +21,10 @@ pub enum Command {
     Why,
     Sure,
     Help,
+    Stop,
 }
 
-/// The commands, in the order in which the help lists them.
+/// The commands of each port, in the order in which the help lists them: all but [`Command::Stop`], which stops a run.
 pub const COMMANDS: [Command; 13] = [
     Command::Admit,
     Command::Change,
@@ -106,6 +107,7 @@ impl Command {
             Command::Why => written("why", &[Field::Alloc], "why <alloc>"),
             Command::Sure => written("sure", &[Field::Alloc], "sure <alloc>"),
             Command::Help => written("help", &[], "help"),
+            Command::Stop => written("stop", &[], "stop"),
         }
     }
 
@@ -118,6 +120,9 @@ impl Command {
             if word == command.form().word.as_bytes() {
                 return Some(command);
             }
+        }
+        if word == Command::Stop.form().word.as_bytes() {
+            return Some(Command::Stop);
         }
         None
     }

@@ -15,7 +15,7 @@ use Rattle.pon_text.specs.Lines.{lines_of}
 use Rattle.pon_line.specs.Reading.{AsksWithin, read_line}
 use Rattle.pon_line.specs.declared.fault.LineFault.TheVariants.{Port}
 use Rattle.pon_line.specs.declared.reading.Reading.{Reading}
-use Rattle.pon_line.specs.declared.reading.Reading.TheVariants.{Nothing, Refused, Asks, AsksCert, AsksState, AsksRows, AsksHelp, AsksWhy, AsksSure}
+use Rattle.pon_line.specs.declared.reading.Reading.TheVariants.{Nothing, Refused, Asks, AsksCert, AsksState, AsksRows, AsksHelp, AsksStop, AsksWhy, AsksSure}
 use Rattle.pon_line.proofs.Asking.{read_line-within}
 use Rattle.pon_text.specs.Giving.{GivesLines}
 use Rattle.pon_text.specs.Planning.{BeginsNext}
@@ -78,6 +78,7 @@ each_answer old (AsksRows port) l within range =
     let told : (text : List ℕ) × TellsRows (slice_get old port) text = each_list old port (slice_get old port) within refl in
     (told.0, old, (told.1, refl))
 each_answer old (AsksHelp port) l within range = (help_text, old, (refl, refl))
+each_answer old (AsksStop port) l within range = (_, old, (refl, refl))
 each_answer old (AsksWhy port alloc) l within range =
     let told : (text : List ℕ) × TellsWhy (slice_get old port) alloc text = each_why old port alloc (slice_get old port) within refl in
     (told.0, old, (told.1, refl))

@@ -8,7 +8,7 @@ use Rattle.pon_admit.specs.declared.port_cfg.PortCfg.{PortCfg}
 use Rattle.pon_admit.specs.declared.step.Step.{Step}
 use Rattle.pon_history.specs.Chapters.{Chapter}
 use Rattle.pon_line.specs.declared.reading.Reading.{Reading}
-use Rattle.pon_line.specs.declared.reading.Reading.TheVariants.{Nothing, Refused, Asks, AsksCert, AsksState, AsksRows, AsksHelp, AsksWhy, AsksSure}
+use Rattle.pon_line.specs.declared.reading.Reading.TheVariants.{Nothing, Refused, Asks, AsksCert, AsksState, AsksRows, AsksHelp, AsksStop, AsksWhy, AsksSure}
 use Rattle.pon_plant.specs.Turning.{TurnsPort}
 use Rattle.pon_plant.proofs.Turning.{turned_length}
 use Rattle.pon_recorder.specs.Recordings.{HasRecorded}
@@ -37,6 +37,7 @@ no_cut a (AsksCert port) = refl
 no_cut a (AsksState port) = refl
 no_cut a (AsksRows port) = refl
 no_cut a (AsksHelp port) = refl
+no_cut a (AsksStop port) = refl
 no_cut a (AsksWhy port alloc) = refl
 no_cut a (AsksSure port alloc) = refl
 
@@ -66,6 +67,7 @@ cut_length a b (AsksCert port) cuts = ap length cuts
 cut_length a b (AsksState port) cuts = ap length cuts
 cut_length a b (AsksRows port) cuts = ap length cuts
 cut_length a b (AsksHelp port) cuts = ap length cuts
+cut_length a b (AsksStop port) cuts = ap length cuts
 cut_length a b (AsksWhy port alloc) cuts = ap length cuts
 cut_length a b (AsksSure port alloc) cuts = ap length cuts
 

@@ -13,7 +13,7 @@ use Rattle.pon_line.specs.Reading.{read_line}
 use Rattle.pon_text.specs.Giving.{GivesLines}
 use Rattle.pon_manage.specs.Text.{reply_line, Answers, AsksPort, Posts, TellsCert, TellsRows, TellsState, TellsSure, TellsWhy, Gives, IsOutput}
 use Rattle.pon_line.specs.declared.reading.Reading.{Reading}
-use Rattle.pon_line.specs.declared.reading.Reading.TheVariants.{Nothing, Refused, Asks, AsksCert, AsksState, AsksRows, AsksHelp, AsksWhy, AsksSure}
+use Rattle.pon_line.specs.declared.reading.Reading.TheVariants.{Nothing, Refused, Asks, AsksCert, AsksState, AsksRows, AsksHelp, AsksStop, AsksWhy, AsksSure}
 
 -- the two texts are equal, and so are the chapters after them
 abbrev Same : List ℕ → List ℕ → List Chapter → List Chapter → Type 0
@@ -66,6 +66,7 @@ one_answer old (AsksCert port) text more new other l p q = (one_cert (slice_get 
 one_answer old (AsksState port) text more new other l p q = (one_state (slice_get old port) text more p.0 q.0, p.1 ∙ sym q.1)
 one_answer old (AsksRows port) text more new other l p q = (one_list (slice_get old port) text more p.0 q.0, p.1 ∙ sym q.1)
 one_answer old (AsksHelp port) text more new other l p q = (p.0 ∙ sym q.0, p.1 ∙ sym q.1)
+one_answer old (AsksStop port) text more new other l p q = (p.0 ∙ sym q.0, p.1 ∙ sym q.1)
 one_answer old (AsksWhy port alloc) text more new other l p q = (one_why (slice_get old port) alloc text more p.0 q.0, p.1 ∙ sym q.1)
 one_answer old (AsksSure port alloc) text more new other l p q = (one_sure (slice_get old port) alloc text more p.0 q.0, p.1 ∙ sym q.1)
 
@@ -85,6 +86,7 @@ lawful_answer old (AsksCert port) text new l p = subst AreLawful (sym p.1) l
 lawful_answer old (AsksState port) text new l p = subst AreLawful (sym p.1) l
 lawful_answer old (AsksRows port) text new l p = subst AreLawful (sym p.1) l
 lawful_answer old (AsksHelp port) text new l p = subst AreLawful (sym p.1) l
+lawful_answer old (AsksStop port) text new l p = subst AreLawful (sym p.1) l
 lawful_answer old (AsksWhy port alloc) text new l p = subst AreLawful (sym p.1) l
 lawful_answer old (AsksSure port alloc) text new l p = subst AreLawful (sym p.1) l
 

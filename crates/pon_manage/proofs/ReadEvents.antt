@@ -26,9 +26,9 @@ use Rattle.pon_line.specs.declared.fault.LineRefusal.{LineRefusal}
 use Rattle.pon_line.specs.declared.field.Field.{Field}
 use Rattle.pon_line.specs.declared.field.Field.TheVariants as field
 use Rattle.pon_line.specs.declared.reading.Reading.{Reading}
-use Rattle.pon_line.specs.declared.reading.Reading.TheVariants.{AsksCert, AsksState, AsksRows, AsksHelp}
+use Rattle.pon_line.specs.declared.reading.Reading.TheVariants.{AsksCert, AsksState, AsksRows, AsksHelp, AsksStop}
 use Rattle.pon_line.specs.declared.table.Command.{Command}
-use Rattle.pon_line.specs.declared.table.Command.TheVariants.{Admit, Change, Remove, Report, Map, Fail, Restore, Cert, Show, List as Lists, Why, Sure, Help}
+use Rattle.pon_line.specs.declared.table.Command.TheVariants.{Admit, Change, Remove, Report, Map, Fail, Restore, Cert, Show, List as Lists, Why, Sure, Help, Stop}
 use Rattle.pon_line.proofs.AskedEvents.{Reads, alone, asks_explained, asks_promised, asks_shown, asks_taken, chosen, read_line-asks}
 
 next_step : {A B : Type 0} (Q : A → Type 0) (P : B → Type 0) (r : Result A LineRefusal) (f : A → Result B LineRefusal) → Reads Q r → ((x : A) → Q x → Reads P (f x)) → Reads P (r >>= f)
@@ -209,6 +209,7 @@ command_in_range port Lists ws = asks_shown IsEvent (AsksRows port) ws tt
 command_in_range port Why ws = asks_explained IsEvent port (alloc_of ws)
 command_in_range port Sure ws = asks_promised IsEvent port (alloc_of ws)
 command_in_range port Help ws = asks_shown IsEvent (AsksHelp port) ws tt
+command_in_range port Stop ws = asks_shown IsEvent (AsksStop port) ws tt
 
 pub read_line-in_range : (ports : ℕ) (line : List ℕ) → AsksInRange (read_line ports line)
 read_line-in_range ports line = read_line-asks IsEvent command_in_range ports line

@@ -8,7 +8,7 @@ use Rattle.pon_admit.specs.declared.port_cfg.PortCfg.{PortCfg}
 use Rattle.pon_admit.specs.declared.step.Step.{Step}
 use Rattle.pon_history.specs.Chapters.{Chapter}
 use Rattle.pon_line.specs.declared.reading.Reading.{Reading}
-use Rattle.pon_line.specs.declared.reading.Reading.TheVariants.{Nothing, Refused, Asks, AsksCert, AsksState, AsksRows, AsksHelp, AsksWhy, AsksSure}
+use Rattle.pon_line.specs.declared.reading.Reading.TheVariants.{Nothing, Refused, Asks, AsksCert, AsksState, AsksRows, AsksHelp, AsksStop, AsksWhy, AsksSure}
 use Rattle.pon_plant.specs.Turning.{KeepsChapters, TurnsPort}
 use Rattle.pon_plant.proofs.Turning.{gives_turned, turned_length}
 use Rattle.pon_recorder.specs.Bodies.{chapter_body}
@@ -100,6 +100,7 @@ no_event old (AsksCert port) other = refl
 no_event old (AsksState port) other = refl
 no_event old (AsksRows port) other = refl
 no_event old (AsksHelp port) other = refl
+no_event old (AsksStop port) other = refl
 no_event old (AsksWhy port alloc) other = refl
 no_event old (AsksSure port alloc) other = refl
 
@@ -116,6 +117,7 @@ room_for_length old mid (AsksCert port) room = ap length room
 room_for_length old mid (AsksState port) room = ap length room
 room_for_length old mid (AsksRows port) room = ap length room
 room_for_length old mid (AsksHelp port) room = ap length room
+room_for_length old mid (AsksStop port) room = ap length room
 room_for_length old mid (AsksWhy port alloc) room = ap length room
 room_for_length old mid (AsksSure port alloc) room = ap length room
 

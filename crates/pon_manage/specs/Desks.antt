@@ -13,9 +13,9 @@ use Rattle.pon_desk.specs.declared.view.PortView.{PortView}
 use Rattle.pon_line.specs.Reading.{read_line}
 use Rattle.pon_line.specs.declared.fault.LineFault.TheVariants.{Port}
 use Rattle.pon_line.specs.declared.reading.Reading.{Reading}
-use Rattle.pon_line.specs.declared.reading.Reading.TheVariants.{Nothing, Refused, Asks, AsksCert, AsksState, AsksRows, AsksHelp, AsksWhy, AsksSure}
+use Rattle.pon_line.specs.declared.reading.Reading.TheVariants.{Nothing, Refused, Asks, AsksCert, AsksState, AsksRows, AsksHelp, AsksStop, AsksWhy, AsksSure}
 use Rattle.pon_manage.specs.declared.show.Shown.{Shown}
-use Rattle.pon_manage.specs.Help.{help_text}
+use Rattle.pon_manage.specs.Help.{run_help_text, stop_line}
 use Rattle.pon_manage.specs.Rows.{list_text}
 use Rattle.pon_manage.specs.Sures.{sure_in, sure_line}
 use Rattle.pon_manage.specs.Whys.{why_line}
@@ -70,7 +70,8 @@ DeskAnswers old (Asks port event) text new = TellsPosted port event old text new
 DeskAnswers old (AsksCert port) text new = ShowsCert text × (new ≡ old)
 DeskAnswers old (AsksState port) text new = ShowsState text × (new ≡ old)
 DeskAnswers old (AsksRows port) text new = ShowsRows text × (new ≡ old)
-DeskAnswers old (AsksHelp port) text new = (text ≡ help_text) × (new ≡ old)
+DeskAnswers old (AsksHelp port) text new = (text ≡ run_help_text) × (new ≡ old)
+DeskAnswers old (AsksStop port) text new = (text ≡ stop_line) × (new ≡ old)
 DeskAnswers old (AsksWhy port alloc) text new = ShowsWhy alloc text × (new ≡ old)
 DeskAnswers old (AsksSure port alloc) text new = ShowsSure alloc text × (new ≡ old)
 

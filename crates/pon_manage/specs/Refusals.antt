@@ -1,15 +1,16 @@
 -- The refusals of lines: what the loop over lines hands out beside the reply.
-use Rattle.std.specs.Prelude.{◌≡◌, List, Option, Some, None, option_map, slice_get}
+use Rattle.std.specs.Prelude.{ℕ, ◌≡◌, List, Option, Some, None, option_map, slice_get}
 use Rattle.pon_descr.specs.declared.refusal.Refusal.TheVariants.{NoSuchAlloc}
 use Rattle.pon_admit.specs.declared.event.Event.{Event}
 use Rattle.pon_history.specs.Chapters.{Chapter, present_state}
 use Rattle.pon_history.specs.Last.{LastMap, last_map}
 use Rattle.pon_history.specs.Taking.{refusal_of}
-use Rattle.pon_line.specs.Places.{of_line}
+use Rattle.pon_line.specs.Places.{no_command, of_line}
+use Rattle.pon_line.specs.Reading.{read_line}
 use Rattle.pon_line.specs.declared.fault.LineFault.TheVariants.{NoMap, Port}
 use Rattle.pon_line.specs.declared.fault.LineRefusal.{LineRefusal}
 use Rattle.pon_line.specs.declared.reading.Reading.{Reading}
-use Rattle.pon_line.specs.declared.reading.Reading.TheVariants.{Nothing, Refused, Asks, AsksCert, AsksState, AsksRows, AsksHelp, AsksWhy, AsksSure}
+use Rattle.pon_line.specs.declared.reading.Reading.TheVariants.{Nothing, Refused, Asks, AsksCert, AsksState, AsksRows, AsksHelp, AsksStop, AsksWhy, AsksSure}
 use Rattle.pon_sure.specs.declared.sure.Sure.{Sure}
 use Rattle.pon_why.specs.Lasts.{why_of}
 use Rattle.pon_why.specs.declared.last.LastWhy.{LastWhy}
@@ -52,6 +53,7 @@ refusal_in old (AsksCert port) = at_port (slice_get old port) (λ c. cert_refusa
 refusal_in old (AsksState port) = None
 refusal_in old (AsksRows port) = None
 refusal_in old (AsksHelp port) = None
+refusal_in old (AsksStop port) = Some no_command
 refusal_in old (AsksWhy port alloc) = at_port (slice_get old port) (λ c. why_refusal (why_of c.opening c.entries alloc))
 refusal_in old (AsksSure port alloc) = at_port (slice_get old port) (λ c. sure_refusal (sure_in (present_state c) alloc))
 

@@ -16,9 +16,9 @@ use Rattle.pon_descr.specs.declared.refusal.Refusal.{Refusal}
 use Rattle.pon_line.specs.Faults.{line_fault_text}
 use Rattle.pon_line.specs.Reading.{read_line}
 use Rattle.pon_line.specs.declared.fault.LineFault.{LineFault}
-use Rattle.pon_line.specs.declared.fault.LineFault.TheVariants.{NoMap, Port}
+use Rattle.pon_line.specs.declared.fault.LineFault.TheVariants.{NoMap, Port, UnknownCommand}
 use Rattle.pon_line.specs.declared.reading.Reading.{Reading}
-use Rattle.pon_line.specs.declared.reading.Reading.TheVariants.{Nothing, Refused, Asks, AsksCert, AsksState, AsksRows, AsksHelp, AsksWhy, AsksSure}
+use Rattle.pon_line.specs.declared.reading.Reading.TheVariants.{Nothing, Refused, Asks, AsksCert, AsksState, AsksRows, AsksHelp, AsksStop, AsksWhy, AsksSure}
 use Rattle.pon_text.specs.Giving.{GivesText}
 use Rattle.pon_manage.specs.Help.{help_text}
 use Rattle.pon_manage.specs.Rows.{list_text, named}
@@ -123,6 +123,7 @@ Answers old (AsksCert port) text new = TellsCert (slice_get old port) text × (n
 Answers old (AsksState port) text new = TellsState (slice_get old port) text × (new ≡ old)
 Answers old (AsksRows port) text new = TellsRows (slice_get old port) text × (new ≡ old)
 Answers old (AsksHelp port) text new = (text ≡ help_text) × (new ≡ old)
+Answers old (AsksStop port) text new = (text ≡ refusal_line UnknownCommand) × (new ≡ old)
 Answers old (AsksWhy port alloc) text new = TellsWhy (slice_get old port) alloc text × (new ≡ old)
 Answers old (AsksSure port alloc) text new = TellsSure (slice_get old port) alloc text × (new ≡ old)
 

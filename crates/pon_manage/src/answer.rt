@@ -241,6 +241,7 @@ pub(crate) fn answer(
         Reading::AsksState { port } => show_state(port_at(plant, port), replies),
         Reading::AsksRows { port } => show_rows(port_at(plant, port), replies),
         Reading::AsksHelp { port: _ } => show_help(replies),
+        Reading::AsksStop { port: _ } => refuse_line(replies, LineRefusal::no_command()),
         Reading::AsksWhy { port, alloc_id } => show_why(port_at(plant, port), alloc_id, replies),
         Reading::AsksSure { port, alloc_id } => show_sure(port_at(plant, port), alloc_id, replies),
     }

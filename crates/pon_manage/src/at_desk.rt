@@ -10,7 +10,7 @@ ghost use Rattle.pon_manage.specs.Desks.{AddsText, DeskAnswers, ShowsCert, Shows
 ghost use Rattle.pon_manage.specs.Sures.{sure_in};
 ghost use Rattle.pon_manage.specs.Text.{cert_line};
 
-use crate::help::append_help;
+use crate::help::{append_run_help, append_stop};
 use crate::list::append_rows;
 use crate::show::{Shown, append_shown};
 use crate::sure::{append_sure, sure_in};
@@ -254,7 +254,8 @@ impl<'a, L: Ledger, M: Ledger, H: Wait> AtDesk<'a, L, M, H> {
             Reading::AsksCert { port } => self.answer_cert(port, replies),
             Reading::AsksState { port } => self.answer_state(port, replies),
             Reading::AsksRows { port } => self.answer_rows(port, replies),
-            Reading::AsksHelp { port: _ } => append_help(replies),
+            Reading::AsksHelp { port: _ } => append_run_help(replies),
+            Reading::AsksStop { port: _ } => append_stop(replies),
             Reading::AsksWhy { port, alloc_id } => self.answer_why(port, alloc_id, replies),
             Reading::AsksSure { port, alloc_id } => self.answer_sure(port, alloc_id, replies),
         }

@@ -27,7 +27,7 @@ mod why;
 
 pub use flushed::CutTimes;
 pub use flushed_planning::plan_flushed;
-pub use noted_desk::{ShowNotes, operate_noted};
+pub use noted_desk::{RunNotes, operate_noted};
 pub use notes::Notes;
 pub use opening::Opening;
 pub use operating::operate;

@@ -1,4 +1,4 @@
-//! Management lines at a desk, where each state that is shown is noted.
+//! Management lines at a desk, where each state that is shown is noted, and a line stops the run.
 
 ghost use Rattle.std.specs.Prelude.{OnOk};
 ghost use Rattle.pon_device.specs.Device.{IsAtEnd};
@@ -17,10 +17,13 @@ use std::alloc::{AllocError, Global};
 use std::sync::Wait;
 use std::sync::ledger::Ledger;
 
-/// Adds to what `show` says of a port.
-pub trait ShowNotes {
+/// Takes part in what an operator asks of a run.
+pub trait RunNotes {
     /// Notes that the state of the port of this number was shown.
     fn shown(&self, port: usize);
+
+    /// Stops the run.
+    fn stop(&self);
 }
 
 /// Answers lines at a desk, and notes each state that it shows.
@@ -30,15 +33,24 @@ struct NotedDesk<'d, 'n, L: Ledger, M: Ledger, H: Wait, S> {
     notes: &'n S,
 }
 
-// Returns the port whose state a reading asks for.
-fn shown_port(reading: &Reading) -> Option<usize> {
+// What a reading asks of a run, beside its port.
+#[derive(Clone, Copy)]
+enum OfRun {
+    Shown(usize),
+    Stop,
+    Nothing,
+}
+
+// Returns what a reading asks of a run.
+fn of_run(reading: &Reading) -> OfRun {
     match reading {
-        Reading::AsksState { port } => Some(*port),
-        _ => None,
+        Reading::AsksState { port } => OfRun::Shown(*port),
+        Reading::AsksStop { port: _ } => OfRun::Stop,
+        _ => OfRun::Nothing,
     }
 }
 
-impl<'d, 'n, L: Ledger, M: Ledger, H: Wait, S: ShowNotes> Answers<Seat<L, M>>
+impl<'d, 'n, L: Ledger, M: Ledger, H: Wait, S: RunNotes> Answers<Seat<L, M>>
     for NotedDesk<'d, 'n, L, M, H, S> {
     ghost gives = { DeskGives };
 
@@ -52,10 +64,12 @@ impl<'d, 'n, L: Ledger, M: Ledger, H: Wait, S: ShowNotes> Answers<Seat<L, M>>
     ) -> Result<(), AllocError> {
         prove!(self.at.desk.ports() == seat.counts().len());
         let reading = read_line(self.at.desk.ports(), line);
-        let shown = shown_port(&reading);
+        let asked = of_run(&reading);
         self.at.answer(seat, reading, replies)?;
-        if let Some(port) = shown {
-            self.notes.shown(port);
+        match asked {
+            OfRun::Shown(port) => self.notes.shown(port),
+            OfRun::Stop => self.notes.stop(),
+            OfRun::Nothing => {}
         }
         Ok(())
     }
@@ -65,8 +79,8 @@ impl<'d, 'n, L: Ledger, M: Ledger, H: Wait, S: ShowNotes> Answers<Seat<L, M>>
     ghost is_path = { any_path };
 }
 
-/// Executes management lines at a desk as [`operate`](crate::operate) does, with the same replies, and notes each port whose
-/// state is shown.
+/// Executes management lines at a desk as [`operate`](crate::operate) does, with the same replies. Notes each port whose state is
+/// shown, and stops the run at a line that asks for it.
 ///
 /// # Errors
 ///
@@ -84,7 +98,7 @@ where
     L: Ledger,
     M: Ledger,
     H: Wait,
-    S: ShowNotes,
+    S: RunNotes,
     R: DevRead,
     W: DevWrite,
     ensures text { Planned DeskGives seat.old seat.new (R.remaining reader.old)
