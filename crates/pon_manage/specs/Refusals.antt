@@ -1,12 +1,11 @@
 -- The refusals of lines: what the loop over lines hands out beside the reply.
-use Rattle.std.specs.Prelude.{ℕ, ◌≡◌, List, Option, Some, None, option_map, slice_get}
+use Rattle.std.specs.Prelude.{◌≡◌, List, Option, Some, None, option_map, slice_get}
 use Rattle.pon_descr.specs.declared.refusal.Refusal.TheVariants.{NoSuchAlloc}
 use Rattle.pon_admit.specs.declared.event.Event.{Event}
 use Rattle.pon_history.specs.Chapters.{Chapter, present_state}
 use Rattle.pon_history.specs.Last.{LastMap, last_map}
 use Rattle.pon_history.specs.Taking.{refusal_of}
 use Rattle.pon_line.specs.Places.{no_command, of_line}
-use Rattle.pon_line.specs.Reading.{read_line}
 use Rattle.pon_line.specs.declared.fault.LineFault.TheVariants.{NoMap, Port}
 use Rattle.pon_line.specs.declared.fault.LineRefusal.{LineRefusal}
 use Rattle.pon_line.specs.declared.reading.Reading.{Reading}

@@ -1,4 +1,4 @@
-use Rattle.std.proofs.Common.{◌≡◌, ◌++◌, ◌∷◌, [], length, string_bytes, take}
+use Rattle.std.proofs.Common.{◌≡◌, ◌++◌, ◌∷◌, [], string_bytes, take}
 use Rattle.std.specs.Prelude.{codes, flat_map}
 use Rattle.pon_line.specs.Table.{commands}
 use Rattle.pon_manage.specs.Help.{form_line}
