@@ -1,6 +1,8 @@
+pub mod Answers
 pub mod Counts
 pub mod Explanations
 pub mod FaultDetails
+pub mod Fields
 pub mod Finding
 pub mod Gaps
 pub mod Sold

@@ -3,14 +3,14 @@
 ghost use Rattle.pon_look.specs.Views.{OnlyWrites};
 
 use crate::contents::Contents;
+use crate::field::{Field, FieldValue};
 use crate::info::write_line;
-use crate::info_json::line_seconds;
-use crate::members::Members;
+use crate::json::{object_line, object_of, put_fields, text_value};
 use crate::viewed::Viewed;
 use pon_audit::Verdict;
 use pon_device::{DevWrite, DeviceFault};
 use pon_units::MAX_PORTS;
-use serde_json::Value;
+use serde_json::{Map, Value, put};
 use std::alloc::{AllocError, Global};
 
 // Makes the list of the ports.
@@ -28,9 +28,12 @@ fn ports_json(alloc: Global, contents: &Contents) -> Result<Value, AllocError> {
 fn gaps_json(alloc: Global, contents: &Contents) -> Result<Value, AllocError> {
     let mut gaps = Vec::new(alloc);
     for gap in contents.gaps() {
-        let port = u64::from(gap.port.get());
-        let numbers = [("port", port), ("first", gap.first), ("last", gap.last)];
-        gaps.push(Members::of(alloc, &numbers).into_value()?)?;
+        let fields = [
+            Field::number("port", u64::from(gap.port.get())),
+            Field::number("first", gap.first),
+            Field::number("last", gap.last),
+        ];
+        gaps.push(object_of(alloc, &fields)?)?;
     }
     Ok(Value::Array(gaps))
 }
@@ -45,15 +48,16 @@ fn place_json(alloc: Global, verdict: &Verdict) -> Result<Value, AllocError> {
             index,
             why,
         } => {
-            let (port, entry) = (u64::from(port.get()), index as u64);
-            let numbers = [("port", port), ("chapter", chapter), ("entry", entry)];
-            let why = format!(in alloc; "{why}").map(Value::from);
-            Members::of(alloc, &numbers)
-                .with_made("why", why)
-                .into_value()
+            let fields = [
+                Field::number("port", u64::from(port.get())),
+                Field::number("chapter", chapter),
+                Field::number("entry", index as u64),
+                Field::new("why", FieldValue::Reason(why)),
+            ];
+            object_of(alloc, &fields)
         }
         Verdict::BadFormat { at } | Verdict::Truncated { at } => {
-            Members::of(alloc, &[("at", at as u64)]).into_value()
+            object_of(alloc, &[Field::number("at", at as u64)])
         }
     }
 }
@@ -76,15 +80,26 @@ fn judged_json(
     contents: &Contents,
     bytes: u64,
 ) -> Result<String, AllocError> {
-    Members::of(alloc, &[("maps", contents.maps()), ("bytes", bytes)])
-        .with_text("file", file)
-        .with_text("verdict", word_of(verdict))
-        .with_made("place", place_json(alloc, verdict))
-        .with_made("ports", ports_json(alloc, contents))
-        .with("complete", Value::from(contents.is_complete()))
-        .with_made("gaps", gaps_json(alloc, contents))
-        .with("seconds", line_seconds(contents.maps()))
-        .into_line()
+    let maps = contents.maps();
+    let fields = [
+        Field::number("maps", maps),
+        Field::number("bytes", bytes),
+        Field::new("complete", FieldValue::Mark(contents.is_complete())),
+        Field::new("seconds", FieldValue::Seconds(maps)),
+    ];
+    let mut object = Map::new(alloc);
+    put_fields(&mut object, alloc, &fields)?;
+    put(&mut object, alloc, "file", text_value(alloc, file)?)?;
+    put(
+        &mut object,
+        alloc,
+        "verdict",
+        text_value(alloc, word_of(verdict))?,
+    )?;
+    put(&mut object, alloc, "place", place_json(alloc, verdict)?)?;
+    put(&mut object, alloc, "ports", ports_json(alloc, contents)?)?;
+    put(&mut object, alloc, "gaps", gaps_json(alloc, contents)?)?;
+    object_line(alloc, object)
 }
 
 /// Writes the object of a recording of `bytes` bytes that was judged: its file, its verdict and the place of its fault. The
