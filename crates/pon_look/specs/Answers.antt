@@ -1,5 +1,5 @@
 -- What each answer says, field by field.
-use Rattle.std.specs.Prelude.{ℕ, ◌/◌, List, [], ◌∷◌, Option, codes, option_map, option_and_then, unwrap_or}
+use Rattle.std.specs.Prelude.{ℕ, Bool, ◌/◌, List, [], ◌∷◌, Option, codes, option_map, option_and_then, unwrap_or}
 use Rattle.pon_units.specs.declared.limits.TheConstants.{WORD_RATE}
 use Rattle.pon_bwmap.specs.Alloc.{Alloc}
 use Rattle.pon_descr.specs.Descriptor.{Descriptor}
@@ -12,6 +12,7 @@ use Rattle.pon_why.specs.declared.reported.Reported.{Reported}
 use Rattle.pon_sold.specs.declared.watch.Sold.{Sold}
 use Rattle.pon_sure.specs.Sure.{longest_wait}
 use Rattle.pon_sure.specs.declared.sure.Sure.{Sure}
+use Rattle.pon_audit.specs.declared.verdict.AuditReason.{AuditReason}
 use Rattle.pon_look.specs.Fields.{Said, keyed, named, numbered, words_alone}
 use Rattle.pon_look.specs.declared.field.FieldValue.TheVariants as value
 use Rattle.pon_look.specs.declared.gaps.Gap.{Gap}
@@ -52,6 +53,18 @@ missing_fields g = numbered (codes "port") g.port ∷ keyed (codes "chapters") (
 -- chapters that are missing, in the verdict on a recording
 abbrev pub gap_fields : Gap → List Said
 gap_fields g = numbered (codes "port") g.port ∷ numbered (codes "first") g.first ∷ numbered (codes "last") g.last ∷ []
+
+-- the place of a fault, and the reason
+abbrev pub fault_fields : ℕ → ℕ → ℕ → AuditReason → List Said
+fault_fields port chapter entry why =
+    numbered (codes "port") port ∷ numbered (codes "chapter") chapter ∷ numbered (codes "entry") entry
+    ∷ named (codes "why") (value.Reason why) ∷ []
+
+-- the numbers of a recording that was judged
+abbrev pub judged_fields : ℕ → ℕ → Bool → List Said
+judged_fields maps bytes complete =
+    numbered (codes "maps") maps ∷ numbered (codes "bytes") bytes ∷ named (codes "complete") (value.Mark complete)
+    ∷ named (codes "seconds") (value.Seconds maps) ∷ []
 
 -- the totals of a number of bytes
 abbrev pub total_fields : Totals → ℕ → List Said

@@ -5,6 +5,7 @@ pub mod FaultDetails
 pub mod Fields
 pub mod Finding
 pub mod Gaps
+pub mod Refusals
 pub mod Sold
 pub mod Summaries
 pub mod Sums
