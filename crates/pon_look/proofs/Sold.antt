@@ -1,13 +1,12 @@
 -- The chapters of a port in a good recording go on from one to the next.
-use Rattle.std.proofs.Common.{◌≡◌, ℕ, zero, suc, ◌<◌, Bool, true, false, List, [], ◌∷◌, length, refl, sym, ◌∙◌, arith}
+use Rattle.std.proofs.Common.{◌≡◌, ℕ, zero, suc, Bool, true, false, List, [], ◌∷◌, refl, sym, ◌∙◌, arith}
 use Rattle.std.specs.Prelude.{◌==◌, if◌then◌else◌, All}
 use Rattle.std.specs.List.{AllPairs}
 use Rattle.std.proofs.lemmas.Bool.{eqb-true}
 use Rattle.std.proofs.lemmas.List.Elements.{All-head, All-tail}
-use Rattle.pon_history.specs.Chapters.{Chapter}
 use Rattle.pon_record.specs.Chapters.{PlacedChapter}
 use Rattle.pon_audit.specs.Openings.{chapter_of}
-use Rattle.pon_audit.specs.Verdicts.{AreGood, Continues, IsGoodChapter}
+use Rattle.pon_audit.specs.Verdicts.{Continues, IsGoodChapter}
 use Rattle.pon_sold.specs.Chapters.{AreOfPort, GoOn}
 use Rattle.pon_look.specs.Sold.{chapters_of}
 

@@ -1,8 +1,11 @@
+pub mod Answers
 pub mod Counts
 pub mod Explanations
 pub mod FaultDetails
+pub mod Fields
 pub mod Finding
 pub mod Gaps
+pub mod Refusals
 pub mod Sold
 pub mod Summaries
 pub mod Sums

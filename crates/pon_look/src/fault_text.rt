@@ -2,12 +2,13 @@
 
 ghost use Rattle.pon_audit.specs.Openings.{FitsRecording};
 
+use crate::alloc_fields::structure_fields;
 use crate::chapters::{next_chapter, open_chapters};
 use crate::counted::CountedBytes;
 use crate::fault::{FaultDetail, explain_fault};
 use crate::frames::last_frame;
 use crate::lines::append_event;
-use crate::words::OrDash;
+use crate::text::push_fields;
 use pon_admit::Event;
 use pon_audit::{AuditReason, Verdict};
 use pon_bwmap::Alloc;
@@ -16,7 +17,6 @@ use pon_record::RawChapter;
 use pon_state::{Entry, EntryRef};
 use pon_units::{FrameNo, PortNo};
 use std::alloc::{AllocError, Global};
-use std::fmt::{self, Display, Formatter, Write};
 
 /// The fault of a chapter, as a verdict has it.
 #[derive(Clone, Copy)]
@@ -44,24 +44,14 @@ fn chapter_text(alloc: Global, fault: &Fault) -> Option<Result<String, AllocErro
     }
 }
 
-/// A structure that may be missing: its Alloc-ID, start and grant, as `olt why` has them.
-#[derive(Clone, Copy)]
-struct StructureText(Option<Alloc>);
-
-impl Display for StructureText {
-    fn fmt<W: Write>(&self, f: &mut Formatter<W>) -> fmt::Result {
-        let Some(structure) = self.0 else {
-            return f.write_str("none");
-        };
-        let start = OrDash(structure.start().map(u64::from));
-        let (alloc_id, grant) = (structure.id(), structure.grant());
-        let (dbru, ploam) = (u8::from(structure.dbru()), u8::from(structure.ploam()));
-        let (fwi, profile) = (u8::from(structure.fwi()), structure.profile());
-        write!(
-            f,
-            "alloc {alloc_id} dbru {dbru} ploam {ploam} start {start} grant {grant} fwi {fwi} profile {profile}"
-        )
+// Makes the text of a structure, with the fields that it has in `olt why`; `none` without one.
+fn structure_text(alloc: Global, structure: &Option<Alloc>) -> Result<String, AllocError> {
+    let mut text = String::new(alloc);
+    match structure {
+        Some(structure) => push_fields(&mut text, &structure_fields(structure))?,
+        None => text.push_str("none")?,
     }
+    Ok(text)
 }
 
 // Makes the line about the map of a frame.
@@ -83,7 +73,8 @@ fn map_text(alloc: Global, frame: FrameNo, detail: &FaultDetail) -> Result<Strin
             wanted,
             found,
         } => {
-            let (wanted, found) = (StructureText(wanted), StructureText(found));
+            let wanted = structure_text(alloc, &wanted)?;
+            let found = structure_text(alloc, &found)?;
             format!(in alloc; "frame {frame} structure {place}: {found}; wanted {wanted}")
         }
         FaultDetail::Frame { next } => {

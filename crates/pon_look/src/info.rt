@@ -7,9 +7,11 @@ ghost use Rattle.pon_audit.specs.Streams.{IsVerdictOf};
 ghost use Rattle.pon_look.specs.Views.{CountsReads, OnlyWrites};
 
 use crate::counted::CountedBytes;
+use crate::gaps::gap_before;
+use crate::info_fields::{chapter_line, missing_line, total_line};
+use crate::printer::Printer;
 use crate::query::{Answer, Format};
 use crate::summary::{Totals, summary_of, with_chapter};
-use crate::text::{chapter_line, missing_line, total_line};
 use crate::viewed::Viewed;
 use pon_audit::{Auditing, BatchEnd, Step, Verdict};
 use pon_device::{DevRead, DevWrite, DeviceFault, write_text};
@@ -36,30 +38,26 @@ pub(crate) fn write_line<W: DevWrite>(
 
 // Writes a line about the chapters that are missing before a chapter, after the last one of its port.
 fn write_missing<W: DevWrite>(
-    alloc: Global,
-    format: Format,
+    printer: &mut Printer,
     before: Option<u64>,
     chapter: &RawChapter,
     writer: &mut W,
 ) -> Result<(), DeviceFault>
     ensures write { OnlyWrites (W.failures writer.old) (W.failures writer.new) result }
 {
-    let first = match before {
-        Some(number) => number.saturating_add(1),
-        None => return Ok(()),
-    };
-    if chapter.number <= first {
+    if before.is_none() {
         return Ok(());
     }
-    let port = chapter.port.get();
-    let line = missing_line(alloc, format, port, first, chapter.number - 1);
-    write_line(line, writer)
+    match gap_before(chapter.port, before, chapter.number) {
+        Some(gap) => write_line(missing_line(printer, &gap), writer),
+        None => Ok(()),
+    }
 }
 
 // Writes the lines of a chapter that ends before the byte `end`. Returns the totals with it.
 fn write_chapter<W: DevWrite>(
     alloc: Global,
-    format: Format,
+    printer: &mut Printer,
     totals: Totals,
     chapter: &RawChapter,
     end: u64,
@@ -69,7 +67,7 @@ fn write_chapter<W: DevWrite>(
 {
     let summary = summary_of(chapter);
     let bytes = end.saturating_sub(chapter.at as u64);
-    let line = chapter_line(alloc, format, &summary, chapter, bytes);
+    let line = chapter_line(alloc, printer, &summary, chapter, bytes);
     match write_line(line, writer) {
         Ok(()) => match with_chapter(totals, &summary) {
             Some(sum) => Ok(sum),
@@ -102,7 +100,7 @@ impl SoFar {
     fn write_next<W: DevWrite>(
         &mut self,
         alloc: Global,
-        format: Format,
+        printer: &mut Printer,
         chapter: &RawChapter,
         end: u64,
         writer: &mut W,
@@ -110,8 +108,8 @@ impl SoFar {
         ensures write { OnlyWrites (W.failures writer.old) (W.failures writer.new) result }
     {
         let port = chapter.port.get() as usize;
-        write_missing(alloc, format, self.last[port], chapter, writer)?;
-        self.totals = write_chapter(alloc, format, self.totals, chapter, end, writer)?;
+        write_missing(printer, self.last[port], chapter, writer)?;
+        self.totals = write_chapter(alloc, printer, self.totals, chapter, end, writer)?;
         self.last[port] = Some(chapter.number);
         Ok(())
     }
@@ -120,7 +118,7 @@ impl SoFar {
     fn write_batch<W: DevWrite>(
         &mut self,
         alloc: Global,
-        format: Format,
+        printer: &mut Printer,
         chapters: &[RawChapter],
         end: u64,
         writer: &mut W,
@@ -132,7 +130,7 @@ impl SoFar {
                 Some(next) => next.at as u64,
                 None => end,
             };
-            self.write_next(alloc, format, &chapters[place], chapter_end, writer)?;
+            self.write_next(alloc, printer, &chapters[place], chapter_end, writer)?;
         }
         Ok(())
     }
@@ -152,7 +150,7 @@ fn write_chapters<R: DevRead, W: DevWrite>(
     alloc: Global,
     auditing: &mut Auditing,
     reader: &mut CountedBytes<R>,
-    format: Format,
+    printer: &mut Printer,
     writer: &mut W,
 ) -> Result<Verdict, DeviceFault>
     requires { (start : Option (List ℕ)) × IsAuditing start auditing.old (⟦<CountedBytes<R> as DevRead>⟧.remaining reader.old) }
@@ -165,9 +163,9 @@ fn write_chapters<R: DevRead, W: DevWrite>(
     for _batch in 0..u64::MAX {
         let Step { batch, verdict } = auditing.next(rt, alloc, reader)?;
         let end = end_of(batch.end, reader.bytes());
-        seen.write_batch(alloc, format, &batch.chapters, end, writer)?;
+        seen.write_batch(alloc, printer, &batch.chapters, end, writer)?;
         if let Some(verdict) = verdict {
-            let line = total_line(alloc, format, &seen.totals, reader.bytes());
+            let line = total_line(printer, &seen.totals, reader.bytes());
             write_line(line, writer)?;
             return Ok(verdict);
         }
@@ -193,8 +191,9 @@ pub fn write_info<R: DevRead, W: DevWrite>(
     ensures read { CountsReads (⟦<CountedBytes<R> as DevRead>⟧.failures reader.old) (⟦<CountedBytes<R> as DevRead>⟧.failures reader.new) result }
     ensures write { TellsWrite (W.failures writer.old) (W.failures writer.new) result }
 {
+    let mut printer = Printer::new(alloc, format);
     let verdict = match Auditing::open(alloc, reader)? {
-        Ok(mut auditing) => write_chapters(rt, alloc, &mut auditing, reader, format, writer)?,
+        Ok(mut auditing) => write_chapters(rt, alloc, &mut auditing, reader, &mut printer, writer)?,
         Err(verdict) => verdict,
     };
     let shown = Answer::Shown;

@@ -1,16 +1,20 @@
 //! The verdict on a recording, as JSON.
 
+ghost use Rattle.std.specs.Prelude.{◌≡◌, map};
+ghost use Rattle.pon_look.specs.Answers.{fault_fields, gap_fields, judged_fields};
+ghost use Rattle.pon_look.specs.Fields.{said};
 ghost use Rattle.pon_look.specs.Views.{OnlyWrites};
 
 use crate::contents::Contents;
+use crate::field::{Field, FieldValue};
+use crate::gaps::Gap;
 use crate::info::write_line;
-use crate::info_json::line_seconds;
-use crate::members::Members;
+use crate::json::{object_line, object_of, put_fields, text_value};
 use crate::viewed::Viewed;
-use pon_audit::Verdict;
+use pon_audit::{AuditReason, Verdict};
 use pon_device::{DevWrite, DeviceFault};
-use pon_units::MAX_PORTS;
-use serde_json::Value;
+use pon_units::{MAX_PORTS, PortNo};
+use serde_json::{Map, Value, put};
 use std::alloc::{AllocError, Global};
 
 // Makes the list of the ports.
@@ -24,15 +28,36 @@ fn ports_json(alloc: Global, contents: &Contents) -> Result<Value, AllocError> {
     Ok(Value::Array(ports))
 }
 
+// Makes the fields of chapters that are missing.
+fn gap_fields<'a>(gap: &Gap) -> [Field<'a>; 3]
+    ensures { map said result ≡ gap_fields gap.now }
+{
+    [
+        Field::number("port", u64::from(gap.port.get())),
+        Field::number("first", gap.first),
+        Field::number("last", gap.last),
+    ]
+}
+
 // Makes the list of the gaps.
 fn gaps_json(alloc: Global, contents: &Contents) -> Result<Value, AllocError> {
     let mut gaps = Vec::new(alloc);
     for gap in contents.gaps() {
-        let port = u64::from(gap.port.get());
-        let numbers = [("port", port), ("first", gap.first), ("last", gap.last)];
-        gaps.push(Members::of(alloc, &numbers).into_value()?)?;
+        gaps.push(object_of(alloc, &gap_fields(gap))?)?;
     }
     Ok(Value::Array(gaps))
+}
+
+// Makes the fields of the place of a fault.
+fn fault_fields<'a>(port: PortNo, chapter: u64, index: usize, why: AuditReason) -> [Field<'a>; 4]
+    ensures { map said result ≡ fault_fields port chapter index why }
+{
+    [
+        Field::number("port", u64::from(port.get())),
+        Field::number("chapter", chapter),
+        Field::number("entry", index as u64),
+        Field::new("why", FieldValue::Reason(why)),
+    ]
 }
 
 // Makes the place of a fault, or null.
@@ -44,16 +69,9 @@ fn place_json(alloc: Global, verdict: &Verdict) -> Result<Value, AllocError> {
             chapter,
             index,
             why,
-        } => {
-            let (port, entry) = (u64::from(port.get()), index as u64);
-            let numbers = [("port", port), ("chapter", chapter), ("entry", entry)];
-            let why = format!(in alloc; "{why}").map(Value::from);
-            Members::of(alloc, &numbers)
-                .with_made("why", why)
-                .into_value()
-        }
+        } => object_of(alloc, &fault_fields(port, chapter, index, why)),
         Verdict::BadFormat { at } | Verdict::Truncated { at } => {
-            Members::of(alloc, &[("at", at as u64)]).into_value()
+            object_of(alloc, &[Field::number("at", at as u64)])
         }
     }
 }
@@ -68,6 +86,18 @@ fn word_of(verdict: &Verdict) -> &'static str {
     }
 }
 
+// Makes the fields of the numbers of a recording that was judged.
+fn judged_fields<'a>(maps: u64, bytes: u64, is_complete: bool) -> [Field<'a>; 4]
+    ensures { map said result ≡ judged_fields maps bytes is_complete }
+{
+    [
+        Field::number("maps", maps),
+        Field::number("bytes", bytes),
+        Field::new("complete", FieldValue::Mark(is_complete)),
+        Field::new("seconds", FieldValue::Seconds(maps)),
+    ]
+}
+
 // Makes the object of a recording that was judged.
 fn judged_json(
     alloc: Global,
@@ -76,15 +106,20 @@ fn judged_json(
     contents: &Contents,
     bytes: u64,
 ) -> Result<String, AllocError> {
-    Members::of(alloc, &[("maps", contents.maps()), ("bytes", bytes)])
-        .with_text("file", file)
-        .with_text("verdict", word_of(verdict))
-        .with_made("place", place_json(alloc, verdict))
-        .with_made("ports", ports_json(alloc, contents))
-        .with("complete", Value::from(contents.is_complete()))
-        .with_made("gaps", gaps_json(alloc, contents))
-        .with("seconds", line_seconds(contents.maps()))
-        .into_line()
+    let fields = judged_fields(contents.maps(), bytes, contents.is_complete());
+    let mut object = Map::new(alloc);
+    put_fields(&mut object, alloc, &fields)?;
+    put(&mut object, alloc, "file", text_value(alloc, file)?)?;
+    put(
+        &mut object,
+        alloc,
+        "verdict",
+        text_value(alloc, word_of(verdict))?,
+    )?;
+    put(&mut object, alloc, "place", place_json(alloc, verdict)?)?;
+    put(&mut object, alloc, "ports", ports_json(alloc, contents)?)?;
+    put(&mut object, alloc, "gaps", gaps_json(alloc, contents)?)?;
+    object_line(alloc, object)
 }
 
 /// Writes the object of a recording of `bytes` bytes that was judged: its file, its verdict and the place of its fault. The

@@ -4,32 +4,35 @@
 //! A recording is read once: it is audited by `pon_audit` while it is shown.
 #![tactic(auto)]
 
+mod alloc_fields;
 mod append;
 mod chapters;
 mod contents;
 mod counted;
 mod counts;
 mod dump;
+mod extent;
 mod fault;
 mod fault_text;
+mod field;
 mod finding;
 mod frame_range;
 mod frames;
 mod gaps;
 mod info;
-mod info_json;
+mod info_fields;
 mod json;
 mod judged;
 pub mod laws;
 mod lines;
 mod loads;
-mod members;
 mod onus;
 mod picture;
 mod port_tallies;
+mod printer;
 mod query;
 mod rates;
-mod rates_text;
+mod rates_fields;
 mod replay;
 mod seen;
 mod summary;
@@ -39,7 +42,7 @@ mod text;
 mod viewed;
 mod wanted;
 mod why;
-mod why_text;
+mod why_fields;
 mod words;
 
 pub use contents::{Contents, audit_contents, write_gaps, write_verdict_line};

@@ -4,8 +4,9 @@ ghost use Rattle.std.specs.Prelude.{IfOk};
 ghost use Rattle.pon_audit.specs.Streams.{IsVerdictOf, TellsFailure};
 
 use crate::port_tallies::{PortTallies, PortTally};
+use crate::printer::Printer;
 use crate::query::{Format, LoadsQuery, Missing};
-use crate::rates_text::change_line;
+use crate::rates_fields::change_line;
 use crate::seen::missing_port;
 use crate::summing::sum_up;
 use crate::viewed::Viewed;
@@ -38,9 +39,10 @@ fn missing(tallies: &PortTallies, query: &LoadsQuery) -> Missing {
 // Makes the lines of the descriptors that the Alloc-ID had.
 fn changes_text(alloc: Global, port: &PortTally, query: &LoadsQuery) -> Result<String, AllocError> {
     let mut text = String::new(alloc);
+    let mut printer = Printer::new(alloc, Format::Text);
     for change in port.tally.changes() {
         if change.row.alloc_id == query.alloc_id {
-            text.push_str(&change_line(alloc, Format::Text, port.port, change)?)?;
+            text.push_str(&change_line(&mut printer, port.port, change)?)?;
         }
     }
     Ok(text)

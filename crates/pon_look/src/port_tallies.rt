@@ -1,6 +1,8 @@
 //! What the chapters of a recording add up to, port by port.
 
-ghost use Rattle.std.specs.Prelude.{◌<◌, IfOk, length};
+ghost use Rattle.std.specs.Prelude.{◌≡◌, ◌<◌, ◌++◌, IfOk, OnOk, length};
+ghost use Rattle.pon_look.specs.Refusals.{refusals_of};
+ghost use Rattle.pon_look.specs.Tallies.{refused_at};
 
 use crate::seen::{Ports, with_port};
 use crate::tally::{Tally, refused_entry};
@@ -72,7 +74,8 @@ impl PortTallies {
 
     // Returns the place of the tally of a port, which is made if there is none.
     fn place_of(&mut self, alloc: Global, port: PortNo) -> Result<usize, AllocError>
-        ensures { IfOk result (λ place. place < length self.new.tallies.items) }
+        ensures within { IfOk result (λ place. place < length self.new.tallies.items) }
+        ensures refused { self.new.refused ≡ self.old.refused }
     {
         let place = self.tallies.partition_point(|tally| tally.port < port);
         if place < self.tallies.len() && self.tallies[place].port == port {
@@ -108,7 +111,10 @@ impl PortTallies {
         alloc: Global,
         chapter: &RawChapter,
         judged: &Judged,
-    ) -> Result<(), AllocError> {
+    ) -> Result<(), AllocError>
+        ensures refused { OnOk result (self.new.refused.items
+            ≡ self.old.refused.items ++ refusals_of chapter.now.body (refused_at judged.now)) }
+    {
         let place = self.place_of(alloc, chapter.port)?;
         let refused = refused_entry(judged);
         self.tallies[place].last = match refused {

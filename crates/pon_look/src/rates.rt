@@ -5,10 +5,12 @@ ghost use Rattle.pon_device.specs.Streams.{TellsWrite};
 ghost use Rattle.pon_audit.specs.Streams.{IsVerdictOf};
 ghost use Rattle.pon_look.specs.Views.{CountsReads, OnlyWrites};
 
+use crate::extent::Extent;
 use crate::info::write_line;
 use crate::port_tallies::{PortTallies, PortTally, Refused};
+use crate::printer::Printer;
 use crate::query::{Answer, Format, Missing, RatesQuery};
-use crate::rates_text::{Extent, Figures, Form, change_line, figures_text, refused_line};
+use crate::rates_fields::{Figures, change_line, figures_lines, refused_line};
 use crate::seen::Ports;
 use crate::summing::sum_up;
 use crate::viewed::Viewed;
@@ -21,15 +23,14 @@ use std::thread::Threads;
 
 // Writes a line for each chapter that is refused at an entry.
 fn write_refused<W: DevWrite>(
-    alloc: Global,
     refused: &[Refused],
-    format: Format,
+    printer: &mut Printer,
     writer: &mut W,
 ) -> Result<(), DeviceFault>
     ensures write { OnlyWrites (W.failures writer.old) (W.failures writer.new) result }
 {
     for chapter in refused {
-        write_line(refused_line(alloc, format, chapter), writer)?;
+        write_line(refused_line(printer, chapter), writer)?;
     }
     Ok(())
 }
@@ -84,16 +85,16 @@ fn sorted_changes(
 
 // Writes the line of a descriptor of an Alloc-ID, and after the last one the lines of its figures.
 fn write_change<W: DevWrite>(
-    alloc: Global,
     rates: &PortTally,
     change: &Change,
     is_last: bool,
-    form: Form,
+    extent: Extent,
+    printer: &mut Printer,
     writer: &mut W,
 ) -> Result<(), DeviceFault>
     ensures write { OnlyWrites (W.failures writer.old) (W.failures writer.new) result }
 {
-    write_line(change_line(alloc, form.format, rates.port, change), writer)?;
+    write_line(change_line(printer, rates.port, change), writer)?;
     if !is_last {
         return Ok(());
     }
@@ -106,7 +107,7 @@ fn write_change<W: DevWrite>(
         sure: rates.tally.sure_for(alloc_id),
     };
     write_line(
-        figures_text(alloc, form, rates.port, &change.row, &figures),
+        figures_lines(printer, extent, rates.port, &change.row, &figures),
         writer,
     )
 }
@@ -116,7 +117,8 @@ fn write_port<W: DevWrite>(
     alloc: Global,
     rates: &PortTally,
     query: &RatesQuery,
-    form: Form,
+    extent: Extent,
+    printer: &mut Printer,
     writer: &mut W,
 ) -> Result<(), DeviceFault>
     ensures write { OnlyWrites (W.failures writer.old) (W.failures writer.new) result }
@@ -127,7 +129,7 @@ fn write_port<W: DevWrite>(
             Some(next) => next.row.alloc_id != change.row.alloc_id,
             None => true,
         };
-        write_change(alloc, rates, change, is_last, form, writer)?;
+        write_change(rates, change, is_last, extent, printer, writer)?;
     }
     Ok(())
 }
@@ -137,13 +139,14 @@ fn write_ports<W: DevWrite>(
     alloc: Global,
     rates: &[PortTally],
     query: &RatesQuery,
-    form: Form,
+    extent: Extent,
+    printer: &mut Printer,
     writer: &mut W,
 ) -> Result<(), DeviceFault>
     ensures write { OnlyWrites (W.failures writer.old) (W.failures writer.new) result }
 {
     for port in rates {
-        write_port(alloc, port, query, form, writer)?;
+        write_port(alloc, port, query, extent, printer, writer)?;
     }
     Ok(())
 }
@@ -175,12 +178,19 @@ pub fn write_rates<R: DevRead, W: DevWrite>(
     let wanted = Wanted::from(&query);
     let Viewed { verdict, shown } = sum_up(rt, alloc, reader, &wanted)?;
     let extent = Extent::of(&verdict);
-    let form = Form { format, extent };
-    write_refused(alloc, shown.refused.as_slice(), format, writer)?;
+    let mut printer = Printer::new(alloc, format);
+    write_refused(shown.refused.as_slice(), &mut printer, writer)?;
     let shown = match missing(&shown, &query) {
         Some(missing) => Answer::NotFound(missing),
         None => {
-            write_ports(alloc, shown.as_slice(), &query, form, writer)?;
+            write_ports(
+                alloc,
+                shown.as_slice(),
+                &query,
+                extent,
+                &mut printer,
+                writer,
+            )?;
             Answer::Shown
         }
     };

@@ -12,10 +12,11 @@ ghost use Rattle.pon_look.specs.Whys.{IsExplained};
 
 use crate::finding::{FoundMap, find_map};
 use crate::info::write_line;
+use crate::printer::Printer;
 use crate::query::{Answer, Format, Missing, WhyQuery};
 use crate::replay::{MapExplanation, Replay, explain_map, open_replay, replay_to};
 use crate::viewed::Viewed;
-use crate::why_text::{MapPlace, Shown, map_line, row_lines};
+use crate::why_fields::{MapPlace, Shown, map_line, row_lines};
 use pon_device::{DevRead, DevWrite, DeviceFault};
 use pon_record::RawChapter;
 use pon_state::{EntryRef, MadeMap};
@@ -82,11 +83,11 @@ pub fn explain_entry(
 
 // Writes the lines of the rows that the query asks for, each with its structure.
 fn write_rows<W: DevWrite>(
-    alloc: Global,
     place: &MapPlace,
     made: &MadeMap,
     explained: &MapExplanation,
     reports: &Reports,
+    printer: &mut Printer,
     writer: &mut W,
 ) -> Result<(), DeviceFault>
     ensures write { OnlyWrites (W.failures writer.old) (W.failures writer.new) result }
@@ -101,7 +102,7 @@ fn write_rows<W: DevWrite>(
                 level: level_in(&made.cert, row.row.descriptor.class()),
                 reported: reports.of(row.row.alloc_id),
             };
-            write_line(row_lines(alloc, place, &shown), writer)?;
+            write_line(row_lines(printer, place, &shown), writer)?;
         }
     }
     Ok(())
@@ -122,6 +123,7 @@ fn write_map<W: DevWrite>(
     chapter: &RawChapter,
     place: &MapPlace,
     explained: &MapExplanation,
+    printer: &mut Printer,
     writer: &mut W,
 ) -> Result<(), DeviceFault>
     requires { place.now.entry < length chapter.now.body.entries }
@@ -131,8 +133,8 @@ fn write_map<W: DevWrite>(
         return Ok(());
     };
     let reports = reports_of(alloc, &chapter.entries[..place.entry], &explained.rows)?;
-    write_line(map_line(alloc, place, explained, &made.cert), writer)?;
-    write_rows(alloc, place, made, explained, &reports, writer)
+    write_line(map_line(printer, place, explained, &made.cert), writer)?;
+    write_rows(place, made, explained, &reports, printer, writer)
 }
 
 // Answers the query by a map that was found.
@@ -140,7 +142,7 @@ fn answer_by<W: DevWrite>(
     alloc: Global,
     found: &FoundMap,
     query: &WhyQuery,
-    format: Format,
+    printer: &mut Printer,
     writer: &mut W,
 ) -> Result<Answer, DeviceFault>
     requires { IsFound found.now }
@@ -157,13 +159,12 @@ fn answer_by<W: DevWrite>(
         entry: *entry,
         frame: *frame,
         alloc: query.alloc,
-        format,
     };
     match explain_entry(alloc, chapter, *entry)? {
         MapAnswer::Explained(explained) => match missing_alloc(&explained.rows, query.alloc) {
             Some(missing) => Ok(Answer::NotFound(missing)),
             None => {
-                write_map(alloc, chapter, &place, &explained, writer)?;
+                write_map(alloc, chapter, &place, &explained, printer, writer)?;
                 Ok(Answer::Shown)
             }
         },
@@ -199,8 +200,9 @@ pub fn write_why<R: DevRead, W: DevWrite>(
     ensures write { TellsWrite (W.failures writer.old) (W.failures writer.new) result }
 {
     let Viewed { verdict, shown } = find_map(rt, alloc, reader, query)?;
+    let mut printer = Printer::new(alloc, format);
     let shown = match shown {
-        Ok(found) => answer_by(alloc, &found, &query, format, writer)?,
+        Ok(found) => answer_by(alloc, &found, &query, &mut printer, writer)?,
         Err(missing) => Answer::NotFound(missing),
     };
     Ok(Viewed { verdict, shown })

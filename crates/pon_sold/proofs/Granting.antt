@@ -1,12 +1,11 @@
 -- The maps of a lawful chapter grant an Alloc-ID what was sold to it.
 use Rattle.std.proofs.Common.{◌≡◌, ℕ, zero, suc, ◌+◌, ◌-◌, ◌*◌, ◌/◌, ◌%◌, ◌<◌, ◌≤◌, Bool, true, false, List, [], ◌∷◌, ◌++◌, length, map, take, get_or, refl, ap, sym, ◌∙◌, subst, arith, inl, inr}
-use Rattle.std.specs.Prelude.{not, ◌==◌, ◌⊎◌, if◌then◌else◌, max, min, nat_le, nat_lt, slice_get, Option, Some, None}
+use Rattle.std.specs.Prelude.{not, ◌==◌, ◌⊎◌, if◌then◌else◌, max, nat_le, nat_lt, slice_get, Option, Some, None}
 use Rattle.std.proofs.Math.Nat.{mul-le-mul_left}
 use Rattle.std.proofs.Math.Numerals.{add-one}
 use Rattle.std.proofs.lemmas.Bool.{and_cases, and_parts, cases_Bool, cases_eq, eq-eqb, eqb-true, leb-false, leb-true, ltb-true, or_parts}
 use Rattle.std.proofs.lemmas.List.{take_all, take_more}
 use Rattle.std.proofs.lemmas.Option.{get_or_from_slice_get, slice_get_cases, slice_get_within}
-use Rattle.pon_units.specs.Frac.{Frac}
 use Rattle.pon_units.specs.declared.granted.Granted.{Granted}
 use Rattle.pon_bwmap.specs.Alloc.{Alloc}
 use Rattle.pon_burst.specs.Maps.{structure_of}
@@ -24,7 +23,6 @@ use Rattle.pon_admit.proofs.AdmittedSets.{has_alloc-changed}
 use Rattle.pon_guar.specs.Book.{load_of}
 use Rattle.pon_cert.specs.declared.cert.MapCert.{MapCert}
 use Rattle.pon_demand.specs.Carries.{number_of}
-use Rattle.pon_demand.specs.Input.{Input}
 use Rattle.pon_demand.specs.Rates.{guaranteed_rate, planned_grants, whole_rate}
 use Rattle.pon_demand.specs.Sharing.{surplus_rate}
 use Rattle.pon_demand.proofs.Carries.{carry_known}
@@ -48,10 +46,9 @@ use Rattle.pon_history.proofs.LawfulChapters.{lawful_before}
 use Rattle.pon_history.proofs.Legality.{replay_later}
 use Rattle.pon_history.proofs.WordRuns.{whole_runs}
 use Rattle.pon_why.specs.Rates.{rates_of, row_rates}
-use Rattle.pon_sure.specs.Sure.{maps_for_a_word}
-use Rattle.pon_sold.specs.Chapters.{AreOfPort, GoOn, GotAllSold, after_event, after_map, after_reply, begun, is_between, watch_all, watch_over, where_carried}
+use Rattle.pon_sold.specs.Chapters.{AreOfPort, GoOn, GotAllSold, after_map, after_reply, begun, is_between, watch_all, watch_over, where_carried}
 use Rattle.pon_sold.specs.Chapters.{after_entry as watch_after}
-use Rattle.pon_sold.specs.Watches.{after_other, after_owed, after_rates, after_row, after_rows, after_sold, debt_after, head_owed, head_sold, is_sold, lesser, none_sold, nothing, restarted, run_after, stopped}
+use Rattle.pon_sold.specs.Watches.{after_other, after_owed, after_rates, after_row, after_rows, after_sold, debt_after, head_owed, head_sold, is_sold, lesser, none_sold, nothing, restarted, stopped}
 use Rattle.pon_sold.specs.declared.watch.Watch.{Watch}
 use Rattle.pon_sold.proofs.Bounds.{lesser_known, lesser_left, lesser_some, within_bound}
 

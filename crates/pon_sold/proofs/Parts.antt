@@ -1,5 +1,5 @@
 -- What was sold over chapters that are summed up apart.
-use Rattle.std.proofs.Common.{◌≡◌, ℕ, zero, suc, ◌+◌, ◌-◌, ◌*◌, ◌≤◌, Bool, true, false, List, [], ◌∷◌, ◌<◌, refl, ap, sym, ◌∙◌, arith}
+use Rattle.std.proofs.Common.{◌≡◌, ℕ, zero, suc, ◌+◌, ◌-◌, ◌*◌, ◌≤◌, Bool, true, false, List, [], ◌∷◌, refl, ap, sym, ◌∙◌, arith}
 use Rattle.std.specs.Prelude.{◌==◌, ◌&&◌, if◌then◌else◌, max, slice_get, Option, Some, None}
 use Rattle.std.proofs.lemmas.Bool.{eqb-false, eqb-true}
 use Rattle.pon_bwmap.specs.Alloc.{Alloc}
@@ -11,14 +11,13 @@ use Rattle.pon_admit.specs.declared.rule.Rule.{Rule}
 use Rattle.pon_admit.specs.declared.rule.Rule.TheVariants.{DropRemainders, CarryRemainders}
 use Rattle.pon_state.specs.Entry.{Entry}
 use Rattle.pon_state.specs.State.{State}
-use Rattle.pon_state.specs.declared.reply.MadeMap.{MadeMap}
 use Rattle.pon_state.specs.declared.reply.Reply.{Reply}
 use Rattle.pon_state.specs.declared.reply.Reply.TheVariants.{Taken, Map}
 use Rattle.pon_history.specs.Chapters.{Chapter, state_before}
 use Rattle.pon_why.specs.Rates.{rates_of}
 use Rattle.pon_why.specs.declared.rates.RowRates.{RowRates}
 use Rattle.pon_sold.specs.Chapters.{after_entry, after_map, after_reply, is_between, watch_over, where_carried}
-use Rattle.pon_sold.specs.Watches.{Agree, after_other, after_owed, after_rates, after_row, after_rows, after_sold, crossing_debt, crossing_wait, debt_after, is_sold, joined, lesser, nothing, restarted}
+use Rattle.pon_sold.specs.Watches.{Agree, after_other, after_owed, after_row, after_rows, after_sold, crossing_debt, crossing_wait, debt_after, is_sold, joined, lesser, nothing, restarted}
 use Rattle.pon_sold.specs.declared.watch.Sold.{Sold}
 use Rattle.pon_sold.specs.declared.watch.Watch.{Watch}
 use Rattle.pon_sold.proofs.Bounds.{lesser_assoc, lesser_none}

@@ -1,5 +1,5 @@
 -- What was sold to an Alloc-ID over the entries of a chapter.
-use Rattle.std.specs.Prelude.{ℕ, zero, suc, List, [], ◌∷◌, length, ⊤, ◌+◌, ◌≡◌, ◌≤◌, ◌<◌, ◌==◌, ◌/◌, ◌&&◌, nat_le, Bool, if◌then◌else◌, slice_get, Option, Some, None}
+use Rattle.std.specs.Prelude.{ℕ, zero, suc, List, [], ◌∷◌, length, ⊤, ◌+◌, ◌≤◌, ◌<◌, ◌==◌, ◌&&◌, nat_le, Bool, if◌then◌else◌, slice_get, Option, Some, None}
 use Rattle.pon_units.specs.declared.limits.TheConstants.{WORD_RATE}
 use Rattle.pon_admit.specs.declared.event.Event.{Event}
 use Rattle.pon_admit.specs.declared.event.Event.TheVariants.{Admit, Remove}

@@ -1,5 +1,5 @@
 -- What was sold to an Alloc-ID over maps, and what it got of it. Rates in kbit/s, words of 256 kbit/s.
-use Rattle.std.specs.Prelude.{ℕ, ◌≡◌, ◌+◌, ◌-◌, ◌*◌, ◌==◌, ◌&&◌, nat_lt, nat_le, min, max, Bool, true, false, if◌then◌else◌, List, [], ◌∷◌, get_or}
+use Rattle.std.specs.Prelude.{ℕ, ◌≡◌, ◌+◌, ◌-◌, ◌*◌, ◌==◌, ◌&&◌, nat_lt, nat_le, min, max, Bool, true, false, if◌then◌else◌, List, ◌∷◌, get_or}
 use Rattle.pon_units.specs.declared.limits.TheConstants.{WORD_RATE}
 use Rattle.pon_bwmap.specs.Alloc.{Alloc}
 use Rattle.pon_descr.specs.Descriptor.{promised}
