@@ -96,14 +96,18 @@ read_line ports line =
     (if not (list_all is_text (without_return line)) then Refused (of_line NotText) else
     read_words ports (words_of (without_return line))))
 
+-- P holds for what is requested of a port: an event, or what is shown
+abbrev pub Asked : (ℕ → Option Event → Type 0) → Reading → Type 0
+Asked P Nothing = Unit {0}
+Asked P (Refused refusal) = Unit {0}
+Asked P (Asks port event) = P port (Some event)
+Asked P (AsksCert port) = P port None
+Asked P (AsksState port) = P port None
+Asked P (AsksRows port) = P port None
+Asked P (AsksHelp port) = P port None
+Asked P (AsksWhy port alloc) = P port None
+Asked P (AsksSure port alloc) = P port None
+
 -- a request is only of an existing port
 abbrev pub AsksWithin : ℕ → Reading → Type 0
-AsksWithin ports Nothing = Unit {0}
-AsksWithin ports (Refused refusal) = Unit {0}
-AsksWithin ports (Asks port event) = port < ports
-AsksWithin ports (AsksCert port) = port < ports
-AsksWithin ports (AsksState port) = port < ports
-AsksWithin ports (AsksRows port) = port < ports
-AsksWithin ports (AsksHelp port) = port < ports
-AsksWithin ports (AsksWhy port alloc) = port < ports
-AsksWithin ports (AsksSure port alloc) = port < ports
+AsksWithin ports r = Asked (λ port event. port < ports) r
