@@ -203,11 +203,7 @@ fn names_the_word_that_is_out_of_range(rt: HostRuntime) {
             Field::Assured,
         ),
         (b"0 change 16384 0 0 0 be".as_slice(), 2, Field::Alloc),
-        (
-            b"0 change 1024 0 0 2488321 be".as_slice(),
-            5,
-            Field::Max,
-        ),
+        (b"0 change 1024 0 0 2488321 be".as_slice(), 5, Field::Max),
         (b"0 remove 1023".as_slice(), 2, Field::Alloc),
         (b"0 why 16384".as_slice(), 2, Field::Alloc),
         (b"0 report 0 1023 x".as_slice(), 3, Field::Onu),
