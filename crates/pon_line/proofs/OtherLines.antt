@@ -1,6 +1,6 @@
 -- A command other than `map` and `report` requests no map and brings no report.
 use Rattle.std.proofs.Common.{◌≡◌, ℕ, List, [], ◌∷◌, refl, subst, sym}
-use Rattle.std.specs.Prelude.{◌≢◌, ◌||◌, nat_lt, Some, Result, Ok, Err}
+use Rattle.std.specs.Prelude.{◌≢◌, ◌||◌, nat_lt, IfSome, Option, Some, Result, Ok, Err}
 use Rattle.pon_descr.specs.Descriptor.{Descriptor}
 use Rattle.pon_admit.specs.declared.event.Event.{Event}
 use Rattle.pon_admit.specs.declared.event.Event.TheVariants as event
@@ -53,21 +53,24 @@ fail_words [] = tt
 fail_words (cause ∷ []) = step (number_field 2 field.Cause cause) _ (λ n. chosen IsOtherEvent (nat_lt n 1 || nat_lt 9 n) (Err (at_word BadField 2 field.Cause)) (Ok (event.Fail n)) tt tt)
 fail_words (cause ∷ w ∷ ws) = tt
 
+abbrev OtherEvent : ℕ → Option Event → Type 0
+OtherEvent port event = IfSome event IsOtherEvent
+
 other_command : (port : ℕ) (c : Command) (ws : List (List ℕ)) → c ≢ Map → c ≢ Report → IsOtherReading (by_command port c ws)
-other_command port Admit ws map report = asks_taken IsOtherEvent port (admit_of ws) (admit_words ws)
-other_command port Change ws map report = asks_taken IsOtherEvent port (change_of ws) (change_words ws)
-other_command port Remove ws map report = asks_taken IsOtherEvent port (remove_of ws) (remove_words ws)
+other_command port Admit ws map report = asks_taken OtherEvent port (admit_of ws) (admit_words ws)
+other_command port Change ws map report = asks_taken OtherEvent port (change_of ws) (change_words ws)
+other_command port Remove ws map report = asks_taken OtherEvent port (remove_of ws) (remove_words ws)
 other_command port Report ws map report = absurd (report refl)
 other_command port Map ws map report = absurd (map refl)
-other_command port Fail ws map report = asks_taken IsOtherEvent port (fail_of ws) (fail_words ws)
-other_command port Restore ws map report = asks_taken IsOtherEvent port _ (alone IsOtherEvent event.Restore ws tt)
-other_command port Cert ws map report = asks_shown IsOtherEvent (AsksCert port) ws tt
-other_command port Show ws map report = asks_shown IsOtherEvent (AsksState port) ws tt
-other_command port Lists ws map report = asks_shown IsOtherEvent (AsksRows port) ws tt
-other_command port Why ws map report = asks_explained IsOtherEvent port (alloc_of ws)
-other_command port Sure ws map report = asks_promised IsOtherEvent port (alloc_of ws)
-other_command port Help ws map report = asks_shown IsOtherEvent (AsksHelp port) ws tt
-other_command port Stop ws map report = asks_shown IsOtherEvent (AsksStop port) ws tt
+other_command port Fail ws map report = asks_taken OtherEvent port (fail_of ws) (fail_words ws)
+other_command port Restore ws map report = asks_taken OtherEvent port _ (alone IsOtherEvent event.Restore ws tt)
+other_command port Cert ws map report = asks_shown OtherEvent (AsksCert port) ws tt
+other_command port Show ws map report = asks_shown OtherEvent (AsksState port) ws tt
+other_command port Lists ws map report = asks_shown OtherEvent (AsksRows port) ws tt
+other_command port Why ws map report = asks_explained OtherEvent port (alloc_of ws) tt
+other_command port Sure ws map report = asks_promised OtherEvent port (alloc_of ws) tt
+other_command port Help ws map report = asks_shown OtherEvent (AsksHelp port) ws tt
+other_command port Stop ws map report = asks_shown OtherEvent (AsksStop port) ws tt
 
 pub other_request : (port : ℕ) (name : List ℕ) (ws : List (List ℕ)) (c : Command) → command_of name ≡ Some c → c ≢ Map → c ≢ Report → IsOtherReading (request_of port (name ∷ ws))
 unfolding request_of

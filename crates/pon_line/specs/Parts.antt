@@ -1,16 +1,16 @@
 -- The readings of lines that are read in parts.
-use Rattle.std.specs.Prelude.{◌≡◌, ℕ, true, false, List, Option, Err}
+use Rattle.std.specs.Prelude.{◌≡◌, ℕ, true, false, IfSome, List, Option, Err}
 use Rattle.pon_admit.specs.declared.event.Event.{Event}
 use Rattle.pon_admit.specs.declared.event.Event.TheVariants.{Admit, Change, Fail, MakeMap, Remove, Report, Restore}
 use Rattle.pon_text.specs.Lines.{words_of}
 use Rattle.pon_line.specs.Commands.{is_miscounted, occupancy_fields}
-use Rattle.pon_line.specs.Reading.{request_of}
+use Rattle.pon_line.specs.Reading.{Asked, request_of}
 use Rattle.pon_line.specs.declared.occupancies.NoOccupancies.{NoOccupancies}
 use Rattle.pon_line.specs.declared.occupancies.TheConstants.{OCCUPANCY}
 use Rattle.pon_line.specs.declared.reading.Front.{Front}
 use Rattle.pon_line.specs.declared.reading.FrameCommand.{FrameCommand}
 use Rattle.pon_line.specs.declared.reading.Reading.{Reading}
-use Rattle.pon_line.specs.declared.reading.Reading.TheVariants.{Nothing, Refused, Asks, AsksCert, AsksState, AsksRows, AsksHelp, AsksStop, AsksWhy, AsksSure}
+use Rattle.pon_line.specs.declared.reading.Reading.TheVariants.{Nothing, Refused, Asks}
 
 -- why the occupancies of a report are refused: their number, or else the first word that writes none
 abbrev pub FailsBy : List (List ℕ) → NoOccupancies → Type 0
@@ -38,19 +38,6 @@ IsOtherEvent MakeMap = ⊥
 IsOtherEvent (Fail cause) = Unit {0}
 IsOtherEvent Restore = Unit {0}
 
--- P holds for the requested event, if there is one
-abbrev pub AsksFor : (Event → Type 0) → Reading → Type 0
-AsksFor P Nothing = Unit {0}
-AsksFor P (Refused refusal) = Unit {0}
-AsksFor P (Asks port event) = P event
-AsksFor P (AsksCert port) = Unit {0}
-AsksFor P (AsksState port) = Unit {0}
-AsksFor P (AsksRows port) = Unit {0}
-AsksFor P (AsksHelp port) = Unit {0}
-AsksFor P (AsksStop port) = Unit {0}
-AsksFor P (AsksWhy port alloc) = Unit {0}
-AsksFor P (AsksSure port alloc) = Unit {0}
-
 -- the reading of a line that is none of those that each frame brings
 abbrev pub IsOtherReading : Reading → Type 0
-IsOtherReading r = AsksFor IsOtherEvent r
+IsOtherReading r = Asked (λ port event. IfSome event IsOtherEvent) r

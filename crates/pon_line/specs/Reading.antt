@@ -9,7 +9,7 @@ use Rattle.pon_line.specs.Commands.{admit_of, alloc_of, change_of, fail_of, no_a
 use Rattle.pon_line.specs.Fields.{number_field}
 use Rattle.pon_line.specs.Places.{at_word, no_command, of_line}
 use Rattle.pon_line.specs.Table.{command_of}
-use Rattle.pon_line.specs.declared.fault.LineFault.TheVariants.{NoSuchPort, LineLong, NotText, UnknownCommand, WordCount}
+use Rattle.pon_line.specs.declared.fault.LineFault.TheVariants.{NoSuchPort, LineLong, NotText, WordCount}
 use Rattle.pon_line.specs.declared.fault.LineRefusal.{LineRefusal}
 use Rattle.pon_line.specs.declared.field.Field.TheVariants as field
 use Rattle.pon_line.specs.declared.reading.Reading.{Reading}
@@ -97,15 +97,19 @@ read_line ports line =
     (if not (list_all is_text (without_return line)) then Refused (of_line NotText) else
     read_words ports (words_of (without_return line))))
 
+-- P holds for what is requested of a port: an event, or what is shown
+abbrev pub Asked : (ℕ → Option Event → Type 0) → Reading → Type 0
+Asked P Nothing = Unit {0}
+Asked P (Refused refusal) = Unit {0}
+Asked P (Asks port event) = P port (Some event)
+Asked P (AsksCert port) = P port None
+Asked P (AsksState port) = P port None
+Asked P (AsksRows port) = P port None
+Asked P (AsksHelp port) = P port None
+Asked P (AsksStop port) = P port None
+Asked P (AsksWhy port alloc) = P port None
+Asked P (AsksSure port alloc) = P port None
+
 -- a request is only of an existing port
 abbrev pub AsksWithin : ℕ → Reading → Type 0
-AsksWithin ports Nothing = Unit {0}
-AsksWithin ports (Refused refusal) = Unit {0}
-AsksWithin ports (Asks port event) = port < ports
-AsksWithin ports (AsksCert port) = port < ports
-AsksWithin ports (AsksState port) = port < ports
-AsksWithin ports (AsksRows port) = port < ports
-AsksWithin ports (AsksHelp port) = port < ports
-AsksWithin ports (AsksStop port) = port < ports
-AsksWithin ports (AsksWhy port alloc) = port < ports
-AsksWithin ports (AsksSure port alloc) = port < ports
+AsksWithin ports r = Asked (λ port event. port < ports) r

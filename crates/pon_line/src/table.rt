@@ -3,7 +3,10 @@
 ghost use Rattle.std.specs.Prelude.{◌≡◌};
 ghost use Rattle.pon_line.specs.Table.{command_of, line_of, word_of};
 
-use crate::field::Field;
+use crate::field::Field::{self, Alloc, Assured, Cause, Class, Fixed, Frame, Max, Occupancy, Onu};
+use Command::{
+    Admit, Cert, Change, Fail, Help, List, Map, Remove, Report, Restore, Show, Stop, Sure, Why,
+};
 
 /// What a line requests of its port: the word after the port.
 #[derive(Clone, Copy, Debug, PartialEq, Eq)]
@@ -26,19 +29,7 @@ pub enum Command {
 
 /// The commands of each port, in the order in which the help lists them: all but [`Command::Stop`], which stops a run.
 pub const COMMANDS: [Command; 13] = [
-    Command::Admit,
-    Command::Change,
-    Command::Remove,
-    Command::Report,
-    Command::Map,
-    Command::Fail,
-    Command::Restore,
-    Command::Cert,
-    Command::Show,
-    Command::List,
-    Command::Why,
-    Command::Sure,
-    Command::Help,
+    Admit, Change, Remove, Report, Map, Fail, Restore, Cert, Show, List, Why, Sure, Help,
 ];
 
 /// How a command is written.
@@ -60,24 +51,11 @@ fn written(word: &'static str, fields: &'static [Field], line: &'static str) -> 
     Form { word, fields, line }
 }
 
-const ADMIT: &[Field] = &[
-    Field::Onu,
-    Field::Alloc,
-    Field::Fixed,
-    Field::Assured,
-    Field::Max,
-    Field::Class,
-];
+const ADMIT: &[Field] = &[Onu, Alloc, Fixed, Assured, Max, Class];
 
-const CHANGE: &[Field] = &[
-    Field::Alloc,
-    Field::Fixed,
-    Field::Assured,
-    Field::Max,
-    Field::Class,
-];
+const CHANGE: &[Field] = &[Alloc, Fixed, Assured, Max, Class];
 
-const REPORT: &[Field] = &[Field::Frame, Field::Onu, Field::Occupancy];
+const REPORT: &[Field] = &[Frame, Onu, Occupancy];
 
 impl Command {
     /// Returns how the command is written.
@@ -86,28 +64,28 @@ impl Command {
         ensures line { result.line.now ≡ line_of self }
     {
         match self {
-            Command::Admit => written(
+            Admit => written(
                 "admit",
                 ADMIT,
                 "admit <onu> <alloc> <fixed> <assured> <max> <class>",
             ),
-            Command::Change => written(
+            Change => written(
                 "change",
                 CHANGE,
                 "change <alloc> <fixed> <assured> <max> <class>",
             ),
-            Command::Remove => written("remove", &[Field::Alloc], "remove <alloc>"),
-            Command::Report => written("report", REPORT, "report <frame> <onu> <occupancy> .."),
-            Command::Map => written("map", &[], "map"),
-            Command::Fail => written("fail", &[Field::Cause], "fail <cause>"),
-            Command::Restore => written("restore", &[], "restore"),
-            Command::Cert => written("cert", &[], "cert"),
-            Command::Show => written("show", &[], "show"),
-            Command::List => written("list", &[], "list"),
-            Command::Why => written("why", &[Field::Alloc], "why <alloc>"),
-            Command::Sure => written("sure", &[Field::Alloc], "sure <alloc>"),
-            Command::Help => written("help", &[], "help"),
-            Command::Stop => written("stop", &[], "stop"),
+            Remove => written("remove", &[Alloc], "remove <alloc>"),
+            Report => written("report", REPORT, "report <frame> <onu> <occupancy> .."),
+            Map => written("map", &[], "map"),
+            Fail => written("fail", &[Cause], "fail <cause>"),
+            Restore => written("restore", &[], "restore"),
+            Cert => written("cert", &[], "cert"),
+            Show => written("show", &[], "show"),
+            List => written("list", &[], "list"),
+            Why => written("why", &[Alloc], "why <alloc>"),
+            Sure => written("sure", &[Alloc], "sure <alloc>"),
+            Help => written("help", &[], "help"),
+            Stop => written("stop", &[], "stop"),
         }
     }
 
@@ -121,8 +99,8 @@ impl Command {
                 return Some(command);
             }
         }
-        if word == Command::Stop.form().word.as_bytes() {
-            return Some(Command::Stop);
+        if word == Stop.form().word.as_bytes() {
+            return Some(Stop);
         }
         None
     }

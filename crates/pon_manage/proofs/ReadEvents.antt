@@ -16,12 +16,12 @@ use Rattle.pon_descr.specs.declared.class.Class.TheVariants.{Plain, NonAssured, 
 use Rattle.pon_descr.specs.declared.refusal.Refusal.{Refusal}
 use Rattle.pon_descr.specs.declared.refusal.Refusal.TheVariants.{RateRange, MaxBelowGuaranteed, NeedsGuarantee, NoSurplusRoom}
 use Rattle.pon_descr.proofs.Checks.{none_refuses, when_none}
+use Rattle.pon_admit.specs.declared.event.Event.{Event}
 use Rattle.pon_admit.specs.declared.event.Event.TheVariants as event
 use Rattle.pon_state.specs.Events.{IsEvent, IsManaged}
 use Rattle.pon_line.specs.Fields.{alloc_in, descriptor_in, descriptor_words, number_field, onu_in, or_bad_field, rate_fields, rate_in, unless}
 use Rattle.pon_line.specs.Commands.{admit, admit_of, alloc_of, change, change_of, fail_of, is_miscounted, occupancy_field, occupancy_fields, remove_of, report, report_of}
-use Rattle.pon_line.specs.Parts.{AsksFor}
-use Rattle.pon_line.specs.Reading.{by_command, read_line}
+use Rattle.pon_line.specs.Reading.{Asked, by_command, read_line}
 use Rattle.pon_line.specs.declared.fault.LineRefusal.{LineRefusal}
 use Rattle.pon_line.specs.declared.field.Field.{Field}
 use Rattle.pon_line.specs.declared.field.Field.TheVariants as field
@@ -191,25 +191,29 @@ fail_words (cause ∷ w ∷ ws) = tt
 
 -- Lines.
 
+-- the event, if there is one, is in range
+abbrev pub InRange : ℕ → Option Event → Type 0
+InRange port event = IfSome event IsEvent
+
 -- a requested event is in range
 abbrev pub AsksInRange : Reading → Type 0
-AsksInRange r = AsksFor IsEvent r
+AsksInRange r = Asked InRange r
 
 command_in_range : (port : ℕ) (c : Command) (ws : List (List ℕ)) → AsksInRange (by_command port c ws)
-command_in_range port Admit ws = asks_taken IsEvent port (admit_of ws) (admit_words ws)
-command_in_range port Change ws = asks_taken IsEvent port (change_of ws) (change_words ws)
-command_in_range port Remove ws = asks_taken IsEvent port (remove_of ws) (remove_words ws)
-command_in_range port Report ws = asks_taken IsEvent port (report_of ws) (report_words ws)
-command_in_range port Map ws = asks_taken IsEvent port _ (alone IsEvent event.MakeMap ws tt)
-command_in_range port Fail ws = asks_taken IsEvent port (fail_of ws) (fail_words ws)
-command_in_range port Restore ws = asks_taken IsEvent port _ (alone IsEvent event.Restore ws tt)
-command_in_range port Cert ws = asks_shown IsEvent (AsksCert port) ws tt
-command_in_range port Show ws = asks_shown IsEvent (AsksState port) ws tt
-command_in_range port Lists ws = asks_shown IsEvent (AsksRows port) ws tt
-command_in_range port Why ws = asks_explained IsEvent port (alloc_of ws)
-command_in_range port Sure ws = asks_promised IsEvent port (alloc_of ws)
-command_in_range port Help ws = asks_shown IsEvent (AsksHelp port) ws tt
-command_in_range port Stop ws = asks_shown IsEvent (AsksStop port) ws tt
+command_in_range port Admit ws = asks_taken InRange port (admit_of ws) (admit_words ws)
+command_in_range port Change ws = asks_taken InRange port (change_of ws) (change_words ws)
+command_in_range port Remove ws = asks_taken InRange port (remove_of ws) (remove_words ws)
+command_in_range port Report ws = asks_taken InRange port (report_of ws) (report_words ws)
+command_in_range port Map ws = asks_taken InRange port _ (alone IsEvent event.MakeMap ws tt)
+command_in_range port Fail ws = asks_taken InRange port (fail_of ws) (fail_words ws)
+command_in_range port Restore ws = asks_taken InRange port _ (alone IsEvent event.Restore ws tt)
+command_in_range port Cert ws = asks_shown InRange (AsksCert port) ws tt
+command_in_range port Show ws = asks_shown InRange (AsksState port) ws tt
+command_in_range port Lists ws = asks_shown InRange (AsksRows port) ws tt
+command_in_range port Why ws = asks_explained InRange port (alloc_of ws) tt
+command_in_range port Sure ws = asks_promised InRange port (alloc_of ws) tt
+command_in_range port Help ws = asks_shown InRange (AsksHelp port) ws tt
+command_in_range port Stop ws = asks_shown InRange (AsksStop port) ws tt
 
 pub read_line-in_range : (ports : ℕ) (line : List ℕ) → AsksInRange (read_line ports line)
-read_line-in_range ports line = read_line-asks IsEvent command_in_range ports line
+read_line-in_range ports line = read_line-asks InRange ports (λ port c ws within. command_in_range port c ws) line
