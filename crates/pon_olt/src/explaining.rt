@@ -134,12 +134,7 @@ fn rates_of(line: &[u8]) -> Option<[u64; 3]> {
 }
 
 // Returns why the port of a line refuses what it asks for.
-fn reason_of_event<'a>(
-    alloc: Global,
-    plant: &Plant,
-    line: &[u8],
-    refusal: Refusal,
-) -> Option<Refused> {
+fn reason_of_event(alloc: Global, plant: &Plant, line: &[u8], refusal: Refusal) -> Option<Refused> {
     match read_line(plant.count(), line) {
         Reading::Asks { port, event } => refused_event(alloc, refusal, plant, port, &event),
         Reading::AsksWhy { alloc_id, .. } | Reading::AsksSure { alloc_id, .. } => {
