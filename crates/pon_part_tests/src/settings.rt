@@ -115,6 +115,16 @@ fn fault_of(alloc: Global, text: &str) -> Option<SettingsFault> {
     settings(alloc, text).err()
 }
 
+// If one allocation fails, the fault is `Memory`, and the same text is read when it is given again.
+#[test]
+fn reads_again_what_memory_refused(rt: HostRuntime) {
+    let mut fault = fault_of(rt.alloc(), TWO_PORTS);
+    if fault == Some(SettingsFault::Memory) {
+        fault = fault_of(rt.alloc(), TWO_PORTS);
+    }
+    assert!(rt; fault.is_none(), "{fault:?}");
+}
+
 #[test]
 fn tells_a_text_without_ports(rt: HostRuntime) {
     for (text, wanted) in [
