@@ -269,7 +269,7 @@ fn a_chapter_of_another_run_is_found(rt: HostRuntime) {
 }
 
 // Settles port 0 with these chapters and no receipts, after its entries were returned in a chapter.
-fn settled_without_receipts<L: Ledger, M: Ledger, R: Wait + Abort>(
+fn settled_without_receipts_at<L: Ledger, M: Ledger, R: Wait + Abort>(
     rt: &R,
     alloc: Global,
     of_ports: Blank,
@@ -286,16 +286,20 @@ fn settled_without_receipts<L: Ledger, M: Ledger, R: Wait + Abort>(
     closed.settle(number(rt, 0), chapters, &[]).err()
 }
 
+// Settles port 0 with these chapters and no receipts.
+fn settled_without_receipts(
+    rt: &(impl Wait + Abort),
+    alloc: Global,
+    chapters: &[Chapter],
+) -> Option<Unsettled> {
+    let (of_ports, of_seats) = (Blank::new(2), Blank::new(2));
+    settled_without_receipts_at::<Brand, Brand, _>(rt, alloc, of_ports, of_seats, chapters)
+}
+
 // The port took eight entries, of which neither the chapters nor the receipts have one.
 #[test]
 fn entries_that_are_in_no_chapter_are_missed(rt: HostRuntime) {
     let unused = unused_chapters(&rt, rt.alloc());
-    let fault = settled_without_receipts::<Brand, Brand, _>(
-        &rt,
-        rt.alloc(),
-        Blank::new(2),
-        Blank::new(2),
-        unused.as_slice(),
-    );
+    let fault = settled_without_receipts(&rt, rt.alloc(), unused.as_slice());
     assert!(rt; fault == Some(Unsettled::Count));
 }
