@@ -1,6 +1,6 @@
 -- The first chapter that fails.
-use Rattle.std.proofs.Common.{◌≡◌, ℕ, zero, suc, ◌+◌, ◌<◌, ◌≤◌, List, [], ◌∷◌, ◌++◌, length, take, drop, get_or, set, Option, Some, None, refl, ap, sym, ◌∙◌, subst, append_assoc, arith, inl, inr}
-use Rattle.std.specs.Prelude.{◌⊎◌, All, MatchOption, replicate, slice_get, slice_index_or}
+use Rattle.std.proofs.Common.{◌≡◌, ℕ, zero, suc, ◌+◌, ◌<◌, ◌≤◌, List, [], ◌∷◌, ◌++◌, length, take, drop, get_or, set, Option, Some, None, refl, ap, sym, ◌∙◌, subst, append_assoc, arith, inl, inr, ltb-true}
+use Rattle.std.specs.Prelude.{◌⊎◌, Bool, true, false, if◌then◌else◌, nat_lt, All, MatchOption, replicate, slice_get, slice_index_or}
 use Rattle.std.specs.List.{AllZip}
 use Rattle.std.proofs.lemmas.Bool.{cases_eq}
 use Rattle.std.proofs.lemmas.List.{append-nil, get_or-set_same, get_or-set_other, take-append-drop, take-append-le, take_all, take_at, take_more}
@@ -13,11 +13,13 @@ use Rattle.pon_state.specs.State.{State}
 use Rattle.pon_history.specs.Chapters.{present_state}
 use Rattle.pon_record.specs.Chapters.{PlacedChapter}
 use Rattle.pon_audit.specs.Openings.{chapter_of, state_of}
-use Rattle.pon_audit.specs.Judging.{AreJudged, EndsWith, IsJudgment, IsEndOf, IsKeptEnd, IsLast, IsLastOf, IsLastPlace, IsPlaceOf, OpensAt, TellsBad, end_at}
+use Rattle.pon_audit.specs.Judging.{AreJudged, EndsWith, IsJudgment, IsEndOf, IsKeptEnd, IsLast, IsLastOf, IsPlaceOf, OpensAt, TellsBad}
 use Rattle.pon_audit.specs.Verdicts.{AreGood, Ascends, ChapterFails, Continues, HasChapters, IsChained, IsFirstFault, IsGoodChapter, IsVerdict, MayStandAfter, Rises}
 use Rattle.pon_audit.specs.declared.chapters.Fault.{Fault}
 use Rattle.pon_audit.specs.declared.chapters.Judged.{Judged}
-use Rattle.pon_audit.specs.EndTables.{EndTable}
+use Rattle.pon_audit.specs.EndTables.{EndTable, after_end, end_at, pushed, put, replaced, replaced_if}
+use Rattle.pon_audit.specs.declared.ends.KeptEnds.{KeptEnds}
+use Rattle.pon_audit.specs.declared.ends.KeptEnds.TheVariants.{OfPorts, OfChapters}
 use Rattle.pon_audit.specs.declared.ends.End.{End}
 use Rattle.pon_audit.specs.declared.verdict.AuditReason.{AuditReason}
 use Rattle.pon_audit.specs.declared.verdict.Verdict.{Verdict}
@@ -134,67 +136,123 @@ module _ (earlier : List PlacedChapter) (ends : List End) (zip : AllZip IsEndOf 
   opens_if c h = all_right IsEndOf (λ d. Continues d c) (OpensAt c) earlier ends (λ d e is follows same next. follows (sym is.of_port ∙ same) (next ∙ ap (λ n. n + 1) is.of_number) ∙ sym is.ends.kept.replayed) zip h
 
 -- the last end of a port
-pub last_told : (earlier : List PlacedChapter) (t : EndTable) (port : ℕ) (o : Option ℕ) → AllZip IsEndOf earlier t.ends → IsPlaceOf earlier port o → IsLastOf earlier port (end_at t.ends o)
-last_told earlier t port None zip h = h
-last_told earlier t port (Some place) zip h =
-    let there = zip_get IsEndOf earlier t.ends place h.chapter zip h.here in
-    subst (IsLastOf earlier port) (sym there.1) (record {
-      place = place;
-      chapter = h.chapter;
-      here = h.here;
-      of_port = h.of_port;
-      of_number = there.2.of_number;
-      ends = there.2.ends;
-      others = All-weaker (λ d. d.body.port ≡ port → (d.body.number < h.chapter.body.number) ⊎ (d ≡ h.chapter)) (λ d. d.body.port ≡ port → (d.body.number < there.0.number) ⊎ (d ≡ h.chapter))
-          (λ d either own. elim (either own) [ inl less ↦ inl (omega (arith, less, there.2.of_number)) | inr is ↦ inr is ]) earlier h.others;
-    })
+pub last_told : (earlier : List PlacedChapter) (ends : List End) (port : ℕ) (o : Option ℕ) → IsPlaceOf earlier ends port o → IsLastOf earlier port (end_at ends o)
+last_told earlier ends port None h = h
+last_told earlier ends port (Some place) h = subst (IsLastOf earlier port) (sym h.here) h.is_last
 
 -- The table with one more chapter.
 
-module _ (earlier : List PlacedChapter) (c : PlacedChapter) (port : ℕ) where
-  push_other : (o : Option ℕ) → (c.body.port ≡ port → ⊥) → IsPlaceOf earlier port o → IsPlaceOf (earlier ++ c ∷ []) port o
-  push_other None other h = All-push (λ d. d.body.port ≡ port → ⊥) earlier c h other
-  push_other (Some place) other l = record {
+which : (kept : KeptEnds) (o : Option ℕ) → ((kept ≡ OfPorts) × (o ≡ replaced_if kept o)) ⊎ (replaced_if kept o ≡ None)
+which OfPorts o = inl (refl, refl)
+which OfChapters o = inr refl
+
+module _ (earlier : List PlacedChapter) (c : PlacedChapter) where
+  --   the last chapter of another port stays the last
+  still_last : (port : ℕ) (last : End) → (c.body.port ≡ port → ⊥) → IsLast earlier port last → IsLast (earlier ++ c ∷ []) port last
+  still_last port last other l = record {
+    place = l.place;
     chapter = l.chapter;
-    here = get_front earlier (c ∷ []) place l.chapter l.here;
+    here = get_front earlier (c ∷ []) l.place l.chapter l.here;
     of_port = l.of_port;
-    others = All-push (λ d. d.body.port ≡ port → (d.body.number < l.chapter.body.number) ⊎ (d ≡ l.chapter)) earlier c l.others (λ e. absurd (other e));
+    of_number = l.of_number;
+    ends = l.ends;
+    others = All-push (λ d. d.body.port ≡ port → (d.body.number < last.number) ⊎ (d ≡ l.chapter)) earlier c l.others (λ e. absurd (other e));
   }
 
-  push_own : c.body.port ≡ port → Ascends earlier c → IsLastPlace (earlier ++ c ∷ []) port (length earlier)
-  push_own own rises = record {
+  --   the chapter is the last of its own
+  now_last : (end : State) → Ascends earlier c → EndsWith c end → IsLast (earlier ++ c ∷ []) c.body.port (record { port = c.body.port; number = c.body.number; end = end })
+  now_last end rises ends = record {
+    place = length earlier;
     chapter = c;
     here = get_last earlier c;
-    of_port = own;
-    others = All-push (λ d. d.body.port ≡ port → (d.body.number < c.body.number) ⊎ (d ≡ c)) earlier c
-        (All-weaker (λ d. Rises d c) (λ d. d.body.port ≡ port → (d.body.number < c.body.number) ⊎ (d ≡ c)) (λ d h e. inl (h (e ∙ sym own))) earlier rises)
+    of_port = refl;
+    of_number = refl;
+    ends = ends;
+    others = All-push (λ d. d.body.port ≡ c.body.port → (d.body.number < c.body.number) ⊎ (d ≡ c)) earlier c
+        (All-weaker (λ d. Rises d c) (λ d. d.body.port ≡ c.body.port → (d.body.number < c.body.number) ⊎ (d ≡ c)) (λ d h e. inl (h e)) earlier rises)
         (λ e. inr refl);
   }
 
-pub one_more_judged : (earlier : List PlacedChapter) (c : PlacedChapter) (t new : EndTable) (end : State) → length t.places ≡ MAX_PORTS → AreJudged earlier t → MayStandAfter earlier c → EndsWith c end
-    → new.ends ≡ t.ends ++ record { port = c.body.port; number = c.body.number; end = end } ∷ [] → new.places ≡ set t.places c.body.port (Some (length t.ends)) → AreJudged (earlier ++ c ∷ []) new
-one_more_judged earlier c t new end long judged stands ends more is = record {
-  good = record {
+  --   an end that stays at its place
+  still_held : (ends more : List End) (port : ℕ) (o : Option ℕ) → ((place : ℕ) (last : End) → o ≡ Some place → slice_get ends place ≡ Some last → last.port ≡ port → slice_get more place ≡ Some last)
+      → (c.body.port ≡ port → ⊥) → IsPlaceOf earlier ends port o → IsPlaceOf (earlier ++ c ∷ []) more port o
+  still_held ends more port None stays other h = All-push (λ d. d.body.port ≡ port → ⊥) earlier c h other
+  still_held ends more port (Some place) stays other h = record {
+    last = h.last;
+    here = stays place h.last refl h.here h.named;
+    named = h.named;
+    is_last = still_last port h.last other h.is_last;
+  }
+
+get_set_same : {X : Type 0} (xs : List X) (i : ℕ) (x : X) → i < length xs → slice_get (set xs i x) i ≡ Some x
+get_set_same [] i x lt = absurd (omega (arith, lt))
+get_set_same (y ∷ xs) zero x lt = refl
+get_set_same (y ∷ xs) (suc i) x lt = get_set_same xs i x (omega (arith, lt))
+
+get_set_other : {X : Type 0} (xs : List X) (i j : ℕ) (x : X) → (i ≡ j → ⊥) → slice_get (set xs i x) j ≡ slice_get xs j
+get_set_other [] i j x other = refl
+get_set_other (y ∷ xs) zero zero x other = absurd (other refl)
+get_set_other (y ∷ xs) zero (suc j) x other = refl
+get_set_other (y ∷ xs) (suc i) zero x other = refl
+get_set_other (y ∷ xs) (suc i) (suc j) x other = get_set_other xs i j x (λ e. other (ap suc e))
+
+module _ (earlier : List PlacedChapter) (c : PlacedChapter) (t : EndTable) (end : State) (long : length t.places ≡ MAX_PORTS) (judged : AreJudged earlier t) (stands : MayStandAfter earlier c) (ends : EndsWith c end) where
+  abbrev pub last : End
+  last = record { port = c.body.port; number = c.body.number; end = end }
+
+  all_good : AreGood (earlier ++ c ∷ [])
+  all_good = record {
     each = All-push IsGoodChapter earlier c judged.good.each ends.good;
     chained = all_pairs_push Continues earlier c judged.good.chained stands.chained;
     rising = all_pairs_push Rises earlier c judged.good.rising stands.rising;
-  };
-  each = subst (AllZip IsEndOf (earlier ++ c ∷ [])) (sym more) (zip_push IsEndOf earlier t.ends c last judged.each (record { of_port = refl; of_number = refl; ends = ends }));
-  lasts = λ port below. elim (cases_eq c.body.port port) [
-    | inl own ↦ subst (IsPlaceOf (earlier ++ c ∷ []) port)
-        (sym (ap (λ l. slice_index_or l port None) is ∙ ap (λ p. slice_index_or (set t.places p place) port None) own ∙ get_or-set_same t.places port place None (omega (arith, below, long))))
-        (subst (IsLastPlace (earlier ++ c ∷ []) port) (sym (AllZip-long IsEndOf earlier t.ends judged.each)) (push_own earlier c port own stands.rising))
-    | inr other ↦ subst (IsPlaceOf (earlier ++ c ∷ []) port)
-        (sym (ap (λ l. slice_index_or l port None) is ∙ get_or-set_other t.places c.body.port port place None (λ e. other (sym e))))
-        (push_other earlier c port (slice_index_or t.places port None) other (judged.lasts port below))
-  ];
-}
-  where
-    last : End
-    last = record { port = c.body.port; number = c.body.number; end = end }
+  }
 
-    place : Option ℕ
-    place = Some (length t.ends)
+  --   its end is added after those that are kept
+  judged_pushed : AreJudged (earlier ++ c ∷ []) (pushed t last)
+  judged_pushed = record {
+    good = all_good;
+    each = λ all. zip_push IsEndOf earlier t.ends c last (judged.each all) (record { of_port = refl; of_number = refl; ends = ends });
+    lasts = λ port below. elim (cases_eq c.body.port port) [
+      | inl own ↦ subst (IsPlaceOf (earlier ++ c ∷ []) (t.ends ++ last ∷ []) port)
+          (sym (ap (λ p. slice_index_or (set t.places p (Some (length t.ends))) port None) own ∙ get_or-set_same t.places port (Some (length t.ends)) None (omega (arith, below, long))))
+          (record { last = last; here = get_last t.ends last; named = own; is_last = subst (λ p. IsLast (earlier ++ c ∷ []) p last) own (now_last earlier c end stands.rising ends) })
+      | inr other ↦ subst (IsPlaceOf (earlier ++ c ∷ []) (t.ends ++ last ∷ []) port)
+          (sym (get_or-set_other t.places c.body.port port (Some (length t.ends)) None (λ e. other (sym e))))
+          (still_held earlier c t.ends (t.ends ++ last ∷ []) port (slice_index_or t.places port None) (λ place x e here named. get_front t.ends (last ∷ []) place x here) other (judged.lasts port below))
+    ];
+  }
+
+  --   or takes the place of the last one of its port
+  judged_put : (place : ℕ) → place < length t.ends → t.kept ≡ OfPorts → slice_index_or t.places c.body.port None ≡ Some place → c.body.port < MAX_PORTS
+      → AreJudged (earlier ++ c ∷ []) (record { kept = t.kept; ends = set t.ends place last; places = t.places })
+  judged_put place lt kept here range = record {
+    good = all_good;
+    each = λ all. absurd (cc (kept, all));
+    lasts = λ port below. elim (cases_eq c.body.port port) [
+      | inl own ↦ subst (IsPlaceOf (earlier ++ c ∷ []) (set t.ends place last) port)
+          (sym (ap (λ p. slice_index_or t.places p None) (sym own) ∙ here))
+          (record { last = last; here = get_set_same t.ends place last lt; named = own; is_last = subst (λ p. IsLast (earlier ++ c ∷ []) p last) own (now_last earlier c end stands.rising ends) })
+      | inr other ↦ still_held earlier c t.ends (set t.ends place last) port (slice_index_or t.places port None)
+          (λ at x e there named.
+          let held = subst (IsPlaceOf earlier t.ends c.body.port) here (judged.lasts c.body.port range) in
+          get_set_other t.ends place at last (λ same. other (sym held.named ∙ ap (λ y. y.port) (some_same held.last x (sym held.here ∙ ap (slice_get t.ends) same ∙ there)) ∙ named)) ∙ there)
+          other (judged.lasts port below)
+    ];
+  }
+
+  put_where : (place : ℕ) (inside : Bool) → nat_lt place (length t.ends) ≡ inside → t.kept ≡ OfPorts → slice_index_or t.places c.body.port None ≡ Some place → c.body.port < MAX_PORTS
+      → AreJudged (earlier ++ c ∷ []) (if inside then record { kept = t.kept; ends = set t.ends place last; places = t.places } else pushed t last)
+  put_where place true is kept here range = judged_put place (ltb-true place (length t.ends) is) kept here range
+  put_where place false is kept here range = judged_pushed
+
+  put_judged : (o : Option ℕ) → ((t.kept ≡ OfPorts) × (slice_index_or t.places c.body.port None ≡ o)) ⊎ (o ≡ None) → c.body.port < MAX_PORTS → AreJudged (earlier ++ c ∷ []) (put t last o)
+  put_judged None from range = judged_pushed
+  put_judged (Some place) (inl from) range = put_where place (nat_lt place (length t.ends)) refl from.0 from.1 range
+  put_judged (Some place) (inr none) range = absurd (cc none)
+
+  pub one_more_judged : c.body.port < MAX_PORTS → (new : EndTable) → new ≡ after_end t last → AreJudged (earlier ++ c ∷ []) new
+  one_more_judged range new is = subst (AreJudged (earlier ++ c ∷ [])) (sym is)
+      (put_judged (replaced t c.body.port) (which t.kept (slice_index_or t.places c.body.port None)) range)
 
 -- no chapters are judged yet
 pub replicate_push : {X : Type 0} (n : ℕ) (x : X) → replicate n x ++ x ∷ [] ≡ replicate (n + 1) x
@@ -211,11 +269,11 @@ none_kept zero port = refl
 none_kept (suc n) zero = refl
 none_kept (suc n) (suc port) = none_kept n port
 
-pub none_judged : (t : EndTable) → t ≡ record { ends = []; places = replicate MAX_PORTS None } → AreJudged [] t
-none_judged t is = subst (AreJudged []) (sym is) (record {
+pub none_judged : (t : EndTable) (kept : KeptEnds) → t ≡ record { kept = kept; ends = []; places = replicate MAX_PORTS None } → AreJudged [] t
+none_judged t kept is = subst (AreJudged []) (sym is) (record {
   good = record { each = All-nil IsGoodChapter; chained = λ i j d lt less. absurd (omega (arith, less)); rising = λ i j d lt less. absurd (omega (arith, less)) };
-  each = tt;
-  lasts = λ port lt. subst (IsPlaceOf [] port) (sym (none_kept MAX_PORTS port)) (All-nil (λ d. d.body.port ≡ port → ⊥));
+  each = λ all. tt;
+  lasts = λ port lt. subst (IsPlaceOf [] [] port) (sym (none_kept MAX_PORTS port)) (All-nil (λ d. d.body.port ≡ port → ⊥));
 })
 
 -- A chapter that fails after good ones.

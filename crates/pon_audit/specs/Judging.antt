@@ -13,6 +13,7 @@ use Rattle.pon_audit.specs.declared.chapters.Judged.{Judged}
 use Rattle.pon_audit.specs.declared.chapters.Judged.TheVariants.{Unlawful, Fails, Ends}
 use Rattle.pon_audit.specs.declared.ends.End.{End}
 use Rattle.pon_audit.specs.EndTables.{EndTable}
+use Rattle.pon_audit.specs.declared.ends.KeptEnds.TheVariants.{OfChapters}
 use Rattle.pon_audit.specs.declared.verdict.Verdict.{Verdict}
 use Rattle.pon_audit.specs.declared.verdict.Verdict.TheVariants.{Bad}
 
@@ -42,31 +43,6 @@ pub record IsEndOf (c : PlacedChapter) (e : End) : Type 0 where
   pub of_number : e.number ≡ c.body.number
   pub ends : EndsWith c e.end
 
--- the chapter at a place is the last of a port; its other chapters have smaller numbers
-pub record IsLastPlace (earlier : List PlacedChapter) (port place : ℕ) : Type 0 where
-  pub chapter : PlacedChapter
-  pub here : slice_get earlier place ≡ Some chapter
-  pub of_port : chapter.body.port ≡ port
-  pub others : All (λ d. d.body.port ≡ port → (d.body.number < chapter.body.number) ⊎ (d ≡ chapter)) earlier
-
-abbrev pub IsPlaceOf : List PlacedChapter → ℕ → Option ℕ → Type 0
-IsPlaceOf earlier port None = All (λ d. d.body.port ≡ port → ⊥) earlier
-IsPlaceOf earlier port (Some place) = IsLastPlace earlier port place
-
--- the chapters are good, and the table has their ends and the last ones of the ports
-pub record AreJudged (earlier : List PlacedChapter) (t : EndTable) : Type 0 where
-  pub good : AreGood earlier
-  pub each : AllZip IsEndOf earlier t.ends
-  pub lasts : (port : ℕ) → port < MAX_PORTS → IsPlaceOf earlier port (slice_index_or t.places port None)
-
--- an end is the one before a chapter of its port only if the chapter opens with it
-abbrev pub OpensAt : PlacedChapter → End → Type 0
-OpensAt c e = e.port ≡ c.body.port → c.body.number ≡ e.number + 1 → state_of c.body.opening ≡ e.end
-
--- the state at an end is one of a chapter
-abbrev pub IsKeptEnd : End → Type 0
-IsKeptEnd e = (b : Body) × IsKept (chapter_of b) e.end
-
 -- the number and the end of the last chapter of a port; its other chapters have smaller numbers
 pub record IsLast (earlier : List PlacedChapter) (port : ℕ) (last : End) : Type 0 where
   pub place : ℕ
@@ -81,10 +57,30 @@ abbrev pub IsLastOf : List PlacedChapter → ℕ → Option End → Type 0
 IsLastOf earlier port None = All (λ d. d.body.port ≡ port → ⊥) earlier
 IsLastOf earlier port (Some last) = IsLast earlier port last
 
--- the end at a place, if there is one
-abbrev pub end_at : List End → Option ℕ → Option End
-end_at ends None = None
-end_at ends (Some place) = slice_get ends place
+-- the end at a place is that of the last chapter of a port
+pub record IsHeld (earlier : List PlacedChapter) (ends : List End) (port place : ℕ) : Type 0 where
+  pub last : End
+  pub here : slice_get ends place ≡ Some last
+  pub named : last.port ≡ port
+  pub is_last : IsLast earlier port last
+
+abbrev pub IsPlaceOf : List PlacedChapter → List End → ℕ → Option ℕ → Type 0
+IsPlaceOf earlier ends port None = All (λ d. d.body.port ≡ port → ⊥) earlier
+IsPlaceOf earlier ends port (Some place) = IsHeld earlier ends port place
+
+-- the chapters are good, and the table has the last ends of the ports; and all ends, if it keeps those of all chapters
+pub record AreJudged (earlier : List PlacedChapter) (t : EndTable) : Type 0 where
+  pub good : AreGood earlier
+  pub each : t.kept ≡ OfChapters → AllZip IsEndOf earlier t.ends
+  pub lasts : (port : ℕ) → port < MAX_PORTS → IsPlaceOf earlier t.ends port (slice_index_or t.places port None)
+
+-- an end is the one before a chapter of its port only if the chapter opens with it
+abbrev pub OpensAt : PlacedChapter → End → Type 0
+OpensAt c e = e.port ≡ c.body.port → c.body.number ≡ e.number + 1 → state_of c.body.opening ≡ e.end
+
+-- the state at an end is one of a chapter
+abbrev pub IsKeptEnd : End → Type 0
+IsKeptEnd e = (b : Body) × IsKept (chapter_of b) e.end
 
 -- the verdict gives the first chapter that fails
 abbrev pub TellsBad : List PlacedChapter → Verdict → Type 0

@@ -10,6 +10,7 @@ ghost use Rattle.pon_audit.specs.Streams.{IsVerdictOf, TellsFailure};
 ghost use Rattle.pon_audit.specs.Verdicts.{IsVerdict};
 
 use crate::chapters::Judged;
+use crate::ends::KeptEnds;
 use crate::progress::Audit;
 use crate::reading::{Batch, read_batch};
 use crate::verdict::Verdict;
@@ -35,19 +36,21 @@ pub struct Step {
 }
 
 impl Auditing {
-    /// Reads the magic bytes of a recording; returns the verdict if they are wrong or cut.
+    /// Reads the magic bytes of a recording; returns the verdict if they are wrong or cut. The audit keeps these ends of
+    /// the chapters that it judges.
     ///
     /// # Errors
     ///
     /// `Read` exactly when the device fails. `Memory` if memory is refused.
     pub fn open<R: DevRead>(
         alloc: Global,
+        kept: KeptEnds,
         reader: &mut R,
     ) -> Result<Result<Auditing, Verdict>, DeviceFault>
         ensures begins { IfOk result (BeginsAudit (R.remaining reader.old) (R.remaining reader.new)) }
         ensures failures { TellsFailure (R.failures reader.old) (R.failures reader.new) result }
     {
-        let audit = Audit::open(alloc)?;
+        let audit = Audit::open(alloc, kept)?;
         match ChapterReader::open(alloc, reader) {
             Ok(source) => Ok(Ok(Auditing { source, audit })),
             Err(StreamFault::BadFormat { at }) => Ok(Err(Verdict::BadFormat { at })),
@@ -79,7 +82,8 @@ impl Auditing {
     ///
     /// # Errors
     ///
-    /// `Memory` only if memory is refused.
+    /// `Memory` only if memory is refused, or if the number of a chapter does not ascend and the ends of chapters are not
+    /// kept ([`KeptEnds::OfPorts`]).
     pub fn judge(
         &mut self,
         rt: &(impl Threads + Sync),
@@ -140,7 +144,7 @@ impl Auditing {
 
 /// Audits the recording that a device gives, chapter by chapter, to the end of the device or to the first fault of the
 /// format. Its memory is for a batch of at most 64 chapters with about as many entries as four full ones, and for the
-/// state at the end of each chapter.
+/// states that it keeps.
 ///
 /// `Good` only if the bytes are a recording, each opening is lawful, each entry may follow those before it, each map is
 /// fair for the state before it, the numbers of a port's chapters ascend, and a chapter opens with the state at the end
@@ -149,6 +153,35 @@ impl Auditing {
 /// chapters are good. `BadFormat` regardless of the chapters before the fault: after a chapter that fails only the
 /// format is checked. Chapters of a batch with [`PARALLEL_MAPS`](crate::PARALLEL_MAPS) maps or more are audited in as
 /// many threads as there are processors, with the same verdict.
+///
+/// # Errors
+///
+/// `Read` exactly when the device fails. `Memory` if memory is refused, or if the recording has 2^64 bytes or more. With
+/// [`KeptEnds::OfPorts`] also if the number of a chapter does not ascend: then only an audit with [`KeptEnds::OfChapters`] has
+/// the verdict.
+pub fn audit_keeping<R: DevRead>(
+    rt: &(impl Threads + Sync),
+    alloc: Global,
+    kept: KeptEnds,
+    reader: &mut R,
+) -> Result<Verdict, DeviceFault>
+    ensures verdict { IfOk result (λ v. IsVerdictOf (R.remaining reader.old) v) }
+    ensures failures { TellsFailure (R.failures reader.old) (R.failures reader.new) result }
+{
+    let mut auditing = match Auditing::open(alloc, kept, reader)? {
+        Ok(auditing) => auditing,
+        Err(verdict) => return Ok(verdict),
+    };
+    for _batch in 0..u64::MAX {
+        let Step { verdict, .. } = auditing.next(rt, alloc, reader)?;
+        if let Some(verdict) = verdict {
+            return Ok(verdict);
+        }
+    }
+    Err(DeviceFault::Memory)
+}
+
+/// Audits the recording that a device gives, as [`audit_keeping`] does, and keeps the ends of all chapters.
 ///
 /// # Errors
 ///
@@ -161,17 +194,7 @@ pub fn audit_from<R: DevRead>(
     ensures verdict { IfOk result (λ v. IsVerdictOf (R.remaining reader.old) v) }
     ensures failures { TellsFailure (R.failures reader.old) (R.failures reader.new) result }
 {
-    let mut auditing = match Auditing::open(alloc, reader)? {
-        Ok(auditing) => auditing,
-        Err(verdict) => return Ok(verdict),
-    };
-    for _batch in 0..u64::MAX {
-        let Step { verdict, .. } = auditing.next(rt, alloc, reader)?;
-        if let Some(verdict) = verdict {
-            return Ok(verdict);
-        }
-    }
-    Err(DeviceFault::Memory)
+    audit_keeping(rt, alloc, KeptEnds::OfChapters, reader)
 }
 
 /// Audits the bytes of a recording in memory, as [`audit_from`] does.

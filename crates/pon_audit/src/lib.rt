@@ -21,9 +21,10 @@ mod reading;
 mod verdict;
 
 pub use answer::write_verdict;
-pub use auditing::{Auditing, Step, audit, audit_from};
+pub use auditing::{Auditing, Step, audit, audit_from, audit_keeping};
 pub use batches::PARALLEL_MAPS;
 pub use chapters::{Fault, Judged, judge};
+pub use ends::KeptEnds;
 pub use entries::{accepted_problems, take_entry, take_map};
 pub use openings::open_state;
 pub use reading::{Batch, BatchEnd};

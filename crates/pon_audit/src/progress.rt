@@ -13,7 +13,7 @@ ghost use Rattle.pon_audit.specs.declared.reading.BatchEnd.TheVariants.{More};
 
 use crate::batches::{judge_batch, place_all};
 use crate::chapters::Judged;
-use crate::ends::Ends;
+use crate::ends::{Ends, KeptEnds};
 use crate::reading::{Batch, BatchEnd};
 use crate::verdict::Verdict;
 use pon_record::RawChapter;
@@ -48,15 +48,15 @@ fn add_maps(maps: u64, chapters: &[RawChapter]) -> Option<u64>
 }
 
 impl Audit {
-    /// Starts the audit, with no chapters.
+    /// Starts the audit, with no chapters. It keeps these ends.
     ///
     /// # Errors
     ///
     /// `AllocError` only if memory is refused.
-    pub fn open(alloc: Global) -> Result<Audit, AllocError>
+    pub fn open(alloc: Global, kept: KeptEnds) -> Result<Audit, AllocError>
         ensures { IfOk result (λ audit. AreAudited [] audit) }
     {
-        let ends = Ends::open(alloc)?;
+        let ends = Ends::open(alloc, kept)?;
         Ok(Audit {
             ends,
             maps: 0,

@@ -9,7 +9,8 @@ use Rattle.pon_history.specs.Chapters.{Chapter, chapter_after, present_state}
 use Rattle.pon_record.specs.Chapters.{PlacedChapter}
 use Rattle.pon_audit.specs.Openings.{chapter_of, state_of}
 use Rattle.pon_audit.specs.Verdicts.{AreGood, Continues, IsGoodChapter, Rises}
-use Rattle.pon_c.specs.Resuming.{GoesOn, IsGoodWith, IsLastOf, Resumes, ResumesAfter, StaysGood}
+use Rattle.pon_resume.specs.LastChapters.{IsLastOf}
+use Rattle.pon_c.specs.Resuming.{GoesOn, IsGoodWith, Resumes, ResumesAfter, StaysGood}
 
 -- a chapter of the port has a smaller number than the last one, or is it
 abbrev IsBefore : ℕ → PlacedChapter → PlacedChapter → Type 0

@@ -12,7 +12,8 @@ use Rattle.pon_audit.specs.Openings.{FitsRecording}
 use Rattle.pon_audit.specs.Verdicts.{AreGood, IsGoodChapter, IsVerdict}
 use Rattle.pon_audit.specs.declared.verdict.Verdict.{Verdict}
 use Rattle.pon_audit.specs.declared.verdict.Verdict.TheVariants.{Good, Bad, BadFormat, Truncated}
-use Rattle.pon_c.specs.Resuming.{EndsPort, HasNone, IsGoodRecording, IsGoodRecordingOf, IsLastOf, TellsLast}
+use Rattle.pon_resume.specs.LastChapters.{HasNone, IsLastOf}
+use Rattle.pon_c.specs.Resuming.{EndsPort, IsGoodRecording, IsGoodRecordingOf, TellsLast}
 
 -- the last chapter of the port among the chapters so far
 abbrev pub TellsSoFar : ℕ → List PlacedChapter → Option PlacedChapter → Type 0

@@ -5,7 +5,7 @@ use Rattle.std.specs.Prelude.{◌≢◌, Some}
 use Rattle.pon_record.specs.declared.version.Version.TheVariants as version
 use Rattle.pon_record.specs.Chapters.{Body}
 use Rattle.pon_record.specs.Recordings.{recording_bytes}
-use Rattle.pon_recorder.specs.Recorders.{Grows, Records}
+use Rattle.pon_record.specs.Recorders.{Grows, Records}
 use Rattle.pon_c.specs.Filling.{IsFilled, IsGiven}
 use Rattle.pon_c.specs.declared.numbers.TheConstants.{OUT_OF_MEMORY}
 

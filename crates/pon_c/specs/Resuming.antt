@@ -1,5 +1,5 @@
 -- A port that goes on where a recording ends, or why there is none.
-use Rattle.std.specs.Prelude.{ℕ, ◌≡◌, ◌≢◌, ◌-◌, ◌^◌, All, List, [], ◌∷◌, ◌++◌, Some, None}
+use Rattle.std.specs.Prelude.{ℕ, ◌≡◌, ◌≢◌, ◌-◌, ◌^◌, List, [], ◌∷◌, ◌++◌, Some, None}
 use Rattle.std.specs.declared.option.Option.{Option}
 use Rattle.pon_state.specs.Ranges.{IsStateInRange}
 use Rattle.pon_history.specs.Chapters.{Chapter, chapter_after, present_state}
@@ -7,21 +7,10 @@ use Rattle.pon_record.specs.Chapters.{PlacedChapter}
 use Rattle.pon_record.specs.Recordings.{IsRecording}
 use Rattle.pon_audit.specs.Openings.{FitsRecording, chapter_of, state_of}
 use Rattle.pon_audit.specs.Verdicts.{AreGood, IsGoodChapter}
+use Rattle.pon_resume.specs.LastChapters.{HasNone, IsLastOf}
 use Rattle.pon_c.specs.Audits.{TellsVerdict}
 use Rattle.pon_c.specs.declared.auditing.VerdictInfo.{VerdictInfo}
 use Rattle.pon_c.specs.declared.numbers.TheConstants.{BAD_STATE, CHAPTER_FULL, NOT_GOOD, NO_CHAPTER, OUT_OF_MEMORY}
-
--- no chapter is of the port
-abbrev pub HasNone : ℕ → List PlacedChapter → Type 0
-HasNone port chapters = All (λ c. c.body.port ≢ port) chapters
-
--- the chapter is of the port, and none after it is
-pub record IsLastOf (port : ℕ) (chapters : List PlacedChapter) (last : PlacedChapter) : Type 0 where
-  pub earlier : List PlacedChapter
-  pub later : List PlacedChapter
-  pub whole : chapters ≡ earlier ++ last ∷ later
-  pub of_port : last.body.port ≡ port
-  pub others : HasNone port later
 
 -- the bytes are a recording of good chapters
 pub record IsGoodRecordingOf (bytes : List ℕ) (chapters : List PlacedChapter) : Type 0 where

@@ -6,7 +6,7 @@ use Rattle.pon_history.specs.Chapters.{Chapter, chapter_after}
 use Rattle.pon_history.specs.Taking.{turn_refusal}
 use Rattle.pon_record.specs.declared.version.Version.TheVariants as version
 use Rattle.pon_record.specs.Recordings.{recording_bytes}
-use Rattle.pon_recorder.specs.Bodies.{chapter_body}
+use Rattle.pon_record.specs.Bodies.{chapter_body}
 use Rattle.pon_c.specs.Filling.{IsGiven}
 use Rattle.pon_c.specs.Numbers.{number_of}
 use Rattle.pon_c.specs.declared.numbers.TheConstants.{CLOSED, OUT_OF_MEMORY}

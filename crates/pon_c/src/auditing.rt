@@ -8,7 +8,7 @@ ghost use Rattle.pon_audit.specs.Verdicts.{IsVerdict};
 ghost use Rattle.pon_c.specs.Audits.{TellsVerdict, reason_number, verdict_info};
 
 use crate::numbers::OUT_OF_MEMORY;
-use pon_audit::{AuditReason, Auditing, Judged, Verdict, judge};
+use pon_audit::{AuditReason, Auditing, Judged, KeptEnds, Verdict, judge};
 use pon_device::{DevRead, StdRead};
 use pon_record::RawChapter;
 use std::alloc::{AllocError, Global};
@@ -128,7 +128,7 @@ pub(crate) fn audit(alloc: Global, bytes: &[u8]) -> Result<Verdict, AllocError>
     ensures { IfOk result (λ verdict. IsVerdict bytes.now verdict) }
 {
     let mut reader = StdRead::new(bytes);
-    let mut auditing = match Auditing::open(alloc, &mut reader) {
+    let mut auditing = match Auditing::open(alloc, KeptEnds::OfChapters, &mut reader) {
         Ok(Ok(auditing)) => auditing,
         Ok(Err(verdict)) => return Ok(verdict),
         Err(_) => return Err(AllocError),

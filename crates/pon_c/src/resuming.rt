@@ -2,7 +2,6 @@
 ghost use Rattle.std.specs.Prelude.{◌≡◌, ◌≢◌, ◌<◌, ◌==◌, if◌then◌else◌, IfErr, IfOk, IsNone, IsSome, OnOk, Some};
 ghost use Rattle.pon_units.specs.declared.limits.TheConstants.{MAX_PORTS};
 ghost use Rattle.pon_history.specs.Chapters.{chapter_after};
-ghost use Rattle.pon_history.specs.Taking.{IsKept};
 ghost use Rattle.pon_record.specs.Chapters.{PlacedChapter};
 ghost use Rattle.pon_audit.specs.Openings.{FitsRecording, chapter_of};
 ghost use Rattle.pon_audit.specs.Verdicts.{IsGoodChapter};
@@ -14,10 +13,10 @@ use crate::handle::PortHandle;
 use crate::numbers::{
     BAD_PORT, BAD_STATE, CHAPTER_FULL, IS_OPEN, NO_CHAPTER, NOT_GOOD, OUT_OF_MEMORY,
 };
-use pon_audit::{Judged, judge};
 use pon_device::StdRead;
-use pon_port::{Port, PortState, ResumeFault};
+use pon_port::Port;
 use pon_record::{ChapterReader, RawChapter};
+use pon_resume::{NotResumed, resume_after};
 use pon_units::PortNo;
 use std::alloc::{AllocError, Global};
 
@@ -48,37 +47,20 @@ fn last_chapter(alloc: Global, bytes: &[u8], port: PortNo) -> Result<Option<RawC
     Err(AllocError)
 }
 
-// Makes the state at the end of a good chapter. `Err` only if memory is refused.
-fn end_of(alloc: Global, chapter: &RawChapter) -> Result<PortState, AllocError>
-    requires fits { FitsRecording chapter.now.body }
-    requires good { IsGoodChapter chapter.now }
-    ensures { IfOk result (λ end. IsKept (chapter_of chapter.now.body) end) }
-{
-    match judge(alloc, chapter)? {
-        Judged::Ends(end) => Ok(end),
-        Judged::Unlawful => unreachable!(),
-        Judged::Fails(_) => unreachable!(),
-    }
-}
-
 // Opens a port with the chapter after a good one. `Err` with the number of the reason.
-fn resume_after(alloc: Global, chapter: &RawChapter) -> Result<Port, u32>
+fn resume_good(alloc: Global, chapter: &RawChapter) -> Result<Port, u32>
     requires fits { FitsRecording chapter.now.body }
     requires good { IsGoodChapter chapter.now }
     ensures ok { IfOk result (λ port. port ≡ chapter_after (chapter_of chapter.now.body)) }
     ensures err { IfErr result (IsRefusedAfter chapter.now) }
     ensures reason { IfErr result (λ n. n ≢ 0) }
 {
-    let Ok(end) = end_of(alloc, chapter) else {
-        return Err(OUT_OF_MEMORY);
-    };
-    let Some(number) = chapter.number.checked_add(1) else {
-        return Err(CHAPTER_FULL);
-    };
-    match Port::resume(alloc, number, end) {
+    match resume_after(alloc, chapter) {
         Ok(port) => Ok(port),
-        Err(ResumeFault::OutOfRange) => Err(BAD_STATE),
-        Err(ResumeFault::Memory) => Err(OUT_OF_MEMORY),
+        Err(NotResumed::Chapter) => Err(NOT_GOOD),
+        Err(NotResumed::Number) => Err(CHAPTER_FULL),
+        Err(NotResumed::State) => Err(BAD_STATE),
+        Err(NotResumed::Memory) => Err(OUT_OF_MEMORY),
     }
 }
 
@@ -90,7 +72,7 @@ fn resume_last(alloc: Global, bytes: &[u8], port: PortNo) -> Result<Port, u32>
     ensures reason { IfErr result (λ n. n ≢ 0) }
 {
     match last_chapter(alloc, bytes, port) {
-        Ok(Some(chapter)) => resume_after(alloc, &chapter),
+        Ok(Some(chapter)) => resume_good(alloc, &chapter),
         Ok(None) => Err(NO_CHAPTER),
         Err(_) => Err(OUT_OF_MEMORY),
     }

@@ -4,7 +4,7 @@ ghost use Rattle.pon_units.specs.declared.limits.TheConstants.{MAX_PORTS};
 ghost use Rattle.pon_history.specs.Chapters.{chapter_after};
 ghost use Rattle.pon_record.specs.declared.version.Version.{Version};
 ghost use Rattle.pon_record.specs.Recordings.{recording_bytes};
-ghost use Rattle.pon_recorder.specs.Bodies.{chapter_body};
+ghost use Rattle.pon_record.specs.Bodies.{chapter_body};
 ghost use Rattle.pon_c.specs.Filling.{IsGiven};
 ghost use Rattle.pon_c.specs.Turning.{TellsRecording, TellsTurn, TurnsInto};
 
@@ -16,7 +16,7 @@ use crate::turned::Turned;
 use pon_device::MemWrite;
 use pon_history::Chapter;
 use pon_port::Port;
-use pon_recorder::RecordFile;
+use pon_record::RecordFile;
 use pon_units::PortNo;
 use std::alloc::{AllocError, Global};
 

@@ -2,6 +2,7 @@ pub mod Carries
 pub mod ClassItems
 pub mod ClassMembers
 pub mod ClassShares
+pub mod MembersSoFar
 pub mod Planning
 pub mod RosterMaps
 pub mod RowShares

@@ -11,9 +11,8 @@ use crate::buffers::MapBuffers;
 use crate::demand::{Demand, demands_of};
 use crate::grants::{Grants, planned_grants};
 use crate::input::ShareInput;
-use crate::sharing::{Members, class_members, surplus_of};
+use crate::sharing::{Members, both_members, surplus_of};
 use pon_cert::MapCert;
-use pon_descr::Class;
 use std::alloc::{AllocError, Global};
 
 /// The class problems of a map.
@@ -43,13 +42,12 @@ pub fn class_problems(
     ensures { IfOk result (λ problems. AreProblems input.now problems) }
 {
     let demands = demands_of(buffers.take_demands(alloc), input)?;
-    let na = class_members(alloc, demands.as_slice(), Class::NonAssured)?;
-    let be = class_members(alloc, demands.as_slice(), Class::BestEffort)?;
+    let both = both_members(alloc, demands.as_slice())?;
     let surplus = surplus_of(input, demands.as_slice());
     Ok(Problems {
         demands,
-        na,
-        be,
+        na: both.na,
+        be: both.be,
         surplus,
     })
 }

@@ -1,6 +1,7 @@
 //! How the rate that is not guaranteed is shared, class by class.
 
-ghost use Rattle.std.specs.Prelude.{◌≡◌, ◌*◌, ◌≤◌, IfOk, filter, length, map, sum_by};
+ghost use Rattle.std.specs.Prelude.{◌≡◌, ◌*◌, ◌<◌, ◌≤◌, ◌++◌, ◌∷◌, [], IfOk, filter, length, map, sum_by, vec_capacity, vec_len};
+ghost use Rattle.pon_descr.specs.declared.class.Class.TheVariants.{NonAssured, BestEffort};
 ghost use Rattle.pon_admit.specs.Roster.{IsAdmitted};
 ghost use Rattle.pon_demand.specs.Sharing.{same_class, surplus};
 ghost use Rattle.pon_demand.specs.Demands.{demands_of};
@@ -59,30 +60,62 @@ pub struct Members {
     pub items: Vec<Item>,
 }
 
-/// Collects the members of a class. `Err` only if memory is refused.
-pub(crate) fn class_members(
-    alloc: Global,
-    demands: &[Demand],
-    class: Class,
-) -> Result<Members, AllocError>
-    ensures ids { IfOk result (λ members. members.ids.items
-        ≡ map (λ d. d.alloc_id) (filter (λ d. same_class d.class class) demands.now)) }
-    ensures items { IfOk result (λ members. members.items.items
-        ≡ map (λ d. d.item) (filter (λ d. same_class d.class class) demands.now)) }
-{
-    let count = member_count(demands, class);
-    if count == 0 {
-        let ids = Vec::new(alloc);
-        let items = Vec::new(alloc);
-        return Ok(Members { ids, items });
+impl Members {
+    // Makes empty lists with room for this number of members; none has no memory. `Err` only if memory is refused.
+    fn with_room(alloc: Global, count: usize) -> Result<Members, AllocError>
+        ensures ids { IfOk result (λ m. (m.ids.items ≡ []) × (count ≤ vec_capacity m.ids)) }
+        ensures items { IfOk result (λ m. (m.items.items ≡ []) × (count ≤ vec_capacity m.items)) }
+    {
+        let mut ids = Vec::new(alloc);
+        let mut items = Vec::new(alloc);
+        if count > 0 {
+            ids.reserve(count)?;
+            items.reserve(count)?;
+        }
+        Ok(Members { ids, items })
     }
-    let mut ids = Vec::with_capacity(alloc, count)?;
-    let mut items = Vec::with_capacity(alloc, count)?;
+
+    // Adds the member of a demand. There must be room for it.
+    #[inline]
+    fn add(&mut self, demand: &Demand)
+        requires ids { vec_len self.old.ids < vec_capacity self.old.ids }
+        requires items { vec_len self.old.items < vec_capacity self.old.items }
+        ensures ids { self.new.ids.items ≡ self.old.ids.items ++ demand.now.alloc_id ∷ [] }
+        ensures items { self.new.items.items ≡ self.old.items.items ++ demand.now.item ∷ [] }
+        ensures room_for_ids { vec_capacity self.old.ids ≤ vec_capacity self.new.ids }
+        ensures room_for_items { vec_capacity self.old.items ≤ vec_capacity self.new.items }
+    {
+        self.ids.push_reserved(demand.alloc_id);
+        self.items.push_reserved(demand.item);
+    }
+}
+
+/// The members of the two classes that share surplus.
+#[derive(Drop)]
+pub(crate) struct BothMembers {
+    pub na: Members,
+    pub be: Members,
+}
+
+/// Collects the members of both classes. `Err` only if memory is refused.
+pub(crate) fn both_members(alloc: Global, demands: &[Demand]) -> Result<BothMembers, AllocError>
+    ensures na_ids { IfOk result (λ both. both.na.ids.items
+        ≡ map (λ d. d.alloc_id) (filter (λ d. same_class d.class NonAssured) demands.now)) }
+    ensures na_items { IfOk result (λ both. both.na.items.items
+        ≡ map (λ d. d.item) (filter (λ d. same_class d.class NonAssured) demands.now)) }
+    ensures be_ids { IfOk result (λ both. both.be.ids.items
+        ≡ map (λ d. d.alloc_id) (filter (λ d. same_class d.class BestEffort) demands.now)) }
+    ensures be_items { IfOk result (λ both. both.be.items.items
+        ≡ map (λ d. d.item) (filter (λ d. same_class d.class BestEffort) demands.now)) }
+{
+    let mut na = Members::with_room(alloc, member_count(demands, Class::NonAssured))?;
+    let mut be = Members::with_room(alloc, member_count(demands, Class::BestEffort))?;
     for demand in demands {
-        if is_in_class(demand, class) {
-            ids.push_reserved(demand.alloc_id);
-            items.push_reserved(demand.item);
+        match demand.class {
+            Class::Plain => {}
+            Class::NonAssured => na.add(demand),
+            Class::BestEffort => be.add(demand),
         }
     }
-    Ok(Members { ids, items })
+    Ok(BothMembers { na, be })
 }

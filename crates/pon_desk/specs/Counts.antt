@@ -1,17 +1,17 @@
 -- Posts counted twice: at the ports that took them, and by the seats that made them.
-use Rattle.std.specs.Prelude.{ℕ, ◌≡◌, ◌≢◌, ◌+◌, ◌<◌, ◌≤◌, List, length, map, replicate, slice_get, slice_index, slice_set, sum, sum_by, Option, None, Some}
+use Rattle.std.specs.Prelude.{ℕ, suc, ◌≡◌, ◌≢◌, ◌+◌, ◌<◌, ◌≤◌, List, length, map, replicate, slice_get, slice_index, slice_set, sum, sum_by, Option, None, Some}
 use Rattle.pon_admit.specs.declared.port_cfg.PortCfg.{PortCfg}
 use Rattle.pon_history.specs.Chapters.{Chapter}
 use Rattle.pon_desk.specs.Receipts.{Receipt}
 
 -- the number of ports of a desk, and of the seats that were opened, and the configuration and first frame with which each
--- port was to be opened
+-- port was to be opened, or none if the ports took entries before
 pub record DeskSize : Type 0 where
   pub ports : ℕ
   pub seats : ℕ
   pub opened : List (PortCfg × ℕ)
 
--- the ports of a closed desk, and the configuration and first frame with which each was to be opened
+-- the ports of a closed desk, and the configuration and first frame with which each was to be opened, or none of these
 pub record ClosedPorts : Type 0 where
   pub ports : List Chapter
   pub opened : List (PortCfg × ℕ)
@@ -32,6 +32,20 @@ pub record AreUnused (seats ports : ℕ) (opened : List SeatState) : Type 0 wher
   pub count : length opened ≡ seats
   pub each : (k : ℕ) → k < seats → slice_get opened k ≡ Some (unused_seat k ports)
 
+-- the number of entries that a port took since it was opened
+abbrev pub taken_of : Chapter → ℕ
+taken_of port = port.opening.taken_before + length port.entries
+
+-- a seat that counts these numbers of entries, which ports took before
+abbrev pub past_seat : ℕ → List ℕ → SeatState
+past_seat number counts = record { number = number; counts = counts; receipts = None }
+
+-- seats, each numbered by its place: the last one counts what the ports took before, and the others have no posts
+pub record AreResumed (seats : ℕ) (counts : List ℕ) (opened : List SeatState) : Type 0 where
+  pub count : length opened ≡ seats
+  pub unused : (k : ℕ) → suc k < seats → slice_get opened k ≡ Some (unused_seat k (length counts))
+  pub past : (k : ℕ) → suc k ≡ seats → slice_get opened k ≡ Some (past_seat k counts)
+
 -- a seat after one more post at a port
 abbrev pub one_more_at : ℕ → SeatState → SeatState
 one_more_at port seat = record {
@@ -39,10 +53,6 @@ one_more_at port seat = record {
   counts = slice_set seat.counts port (slice_index seat.counts port + 1);
   receipts = seat.receipts;
 }
-
--- the number of entries that a port took since it was opened
-abbrev pub taken_of : Chapter → ℕ
-taken_of port = port.opening.taken_before + length port.entries
 
 -- the number of posts at a port, of all seats
 abbrev pub posts_at : ℕ → List SeatState → ℕ

@@ -1,13 +1,17 @@
 -- The faults of a desk.
-use Rattle.std.specs.Prelude.{ℕ, ◌≡◌, ◌<◌, List, length, Result, Ok, Err}
+use Rattle.std.specs.Prelude.{ℕ, ◌≡◌, ◌<◌, ◌≤◌, ◌^◌, ◌⊎◌, List, length, sum_by, Result, Ok, Err}
+use Rattle.pon_units.specs.declared.limits.TheConstants.{MAX_PORTS}
 use Rattle.pon_admit.specs.declared.event.Event.{Event}
 use Rattle.pon_history.specs.Chapters.{Chapter}
 use Rattle.pon_plant.specs.declared.fault.StepFault.{StepFault}
 use Rattle.pon_plant.specs.declared.fault.StepFault.TheVariants.{NoSuchPort, Refused}
-use Rattle.pon_desk.specs.Counts.{DeskSize, SeatState, AreSums, IsUneven}
+use Rattle.pon_plant.specs.Plants.{IsPlantSize}
+use Rattle.pon_desk.specs.Counts.{DeskSize, SeatState, AreSums, IsUneven, taken_of}
 use Rattle.pon_desk.specs.Posts.{IsSomeRefusal, IsSomeTurnRefusal}
 use Rattle.pon_desk.specs.declared.fault.CloseFault.{CloseFault}
 use Rattle.pon_desk.specs.declared.fault.CloseFault.TheVariants.{Missing, Uneven}
+use Rattle.pon_desk.specs.declared.fault.DeskFault.{DeskFault}
+use Rattle.pon_desk.specs.declared.fault.DeskFault.TheVariants.{Ports, Entries, Memory}
 
 -- a seat is missing: the desk and the seats are returned
 pub record IsMissing (size : DeskSize) (seats : List SeatState) (desk : DeskSize) (back : List SeatState) : Type 0 where
@@ -41,3 +45,15 @@ TellsRefusal event (Refused told) = IsSomeRefusal event told
 abbrev pub TellsTurn : StepFault → Type 0
 TellsTurn NoSuchPort = Unit {0}
 TellsTurn (Refused told) = IsSomeTurnRefusal told
+
+-- why the entries of ports are not counted at a desk
+abbrev pub TellsCounting : List Chapter → DeskFault → Type 0
+TellsCounting ports Ports = ⊥
+TellsCounting ports Entries = 2 ^ 64 ≤ sum_by taken_of ports
+TellsCounting ports Memory = Unit {0}
+
+-- why no desk has these ports, which may have taken entries before
+abbrev pub TellsResuming : List Chapter → DeskFault → Type 0
+TellsResuming ports Ports = (length ports ≡ 0) ⊎ (MAX_PORTS < length ports)
+TellsResuming ports Entries = IsPlantSize (length ports) × (2 ^ 64 ≤ sum_by taken_of ports)
+TellsResuming ports Memory = IsPlantSize (length ports)

@@ -23,19 +23,20 @@ pub struct Books<L: Ledger, M: Ledger> {
 }
 
 impl<L: Ledger, M: Ledger> Books<L, M> {
-    // Makes books with nothing counted.
+    // Makes books with this number of entries counted.
     pub(crate) fn new(
+        entries: u64,
         of_ports: Book<L>,
         of_seats: Book<M>,
         all_ports: Share<L>,
         all_seats: Share<M>,
     ) -> Books<L, M>
-        requires books { (of_ports.total ≡ 0) × (of_seats.total ≡ 0) }
+        requires books { (of_ports.total ≡ entries) × (of_seats.total ≡ entries) }
         requires ports { (all_ports.parts ≡ 0) × (all_ports.amount ≡ 0) }
         requires seats { (all_seats.parts ≡ 0) × (all_seats.amount ≡ 0) }
     {
         Books {
-            entries: 0,
+            entries,
             of_ports,
             of_seats,
             all_ports,

@@ -6,7 +6,7 @@ use pon_units::{FrameNo, PortNo};
 use std::marker::Model;
 
 /// The ports of a closed desk, in the order of their numbers, with the configuration and the first frame with which each
-/// was to be opened.
+/// was to be opened; a desk whose ports took entries before has no such list.
 ///
 /// Contracts see the chapters that the ports keep, and these.
 #[derive(Drop)]
@@ -16,14 +16,11 @@ pub struct Closed {
 }
 
 impl Model for Closed {
-    ghost use Rattle.std.specs.Prelude.{◌≡◌, vec_len};
     ghost use Rattle.pon_desk.specs.Counts.{ClosedPorts};
 
     ghost Value = { ClosedPorts };
 
     ghost view = { λ c. record { ports = c.ports.items; opened = c.opened.items } };
-
-    ghost invariant = { λ c. vec_len c.opened ≡ vec_len c.ports };
 }
 
 impl Closed {
@@ -57,7 +54,7 @@ impl Closed {
     ///
     /// # Errors
     ///
-    /// `Chapter` for the first chapter that is not right, or else `Receipt` for the first receipt that is not, or else
+    /// `Chapter` 0 if it is not known how the port was to be opened. Otherwise `Chapter` for the first chapter that is not right, or else `Receipt` for the first receipt that is not, or else
     /// `Count`.
     pub fn settle(
         &self,
@@ -71,9 +68,9 @@ impl Closed {
             (λ why. TellsUnsettled h port receipts.now why)) }
     {
         let place = usize::from(port.get());
-        match self.ports.get(place) {
-            Some(kept) => settle_port(&self.opened[place], port, kept, chapters, receipts),
-            None => Err(Unsettled::Chapter { k: 0 }),
+        match (self.opened.get(place), self.ports.get(place)) {
+            (Some(opened), Some(kept)) => settle_port(opened, port, kept, chapters, receipts),
+            _ => Err(Unsettled::Chapter { k: 0 }),
         }
     }
 }

@@ -1,10 +1,11 @@
 use crate::books::Books;
 use crate::closed::Closed;
 use crate::closing::compare_counts;
-use crate::fault::CloseFault;
+use crate::fault::{CloseFault, DeskFault};
 use crate::held::Held;
-use crate::opening::{open_ports, open_seats};
+use crate::opening::{lock_each, open_ports, open_seats};
 use crate::receipt::Receipt;
+use crate::resuming::{Counted, count_ports, resume_seats};
 use crate::seat::Seat;
 use crate::view::{PortView, view_of};
 use pon_admit::Event;
@@ -28,7 +29,7 @@ pub struct Desk<L: Ledger, M: Ledger> {
     // Room for the ports that `close` returns.
     room: Vec<Port>,
     counts: Vec<u64>,
-    // The configuration and the first frame with which each port was to be opened.
+    // The configuration and the first frame with which each port was to be opened. None if the ports took entries before.
     opened: Vec<(PortCfg, FrameNo)>,
 }
 
@@ -43,16 +44,16 @@ impl<L: Ledger, M: Ledger> Model for Desk<L, M> {
 
     ghost invariant = { λ d. (vec_len d.ports ≡ L.parts) × (d.seats ≡ M.parts)
         × (vec_len d.room ≡ 0) × (vec_len d.ports ≤ vec_capacity d.room)
-        × (d.counts.items ≡ replicate L.parts 0) × (vec_len d.opened ≡ L.parts) × IsPlantSize (vec_len d.ports) };
+        × (d.counts.items ≡ replicate L.parts 0) × IsPlantSize (vec_len d.ports) };
 }
 
 impl<L: Ledger, M: Ledger> Desk<L, M> {
-    ghost use Rattle.std.specs.Prelude.{◌≡◌, ◌<◌, ◌≤◌, ◌↔◌, ◌⊎◌, length, IfOk, IfErr, OnOk, OnErr};
+    ghost use Rattle.std.specs.Prelude.{◌≡◌, ◌<◌, ◌≤◌, ◌↔◌, ◌⊎◌, length, map, vec_len, IfOk, IfErr, OnOk, OnErr};
     ghost use Rattle.std.specs.Fn.{FnOnceReturnsAt};
     ghost use Rattle.pon_history.specs.Chapters.{Chapter, IsLawfulChapter};
     ghost use Rattle.pon_plant.specs.Plants.{IsPlantSize, TellsOpening};
-    ghost use Rattle.pon_desk.specs.Counts.{AreUnused, IsEven, one_more_at};
-    ghost use Rattle.pon_desk.specs.Faults.{IsNoSuchPort, TellsClosing, TellsRefusal, TellsTurn};
+    ghost use Rattle.pon_desk.specs.Counts.{AreResumed, AreUnused, IsEven, one_more_at, taken_of};
+    ghost use Rattle.pon_desk.specs.Faults.{IsNoSuchPort, TellsClosing, TellsRefusal, TellsResuming, TellsTurn};
     ghost use Rattle.pon_desk.specs.Posts.{IsSomePost, IsSomeTurn, NamesPost};
     ghost use Rattle.pon_desk.specs.Views.{view_of};
 
@@ -92,7 +93,7 @@ impl<L: Ledger, M: Ledger> Desk<L, M> {
         let (of_seats, mut all_seats) = of_seats.open::<M>();
         let locks = open_ports(alloc, ports, &mut all_ports)?;
         let opened = open_seats::<L, M>(alloc, ports.len(), seats, &mut all_seats)?;
-        let books = Books::<L, M>::new(of_ports, of_seats, all_ports, all_seats);
+        let books = Books::<L, M>::new(0, of_ports, of_seats, all_ports, all_seats);
         let desk = Desk {
             ports: locks,
             books: Mutex::new(books),
@@ -100,6 +101,66 @@ impl<L: Ledger, M: Ledger> Desk<L, M> {
             room: Vec::with_capacity(alloc, ports.len())?,
             counts: vec![in alloc; 0; ports.len()]?,
             opened: ports.to_vec(alloc)?,
+        };
+        Ok((desk, opened))
+    }
+
+    /// Puts ports that may have taken entries before under the locks of a desk, numbered from 0 in their order, and returns
+    /// the desk with the seats. The last seat counts the entries that the ports took before, as if it had posted them; the
+    /// others have no posts. The ports of this desk cannot be settled, since only a part of their entries has receipts.
+    ///
+    /// Requires at least one seat; the blank of the ports' ledger must have one part for each port, the blank of the
+    /// seats' ledger one for each seat.
+    ///
+    /// # Errors
+    ///
+    /// `Ports` exactly when there are no ports or more than 64; `Entries` only if the ports took 2^64 entries or more
+    /// together; `Memory` only if memory is refused. On an error the ports and the blanks are dropped.
+    pub fn resume(
+        alloc: Global,
+        of_ports: Blank,
+        of_seats: Blank,
+        ports: Vec<Port>,
+        seats: usize,
+    ) -> Result<(Desk<L, M>, Vec<Seat<L, M>>), DeskFault>
+        requires ports { (of_ports.name ≡ L.name) × (of_ports.parts ≡ L.parts)
+            × (L.parts ≡ vec_len ports) }
+        requires seats { (of_seats.name ≡ M.name) × (of_seats.parts ≡ M.parts)
+            × (M.parts ≡ seats) }
+        requires some { 0 < seats }
+        ensures ports { IfOk result (λ r. r.0.ports ≡ vec_len ports) }
+        ensures seats { IfOk result (λ r. r.0.seats ≡ seats) }
+        ensures counted { IfOk result (λ r. AreResumed seats (map taken_of ports.items) r.1.items) }
+        ensures size { IfOk result (λ r. IsPlantSize (vec_len ports)) }
+        ensures err { IfErr result (λ fault. TellsResuming ports.items fault) }
+    {
+        let count = ports.len();
+        if count == 0 || count > MAX_PORTS {
+            return Err(DeskFault::Ports);
+        }
+        let (mut of_ports, mut all_ports) = of_ports.open::<L>();
+        let (mut of_seats, mut all_seats) = of_seats.open::<M>();
+        let Counted {
+            held,
+            counts,
+            entries,
+        } = count_ports(alloc, ports, &mut of_ports, &mut all_ports)?;
+        let opened = resume_seats::<L, M>(
+            alloc,
+            seats,
+            counts,
+            entries,
+            &mut of_seats,
+            &mut all_seats,
+        )?;
+        let books = Books::<L, M>::new(entries, of_ports, of_seats, all_ports, all_seats);
+        let desk = Desk {
+            ports: lock_each(alloc, held)?,
+            books: Mutex::new(books),
+            seats,
+            room: Vec::with_capacity(alloc, count)?,
+            counts: vec![in alloc; 0; count]?,
+            opened: Vec::new(alloc),
         };
         Ok((desk, opened))
     }

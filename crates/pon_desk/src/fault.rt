@@ -1,6 +1,7 @@
 use crate::desk::Desk;
 use crate::seat::Seat;
 use pon_port::Port;
+use std::alloc::AllocError;
 use std::error::Error;
 use std::fmt::{self, Debug, Display, Formatter, Write};
 use std::sync::ledger::Ledger;
@@ -40,3 +41,28 @@ impl<L: Ledger, M: Ledger> Display for CloseFault<L, M> {
 }
 
 impl<L: Ledger, M: Ledger> Error for CloseFault<L, M> {}
+
+/// Why ports do not go on at a desk.
+#[derive(Clone, Copy, Debug, PartialEq, Eq, thiserror::Error)]
+pub enum DeskFault {
+    /// There are no ports, or more than 64.
+    #[error("no ports, or more than 64")]
+    Ports,
+    /// The ports took 2^64 entries or more together.
+    #[error("the ports took more entries together than can be counted")]
+    Entries,
+    /// Memory was refused.
+    #[error("out of memory")]
+    Memory,
+}
+
+impl From<AllocError> for DeskFault {
+    ghost use Rattle.std.specs.Prelude.{◌≡◌};
+    ghost use Rattle.pon_desk.specs.declared.fault.DeskFault.TheVariants.{Memory};
+
+    ghost from_gives = { λ _ fault. fault ≡ Memory };
+
+    fn from(_: AllocError) -> Self {
+        DeskFault::Memory
+    }
+}

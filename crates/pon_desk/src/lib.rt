@@ -15,6 +15,7 @@ mod held;
 pub mod laws;
 mod opening;
 mod receipt;
+mod resuming;
 #[cfg(test)]
 mod rows;
 mod seat;
@@ -26,7 +27,7 @@ mod walk;
 pub use books::Books;
 pub use closed::Closed;
 pub use desk::Desk;
-pub use fault::CloseFault;
+pub use fault::{CloseFault, DeskFault};
 pub use held::Held;
 pub use pon_lists::Kept;
 pub use pon_plant::{PlantFault, StepFault};

@@ -46,7 +46,7 @@ fn open_each<L: Ledger>(
 }
 
 // Puts each port under its own lock, in their order.
-fn lock_each<L: Ledger>(
+pub(crate) fn lock_each<L: Ledger>(
     alloc: Global,
     ports: Vec<Held<L>>,
 ) -> Result<Vec<Mutex<Held<L>>>, AllocError>

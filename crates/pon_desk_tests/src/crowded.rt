@@ -8,6 +8,7 @@ use std::fs::{Metadata, OpenOptions};
 use std::io::{self, Lines};
 use std::net::{Net, SocketAddr, TcpListener, TcpStream};
 use std::process::Abort;
+use std::random::RandomSource;
 use std::rt::Files;
 use std::sync::Wait;
 use std::thread::Threads;
@@ -60,6 +61,12 @@ impl<R: Clock> Clock for Crowded<R> {
 
     fn sleep(&self, duration: Duration) {
         self.rt.sleep(duration)
+    }
+}
+
+impl<R: RandomSource> RandomSource for Crowded<R> {
+    fn fill_bytes(&self, buf: &mut [u8]) -> io::Result<()> {
+        self.rt.fill_bytes(buf)
     }
 }
 

@@ -8,6 +8,8 @@
 #[cfg(test)]
 mod bench;
 #[cfg(test)]
+mod controlled;
+#[cfg(test)]
 mod crowded;
 #[cfg(test)]
 mod desks;
@@ -33,6 +35,8 @@ mod outside;
 mod passing;
 #[cfg(test)]
 mod repeating;
+#[cfg(test)]
+mod resuming;
 #[cfg(test)]
 mod running;
 #[cfg(test)]

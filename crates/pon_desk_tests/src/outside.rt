@@ -11,6 +11,7 @@ use std::alloc::Global;
 use std::net::{Net, TcpListener, TcpStream};
 use std::os::fd::AsRawFd;
 use std::process::Abort;
+use std::random::RandomSource;
 use std::rt::Files;
 use std::sync::Wait;
 use std::thread::Threads;
@@ -74,9 +75,11 @@ where
         + Wait
         + Clock
         + Eprint
+        + RandomSource
         + Sync
         + Abort,
     R::File: AsRawFd + LockFile + Send,
+    R::Dir: Send,
 {
     let wait = Duration::from_secs(WAIT_SECONDS);
     let args = RunArgs {
@@ -97,9 +100,11 @@ where
         + Wait
         + Clock
         + Eprint
+        + RandomSource
         + Sync
         + Abort,
     R::File: AsRawFd + LockFile + Send,
+    R::Dir: Send,
 {
     thread::join(
         rt,
@@ -118,9 +123,11 @@ where
         + Wait
         + Clock
         + Eprint
+        + RandomSource
         + Sync
         + Abort,
     R::File: AsRawFd + LockFile + Send,
+    R::Dir: Send,
 {
     let units = move || {
         strayed(rt, address);

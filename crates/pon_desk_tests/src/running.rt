@@ -2,7 +2,8 @@
 
 use pon_device::MemWrite;
 use pon_files::LockFile;
-use pon_run::{LinesFrom, RunArgs, UnitsPlace, run_ports};
+use pon_job::{Control, Segments};
+use pon_run::{LinesFrom, RunArgs, RunPorts, UnitsPlace, run_ports};
 use pon_settings::{Settings, settings};
 use pon_units::PortNo;
 use pon_worker::{Gate, OpenGate, Point};
@@ -10,6 +11,7 @@ use std::alloc::Global;
 use std::net::{Net, TcpListener, TcpStream};
 use std::os::fd::AsRawFd;
 use std::process::Abort;
+use std::random::RandomSource;
 use std::rt::Files;
 use std::sync::Wait;
 use std::sync::atomic::{AtomicU64, Ordering};
@@ -88,13 +90,15 @@ where
         + Wait
         + Clock
         + Eprint
+        + RandomSource
         + Sync
         + Abort,
     R::File: AsRawFd + LockFile + Send,
+    R::Dir: Send,
 {
-    let settings = read(rt, alloc, text);
+    let ports = RunPorts::opened(read(rt, alloc, text));
     let mut writer = MemWrite::new(alloc, 4096, Vec::new(alloc));
-    let status = run_ports(rt, alloc, settings, args, gate, &mut writer);
+    let status = run_ports(rt, alloc, ports, args, gate, &mut writer);
     (status, writer)
 }
 
@@ -115,9 +119,11 @@ where
         + Wait
         + Clock
         + Eprint
+        + RandomSource
         + Sync
         + Abort,
     R::File: AsRawFd + LockFile + Send,
+    R::Dir: Send,
 {
     let text = text(rt, alloc, ports);
     ran_with(rt, alloc, text.as_str(), args, gate)
@@ -134,6 +140,19 @@ fn ended_with_lines(run: (u8, MemWrite), count: usize) -> bool {
     status == 0 && writer.bytes().iter().filter(|byte| **byte == b'\n').count() == count
 }
 
+/// No operator may connect.
+const NO_CONTROL: Control<'static> = Control {
+    path: None,
+    tcp: None,
+    operators: None,
+};
+
+/// The segments of a recording in one file.
+const NO_SEGMENTS: Segments = Segments {
+    maps: None,
+    keep: None,
+};
+
 /// Arguments of a run of this number of maps for each port, without an operator.
 pub(crate) fn args(maps: u64) -> RunArgs<'static> {
     RunArgs {
@@ -142,7 +161,10 @@ pub(crate) fn args(maps: u64) -> RunArgs<'static> {
         maps: Some(maps),
         pace: None,
         operate: None,
+        control: NO_CONTROL,
         record: None,
+        segments: NO_SEGMENTS,
+        resumed_from: None,
         flush: 0,
         no_clobber: false,
         strict_record: false,
@@ -150,6 +172,7 @@ pub(crate) fn args(maps: u64) -> RunArgs<'static> {
         settle: false,
         progress: false,
         summary: false,
+        metrics: None,
     }
 }
 

@@ -4,7 +4,7 @@ ghost use Rattle.std.specs.Prelude.{◌≡◌, IfOk, OnErr, OnOk};
 
 use crate::leftover::set_aside;
 use crate::lock::{LockFile, take_file};
-use crate::opening::create_part;
+use crate::opening::{create_part, open_part};
 use std::alloc::{AllocError, Global};
 use std::fs::{self, OpenFile};
 use std::io::{self, Write};
@@ -110,7 +110,48 @@ impl<F: OpenFile + Write + LockFile> PartFile<F> {
     }
 }
 
+impl<F: OpenFile + Write + LockFile> PartFile<F> {
+    /// Takes the part that an earlier run left of the file `name` for this process. It keeps its bytes.
+    ///
+    /// # Errors
+    ///
+    /// `NotFound` if there is no part, and `WouldBlock` if another process writes it. Any other error if it cannot be opened,
+    /// or memory is refused.
+    pub(crate) fn take_over<R: Files<File = F>>(
+        rt: &R,
+        alloc: Global,
+        name: &str,
+    ) -> io::Result<Self>
+        ensures { IfOk result (λ p. p ≡ Progress.Open) }
+    {
+        let name = String::from_str(alloc, name)?;
+        let part = part_of(alloc, name.as_str())?;
+        let file = open_part(rt, part.as_str())?;
+        take_file(rt, &file, part.as_str())?;
+        Ok(PartFile {
+            file,
+            name,
+            part,
+            left: None,
+            progress: Progress::Open,
+        })
+    }
+}
+
 impl<F: OpenFile + Write> PartFile<F> {
+    /// Cuts the part to its first `len` bytes, if it has more.
+    ///
+    /// # Errors
+    ///
+    /// If the part cannot be cut.
+    pub(crate) fn cut(&mut self, len: u64) -> io::Result<()> {
+        self.progress = Progress::Open;
+        if self.file.metadata()?.len() > len {
+            self.file.set_len(len)?;
+        }
+        Ok(())
+    }
+
     // Waits until all that was written is on the disk.
     fn sync(&mut self) -> io::Result<()>
         ensures ok { OnOk result (self.new ≡ Progress.Synced) }

@@ -1,14 +1,16 @@
-//! The file of a recording: its part, or what is no regular file and is written as it is.
+//! The file of a recording: its part, what is no regular file and is written as it is, or one of its segments.
 
 ghost use Rattle.std.specs.Prelude.{◌≡◌, OnOk, false, is_ok, true};
+ghost use Rattle.pon_files.specs.Segments.{most_maps_of};
 
 use crate::lock::LockFile;
 use crate::opening::open_part;
 use crate::part::PartFile;
+use crate::segment_file::SegmentFile;
 use crate::target::{Output, Target, target_of};
 use pon_device::DeviceFault;
 use pon_job::{Failure, Named};
-use pon_recorder::{Ended, Recorder, Tape, record_to};
+use pon_recorder::{Ended, FollowedFile, Held, Recorder, Tape, record_to};
 use std::alloc::Global;
 use std::fs::{self, OpenFile};
 use std::io::{self, Write};
@@ -24,6 +26,8 @@ pub enum RecordingFile<F> {
     Part(PartFile<F>),
     /// What exists and is no regular file, such as a pipe or a device. It is written as it is.
     Direct(F),
+    /// A segment, which gets its name when it has ended, and is followed by the next one.
+    Segment(SegmentFile<F>),
 }
 
 impl<F: Write> Write for RecordingFile<F> {
@@ -31,6 +35,7 @@ impl<F: Write> Write for RecordingFile<F> {
         match self {
             RecordingFile::Part(file) => file.write(buf),
             RecordingFile::Direct(file) => file.write(buf),
+            RecordingFile::Segment(file) => file.write(buf),
         }
     }
 
@@ -38,16 +43,18 @@ impl<F: Write> Write for RecordingFile<F> {
         match self {
             RecordingFile::Part(file) => file.flush(),
             RecordingFile::Direct(file) => file.flush(),
+            RecordingFile::Segment(file) => file.flush(),
         }
     }
 }
 
 impl<F: OpenFile + Write> RecordingFile<F> {
     // Gives a part the name of its file, once it is on the disk.
-    fn keep<R: Files>(&mut self, rt: &R) -> io::Result<()> {
+    fn keep<R: Files>(&mut self, rt: &R, alloc: Global, held: Held) -> io::Result<()> {
         match self {
             RecordingFile::Part(file) => file.keep(rt),
             RecordingFile::Direct(_) => Ok(()),
+            RecordingFile::Segment(file) => file.end(rt, alloc, held),
         }
     }
 
@@ -67,12 +74,12 @@ impl<F: OpenFile + Write> RecordingFile<F> {
         };
         match self {
             RecordingFile::Part(file) => with_part(alloc, failure, file.part()),
-            RecordingFile::Direct(_) => failure,
+            RecordingFile::Direct(_) | RecordingFile::Segment(_) => failure,
         }
     }
 
-    /// Ends the file of a recording that ended so, with the last error of the file. The part of a whole recording gets
-    /// the name of its file; otherwise an earlier file is kept, and so is the part.
+    /// Ends the file of a recording that ended so, with these whole chapters and the last error of the file. The part of a
+    /// whole recording gets the name of its file; otherwise an earlier file is kept, and so is the part.
     ///
     /// Returns the fault of the recording, `Write` if the part cannot be synced or renamed, and `Memory` if memory is
     /// refused.
@@ -81,6 +88,7 @@ impl<F: OpenFile + Write> RecordingFile<F> {
         rt: &R,
         alloc: Global,
         name: &str,
+        held: Held,
         recorded: Result<(), DeviceFault>,
         error: Option<io::Error>,
     ) -> Result<(), Failure>
@@ -90,9 +98,69 @@ impl<F: OpenFile + Write> RecordingFile<F> {
         if let Err(fault) = recorded {
             return Err(self.failure(alloc, name, fault, error));
         }
-        match self.keep(rt) {
+        match self.keep(rt, alloc, held) {
             Ok(()) => Ok(()),
             Err(error) => Err(self.failure(alloc, name, DeviceFault::Write, Some(error))),
+        }
+    }
+}
+
+impl<F: OpenFile + Write + Drop> RecordingFile<F> {
+    // Ends the segment of a recording that lacks a chapter: its whole chapters get its name. A part stays as it is.
+    fn salvage<R: Files>(self, rt: &R, alloc: Global, held: Held) {
+        if let RecordingFile::Segment(file) = self {
+            let _ended = file.salvage(rt, alloc, held);
+        }
+    }
+}
+
+/// Opens the files of the segments of a recording.
+#[derive(Drop)]
+pub struct SegmentFiles<'a, R> {
+    rt: &'a R,
+}
+
+impl<'a, R> SegmentFiles<'a, R> {
+    /// Opens them with this handle of the runtime.
+    pub fn new(rt: &'a R) -> Self {
+        SegmentFiles { rt }
+    }
+}
+
+impl<F, R> FollowedFile<SegmentFiles<'_, R>> for RecordingFile<F>
+where
+    F: OpenFile + Write + LockFile + Drop,
+    R: Files<File = F> + Eprint,
+{
+    ghost most = { λ file. most_maps_of file };
+
+    fn most_maps(&self) -> Option<u64> {
+        match self {
+            RecordingFile::Segment(file) => Some(file.most_maps()),
+            _ => None,
+        }
+    }
+
+    fn open_next(&self, next: &SegmentFiles<'_, R>, alloc: Global, held: Held) -> Option<Self> {
+        match self {
+            RecordingFile::Segment(file) => {
+                let next = file.next(next.rt, alloc, held.chapters > 0)?;
+                Some(RecordingFile::Segment(next))
+            }
+            _ => None,
+        }
+    }
+
+    fn close(
+        self,
+        next: &SegmentFiles<'_, R>,
+        alloc: Global,
+        held: Held,
+        recorded: Result<(), DeviceFault>,
+    ) -> Result<(), DeviceFault> {
+        match self {
+            RecordingFile::Segment(file) => file.close(next.rt, alloc, held, recorded),
+            _ => recorded,
         }
     }
 }
@@ -155,8 +223,8 @@ fn write_byte<R: Files>(rt: &R, name: &str, target: &Target) -> io::Result<()> {
     open_part(rt, name)?.write_all(&[0])
 }
 
-// Returns the failure of a recording that does not take its first bytes, and removes its part.
-fn failure_to_begin<R: Files>(
+/// Returns the failure of a recording that does not take its first bytes, and removes its part.
+pub(crate) fn failure_to_begin<R: Files>(
     rt: &R,
     alloc: Global,
     name: &str,
@@ -220,7 +288,8 @@ where
 }
 
 /// Ends the file of a recording: if the recording is whole, its part is synced and gets the name of the file. Otherwise
-/// an earlier file is kept, and so is the part.
+/// an earlier file is kept, and so is the part. A segment also gets its name if its recording lacks chapters: it is cut to
+/// its whole chapters, or removed if there is none.
 ///
 /// # Errors
 ///
@@ -233,11 +302,19 @@ pub fn end_recording<F: OpenFile + Write + Drop, R: Files>(
 ) -> Result<(), Failure>
     ensures { OnOk result (is_ok ended.result ≡ true) }
 {
-    let Ended { device, result } = ended;
+    let Ended {
+        device,
+        held,
+        result,
+    } = ended;
     match device {
         Tape::File(file) => {
             let (mut file, error) = file.into_parts();
-            file.end(rt, alloc, name, result, error)
+            let ended = file.end(rt, alloc, name, held, result, error);
+            if result.is_err() {
+                file.salvage(rt, alloc, held);
+            }
+            ended
         }
         Tape::Nothing => Ok(result?),
     }

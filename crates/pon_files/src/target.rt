@@ -29,8 +29,8 @@ pub enum Target {
     Direct,
 }
 
-// Returns the failure of an output that is refused for this reason.
-fn refused(text: Result<String, AllocError>) -> Failure {
+/// Returns the failure of an output that is refused for this reason.
+pub(crate) fn refused(text: Result<String, AllocError>) -> Failure {
     match text {
         Ok(text) => Failure {
             fault: DeviceFault::Write,

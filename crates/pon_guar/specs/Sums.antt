@@ -3,6 +3,7 @@
 use Rattle.std.specs.Prelude.{ℕ, ◌≡◌, ◌≢◌, ◌≤◌, ◌+◌, ◌^◌, ◌%◌, ◌==◌, ◌&&◌, Bool, All, if◌then◌else◌, List, [], ◌∷◌, drop, map, length, sum_by, Option, Some, None, option_map}
 use Rattle.std.specs.Option.{option_or}
 use Rattle.pon_units.specs.declared.limits.TheConstants.{FRAME_WORDS}
+use Rattle.pon_units.specs.Granted.{AreInMapOrder}
 use Rattle.pon_guar.specs.Window.{Granted, IsWindow, WindowMap, words_to}
 
 -- the grant is to an Alloc-ID under an ONU
@@ -24,6 +25,11 @@ abbrev pub sum_now : ℕ → ℕ → List WindowMap → List (List ℕ) → Opti
 sum_now u i (m ∷ ms) (ns ∷ sums) = option_or (sum_now u i ms sums) (sum_after u i m ns)
 sum_now u i [] sums = None
 sum_now u i (m ∷ ms) [] = None
+
+-- the map is in map order, and what its sums say of a grant is so of the last grant in all maps
+pub record IsLast (ms : List WindowMap) (sums : List (List ℕ)) (m : WindowMap) (ns : List ℕ) : Type 0 where
+  pub in_map_order : AreInMapOrder m.grants
+  pub now : (u i n : ℕ) → sum_after u i m ns ≡ Some n → sum_now u i ms sums ≡ Some n
 
 -- the sums of a map and of the maps after it determine the words granted from the map on
 pub record AreSumsOf (m : WindowMap) (ms : List WindowMap) (ns : List ℕ) (sums : List (List ℕ)) : Type 0 where

@@ -4,7 +4,7 @@ ghost use Rattle.std.specs.Prelude.{◌≡◌, ◌-◌, map};
 ghost use Rattle.pon_guar.specs.Book.{AreRising, alloc_ids};
 ghost use Rattle.pon_guar.specs.Loads.{lessened, less_by};
 
-use crate::account::{Account, Counted, index_near};
+use crate::account::{Account, index_near};
 use pon_units::{BufOcc, Granted, Words};
 
 /// Returns the reported words reduced by the granted ones, at least 0.
@@ -14,26 +14,12 @@ pub(crate) fn words_left(reported: BufOcc, granted: u32) -> BufOcc
     BufOcc::new(reported.get().saturating_sub(granted)).unwrap()
 }
 
-// Returns an account after a grant of these words: its report is reduced by them.
-fn deduct_words(words: Words, account: Account) -> Account
-    ensures { result ≡ less_by words account }
+// Reduces the report of an account by the words of a grant.
+fn deduct_words(words: Words, account: &mut Account)
+    ensures { account.new ≡ less_by words account.old }
 {
-    let Account {
-        alloc_id,
-        since,
-        counted,
-    } = account;
-    let counted = match counted {
-        None => None,
-        Some(report) => Some(Counted {
-            frame: report.frame,
-            words: words_left(report.words, u32::from(words.get())),
-        }),
-    };
-    Account {
-        alloc_id,
-        since,
-        counted,
+    if let Some(report) = &mut account.counted {
+        report.words = words_left(report.words, u32::from(words.get()));
     }
 }
 
@@ -68,7 +54,7 @@ pub(crate) fn deduct_grants(accounts: &mut [Account], grants: &[Granted], places
         note(places, index, found);
         index = index.wrapping_add(1);
         if let Some(place) = found {
-            accounts[place] = deduct_words(granted.words, accounts[place]);
+            deduct_words(granted.words, &mut accounts[place]);
         }
     }
 }

@@ -3,7 +3,7 @@
 ghost use Rattle.std.specs.Prelude.{◌≡◌, ◌≢◌, ◌≤◌, ◌*◌, ◌<◌, [], All, IfOk, IfSome, OnErr, OnOk, Some, length, position, sum_by, List, ℕ};
 ghost use Rattle.pon_units.specs.Granted.{AreInMapOrder};
 ghost use Rattle.pon_guar.specs.Window.{IsLawfulMap, words_to};
-ghost use Rattle.pon_guar.specs.Sums.{AreSummed, is_to, sum_before, sum_after, sum_now, sums_beside};
+ghost use Rattle.pon_guar.specs.Sums.{AreSummed, IsLast, is_to, sum_before, sum_after, sum_now, sums_beside};
 
 use crate::map::{WindowMap, series_of};
 use crate::window::MAX_MAPS;
@@ -162,9 +162,28 @@ fn search_sum(
     }
 }
 
-// Returns the sum after the last grant to an Alloc-ID under an ONU, if the last map has the grant at the hint.
+// The last map of a window, and the sums beside its grants.
+#[derive(Clone, Copy)]
+struct Last<'a> {
+    map: &'a WindowMap,
+    sums: &'a MapSums,
+}
+
+// Returns the last of these maps with its sums; `None` if there are none.
+fn last_of<'a>(maps: &'a [WindowMap], sums: &'a [MapSums]) -> Option<Last<'a>>
+    requires as_many { length sums.now ≡ length maps.now }
+    requires lawful { All IsLawfulMap maps.now }
+    ensures { IfSome result (λ last. IsLast maps.now sums.now last.map.now last.sums.now) }
+{
+    let (map, _) = maps.split_last()?;
+    let (sums, _) = sums.split_last()?;
+    Some(Last { map, sums })
+}
+
+// Returns the sum after the last grant to an Alloc-ID under an ONU, by a search if the last map lacks it at the hint.
 #[inline]
-fn sum_in_last(
+fn sum_from(
+    last: Option<Last>,
     maps: &[WindowMap],
     sums: &[MapSums],
     hint: usize,
@@ -173,14 +192,18 @@ fn sum_in_last(
 ) -> Option<u32>
     requires as_many { length sums.now ≡ length maps.now }
     requires lawful { All IsLawfulMap maps.now }
-    ensures { IfSome result (λ sum. sum_now onu alloc_id maps.now sums.now ≡ Some sum) }
+    requires last { IfSome last (λ l. IsLast maps.now sums.now l.map.now l.sums.now) }
+    ensures { result ≡ sum_now onu alloc_id maps.now sums.now }
 {
-    let (map, _) = maps.split_last()?;
-    let (last, _) = sums.split_last()?;
-    sum_at(map, last, hint, onu, alloc_id)
+    if let Some(last) = last {
+        if let Some(sum) = sum_at(last.map, last.sums, hint, onu, alloc_id) {
+            return Some(sum);
+        }
+    }
+    search_sum(maps, sums, hint, onu, alloc_id)
 }
 
-// Returns the sum after the last grant to an Alloc-ID under an ONU, by a search if the last map lacks it at the hint.
+// Returns the sum after the last grant to an Alloc-ID under an ONU.
 #[inline]
 fn sum_now(
     maps: &[WindowMap],
@@ -193,10 +216,7 @@ fn sum_now(
     requires lawful { All IsLawfulMap maps.now }
     ensures { result ≡ sum_now onu alloc_id maps.now sums.now }
 {
-    match sum_in_last(maps, sums, hint, onu, alloc_id) {
-        Some(sum) => Some(sum),
-        None => search_sum(maps, sums, hint, onu, alloc_id),
-    }
+    sum_from(last_of(maps, sums), maps, sums, hint, onu, alloc_id)
 }
 
 /// Returns the payload words that maps granted to an Alloc-ID under an ONU; the hint is its index among the grants.
@@ -246,9 +266,11 @@ pub(crate) fn next_sums(
     let MapSums { mut before } = room;
     before.clear();
     before.reserve(grants.len())?;
+    let last = last_of(maps, sums);
     for granted in grants {
         prove!(granted.words.get() <= FRAME_WORDS);
-        let sum = match sum_now(maps, sums, before.len(), granted.onu, granted.alloc_id) {
+        let hint = before.len();
+        let sum = match sum_from(last, maps, sums, hint, granted.onu, granted.alloc_id) {
             Some(sum) => sum,
             None => 0,
         };

@@ -1,4 +1,5 @@
 mod Builders
+mod Controls
 mod Lines
 mod Migrations
 mod Runs

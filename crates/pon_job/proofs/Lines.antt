@@ -5,7 +5,8 @@ use Rattle.clap.specs.Walk.{Row}
 use Rattle.pon_job.specs.Jobs.{IsPlan, MayHave, NamesNoJob}
 use Rattle.pon_job.specs.declared.task.TheConstants.{MAX_FLUSH}
 use Rattle.pon_job.specs.declared.task.Plan.{Plan as PlanOf}
-use Rattle.pon_job.specs.declared.task.Job.TheVariants.{Plan, Check, Audit, Show, Migrate, Run, Units}
+use Rattle.pon_job.specs.declared.task.Job.TheVariants.{Plan, Check, Audit, Show, Migrate, Run, Units, Stop, Operate}
+use Rattle.pon_job.proofs.Subcommands.{words_differ}
 use Rattle.pon_job.proofs.Views.{view_is_no_word}
 
 -- if a value is missing, there is no plan
@@ -17,6 +18,8 @@ no_plan rows none (Show shown) j = absurd (view_is_no_word shown.view (codes "pl
 no_plan rows none (Migrate migration) j = absurd (cc (j.0))
 no_plan rows none (Run run) j = absurd (cc (j.0))
 no_plan rows none (Units units) j = absurd (cc (j.0))
+no_plan rows none (Stop at) j = words_differ (codes "plan") (codes "stop") refl j.0
+no_plan rows none (Operate at) j = words_differ (codes "plan") (codes "operate") refl j.0
 
 pub without_period : (rows : List Row) → ((flush : Option ℕ) → ¬ MayHave (codes "flush") 0 MAX_FLUSH rows flush) → NamesNoJob (Some (codes "plan", rows))
 without_period rows none = no_plan rows (λ plan is. none plan.flush is.flushes)

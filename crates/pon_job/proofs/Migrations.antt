@@ -4,8 +4,9 @@ use Rattle.std.specs.Prelude.{codes}
 use Rattle.clap.specs.Walk.{Row, first_of}
 use Rattle.pon_job.specs.Jobs.{IsMigration, NamesNoJob}
 use Rattle.pon_job.specs.declared.task.Migration.{Migration as MigrationOf}
+use Rattle.pon_job.proofs.Subcommands.{words_differ}
 use Rattle.pon_job.proofs.Views.{view_is_no_word}
-use Rattle.pon_job.specs.declared.task.Job.TheVariants.{Plan, Check, Audit, Show, Migrate, Run, Units}
+use Rattle.pon_job.specs.declared.task.Job.TheVariants.{Plan, Check, Audit, Show, Migrate, Run, Units, Stop, Operate}
 
 -- if a file is missing, there is no migration
 no_migration : (rows : List Row) → ((migration : MigrationOf) → ¬ IsMigration rows migration) → NamesNoJob (Some (codes "migrate", rows))
@@ -16,6 +17,8 @@ no_migration rows none (Show shown) j = absurd (view_is_no_word shown.view (code
 no_migration rows none (Migrate migration) j = none migration j.1
 no_migration rows none (Run run) j = absurd (cc (j.0))
 no_migration rows none (Units units) j = absurd (cc (j.0))
+no_migration rows none (Stop at) j = words_differ (codes "migrate") (codes "stop") refl j.0
+no_migration rows none (Operate at) j = words_differ (codes "migrate") (codes "operate") refl j.0
 
 pub without_file : (rows : List Row) → None ≡ first_of (codes "file") rows → NamesNoJob (Some (codes "migrate", rows))
 without_file rows none = no_migration rows (λ migration is. absurd (cc (none, is.recording)))

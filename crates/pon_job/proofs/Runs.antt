@@ -2,11 +2,14 @@
 use Rattle.std.proofs.Common.{◌≡◌, ℕ, List, Option, Some, None, refl, subst, sym}
 use Rattle.std.specs.Prelude.{IfSome, IsNone, IsSomeAnd, MatchOption, codes}
 use Rattle.clap.specs.Walk.{Row, first_of}
-use Rattle.pon_job.specs.Jobs.{HasNumber, IsMeeting, IsRun, MayHave, NamesNoJob, Spells}
+use Rattle.pon_job.specs.Jobs.{AreSegments, HasNumber, IsControl, IsMeeting, IsRun, MayHave, NamesNoJob, Spells}
 use Rattle.pon_job.specs.declared.task.TheConstants.{MAX_FLUSH, MAX_MAPS}
+use Rattle.pon_job.specs.declared.task.Control.{Control}
 use Rattle.pon_job.specs.declared.task.Meeting.{Meeting}
 use Rattle.pon_job.specs.declared.task.Run.{Run as RunOf}
-use Rattle.pon_job.specs.declared.task.Job.TheVariants.{Plan, Check, Audit, Show, Migrate, Run, Units}
+use Rattle.pon_job.specs.declared.task.Segments.{Segments}
+use Rattle.pon_job.specs.declared.task.Job.TheVariants.{Plan, Check, Audit, Show, Migrate, Run, Units, Stop, Operate}
+use Rattle.pon_job.proofs.Subcommands.{words_differ}
 use Rattle.pon_job.proofs.Views.{view_is_no_word}
 
 -- the number that is parsed from the text of an argument
@@ -38,6 +41,8 @@ no_run rows none (Show shown) j = absurd (view_is_no_word shown.view (codes "run
 no_run rows none (Migrate migration) j = absurd (cc (j.0))
 no_run rows none (Run run) j = none run j.1
 no_run rows none (Units units) j = absurd (cc (j.0))
+no_run rows none (Stop at) j = words_differ (codes "run") (codes "stop") refl j.0
+no_run rows none (Operate at) j = words_differ (codes "run") (codes "operate") refl j.0
 
 pub without_settings : (rows : List Row) → None ≡ first_of (codes "config") rows → NamesNoJob (Some (codes "run", rows))
 without_settings rows none = no_run rows (λ run is. absurd (cc (none, is.settings)))
@@ -47,6 +52,12 @@ without_address rows none = no_run rows (λ run is. absurd (cc (none, is.address
 
 pub without_meeting : (rows : List Row) → ((meeting : Meeting) → ¬ IsMeeting rows meeting) → NamesNoJob (Some (codes "run", rows))
 without_meeting rows none = no_run rows (λ run is. none run.meeting is.meets)
+
+pub without_control : (rows : List Row) → ((control : Control) → ¬ IsControl rows control) → NamesNoJob (Some (codes "run", rows))
+without_control rows none = no_run rows (λ run is. none run.control is.controlled)
+
+pub without_segments : (rows : List Row) → ((segments : Segments) → ¬ AreSegments rows segments) → NamesNoJob (Some (codes "run", rows))
+without_segments rows none = no_run rows (λ run is. none run.segments is.segmented)
 
 pub without_flush : (rows : List Row) → ((flush : Option ℕ) → ¬ MayHave (codes "flush") 0 MAX_FLUSH rows flush) → NamesNoJob (Some (codes "run", rows))
 without_flush rows none = no_run rows (λ run is. none run.flush is.flushes)

@@ -19,7 +19,7 @@ use Rattle.pon_job.specs.Jobs.{HasValues, IsAudit, IsJob, NamesNoJob, RefusesWor
 use Rattle.pon_job.proofs.Views.{view_is_no_word}
 use Rattle.pon_job.specs.declared.task.Audit.{Audit as AuditOf}
 use Rattle.pon_job.specs.declared.task.Job.{Job}
-use Rattle.pon_job.specs.declared.task.Job.TheVariants.{Plan, Check, Audit, Show, Migrate, Run, Units}
+use Rattle.pon_job.specs.declared.task.Job.TheVariants.{Plan, Check, Audit, Show, Migrate, Run, Units, Stop, Operate}
 
 name_of_rows : (m : ArgMatches) → option_map (λ p. p.0) (subcommand_rows_of m) ≡ subcommand_name_of m
 name_of_rows m = elim (out-ArgMatches m).subcommand as (λ o. option_map (λ p. p.0) (subcommand_rows o) ≡ option_map (λ b. (out-SubCommand (box_value b)).name.now) o) [
@@ -56,10 +56,12 @@ pub no_check : (name : List ℕ) (rows : List Row) → name ≡ codes "check" �
 no_check name rows is none (Plan plan) j = words_differ (codes "check") (codes "plan") refl (sym is ∙ j.0)
 no_check name rows is none (Check file) j = absurd (cc (none, j.1))
 no_check name rows is none (Audit audit) j = words_differ (codes "check") (codes "audit") refl (sym is ∙ j.0)
-no_check name rows is none (Show shown) j = absurd (cc (none, j.1.recording))
+no_check name rows is none (Show shown) j = view_is_no_word shown.view (codes "check") refl (sym j.0 ∙ is)
 no_check name rows is none (Migrate migration) j = absurd (cc (none, j.1.recording))
 no_check name rows is none (Run run) j = words_differ (codes "check") (codes "run") refl (sym is ∙ j.0)
 no_check name rows is none (Units units) j = words_differ (codes "check") (codes "units") refl (sym is ∙ j.0)
+no_check name rows is none (Stop at) j = words_differ (codes "check") (codes "stop") refl (sym is ∙ j.0)
+no_check name rows is none (Operate at) j = words_differ (codes "check") (codes "operate") refl (sym is ∙ j.0)
 
 -- `audit` without its values names no job
 pub no_audit : (rows : List Row) → ((audit : AuditOf) → ¬ IsAudit rows audit) → NamesNoJob (Some (codes "audit", rows))
@@ -70,6 +72,8 @@ no_audit rows none (Show shown) j = view_is_no_word shown.view (codes "audit") r
 no_audit rows none (Migrate migration) j = words_differ (codes "audit") (codes "migrate") refl j.0
 no_audit rows none (Run run) j = words_differ (codes "audit") (codes "run") refl j.0
 no_audit rows none (Units units) j = words_differ (codes "audit") (codes "units") refl j.0
+no_audit rows none (Stop at) j = words_differ (codes "audit") (codes "stop") refl j.0
+no_audit rows none (Operate at) j = words_differ (codes "audit") (codes "operate") refl j.0
 
 -- the job of the matches is that of the words
 pub job_in : (a : App) (words : List (List ℕ)) (m : ArgMatches) (job : Job) → a ≡ olt_app → HasMatchesOf a words m → IsJob (subcommand_rows_of m) job → IsJob (subcommand_of olt_app words) job

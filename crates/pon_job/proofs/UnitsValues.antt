@@ -5,7 +5,7 @@ use Rattle.clap.specs.Walk.{Row, first_of}
 use Rattle.pon_job.specs.Jobs.{IsUnits, MayHave, NamesNoJob}
 use Rattle.pon_job.specs.declared.task.TheConstants.{MAX_PORT, MAX_WAIT}
 use Rattle.pon_job.specs.declared.task.Units.{Units as UnitsOf}
-use Rattle.pon_job.specs.declared.task.Job.TheVariants.{Plan, Check, Audit, Show, Migrate, Run, Units}
+use Rattle.pon_job.specs.declared.task.Job.TheVariants.{Plan, Check, Audit, Show, Migrate, Run, Units, Stop, Operate}
 use Rattle.pon_job.proofs.Subcommands.{words_differ}
 use Rattle.pon_job.proofs.Views.{view_is_no_word}
 
@@ -18,6 +18,8 @@ no_units rows none (Show shown) j = view_is_no_word shown.view (codes "units") r
 no_units rows none (Migrate migration) j = words_differ (codes "units") (codes "migrate") refl j.0
 no_units rows none (Run run) j = words_differ (codes "units") (codes "run") refl j.0
 no_units rows none (Units units) j = none units j.1
+no_units rows none (Stop at) j = words_differ (codes "units") (codes "stop") refl j.0
+no_units rows none (Operate at) j = words_differ (codes "units") (codes "operate") refl j.0
 
 pub without_rows : (rows : List Row) → None ≡ first_of (codes "config") rows → NamesNoJob (Some (codes "units", rows))
 without_rows rows none = no_units rows (λ units is. absurd (cc (none, is.settings)))

@@ -1,5 +1,5 @@
 -- The jobs of the program, from the words of its command line.
-use Rattle.std.specs.Prelude.{◌≡◌, ◌⊎◌, ◌↔◌, ℕ, Bool, List, [], ◌∷◌, codes, map, Option, Some, None, IsSomeAnd, option_map, false, true, ⊤}
+use Rattle.std.specs.Prelude.{◌≡◌, ◌⊎◌, ◌↔◌, ℕ, Bool, List, [], ◌∷◌, codes, length, map, Option, Some, None, IsSomeAnd, option_map, false, true, ⊤}
 use Rattle.std.specs.Str.Parse.{digits_value, without_leading_plus}
 use Rattle.clap.specs.Walk.{Row, Rule, all_of, first_of}
 use Rattle.clap.specs.declared.builder.arg.Arg.{Arg}
@@ -13,19 +13,24 @@ use Rattle.clap.specs.declared.builder.action.ArgAction.TheVariants.{Append, Set
 use Rattle.clap.specs.declared.builder.value_parser.ValueParser.TheVariants.{Unsigned}
 use Rattle.clap.specs.declared.error.Error.{Error}
 use Rattle.clap.specs.declared.error.kind.ErrorKind.TheVariants.{InvalidSubcommand}
-use Rattle.pon_job.specs.declared.task.TheConstants.{MAX_ALLOC, MAX_FLUSH, MAX_FRAME, MAX_MAPS, MAX_PACE, MAX_PORT, MAX_WAIT, MIN_ALLOC}
+use Rattle.pon_job.specs.declared.task.TheConstants.{MAX_ALLOC, MAX_FLUSH, MAX_FRAME, MAX_KEPT, MAX_MAPS, MAX_OPERATORS, MAX_PACE, MAX_PORT, MAX_WAIT, MIN_ALLOC}
 use Rattle.pon_job.specs.declared.task.Audit.{Audit as AuditOf}
+use Rattle.pon_job.specs.declared.task.Control.{Control}
+use Rattle.pon_job.specs.declared.task.ControlAt.{ControlAt}
+use Rattle.pon_job.specs.declared.task.ControlAt.TheVariants.{Path, Tcp}
 use Rattle.pon_job.specs.declared.task.Job.{Job}
 use Rattle.pon_job.specs.declared.task.Meeting.{Meeting}
 use Rattle.pon_job.specs.declared.task.Migration.{Migration as MigrationOf}
 use Rattle.pon_job.specs.declared.task.Part.{Part}
 use Rattle.pon_job.specs.declared.task.Plan.{Plan as PlanOf}
+use Rattle.pon_job.specs.declared.task.Resume.{Resume}
 use Rattle.pon_job.specs.declared.task.Run.{Run as RunOf}
+use Rattle.pon_job.specs.declared.task.Segments.{Segments}
 use Rattle.pon_job.specs.declared.task.Show.{Show as Shown}
 use Rattle.pon_job.specs.declared.task.Units.{Units as UnitsOf}
 use Rattle.pon_job.specs.declared.task.View.{View}
 use Rattle.pon_job.specs.declared.task.View.TheVariants.{Info, Rates, Why, Dump, Picture, Loads}
-use Rattle.pon_job.specs.declared.task.Job.TheVariants.{Plan, Check, Audit, Show, Migrate, Run, Units}
+use Rattle.pon_job.specs.declared.task.Job.TheVariants.{Plan, Check, Audit, Show, Migrate, Run, Units, Stop, Operate}
 
 -- an argument that is given by its place, and is required
 abbrev pub place_rule : List ℕ → Rule
@@ -43,13 +48,17 @@ number_rule id low high = record (option_rule id) { parser = Some (Unsigned low 
 abbrev pub flag_rule : List ℕ → Rule
 flag_rule id = record (new_rule id) { long = Some id; action = Some SetTrue }
 
--- the file of `check`, of `migrate` and of each view
+-- the file of `check` and of `migrate`
 abbrev pub file_rule : Rule
 file_rule = place_rule (codes "file")
 
--- the files of `audit`, one or more
+-- the files of `audit` and of each view, one or more
 abbrev pub files_rule : Rule
 files_rule = record file_rule { action = Some Append }
+
+-- the flag with which the files of `audit` or of a view are one recording
+abbrev pub joined_rule : Rule
+joined_rule = flag_rule (codes "joined")
 
 -- the file that `migrate` writes
 abbrev pub out_rule : Rule
@@ -75,9 +84,42 @@ maps_rule = number_rule (codes "maps") 1 MAX_MAPS
 abbrev pub record_rule : Rule
 record_rule = option_rule (codes "record")
 
+-- the maps of a segment of the recording of `run`, and the number of segments that are kept
+abbrev pub segment_rule : Rule
+segment_rule = number_rule (codes "segment") 1 MAX_MAPS
+
+abbrev pub keep_rule : Rule
+keep_rule = number_rule (codes "keep") 1 MAX_KEPT
+
+-- the recording after which the ports of `run` go on
+abbrev pub resume_rule : Rule
+resume_rule = option_rule (codes "resume")
+
+-- the flags of `run` with which it may be cut, with which the ports keep their window, and with which they change as the
+-- settings say
+abbrev pub resume_truncated_rule : Rule
+resume_truncated_rule = flag_rule (codes "resume-truncated")
+
+abbrev pub warm_rule : Rule
+warm_rule = flag_rule (codes "warm")
+
+abbrev pub apply_rule : Rule
+apply_rule = flag_rule (codes "apply")
+
 -- the file of management lines for an operator of `run`
 abbrev pub operate_rule : Rule
 operate_rule = option_rule (codes "operate")
+
+-- the sockets for operators, by a path and by an address
+abbrev pub control_rule : Rule
+control_rule = option_rule (codes "control")
+
+abbrev pub control_tcp_rule : Rule
+control_tcp_rule = option_rule (codes "control-tcp")
+
+-- the number of operators of `run` at once
+abbrev pub operators_rule : Rule
+operators_rule = number_rule (codes "operators") 1 MAX_OPERATORS
 
 -- where the units of `run` are
 abbrev pub units_rule : Rule
@@ -101,6 +143,10 @@ progress_rule = flag_rule (codes "progress")
 
 abbrev pub summary_rule : Rule
 summary_rule = flag_rule (codes "summary")
+
+-- the address at which `run` answers with metrics
+abbrev pub metrics_rule : Rule
+metrics_rule = option_rule (codes "metrics")
 
 -- the flag of `run` that settles each port at the end
 abbrev pub settle_rule : Rule
@@ -181,31 +227,37 @@ abbrev pub check_shape : Shape
 check_shape = shape_with (codes "check") (file_rule ∷ [])
 
 abbrev pub audit_shape : Shape
-audit_shape = shape_with (codes "audit") (files_rule ∷ complete_rule ∷ format_rule ∷ [])
+audit_shape = shape_with (codes "audit") (files_rule ∷ joined_rule ∷ complete_rule ∷ format_rule ∷ [])
 
 abbrev pub info_shape : Shape
-info_shape = shape_with (codes "info") (file_rule ∷ format_rule ∷ [])
+info_shape = shape_with (codes "info") (files_rule ∷ joined_rule ∷ format_rule ∷ [])
 
 abbrev pub rates_shape : Shape
-rates_shape = shape_with (codes "rates") (file_rule ∷ port_rule ∷ alloc_rule ∷ from_rule ∷ to_rule ∷ format_rule ∷ [])
+rates_shape = shape_with (codes "rates") (files_rule ∷ joined_rule ∷ port_rule ∷ alloc_rule ∷ from_rule ∷ to_rule ∷ format_rule ∷ [])
 
 abbrev pub why_shape : Shape
-why_shape = shape_with (codes "why") (file_rule ∷ port_rule ∷ frame_rule ∷ alloc_rule ∷ format_rule ∷ [])
+why_shape = shape_with (codes "why") (files_rule ∷ joined_rule ∷ port_rule ∷ frame_rule ∷ alloc_rule ∷ format_rule ∷ [])
 
 abbrev pub dump_shape : Shape
-dump_shape = shape_with (codes "dump") (file_rule ∷ port_rule ∷ [])
+dump_shape = shape_with (codes "dump") (files_rule ∷ joined_rule ∷ port_rule ∷ [])
 
 abbrev pub picture_shape : Shape
-picture_shape = shape_with (codes "picture") (file_rule ∷ port_rule ∷ frame_rule ∷ svg_rule ∷ no_clobber_rule ∷ [])
+picture_shape = shape_with (codes "picture") (files_rule ∷ joined_rule ∷ port_rule ∷ frame_rule ∷ svg_rule ∷ no_clobber_rule ∷ [])
 
 abbrev pub loads_shape : Shape
-loads_shape = shape_with (codes "loads") (file_rule ∷ needed_alloc_rule ∷ port_rule ∷ from_rule ∷ to_rule ∷ svg_rule ∷ no_clobber_rule ∷ [])
+loads_shape = shape_with (codes "loads") (files_rule ∷ joined_rule ∷ needed_alloc_rule ∷ port_rule ∷ from_rule ∷ to_rule ∷ svg_rule ∷ no_clobber_rule ∷ [])
 
 abbrev pub migrate_shape : Shape
 migrate_shape = shape_with (codes "migrate") (file_rule ∷ out_rule ∷ no_clobber_rule ∷ [])
 
 abbrev pub run_shape : Shape
-run_shape = shape_with (codes "run") (needed_config_rule ∷ listen_rule ∷ maps_rule ∷ units_rule ∷ once_rule ∷ grow_rule ∷ wait_rule ∷ pace_rule ∷ record_rule ∷ no_clobber_rule ∷ strict_record_rule ∷ flush_rule ∷ operate_rule ∷ settle_rule ∷ progress_rule ∷ summary_rule ∷ [])
+run_shape = shape_with (codes "run") (needed_config_rule ∷ listen_rule ∷ maps_rule ∷ units_rule ∷ once_rule ∷ grow_rule ∷ wait_rule ∷ pace_rule ∷ record_rule ∷ segment_rule ∷ keep_rule ∷ resume_rule ∷ resume_truncated_rule ∷ warm_rule ∷ apply_rule ∷ no_clobber_rule ∷ strict_record_rule ∷ flush_rule ∷ operate_rule ∷ control_rule ∷ control_tcp_rule ∷ operators_rule ∷ settle_rule ∷ progress_rule ∷ summary_rule ∷ metrics_rule ∷ [])
+
+abbrev pub stop_shape : Shape
+stop_shape = shape_with (codes "stop") (control_rule ∷ control_tcp_rule ∷ [])
+
+abbrev pub operate_shape : Shape
+operate_shape = shape_with (codes "operate") (control_rule ∷ control_tcp_rule ∷ [])
 
 abbrev pub units_shape : Shape
 units_shape = shape_with (codes "units") (needed_config_rule ∷ connect_rule ∷ port_rule ∷ wait_rule ∷ [])
@@ -230,7 +282,7 @@ leaf shape = record { top = shape; subs = [] }
 abbrev pub olt_app : App
 olt_app = record {
   top = record top_shape { is_leaf = false };
-  subs = plan_shape ∷ check_shape ∷ audit_shape ∷ info_shape ∷ rates_shape ∷ why_shape ∷ dump_shape ∷ picture_shape ∷ loads_shape ∷ migrate_shape ∷ run_shape ∷ units_shape ∷ [];
+  subs = plan_shape ∷ check_shape ∷ audit_shape ∷ info_shape ∷ rates_shape ∷ why_shape ∷ dump_shape ∷ picture_shape ∷ loads_shape ∷ migrate_shape ∷ run_shape ∷ stop_shape ∷ operate_shape ∷ units_shape ∷ [];
 }
 
 -- a command line with the commands that answer from a recording
@@ -262,6 +314,8 @@ word_of (Show shown) = word_of_view shown.view
 word_of (Migrate migration) = codes "migrate"
 word_of (Run run) = codes "run"
 word_of (Units units) = codes "units"
+word_of (Stop at) = codes "stop"
+word_of (Operate at) = codes "operate"
 
 -- the text is this number, in decimal digits after an optional plus sign, in a range
 pub record Spells (low high : ℕ) (text : List ℕ) (number : ℕ) : Type 0 where
@@ -300,10 +354,17 @@ pub record IsAudit (rows : List Row) (audit : AuditOf) : Type 0 where
   pub recordings : all_of (codes "file") rows ≡ Some (map (λ name. name.now) audit.files.items)
   pub format : IsFormat (first_of (codes "format") rows) audit.json
   pub whole : HasFlag (codes "complete") rows audit.complete
+  pub joins : HasFlag (codes "joined") rows audit.joined
+
+-- the files of a view are joined, or there is one
+abbrev pub AreJoinedOrOne : Bool → ℕ → Type 0
+AreJoinedOrOne joined count = joined ≡ false → count ≡ 1
 
 -- the matches of a view have these values
 pub record IsShown (rows : List Row) (shown : Shown) : Type 0 where
-  pub recording : first_of (codes "file") rows ≡ Some shown.file.now
+  pub recordings : all_of (codes "file") rows ≡ Some (map (λ name. name.now) shown.files.items)
+  pub joins : HasFlag (codes "joined") rows shown.joined
+  pub one : AreJoinedOrOne shown.joined (length shown.files.items)
   pub selection : IsPart rows shown.part
   pub picture : first_of (codes "svg") rows ≡ option_map (λ name. name.now) shown.svg
   pub keeps : HasFlag (codes "no-clobber") rows shown.no_clobber
@@ -333,13 +394,34 @@ pub record IsMeeting (rows : List Row) (meeting : Meeting) : Type 0 where
   pub waiting : MayHave (codes "wait") 1 MAX_WAIT rows meeting.wait
   pub speed : MayHave (codes "pace") 1 MAX_PACE rows meeting.pace
 
+-- the matches of `run` have these values on how operators connect to it
+pub record IsControl (rows : List Row) (control : Control) : Type 0 where
+  pub path : first_of (codes "control") rows ≡ option_map (λ name. name.now) control.path
+  pub address : first_of (codes "control-tcp") rows ≡ option_map (λ name. name.now) control.tcp
+  pub seats : MayHave (codes "operators") 1 MAX_OPERATORS rows control.operators
+
+-- the matches of `run` have these values on the segments of its recording
+pub record AreSegments (rows : List Row) (segments : Segments) : Type 0 where
+  pub each : MayHave (codes "segment") 1 MAX_MAPS rows segments.maps
+  pub newest : MayHave (codes "keep") 1 MAX_KEPT rows segments.keep
+
+-- the matches of `run` have these values on how the ports go on where a recording ends
+pub record IsResume (rows : List Row) (resume : Resume) : Type 0 where
+  pub recording : first_of (codes "resume") rows ≡ option_map (λ name. name.now) resume.from
+  pub cut : HasFlag (codes "resume-truncated") rows resume.truncated
+  pub keeps : HasFlag (codes "warm") rows resume.warm
+  pub changes : HasFlag (codes "apply") rows resume.apply
+
 -- the matches of `run` have these values
 pub record IsRun (rows : List Row) (run : RunOf) : Type 0 where
   pub settings : first_of (codes "config") rows ≡ Some run.config.now
   pub address : first_of (codes "listen") rows ≡ Some run.listen.now
   pub number : MayHave (codes "maps") 1 MAX_MAPS rows run.maps
   pub recording_file : first_of (codes "record") rows ≡ option_map (λ name. name.now) run.record
+  pub segmented : AreSegments rows run.segments
+  pub resumed : IsResume rows run.resume
   pub operator : first_of (codes "operate") rows ≡ option_map (λ name. name.now) run.operate
+  pub controlled : IsControl rows run.control
   pub keeps : HasFlag (codes "no-clobber") rows run.no_clobber
   pub strict : HasFlag (codes "strict-record") rows run.strict_record
   pub flushes : MayHave (codes "flush") 0 MAX_FLUSH rows run.flush
@@ -347,6 +429,7 @@ pub record IsRun (rows : List Row) (run : RunOf) : Type 0 where
   pub meets : IsMeeting rows run.meeting
   pub follows : HasFlag (codes "progress") rows run.progress
   pub sums : HasFlag (codes "summary") rows run.summary
+  pub shows : first_of (codes "metrics") rows ≡ option_map (λ name. name.now) run.metrics
 
 -- the matches of `migrate` have these values
 pub record IsMigration (rows : List Row) (migration : MigrationOf) : Type 0 where
@@ -361,6 +444,11 @@ pub record IsUnits (rows : List Row) (units : UnitsOf) : Type 0 where
   pub selection : MayHave (codes "port") 0 MAX_PORT rows units.port
   pub waiting : MayHave (codes "wait") 1 MAX_WAIT rows units.wait
 
+-- the matches have a path or an address at which a run is reached, and not both
+abbrev pub IsControlAt : List Row → ControlAt → Type 0
+IsControlAt rows (Path name) = (first_of (codes "control") rows ≡ Some name.now) × (first_of (codes "control-tcp") rows ≡ None)
+IsControlAt rows (Tcp address) = (first_of (codes "control-tcp") rows ≡ Some address.now) × (first_of (codes "control") rows ≡ None)
+
 -- the matches of a job's subcommand have the values of the job, by the names of its arguments
 abbrev pub HasValues : List Row → Job → Type 0
 HasValues rows (Plan plan) = IsPlan rows plan
@@ -370,6 +458,8 @@ HasValues rows (Show shown) = IsShown rows shown
 HasValues rows (Migrate migration) = IsMigration rows migration
 HasValues rows (Run run) = IsRun rows run
 HasValues rows (Units units) = IsUnits rows units
+HasValues rows (Stop at) = IsControlAt rows at
+HasValues rows (Operate at) = IsControlAt rows at
 
 -- the job is that of the subcommand, with the values of its arguments
 abbrev pub IsJob : Option (List ℕ × List Row) → Job → Type 0

@@ -7,7 +7,7 @@ use Rattle.pon_device.specs.declared.fault.DeviceFault.TheVariants.{Memory}
 use Rattle.pon_job.specs.declared.outcome.Outcome.{Outcome}
 use Rattle.pon_job.specs.declared.outcome.TheConstants.{CLOSED_PIPE_STATUS}
 use Rattle.pon_job.specs.declared.task.Job.{Job}
-use Rattle.pon_job.specs.declared.task.Job.TheVariants.{Plan, Check, Audit, Show, Migrate, Run, Units}
+use Rattle.pon_job.specs.declared.task.Job.TheVariants.{Plan, Check, Audit, Show, Migrate, Run, Units, Stop, Operate}
 use Rattle.pon_job.specs.declared.outcome.Outcome.TheVariants.{Done, Refused, CommandLine, Settings, Failed, Unfinished, PipeClosed}
 
 -- The exit status is 0 if the job is done, 1 if a check or an audit refused, 2 if the command line or the settings are
@@ -43,7 +43,7 @@ outcome_of_ports (Err fault) = Failed fault
 abbrev pub outcome_of_lines : Bool → Result Bool DeviceFault → Outcome
 outcome_of_lines strict ended = if strict then outcome_of_check ended else outcome_of_run ended
 
--- lines have a verdict if they are strict; a check file, a recording and a recording to show or to migrate are accepted or refused; ports are served
+-- lines have a verdict if they are strict, and those that are sent to a run always; a check file, a recording, a recording to show or to migrate and the stop of a run are accepted or refused; ports are served
 abbrev pub outcome_of_job : Job → Result Bool DeviceFault → Outcome
 outcome_of_job (Plan plan) ended = outcome_of_lines plan.strict ended
 outcome_of_job (Check file) ended = outcome_of_check ended
@@ -52,6 +52,8 @@ outcome_of_job (Show shown) ended = outcome_of_check ended
 outcome_of_job (Migrate migration) ended = outcome_of_check ended
 outcome_of_job (Run run) ended = outcome_of_ports ended
 outcome_of_job (Units units) ended = outcome_of_ports ended
+outcome_of_job (Stop at) ended = outcome_of_check ended
+outcome_of_job (Operate at) ended = outcome_of_check ended
 
 -- help and the version are shown; any other error refuses the words, unless memory was refused
 abbrev pub outcome_of_words : ErrorKind → Outcome

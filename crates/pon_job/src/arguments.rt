@@ -1,17 +1,21 @@
 //! The words of the command line.
 
-ghost use Rattle.std.specs.Prelude.{◌≡◌, ℕ, Bool, Option, Some, IfErr, IfOk, IfSome, IsNone, MatchOption, codes, map, option_map, string_bytes};
+ghost use Rattle.std.specs.Prelude.{◌≡◌, ◌↔◌, true, ℕ, Bool, Option, Some, IfErr, IfOk, IfSome, IsNone, MatchOption, codes, map, option_map, string_bytes};
+ghost use Rattle.pon_job.specs.declared.task.Control.{Control};
+ghost use Rattle.pon_job.specs.declared.task.ControlAt.{ControlAt};
 ghost use Rattle.pon_job.specs.declared.task.Meeting.{Meeting};
 ghost use Rattle.pon_job.specs.declared.task.Part.{Part};
+ghost use Rattle.pon_job.specs.declared.task.Segments.{Segments};
 ghost use Rattle.pon_job.specs.declared.task.View.{View};
 ghost use Rattle.clap.specs.Words.{found_of, rows_of, subcommand_rows_of};
 ghost use Rattle.clap.specs.Simple.{subcommand_of};
-ghost use Rattle.pon_job.specs.Jobs.{HasFlag, HasNumber, IsFormat, IsJob, IsMeeting, IsPart, IsPlace, MayHave, NamesNoJob, RefusesWords, Spells, olt_app, word_of_view};
+ghost use Rattle.pon_job.specs.Jobs.{AreJoinedOrOne, AreSegments, HasFlag, HasNumber, IsControl, IsControlAt, IsFormat, IsJob, IsMeeting, IsPart, IsPlace, IsResume, MayHave, NamesNoJob, RefusesWords, Spells, olt_app, word_of_view};
 
 use crate::commands::olt_command;
 use crate::task::{
-    Audit, Job, MAX_ALLOC, MAX_FLUSH, MAX_FRAME, MAX_MAPS, MAX_PACE, MAX_PORT, MAX_WAIT, MIN_ALLOC,
-    Meeting, Migration, Part, Plan, Run, Show, Units, View,
+    Audit, Control, ControlAt, Job, MAX_ALLOC, MAX_FLUSH, MAX_FRAME, MAX_KEPT, MAX_MAPS,
+    MAX_OPERATORS, MAX_PACE, MAX_PORT, MAX_WAIT, MIN_ALLOC, Meeting, Migration, Part, Plan, Resume,
+    Run, Segments, Show, Units, View,
 };
 use clap::error::ErrorKind;
 use clap::{ArgMatches, Error};
@@ -22,6 +26,11 @@ const NO_FORMAT: &str = "invalid value for '--format <FORMAT>'\n  [possible valu
 
 const NO_PLACE: &str =
     "invalid value for '--units <PLACE>'\n  [possible values: simulated, external]";
+
+/// What is said of several files of a view without the flag, and of a run that is not reached at one place.
+const NOT_JOINED: &str = "several files need --joined";
+
+const NOT_ONE_CONTROL: &str = "give one of --control <PATH> and --control-tcp <ADDRESS>";
 
 // Parses a number, which is in a range.
 fn number_in(text: &str, low: u64, high: u64) -> Option<u64>
@@ -135,6 +144,47 @@ fn meeting_of(found: &ArgMatches<'_>) -> Option<Meeting>
     })
 }
 
+// Returns how operators connect to a run.
+fn control_of<'a>(found: &ArgMatches<'a>) -> Option<Control<'a>>
+    ensures some { IfSome result (IsControl (rows_of (found_of found.now))) }
+    ensures none { IsNone result → (control : Control) → ¬ IsControl (rows_of (found_of found.now)) control }
+{
+    let path = found.get_str("control");
+    let tcp = found.get_str("control-tcp");
+    let operators = chosen(found, "operators", 1, MAX_OPERATORS)?;
+    Some(Control {
+        path,
+        tcp,
+        operators,
+    })
+}
+
+// Returns the segments of a run's recording.
+fn segments_of(found: &ArgMatches<'_>) -> Option<Segments>
+    ensures some { IfSome result (AreSegments (rows_of (found_of found.now))) }
+    ensures none { IsNone result → (segments : Segments) → ¬ AreSegments (rows_of (found_of found.now)) segments }
+{
+    let maps = chosen(found, "segment", 1, MAX_MAPS)?;
+    let keep = chosen(found, "keep", 1, MAX_KEPT)?;
+    Some(Segments { maps, keep })
+}
+
+// Returns how the ports of a run go on where a recording ends.
+fn resume_of<'a>(found: &ArgMatches<'a>) -> Resume<'a>
+    ensures { IsResume (rows_of (found_of found.now)) result }
+{
+    let from = found.get_str("resume");
+    let truncated = is_given(found, "resume-truncated");
+    let warm = is_given(found, "warm");
+    let apply = is_given(found, "apply");
+    Resume {
+        from,
+        truncated,
+        warm,
+        apply,
+    }
+}
+
 // Returns the run that the matches of its subcommand give.
 fn run_of<'a>(found: &ArgMatches<'a>) -> Option<Job<'a>>
     ensures some { IfSome result (IsJob (Some (codes "run", rows_of (found_of found.now)))) }
@@ -145,27 +195,66 @@ fn run_of<'a>(found: &ArgMatches<'a>) -> Option<Job<'a>>
     let maps = chosen(found, "maps", 1, MAX_MAPS)?;
     let meeting = meeting_of(found)?;
     let record = found.get_str("record");
+    let segments = segments_of(found)?;
+    let resume = resume_of(found);
     let no_clobber = is_given(found, "no-clobber");
     let strict_record = is_given(found, "strict-record");
     let flush = chosen(found, "flush", 0, MAX_FLUSH)?;
     let operate = found.get_str("operate");
+    let control = control_of(found)?;
     let settle = is_given(found, "settle");
     let progress = is_given(found, "progress");
     let summary = is_given(found, "summary");
+    let metrics = found.get_str("metrics");
     Some(Job::Run(Run {
         config,
         listen,
         maps,
         meeting,
         record,
+        segments,
+        resume,
         no_clobber,
         strict_record,
         flush,
         operate,
+        control,
         settle,
         progress,
         summary,
+        metrics,
     }))
+}
+
+// Returns where a run is reached. `None` if the matches have neither a path nor an address, or both.
+fn place_of<'a>(found: &ArgMatches<'a>) -> Option<ControlAt<'a>>
+    ensures some { IfSome result (IsControlAt (rows_of (found_of found.now))) }
+    ensures none { IsNone result → (at : ControlAt) → ¬ IsControlAt (rows_of (found_of found.now)) at }
+{
+    match found.get_str("control") {
+        Some(path) => match found.get_str("control-tcp") {
+            Some(_) => None,
+            None => Some(ControlAt::Path(path)),
+        },
+        None => Some(ControlAt::Tcp(found.get_str("control-tcp")?)),
+    }
+}
+
+// Returns the lines for a run that the matches of their subcommand give.
+fn operate_of<'a>(found: &ArgMatches<'a>) -> Option<Job<'a>>
+    ensures some { IfSome result (IsJob (Some (codes "operate", rows_of (found_of found.now)))) }
+    ensures none { IsNone result
+        → NamesNoJob (Some (codes "operate", rows_of (found_of found.now))) }
+{
+    Some(Job::Operate(place_of(found)?))
+}
+
+// Returns the stop of a run that the matches of its subcommand give.
+fn stop_of<'a>(found: &ArgMatches<'a>) -> Option<Job<'a>>
+    ensures some { IfSome result (IsJob (Some (codes "stop", rows_of (found_of found.now)))) }
+    ensures none { IsNone result → NamesNoJob (Some (codes "stop", rows_of (found_of found.now))) }
+{
+    Some(Job::Stop(place_of(found)?))
 }
 
 // Returns the units that the matches of their subcommand give.
@@ -241,35 +330,65 @@ fn view_of(name: &str) -> Option<View>
     None
 }
 
-// Returns the view of a recording that the matches of its subcommand give.
-fn shown_by<'a>(view: View, found: &ArgMatches<'a>) -> Option<Job<'a>>
-    ensures some { IfSome result (IsJob (Some (word_of_view view, rows_of (found_of found.now)))) }
-    ensures none { IsNone result
-        → NamesNoJob (Some (word_of_view view, rows_of (found_of found.now))) }
-{
-    let file = found.get_str("file")?;
-    let part = part_of(found)?;
-    let svg = found.get_str("svg");
-    let no_clobber = is_given(found, "no-clobber");
-    let format = found.get_str("format");
-    let json = is_json(format)?;
-    Some(Job::Show(Show {
-        view,
-        file,
-        part,
-        svg,
-        no_clobber,
-        json,
-    }))
-}
-
-// Copies the files of an audit.
+// Copies the names of files.
 fn files_of<'a>(alloc: Global, names: &[&'a str]) -> Result<Vec<&'a str>, AllocError>
     ensures { IfOk result (λ files. files.items ≡ names.now) }
 {
     let mut files = Vec::new(alloc);
     files.extend_from_slice(names)?;
     Ok(files)
+}
+
+// Returns whether the files of a view are joined, or there is one.
+fn are_joined_or_one(joined: bool, count: usize) -> bool
+    ensures { (result ≡ true) ↔ AreJoinedOrOne joined count }
+{
+    if joined {
+        return true;
+    }
+    count == 1
+}
+
+// Returns the view of a recording that the matches of its subcommand give. `Err` only if memory is refused.
+fn shown_by<'a>(
+    alloc: Global,
+    view: View,
+    found: &ArgMatches<'a>,
+) -> Result<Option<Job<'a>>, AllocError>
+    ensures some { IfOk result (λ job. IfSome job
+        (IsJob (Some (word_of_view view, rows_of (found_of found.now))))) }
+    ensures none { IfOk result (λ job. IsNone job
+        → NamesNoJob (Some (word_of_view view, rows_of (found_of found.now)))) }
+{
+    let names = match found.get_strs("file") {
+        Some(names) => names,
+        None => return Ok(None),
+    };
+    let joined = is_given(found, "joined");
+    if !are_joined_or_one(joined, names.len()) {
+        return Ok(None);
+    }
+    let part = match part_of(found) {
+        Some(part) => part,
+        None => return Ok(None),
+    };
+    let svg = found.get_str("svg");
+    let no_clobber = is_given(found, "no-clobber");
+    let format = found.get_str("format");
+    let json = match is_json(format) {
+        Some(json) => json,
+        None => return Ok(None),
+    };
+    let files = files_of(alloc, names)?;
+    Ok(Some(Job::Show(Show {
+        view,
+        files,
+        joined,
+        part,
+        svg,
+        no_clobber,
+        json,
+    })))
 }
 
 // Returns the audit that the matches of its subcommand give. `Err` only if memory is refused.
@@ -288,19 +407,22 @@ fn audit_of<'a>(alloc: Global, found: &ArgMatches<'a>) -> Result<Option<Job<'a>>
         Some(json) => json,
         None => return Ok(None),
     };
+    let joined = is_given(found, "joined");
     let complete = is_given(found, "complete");
     let files = files_of(alloc, names)?;
     Ok(Some(Job::Audit(Audit {
         files,
+        joined,
         json,
         complete,
     })))
 }
 
-// Returns the job that a subcommand other than `audit` gives.
+// Returns the job that a subcommand other than `audit` and the views gives.
 fn other_job_of<'a>(name: &str, found: &ArgMatches<'a>) -> Option<Job<'a>>
     ensures some { IfSome result (IsJob (Some (name.now, rows_of (found_of found.now)))) }
     ensures none { IsNone result → ¬ (name.now ≡ codes "audit")
+        → ((view : View) → ¬ (name.now ≡ word_of_view view))
         → NamesNoJob (Some (name.now, rows_of (found_of found.now))) }
 {
     if name == "plan" {
@@ -310,9 +432,6 @@ fn other_job_of<'a>(name: &str, found: &ArgMatches<'a>) -> Option<Job<'a>>
         let file = found.get_str("file")?;
         return Some(Job::Check { file });
     }
-    if let Some(view) = view_of(name) {
-        return shown_by(view, found);
-    }
     if name == "migrate" {
         return migration_of(found);
     }
@@ -321,6 +440,12 @@ fn other_job_of<'a>(name: &str, found: &ArgMatches<'a>) -> Option<Job<'a>>
     }
     if name == "units" {
         return units_of(found);
+    }
+    if name == "stop" {
+        return stop_of(found);
+    }
+    if name == "operate" {
+        return operate_of(found);
     }
     None
 }
@@ -336,16 +461,22 @@ fn job_of<'a>(alloc: Global, matches: &ArgMatches<'a>) -> Result<Option<Job<'a>>
             if name == "audit" {
                 return audit_of(alloc, found);
             }
+            if let Some(view) = view_of(name) {
+                return shown_by(alloc, view, found);
+            }
             Ok(other_job_of(name, found))
         }
     }
 }
 
-// Returns why the subcommand of matches names no job: of its options, one has none of the possible values.
+// Returns why the subcommand of matches names no job: an option has none of its possible values, several files are not
+// joined, or a run has not one place at which it is reached.
 fn why_no_job(matches: &ArgMatches<'_>) -> &'static str {
     match matches.subcommand() {
         Some((_, found)) if is_json(found.get_str("format")).is_none() => NO_FORMAT,
-        _ => NO_PLACE,
+        Some((_, found)) if is_external(found.get_str("units")).is_none() => NO_PLACE,
+        Some((_, found)) if found.get_strs("file").is_some() => NOT_JOINED,
+        _ => NOT_ONE_CONTROL,
     }
 }
 

@@ -5,20 +5,21 @@ ghost use Rattle.clap.specs.Built.{AddsSubcommand};
 ghost use Rattle.clap.specs.Walk.{rule_of};
 ghost use Rattle.clap.specs.Simple.{App, app_of};
 ghost use Rattle.pon_job.specs.Jobs.{AreLocal, IsDefined, leaf, olt_app, shape_with, with_views};
-ghost use Rattle.pon_job.specs.Jobs.{audit_shape, check_shape, dump_shape, info_shape, loads_shape, migrate_shape, picture_shape, plan_shape, rates_shape, run_shape, top_shape, units_shape, why_shape};
+ghost use Rattle.pon_job.specs.Jobs.{audit_shape, check_shape, dump_shape, info_shape, loads_shape, migrate_shape, operate_shape, picture_shape, plan_shape, rates_shape, run_shape, stop_shape, top_shape, units_shape, why_shape};
 
 use crate::options::{
-    alloc_arg, check_file_arg, complete_arg, config_arg, connect_arg, flush_arg, forget_arg,
-    format_arg, frame_arg, from_arg, grow_arg, listen_arg, maps_arg, no_clobber_arg, once_arg,
-    operate_arg, out_arg, pace_arg, port_arg, progress_arg, record_arg, recording_arg,
-    recordings_arg, settle_arg, strict_arg, strict_record_arg, summary_arg, svg_arg, to_arg,
-    units_arg, verbose_arg, wait_arg,
+    alloc_arg, apply_arg, check_file_arg, complete_arg, config_arg, connect_arg, control_arg,
+    control_tcp_arg, flush_arg, forget_arg, format_arg, frame_arg, from_arg, grow_arg, joined_arg,
+    keep_arg, listen_arg, maps_arg, metrics_arg, no_clobber_arg, once_arg, operate_arg,
+    operators_arg, out_arg, pace_arg, port_arg, progress_arg, record_arg, recording_arg,
+    recordings_arg, resume_arg, resume_truncated_arg, segment_arg, settle_arg, strict_arg,
+    strict_record_arg, summary_arg, svg_arg, to_arg, units_arg, verbose_arg, wait_arg, warm_arg,
 };
 use clap::{Arg, Command};
 use std::alloc::{AllocError, Global};
 
 /// The version of the program, and the logic of the kit that its proofs are of.
-const VERSION: &str = "0.3.0 (Rattle logic dac8208d650f15bf)";
+pub const VERSION: &str = "0.3.0 (Rattle logic dac8208d650f15bf)";
 
 /// The help of `--flush` of lines and of runs.
 const PLAN_FLUSH_HELP: &str =
@@ -26,6 +27,23 @@ const PLAN_FLUSH_HELP: &str =
 
 const RUN_FLUSH_HELP: &str =
     "Seconds after which a chapter that is not full is written, 0 to 3600; 0 for full ones only [default: 0]";
+
+/// The help of the files and of `--joined` of a view, and of `--joined` of an audit.
+const VIEWED_HELP: &str = "The recording, or with --joined the files of one";
+
+const VIEW_JOINED_HELP: &str = "Take the files as one recording, in this order";
+
+const AUDIT_JOINED_HELP: &str = "Judge the files as one recording, in this order";
+
+/// The help of the sockets for operators, at the run and at those that connect to it.
+const LISTEN_CONTROL_HELP: &str = "The Unix socket that operators connect to, which is made";
+
+const LISTEN_CONTROL_TCP_HELP: &str =
+    "The TCP socket that operators connect to, such as 127.0.0.1:7000";
+
+const CONTROL_HELP: &str = "The Unix socket of the run for operators";
+
+const CONTROL_TCP_HELP: &str = "The TCP socket of the run for operators";
 
 // Makes a subcommand with these arguments; its help ends with an example.
 fn command<'a>(
@@ -80,7 +98,8 @@ fn audit_command<'a>(alloc: Global) -> Result<Command<'a>, AllocError>
     let args = Vec::from_array(
         alloc,
         [
-            recordings_arg(alloc),
+            recordings_arg(alloc, "The recordings"),
+            joined_arg(alloc, AUDIT_JOINED_HELP),
             complete_arg(alloc),
             format_arg(alloc),
         ],
@@ -93,7 +112,14 @@ fn info_command<'a>(alloc: Global) -> Result<Command<'a>, AllocError>
     ensures { IfOk result (IsDefined (leaf info_shape)) }
 {
     let about = "Print what each chapter of a recording holds, in the order of the file";
-    let args = Vec::from_array(alloc, [recording_arg(alloc), format_arg(alloc)])?;
+    let args = Vec::from_array(
+        alloc,
+        [
+            recordings_arg(alloc, VIEWED_HELP),
+            joined_arg(alloc, VIEW_JOINED_HELP),
+            format_arg(alloc),
+        ],
+    )?;
     let example = "Example: olt info recording --format json";
     command(alloc, "info", about, example, args)
 }
@@ -105,7 +131,8 @@ fn rates_command<'a>(alloc: Global) -> Result<Command<'a>, AllocError>
     let args = Vec::from_array(
         alloc,
         [
-            recording_arg(alloc),
+            recordings_arg(alloc, VIEWED_HELP),
+            joined_arg(alloc, VIEW_JOINED_HELP),
             port_arg(alloc),
             alloc_arg(alloc),
             from_arg(alloc),
@@ -124,7 +151,8 @@ fn why_command<'a>(alloc: Global) -> Result<Command<'a>, AllocError>
     let args = Vec::from_array(
         alloc,
         [
-            recording_arg(alloc),
+            recordings_arg(alloc, VIEWED_HELP),
+            joined_arg(alloc, VIEW_JOINED_HELP),
             port_arg(alloc),
             frame_arg(alloc),
             alloc_arg(alloc),
@@ -140,7 +168,14 @@ fn dump_command<'a>(alloc: Global) -> Result<Command<'a>, AllocError>
 {
     let about =
         "Print the events of a recording as management lines with their replies, in the order of the file";
-    let args = Vec::from_array(alloc, [recording_arg(alloc), port_arg(alloc)])?;
+    let args = Vec::from_array(
+        alloc,
+        [
+            recordings_arg(alloc, VIEWED_HELP),
+            joined_arg(alloc, VIEW_JOINED_HELP),
+            port_arg(alloc),
+        ],
+    )?;
     let example = "Example: olt dump recording --port 0";
     command(alloc, "dump", about, example, args)
 }
@@ -152,7 +187,8 @@ fn picture_command<'a>(alloc: Global) -> Result<Command<'a>, AllocError>
     let args = Vec::from_array(
         alloc,
         [
-            recording_arg(alloc),
+            recordings_arg(alloc, VIEWED_HELP),
+            joined_arg(alloc, VIEW_JOINED_HELP),
             port_arg(alloc),
             frame_arg(alloc),
             svg_arg(alloc),
@@ -170,7 +206,8 @@ fn loads_command<'a>(alloc: Global) -> Result<Command<'a>, AllocError>
     let args = Vec::from_array(
         alloc,
         [
-            recording_arg(alloc),
+            recordings_arg(alloc, VIEWED_HELP),
+            joined_arg(alloc, VIEW_JOINED_HELP),
             alloc_arg(alloc).required(true),
             port_arg(alloc),
             from_arg(alloc),
@@ -210,19 +247,60 @@ fn run_command<'a>(alloc: Global) -> Result<Command<'a>, AllocError>
             wait_arg(alloc),
             pace_arg(alloc),
             record_arg(alloc),
+            segment_arg(alloc),
+            keep_arg(alloc),
+            resume_arg(alloc),
+            resume_truncated_arg(alloc),
+            warm_arg(alloc),
+            apply_arg(alloc),
             no_clobber_arg(alloc),
             strict_record_arg(alloc),
             flush_arg(alloc, RUN_FLUSH_HELP),
             operate_arg(alloc),
+            control_arg(alloc, LISTEN_CONTROL_HELP),
+            control_tcp_arg(alloc, LISTEN_CONTROL_TCP_HELP),
+            operators_arg(alloc),
             settle_arg(alloc),
             progress_arg(alloc),
             summary_arg(alloc),
+            metrics_arg(alloc),
         ],
     )?;
     let about = "Make maps at each port, over sockets";
     let example =
         "Example: olt run --config ports.toml --listen 127.0.0.1:0 --maps 8000 --record recording";
     command(alloc, "run", about, example, args)
+}
+
+fn stop_command<'a>(alloc: Global) -> Result<Command<'a>, AllocError>
+    ensures { IfOk result (IsDefined (leaf stop_shape)) }
+{
+    let about = "Stop a run through its control socket, and wait until it has ended";
+    let args = Vec::from_array(
+        alloc,
+        [
+            control_arg(alloc, CONTROL_HELP),
+            control_tcp_arg(alloc, CONTROL_TCP_HELP),
+        ],
+    )?;
+    let example = "Example: olt stop --control /run/olt.sock";
+    command(alloc, "stop", about, example, args)
+}
+
+fn operate_command<'a>(alloc: Global) -> Result<Command<'a>, AllocError>
+    ensures { IfOk result (IsDefined (leaf operate_shape)) }
+{
+    let about =
+        "Send management lines to a run through its control socket; status 1 if one was refused";
+    let args = Vec::from_array(
+        alloc,
+        [
+            control_arg(alloc, CONTROL_HELP),
+            control_tcp_arg(alloc, CONTROL_TCP_HELP),
+        ],
+    )?;
+    let example = "Example: olt operate --control /run/olt.sock";
+    command(alloc, "operate", about, example, args)
 }
 
 fn units_command<'a>(alloc: Global) -> Result<Command<'a>, AllocError>
@@ -293,5 +371,7 @@ pub(crate) fn olt_command<'a>(alloc: Global) -> Result<Command<'a>, AllocError>
     let command = with_views(alloc, command);
     let command = with_subcommand(command, migrate_command(alloc));
     let command = with_subcommand(command, run_command(alloc));
+    let command = with_subcommand(command, stop_command(alloc));
+    let command = with_subcommand(command, operate_command(alloc));
     with_subcommand(command, units_command(alloc))
 }

@@ -26,6 +26,10 @@ pub enum Named<'a> {
     Lines(&'a str),
     /// The socket address that ports listen on.
     Address(&'a str),
+    /// The socket at which operators connect to a run: its path or its address.
+    Control(&'a str),
+    /// The socket at which a run answers with its metrics: its address.
+    Metrics(&'a str),
 }
 
 impl<'a> Named<'a> {
@@ -37,7 +41,9 @@ impl<'a> Named<'a> {
             | Named::Recording(name)
             | Named::Picture(name)
             | Named::Lines(name)
-            | Named::Address(name) => name,
+            | Named::Address(name)
+            | Named::Control(name)
+            | Named::Metrics(name) => name,
         }
     }
 }
@@ -51,6 +57,8 @@ impl Display for Named<'_> {
             Named::Picture(name) => write!(f, "picture {name}"),
             Named::Lines(name) => write!(f, "lines {name}"),
             Named::Address(name) => write!(f, "address {name}"),
+            Named::Control(name) => write!(f, "control socket {name}"),
+            Named::Metrics(name) => write!(f, "metrics socket {name}"),
         }
     }
 }
@@ -123,6 +131,7 @@ fn reason_of(named: Named<'_>, kind: ErrorKind) -> Option<&'static str> {
         ErrorKind::AddrNotAvailable => Some("not an address of this machine"),
         ErrorKind::InvalidInput => match named {
             Named::Address(_) => Some("not an address with a port, as 127.0.0.1:0"),
+            Named::Control(_) => Some("neither a path of a socket nor an address with a port"),
             _ => Some("not a name of a file"),
         },
         _ => None,

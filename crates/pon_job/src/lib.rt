@@ -12,9 +12,13 @@ mod outcome;
 mod task;
 
 pub use arguments::job;
+pub use commands::VERSION;
 pub use failure::{Failure, Named};
 pub use outcome::{
     Outcome, exit_status, outcome_of_check, outcome_of_job, outcome_of_ports, outcome_of_run,
     outcome_of_words,
 };
-pub use task::{Audit, Job, MAX_MAPS, Meeting, Migration, Part, Plan, Run, Show, Units, View};
+pub use task::{
+    Audit, Control, ControlAt, DEFAULT_OPERATORS, Job, MAX_KEPT, MAX_MAPS, MAX_OPERATORS, Meeting,
+    Migration, Part, Plan, Resume, Run, Segments, Show, Units, View,
+};

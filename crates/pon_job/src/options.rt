@@ -2,10 +2,11 @@
 
 ghost use Rattle.std.specs.Prelude.{◌≡◌, false};
 ghost use Rattle.clap.specs.Walk.{rule_of};
-ghost use Rattle.pon_job.specs.Jobs.{alloc_rule, complete_rule, config_rule, connect_rule, file_rule, files_rule, flag_rule, flush_rule, forget_rule, frame_rule, format_rule, from_rule, grow_rule, listen_rule, maps_rule, no_clobber_rule, number_rule, once_rule, operate_rule, option_rule, out_rule, pace_rule, place_rule, port_rule, progress_rule, record_rule, settle_rule, strict_record_rule, strict_rule, summary_rule, svg_rule, to_rule, units_rule, verbose_rule, wait_rule};
+ghost use Rattle.pon_job.specs.Jobs.{alloc_rule, apply_rule, complete_rule, config_rule, connect_rule, control_rule, control_tcp_rule, file_rule, files_rule, flag_rule, flush_rule, forget_rule, frame_rule, format_rule, from_rule, grow_rule, joined_rule, keep_rule, listen_rule, maps_rule, metrics_rule, no_clobber_rule, number_rule, once_rule, operate_rule, operators_rule, option_rule, out_rule, pace_rule, place_rule, port_rule, progress_rule, record_rule, resume_rule, resume_truncated_rule, segment_rule, settle_rule, strict_record_rule, strict_rule, summary_rule, svg_rule, to_rule, units_rule, verbose_rule, wait_rule, warm_rule};
 
 use crate::task::{
-    MAX_ALLOC, MAX_FLUSH, MAX_FRAME, MAX_MAPS, MAX_PACE, MAX_PORT, MAX_WAIT, MIN_ALLOC,
+    MAX_ALLOC, MAX_FLUSH, MAX_FRAME, MAX_KEPT, MAX_MAPS, MAX_OPERATORS, MAX_PACE, MAX_PORT,
+    MAX_WAIT, MIN_ALLOC,
 };
 use clap::builder::ValueParser;
 use clap::{Arg, ArgAction};
@@ -67,11 +68,18 @@ pub(crate) fn recording_arg<'a>(alloc: Global) -> Arg<'a>
     place_arg(alloc, "file", "FILE", "The recording")
 }
 
-pub(crate) fn recordings_arg<'a>(alloc: Global) -> Arg<'a>
+pub(crate) fn recordings_arg<'a>(alloc: Global, help: &'a str) -> Arg<'a>
     ensures rule { rule_of result ≡ files_rule }
     ensures local { result.global ≡ false }
 {
-    place_arg(alloc, "file", "FILE", "The recordings").action(ArgAction::Append)
+    place_arg(alloc, "file", "FILE", help).action(ArgAction::Append)
+}
+
+pub(crate) fn joined_arg<'a>(alloc: Global, help: &'a str) -> Arg<'a>
+    ensures rule { rule_of result ≡ joined_rule }
+    ensures local { result.global ≡ false }
+{
+    flag_arg(alloc, "joined", help)
 }
 
 pub(crate) fn out_arg<'a>(alloc: Global) -> Arg<'a>
@@ -142,6 +150,14 @@ pub(crate) fn summary_arg<'a>(alloc: Global) -> Arg<'a>
     flag_arg(alloc, "summary", help)
 }
 
+pub(crate) fn metrics_arg<'a>(alloc: Global) -> Arg<'a>
+    ensures rule { rule_of result ≡ metrics_rule }
+    ensures local { result.global ≡ false }
+{
+    let help = "The TCP socket that answers GET /metrics for Prometheus, such as 127.0.0.1:9464";
+    option_arg(alloc, "metrics", "ADDRESS", help)
+}
+
 pub(crate) fn connect_arg<'a>(alloc: Global) -> Arg<'a>
     ensures rule { rule_of result ≡ connect_rule }
     ensures local { result.global ≡ false }
@@ -166,12 +182,86 @@ pub(crate) fn record_arg<'a>(alloc: Global) -> Arg<'a>
     option_arg(alloc, "record", "FILE", help)
 }
 
+pub(crate) fn segment_arg<'a>(alloc: Global) -> Arg<'a>
+    ensures rule { rule_of result ≡ segment_rule }
+    ensures local { result.global ≡ false }
+{
+    let help =
+        "Record in files of the folder --record, each of which ends when a port has this number of maps in it, 1 to 1000000000";
+    number_arg(alloc, "segment", 1, MAX_MAPS, help)
+}
+
+pub(crate) fn keep_arg<'a>(alloc: Global) -> Arg<'a>
+    ensures rule { rule_of result ≡ keep_rule }
+    ensures local { result.global ≡ false }
+{
+    let help =
+        "Keep the newest files of --segment, this number, and remove older ones, 1 to 1000000";
+    number_arg(alloc, "keep", 1, MAX_KEPT, help)
+}
+
+pub(crate) fn resume_arg<'a>(alloc: Global) -> Arg<'a>
+    ensures rule { rule_of result ≡ resume_rule }
+    ensures local { result.global ≡ false }
+{
+    let help = "A good recording, or the folder of one, after which the ports go on";
+    option_arg(alloc, "resume", "PATH", help)
+}
+
+pub(crate) fn resume_truncated_arg<'a>(alloc: Global) -> Arg<'a>
+    ensures rule { rule_of result ≡ resume_truncated_rule }
+    ensures local { result.global ≡ false }
+{
+    let help = "Go on after the last whole chapter of a recording that is cut";
+    flag_arg(alloc, "resume-truncated", help)
+}
+
+pub(crate) fn warm_arg<'a>(alloc: Global) -> Arg<'a>
+    ensures rule { rule_of result ≡ warm_rule }
+    ensures local { result.global ≡ false }
+{
+    let help =
+        "Keep the reports and the window of the recording; without it the resumed ports take a failure and its end";
+    flag_arg(alloc, "warm", help)
+}
+
+pub(crate) fn apply_arg<'a>(alloc: Global) -> Arg<'a>
+    ensures rule { rule_of result ≡ apply_rule }
+    ensures local { result.global ≡ false }
+{
+    let help =
+        "Change the resumed ports as the settings say; without it other Alloc-IDs or descriptors are refused";
+    flag_arg(alloc, "apply", help)
+}
+
 pub(crate) fn operate_arg<'a>(alloc: Global) -> Arg<'a>
     ensures rule { rule_of result ≡ operate_rule }
     ensures local { result.global ≡ false }
 {
     let help = "Management lines for an operator, or - for standard input";
     option_arg(alloc, "operate", "FILE", help)
+}
+
+pub(crate) fn control_arg<'a>(alloc: Global, help: &'a str) -> Arg<'a>
+    ensures rule { rule_of result ≡ control_rule }
+    ensures local { result.global ≡ false }
+{
+    option_arg(alloc, "control", "PATH", help)
+}
+
+pub(crate) fn control_tcp_arg<'a>(alloc: Global, help: &'a str) -> Arg<'a>
+    ensures rule { rule_of result ≡ control_tcp_rule }
+    ensures local { result.global ≡ false }
+{
+    option_arg(alloc, "control-tcp", "ADDRESS", help)
+}
+
+pub(crate) fn operators_arg<'a>(alloc: Global) -> Arg<'a>
+    ensures rule { rule_of result ≡ operators_rule }
+    ensures local { result.global ≡ false }
+{
+    let help = "How many operators may be connected at once, 1 to 32 [default: 8]";
+    number_arg(alloc, "operators", 1, MAX_OPERATORS, help)
 }
 
 pub(crate) fn settle_arg<'a>(alloc: Global) -> Arg<'a>

@@ -15,7 +15,8 @@ pub enum Outcome {
     /// The job is done; a check or an audit accepted, a recording was migrated, or one that is good was shown. Also
     /// help and the version, if they were requested.
     Done,
-    /// A check, an audit or strict management refused its input, or a recording to migrate or to show has a fault.
+    /// A check, an audit or strict management refused its input, a recording to migrate or to show has a fault, or a run
+    /// refused to stop.
     Refused,
     /// The words of the command line name no job.
     CommandLine,
@@ -32,8 +33,8 @@ pub enum Outcome {
 /// The status of a process that a closed pipe ends: 128 and the number of the signal for it, as a shell has it.
 const CLOSED_PIPE_STATUS: u8 = 141;
 
-/// Returns the exit status of an outcome: 0 if the job is done, 1 if a check, an audit, a migration or strict
-/// management refused, 2 if the command line or the settings are refused, 3 if a device failed, memory was refused, or
+/// Returns the exit status of an outcome: 0 if the job is done, 1 if a check, an audit, a migration, strict management
+/// or a run that is to stop refused, 2 if the command line or the settings are refused, 3 if a device failed, memory was refused, or
 /// a port was not served to its last map, and 141 if the reader of a view's text went away.
 pub fn exit_status(outcome: Outcome) -> u8
     ensures { result ≡ exit_status outcome }
@@ -58,7 +59,7 @@ pub fn outcome_of_run<T: Drop>(ended: Result<T, DeviceFault>) -> Outcome
     }
 }
 
-/// Returns the outcome of a check, an audit or a migration; `true` is acceptance.
+/// Returns the outcome of a check, an audit, a migration or the stop of a run; `true` is acceptance.
 pub fn outcome_of_check(verdict: Result<bool, DeviceFault>) -> Outcome
     ensures { result ≡ outcome_of_check verdict }
 {
@@ -96,9 +97,12 @@ pub fn outcome_of_job(job: &Job<'_>, ended: Result<bool, DeviceFault>) -> Outcom
 {
     match job {
         Job::Plan(plan) => outcome_of_lines(plan.strict, ended),
-        Job::Check { .. } | Job::Audit(_) | Job::Show(_) | Job::Migrate(_) => {
-            outcome_of_check(ended)
-        }
+        Job::Check { .. }
+        | Job::Audit(_)
+        | Job::Show(_)
+        | Job::Migrate(_)
+        | Job::Stop(_)
+        | Job::Operate(_) => outcome_of_check(ended),
         Job::Run(_) | Job::Units(_) => outcome_of_ports(ended),
     }
 }

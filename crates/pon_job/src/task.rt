@@ -7,8 +7,17 @@ pub(crate) const MAX_PACE: u64 = 1_000_000;
 /// Maximum number of seconds that a port waits for units elsewhere, or they for it.
 pub(crate) const MAX_WAIT: u64 = 3_600;
 
+/// Maximum number of operators of a run that may be connected at once.
+pub const MAX_OPERATORS: u64 = 32;
+
+/// The number of operators of a run that may be connected at once, if the command line gives none.
+pub const DEFAULT_OPERATORS: u64 = 8;
+
 /// Maximum number of seconds after which a chapter of a recording is cut by the clock.
 pub(crate) const MAX_FLUSH: u64 = 3_600;
+
+/// Maximum number of segments of a recording that are kept.
+pub const MAX_KEPT: u64 = 1_000_000;
 
 /// The greatest number of a port.
 pub(crate) const MAX_PORT: u64 = 63;
@@ -54,12 +63,14 @@ pub struct Part {
 }
 
 /// A view of a part of a recording.
-#[derive(Clone, Copy, Debug, PartialEq, Eq)]
+#[derive(Debug, PartialEq, Eq, Drop)]
 pub struct Show<'a> {
     /// The view.
     pub view: View,
-    /// The file of the recording.
-    pub file: &'a str,
+    /// The files of the recording; without `joined` there is one.
+    pub files: Vec<&'a str>,
+    /// Whether the files are one recording, in this order.
+    pub joined: bool,
     /// The part of the recording.
     pub part: Part,
     /// The file for a picture of the view; `None` for no picture.
@@ -70,11 +81,13 @@ pub struct Show<'a> {
     pub json: bool,
 }
 
-/// An audit of recordings, each by itself.
+/// An audit of recordings.
 #[derive(Debug, PartialEq, Eq, Drop)]
 pub struct Audit<'a> {
     /// The files of the recordings.
     pub files: Vec<&'a str>,
+    /// Whether the files are one recording, in this order; otherwise each is judged by itself.
+    pub joined: bool,
     /// Whether an object of each recording is printed in place of a line.
     pub json: bool,
     /// Whether a recording has to be complete: each port from its chapter 0 on without a gap, and a map.
@@ -115,6 +128,40 @@ pub struct Meeting {
     pub pace: Option<u64>,
 }
 
+/// How operators connect to a run.
+#[derive(Clone, Copy, Debug, PartialEq, Eq)]
+pub struct Control<'a> {
+    /// The path of the Unix socket for operators; `None` for no such socket.
+    pub path: Option<&'a str>,
+    /// The address of the TCP socket for operators; `None` for no such socket.
+    pub tcp: Option<&'a str>,
+    /// The number of operators that may be connected at once, 1 to [`MAX_OPERATORS`]; `None` if not given, which means
+    /// [`DEFAULT_OPERATORS`].
+    pub operators: Option<u64>,
+}
+
+/// The segments of a recording in a folder.
+#[derive(Clone, Copy, Debug, PartialEq, Eq)]
+pub struct Segments {
+    /// The number of maps of a port with which a segment ends, 1 to [`MAX_MAPS`]; `None` for a recording in one file.
+    pub maps: Option<u64>,
+    /// The number of segments that are kept, 1 to [`MAX_KEPT`]; `None` for all.
+    pub keep: Option<u64>,
+}
+
+/// How the ports of a run go on where a recording ends.
+#[derive(Clone, Copy, Debug, PartialEq, Eq)]
+pub struct Resume<'a> {
+    /// The file of the recording, or the folder of its files; `None` if the ports begin anew.
+    pub from: Option<&'a str>,
+    /// Whether a recording that ends inside a chapter is taken up to its last whole chapter.
+    pub truncated: bool,
+    /// Whether the ports keep their reports and their window of maps; otherwise they take a failure of the line and its end.
+    pub warm: bool,
+    /// Whether Alloc-IDs in which the settings differ from the recording are changed; otherwise they are refused.
+    pub apply: bool,
+}
+
 /// A run of the ports of a settings file over sockets.
 #[derive(Clone, Copy, Debug, PartialEq, Eq)]
 pub struct Run<'a> {
@@ -126,8 +173,12 @@ pub struct Run<'a> {
     pub maps: Option<u64>,
     /// How the ports meet their units.
     pub meeting: Meeting,
-    /// The file for a recording of the ports' chapters; `None` for no recording.
+    /// The file for a recording of the ports' chapters, or with segments their folder; `None` for no recording.
     pub record: Option<&'a str>,
+    /// The segments of the recording.
+    pub segments: Segments,
+    /// How the ports go on where a recording ends.
+    pub resume: Resume<'a>,
     /// Whether a recording whose file exists is refused.
     pub no_clobber: bool,
     /// Whether a recording that lacks a chapter fails the run.
@@ -136,12 +187,25 @@ pub struct Run<'a> {
     pub flush: Option<u64>,
     /// The file of management lines for an operator, or `-` for standard input; `None` for no lines.
     pub operate: Option<&'a str>,
+    /// How operators connect to the run.
+    pub control: Control<'a>,
     /// Whether each port is settled at the end with the receipts of all posts.
     pub settle: bool,
     /// Whether the run can be followed on standard error.
     pub progress: bool,
     /// Whether each port has a line on standard error at the end.
     pub summary: bool,
+    /// The address at which the run answers with its metrics; `None` for no metrics.
+    pub metrics: Option<&'a str>,
+}
+
+/// Where a run is reached by an operator.
+#[derive(Clone, Copy, Debug, PartialEq, Eq)]
+pub enum ControlAt<'a> {
+    /// At the Unix socket with this path.
+    Path(&'a str),
+    /// At the TCP socket with this address.
+    Tcp(&'a str),
 }
 
 /// A recording that is written anew, in the present version of the format.
@@ -183,6 +247,10 @@ pub enum Job<'a> {
     Migrate(Migration<'a>),
     /// Serve ports over sockets.
     Run(Run<'a>),
+    /// Stop a run, and wait until it has ended.
+    Stop(ControlAt<'a>),
+    /// Send management lines to a run.
+    Operate(ControlAt<'a>),
     /// Answer the maps of a terminal elsewhere.
     Units(Units<'a>),
 }

@@ -12,7 +12,7 @@ use crate::counts::map_count;
 use crate::gaps::{Gap, Gaps};
 use crate::info::write_line;
 use crate::viewed::Viewed;
-use pon_audit::{Auditing, Step, Verdict};
+use pon_audit::{Auditing, KeptEnds, Step, Verdict};
 use pon_device::{DevRead, DevWrite, DeviceFault, write_text};
 use pon_record::RawChapter;
 use std::alloc::{AllocError, Global};
@@ -99,17 +99,18 @@ fn audit_rest<R: DevRead>(
 ///
 /// # Errors
 ///
-/// `Read` exactly when the reader fails, `Memory` if memory is refused.
+/// `Read` exactly when the reader fails, `Memory` if memory is refused, or the ends that the audit keeps do not suffice.
 pub fn audit_contents<R: DevRead>(
     rt: &(impl Threads + Sync),
     alloc: Global,
+    kept: KeptEnds,
     reader: &mut R,
 ) -> Result<Viewed<Contents>, DeviceFault>
     ensures verdict { IfOk result (λ viewed. IsVerdictOf (R.remaining reader.old) viewed.verdict) }
     ensures failures { TellsFailure (R.failures reader.old) (R.failures reader.new) result }
 {
     let shown = Contents::new(alloc)?;
-    match Auditing::open(alloc, reader)? {
+    match Auditing::open(alloc, kept, reader)? {
         Ok(mut auditing) => audit_rest(rt, alloc, &mut auditing, reader, shown),
         Err(verdict) => Ok(Viewed { verdict, shown }),
     }

@@ -12,7 +12,7 @@ use crate::query::Answer;
 use crate::seen::SeenPorts;
 use crate::viewed::Viewed;
 use pon_admit::{Event, Rule};
-use pon_audit::{Auditing, Step, Verdict};
+use pon_audit::{Auditing, KeptEnds, Step, Verdict};
 use pon_device::{DevRead, DevWrite, DeviceFault, write_text};
 use pon_record::{Opening, RawChapter};
 use pon_state::{Entry, EntryRef, MadeMap};
@@ -214,10 +214,12 @@ fn write_chapters<R: DevRead, W: DevWrite>(
 ///
 /// # Errors
 ///
-/// `Read` exactly when the reader fails, `Write` exactly when the writer fails, `Memory` if memory is refused.
+/// `Read` exactly when the reader fails, `Write` exactly when the writer fails, `Memory` if memory is refused, or the ends
+/// that the audit keeps do not suffice.
 pub fn write_dump<R: DevRead, W: DevWrite>(
     rt: &(impl Threads + Sync),
     alloc: Global,
+    kept: KeptEnds,
     reader: &mut R,
     port: Option<PortNo>,
     writer: &mut W,
@@ -227,7 +229,7 @@ pub fn write_dump<R: DevRead, W: DevWrite>(
     ensures write { TellsWrite (W.failures writer.old) (W.failures writer.new) result }
 {
     let mut seen = SeenPorts::new(port);
-    let verdict = match Auditing::open(alloc, reader)? {
+    let verdict = match Auditing::open(alloc, kept, reader)? {
         Ok(mut auditing) => { write_chapters(rt, alloc, &mut auditing, reader, &mut seen, writer)? }
         Err(verdict) => verdict,
     };

@@ -54,7 +54,7 @@ pub(crate) enum FieldValue {
 pub(crate) struct Field<'a> {
     // Its name in text; the value alone is printed without one.
     words: &'a str,
-    // Its key in JSON, where there is no field without one.
+    // Its key in JSON; empty if JSON has no such field.
     key: &'a str,
     value: FieldValue,
 }

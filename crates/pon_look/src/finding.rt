@@ -10,7 +10,7 @@ use crate::frames::{first_frame, last_frame};
 use crate::query::{Missing, WhyQuery};
 use crate::seen::{Ports, missing_port, with_port};
 use crate::viewed::Viewed;
-use pon_audit::{Auditing, Step};
+use pon_audit::{Auditing, KeptEnds, Step};
 use pon_device::{DevRead, DeviceFault};
 use pon_record::RawChapter;
 use pon_state::{Entry, EntryRef, MadeMap};
@@ -305,10 +305,11 @@ fn look_through<R: DevRead>(
 /// frame, or without a frame the last map, and one with the Alloc-ID if there is one. Returns the verdict of the audit, and
 /// the map or what is missing.
 ///
-/// `Read` exactly when the reader fails, `Memory` if memory is refused.
+/// `Read` exactly when the reader fails, `Memory` if memory is refused, or the ends that the audit keeps do not suffice.
 pub(crate) fn find_map<R: DevRead>(
     rt: &(impl Threads + Sync),
     alloc: Global,
+    kept: KeptEnds,
     reader: &mut R,
     query: WhyQuery,
 ) -> Result<Viewed<Result<FoundMap, Missing>>, DeviceFault>
@@ -316,7 +317,7 @@ pub(crate) fn find_map<R: DevRead>(
     ensures verdict { IfOk result (λ viewed. IsVerdictOf (R.remaining reader.old) viewed.verdict) }
     ensures failures { TellsFailure (R.failures reader.old) (R.failures reader.new) result }
 {
-    match Auditing::open(alloc, reader)? {
+    match Auditing::open(alloc, kept, reader)? {
         Ok(mut auditing) => look_through(rt, alloc, &mut auditing, reader, Search::new(query)),
         Err(verdict) => {
             let shown = Err(Missing::Chapters);

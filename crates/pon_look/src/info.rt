@@ -13,7 +13,7 @@ use crate::printer::Printer;
 use crate::query::{Answer, Format};
 use crate::summary::{Totals, summary_of, with_chapter};
 use crate::viewed::Viewed;
-use pon_audit::{Auditing, BatchEnd, Step, Verdict};
+use pon_audit::{Auditing, BatchEnd, KeptEnds, Step, Verdict};
 use pon_device::{DevRead, DevWrite, DeviceFault, write_text};
 use pon_record::RawChapter;
 use pon_units::MAX_PORTS;
@@ -179,10 +179,12 @@ fn write_chapters<R: DevRead, W: DevWrite>(
 ///
 /// # Errors
 ///
-/// `Read` exactly when the reader fails, `Write` exactly when the writer fails, `Memory` if memory is refused.
+/// `Read` exactly when the reader fails, `Write` exactly when the writer fails, `Memory` if memory is refused,
+/// or the ends that the audit keeps do not suffice.
 pub fn write_info<R: DevRead, W: DevWrite>(
     rt: &(impl Threads + Sync),
     alloc: Global,
+    kept: KeptEnds,
     reader: &mut CountedBytes<R>,
     format: Format,
     writer: &mut W,
@@ -192,7 +194,7 @@ pub fn write_info<R: DevRead, W: DevWrite>(
     ensures write { TellsWrite (W.failures writer.old) (W.failures writer.new) result }
 {
     let mut printer = Printer::new(alloc, format);
-    let verdict = match Auditing::open(alloc, reader)? {
+    let verdict = match Auditing::open(alloc, kept, reader)? {
         Ok(mut auditing) => write_chapters(rt, alloc, &mut auditing, reader, &mut printer, writer)?,
         Err(verdict) => verdict,
     };

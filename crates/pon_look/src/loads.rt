@@ -11,6 +11,7 @@ use crate::seen::missing_port;
 use crate::summing::sum_up;
 use crate::viewed::Viewed;
 use crate::wanted::Wanted;
+use pon_audit::KeptEnds;
 use pon_device::{DevRead, DeviceFault};
 use pon_draw::{Picture, Steps, steps_svg, steps_text};
 use std::alloc::{AllocError, Global};
@@ -122,17 +123,19 @@ fn draw_loads(
 ///
 /// # Errors
 ///
-/// `Read` exactly when the reader fails, `Memory` if memory is refused or a sum is 2^64 or more.
+/// `Read` exactly when the reader fails, `Memory` if memory is refused, a sum is 2^64 or more, or
+/// the ends that the audit keeps do not suffice.
 pub fn loads_of<R: DevRead>(
     rt: &(impl Threads + Sync),
     alloc: Global,
+    kept: KeptEnds,
     reader: &mut R,
     query: LoadsQuery,
 ) -> Result<Viewed<Result<Picture, Missing>>, DeviceFault>
     ensures verdict { IfOk result (λ viewed. IsVerdictOf (R.remaining reader.old) viewed.verdict) }
     ensures read { TellsFailure (R.failures reader.old) (R.failures reader.new) result }
 {
-    let Viewed { verdict, shown } = sum_up(rt, alloc, reader, &Wanted::from(&query))?;
+    let Viewed { verdict, shown } = sum_up(rt, alloc, kept, reader, &Wanted::from(&query))?;
     match draw_loads(alloc, &query, &shown) {
         Ok(shown) => Ok(Viewed { verdict, shown }),
         Err(_) => Err(DeviceFault::Memory),

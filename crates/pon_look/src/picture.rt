@@ -6,6 +6,7 @@ ghost use Rattle.pon_audit.specs.Streams.{IsVerdictOf, TellsFailure};
 use crate::finding::find_map;
 use crate::query::{Missing, WhyQuery};
 use crate::viewed::Viewed;
+use pon_audit::KeptEnds;
 use pon_device::{DevRead, DeviceFault};
 use pon_draw::{Picture, picture_at};
 use pon_units::{FrameNo, PortNo};
@@ -18,10 +19,11 @@ use std::thread::Threads;
 ///
 /// # Errors
 ///
-/// `Read` exactly when the reader fails, `Memory` if memory is refused.
+/// `Read` exactly when the reader fails, `Memory` if memory is refused, or the ends that the audit keeps do not suffice.
 pub fn picture_of<R: DevRead>(
     rt: &(impl Threads + Sync),
     alloc: Global,
+    kept: KeptEnds,
     reader: &mut R,
     port: Option<PortNo>,
     frame: Option<FrameNo>,
@@ -34,7 +36,7 @@ pub fn picture_of<R: DevRead>(
         frame,
         alloc: None,
     };
-    let Viewed { verdict, shown } = find_map(rt, alloc, reader, query)?;
+    let Viewed { verdict, shown } = find_map(rt, alloc, kept, reader, query)?;
     let found = match shown {
         Ok(found) => found,
         Err(missing) => {

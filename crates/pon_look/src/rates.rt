@@ -15,6 +15,7 @@ use crate::seen::Ports;
 use crate::summing::sum_up;
 use crate::viewed::Viewed;
 use crate::wanted::Wanted;
+use pon_audit::KeptEnds;
 use pon_device::{DevRead, DevWrite, DeviceFault};
 use pon_units::AllocId;
 use pon_why::Change;
@@ -161,11 +162,12 @@ fn write_ports<W: DevWrite>(
 ///
 /// # Errors
 ///
-/// `Read` exactly when the reader fails, `Write` exactly when the writer fails, `Memory` if memory is refused or a sum
-/// is 2^64 or more.
+/// `Read` exactly when the reader fails, `Write` exactly when the writer fails, `Memory` if memory is refused, a sum is
+/// 2^64 or more, or the ends that the audit keeps do not suffice.
 pub fn write_rates<R: DevRead, W: DevWrite>(
     rt: &(impl Threads + Sync),
     alloc: Global,
+    kept: KeptEnds,
     reader: &mut R,
     query: RatesQuery,
     format: Format,
@@ -176,7 +178,7 @@ pub fn write_rates<R: DevRead, W: DevWrite>(
     ensures write { TellsWrite (W.failures writer.old) (W.failures writer.new) result }
 {
     let wanted = Wanted::from(&query);
-    let Viewed { verdict, shown } = sum_up(rt, alloc, reader, &wanted)?;
+    let Viewed { verdict, shown } = sum_up(rt, alloc, kept, reader, &wanted)?;
     let extent = Extent::of(&verdict);
     let mut printer = Printer::new(alloc, format);
     write_refused(shown.refused.as_slice(), &mut printer, writer)?;

@@ -11,7 +11,7 @@ use crate::port_tallies::PortTallies;
 use crate::tally::{Summed, Tally, tally_chapter};
 use crate::viewed::Viewed;
 use crate::wanted::Wanted;
-use pon_audit::{Auditing, Judged, PARALLEL_MAPS, judge};
+use pon_audit::{Auditing, Judged, KeptEnds, PARALLEL_MAPS, judge};
 use pon_device::{DevRead, DeviceFault};
 use pon_record::RawChapter;
 use rayon::prelude::*;
@@ -184,10 +184,12 @@ fn add_batch(
 /// Sums up the wanted maps of a recording, up to its end or the first fault of its format, and judges it by the way. Returns
 /// the verdict of the audit, and the tallies.
 ///
-/// `Read` exactly when the reader fails, `Memory` if memory is refused or a sum is 2^64 or more.
+/// `Read` exactly when the reader fails, `Memory` if memory is refused, a sum is 2^64 or more, or
+/// the ends that the audit keeps do not suffice.
 pub(crate) fn sum_up<R: DevRead>(
     rt: &(impl Threads + Sync),
     alloc: Global,
+    kept: KeptEnds,
     reader: &mut R,
     wanted: &Wanted,
 ) -> Result<Viewed<PortTallies>, DeviceFault>
@@ -195,7 +197,7 @@ pub(crate) fn sum_up<R: DevRead>(
     ensures read { TellsFailure (R.failures reader.old) (R.failures reader.new) result }
 {
     let mut shown = PortTallies::new(alloc, wanted.followed);
-    let mut auditing = match Auditing::open(alloc, reader)? {
+    let mut auditing = match Auditing::open(alloc, kept, reader)? {
         Ok(auditing) => auditing,
         Err(verdict) => return Ok(Viewed { verdict, shown }),
     };

@@ -17,6 +17,7 @@ use crate::query::{Answer, Format, Missing, WhyQuery};
 use crate::replay::{MapExplanation, Replay, explain_map, open_replay, replay_to};
 use crate::viewed::Viewed;
 use crate::why_fields::{MapPlace, Shown, map_line, row_lines};
+use pon_audit::KeptEnds;
 use pon_device::{DevRead, DevWrite, DeviceFault};
 use pon_record::RawChapter;
 use pon_state::{EntryRef, MadeMap};
@@ -186,10 +187,12 @@ fn answer_by<W: DevWrite>(
 ///
 /// # Errors
 ///
-/// `Read` exactly when the reader fails, `Write` exactly when the writer fails, `Memory` if memory is refused.
+/// `Read` exactly when the reader fails, `Write` exactly when the writer fails, `Memory` if memory is refused,
+/// or the ends that the audit keeps do not suffice.
 pub fn write_why<R: DevRead, W: DevWrite>(
     rt: &(impl Threads + Sync),
     alloc: Global,
+    kept: KeptEnds,
     reader: &mut R,
     query: WhyQuery,
     format: Format,
@@ -199,7 +202,7 @@ pub fn write_why<R: DevRead, W: DevWrite>(
     ensures read { CountsReads (R.failures reader.old) (R.failures reader.new) result }
     ensures write { TellsWrite (W.failures writer.old) (W.failures writer.new) result }
 {
-    let Viewed { verdict, shown } = find_map(rt, alloc, reader, query)?;
+    let Viewed { verdict, shown } = find_map(rt, alloc, kept, reader, query)?;
     let mut printer = Printer::new(alloc, format);
     let shown = match shown {
         Ok(found) => answer_by(alloc, &found, &query, &mut printer, writer)?,

@@ -11,7 +11,7 @@ use Rattle.pon_line.specs.declared.reading.Reading.{Reading}
 use Rattle.pon_line.specs.declared.reading.Reading.TheVariants.{Nothing, Refused, Asks, AsksCert, AsksState, AsksRows, AsksHelp, AsksStop, AsksWhy, AsksSure}
 use Rattle.pon_plant.specs.Turning.{KeepsChapters, TurnsPort}
 use Rattle.pon_plant.proofs.Turning.{gives_turned, turned_length}
-use Rattle.pon_recorder.specs.Bodies.{chapter_body}
+use Rattle.pon_record.specs.Bodies.{chapter_body}
 use Rattle.pon_recorder.specs.Recordings.{HasRecorded}
 use Rattle.pon_recorder.specs.Whole.{IsSound, all_kept}
 use Rattle.pon_recorder.specs.declared.recorder.Recorder.{Recorder}

@@ -6,7 +6,7 @@ use Rattle.pon_line.proofs.LongLines.{read_line-take}
 use Rattle.pon_plant.specs.Turning.{KeepsChapters}
 use Rattle.pon_plant.proofs.Turning.{gives_joined, keeps_here, keeps_joined}
 use Rattle.pon_record.specs.Chapters.{Body}
-use Rattle.pon_recorder.specs.Bodies.{chapter_body}
+use Rattle.pon_record.specs.Bodies.{chapter_body}
 use Rattle.pon_recorder.specs.Whole.{RecordsAll}
 use Rattle.pon_recorder.proofs.Whole.{records_both, records_none}
 use Rattle.pon_text.specs.Giving.{IsPath, ReadsFirst}

@@ -11,7 +11,7 @@ use Rattle.pon_line.specs.declared.reading.Reading.{Reading}
 use Rattle.pon_line.specs.declared.reading.Reading.TheVariants.{Asks}
 use Rattle.pon_plant.specs.Turning.{GivesChapters, IsFullAt, TurnsPort}
 use Rattle.pon_record.specs.Chapters.{Body}
-use Rattle.pon_recorder.specs.Bodies.{chapter_body}
+use Rattle.pon_record.specs.Bodies.{chapter_body}
 use Rattle.pon_recorder.specs.Recordings.{HasRecorded}
 use Rattle.pon_recorder.specs.Whole.{RecordsAll, all_kept}
 use Rattle.pon_text.specs.Planning.{Planned}

@@ -70,11 +70,16 @@ pub(crate) fn not_begun<D: DevWrite + Drop>(recorder: Recorder<D>) -> RecordedPl
     ensures lines { result.lines ≡ Err Memory }
     ensures recording { result.recording.result ≡ Err Memory }
 {
-    let Ended { device, result: _ } = recorder.end();
+    let Ended {
+        device,
+        held,
+        result: _,
+    } = recorder.end();
     RecordedPlan {
         lines: Err(DeviceFault::Memory),
         recording: Ended {
             device,
+            held,
             result: Err(DeviceFault::Memory),
         },
     }

@@ -1,10 +1,10 @@
 //! The audit of recordings in files.
 
 use crate::faulty::{print_fault, print_missing};
-use crate::files::open_recording;
-use pon_audit::Verdict;
+use crate::joining::{RecordingFiles, asks_for_all};
+use pon_audit::{KeptEnds, Verdict};
 use pon_device::{DevWrite, DeviceFault, StdWrite, write_text};
-use pon_job::{Audit, Failure, Named};
+use pon_job::{Audit, Failure};
 use pon_look::{
     Contents, CountedBytes, Viewed, audit_contents, write_gaps, write_judged, write_verdict_line,
 };
@@ -23,24 +23,41 @@ struct Auditor {
 
 /// A recording that was audited, and the number of its bytes up to its end or the first fault of its format.
 #[derive(Drop)]
-struct Audited {
+pub(crate) struct Audited {
     judged: Viewed<Contents>,
     bytes: u64,
 }
 
-// Audits the recording in the file `name`.
-fn audit_file<R: Files + Threads + Sync>(
+/// Audits a recording, and keeps these ends of its chapters.
+pub(crate) fn audit_keeping<R: Files + Threads + Sync>(
     rt: &R,
     alloc: Global,
-    name: &str,
+    recording: &RecordingFiles,
+    kept: KeptEnds,
 ) -> Result<Audited, Failure> {
-    let mut reader = CountedBytes::new(open_recording(rt, alloc, name)?);
-    match audit_contents(rt, alloc, &mut reader) {
+    let mut reader = CountedBytes::new(recording.open(rt, alloc)?);
+    match audit_contents(rt, alloc, kept, &mut reader) {
         Ok(judged) => {
             let bytes = reader.bytes();
             Ok(Audited { judged, bytes })
         }
-        Err(fault) => Err(Failure::in_reading(alloc, fault, Named::Recording(name))),
+        Err(fault) => Err(recording.failure(rt, alloc, fault)),
+    }
+}
+
+// Audits a recording, in little memory if that suffices.
+fn audit_recording<R: Files + Threads + Sync>(
+    rt: &R,
+    alloc: Global,
+    recording: &RecordingFiles,
+) -> Result<Audited, Failure> {
+    let kept = recording.kept_at_first(rt);
+    match audit_keeping(rt, alloc, recording, kept) {
+        Ok(audited) => Ok(audited),
+        Err(failure) if asks_for_all(kept, &failure) => {
+            audit_keeping(rt, alloc, recording, KeptEnds::OfChapters)
+        }
+        Err(failure) => Err(failure),
     }
 }
 
@@ -101,20 +118,20 @@ impl Auditor {
         judged.verdict.is_good() && is_enough
     }
 
-    // Audits the recording in the file `name`, and prints the verdict and what it does not have. Returns whether it is
-    // accepted.
+    // Audits a recording, and prints the verdict and what it does not have. Returns whether it is accepted.
     fn audit<R: Files + Print + Eprint + Threads + Sync>(
         self,
         rt: &R,
         alloc: Global,
-        name: &str,
+        recording: &RecordingFiles,
     ) -> Result<bool, Failure> {
-        let audited = audit_file(rt, alloc, name)?;
+        let name = recording.name();
+        let audited = audit_recording(rt, alloc, recording)?;
         let mut writer = StdWrite::new(io::writer(rt));
         self.write_verdict(alloc, name, &audited, &mut writer)?;
         let judged = &audited.judged;
         self.write_missing(rt, alloc, name, &judged.shown, &mut writer)?;
-        print_fault(rt, alloc, name, &judged.verdict);
+        print_fault(rt, alloc, recording, &judged.verdict);
         Ok(self.accepts(judged))
     }
 }
@@ -130,7 +147,7 @@ fn audit_each<R: Files + Print + Eprint + Threads + Sync>(
     let mut are_good = true;
     let mut unread: Option<Failure> = None;
     for name in names {
-        match auditor.audit(rt, alloc, name) {
+        match auditor.audit(rt, alloc, &RecordingFiles::in_file(alloc, name)?) {
             Ok(is_good) => are_good = are_good && is_good,
             Err(failure) => {
                 if let Some(before) = unread {
@@ -152,7 +169,7 @@ fn audit_each<R: Files + Print + Eprint + Threads + Sync>(
 /// Audits recordings, and prints the verdicts: of one file the verdict alone, of several a line each that begins with the
 /// file, and with `json` an object each. Chapters that are missing have a line each after that with `complete`, and one
 /// line on standard error without. Returns `true` if each recording is good, and also complete with `complete`; `Read` if a
-/// file cannot be read.
+/// file cannot be read. Files that are joined have the verdict of one file.
 pub(crate) fn audit_files<R: Files + Print + Eprint + Threads + Sync>(
     rt: &R,
     alloc: Global,
@@ -161,7 +178,14 @@ pub(crate) fn audit_files<R: Files + Print + Eprint + Threads + Sync>(
     let auditor = Auditor {
         json: audit.json,
         complete: audit.complete,
-        is_alone: audit.files.len() == 1,
+        is_alone: audit.joined || audit.files.len() == 1,
     };
+    if audit.joined {
+        return auditor.audit(
+            rt,
+            alloc,
+            &RecordingFiles::in_files(rt, alloc, &audit.files)?,
+        );
+    }
     audit_each(rt, alloc, &audit.files, auditor)
 }

@@ -3,7 +3,8 @@
 ghost use Rattle.std.specs.Prelude.{◌≡◌, true};
 
 use crate::commands::{Takes, nearest};
-use crate::refusals::{Refused, refused_event, refused_rates};
+use crate::refusals::{Refused, refused_event};
+use crate::refused_row::{RefusedRow, refused_rates};
 use pon_descr::Refusal;
 use pon_line::{Command, Field, FieldAt, LineFault, LineRefusal, Reading, read_line};
 use pon_manage::Notes;
@@ -139,9 +140,9 @@ fn reason_of_event(alloc: Global, plant: &Plant, line: &[u8], refusal: Refusal) 
         Reading::Asks { port, event } => refused_event(alloc, refusal, plant, port, &event),
         Reading::AsksWhy { alloc_id, .. } | Reading::AsksSure { alloc_id, .. } => {
             let alloc = alloc_id.get();
-            Some(Refused::NotAdmitted { alloc })
+            Some(Refused::Row(RefusedRow::NotAdmitted { alloc }))
         }
-        _ => refused_rates(refusal, rates_of(line)?),
+        _ => refused_rates(refusal, rates_of(line)?).map(Refused::Row),
     }
 }
 

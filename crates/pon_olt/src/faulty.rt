@@ -1,6 +1,7 @@
 //! What is said on standard error of a recording that is not good or not complete.
 
-use crate::files::open_recording;
+use crate::joining::RecordingFiles;
+use crate::places::print_place;
 use pon_audit::Verdict;
 use pon_job::Failure;
 use pon_look::{Contents, CountedBytes, Gap, fault_line};
@@ -9,35 +10,42 @@ use std::fs;
 use std::rt::Files;
 
 // Returns whether a recording can be read again: a pipe cannot.
-fn is_regular<R: Files>(rt: &R, name: &str) -> bool {
-    match fs::metadata(rt, name) {
-        Ok(found) => found.is_file(),
-        Err(_) => false,
+fn is_regular<R: Files>(rt: &R, recording: &RecordingFiles) -> bool {
+    for name in recording.files() {
+        match fs::metadata(rt, name.as_str()) {
+            Ok(found) if found.is_file() => {}
+            _ => return false,
+        }
     }
+    true
 }
 
-// Makes the line that explains the verdict on a recording, if it is in a file and can be read again.
+// Makes the line that explains the verdict on a recording, if it is in files and can be read again.
 fn explained<R: Files>(
     rt: &R,
     alloc: Global,
-    name: &str,
+    recording: &RecordingFiles,
     verdict: &Verdict,
 ) -> Result<Option<String>, Failure> {
-    if !is_regular(rt, name) {
-        return Ok(None);
-    }
-    let mut reader = CountedBytes::new(open_recording(rt, alloc, name)?);
+    let mut reader = CountedBytes::new(recording.open(rt, alloc)?);
     Ok(fault_line(alloc, &mut reader, verdict)?)
 }
 
-/// Prints on standard error, indented, what is wrong in numbers with the recording in the file `name`, if it is not good.
-pub(crate) fn print_fault<R: Files + Eprint>(rt: &R, alloc: Global, name: &str, verdict: &Verdict) {
-    if verdict.is_good() {
+/// Prints on standard error, indented, what is wrong in numbers with a recording, if it is not good, and in which of
+/// several files.
+pub(crate) fn print_fault<R: Files + Eprint>(
+    rt: &R,
+    alloc: Global,
+    recording: &RecordingFiles,
+    verdict: &Verdict,
+) {
+    if verdict.is_good() || !is_regular(rt, recording) {
         return;
     }
-    if let Ok(Some(line)) = explained(rt, alloc, name, verdict) {
+    if let Ok(Some(line)) = explained(rt, alloc, recording, verdict) {
         let _ = eprintln!(rt; "  {line}");
     }
+    print_place(rt, recording, verdict);
 }
 
 // Returns the number of chapters that are missing, at most 2^64 - 1.

@@ -2,8 +2,9 @@
 //!
 //! The program executes management lines and prints a reply or a refusal for each ([`plan`]), judges a check file
 //! ([`check_file`]) or a recording ([`audit`]), prints what one holds, writes a recording anew in the present version of its
-//! format ([`migrate`]), runs ports over sockets ([`run_ports`]), or simulates the units of a terminal elsewhere
-//! ([`run_units`]). This crate adds the standard streams, the files, the settings and the exit status.
+//! format ([`migrate`]), runs ports over sockets ([`run_ports`]), passes lines to a run or stops it ([`operate_run`],
+//! [`stop_run`]), or simulates the units of a terminal elsewhere ([`run_units`]). This crate adds the standard streams, the
+//! files, the settings and the exit status.
 #![tactic(auto)]
 
 ghost use Rattle.std.specs.Prelude.{◌≡◌, Err, IfOk, Ok};
@@ -15,12 +16,19 @@ mod explaining;
 mod faulty;
 mod files;
 mod floors;
+mod folders;
+mod joining;
+mod left_recording;
 mod looking;
 mod migrating;
 mod opening;
 mod piped;
+mod places;
 mod planning;
 mod refusals;
+mod refused_report;
+mod refused_row;
+mod resuming;
 mod running;
 
 use crate::auditing::audit_files;
@@ -39,12 +47,13 @@ use pon_job::{Failure, Job, Named, Outcome, exit_status, outcome_of_job, outcome
 pub use pon_manage::plan;
 pub use pon_record::migrate;
 pub use pon_run::run_ports;
-pub use pon_sockets::run_units;
+pub use pon_sockets::{operate_run, run_units, stop_run};
 use std::alloc::{AllocError, Global};
 use std::io::{self, BufReader};
 use std::net::{Net, TcpListener, TcpStream};
 use std::os::fd::AsRawFd;
 use std::process::ExitCode;
+use std::random::RandomSource;
 use std::rt::Files;
 use std::sync::Wait;
 use std::thread::Threads;
@@ -148,8 +157,10 @@ where
         + Threads
         + Wait
         + Clock
+        + RandomSource
         + Sync,
     R::File: AsRawFd + LockFile + Send,
+    R::Dir: Send,
 {
     let job = match job(alloc, words) {
         Ok(job) => job,
@@ -163,6 +174,8 @@ where
         Job::Migrate(migration) => migrate_file(rt, alloc, migration).map_err(NotOpened::Failed),
         Job::Run(run) => return status_of(rt, run_settings(rt, alloc, run)),
         Job::Units(units) => return status_of(rt, connect_units(rt, alloc, units)),
+        Job::Stop(at) => stop_run(rt, alloc, *at).map_err(NotOpened::Failed),
+        Job::Operate(at) => operate_run(rt, alloc, *at).map_err(NotOpened::Failed),
     };
     exit_status(outcome_of_end(rt, &job, ended))
 }

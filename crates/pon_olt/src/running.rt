@@ -2,6 +2,7 @@
 
 use crate::floors::tell_floors;
 use crate::opening::{NotOpened, settings_of};
+use crate::resuming::ports_of_run;
 use pon_device::StdWrite;
 use pon_files::LockFile;
 use pon_job::{Meeting, Outcome, Run, Units, exit_status};
@@ -15,6 +16,7 @@ use std::fmt::{self, Display, Formatter, Write};
 use std::io;
 use std::net::{Net, TcpListener, TcpStream};
 use std::os::fd::AsRawFd;
+use std::random::RandomSource;
 use std::rt::Files;
 use std::sync::Wait;
 use std::thread::Threads;
@@ -61,24 +63,32 @@ fn args_of<'a>(run: &Run<'a>) -> RunArgs<'a> {
         maps: run.maps,
         pace,
         record: run.record,
+        segments: run.segments,
+        resumed_from: run.resume.from,
         flush: run.flush.unwrap_or(0),
         no_clobber: run.no_clobber,
         strict_record: run.strict_record,
         config: Some(run.config),
         operate: run.operate.map(lines_of),
+        control: run.control,
         settle: run.settle,
         progress: run.progress,
         summary: run.summary,
+        metrics: run.metrics,
     }
 }
 
-/// Why the words of a command line do not fit the settings.
+/// Why the words of a command line do not fit the settings, or one another.
 #[derive(Clone, Copy)]
 enum Misfit {
     /// The settings have not this port; they have this many.
     Port { asked: u64, ports: usize },
     /// The address leaves no TCP port for one of this many.
     Address { ports: usize },
+    /// The one option needs the other.
+    Needs(&'static str, &'static str),
+    /// The one option excludes the other, for this reason.
+    Excludes(&'static str, &'static str, &'static str),
 }
 
 impl Display for Misfit {
@@ -91,8 +101,38 @@ impl Display for Misfit {
                 f,
                 "each of {ports} ports has a TCP port of its own, and the last one is above 65535"
             ),
+            Misfit::Needs(option, needed) => write!(f, "{option} needs {needed}"),
+            Misfit::Excludes(option, other, why) => {
+                write!(f, "{option} and {other} exclude each other: {why}")
+            }
         }
     }
+}
+
+// Returns which option of a run lacks another one, or excludes it.
+fn misfit_of_words(run: &Run<'_>) -> Option<Misfit> {
+    let resume = &run.resume;
+    let needs_resume = [
+        (resume.truncated, "--resume-truncated"),
+        (resume.warm, "--warm"),
+        (resume.apply, "--apply"),
+    ];
+    for (is_given, option) in needs_resume {
+        if is_given && resume.from.is_none() {
+            return Some(Misfit::Needs(option, "--resume"));
+        }
+    }
+    if run.segments.keep.is_some() && run.segments.maps.is_none() {
+        return Some(Misfit::Needs("--keep", "--segment"));
+    }
+    if resume.from.is_some() && run.settle {
+        let why = "only what this run posts has receipts";
+        return Some(Misfit::Excludes("--settle", "--resume", why));
+    }
+    if run.segments.maps.is_some() && run.record.is_none() {
+        return Some(Misfit::Needs("--segment", "--record"));
+    }
+    None
 }
 
 // Returns whether all ports of a run have a TCP port, if their units come from elsewhere.
@@ -131,17 +171,25 @@ where
         + Threads
         + Wait
         + Clock
+        + RandomSource
         + Sync,
     R::File: AsRawFd + LockFile + Send,
+    R::Dir: Send,
 {
+    if let Some(misfit) = misfit_of_words(run) {
+        return Ok(refuse(rt, misfit));
+    }
     let settings = settings_of(rt, alloc, run.config)?;
     tell_floors(rt, alloc, &settings)?;
     if let Some(misfit) = misfit_of_run(&settings, run) {
         return Ok(refuse(rt, misfit));
     }
+    let Some(ports) = ports_of_run(rt, alloc, settings, &run.resume)? else {
+        return Ok(exit_status(Outcome::Refused));
+    };
     let mut writer = StdWrite::new(io::writer(rt));
     let args = args_of(run);
-    Ok(run_ports(rt, alloc, settings, args, &OpenGate, &mut writer))
+    Ok(run_ports(rt, alloc, ports, args, &OpenGate, &mut writer))
 }
 
 /// Simulates the units of the settings file for a terminal elsewhere. Returns the exit status.

@@ -79,47 +79,67 @@ static LINES: [(&str, &str); 9] = [
 ];
 
 /// Runs, and units elsewhere.
-static RUNS: [(&str, &str); 12] = [
+static RUNS: [(&str, &str); 20] = [
     (
         "olt run --config a.toml --listen 127.0.0.1:0 --maps 1",
-        r#"Run(Run { config: "a.toml", listen: "127.0.0.1:0", maps: Some(1), meeting: Meeting { external: false, once: false, grow: false, wait: None, pace: None }, record: None, no_clobber: false, strict_record: false, flush: None, operate: None, settle: false, progress: false, summary: false })"#,
+        r#"Run(Run { config: "a.toml", listen: "127.0.0.1:0", maps: Some(1), meeting: Meeting { external: false, once: false, grow: false, wait: None, pace: None }, record: None, segments: Segments { maps: None, keep: None }, resume: Resume { from: None, truncated: false, warm: false, apply: false }, no_clobber: false, strict_record: false, flush: None, operate: None, control: Control { path: None, tcp: None, operators: None }, settle: false, progress: false, summary: false, metrics: None })"#,
     ),
     (
         "olt run --maps=1000000000 --listen=127.0.0.1:0 --config=a.toml",
-        r#"Run(Run { config: "a.toml", listen: "127.0.0.1:0", maps: Some(1000000000), meeting: Meeting { external: false, once: false, grow: false, wait: None, pace: None }, record: None, no_clobber: false, strict_record: false, flush: None, operate: None, settle: false, progress: false, summary: false })"#,
+        r#"Run(Run { config: "a.toml", listen: "127.0.0.1:0", maps: Some(1000000000), meeting: Meeting { external: false, once: false, grow: false, wait: None, pace: None }, record: None, segments: Segments { maps: None, keep: None }, resume: Resume { from: None, truncated: false, warm: false, apply: false }, no_clobber: false, strict_record: false, flush: None, operate: None, control: Control { path: None, tcp: None, operators: None }, settle: false, progress: false, summary: false, metrics: None })"#,
     ),
     (
         "olt run --config a.toml --operate b.txt --listen 127.0.0.1:0 --maps 3 --record r.bin",
-        r#"Run(Run { config: "a.toml", listen: "127.0.0.1:0", maps: Some(3), meeting: Meeting { external: false, once: false, grow: false, wait: None, pace: None }, record: Some("r.bin"), no_clobber: false, strict_record: false, flush: None, operate: Some("b.txt"), settle: false, progress: false, summary: false })"#,
+        r#"Run(Run { config: "a.toml", listen: "127.0.0.1:0", maps: Some(3), meeting: Meeting { external: false, once: false, grow: false, wait: None, pace: None }, record: Some("r.bin"), segments: Segments { maps: None, keep: None }, resume: Resume { from: None, truncated: false, warm: false, apply: false }, no_clobber: false, strict_record: false, flush: None, operate: Some("b.txt"), control: Control { path: None, tcp: None, operators: None }, settle: false, progress: false, summary: false, metrics: None })"#,
+    ),
+    (
+        "olt run --config a.toml --listen h:1 --record d --segment 1000000000 --keep 1000000 --resume d --resume-truncated --warm --apply",
+        r#"Run(Run { config: "a.toml", listen: "h:1", maps: None, meeting: Meeting { external: false, once: false, grow: false, wait: None, pace: None }, record: Some("d"), segments: Segments { maps: Some(1000000000), keep: Some(1000000) }, resume: Resume { from: Some("d"), truncated: true, warm: true, apply: true }, no_clobber: false, strict_record: false, flush: None, operate: None, control: Control { path: None, tcp: None, operators: None }, settle: false, progress: false, summary: false, metrics: None })"#,
     ),
     (
         "olt run --settle --config a.toml --listen 127.0.0.1:0 --maps 2",
-        r#"Run(Run { config: "a.toml", listen: "127.0.0.1:0", maps: Some(2), meeting: Meeting { external: false, once: false, grow: false, wait: None, pace: None }, record: None, no_clobber: false, strict_record: false, flush: None, operate: None, settle: true, progress: false, summary: false })"#,
+        r#"Run(Run { config: "a.toml", listen: "127.0.0.1:0", maps: Some(2), meeting: Meeting { external: false, once: false, grow: false, wait: None, pace: None }, record: None, segments: Segments { maps: None, keep: None }, resume: Resume { from: None, truncated: false, warm: false, apply: false }, no_clobber: false, strict_record: false, flush: None, operate: None, control: Control { path: None, tcp: None, operators: None }, settle: true, progress: false, summary: false, metrics: None })"#,
     ),
     (
         "olt run --config a.toml --listen h:1 --maps 1 --units external --wait 3600 --pace 1000000 --progress --summary",
-        r#"Run(Run { config: "a.toml", listen: "h:1", maps: Some(1), meeting: Meeting { external: true, once: false, grow: false, wait: Some(3600), pace: Some(1000000) }, record: None, no_clobber: false, strict_record: false, flush: None, operate: None, settle: false, progress: true, summary: true })"#,
+        r#"Run(Run { config: "a.toml", listen: "h:1", maps: Some(1), meeting: Meeting { external: true, once: false, grow: false, wait: Some(3600), pace: Some(1000000) }, record: None, segments: Segments { maps: None, keep: None }, resume: Resume { from: None, truncated: false, warm: false, apply: false }, no_clobber: false, strict_record: false, flush: None, operate: None, control: Control { path: None, tcp: None, operators: None }, settle: false, progress: true, summary: true, metrics: None })"#,
     ),
     (
         "olt run --units simulated --config a.toml --listen h:1 --maps 1 --operate -",
-        r#"Run(Run { config: "a.toml", listen: "h:1", maps: Some(1), meeting: Meeting { external: false, once: false, grow: false, wait: None, pace: None }, record: None, no_clobber: false, strict_record: false, flush: None, operate: Some("-"), settle: false, progress: false, summary: false })"#,
+        r#"Run(Run { config: "a.toml", listen: "h:1", maps: Some(1), meeting: Meeting { external: false, once: false, grow: false, wait: None, pace: None }, record: None, segments: Segments { maps: None, keep: None }, resume: Resume { from: None, truncated: false, warm: false, apply: false }, no_clobber: false, strict_record: false, flush: None, operate: Some("-"), control: Control { path: None, tcp: None, operators: None }, settle: false, progress: false, summary: false, metrics: None })"#,
     ),
     (
         "olt run --config a.toml --listen h:1 --maps 1 --pace=1 --wait=1",
-        r#"Run(Run { config: "a.toml", listen: "h:1", maps: Some(1), meeting: Meeting { external: false, once: false, grow: false, wait: Some(1), pace: Some(1) }, record: None, no_clobber: false, strict_record: false, flush: None, operate: None, settle: false, progress: false, summary: false })"#,
+        r#"Run(Run { config: "a.toml", listen: "h:1", maps: Some(1), meeting: Meeting { external: false, once: false, grow: false, wait: Some(1), pace: Some(1) }, record: None, segments: Segments { maps: None, keep: None }, resume: Resume { from: None, truncated: false, warm: false, apply: false }, no_clobber: false, strict_record: false, flush: None, operate: None, control: Control { path: None, tcp: None, operators: None }, settle: false, progress: false, summary: false, metrics: None })"#,
     ),
     (
         "olt run --strict-record --record=r.bin --config a.toml --listen h:1 --maps 1",
-        r#"Run(Run { config: "a.toml", listen: "h:1", maps: Some(1), meeting: Meeting { external: false, once: false, grow: false, wait: None, pace: None }, record: Some("r.bin"), no_clobber: false, strict_record: true, flush: None, operate: None, settle: false, progress: false, summary: false })"#,
+        r#"Run(Run { config: "a.toml", listen: "h:1", maps: Some(1), meeting: Meeting { external: false, once: false, grow: false, wait: None, pace: None }, record: Some("r.bin"), segments: Segments { maps: None, keep: None }, resume: Resume { from: None, truncated: false, warm: false, apply: false }, no_clobber: false, strict_record: true, flush: None, operate: None, control: Control { path: None, tcp: None, operators: None }, settle: false, progress: false, summary: false, metrics: None })"#,
     ),
     (
         "olt run --once --grow --flush 0 --config a.toml --listen h:1 --maps 1",
-        r#"Run(Run { config: "a.toml", listen: "h:1", maps: Some(1), meeting: Meeting { external: false, once: true, grow: true, wait: None, pace: None }, record: None, no_clobber: false, strict_record: false, flush: Some(0), operate: None, settle: false, progress: false, summary: false })"#,
+        r#"Run(Run { config: "a.toml", listen: "h:1", maps: Some(1), meeting: Meeting { external: false, once: true, grow: true, wait: None, pace: None }, record: None, segments: Segments { maps: None, keep: None }, resume: Resume { from: None, truncated: false, warm: false, apply: false }, no_clobber: false, strict_record: false, flush: Some(0), operate: None, control: Control { path: None, tcp: None, operators: None }, settle: false, progress: false, summary: false, metrics: None })"#,
     ),
     (
         "olt run --config a.toml --listen h:1 --operate -",
-        r#"Run(Run { config: "a.toml", listen: "h:1", maps: None, meeting: Meeting { external: false, once: false, grow: false, wait: None, pace: None }, record: None, no_clobber: false, strict_record: false, flush: None, operate: Some("-"), settle: false, progress: false, summary: false })"#,
+        r#"Run(Run { config: "a.toml", listen: "h:1", maps: None, meeting: Meeting { external: false, once: false, grow: false, wait: None, pace: None }, record: None, segments: Segments { maps: None, keep: None }, resume: Resume { from: None, truncated: false, warm: false, apply: false }, no_clobber: false, strict_record: false, flush: None, operate: Some("-"), control: Control { path: None, tcp: None, operators: None }, settle: false, progress: false, summary: false, metrics: None })"#,
     ),
+    (
+        "olt run --config a.toml --listen h:1 --control c.sock --operators 32",
+        r#"Run(Run { config: "a.toml", listen: "h:1", maps: None, meeting: Meeting { external: false, once: false, grow: false, wait: None, pace: None }, record: None, segments: Segments { maps: None, keep: None }, resume: Resume { from: None, truncated: false, warm: false, apply: false }, no_clobber: false, strict_record: false, flush: None, operate: None, control: Control { path: Some("c.sock"), tcp: None, operators: Some(32) }, settle: false, progress: false, summary: false, metrics: None })"#,
+    ),
+    (
+        "olt run --control-tcp h:2 --operators=1 --config a.toml --control=c.sock --listen h:1",
+        r#"Run(Run { config: "a.toml", listen: "h:1", maps: None, meeting: Meeting { external: false, once: false, grow: false, wait: None, pace: None }, record: None, segments: Segments { maps: None, keep: None }, resume: Resume { from: None, truncated: false, warm: false, apply: false }, no_clobber: false, strict_record: false, flush: None, operate: None, control: Control { path: Some("c.sock"), tcp: Some("h:2"), operators: Some(1) }, settle: false, progress: false, summary: false, metrics: None })"#,
+    ),
+    (
+        "olt run --metrics :9464 --config a.toml --listen h:1",
+        r#"Run(Run { config: "a.toml", listen: "h:1", maps: None, meeting: Meeting { external: false, once: false, grow: false, wait: None, pace: None }, record: None, segments: Segments { maps: None, keep: None }, resume: Resume { from: None, truncated: false, warm: false, apply: false }, no_clobber: false, strict_record: false, flush: None, operate: None, control: Control { path: None, tcp: None, operators: None }, settle: false, progress: false, summary: false, metrics: Some(":9464") })"#,
+    ),
+    ("olt stop --control c.sock", r#"Stop(Path("c.sock"))"#),
+    ("olt stop --control-tcp h:2", r#"Stop(Tcp("h:2"))"#),
+    ("olt operate --control c.sock", r#"Operate(Path("c.sock"))"#),
+    ("olt operate --control-tcp=h:2", r#"Operate(Tcp("h:2"))"#),
     (
         "olt units --config a.toml --connect h:1",
         r#"Units(Units { config: "a.toml", connect: "h:1", port: None, wait: None })"#,
@@ -131,62 +151,74 @@ static RUNS: [(&str, &str); 12] = [
 ];
 
 /// Audits and views of recordings.
-static RECORDINGS: [(&str, &str); 16] = [
+static RECORDINGS: [(&str, &str); 19] = [
     (
         "olt audit r.bin",
-        r#"Audit(Audit { files: ["r.bin"], json: false, complete: false })"#,
+        r#"Audit(Audit { files: ["r.bin"], joined: false, json: false, complete: false })"#,
     ),
     (
         "olt audit a.bin b.bin c.bin",
-        r#"Audit(Audit { files: ["a.bin", "b.bin", "c.bin"], json: false, complete: false })"#,
+        r#"Audit(Audit { files: ["a.bin", "b.bin", "c.bin"], joined: false, json: false, complete: false })"#,
     ),
     (
         "olt audit --format json r.bin",
-        r#"Audit(Audit { files: ["r.bin"], json: true, complete: false })"#,
+        r#"Audit(Audit { files: ["r.bin"], joined: false, json: true, complete: false })"#,
     ),
     (
         "olt audit a.bin b.bin --format=json c.bin",
-        r#"Audit(Audit { files: ["a.bin", "b.bin", "c.bin"], json: true, complete: false })"#,
+        r#"Audit(Audit { files: ["a.bin", "b.bin", "c.bin"], joined: false, json: true, complete: false })"#,
     ),
     (
         "olt audit --complete a.bin b.bin",
-        r#"Audit(Audit { files: ["a.bin", "b.bin"], json: false, complete: true })"#,
+        r#"Audit(Audit { files: ["a.bin", "b.bin"], joined: false, json: false, complete: true })"#,
     ),
     (
         "olt info r.bin --format text",
-        r#"Show(Show { view: Info, file: "r.bin", part: Part { port: None, alloc: None, frame: None, from: None, to: None }, svg: None, no_clobber: false, json: false })"#,
+        r#"Show(Show { view: Info, files: ["r.bin"], joined: false, part: Part { port: None, alloc: None, frame: None, from: None, to: None }, svg: None, no_clobber: false, json: false })"#,
     ),
     (
         "olt info --format json r.bin",
-        r#"Show(Show { view: Info, file: "r.bin", part: Part { port: None, alloc: None, frame: None, from: None, to: None }, svg: None, no_clobber: false, json: true })"#,
+        r#"Show(Show { view: Info, files: ["r.bin"], joined: false, part: Part { port: None, alloc: None, frame: None, from: None, to: None }, svg: None, no_clobber: false, json: true })"#,
     ),
     (
         "olt rates r.bin",
-        r#"Show(Show { view: Rates, file: "r.bin", part: Part { port: None, alloc: None, frame: None, from: None, to: None }, svg: None, no_clobber: false, json: false })"#,
+        r#"Show(Show { view: Rates, files: ["r.bin"], joined: false, part: Part { port: None, alloc: None, frame: None, from: None, to: None }, svg: None, no_clobber: false, json: false })"#,
     ),
     (
         "olt rates r.bin --port 63 --alloc 16383 --from 0 --to 18446744073709551615 --format json",
-        r#"Show(Show { view: Rates, file: "r.bin", part: Part { port: Some(63), alloc: Some(16383), frame: None, from: Some(0), to: Some(18446744073709551615) }, svg: None, no_clobber: false, json: true })"#,
+        r#"Show(Show { view: Rates, files: ["r.bin"], joined: false, part: Part { port: Some(63), alloc: Some(16383), frame: None, from: Some(0), to: Some(18446744073709551615) }, svg: None, no_clobber: false, json: true })"#,
     ),
     (
         "olt why --port=0 --frame=7 --alloc=1024 r.bin",
-        r#"Show(Show { view: Why, file: "r.bin", part: Part { port: Some(0), alloc: Some(1024), frame: Some(7), from: None, to: None }, svg: None, no_clobber: false, json: false })"#,
+        r#"Show(Show { view: Why, files: ["r.bin"], joined: false, part: Part { port: Some(0), alloc: Some(1024), frame: Some(7), from: None, to: None }, svg: None, no_clobber: false, json: false })"#,
     ),
     (
         "olt dump r.bin --port 2",
-        r#"Show(Show { view: Dump, file: "r.bin", part: Part { port: Some(2), alloc: None, frame: None, from: None, to: None }, svg: None, no_clobber: false, json: false })"#,
+        r#"Show(Show { view: Dump, files: ["r.bin"], joined: false, part: Part { port: Some(2), alloc: None, frame: None, from: None, to: None }, svg: None, no_clobber: false, json: false })"#,
     ),
     (
         "olt loads r.bin --alloc 1024 --from 3 --to 9",
-        r#"Show(Show { view: Loads, file: "r.bin", part: Part { port: None, alloc: Some(1024), frame: None, from: Some(3), to: Some(9) }, svg: None, no_clobber: false, json: false })"#,
+        r#"Show(Show { view: Loads, files: ["r.bin"], joined: false, part: Part { port: None, alloc: Some(1024), frame: None, from: Some(3), to: Some(9) }, svg: None, no_clobber: false, json: false })"#,
     ),
     (
         "olt picture r.bin --frame 5 --svg p.svg",
-        r#"Show(Show { view: Picture, file: "r.bin", part: Part { port: None, alloc: None, frame: Some(5), from: None, to: None }, svg: Some("p.svg"), no_clobber: false, json: false })"#,
+        r#"Show(Show { view: Picture, files: ["r.bin"], joined: false, part: Part { port: None, alloc: None, frame: Some(5), from: None, to: None }, svg: Some("p.svg"), no_clobber: false, json: false })"#,
     ),
     (
         "olt loads --no-clobber r.bin --alloc 16383 --svg p.svg",
-        r#"Show(Show { view: Loads, file: "r.bin", part: Part { port: None, alloc: Some(16383), frame: None, from: None, to: None }, svg: Some("p.svg"), no_clobber: true, json: false })"#,
+        r#"Show(Show { view: Loads, files: ["r.bin"], joined: false, part: Part { port: None, alloc: Some(16383), frame: None, from: None, to: None }, svg: Some("p.svg"), no_clobber: true, json: false })"#,
+    ),
+    (
+        "olt audit b.bin --joined a.bin",
+        r#"Audit(Audit { files: ["b.bin", "a.bin"], joined: true, json: false, complete: false })"#,
+    ),
+    (
+        "olt why --joined a.bin b.bin c.bin",
+        r#"Show(Show { view: Why, files: ["a.bin", "b.bin", "c.bin"], joined: true, part: Part { port: None, alloc: None, frame: None, from: None, to: None }, svg: None, no_clobber: false, json: false })"#,
+    ),
+    (
+        "olt info --joined a.bin",
+        r#"Show(Show { view: Info, files: ["a.bin"], joined: true, part: Part { port: None, alloc: None, frame: None, from: None, to: None }, svg: None, no_clobber: false, json: false })"#,
     ),
     (
         "olt migrate a.bin b.bin",
@@ -215,6 +247,8 @@ fn refuses_numbers_out_of_range(rt: HostRuntime) {
         "olt run --config a.toml --listen 127.0.0.1:0 --maps x",
         "olt run --config a.toml --listen 127.0.0.1:0 --maps 1 --pace 0",
         "olt run --config a.toml --listen 127.0.0.1:0 --maps 1 --pace 1000001",
+        "olt run --config a.toml --listen 127.0.0.1:0 --operators 0",
+        "olt run --config a.toml --listen 127.0.0.1:0 --operators 33",
         "olt plan --flush 3601",
         "olt run --config a.toml --listen 127.0.0.1:0 --maps 1 --flush 3601",
         "olt units --config a.toml --connect 127.0.0.1:1 --wait 3601",
@@ -277,6 +311,20 @@ fn refuses_other_words(rt: HostRuntime) {
             ErrorKind::InvalidSubcommand,
         ),
         ("olt audit r.bin --format xml", ErrorKind::InvalidSubcommand),
+        ("olt info a.bin b.bin", ErrorKind::InvalidSubcommand),
+        ("olt stop", ErrorKind::InvalidSubcommand),
+        (
+            "olt operate --control c.sock --control-tcp h:2",
+            ErrorKind::InvalidSubcommand,
+        ),
+        (
+            "olt stop --strict --control c.sock",
+            ErrorKind::UnknownArgument,
+        ),
+        (
+            "olt migrate --joined a.bin b.bin",
+            ErrorKind::UnknownArgument,
+        ),
         ("olt loads r.bin", ErrorKind::MissingRequiredArgument),
         ("olt audit", ErrorKind::MissingRequiredArgument),
         ("olt run --help", ErrorKind::DisplayHelp),

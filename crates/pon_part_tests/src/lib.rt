@@ -28,6 +28,8 @@ mod jobs;
 #[cfg(test)]
 mod lines;
 #[cfg(test)]
+mod metrics;
+#[cfg(test)]
 mod numbers;
 #[cfg(test)]
 mod records;

@@ -17,3 +17,14 @@ pub mod RuleLimits
 pub mod CountedChapters
 pub mod ChapterFronts
 pub mod Streams
+pub mod EachRead
+pub mod FitCerts
+pub mod FitEvents
+pub mod FitMaps
+pub mod FitOpenings
+pub mod FitChapters
+pub mod OneBody
+pub mod Put
+pub mod PutLists
+pub mod ReadBack
+pub mod RecordedBytes

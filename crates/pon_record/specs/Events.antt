@@ -6,7 +6,7 @@ use Rattle.pon_units.specs.declared.limits.TheConstants.{MAX_OCCUPANCY, MAX_SERI
 use Rattle.pon_descr.specs.Descriptor.{Descriptor}
 use Rattle.pon_admit.specs.declared.event.Event.{Event}
 use Rattle.pon_admit.specs.declared.event.Event.TheVariants.{Admit, Change, Remove, Report, MakeMap, Fail, Restore}
-use Rattle.pon_record.specs.declared.limits.TheConstants.{GARBLED}
+use Rattle.pon_record.specs.declared.codes.TheConstants.{GARBLED}
 use Rattle.pon_record.specs.Format.{Format, ◌&◌, counted, number, only, told_by}
 use Rattle.pon_record.specs.Fields.{alloc_id, cause, descriptor, frame, onu_id}
 
@@ -43,14 +43,28 @@ EventFits (Report f u occ) = report_fields.Fits (f, (u, occ))
 EventFits (Fail c) = cause.Fits c
 EventFits _ = Unit {0}
 
+-- the tag of a kind of event
+abbrev pub event_tag : Event → ℕ
+event_tag (Admit r) = 1
+event_tag (Change i d) = 2
+event_tag (Remove i) = 3
+event_tag (Report f u occ) = 4
+event_tag MakeMap = 5
+event_tag (Fail c) = 6
+event_tag Restore = 7
+
+-- the bytes of an event after its tag
+abbrev pub event_fields : Event → List ℕ
+event_fields (Admit r) = admit_fields.write (r.onu, (r.alloc_id, r.descriptor))
+event_fields (Change i d) = change_fields.write (i, d)
+event_fields (Remove i) = alloc_id.write i
+event_fields (Report f u occ) = report_fields.write (f, (u, occ))
+event_fields MakeMap = []
+event_fields (Fail c) = cause.write c
+event_fields Restore = []
+
 abbrev pub event_bytes : Event → List ℕ
-event_bytes (Admit r) = 1 ∷ admit_fields.write (r.onu, (r.alloc_id, r.descriptor))
-event_bytes (Change i d) = 2 ∷ change_fields.write (i, d)
-event_bytes (Remove i) = 3 ∷ alloc_id.write i
-event_bytes (Report f u occ) = 4 ∷ report_fields.write (f, (u, occ))
-event_bytes MakeMap = 5 ∷ []
-event_bytes (Fail c) = 6 ∷ cause.write c
-event_bytes Restore = 7 ∷ []
+event_bytes e = event_tag e ∷ event_fields e
 
 -- the event with this tag
 abbrev pub event_at : ℕ → List ℕ → Option (Event × List ℕ)

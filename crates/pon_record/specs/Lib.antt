@@ -9,3 +9,5 @@ pub mod ChapterReading
 pub mod Recordings
 pub mod Migrations
 pub mod Streams
+pub mod Bodies
+pub mod Recorders

@@ -98,6 +98,12 @@ IsReadFaultOf versions bytes (BadFormat at) = IsBadFormatOf versions bytes at
 IsReadFaultOf versions bytes (Truncated at whole) = IsTruncatedOf versions bytes at whole
 IsReadFaultOf versions bytes Memory = (v : Version) × (versions v ≡ true) × GoesOn v bytes
 
+-- the bytes are a recording of one of these versions, or have a fault that is not refused memory
+abbrev pub IsRead : (Version → Bool) → List ℕ → Type 0
+IsRead versions bytes =
+    ((chapters : List PlacedChapter) × IsRecordingOf versions bytes chapters)
+    ⊎ ((fault : ReadFault) × (fault ≢ Memory) × IsReadFaultOf versions bytes fault)
+
 -- Both versions.
 
 abbrev pub IsRecording : List ℕ → List PlacedChapter → Type 0

@@ -9,9 +9,9 @@ ghost use Rattle.pon_record.specs.declared.version.Version.TheVariants.{Two};
 ghost use Rattle.pon_record.specs.Chapters.{port};
 ghost use Rattle.pon_record.specs.Events.{occupancy};
 
+use crate::codes;
 use crate::fault::Malformed;
 use crate::layout::Layout;
-use crate::limits::GARBLED;
 use crate::version::Version;
 use pon_admit::Rule;
 use pon_descr::{Cause, Class, Descriptor};
@@ -201,7 +201,7 @@ impl<'a> Cursor<'a> {
         let number = self.u8()?;
         match Cause::new(number) {
             Some(cause) => Ok(Some(cause)),
-            None if number == 0 => Ok(None),
+            None if number == codes::UP => Ok(None),
             None => Err(Malformed),
         }
     }
@@ -210,9 +210,9 @@ impl<'a> Cursor<'a> {
         ensures { Reads (λ x. (x, self.new)) result (class.read self.old) }
     {
         match self.u8()? {
-            0 => Ok(Class::Plain),
-            1 => Ok(Class::NonAssured),
-            2 => Ok(Class::BestEffort),
+            codes::PLAIN => Ok(Class::Plain),
+            codes::NON_ASSURED => Ok(Class::NonAssured),
+            codes::BEST_EFFORT => Ok(Class::BestEffort),
             _ => Err(Malformed),
         }
     }
@@ -248,8 +248,8 @@ impl<'a> Cursor<'a> {
         ensures { Reads (λ x. (x, self.new)) result ((rule_in Two).read self.old) }
     {
         match self.u8()? {
-            1 => Ok(Rule::DropRemainders),
-            2 => Ok(Rule::CarryRemainders),
+            codes::DROP_REMAINDERS => Ok(Rule::DropRemainders),
+            codes::CARRY_REMAINDERS => Ok(Rule::CarryRemainders),
             _ => Err(Malformed),
         }
     }
@@ -293,7 +293,7 @@ impl<'a> Cursor<'a> {
         let number = self.u32()?;
         match BufOcc::new(number) {
             Some(words) => Ok(Some(words)),
-            None if number == GARBLED => Ok(None),
+            None if number == codes::GARBLED => Ok(None),
             None => Err(Malformed),
         }
     }
@@ -304,8 +304,8 @@ fn report_of(flag: u8, frame: FrameNo, words: u32) -> Option<Option<Counted>>
     ensures { result ≡ report_meaning (flag, (frame, words)) }
 {
     match flag {
-        0 if frame.get() == 0 && words == 0 => Some(None),
-        1 => {
+        codes::NOT_COUNTED if frame.get() == 0 && words == 0 => Some(None),
+        codes::COUNTED => {
             let words = BufOcc::new(words)?;
             Some(Some(Counted { frame, words }))
         }

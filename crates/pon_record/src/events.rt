@@ -5,6 +5,7 @@ ghost use Rattle.pon_record.specs.Format.{read_times};
 ghost use Rattle.pon_record.specs.Reading.{Reads};
 ghost use Rattle.pon_record.specs.Events.{event, occupancies, occupancy};
 
+use crate::codes;
 use crate::cursor::Cursor;
 use crate::fault::Malformed;
 use pon_admit::{Event, Row};
@@ -15,24 +16,28 @@ pub(crate) fn read_event(cursor: &mut Cursor<'_>) -> Result<Event, Malformed>
     ensures { Reads (λ x. (x, cursor.new)) result (event.read cursor.old) }
 {
     match cursor.u8()? {
-        1 => Ok(Event::Admit(Row::new(cursor.onu()?, cursor.alloc_id()?, cursor.descriptor()?))),
-        2 => Ok(Event::Change {
+        codes::ADMIT => Ok(Event::Admit(Row::new(
+            cursor.onu()?,
+            cursor.alloc_id()?,
+            cursor.descriptor()?,
+        ))),
+        codes::CHANGE => Ok(Event::Change {
             alloc_id: cursor.alloc_id()?,
             descriptor: cursor.descriptor()?,
         }),
-        3 => Ok(Event::Remove {
+        codes::REMOVE => Ok(Event::Remove {
             alloc_id: cursor.alloc_id()?,
         }),
-        4 => Ok(Event::Report {
+        codes::REPORT => Ok(Event::Report {
             frame: cursor.frame()?,
             onu: cursor.onu()?,
             occ: read_occupancies(cursor)?,
         }),
-        5 => Ok(Event::MakeMap),
-        6 => Ok(Event::Fail {
+        codes::MAKE_MAP => Ok(Event::MakeMap),
+        codes::FAIL => Ok(Event::Fail {
             cause: cursor.cause()?,
         }),
-        7 => Ok(Event::Restore),
+        codes::RESTORE => Ok(Event::Restore),
         _ => Err(Malformed),
     }
 }

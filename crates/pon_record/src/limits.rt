@@ -13,8 +13,5 @@ pub const CHAPTER_TAG: u8 = 0x43;
 /// Number of bytes before the body of a chapter: its tag, and the length of the body in 4 bytes.
 pub(crate) const HEAD_BYTES: usize = 5;
 
-/// The value recorded instead of the occupancy of a garbled report.
-pub const GARBLED: u32 = 0xffff_ffff;
-
 /// Maximum number of ONUs that reported for a map of a recorded window: the largest count in one byte.
-pub const MAX_REPORTED: u8 = 255;
+pub(crate) const MAX_REPORTED: u8 = 255;

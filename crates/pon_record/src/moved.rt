@@ -11,6 +11,7 @@ ghost use Rattle.pon_record.specs.Openings.{row_in};
 ghost use Rattle.pon_record.specs.Chapters.{FitsChapter, body_in, chapter_bytes};
 
 use crate::chapter::RawChapter;
+use crate::codes;
 use crate::limits::{CHAPTER_TAG, HEAD_BYTES};
 use crate::row::RawRow;
 use std::alloc::AllocError;
@@ -21,9 +22,6 @@ pub(crate) const ROW_BYTES: usize = 38;
 /// Number of bytes of a body of version one before its rows: port 1, number 8, gap 2, profile 1, cause 1, next frame 8,
 /// earlier entries 8, number of rows 2.
 const ROWS_AT: usize = 31;
-
-/// The byte of rule one.
-const RULE_ONE: u8 = 1;
 
 // Appends rows of version one, each followed by its carry.
 fn put_rows(out: &mut Vec<u8>, rows: &[RawRow], bytes: &[u8]) -> Result<(), AllocError>
@@ -62,7 +60,7 @@ fn put_body(out: &mut Vec<u8>, chapter: &RawChapter, bytes: &[u8]) -> Result<(),
     let rows = chapter.opening.rows.as_slice();
     let (front, rest) = bytes.split_at(ROWS_AT);
     let (fields, back) = rest.split_at(ROW_BYTES * rows.len());
-    out.push(RULE_ONE)?;
+    out.push(codes::DROP_REMAINDERS)?;
     out.extend_from_slice(front)?;
     put_rows(out, rows, fields)?;
     out.extend_from_slice(back)?;

@@ -34,7 +34,7 @@ use Rattle.pon_audit.specs.declared.verdict.AuditReason.{AuditReason}
 use Rattle.pon_audit.specs.declared.verdict.AuditReason.TheVariants as why
 use Rattle.pon_history.proofs.Kept.{none_yet, one_further}
 use Rattle.pon_audit.proofs.Kept.{all_taken, ended, fails_here}
-use Rattle.pon_record_tests.proofs.EachRead.{each_read}
+use Rattle.pon_record.proofs.EachRead.{each_read}
 use Rattle.pon_record_tests.proofs.LawfulEvents.{IsFitting, entries_fit}
 
 -- An entry: it may follow, unless it fails.

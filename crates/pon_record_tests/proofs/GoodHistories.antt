@@ -13,9 +13,9 @@ use Rattle.pon_record.specs.declared.limits.TheConstants.{MAGIC_BYTES}
 use Rattle.pon_record.specs.declared.version.Version.TheVariants.{Two}
 use Rattle.pon_record.specs.Chapters.{PlacedChapter, chapter_bytes, placed}
 use Rattle.pon_record.specs.Recordings.{recording_bytes}
-use Rattle.pon_recorder.specs.Bodies.{IsOfPort}
-use Rattle.pon_recorder.specs.Recorders.{Records}
-use Rattle.pon_recorder.proofs.ReadBack.{is_recording}
+use Rattle.pon_record.specs.Bodies.{IsOfPort}
+use Rattle.pon_record.specs.Recorders.{Records}
+use Rattle.pon_record.proofs.ReadBack.{is_recording}
 use Rattle.pon_audit.specs.Openings.{chapter_of}
 use Rattle.pon_audit.specs.Verdicts.{AreGood, Continues, IsGoodChapter, IsVerdict, Rises, maps_in}
 use Rattle.pon_audit.specs.declared.verdict.Verdict.{Verdict}

@@ -1,5 +1,4 @@
 mod SameChapters
 mod GoodHistories
-mod EachRead
 mod LawfulEvents
 mod EachVerdict

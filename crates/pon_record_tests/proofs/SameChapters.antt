@@ -16,8 +16,8 @@ use Rattle.pon_state.specs.State.{State}
 use Rattle.pon_state.specs.Accounts.{AccountsFor}
 use Rattle.pon_history.specs.Chapters.{Chapter, IsLawfulChapter, IsLawfulOpening}
 use Rattle.pon_record.specs.Openings.{Opening}
-use Rattle.pon_recorder.specs.Bodies.{chapter_body, recorded_opening, recorded_row}
-use Rattle.pon_recorder.proofs.OneBody.{account_at, carries_back, rows_back}
+use Rattle.pon_record.specs.Bodies.{chapter_body, recorded_opening, recorded_row}
+use Rattle.pon_record.proofs.OneBody.{account_at, carries_back, rows_back}
 use Rattle.pon_audit.specs.Openings.{accounts_of, chapter_of, roster_of, row_carries, state_of}
 use Rattle.pon_audit.specs.Chains.{HasAccount}
 use Rattle.pon_audit.proofs.OpenedStates.{accounts_apart, book_of_rows}

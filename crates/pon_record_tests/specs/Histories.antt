@@ -5,7 +5,7 @@ use Rattle.pon_state.specs.Maps.{makes_map}
 use Rattle.pon_history.specs.Chapters.{Chapter, Follows, IsLawfulChapter}
 use Rattle.pon_state.specs.Ranges.{IsStateInRange}
 use Rattle.pon_record.specs.Chapters.{Body}
-use Rattle.pon_recorder.specs.Bodies.{chapter_body}
+use Rattle.pon_record.specs.Bodies.{chapter_body}
 
 -- a chapter of a port
 pub record PortChapter : Type 0 where

@@ -5,29 +5,28 @@ use crate::writing::{admission, append, open_port, report, take};
 use pon_admit::Event;
 use pon_device::MemWrite;
 use pon_port::Port;
-use pon_record::MAGIC_BYTES;
-use pon_recorder::RecordFile;
+use pon_record::{MAGIC_BYTES, RecordFile};
 use std::alloc::Global;
 use std::process::Abort;
 use std::thread::Threads;
 
 // Chapters of each of two ports, and maps of each chapter: more chapters than a batch has, and maps enough for many threads.
-const CHAPTERS: usize = 35;
+pub(crate) const CHAPTERS: usize = 35;
 
 const MAPS: usize = 30;
 
 // Bytes that the device takes in a call.
 const PIECE: usize = 4096;
 
-// A recording, and the place of each of its chapters.
+/// A recording, and the place of each of its chapters.
 #[derive(Drop)]
-struct Recorded {
+pub(crate) struct Recorded {
     bytes: Vec<u8>,
     places: Vec<usize>,
 }
 
-// Takes the maps of a chapter at a port, each with a report.
-fn run(rt: &impl Abort, port: &mut Port) {
+/// Takes the maps of a chapter at a port, each with a report.
+pub(crate) fn run(rt: &impl Abort, port: &mut Port) {
     for _map in 0..MAPS {
         let frame = port.state().next_frame().get();
         take(rt, port, Event::MakeMap);
@@ -50,8 +49,8 @@ fn record_next(
     assert!(rt; append(rt, file, number, &chapter) == Ok(()), "written");
 }
 
-// Records the chapters of two ports by turns.
-fn record(rt: &impl Abort, alloc: Global) -> Recorded {
+/// Records the chapters of two ports by turns.
+pub(crate) fn record(rt: &impl Abort, alloc: Global) -> Recorded {
     let mut one = open_port(rt, alloc, 16, 0, 0);
     let mut other = open_port(rt, alloc, 32, 1, 7);
     take(rt, &mut one, admission(rt));
@@ -67,18 +66,22 @@ fn record(rt: &impl Abort, alloc: Global) -> Recorded {
     Recorded { bytes, places }
 }
 
-// Returns the bytes from the place of a chapter on up to that of another.
-fn between<'a>(rt: &impl Abort, recorded: &'a Recorded, chapter: usize, end: usize) -> &'a [u8] {
-    let start = *recorded.places.get(chapter).expect(rt, "a chapter");
-    let end = match recorded.places.get(end) {
+// Returns the place of a chapter; after the last one, the end of the recording.
+fn place_of(recorded: &Recorded, chapter: usize) -> usize {
+    match recorded.places.get(chapter) {
         Some(place) => *place,
         None => recorded.bytes.len(),
-    };
+    }
+}
+
+// Returns the bytes from the place of a chapter on up to the place of another.
+fn between<'a>(rt: &impl Abort, recorded: &'a Recorded, chapter: usize, end: usize) -> &'a [u8] {
+    let (start, end) = (place_of(recorded, chapter), place_of(recorded, end));
     recorded.bytes.get(start..end).expect(rt, "bytes")
 }
 
-// Returns the recording with these ranges of its chapters, one after another.
-fn of_chapters(
+/// Returns the recording with these ranges of its chapters, one after another.
+pub(crate) fn of_chapters(
     rt: &impl Abort,
     alloc: Global,
     recorded: &Recorded,

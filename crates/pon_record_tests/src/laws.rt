@@ -5,13 +5,12 @@ ghost use Rattle.pon_lists.specs.Bytes.{AreBytes};
 ghost use Rattle.pon_history.specs.Chapters.{Chapter, IsLawfulChapter};
 ghost use Rattle.pon_record.specs.declared.version.Version.{Version};
 ghost use Rattle.pon_record.specs.Recordings.{recording_bytes};
-ghost use Rattle.pon_recorder.specs.Bodies.{chapter_body};
-ghost use Rattle.pon_recorder.specs.Recorders.{Records};
+ghost use Rattle.pon_record.specs.Bodies.{chapter_body};
+ghost use Rattle.pon_record.specs.Recorders.{Records};
 ghost use Rattle.pon_audit.specs.Openings.{chapter_of};
 ghost use Rattle.pon_audit.specs.Verdicts.{IsVerdict};
 ghost use Rattle.pon_audit.specs.declared.verdict.Verdict.{Verdict};
 ghost use Rattle.pon_record_tests.specs.Histories.{AreHistories, PortChapter, body_of, map_count};
-ghost use Rattle.pon_record_tests.specs.Readings.{IsRead};
 
 /// The audit replays a recorded chapter as the chapter that was written: with its number, its opening and its entries.
 pub fn chapters_are_audited_as_written()
@@ -31,12 +30,6 @@ pub fn recordings_of_histories_are_good()
     ensures written { (before now : Option (List ℕ)) (chapters : List PortChapter) →
         AreHistories chapters → (w : Records before now [] (map body_of chapters)) →
         IsVerdict w.sent (Verdict.Good (map_count chapters)) }
-{}
-
-/// Bytes are a recording of a version that is accepted, or have a fault other than refused memory.
-pub fn bytes_are_read_or_have_a_fault()
-    ensures { (versions : Version → Bool) (bytes : List ℕ) → AreBytes bytes
-        → IsRead versions bytes }
 {}
 
 /// No bytes are without a verdict. With `pon_audit::laws::one_verdict`: bytes have exactly one.

@@ -1,10 +1,9 @@
-//! Laws and tests that join the writer, the reader and the audit of recordings of the ports of an XG-PON optical line
-//! terminal (upstream bandwidth assignment, ITU-T G.987.3); and tests of what a recording holds of a map: its structures
-//! and its certificate.
+//! Laws that join the recordings of the ports of an XG-PON optical line terminal (upstream bandwidth assignment, ITU-T
+//! G.987.3) and their audit; tests of the writer, the reader and the audit; and tests of what a recording holds of a map:
+//! its structures and its certificate.
 //!
-//! Each law is the contract of a function that computes nothing: what is written is read back and judged good, and any
-//! bytes have a verdict. The crates of which the laws speak do not depend on each other, and each is proved once, so laws
-//! and tests are in a crate above them.
+//! Each law is the contract of a function that computes nothing: what is written is judged good, and any bytes have a
+//! verdict. Each crate of which the laws and tests speak is proved once, so these are in a crate above them.
 #![tactic(auto)]
 
 #[cfg(test)]
@@ -17,6 +16,8 @@ mod carries;
 mod certificates;
 #[cfg(test)]
 mod chains;
+#[cfg(test)]
+mod joined;
 pub mod laws;
 #[cfg(test)]
 mod limits;
@@ -30,6 +31,10 @@ mod planning;
 mod reading;
 #[cfg(test)]
 mod recordings;
+#[cfg(test)]
+mod resumed;
+#[cfg(test)]
+mod segments;
 #[cfg(test)]
 mod streams;
 #[cfg(test)]

@@ -7,8 +7,7 @@ use pon_admit::Event;
 use pon_descr::Cause;
 use pon_device::MemWrite;
 use pon_port::{Chapter, Port};
-use pon_record::read_recording;
-use pon_recorder::RecordFile;
+use pon_record::{RecordFile, read_recording};
 use std::alloc::Global;
 use std::process::Abort;
 

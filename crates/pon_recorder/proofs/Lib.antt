@@ -1,13 +1,6 @@
-pub mod FitCerts
-pub mod FitChapters
-pub mod FitEvents
-pub mod FitMaps
-pub mod FitOpenings
-pub mod OneBody
-pub mod Put
-pub mod PutLists
-pub mod ReadBack
-pub mod RecordedBytes
+pub mod GoingOn
+pub mod KeptChapters
+pub mod MapCounts
 pub mod Recordings
 pub mod RingEnds
 pub mod Whole

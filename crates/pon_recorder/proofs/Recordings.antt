@@ -1,11 +1,11 @@
 -- Chapters that a recording gets one after another.
 use Rattle.std.proofs.Common.{◌≡◌, ℕ, ◌+◌, List, [], ◌∷◌, ◌++◌, ◌<◌, ap, arith, inl, inr, refl, subst, sym, ◌∙◌, append_assoc}
-use Rattle.std.specs.Prelude.{Bool, true, false, not, map, min, Option}
-use Rattle.std.proofs.lemmas.List.{map-append}
+use Rattle.std.specs.Prelude.{Bool, true, map, min, Option}
+use Rattle.std.proofs.lemmas.List.{append-nil, map-append}
 use Rattle.pon_history.specs.Chapters.{Chapter}
 use Rattle.pon_record.specs.Chapters.{Body}
-use Rattle.pon_recorder.specs.Bodies.{chapter_body}
-use Rattle.pon_recorder.specs.Recorders.{Grows, Records, Stays}
+use Rattle.pon_record.specs.Bodies.{chapter_body}
+use Rattle.pon_record.specs.Recorders.{Grows, Records, Stays}
 use Rattle.pon_recorder.specs.Recordings.{AreSome, HasRecorded, IsDropped, TakesChapters, most_dropped}
 
 -- what is left of a chapter is written
@@ -52,6 +52,16 @@ drops_one old left new rest failed count after b (inr h) more = record {
   counts = omega (arith, more);
 }
 
+-- no chapter is taken
+pub takes_none : (held : Option (List ℕ)) (left : List ℕ) (count : ℕ) → TakesChapters held left held left count count []
+takes_none held left count = record {
+  recorded = [];
+  grows = λ before bodies r. subst (λ (bs : List Body). Records before held left bs) (sym (append-nil bodies)) r;
+  some = refl;
+  all = λ e l. refl;
+  counts = omega arith;
+}
+
 -- chapters are taken after others
 pub takes_both : (old : Option (List ℕ)) (left : List ℕ) (mid : Option (List ℕ)) (rest : List ℕ) (new : Option (List ℕ)) (more : List ℕ) (before between after : ℕ) (first second : List Body)
     → TakesChapters old left mid rest before between first → TakesChapters mid rest new more between after second
@@ -67,11 +77,6 @@ takes_both old left mid rest new more before between after first second f s = re
       ∙ ap (λ (bs : List Body). first ++ bs) (s.all later (subst (λ (n : ℕ). n < most_dropped) (sym same) l));
   counts = omega (arith, f.counts, s.counts);
 }
-
--- what is not whole failed
-pub is_failed : (whole : Bool) → not (not whole) ≡ false → not whole ≡ true
-is_failed true e = absurd cc
-is_failed false e = refl
 
 -- one more chapter of a ring is taken
 pub takes_more : (port : ℕ) (old : Option (List ℕ)) (left : List ℕ) (mid : Option (List ℕ)) (rest : List ℕ) (new : Option (List ℕ)) (more : List ℕ) (before between after : ℕ) (popped : List Chapter) (x : Chapter)

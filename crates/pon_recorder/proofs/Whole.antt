@@ -7,8 +7,8 @@ use Rattle.std.proofs.lemmas.List.FromFn.{get_or-range_with_len, length-range_wi
 use Rattle.std.proofs.lemmas.Option.{slice_get-get_or, slice_get-map}
 use Rattle.pon_history.specs.Chapters.{Chapter}
 use Rattle.pon_record.specs.Chapters.{Body}
-use Rattle.pon_recorder.specs.Bodies.{chapter_body}
-use Rattle.pon_recorder.specs.Recorders.{Records, Stays}
+use Rattle.pon_record.specs.Bodies.{chapter_body}
+use Rattle.pon_record.specs.Recorders.{Records, Stays}
 use Rattle.pon_recorder.specs.Recordings.{HasRecorded}
 use Rattle.pon_recorder.specs.Whole.{IsSound, RecordsAll, kept_at, kept_bodies}
 use Rattle.pon_recorder.specs.declared.recorder.Recorder.{Recorder}

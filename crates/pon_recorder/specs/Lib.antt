@@ -1,6 +1,6 @@
-pub mod Bodies
-pub mod EventParts
-pub mod Recorders
+pub mod Going
+pub mod Held
+pub mod PortMaps
 pub mod Recordings
 pub mod Rings
 pub mod Tapes

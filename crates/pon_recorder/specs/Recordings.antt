@@ -2,8 +2,8 @@
 use Rattle.std.specs.Prelude.{◌≡◌, ◌<◌, ◌≤◌, ◌-◌, ◌^◌, ℕ, List, [], ◌∷◌, ◌++◌, ◌⊎◌, Bool, true, min, Option, option_to_list, map}
 use Rattle.pon_history.specs.Chapters.{Chapter}
 use Rattle.pon_record.specs.Chapters.{Body}
-use Rattle.pon_recorder.specs.Bodies.{chapter_body}
-use Rattle.pon_recorder.specs.Recorders.{Records}
+use Rattle.pon_record.specs.Bodies.{chapter_body}
+use Rattle.pon_record.specs.Recorders.{Records}
 use Rattle.pon_ring.specs.Rings.{SameOut, received_chapters}
 use Rattle.pon_ring.specs.declared.ring_out.RingOut.{RingOut}
 
@@ -39,6 +39,10 @@ pub record TakesChapters (old : Option (List ℕ)) (left : List ℕ) (new : Opti
 pub record Pops (old new : RingOut) (chapters : List Chapter) : Type 0 where
   pub same : SameOut old new
   pub received : received_chapters new ≡ received_chapters old ++ chapters
+
+-- the chapters that came from the sink of a port: those that were received from its ring, in order, and the one that waited
+abbrev pub taken_from : RingOut → Option Chapter → List Chapter
+taken_from ring waited = received_chapters ring ++ option_to_list waited
 
 -- the chapters that a worker left: those that are still in its ring, and the one that waits for room
 abbrev pub left_of : ℕ → List Chapter → Option Chapter → List Body

@@ -1,16 +1,18 @@
 -- A recording from which nothing is missing.
-use Rattle.std.specs.Prelude.{ℕ, ◌≡◌, List, Bool, true, false, Option, map, option_to_list, slice_get, zip, length}
+use Rattle.std.specs.Prelude.{ℕ, ◌≡◌, List, Bool, true, false, is_ok, Option, map, option_to_list, slice_get, zip, length}
 use Rattle.std.specs.List.{range_with_len}
 use Rattle.pon_history.specs.Chapters.{Chapter}
 use Rattle.pon_record.specs.Chapters.{Body}
-use Rattle.pon_recorder.specs.Bodies.{chapter_body}
+use Rattle.pon_record.specs.Bodies.{chapter_body}
 use Rattle.pon_recorder.specs.Recordings.{HasRecorded}
 use Rattle.pon_recorder.specs.declared.recorder.Recorder.{Recorder}
 
--- the file of the recorder did not fail three times in a row, and memory was refused for no chapter
+-- the device of the recorder did not fail three times in a row, memory was refused for no chapter, and the recordings in
+-- the devices before it ended well
 pub record IsSound {W : Type 0} (r : Recorder W) : Type 0 where
   pub file : r.failed ≡ false
   pub memory : r.lacked_memory ≡ false
+  pub earlier : is_ok r.earlier ≡ true
 
 -- nothing is missing in the recording: its recorder is sound, and each sink that came back is that of its port
 abbrev pub IsWholeRecording : {W : Type 0} → Recorder W → Bool → Type 0

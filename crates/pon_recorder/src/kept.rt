@@ -2,7 +2,7 @@
 
 ghost use Rattle.std.specs.Prelude.{◌<◌, ◌≤◌, ◌∷◌, []};
 ghost use Rattle.std.specs.Vec.{vec_len};
-ghost use Rattle.pon_recorder.specs.Bodies.{chapter_body};
+ghost use Rattle.pon_record.specs.Bodies.{chapter_body};
 ghost use Rattle.pon_recorder.specs.Whole.{RecordsAll, all_kept};
 
 use crate::recorder::{Ended, Recorder};

@@ -1,12 +1,12 @@
 //! The beginning of a recording.
 
 ghost use Rattle.std.specs.Prelude.{◌≡◌, [], false, IfOk};
-ghost use Rattle.pon_recorder.specs.Recorders.{Records};
+ghost use Rattle.pon_record.specs.Recorders.{Records};
 
-use crate::record_file::RecordFile;
 use crate::recorder::Recorder;
 use crate::tape::{Tape, TapeFile};
 use pon_device::{DevWrite, DeviceFault};
+use pon_record::RecordFile;
 use std::alloc::Global;
 use std::io::Write;
 

@@ -1,22 +1,25 @@
 //! The recorder's thread.
 
-ghost use Rattle.std.specs.Prelude.{◌≡◌, ◌≤◌, IfOk, OnOk, is_ok, map, slice_set, true};
+ghost use Rattle.std.specs.Prelude.{◌≡◌, ◌≤◌, [], IfOk, OnOk, is_ok, map, slice_set, true};
+ghost use Rattle.std.specs.Option.{ForSome};
 ghost use Rattle.std.specs.Vec.{vec_len};
+ghost use Rattle.pon_lists.specs.Kept.{kept_items};
 ghost use Rattle.pon_recorder.specs.Whole.{IsWholeRecording, RecordsAll, StaysSound, StaysWhole, kept_at, kept_bodies};
 ghost use Rattle.pon_recorder.specs.Rings.{AreRingsOf};
 
 use crate::chapter_watch::ChapterWatch;
 use crate::inlet::{Inlet, TakenChapters};
+use crate::next_device::NextDevice;
 use crate::port_sink::PortSink;
 use crate::recorder::{Ended, Recorder};
 use crate::rings::{PortRing, Rings};
+use crate::rounds::take_round;
 use pon_device::{DevWrite, DeviceFault};
 use pon_lists::Kept;
 use pon_port::{Chapter, Port};
 use pon_units::{MAX_PORTS, PortNo};
 use std::alloc::{AllocError, Global};
 use std::sync::Wait;
-use std::sync::atomic::{AtomicBool, Ordering};
 use std::thread;
 use std::time::{Clock, Duration};
 
@@ -31,6 +34,7 @@ pub struct Recording<K: Rings, W> {
     pub(crate) inlets: Vec<Inlet<K>>,
     // Whether each sink that came back is that of its port.
     whole: bool,
+    alloc: Global,
 }
 
 /// Where the chapters of the ports go: the sink of each, in order, and the recording after them, if there is one.
@@ -43,7 +47,9 @@ pub struct Sinks<K: Rings, W> {
 }
 
 // Returns what keeps the chapters of a port, if it is to be settled.
-fn kept_chapters(alloc: Global, settle: bool) -> Kept<Chapter> {
+fn kept_chapters(alloc: Global, settle: bool) -> Kept<Chapter>
+    ensures { ForSome (kept_items result) (λ kept. kept ≡ []) }
+{
     if settle {
         Kept::open(alloc)
     } else {
@@ -97,28 +103,11 @@ impl<K: Rings, W: Drop> Sinks<K, W> {
                 recorder,
                 inlets,
                 whole: true,
+                alloc,
             }),
         };
         Ok(Sinks { sinks, recording })
     }
-}
-
-// Records at most one chapter of each port, which the watch sees. Returns whether there was one.
-fn take_round<K: Rings, W: DevWrite + Drop, C: ChapterWatch>(
-    recorder: &mut Recorder<W>,
-    inlets: &mut [Inlet<K>],
-    watch: &C,
-) -> bool
-    ensures sound { StaysSound recorder.old recorder.new }
-{
-    let mut taken = false;
-    for inlet in inlets {
-        if inlet.take(recorder) {
-            watch.took(inlet.port, inlet.dropped);
-            taken = true;
-        }
-    }
-    taken
 }
 
 // Records what a worker left in its sink. Returns whether the sink is that of the port.
@@ -154,18 +143,20 @@ fn take_all_left<K: Rings, W: DevWrite + Drop>(
 }
 
 impl<K: Rings, W: DevWrite + Drop> Recording<K, W> {
-    /// Records the chapters of all ports as they come, which the watch sees, until the flag is set.
-    pub fn run<R: Wait + Clock, C: ChapterWatch>(
-        mut self,
-        rt: &R,
-        stop: &AtomicBool,
-        watch: &C,
-    ) -> Self {
+    /// Records the chapters of all ports as they come, which the watch sees, until the watch stops it. After a round in which a
+    /// port has the maps of a device, the recording goes on in the next device, which `next` opens; a device that failed is left before the next
+    /// chapter. Where no next device can be begun, it stays in the present one, and tries again at a later chapter.
+    pub fn run<R: Wait + Clock, N, C: ChapterWatch>(mut self, rt: &R, next: &N, watch: &C) -> Self
+    where
+        W: NextDevice<N>,
+        ensures whole { StaysWhole self.recorder self.whole result.recorder result.whole }
+    {
         for _ in rt.forever() {
-            if stop.load(Ordering::SeqCst) {
+            if watch.is_over() {
                 break;
             }
-            if !take_round(&mut self.recorder, self.inlets.as_mut_slice(), watch) {
+            let inlets = self.inlets.as_mut_slice();
+            if !take_round(next, self.alloc, &mut self.recorder, inlets, watch) {
                 thread::sleep(rt, Duration::from_millis(PAUSE_MILLISECONDS));
             }
         }
@@ -180,7 +171,8 @@ impl<K: Rings, W: DevWrite + Drop> Recording<K, W> {
         self.whole = self.whole && whole;
     }
 
-    /// Takes out the chapters of each port, in order, for the settlement of the ports.
+    /// Takes out the chapters of each port for the settlement of the ports: exactly those that were received from its
+    /// ring, in order, and then the one that waited in its sink.
     ///
     /// # Errors
     ///
@@ -214,11 +206,17 @@ impl<K: Rings, W: DevWrite + Drop> Recording<K, W> {
             mut recorder,
             inlets,
             whole,
+            alloc: _,
         } = self;
         take_all_kept(&mut recorder, inlets.as_slice(), ports, dropped);
-        let Ended { device, result } = recorder.end();
+        let Ended {
+            device,
+            held,
+            result,
+        } = recorder.end();
         Ended {
             device,
+            held,
             result: with_sinks(result, whole),
         }
     }

@@ -1,9 +1,11 @@
 //! The rings of a run: one for each port, if there is a recorder.
 
-ghost use Rattle.std.specs.Prelude.{◌≡◌, ℕ, IfOk, None, Option};
+ghost use Rattle.std.specs.Prelude.{◌≡◌, ℕ, [], IfOk, None, Option};
+ghost use Rattle.std.proofs.Props.{props};
 ghost use Rattle.std.specs.Option.{ForSome};
 ghost use Rattle.std.specs.Vec.{vec_len};
 ghost use Rattle.pon_ring.specs.Passing.{PassesTo};
+ghost use Rattle.pon_ring.specs.Rings.{received_chapters};
 ghost use Rattle.pon_ring.specs.declared.ring_out.RingOut.{RingOut};
 
 use crate::recorder::Recorder;
@@ -31,6 +33,7 @@ pub struct PortRing {
     pub(crate) sink: Sink,
     pub(crate) out: Option<RingOut>,
     ghost ends: { ForSome out (λ o. PassesTo sink o) },
+    ghost none_received: { ForSome out (λ o. received_chapters o ≡ []) } by { Prim.hlevel props },
 }
 
 impl PortRing {

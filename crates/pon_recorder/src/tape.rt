@@ -1,9 +1,40 @@
-ghost use Rattle.std.specs.Prelude.{None};
+ghost use Rattle.std.specs.Prelude.{◌≡◌, ℕ, None, OnOk, Option, is_ok, true};
 ghost use Rattle.pon_device.specs.Device.{CountsCall};
-ghost use Rattle.pon_recorder.specs.Tapes.{tape_failures};
+ghost use Rattle.pon_recorder.specs.Tapes.{tape_failures, tape_most};
 
-use pon_device::{DevWrite, Failed};
+use crate::held::Held;
+use crate::next_device::NextDevice;
+use pon_device::{DevWrite, DeviceFault, Failed};
+use std::alloc::Global;
 use std::io::{self, ErrorKind, Write};
+
+/// A file of a recording that may go on in another file between two chapters, as another recording.
+pub trait FollowedFile<R>: Write {
+    /// The number of maps of one port after which the recording goes on in the next file, if there is one.
+    ghost most: { Self → Option ℕ };
+
+    /// The number of maps of one port after which the recording goes on in the next file. `None` if it never does.
+    fn most_maps(&self) -> Option<u64>
+        ensures { result ≡ most self.now };
+
+    /// Makes the next file, which is empty, while this one has these whole chapters. `None` if there is to be none, or none
+    /// can be made now.
+    fn open_next(&self, rt: &R, alloc: Global, held: Held) -> Option<Self>;
+
+    /// Ends this file, in which the recording ended so, with these whole chapters. What follows them may be cut off.
+    ///
+    /// # Errors
+    ///
+    /// The fault of the recording, and `Write` if the file cannot be ended well.
+    fn close(
+        self,
+        rt: &R,
+        alloc: Global,
+        held: Held,
+        recorded: Result<(), DeviceFault>,
+    ) -> Result<(), DeviceFault>
+        ensures { OnOk result (is_ok recorded ≡ true) };
+}
 
 /// A file of a recording as a device, which keeps its last failure. It does not state its bytes.
 #[derive(Drop)]
@@ -26,6 +57,23 @@ impl<F> TapeFile<F> {
     /// Returns the file, and its last failure, if it had one.
     pub fn into_parts(self) -> (F, Option<io::Error>) {
         (self.file, self.error)
+    }
+
+    // Makes the device of the next file. It keeps the kind of the last failure.
+    fn open_next<R>(&self, rt: &R, alloc: Global, held: Held) -> Option<Self>
+    where
+        F: FollowedFile<R>,
+    {
+        let file = self.file.open_next(rt, alloc, held)?;
+        let error = match &self.error {
+            Some(error) => Some(io::Error::from(error.kind())),
+            None => None,
+        };
+        Some(TapeFile {
+            file,
+            failed: 0,
+            error,
+        })
     }
 
     // Counts a failure, modulo 2^64, and keeps it.
@@ -85,6 +133,37 @@ impl<F: Write> DevWrite for Tape<F> {
         match self {
             Tape::File(file) => file.flush(),
             Tape::Nothing => Ok(()),
+        }
+    }
+}
+
+impl<R, F: FollowedFile<R> + Drop> NextDevice<R> for Tape<F> {
+    ghost most = { λ tape. tape_most F.FollowedFile.most tape };
+
+    fn most_maps(&self) -> Option<u64> {
+        match self {
+            Tape::File(tape) => tape.file.most_maps(),
+            Tape::Nothing => None,
+        }
+    }
+
+    fn open_next(&self, rt: &R, alloc: Global, held: Held) -> Option<Self> {
+        match self {
+            Tape::File(tape) => Some(Tape::File(tape.open_next(rt, alloc, held)?)),
+            Tape::Nothing => None,
+        }
+    }
+
+    fn close(
+        self,
+        rt: &R,
+        alloc: Global,
+        held: Held,
+        recorded: Result<(), DeviceFault>,
+    ) -> Result<(), DeviceFault> {
+        match self {
+            Tape::File(tape) => tape.file.close(rt, alloc, held, recorded),
+            Tape::Nothing => recorded,
         }
     }
 }

@@ -1,7 +1,7 @@
 -- The chapters that are passed to a sink.
-use Rattle.std.specs.Prelude.{ℕ, ◌≡◌, ◌+◌, ◌^◌, ◌-◌, ◌++◌, ◌∷◌, [], ◌⊎◌, ◌<◌, IsSome, List, min, Option, Some, None, option_to_list}
+use Rattle.std.specs.Prelude.{ℕ, ◌≡◌, ◌+◌, ◌^◌, ◌-◌, ◌++◌, ◌∷◌, [], ◌⊎◌, ◌<◌, ◌≤◌, IsSome, List, min, Option, Some, None, option_to_list}
 use Rattle.pon_history.specs.Chapters.{Chapter}
-use Rattle.pon_ring.specs.Numbers.{next_number}
+use Rattle.pon_ring.specs.Numbers.{last_number, newest_after, next_number}
 use Rattle.pon_ring.specs.Rings.{SameIn, sent_chapters}
 use Rattle.pon_ring.specs.declared.ring_in.RingIn.{RingIn}
 use Rattle.pon_ring.specs.declared.sink.Outlet.{Outlet}
@@ -11,13 +11,17 @@ use Rattle.pon_ring.specs.declared.sink.Rest.{Rest}
 abbrev pub passed : Outlet → List Chapter
 passed o = sent_chapters o.ring ++ option_to_list o.pending
 
--- the chapter is the last of those passed and not dropped
+-- the chapter is the last of those passed and not dropped; its number is above those of all that came before, and is noted
 pub record IsPassed (old : Outlet) (chapter : Chapter) (new : Outlet) : Type 0 where
+  pub newer : next_number old.newest ≤ chapter.number
+  pub newest : new.newest ≡ newest_after old.newest chapter.number
   pub passed : passed new ≡ passed old ++ chapter ∷ []
   pub dropped : new.dropped ≡ old.dropped
 
--- the chapter is dropped and counted, up to 2^64 - 1: another one waits, or its number is not above the newest
+-- the chapter is dropped and counted, up to 2^64 - 1: another one waits, or its number is not above those of all that came
+-- before; it is noted in either case
 pub record IsDropped (old : Outlet) (chapter : Chapter) (new : Outlet) : Type 0 where
+  pub newest : new.newest ≡ newest_after old.newest chapter.number
   pub why : IsSome new.pending ⊎ (chapter.number < next_number old.newest)
   pub passed : passed new ≡ passed old
   pub dropped : new.dropped ≡ min (old.dropped + 1) (2 ^ 64 - 1)
@@ -35,9 +39,10 @@ abbrev pub dropped_of : Option Outlet → ℕ
 dropped_of None = 0
 dropped_of (Some o) = o.dropped
 
--- nothing waits and nothing was dropped
+-- nothing waits, nothing was dropped, and the newest chapter is the last one in the ring
 pub record StartsWith (ring : RingIn) (o : Outlet) : Type 0 where
   pub same : o.ring ≡ ring
+  pub newest : o.newest ≡ last_number (sent_chapters ring)
   pub none_waits : o.pending ≡ None
   pub none_dropped : o.dropped ≡ 0
 

@@ -12,7 +12,7 @@ use pon_state::Entry;
 pub(crate) struct Outlet {
     pub(crate) ring: RingIn,
     pub(crate) pending: Option<Chapter>,
-    // The greatest number of all chapters that came.
+    // The greatest number of all chapters that came, those that were dropped too.
     pub(crate) newest: Option<u64>,
     pub(crate) dropped: u64,
     ghost waits: { ForSome pending (ComesAfter (sent_chapters ring)) },
@@ -20,8 +20,8 @@ pub(crate) struct Outlet {
 }
 
 impl Outlet {
-    ghost use Rattle.std.specs.Prelude.{◌≡◌, ◌<◌, true, false, MatchOption};
-    ghost use Rattle.pon_ring.specs.Numbers.{ComesAfter, next_number};
+    ghost use Rattle.std.specs.Prelude.{◌≡◌, ◌≤◌, ◌<◌, true, false, MatchOption, Some};
+    ghost use Rattle.pon_ring.specs.Numbers.{AreBelow, newest_after, next_number};
     ghost use Rattle.pon_ring.specs.Sinks.{IsDropped, IsPassed, passed};
     ghost use Rattle.pon_ring.specs.Rings.{SameIn};
 
@@ -40,15 +40,34 @@ impl Outlet {
         }
     }
 
-    // Returns whether the number of a chapter is above those of all chapters that came.
-    fn is_newer(&self, chapter: &Chapter) -> bool
-        ensures newer { result ≡ true → ComesAfter (passed self.now) chapter.now }
-        ensures older { result ≡ false → chapter.now.number < next_number self.now.newest }
+    // Returns whether a number is above those of all chapters that came.
+    fn is_newer(&self, number: u64) -> bool
+        ensures newer { result ≡ true → AreBelow number (passed self.now) }
+        ensures older { result ≡ false → number < next_number self.now.newest }
+        ensures newest { result ≡ true → next_number self.now.newest ≤ number }
     {
         match self.newest {
             None => true,
-            Some(number) => number < chapter.number(),
+            Some(newest) => newest < number,
         }
+    }
+
+    // Notes the number of a chapter that came. Returns whether it is above those of all that came before.
+    fn note(&mut self, number: u64) -> bool
+        ensures ring { self.new.ring ≡ self.old.ring }
+        ensures pending { self.new.pending ≡ self.old.pending }
+        ensures dropped { self.new.dropped ≡ self.old.dropped }
+        ensures newest { self.new.newest ≡ newest_after self.old.newest number }
+        ensures newer { result ≡ true → AreBelow number (passed self.old)
+            × (next_number self.old.newest ≤ number) }
+        ensures noted { result ≡ true → self.new.newest ≡ Some number }
+        ensures older { result ≡ false → number < next_number self.old.newest }
+    {
+        let newer = self.is_newer(number);
+        if newer {
+            self.newest = Some(number);
+        }
+        newer
     }
 
     // Passes a chapter on, or counts it as dropped and returns it.
@@ -58,11 +77,11 @@ impl Outlet {
             (λ back. (back ≡ chapter) × IsDropped self.old chapter self.new) }
     {
         self.send_pending();
-        if self.pending.is_some() || !self.is_newer(&chapter) {
+        let newer = self.note(chapter.number());
+        if self.pending.is_some() || !newer {
             self.dropped = self.dropped.saturating_add(1);
             return Some(chapter);
         }
-        self.newest = Some(chapter.number());
         if let Err(back) = self.ring.push(chapter) {
             self.pending = Some(back);
         }

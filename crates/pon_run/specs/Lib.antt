@@ -1,3 +1,4 @@
 pub mod Ends
+pub mod Metrics
 pub mod Runs
 pub mod Settlements

@@ -10,7 +10,7 @@ use Rattle.pon_run.specs.Ends.{ends_of, lines_from, without_dropped}
 use Rattle.pon_run.specs.Settlements.{settled_from, settlement_lines}
 use Rattle.pon_run.specs.declared.settling.Settlement.{Settlement}
 
--- the worker made all its turns
+-- the worker did not end early: it had no more maps to make, or the run was stopped
 abbrev pub IsFinished : WorkerEnd → Type 0
 IsFinished worker = worker.why ≡ Finished
 
@@ -30,7 +30,7 @@ pub record AllSettled (ports : ℕ) (settle : Bool) (settlements : List Settleme
   pub settled_each : length settlements ≡ (if settle then ports else 0)
   pub settled : settled_from 0 settlements ≡ true
 
--- the run of these ports is done: each worker made all its turns, and exactly the lines about the ports were written, in
+-- the run of these ports is done: no worker ended early, and exactly the lines about the ports were written, in
 -- their order, with a line for each that it is settled, if the ports are to be settled
 pub record TellsPorts (kept : List Chapter) (workers : List WorkerEnd) (settle : Bool) (old new : Option (List ℕ)) : Type 0 where
   pub one_each : length workers ≡ length kept

@@ -3,11 +3,12 @@
 use crate::arguments::RunArgs;
 use crate::watch::RunWatch;
 use pon_settings::Settings;
+use pon_sockets::MetricsListener;
 use pon_worker::Gate;
 use std::alloc::Global;
 
 /// What all steps of a run share: the handle of the runtime, the allocator, the settings of the ports, the arguments, the
-/// gate that may hold workers back, and what is seen of the ports.
+/// gate that may hold workers back, what is seen of the ports, and where clients of the metrics connect, if they can.
 #[derive(Drop)]
 pub(crate) struct RunContext<'a, G: Gate, R> {
     pub(crate) rt: &'a R,
@@ -16,6 +17,7 @@ pub(crate) struct RunContext<'a, G: Gate, R> {
     pub(crate) args: RunArgs<'a>,
     pub(crate) gate: &'a G,
     pub(crate) watch: &'a RunWatch,
+    pub(crate) metrics: Option<&'a MetricsListener>,
 }
 
 impl<'a, G: Gate, R> RunContext<'a, G, R> {
@@ -28,6 +30,7 @@ impl<'a, G: Gate, R> RunContext<'a, G, R> {
         args: RunArgs<'a>,
         gate: &'a G,
         watch: &'a RunWatch,
+        metrics: Option<&'a MetricsListener>,
     ) -> Self
         ensures settings { result.settings.now ≡ settings.now }
         ensures args { result.args ≡ args.entry }
@@ -39,6 +42,7 @@ impl<'a, G: Gate, R> RunContext<'a, G, R> {
             args,
             gate,
             watch,
+            metrics,
         }
     }
 }

@@ -44,7 +44,7 @@ impl WhyEnded {
 impl Display for WhyEnded {
     fn fmt<W: Write>(&self, f: &mut Formatter<W>) -> fmt::Result {
         match self.0 {
-            StopReason::Finished => f.write_str("it made all its maps"),
+            StopReason::Finished => f.write_str("it has no more maps to make"),
             StopReason::GateLimit => f.write_str("its gate refused it 10,000 times in a row"),
             StopReason::Refused(fault) => write!(f, "{fault}"),
             StopReason::Gave { cause } => match cause.get() {

@@ -177,7 +177,7 @@ fn is_settled(ports: usize, settle: bool, settlements: &[Settlement]) -> bool
 }
 
 // Writes what each port of a closed desk and its worker did, and its settlement if it is to be settled. Returns whether the
-// run is done: each worker made all its turns, no post was lost, and each port that is to be settled is.
+// run is done: no worker ended early, no post was lost, and each port that is to be settled is.
 fn tell_closed<K: Rings, G: Gate, F: OpenFile + Write + Drop, W: DevWrite, R: Files + Eprint>(
     run: &RunContext<'_, G, R>,
     closed: ClosedRun,
@@ -233,8 +233,7 @@ fn close_run<L: Ledger, M: Ledger, K: Rings, F: DevWrite + Drop>(
 }
 
 /// Records what is left of each port, closes the desk, settles its ports if that is wanted, and writes what each port did.
-/// Returns whether the run is done: each worker made all its turns, no post was lost, and each port that is to be settled
-/// is.
+/// Returns whether the run is done: no worker ended early, no post was lost, and each port that is to be settled is.
 pub(crate) fn tell<L, M, K, G, F, W, R>(
     run: &RunContext<'_, G, R>,
     desk: Desk<L, M>,

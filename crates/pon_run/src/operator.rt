@@ -3,19 +3,21 @@
 ghost use Rattle.std.specs.Prelude.{◌↔◌, IfOk, IsNone};
 
 use crate::arguments::LinesFrom;
+use crate::connection::ReplyWriter;
 use crate::console::{Console, STANDARD_INPUT};
 use crate::context::RunContext;
 use crate::watch::{RunWatch, Service};
 use pon_desk::{Desk, Seat};
-use pon_device::{DevRead, DevWrite, DeviceFault, StdRead};
+use pon_device::{DevRead, DevWrite, DeviceFault, StdRead, StdWrite};
 use pon_files::open_input;
 use pon_job::{Failure, Named};
 use pon_manage::{RunNotes, operate_noted};
+use pon_sockets::{ControlListener, OperatorStream};
 use pon_worker::Gate;
 use std::alloc::Global;
 use std::fs::{self, OpenOptions};
 use std::io::{BufReader, Read};
-use std::net::Net;
+use std::net::{Net, TcpListener, TcpStream};
 use std::os::fd::AsRawFd;
 use std::os::unix::fs::FileTypeExt;
 use std::rt::Files;
@@ -73,6 +75,20 @@ pub(crate) fn open_operator<G: Gate, R: Files>(
         Some(LinesFrom::StandardInput) => Ok(Some(OpenedLines::StandardInput)),
         Some(LinesFrom::File(name)) => Ok(Some(open_lines(run.rt, run.alloc, name)?)),
     }
+}
+
+/// Listens for the operators that connect to a run, if they can. Returns `Read` if a socket cannot be made.
+pub(crate) fn open_control<G: Gate, R>(
+    run: &RunContext<'_, G, R>,
+) -> Result<Option<ControlListener>, Failure>
+where
+    R: Net<Listener = TcpListener, Stream = TcpStream> + Files + Eprint,
+{
+    if !run.args.is_controlled() {
+        return Ok(None);
+    }
+    let listener = ControlListener::open(run.rt, run.alloc, &run.args.control)?;
+    Ok(Some(listener))
 }
 
 /// Says on standard error how a port is served whose state was shown, and stops the run.
@@ -177,6 +193,33 @@ where
             answer_stream(run, desk, seat, run.rt.reader(), STANDARD_INPUT, writer)
         }
     };
-    run.watch.end_operator();
+    if !run.args.is_controlled() {
+        run.watch.end_operator();
+    }
     answered
+}
+
+/// Executes the lines of an operator that is connected, until it closes its end or the workers have ended.
+///
+/// # Errors
+///
+/// `Read` if a read of the connection failed; `Write` if a write of it did, or the operator reads nothing for 10 seconds;
+/// `Memory` if memory was refused.
+pub(crate) fn answer_connection<L, M, G, R>(
+    run: &RunContext<'_, G, R>,
+    desk: &Desk<L, M>,
+    seat: &mut Seat<L, M>,
+    stream: &OperatorStream,
+) -> Result<(), DeviceFault>
+where
+    L: Ledger,
+    M: Ledger,
+    G: Gate,
+    R: Net + Wait + Eprint,
+{
+    let Ok(replies) = ReplyWriter::open(stream, run.watch) else {
+        return Err(DeviceFault::Write);
+    };
+    let mut writer = StdWrite::new(replies);
+    answer_stream(run, desk, seat, stream, stream.as_raw_fd(), &mut writer)
 }

@@ -8,6 +8,7 @@ use crate::end::PortEnd;
 use crate::running::Served;
 use crate::thread::{Worked, WorkerPart};
 use pon_desk::{Desk, Seat};
+use pon_job::MAX_OPERATORS;
 use pon_port::Port;
 use pon_recorder::{PortSink, Rings};
 use pon_settings::{Settings, SettingsRow};
@@ -19,6 +20,9 @@ use std::sync::ledger::Ledger;
 
 /// Number of seats besides those of the workers: one for the rows of the settings, and one for the operator.
 pub(crate) const OTHER_SEATS: usize = 2;
+
+/// The greatest number of seats besides those of the workers: also one for each operator that may be connected.
+pub(crate) const MAX_OTHER_SEATS: usize = OTHER_SEATS + MAX_OPERATORS as usize;
 
 /// Admits the rows of the settings, each of which a roster has accepted. `Err` only if memory is refused.
 pub(crate) fn admit_rows<L: Ledger, M: Ledger, R: Wait>(
@@ -112,7 +116,7 @@ pub(crate) fn worker_ends<L: Ledger, M: Ledger, K: Rings>(
     Ok(ends)
 }
 
-/// Returns whether each worker made all its turns.
+/// Returns whether no worker ended early.
 pub(crate) fn all_finished(ends: &[WorkerEnd]) -> bool
     ensures { result ≡ true → All IsFinished ends.now }
 {

@@ -1,18 +1,26 @@
-//! The threads of a run: for each port its worker and its units, if they are in this process, the recorder's, and that of
-//! the progress, if it is printed; started and joined.
+//! The threads of a run: for each port its worker and its units, if they are in this process, the recorder's, that of the
+//! progress, if it is printed, and those of the operators that connect; started and joined.
 
 use crate::answering::answer_units;
 use crate::context::RunContext;
+use crate::control::{ControlPart, Operated, accept_operators, serve_operators};
+use crate::metrics::start_metrics;
 use crate::progress::print_progress;
+use crate::recorder_watch::ThreadWatch;
 use crate::thread::{Worked, WorkerPart, work};
 use pon_desk::Desk;
-use pon_device::{DevWrite, DeviceFault};
+use pon_device::DeviceFault;
+use pon_files::{FileTape, LockFile, SegmentFiles};
 use pon_link::UnitsFault;
 use pon_recorder::{Recording, Rings};
 use pon_sockets::UnitsPart;
 use pon_units::PortNo;
 use pon_worker::Gate;
 use std::alloc::{AllocError, Global};
+use std::fs::OpenFile;
+use std::io::Write;
+use std::net::{Net, TcpListener, TcpStream};
+use std::rt::Files;
 use std::sync::Wait;
 use std::sync::atomic::{AtomicBool, Ordering};
 use std::sync::ledger::Ledger;
@@ -41,13 +49,14 @@ struct Running<L: Ledger, M: Ledger, K: Rings> {
     units: Option<JoinHandle<Result<(), UnitsFault>>>,
 }
 
-/// The threads of a run: those of each port, in order, the recorder's, if there is a recording, and that of the progress, if
-/// it is printed.
+/// The threads of a run: those of each port, in order, the recorder's, if there is a recording, that of the progress, if
+/// it is printed, and those of the seats for operators that connect.
 #[derive(Drop)]
 struct RunThreads<L: Ledger, M: Ledger, K: Rings, W> {
     ports: Vec<Running<L, M, K>>,
     recorder: Option<JoinHandle<Recording<K, W>>>,
     progress: Option<JoinHandle<Result<(), AllocError>>>,
+    operators: Vec<JoinHandle<Operated<L, M>>>,
 }
 
 /// The results of a run's threads.
@@ -55,10 +64,17 @@ struct RunThreads<L: Ledger, M: Ledger, K: Rings, W> {
 pub(crate) struct Results<L: Ledger, M: Ledger, K: Rings, W> {
     /// Those of the workers, in the order of their ports.
     pub(crate) worked: Vec<Worked<L, M, K>>,
-    /// The recording, with what the recorder has not taken yet.
+    /// The recording, with what the recorder has not taken yet, if it had a thread.
     pub(crate) recording: Option<Recording<K, W>>,
     /// How the operator ended.
     pub(crate) operated: Result<(), DeviceFault>,
+}
+
+/// What is left of a run when all its threads have ended: their results, and the seats for operators that connect.
+#[derive(Drop)]
+pub(crate) struct ThreadsEnded<L: Ledger, M: Ledger, K: Rings, W> {
+    pub(crate) results: Results<L, M, K, W>,
+    pub(crate) operators: Vec<Operated<L, M>>,
 }
 
 // Starts the thread of the units of a port. `None` if it cannot be created.
@@ -178,52 +194,117 @@ where
     }
 }
 
-// Starts the recorder's thread, if there is a recording. Returns `Memory` if it cannot be created.
-fn start_recorder<'s, E, K, G, W, R>(
+// Starts the recorder's thread, if there is a recording for it. Returns `Memory` if it cannot be created.
+fn start_recorder<'s, E, K, G, F, R>(
     scope: &Scope<'s, E>,
     run: &'s RunContext<'s, G, R>,
-    recording: Option<Recording<K, W>>,
+    recording: Option<Recording<K, FileTape<F>>>,
     stop: &'s AtomicBool,
-) -> Result<Option<JoinHandle<Recording<K, W>>>, DeviceFault>
+) -> Result<Option<JoinHandle<Recording<K, FileTape<F>>>>, DeviceFault>
 where
     K: Rings + Send + Sync + 's,
     G: Gate + Sync,
-    W: DevWrite + Drop + Send + 's,
-    R: Wait + Clock + Sync,
+    F: OpenFile + Write + LockFile + Drop + Send + 's,
+    R: Files<File = F> + Eprint + Wait + Clock + Sync,
+    R::Dir: Send,
 {
     let Some(recording) = recording else {
         return Ok(None);
     };
-    match scope.spawn(move || recording.run(run.rt, stop, run.watch)) {
+    match scope.spawn(move || {
+        let files = SegmentFiles::new(run.rt);
+        recording.run(run.rt, &files, &ThreadWatch::new(run.watch, stop))
+    }) {
         Ok(thread) => Ok(Some(thread)),
         Err(_) => Err(DeviceFault::Memory),
     }
 }
 
-// Starts the threads of a run. Returns `Memory` if one cannot be created; running workers then make no further turn.
-fn start_threads<'s, E, L, M, K, G, W, R>(
+// Starts the threads of the operators that connect: one for each seat, and one that accepts connections. Returns `Memory` if
+// one cannot be created.
+fn start_operators<'s, E, L, M, G, R>(
     scope: &Scope<'s, E>,
     run: &'s RunContext<'s, G, R>,
     desk: &'s Desk<L, M>,
-    ports: PortsServed<L, M, K, W>,
+    control: Option<ControlPart<'s, L, M>>,
+) -> Result<Vec<JoinHandle<Operated<L, M>>>, DeviceFault>
+where
+    L: Ledger + Send + Sync,
+    M: Ledger + Send + Sync,
+    G: Gate + Sync,
+    R: Net<Listener = TcpListener, Stream = TcpStream> + Wait + Clock + Eprint + Sync,
+{
+    let Some(
+        ControlPart {
+            listener,
+            seats,
+            accepted,
+            served,
+        },
+    ) = control
+    else {
+        return Ok(Vec::new(run.alloc));
+    };
+    let mut operators = Vec::with_capacity(run.alloc, seats.len())?;
+    for seat in seats {
+        match scope.spawn(move || serve_operators(run, desk, seat, served)) {
+            Ok(thread) => operators.push(thread)?,
+            Err(_) => return Err(DeviceFault::Memory),
+        }
+    }
+    match scope.spawn(move || accept_operators(run, listener, accepted)) {
+        Ok(_accepting) => Ok(operators),
+        Err(_) => Err(DeviceFault::Memory),
+    }
+}
+
+// Waits for the threads of the operators that connect to end, and returns their seats.
+fn join_operators<L: Ledger, M: Ledger, R: Threads>(
+    rt: &R,
+    alloc: Global,
+    threads: Vec<JoinHandle<Operated<L, M>>>,
+) -> Result<Vec<Operated<L, M>>, DeviceFault> {
+    let mut operators = Vec::with_capacity(alloc, threads.len())?;
+    for thread in threads {
+        operators.push(thread.join(rt))?;
+    }
+    Ok(operators)
+}
+
+// Starts the threads of a run. Returns `Memory` if one cannot be created; running workers then make no further turn.
+fn start_threads<'s, E, L, M, K, G, F, R>(
+    scope: &Scope<'s, E>,
+    run: &'s RunContext<'s, G, R>,
+    desk: &'s Desk<L, M>,
+    ports: PortsServed<L, M, K, FileTape<F>>,
+    control: Option<ControlPart<'s, L, M>>,
     stop: &'s AtomicBool,
-) -> Result<RunThreads<L, M, K, W>, DeviceFault>
+) -> Result<RunThreads<L, M, K, FileTape<F>>, DeviceFault>
 where
     L: Ledger + Send + Sync,
     M: Ledger + Send + Sync,
     K: Rings + Send + Sync + 's,
     G: Gate + Sync,
-    W: DevWrite + Drop + Send + 's,
-    R: Wait + Clock + Eprint + Sync,
+    F: OpenFile + Write + LockFile + Drop + Send + 's,
+    R: Net<Listener = TcpListener, Stream = TcpStream>
+        + Files<File = F>
+        + Wait
+        + Clock
+        + Eprint
+        + Sync,
+    R::Dir: Send,
 {
     let PortsServed { all, recording } = ports;
     let recorder = start_recorder(scope, run, recording, stop)?;
     let progress = start_progress(scope, run, stop)?;
+    start_metrics(scope, run, desk, stop)?;
     let ports = start_all(scope, run, desk, all)?;
+    let operators = start_operators(scope, run, desk, control)?;
     Ok(RunThreads {
         ports,
         recorder,
         progress,
+        operators,
     })
 }
 
@@ -233,43 +314,57 @@ fn end_threads<L: Ledger, M: Ledger, K: Rings, G: Gate, W: Drop, R: Threads>(
     threads: RunThreads<L, M, K, W>,
     stop: &AtomicBool,
     operated: Result<(), DeviceFault>,
-) -> Result<Results<L, M, K, W>, DeviceFault> {
+) -> Result<ThreadsEnded<L, M, K, W>, DeviceFault> {
     let RunThreads {
         ports,
         recorder,
         progress,
+        operators,
     } = threads;
     let worked = join_all(run.rt, run.alloc, ports);
+    let operators = join_operators(run.rt, run.alloc, operators);
     stop.store(true, Ordering::SeqCst);
     let _printed = progress.map(|thread| thread.join(run.rt));
     let recording = match recorder {
         None => None,
         Some(thread) => Some(thread.join(run.rt)),
     };
-    Ok(Results {
+    let results = Results {
         worked: worked?,
         recording,
         operated,
+    };
+    Ok(ThreadsEnded {
+        results,
+        operators: operators?,
     })
 }
 
 /// Serves each port in its own threads, and calls `meanwhile` during that time, while the recorder takes the ports'
-/// chapters. Returns the results of the threads and of `meanwhile`. All threads have ended when it returns.
+/// chapters and operators may connect. Returns the results of the threads and of `meanwhile`, and the operators' seats. All threads have ended when it returns.
 ///
 /// Returns `Memory` if memory is refused or a thread cannot be created; running workers then make no further turn.
-pub(crate) fn serve_all<L, M, K, G, W, R, O>(
+pub(crate) fn serve_all<L, M, K, G, F, R, O>(
     run: &RunContext<'_, G, R>,
     desk: &Desk<L, M>,
-    ports: PortsServed<L, M, K, W>,
+    ports: PortsServed<L, M, K, FileTape<F>>,
+    control: Option<ControlPart<'_, L, M>>,
     meanwhile: O,
-) -> Result<Results<L, M, K, W>, DeviceFault>
+) -> Result<ThreadsEnded<L, M, K, FileTape<F>>, DeviceFault>
 where
     L: Ledger + Send + Sync,
     M: Ledger + Send + Sync,
     K: Rings + Send + Sync,
     G: Gate + Sync,
-    W: DevWrite + Drop + Send,
-    R: Wait + Threads + Clock + Eprint + Sync,
+    F: OpenFile + Write + LockFile + Drop + Send,
+    R: Net<Listener = TcpListener, Stream = TcpStream>
+        + Files<File = F>
+        + Wait
+        + Threads
+        + Clock
+        + Eprint
+        + Sync,
+    R::Dir: Send,
     O: FnOnce() -> Result<(), DeviceFault>,
     requires { O.pre meanwhile }
 {
@@ -278,10 +373,10 @@ where
     thread::scope(
         thread::scope_env(),
         run.rt,
-        move |scope| -> Result<Results<L, M, K, W>, DeviceFault>
+        move |scope| -> Result<ThreadsEnded<L, M, K, FileTape<F>>, DeviceFault>
             requires { O.pre meanwhile }
         {
-            let threads = match start_threads(scope, run, desk, ports, stop) {
+            let threads = match start_threads(scope, run, desk, ports, control, stop) {
                 Ok(threads) => threads,
                 Err(fault) => {
                     run.watch.stop();

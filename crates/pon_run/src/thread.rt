@@ -96,6 +96,9 @@ where
             counts: ended.counts.plus(&served.counts),
             why: served.why,
         };
+        if let Some(seen) = run.watch.port(port) {
+            seen.see_counts(&ended.counts);
+        }
         if !pace.takes_cut(ended.counts) {
             break;
         }

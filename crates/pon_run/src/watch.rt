@@ -1,7 +1,6 @@
 //! What is seen of the ports of a run while it lasts: numbers that its threads write and others read.
 
 use crate::early::{EndNumber, NOT_ENDED};
-use pon_recorder::ChapterWatch;
 use pon_units::PortNo;
 use pon_worker::PortCounts;
 use std::alloc::{AllocError, Global};
@@ -114,12 +113,17 @@ impl PortWatch {
 
     /// Notes what the port counted for its worker so far, and how many chapters its sink dropped.
     pub(crate) fn see(&self, counts: &PortCounts, dropped: u64) {
+        self.see_counts(counts);
+        self.lost.store(dropped, Ordering::Relaxed);
+    }
+
+    /// Notes what the port counted for its worker so far.
+    pub(crate) fn see_counts(&self, counts: &PortCounts) {
         self.maps.store(counts.maps, Ordering::Relaxed);
         self.reports.store(counts.reports, Ordering::Relaxed);
         self.garbled.store(counts.garbled, Ordering::Relaxed);
         self.unowned.store(counts.unowned, Ordering::Relaxed);
         self.refused.store(counts.refused, Ordering::Relaxed);
-        self.lost.store(dropped, Ordering::Relaxed);
     }
 
     // Returns what the port counted for its worker.
@@ -190,6 +194,14 @@ impl RunWatch {
         self.ports.get(usize::from(port.get()))
     }
 
+    /// Notes that the recorder took a chapter of a port. `dropped` of those taken so far were dropped.
+    pub(crate) fn take_chapter(&self, port: PortNo, dropped: u64) {
+        if let Some(seen) = self.port(port) {
+            seen.taken.fetch_add(1, Ordering::Relaxed);
+            seen.dropped.store(dropped, Ordering::Relaxed);
+        }
+    }
+
     /// Notes that the worker of a port has ended, with the number of its end.
     pub(crate) fn end_worker(&self, port: PortNo, number: u64) {
         if let Some(seen) = self.port(port) {
@@ -221,14 +233,5 @@ impl RunWatch {
     /// Returns whether the worker of each port has ended.
     pub(crate) fn is_over(&self) -> bool {
         self.ended.load(Ordering::SeqCst) >= self.ports.len() as u64
-    }
-}
-
-impl ChapterWatch for RunWatch {
-    fn took(&self, port: PortNo, dropped: u64) {
-        if let Some(seen) = self.port(port) {
-            seen.taken.fetch_add(1, Ordering::Relaxed);
-            seen.dropped.store(dropped, Ordering::Relaxed);
-        }
     }
 }

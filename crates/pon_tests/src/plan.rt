@@ -8,6 +8,7 @@ use pon_units::{FrameNo, Gap, Profile};
 use std::alloc::{AllocError, Global};
 use std::process::Abort;
 
+mod failing;
 mod long;
 mod ports;
 
@@ -311,46 +312,6 @@ fn long_lines_are_skipped(rt: HostRuntime) {
         let run = run_long_line(&rt, rt.alloc(), bytes);
         assert!(rt; ends_with(run, Ok(PlanEnd), text), "{bytes}");
     }
-}
-
-// The text of the lines of `FIRST_MAP` that are read whole if call k fails.
-fn text_before(call: u64) -> &'static [u8] {
-    match call {
-        0..=31 => b"",
-        32..=37 => b"ok 0\n",
-        _ => FIRST_TEXT,
-    }
-}
-
-// The reader gives one byte in a call: call k fails after k bytes.
-#[test]
-fn a_failed_read_leaves_the_whole_lines(rt: HostRuntime) {
-    for call in 0..39u64 {
-        let devices = Devices {
-            reads: &[call],
-            ..sound(1)
-        };
-        let run = run(rt.alloc(), 16, FIRST_MAP, devices);
-        assert!(rt;
-            ends_with(run, Err(DeviceFault::Read), text_before(call)),
-            "{call}"
-        );
-    }
-}
-
-// The writer takes one byte in a call: call b fails after b bytes, and call 36 is the flush.
-#[test]
-fn a_failed_write_leaves_a_beginning(rt: HostRuntime) {
-    for call in 0..37usize {
-        let devices = Devices {
-            writes: &[call as u64],
-            ..sound(1)
-        };
-        let run = run(rt.alloc(), 16, FIRST_MAP, devices);
-        let text = FIRST_TEXT.get(..call).expect(&rt, "36 bytes");
-        assert!(rt; ends_with(run, Err(DeviceFault::Write), text), "{call}");
-    }
-    assert!(rt; FIRST_TEXT.len() == 36);
 }
 
 // Returns whether the text is that of the result: a beginning if memory was refused.

@@ -69,6 +69,34 @@ fn a_ring_that_is_not_drained_drops_chapters(rt: HostRuntime) {
     assert!(rt; is_rest(sink.into_rest(), 5, 2));
 }
 
+fn turn_many(rt: &impl Abort, port: &mut Port, turns: u32) {
+    for _ in 0..turns {
+        assert!(rt; port.turn().is_ok(), "a chapter");
+    }
+}
+
+/// Returns whether chapter 2, which was dropped while chapter 1 waited, is dropped again if it comes from another port, and
+/// chapter 3 is passed on.
+fn drops_again(rt: &impl Abort, alloc: Global, sink: &mut Sink, out: &mut RingOut) -> bool {
+    let mut port = open(rt, alloc);
+    pass_many(rt, &mut port, sink, 3);
+    let is_first = sink.dropped() == 1 && gives(out, 0);
+    let mut other = open(rt, alloc);
+    turn_many(rt, &mut other, 2);
+    pass(rt, &mut other, sink);
+    let is_dropped = sink.dropped() == 2 && gives(out, 1);
+    pass(rt, &mut port, sink);
+    is_first && is_dropped && gives(out, 3)
+}
+
+#[test]
+fn a_number_of_a_dropped_chapter_is_not_passed_on(rt: HostRuntime) {
+    let (ring_in, mut out) = ring(rt.alloc()).expect(&rt, "memory");
+    let mut sink = Sink::ring(ring_in, CUT);
+    let are_dropped = drops_again(&rt, rt.alloc(), &mut sink, &mut out);
+    assert!(rt; are_dropped);
+}
+
 /// Passes four chapters and pops each, and returns whether their numbers are 0 to 3.
 fn gives_each(rt: &impl Abort, port: &mut Port, sink: &mut Sink, out: &mut RingOut) -> bool {
     for number in 0..4 {

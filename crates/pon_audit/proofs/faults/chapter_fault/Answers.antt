@@ -1,6 +1,6 @@
-use Rattle.std.proofs.lemmas.Result.{IfOk-from_err}
 use Rattle.pon_audit.specs.Judging.{EndsWith, FailsLater}
-use Rattle.pon_audit.specs.Verdicts.{MayStandAfter}
+use Rattle.std.specs.Prelude.{MatchOption}
+use Rattle.pon_audit.specs.Verdicts.{ChapterFails, MayStandAfter}
 use Rattle.pon_audit.proofs.FirstFaults.{one_more_judged}
 use Rattle.pon_audit.proofs.faults.chapter_fault.Goals as goal
 
@@ -20,17 +20,9 @@ place_fault-requires-in-Ends-clause-opens c =
     let ends : EndsWith c.args.chapter.now c.in-Ends.end = rw c.in-Ends.is at c.requires.answer in
     ends.good.lawful.opening
 
-pub returns-in_err-keep-in-None-place_fault : goal.returns-in_err-keep-in-None-place_fault
-returns-in_err-keep-in-None-place_fault c = IfOk-from_err c.from_residual.result _ c.from_residual.ensures.0
-
-pub returns-in-Some : goal.returns-in-Some
-returns-in-Some c = rw c.at_start-in-Some.ensures c.in-Some.ensures
-
-pub returns-in-Some-place_fault : goal.returns-in-Some-place_fault
-returns-in-Some-place_fault c = rw c.at_start-in-Some-place_fault.ensures c.in-Some-place_fault.ensures
-
-pub returns-in_ok-keep-in-None-place_fault : goal.returns-in_ok-keep-in-None-place_fault
-returns-in_ok-keep-in-None-place_fault c = λ earlier judged.
+pub returns-in_ok-keep-in-None-2 : goal.returns-in_ok-keep-in-None-2
+returns-in_ok-keep-in-None-2 c = λ earlier judged.
     let ends : EndsWith c.args.chapter.now c.in-Ends.end = rw c.in-Ends.is at c.requires.answer in
-    let stands : MayStandAfter earlier c.args.chapter.now = c.in-None-place_fault.ensures earlier judged in
-    one_more_judged earlier c.args.chapter.now c.args.ends.now c.keep.new.self c.in-Ends.end c.keep.ensures.len judged stands ends c.in_ok-keep-in-None-place_fault.ensures.ends c.in_ok-keep-in-None-place_fault.ensures.places
+    let found : MatchOption c.in_ok-why-in-Ends.field-0 (MayStandAfter earlier c.args.chapter.now) (λ why. ChapterFails earlier c.args.chapter.now 0 why) = c.in_ok-why-in-Ends.ensures.fault earlier judged in
+    let stands : MayStandAfter earlier c.args.chapter.now = rw c.in-None-2.is at found in
+    one_more_judged earlier c.args.chapter.now c.args.ends.now c.in-Ends.end c.in_ok-keep-in-None-2.ensures.len judged stands ends c.in_ok-keep-in-None-2.ensures.range c.keep.new.self c.in_ok-keep-in-None-2.ensures.kept

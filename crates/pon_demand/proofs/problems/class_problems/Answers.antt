@@ -9,15 +9,14 @@ pub returns : goal.returns
 returns c =
     let s = c.args.input.now in
     let k = c.requires.admitted in
-    let na : c.as_slice.result.now ≡ demands_of s = c.as_slice.ensures.value ∙ c.in_ok-demands.ensures in
-    let be : c.as_slice-2.result.now ≡ demands_of s = c.as_slice-2.ensures.value ∙ c.in_ok-demands.ensures in
-    let na_items : c.in_ok-na.na.items.items ≡ items NonAssured s = c.in_ok-na.ensures.items ∙ items_demanded s NonAssured _ na in
-    let be_items : c.in_ok-be.be.items.items ≡ items BestEffort s = c.in_ok-be.ensures.items ∙ items_demanded s BestEffort _ be in
+    let all : c.as_slice.result.now ≡ demands_of s = c.as_slice.ensures.value ∙ c.in_ok-demands.ensures in
+    let na_items : c.in_ok-both.both.na.items.items ≡ items NonAssured s = c.in_ok-both.ensures.na_items ∙ items_demanded s NonAssured _ all in
+    let be_items : c.in_ok-both.both.be.items.items ≡ items BestEffort s = c.in_ok-both.ensures.be_items ∙ items_demanded s BestEffort _ all in
     record {
       demands = c.in_ok-demands.ensures;
-      na_ids = c.in_ok-na.ensures.ids ∙ ids_demanded s NonAssured _ na;
+      na_ids = c.in_ok-both.ensures.na_ids ∙ ids_demanded s NonAssured _ all;
       na_items = na_items;
-      be_ids = c.in_ok-be.ensures.ids ∙ ids_demanded s BestEffort _ be;
+      be_ids = c.in_ok-both.ensures.be_ids ∙ ids_demanded s BestEffort _ all;
       be_items = be_items;
       surplus = c.surplus_of-surplus.ensures;
       na_problem = rw (na_items, c.surplus_of-surplus.ensures) (problem_of s NonAssured (surplus s) refl k.few_allocs k.in_range (surplus_range s));

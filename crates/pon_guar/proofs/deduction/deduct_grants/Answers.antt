@@ -23,8 +23,8 @@ loop-granted-preserved c =
     elim c.match-found.branch [
       | in-Some w ↦
           w.accounts-is
-          ∙ ap (set c.loop-granted.accounts w.in-Some.place) (w.deduct_words.ensures ∙ ap (less_by granted.words) w.index-accounts-place.is)
-          ∙ change_at (less_by granted.words) (λ a. refl) granted.alloc_id c.loop-granted.accounts w.in-Some.place w.index-accounts-place.result (rw c.loop-granted.invariant (lessened_rising done book c.requires)) (search rules)
+          ∙ ap (set c.loop-granted.accounts w.in-Some.place) w.deduct_words.ensures
+          ∙ change_at (less_by granted.words) (λ a. refl) granted.alloc_id c.loop-granted.accounts w.in-Some.place _ (rw c.loop-granted.invariant (lessened_rising done book c.requires)) (search rules)
           ∙ ap (changing (less_by granted.words) granted.alloc_id) c.loop-granted.invariant ∙ all
       | in_default w ↦
           w.accounts-is ∙ sym (change_absent (less_by granted.words) granted.alloc_id c.loop-granted.accounts (search rules))

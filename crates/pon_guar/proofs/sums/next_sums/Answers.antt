@@ -14,12 +14,12 @@ loop-granted-preserved c =
     let granted = c.granted-item.result in
     let more : take (c.loop-granted.granted-index + 1) c.args.grants.now ≡ done ++ granted ∷ []
     = take_more c.args.grants.now c.loop-granted.granted-index granted (search rules) ∙ ap (λ g. done ++ g ∷ []) (sym c.granted-item.is) in
-    let sum : c.match-sum_now.sum ≡ or_zero (sum_now granted.onu granted.alloc_id c.args.maps.now c.args.sums.now)
-    = elim c.match-sum_now.branch [
-      | in-Some w ↦ w.sum-is ∙ sym (ap or_zero (sym c.sum_now.ensures ∙ w.in-Some.is))
-      | in-None w ↦ w.sum-is ∙ sym (ap or_zero (sym c.sum_now.ensures ∙ w.in-None.is))
+    let sum : c.match-sum_from.sum ≡ or_zero (sum_now granted.onu granted.alloc_id c.args.maps.now c.args.sums.now)
+    = elim c.match-sum_from.branch [
+      | in-Some w ↦ w.sum-is ∙ sym (ap or_zero (sym c.sum_from.ensures ∙ w.in-Some.is))
+      | in-None w ↦ w.sum-is ∙ sym (ap or_zero (sym c.sum_from.ensures ∙ w.in-None.is))
     ] in record {
-      sums = c.push_reserved.ensures.items ∙ beside_more c.args.maps.now c.args.sums.now done (take (c.loop-granted.granted-index + 1) c.args.grants.now) granted c.match-sum_now.sum c.loop-granted.before.items sum c.loop-granted.invariant.sums more;
+      sums = c.push_reserved.ensures.items ∙ beside_more c.args.maps.now c.args.sums.now done (take (c.loop-granted.granted-index + 1) c.args.grants.now) granted c.match-sum_from.sum c.loop-granted.before.items sum c.loop-granted.invariant.sums more;
       small = subst (All (λ g. g.words ≤ FRAME_WORDS)) (sym more)
           (All-append (λ g. g.words ≤ FRAME_WORDS) done (granted ∷ []) c.loop-granted.invariant.small (All-cons (λ g. g.words ≤ FRAME_WORDS) granted [] (search rules) (All-nil (λ g. g.words ≤ FRAME_WORDS))));
       count = search rules;

@@ -28,5 +28,6 @@ returns-clause-some c =
         recordings = sym (c.in-Some.ensures ∙ raw_values-rows f (codes "file")) ∙ ap (λ xs. Some (map (λ v. v.now) xs)) (sym c.in_ok-files.ensures);
         format = subst (λ o. IsFormat o c.in-Some-is_json.json) (c.get_str-format.ensures ∙ first_value-rows f (codes "format")) c.in-Some-is_json.ensures.some;
         whole = c.is_given-complete.ensures;
+        joins = c.is_given-joined.ensures;
       },
     )

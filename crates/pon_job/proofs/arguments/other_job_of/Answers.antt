@@ -11,7 +11,7 @@ returns-in_err-file-clause-none c =
     let f = found_of c.args.found.now in
     let word = (bytes_eq-Decides _ (codes "check")).0 (sym c.eq-2.ensures ∙ c.if-eq-2.true) in
     let none = no_check _ (rows_of f) word (c.in_err-file.ensures ∙ first_value-rows f (codes "file")) in
-    λ _ _. none
+    λ _ _ _. none
 
 pub returns-then-eq-2-clause-some : goal.returns-then-eq-2-clause-some
 returns-then-eq-2-clause-some c =

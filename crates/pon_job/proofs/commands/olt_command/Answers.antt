@@ -9,4 +9,6 @@ returns c =
     let views = c.with_views-command.ensures _ audit in
     let migrate = with_made _ _ _ _ _ views c.migrate_command.ensures c.with_subcommand-command-4.ensures in
     let run = with_made _ _ _ _ _ migrate c.run_command.ensures c.with_subcommand-command-5.ensures in
-    with_made _ _ _ _ _ run c.units_command.ensures c.with_subcommand.ensures
+    let stop = with_made _ _ _ _ _ run c.stop_command.ensures c.with_subcommand-command-6.ensures in
+    let operate = with_made _ _ _ _ _ stop c.operate_command.ensures c.with_subcommand-command-7.ensures in
+    with_made _ _ _ _ _ operate c.units_command.ensures c.with_subcommand.ensures

@@ -1,6 +1,6 @@
 use Rattle.std.proofs.Common.{◌≡◌, ◌∷◌, [], rules, subst}
 use Rattle.pon_record.specs.Chapters.{Body}
-use Rattle.pon_recorder.specs.Bodies.{chapter_body}
+use Rattle.pon_record.specs.Bodies.{chapter_body}
 use Rattle.pon_recorder.specs.Whole.{RecordsAll}
 use Rattle.pon_recorder.proofs.Whole.{records_append}
 use Rattle.pon_recorder.proofs.kept.append_port.Goals as goal

@@ -1,4 +1,4 @@
-use Rattle.pon_recorder.specs.Recorders.{Stays}
+use Rattle.pon_record.specs.Recorders.{Stays}
 use Rattle.pon_recorder.proofs.recorder.write_rest.Given as goal
 
 abbrev pub invariant-loop-try : goal.invariant-loop-try

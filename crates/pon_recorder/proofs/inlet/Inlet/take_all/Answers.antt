@@ -1,5 +1,5 @@
 use Rattle.std.proofs.Common.{◌∙◌, ◌++◌, ◌∷◌, [], subst}
-use Rattle.pon_recorder.specs.Bodies.{chapter_body}
+use Rattle.pon_record.specs.Bodies.{chapter_body}
 use Rattle.pon_ring.specs.Rings.{received_chapters}
 use Rattle.pon_ring.proofs.Passing.{same_out_more}
 use Rattle.pon_recorder.specs.Recordings.{TakesChapters}

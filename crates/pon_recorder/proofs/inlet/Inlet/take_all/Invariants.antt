@@ -1,7 +1,7 @@
 use Rattle.std.proofs.Common.{◌≡◌, ◌-◌, ◌++◌, List, length}
 use Rattle.std.specs.Prelude.{map}
 use Rattle.pon_history.specs.Chapters.{Chapter}
-use Rattle.pon_recorder.specs.Bodies.{chapter_body}
+use Rattle.pon_record.specs.Bodies.{chapter_body}
 use Rattle.pon_ring.specs.Rings.{AreEnds, SameOut, received_chapters, sent_chapters}
 use Rattle.pon_recorder.specs.Recordings.{TakesChapters}
 use Rattle.pon_recorder.specs.Whole.{StaysSound}

@@ -1,0 +1,2 @@
+pub mod SegmentNumbers
+pub mod Segments

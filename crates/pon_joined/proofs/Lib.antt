@@ -1,0 +1,2 @@
+mod OneRecording
+mod Steps

@@ -1,0 +1,5 @@
+mod Chosen
+mod EndsWell
+mod Further
+mod NoChange
+mod OneList

@@ -1,0 +1,4 @@
+pub mod LastChapters
+pub mod Resuming
+pub mod Ends
+pub mod Changes

@@ -1,0 +1,4 @@
+mod Answered
+mod Drawn
+mod Judged
+mod Replies

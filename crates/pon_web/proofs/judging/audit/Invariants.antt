@@ -1,0 +1,7 @@
+use Rattle.std.specs.Prelude.{Some}
+use Rattle.pon_audit.specs.Auditing.{IsAuditing}
+use Rattle.pon_web.proofs.judging.audit.Given as goal
+
+-- the audit goes on
+abbrev pub invariant-loop-batch : goal.invariant-loop-batch
+invariant-loop-batch l = IsAuditing (Some l.fn.bytes) l.auditing (Some l.reader.inner.now)
