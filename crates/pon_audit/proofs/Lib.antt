@@ -1,6 +1,7 @@
 pub mod FirstFaults
 pub mod Kept
 pub mod Maps
+pub mod OneByOne
 pub mod OneFault
 pub mod OneVerdict
 pub mod EachOk

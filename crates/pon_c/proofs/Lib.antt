@@ -1,7 +1,6 @@
 pub mod AsBox
 pub mod AsChapterBox
 pub mod GoodTogether
-pub mod Judged
 pub mod LastChapters
 pub mod LastMade
 pub mod Recorded

@@ -1,17 +1,10 @@
 // The audit of a recording in memory, with no thread but the caller's.
-ghost use Rattle.std.specs.Prelude.{◌≡◌, ◌≢◌, All, IfOk, List, Option, ℕ};
-ghost use Rattle.std.specs.List.{AllZip};
-ghost use Rattle.pon_audit.specs.Auditing.{GoesOn, IsAuditing};
-ghost use Rattle.pon_audit.specs.Judging.{IsJudgment};
-ghost use Rattle.pon_audit.specs.Openings.{FitsRecording};
-ghost use Rattle.pon_audit.specs.Verdicts.{IsVerdict};
+ghost use Rattle.std.specs.Prelude.{◌≡◌, ◌≢◌};
 ghost use Rattle.pon_c.specs.Audits.{TellsVerdict, reason_number, verdict_info};
 
 use crate::numbers::OUT_OF_MEMORY;
-use pon_audit::{AuditReason, Auditing, Judged, KeptEnds, Verdict, judge};
-use pon_device::{DevRead, StdRead};
-use pon_record::RawChapter;
-use std::alloc::{AllocError, Global};
+use pon_audit::{AuditReason, Verdict, audit_in_order};
+use std::alloc::Global;
 
 /// The verdict on a recording: 0 good, 1 bad, 2 malformed, 3 cut short.
 #[repr(C)]
@@ -90,65 +83,13 @@ pub(crate) fn verdict_info(verdict: &Verdict) -> VerdictInfo
     }
 }
 
-// Judges chapters one after another. `Err` only if memory is refused.
-fn judge_all(alloc: Global, chapters: &[RawChapter]) -> Result<Vec<Judged>, AllocError>
-    requires { All (λ c. FitsRecording c.body) chapters.now }
-    ensures { IfOk result (λ answers. AllZip IsJudgment chapters.now answers.items) }
-{
-    let mut answers = Vec::new(alloc);
-    for chapter in chapters {
-        answers.push(judge(alloc, chapter)?)?;
-    }
-    Ok(answers)
-}
-
-// Reads and judges the next chapters; the verdict if they are the last. `Err` only if memory is refused.
-fn audit_next<R: DevRead>(
-    alloc: Global,
-    auditing: &mut Auditing,
-    reader: &mut R,
-) -> Result<Option<Verdict>, AllocError>
-    requires { (start : Option (List ℕ)) × IsAuditing start auditing.old (R.remaining reader.old) }
-    ensures { IfOk result (λ found. (start : Option (List ℕ))
-        → IsAuditing start auditing.old (R.remaining reader.old)
-        → GoesOn start auditing.new (R.remaining reader.new) found) }
-{
-    let Ok(batch) = auditing.read(alloc, reader) else {
-        return Err(AllocError);
-    };
-    let answers = judge_all(alloc, &batch.chapters)?;
-    match auditing.place(&batch, answers) {
-        Ok(found) => Ok(found),
-        Err(_) => Err(AllocError),
-    }
-}
-
-/// Audits the bytes of a recording. `Err` only if memory is refused.
-pub(crate) fn audit(alloc: Global, bytes: &[u8]) -> Result<Verdict, AllocError>
-    ensures { IfOk result (λ verdict. IsVerdict bytes.now verdict) }
-{
-    let mut reader = StdRead::new(bytes);
-    let mut auditing = match Auditing::open(alloc, KeptEnds::OfChapters, &mut reader) {
-        Ok(Ok(auditing)) => auditing,
-        Ok(Err(verdict)) => return Ok(verdict),
-        Err(_) => return Err(AllocError),
-    };
-    for _batch in 0..u64::MAX {
-        let found = audit_next(alloc, &mut auditing, &mut reader)?;
-        if let Some(verdict) = found {
-            return Ok(verdict);
-        }
-    }
-    Err(AllocError)
-}
-
 /// Audits a recording of either version, as `olt audit` does. Returns 0, or `OUT_OF_MEMORY`.
 #[unsafe(no_mangle)]
 pub extern "C" fn sez_audit(alloc: Global, bytes: &[u8], verdict: &mut VerdictInfo) -> u32
     ensures ok { result ≡ 0 → TellsVerdict bytes.now verdict.new }
     ensures err { result ≢ 0 → result ≡ OUT_OF_MEMORY }
 {
-    match audit(alloc, bytes) {
+    match audit_in_order(alloc, bytes) {
         Ok(found) => {
             *verdict = verdict_info(&found);
             0

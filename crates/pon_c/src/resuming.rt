@@ -8,11 +8,12 @@ ghost use Rattle.pon_audit.specs.Verdicts.{IsGoodChapter};
 ghost use Rattle.pon_c.specs.Audits.{TellsVerdict};
 ghost use Rattle.pon_c.specs.Resuming.{IsGoodRecording, IsRefusedAfter, Resumes, ResumesAfter, StaysGood, TellsLast, TellsResume, TellsRefused};
 
-use crate::auditing::{VerdictInfo, audit, verdict_info};
+use crate::auditing::{VerdictInfo, verdict_info};
 use crate::handle::PortHandle;
 use crate::numbers::{
     BAD_PORT, BAD_STATE, CHAPTER_FULL, IS_OPEN, NO_CHAPTER, NOT_GOOD, OUT_OF_MEMORY,
 };
+use pon_audit::audit_in_order;
 use pon_device::StdRead;
 use pon_port::Port;
 use pon_record::{ChapterReader, RawChapter};
@@ -90,7 +91,7 @@ fn audit_and_resume(
     ensures err { IfErr result (TellsResume bytes.now port verdict.new) }
     ensures reason { IfErr result (λ n. n ≢ 0) }
 {
-    let Ok(found) = audit(alloc, bytes) else {
+    let Ok(found) = audit_in_order(alloc, bytes) else {
         return Err(OUT_OF_MEMORY);
     };
     *verdict = verdict_info(&found);

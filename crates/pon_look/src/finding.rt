@@ -137,7 +137,7 @@ impl Rank {
 /// What is looked for, and what was seen so far: the ports of all chapters, the frames of the port that is asked for, or of
 /// the lowest one, and the rank of the map that was found.
 #[derive(Clone, Copy)]
-struct Search {
+pub(crate) struct Search {
     query: WhyQuery,
     ports: Option<Ports>,
     // Whether a chapter is of the port that is asked for.
@@ -154,7 +154,8 @@ struct MapAt {
 }
 
 impl Search {
-    fn new(query: WhyQuery) -> Search {
+    /// Before the first chapter.
+    pub(crate) fn new(query: WhyQuery) -> Search {
         Search {
             query,
             ports: None,
@@ -185,8 +186,8 @@ impl Search {
         }
     }
 
-    // Returns what is missing if no map was found.
-    fn missing(&self) -> Missing {
+    /// Returns what is missing if no map was found.
+    pub(crate) fn missing(&self) -> Missing {
         match (self.query.port, self.query.frame, self.frames) {
             (_, Some(frame), Some(PortFrames { port, first, last })) => Missing::Frame {
                 port,
@@ -257,8 +258,8 @@ fn taken_out(chapters: Vec<RawChapter>, at: MapAt) -> Option<FoundMap>
     found_at(chapter, at.entry)
 }
 
-// Returns the map that is found after the next chapters.
-fn found_after(
+/// Returns the map that is found after the next chapters.
+pub(crate) fn found_after(
     search: &mut Search,
     found: Option<FoundMap>,
     chapters: Vec<RawChapter>,

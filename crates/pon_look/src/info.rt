@@ -77,16 +77,16 @@ fn write_chapter<W: DevWrite>(
     }
 }
 
-// What was seen of the chapters so far: the number of the last one of each port, and the totals.
+/// What was seen of the chapters so far: the number of the last one of each port, and the totals.
 #[derive(Clone, Copy)]
-struct SoFar {
+pub(crate) struct SoFar {
     last: LastChapters,
-    totals: Totals,
+    pub totals: Totals,
 }
 
 impl SoFar {
-    // Before the first chapter.
-    const NOTHING: SoFar = SoFar {
+    /// Before the first chapter.
+    pub(crate) const NOTHING: SoFar = SoFar {
         last: [None; MAX_PORTS],
         totals: Totals {
             chapters: 0,
@@ -114,8 +114,8 @@ impl SoFar {
         Ok(())
     }
 
-    // Writes the lines of the next chapters, of which the last one ends before the byte `end`.
-    fn write_batch<W: DevWrite>(
+    /// Writes the lines of the next chapters, of which the last one ends before the byte `end`.
+    pub(crate) fn write_batch<W: DevWrite>(
         &mut self,
         alloc: Global,
         printer: &mut Printer,
@@ -136,8 +136,8 @@ impl SoFar {
     }
 }
 
-// Returns the byte after the last chapter of a batch, after which `read` bytes are read.
-fn end_of(end: BatchEnd, read: u64) -> u64 {
+/// Returns the byte after the last chapter of a batch, after which `read` bytes are read.
+pub(crate) fn end_of(end: BatchEnd, read: u64) -> u64 {
     match end {
         BatchEnd::More | BatchEnd::Whole => read,
         BatchEnd::Cut { at } | BatchEnd::Malformed { at } => at as u64,

@@ -98,8 +98,8 @@ fn draw(
     Ok(Some(Picture { text, svg }))
 }
 
-// Draws what was followed of an Alloc-ID at the lowest port that has it, or returns what is missing.
-fn draw_loads(
+/// Draws what was followed of an Alloc-ID at the lowest port that has it, or returns what is missing.
+pub(crate) fn draw_loads(
     alloc: Global,
     query: &LoadsQuery,
     tallies: &PortTallies,

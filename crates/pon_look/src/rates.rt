@@ -15,7 +15,7 @@ use crate::seen::Ports;
 use crate::summing::sum_up;
 use crate::viewed::Viewed;
 use crate::wanted::Wanted;
-use pon_audit::KeptEnds;
+use pon_audit::{KeptEnds, Verdict};
 use pon_device::{DevRead, DevWrite, DeviceFault};
 use pon_units::AllocId;
 use pon_why::Change;
@@ -152,6 +152,30 @@ fn write_ports<W: DevWrite>(
     Ok(())
 }
 
+/// Writes the tallies of a recording with this verdict. Returns what is missing.
+pub(crate) fn write_sums<W: DevWrite>(
+    alloc: Global,
+    verdict: &Verdict,
+    tallies: &PortTallies,
+    query: &RatesQuery,
+    format: Format,
+    writer: &mut W,
+) -> Result<Answer, DeviceFault>
+    ensures write { OnlyWrites (W.failures writer.old) (W.failures writer.new) result }
+{
+    let extent = Extent::of(verdict);
+    let mut printer = Printer::new(alloc, format);
+    write_refused(tallies.refused.as_slice(), &mut printer, writer)?;
+    match missing(tallies, query) {
+        Some(missing) => Ok(Answer::NotFound(missing)),
+        None => {
+            let ports = tallies.as_slice();
+            write_ports(alloc, ports, query, extent, &mut printer, writer)?;
+            Ok(Answer::Shown)
+        }
+    }
+}
+
 /// Writes what the maps of a recording add up to for each Alloc-ID, by ascending port and Alloc-ID. There is a line for
 /// each of its descriptors, with the frame of the first map that has it, a line of mean rates, one of what was sold and
 /// got, and one of what is sure. A chapter that is refused at an entry has a line, and only its maps up to that entry are
@@ -179,22 +203,6 @@ pub fn write_rates<R: DevRead, W: DevWrite>(
 {
     let wanted = Wanted::from(&query);
     let Viewed { verdict, shown } = sum_up(rt, alloc, kept, reader, &wanted)?;
-    let extent = Extent::of(&verdict);
-    let mut printer = Printer::new(alloc, format);
-    write_refused(shown.refused.as_slice(), &mut printer, writer)?;
-    let shown = match missing(&shown, &query) {
-        Some(missing) => Answer::NotFound(missing),
-        None => {
-            write_ports(
-                alloc,
-                shown.as_slice(),
-                &query,
-                extent,
-                &mut printer,
-                writer,
-            )?;
-            Answer::Shown
-        }
-    };
+    let shown = write_sums(alloc, &verdict, &shown, &query, format, writer)?;
     Ok(Viewed { verdict, shown })
 }

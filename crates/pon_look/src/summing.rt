@@ -157,6 +157,24 @@ fn maps_of(chapters: &[RawChapter]) -> u64 {
     maps
 }
 
+/// Judges the next chapters, and adds those that are wanted to the tallies of their ports, one after another.
+pub(crate) fn add_batch_in_order(
+    alloc: Global,
+    tallies: &mut PortTallies,
+    chapters: &[RawChapter],
+    wanted: &Wanted,
+) -> Result<Vec<Judged>, AllocError>
+    requires { All (λ c. FitsRecording c.body) chapters.now }
+    ensures { IfOk result (λ answers. AllZip IsJudgment chapters.now answers.items) }
+{
+    for chapter in chapters {
+        tallies.see(chapter.port);
+    }
+    let answers = add_in_order(alloc, tallies, chapters, wanted)?;
+    tallies.add_followed()?;
+    Ok(answers)
+}
+
 // Judges the next chapters, and adds those that are wanted to the tallies of their ports: in as many threads as there are
 // processors where `pon_audit` would judge them so.
 fn add_batch(
@@ -169,14 +187,13 @@ fn add_batch(
     requires { All (λ c. FitsRecording c.body) chapters.now }
     ensures { IfOk result (λ answers. AllZip IsJudgment chapters.now answers.items) }
 {
+    if chapters.len() < 2 || maps_of(chapters) < PARALLEL_MAPS {
+        return add_batch_in_order(alloc, tallies, chapters, wanted);
+    }
     for chapter in chapters {
         tallies.see(chapter.port);
     }
-    let answers = if chapters.len() < 2 || maps_of(chapters) < PARALLEL_MAPS {
-        add_in_order(alloc, tallies, chapters, wanted)?
-    } else {
-        add_in_threads(rt, alloc, tallies, chapters, wanted)?
-    };
+    let answers = add_in_threads(rt, alloc, tallies, chapters, wanted)?;
     tallies.add_followed()?;
     Ok(answers)
 }

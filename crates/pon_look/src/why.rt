@@ -178,6 +178,24 @@ fn answer_by<W: DevWrite>(
     }
 }
 
+/// Writes the explanation of a map that was found. Returns what is missing.
+pub(crate) fn write_found<W: DevWrite>(
+    alloc: Global,
+    found: &Result<FoundMap, Missing>,
+    query: &WhyQuery,
+    format: Format,
+    writer: &mut W,
+) -> Result<Answer, DeviceFault>
+    requires { IfOk found.now IsFound }
+    ensures write { OnlyWrites (W.failures writer.old) (W.failures writer.new) result }
+{
+    let mut printer = Printer::new(alloc, format);
+    match found {
+        Ok(found) => answer_by(alloc, found, query, &mut printer, writer),
+        Err(missing) => Ok(Answer::NotFound(*missing)),
+    }
+}
+
 /// Writes the explanation of the first map of a frame at a port. Without a port in the query it is the lowest port that has
 /// such a map, with the Alloc-ID if one is asked for; without a frame, the map is the last one of the port that has the
 /// Alloc-ID. The explanation has the surpluses and levels
@@ -203,10 +221,6 @@ pub fn write_why<R: DevRead, W: DevWrite>(
     ensures write { TellsWrite (W.failures writer.old) (W.failures writer.new) result }
 {
     let Viewed { verdict, shown } = find_map(rt, alloc, kept, reader, query)?;
-    let mut printer = Printer::new(alloc, format);
-    let shown = match shown {
-        Ok(found) => answer_by(alloc, &found, &query, &mut printer, writer)?,
-        Err(missing) => Answer::NotFound(missing),
-    };
+    let shown = write_found(alloc, &shown, &query, format, writer)?;
     Ok(Viewed { verdict, shown })
 }

@@ -1,4 +1,3 @@
 mod Answered
 mod Drawn
-mod Judged
 mod Replies

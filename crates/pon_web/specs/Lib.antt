@@ -4,3 +4,4 @@ pub mod Handing
 pub mod Judging
 pub mod Pictures
 pub mod Planning
+pub mod Views

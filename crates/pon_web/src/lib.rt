@@ -5,6 +5,7 @@
 //! number. If they do not fit, the host makes more room and asks again. Nothing is kept between two calls.
 #![tactic(auto)]
 
+mod asked;
 mod checking;
 mod frames;
 mod handing;
@@ -12,3 +13,4 @@ mod judging;
 mod picture;
 mod planning;
 mod status;
+mod views;

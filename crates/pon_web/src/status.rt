@@ -11,3 +11,6 @@ pub const MISSING: u8 = 2;
 
 /// Memory was refused. There is no answer.
 pub const MEMORY: u8 = 3;
+
+/// No Alloc-ID has the number that the host gave. There is no answer.
+pub const NO_ALLOC: u8 = 4;

@@ -1,5 +1,5 @@
 use Rattle.std.proofs.Common.{◌≡◌, ◌++◌, ◌∷◌, [], rules}
-use Rattle.pon_look.proofs.Judgments.{one_more}
+use Rattle.pon_audit.proofs.OneByOne.{one_more}
 use Rattle.pon_look.proofs.summing.add_in_order.Goals as goal
 
 pub loop-chapter-preserved : goal.loop-chapter-preserved

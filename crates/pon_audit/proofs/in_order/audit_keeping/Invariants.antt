@@ -1,6 +1,6 @@
 use Rattle.std.specs.Prelude.{Some}
 use Rattle.pon_audit.specs.Auditing.{IsAuditing}
-use Rattle.pon_web.proofs.judging.audit.Given as goal
+use Rattle.pon_audit.proofs.in_order.audit_keeping.Given as goal
 
 -- the audit goes on
 abbrev pub invariant-loop-batch : goal.invariant-loop-batch

@@ -1,7 +1,7 @@
 use Rattle.std.specs.Prelude.{Some}
 use Rattle.pon_audit.specs.Auditing.{IsAuditing}
-use Rattle.pon_c.proofs.auditing.audit.Given as goal
+use Rattle.pon_look.proofs.in_order.sum_up.Given as goal
 
 -- the audit goes on
 abbrev pub invariant-loop-batch : goal.invariant-loop-batch
-invariant-loop-batch l = IsAuditing (Some l.fn.bytes) l.auditing (Some l.reader.inner.now)
+invariant-loop-batch l = IsAuditing (Some l.fn.recording) l.auditing (Some l.reader.inner.now)

@@ -1,6 +1,6 @@
 use Rattle.std.proofs.Common.{◌≡◌, ◌++◌, ◌∷◌, [], rules}
-use Rattle.pon_c.proofs.Judged.{one_more}
-use Rattle.pon_c.proofs.auditing.judge_all.Goals as goal
+use Rattle.pon_audit.proofs.OneByOne.{one_more}
+use Rattle.pon_audit.proofs.in_order.judge_all.Goals as goal
 
 pub loop-chapter-preserved : goal.loop-chapter-preserved
 loop-chapter-preserved c =

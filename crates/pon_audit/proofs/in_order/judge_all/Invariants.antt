@@ -1,7 +1,7 @@
 use Rattle.std.proofs.Common.{take}
 use Rattle.std.specs.List.{AllZip}
 use Rattle.pon_audit.specs.Judging.{IsJudgment}
-use Rattle.pon_c.proofs.auditing.judge_all.Given as goal
+use Rattle.pon_audit.proofs.in_order.judge_all.Given as goal
 
 -- the chapters so far are judged
 abbrev pub invariant-loop-chapter : goal.invariant-loop-chapter
