@@ -84,7 +84,9 @@ export function structureTable(map, onus) {
         const key = make("span", { class: "key" });
         key.style.background = colourOf(place);
         const rate = WORD_RATE * (it.grant - it.asks);
-        return [make("span", {}, key, `${it.id}`), `${onus.get(it.id) ?? "-"}`, it.start === NO_START ? "goes on" : number(it.start), number(it.first), number(it.grant), it.asks ? "yes" : "no", number(rate)];
+        const start = it.start === NO_START ? "goes on" : number(it.start);
+        const onu = `${onus.get(it.id) ?? "-"}`;
+        return [make("span", {}, key, `${it.id}`), onu, start, number(it.first), number(it.grant), it.asks ? "yes" : "no", number(rate)];
     });
     return table(`The map of frame ${map.frame}, structure by structure. A word has 4 bytes.`, ["Alloc-ID", "ONU", "burst starts", "first word", "words", "one for a report", "kbit/s granted"], rows);
 }

@@ -5,7 +5,8 @@ import { Asker, why } from "./asking.js";
 import { dropped, join, readFiles, sha256 } from "./files.js";
 import { MEANS, MEANS_NOT, answerMeans, verdictOf } from "./verdicts.js";
 import { frameOf, mapsIn, onusIn, structureTable } from "./maps.js";
-import { showViews } from "./views.js";
+import { Recording } from "./recording.js";
+import { Views } from "./views.js";
 
 const LINES = `# ONU 5 buys 2,560 kbit/s, and ONU 6 a share of the rest
 0 admit 5 1024 2560 0 2560 none
@@ -23,9 +24,11 @@ item 1 20
 level 10/1
 saturated 0,1
 `;
+const NO_MEMORY_64 = "This browser cannot run the auditor: it has no WebAssembly with a 64-bit memory. Present versions of Chromium and Firefox have one.";
 const PAUSE_MS = 120;
 let recordings;
 let texts;
+let views;
 let chosen = [];
 
 function refuse(text) {
@@ -90,14 +93,16 @@ function showSentence(text, files = []) {
     at("judged").replaceChildren(make("p", { class: "refused" }, text), ...files.length ? [fileFacts(files)] : []);
 }
 
-async function judge(files) {
+// Judges files that were chosen, and begins to show what is in them.
+async function judge(found, files) {
     const bytes = join(files);
     if (bytes === null) return showSentence("These files do not begin with the same eight bytes, so they are not segments of one recording. Judge each alone.", files);
     await recordings.give(bytes);
     const verdict = await recordings.ask("pon_web_verdict");
     showVerdict(files, verdict);
-    await showViews(recordings);
-    at("views").hidden = false;
+    views.show(new Recording(recordings, found, files), verdict.text).then(() => {
+        if (chosen === found) document.body.dataset.viewed = "yes";
+    });
     return undefined;
 }
 
@@ -111,14 +116,15 @@ function whyNot(error) {
 async function take(found) {
     if (found.length === 0) return;
     chosen = found;
-    if (!at("busy").hidden) recordings.cancel();
-    at("views").hidden = true;
+    views.end();
+    if (recordings.waiting.size > 0) recordings.cancel();
     at("judged").replaceChildren();
     delete document.body.dataset.judged;
+    delete document.body.dataset.viewed;
     showBusy(`Judging ${count(found.length, "file")}, ${count(found.reduce((sum, it) => sum + it.size, 0), "byte")}:`);
     try {
         const files = await readFiles(found);
-        if (chosen === found) await judge(files);
+        if (chosen === found) await judge(found, files);
     } catch (error) {
         if (chosen === found) showSentence(whyNot(error));
     }
@@ -159,10 +165,10 @@ let shownMap = null;
 
 function showMaps(maps, onus) {
     const map = maps[Math.min(shownMap ?? maps.length - 1, maps.length - 1)];
-    if (!map) return at("map").replaceChildren(make("p", { class: "help" }, "No map yet: the line 0 map makes one."));
+    if (!map) return at("line-map").replaceChildren(make("p", { class: "help" }, "No map yet: the line 0 map makes one."));
     const parts = [make("div", { class: "wide" }, frameOf(map)), structureTable(map, onus)];
     if (maps.length > 1) parts.unshift(mapChoice(maps, onus, map));
-    return at("map").replaceChildren(...parts);
+    return at("line-map").replaceChildren(...parts);
 }
 
 function mapChoice(maps, onus, map) {
@@ -208,9 +214,10 @@ function listen() {
 async function begin() {
     const module = Uint8Array.from(atob(at("module").textContent), it => it.charCodeAt(0));
     at("sum").textContent = await sha256(module) ?? "this browser has no SHA-256 for a page from a disk";
-    if (!globalThis.WebAssembly || !WebAssembly.validate(module)) return refuse("This browser cannot run the auditor: it has no WebAssembly with a 64-bit memory. Present versions of Chromium and Firefox have one.");
+    if (!globalThis.WebAssembly || !WebAssembly.validate(module)) return refuse(NO_MEMORY_64);
     recordings = new Asker(module);
     texts = new Asker(module);
+    views = new Views();
     at("lines").value = LINES;
     at("problem").value = PROBLEM;
     listen();

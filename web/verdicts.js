@@ -17,8 +17,9 @@ export function verdictOf(line) {
     const [word, ...rest] = line.trim().split(" ");
     if (word === "good") return { good: true, word: "good", says: `Each rule below holds for ${count(Number(rest[1]), "map")} and for every event between them.` };
     if (word === "bad") return { good: false, word: "bad", says: badText(rest) };
-    if (word === "truncated") return { good: false, word: "cut short", says: `The file ends inside the chapter that begins at byte ${number(Number(rest[0]))}. Everything before that chapter is good.` };
-    return { good: false, word: "no recording", says: `At byte ${number(Number(rest[0]))} is no chapter, so this is no recording, or its bytes were changed.` };
+    const byte = number(Number(rest[0]));
+    if (word === "truncated") return { good: false, word: "cut short", says: `The file ends inside the chapter that begins at byte ${byte}. Everything before that chapter is good.` };
+    return { good: false, word: "no recording", says: `At byte ${byte} is no chapter, so this is no recording, or its bytes were changed.` };
 }
 
 function badText([, port, , chapter, , entry, why]) {

@@ -1,37 +1,55 @@
 
-// A view of a recording: the time line of the map of a frame.
-import { at, make } from "./dom.js";
-import { why } from "./asking.js";
+// The views of a recording that was judged.
+import { at } from "./dom.js";
+import { AllocView } from "./allocview.js";
+import { chapterView, chaptersOf } from "./chapters.js";
+import { ChosenMap } from "./chosenmap.js";
+import { objectsOf } from "./json.js";
+import { OneAlloc } from "./onealloc.js";
+import { Part } from "./parts.js";
+import { FORM } from "./recording.js";
+import { saveReport } from "./saving.js";
 
-const MISSING = 2;
-
-// The picture of the map of a frame, or why there is none.
-async function showMap(asker, port, frame, place) {
-    try {
-        const { status, bytes } = await asker.ask("pon_web_picture", undefined, [port, BigInt(frame)]);
-        if (status === MISSING) return place.replaceChildren(make("p", {}, `The recording has no map of frame ${frame} at port ${port}.`));
-        const picture = make("img", { class: "picture", alt: `The time line of the map of frame ${frame} at port ${port}` });
-        picture.src = URL.createObjectURL(new Blob([bytes], { type: "image/svg+xml" }));
-        place.replaceChildren(make("div", { class: "wide" }, picture));
-    } catch (error) {
-        place.replaceChildren(make("p", {}, why(error)));
+/** All views of a recording. */
+export class Views {
+    constructor() {
+        this.recording = null;
+        this.chaptersPart = new Part("chapters");
+        this.map = new ChosenMap();
+        this.one = new OneAlloc();
+        this.allocs = new AllocView(it => this.one.open(this.recording, it, this.allocs.found));
+        at("keep").onclick = () => saveReport(this.seen());
     }
-    return undefined;
-}
 
-function field(id, most) {
-    return make("input", { id, type: "number", min: "0", max: most, step: "1", value: "0" });
-}
+    /** Shows a recording with this verdict. */
+    async show(recording, verdict) {
+        Object.assign(this, { recording, verdict, chapters: null });
+        at("views").hidden = false;
+        const map = () => (this.recording === recording ? this.map.begin(recording, this.chapters?.chapters ?? []) : null);
+        await Promise.all([this.askChapters().then(map), this.allocs.begin(recording)]);
+    }
 
-/** Shows the map of a frame that is chosen, at first of frame 0 at port 0. */
-export function showViews(asker) {
-    const place = make("div", { id: "picture", "aria-live": "polite" });
-    const port = field("port", "63");
-    const frame = field("frame", "18446744073709551615");
-    const show = () => showMap(asker, Number(port.value || "0"), frame.value || "0", place);
-    port.onchange = show;
-    frame.onchange = show;
-    const fields = make("div", { class: "choose" }, make("label", {}, "Port", port), make("label", {}, "Frame", frame));
-    at("views").replaceChildren(make("h3", {}, "The map of a frame"), fields, place);
-    return show();
+    /** Shows nothing. */
+    end() {
+        at("views").hidden = true;
+        this.recording = null;
+        this.chaptersPart.clear();
+        for (const it of [this.map, this.one, this.allocs]) it.end();
+    }
+
+    askChapters() {
+        const question = recording => recording.ask("pon_web_info", [FORM.json]);
+        return this.chaptersPart.ask(this.recording, "Listing the chapters:", question, ({ text }) => this.showChapters(text));
+    }
+
+    showChapters(text) {
+        this.chapters = chaptersOf(objectsOf(text));
+        this.chaptersPart.show(...chapterView(this.chapters, (port, frame) => this.map.open(port, frame)));
+    }
+
+    // What is seen at present, for a report.
+    seen() {
+        const { recording, verdict, chapters } = this;
+        return { recording, verdict, chapters, found: this.allocs.found, one: this.one.it, frames: this.one.frames, curves: this.one.curves, map: this.map.shown };
+    }
 }

@@ -1,7 +1,6 @@
 
 // Answers questions about a recording or a text, each in an instance of its own: the module keeps nothing between two calls, and no trap leaves memory behind.
 "use strict";
-const MISSING = 2;
 const MEMORY = 3;
 let module;
 let recording = new Uint8Array(0);
@@ -19,16 +18,20 @@ function copyIn(exports, bytes) {
     return at;
 }
 
+// The number of bytes that a call handed out.
+const lengthAt = (exports, count) => new DataView(exports.memory.buffer, Number(count), 8);
+
 // Calls an export with its input, further numbers, and room for its answer: a second time with more if that is too little.
+// A call without an answer leaves its length at 0.
 function call(exports, name, input, numbers) {
     const at = copyIn(exports, input);
     const count = room(exports, 8);
     for (let size = 1 << 16; ;) {
         const answer = room(exports, size);
+        lengthAt(exports, count).setBigUint64(0, 0n, true);
         const status = exports[name](at, BigInt(input.length), ...numbers, answer, BigInt(size), count);
         if (status === MEMORY) throw new RangeError("memory was refused");
-        if (status === MISSING) return { status, bytes: new Uint8Array(0), memory: exports.memory.buffer.byteLength };
-        const length = Number(new DataView(exports.memory.buffer).getBigUint64(Number(count), true));
+        const length = Number(lengthAt(exports, count).getBigUint64(0, true));
         if (length <= size) return { status, bytes: new Uint8Array(exports.memory.buffer, Number(answer), length).slice(), memory: exports.memory.buffer.byteLength };
         exports.give_back(answer);
         size = length;

@@ -6,7 +6,7 @@ pub const GOOD: u8 = 0;
 /// The recording is not good, or the certificate is refused. The answer says so.
 pub const BAD: u8 = 1;
 
-/// The recording has not what was asked for. There is no answer.
+/// The recording has not what was asked for. The answer is a line about that; for a picture there is none.
 pub const MISSING: u8 = 2;
 
 /// Memory was refused. There is no answer.
