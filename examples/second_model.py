@@ -2,6 +2,7 @@
 the line") and docs/olt-recording.5 ("THE STATE AFTER AN EVENT") by somebody who had not seen the code. The second auditor (second_opinion.py) and the second
 planner (second_planner.py) use it. Rates are whole kbit/s, sizes are words of 4 bytes.
 """
+import functools
 from dataclasses import dataclass, field, make_dataclass
 from fractions import Fraction
 
@@ -23,6 +24,7 @@ NONE, NA, BE = CLASSES
 # Words of the line.
 
 
+@functools.lru_cache(maxsize=100_000)
 def with_hec(payload):
     word = remainder = payload << 12
     for place in range(remainder.bit_length() - 1, 11, -1):

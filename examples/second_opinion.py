@@ -222,13 +222,13 @@ def entry_fault(port, entry):
     if port.refusal(event):
         return "Event"
     if event is not entry:
-        return map_fault(port, entry)
+        return map_fault(port, entry, fair_map(port))
     port.apply(entry)
     return None
 
 
-def map_fault(port, recorded):
-    fair = fair_map(port)
+def map_fault(port, recorded, fair):
+    """Takes a map, or returns why it may not follow: the fair one of the state is another."""
     if recorded.certificate != fair.filled[NA].to_bytes() + fair.filled[BE].to_bytes():
         return "Certificate"
     grants = [(row.alloc, share.grant) for row, share in zip(port.rows, fair.shares)]
