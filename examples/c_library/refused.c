@@ -1,5 +1,6 @@
 /* Each allocation of a short run is refused once: the call returns SEZ_OUT_OF_MEMORY and changes nothing, and the same
- * call again gives what it would have given. sez_audit and sez_resume do without some blocks, and then give the same. */
+ * call again gives what it would have given. An audit is tried once more if memory was refused, so sez_audit and sez_resume do
+ * without any one block of it; and sez_resume, which reads the recording again after its audit, without some blocks then. */
 #include "sezhimow.h"
 
 #include <stdio.h>
@@ -15,11 +16,12 @@ static long left = -1;
 static long asked = 0;
 static long refused = 0;
 static long spared = 0;
+static long audited = 0;
 static bool reading = false;
 
 /* The blocks that the reading of a recording does without: of each map the flags of both classes, and of an opening with rows
- * the accounts and the carries. sez_audit reads and judges each chapter once, and sez_resume twice. */
-enum { MAPS = 21, OPENINGS = 1, SPARED = 3 * (2 * MAPS + 2 * OPENINGS) };
+ * the accounts and the carries. */
+enum { MAPS = 21, OPENINGS = 1, UNREAD = 2 * MAPS + 2 * OPENINGS };
 
 static bool refuses(void) {
     asked++;
@@ -78,7 +80,9 @@ static void turn(sez_port *port) {
     CALL(sez_chapter_close(&chapter));
     CALL(sez_close(port));
     reading = true;
+    long before = asked;
     CALL(sez_audit(room, size, &verdict));
+    audited += asked - before;
     keep(&verdict.verdict, 1);
     CALL(sez_resume(port, room, size, 3, &verdict));
     reading = false;
@@ -104,7 +108,7 @@ int main(void) {
     static uint8_t wanted[sizeof text];
     run();
     size_t size = end;
-    long count = asked;
+    long count = asked, spares = 2 * audited + UNREAD;
     memcpy(wanted, text, end);
     for (long k = 0; k < count; k++) {
         left = k;
@@ -116,5 +120,5 @@ int main(void) {
         }
     }
     printf("%ld allocations refused in turn, %ld calls told so, %ld did without, the same %zu bytes each time\n", count, refused, spared, size);
-    return refused + spared == count && spared == SPARED ? 0 : 1;
+    return refused + spared == count && spared == spares ? 0 : 1;
 }
