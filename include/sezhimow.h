@@ -13,7 +13,8 @@
  * an argument, or the handle, does not fit. After anything but 0 the port is exactly as it was, unless a function says
  * otherwise. If several reasons apply, the first in the order that the function gives is returned. SEZ_OUT_OF_MEMORY is
  * returned if malloc or realloc returned NULL in this call and it cannot do without; the call may be repeated. Only sez_audit
- * and sez_resume may do without: if a block for all items of a list is refused, they ask for a smaller one, which grows.
+ * and sez_resume may do without: if a block for all items of a list is refused, they ask for a smaller one, which grows, and
+ * if an audit is refused memory they audit once more.
  * That SEZ_OUT_OF_MEMORY is returned for no other reason is tested, not proved.
  *
  * THREADS. Ports share nothing. Different handles may be used by different threads at the same time, with no lock. One
